@@ -1,0 +1,5 @@
+pub mod Names
+pub mod Words
+pub mod Objects
+pub mod Heap
+pub mod Kept

@@ -1,0 +1,12 @@
+//! Long names, values and objects, and the lists that records are made of.
+#![tactic(auto)]
+
+mod lists;
+mod name;
+mod object;
+mod value;
+
+pub use lists::{NameList, Octets, RecList, Values, Words16};
+pub use name::{Name, bits};
+pub use object::{Body, Kind, Object, Rec};
+pub use value::{Value, long_word, value_of};

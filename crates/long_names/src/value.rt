@@ -1,0 +1,52 @@
+// Values and long words.
+ghost use Rattle.std.specs.Prelude.{◌≡◌, IfSome, Some};
+ghost use Rattle.long_names.specs.Words.{IsValue};
+ghost use Rattle.long_names.specs.Words as words;
+
+use crate::name::Name;
+
+/// What a field holds: a SmallInteger from -16384 to 16383, or a name.
+#[derive(Clone, Copy, Debug, PartialEq, Eq)]
+pub enum Value {
+    Int(i16),
+    Ref(Name),
+}
+
+/// The long word of a value: of a SmallInteger twice the number and 1, in two's complement (chapter 30).
+pub fn long_word(v: Value) -> u32
+    requires { IsValue v }
+    ensures word { result ≡ words.long_word v }
+    ensures read_back { words.value_of result ≡ Some v }
+{
+    match v {
+        Value::Int(number) => {
+            if number >= 0 {
+                2 * (number as u32) + 1
+            } else {
+                u32::MAX - 2 * ((-1 - number) as u32)
+            }
+        }
+        Value::Ref(name) => name.get(),
+    }
+}
+
+/// The value of a long word. None exactly for 0 and for a SmallInteger out of range.
+pub fn value_of(word: u32) -> Option<Value>
+    ensures value { result ≡ words.value_of word }
+    ensures word { IfSome result (λ v. IsValue v × (words.long_word v ≡ word)) }
+{
+    if word % 2 == 0 {
+        return match Name::new(word) {
+            Some(name) => Some(Value::Ref(name)),
+            None => None,
+        };
+    }
+    let half = word / 2;
+    if half < 16384 {
+        return Some(Value::Int(half as i16));
+    }
+    if half >= 0x7FFF_C000 {
+        return Some(Value::Int(-1 - ((0x7FFF_FFFF - half) as i16)));
+    }
+    None
+}
