@@ -10,3 +10,6 @@ pub use lists::{NameList, Octets, RecList, Values, Words16};
 pub use name::{Name, bits};
 pub use object::{Body, Kind, Object, Rec};
 pub use value::{Value, long_word, value_of};
+
+#[cfg(test)]
+mod tests;

@@ -4,6 +4,11 @@ ghost use Rattle.long_names.specs.Names.{IsName, is_known, bits_of};
 
 use std::marker::Model;
 
+// The words of the objects that every image has.
+const KNOWN: [u32; 22] = [
+    2, 4, 6, 8, 12, 14, 16, 22, 24, 26, 28, 30, 32, 34, 38, 40, 42, 44, 48, 50, 52, 58,
+];
+
 /// A long name: the even number above 0 that an object has on disk, of 32 bits. Names are never used again.
 #[derive(Clone, Copy, Debug, PartialEq, Eq, PartialOrd, Ord)]
 pub struct Name {
@@ -101,30 +106,7 @@ impl Name {
     pub fn is_known(self) -> bool
         ensures { result ≡ is_known self }
     {
-        matches!(
-            self.word,
-            2 | 4
-                | 6
-                | 8
-                | 12
-                | 14
-                | 16
-                | 22
-                | 24
-                | 26
-                | 28
-                | 30
-                | 32
-                | 34
-                | 38
-                | 40
-                | 42
-                | 44
-                | 48
-                | 50
-                | 52
-                | 58
-        )
+        KNOWN.contains(&self.word)
     }
 }
 
