@@ -1,5 +1,5 @@
 // The lists that records are made of. Contracts see each as a list.
-ghost use Rattle.std.specs.Prelude.{◌≡◌, ◌<◌, ◌++◌, [], ◌∷◌, length, OnOk, OnErr, slice_get, Some};
+ghost use Rattle.std.specs.Prelude.{◌≡◌, ◌<◌, ◌++◌, [], ◌∷◌, length, take, OnOk, OnErr, slice_get, slice_set, Some};
 
 use crate::name::Name;
 use crate::object::Rec;
@@ -52,6 +52,14 @@ impl Values {
         ensures { slice_get self.now i ≡ Some result.now }
     {
         &self.values[i]
+    }
+
+    /// Puts an item in the place of another.
+    pub fn set_item(&mut self, i: usize, item: Value)
+        requires { i < length self.old }
+        ensures { self.new ≡ slice_set self.old i item }
+    {
+        self.values[i] = item;
     }
 }
 
@@ -146,6 +154,21 @@ impl Octets {
         ensures { slice_get self.now i ≡ Some result.now }
     {
         &self.octets[i]
+    }
+
+    /// Appends bytes, all or none. Without memory the list is as before.
+    pub fn extend(&mut self, bytes: &[u8]) -> Result<(), AllocError>
+        ensures ok { OnOk result (self.new ≡ self.old ++ bytes.now) }
+        ensures err { OnErr result (self.new ≡ self.old) }
+    {
+        self.octets.extend_from_slice(bytes)
+    }
+
+    /// Keeps the first bytes, as many as this.
+    pub fn truncate(&mut self, len: usize)
+        ensures { self.new ≡ take len self.old }
+    {
+        self.octets.truncate(len);
     }
 
     /// Lends the bytes.

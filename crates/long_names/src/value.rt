@@ -12,6 +12,30 @@ pub enum Value {
     Ref(Name),
 }
 
+impl Value {
+    ghost use Rattle.long_names.specs.Objects.{name_of, int_of};
+
+    /// The name that it is, if it is one.
+    pub fn name(&self) -> Option<Name>
+        ensures { result ≡ name_of self.now }
+    {
+        match self {
+            Value::Int(_) => None,
+            Value::Ref(name) => Some(*name),
+        }
+    }
+
+    /// The number that it is, if it is one.
+    pub fn number(&self) -> Option<i16>
+        ensures { result ≡ int_of self.now }
+    {
+        match self {
+            Value::Int(number) => Some(*number),
+            Value::Ref(_) => None,
+        }
+    }
+}
+
 /// The long word of a value: of a SmallInteger twice the number and 1, in two's complement (chapter 30).
 pub fn long_word(v: Value) -> u32
     requires { IsValue v }
