@@ -36,6 +36,19 @@ impl Value {
     }
 }
 
+impl From<Name> for Value {
+    ghost use Rattle.std.specs.Prelude.{◌≡◌};
+    ghost use Rattle.long_names.specs.Words.{IsValue};
+    ghost use Rattle.long_names.specs.declared.value.Value.TheVariants.{Ref};
+
+    ghost from_gives = { λ name v. (v ≡ Ref name) × IsValue v };
+
+    fn from(name: Name) -> Value {
+        let _word = name.get();
+        Value::Ref(name)
+    }
+}
+
 /// The long word of a value: of a SmallInteger twice the number and 1, in two's complement (chapter 30).
 pub fn long_word(v: Value) -> u32
     requires { IsValue v }
