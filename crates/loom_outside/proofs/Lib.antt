@@ -1,0 +1,7 @@
+mod Copies
+mod Frames
+mod Kept
+mod Pieces
+mod Places
+mod Taken
+pub mod Windows

@@ -1,0 +1,103 @@
+-- What the roles of a host hold, and what its calls do to them.
+use Rattle.std.specs.Prelude.{Bool, true, false, ◌≡◌, ◌≢◌, ℕ, ◌+◌, ◌-◌, ◌≤◌, ◌^◌, min, List, [], ◌++◌, length, take, drop, Option, None, Some, Result, IsErr, OnOk, IfSome}
+use Rattle.loom_outside.specs.declared.outside.Role.{Role}
+use Rattle.loom_outside.specs.declared.outside.Role.TheVariants.{Image, Events, Saved, Display, Transcript, Notes}
+use Rattle.loom_outside.specs.declared.outside.Failed.{Failed}
+
+-- what a host that tells of a role says of it
+pub record RoleState : Type 0 where
+  -- the calls of `attach`, failed ones among them, and the name of the last
+  pub attaches : ℕ
+  pub name : Option (List ℕ)
+  -- of a role that is read: the bytes taken since then, and those left
+  pub taken : List ℕ
+  pub left : List ℕ
+  -- of a role that is written: the bytes put
+  pub put : List ℕ
+  -- of Work
+  pub contents : List ℕ
+
+-- of a role where nothing has been done yet
+abbrev pub at_start : RoleState
+at_start = record { attaches = 0; name = None; taken = []; left = []; put = []; contents = [] }
+
+-- with no name told
+abbrev pub unnamed : RoleState → RoleState
+unnamed s = record s { name = None }
+
+-- a count that stops at the greatest u64
+abbrev pub counted : ℕ → ℕ
+counted n = min (n + 1) (2 ^ 64 - 1)
+
+-- after these bytes are put
+abbrev pub puts : List ℕ → RoleState → RoleState
+puts bytes s = record s { put = s.put ++ bytes }
+
+-- after so many bytes are taken
+abbrev pub takes : ℕ → RoleState → RoleState
+takes n s = record s { taken = s.taken ++ take n s.left; left = drop n s.left }
+
+-- these are Work's contents
+abbrev pub holds : List ℕ → RoleState → RoleState
+holds bytes s = record s { contents = bytes }
+
+-- after an attach of this name; of one that failed the name may be lost
+pub record Attached {T : Type 0} (text : List ℕ) (result : Result T Failed) (old new : RoleState) : Type 0 where
+  pub attaches : new.attaches ≡ counted old.attaches
+  pub named : OnOk result (new.name ≡ Some text)
+  pub no_other : IfSome new.name (λ name. name ≡ text)
+
+-- nothing is taken of it, put to it or held by it
+pub record IsFresh (s : RoleState) : Type 0 where
+  pub taken : s.taken ≡ []
+  pub put : s.put ≡ []
+  pub contents : s.contents ≡ []
+
+-- n bytes were taken, and stand at the front of the buffer
+pub record Took (n : ℕ) (buf : List ℕ) (old new : RoleState) : Type 0 where
+  pub enough : n ≤ length old.left
+  pub bytes : take n buf ≡ take n old.left
+  pub state : new ≡ takes n old
+
+-- at most so many bytes were taken
+abbrev pub TookSome : ℕ → RoleState → RoleState → Type 0
+TookSome most old new = (n : ℕ) × (n ≤ most) × (n ≤ length old.left) × (new ≡ takes n old)
+
+-- a prefix of these bytes was put
+abbrev pub PutPrefix : List ℕ → RoleState → RoleState → Type 0
+PutPrefix bytes old new = (n : ℕ) × (n ≤ length bytes) × (new ≡ puts (take n bytes) old)
+
+-- a failure is counted, until the greatest u64
+pub record HasCause {T : Type 0} (before now : ℕ) (result : Result T Failed) : Type 0 where
+  pub later : before ≤ now
+  pub counted : IsErr result → min (before + 1) (2 ^ 64 - 1) ≤ now
+
+-- the same at each other role
+abbrev pub SameBut : {X : Type 0} → Role → (Role → X) → (Role → X) → Type 0
+SameBut role old new = (r : Role) → r ≢ role → new r ≡ old r
+
+-- the roles that have a file to attach
+abbrev pub CanAttach : Role → Type 0
+CanAttach Transcript = ⊥
+CanAttach Notes = ⊥
+CanAttach _ = Unit {0}
+
+-- the roles that are read in order
+abbrev pub CanRead : Role → Type 0
+CanRead Image = Unit {0}
+CanRead Events = Unit {0}
+CanRead _ = ⊥
+
+-- the roles that are written in order
+abbrev pub CanWrite : Role → Type 0
+CanWrite Saved = Unit {0}
+CanWrite Display = Unit {0}
+CanWrite Transcript = Unit {0}
+CanWrite Notes = Unit {0}
+CanWrite _ = ⊥
+
+-- an attach makes a new file
+abbrev pub makes_file : Role → Bool
+makes_file Saved = true
+makes_file Display = true
+makes_file _ = false

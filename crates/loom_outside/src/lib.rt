@@ -1,0 +1,25 @@
+//! What a run reads and writes: seven roles, the trait of a host that has them, and two hosts.
+#![tactic(auto)]
+
+mod calls;
+mod chunk;
+mod contents;
+mod files;
+mod marks;
+mod memory;
+mod outside;
+mod per_role;
+mod reader;
+mod reading;
+mod real;
+mod store;
+mod whole;
+mod writer;
+
+pub use memory::MemoryHost;
+pub use outside::{DiskFault, Failed, Host, Role};
+pub use real::RealHost;
+pub use whole::{read_full, write_full};
+
+#[cfg(test)]
+mod tests;
