@@ -1,0 +1,11 @@
+pub mod Numbers
+pub mod Values
+pub mod Fields
+pub mod Records
+pub mod Lengths
+pub mod Loop
+pub mod Found
+pub mod Writing
+pub mod Counts
+pub mod Heaps
+pub mod Base

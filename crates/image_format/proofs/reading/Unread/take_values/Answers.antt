@@ -1,0 +1,22 @@
+use Rattle.std.proofs.Common.{arith, refl}
+use Rattle.std.proofs.lemmas.Result.{err_from_is_err_and}
+use Rattle.image_format.specs.Reading.{value_at, many_at}
+use Rattle.image_format.proofs.Loop.{goes_on, ends, is_done, few_for_values}
+use Rattle.image_format.proofs.reading.Unread.take_values.Goals as goal
+
+pub returns-then-self-count : goal.returns-then-self-count
+returns-then-self-count c =
+    let none = few_for_values c.args.count c.args.self.now.rest.now (omega (arith, c.if-self-count.true)) in
+    rw c.bad.ensures (none, refl, refl)
+
+pub returns-in_err-value : goal.returns-in_err-value
+returns-in_err-value c =
+    let p = err_from_is_err_and c.from_residual.result c.from_residual.ensures.1 in
+    rw (p.1, p.2) (ends value_at c.in_err-value.field-0.0 c.loop.values c.args.count c.loop.counter c.loop.self.rest.now (many_at value_at c.args.count c.args.self.now.rest.now) c.loop-test.true c.in_err-value.ensures c.loop.invariant)
+
+pub loop-preserved : goal.loop-preserved
+loop-preserved c =
+    rw c.in_ok-push.ensures.ok (goes_on value_at c.loop.values c.args.count c.loop.counter c.loop.self.rest.now c.in_ok-value.value c.take_value.new.self.rest.now (many_at value_at c.args.count c.args.self.now.rest.now) c.loop-test.true c.in_ok-value.ensures c.loop.invariant)
+
+pub returns : goal.returns
+returns c = is_done value_at c.loop.values c.args.count c.loop.counter c.loop.self.rest.now (many_at value_at c.args.count c.args.self.now.rest.now) c.loop-test.false c.loop.invariant

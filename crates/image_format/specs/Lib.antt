@@ -1,0 +1,6 @@
+pub mod Record
+pub mod Text
+pub mod Valid
+pub mod Faults
+pub mod Reading
+pub mod Writing

@@ -1,0 +1,34 @@
+// Reading a record.
+ghost use Rattle.std.specs.Prelude.{◌≡◌, ◌≢◌, ℕ, ◌≤◌, ◌++◌, List, length, take, IfOk};
+ghost use Rattle.long_names.specs.declared.object.Rec.{Rec as Spelled};
+ghost use Rattle.image_format.specs.Record.{IsRecord, record_text};
+ghost use Rattle.image_format.specs.Faults.{IsBad, IsPlaced};
+
+use crate::fault::RecFault;
+use crate::reading::record_of;
+use long_names::Rec;
+use std::alloc::Global;
+
+/// The bytes of the longest record: the head and 65,535 long words.
+pub const MAX_RECORD: usize = 262_160;
+
+/// The first record of the bytes, and its length in bytes. More bytes may follow it.
+///
+/// `Bad` comes exactly where the bytes don't begin with a record: where the name or the class is odd or 0, the kind is above 3, a field is neither a name nor a SmallInteger in range, a method has more than 16,000 bytes of code or another number of literals than its header states, the zeros at the end aren't zeros, or the bytes end first. A size is tested against the bytes that are left before memory is taken for it.
+///
+/// A record that `encode_rec` wrote is read again, whatever follows it: each record has one text, and no text of a record begins another (`one_text`).
+pub fn decode_rec(alloc: Global, bytes: &[u8]) -> Result<(Rec, usize), RecFault>
+    // The bytes begin with the text of the record, of this length.
+    ensures text { IfOk result (λ x. take x.1 bytes.now ≡ record_text x.0) }
+    ensures len { IfOk result (λ x. length (record_text x.0) ≡ x.1) }
+    ensures within { IfOk result (λ x. x.1 ≤ length bytes.now) }
+    ensures longest { IfOk result (λ x. x.1 ≤ MAX_RECORD) }
+    ensures record { IfOk result (λ x. IsRecord x.0) }
+    // Bytes that begin with a record give that record, unless memory runs out.
+    ensures only { (r : Spelled) (rest : List ℕ) → IsRecord r → bytes.now ≡ record_text r ++ rest → IfOk result (λ x. x.0 ≡ r) }
+    // Bad says that they begin with none.
+    ensures bad { IsBad result → (r : Spelled) (rest : List ℕ) → IsRecord r → bytes.now ≢ record_text r ++ rest }
+    ensures place { IsPlaced result }
+{
+    record_of(alloc, bytes)
+}

@@ -1,0 +1,144 @@
+// Writing a record.
+ghost use Rattle.std.specs.Prelude.{◌≡◌, ◌++◌, ◌^◌, ◌<◌, All, OnOk, OnErr};
+ghost use Rattle.long_names.specs.Words.{IsValue};
+ghost use Rattle.long_names.specs.Objects.{IsBody};
+ghost use Rattle.image_format.specs.Record.{IsRecord, IsLongName, HasRange, two_bytes, four_bytes, eight_bytes, values_text, words_text, contents_text, head_text, record_text};
+ghost use Rattle.image_format.specs.Writing.{Extends};
+
+use crate::reading::padding_of;
+use byteorder::{BigEndian, ByteOrder};
+use long_names::{Body, Octets, Rec, Value, Values, Words16, long_word};
+use std::alloc::AllocError;
+
+/// The most zeros at a record's end.
+const ZEROS: [u8; 3] = [0; 3];
+
+#[tactic(auto, unfolding(crate::specs::Record::two_bytes))]
+fn put_u16(out: &mut Octets, number: u16) -> Result<(), AllocError>
+    ensures ok { OnOk result (out.new ≡ out.old ++ two_bytes number) }
+    ensures err { OnErr result (out.new ≡ out.old) }
+{
+    let mut bytes = [0; 2];
+    BigEndian::write_u16(&mut bytes, number);
+    out.extend(&bytes)
+}
+
+#[tactic(auto, unfolding(crate::specs::Record::four_bytes))]
+fn put_u32(out: &mut Octets, number: u32) -> Result<(), AllocError>
+    ensures ok { OnOk result (out.new ≡ out.old ++ four_bytes number) }
+    ensures err { OnErr result (out.new ≡ out.old) }
+{
+    let mut bytes = [0; 4];
+    BigEndian::write_u32(&mut bytes, number);
+    out.extend(&bytes)
+}
+
+#[tactic(auto, unfolding(crate::specs::Record::eight_bytes))]
+fn put_u64(out: &mut Octets, number: u64) -> Result<(), AllocError>
+    ensures ok { OnOk result (out.new ≡ out.old ++ eight_bytes number) }
+    ensures err { OnErr result (out.new ≡ out.old) }
+{
+    let mut bytes = [0; 8];
+    BigEndian::write_u64(&mut bytes, number);
+    out.extend(&bytes)
+}
+
+fn put_values(out: &mut Octets, values: &Values) -> Result<(), AllocError>
+    requires { All IsValue values.now }
+    ensures ok { OnOk result (out.new ≡ out.old ++ values_text values.now) }
+    ensures err { OnErr result (Extends out.old out.new) }
+{
+    for i in 0..values.len() {
+        let value = *values.item(i);
+        put_u32(out, long_word(value))?;
+    }
+    Ok(())
+}
+
+fn put_words(out: &mut Octets, words: &Words16) -> Result<(), AllocError>
+    ensures ok { OnOk result (out.new ≡ out.old ++ words_text words.now) }
+    ensures range { OnOk result (All (λ w. w < 2 ^ 16) words.now) }
+    ensures err { OnErr result (Extends out.old out.new) }
+{
+    for i in 0..words.len() {
+        let word = *words.item(i);
+        put_u16(out, word)?;
+    }
+    Ok(())
+}
+
+fn put_bytes(out: &mut Octets, bytes: &[u8]) -> Result<(), AllocError>
+    ensures ok { OnOk result (out.new ≡ out.old ++ bytes.now) }
+    ensures range { All (λ b. b < 2 ^ 8) bytes.now }
+    ensures err { OnErr result (out.new ≡ out.old) }
+{
+    out.extend(bytes)
+}
+
+fn put_contents(out: &mut Octets, body: &Body) -> Result<(), AllocError>
+    requires { IsBody body.now }
+    ensures ok { OnOk result (out.new ≡ out.old ++ contents_text body.now) }
+    ensures range { OnOk result (HasRange body.now) }
+    ensures err { OnErr result (Extends out.old out.new) }
+{
+    match body {
+        Body::Pointers(values) => put_values(out, values),
+        Body::Words(words) => put_words(out, words),
+        Body::Bytes(octets) => put_bytes(out, octets.bytes()),
+        Body::Method {
+            header,
+            literals,
+            code,
+        } => {
+            put_u32(out, literals.len() as u32)?;
+            put_u32(out, long_word(Value::Int(*header)))?;
+            put_values(out, literals)?;
+            put_bytes(out, code.bytes())
+        }
+    }
+}
+
+fn put_head(out: &mut Octets, rec: &Rec) -> Result<(), AllocError>
+    requires { IsBody rec.now.body }
+    ensures ok { OnOk result (out.new ≡ out.old ++ head_text rec.now) }
+    ensures names { OnOk result (IsLongName rec.now.name × IsLongName rec.now.class) }
+    ensures count { OnOk result (rec.now.count < 2 ^ 64) }
+    ensures err { OnErr result (Extends out.old out.new) }
+{
+    put_u32(out, rec.name.get())?;
+    put_u32(out, rec.class.get())?;
+    put_u64(out, rec.count)?;
+    put_u16(out, rec.body.kind() as u16)?;
+    put_u16(out, rec.body.len() as u16)
+}
+
+fn append_rec(out: &mut Octets, rec: &Rec) -> Result<(), AllocError>
+    requires { IsBody rec.now.body }
+    ensures ok { OnOk result (out.new ≡ out.old ++ record_text rec.now) }
+    ensures record { OnOk result (IsRecord rec.now) }
+    ensures err { OnErr result (Extends out.old out.new) }
+{
+    let start = out.len();
+    put_head(out, rec)?;
+    put_contents(out, &rec.body)?;
+    let zeros = padding_of(out.len() - start);
+    out.extend(&ZEROS[..zeros])
+}
+
+/// Appends the one text of the record. Without memory the bytes are as before.
+///
+/// The condition is that the body is one that an object may have. What was appended is read again by `decode_rec`, whatever follows it: each record has one text, and no text of a record begins another (`one_text`).
+pub fn encode_rec(rec: &Rec, out: &mut Octets) -> Result<(), AllocError>
+    requires { IsBody rec.now.body }
+    ensures ok { OnOk result (out.new ≡ out.old ++ record_text rec.now) }
+    // It is a record, so that it is read again.
+    ensures record { OnOk result (IsRecord rec.now) }
+    ensures err { OnErr result (out.new ≡ out.old) }
+{
+    let len = out.len();
+    let done = append_rec(out, rec);
+    if done.is_err() {
+        out.truncate(len);
+    }
+    done
+}

@@ -1,0 +1,16 @@
+//! The image of a heap as bytes: its records, the text of a whole heap, and which images are valid.
+#![tactic(auto)]
+
+mod decoding;
+mod encoding;
+mod fault;
+mod laws;
+mod reading;
+
+pub use decoding::{MAX_RECORD, decode_rec};
+pub use encoding::encode_rec;
+pub use fault::RecFault;
+pub use laws::{longest_record, one_heap, one_text};
+
+#[cfg(test)]
+mod tests;
