@@ -1,5 +1,5 @@
 -- What reference counting leaves in the end: cycles stay, and all else that nothing holds goes (chapter 30, reference counting).
-use Rattle.std.specs.Prelude.{◌≡◌, ℕ, zero, suc, ◌||◌, Bool, true, false, None, if◌then◌else◌}
+use Rattle.std.specs.Prelude.{ℕ, zero, suc, ◌||◌, Bool, false, None, if◌then◌else◌}
 use Rattle.std.specs.Option.{option_map_or}
 use Rattle.long_names.specs.Names.{is_known}
 use Rattle.long_names.specs.Objects.{holds}

@@ -3,3 +3,7 @@ pub mod Words
 pub mod Objects
 pub mod Heap
 pub mod Kept
+pub mod Access
+pub mod Thin
+pub mod Need
+pub mod Agree

@@ -1,5 +1,5 @@
 -- Objects: a class and a body (chapter 30 of the Blue Book).
-use Rattle.std.specs.Prelude.{◌≡◌, ℕ, ℤ, ◌+◌, ◌/◌, ◌<◌, ◌≤◌, ◌==◌, ◌||◌, Bool, true, false, List, [], length, All, count_by, Option, Some, None, if◌then◌else◌, slice_get, slice_set}
+use Rattle.std.specs.Prelude.{◌≡◌, ℕ, ℤ, ◌+◌, ◌/◌, ◌^◌, ◌<◌, ◌≤◌, ◌==◌, ◌||◌, Bool, false, List, [], length, All, count_by, Option, Some, None, if◌then◌else◌}
 use Rattle.std.specs.List.{list_any}
 use Rattle.long_names.specs.Words.{IsSmallInteger, IsValue, literal_count}
 use Rattle.long_names.specs.declared.value.Value.{Value}
@@ -51,6 +51,13 @@ HasSize (Pointers values) = length values < 65536
 HasSize (Words words) = length words < 65536
 HasSize (Bytes bytes) = length bytes < 65536
 HasSize (Method header literals code) = IsSmallInteger header × (length literals ≡ literal_count header) × (length code ≤ 16000)
+
+-- words have 16 bits, and bytes 8
+abbrev pub HasRange : Body → Type 0
+HasRange (Pointers values) = Unit {0}
+HasRange (Words words) = All (λ w. w < 2 ^ 16) words
+HasRange (Bytes bytes) = All (λ b. b < 2 ^ 8) bytes
+HasRange (Method header literals code) = All (λ b. b < 2 ^ 8) code
 
 -- what an object may be
 pub record IsBody (body : Body) : Type 0 where

@@ -1,6 +1,7 @@
 //! Long names, values and objects, and the lists that records are made of.
 #![tactic(auto)]
 
+pub mod laws;
 mod lists;
 mod name;
 mod object;

@@ -1,5 +1,6 @@
 // The lists that records are made of. Contracts see each as a list.
-ghost use Rattle.std.specs.Prelude.{◌≡◌, ◌<◌, ◌++◌, [], ◌∷◌, length, take, OnOk, OnErr, slice_get, slice_set, Some};
+ghost use Rattle.std.specs.Prelude.{◌≡◌, ◌+◌, ◌<◌, ◌≤◌, ◌++◌, [], ◌∷◌, ◌^◌, All, length, take, replicate, OnOk, OnErr, IfOk, slice_get, slice_set, Some};
+ghost use Rattle.long_names.specs.Access.{put_run};
 
 use crate::name::Name;
 use crate::object::Rec;
@@ -22,6 +23,18 @@ impl Model for Values {
     ghost view = { λ a. a.values.items };
 }
 
+impl Clone for Values {
+    ghost use Rattle.std.specs.Prelude.{◌≡◌};
+
+    ghost is_clone = { λ list copy. copy ≡ list };
+
+    fn clone(&self) -> Result<Values, AllocError> {
+        Ok(Values {
+            values: self.values.clone()?,
+        })
+    }
+}
+
 impl Values {
     /// The empty list. It takes no memory.
     pub fn new(alloc: Global) -> Values
@@ -30,6 +43,24 @@ impl Values {
         Values {
             values: Vec::new(alloc),
         }
+    }
+
+    /// The list of one item, as often as this.
+    pub fn filled(alloc: Global, item: Value, count: usize) -> Result<Values, AllocError>
+        ensures { IfOk result (λ list. list ≡ replicate count item) }
+    {
+        Ok(Values {
+            values: vec![in alloc; item; count]?,
+        })
+    }
+
+    /// The list of these items.
+    pub fn from_slice(alloc: Global, items: &[Value]) -> Result<Values, AllocError>
+        ensures { IfOk result (λ list. list ≡ items.now) }
+    {
+        Ok(Values {
+            values: Vec::from_slice(alloc, items)?,
+        })
     }
 
     /// Appends an item. Without memory the list is as before.
@@ -77,6 +108,17 @@ impl Model for Words16 {
     ghost view = { λ a. a.words.items };
 }
 
+impl Clone for Words16 {
+    ghost use Rattle.std.specs.Prelude.{◌≡◌, ◌<◌, ◌^◌, All};
+
+    ghost is_clone = { λ list copy. (copy ≡ list) × All (λ w. w < 2 ^ 16) list };
+
+    fn clone(&self) -> Result<Words16, AllocError> {
+        let words = Words16::from_slice(*self.words.allocator(), self.words())?;
+        Ok(words)
+    }
+}
+
 impl Words16 {
     /// The empty list. It takes no memory.
     pub fn new(alloc: Global) -> Words16
@@ -85,6 +127,25 @@ impl Words16 {
         Words16 {
             words: Vec::new(alloc),
         }
+    }
+
+    /// The list of one word, as often as this.
+    pub fn filled(alloc: Global, word: u16, count: usize) -> Result<Words16, AllocError>
+        ensures { IfOk result (λ list. list ≡ replicate count word) }
+    {
+        Ok(Words16 {
+            words: vec![in alloc; word; count]?,
+        })
+    }
+
+    /// The list of these words.
+    pub fn from_slice(alloc: Global, words: &[u16]) -> Result<Words16, AllocError>
+        ensures ok { IfOk result (λ list. list ≡ words.now) }
+        ensures range { All (λ w. w < 2 ^ 16) words.now }
+    {
+        Ok(Words16 {
+            words: Vec::from_slice(alloc, words)?,
+        })
     }
 
     /// Appends an item. Without memory the list is as before.
@@ -108,6 +169,21 @@ impl Words16 {
     {
         &self.words[i]
     }
+
+    /// Lends the words.
+    pub fn words(&self) -> &[u16]
+        ensures { result.now ≡ self.now }
+    {
+        &self.words
+    }
+
+    /// Puts words in the place of those from a place on.
+    pub fn put(&mut self, at: usize, words: &[u16])
+        requires { at + length words.now ≤ length self.old }
+        ensures { self.new ≡ put_run self.old at words.now }
+    {
+        self.words[at..at + words.len()].copy_from_slice(words);
+    }
 }
 
 /// A list of bytes.
@@ -124,6 +200,17 @@ impl Model for Octets {
     ghost view = { λ a. a.octets.items };
 }
 
+impl Clone for Octets {
+    ghost use Rattle.std.specs.Prelude.{◌≡◌, ◌<◌, ◌^◌, All};
+
+    ghost is_clone = { λ list copy. (copy ≡ list) × All (λ b. b < 2 ^ 8) list };
+
+    fn clone(&self) -> Result<Octets, AllocError> {
+        let octets = Octets::from_slice(*self.octets.allocator(), self.bytes())?;
+        Ok(octets)
+    }
+}
+
 impl Octets {
     /// The empty list. It takes no memory.
     pub fn new(alloc: Global) -> Octets
@@ -132,6 +219,25 @@ impl Octets {
         Octets {
             octets: Vec::new(alloc),
         }
+    }
+
+    /// The list of one byte, as often as this.
+    pub fn filled(alloc: Global, byte: u8, count: usize) -> Result<Octets, AllocError>
+        ensures { IfOk result (λ list. list ≡ replicate count byte) }
+    {
+        Ok(Octets {
+            octets: vec![in alloc; byte; count]?,
+        })
+    }
+
+    /// The list of these bytes.
+    pub fn from_slice(alloc: Global, bytes: &[u8]) -> Result<Octets, AllocError>
+        ensures ok { IfOk result (λ list. list ≡ bytes.now) }
+        ensures range { All (λ b. b < 2 ^ 8) bytes.now }
+    {
+        Ok(Octets {
+            octets: Vec::from_slice(alloc, bytes)?,
+        })
     }
 
     /// Appends an item. Without memory the list is as before.
@@ -162,6 +268,14 @@ impl Octets {
         ensures err { OnErr result (self.new ≡ self.old) }
     {
         self.octets.extend_from_slice(bytes)
+    }
+
+    /// Puts bytes in the place of those from a place on.
+    pub fn put(&mut self, at: usize, bytes: &[u8])
+        requires { at + length bytes.now ≤ length self.old }
+        ensures { self.new ≡ put_run self.old at bytes.now }
+    {
+        self.octets[at..at + bytes.len()].copy_from_slice(bytes);
     }
 
     /// Keeps the first bytes, as many as this.

@@ -4,6 +4,7 @@ ghost use Rattle.long_names.specs.Objects.{kind_of, len_of};
 
 use crate::lists::{Octets, Values, Words16};
 use crate::name::Name;
+use std::alloc::AllocError;
 
 /// The four kinds of body, by the numbers that they have in an image.
 #[derive(Clone, Copy, Debug, PartialEq, Eq)]
@@ -25,6 +26,29 @@ pub enum Body {
         literals: Values,
         code: Octets,
     },
+}
+
+impl Clone for Body {
+    ghost use Rattle.long_names.specs.Objects.{HasRange};
+
+    ghost is_clone = { λ body copy. (copy ≡ body) × HasRange body };
+
+    fn clone(&self) -> Result<Body, AllocError> {
+        match self {
+            Body::Pointers(values) => Ok(Body::Pointers(values.clone()?)),
+            Body::Words(words) => Ok(Body::Words(words.clone()?)),
+            Body::Bytes(bytes) => Ok(Body::Bytes(bytes.clone()?)),
+            Body::Method {
+                header,
+                literals,
+                code,
+            } => Ok(Body::Method {
+                header: *header,
+                literals: literals.clone()?,
+                code: code.clone()?,
+            }),
+        }
+    }
 }
 
 impl Body {
@@ -57,6 +81,19 @@ impl Body {
 pub struct Object {
     pub class: Name,
     pub body: Body,
+}
+
+impl Clone for Object {
+    ghost use Rattle.long_names.specs.Objects.{HasRange};
+
+    ghost is_clone = { λ object copy. (copy ≡ object) × HasRange object.body };
+
+    fn clone(&self) -> Result<Object, AllocError> {
+        Ok(Object {
+            class: self.class,
+            body: self.body.clone()?,
+        })
+    }
 }
 
 /// An object as an image has it: under its name, with the number of words that hold the name.
