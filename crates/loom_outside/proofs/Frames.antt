@@ -2,7 +2,7 @@
 use Rattle.std.proofs.Common.{◌≡◌, ◌≢◌, ℕ, List, ◌∙◌, ap, sym, subst, arith, rules, Bool, true, None, Result, Ok, Err, OnErr, is_err, if◌then◌else◌}
 use Rattle.std.proofs.lemmas.List.{append-nil}
 use Rattle.loom_outside.specs.Memory.{told}
-use Rattle.loom_outside.specs.Outside.{RoleState, SameBut, CanRead, CanWrite, PutPrefix}
+use Rattle.loom_outside.specs.Outside.{RoleState, SameBut, CanRead, CanWrite, PutPrefix, holds}
 use Rattle.loom_outside.specs.PerRole.{at_role}
 use Rattle.loom_outside.specs.Store.{held_of}
 use Rattle.loom_outside.specs.declared.calls.Calls.{Calls}
@@ -35,3 +35,7 @@ always_on_err (Err e) q = q
 
 pub PutPrefix-none : (bytes : List ℕ) (old new : RoleState) → new ≡ old → PutPrefix bytes old new
 PutPrefix-none bytes old new same = (0, omega arith, same ∙ ap (λ (l : List ℕ). record old { put = l }) (sym (append-nil old.put)))
+
+-- Work's contents, whatever they are
+pub Holds-some : (old new : RoleState) → new ≡ old → (left : List ℕ) × (new ≡ holds left old)
+Holds-some old new same = (old.contents, same)

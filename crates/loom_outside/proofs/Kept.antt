@@ -1,7 +1,7 @@
 -- What a write behind one file, and a new file, leave of the others.
-use Rattle.std.proofs.Common.{◌≡◌, ◌≢◌, ◌⊎◌, inl, inr, ℕ, ◌<◌, List, [], ◌∷◌, ◌++◌, length, get_or, set, take, drop, Option, None, Some, Result, Ok, Err, OnOk, OnErr, IfSome, Bool, true, false, cond, refl, sym, ◌∙◌, ap, subst, arith, length-append}
+use Rattle.std.proofs.Common.{◌≡◌, ◌≢◌, ◌⊎◌, inl, inr, ℕ, ◌<◌, List, [], ◌∷◌, ◌++◌, length, get_or, set, take, drop, Option, None, Some, Result, Ok, Err, OnOk, OnErr, IfSome, Bool, true, false, cond, refl, sym, ◌∙◌, ap, subst, arith}
 use Rattle.std.proofs.lemmas.Bool.{cases_eq}
-use Rattle.std.proofs.lemmas.List.{length-set, get_or-set_same, get_or-set_other, get_or_append_left, take-append-le, length_push, length-map, get_or_push}
+use Rattle.std.proofs.lemmas.List.{get_or-set_same, get_or-set_other, get_or_append_left, take-append-le, length_push, length-map, get_or_push}
 use Rattle.std.proofs.lemmas.Bool.Decides.{nat_tests}
 use Rattle.std.specs.Option.{option_map}
 use Rattle.loom_outside.specs.Files.{name_of, names, contents, bytes_at, is_named, place_after, newest}
@@ -33,17 +33,6 @@ shown-grown all place bytes r stands = elim (cases_eq r.file place) [
       ∙ ap (λ (i : ℕ). take r.end (bytes_at all i)) (sym same)
   | inr apart ↦ ap (take r.end) (bytes_at-grown_other all place r.file bytes apart)
 ]
-
-pub Stands-grown : (all : List (List ℕ)) (place : ℕ) (bytes : List ℕ) (r : Reader) → Stands all r → Stands (grown all place bytes) r
-Stands-grown all place bytes r stands = (
-  rw (length-set all place (bytes_at all place ++ bytes)) stands.0,
-  elim (cases_eq r.file place) [
-    | inl same ↦
-        let there : place < length all = rw (← same) stands.0 in
-        rw (same, bytes_at-grown_same all place bytes there) (omega (arith, length-append (bytes_at all place) bytes, rw same at stands.1))
-    | inr apart ↦ rw (bytes_at-grown_other all place r.file bytes apart) stands.1
-  ],
-)
 
 -- after a write that may have failed
 either : {T E P Q : Type 0} (r : Result T E) → OnOk r P → OnErr r Q → P ⊎ Q

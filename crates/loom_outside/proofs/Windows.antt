@@ -1,10 +1,10 @@
 -- What a window shows after a write.
-use Rattle.std.proofs.Common.{◌≡◌, ℕ, ◌+◌, ◌-◌, ◌<◌, ◌≤◌, ◌⊎◌, ◌&&◌, List, length, length-append, ◌++◌, map, get_or, nat_le, nat_lt, true, false, cond, max, refl, sym, ap, ◌∙◌, arith, inl, inr}
+use Rattle.std.proofs.Common.{◌≡◌, ℕ, ◌+◌, ◌-◌, ◌<◌, ◌≤◌, ◌⊎◌, ◌&&◌, List, [], replicate, length, length-append, ◌++◌, map, get_or, nat_le, nat_lt, true, false, cond, max, refl, sym, ap, ◌∙◌, arith, inl, inr}
 use Rattle.std.specs.List.{range_with_len}
 use Rattle.std.proofs.lemmas.List.{ext_get_or, get_or_past}
 use Rattle.std.proofs.lemmas.List.FromFn.{length-map-range_with_len, get_or-map-range_with_len}
 use Rattle.std.proofs.lemmas.Bool.Decides.{nat_tests}
-use Rattle.std.proofs.lemmas.List.{get_or_append_left, get_or-append_right}
+use Rattle.std.proofs.lemmas.List.{get_or_append_left, get_or-append_right, get_or-replicate, length-replicate}
 use Rattle.loom_outside.specs.Bytes.{window, overwritten, byte_after}
 
 pub length-window : (w : List ℕ) (at n : ℕ) → length (window w at n) ≡ n
@@ -63,6 +63,12 @@ window-overwritten_apart w at bytes from n apart =
     ∙ get_or-overwritten w at bytes (from + k)
     ∙ byte_after_outside w at bytes (from + k) (elim apart [ inl before ↦ inl (omega arith) | inr behind ↦ inr (omega arith) ])
     ∙ sym (get_or-window w from n k below))
+
+-- a window of an empty file
+pub window-nil : (at n : ℕ) → window [] at n ≡ replicate n 0
+window-nil at n =
+    ext_get_or 0 _ _ (length-window [] at n ∙ sym (length-replicate n 0)) (λ k h.
+    let below : k < n = rw (length-window [] at n) at h in get_or-window [] at n k below ∙ sym (get_or-replicate n k 0 0 below))
 
 -- a window of a window
 pub window-window : (w : List ℕ) (at n from m : ℕ) → from + m ≤ n → window (window w at n) from m ≡ window w (at + from) m

@@ -1,4 +1,4 @@
--- What a host in memory stands for.
+-- What a host in memory stands for. These words are not opened by themselves: who calls it goes by its clauses.
 use Rattle.std.specs.Prelude.{◌≡◌, ℕ, List, Bool, Option, None, Result, IsErr, is_err, IsTrue, if◌then◌else◌}
 use Rattle.loom_outside.specs.Outside.{RoleState, SameBut, counted}
 use Rattle.loom_outside.specs.PerRole.{at_role}
@@ -15,35 +15,35 @@ use Rattle.loom_outside.specs.declared.memory.MemoryHost.{MemoryHost}
 abbrev pub told : Calls → RoleState → RoleState
 told c s = record s { attaches = c.attaches; name = if c.named then s.name else None }
 
-abbrev pub roles_of : MemoryHost → Role → RoleState
+unfoldable pub roles_of : MemoryHost → Role → RoleState
 roles_of h role = told (at_role h.calls role) (held_of h.store role)
 
-abbrev pub faults_of : MemoryHost → Role → ℕ
+unfoldable pub faults_of : MemoryHost → Role → ℕ
 faults_of h = at_role h.faults
 
-abbrev pub writes_of : MemoryHost → ℕ
+unfoldable pub writes_of : MemoryHost → ℕ
 writes_of h = h.writes
 
 -- how many bytes one call moves at most
-abbrev pub chunk_of : MemoryHost → ℕ
+unfoldable pub chunk_of : MemoryHost → ℕ
 chunk_of h = h.chunk.most
 
 -- how many calls on a role there are until each that is to fail
-abbrev pub plan_of : MemoryHost → Role → List ℕ
+unfoldable pub plan_of : MemoryHost → Role → List ℕ
 plan_of h role = (at_role h.calls role).plan.items
 
-abbrev pub marks_of : MemoryHost → Marks
+unfoldable pub marks_of : MemoryHost → Marks
 marks_of h = h.marks
 
 -- the bytes of the file of this name, or None where there is none
-abbrev pub file_of : MemoryHost → List ℕ → Option (List ℕ)
+unfoldable pub file_of : MemoryHost → List ℕ → Option (List ℕ)
 file_of h = file_in h.store
 
 -- the file of this name is the one that the role writes
-abbrev pub shown_of : MemoryHost → Role → List ℕ → Bool
+unfoldable pub shown_of : MemoryHost → Role → List ℕ → Bool
 shown_of h = shows h.store
 
-abbrev pub room_of : MemoryHost → Role → Room
+unfoldable pub room_of : MemoryHost → Role → Room
 room_of h = room_in h.store
 
 -- what an attach that failed leaves: the bytes as they were, and no name

@@ -10,7 +10,7 @@ use Rattle.loom_outside.specs.declared.outside.Role.TheVariants.{Image, Events, 
 use Rattle.loom_outside.specs.declared.store.Store.{Store}
 
 -- what a role holds, under the name of its file
-abbrev pub held_of : Store → Role → RoleState
+unfoldable pub held_of : Store → Role → RoleState
 held_of s Image = reading (names s.files.items) (contents s.files.items) s.image
 held_of s Events = reading (names s.files.items) (contents s.files.items) s.events
 held_of s Work = record at_start { name = Some s.work.name.items; contents = s.work.bytes.items }
@@ -20,7 +20,7 @@ held_of s Transcript = record at_start { put = s.transcript.items }
 held_of s Notes = record at_start { put = s.notes.items }
 
 -- the bytes of the file of this name
-abbrev pub file_in : Store → List ℕ → Option (List ℕ)
+unfoldable pub file_in : Store → List ℕ → Option (List ℕ)
 file_in s name = option_map (bytes_at (contents s.files.items)) (newest (names s.files.items) name)
 
 abbrev pub is_place : Option ℕ → ℕ → Bool
@@ -28,13 +28,13 @@ is_place None place = false
 is_place (Some found) place = found == place
 
 -- the file of this name is the one that the role writes
-abbrev pub shows : Store → Role → List ℕ → Bool
+unfoldable pub shows : Store → Role → List ℕ → Bool
 shows s Saved name = is_place (newest (names s.files.items) name) s.saved.file
 shows s Display name = is_place (newest (names s.files.items) name) s.display.file
 shows s _ name = false
 
 -- the room of a role
-abbrev pub room_in : Store → Role → Room
+unfoldable pub room_in : Store → Role → Room
 room_in s Work = record { bytes = vec_capacity s.work.bytes; next_bytes = vec_capacity s.work.bytes; next_name = vec_capacity s.work.name; next_place = true }
 room_in s Saved = record { bytes = slice_index (rooms s.files.items) s.saved.file; next_bytes = vec_capacity s.saved.bytes; next_name = vec_capacity s.saved.name; next_place = s.saved.place }
 room_in s Display = record { bytes = slice_index (rooms s.files.items) s.display.file; next_bytes = vec_capacity s.display.bytes; next_name = vec_capacity s.display.name; next_place = s.display.place }

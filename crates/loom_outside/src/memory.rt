@@ -35,6 +35,7 @@ pub struct MemoryHost {
     marks: Marks,
 }
 
+#[tactic(auto, unfolding(crate::specs::Memory::roles_of, crate::specs::Memory::faults_of, crate::specs::Memory::writes_of, crate::specs::Memory::chunk_of, crate::specs::Memory::plan_of, crate::specs::Memory::marks_of, crate::specs::Memory::file_of, crate::specs::Memory::shown_of, crate::specs::Memory::room_of))]
 impl MemoryHost {
     /// A host with no file, where nothing is attached and nothing failed. One call of `read` or `write`
     /// moves at most `chunk` bytes.
@@ -134,6 +135,7 @@ impl MemoryHost {
     }
 }
 
+#[tactic(auto, unfolding(crate::specs::Memory::roles_of, crate::specs::Memory::faults_of, crate::specs::Memory::writes_of, crate::specs::Memory::chunk_of, crate::specs::Memory::plan_of, crate::specs::Memory::marks_of, crate::specs::Memory::file_of, crate::specs::Memory::shown_of, crate::specs::Memory::room_of))]
 impl Host for MemoryHost {
     ghost tells = { λ _. true };
 
@@ -271,7 +273,8 @@ impl Host for MemoryHost {
 
     fn write_at(&mut self, place: u64, buf: &[u8]) -> Result<(), Failed>
         ensures contents { OnOk result (roles_of self.new Role.Work ≡ holds (overwritten (roles_of self.old Role.Work).contents place buf.now) (roles_of self.old Role.Work)) }
-        ensures failed { OnErr result (roles_of self.new Role.Work ≡ roles_of self.old Role.Work) }
+        ensures failed { OnErr result ((left : List ℕ) × (roles_of self.new Role.Work ≡ holds left (roles_of self.old Role.Work))) }
+        ensures refused { OnErr result (roles_of self.new Role.Work ≡ roles_of self.old Role.Work) }
         ensures others { SameBut Role.Work (roles_of self.old) (roles_of self.new) }
         ensures other_faults { SameBut Role.Work (faults_of self.old) (faults_of self.new) }
         ensures writes { writes_of self.new ≡ counted (writes_of self.old) }
@@ -286,7 +289,10 @@ impl Host for MemoryHost {
         ensures err_marks { OnErr result (marks_of self.new ≡ marks_of self.old) }
     {
         self.writes = self.writes.saturating_add(1);
-        if self.calls.begin(Role::Work) || self.store.write_at(place, buf).is_err() {
+        if self.calls.begin(Role::Work) {
+            return self.faults.fail(Role::Work);
+        }
+        if self.store.write_at(place, buf).is_err() {
             return self.faults.fail(Role::Work);
         }
         self.marks.store();

@@ -31,6 +31,7 @@ pub struct Store {
     ghost places: { length files.items + (kept saved.place + kept display.place) ≤ vec_capacity files },
 }
 
+#[tactic(auto, unfolding(crate::specs::Store::held_of, crate::specs::Store::file_in, crate::specs::Store::shows, crate::specs::Store::room_in))]
 impl Store {
     ghost use Rattle.loom_outside.specs.declared.outside.Role.{Role};
     ghost use Rattle.std.specs.Prelude.{◌≡◌, ◌++◌, ℕ, List, [], true, false, None, Some, IsTrue, IsOk, IsSome, ◌&&◌, OnOk, OnErr, IfOk, option_copied, if◌then◌else◌, min};
@@ -67,7 +68,7 @@ impl Store {
     }
 
     // Puts bytes behind those of a role that is written.
-    #[tactic(auto, using(crate::proofs::Kept::put_steps))]
+    #[tactic(auto, using(crate::proofs::Kept::put_steps), unfolding(crate::specs::Store::held_of, crate::specs::Store::file_in, crate::specs::Store::shows, crate::specs::Store::room_in))]
     pub fn put(&mut self, role: Role, bytes: &[u8]) -> Result<(), AllocError>
         requires { CanWrite role }
         ensures ok { OnOk result (held_of self.new role ≡ puts bytes.now (held_of self.old role)) }
@@ -88,7 +89,7 @@ impl Store {
     }
 
     // Opens the last file of this name for a role that is read. Whether there is one.
-    pub fn open(&mut self, role: Role, name: &str) -> bool
+    fn open(&mut self, role: Role, name: &str) -> bool
         requires { CanRead role }
         ensures name { IsTrue result → (held_of self.new role).name ≡ Some name.now }
         ensures fresh { IsTrue result → IsFresh (held_of self.new role) }
@@ -111,8 +112,8 @@ impl Store {
     }
 
     // Makes a new and empty file of this name for a role that is written.
-    #[tactic(auto, using(crate::proofs::Kept::push_steps))]
-    pub fn make(&mut self, role: Role, name: &str) -> Result<(), AllocError>
+    #[tactic(auto, using(crate::proofs::Kept::push_steps), unfolding(crate::specs::Store::held_of, crate::specs::Store::file_in, crate::specs::Store::shows, crate::specs::Store::room_in))]
+    fn make(&mut self, role: Role, name: &str) -> Result<(), AllocError>
         requires { IsTrue (makes_file role) }
         ensures name { OnOk result ((held_of self.new role).name ≡ Some name.now) }
         ensures fresh { OnOk result (IsFresh (held_of self.new role)) }
@@ -141,7 +142,7 @@ impl Store {
     }
 
     // Empties Work, and takes this name for it.
-    pub fn renew(&mut self, name: &str) -> Result<(), AllocError>
+    fn renew(&mut self, name: &str) -> Result<(), AllocError>
         ensures name { OnOk result ((held_of self.new Role.Work).name ≡ Some name.now) }
         ensures fresh { OnOk result (IsFresh (held_of self.new Role.Work)) }
         ensures err { OnErr result (unnamed (held_of self.new Role.Work) ≡ unnamed (held_of self.old Role.Work)) }
@@ -218,7 +219,7 @@ impl Store {
     }
 
     // Makes room for so many bytes, through one attach.
-    #[tactic(auto, using(crate::proofs::Kept::put_steps))]
+    #[tactic(auto, using(crate::proofs::Kept::put_steps), unfolding(crate::specs::Store::held_of, crate::specs::Store::file_in, crate::specs::Store::shows, crate::specs::Store::room_in))]
     pub fn reserve(&mut self, role: Role, most: usize) -> Result<(), AllocError>
         ensures room { OnOk result (HasRoom role most (room_in self.new role)) }
         ensures held { (r : Role) → held_of self.new r ≡ held_of self.old r }
@@ -258,14 +259,15 @@ impl Store {
 
     // The bytes of the file of this name.
     pub fn file(&self, name: &str) -> Option<&[u8]>
-        ensures { option_copied result ≡ file_in self.now name.now }
+        ensures file { option_copied result ≡ file_in self.now name.now }
+        ensures shown { (r : Role) → IsTrue (shows self.now r name.now) → option_copied result ≡ Some (held_of self.now r).put }
     {
         let place = files::find(&self.files, name.as_bytes())?;
         Some(&self.files[place].bytes)
     }
 
     // Puts a file last.
-    #[tactic(auto, using(crate::proofs::Kept::push_steps))]
+    #[tactic(auto, using(crate::proofs::Kept::push_steps), unfolding(crate::specs::Store::held_of, crate::specs::Store::file_in, crate::specs::Store::shows, crate::specs::Store::room_in))]
     pub fn add(&mut self, name: &str, bytes: &[u8]) -> Result<(), AllocError>
         ensures held { (r : Role) → held_of self.new r ≡ held_of self.old r }
         ensures ok { OnOk result ((q : List ℕ) → file_in self.new q ≡ (if bytes_eq name.now q then Some bytes.now else file_in self.old q)) }

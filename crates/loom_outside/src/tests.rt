@@ -1,5 +1,6 @@
 use crate::{Failed, Host, MemoryHost, RealHost, Role, read_full, write_full};
 use std::fs;
+use std::process::Abort;
 use std::test::Fail;
 
 const ROLES: [Role; 7] = [
@@ -12,7 +13,191 @@ const ROLES: [Role; 7] = [
     Role::Notes,
 ];
 
-// One call on a role, of which nothing is attached.
+// A step, and what comes of it.
+#[derive(Clone, Copy)]
+enum Step {
+    Attach(Role, &'static str),
+    Misses(Role, &'static str),
+    Put(Role, &'static [u8]),
+    // these bytes are the next, and at the end fewer than asked for
+    Take(Role, &'static [u8]),
+    End(Role, &'static [u8]),
+    WriteAt(u64, &'static [u8]),
+    ReadAt(u64, &'static [u8]),
+}
+
+fn attach<H: Host>(rt: &impl Abort, host: &mut H, role: Role, name: &str) -> Result<(), Failed> {
+    assert!(rt; !matches!(role, Role::Transcript | Role::Notes));
+    host.attach(role, name)
+}
+
+fn put<H: Host>(rt: &impl Abort, host: &mut H, role: Role, text: &[u8]) -> Result<(), Failed> {
+    assert!(rt; !matches!(role, Role::Image | Role::Events | Role::Work));
+    write_full(host, role, text)
+}
+
+fn take<H: Host>(
+    rt: &impl Abort,
+    host: &mut H,
+    role: Role,
+    buf: &mut [u8],
+) -> Result<usize, Failed> {
+    assert!(rt; matches!(role, Role::Image | Role::Events));
+    read_full(host, role, buf)
+}
+
+fn run<H: Host>(rt: &impl Abort, host: &mut H, step: Step) -> Result<(), Failed> {
+    let mut buf = [9; 10];
+    match step {
+        Step::Attach(role, name) => attach(rt, host, role, name),
+        Step::Misses(role, name) => {
+            let before = host.fault_count(role);
+            assert_eq!(rt; attach(rt, host, role, name), Err(Failed), "{name}");
+            assert_eq!(rt; host.fault_count(role), before.saturating_add(1));
+            Ok(())
+        }
+        Step::Put(role, text) => put(rt, host, role, text),
+        Step::Take(role, text) => {
+            assert!(rt; text.len() <= 10);
+            let piece = &mut buf[..text.len()];
+            assert_eq!(rt; take(rt, host, role, piece)?, text.len());
+            assert_eq!(rt; &*piece, text);
+            Ok(())
+        }
+        Step::End(role, text) => {
+            let n = take(rt, host, role, &mut buf)?;
+            assert!(rt; n < 10);
+            assert_eq!(rt; &buf[..n], text);
+            Ok(())
+        }
+        Step::WriteAt(place, text) => host.write_at(place, text),
+        Step::ReadAt(place, text) => {
+            assert!(rt; text.len() <= 10);
+            let piece = &mut buf[..text.len()];
+            host.read_at(place, piece)?;
+            assert_eq!(rt; &*piece, text);
+            Ok(())
+        }
+    }
+}
+
+// What holds over files as over memory.
+const STEPS: [Step; 29] = [
+    Step::Misses(Role::Image, "none"),
+    Step::Attach(Role::Saved, "s"),
+    Step::Put(Role::Saved, b"abc"),
+    Step::Put(Role::Saved, b"def"),
+    Step::Attach(Role::Image, "s"),
+    Step::Take(Role::Image, b"abcd"),
+    Step::Misses(Role::Events, "none"),
+    Step::End(Role::Image, b"ef"),
+    Step::End(Role::Image, b""),
+    Step::Attach(Role::Saved, "t"),
+    Step::Put(Role::Saved, b"x"),
+    Step::Attach(Role::Display, "d"),
+    Step::Put(Role::Display, b"picture"),
+    Step::Attach(Role::Events, "s"),
+    Step::End(Role::Events, b"abcdef"),
+    Step::Attach(Role::Events, "d"),
+    Step::End(Role::Events, b"picture"),
+    Step::Attach(Role::Work, "w"),
+    Step::ReadAt(7, b"\0\0"),
+    Step::WriteAt(4, b"xyz"),
+    Step::ReadAt(0, b"\0\0\0\0xyz\0\0"),
+    Step::WriteAt(0, b"q"),
+    Step::WriteAt(3, b"abcd"),
+    Step::ReadAt(0, b"q\0\0abcd\0\0"),
+    Step::Put(Role::Transcript, b"said\n"),
+    Step::Attach(Role::Work, "w"),
+    Step::ReadAt(2, b"\0\0\0\0"),
+    Step::Put(Role::Notes, b"noted\n"),
+    Step::WriteAt(1, b"y"),
+];
+
+#[test]
+fn files_and_streams(rt: HostRuntime) -> Result<(), Fail> {
+    let mut host = RealHost::new(rt.clone()?, rt.stdout(), rt.stderr());
+    assert_eq!(rt; call(&mut host, Role::Work), Err(Failed));
+    assert_eq!(rt; call(&mut host, Role::Saved), Err(Failed));
+    for step in STEPS {
+        run(&rt, &mut host, step)?;
+    }
+    for (role, count) in [
+        (Role::Image, 1),
+        (Role::Work, 1),
+        (Role::Saved, 1),
+        (Role::Notes, 0),
+    ] {
+        assert_eq!(rt; host.fault_count(role), count, "{role:?}");
+    }
+    for name in ["s", "t", "d", "w"] {
+        fs::remove_file(&rt, name)?;
+    }
+    Ok(())
+}
+
+#[test]
+fn memory(rt: HostRuntime) -> Result<(), Fail> {
+    for (chunk, room) in [(1, 0), (100, 0), (1, 65_536), (100, 65_536)] {
+        assert!(rt; chunk > 0);
+        let mut host = MemoryHost::new(rt.alloc(), chunk)?;
+        host.reserve(Role::Work, room)?;
+        host.reserve(Role::Saved, room)?;
+        assert_eq!(rt; host.work_writes(), (0, 0));
+        for step in STEPS {
+            run(&rt, &mut host, step)?;
+        }
+        assert_eq!(rt; host.work_writes(), (3, 3));
+        assert_eq!(rt; host.transcript(), b"said\n".as_slice());
+        assert_eq!(rt; host.notes(), b"noted\n".as_slice());
+        assert_eq!(rt; host.file("s"), Some(b"abcdef".as_slice()));
+        assert_eq!(rt; host.file("t"), Some(b"x".as_slice()));
+        assert_eq!(rt; host.file("w"), None);
+        run(&rt, &mut host, Step::Put(Role::Transcript, b"more"))?;
+        assert_eq!(rt; host.work_writes(), (3, 4));
+        host.attach(Role::Image, "s")?;
+        assert_eq!(rt; host.read(Role::Image, &mut [0; 5])?, chunk.min(5));
+        assert!(rt; host.reserve(Role::Work, u64::MAX).is_err());
+    }
+    Ok(())
+}
+
+// Steps, and what the file "s" shows after each. Who reads goes on with what was there at the attach.
+const NEWER: [(Step, &[u8]); 13] = [
+    (Step::Attach(Role::Saved, "s"), b""),
+    (Step::Put(Role::Saved, b"abc"), b"abc"),
+    (Step::Attach(Role::Image, "s"), b"abc"),
+    (Step::Put(Role::Saved, b"def"), b"abcdef"),
+    (Step::End(Role::Image, b"abc"), b"abcdef"),
+    (Step::Attach(Role::Image, "s"), b"abcdef"),
+    (Step::Take(Role::Image, b"ab"), b"abcdef"),
+    (Step::Attach(Role::Display, "s"), b""),
+    (Step::Put(Role::Display, b"new"), b"new"),
+    (Step::Put(Role::Saved, b"older"), b"new"),
+    (Step::End(Role::Image, b"cdef"), b"new"),
+    (Step::Attach(Role::Events, "s"), b"new"),
+    (Step::End(Role::Events, b"new"), b"new"),
+];
+
+fn is_file(host: &MemoryHost, name: &str, bytes: &[u8]) -> bool {
+    host.file(name) == Some(bytes)
+}
+
+#[test]
+fn a_newer_file(rt: HostRuntime) -> Result<(), Fail> {
+    let mut host = MemoryHost::new(rt.alloc(), 4)?;
+    for (step, shown) in NEWER {
+        run(&rt, &mut host, step)?;
+        assert!(rt; is_file(&host, "s", shown));
+    }
+    host.add_file("s", b"added")?;
+    run(&rt, &mut host, Step::Put(Role::Display, b"er"))?;
+    assert_eq!(rt; host.file("s"), Some(b"added".as_slice()));
+    assert_eq!(rt; host.file("none"), None);
+    Ok(())
+}
+
+// One call on a role of which nothing is attached.
 fn call<H: Host>(host: &mut H, role: Role) -> Result<(), Failed> {
     match role {
         Role::Image | Role::Events => {
@@ -42,145 +227,6 @@ fn listed_calls_fail(rt: HostRuntime) -> Result<(), Fail> {
                 assert_eq!(rt; host.fault_count(other), if other == role { 1 } else { 0 });
             }
         }
-    }
-    Ok(())
-}
-
-#[test]
-fn files_stay(rt: HostRuntime) -> Result<(), Fail> {
-    for (chunk, room) in [(1, 0), (100, 0), (1, 65_536), (100, 65_536)] {
-        assert!(rt; chunk > 0);
-        let mut host = MemoryHost::new(rt.alloc(), chunk)?;
-        host.reserve(Role::Saved, room)?;
-        host.add_file("a", b"one two")?;
-        assert_eq!(rt; host.attach(Role::Image, "none"), Err(Failed));
-        assert_eq!(rt; host.fault_count(Role::Image), 1);
-        host.attach(Role::Image, "a")?;
-        let mut buf = [0; 5];
-        assert_eq!(rt;
-            host.read(Role::Image, &mut buf)?,
-            if chunk < 5 { chunk } else { 5 }
-        );
-        host.attach(Role::Image, "a")?;
-        assert_eq!(rt; read_full(&mut host, Role::Image, &mut buf)?, 5);
-        assert_eq!(rt; buf.as_slice(), b"one t".as_slice());
-        assert_eq!(rt; read_full(&mut host, Role::Image, &mut buf)?, 2);
-        assert_eq!(rt; &buf[..2], b"wo".as_slice());
-        assert_eq!(rt; host.read(Role::Image, &mut buf)?, 0);
-
-        // A file that Saved made is read as far as it was written, also while Saved goes on.
-        host.attach(Role::Saved, "s")?;
-        assert_eq!(rt; host.file("s"), Some(b"".as_slice()));
-        write_full(&mut host, Role::Saved, b"abc")?;
-        host.attach(Role::Events, "s")?;
-        write_full(&mut host, Role::Saved, b"def")?;
-        assert_eq!(rt; read_full(&mut host, Role::Events, &mut buf)?, 3);
-        assert_eq!(rt; &buf[..3], b"abc".as_slice());
-        assert_eq!(rt; host.file("s"), Some(b"abcdef".as_slice()));
-
-        // It stays when Saved is attached again.
-        host.attach(Role::Saved, "t")?;
-        write_full(&mut host, Role::Saved, b"x")?;
-        assert_eq!(rt; host.file("s"), Some(b"abcdef".as_slice()));
-        assert_eq!(rt; host.file("t"), Some(b"x".as_slice()));
-
-        // A newer file takes its place, but not for who reads it.
-        host.attach(Role::Events, "s")?;
-        assert_eq!(rt; read_full(&mut host, Role::Events, &mut [0; 2])?, 2);
-        host.attach(Role::Display, "s")?;
-        write_full(&mut host, Role::Display, b"new")?;
-        assert_eq!(rt; host.file("s"), Some(b"new".as_slice()));
-        assert_eq!(rt; read_full(&mut host, Role::Events, &mut buf)?, 4);
-        assert_eq!(rt; &buf[..4], b"cdef".as_slice());
-        host.add_file("s", b"added")?;
-        write_full(&mut host, Role::Display, b"er")?;
-        assert_eq!(rt; host.file("s"), Some(b"added".as_slice()));
-        assert_eq!(rt; host.file("a"), Some(b"one two".as_slice()));
-        assert_eq!(rt; host.file("none"), None);
-    }
-    Ok(())
-}
-
-#[test]
-fn work_is_kept_apart(rt: HostRuntime) -> Result<(), Fail> {
-    for room in [0, 65_536] {
-        let mut host = MemoryHost::new(rt.alloc(), 100)?;
-        host.reserve(Role::Work, room)?;
-        host.reserve(Role::Transcript, room)?;
-        assert_eq!(rt; host.work_writes(), (0, 0));
-        host.attach(Role::Work, "w")?;
-        let mut buf = [9; 9];
-        for (place, piece, want) in [
-            (4, b"xyz".as_slice(), b"\0\0\0\0xyz\0\0".as_slice()),
-            (0, b"q", b"q\0\0\0xyz\0\0"),
-            (3, b"abcd", b"q\0\0abcd\0\0"),
-        ] {
-            host.write_at(place, piece)?;
-            write_full(&mut host, Role::Transcript, b"!")?;
-            host.read_at(0, &mut buf)?;
-            assert_eq!(rt; buf.as_slice(), want);
-        }
-        host.fail(Role::Work, 1)?;
-        assert_eq!(rt; host.write_at(0, b"lost"), Err(Failed));
-        write_full(&mut host, Role::Notes, b"note")?;
-        assert_eq!(rt; host.work_writes(), (1, 3));
-        assert_eq!(rt; host.transcript(), b"!!!".as_slice());
-        assert_eq!(rt; host.notes(), b"note".as_slice());
-        assert_eq!(rt; host.file("w"), None);
-        host.read_at(u64::MAX, &mut buf)?;
-        assert_eq!(rt; buf, [0; 9]);
-        assert!(rt; host.reserve(Role::Work, u64::MAX).is_err());
-    }
-    Ok(())
-}
-
-#[test]
-fn real_files(rt: HostRuntime) -> Result<(), Fail> {
-    let mut host = RealHost::new(rt.clone()?, rt.stdout(), rt.stderr());
-    for role in ROLES {
-        let failed = call(&mut host, role).is_err();
-        assert_eq!(rt;
-            failed,
-            !matches!(role, Role::Transcript | Role::Notes),
-            "{role:?}"
-        );
-    }
-    assert_eq!(rt; host.attach(Role::Image, "none"), Err(Failed));
-    assert_eq!(rt; host.fault_count(Role::Image), 2);
-    assert_eq!(rt; host.fault_count(Role::Notes), 0);
-    for (role, reader, name, text) in [
-        (Role::Saved, Role::Image, "saved", b"hello".as_slice()),
-        (Role::Display, Role::Events, "display", b"paint"),
-        (Role::Saved, Role::Image, "saved", b"again"),
-    ] {
-        assert!(rt; matches!(role, Role::Saved | Role::Display));
-        assert!(rt; matches!(reader, Role::Image | Role::Events));
-        host.attach(role, name)?;
-        write_full(&mut host, role, text)?;
-        host.attach(reader, name)?;
-        let mut line = [0; 5];
-        assert_eq!(rt; read_full(&mut host, reader, &mut line)?, 5);
-        assert_eq!(rt; line.as_slice(), text);
-        assert_eq!(rt; read_full(&mut host, reader, &mut line)?, 0);
-    }
-    host.attach(Role::Work, "work")?;
-    let mut buf = [9; 9];
-    for (place, piece, want) in [
-        (3, b"abc".as_slice(), b"\0\0\0abc\0\0\0".as_slice()),
-        (4, b"x", b"\0\0\0axc\0\0\0"),
-        (8, b"end", b"\0\0\0axc\0\0e"),
-    ] {
-        host.write_at(place, piece)?;
-        host.read_at(0, &mut buf)?;
-        assert_eq!(rt; buf.as_slice(), want);
-    }
-    host.attach(Role::Work, "work")?;
-    host.read_at(0, &mut buf)?;
-    assert_eq!(rt; buf, [0; 9]);
-    write_full(&mut host, Role::Transcript, b"said\n")?;
-    write_full(&mut host, Role::Notes, b"noted\n")?;
-    for name in ["saved", "display", "work"] {
-        fs::remove_file(&rt, name)?;
     }
     Ok(())
 }
