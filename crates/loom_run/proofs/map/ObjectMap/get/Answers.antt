@@ -1,0 +1,6 @@
+use Rattle.image_format.specs.Valid.{IsObject}
+use Rattle.loom_run.proofs.MapLaws.{lent}
+use Rattle.loom_run.proofs.map.ObjectMap.get.Goals as goal
+
+pub returns-clause-object : goal.returns-clause-object
+returns-clause-object c = lent IsObject _ _ c.get.ensures.value (c.args.self.now.stored.object c.args.name)

@@ -1,0 +1,45 @@
+-- How a run ends, the line that says so, and the exit status.
+use Rattle.std.specs.Prelude.{ℕ, List, ◌++◌, codes, decimal, Option, Some, None}
+use Rattle.loom_outside.specs.declared.outside.Role.{Role}
+use Rattle.loom_outside.specs.declared.outside.Role.TheVariants.{Image, Events, Work, Saved, Display, Transcript, Notes}
+use Rattle.loom_run.specs.declared.status.Status.{Status}
+use Rattle.loom_run.specs.declared.status.Status.TheVariants.{Done, Usage, ImageBad, ReadFault, WriteFault, OutOfMemory, NotBuilt}
+
+-- what a role is called
+abbrev pub role_text : Role → List ℕ
+role_text Image = codes "Image"
+role_text Events = codes "Events"
+role_text Work = codes "Work"
+role_text Saved = codes "Saved"
+role_text Display = codes "Display"
+role_text Transcript = codes "Transcript"
+role_text Notes = codes "Notes"
+
+-- what is said of a status, with no newline
+abbrev pub text_of : Status → List ℕ
+text_of (Done ran) = codes "ran " ++ decimal ran
+text_of (Usage word) = codes "usage: word " ++ decimal word
+text_of (ImageBad rule place) = codes "image: rule " ++ decimal rule ++ codes " at " ++ decimal place
+text_of (ReadFault role count) = codes "read fault: " ++ role_text role
+text_of (WriteFault role count) = codes "write fault: " ++ role_text role
+text_of OutOfMemory = codes "out of memory"
+text_of (NotBuilt ran) = codes "not built after " ++ decimal ran
+
+-- the last line on Notes
+abbrev pub line_of : Status → List ℕ
+line_of status = text_of status ++ codes "\n"
+
+-- the exit status of the program
+abbrev pub code_of : Status → ℕ
+code_of (Done ran) = 0
+code_of (Usage word) = 2
+code_of (ImageBad rule place) = 3
+code_of (ReadFault role count) = 9
+code_of (WriteFault role count) = 11
+code_of OutOfMemory = 12
+code_of (NotBuilt ran) = 14
+
+-- the word that a status finds fault with
+abbrev pub usage_of : Status → Option ℕ
+usage_of (Usage word) = Some word
+usage_of _ = None

@@ -1,0 +1,152 @@
+-- What a run does with the roles of its host, by its answer.
+use Rattle.std.specs.Prelude.{◌≡◌, ℕ, ◌+◌, ◌-◌, ◌^◌, ◌≤◌, min, List, ◌++◌, take, length, Bool, true, false, ◌⊎◌, Result, Err, IsOk, IsOkAnd, Some, IfSome}
+use Rattle.loom_outside.specs.Outside.{RoleState, Attached, counted, puts, PutPrefix}
+use Rattle.loom_outside.specs.declared.outside.Failed.{Failed}
+use Rattle.loom_outside.specs.declared.outside.Role.{Role}
+use Rattle.loom_outside.specs.declared.outside.Role.TheVariants.{Image, Saved, Notes}
+use Rattle.long_names.specs.Heap.{Heap}
+use Rattle.image_format.specs.Text.{image_text}
+use Rattle.image_format.specs.Valid.{IsImageHeap, IsValid}
+use Rattle.loom_run.specs.Machine.{ending}
+use Rattle.loom_run.specs.Saved.{saved_text}
+use Rattle.loom_run.specs.Status.{line_of}
+use Rattle.loom_run.specs.declared.status.Status.{Status}
+use Rattle.loom_run.specs.declared.status.Status.TheVariants.{Done, Usage, ImageBad, ReadFault, WriteFault, OutOfMemory, NotBuilt}
+
+-- ---- faults
+
+-- the count of faults rose, or stands at the greatest u64
+abbrev pub Rose : ℕ → ℕ → Type 0
+Rose before now = min (before + 1) (2 ^ 64 - 1) ≤ now
+
+-- a run writes Saved and Notes
+abbrev pub IsWritten : Role → Type 0
+IsWritten Saved = Unit {0}
+IsWritten Notes = Unit {0}
+IsWritten _ = ⊥
+
+-- a fault that is answered has risen, and comes with its count; an image is refused with rule 0 and place 0 so far
+abbrev pub IsCaused : Status → (Role → ℕ) → (Role → ℕ) → Type 0
+IsCaused (ReadFault role count) before now = (role ≡ Image) × (count ≡ now role) × Rose (before role) (now role)
+IsCaused (WriteFault role count) before now = IsWritten role × (count ≡ now role) × Rose (before role) (now role)
+IsCaused (ImageBad rule place) before now = (rule ≡ 0) × (place ≡ 0)
+IsCaused _ before now = Unit {0}
+
+-- so many bytecodes were asked for
+abbrev pub HasRun : Status → ℕ → Type 0
+HasRun (Done ran) steps = ran ≡ steps
+HasRun (NotBuilt ran) steps = ran ≤ steps
+HasRun _ steps = Unit {0}
+
+-- ---- Image and Saved
+
+-- the role was attached once more, and to no other name
+pub record AttachedOnce (text : List ℕ) (old new : RoleState) : Type 0 where
+  pub attaches : new.attaches ≡ counted old.attaches
+  pub name : IfSome new.name (λ t. t ≡ text)
+
+-- Image is attached by each answer but Usage
+abbrev pub ImageBy : Status → List ℕ → RoleState → RoleState → Type 0
+ImageBy (Usage word) text old new = new ≡ old
+ImageBy _ text old new = AttachedOnce text old new
+
+-- Saved is attached only once the run was made; want of memory may come before and after
+abbrev pub SavedBy : Status → List ℕ → RoleState → RoleState → Type 0
+SavedBy (Done ran) text old new = AttachedOnce text old new
+SavedBy (WriteFault role count) text old new = AttachedOnce text old new
+SavedBy OutOfMemory text old new = (new ≡ old) ⊎ AttachedOnce text old new
+SavedBy _ text old new = new ≡ old
+
+-- the answer comes before Saved is attached
+abbrev pub is_before_saving : Status → Bool
+is_before_saving (Usage word) = true
+is_before_saving (ImageBad rule place) = true
+is_before_saving (ReadFault role count) = true
+is_before_saving (NotBuilt ran) = true
+is_before_saving _ = false
+
+-- ---- what was read, and what was saved
+
+-- all bytes of a role that is read
+abbrev pub bytes_of : RoleState → List ℕ
+bytes_of s = s.taken ++ s.left
+
+-- the bytes are an image, and P holds of what becomes of its heap
+abbrev pub RunOf : List ℕ → ℕ → (Result Heap ℕ → Type 0) → Type 0
+RunOf image steps P = (h : Heap) × IsImageHeap h × (image ≡ image_text h) × P (ending steps h)
+
+-- What an answer says of the bytes of Image: they are no image, or the machine stops after so many bytecodes, or it goes through.
+abbrev pub Judges : Status → List ℕ → ℕ → Type 0
+Judges (ImageBad rule place) image steps = IsValid image → ⊥
+Judges (NotBuilt ran) image steps = RunOf image steps (λ r. r ≡ Err ran)
+Judges (Done ran) image steps = RunOf image steps (λ r. IsOk r)
+Judges (WriteFault role count) image steps = RunOf image steps (λ r. IsOk r)
+Judges _ image steps = Unit {0}
+
+-- the role was attached once more, by this name, and then these bytes were put to it
+pub record WasWritten (text bytes : List ℕ) (old new : RoleState) : Type 0 where
+  pub attaches : new.attaches ≡ counted old.attaches
+  pub name : new.name ≡ Some text
+  pub put : new.put ≡ bytes
+
+-- and likewise a prefix of these bytes
+abbrev pub WasBegun : List ℕ → List ℕ → RoleState → RoleState → Type 0
+WasBegun text bytes old new = (n : ℕ) × (n ≤ length bytes) × WasWritten text (take n bytes) old new
+
+-- what became of the heap was saved, or saving it was begun
+abbrev pub Saves : Result Heap ℕ → List ℕ → RoleState → RoleState → Type 0
+Saves run text old new = IsOkAnd run (λ h. WasWritten text (saved_text h) old new)
+
+abbrev pub BeginsToSave : Result Heap ℕ → List ℕ → RoleState → RoleState → Type 0
+BeginsToSave run text old new = IsOkAnd run (λ h. WasBegun text (saved_text h) old new)
+
+abbrev pub failed : Failed
+failed = record {}
+
+-- it is as an attach to this name that failed may leave it
+abbrev pub WasRefused : List ℕ → RoleState → RoleState → Type 0
+WasRefused text old new = Attached {T = Unit {0}} text (Err failed) old new
+
+-- What an answer says of the bytes put to Saved: the whole saved image where it is Done, or would have been but for the line on
+-- Notes; a prefix where Saved failed after its attach, or memory ran out.
+abbrev pub SavesFor : Role → List ℕ → ℕ → List ℕ → RoleState → RoleState → Type 0
+SavesFor Saved image steps text old new = WasRefused text old new ⊎ RunOf image steps (λ run. BeginsToSave run text old new)
+SavesFor Notes image steps text old new = RunOf image steps (λ run. Saves run text old new)
+SavesFor _ image steps text old new = Unit {0}
+
+abbrev pub SavesBy : Status → List ℕ → ℕ → List ℕ → RoleState → RoleState → Type 0
+SavesBy (Done ran) image steps text old new = RunOf image steps (λ run. Saves run text old new)
+SavesBy (WriteFault role count) image steps text old new = SavesFor role image steps text old new
+SavesBy OutOfMemory image steps text old new = (new ≡ old) ⊎ RunOf image steps (λ run. BeginsToSave run text old new)
+SavesBy _ image steps text old new = Unit {0}
+
+-- ---- Notes
+
+-- a prefix of this line was put, and the whole line unless the count of faults rose
+pub record Noted (line : List ℕ) (before now : ℕ) (old new : RoleState) : Type 0 where
+  pub prefix : PutPrefix line old new
+  pub whole : (Rose before now → ⊥) → new ≡ puts line old
+
+-- What was put to Notes. Done has its whole line there. Where that couldn't be written, the answer is a fault of Notes and no
+-- second line is begun. Any other answer has its own line there, or as much of it as could be written.
+abbrev pub NotedFor : Role → ℕ → ℕ → ℕ → ℕ → RoleState → RoleState → Type 0
+NotedFor Notes count steps before now old new = PutPrefix (line_of (Done steps)) old new
+NotedFor role count steps before now old new = Noted (line_of (WriteFault role count)) before now old new
+
+abbrev pub NotedBy : Status → ℕ → ℕ → ℕ → RoleState → RoleState → Type 0
+NotedBy (Done ran) steps before now old new = new ≡ puts (line_of (Done ran)) old
+NotedBy (WriteFault role count) steps before now old new = NotedFor role count steps before now old new
+NotedBy status steps before now old new = Noted (line_of status) before now old new
+
+-- ---- a run that goes through
+
+abbrev pub IsDone : Status → Type 0
+IsDone (Done ran) = Unit {0}
+IsDone OutOfMemory = Unit {0}
+IsDone _ = ⊥
+
+-- the image is right, no run of it stops, and no call on a role failed
+pub record CanBeDone (image : List ℕ) (steps : ℕ) (before now : Role → ℕ) : Type 0 where
+  pub valid : IsValid image
+  pub runs : (h : Heap) → IsImageHeap h → image ≡ image_text h → IsOk (ending steps h)
+  pub still : (r : Role) → Rose (before r) (now r) → ⊥

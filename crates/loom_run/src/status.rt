@@ -1,0 +1,138 @@
+// How a run ends, and the line that says so.
+ghost use Rattle.std.specs.Prelude.{◌≡◌, ◌+◌, ◌≤◌, ◌++◌, length, codes, decimal};
+ghost use Rattle.arrayvec.specs.ArrayString.{array_string_len};
+ghost use Rattle.loom_run.specs.Status.{role_text, text_of, line_of, code_of};
+
+use arrayvec::ArrayString;
+use itoa::Buffer;
+use loom_outside::Role;
+
+/// The last line on Notes, with its newline. It takes no memory.
+pub(crate) type Line = ArrayString<64>;
+
+/// How a run ended.
+#[derive(Clone, Copy, Debug, PartialEq, Eq)]
+pub enum Status {
+    /// So many bytecodes were run, and the saved image is written.
+    Done { ran: u32 },
+    /// The words are no command. `word` is the position, from 1, of the first bad, missing or extra one.
+    Usage { word: u32 },
+    /// The image breaks a rule at a place. Both are 0 so far.
+    ImageBad { rule: u8, place: u64 },
+    /// A call on a role that is read failed; `count` is its fault count since then.
+    ReadFault { role: Role, count: u64 },
+    /// A call on a role that is written failed; `count` is its fault count since then.
+    WriteFault { role: Role, count: u64 },
+    /// There was no memory.
+    OutOfMemory,
+    /// After so many bytecodes the machine came to one that isn't built, or to a broken rule.
+    NotBuilt { ran: u32 },
+}
+
+impl Status {
+    /// The exit status of the program.
+    pub fn code(&self) -> u8
+        ensures { result ≡ code_of self.now }
+    {
+        match self {
+            Status::Done { .. } => 0,
+            Status::Usage { .. } => 2,
+            Status::ImageBad { .. } => 3,
+            Status::ReadFault { .. } => 9,
+            Status::WriteFault { .. } => 11,
+            Status::OutOfMemory => 12,
+            Status::NotBuilt { .. } => 14,
+        }
+    }
+
+    /// The last line on Notes. It takes no memory.
+    pub(crate) fn line(&self) -> Line
+        ensures { result.bytes ≡ line_of self.now }
+    {
+        let mut line = self.text();
+        line.push_str("\n");
+        line
+    }
+
+    fn text(&self) -> Line
+        ensures text { result.bytes ≡ text_of self.now }
+        ensures short { array_string_len result ≤ 60 }
+    {
+        match *self {
+            Status::Done { ran } => numbered("ran ", ran as u64),
+            Status::Usage { word } => numbered("usage: word ", word as u64),
+            Status::ImageBad { rule, place } => placed(rule, place),
+            Status::ReadFault { role, .. } => named("read fault: ", role),
+            Status::WriteFault { role, .. } => named("write fault: ", role),
+            Status::OutOfMemory => begun("out of memory"),
+            Status::NotBuilt { ran } => numbered("not built after ", ran as u64),
+        }
+    }
+}
+
+// A line that begins with this text.
+fn begun(text: &str) -> Line
+    requires { length text.now ≤ 20 }
+    ensures { result.bytes ≡ text.now }
+{
+    let mut line = Line::new();
+    line.push_str(text);
+    line
+}
+
+fn put_number(line: &mut Line, number: u64)
+    requires { array_string_len line.old ≤ 40 }
+    ensures text { line.new.bytes ≡ line.old.bytes ++ decimal number }
+    ensures short { array_string_len line.new ≤ array_string_len line.old + 20 }
+{
+    let mut buffer = Buffer::new();
+    line.push_str(buffer.format(number));
+}
+
+// A text and a number.
+fn numbered(text: &str, number: u64) -> Line
+    requires { length text.now ≤ 20 }
+    ensures text { result.bytes ≡ text.now ++ decimal number }
+    ensures short { array_string_len result ≤ length text.now + 20 }
+{
+    let mut line = begun(text);
+    put_number(&mut line, number);
+    line
+}
+
+// A rule of an image, and the place where it breaks.
+fn placed(rule: u8, place: u64) -> Line
+    ensures text { result.bytes ≡ codes "image: rule " ++ decimal rule ++ codes " at " ++ decimal place }
+    ensures short { array_string_len result ≤ 60 }
+{
+    let mut line = numbered("image: rule ", rule as u64);
+    line.push_str(" at ");
+    put_number(&mut line, place);
+    line
+}
+
+// A text and a role.
+fn named(text: &str, role: Role) -> Line
+    requires { length text.now ≤ 20 }
+    ensures text { result.bytes ≡ text.now ++ role_text role }
+    ensures short { array_string_len result ≤ 40 }
+{
+    let mut line = begun(text);
+    line.push_str(role_name(role));
+    line
+}
+
+fn role_name(role: Role) -> &'static str
+    ensures text { result.now ≡ role_text role }
+    ensures short { length result.now ≤ 10 }
+{
+    match role {
+        Role::Image => "Image",
+        Role::Events => "Events",
+        Role::Work => "Work",
+        Role::Saved => "Saved",
+        Role::Display => "Display",
+        Role::Transcript => "Transcript",
+        Role::Notes => "Notes",
+    }
+}

@@ -1,0 +1,75 @@
+// Kept objects: what reference counting leaves in the end (chapter 30 of the Blue Book).
+ghost use Rattle.std.specs.Prelude.{◌≡◌, ◌+◌, ◌<◌, ◌≤◌, ◌^◌, ℕ, OnOk, IfOk, count_by, length, if◌then◌else◌, ◌==◌, ◌↔◌, IsTrue};
+ghost use Rattle.long_names.specs.Objects.{is_ref, holdings};
+ghost use Rattle.long_names.specs.Heap.{count_of};
+ghost use Rattle.long_names.specs.Kept.{sweep, kept, no_roots};
+ghost use Rattle.loom_run.specs.Counts.{count_in};
+ghost use Rattle.loom_run.specs.Map.{heap_of};
+ghost use Rattle.image_format.specs.Valid.{IsObject};
+
+use crate::counts::Counts;
+use crate::map::ObjectMap;
+use long_names::{Body, Object, Value, Values};
+use std::alloc::{AllocError, Global};
+
+/// Counts the names among values.
+fn count_values(counts: &mut Counts, values: &Values) -> Result<(), AllocError>
+    requires { (q : ℕ) → count_in counts.old q + length values.now < 2 ^ 64 }
+    ensures { OnOk result ((q : ℕ) → count_in counts.new q ≡ count_in counts.old q + count_by (is_ref q) values.now) }
+{
+    for i in 0..values.len() {
+        if let Value::Ref(name) = *values.item(i) {
+            counts.add(name)?;
+        }
+    }
+    Ok(())
+}
+
+/// Counts the words of an object: its class word, and its fields.
+fn count_object(counts: &mut Counts, object: &Object) -> Result<(), AllocError>
+    requires room { (q : ℕ) → count_in counts.old q + 65536 < 2 ^ 64 }
+    requires object { IsObject object.now }
+    ensures counted { OnOk result ((q : ℕ) → count_in counts.new q ≡ count_in counts.old q + holdings object.now q) }
+{
+    counts.add(object.class)?;
+    match &object.body {
+        Body::Pointers(values) => count_values(counts, values),
+        Body::Method { literals, .. } => count_values(counts, literals),
+        Body::Words(_) | Body::Bytes(_) => Ok(()),
+    }
+}
+
+/// How many words of the heap hold each name.
+pub(crate) fn count_words(alloc: Global, map: &ObjectMap) -> Result<Counts, AllocError>
+    ensures { IfOk result (λ counts. (q : ℕ) → count_in counts q ≡ count_of (heap_of map.now) q) }
+{
+    let mut counts = Counts::new(alloc);
+    for (_, object) in &map.objects {
+        count_object(&mut counts, object)?;
+    }
+    Ok(counts)
+}
+
+/// Takes away each object that isn't known and that no word of the heap holds.
+fn take_away(map: &mut ObjectMap, counts: &Counts)
+    requires { (q : ℕ) → count_in counts.now q ≡ count_of (heap_of map.old) q }
+    ensures { heap_of map.new ≡ sweep (heap_of map.old) no_roots }
+{
+    map.objects
+        .retain(|name, _| name.is_known() || counts.of(*name) > 0);
+}
+
+/// Takes away objects until only kept ones are left, and says how many words hold each of their names. A cycle that nothing else holds is kept.
+pub(crate) fn keep(alloc: Global, map: &mut ObjectMap) -> Result<Counts, AllocError>
+    ensures kept { OnOk result (heap_of map.new ≡ kept (heap_of map.old) no_roots) }
+    ensures counts { IfOk result (λ counts. (q : ℕ) → count_in counts q ≡ count_of (heap_of map.new) q) }
+{
+    loop {
+        let counts = count_words(alloc, map)?;
+        let before = map.len();
+        take_away(map, &counts);
+        if map.len() == before {
+            return Ok(counts);
+        }
+    }
+}
