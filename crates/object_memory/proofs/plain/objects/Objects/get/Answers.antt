@@ -1,0 +1,6 @@
+use Rattle.object_memory.specs.Stored.{IsObject}
+use Rattle.object_memory.proofs.MapLaws.{lent}
+use Rattle.object_memory.proofs.plain.objects.Objects.get.Goals as goal
+
+pub returns-clause-object : goal.returns-clause-object
+returns-clause-object c = lent IsObject _ _ c.get.ensures.value (c.args.self.now.stored.object c.args.name)

@@ -1,0 +1,9 @@
+pub mod Told
+pub mod Contract
+pub mod Stored
+pub mod StoredProps
+pub mod Plain
+pub mod Counts
+pub mod Records
+pub mod Shape
+pub mod Base

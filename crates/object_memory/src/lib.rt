@@ -1,0 +1,21 @@
+//! The contract of an object memory.
+#![tactic(auto)]
+
+mod fault;
+mod memory;
+mod plain;
+mod reg;
+
+pub use fault::{MemFault, Need};
+pub use memory::ObjectMemory;
+pub use plain::PlainMemory;
+pub use reg::Reg;
+
+#[cfg(test)]
+mod base;
+#[cfg(test)]
+mod caller;
+#[cfg(test)]
+mod shaped;
+#[cfg(test)]
+mod tests;

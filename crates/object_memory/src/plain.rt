@@ -1,0 +1,348 @@
+// A memory that is one map of long names.
+ghost use Rattle.std.specs.Prelude.{◌≡◌, ◌+◌, ◌<◌, ◌≤◌, ◌%◌, All, OnOk, IfOk, IfErr, IsOkAnd, IsSome, Some, Ok, ◌⊎◌};
+ghost use Rattle.long_names.specs.Objects.{IsBody, HasRange};
+ghost use Rattle.long_names.specs.Heap.{add_object};
+ghost use Rattle.long_names.specs.Kept.{kept, no_roots};
+ghost use Rattle.long_names.specs.Access.{object_at, class_at, name_at, set_register, IsRef, LAST_NAME};
+ghost use Rattle.long_names.specs.declared.value.Value.TheVariants.{Ref};
+ghost use Rattle.long_names.specs.declared.object.Object.{Object};
+ghost use Rattle.object_memory.specs.Told.{IsReady};
+ghost use Rattle.object_memory.specs.Stored.{IsLongName, IsObject, IsRecord};
+ghost use Rattle.object_memory.specs.Records.{AreWhole, heap_of_recs, recs_of};
+ghost use Rattle.object_memory.specs.Plain.{plain_told, fresh, refused, made};
+ghost use Rattle.object_memory.specs.declared.fault.MemFault.TheVariants.{NamesSpent, Memory};
+
+mod bodies;
+mod counts;
+mod kept;
+mod marks;
+mod objects;
+mod registers;
+mod slots;
+
+use crate::fault::MemFault;
+use crate::memory::ObjectMemory;
+use crate::plain::kept::{into_recs, keep};
+use crate::plain::marks::Marks;
+use crate::plain::objects::Objects;
+use crate::plain::registers::Registers;
+use crate::plain::slots::Slots;
+use crate::reg::Reg;
+use long_names::{Body, Kind, Name, Object, Octets, RecList, Value};
+use std::alloc::{AllocError, Global};
+
+/// No object is made with this next name, or one above it.
+const LAST_NAME: u32 = 4_294_967_294;
+
+/// A memory that is one map of long names. It frees nothing, so its heap is always the one that the calls make.
+#[derive(Drop)]
+pub struct PlainMemory {
+    alloc: Global,
+    objects: Objects,
+    registers: Registers,
+    slots: Slots,
+    marks: Marks,
+    transcript: Octets,
+    refusals: u64,
+    last: Option<MemFault>,
+}
+
+impl PlainMemory {
+    /// The memory of the objects of records. Every register holds 0. The records' counts are not read.
+    pub fn from_recs(alloc: Global, recs: &RecList, next: u32) -> Result<PlainMemory, AllocError>
+        requires { AreWhole recs.now next }
+        ensures told { IfOk result (λ memory. plain_told memory ≡ fresh (heap_of_recs recs.now next)) }
+        ensures ready { IfOk result (λ memory. IsReady (plain_told memory)) }
+    {
+        Ok(PlainMemory {
+            alloc,
+            objects: Objects::from_recs(alloc, recs, next)?,
+            registers: Registers::new(),
+            slots: Slots::new(),
+            marks: Marks::new(alloc),
+            transcript: Octets::new(alloc),
+            refusals: 0,
+            last: None,
+        })
+    }
+
+    /// The bytes that were said.
+    pub fn transcript(&self) -> &[u8]
+        ensures { result.now ≡ (plain_told self.now).transcript }
+    {
+        self.transcript.bytes()
+    }
+
+    /// The name that the next new object takes.
+    pub fn next(&self) -> u32
+        ensures value { result ≡ (plain_told self.now).heap.next }
+        ensures even { result % 2 ≡ 0 }
+    {
+        self.objects.next()
+    }
+
+    /// The records of the kept objects, by rising name, with exact counts: what is left where no register and no slot holds anything. A
+    /// cycle that nothing else holds is kept.
+    pub fn kept_recs(&self, alloc: Global) -> Result<RecList, AllocError>
+        ensures recs { IfOk result (λ recs. recs ≡ recs_of (kept (plain_told self.now).heap no_roots)) }
+        ensures records { IfOk result (All IsRecord) }
+    {
+        let mut heap = self.objects.copied()?;
+        let counts = keep(alloc, &mut heap)?;
+        into_recs(alloc, heap, &counts)
+    }
+
+    /// The object that a register names.
+    fn object(&self, of: Reg) -> &Object
+        requires { IsSome (object_at (plain_told self.now).heap ((plain_told self.now).regs of)) }
+        ensures at { object_at (plain_told self.now).heap ((plain_told self.now).regs of) ≡ Some result.now }
+        ensures object { IsObject result.now }
+    {
+        let Some(name) = self.registers.get(of).name() else {
+            unreachable!()
+        };
+        let Some(object) = self.objects.get(name) else {
+            unreachable!()
+        };
+        object
+    }
+
+    /// The class of a register's value.
+    fn class_of(&self, of: Reg) -> Name
+        requires { IsSome (class_at (plain_told self.now).heap ((plain_told self.now).regs of)) }
+        ensures value { class_at (plain_told self.now).heap ((plain_told self.now).regs of) ≡ Some result }
+        ensures name { IsLongName result }
+    {
+        match self.registers.get(of) {
+            Value::Int(_) => Name::SMALL_INTEGER,
+            Value::Ref(_) => self.object(of).class,
+        }
+    }
+
+    /// Counts a refusal and says why it was.
+    fn refuse(&mut self, fault: MemFault) -> MemFault
+        ensures result { result ≡ fault }
+        ensures refused { plain_told self.new ≡ refused (plain_told self.old) fault }
+        ensures later { (plain_told self.old).refusals ≤ (plain_told self.new).refusals }
+    {
+        self.refusals = self.refusals.saturating_add(1);
+        self.last = Some(fault);
+        fault
+    }
+
+    /// Puts a new object under the next name, and the name into a register.
+    fn make(&mut self, to: Reg, class: Reg, body: Result<Body, AllocError>) -> Result<(), MemFault>
+        requires ready { IsReady (plain_told self.old) }
+        requires class { IsRef ((plain_told self.old).regs class) }
+        requires body { IfOk body IsBody }
+        requires range { IfOk body HasRange }
+        ensures room { OnOk result ((plain_told self.old).heap.next < LAST_NAME) }
+        ensures made { OnOk result (IsOkAnd body (λ b. plain_told self.new ≡ made (plain_told self.old) to (record { class = name_at ((plain_told self.old).regs class); body = b }))) }
+        ensures refused { IfErr result (λ f. plain_told self.new ≡ refused (plain_told self.old) f) }
+        ensures cause { IfErr result (λ f. (f ≡ NamesSpent × LAST_NAME ≤ (plain_told self.old).heap.next) ⊎ (f ≡ Memory × (plain_told self.old).heap.next < LAST_NAME)) }
+        ensures later { (plain_told self.old).refusals ≤ (plain_told self.new).refusals }
+    {
+        let next = self.objects.next();
+        if next >= LAST_NAME {
+            return Err(self.refuse(MemFault::NamesSpent));
+        }
+        let class = self.registers.name(class);
+        let (Ok(body), Some(name)) = (body, Name::new(next)) else {
+            return Err(self.refuse(MemFault::Memory));
+        };
+        match self.objects.add(Object { class, body }) {
+            Ok(()) => {
+                self.registers.set(to, Value::Ref(name));
+                Ok(())
+            }
+            Err(_) => Err(self.refuse(MemFault::Memory)),
+        }
+    }
+}
+
+impl ObjectMemory for PlainMemory {
+    ghost use Rattle.object_memory.specs.Plain.{plain_told};
+
+    ghost told = { plain_told };
+
+    ghost sound = { λ _. Unit {0} };
+
+    ghost lender = { λ _. 0 };
+
+    fn int(&mut self, to: Reg, v: i16) {
+        self.registers.set(to, Value::Int(v));
+    }
+
+    fn copy(&mut self, to: Reg, from: Reg) {
+        let value = self.registers.get(from);
+        self.registers.set(to, value);
+    }
+
+    fn known(&mut self, to: Reg, name: Name) -> Result<(), MemFault> {
+        self.registers.set(to, Value::Ref(name));
+        Ok(())
+    }
+
+    fn is(&self, r: Reg, name: Name) -> bool {
+        self.registers.get(r) == Value::Ref(name)
+    }
+
+    fn same(&self, a: Reg, b: Reg) -> bool {
+        self.registers.get(a) == self.registers.get(b)
+    }
+
+    fn as_int(&self, r: Reg) -> Option<i16> {
+        self.registers.get(r).number()
+    }
+
+    fn hash(&self, r: Reg) -> u32 {
+        self.registers.name(r).index()
+    }
+
+    fn class(&mut self, to: Reg, of: Reg) -> Result<(), MemFault> {
+        let class = self.class_of(of);
+        self.registers.set(to, Value::Ref(class));
+        Ok(())
+    }
+
+    fn kind(&mut self, of: Reg) -> Result<Kind, MemFault> {
+        Ok(self.object(of).body.kind())
+    }
+
+    fn len(&mut self, of: Reg) -> Result<u32, MemFault> {
+        Ok(self.object(of).body.len() as u32)
+    }
+
+    fn header(&mut self, of: Reg) -> Result<i16, MemFault> {
+        Ok(bodies::header(&self.object(of).body))
+    }
+
+    fn field(&mut self, to: Reg, of: Reg, i: u32) -> Result<(), MemFault> {
+        let value = bodies::field(&self.object(of).body, i as usize);
+        self.registers.set(to, value);
+        Ok(())
+    }
+
+    fn set_field(&mut self, of: Reg, i: u32, from: Reg) -> Result<(), MemFault> {
+        let name = self.registers.name(of);
+        let value = self.registers.get(from);
+        self.objects.set_field(name, i as usize, value);
+        self.marks.touch(name);
+        Ok(())
+    }
+
+    fn word(&mut self, of: Reg, i: u32) -> Result<u16, MemFault> {
+        let words = bodies::words(&self.object(of).body);
+        Ok(*words.item(i as usize))
+    }
+
+    fn set_word(&mut self, of: Reg, i: u32, w: u16) -> Result<(), MemFault> {
+        let name = self.registers.name(of);
+        self.objects.put_words(name, i as usize, &[w]);
+        self.marks.touch(name);
+        Ok(())
+    }
+
+    fn byte(&mut self, of: Reg, i: u32) -> Result<u8, MemFault> {
+        let bytes = bodies::bytes(&self.object(of).body);
+        Ok(*bytes.item(i as usize))
+    }
+
+    fn set_byte(&mut self, of: Reg, i: u32, b: u8) -> Result<(), MemFault> {
+        let name = self.registers.name(of);
+        self.objects.put_bytes(name, i as usize, &[b]);
+        self.marks.touch(name);
+        Ok(())
+    }
+
+    fn read_words(&mut self, of: Reg, at: u32, out: &mut [u16]) -> Result<(), MemFault> {
+        let words = bodies::words(&self.object(of).body).words();
+        let at = at as usize;
+        out.copy_from_slice(&words[at..at + out.len()]);
+        Ok(())
+    }
+
+    fn write_words(&mut self, of: Reg, at: u32, from: &[u16]) -> Result<(), MemFault> {
+        let name = self.registers.name(of);
+        self.objects.put_words(name, at as usize, from);
+        self.marks.touch(name);
+        Ok(())
+    }
+
+    fn read_bytes(&mut self, of: Reg, at: u32, out: &mut [u8]) -> Result<(), MemFault> {
+        let bytes = bodies::bytes(&self.object(of).body).bytes();
+        let at = at as usize;
+        out.copy_from_slice(&bytes[at..at + out.len()]);
+        Ok(())
+    }
+
+    fn new_pointers(&mut self, to: Reg, class: Reg, n: u32) -> Result<(), MemFault> {
+        let body = bodies::new_pointers(self.alloc, n as usize);
+        self.make(to, class, body)
+    }
+
+    fn new_words(&mut self, to: Reg, class: Reg, n: u32) -> Result<(), MemFault> {
+        let body = bodies::new_words(self.alloc, n as usize);
+        self.make(to, class, body)
+    }
+
+    fn new_bytes(&mut self, to: Reg, class: Reg, n: u32) -> Result<(), MemFault> {
+        let body = bodies::new_bytes(self.alloc, n as usize);
+        self.make(to, class, body)
+    }
+
+    fn new_method(&mut self, to: Reg, class: Reg, header: i16, code: u32) -> Result<(), MemFault> {
+        let body = bodies::new_method(self.alloc, header, code as usize);
+        self.make(to, class, body)
+    }
+
+    fn pin(&mut self, slot: u8, r: Reg) -> Result<(), MemFault> {
+        let name = self.registers.name(r);
+        self.slots.set(slot, Some(name));
+        Ok(())
+    }
+
+    fn unpin(&mut self, slot: u8) {
+        self.slots.set(slot, None);
+    }
+
+    fn begin_path(&mut self) {
+        self.marks.begin_path();
+    }
+
+    fn mark(&mut self, r: Reg) -> Result<(), MemFault> {
+        let name = self.registers.name(r);
+        match self.marks.add(name) {
+            Ok(()) => Ok(()),
+            Err(_) => Err(self.refuse(MemFault::Memory)),
+        }
+    }
+
+    fn cache_find(&mut self, to: Reg, class: Reg, selector: Reg) -> bool {
+        false
+    }
+
+    fn cache_put(&mut self, class: Reg, selector: Reg, method: Reg) -> bool {
+        false
+    }
+
+    fn say(&mut self, of: Reg) -> Result<(), MemFault> {
+        let Some(object) = self.objects.get(self.registers.name(of)) else {
+            unreachable!()
+        };
+        match self.transcript.extend(bodies::text(&object.body).bytes()) {
+            Ok(()) => Ok(()),
+            Err(_) => Err(self.refuse(MemFault::Memory)),
+        }
+    }
+
+    fn settle(&mut self) -> Result<(), MemFault> {
+        Ok(())
+    }
+
+    fn purge_all(&mut self) -> Result<(), MemFault> {
+        Ok(())
+    }
+
+    fn compact(&mut self) {}
+}

@@ -1,0 +1,56 @@
+// The registers.
+ghost use Rattle.std.specs.Prelude.{◌≡◌, pos, All};
+ghost use Rattle.long_names.specs.Words.{IsValue};
+ghost use Rattle.long_names.specs.Access.{set_register, IsRef};
+ghost use Rattle.long_names.specs.declared.value.Value.TheVariants.{Int, Ref};
+ghost use Rattle.object_memory.specs.Stored.{IsLongName};
+ghost use Rattle.object_memory.specs.StoredProps.{All-prop, IsValue-prop};
+
+use crate::reg::Reg;
+use long_names::{Name, Value};
+
+/// The values of the 24 registers.
+#[derive(Drop)]
+pub(crate) struct Registers {
+    pub(crate) values: [Value; 24],
+    ghost are_values: { All IsValue values } by { All-prop IsValue IsValue-prop values },
+}
+
+impl Registers {
+    ghost use Rattle.object_memory.specs.Plain.{values_of};
+
+    /// The number 0 in each.
+    pub(crate) fn new() -> Registers
+        ensures { values_of result ≡ (λ r. Int (pos 0)) }
+    {
+        Registers {
+            values: [Value::Int(0); 24],
+        }
+    }
+
+    pub(crate) fn get(&self, r: Reg) -> Value
+        ensures value { result ≡ values_of self.now r }
+        ensures range { IsValue result }
+    {
+        self.values[r.index()]
+    }
+
+    /// The name in a register that holds one.
+    pub(crate) fn name(&self, r: Reg) -> Name
+        requires { IsRef (values_of self.now r) }
+        ensures value { values_of self.now r ≡ Ref result }
+        ensures range { IsLongName result }
+    {
+        let Some(name) = self.get(r).name() else {
+            unreachable!()
+        };
+        name
+    }
+
+    pub(crate) fn set(&mut self, r: Reg, value: Value)
+        requires { IsValue value }
+        ensures { values_of self.new ≡ set_register (values_of self.old) r value }
+    {
+        self.values[r.index()] = value;
+    }
+}
