@@ -4,17 +4,17 @@ use Rattle.std.specs.Prelude.{All}
 use Rattle.std.specs.List.{list_any, list_all}
 use Rattle.std.proofs.lemmas.Bool.{cases_lt, eq-eqb, eqb-true, ltb-true, le-ltb, and_parts, or_cases}
 use Rattle.std.proofs.lemmas.List.Elements.{All-nil, All-cons}
-use Rattle.long_names.specs.Names.{IsName, is_known, known_names}
+use Rattle.long_names.specs.Names.{IsName, is_known, known_names, IsLongName}
 use Rattle.long_names.specs.Words.{IsValue}
-use Rattle.long_names.specs.Objects.{is_ref, holds, fields_of}
+use Rattle.long_names.specs.Objects.{is_ref, holds, fields_of, IsObject}
 use Rattle.long_names.specs.Heap.{Heap, Has, object_count, count_of}
 use Rattle.long_names.specs.declared.value.Value.{Value}
 use Rattle.long_names.specs.declared.value.Value.TheVariants.{Int, Ref}
 use Rattle.long_names.specs.declared.object.Body.TheVariants.{Pointers, Method}
 use Rattle.long_names.specs.declared.object.Object.{Object}
-use Rattle.image_format.specs.Record.{two_bytes, four_bytes, eight_bytes, record_text, IsLongName}
+use Rattle.long_names.specs.Record.{two_bytes, four_bytes, eight_bytes, record_text}
 use Rattle.image_format.specs.Text.{image_text}
-use Rattle.image_format.specs.Valid.{IsObject, IsImageHeap, IsValid}
+use Rattle.image_format.specs.Valid.{IsImageHeap, IsValid}
 use Rattle.image_format.proofs.Values.{chosen, none_is}
 use Rattle.image_format.proofs.Numbers.{some_is}
 

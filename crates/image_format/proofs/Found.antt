@@ -6,7 +6,8 @@ use Rattle.std.proofs.lemmas.Option.{some_pair_parts}
 use Rattle.long_names.specs.declared.object.Rec.{Rec}
 use Rattle.image_format.specs.declared.fault.RecFault.{RecFault}
 use Rattle.image_format.specs.declared.fault.RecFault.TheVariants.{Bad, Memory}
-use Rattle.image_format.specs.Record.{record_text, IsRecord}
+use Rattle.long_names.specs.Objects.{IsRecord}
+use Rattle.long_names.specs.Record.{record_text}
 use Rattle.image_format.specs.Faults.{IsBad}
 use Rattle.image_format.specs.Reading.{record_at, Decodes}
 use Rattle.image_format.proofs.Numbers.{AreBytes}

@@ -10,11 +10,12 @@ use Rattle.std.proofs.lemmas.Grind.{flat_map-append}
 use Rattle.std.proofs.lemmas.List.{append-nil, append_cancel_left, length-append}
 use Rattle.std.proofs.lemmas.List.Elements.{All-nil, All-cons, All-append, All-head, All-tail}
 use Rattle.std.proofs.lemmas.Option.{some_pair_parts}
-use Rattle.long_names.specs.Heap.{Heap, object_count}
+use Rattle.long_names.specs.Heap.{Heap, object_count, rec_of}
 use Rattle.long_names.specs.declared.object.Object.{Object}
 use Rattle.long_names.specs.declared.object.Rec.{Rec}
-use Rattle.image_format.specs.Record.{four_bytes, record_text, IsRecord}
-use Rattle.image_format.specs.Text.{image_head, rec_of, records_below, image_text}
+use Rattle.long_names.specs.Objects.{IsRecord}
+use Rattle.long_names.specs.Record.{four_bytes, record_text}
+use Rattle.image_format.specs.Text.{image_head, records_below, image_text}
 use Rattle.image_format.specs.Valid.{IsImageHeap}
 use Rattle.image_format.specs.Reading.{number_at}
 use Rattle.image_format.proofs.Numbers.{wide32, number_again}

@@ -2,13 +2,13 @@
 use Rattle.std.proofs.Common.{◌≡◌, ℕ, ℤ, ◌+◌, ◌*◌, ◌%◌, ◌<◌, ◌≤◌, List, [], ◌∷◌, ◌++◌, length, replicate, refl, ap, ◌∙◌, arith}
 use Rattle.std.proofs.lemmas.List.{length-append, length-replicate}
 use Rattle.long_names.specs.Words.{long_word, literal_count}
-use Rattle.long_names.specs.Objects.{IsBody}
+use Rattle.long_names.specs.Objects.{IsBody, IsRecord}
 use Rattle.long_names.specs.declared.value.Value.{Value}
 use Rattle.long_names.specs.declared.value.Value.TheVariants.{Int}
 use Rattle.long_names.specs.declared.object.Body.{Body}
 use Rattle.long_names.specs.declared.object.Body.TheVariants.{Pointers, Words, Bytes, Method}
 use Rattle.long_names.specs.declared.object.Rec.{Rec}
-use Rattle.image_format.specs.Record.{two_bytes, four_bytes, values_text, words_text, contents_text, head_text, padding, record_text, IsRecord}
+use Rattle.long_names.specs.Record.{two_bytes, four_bytes, values_text, words_text, contents_text, record_head, padding, record_text}
 use Rattle.image_format.proofs.Numbers.{wide16, wide32, wide64}
 
 pub length_values : (vs : List Value) → length (values_text vs) ≡ 4 * length vs
@@ -19,15 +19,15 @@ pub length_words : (ws : List ℕ) → length (words_text ws) ≡ 2 * length ws
 length_words [] = refl
 length_words (w ∷ ws) = omega (arith, length-append (two_bytes w) (words_text ws), wide16.len w, length_words ws)
 
-pub length_head : (r : Rec) → length (head_text r) ≡ 20
+pub length_head : (r : Rec) → length (record_head r) ≡ 20
 length_head r = simp (length-append, wide16.len, wide32.len, wide64.len) refl
 
 pub length_record : (r : Rec) → length (record_text r) ≡ 20 + length (contents_text r.body) + padding (20 + length (contents_text r.body))
 unfolding record_text
 length_record r =
-    let parts : length (head_text r ++ contents_text r.body) ≡ 20 + length (contents_text r.body) = length-append (head_text r) (contents_text r.body) ∙ ap (λ (n : ℕ). n + length (contents_text r.body)) (length_head r) in
-    length-append (head_text r ++ contents_text r.body) (replicate (padding (length (head_text r ++ contents_text r.body))) 0)
-    ∙ ap (λ (n : ℕ). length (head_text r ++ contents_text r.body) + n) (length-replicate (padding (length (head_text r ++ contents_text r.body))) 0)
+    let parts : length (record_head r ++ contents_text r.body) ≡ 20 + length (contents_text r.body) = length-append (record_head r) (contents_text r.body) ∙ ap (λ (n : ℕ). n + length (contents_text r.body)) (length_head r) in
+    length-append (record_head r ++ contents_text r.body) (replicate (padding (length (record_head r ++ contents_text r.body))) 0)
+    ∙ ap (λ (n : ℕ). length (record_head r ++ contents_text r.body) + n) (length-replicate (padding (length (record_head r ++ contents_text r.body))) 0)
     ∙ ap (λ (n : ℕ). n + padding n) parts
 
 pub whole_words : (r : Rec) → length (record_text r) % 4 ≡ 0

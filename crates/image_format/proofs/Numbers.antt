@@ -6,7 +6,7 @@ use Rattle.std.proofs.lemmas.Bool.{cases_lt, ltb-false, le-ltb}
 use Rattle.std.proofs.lemmas.List.{take_at, drop_at, take-append-drop, length-append, length-take, get_or-drop, get_or-take, get_or_past}
 use Rattle.std.proofs.lemmas.List.Elements.{All-from_get_or}
 use Rattle.std.proofs.lemmas.Nat.{be_bytes_2, be_bytes_4, be_bytes_8, from_be_bytes-to_be_bytes_2, from_be_bytes-to_be_bytes_4, from_be_bytes-to_be_bytes_8}
-use Rattle.image_format.specs.Record.{two_bytes, four_bytes, eight_bytes}
+use Rattle.long_names.specs.Record.{two_bytes, four_bytes, eight_bytes}
 use Rattle.image_format.specs.Reading.{◌>>=◌, octets_at, number_at}
 
 pub record AreBytes (bytes : List ℕ) : Type 0 where

@@ -6,7 +6,7 @@ use Rattle.std.proofs.lemmas.List.{length-append}
 use Rattle.std.proofs.lemmas.List.Elements.{All-nil}
 use Rattle.std.proofs.lemmas.Option.{some_pair_parts}
 use Rattle.long_names.specs.Words.{IsValue, long_word, literal_count}
-use Rattle.long_names.specs.Objects.{IsBody, kind_of, len_of}
+use Rattle.long_names.specs.Objects.{IsBody, kind_of, len_of, HasRange, IsRecord}
 use Rattle.long_names.specs.declared.value.Value.{Value}
 use Rattle.long_names.specs.declared.value.Value.TheVariants.{Int}
 use Rattle.long_names.specs.declared.object.Kind.{Kind}
@@ -14,7 +14,7 @@ use Rattle.long_names.specs.declared.object.Kind.TheVariants as kind
 use Rattle.long_names.specs.declared.object.Body.{Body}
 use Rattle.long_names.specs.declared.object.Body.TheVariants.{Pointers, Words, Bytes, Method}
 use Rattle.long_names.specs.declared.object.Rec.{Rec}
-use Rattle.image_format.specs.Record.{two_bytes, four_bytes, eight_bytes, kind_number, values_text, contents_text, head_text, padding, padded, record_text, HasRange, IsRecord}
+use Rattle.long_names.specs.Record.{two_bytes, four_bytes, eight_bytes, kind_number, values_text, contents_text, record_head, padding, padded, record_text}
 use Rattle.image_format.specs.Reading.{number_at, name_at, kind_at, values_at, words_at, octets_at, header_at, method_at, body_at, zeros_at, record_at}
 use Rattle.image_format.proofs.Numbers.{AreBytes, all_bytes, Takes, takes_then, bind_some, some_is, passed_some, octets_take, octets_again, wide16, wide32, wide64, number_takes, number_again}
 use Rattle.image_format.proofs.Fields.{name_takes, name_again, kind_takes, kind_again, values_take, values_again, words_take, words_again, header_takes, header_again, zeros_take, zeros_again}
@@ -107,7 +107,7 @@ pub record Steps (r : Rec) (k : Kind) (size : ℕ) (bytes after_name after_class
   pub size_is : number_at w16 after_kind ≡ Some (size, after_size)
   pub body : body_at k size after_size ≡ Some (r.body, after_body)
 
-pub steps_take : (r : Rec) (k : Kind) (size : ℕ) (bytes b0 b1 b2 b3 b4 b5 : List ℕ) → AreBytes bytes → Steps r k size bytes b0 b1 b2 b3 b4 b5 → Takes bytes (head_text r ++ contents_text r.body) b5 × IsRecord r
+pub steps_take : (r : Rec) (k : Kind) (size : ℕ) (bytes b0 b1 b2 b3 b4 b5 : List ℕ) → AreBytes bytes → Steps r k size bytes b0 b1 b2 b3 b4 b5 → Takes bytes (record_head r ++ contents_text r.body) b5 × IsRecord r
 steps_take r k size bytes b0 b1 b2 b3 b4 b5 fits s =
     let t0 = name_takes bytes r.name b0 fits s.name in
     let t1 = name_takes b0 r.class b1 t0.0.unread s.class in
@@ -119,8 +119,8 @@ steps_take r k size bytes b0 b1 b2 b3 b4 b5 fits s =
     let e24 = takes_then b1 (eight_bytes r.count) b2 _ b4 t2.0 e34 in
     let e14 = takes_then b0 (four_bytes r.class) b1 _ b4 t1.0 e24 in
     let e04 = takes_then bytes (four_bytes r.name) b0 _ b4 t0.0 e14 in
-    let head : Takes bytes (head_text r) b4 = rw (t5.kind, t5.len) e04 in
-    (takes_then bytes (head_text r) b4 (contents_text r.body) b5 head t5.takes, record { name = t0.1; class = t1.1; count = t2.1; body = t5.is; range = t5.range })
+    let head : Takes bytes (record_head r) b4 = rw (t5.kind, t5.len) e04 in
+    (takes_then bytes (record_head r) b4 (contents_text r.body) b5 head t5.takes, record { name = t0.1; class = t1.1; count = t2.1; body = t5.is; range = t5.range })
 
 -- steps that each gave what a record has give the record
 pub record_from_steps : (r : Rec) (k : Kind) (size : ℕ) (bytes b0 b1 b2 b3 b4 b5 rest : List ℕ) → Steps r k size bytes b0 b1 b2 b3 b4 b5 → zeros_at (padding (length bytes - length b5)) b5 ≡ Some (tt, rest) → record_at bytes ≡ Some (r, rest)
@@ -155,22 +155,22 @@ unfolding record_text
 record_takes bytes x fits e =
     let (k, size, b0, b1, b2, b3, b4, b5, steps, zeros) = steps_of bytes x e in
     let t = steps_take x.0 k size bytes b0 b1 b2 b3 b4 b5 fits steps in
-    ((with_zeros (head_text x.0 ++ contents_text x.0.body) bytes b5 x.1 t.0 zeros).parts, t.1)
+    ((with_zeros (record_head x.0 ++ contents_text x.0.body) bytes b5 x.1 t.0 zeros).parts, t.1)
 
 pub record_again : (r : Rec) (rest : List ℕ) → IsRecord r → record_at (record_text r ++ rest) ≡ Some (r, rest)
 unfolding record_text
 record_again r rest is =
-    let zeros : List ℕ = replicate (padding (length (head_text r ++ contents_text r.body))) 0 in
+    let zeros : List ℕ = replicate (padding (length (record_head r ++ contents_text r.body))) 0 in
     let b5 : List ℕ = zeros ++ rest in
     let b4 : List ℕ = contents_text r.body ++ b5 in
     let b3 : List ℕ = two_bytes (len_of r.body) ++ b4 in
     let b2 : List ℕ = two_bytes (kind_number (kind_of r.body)) ++ b3 in
     let b1 : List ℕ = eight_bytes r.count ++ b2 in
     let b0 : List ℕ = four_bytes r.class ++ b1 in
-    let whole : List ℕ = ((head_text r ++ contents_text r.body) ++ zeros) ++ rest in
+    let whole : List ℕ = ((record_head r ++ contents_text r.body) ++ zeros) ++ rest in
     let regrouped : whole ≡ four_bytes r.name ++ b0 = simp append_assoc in
-    let ends : whole ≡ (head_text r ++ contents_text r.body) ++ b5 = append_assoc (head_text r ++ contents_text r.body) zeros rest in
-    let len : length whole - length b5 ≡ length (head_text r ++ contents_text r.body) = omega (arith, ap length ends, length-append (head_text r ++ contents_text r.body) b5) in
+    let ends : whole ≡ (record_head r ++ contents_text r.body) ++ b5 = append_assoc (record_head r ++ contents_text r.body) zeros rest in
+    let len : length whole - length b5 ≡ length (record_head r ++ contents_text r.body) = omega (arith, ap length ends, length-append (record_head r ++ contents_text r.body) b5) in
     record_from_steps r (kind_of r.body) (len_of r.body) whole b0 b1 b2 b3 b4 b5 rest (record {
       name = ap name_at regrouped ∙ name_again r.name b0 is.name;
       class = name_again r.class b1 is.class;
@@ -179,7 +179,7 @@ record_again r rest is =
       size_is = number_again w16 (2 ^ 16) two_bytes wide16 (len_of r.body) b4 (size_fits r.body is.body);
       body = body_again r.body b5 is.body is.range;
     })
-    (ap (λ (k : ℕ). zeros_at (padding k) b5) len ∙ zeros_again (padding (length (head_text r ++ contents_text r.body))) rest)
+    (ap (λ (k : ℕ). zeros_at (padding k) b5) len ∙ zeros_again (padding (length (record_head r ++ contents_text r.body))) rest)
 
 pub same_record : (a b : Rec) (x y : List ℕ) → IsRecord a → IsRecord b → record_text a ++ x ≡ record_text b ++ y → (a ≡ b) × (x ≡ y)
 same_record a b x y is-a is-b e =

@@ -5,7 +5,7 @@ use Rattle.std.specs.List.{flat_map}
 use Rattle.std.proofs.lemmas.List.{flat_map_more, take_more, take-replicate, length-append}
 use Rattle.std.proofs.lemmas.Option.{get_or_from_slice_get, slice_get_within}
 use Rattle.long_names.specs.declared.object.Rec.{Rec}
-use Rattle.image_format.specs.Record.{head_text, contents_text, padding, record_text}
+use Rattle.long_names.specs.Record.{record_head, contents_text, padding, record_text}
 
 pub push_taken : {X : Type 0} (xs : List X) (i : ℕ) (x : X) → slice_get xs i ≡ Some x → take (i + 1) xs ≡ take i xs ++ x ∷ []
 push_taken {X = X} xs i x e = take_more xs i x (slice_get_within xs i x e) ∙ ap (λ (y : X). take i xs ++ y ∷ []) (get_or_from_slice_get xs i x x e)
@@ -19,11 +19,11 @@ on_ok (Ok x) f p = f p
 on_ok (Err e) f p = tt
 
 -- the head, the contents and the zeros are the record
-pub finished : (r : Rec) (old head whole new zeros : List ℕ) (n : ℕ) → head ≡ old ++ head_text r → whole ≡ head ++ contents_text r.body → n ≡ padding (length whole - length old) → zeros ≡ take n (replicate 3 0) → new ≡ whole ++ zeros → new ≡ old ++ record_text r
+pub finished : (r : Rec) (old head whole new zeros : List ℕ) (n : ℕ) → head ≡ old ++ record_head r → whole ≡ head ++ contents_text r.body → n ≡ padding (length whole - length old) → zeros ≡ take n (replicate 3 0) → new ≡ whole ++ zeros → new ≡ old ++ record_text r
 unfolding record_text
 finished r old head whole new zeros n is-head is-whole is-n is-zeros is-new =
-    let text : List ℕ = head_text r ++ contents_text r.body in
-    let whole-is : whole ≡ old ++ text = is-whole ∙ ap (λ (t : List ℕ). t ++ contents_text r.body) is-head ∙ append_assoc old (head_text r) (contents_text r.body) in
+    let text : List ℕ = record_head r ++ contents_text r.body in
+    let whole-is : whole ≡ old ++ text = is-whole ∙ ap (λ (t : List ℕ). t ++ contents_text r.body) is-head ∙ append_assoc old (record_head r) (contents_text r.body) in
     let len : length whole - length old ≡ length text = omega (arith, ap length whole-is, length-append old text) in
     let few : n ≤ 3 = omega (arith, is-n) in
     let zeros-are : zeros ≡ replicate (padding (length text)) 0 = is-zeros ∙ take-replicate n 3 0 few ∙ ap (λ (k : ℕ). replicate k 0) (is-n ∙ ap padding len) in

@@ -1,4 +1,3 @@
-pub mod Record
 pub mod Text
 pub mod Valid
 pub mod Faults

@@ -12,7 +12,7 @@ use Rattle.long_names.specs.declared.object.Body.TheVariants.{Pointers, Words, B
 use Rattle.long_names.specs.declared.object.Rec.{Rec}
 use Rattle.image_format.specs.declared.fault.RecFault.{RecFault}
 use Rattle.image_format.specs.declared.fault.RecFault.TheVariants.{Bad, Memory}
-use Rattle.image_format.specs.Record.{padding}
+use Rattle.long_names.specs.Record.{padding}
 
 infixl 10 ◌>>=◌
 abbrev pub ◌>>=◌ : {A B : Type 0} → Option A → (A → Option B) → Option B

@@ -4,7 +4,7 @@ use Rattle.std.specs.Option.{option_map_or}
 use Rattle.long_names.specs.Heap.{Heap, object_count, count_of}
 use Rattle.long_names.specs.declared.object.Object.{Object}
 use Rattle.long_names.specs.declared.object.Rec.{Rec}
-use Rattle.image_format.specs.Record.{four_bytes, record_text}
+use Rattle.long_names.specs.Record.{four_bytes, record_text}
 
 -- LOOM, version 1, the number of objects, and the next name
 abbrev pub image_head : Heap → List ℕ

@@ -1,10 +1,9 @@
 -- Valid images.
 use Rattle.std.specs.Prelude.{◌≡◌, ℕ, ◌%◌, ◌^◌, ◌<◌, ◌≤◌, true, List, Some}
-use Rattle.long_names.specs.Names.{IsName, is_known}
-use Rattle.long_names.specs.Objects.{IsBody, holds}
+use Rattle.long_names.specs.Names.{IsName, is_known, IsLongName}
+use Rattle.long_names.specs.Objects.{IsBody, holds, HasRange}
 use Rattle.long_names.specs.Heap.{Heap, IsBounded, Has, object_count, count_of}
 use Rattle.long_names.specs.declared.object.Object.{Object}
-use Rattle.image_format.specs.Record.{IsLongName, HasRange}
 use Rattle.image_format.specs.Text.{image_text}
 
 -- an object that an image may have

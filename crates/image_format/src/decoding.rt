@@ -1,7 +1,8 @@
 // Reading a record.
 ghost use Rattle.std.specs.Prelude.{◌≡◌, ◌≢◌, ℕ, ◌≤◌, ◌++◌, List, length, take, IfOk};
 ghost use Rattle.long_names.specs.declared.object.Rec.{Rec as Spelled};
-ghost use Rattle.image_format.specs.Record.{IsRecord, record_text};
+ghost use Rattle.long_names.specs.Objects.{IsRecord};
+ghost use Rattle.long_names.specs.Record.{record_text};
 ghost use Rattle.image_format.specs.Faults.{IsBad, IsPlaced};
 
 use crate::fault::RecFault;

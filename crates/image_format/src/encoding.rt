@@ -1,8 +1,9 @@
 // Writing a record.
 ghost use Rattle.std.specs.Prelude.{◌≡◌, ◌++◌, ◌^◌, ◌<◌, All, OnOk, OnErr};
 ghost use Rattle.long_names.specs.Words.{IsValue};
-ghost use Rattle.long_names.specs.Objects.{IsBody};
-ghost use Rattle.image_format.specs.Record.{IsRecord, IsLongName, HasRange, two_bytes, four_bytes, eight_bytes, values_text, words_text, contents_text, head_text, record_text};
+ghost use Rattle.long_names.specs.Objects.{IsBody, IsRecord, HasRange};
+ghost use Rattle.long_names.specs.Names.{IsLongName};
+ghost use Rattle.long_names.specs.Record.{two_bytes, four_bytes, eight_bytes, values_text, words_text, contents_text, record_head, record_text};
 ghost use Rattle.image_format.specs.Writing.{Extends};
 
 use crate::reading::padding_of;
@@ -13,7 +14,7 @@ use std::alloc::AllocError;
 /// The most zeros at a record's end.
 const ZEROS: [u8; 3] = [0; 3];
 
-#[tactic(auto, unfolding(crate::specs::Record::two_bytes))]
+#[tactic(auto, unfolding(long_names::specs::Record::two_bytes))]
 fn put_u16(out: &mut Octets, number: u16) -> Result<(), AllocError>
     ensures ok { OnOk result (out.new ≡ out.old ++ two_bytes number) }
     ensures err { OnErr result (out.new ≡ out.old) }
@@ -23,7 +24,7 @@ fn put_u16(out: &mut Octets, number: u16) -> Result<(), AllocError>
     out.extend(&bytes)
 }
 
-#[tactic(auto, unfolding(crate::specs::Record::four_bytes))]
+#[tactic(auto, unfolding(long_names::specs::Record::four_bytes))]
 fn put_u32(out: &mut Octets, number: u32) -> Result<(), AllocError>
     ensures ok { OnOk result (out.new ≡ out.old ++ four_bytes number) }
     ensures err { OnErr result (out.new ≡ out.old) }
@@ -33,7 +34,7 @@ fn put_u32(out: &mut Octets, number: u32) -> Result<(), AllocError>
     out.extend(&bytes)
 }
 
-#[tactic(auto, unfolding(crate::specs::Record::eight_bytes))]
+#[tactic(auto, unfolding(long_names::specs::Record::eight_bytes))]
 fn put_u64(out: &mut Octets, number: u64) -> Result<(), AllocError>
     ensures ok { OnOk result (out.new ≡ out.old ++ eight_bytes number) }
     ensures err { OnErr result (out.new ≡ out.old) }
@@ -100,7 +101,7 @@ fn put_contents(out: &mut Octets, body: &Body) -> Result<(), AllocError>
 
 fn put_head(out: &mut Octets, rec: &Rec) -> Result<(), AllocError>
     requires { IsBody rec.now.body }
-    ensures ok { OnOk result (out.new ≡ out.old ++ head_text rec.now) }
+    ensures ok { OnOk result (out.new ≡ out.old ++ record_head rec.now) }
     ensures names { OnOk result (IsLongName rec.now.name × IsLongName rec.now.class) }
     ensures count { OnOk result (rec.now.count < 2 ^ 64) }
     ensures err { OnErr result (Extends out.old out.new) }

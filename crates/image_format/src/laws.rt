@@ -1,7 +1,8 @@
 // What holds of the texts of records and of heaps, whatever reads or writes them.
 ghost use Rattle.std.specs.Prelude.{◌≡◌, ℕ, ◌≤◌, ◌%◌, ◌++◌, List, length};
 ghost use Rattle.long_names.specs.declared.object.Rec.{Rec};
-ghost use Rattle.image_format.specs.Record.{IsRecord, record_text};
+ghost use Rattle.long_names.specs.Objects.{IsRecord};
+ghost use Rattle.long_names.specs.Record.{record_text};
 ghost use Rattle.long_names.specs.Heap.{Heap};
 ghost use Rattle.image_format.specs.Text.{image_text};
 ghost use Rattle.image_format.specs.Valid.{IsImageHeap};

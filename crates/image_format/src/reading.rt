@@ -2,13 +2,12 @@
 ghost use Rattle.std.specs.Prelude.{◌≡◌, ◌==◌, IfOk, length};
 ghost use Rattle.std.specs.List.{list_all};
 ghost use Rattle.std.specs.Int.{w16, w32, w64};
-ghost use Rattle.long_names.specs.Words.{literal_count};
 ghost use Rattle.image_format.specs.declared.fault.RecFault.TheVariants.{Bad};
-ghost use Rattle.image_format.specs.Record.{padding};
+ghost use Rattle.long_names.specs.Record.{padding};
 ghost use Rattle.image_format.specs.Reading.{Gives, Shows, number_at, name_at, kind_at, value_at, values_at, words_at, octets_at, header_at, method_at, body_at, zeros_at, Decodes};
 
 use crate::fault::RecFault;
-use long_names::{Body, Kind, Name, Octets, Rec, Value, Values, Words16, value_of};
+use long_names::{Body, Kind, Name, Octets, Rec, Value, Values, Words16, literal_count, value_of};
 use std::alloc::Global;
 
 /// The most code bytes of a method.
@@ -25,13 +24,6 @@ pub(crate) fn padding_of(len: usize) -> usize
     ensures { result ≡ padding len }
 {
     (4 - len % 4) % 4
-}
-
-/// The number of literals that a method header states: its lowest six bits.
-fn stated_literals(header: i16) -> u32
-    ensures { result ≡ literal_count header }
-{
-    header.rem_euclid(64) as u32
 }
 
 fn are_zeros(bytes: &[u8]) -> bool
@@ -175,7 +167,7 @@ impl<'a> Unread<'a> {
     {
         let count = self.take_u32()?;
         let header = self.take_header()?;
-        if size > MAX_CODE || stated_literals(header) != count {
+        if size > MAX_CODE || literal_count(header) != count as usize {
             return Err(bad());
         }
         let literals = self.take_values(alloc, count as usize)?;

@@ -5,15 +5,15 @@ use Rattle.long_names.specs.declared.value.Value.{Value}
 use Rattle.long_names.specs.declared.value.Value.TheVariants.{Int, Ref}
 use Rattle.long_names.specs.declared.object.Body.{Body}
 use Rattle.long_names.specs.declared.object.Object.{Object}
-use Rattle.long_names.specs.Names.{is_known}
+use Rattle.long_names.specs.Names.{is_known, NIL, SMALL_INTEGER}
 use Rattle.long_names.specs.Words.{literal_count}
-use Rattle.long_names.specs.Objects.{holds, fields_of, body_words}
+use Rattle.long_names.specs.Objects.{holds, fields_of, body_words, field_of, with_field, with_words, with_bytes, Making, OfPointers, OfWords, OfBytes, OfMethod, body_made}
 use Rattle.long_names.specs.Heap.{Heap, Has, IsBounded, put_object, add_object}
 use Rattle.long_names.specs.Kept.{holds_at}
-use Rattle.long_names.specs.Access.{State, NIL, SMALL_INTEGER, set_register, set_slot, object_at, name_at, field_of, with_field, with_words, with_bytes, part_at, class_at, is_held, new_pointers, new_words, new_bytes, new_method, Access, Known, Class, KindOf, Length, Header, Field, SetField, Word, SetWord, Byte, SetByte, ReadWords, WriteWords, ReadBytes, NewPointers, NewWords, NewBytes, NewMethod, Pin, Mark, Say, made_by, HasPart, CanDo, object_of, brought, regs_after, slots_after, with_body, heap_after, said_by, answered, answer_of}
+use Rattle.long_names.specs.Access.{is_held, Access, Known, Class, KindOf, Length, Header, Field, SetField, Word, SetWord, Byte, SetByte, ReadWords, WriteWords, ReadBytes, Make, Pin, Mark, Say, made_by, CanDo, object_of, brought, regs_after, slots_after, with_body, with_made, heap_after, said_by, answered, answer_of}
+use Rattle.long_names.specs.State.{State, set_register, set_slot, object_at, name_at, part_at, class_at, HasPart}
 use Rattle.long_names.specs.Need.{Row, words_at, entries_at, is_pinned, added, words_of_row, entries_of_row}
-use Rattle.long_names.specs.Thin.{IsThinner, IsWhole, IsThinning, IsThinned}
-use Rattle.long_names.specs.Agree.{Agrees}
+use Rattle.long_names.specs.Thin.{IsThinner, IsWhole, IsThinning, IsThinned, Agrees}
 use Rattle.long_names.proofs.ThinLemmas.{below, IsThinning-refl, IsThinning-trans, IsWhole-bounded, same-there, IsThinner-put_object, IsThinner-add_object, IsBounded-put_object, IsBounded-add_object, has_put, has_here, IsWhole-add_object, IsWhole-set, IsWhole-pin, holds-class, holds-field, holds-filled, holds-plain, fields-with_words, fields-with_bytes, IsWhole-with_field, IsWhole-same_fields}
 use Rattle.long_names.proofs.KeptLaws.{any_below-at, any_below-from, holder, holding}
 
@@ -78,10 +78,7 @@ can-same h s regs slots t b (SetByte of i byte) can = part-can h s regs slots t 
 can-same h s regs slots t b (ReadWords of at count) can = part-can h s regs slots t of _ _ can
 can-same h s regs slots t b (WriteWords of at run) can = part-can h s regs slots t of _ _ can
 can-same h s regs slots t b (ReadBytes of at count) can = part-can h s regs slots t of _ _ can
-can-same h s regs slots t b (NewPointers to class size) can = can
-can-same h s regs slots t b (NewWords to class size) can = can
-can-same h s regs slots t b (NewBytes to class size) can = can
-can-same h s regs slots t b (NewMethod to class header code) can = can
+can-same h s regs slots t b (Make to class what) can = can
 can-same h s regs slots t b (Pin slot of) can = part-can h s regs slots t of _ _ can
 can-same h s regs slots t b (Mark of) can = part-can h s regs slots t of _ _ can
 can-same h s regs slots t b (Say of) can = part-can h s regs slots t of _ _ can
@@ -101,10 +98,7 @@ answer-same h s regs slots t _ = refl
 pub brought-same : (h s : Heap) (regs : ℕ → Value) (slots : ℕ → Option ℕ) → IsThinning h s regs slots → (a : Access) → brought h regs a ≡ brought s regs a
 brought-same h s regs slots t (Class to of) = ap (option_and_then (λ class. Some (Ref class))) (class-same h s regs slots t of)
 brought-same h s regs slots t (Field to of i) = part-same h s regs slots t of _
-brought-same h s regs slots t (NewPointers to class size) = ap (λ n. Some (Ref n)) (sym t.thinner.next)
-brought-same h s regs slots t (NewWords to class size) = ap (λ n. Some (Ref n)) (sym t.thinner.next)
-brought-same h s regs slots t (NewBytes to class size) = ap (λ n. Some (Ref n)) (sym t.thinner.next)
-brought-same h s regs slots t (NewMethod to class header code) = ap (λ n. Some (Ref n)) (sym t.thinner.next)
+brought-same h s regs slots t (Make to class what) = ap (λ n. Some (Ref n)) (sym t.thinner.next)
 brought-same h s regs slots t _ = refl
 
 pub said-same : (h s : Heap) (regs : ℕ → Value) (slots : ℕ → Option ℕ) → IsThinning h s regs slots → (a : Access) → said_by h regs a ≡ said_by s regs a
@@ -114,10 +108,7 @@ said-same h s regs slots t _ = refl
 -- ---- its row
 
 pub object_of-same : (h s : Heap) (regs : ℕ → Value) → IsThinner h s → (a : Access) → object_of h regs a ≡ object_of s regs a
-object_of-same h s regs t (NewPointers to class size) = sym t.next
-object_of-same h s regs t (NewWords to class size) = sym t.next
-object_of-same h s regs t (NewBytes to class size) = sym t.next
-object_of-same h s regs t (NewMethod to class header code) = sym t.next
+object_of-same h s regs t (Make to class what) = sym t.next
 object_of-same h s regs t _ = refl
 
 pub words_at-same : (h s : Heap) (n : ℕ) → h.at n ≡ s.at n → words_at h n ≡ words_at s n
@@ -150,10 +141,6 @@ entries_of_row-same h s r pins =
     let three = added-same (entries_at h) (entries_at s) (λ k. is_pinned k (r.slots 0) || is_pinned k (r.slots 1)) (r.slots 2) (each 2) in
     ap₂ (λ a b. a + b) (ap₂ (λ a b. a + b) (ap (λ a. 51 + a) one) two) three
 
--- with the object that an access makes
-abbrev pub with_made : Heap → Option Object → Heap
-with_made h x = option_map_or (λ (o : Object). add_object h o) x h
-
 thinner-made : (h s : Heap) (x : Option Object) → IsThinner h s → IsThinner (with_made h x) (with_made s x)
 thinner-made h s None t = t
 thinner-made h s (Some o) t = IsThinner-add_object h s o t
@@ -178,10 +165,7 @@ object-there s regs slots w (SetByte of i byte) can = named-there s regs slots w
 object-there s regs slots w (ReadWords of at count) can = named-there s regs slots w of
 object-there s regs slots w (WriteWords of at run) can = named-there s regs slots w of
 object-there s regs slots w (ReadBytes of at count) can = named-there s regs slots w of
-object-there s regs slots w (NewPointers to class size) can = has_here s (new_pointers (name_at (regs class)) size)
-object-there s regs slots w (NewWords to class size) can = has_here s (new_words (name_at (regs class)) size)
-object-there s regs slots w (NewBytes to class size) can = has_here s (new_bytes (name_at (regs class)) size)
-object-there s regs slots w (NewMethod to class header code) can = has_here s (new_method (name_at (regs class)) header code)
+object-there s regs slots w (Make to class what) can = has_here s (record { class = name_at (regs class); body = body_made what })
 object-there s regs slots w (Pin slot of) can = named-there s regs slots w of
 object-there s regs slots w (Mark of) can = named-there s regs slots w of
 object-there s regs slots w (Say of) can = named-there s regs slots w of
@@ -237,10 +221,7 @@ heap-thinner h s regs slots t (SetField of i from) = IsThinner-with_body h s (re
 heap-thinner h s regs slots t (SetWord of i word) = IsThinner-with_body h s (regs of) _ t.thinner (object-same h s regs slots t of)
 heap-thinner h s regs slots t (SetByte of i byte) = IsThinner-with_body h s (regs of) _ t.thinner (object-same h s regs slots t of)
 heap-thinner h s regs slots t (WriteWords of at run) = IsThinner-with_body h s (regs of) _ t.thinner (object-same h s regs slots t of)
-heap-thinner h s regs slots t (NewPointers to class size) = IsThinner-add_object h s (new_pointers (name_at (regs class)) size) t.thinner
-heap-thinner h s regs slots t (NewWords to class size) = IsThinner-add_object h s (new_words (name_at (regs class)) size) t.thinner
-heap-thinner h s regs slots t (NewBytes to class size) = IsThinner-add_object h s (new_bytes (name_at (regs class)) size) t.thinner
-heap-thinner h s regs slots t (NewMethod to class header code) = IsThinner-add_object h s (new_method (name_at (regs class)) header code) t.thinner
+heap-thinner h s regs slots t (Make to class what) = IsThinner-add_object h s (record { class = name_at (regs class); body = body_made what }) t.thinner
 heap-thinner h s regs slots t _ = t.thinner
 
 pub heap-bounded : (h : Heap) (regs : ℕ → Value) (a : Access) → IsBounded h → IsBounded (heap_after h regs a)
@@ -248,10 +229,7 @@ heap-bounded h regs (SetField of i from) b = IsBounded-with_body h (regs of) _ b
 heap-bounded h regs (SetWord of i word) b = IsBounded-with_body h (regs of) _ b
 heap-bounded h regs (SetByte of i byte) b = IsBounded-with_body h (regs of) _ b
 heap-bounded h regs (WriteWords of at run) b = IsBounded-with_body h (regs of) _ b
-heap-bounded h regs (NewPointers to class size) b = IsBounded-add_object h (new_pointers (name_at (regs class)) size) b
-heap-bounded h regs (NewWords to class size) b = IsBounded-add_object h (new_words (name_at (regs class)) size) b
-heap-bounded h regs (NewBytes to class size) b = IsBounded-add_object h (new_bytes (name_at (regs class)) size) b
-heap-bounded h regs (NewMethod to class header code) b = IsBounded-add_object h (new_method (name_at (regs class)) header code) b
+heap-bounded h regs (Make to class what) b = IsBounded-add_object h (record { class = name_at (regs class); body = body_made what }) b
 heap-bounded h regs _ b = b
 
 -- a new object holds its class, and nil where it has fields
@@ -261,15 +239,19 @@ filled-there s regs slots w o size there e k held = elim (holds-filled o size k 
 plain-there : (s : Heap) (o : Object) → Has s o.class → fields_of o.body ≡ [] → (k : ℕ) → holds o k ≡ true → Has s k
 plain-there s o there e k held = subst (λ n. Has s n) (holds-plain o k e held) there
 
+-- what a new object holds is there, where its class is
+made-there : (s : Heap) (regs : ℕ → Value) (slots : ℕ → Option ℕ) → IsWhole s regs slots → (class : ℕ) (what : Making) → Has s class → (k : ℕ) → holds (record { class = class; body = body_made what }) k ≡ true → Has s k
+made-there s regs slots w class (OfPointers size) there = filled-there s regs slots w (record { class = class; body = body_made (OfPointers size) }) size there refl
+made-there s regs slots w class (OfWords size) there = plain-there s (record { class = class; body = body_made (OfWords size) }) there refl
+made-there s regs slots w class (OfBytes size) there = plain-there s (record { class = class; body = body_made (OfBytes size) }) there refl
+made-there s regs slots w class (OfMethod header code) there = filled-there s regs slots w (record { class = class; body = body_made (OfMethod header code) }) (literal_count header) there refl
+
 pub whole-heap : (s : Heap) (regs : ℕ → Value) (slots : ℕ → Option ℕ) → IsWhole s regs slots → (a : Access) → IsWhole (heap_after s regs a) regs slots
 whole-heap s regs slots w (SetField of i from) = IsWhole-with_body s regs slots (regs of) (λ b. with_field b i (regs from)) w (λ n o e. IsWhole-with_field s regs slots n o i (regs from) w e (λ k is. w.rooted from k is))
 whole-heap s regs slots w (SetWord of i word) = IsWhole-with_body s regs slots (regs of) (λ b. with_words b i (word ∷ [])) w (λ n o e. IsWhole-same_fields s regs slots n o (with_words o.body i (word ∷ [])) w e (fields-with_words o.body i (word ∷ [])))
 whole-heap s regs slots w (SetByte of i byte) = IsWhole-with_body s regs slots (regs of) (λ b. with_bytes b i (byte ∷ [])) w (λ n o e. IsWhole-same_fields s regs slots n o (with_bytes o.body i (byte ∷ [])) w e (fields-with_bytes o.body i (byte ∷ [])))
 whole-heap s regs slots w (WriteWords of at run) = IsWhole-with_body s regs slots (regs of) (λ b. with_words b at run) w (λ n o e. IsWhole-same_fields s regs slots n o (with_words o.body at run) w e (fields-with_words o.body at run))
-whole-heap s regs slots w (NewPointers to class size) = IsWhole-add_object s regs slots (new_pointers (name_at (regs class)) size) w (filled-there s regs slots w (new_pointers (name_at (regs class)) size) size (named-there s regs slots w class) refl)
-whole-heap s regs slots w (NewWords to class size) = IsWhole-add_object s regs slots (new_words (name_at (regs class)) size) w (plain-there s (new_words (name_at (regs class)) size) (named-there s regs slots w class) refl)
-whole-heap s regs slots w (NewBytes to class size) = IsWhole-add_object s regs slots (new_bytes (name_at (regs class)) size) w (plain-there s (new_bytes (name_at (regs class)) size) (named-there s regs slots w class) refl)
-whole-heap s regs slots w (NewMethod to class header code) = IsWhole-add_object s regs slots (new_method (name_at (regs class)) header code) w (filled-there s regs slots w (new_method (name_at (regs class)) header code) (literal_count header) (named-there s regs slots w class) refl)
+whole-heap s regs slots w (Make to class what) = IsWhole-add_object s regs slots (record { class = name_at (regs class); body = body_made what }) w (made-there s regs slots w (name_at (regs class)) what (named-there s regs slots w class))
 whole-heap s regs slots w _ = w
 
 -- what it brings is there
@@ -316,10 +298,7 @@ whole-after s regs slots w (Class to of) can = whole-loaded s regs slots to (bro
     class_is None k e = let no : ◌≡◌ {A = Option Value} None (Some (Ref k)) = e in cc
     class_is (Some n) k e = cc
 whole-after s regs slots w (Field to of i) can = whole-loaded s regs slots to (brought s regs (Field to of i)) w (λ k e. brought-field s regs slots w of i k e)
-whole-after s regs slots w (NewPointers to class size) can = whole-made s regs slots to (new_pointers (name_at (regs class)) size) (whole-heap s regs slots w (NewPointers to class size))
-whole-after s regs slots w (NewWords to class size) can = whole-made s regs slots to (new_words (name_at (regs class)) size) (whole-heap s regs slots w (NewWords to class size))
-whole-after s regs slots w (NewBytes to class size) can = whole-made s regs slots to (new_bytes (name_at (regs class)) size) (whole-heap s regs slots w (NewBytes to class size))
-whole-after s regs slots w (NewMethod to class header code) can = whole-made s regs slots to (new_method (name_at (regs class)) header code) (whole-heap s regs slots w (NewMethod to class header code))
+whole-after s regs slots w (Make to class what) can = whole-made s regs slots to (record { class = name_at (regs class); body = body_made what }) (whole-heap s regs slots w (Make to class what))
 whole-after s regs slots w (Pin slot of) can = IsWhole-pin s regs slots (set_slot slots slot (Some (name_at (regs of)))) slot (Some (name_at (regs of))) w refl (λ k e. let same : name_at (regs of) ≡ k = cc in subst (λ n. Has s n) same (named-there s regs slots w of))
 whole-after s regs slots w (SetField of i from) can = whole-heap s regs slots w (SetField of i from)
 whole-after s regs slots w (SetWord of i word) can = whole-heap s regs slots w (SetWord of i word)

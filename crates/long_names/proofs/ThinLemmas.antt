@@ -9,9 +9,8 @@ use Rattle.long_names.specs.declared.object.Body.{Body}
 use Rattle.long_names.specs.declared.object.Body.TheVariants.{Pointers, Words, Bytes, Method}
 use Rattle.long_names.specs.declared.object.Object.{Object}
 use Rattle.long_names.specs.Names.{is_known}
-use Rattle.long_names.specs.Objects.{holds, is_ref, fields_of}
+use Rattle.long_names.specs.Objects.{holds, is_ref, fields_of, field_of, with_field, with_words, with_bytes}
 use Rattle.long_names.specs.Heap.{Heap, Has, IsBounded, put_object, add_object}
-use Rattle.long_names.specs.Access.{field_of, with_field, with_words, with_bytes}
 use Rattle.long_names.specs.Thin.{IsLostCycle, IsThinner, IsClosed, IsWhole, IsThinning}
 
 -- the object that a heap has

@@ -3,6 +3,7 @@ use Rattle.std.specs.Prelude.{◌≡◌, ℕ, zero, suc, ◌+◌, ◌≤◌, ◌
 use Rattle.std.specs.Option.{option_map_or}
 use Rattle.long_names.specs.Objects.{holdings}
 use Rattle.long_names.specs.declared.object.Object.{Object}
+use Rattle.long_names.specs.declared.object.Rec.{Rec}
 
 -- what it has at a name, and a next name, above all that it has
 pub record Heap : Type 0 where
@@ -42,3 +43,7 @@ holdings_below h (suc n) name = holdings_below h n name + option_map_or (λ (o :
 -- how many class words and field words of the heap are this name
 unfoldable pub count_of : Heap → ℕ → ℕ
 count_of h name = holdings_below h h.next name
+
+-- the record of an object, with the number of words of the heap that are its name
+abbrev pub rec_of : Heap → ℕ → Object → Rec
+rec_of h n o = record { name = n; class = o.class; count = count_of h n; body = o.body }

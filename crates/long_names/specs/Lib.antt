@@ -1,9 +1,12 @@
 pub mod Names
+pub mod Counting
 pub mod Words
 pub mod Objects
+pub mod ObjectProps
+pub mod Record
 pub mod Heap
 pub mod Kept
+pub mod State
 pub mod Access
-pub mod Thin
 pub mod Need
-pub mod Agree
+pub mod Thin

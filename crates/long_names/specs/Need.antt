@@ -1,11 +1,15 @@
 -- What a core has to hold for an access.
 use Rattle.std.specs.Prelude.{ℕ, ◌+◌, ◌≤◌, ◌==◌, ◌||◌, Bool, false, if◌then◌else◌, length, Option, Some, None}
 use Rattle.std.specs.Option.{option_map_or}
+use Rattle.long_names.specs.declared.value.Value.{Value}
+use Rattle.long_names.specs.declared.value.Value.TheVariants.{Int, Ref}
 use Rattle.long_names.specs.declared.object.Object.{Object}
-use Rattle.long_names.specs.Objects.{body_words, fields_of}
+use Rattle.long_names.specs.Objects.{body_words, fields_of, body_made}
 use Rattle.long_names.specs.Heap.{Heap}
+use Rattle.long_names.specs.State.{State}
+use Rattle.long_names.specs.Access.{Access, Make, Mark, target_of, made_by, with_made, object_of}
 
--- the row of an access: its object, with the objects that are pinned at that moment
+-- an object, with the objects that are pinned at that moment
 pub record Row : Type 0 where
   pub object : ℕ
   pub slots : ℕ → Option ℕ
@@ -45,7 +49,29 @@ entries_of_row h r =
     + added (entries_at h) (λ k. is_pinned k (r.slots 0)) (r.slots 1)
     + added (entries_at h) (λ k. is_pinned k (r.slots 0) || is_pinned k (r.slots 1)) (r.slots 2)
 
--- a row has room in a core of so many words and entries
-pub record Fits (h : Heap) (r : Row) (core entries : ℕ) : Type 0 where
-  pub words : words_of_row h r ≤ core
-  pub leaves : entries_of_row h r ≤ entries
+-- The row of an access: its object, with the names in the slots before it. A making has the object made.
+abbrev pub row_of : State → Access → Row
+row_of s a = record { object = object_of s.heap s.regs a; slots = s.slots }
+
+-- the heap that has the objects of the row: where an object is made, with this object
+abbrev pub heap_of_row : State → Access → Heap
+heap_of_row s a = with_made s.heap (made_by s.regs a)
+
+-- so many words and entries have room in a core
+pub record Fits (core entries needed taken : ℕ) : Type 0 where
+  pub words : needed ≤ core
+  pub leaves : taken ≤ entries
+
+-- ---- the object alone
+
+-- the words of the object that a value names
+abbrev pub words_named : Heap → Value → ℕ
+words_named h (Int z) = 0
+words_named h (Ref n) = words_at h n
+
+-- The words that an access needs for its own object, which has to be in the core. A name is made known or marked without its object,
+-- and the class of a number is known.
+abbrev pub words_alone : Heap → (ℕ → Value) → Access → ℕ
+words_alone h regs (Make to class what) = 4 + body_words (body_made what)
+words_alone h regs (Mark of) = 0
+words_alone h regs a = option_map_or (λ of. words_named h (regs of)) (target_of a) 0

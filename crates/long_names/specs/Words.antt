@@ -1,6 +1,6 @@
 -- SmallIntegers, values and long words (chapter 30 of the Blue Book, with 32 bits).
 use Rattle.std.specs.Prelude.{ℕ, ℤ, pos, negsuc, ◌+◌, ◌-◌, ◌*◌, ◌/◌, ◌%◌, ◌^◌, ◌<◌, ◌==◌, nat_lt, nat_le, Option, Some, None, if◌then◌else◌}
-use Rattle.long_names.specs.Names.{IsName}
+use Rattle.long_names.specs.Names.{IsLongName}
 use Rattle.long_names.specs.declared.value.Value.{Value}
 use Rattle.long_names.specs.declared.value.Value.TheVariants.{Int, Ref}
 
@@ -12,7 +12,7 @@ IsSmallInteger (negsuc n) = n < 16384
 -- what a field may hold: a SmallInteger, or a name that fits a long word
 abbrev pub IsValue : Value → Type 0
 IsValue (Int z) = IsSmallInteger z
-IsValue (Ref n) = IsName n × (n < 2 ^ 32)
+IsValue (Ref n) = IsLongName n
 
 -- the long word of a value: a SmallInteger is twice the number and 1, in two's complement
 abbrev pub long_word : Value → ℕ

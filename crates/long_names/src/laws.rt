@@ -5,9 +5,9 @@ ghost use Rattle.long_names.specs.declared.object.Object.{Object};
 ghost use Rattle.long_names.specs.Names.{is_known};
 ghost use Rattle.long_names.specs.Heap.{Heap, Has, IsBounded};
 ghost use Rattle.long_names.specs.Kept.{kept, no_roots};
-ghost use Rattle.long_names.specs.Access.{State, Access, CanDo};
-ghost use Rattle.long_names.specs.Thin.{IsClosed, IsLostRing, IsThinner, IsThinning, IsThinned};
-ghost use Rattle.long_names.specs.Agree.{Agrees};
+ghost use Rattle.long_names.specs.Access.{Access, CanDo};
+ghost use Rattle.long_names.specs.State.{State};
+ghost use Rattle.long_names.specs.Thin.{IsClosed, IsLostRing, IsThinner, IsThinning, IsThinned, Agrees};
 
 /// The objects that a thinner heap lacks form no cycle: no list of their names goes round. And a part of a heap, with its next name, whose lost objects form no cycle is a thinner heap.
 pub fn lost_objects_form_no_cycle()

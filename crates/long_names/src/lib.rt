@@ -9,7 +9,7 @@ mod value;
 
 pub use lists::{NameList, Octets, RecList, Values, Words16};
 pub use name::{Name, bits};
-pub use object::{Body, Kind, Object, Rec};
+pub use object::{Body, Kind, Object, Rec, literal_count};
 pub use value::{Value, long_word, value_of};
 
 #[cfg(test)]

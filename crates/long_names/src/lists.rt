@@ -1,6 +1,6 @@
 // The lists that records are made of. Contracts see each as a list.
 ghost use Rattle.std.specs.Prelude.{◌≡◌, ◌+◌, ◌<◌, ◌≤◌, ◌++◌, [], ◌∷◌, ◌^◌, All, length, take, replicate, OnOk, OnErr, IfOk, slice_get, slice_set, Some};
-ghost use Rattle.long_names.specs.Access.{put_run};
+ghost use Rattle.long_names.specs.Objects.{put_run};
 
 use crate::name::Name;
 use crate::object::Rec;

@@ -1,13 +1,8 @@
 // Long names.
 ghost use Rattle.std.specs.Prelude.{◌≡◌, ◌↔◌, ◌/◌, ◌≤◌, IsSome, IfSome};
-ghost use Rattle.long_names.specs.Names.{IsName, is_known, bits_of};
+ghost use Rattle.long_names.specs.Names.{IsName, is_known, known_names, bits_of};
 
 use std::marker::Model;
-
-// The words of the objects that every image has.
-const KNOWN: [u32; 22] = [
-    2, 4, 6, 8, 12, 14, 16, 22, 24, 26, 28, 30, 32, 34, 38, 40, 42, 44, 48, 50, 52, 58,
-];
 
 /// A long name: the even number above 0 that an object has on disk, of 32 bits. Names are never used again.
 #[derive(Clone, Copy, Debug, PartialEq, Eq, PartialOrd, Ord)]
@@ -28,7 +23,7 @@ impl Model for Name {
     ghost inverse = { λ n. record { word = n } };
 }
 
-/// The objects that every image has (chapter 27 of the Blue Book, guaranteed pointers). They are never freed.
+// The objects that every image has (chapter 27 of the Blue Book, guaranteed pointers). They are never freed.
 impl Name {
     pub const NIL: Name = Name { word: 2 };
 
@@ -73,6 +68,32 @@ impl Name {
     pub const MUST_BE_BOOLEAN: Name = Name { word: 52 };
 
     pub const LARGE_NEGATIVE_INTEGER: Name = Name { word: 58 };
+
+    /// All of them, by rising name.
+    pub const KNOWN: [Name; 22] = [
+        Name::NIL,
+        Name::FALSE,
+        Name::TRUE,
+        Name::SCHEDULER_ASSOCIATION,
+        Name::SMALL_INTEGER,
+        Name::STRING,
+        Name::ARRAY,
+        Name::METHOD_CONTEXT,
+        Name::BLOCK_CONTEXT,
+        Name::POINT,
+        Name::LARGE_POSITIVE_INTEGER,
+        Name::DISPLAY_BITMAP,
+        Name::MESSAGE,
+        Name::COMPILED_METHOD,
+        Name::SEMAPHORE,
+        Name::CHARACTER,
+        Name::DOES_NOT_UNDERSTAND,
+        Name::CANNOT_RETURN,
+        Name::SPECIAL_SELECTORS,
+        Name::CHARACTER_TABLE,
+        Name::MUST_BE_BOOLEAN,
+        Name::LARGE_NEGATIVE_INTEGER,
+    ];
 }
 
 impl Name {
@@ -102,11 +123,18 @@ impl Name {
         self.word / 2
     }
 
+    /// The names of the objects that every image has, by rising name.
+    pub fn known() -> [Name; 22]
+        ensures { result ≡ known_names }
+    {
+        Name::KNOWN
+    }
+
     /// Whether it is the name of an object that every image has.
     pub fn is_known(self) -> bool
         ensures { result ≡ is_known self }
     {
-        KNOWN.contains(&self.word)
+        Name::KNOWN.contains(&self)
     }
 }
 

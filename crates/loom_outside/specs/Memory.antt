@@ -1,6 +1,7 @@
 -- What a host in memory stands for. These words are not opened by themselves: who calls it goes by its clauses.
 use Rattle.std.specs.Prelude.{◌≡◌, ℕ, List, Bool, Option, None, Result, IsErr, is_err, IsTrue, if◌then◌else◌}
-use Rattle.loom_outside.specs.Outside.{RoleState, SameBut, counted}
+use Rattle.loom_outside.specs.Outside.{RoleState, SameBut}
+use Rattle.long_names.specs.Counting.{counted}
 use Rattle.loom_outside.specs.PerRole.{at_role}
 use Rattle.loom_outside.specs.Plans.{is_due, lowered}
 use Rattle.loom_outside.specs.Rooms.{Room}

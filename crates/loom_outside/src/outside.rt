@@ -2,7 +2,8 @@
 ghost use Rattle.std.specs.Prelude.{◌≡◌, ◌+◌, ◌<◌, ◌≤◌, ℕ, Bool, IsTrue, IfOk, OnOk, OnErr, List, length, take, min};
 ghost use Rattle.loom_outside.specs.declared.outside.Role.{Role};
 ghost use Rattle.loom_outside.specs.Bytes.{window, overwritten};
-ghost use Rattle.loom_outside.specs.Outside.{RoleState, SameBut, HasCause, CanAttach, CanRead, CanWrite, Attached, IsFresh, Took, TookSome, PutPrefix, puts, holds, counted};
+ghost use Rattle.loom_outside.specs.Outside.{RoleState, SameBut, HasCause, CanAttach, CanRead, CanWrite, Attached, IsFresh, Took, TookSome, PutPrefix, puts, holds};
+ghost use Rattle.long_names.specs.Counting.{counted};
 
 /// What a run reads and writes. Image and Events are read in order, Saved and Display are written in
 /// order, and Work is read and written at any place: each has a file, by its name. Transcript and

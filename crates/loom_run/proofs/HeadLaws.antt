@@ -2,7 +2,7 @@
 use Rattle.std.proofs.Common.{zero, suc, ◌≡◌, ℕ, ◌+◌, ◌<◌, ◌≤◌, ◌^◌, List, [], ◌∷◌, ◌++◌, length, take, drop, get_or, refl, sym, ◌∙◌, ap, arith, drop-cons, codes, Bool, true, false, IsTrue, length-append}
 use Rattle.std.proofs.lemmas.List.{take-append-le, take_at, drop_at}
 use Rattle.std.specs.Int.{w32, from_be_bytes}
-use Rattle.image_format.specs.Record.{four_bytes}
+use Rattle.long_names.specs.Record.{four_bytes}
 use Rattle.image_format.proofs.Numbers.{wide32}
 use Rattle.loom_run.specs.Load.{head_text}
 

@@ -8,7 +8,8 @@ use Rattle.std.specs.Option.{option_map_or}
 use Rattle.long_names.specs.Heap.{Heap, object_count, count_of}
 use Rattle.long_names.specs.declared.object.Object.{Object}
 use Rattle.long_names.specs.declared.object.Rec.{Rec}
-use Rattle.image_format.specs.Record.{IsRecord, record_text}
+use Rattle.long_names.specs.Objects.{IsRecord}
+use Rattle.long_names.specs.Record.{record_text}
 use Rattle.image_format.specs.Text.{records_below, image_text}
 use Rattle.image_format.specs.Valid.{IsImageHeap}
 use Rattle.image_format.proofs.Records.{same_record}

@@ -3,7 +3,8 @@ use Rattle.std.proofs.Common.{◌≡◌, inl, inr, ℕ, List, length, arith, ref
 use Rattle.std.proofs.Math.Seq.{take-length}
 use Rattle.loom_outside.specs.Outside.{RoleState, PutPrefix, puts}
 use Rattle.loom_run.specs.Status.{line_of}
-use Rattle.loom_run.specs.Top.{HasRun, Noted, NotedBy, Rose}
+use Rattle.loom_run.specs.Top.{HasRun, Noted, NotedBy}
+use Rattle.long_names.specs.Counting.{Rose}
 use Rattle.loom_run.specs.Parts.{IsOfRun, IsTold, unsaid}
 use Rattle.loom_run.specs.declared.status.Status.{Status}
 use Rattle.loom_run.specs.declared.status.Status.TheVariants.{Done, Usage, ImageBad, ReadFault, WriteFault, OutOfMemory, NotBuilt}

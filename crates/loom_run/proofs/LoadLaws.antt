@@ -11,7 +11,8 @@ use Rattle.loom_run.specs.Load.{AreBelow, rec_with, records_text}
 use Rattle.long_names.specs.declared.object.Rec.{Rec}
 use Rattle.image_format.specs.declared.fault.RecFault.{RecFault}
 use Rattle.image_format.specs.declared.fault.RecFault.TheVariants as rec_fault
-use Rattle.image_format.specs.Record.{IsRecord, record_text}
+use Rattle.long_names.specs.Objects.{IsRecord}
+use Rattle.long_names.specs.Record.{record_text}
 use Rattle.image_format.specs.Faults.{IsBad}
 use Rattle.image_format.proofs.Lengths.{longest}
 use Rattle.loom_run.specs.declared.load.LoadFault.{LoadFault}

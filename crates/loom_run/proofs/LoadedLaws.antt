@@ -7,7 +7,8 @@ use Rattle.std.specs.BTreeMap.{get}
 use Rattle.long_names.specs.Heap.{Heap, Has, IsBounded, object_count, count_of}
 use Rattle.long_names.specs.declared.object.Object.{Object}
 use Rattle.long_names.specs.declared.object.Rec.{Rec}
-use Rattle.image_format.specs.Record.{IsRecord, record_text}
+use Rattle.long_names.specs.Objects.{IsRecord}
+use Rattle.long_names.specs.Record.{record_text}
 use Rattle.image_format.specs.Text.{image_text}
 use Rattle.image_format.specs.Valid.{IsImageHeap}
 use Rattle.loom_run.specs.declared.counts.Counts.{Counts}

@@ -8,24 +8,22 @@ use mathlib.Core.Path.{fun_ext}
 use Rattle.std.specs.Option.{option_copied, option_map_or, unwrap_or, IfSome, IfNone}
 use Rattle.std.specs.List.{All, slice_get}
 use Rattle.std.specs.List.Sorted.{IsStrictlySortedBy}
-use Rattle.std.specs.Ordering.{nat_cmp}
+use Rattle.std.specs.Ordering.{nat_cmp, is_lt}
 use Rattle.std.specs.Map.{lookup, keys_of, count_at}
-use Rattle.std.specs.Ordering.{is_lt}
 use Rattle.std.proofs.lemmas.Map.Keys.{ge_from_not_lt}
 use Rattle.loom_run.specs.Load.{AreBelow}
 use Rattle.std.specs.BTreeMap.{BTreeMap, is_at, get, IsOrdered, IsUnchanged, Updates, WritesThrough}
 use Rattle.long_names.specs.Words.{IsValue}
-use Rattle.long_names.specs.Objects.{IsBody}
+use Rattle.long_names.specs.Objects.{IsBody, HasRange, IsObject}
 use Rattle.long_names.specs.Heap.{Heap, IsBounded, put_object}
 use Rattle.long_names.specs.declared.value.Value.{Value}
 use Rattle.long_names.specs.declared.object.Body.{Body}
 use Rattle.long_names.specs.declared.object.Body.TheVariants.{Pointers, Words, Bytes, Method}
 use Rattle.long_names.specs.declared.object.Object.{Object}
-use Rattle.image_format.specs.Record.{IsLongName, HasRange}
+use Rattle.long_names.specs.Names.{IsLongName}
 use Rattle.loom_run.specs.declared.map.ObjectMap.{ObjectMap}
 use Rattle.loom_run.specs.Map.{heap_of}
 use Rattle.loom_run.specs.Fields.{body_with, object_with, heap_with}
-use Rattle.image_format.specs.Valid.{IsObject}
 use Rattle.loom_run.specs.Stored.{IsStored}
 use Rattle.loom_run.proofs.Entries.{entries, entries-found, map-rises, map-below}
 

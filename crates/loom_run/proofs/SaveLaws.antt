@@ -4,7 +4,7 @@ use Rattle.std.proofs.lemmas.List.{append-nil, take_at}
 use Rattle.loom_outside.specs.Outside.{RoleState, PutPrefix, puts}
 use Rattle.std.proofs.lemmas.List.Concat.{flat_map-cons}
 use Rattle.long_names.specs.declared.object.Object.{Object}
-use Rattle.image_format.specs.Record.{record_text}
+use Rattle.long_names.specs.Record.{record_text}
 use Rattle.loom_run.specs.Load.{rec_with, records_text}
 use Rattle.loom_run.specs.Saved.{PutBut}
 

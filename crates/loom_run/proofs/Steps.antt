@@ -9,7 +9,8 @@ use Rattle.loom_run.specs.Machine.{Machine, Row, row_of, Outcome, Go, Halt, Unbu
 use Rattle.loom_run.specs.Read.{IsRead}
 use Rattle.long_names.specs.Objects.{name_of}
 use Rattle.loom_run.specs.declared.interpreter.Interpreter.{Interpreter}
-use Rattle.loom_run.specs.Gives.{IsStoredIn, Makes, machine_of, Gives, object_at, put_at, heap_stored}
+use Rattle.loom_run.specs.Gives.{IsStoredIn, Makes, machine_of, Gives, put_at, heap_stored}
+use Rattle.long_names.specs.State.{object_at}
 use Rattle.loom_run.specs.declared.cpu.Cpu.{Cpu}
 use Rattle.loom_run.specs.declared.broken.NotBuilt.{NotBuilt}
 

@@ -12,7 +12,8 @@ use Rattle.long_names.specs.Objects.{name_of, fields_of}
 use Rattle.long_names.specs.Heap.{Heap, put_object}
 use Rattle.loom_run.specs.Machine.{with_field, fields_count}
 use Rattle.loom_run.specs.Fields.{object_with, heap_with}
-use Rattle.loom_run.specs.Gives.{put_at, heap_stored, object_at, IsStoredIn}
+use Rattle.loom_run.specs.Gives.{put_at, heap_stored, IsStoredIn}
+use Rattle.long_names.specs.State.{object_at}
 use Rattle.loom_run.specs.declared.broken.NotBuilt.{NotBuilt}
 
 -- the name of a value that is one

@@ -12,7 +12,7 @@ use Rattle.std.specs.Map.{lookup}
 use Rattle.std.specs.BTreeMap.{BTreeMap, is_at, get, IsOrdered}
 use Rattle.std.specs.List.{All, filter, count_by, list_any, slice_get, sum_by}
 use Rattle.std.specs.Option.{option_map_or}
-use Rattle.long_names.specs.Objects.{HasSize, fields_of, is_ref, holds, holdings}
+use Rattle.long_names.specs.Objects.{HasSize, fields_of, is_ref, holds, holdings, IsObject}
 use Rattle.long_names.specs.declared.value.Value.{Value}
 use Rattle.long_names.specs.declared.object.Body.{Body}
 use Rattle.long_names.specs.declared.object.Body.TheVariants.{Pointers, Words, Bytes, Method}
@@ -22,7 +22,6 @@ use Rattle.long_names.specs.Names.{is_known}
 use Rattle.long_names.specs.Heap.{Heap, holdings_below, count_of}
 use Rattle.long_names.specs.Kept.{any_below, holds_at, is_left, sweep, no_roots}
 use Rattle.loom_run.specs.Map.{heap_of}
-use Rattle.image_format.specs.Valid.{IsObject}
 use Rattle.loom_run.specs.Stored.{IsStored}
 use Rattle.loom_run.proofs.Entries.{words_of, length-le, map-rises, map-below, holdings-entries}
 use Rattle.loom_run.proofs.MapLaws.{heap-entries}

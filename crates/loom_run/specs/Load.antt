@@ -6,7 +6,7 @@ use Rattle.long_names.specs.Objects.{holds}
 use Rattle.long_names.specs.Heap.{Heap, Has, count_of}
 use Rattle.long_names.specs.declared.object.Object.{Object}
 use Rattle.long_names.specs.declared.object.Rec.{Rec}
-use Rattle.image_format.specs.Record.{four_bytes, record_text}
+use Rattle.long_names.specs.Record.{four_bytes, record_text}
 
 -- LOOM, version 1, the number of objects, and the next name
 abbrev pub head_text : ℕ → ℕ → List ℕ

@@ -3,7 +3,8 @@ use Rattle.std.specs.Prelude.{◌≡◌, ℕ, List, ◌⊎◌, Result, Err, IsOk
 use Rattle.long_names.specs.Heap.{Heap}
 use Rattle.loom_outside.specs.Outside.{RoleState, PutPrefix, puts}
 use Rattle.loom_outside.specs.declared.outside.Role.TheVariants.{Saved, Notes}
-use Rattle.loom_run.specs.Top.{Rose, Saves, BeginsToSave, WasRefused}
+use Rattle.loom_run.specs.Top.{Saves, BeginsToSave, WasRefused}
+use Rattle.long_names.specs.Counting.{Rose}
 use Rattle.loom_run.specs.Status.{line_of}
 use Rattle.loom_run.specs.declared.status.Status.{Status}
 use Rattle.loom_run.specs.declared.status.Status.TheVariants.{Done, Usage, WriteFault, OutOfMemory, NotBuilt}

@@ -3,8 +3,8 @@ use Rattle.std.specs.Prelude.{◌≡◌, ℕ, ◌%◌, ◌<◌, ◌^◌, Some}
 use Rattle.std.specs.Ordering.{nat_cmp}
 use Rattle.std.specs.BTreeMap.{BTreeMap, get, IsOrdered}
 use Rattle.long_names.specs.declared.object.Object.{Object}
-use Rattle.image_format.specs.Record.{IsLongName}
-use Rattle.image_format.specs.Valid.{IsObject}
+use Rattle.long_names.specs.Names.{IsLongName}
+use Rattle.long_names.specs.Objects.{IsObject}
 
 -- each object is one that an image may have, under a name below the next name, which is even and has 32 bits
 pub record IsStored (objects : BTreeMap ℕ Object) (next : ℕ) : Type 0 where

@@ -6,14 +6,13 @@ use Rattle.std.specs.Ordering.{nat_cmp}
 use Rattle.std.proofs.lemmas.Map.Keys.{IsStrictlySortedBy-prop}
 use Rattle.std.specs.Coded.{×_prop, Π_prop, Unit-prop, le_prop, Coded-set, coded_ℕ}
 use Rattle.long_names.specs.Words.{IsSmallInteger, IsValue, literal_count}
-use Rattle.long_names.specs.Objects.{HasSize, IsBody, fields_of}
+use Rattle.long_names.specs.Objects.{HasSize, IsBody, fields_of, HasRange, IsObject}
 use Rattle.long_names.specs.declared.value.Value.{Value}
 use Rattle.long_names.specs.declared.value.Value.TheVariants.{Int, Ref}
 use Rattle.long_names.specs.declared.object.Body.{Body}
 use Rattle.long_names.specs.declared.object.Body.TheVariants.{Pointers, Words, Bytes, Method}
 use Rattle.long_names.specs.declared.object.Object.{Object}
-use Rattle.image_format.specs.Record.{IsLongName, HasRange}
-use Rattle.image_format.specs.Valid.{IsObject}
+use Rattle.long_names.specs.Names.{IsLongName}
 use Rattle.loom_run.specs.Stored.{IsStored}
 
 All-prop : {X : Type 0} (P : X → Type 0) → ((x : X) → IsProp (P x)) → (xs : List X) → IsProp (All P xs)

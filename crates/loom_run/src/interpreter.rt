@@ -1,7 +1,7 @@
 // The machine over a map of long names (chapter 28 of the Blue Book).
 ghost use Rattle.loom_run.specs.Pointers.{IsInRange};
 ghost use Rattle.long_names.specs.Words.{IsValue};
-ghost use Rattle.loom_run.specs.StoredProps.{IsValue-prop};
+ghost use Rattle.long_names.specs.ObjectProps.{IsValue-prop};
 
 use crate::cpu::Cpu;
 use crate::map::ObjectMap;

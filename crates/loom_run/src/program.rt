@@ -9,7 +9,8 @@ ghost use Rattle.loom_run.specs.Machine.{ending};
 ghost use Rattle.loom_run.specs.Saved.{saved_text};
 ghost use Rattle.loom_run.specs.Status.{usage_of, line_of};
 ghost use Rattle.loom_run.specs.Words.{texts_of, bad_word, image_word, saved_word, steps_of};
-ghost use Rattle.loom_run.specs.Top.{Rose, AttachedOnce, WasWritten, ImageBy, SavedBy, IsCaused, HasRun, NotedBy, Judges, SavesBy, WasBegun, WasRefused, IsDone, CanBeDone, bytes_of, is_before_saving};
+ghost use Rattle.loom_run.specs.Top.{AttachedOnce, WasWritten, ImageBy, SavedBy, IsCaused, HasRun, NotedBy, Judges, SavesBy, WasBegun, WasRefused, IsDone, CanBeDone, bytes_of, is_before_saving};
+ghost use Rattle.long_names.specs.Counting.{Rose};
 ghost use Rattle.loom_run.specs.Parts.{IsAfterLoading, IsOfRun, IsTold, Runs, SavesRun, unsaid};
 
 use crate::load::{LoadFault, load};

@@ -4,9 +4,9 @@ ghost use Rattle.std.specs.Option.{option_and_then, option_copied};
 ghost use Rattle.loom_run.specs.Machine as rules;
 ghost use Rattle.loom_run.specs.Map.{heap_of};
 ghost use Rattle.loom_run.specs.Read.{IsRead};
-ghost use Rattle.image_format.specs.Valid.{IsObject};
-ghost use Rattle.loom_run.specs.Gives.{object_at, IsStoredIn, heap_stored};
-ghost use Rattle.long_names.specs.Objects.{IsBody, name_of};
+ghost use Rattle.long_names.specs.Objects.{IsObject, IsBody, name_of};
+ghost use Rattle.loom_run.specs.Gives.{IsStoredIn, heap_stored};
+ghost use Rattle.long_names.specs.State.{object_at};
 ghost use Rattle.long_names.specs.Words.{IsValue, IsSmallInteger};
 
 use crate::broken::NotBuilt;

@@ -1,7 +1,7 @@
 // Writing an image.
 ghost use Rattle.std.specs.Prelude.{◌≡◌, ◌+◌, ◌-◌, ◌^◌, ◌≤◌, ◌++◌, IsTrue, OnOk, OnErr, IfOk, Err, min};
 ghost use Rattle.long_names.specs.Objects.{IsBody};
-ghost use Rattle.image_format.specs.Record.{record_text};
+ghost use Rattle.long_names.specs.Record.{record_text};
 ghost use Rattle.loom_outside.specs.Outside.{SameBut, PutPrefix, puts};
 ghost use Rattle.loom_run.specs.Counts.{count_in};
 ghost use Rattle.loom_run.specs.Load.{head_text, rec_with, records_text};

@@ -1,11 +1,10 @@
 // Kept objects: what reference counting leaves in the end (chapter 30 of the Blue Book).
 ghost use Rattle.std.specs.Prelude.{◌≡◌, ◌+◌, ◌<◌, ◌≤◌, ◌^◌, ℕ, OnOk, IfOk, count_by, length, if◌then◌else◌, ◌==◌, ◌↔◌, IsTrue};
-ghost use Rattle.long_names.specs.Objects.{is_ref, holdings};
+ghost use Rattle.long_names.specs.Objects.{is_ref, holdings, IsObject};
 ghost use Rattle.long_names.specs.Heap.{count_of};
 ghost use Rattle.long_names.specs.Kept.{sweep, kept, no_roots};
 ghost use Rattle.loom_run.specs.Counts.{count_in};
 ghost use Rattle.loom_run.specs.Map.{heap_of};
-ghost use Rattle.image_format.specs.Valid.{IsObject};
 
 use crate::counts::Counts;
 use crate::map::ObjectMap;

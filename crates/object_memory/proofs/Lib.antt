@@ -1,8 +1,5 @@
-pub mod BaseLaws
-pub mod Callers
 pub mod Entries
 pub mod MapLaws
 pub mod PlainLaws
 pub mod RecordLaws
-pub mod ShapeLaws
 pub mod SweepLaws

@@ -13,9 +13,9 @@ use Rattle.std.specs.Ordering.{nat_cmp}
 use Rattle.std.specs.Map.{lookup, keys_of, count_at}
 use Rattle.std.specs.BTreeMap.{BTreeMap, is_at, get, IsOrdered, IsUnchanged, Updates, WritesThrough}
 use Rattle.long_names.specs.Words.{IsValue}
-use Rattle.long_names.specs.Objects.{IsBody, HasRange}
+use Rattle.long_names.specs.Objects.{IsBody, HasRange, with_field, with_words, with_bytes, words_of, bytes_of, put_run, IsObject}
 use Rattle.long_names.specs.Heap.{Heap, IsBounded, put_object}
-use Rattle.long_names.specs.Access.{with_body, with_field, with_words, with_bytes, words_of, bytes_of, put_run}
+use Rattle.long_names.specs.Access.{with_body}
 use Rattle.long_names.specs.declared.value.Value.{Value}
 use Rattle.long_names.specs.declared.value.Value.TheVariants.{Ref}
 use Rattle.long_names.specs.declared.object.Body.{Body}
@@ -23,7 +23,8 @@ use Rattle.long_names.specs.declared.object.Body.TheVariants.{Pointers, Words, B
 use Rattle.long_names.specs.declared.object.Object.{Object}
 use Rattle.object_memory.specs.declared.plain.objects.Objects.{Objects}
 use Rattle.object_memory.specs.Plain.{heap_of}
-use Rattle.object_memory.specs.Stored.{IsLongName, IsObject, IsStored}
+use Rattle.object_memory.specs.Stored.{IsStored}
+use Rattle.long_names.specs.Names.{IsLongName}
 use Rattle.object_memory.proofs.Entries.{entries, entries-found, map-rises, map-below}
 
 -- the entries of a map's heap are the map's

@@ -8,15 +8,17 @@ use Rattle.long_names.specs.declared.value.Value.{Value}
 use Rattle.long_names.specs.declared.value.Value.TheVariants.{Int, Ref}
 use Rattle.long_names.specs.declared.object.Body.{Body}
 use Rattle.long_names.specs.declared.object.Object.{Object}
-use Rattle.long_names.specs.Objects.{name_of, int_of}
+use Rattle.long_names.specs.Objects.{name_of, int_of, Making, body_made}
 use Rattle.long_names.specs.Heap.{Heap, Has, put_object}
-use Rattle.long_names.specs.Access.{Access, IsRef, Known, Class, KindOf, Length, Header, Field, SetField, Word, SetWord, Byte, SetByte, ReadWords, WriteWords, ReadBytes, NewPointers, NewWords, NewBytes, NewMethod, Pin, Mark, Say, Answer, Nothing, name_at, CanDo, set_register, set_slot, class_at, with_body, heap_after, regs_after, slots_after, brought, answer_of, LAST_NAME}
+use Rattle.long_names.specs.Access.{Access, Known, Class, KindOf, Length, Header, Field, SetField, Word, SetWord, Byte, SetByte, ReadWords, WriteWords, ReadBytes, Make, Pin, Mark, Say, Answer, Nothing, CanDo, with_body, heap_after, regs_after, slots_after, brought, answer_of}
+use Rattle.long_names.specs.Names.{LAST_NAME}
+use Rattle.long_names.specs.State.{IsRef, name_at, set_register, set_slot, class_at}
 use Rattle.long_names.proofs.ThinLemmas.{IsThinner-refl, IsWhole-set, IsWhole-pin, has_put}
 use Rattle.long_names.proofs.AccessLaws.{regs_of, whole-after}
 use Rattle.object_memory.specs.declared.fault.MemFault.{MemFault}
 use Rattle.object_memory.specs.declared.fault.MemFault.TheVariants.{NamesSpent, Memory}
 use Rattle.object_memory.specs.Told.{Told, Cache, Bounds, IsReady}
-use Rattle.object_memory.specs.Contract.{Does, SameBounds, Raised, makes, came, CacheAfter, SaysBy, SaysRefused, Counts, CountsRefused, NoBounds, IsMaking, TakesMemory, Accessed, LeavesCache, with_mark}
+use Rattle.object_memory.specs.Contract.{Does, SameBounds, Raised, makes, came, CacheAfter, SaysBy, SaysRefused, Counts, NoBounds, IsMaking, TakesMemory, IfBounds, HasCore, Accessed, LeavesCache, with_mark}
 use Rattle.object_memory.specs.Plain.{refused, made}
 
 SameBounds-none : (b : Option Bounds) → b ≡ None → SameBounds b b
@@ -55,10 +57,7 @@ came-is : (h : Heap) (regs : ℕ → Value) (a : Access) → CanDo h regs a → 
 came-is h regs (Known to name) can = loaded regs to (Some (Ref name)) (Ref name) refl
 came-is h regs (Class to of) can = loaded regs to (brought h regs (Class to of)) (Ref can.0) (ap (option_and_then (λ class. Some (Ref class))) can.1)
 came-is h regs (Field to of i) can = loaded regs to (brought h regs (Field to of i)) can.0 can.1
-came-is h regs (NewPointers to class size) can = loaded regs to (Some (Ref h.next)) (Ref h.next) refl
-came-is h regs (NewWords to class size) can = loaded regs to (Some (Ref h.next)) (Ref h.next) refl
-came-is h regs (NewBytes to class size) can = loaded regs to (Some (Ref h.next)) (Ref h.next) refl
-came-is h regs (NewMethod to class header code) can = loaded regs to (Some (Ref h.next)) (Ref h.next) refl
+came-is h regs (Make to class what) can = loaded regs to (Some (Ref h.next)) (Ref h.next) refl
 came-is h regs (KindOf of) can = refl
 came-is h regs (Length of) can = refl
 came-is h regs (Header of) can = refl
@@ -88,18 +87,15 @@ has-after h regs (SetField of i from) n there = has-body h (regs of) _ n there
 has-after h regs (SetWord of i word) n there = has-body h (regs of) _ n there
 has-after h regs (SetByte of i byte) n there = has-body h (regs of) _ n there
 has-after h regs (WriteWords of at run) n there = has-body h (regs of) _ n there
-has-after h regs (NewPointers to class size) n there = has_put h h.next _ (h.next + 2) n there
-has-after h regs (NewWords to class size) n there = has_put h h.next _ (h.next + 2) n there
-has-after h regs (NewBytes to class size) n there = has_put h h.next _ (h.next + 2) n there
-has-after h regs (NewMethod to class header code) n there = has_put h h.next _ (h.next + 2) n there
+has-after h regs (Make to class what) n there = has_put h h.next _ (h.next + 2) n there
 has-after h regs _ n there = there
 
 Counts-none : (a : Access) (b : Option Bounds) → b ≡ None → Counts (Does a) b b
 Counts-none a b e = Raised-none (makes a) b e
 
 -- an access that is answered
-pub answered : {A : Type 0} (t : Told) (a : Access) (x : List ℕ) (c : Cache) (spell : A → Answer) (r : A) → t.bounds ≡ None → IsReady t → IsTrue t.tells → CanDo t.heap t.regs a → CacheAfter t (done t a x c) (Does a) → ((n : ℕ) → c.marks n ≡ true → Has t.heap n) → ((i j k : ℕ) → c.rows i j k ≡ false) → SaysBy (Does a) t (done t a x c) → answer_of t.heap t.regs a ≡ Some (spell r) → (1 ≤ makes a → t.heap.next < LAST_NAME) → Accessed t (done t a x c) a spell (Ok r)
-answered {A} t a x c spell r bare ready told can cache marked rows says answer named =
+pub answered : {A : Type 0} (t : Told) (a : Access) (x : List ℕ) (c : Cache) (spell : A → Answer) (r : A) → t.bounds ≡ None → IsTrue t.tells → CanDo t.heap t.regs a → CacheAfter t (done t a x c) (Does a) → SaysBy (Does a) t (done t a x c) → answer_of t.heap t.regs a ≡ Some (spell r) → (1 ≤ makes a → t.heap.next < LAST_NAME) → Accessed t (done t a x c) a spell (Ok r)
+answered {A} t a x c spell r bare told can cache says answer named =
     let is = came-is t.heap t.regs a can in
     record {
       called = record {
@@ -110,11 +106,6 @@ answered {A} t a x c spell r bare ready told can cache marked rows says answer n
           slots = refl;
           transcript = says;
           heap = λ _. IsThinner-refl (heap_after t.heap t.regs a);
-          ready = record {
-            whole = λ _. whole-after t.heap t.regs t.slots (ready.whole told) a can;
-            marked = λ _ n e. has-after t.heap t.regs a n (marked n e);
-            cached = λ i j k e. (let none = rows i j k in cc);
-          };
           cache = cache;
           counts = Counts-none a t.bounds bare;
           refusals = refl;
@@ -124,11 +115,20 @@ answered {A} t a x c spell r bare ready told can cache marked rows says answer n
       };
       answer = λ _. answer;
       named = λ make _. named make;
+      core = subst (λ x. IfBounds x (HasCore t a)) (sym bare) tt;
     }
 
+-- and leaves it ready
+pub answered-ready : (t : Told) (a : Access) (x : List ℕ) (c : Cache) → IsReady t → IsTrue t.tells → CanDo t.heap t.regs a → ((n : ℕ) → c.marks n ≡ true → Has t.heap n) → ((i j k : ℕ) → c.rows i j k ≡ false) → IsReady (done t a x c)
+answered-ready t a x c ready told can marked rows = record {
+  whole = λ _. whole-after t.heap t.regs t.slots (ready.whole told) a can;
+  marked = λ _ n e. has-after t.heap t.regs a n (marked n e);
+  cached = λ i j k e. (let none = rows i j k in cc);
+}
+
 -- an access that is refused, and leaves all else as it was
-pub refuses : {A : Type 0} (t : Told) (a : Access) (spell : A → Answer) (f : MemFault) → t.bounds ≡ None → IsReady t → t.refusals ≤ (refused t f).refusals → (f ≡ NamesSpent × IsMaking (Does a) × LAST_NAME ≤ t.heap.next) ⊎ (f ≡ Memory × TakesMemory (Does a) × (IsMaking (Does a) → t.heap.next < LAST_NAME)) → CountsRefused (Does a) None None → ((g : MemFault) → (g ≡ NamesSpent) ⊎ (g ≡ Memory) → SaysRefused (Does a) t (refused t g) g) → Accessed {A = A} t (refused t f) a spell (Err f)
-refuses {A} t a spell f bare ready fits (inl (e, make, past)) counts says = subst (λ g. Accessed {A = A} t (refused t g) a spell (Err g)) (sym e)
+pub refuses : {A : Type 0} (t : Told) (a : Access) (spell : A → Answer) (f : MemFault) → t.bounds ≡ None → IsReady t → t.refusals ≤ (refused t f).refusals → (f ≡ NamesSpent × IsMaking (Does a) × LAST_NAME ≤ t.heap.next) ⊎ (f ≡ Memory × TakesMemory (Does a) × (IsMaking (Does a) → t.heap.next < LAST_NAME)) → ((g : MemFault) → (g ≡ NamesSpent) ⊎ (g ≡ Memory) → SaysRefused (Does a) t (refused t g) g) → Accessed {A = A} t (refused t f) a spell (Err f)
+refuses {A} t a spell f bare ready fits (inl (e, make, past)) says = subst (λ g. Accessed {A = A} t (refused t g) a spell (Err g)) (sym e)
     record {
       called = record {
         later = record { tells = refl; speaks = refl; bounds = SameBounds-none t.bounds bare; refusals = fits };
@@ -138,15 +138,16 @@ refuses {A} t a spell f bare ready fits (inl (e, make, past)) counts says = subs
           last = refl;
           cause = (make, λ _. past);
           spent = λ _ _ _. refl;
-          counts = subst (λ b. CountsRefused (Does a) b b) (sym bare) counts;
+          counts = Raised-none 0 t.bounds bare;
           transcript = says NamesSpent (inl refl);
           left = record { regs = refl; slots = refl; heap = λ _. IsThinner-refl t.heap; ready = record { whole = ready.whole; marked = ready.marked; cached = ready.cached }; cache = kept_cache t.cache };
         };
       };
       answer = tt;
       named = tt;
+      core = tt;
     }
-refuses {A} t a spell f bare ready fits (inr (e, takes, room)) counts says = subst (λ g. Accessed {A = A} t (refused t g) a spell (Err g)) (sym e)
+refuses {A} t a spell f bare ready fits (inr (e, takes, room)) says = subst (λ g. Accessed {A = A} t (refused t g) a spell (Err g)) (sym e)
     record {
       called = record {
         later = record { tells = refl; speaks = refl; bounds = SameBounds-none t.bounds bare; refusals = fits };
@@ -156,13 +157,14 @@ refuses {A} t a spell f bare ready fits (inr (e, takes, room)) counts says = sub
           last = refl;
           cause = (subst NoBounds (sym bare) tt, takes);
           spent = λ make _ past. (let low = room make in absurd (omega arith));
-          counts = subst (λ b. CountsRefused (Does a) b b) (sym bare) counts;
+          counts = Raised-none 0 t.bounds bare;
           transcript = says Memory (inr refl);
           left = record { regs = refl; slots = refl; heap = λ _. IsThinner-refl t.heap; ready = record { whole = ready.whole; marked = ready.marked; cached = ready.cached }; cache = kept_cache t.cache };
         };
       };
       answer = tt;
       named = tt;
+      core = tt;
     }
 
 -- ---- registers, slots and marks
@@ -204,23 +206,23 @@ made-is t u to class (Err e) b (Ok n) is f = absurd is
 made-is t u to class body b (Err f) is e = tt
 
 -- a making, answered or refused
-pub makes-object : (t u : Told) (a : Access) (to : ℕ) (o : Object) (r : Result (Unit {0}) MemFault) → t.bounds ≡ None → IsReady t → IsTrue t.tells → CanDo t.heap t.regs a → done t a t.transcript t.cache ≡ made t to o → CacheAfter t (done t a t.transcript t.cache) (Does a) → ((i j k : ℕ) → t.cache.rows i j k ≡ false) → SaysBy (Does a) t (done t a t.transcript t.cache) → answer_of t.heap t.regs a ≡ Some Nothing → IsMaking (Does a) → TakesMemory (Does a) → CountsRefused (Does a) None None → ((g : MemFault) → (g ≡ NamesSpent) ⊎ (g ≡ Memory) → SaysRefused (Does a) t (refused t g) g) → OnOk r (t.heap.next < LAST_NAME) → OnOk r (u ≡ made t to o) → IfErr r (λ f. u ≡ refused t f) → IfErr r (λ f. (f ≡ NamesSpent × (LAST_NAME ≤ t.heap.next)) ⊎ (f ≡ Memory × (t.heap.next < LAST_NAME))) → t.refusals ≤ u.refusals → Accessed t u a (λ _. Nothing) r
-makes-object t u a to o (Ok n) bare ready told can same cache rows says answer making takes counts quiet room is err cause later =
-    subst (λ (w : Told). Accessed t w a (λ _. Nothing) (Ok n)) (same ∙ sym is)
-    (answered t a t.transcript t.cache (λ _. Nothing) n bare ready told can cache (ready.marked told) rows says answer (λ _. room))
-makes-object t u a to o (Err f) bare ready told can same cache rows says answer making takes counts quiet room is err cause later =
-    subst (λ (w : Told). Accessed {A = Unit {0}} t w a (λ _. Nothing) (Err f)) (sym err)
-    (refuses t a (λ _. Nothing) f bare ready (subst (λ (w : Told). t.refusals ≤ w.refusals) err later) (elim cause [ inl x ↦ inl (x.0, making, x.1) | inr x ↦ inr (x.0, takes, λ _. x.1) ]) counts quiet)
+pub makes-object : (t u : Told) (to class : ℕ) (what : Making) (r : Result (Unit {0}) MemFault) → t.bounds ≡ None → IsReady t → IsTrue t.tells → OnOk r (t.heap.next < LAST_NAME) → OnOk r (u ≡ made t to (record { class = name_at (t.regs class); body = body_made what })) → IfErr r (λ f. u ≡ refused t f) → IfErr r (λ f. (f ≡ NamesSpent × (LAST_NAME ≤ t.heap.next)) ⊎ (f ≡ Memory × (t.heap.next < LAST_NAME))) → t.refusals ≤ u.refusals → Accessed t u (Make to class what) (λ _. Nothing) r
+makes-object t u to class what (Ok n) bare ready told room is err cause later =
+    subst (λ (w : Told). Accessed t w (Make to class what) (λ _. Nothing) (Ok n)) (sym is)
+    (answered t (Make to class what) t.transcript t.cache (λ _. Nothing) n bare told tt (kept_cache t.cache) (λ _. refl) refl (λ _. room))
+makes-object t u to class what (Err f) bare ready told room is err cause later =
+    subst (λ (w : Told). Accessed {A = Unit {0}} t w (Make to class what) (λ _. Nothing) (Err f)) (sym err)
+    (refuses t (Make to class what) (λ _. Nothing) f bare ready (subst (λ (w : Told). t.refusals ≤ w.refusals) err later) (elim cause [ inl x ↦ inl (x.0, omega arith, x.1) | inr x ↦ inr (x.0, tt, λ _. x.1) ]) (λ g is told. refl))
+
+-- and the memory is ready where it was answered
+pub makes-ready : (t u : Told) (to class : ℕ) (what : Making) (r : Result (Unit {0}) MemFault) → IsReady t → IsTrue t.tells → ((i j k : ℕ) → t.cache.rows i j k ≡ false) → OnOk r (u ≡ made t to (record { class = name_at (t.regs class); body = body_made what })) → OnOk r (IsReady u)
+makes-ready t u to class what (Ok n) ready told rows is = subst (λ (w : Told). IsReady w) (sym is) (answered-ready t (Make to class what) t.transcript t.cache ready told tt (ready.marked told) rows)
+makes-ready t u to class what (Err f) ready told rows is = tt
 
 -- the register has the name of what was made
 pub made-named : (t u : Told) (to : ℕ) (o : Object) (r : Result (Unit {0}) MemFault) → OnOk r (u ≡ made t to o) → OnOk r (IsRef (u.regs to))
 made-named t u to o (Ok n) is = is-ref (u.regs to) t.heap.next (here u.regs t.regs to (Ref t.heap.next) (ap (λ (w : Told). w.regs) is))
 made-named t u to o (Err f) is = tt
-
--- an access that is answered leaves a memory ready
-pub ready-after : {A : Type 0} (t u : Told) (a : Access) (spell : A → Answer) (r : Result A MemFault) → Accessed t u a spell r → OnOk r (IsReady u)
-ready-after t u a spell (Ok n) x = x.called.ok.ready
-ready-after t u a spell (Err f) x = tt
 
 -- a name that was marked has its object
 pub marked-there : (t : Told) (r n : ℕ) (k : ℕ) → IsReady t → IsTrue t.tells → t.regs r ≡ Ref n → (with_mark t.cache (Some n)).marks k ≡ true → Has t.heap k

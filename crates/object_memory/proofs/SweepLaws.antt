@@ -15,8 +15,8 @@ use Rattle.std.specs.BTreeMap.{BTreeMap, is_at, get, IsOrdered}
 use Rattle.std.specs.List.{All, filter, count_by, slice_get, sum_by}
 use Rattle.std.specs.Option.{option_map_or}
 use Rattle.long_names.specs.Names.{is_known}
-use Rattle.long_names.specs.Objects.{HasSize, fields_of, is_ref, holdings}
-use Rattle.long_names.specs.Heap.{Heap, count_of}
+use Rattle.long_names.specs.Objects.{HasSize, fields_of, is_ref, holdings, IsObject, IsRecord}
+use Rattle.long_names.specs.Heap.{Heap, count_of, rec_of}
 use Rattle.long_names.specs.Kept.{sweep, no_roots}
 use Rattle.long_names.specs.declared.value.Value.{Value}
 use Rattle.long_names.specs.declared.object.Body.{Body}
@@ -26,8 +26,8 @@ use Rattle.long_names.specs.declared.object.Rec.{Rec}
 use Rattle.long_names.proofs.KeptLaws.{left-counted}
 use Rattle.object_memory.specs.declared.plain.objects.Objects.{Objects}
 use Rattle.object_memory.specs.Plain.{heap_of}
-use Rattle.object_memory.specs.Records.{rec_of, recs_below, recs_of}
-use Rattle.object_memory.specs.Stored.{IsObject, IsRecord, IsStored}
+use Rattle.object_memory.specs.Records.{recs_below, recs_of}
+use Rattle.object_memory.specs.Stored.{IsStored}
 use Rattle.object_memory.proofs.Entries.{entries_below, entry_at, words_of, length-le, map-rises, map-below, holdings-entries}
 use Rattle.object_memory.proofs.MapLaws.{heap-entries}
 

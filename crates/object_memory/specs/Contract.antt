@@ -1,15 +1,18 @@
 -- What a call of a memory does, and why it is refused.
-use Rattle.std.specs.Prelude.{◌≡◌, ℕ, ◌+◌, ◌≤◌, ◌<◌, ◌==◌, ◌||◌, ◌⊎◌, Bool, true, false, List, ◌++◌, Option, Some, None, Result, Ok, Err, IsTrue, OnOk, IfOk, IfErr}
-use Rattle.std.specs.Option.{option_map_or}
+use Rattle.std.specs.Prelude.{◌≡◌, ℕ, ◌+◌, ◌≤◌, ◌<◌, ◌==◌, ◌||◌, ◌⊎◌, Bool, true, false, List, ◌++◌, Option, Some, None, Result, Ok, Err, IsTrue, OnOk, IfOk, IfErr, if◌then◌else◌}
+use Rattle.std.specs.Option.{option_map_or, option_and_then}
 use Rattle.long_names.specs.declared.value.Value.{Value}
 use Rattle.long_names.specs.declared.value.Value.TheVariants.{Int, Ref}
+use Rattle.long_names.specs.Names.{LAST_NAME}
+use Rattle.long_names.specs.Counting.{Rose}
 use Rattle.long_names.specs.Objects.{name_of}
-use Rattle.long_names.specs.Heap.{Heap, add_object, object_count}
+use Rattle.long_names.specs.Heap.{Heap, object_count}
 use Rattle.long_names.specs.Kept.{kept}
+use Rattle.long_names.specs.State.{set_register}
+use Rattle.long_names.specs.Access.{Access, SetField, SetWord, SetByte, WriteWords, Make, Mark, Say, Answer, CanDo, HasNames, HasRanges, target_of, filled_by, heap_after, regs_after, slots_after, brought, said_by, answer_of}
+use Rattle.long_names.specs.Need.{Fits, row_of, heap_of_row, words_alone}
 use Rattle.long_names.specs.Thin.{IsThinner}
-use Rattle.long_names.specs.Access.{Access, Known, Class, Field, SetField, SetWord, SetByte, WriteWords, NewPointers, NewWords, NewBytes, NewMethod, Mark, Say, Answer, CanDo, CanAsk, heap_after, regs_after, slots_after, brought, said_by, made_by, object_of, answer_of, set_register, LAST_NAME}
-use Rattle.long_names.specs.Need.{Row}
-use Rattle.object_memory.specs.Told.{Told, Bounds, Cache, IsReady, Rose, HasRoom, need_of, is_root}
+use Rattle.object_memory.specs.Told.{Told, Bounds, Cache, IsReady, state_of, need_of, is_root}
 use Rattle.object_memory.specs.declared.fault.Need.{Need}
 use Rattle.object_memory.specs.declared.fault.MemFault.{MemFault}
 use Rattle.object_memory.specs.declared.fault.MemFault.TheVariants.{CoreFull, WorkFull, WorkFault, Damaged, NamesSpent, Said, Memory}
@@ -21,10 +24,28 @@ pub data Call : Type 0 where
   Settles : Call
   Thins : Call
 
--- what the caller owes: the heap's part only where the heap is told
+-- what the caller owes: names in registers and ranges of numbers always, what the heap has only where it is told
 pub record MayDo (t : Told) (a : Access) : Type 0 where
   pub heap : IsTrue t.tells → CanDo t.heap t.regs a
-  pub rest : CanAsk t.regs a
+  pub names : HasNames t.regs a
+  pub ranges : HasRanges a
+
+-- ---- bounds
+
+-- the bounds are told, and this holds of them
+abbrev pub ForBounds : Option Bounds → (Bounds → Type 0) → Type 0
+ForBounds None P = ⊥
+ForBounds (Some b) P = P b
+
+-- this holds of the bounds, where they are told
+abbrev pub IfBounds : Option Bounds → (Bounds → Type 0) → Type 0
+IfBounds None P = Unit {0}
+IfBounds (Some b) P = P b
+
+-- no bounds are told
+abbrev pub NoBounds : Option Bounds → Type 0
+NoBounds None = Unit {0}
+NoBounds (Some b) = ⊥
 
 -- ---- what stays
 
@@ -49,27 +70,27 @@ Raised k None (Some c) = ⊥
 Raised k (Some b) None = ⊥
 Raised k (Some b) (Some c) = (c.base ≡ b.base) × (c.made ≡ b.made + k)
 
+-- no making is counted
+abbrev pub Settled : Option Bounds → Option Bounds → Type 0
+Settled None None = Unit {0}
+Settled None (Some c) = ⊥
+Settled (Some b) None = ⊥
+Settled (Some b) (Some c) = c.made ≡ 0
+
 -- how many objects an access makes
 abbrev pub makes : Access → ℕ
-makes (NewPointers to class size) = 1
-makes (NewWords to class size) = 1
-makes (NewBytes to class size) = 1
-makes (NewMethod to class header code) = 1
+makes (Make to class what) = 1
 makes _ = 0
 
--- base and made after a call that was answered: only makings and the settling change them
+-- base and made after a call that was answered: a making is counted, and after the settling none is
 abbrev pub Counts : Call → Option Bounds → Option Bounds → Type 0
 Counts (Does a) old new = Raised (makes a) old new
-Counts Settles old new = Unit {0}
+Counts Settles old new = Settled old new
 Counts Thins old new = Raised 0 old new
 
 -- and after one that was refused
 abbrev pub CountsRefused : Call → Option Bounds → Option Bounds → Type 0
-CountsRefused (Does (NewPointers to class size)) old new = Unit {0}
-CountsRefused (Does (NewWords to class size)) old new = Unit {0}
-CountsRefused (Does (NewBytes to class size)) old new = Unit {0}
-CountsRefused (Does (NewMethod to class header code)) old new = Unit {0}
-CountsRefused (Does _) old new = Raised 0 old new
+CountsRefused (Does a) old new = Raised 0 old new
 CountsRefused Settles old new = Unit {0}
 CountsRefused Thins old new = Raised 0 old new
 
@@ -82,28 +103,34 @@ pub record IsKeptCache (touched : Option ℕ) (before made after : Cache) : Type
   pub rows : (c s m : ℕ) → after.rows c s m ≡ true → made.rows c s m ≡ true
   pub untouched : (n : ℕ) → touched ≡ Some n → before.marks n ≡ false
 
--- no row and no mark from before is left
-pub record IsEmptied (marked : Option ℕ) (after : Cache) : Type 0 where
+-- no row and no mark from before is left, of which there was one
+pub record IsEmptied (marked : Option ℕ) (before after : Cache) : Type 0 where
   pub rows : (c s m : ℕ) → after.rows c s m ≡ false
   pub marks : (n : ℕ) → after.marks n ≡ true → marked ≡ Some n
   pub path : after.path ≡ false
+  pub taken : ℕ
+  pub was : before.marks taken ≡ true
 
 -- A call that takes a mark away, that stores into an object marked before it, or after which the heap lacks such an object, leaves no
 -- row and no mark from before it.
 abbrev pub LeavesCache : Option ℕ → Option ℕ → Cache → Cache → Cache → Type 0
-LeavesCache touched marked before made after = IsKeptCache touched before made after ⊎ IsEmptied marked after
+LeavesCache touched marked before made after = IsKeptCache touched before made after ⊎ IsEmptied marked before after
 
 abbrev pub with_mark : Cache → Option ℕ → Cache
 with_mark c None = c
 with_mark c (Some n) = record c { marks = λ k. (k == n) || c.marks k }
 
+-- whether it stores into its object
+abbrev pub stores : Access → Bool
+stores (SetField of i from) = true
+stores (SetWord of i word) = true
+stores (SetByte of i byte) = true
+stores (WriteWords of at run) = true
+stores _ = false
+
 -- the name that it stores into, and the name that it marks
 abbrev pub touched_by : (ℕ → Value) → Access → Option ℕ
-touched_by regs (SetField of i from) = name_of (regs of)
-touched_by regs (SetWord of i word) = name_of (regs of)
-touched_by regs (SetByte of i byte) = name_of (regs of)
-touched_by regs (WriteWords of at run) = name_of (regs of)
-touched_by regs _ = None
+touched_by regs a = if stores a then option_and_then (λ of. name_of (regs of)) (target_of a) else None
 
 abbrev pub marked_by : (ℕ → Value) → Access → Option ℕ
 marked_by regs (Mark of) = name_of (regs of)
@@ -118,14 +145,7 @@ CacheAfter old new Thins = LeavesCache None None old.cache old.cache new.cache
 
 -- the value that came into a register
 abbrev pub came : Access → (ℕ → Value) → Option Value
-came (Known to name) regs = Some (regs to)
-came (Class to of) regs = Some (regs to)
-came (Field to of i) regs = Some (regs to)
-came (NewPointers to class size) regs = Some (regs to)
-came (NewWords to class size) regs = Some (regs to)
-came (NewBytes to class size) regs = Some (regs to)
-came (NewMethod to class header code) regs = Some (regs to)
-came _ regs = None
+came a regs = option_and_then (λ to. Some (regs to)) (filled_by a)
 
 abbrev pub regs_by : Call → (ℕ → Value) → (ℕ → Value) → ℕ → Value
 regs_by (Does a) old new = option_map_or (λ v. regs_after old a v) (came a new) old
@@ -162,22 +182,12 @@ pub record Follows (old new : Told) (call : Call) : Type 0 where
   pub slots : new.slots ≡ slots_by call old.regs old.slots
   pub transcript : SaysBy call old new
   pub heap : IsTrue old.tells → IsThinner (heap_by call old.heap old.regs) new.heap
-  pub ready : IsReady new
   pub cache : CacheAfter old new call
   pub counts : Counts call old.bounds new.bounds
   pub refusals : new.refusals ≡ old.refusals
   pub last : new.last ≡ old.last
 
 -- ---- a call that is refused
-
--- the bounds are told, and this holds of them
-abbrev pub ForBounds : Option Bounds → (Bounds → Type 0) → Type 0
-ForBounds None P = ⊥
-ForBounds (Some b) P = P b
-
-abbrev pub NoBounds : Option Bounds → Type 0
-NoBounds None = Unit {0}
-NoBounds (Some b) = ⊥
 
 abbrev pub work_faults : Option Bounds → ℕ
 work_faults None = 0
@@ -187,13 +197,9 @@ abbrev pub said_faults : Option Bounds → ℕ
 said_faults None = 0
 said_faults (Some b) = b.said_faults
 
--- the row of an access: of a pin with the slots before it, of a making with the object made
-abbrev pub row_of : Told → Access → Row
-row_of t a = record { object = object_of t.heap t.regs a; slots = t.slots }
-
--- the need of that row, for a making in the heap that has the object
+-- the need of the row of an access
 abbrev pub need_of_access : Told → Access → Need
-need_of_access t a = need_of (option_map_or (λ o. add_object t.heap o) (made_by t.regs a) t.heap) (row_of t a)
+need_of_access t a = need_of (heap_of_row (state_of t) a) (row_of (state_of t) a)
 
 abbrev pub IsMaking : Call → Type 0
 IsMaking (Does a) = 1 ≤ makes a
@@ -202,10 +208,7 @@ IsMaking Thins = ⊥
 
 -- a call that takes memory of a memory without bounds: a making, a mark, and what is said
 abbrev pub TakesMemory : Call → Type 0
-TakesMemory (Does (NewPointers to class size)) = Unit {0}
-TakesMemory (Does (NewWords to class size)) = Unit {0}
-TakesMemory (Does (NewBytes to class size)) = Unit {0}
-TakesMemory (Does (NewMethod to class header code)) = Unit {0}
+TakesMemory (Does (Make to class what)) = Unit {0}
 TakesMemory (Does (Mark of)) = Unit {0}
 TakesMemory (Does (Say of)) = Unit {0}
 TakesMemory (Does _) = ⊥
@@ -231,7 +234,7 @@ Lives t b live = ((base : ℕ) × (b.base ≡ Some base) × (live ≡ base + b.m
 
 -- why a call is refused
 abbrev pub HasCause : Told → Told → Call → MemFault → Type 0
-HasCause old new call (CoreFull need) = ForBounds new.bounds (λ b. HasRoom b need → ⊥) × HasNeed old call need
+HasCause old new call (CoreFull need) = ForBounds new.bounds (λ b. Fits b.core b.entries need.words need.entries → ⊥) × HasNeed old call need
 HasCause old new call (WorkFull live room) = ForBounds new.bounds (λ b. (b.room ≡ room) × (room < live)) × ForBounds old.bounds (λ b. Lives old b live) × IsMaking call
 HasCause old new call (WorkFault count) = ForBounds new.bounds (λ b. b.work_faults ≡ count) × Rose (work_faults old.bounds) (work_faults new.bounds)
 HasCause old new call (Damaged place name) = IsTrue old.tells → ⊥
@@ -279,11 +282,19 @@ pub record Called {A : Type 0} (old new : Told) (call : Call) (result : Result A
   pub ok : OnOk result (Follows old new call)
   pub err : IfErr result (λ f. Refuses old new call f)
 
--- an access, with the answer that its result stands for; a making is answered only while names are left
+-- The core holds the object of an access: 4 and its body words are at most the core's words. Of a making that is known where the
+-- heap isn't told, too.
+abbrev pub HasCore : Told → Access → Bounds → Type 0
+HasCore t (Make to class what) b = words_alone t.heap t.regs (Make to class what) ≤ b.core
+HasCore t a b = IsTrue t.tells → words_alone t.heap t.regs a ≤ b.core
+
+-- An access, with the answer that its result stands for. A making is answered only while names are left, and no access where its
+-- object alone needs more than the core.
 pub record Accessed {A : Type 0} (old new : Told) (a : Access) (spell : A → Answer) (result : Result A MemFault) : Type 0 where
   pub called : Called old new (Does a) result
   pub answer : IfOk result (λ x. IsTrue old.tells → answer_of old.heap old.regs a ≡ Some (spell x))
   pub named : OnOk result (1 ≤ makes a → IsTrue old.tells → old.heap.next < LAST_NAME)
+  pub core : OnOk result (IfBounds old.bounds (HasCore old a))
 
 -- sound after every answer but WorkFault and Damaged
 abbrev pub KeepsSound : {A : Type 0} → Result A MemFault → Type 0 → Type 0

@@ -1,7 +1,6 @@
 pub mod Told
 pub mod Contract
 pub mod Stored
-pub mod StoredProps
 pub mod Plain
 pub mod Counts
 pub mod Records

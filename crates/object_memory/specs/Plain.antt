@@ -1,13 +1,14 @@
 -- What a memory that is one map tells.
-use Rattle.std.specs.Prelude.{ℕ, pos, ◌+◌, ◌-◌, ◌^◌, min, Some, None, true, false, [], Option, slice_index_or}
+use Rattle.std.specs.Prelude.{ℕ, pos, Some, None, true, false, [], Option, slice_index_or}
 use Rattle.std.specs.Ordering.{nat_cmp}
 use Rattle.std.specs.BTreeMap.{get}
 use Rattle.std.specs.BTreeSet.{contains}
 use Rattle.long_names.specs.declared.value.Value.{Value}
 use Rattle.long_names.specs.declared.value.Value.TheVariants.{Int, Ref}
 use Rattle.long_names.specs.declared.object.Object.{Object}
+use Rattle.long_names.specs.Counting.{counted}
 use Rattle.long_names.specs.Heap.{Heap, add_object}
-use Rattle.long_names.specs.Access.{set_register}
+use Rattle.long_names.specs.State.{set_register}
 use Rattle.object_memory.specs.Told.{Told, Cache}
 use Rattle.object_memory.specs.declared.fault.MemFault.{MemFault}
 use Rattle.object_memory.specs.declared.plain.objects.Objects.{Objects}
@@ -63,7 +64,7 @@ fresh h = record {
 
 -- what is told after a refusal that leaves all else
 abbrev pub refused : Told → MemFault → Told
-refused t f = record t { refusals = min (t.refusals + 1) (2 ^ 64 - 1); last = Some f }
+refused t f = record t { refusals = counted t.refusals; last = Some f }
 
 -- what is told after a making
 abbrev pub made : Told → ℕ → Object → Told

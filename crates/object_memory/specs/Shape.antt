@@ -2,7 +2,7 @@
 use Rattle.std.specs.Prelude.{◌≡◌, ℕ, Some, IsTrue}
 use Rattle.long_names.specs.declared.object.Kind.{Kind}
 use Rattle.long_names.specs.Objects.{kind_of, len_of}
-use Rattle.long_names.specs.Access.{HasPart}
+use Rattle.long_names.specs.State.{HasPart}
 use Rattle.object_memory.specs.Told.{Told}
 
 -- the register names an object of this kind and length, where the heap is told

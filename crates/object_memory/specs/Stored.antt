@@ -1,29 +1,13 @@
 -- What a memory that is one map keeps at every moment.
 use Rattle.std.specs.Prelude.{◌≡◌, ℕ, ◌%◌, ◌<◌, ◌^◌, Some}
 use Rattle.std.specs.Ordering.{nat_cmp}
-use Rattle.std.specs.BTreeMap.{BTreeMap, get, IsOrdered}
-use Rattle.long_names.specs.Names.{IsName}
-use Rattle.long_names.specs.Objects.{HasRange, IsBody}
+use Rattle.std.specs.BTreeMap.{BTreeMap, get, keys, IsOrdered}
+use Rattle.std.specs.Coded.{Π_prop, le_prop, Coded-set, coded_ℕ}
+use Rattle.std.proofs.lemmas.Map.Keys.{IsStrictlySortedBy-prop}
+use Rattle.long_names.specs.Names.{IsLongName}
+use Rattle.long_names.specs.Objects.{IsObject}
+use Rattle.long_names.specs.ObjectProps.{IsLongName-prop, IsObject-prop}
 use Rattle.long_names.specs.declared.object.Object.{Object}
-use Rattle.long_names.specs.declared.object.Rec.{Rec}
-
--- a name of 32 bits
-abbrev pub IsLongName : ℕ → Type 0
-IsLongName n = IsName n × (n < 2 ^ 32)
-
--- an object whose class is a name, with a body that an object may have
-pub record IsObject (o : Object) : Type 0 where
-  pub class : IsLongName o.class
-  pub body : IsBody o.body
-  pub range : HasRange o.body
-
--- a record that an image may have
-pub record IsRecord (r : Rec) : Type 0 where
-  pub name : IsLongName r.name
-  pub class : IsLongName r.class
-  pub count : r.count < 2 ^ 64
-  pub body : IsBody r.body
-  pub range : HasRange r.body
 
 -- each object stands under a name below the next name, which is even and has 32 bits
 pub record IsStored (objects : BTreeMap ℕ Object) (next : ℕ) : Type 0 where
@@ -33,3 +17,14 @@ pub record IsStored (objects : BTreeMap ℕ Object) (next : ℕ) : Type 0 where
   pub even : next % 2 ≡ 0
   pub fits : next < 2 ^ 32
   pub ordered : IsOrdered nat_cmp objects
+
+-- it has at most one proof, so that a ghost field may keep it
+pub IsStored-prop : (objects : BTreeMap ℕ Object) (next : ℕ) → IsProp (IsStored objects next)
+IsStored-prop objects next x y i = record {
+  object = Π_prop (λ n. Π_prop (λ o. Π_prop (λ at. IsObject-prop o))) x.object y.object i;
+  named = Π_prop (λ n. Π_prop (λ o. Π_prop (λ at. IsLongName-prop n))) x.named y.named i;
+  below = Π_prop (λ n. Π_prop (λ o. Π_prop (λ at. le_prop))) x.below y.below i;
+  even = Coded-set coded_ℕ (next % 2) 0 x.even y.even i;
+  fits = le_prop x.fits y.fits i;
+  ordered = IsStrictlySortedBy-prop nat_cmp (keys objects) x.ordered y.ordered i;
+}

@@ -1,11 +1,11 @@
 -- What a memory tells of itself.
-use Rattle.std.specs.Prelude.{◌≡◌, ℕ, ◌+◌, ◌-◌, ◌^◌, ◌≤◌, ◌||◌, min, Bool, true, List, Option, IsTrue}
+use Rattle.std.specs.Prelude.{◌≡◌, ℕ, ◌||◌, Bool, true, List, Option, IsTrue}
 use Rattle.long_names.specs.declared.value.Value.{Value}
 use Rattle.long_names.specs.Objects.{is_ref}
 use Rattle.long_names.specs.Heap.{Heap, Has}
 use Rattle.long_names.specs.Kept.{any_below}
 use Rattle.long_names.specs.Thin.{IsWhole}
-use Rattle.long_names.specs.Access.{State}
+use Rattle.long_names.specs.State.{State, REGISTERS, SLOTS}
 use Rattle.long_names.specs.Need.{Row, words_of_row, entries_of_row, is_pinned}
 use Rattle.object_memory.specs.declared.fault.Need.{Need}
 use Rattle.object_memory.specs.declared.fault.MemFault.{MemFault}
@@ -45,10 +45,6 @@ pub record Told : Type 0 where
 abbrev pub state_of : Told → State
 state_of t = record { heap = t.heap; regs = t.regs; slots = t.slots; transcript = t.transcript }
 
--- the count has risen, or stands at the greatest u64
-abbrev pub Rose : ℕ → ℕ → Type 0
-Rose before now = min (before + 1) (2 ^ 64 - 1) ≤ now
-
 -- The heap, where it is told, is whole with the registers and slots, and has each marked object. The method of a cached row is marked.
 pub record IsReady (t : Told) : Type 0 where
   pub whole : IsTrue t.tells → IsWhole t.heap t.regs t.slots
@@ -59,11 +55,6 @@ pub record IsReady (t : Told) : Type 0 where
 abbrev pub need_of : Heap → Row → Need
 need_of h r = record { object = r.object; words = words_of_row h r; entries = entries_of_row h r }
 
--- there is room for it
-pub record HasRoom (b : Bounds) (need : Need) : Type 0 where
-  pub words : need.words ≤ b.core
-  pub entries : need.entries ≤ b.entries
-
 -- the names in registers and slots
 abbrev pub is_root : Told → ℕ → Bool
-is_root t n = any_below 24 (λ r. is_ref n (t.regs r)) || any_below 3 (λ i. is_pinned n (t.slots i))
+is_root t n = any_below REGISTERS (λ r. is_ref n (t.regs r)) || any_below SLOTS (λ i. is_pinned n (t.slots i))

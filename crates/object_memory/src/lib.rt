@@ -10,12 +10,3 @@ pub use fault::{MemFault, Need};
 pub use memory::ObjectMemory;
 pub use plain::PlainMemory;
 pub use reg::Reg;
-
-#[cfg(test)]
-mod base;
-#[cfg(test)]
-mod caller;
-#[cfg(test)]
-mod shaped;
-#[cfg(test)]
-mod tests;

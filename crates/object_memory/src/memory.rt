@@ -9,9 +9,11 @@ use long_names::{Kind, Name};
 /// its own is `sound`; what it stands for is `told`.
 pub trait ObjectMemory {
     ghost use Rattle.std.specs.Prelude.{MatchBool, IfOk, IfSome, IsSome, OnOk, IsTrue, true, Some, None, length};
+    ghost use Rattle.long_names.specs.Names.{SMALL_INTEGER};
     ghost use Rattle.long_names.specs.Words.{IsSmallInteger, literal_count};
-    ghost use Rattle.long_names.specs.Objects.{is_ref, int_of, fields_of};
-    ghost use Rattle.long_names.specs.Access.{set_register, set_slot, name_at, part_at, IsRef, Known, Class, KindOf, Length, Header, Field, SetField, Word, SetWord, Byte, SetByte, ReadWords, WriteWords, ReadBytes, NewPointers, NewWords, NewBytes, NewMethod, Pin, Mark, Say, Nothing, OfKind, OfNumber, OfSigned, OfRun};
+    ghost use Rattle.long_names.specs.Objects.{is_ref, int_of, fields_of, OfPointers, OfWords, OfBytes, OfMethod};
+    ghost use Rattle.long_names.specs.Access.{Known, Class, KindOf, Length, Header, Field, SetField, Word, SetWord, Byte, SetByte, ReadWords, WriteWords, ReadBytes, Make, Pin, Mark, Say, Nothing, OfKind, OfNumber, OfSigned, OfRun};
+    ghost use Rattle.long_names.specs.State.{set_register, set_slot, name_at, part_at, IsRef};
     ghost use Rattle.long_names.specs.declared.value.Value.TheVariants.{Int, Ref};
     ghost use Rattle.object_memory.specs.Told.{Told, IsReady};
     ghost use Rattle.object_memory.specs.Contract.{MayDo, Accessed, Called, Follows, IsLater, KeepsSound, Settles, Thins, is_marked, IsFound, IsUnknown, IsPut};
@@ -25,14 +27,21 @@ pub trait ObjectMemory {
     /// The name of the loan by which it holds a host, so that the owner knows the host afterwards; a constant of one without a host.
     ghost lender: { Self → ℕ };
 
-    /// The register holds this number, from -16384 to 16383.
+    /// What no call changes of that host, whatever it answers: the roles that a memory has nothing to do with. One without a host
+    /// has nothing there.
+    ghost Outside: { Type 0 };
+
+    ghost outside: { Self → Outside };
+
+    /// The register holds this number, from -16384 to 16383 (integerObjectOf:).
     fn int(&mut self, to: Reg, v: i16)
         requires sound { sound self.old }
         requires range { IsSmallInteger v }
         ensures told { told self.new ≡ record (told self.old) { regs = set_register (told self.old).regs to (Int v) } }
         ensures ready { IsReady (told self.old) → IsReady (told self.new) }
         ensures sound { sound self.new }
-        ensures lender { lender self.new ≡ lender self.old };
+        ensures lender { lender self.new ≡ lender self.old }
+        ensures outside { outside self.new ≡ outside self.old };
 
     /// The register is copied.
     fn copy(&mut self, to: Reg, from: Reg)
@@ -40,7 +49,8 @@ pub trait ObjectMemory {
         ensures told { told self.new ≡ record (told self.old) { regs = set_register (told self.old).regs to ((told self.old).regs from) } }
         ensures ready { IsReady (told self.old) → IsReady (told self.new) }
         ensures sound { sound self.new }
-        ensures lender { lender self.new ≡ lender self.old };
+        ensures lender { lender self.new ≡ lender self.old }
+        ensures outside { outside self.new ≡ outside self.old };
 
     /// The register holds the name of an object that is known, or that a word of the heap holds.
     fn known(&mut self, to: Reg, name: Name) -> Result<(), MemFault>
@@ -51,7 +61,8 @@ pub trait ObjectMemory {
         ensures name { OnOk result ((told self.new).regs to ≡ Ref name) }
         ensures ready { OnOk result (IsReady (told self.new)) }
         ensures sound { KeepsSound result (sound self.new) }
-        ensures lender { lender self.new ≡ lender self.old };
+        ensures lender { lender self.new ≡ lender self.old }
+        ensures outside { outside self.new ≡ outside self.old };
 
     /// Whether the register holds this name.
     fn is(&self, r: Reg, name: Name) -> bool
@@ -63,7 +74,7 @@ pub trait ObjectMemory {
         requires { sound self.now }
         ensures { IsTrue result ↔ ((told self.now).regs a ≡ (told self.now).regs b) };
 
-    /// The number in the register. None exactly where it holds a name.
+    /// The number in the register (isIntegerObject:, integerValueOf:). None exactly where it holds a name.
     fn as_int(&self, r: Reg) -> Option<i16>
         requires { sound self.now }
         ensures number { result ≡ int_of ((told self.now).regs r) }
@@ -75,17 +86,18 @@ pub trait ObjectMemory {
         requires name { IsRef ((told self.now).regs r) }
         ensures { result ≡ name_at ((told self.now).regs r) / 2 };
 
-    /// The class; SmallInteger for a number.
+    /// The class; SmallInteger for a number (fetchClassOf:).
     fn class(&mut self, to: Reg, of: Reg) -> Result<(), MemFault>
         requires sound { sound self.old }
         requires ready { IsReady (told self.old) }
         requires may { MayDo (told self.old) (Class to of) }
         ensures access { Accessed (told self.old) (told self.new) (Class to of) (λ _. Nothing) result }
         ensures name { OnOk result (IsRef ((told self.new).regs to)) }
-        ensures number { OnOk result (IsSome (int_of ((told self.old).regs of)) → (told self.new).regs to ≡ Ref 12) }
+        ensures number { OnOk result (IsSome (int_of ((told self.old).regs of)) → (told self.new).regs to ≡ Ref SMALL_INTEGER) }
         ensures ready { OnOk result (IsReady (told self.new)) }
         ensures sound { KeepsSound result (sound self.new) }
-        ensures lender { lender self.new ≡ lender self.old };
+        ensures lender { lender self.new ≡ lender self.old }
+        ensures outside { outside self.new ≡ outside self.old };
 
     /// The kind of the object.
     fn kind(&mut self, of: Reg) -> Result<Kind, MemFault>
@@ -95,9 +107,10 @@ pub trait ObjectMemory {
         ensures access { Accessed (told self.old) (told self.new) (KindOf of) OfKind result }
         ensures ready { OnOk result (IsReady (told self.new)) }
         ensures sound { KeepsSound result (sound self.new) }
-        ensures lender { lender self.new ≡ lender self.old };
+        ensures lender { lender self.new ≡ lender self.old }
+        ensures outside { outside self.new ≡ outside self.old };
 
-    /// How many values, words or bytes it has, or code bytes of a method.
+    /// How many values, words or bytes it has, or code bytes of a method (fetchWordLengthOf:, fetchByteLengthOf:).
     fn len(&mut self, of: Reg) -> Result<u32, MemFault>
         requires sound { sound self.old }
         requires ready { IsReady (told self.old) }
@@ -106,7 +119,8 @@ pub trait ObjectMemory {
         ensures bound { IfOk result (λ n. n < 65536) }
         ensures ready { OnOk result (IsReady (told self.new)) }
         ensures sound { KeepsSound result (sound self.new) }
-        ensures lender { lender self.new ≡ lender self.old };
+        ensures lender { lender self.new ≡ lender self.old }
+        ensures outside { outside self.new ≡ outside self.old };
 
     /// A method's header. The method has as many literals as it says.
     fn header(&mut self, of: Reg) -> Result<i16, MemFault>
@@ -118,7 +132,8 @@ pub trait ObjectMemory {
         ensures literals { IfOk result (λ header. IsTrue (told self.old).tells → part_at (told self.old).heap ((told self.old).regs of) (λ b. Some (length (fields_of b))) ≡ Some (literal_count header)) }
         ensures ready { OnOk result (IsReady (told self.new)) }
         ensures sound { KeepsSound result (sound self.new) }
-        ensures lender { lender self.new ≡ lender self.old };
+        ensures lender { lender self.new ≡ lender self.old }
+        ensures outside { outside self.new ≡ outside self.old };
 
     /// Value or literal i.
     fn field(&mut self, to: Reg, of: Reg, i: u32) -> Result<(), MemFault>
@@ -128,7 +143,8 @@ pub trait ObjectMemory {
         ensures access { Accessed (told self.old) (told self.new) (Field to of i) (λ _. Nothing) result }
         ensures ready { OnOk result (IsReady (told self.new)) }
         ensures sound { KeepsSound result (sound self.new) }
-        ensures lender { lender self.new ≡ lender self.old };
+        ensures lender { lender self.new ≡ lender self.old }
+        ensures outside { outside self.new ≡ outside self.old };
 
     /// Stores value or literal i.
     fn set_field(&mut self, of: Reg, i: u32, from: Reg) -> Result<(), MemFault>
@@ -138,7 +154,8 @@ pub trait ObjectMemory {
         ensures access { Accessed (told self.old) (told self.new) (SetField of i from) (λ _. Nothing) result }
         ensures ready { OnOk result (IsReady (told self.new)) }
         ensures sound { KeepsSound result (sound self.new) }
-        ensures lender { lender self.new ≡ lender self.old };
+        ensures lender { lender self.new ≡ lender self.old }
+        ensures outside { outside self.new ≡ outside self.old };
 
     /// Word i of an object of words.
     fn word(&mut self, of: Reg, i: u32) -> Result<u16, MemFault>
@@ -148,9 +165,10 @@ pub trait ObjectMemory {
         ensures access { Accessed (told self.old) (told self.new) (Word of i) OfNumber result }
         ensures ready { OnOk result (IsReady (told self.new)) }
         ensures sound { KeepsSound result (sound self.new) }
-        ensures lender { lender self.new ≡ lender self.old };
+        ensures lender { lender self.new ≡ lender self.old }
+        ensures outside { outside self.new ≡ outside self.old };
 
-    /// Stores word i.
+    /// Stores word i (storeWord:ofObject:withValue:).
     fn set_word(&mut self, of: Reg, i: u32, w: u16) -> Result<(), MemFault>
         requires sound { sound self.old }
         requires ready { IsReady (told self.old) }
@@ -158,7 +176,8 @@ pub trait ObjectMemory {
         ensures access { Accessed (told self.old) (told self.new) (SetWord of i w) (λ _. Nothing) result }
         ensures ready { OnOk result (IsReady (told self.new)) }
         ensures sound { KeepsSound result (sound self.new) }
-        ensures lender { lender self.new ≡ lender self.old };
+        ensures lender { lender self.new ≡ lender self.old }
+        ensures outside { outside self.new ≡ outside self.old };
 
     /// Byte i, of code too.
     fn byte(&mut self, of: Reg, i: u32) -> Result<u8, MemFault>
@@ -168,9 +187,10 @@ pub trait ObjectMemory {
         ensures access { Accessed (told self.old) (told self.new) (Byte of i) OfNumber result }
         ensures ready { OnOk result (IsReady (told self.new)) }
         ensures sound { KeepsSound result (sound self.new) }
-        ensures lender { lender self.new ≡ lender self.old };
+        ensures lender { lender self.new ≡ lender self.old }
+        ensures outside { outside self.new ≡ outside self.old };
 
-    /// Stores byte i, of code too.
+    /// Stores byte i, of code too (storeByte:ofObject:withValue:).
     fn set_byte(&mut self, of: Reg, i: u32, b: u8) -> Result<(), MemFault>
         requires sound { sound self.old }
         requires ready { IsReady (told self.old) }
@@ -178,7 +198,8 @@ pub trait ObjectMemory {
         ensures access { Accessed (told self.old) (told self.new) (SetByte of i b) (λ _. Nothing) result }
         ensures ready { OnOk result (IsReady (told self.new)) }
         ensures sound { KeepsSound result (sound self.new) }
-        ensures lender { lender self.new ≡ lender self.old };
+        ensures lender { lender self.new ≡ lender self.old }
+        ensures outside { outside self.new ≡ outside self.old };
 
     /// A run of words from a place on. An empty run needs the place to be at most the length.
     fn read_words(&mut self, of: Reg, at: u32, out: &mut [u16]) -> Result<(), MemFault>
@@ -188,7 +209,8 @@ pub trait ObjectMemory {
         ensures access { Accessed (told self.old) (told self.new) (ReadWords of at (length out.old)) (λ _. OfRun out.new) result }
         ensures ready { OnOk result (IsReady (told self.new)) }
         ensures sound { KeepsSound result (sound self.new) }
-        ensures lender { lender self.new ≡ lender self.old };
+        ensures lender { lender self.new ≡ lender self.old }
+        ensures outside { outside self.new ≡ outside self.old };
 
     /// Stores a run of words from a place on, also an empty one.
     fn write_words(&mut self, of: Reg, at: u32, from: &[u16]) -> Result<(), MemFault>
@@ -198,7 +220,8 @@ pub trait ObjectMemory {
         ensures access { Accessed (told self.old) (told self.new) (WriteWords of at from.now) (λ _. Nothing) result }
         ensures ready { OnOk result (IsReady (told self.new)) }
         ensures sound { KeepsSound result (sound self.new) }
-        ensures lender { lender self.new ≡ lender self.old };
+        ensures lender { lender self.new ≡ lender self.old }
+        ensures outside { outside self.new ≡ outside self.old };
 
     /// A run of bytes from a place on, of code too, also an empty one.
     fn read_bytes(&mut self, of: Reg, at: u32, out: &mut [u8]) -> Result<(), MemFault>
@@ -208,51 +231,56 @@ pub trait ObjectMemory {
         ensures access { Accessed (told self.old) (told self.new) (ReadBytes of at (length out.old)) (λ _. OfRun out.new) result }
         ensures ready { OnOk result (IsReady (told self.new)) }
         ensures sound { KeepsSound result (sound self.new) }
-        ensures lender { lender self.new ≡ lender self.old };
+        ensures lender { lender self.new ≡ lender self.old }
+        ensures outside { outside self.new ≡ outside self.old };
 
-    /// A new object of so many nils, at the next name.
+    /// A new object of so many nils, at the next name (instantiateClass:withPointers:).
     fn new_pointers(&mut self, to: Reg, class: Reg, n: u32) -> Result<(), MemFault>
         requires sound { sound self.old }
         requires ready { IsReady (told self.old) }
-        requires may { MayDo (told self.old) (NewPointers to class n) }
-        ensures access { Accessed (told self.old) (told self.new) (NewPointers to class n) (λ _. Nothing) result }
+        requires may { MayDo (told self.old) (Make to class (OfPointers n)) }
+        ensures access { Accessed (told self.old) (told self.new) (Make to class (OfPointers n)) (λ _. Nothing) result }
         ensures name { OnOk result (IsRef ((told self.new).regs to)) }
         ensures ready { OnOk result (IsReady (told self.new)) }
         ensures sound { KeepsSound result (sound self.new) }
-        ensures lender { lender self.new ≡ lender self.old };
+        ensures lender { lender self.new ≡ lender self.old }
+        ensures outside { outside self.new ≡ outside self.old };
 
-    /// A new object of so many words that are 0.
+    /// A new object of so many words that are 0 (instantiateClass:withWords:).
     fn new_words(&mut self, to: Reg, class: Reg, n: u32) -> Result<(), MemFault>
         requires sound { sound self.old }
         requires ready { IsReady (told self.old) }
-        requires may { MayDo (told self.old) (NewWords to class n) }
-        ensures access { Accessed (told self.old) (told self.new) (NewWords to class n) (λ _. Nothing) result }
+        requires may { MayDo (told self.old) (Make to class (OfWords n)) }
+        ensures access { Accessed (told self.old) (told self.new) (Make to class (OfWords n)) (λ _. Nothing) result }
         ensures name { OnOk result (IsRef ((told self.new).regs to)) }
         ensures ready { OnOk result (IsReady (told self.new)) }
         ensures sound { KeepsSound result (sound self.new) }
-        ensures lender { lender self.new ≡ lender self.old };
+        ensures lender { lender self.new ≡ lender self.old }
+        ensures outside { outside self.new ≡ outside self.old };
 
-    /// A new object of so many bytes that are 0.
+    /// A new object of so many bytes that are 0 (instantiateClass:withBytes:).
     fn new_bytes(&mut self, to: Reg, class: Reg, n: u32) -> Result<(), MemFault>
         requires sound { sound self.old }
         requires ready { IsReady (told self.old) }
-        requires may { MayDo (told self.old) (NewBytes to class n) }
-        ensures access { Accessed (told self.old) (told self.new) (NewBytes to class n) (λ _. Nothing) result }
+        requires may { MayDo (told self.old) (Make to class (OfBytes n)) }
+        ensures access { Accessed (told self.old) (told self.new) (Make to class (OfBytes n)) (λ _. Nothing) result }
         ensures name { OnOk result (IsRef ((told self.new).regs to)) }
         ensures ready { OnOk result (IsReady (told self.new)) }
         ensures sound { KeepsSound result (sound self.new) }
-        ensures lender { lender self.new ≡ lender self.old };
+        ensures lender { lender self.new ≡ lender self.old }
+        ensures outside { outside self.new ≡ outside self.old };
 
     /// A new method, of as many nils as its header says and so many code bytes that are 0.
     fn new_method(&mut self, to: Reg, class: Reg, header: i16, code: u32) -> Result<(), MemFault>
         requires sound { sound self.old }
         requires ready { IsReady (told self.old) }
-        requires may { MayDo (told self.old) (NewMethod to class header code) }
-        ensures access { Accessed (told self.old) (told self.new) (NewMethod to class header code) (λ _. Nothing) result }
+        requires may { MayDo (told self.old) (Make to class (OfMethod header code)) }
+        ensures access { Accessed (told self.old) (told self.new) (Make to class (OfMethod header code)) (λ _. Nothing) result }
         ensures name { OnOk result (IsRef ((told self.new).regs to)) }
         ensures ready { OnOk result (IsReady (told self.new)) }
         ensures sound { KeepsSound result (sound self.new) }
-        ensures lender { lender self.new ≡ lender self.old };
+        ensures lender { lender self.new ≡ lender self.old }
+        ensures outside { outside self.new ≡ outside self.old };
 
     /// The object in the register stays in the core until the slot is emptied or filled again.
     fn pin(&mut self, slot: u8, r: Reg) -> Result<(), MemFault>
@@ -263,7 +291,8 @@ pub trait ObjectMemory {
         ensures access { Accessed (told self.old) (told self.new) (Pin slot r) (λ _. Nothing) result }
         ensures ready { OnOk result (IsReady (told self.new)) }
         ensures sound { KeepsSound result (sound self.new) }
-        ensures lender { lender self.new ≡ lender self.old };
+        ensures lender { lender self.new ≡ lender self.old }
+        ensures outside { outside self.new ≡ outside self.old };
 
     /// Empties the slot.
     fn unpin(&mut self, slot: u8)
@@ -272,7 +301,8 @@ pub trait ObjectMemory {
         ensures told { told self.new ≡ record (told self.old) { slots = set_slot (told self.old).slots slot None } }
         ensures ready { IsReady (told self.old) → IsReady (told self.new) }
         ensures sound { sound self.new }
-        ensures lender { lender self.new ≡ lender self.old };
+        ensures lender { lender self.new ≡ lender self.old }
+        ensures outside { outside self.new ≡ outside self.old };
 
     /// A new lookup path begins, and is whole.
     fn begin_path(&mut self)
@@ -280,7 +310,8 @@ pub trait ObjectMemory {
         ensures told { told self.new ≡ record (told self.old) { cache = record (told self.old).cache { path = true } } }
         ensures ready { IsReady (told self.old) → IsReady (told self.new) }
         ensures sound { sound self.new }
-        ensures lender { lender self.new ≡ lender self.old };
+        ensures lender { lender self.new ≡ lender self.old }
+        ensures outside { outside self.new ≡ outside self.old };
 
     /// Marks the name in the register, as one on the lookup path.
     fn mark(&mut self, r: Reg) -> Result<(), MemFault>
@@ -291,7 +322,8 @@ pub trait ObjectMemory {
         ensures marked { OnOk result ((told self.new).cache.marks (name_at ((told self.old).regs r)) ≡ true) }
         ensures ready { OnOk result (IsReady (told self.new)) }
         ensures sound { KeepsSound result (sound self.new) }
-        ensures lender { lender self.new ≡ lender self.old };
+        ensures lender { lender self.new ≡ lender self.old }
+        ensures outside { outside self.new ≡ outside self.old };
 
     /// Whether a row of the pair is cached. Its method is then in the register.
     fn cache_find(&mut self, to: Reg, class: Reg, selector: Reg) -> bool
@@ -299,7 +331,8 @@ pub trait ObjectMemory {
         ensures found { MatchBool result (IsFound (told self.old) (told self.new) to class selector) (IsUnknown (told self.old) (told self.new) class selector) }
         ensures ready { IsReady (told self.old) → IsReady (told self.new) }
         ensures sound { sound self.new }
-        ensures lender { lender self.new ≡ lender self.old };
+        ensures lender { lender self.new ≡ lender self.old }
+        ensures outside { outside self.new ≡ outside self.old };
 
     /// Whether the row was put into the cache. Where the path is whole, the three registers hold marked names.
     fn cache_put(&mut self, class: Reg, selector: Reg, method: Reg) -> bool
@@ -310,7 +343,8 @@ pub trait ObjectMemory {
         ensures put { MatchBool result (IsPut (told self.old) (told self.new) class selector method) (told self.new ≡ told self.old) }
         ensures ready { IsReady (told self.old) → IsReady (told self.new) }
         ensures sound { sound self.new }
-        ensures lender { lender self.new ≡ lender self.old };
+        ensures lender { lender self.new ≡ lender self.old }
+        ensures outside { outside self.new ≡ outside self.old };
 
     /// The bytes of an object of bytes join the transcript.
     fn say(&mut self, of: Reg) -> Result<(), MemFault>
@@ -320,7 +354,8 @@ pub trait ObjectMemory {
         ensures access { Accessed (told self.old) (told self.new) (Say of) (λ _. Nothing) result }
         ensures ready { OnOk result (IsReady (told self.new)) }
         ensures sound { KeepsSound result (sound self.new) }
-        ensures lender { lender self.new ≡ lender self.old };
+        ensures lender { lender self.new ≡ lender self.old }
+        ensures outside { outside self.new ≡ outside self.old };
 
     /// The end of a bytecode. What nothing holds any more may go.
     fn settle(&mut self) -> Result<(), MemFault>
@@ -329,7 +364,8 @@ pub trait ObjectMemory {
         ensures called { Called (told self.old) (told self.new) Settles result }
         ensures ready { OnOk result (IsReady (told self.new)) }
         ensures sound { KeepsSound result (sound self.new) }
-        ensures lender { lender self.new ≡ lender self.old };
+        ensures lender { lender self.new ≡ lender self.old }
+        ensures outside { outside self.new ≡ outside self.old };
 
     /// Every object that no slot names leaves the core.
     fn purge_all(&mut self) -> Result<(), MemFault>
@@ -338,7 +374,8 @@ pub trait ObjectMemory {
         ensures called { Called (told self.old) (told self.new) Thins result }
         ensures ready { OnOk result (IsReady (told self.new)) }
         ensures sound { KeepsSound result (sound self.new) }
-        ensures lender { lender self.new ≡ lender self.old };
+        ensures lender { lender self.new ≡ lender self.old }
+        ensures outside { outside self.new ≡ outside self.old };
 
     /// The free words of the core become one piece.
     fn compact(&mut self)
@@ -348,5 +385,6 @@ pub trait ObjectMemory {
         ensures follows { Follows (told self.old) (told self.new) Thins }
         ensures ready { IsReady (told self.new) }
         ensures sound { sound self.new }
-        ensures lender { lender self.new ≡ lender self.old };
+        ensures lender { lender self.new ≡ lender self.old }
+        ensures outside { outside self.new ≡ outside self.old };
 }

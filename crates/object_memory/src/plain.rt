@@ -1,18 +1,20 @@
 // A memory that is one map of long names.
-ghost use Rattle.std.specs.Prelude.{◌≡◌, ◌+◌, ◌<◌, ◌≤◌, ◌%◌, All, OnOk, IfOk, IfErr, IsOkAnd, IsSome, Some, Ok, ◌⊎◌};
-ghost use Rattle.long_names.specs.Objects.{IsBody, HasRange};
+ghost use Rattle.std.specs.Prelude.{◌≡◌, ◌+◌, ◌<◌, ◌≤◌, ◌%◌, All, OnOk, IfOk, IfErr, IsOk, IsOkAnd, IsSome, IsTrue, Some, Ok, true, length, ◌⊎◌};
+ghost use Rattle.long_names.specs.Objects.{fields_of, IsBody, HasRange, IsObject, IsRecord, OfPointers, OfWords, OfBytes, OfMethod};
+ghost use Rattle.long_names.specs.Access.{KindOf, Length, Header, Make, Mark, Say, Nothing, OfKind, OfNumber, OfSigned};
+ghost use Rattle.long_names.specs.Words.{IsSmallInteger, literal_count};
 ghost use Rattle.long_names.specs.Heap.{add_object};
 ghost use Rattle.long_names.specs.Kept.{kept, no_roots};
-ghost use Rattle.long_names.specs.Access.{object_at, class_at, name_at, set_register, IsRef, LAST_NAME};
+ghost use Rattle.long_names.specs.Names.{LAST_NAME, IsLongName};
+ghost use Rattle.long_names.specs.State.{object_at, class_at, part_at, name_at, set_register, IsRef};
 ghost use Rattle.long_names.specs.declared.value.Value.TheVariants.{Ref};
 ghost use Rattle.long_names.specs.declared.object.Object.{Object};
 ghost use Rattle.object_memory.specs.Told.{IsReady};
-ghost use Rattle.object_memory.specs.Stored.{IsLongName, IsObject, IsRecord};
+ghost use Rattle.object_memory.specs.Contract.{MayDo, Accessed, Called, Follows, IsLater, Settles, Thins};
 ghost use Rattle.object_memory.specs.Records.{AreWhole, heap_of_recs, recs_of};
 ghost use Rattle.object_memory.specs.Plain.{plain_told, fresh, refused, made};
 ghost use Rattle.object_memory.specs.declared.fault.MemFault.TheVariants.{NamesSpent, Memory};
 
-mod bodies;
 mod counts;
 mod kept;
 mod marks;
@@ -169,6 +171,10 @@ impl ObjectMemory for PlainMemory {
 
     ghost lender = { λ _. 0 };
 
+    ghost Outside = { Unit {0} };
+
+    ghost outside = { λ _. tt };
+
     fn int(&mut self, to: Reg, v: i16) {
         self.registers.set(to, Value::Int(v));
     }
@@ -205,20 +211,44 @@ impl ObjectMemory for PlainMemory {
         Ok(())
     }
 
-    fn kind(&mut self, of: Reg) -> Result<Kind, MemFault> {
+    fn kind(&mut self, of: Reg) -> Result<Kind, MemFault>
+        requires ready { IsReady (plain_told self.old) }
+        requires may { MayDo (plain_told self.old) (KindOf of) }
+        ensures access { Accessed (plain_told self.old) (plain_told self.new) (KindOf of) OfKind result }
+        ensures ready { OnOk result (IsReady (plain_told self.new)) }
+        ensures answered { IsOk result }
+        ensures kept { plain_told self.new ≡ plain_told self.old }
+    {
         Ok(self.object(of).body.kind())
     }
 
-    fn len(&mut self, of: Reg) -> Result<u32, MemFault> {
+    fn len(&mut self, of: Reg) -> Result<u32, MemFault>
+        requires ready { IsReady (plain_told self.old) }
+        requires may { MayDo (plain_told self.old) (Length of) }
+        ensures access { Accessed (plain_told self.old) (plain_told self.new) (Length of) OfNumber result }
+        ensures bound { IfOk result (λ n. n < 65536) }
+        ensures ready { OnOk result (IsReady (plain_told self.new)) }
+        ensures answered { IsOk result }
+        ensures kept { plain_told self.new ≡ plain_told self.old }
+    {
         Ok(self.object(of).body.len() as u32)
     }
 
-    fn header(&mut self, of: Reg) -> Result<i16, MemFault> {
-        Ok(bodies::header(&self.object(of).body))
+    fn header(&mut self, of: Reg) -> Result<i16, MemFault>
+        requires ready { IsReady (plain_told self.old) }
+        requires may { MayDo (plain_told self.old) (Header of) }
+        ensures access { Accessed (plain_told self.old) (plain_told self.new) (Header of) OfSigned result }
+        ensures range { IfOk result IsSmallInteger }
+        ensures literals { IfOk result (λ header. IsTrue (plain_told self.old).tells → part_at (plain_told self.old).heap ((plain_told self.old).regs of) (λ b. Some (length (fields_of b))) ≡ Some (literal_count header)) }
+        ensures ready { OnOk result (IsReady (plain_told self.new)) }
+        ensures answered { IsOk result }
+        ensures kept { plain_told self.new ≡ plain_told self.old }
+    {
+        Ok(self.object(of).body.header())
     }
 
     fn field(&mut self, to: Reg, of: Reg, i: u32) -> Result<(), MemFault> {
-        let value = bodies::field(&self.object(of).body, i as usize);
+        let value = self.object(of).body.field(i as usize);
         self.registers.set(to, value);
         Ok(())
     }
@@ -232,7 +262,7 @@ impl ObjectMemory for PlainMemory {
     }
 
     fn word(&mut self, of: Reg, i: u32) -> Result<u16, MemFault> {
-        let words = bodies::words(&self.object(of).body);
+        let words = self.object(of).body.words();
         Ok(*words.item(i as usize))
     }
 
@@ -244,7 +274,7 @@ impl ObjectMemory for PlainMemory {
     }
 
     fn byte(&mut self, of: Reg, i: u32) -> Result<u8, MemFault> {
-        let bytes = bodies::bytes(&self.object(of).body);
+        let bytes = self.object(of).body.bytes();
         Ok(*bytes.item(i as usize))
     }
 
@@ -256,7 +286,7 @@ impl ObjectMemory for PlainMemory {
     }
 
     fn read_words(&mut self, of: Reg, at: u32, out: &mut [u16]) -> Result<(), MemFault> {
-        let words = bodies::words(&self.object(of).body).words();
+        let words = self.object(of).body.words().words();
         let at = at as usize;
         out.copy_from_slice(&words[at..at + out.len()]);
         Ok(())
@@ -270,29 +300,57 @@ impl ObjectMemory for PlainMemory {
     }
 
     fn read_bytes(&mut self, of: Reg, at: u32, out: &mut [u8]) -> Result<(), MemFault> {
-        let bytes = bodies::bytes(&self.object(of).body).bytes();
+        let bytes = self.object(of).body.bytes().bytes();
         let at = at as usize;
         out.copy_from_slice(&bytes[at..at + out.len()]);
         Ok(())
     }
 
-    fn new_pointers(&mut self, to: Reg, class: Reg, n: u32) -> Result<(), MemFault> {
-        let body = bodies::new_pointers(self.alloc, n as usize);
+    fn new_pointers(&mut self, to: Reg, class: Reg, n: u32) -> Result<(), MemFault>
+        requires ready { IsReady (plain_told self.old) }
+        requires may { MayDo (plain_told self.old) (Make to class (OfPointers n)) }
+        ensures access { Accessed (plain_told self.old) (plain_told self.new) (Make to class (OfPointers n)) (λ _. Nothing) result }
+        ensures name { OnOk result (IsRef ((plain_told self.new).regs to)) }
+        ensures ready { OnOk result (IsReady (plain_told self.new)) }
+        ensures kept { IfErr result (λ f. plain_told self.new ≡ refused (plain_told self.old) f) }
+    {
+        let body = Body::new_pointers(self.alloc, n as usize);
         self.make(to, class, body)
     }
 
-    fn new_words(&mut self, to: Reg, class: Reg, n: u32) -> Result<(), MemFault> {
-        let body = bodies::new_words(self.alloc, n as usize);
+    fn new_words(&mut self, to: Reg, class: Reg, n: u32) -> Result<(), MemFault>
+        requires ready { IsReady (plain_told self.old) }
+        requires may { MayDo (plain_told self.old) (Make to class (OfWords n)) }
+        ensures access { Accessed (plain_told self.old) (plain_told self.new) (Make to class (OfWords n)) (λ _. Nothing) result }
+        ensures name { OnOk result (IsRef ((plain_told self.new).regs to)) }
+        ensures ready { OnOk result (IsReady (plain_told self.new)) }
+        ensures kept { IfErr result (λ f. plain_told self.new ≡ refused (plain_told self.old) f) }
+    {
+        let body = Body::new_words(self.alloc, n as usize);
         self.make(to, class, body)
     }
 
-    fn new_bytes(&mut self, to: Reg, class: Reg, n: u32) -> Result<(), MemFault> {
-        let body = bodies::new_bytes(self.alloc, n as usize);
+    fn new_bytes(&mut self, to: Reg, class: Reg, n: u32) -> Result<(), MemFault>
+        requires ready { IsReady (plain_told self.old) }
+        requires may { MayDo (plain_told self.old) (Make to class (OfBytes n)) }
+        ensures access { Accessed (plain_told self.old) (plain_told self.new) (Make to class (OfBytes n)) (λ _. Nothing) result }
+        ensures name { OnOk result (IsRef ((plain_told self.new).regs to)) }
+        ensures ready { OnOk result (IsReady (plain_told self.new)) }
+        ensures kept { IfErr result (λ f. plain_told self.new ≡ refused (plain_told self.old) f) }
+    {
+        let body = Body::new_bytes(self.alloc, n as usize);
         self.make(to, class, body)
     }
 
-    fn new_method(&mut self, to: Reg, class: Reg, header: i16, code: u32) -> Result<(), MemFault> {
-        let body = bodies::new_method(self.alloc, header, code as usize);
+    fn new_method(&mut self, to: Reg, class: Reg, header: i16, code: u32) -> Result<(), MemFault>
+        requires ready { IsReady (plain_told self.old) }
+        requires may { MayDo (plain_told self.old) (Make to class (OfMethod header code)) }
+        ensures access { Accessed (plain_told self.old) (plain_told self.new) (Make to class (OfMethod header code)) (λ _. Nothing) result }
+        ensures name { OnOk result (IsRef ((plain_told self.new).regs to)) }
+        ensures ready { OnOk result (IsReady (plain_told self.new)) }
+        ensures kept { IfErr result (λ f. plain_told self.new ≡ refused (plain_told self.old) f) }
+    {
+        let body = Body::new_method(self.alloc, header, code as usize);
         self.make(to, class, body)
     }
 
@@ -310,7 +368,14 @@ impl ObjectMemory for PlainMemory {
         self.marks.begin_path();
     }
 
-    fn mark(&mut self, r: Reg) -> Result<(), MemFault> {
+    fn mark(&mut self, r: Reg) -> Result<(), MemFault>
+        requires ready { IsReady (plain_told self.old) }
+        requires may { MayDo (plain_told self.old) (Mark r) }
+        ensures access { Accessed (plain_told self.old) (plain_told self.new) (Mark r) (λ _. Nothing) result }
+        ensures marked { OnOk result ((plain_told self.new).cache.marks (name_at ((plain_told self.old).regs r)) ≡ true) }
+        ensures ready { OnOk result (IsReady (plain_told self.new)) }
+        ensures kept { IfErr result (λ f. plain_told self.new ≡ refused (plain_told self.old) f) }
+    {
         let name = self.registers.name(r);
         match self.marks.add(name) {
             Ok(()) => Ok(()),
@@ -326,23 +391,48 @@ impl ObjectMemory for PlainMemory {
         false
     }
 
-    fn say(&mut self, of: Reg) -> Result<(), MemFault> {
+    fn say(&mut self, of: Reg) -> Result<(), MemFault>
+        requires ready { IsReady (plain_told self.old) }
+        requires may { MayDo (plain_told self.old) (Say of) }
+        ensures access { Accessed (plain_told self.old) (plain_told self.new) (Say of) (λ _. Nothing) result }
+        ensures ready { OnOk result (IsReady (plain_told self.new)) }
+        ensures kept { IfErr result (λ f. plain_told self.new ≡ refused (plain_told self.old) f) }
+    {
         let Some(object) = self.objects.get(self.registers.name(of)) else {
             unreachable!()
         };
-        match self.transcript.extend(bodies::text(&object.body).bytes()) {
+        match self.transcript.extend(object.body.text().bytes()) {
             Ok(()) => Ok(()),
             Err(_) => Err(self.refuse(MemFault::Memory)),
         }
     }
 
-    fn settle(&mut self) -> Result<(), MemFault> {
+    fn settle(&mut self) -> Result<(), MemFault>
+        requires { IsReady (plain_told self.old) }
+        ensures called { Called (plain_told self.old) (plain_told self.new) Settles result }
+        ensures ready { OnOk result (IsReady (plain_told self.new)) }
+        ensures answered { IsOk result }
+        ensures kept { plain_told self.new ≡ plain_told self.old }
+    {
         Ok(())
     }
 
-    fn purge_all(&mut self) -> Result<(), MemFault> {
+    fn purge_all(&mut self) -> Result<(), MemFault>
+        requires { IsReady (plain_told self.old) }
+        ensures called { Called (plain_told self.old) (plain_told self.new) Thins result }
+        ensures ready { OnOk result (IsReady (plain_told self.new)) }
+        ensures answered { IsOk result }
+        ensures kept { plain_told self.new ≡ plain_told self.old }
+    {
         Ok(())
     }
 
-    fn compact(&mut self) {}
+    fn compact(&mut self)
+        requires { IsReady (plain_told self.old) }
+        ensures later { IsLater (plain_told self.old) (plain_told self.new) }
+        ensures follows { Follows (plain_told self.old) (plain_told self.new) Thins }
+        ensures ready { IsReady (plain_told self.new) }
+        ensures kept { plain_told self.new ≡ plain_told self.old }
+    {
+    }
 }

@@ -1,12 +1,11 @@
 // Kept objects: what reference counting leaves in the end (chapter 30 of the Blue Book).
 ghost use Rattle.std.specs.Prelude.{◌≡◌, ◌+◌, ◌<◌, ◌^◌, ℕ, All, OnOk, IfOk, count_by, length};
-ghost use Rattle.long_names.specs.Objects.{is_ref, holdings};
+ghost use Rattle.long_names.specs.Objects.{is_ref, holdings, IsObject, IsRecord};
 ghost use Rattle.long_names.specs.Heap.{count_of};
 ghost use Rattle.long_names.specs.Kept.{sweep, kept, no_roots};
 ghost use Rattle.object_memory.specs.Counts.{count_in};
 ghost use Rattle.object_memory.specs.Plain.{heap_of};
 ghost use Rattle.object_memory.specs.Records.{recs_of};
-ghost use Rattle.object_memory.specs.Stored.{IsObject, IsRecord};
 
 use crate::plain::counts::Counts;
 use crate::plain::objects::Objects;

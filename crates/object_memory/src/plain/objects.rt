@@ -2,14 +2,14 @@
 ghost use Rattle.std.specs.Prelude.{◌≡◌, ◌+◌, ◌%◌, ◌<◌, ◌≤◌, ℕ, IfSome, IfOk, OnOk, OnErr, length, []};
 ghost use Rattle.std.specs.Option.{option_copied};
 ghost use Rattle.long_names.specs.Words.{IsValue};
-ghost use Rattle.long_names.specs.Objects.{IsBody, HasRange};
+ghost use Rattle.long_names.specs.Objects.{IsBody, HasRange, with_field, with_words, with_bytes, field_of, words_of, bytes_of, IsObject};
 ghost use Rattle.long_names.specs.Heap.{put_object, add_object, object_count};
 ghost use Rattle.long_names.specs.declared.value.Value.TheVariants.{Ref};
-ghost use Rattle.long_names.specs.Access.{HasPart, with_body, with_field, with_words, with_bytes, field_of, words_of, bytes_of, LAST_NAME};
-ghost use Rattle.object_memory.specs.Stored.{IsLongName, IsObject, IsStored};
-ghost use Rattle.object_memory.specs.StoredProps.{IsStored-prop};
+ghost use Rattle.long_names.specs.Access.{with_body};
+ghost use Rattle.long_names.specs.Names.{LAST_NAME, IsLongName};
+ghost use Rattle.long_names.specs.State.{HasPart};
+ghost use Rattle.object_memory.specs.Stored.{IsStored, IsStored-prop};
 
-use crate::plain::bodies::{put_bytes, put_words, set_field};
 use long_names::{Name, Object, RecList, Value};
 use std::alloc::{AllocError, Global};
 use std::collections::BTreeMap;
@@ -118,7 +118,7 @@ impl Objects {
         ensures { heap_of self.new ≡ with_body (heap_of self.old) (Ref name) (λ b. with_field b i value) }
     {
         if let Some(object) = self.objects.get_mut(&name) {
-            set_field(&mut object.body, i, value);
+            object.body.set_field(i, value);
         }
     }
 
@@ -128,7 +128,7 @@ impl Objects {
         ensures { heap_of self.new ≡ with_body (heap_of self.old) (Ref name) (λ b. with_words b at run.now) }
     {
         if let Some(object) = self.objects.get_mut(&name) {
-            put_words(&mut object.body, at, run);
+            object.body.put_words(at, run);
         }
     }
 
@@ -138,7 +138,7 @@ impl Objects {
         ensures { heap_of self.new ≡ with_body (heap_of self.old) (Ref name) (λ b. with_bytes b at run.now) }
     {
         if let Some(object) = self.objects.get_mut(&name) {
-            put_bytes(&mut object.body, at, run);
+            object.body.put_bytes(at, run);
         }
     }
 

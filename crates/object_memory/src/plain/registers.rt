@@ -1,10 +1,10 @@
 // The registers.
 ghost use Rattle.std.specs.Prelude.{◌≡◌, pos, All};
 ghost use Rattle.long_names.specs.Words.{IsValue};
-ghost use Rattle.long_names.specs.Access.{set_register, IsRef};
+ghost use Rattle.long_names.specs.State.{set_register, IsRef};
 ghost use Rattle.long_names.specs.declared.value.Value.TheVariants.{Int, Ref};
-ghost use Rattle.object_memory.specs.Stored.{IsLongName};
-ghost use Rattle.object_memory.specs.StoredProps.{All-prop, IsValue-prop};
+ghost use Rattle.long_names.specs.Names.{IsLongName};
+ghost use Rattle.long_names.specs.ObjectProps.{All-prop, IsValue-prop};
 
 use crate::reg::Reg;
 use long_names::{Name, Value};

@@ -1,6 +1,6 @@
 // The slots for pinned objects.
 ghost use Rattle.std.specs.Prelude.{◌≡◌, ◌<◌, None};
-ghost use Rattle.long_names.specs.Access.{set_slot};
+ghost use Rattle.long_names.specs.State.{set_slot};
 ghost use Rattle.object_memory.specs.Plain.{names_of};
 
 use long_names::Name;

@@ -1,5 +1,5 @@
 use Rattle.std.proofs.Common.{◌≡◌, ◌-◌, length, refl}
-use Rattle.image_format.specs.Record.{padding}
+use Rattle.long_names.specs.Record.{padding}
 use Rattle.image_format.proofs.Writing.{on_ok, finished}
 use Rattle.image_format.proofs.encoding.append_rec.Goals as goal
 

@@ -1,6 +1,6 @@
 use Rattle.std.proofs.Common.{ap, ◌∙◌, ◌++◌}
 use Rattle.long_names.specs.Words.{long_word}
-use Rattle.image_format.specs.Record.{four_bytes}
+use Rattle.long_names.specs.Record.{four_bytes}
 use Rattle.image_format.proofs.Writing.{one_more}
 use Rattle.image_format.proofs.encoding.put_values.Goals as goal
 

@@ -1,5 +1,5 @@
 use Rattle.std.proofs.Common.{◌≡◌, ◌++◌, take}
-use Rattle.image_format.specs.Record.{values_text}
+use Rattle.long_names.specs.Record.{values_text}
 use Rattle.image_format.proofs.encoding.put_values.Given as goal
 
 abbrev pub invariant-loop-i : goal.invariant-loop-i

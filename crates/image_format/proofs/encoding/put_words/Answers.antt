@@ -1,6 +1,6 @@
 use Rattle.std.proofs.Common.{◌<◌, ◌^◌, arith}
 use Rattle.std.proofs.lemmas.List.Elements.{All-push}
-use Rattle.image_format.specs.Record.{two_bytes}
+use Rattle.long_names.specs.Record.{two_bytes}
 use Rattle.image_format.proofs.Writing.{one_more, push_taken}
 use Rattle.image_format.proofs.encoding.put_words.Goals as goal
 

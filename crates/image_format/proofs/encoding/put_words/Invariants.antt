@@ -1,6 +1,6 @@
 use Rattle.std.proofs.Common.{◌≡◌, ◌++◌, ◌<◌, ◌^◌, take}
 use Rattle.std.specs.Prelude.{All}
-use Rattle.image_format.specs.Record.{words_text}
+use Rattle.long_names.specs.Record.{words_text}
 use Rattle.image_format.proofs.encoding.put_words.Given as goal
 
 abbrev pub invariant-loop-i : goal.invariant-loop-i

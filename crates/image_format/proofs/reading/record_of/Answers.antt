@@ -1,6 +1,6 @@
 use Rattle.std.proofs.Common.{◌≡◌, ◌-◌, ◌++◌, length, Some, arith}
 use Rattle.long_names.specs.declared.object.Rec.{Rec}
-use Rattle.image_format.specs.Record.{head_text, contents_text, padding}
+use Rattle.long_names.specs.Record.{record_head, contents_text, padding}
 use Rattle.image_format.specs.Reading.{zeros_at}
 use Rattle.image_format.proofs.Numbers.{AreBytes}
 use Rattle.image_format.proofs.Records.{Steps, steps_take, with_zeros, record_from_steps, shorter}
@@ -21,7 +21,7 @@ overflow_sub-result c =
     = record { name = c.in_ok-name.ensures; class = c.in_ok-class.ensures; count = c.in_ok-count.ensures; kind = c.in_ok-kind.ensures; size_is = c.in_ok-size.ensures; body = c.in_ok-body.ensures } in
     let fits : AreBytes c.args.bytes.now = record { below = λ i. omega (arith, c.type_inv.bytes i) } in
     let zeros : zeros_at (padding (length c.args.bytes.now - length c.take_body.new.self.rest.now)) c.take_body.new.self.rest.now ≡ Some (tt, c.take_zeros.new.self.rest.now) = rw (← c.padding_of.ensures) c.in_ok-take_zeros.ensures in
-    shorter (with_zeros (head_text r ++ contents_text r.body) _ _ _ (steps_take r _ _ _ _ _ _ _ _ _ fits steps).0 zeros)
+    shorter (with_zeros (record_head r ++ contents_text r.body) _ _ _ (steps_take r _ _ _ _ _ _ _ _ _ fits steps).0 zeros)
 
 pub returns : goal.returns
 returns c =

@@ -1,5 +1,5 @@
 use Rattle.std.proofs.Common.{◌∙◌, ap, arith}
-use Rattle.image_format.specs.Record.{four_bytes}
+use Rattle.long_names.specs.Record.{four_bytes}
 use Rattle.loom_run.proofs.HeadLaws.{word-back}
 use Rattle.loom_run.proofs.load.word_at.Goals as goal
 

@@ -1,5 +1,5 @@
 use Rattle.std.proofs.Common.{◌++◌, ◌∙◌, ap, codes}
-use Rattle.image_format.specs.Record.{four_bytes}
+use Rattle.long_names.specs.Record.{four_bytes}
 use Rattle.loom_run.proofs.SaveLaws.{four-appends}
 use Rattle.loom_run.proofs.save.append_head.Goals as goal
 

@@ -4,7 +4,7 @@ use Rattle.std.proofs.lemmas.List.Sums.{sum_by-cons}
 use Rattle.std.specs.Map.Iter.{deref_pair}
 use Rattle.std.specs.List.{sum_by}
 use Rattle.long_names.specs.declared.object.Object.{Object}
-use Rattle.image_format.specs.Valid.{IsObject}
+use Rattle.long_names.specs.Objects.{IsObject}
 use Rattle.loom_run.proofs.Entries.{words_of}
 use Rattle.loom_run.proofs.SweepLaws.{entries-objects, words-few, counted-all}
 use Rattle.loom_run.proofs.sweep.count_words.Goals as goal

@@ -1,4 +1,4 @@
-use Rattle.image_format.specs.Valid.{IsObject}
+use Rattle.long_names.specs.Objects.{IsObject}
 use Rattle.loom_run.proofs.MapLaws.{lent}
 use Rattle.loom_run.proofs.map.ObjectMap.get.Goals as goal
 

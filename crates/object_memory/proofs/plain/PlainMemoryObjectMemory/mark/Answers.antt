@@ -5,7 +5,7 @@ use Rattle.object_memory.specs.declared.fault.MemFault.{MemFault}
 use Rattle.object_memory.specs.declared.fault.MemFault.TheVariants.{Memory}
 use Rattle.object_memory.specs.Contract.{Accessed}
 use Rattle.object_memory.specs.Plain.{plain_told, cache_of, refused}
-use Rattle.object_memory.proofs.PlainLaws.{answered, refuses, marked-there, marks-are, mark-here, makes-none}
+use Rattle.object_memory.proofs.PlainLaws.{answered, answered-ready, refuses, marked-there, marks-are, mark-here, makes-none}
 use Rattle.object_memory.proofs.plain.PlainMemoryObjectMemory.mark.Goals as goal
 
 pub returns-in-Ok-clause-access : goal.returns-in-Ok-clause-access
@@ -13,9 +13,7 @@ returns-in-Ok-clause-access c =
     let t = plain_told c.args.self.now in
     let k = cache_of c.add.new.self in
     let named = c.name-name.ensures.value in
-    answered t (Mark c.args.r) t.transcript k (λ _. Nothing) (tt {0}) refl c.requires.ready refl (c.requires.may.heap refl) (marks-are t (t.regs c.args.r) c.name-name.result k named c.in-Ok.ensures.ok)
-    (λ n e. marked-there t c.args.r c.name-name.result n c.requires.ready refl named (sym (ap (λ (x : Cache). x.marks n) c.in-Ok.ensures.ok) ∙ e))
-    (λ i j k. refl) (λ _. refl) refl (makes-none t.heap)
+    answered t (Mark c.args.r) t.transcript k (λ _. Nothing) (tt {0}) refl refl (c.requires.may.heap refl) (marks-are t (t.regs c.args.r) c.name-name.result k named c.in-Ok.ensures.ok) (λ _. refl) refl (makes-none t.heap)
 
 pub returns-in-Ok-clause-marked : goal.returns-in-Ok-clause-marked
 returns-in-Ok-clause-marked c =
@@ -23,11 +21,16 @@ returns-in-Ok-clause-marked c =
     mark-here t.cache (t.regs c.args.r) c.name-name.result (cache_of c.add.new.self) c.name-name.ensures.value c.in-Ok.ensures.ok
 
 pub returns-in-Ok-clause-ready : goal.returns-in-Ok-clause-ready
-returns-in-Ok-clause-ready c = (returns-in-Ok-clause-access c).called.ok.ready
+returns-in-Ok-clause-ready c =
+    let t = plain_told c.args.self.now in
+    let k = cache_of c.add.new.self in
+    answered-ready t (Mark c.args.r) t.transcript k c.requires.ready refl (c.requires.may.heap refl)
+    (λ n e. marked-there t c.args.r c.name-name.result n c.requires.ready refl c.name-name.ensures.value (sym (ap (λ (x : Cache). x.marks n) c.in-Ok.ensures.ok) ∙ e))
+    (λ i j k. refl)
 
 pub returns-in-Err-clause-access : goal.returns-in-Err-clause-access
 returns-in-Err-clause-access c =
     let t = plain_told c.args.self.now in
     let is : plain_told c.refuse.new.self ≡ refused t Memory = c.refuse.ensures.refused ∙ ap (λ (k : Cache). refused (record t { cache = k }) Memory) c.in-Err.ensures.err in
     subst₂ (λ (u : Told) (f : MemFault). Accessed {A = Unit {0}} t u (Mark c.args.r) (λ _. Nothing) (Err f)) (sym is) (sym c.refuse.ensures.result)
-    (refuses t (Mark c.args.r) (λ _. Nothing) Memory refl c.requires.ready (subst (λ (u : Told). t.refusals ≤ u.refusals) is c.refuse.ensures.later) (inr (refl, tt, λ low. makes-none t.heap low)) tt (λ g is told. refl))
+    (refuses t (Mark c.args.r) (λ _. Nothing) Memory refl c.requires.ready (subst (λ (u : Told). t.refusals ≤ u.refusals) is c.refuse.ensures.later) (inr (refl, tt, λ low. makes-none t.heap low)) (λ g is told. refl))

@@ -1,17 +1,18 @@
-use Rattle.std.proofs.Common.{w16, refl, arith}
+use Rattle.std.proofs.Common.{w16, refl}
 use Rattle.std.proofs.Math.Facts.{to_z-of_z}
-use Rattle.long_names.specs.Access.{NewMethod, new_method, name_at}
+
+use Rattle.long_names.specs.Objects.{OfMethod}
+use Rattle.long_names.specs.State.{name_at}
 use Rattle.object_memory.specs.Plain.{plain_told}
-use Rattle.object_memory.proofs.PlainLaws.{kept_cache, made-is, made-named, makes-object, ready-after}
+use Rattle.object_memory.proofs.PlainLaws.{made-is, made-named, makes-object, makes-ready}
 use Rattle.object_memory.proofs.plain.PlainMemoryObjectMemory.new_method.Goals as goal
 
 pub returns-clause-access : goal.returns-clause-access
 returns-clause-access c =
     let t = plain_told c.args.self.now in
-    let a = NewMethod c.args.to c.args.class c.args.header c.args.code in
     let class = name_at (t.regs c.args.class) in
-    makes-object t _ a c.args.to (new_method class c.args.header c.args.code) c.make.result refl c.requires.ready refl tt refl (kept_cache t.cache) (λ i j k. refl) (λ _. refl) refl (omega arith) tt tt (λ g is told. refl)
-    c.make.ensures.room (rw (to_z-of_z {w = w16} {z = c.args.header} (record { sfits = c.ranges.header.sfits })) at (made-is t _ c.args.to class _ _ c.make.result c.make.ensures.made c.new_method-body.ensures)) c.make.ensures.refused c.make.ensures.cause c.make.ensures.later
+    let is = rw (to_z-of_z {w = w16} {z = c.args.header} (record { sfits = c.ranges.header.sfits })) at (made-is t _ c.args.to class _ _ c.make.result c.make.ensures.made c.new_method-body.ensures) in
+    makes-object t _ c.args.to c.args.class (OfMethod c.args.header c.args.code) c.make.result refl c.requires.ready refl c.make.ensures.room is c.make.ensures.refused c.make.ensures.cause c.make.ensures.later
 
 pub returns-clause-name : goal.returns-clause-name
 returns-clause-name c =
@@ -19,4 +20,8 @@ returns-clause-name c =
     made-named t _ c.args.to _ c.make.result (made-is t _ c.args.to _ _ _ c.make.result c.make.ensures.made c.new_method-body.ensures)
 
 pub returns-clause-ready : goal.returns-clause-ready
-returns-clause-ready c = ready-after _ _ _ _ c.make.result (returns-clause-access c)
+returns-clause-ready c =
+    let t = plain_told c.args.self.now in
+    let class = name_at (t.regs c.args.class) in
+    let is = rw (to_z-of_z {w = w16} {z = c.args.header} (record { sfits = c.ranges.header.sfits })) at (made-is t _ c.args.to class _ _ c.make.result c.make.ensures.made c.new_method-body.ensures) in
+    makes-ready t _ c.args.to c.args.class (OfMethod c.args.header c.args.code) c.make.result c.requires.ready refl (λ i j k. refl) is

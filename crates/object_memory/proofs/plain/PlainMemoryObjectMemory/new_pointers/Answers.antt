@@ -1,21 +1,23 @@
-use Rattle.std.proofs.Common.{refl, arith}
-use Rattle.long_names.specs.Access.{NewPointers, new_pointers, name_at}
+use Rattle.std.proofs.Common.{refl}
+use Rattle.long_names.specs.Objects.{OfPointers, body_made}
+use Rattle.long_names.specs.State.{name_at}
 use Rattle.object_memory.specs.Plain.{plain_told}
-use Rattle.object_memory.proofs.PlainLaws.{kept_cache, made-is, made-named, makes-object, ready-after}
+use Rattle.object_memory.proofs.PlainLaws.{made-is, made-named, makes-object, makes-ready}
 use Rattle.object_memory.proofs.plain.PlainMemoryObjectMemory.new_pointers.Goals as goal
 
 pub returns-clause-access : goal.returns-clause-access
 returns-clause-access c =
     let t = plain_told c.args.self.now in
-    let a = NewPointers c.args.to c.args.class c.args.n in
-    let class = name_at (t.regs c.args.class) in
-    makes-object t _ a c.args.to (new_pointers class c.args.n) c.make.result refl c.requires.ready refl tt refl (kept_cache t.cache) (λ i j k. refl) (λ _. refl) refl (omega arith) tt tt (λ g is told. refl)
-    c.make.ensures.room (made-is t _ c.args.to class _ _ c.make.result c.make.ensures.made c.new_pointers-body.ensures) c.make.ensures.refused c.make.ensures.cause c.make.ensures.later
+    let what = OfPointers c.args.n in
+    makes-object t _ c.args.to c.args.class what c.make.result refl c.requires.ready refl c.make.ensures.room (made-is t _ c.args.to (name_at (t.regs c.args.class)) _ (body_made what) c.make.result c.make.ensures.made c.new_pointers-body.ensures) c.make.ensures.refused c.make.ensures.cause c.make.ensures.later
 
 pub returns-clause-name : goal.returns-clause-name
 returns-clause-name c =
     let t = plain_told c.args.self.now in
-    made-named t _ c.args.to _ c.make.result (made-is t _ c.args.to _ _ _ c.make.result c.make.ensures.made c.new_pointers-body.ensures)
+    made-named t _ c.args.to _ c.make.result (made-is t _ c.args.to (name_at (t.regs c.args.class)) _ (body_made (OfPointers c.args.n)) c.make.result c.make.ensures.made c.new_pointers-body.ensures)
 
 pub returns-clause-ready : goal.returns-clause-ready
-returns-clause-ready c = ready-after _ _ _ _ c.make.result (returns-clause-access c)
+returns-clause-ready c =
+    let t = plain_told c.args.self.now in
+    let what = OfPointers c.args.n in
+    makes-ready t _ c.args.to c.args.class what c.make.result c.requires.ready refl (λ i j k. refl) (made-is t _ c.args.to (name_at (t.regs c.args.class)) _ (body_made what) c.make.result c.make.ensures.made c.new_pointers-body.ensures)

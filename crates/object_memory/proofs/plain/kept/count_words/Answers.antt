@@ -4,7 +4,7 @@ use Rattle.std.proofs.lemmas.List.Sums.{sum_by-cons}
 use Rattle.std.specs.Map.Iter.{deref_pair}
 use Rattle.std.specs.List.{sum_by}
 use Rattle.long_names.specs.declared.object.Object.{Object}
-use Rattle.object_memory.specs.Stored.{IsObject}
+use Rattle.long_names.specs.Objects.{IsObject}
 use Rattle.object_memory.proofs.Entries.{words_of}
 use Rattle.object_memory.proofs.SweepLaws.{entries-objects, words-few, counted-all}
 use Rattle.object_memory.proofs.plain.kept.count_words.Goals as goal

@@ -1,7 +1,7 @@
 use Rattle.std.proofs.Common.{◌≡◌, ℕ, ◌+◌, ◌%◌, ap, arith}
 use mathlib.Core.Path.{fun_ext}
 use Rattle.long_names.specs.Heap.{Heap}
-use Rattle.object_memory.specs.Stored.{IsLongName}
+use Rattle.long_names.specs.Names.{IsLongName}
 use Rattle.object_memory.proofs.MapLaws.{stored-put, same-entries, updated}
 use Rattle.object_memory.proofs.plain.objects.Objects.add.Goals as goal
 

@@ -1,4 +1,4 @@
-use Rattle.object_memory.specs.Stored.{IsObject}
+use Rattle.long_names.specs.Objects.{IsObject}
 use Rattle.object_memory.proofs.MapLaws.{lent}
 use Rattle.object_memory.proofs.plain.objects.Objects.get.Goals as goal
 

@@ -1,6 +1,7 @@
 use Rattle.std.proofs.Common.{arith, refl}
 use Rattle.object_memory.specs.Plain.{heap_of}
-use Rattle.object_memory.specs.Stored.{IsLongName, IsObject}
+use Rattle.long_names.specs.Names.{IsLongName}
+use Rattle.long_names.specs.Objects.{IsObject}
 use Rattle.object_memory.proofs.MapLaws.{heap-put, stored-insert, updated}
 use Rattle.object_memory.proofs.plain.objects.Objects.put.Goals as goal
 

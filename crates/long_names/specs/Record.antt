@@ -1,10 +1,9 @@
--- Records: the bytes that an image has for an object under its name.
-use Rattle.std.specs.Prelude.{ℕ, ◌-◌, ◌%◌, ◌^◌, ◌<◌, List, ◌++◌, length, replicate, All}
+-- Records: the bytes that stand for an object under its name, in an image and in the work file.
+use Rattle.std.specs.Prelude.{ℕ, ◌-◌, ◌%◌, List, ◌++◌, length, replicate}
 use Rattle.std.specs.List.{flat_map}
 use Rattle.std.specs.Int.{w16, w32, w64, to_be_bytes}
-use Rattle.long_names.specs.Names.{IsName}
 use Rattle.long_names.specs.Words.{long_word}
-use Rattle.long_names.specs.Objects.{IsBody, kind_of, len_of}
+use Rattle.long_names.specs.Objects.{kind_of, len_of}
 use Rattle.long_names.specs.declared.value.Value.{Value}
 use Rattle.long_names.specs.declared.value.Value.TheVariants.{Int}
 use Rattle.long_names.specs.declared.object.Kind.{Kind}
@@ -37,7 +36,8 @@ values_text values = flat_map (λ v. four_bytes (long_word v)) values
 abbrev pub words_text : List ℕ → List ℕ
 words_text words = flat_map two_bytes words
 
--- values as long words, words as 16-bit numbers, bytes as they are; of a method the number of its literals, its header, its literals and its code
+-- values as long words, words as 16-bit numbers, bytes as they are; of a method the number of its literals, its header, its
+-- literals and its code
 abbrev pub contents_text : Body → List ℕ
 contents_text (Pointers values) = values_text values
 contents_text (Words words) = words_text words
@@ -53,28 +53,9 @@ abbrev pub padded : List ℕ → List ℕ
 padded text = text ++ replicate (padding (length text)) 0
 
 -- name, class, count, kind and size
-abbrev pub head_text : Rec → List ℕ
-head_text r = four_bytes r.name ++ (four_bytes r.class ++ (eight_bytes r.count ++ (two_bytes (kind_number (kind_of r.body)) ++ two_bytes (len_of r.body))))
+abbrev pub record_head : Rec → List ℕ
+record_head r = four_bytes r.name ++ (four_bytes r.class ++ (eight_bytes r.count ++ (two_bytes (kind_number (kind_of r.body)) ++ two_bytes (len_of r.body))))
 
 -- the record of an object
 unfoldable pub record_text : Rec → List ℕ
-record_text r = padded (head_text r ++ contents_text r.body)
-
--- a name of 32 bits
-abbrev pub IsLongName : ℕ → Type 0
-IsLongName n = IsName n × (n < 2 ^ 32)
-
--- words have 16 bits, and bytes 8
-abbrev pub HasRange : Body → Type 0
-HasRange (Pointers values) = Unit {0}
-HasRange (Words words) = All (λ w. w < 2 ^ 16) words
-HasRange (Bytes bytes) = All (λ b. b < 2 ^ 8) bytes
-HasRange (Method header literals code) = All (λ b. b < 2 ^ 8) code
-
--- what has a record
-pub record IsRecord (r : Rec) : Type 0 where
-  pub name : IsLongName r.name
-  pub class : IsLongName r.class
-  pub count : r.count < 2 ^ 64
-  pub body : IsBody r.body
-  pub range : HasRange r.body
+record_text r = padded (record_head r ++ contents_text r.body)
