@@ -189,11 +189,7 @@ method_is = record { class = long 34 refl (omega arith); body = record { size = 
 base_is : IsImageHeap base
 unfolding object_count count_of
 base_is = record {
-  enough = omega arith;
-  few = omega arith;
-  even = refl;
-  low = omega arith;
-  high = omega arith;
+  head = record { enough = omega arith; few = omega arith; even = refl; low = omega arith; high = omega arith };
   bounded = record { bounded = none_from };
   names = λ n has. name_of_even n (implied (is_some (base_at n)) (eqb (n % 2) 0 && ltb 0 n) (below_at (λ k. not (is_some (base_at k)) || (eqb (k % 2) 0 && ltb 0 k)) 68 n refl (has_low n has)) has);
   objects = each_object IsObject (array_is 16 _ refl (omega arith) (omega arith) refl) (array_is 16 _ refl (omega arith) (omega arith) refl) (array_is 16 _ refl (omega arith) (omega arith) refl) method_is (array_is 22 _ refl (omega arith) (omega arith) refl) (array_is 16 _ refl (omega arith) (omega arith) refl);

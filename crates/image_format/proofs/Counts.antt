@@ -33,4 +33,4 @@ few_below h name bodies (suc n) = omega (arith, few_below h name bodies n, few_a
 
 pub count_fits : (h : Heap) (n : ℕ) → IsImageHeap h → count_of h n < 2 ^ 64
 unfolding count_of object_count
-count_fits h n is = omega (arith, few_below h n (λ k o at. (is.objects k o at).body) h.next, is.few)
+count_fits h n is = omega (arith, few_below h n (λ k o at. (is.objects k o at).body) h.next, is.head.few)

@@ -15,7 +15,7 @@ use Rattle.long_names.specs.declared.object.Object.{Object}
 use Rattle.long_names.specs.declared.object.Rec.{Rec}
 use Rattle.long_names.specs.Objects.{IsRecord}
 use Rattle.long_names.specs.Record.{four_bytes, record_text}
-use Rattle.image_format.specs.Text.{image_head, records_below, image_text}
+use Rattle.image_format.specs.Text.{head_text, records_below, image_text}
 use Rattle.image_format.specs.Valid.{IsImageHeap}
 use Rattle.image_format.specs.Reading.{number_at}
 use Rattle.image_format.proofs.Numbers.{wide32, number_again}
@@ -49,7 +49,7 @@ one_is h n None is lt at = All-nil IsRecord
 one_is h n (Some o) is lt at =
     let object = is.objects n o at in
     All-cons IsRecord (rec_of h n o) [] (record {
-      name = (is.names n (ap is_some at), omega (arith, lt, is.high));
+      name = (is.names n (ap is_some at), omega (arith, lt, is.head.high));
       class = object.class;
       count = count_fits h n is;
       body = object.body;
@@ -136,14 +136,14 @@ same_heads : (g h : Heap) → IsImageHeap g → IsImageHeap h → image_text g �
 unfolding image_text
 same_heads g h is-g is-h e =
     let rest : Heap → List ℕ = λ x. records_below x x.next in
-    let regrouped : (x : Heap) → image_head x ++ rest x ≡ codes "LOOM" ++ (four_bytes 1 ++ (four_bytes (object_count x) ++ (four_bytes x.next ++ rest x))) = λ x. simp append_assoc in
+    let regrouped : (x : Heap) → head_text (object_count x) x.next ++ rest x ≡ codes "LOOM" ++ (four_bytes 1 ++ (four_bytes (object_count x) ++ (four_bytes x.next ++ rest x))) = λ x. simp append_assoc in
     let no_word = append_cancel_left (codes "LOOM") _ _ (sym (regrouped g) ∙ e ∙ regrouped h) in
     let no_version : four_bytes (object_count g) ++ (four_bytes g.next ++ rest g) ≡ four_bytes (object_count h) ++ (four_bytes h.next ++ rest h) = append_cancel_left (four_bytes 1) _ _ no_word in
     let count : Some (object_count g, four_bytes g.next ++ rest g) ≡ Some (object_count h, four_bytes h.next ++ rest h)
-    = sym (number_again w32 (2 ^ 32) four_bytes wide32 (object_count g) (four_bytes g.next ++ rest g) (omega (arith, is-g.few))) ∙ ap (number_at w32) no_version ∙ number_again w32 (2 ^ 32) four_bytes wide32 (object_count h) (four_bytes h.next ++ rest h) (omega (arith, is-h.few)) in
+    = sym (number_again w32 (2 ^ 32) four_bytes wide32 (object_count g) (four_bytes g.next ++ rest g) (omega (arith, is-g.head.few))) ∙ ap (number_at w32) no_version ∙ number_again w32 (2 ^ 32) four_bytes wide32 (object_count h) (four_bytes h.next ++ rest h) (omega (arith, is-h.head.few)) in
     let no_count = (some_pair_parts (object_count g) (object_count h) (four_bytes g.next ++ rest g) (four_bytes h.next ++ rest h) count).1 in
     let next : Some (g.next, rest g) ≡ Some (h.next, rest h)
-    = sym (number_again w32 (2 ^ 32) four_bytes wide32 g.next (rest g) is-g.high) ∙ ap (number_at w32) no_count ∙ number_again w32 (2 ^ 32) four_bytes wide32 h.next (rest h) is-h.high in
+    = sym (number_again w32 (2 ^ 32) four_bytes wide32 g.next (rest g) is-g.head.high) ∙ ap (number_at w32) no_count ∙ number_again w32 (2 ^ 32) four_bytes wide32 h.next (rest h) is-h.head.high in
     some_pair_parts g.next h.next (rest g) (rest h) next
 
 pub same_heap : (g h : Heap) → IsImageHeap g → IsImageHeap h → image_text g ≡ image_text h → g ≡ h

@@ -9,3 +9,4 @@ pub mod Writing
 pub mod Counts
 pub mod Heaps
 pub mod Base
+pub mod Heads

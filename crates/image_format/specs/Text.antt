@@ -1,18 +1,37 @@
 -- The text of a heap: the one image that it has, a function of the whole map.
-use Rattle.std.specs.Prelude.{ℕ, zero, suc, List, [], ◌++◌, codes}
+use Rattle.std.specs.Prelude.{◌≡◌, ℕ, ◌%◌, ◌^◌, ◌<◌, ◌≤◌, zero, suc, List, [], ◌++◌, codes}
 use Rattle.std.specs.Option.{option_map_or}
-use Rattle.long_names.specs.Heap.{Heap, object_count, count_of}
-use Rattle.long_names.specs.declared.object.Object.{Object}
-use Rattle.long_names.specs.declared.object.Rec.{Rec}
+use Rattle.long_names.specs.Heap.{Heap, object_count, rec_of}
 use Rattle.long_names.specs.Record.{four_bytes, record_text}
+use Rattle.long_names.specs.declared.object.Object.{Object}
+
+-- ---- the head
+
+-- how many objects an image has at least: those that are known
+abbrev pub FEWEST_OBJECTS : ℕ
+FEWEST_OBJECTS = 22
+
+-- and at most
+abbrev pub MOST_OBJECTS : ℕ
+MOST_OBJECTS = 1048576
+
+-- the lowest next name: the known objects' names are below it
+abbrev pub LOWEST_NEXT : ℕ
+LOWEST_NEXT = 60
+
+-- so many objects, and a next name of 32 bits that is even and above the known names
+pub record IsHead (count next : ℕ) : Type 0 where
+  pub enough : FEWEST_OBJECTS ≤ count
+  pub few : count ≤ MOST_OBJECTS
+  pub even : next % 2 ≡ 0
+  pub low : LOWEST_NEXT ≤ next
+  pub high : next < 2 ^ 32
 
 -- LOOM, version 1, the number of objects, and the next name
-abbrev pub image_head : Heap → List ℕ
-image_head h = codes "LOOM" ++ (four_bytes 1 ++ (four_bytes (object_count h) ++ four_bytes h.next))
+abbrev pub head_text : ℕ → ℕ → List ℕ
+head_text count next = codes "LOOM" ++ (four_bytes 1 ++ (four_bytes count ++ four_bytes next))
 
--- an object under its name, with the number of words of the heap that hold the name
-abbrev pub rec_of : Heap → ℕ → Object → Rec
-rec_of h n o = record { name = n; class = o.class; count = count_of h n; body = o.body }
+-- ---- the text
 
 -- the records of the objects below a name, by rising name
 abbrev pub records_below : Heap → ℕ → List ℕ
@@ -21,4 +40,4 @@ records_below h (suc n) = records_below h n ++ option_map_or (λ (o : Object). r
 
 -- the head, and the records of all objects
 unfoldable pub image_text : Heap → List ℕ
-image_text h = image_head h ++ records_below h h.next
+image_text h = head_text (object_count h) h.next ++ records_below h h.next

@@ -1,26 +1,15 @@
 -- Valid images.
-use Rattle.std.specs.Prelude.{◌≡◌, ℕ, ◌%◌, ◌^◌, ◌<◌, ◌≤◌, true, List, Some}
-use Rattle.long_names.specs.Names.{IsName, is_known, IsLongName}
-use Rattle.long_names.specs.Objects.{IsBody, holds, HasRange}
+use Rattle.std.specs.Prelude.{◌≡◌, ℕ, true, List, Some}
+use Rattle.long_names.specs.Names.{IsName, is_known}
+use Rattle.long_names.specs.Objects.{IsObject, holds}
 use Rattle.long_names.specs.Heap.{Heap, IsBounded, Has, object_count, count_of}
 use Rattle.long_names.specs.declared.object.Object.{Object}
-use Rattle.image_format.specs.Text.{image_text}
-
--- an object that an image may have
-pub record IsObject (o : Object) : Type 0 where
-  pub class : IsLongName o.class
-  pub body : IsBody o.body
-  pub range : HasRange o.body
+use Rattle.image_format.specs.Text.{IsHead, image_text}
 
 -- a heap that an image may have
 pub record IsImageHeap (h : Heap) : Type 0 where
-  -- 22 to 1,048,576 objects
-  pub enough : 22 ≤ object_count h
-  pub few : object_count h ≤ 1048576
-  -- the next name is even, 60 or more, and above all names
-  pub even : h.next % 2 ≡ 0
-  pub low : 60 ≤ h.next
-  pub high : h.next < 2 ^ 32
+  -- as many objects as a head may state, and its next name, which is above all names
+  pub head : IsHead (object_count h) h.next
   pub bounded : IsBounded h
   -- objects have names, classes that are names, and bodies
   pub names : (n : ℕ) → Has h n → IsName n

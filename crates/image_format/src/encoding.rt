@@ -25,7 +25,7 @@ fn put_u16(out: &mut Octets, number: u16) -> Result<(), AllocError>
 }
 
 #[tactic(auto, unfolding(long_names::specs::Record::four_bytes))]
-fn put_u32(out: &mut Octets, number: u32) -> Result<(), AllocError>
+pub(crate) fn put_u32(out: &mut Octets, number: u32) -> Result<(), AllocError>
     ensures ok { OnOk result (out.new ≡ out.old ++ four_bytes number) }
     ensures err { OnErr result (out.new ≡ out.old) }
 {
