@@ -1,5 +1,6 @@
 -- What the roles of a host hold, and what its calls do to them.
-use Rattle.std.specs.Prelude.{Bool, true, false, ◌≡◌, ◌≢◌, ℕ, ◌+◌, ◌-◌, ◌≤◌, ◌^◌, min, List, [], ◌++◌, length, take, drop, Option, None, Some, Result, IsErr, OnOk, IfSome}
+use Rattle.std.specs.Prelude.{Bool, true, false, ◌≡◌, ◌≢◌, ℕ, ◌≤◌, List, [], ◌++◌, length, take, drop, Option, None, Some, Result, IsErr, OnOk, IfSome}
+use Rattle.long_names.specs.Counting.{counted, Rose}
 use Rattle.loom_outside.specs.declared.outside.Role.{Role}
 use Rattle.loom_outside.specs.declared.outside.Role.TheVariants.{Image, Events, Saved, Display, Transcript, Notes}
 use Rattle.loom_outside.specs.declared.outside.Failed.{Failed}
@@ -24,10 +25,6 @@ at_start = record { attaches = 0; name = None; taken = []; left = []; put = []; 
 -- with no name told
 abbrev pub unnamed : RoleState → RoleState
 unnamed s = record s { name = None }
-
--- a count that stops at the greatest u64
-abbrev pub counted : ℕ → ℕ
-counted n = min (n + 1) (2 ^ 64 - 1)
 
 -- after these bytes are put
 abbrev pub puts : List ℕ → RoleState → RoleState
@@ -70,7 +67,7 @@ PutPrefix bytes old new = (n : ℕ) × (n ≤ length bytes) × (new ≡ puts (ta
 -- a failure is counted, until the greatest u64
 pub record HasCause {T : Type 0} (before now : ℕ) (result : Result T Failed) : Type 0 where
   pub later : before ≤ now
-  pub counted : IsErr result → min (before + 1) (2 ^ 64 - 1) ≤ now
+  pub rose : IsErr result → Rose before now
 
 -- the same at each other role
 abbrev pub SameBut : {X : Type 0} → Role → (Role → X) → (Role → X) → Type 0

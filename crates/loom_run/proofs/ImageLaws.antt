@@ -10,12 +10,12 @@ use Rattle.long_names.specs.declared.object.Object.{Object}
 use Rattle.long_names.specs.declared.object.Rec.{Rec}
 use Rattle.long_names.specs.Objects.{IsRecord}
 use Rattle.long_names.specs.Record.{record_text}
-use Rattle.image_format.specs.Text.{records_below, image_text}
+use Rattle.image_format.specs.Text.{records_below, image_text, head_text}
 use Rattle.image_format.specs.Valid.{IsImageHeap}
 use Rattle.image_format.proofs.Records.{same_record}
 use Rattle.image_format.proofs.Lengths.{length_record}
 use Rattle.image_format.proofs.Counts.{count_fits}
-use Rattle.loom_run.specs.Load.{AreBelow, rec_with, records_text, head_text}
+use Rattle.loom_run.specs.Load.{AreBelow, rec_with, records_text}
 use Rattle.loom_run.proofs.Entries.{Rises, found, found-above, found-under, found-here, found-low, entries_below, entry_at, entries, count-entries}
 
 -- ---- the entries of a heap are in order, and are what it has
@@ -132,7 +132,7 @@ image-records h is = have-records (count_of h) 0 (entries h) (entries-rise h.at 
         let low = found-lower q h.next (entries h) o (entries-are-below h.at h.next) there in
         let at : h.at q ≡ Some o = sym (found-entries h.at h.next q low) ∙ there in
         let object = is.objects q o at in
-        let high = is.high in
+        let high = is.head.high in
         record { name = (is.names q (ap is_some at), omega arith); class = object.class; count = count_fits h q is; body = object.body; range = object.range }
 
 -- ---- a text that begins with these records is the text of entries that begin with these

@@ -1,7 +1,6 @@
 pub mod Bytecodes
 pub mod CompleteLaws
 pub mod Entries
-pub mod HeadLaws
 pub mod ImageLaws
 pub mod Lines
 pub mod LoadLaws

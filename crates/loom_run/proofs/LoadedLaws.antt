@@ -9,14 +9,14 @@ use Rattle.long_names.specs.declared.object.Object.{Object}
 use Rattle.long_names.specs.declared.object.Rec.{Rec}
 use Rattle.long_names.specs.Objects.{IsRecord}
 use Rattle.long_names.specs.Record.{record_text}
-use Rattle.image_format.specs.Text.{image_text}
+use Rattle.image_format.specs.Text.{image_text, IsHead, head_text}
 use Rattle.image_format.specs.Valid.{IsImageHeap}
 use Rattle.loom_run.specs.declared.counts.Counts.{Counts}
 use Rattle.loom_run.specs.declared.map.ObjectMap.{ObjectMap}
 use Rattle.loom_run.specs.Counts.{count_in}
 use Rattle.loom_run.specs.Map.{heap_of, entries_of}
-use Rattle.loom_run.specs.Load.{AreBelow, IsHead, IsComplete, rec_with, records_text, head_text}
-use Rattle.loom_run.proofs.HeadLaws.{head-same}
+use Rattle.loom_run.specs.Load.{AreBelow, IsComplete, rec_with, records_text}
+use Rattle.image_format.proofs.Heads.{head-same}
 use Rattle.long_names.proofs.ThinLemmas.{has}
 use Rattle.loom_run.proofs.Entries.{found, entries, count-entries, map-rises}
 use Rattle.loom_run.proofs.MapLaws.{heap-entries, map-bounded}
@@ -52,11 +52,7 @@ image-heap m stated count head all complete =
     let enough = head.enough in
     let few = head.few in
     record {
-      enough = omega arith;
-      few = omega arith;
-      even = head.even;
-      low = head.low;
-      high = head.high;
+      head = record { enough = omega arith; few = omega arith; even = head.even; low = head.low; high = head.high };
       bounded = map-bounded m;
       names = λ n there. let o = has (heap_of m) n there in (m.stored.named n o.0 o.1).0;
       objects = m.stored.object;
@@ -81,14 +77,14 @@ loaded m stated count next left rest head same all text records complete =
 
 -- the head of a valid image
 pub valid-head : (h : Heap) → IsImageHeap h → IsHead (object_count h) h.next
-valid-head h is = record { enough = is.enough; few = is.few; even = is.even; low = is.low; high = is.high }
+valid-head h is = is.head
 
 -- and its records
 pub valid-records : (h : Heap) (count next : ℕ) (left rest : List ℕ) → IsImageHeap h → left ≡ image_text h → IsHead count next → left ≡ head_text count next ++ rest → (count ≡ object_count h) × (next ≡ h.next) × (rest ≡ records_text (count_of h) (entries h))
 valid-records h count next left rest is text head split =
     let few = head.few in
-    let few_objects = is.few in
-    head-same count next (object_count h) h.next rest (records_text (count_of h) (entries h)) (omega arith) head.high (omega arith) is.high (sym split ∙ text ∙ image-entries h)
+    let few_objects = is.head.few in
+    head-same count next (object_count h) h.next rest (records_text (count_of h) (entries h)) (omega arith) head.high (omega arith) is.head.high (sym split ∙ text ∙ image-entries h)
 
 -- a record that no valid image has next
 pub refused-record : (h : Heap) (m : ObjectMap) (c : Counts) (bytes left : List ℕ) (ended : Bool) → IsImageHeap h → h.next ≡ m.next → length (entries_of m) < object_count h → records_text (count_in c) (entries_of m) ++ (bytes ++ left) ≡ records_text (count_of h) (entries h) → (IsTrue ended → left ≡ []) → ((left rest : List ℕ) (r : Rec) → (IsTrue ended → left ≡ []) → IsRecord r → AreBelow r.name (entries_of m) → r.name < m.next → bytes ++ left ≡ record_text r ++ rest → ⊥) → ⊥

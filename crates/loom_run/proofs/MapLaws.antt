@@ -14,7 +14,7 @@ use Rattle.std.proofs.lemmas.Map.Keys.{ge_from_not_lt}
 use Rattle.loom_run.specs.Load.{AreBelow}
 use Rattle.std.specs.BTreeMap.{BTreeMap, is_at, get, IsOrdered, IsUnchanged, Updates, WritesThrough}
 use Rattle.long_names.specs.Words.{IsValue}
-use Rattle.long_names.specs.Objects.{IsBody, HasRange, IsObject}
+use Rattle.long_names.specs.Objects.{with_field, IsBody, HasRange, IsObject}
 use Rattle.long_names.specs.Heap.{Heap, IsBounded, put_object}
 use Rattle.long_names.specs.declared.value.Value.{Value}
 use Rattle.long_names.specs.declared.object.Body.{Body}
@@ -23,7 +23,7 @@ use Rattle.long_names.specs.declared.object.Object.{Object}
 use Rattle.long_names.specs.Names.{IsLongName}
 use Rattle.loom_run.specs.declared.map.ObjectMap.{ObjectMap}
 use Rattle.loom_run.specs.Map.{heap_of}
-use Rattle.loom_run.specs.Fields.{body_with, object_with, heap_with}
+use Rattle.loom_run.specs.Fields.{object_with, heap_with}
 use Rattle.loom_run.specs.Stored.{IsStored}
 use Rattle.loom_run.proofs.Entries.{entries, entries-found, map-rises, map-below}
 
@@ -81,13 +81,13 @@ stored-insert (Err e) m n next name x ok err ordered s object named below = same
 pub IsObject-with : (o : Object) (i : ℕ) (v : Value) → IsValue v → IsObject o → IsObject (object_with o i v)
 IsObject-with o i v is x = record { class = x.class; body = body o.body x.body; range = range o.body x.range }
   where
-    body : (b : Body) → IsBody b → IsBody (body_with b i v)
+    body : (b : Body) → IsBody b → IsBody (with_field b i v)
     body (Pointers values) x = record { size = rw length-set x.size; fields = All-set IsValue values i v is x.fields }
     body (Words words) x = x
     body (Bytes bytes) x = x
     body (Method header literals code) x = record { size = (x.size.0, rw length-set x.size.1, x.size.2); fields = All-set IsValue literals i v is x.fields }
 
-    range : (b : Body) → HasRange b → HasRange (body_with b i v)
+    range : (b : Body) → HasRange b → HasRange (with_field b i v)
     range (Pointers values) x = x
     range (Words words) x = x
     range (Bytes bytes) x = x

@@ -1,7 +1,8 @@
 -- A run so far.
 use Rattle.std.proofs.Common.{◌≡◌, ℕ, zero, suc, ◌+◌, ◌-◌, ◌<◌, true, false, is_err, arith, List, Result, Ok, Err, refl, ap, ◌∙◌, add-one}
 use Rattle.long_names.specs.Heap.{Heap}
-use Rattle.loom_run.specs.Machine.{Machine, Row, Outcome, Go, Halt, Unbuilt, Ran, Stopped, run, one_more, counted_run, cycle, start, park, at_rest, ending, run_from, parked, parked_run}
+use Rattle.loom_run.specs.Machine.{Machine, Outcome, Go, Halt, Unbuilt, Ran, Stopped, run, one_more, counted_run, cycle, start, park, at_rest, ending, run_from, parked, parked_run}
+use Rattle.long_names.specs.Need.{Row}
 use Rattle.loom_run.specs.Map.{heap_of}
 use Rattle.loom_run.specs.Gives.{Gives, Makes, Leaves, machine_of}
 use Rattle.loom_run.specs.declared.map.ObjectMap.{ObjectMap}

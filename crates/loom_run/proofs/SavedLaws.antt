@@ -2,10 +2,10 @@
 use Rattle.std.proofs.Common.{◌≡◌, ℕ, List, [], ◌++◌, sym, ◌∙◌, ap, ap₂}
 use Rattle.long_names.specs.Heap.{Heap, object_count, count_of}
 use Rattle.long_names.specs.Kept.{kept, no_roots}
-use Rattle.image_format.specs.Text.{image_text}
+use Rattle.image_format.specs.Text.{image_text, head_text}
 use Rattle.loom_run.specs.declared.map.ObjectMap.{ObjectMap}
 use Rattle.loom_run.specs.Map.{heap_of, entries_of}
-use Rattle.loom_run.specs.Load.{head_text, records_text}
+use Rattle.loom_run.specs.Load.{records_text}
 use Rattle.loom_run.specs.Saved.{saved_text}
 use Rattle.loom_run.proofs.Entries.{map-rises}
 use Rattle.loom_run.proofs.MapLaws.{heap-entries}

@@ -5,7 +5,9 @@ use Rattle.long_names.specs.declared.value.Value.{Value}
 use Rattle.long_names.specs.declared.value.Value.TheVariants.{Int, Ref}
 use Rattle.long_names.specs.declared.object.Object.{Object}
 use Rattle.long_names.specs.Heap.{Heap}
-use Rattle.loom_run.specs.Machine.{Machine, Row, row_of, Outcome, Go, Halt, Unbuilt, Rule, Cause, Shape, Pointer, byte_at, byte_of, code_of, unbuilt, after, then_do, ◌>>=◌, ◌>>◌, done, halt, given, register, put_register, set_register, numbers, set_numbers, look, looked, part, store, stored, written, with_field, pin, unpin_all, set_slot, known, pick}
+use Rattle.loom_run.specs.Machine.{Machine, row_of, Outcome, Go, Halt, Unbuilt, Rule, Cause, Shape, Pointer, byte_at, byte_of, code_of, unbuilt, after, then_do, ◌>>=◌, ◌>>◌, done, halt, given, register, put_register, numbers, set_numbers, look, looked, part, store, stored, written, pointers_with, pin, unpin_all, known, pick}
+use Rattle.long_names.specs.Need.{Row}
+use Rattle.long_names.specs.State.{set_register, set_slot}
 use Rattle.loom_run.specs.Read.{IsRead}
 use Rattle.long_names.specs.Objects.{name_of}
 use Rattle.loom_run.specs.declared.interpreter.Interpreter.{Interpreter}
@@ -133,16 +135,16 @@ part_then c f v k m new r a is h = gives_then (part c f v) k m m new a r (part_g
 pub part_stop : {A B : Type 0} (c : Cause) (f : Object → Option A) (v : Value) (k : A → Rule B) (m new : Machine) (e : NotBuilt) → option_and_then f (object_at m.heap v) ≡ None → Gives {A = B} new (Err e) ((part c f v >>= k) m)
 part_stop c f v k m new e is = gives_stop (part c f v) k m m new e (part_ends c f v m m e is)
 
-stored_gives : (m : Machine) (n i : ℕ) (v : Value) (o : Option Object) (h : Heap) → put_at m.heap (Ref n) (option_and_then (with_field i v) o) ≡ Some h → Gives (record m { heap = h }) (Ok tt) (stored m n i v o)
+stored_gives : (m : Machine) (n i : ℕ) (v : Value) (o : Option Object) (h : Heap) → put_at m.heap (Ref n) (option_and_then (pointers_with i v) o) ≡ Some h → Gives (record m { heap = h }) (Ok tt) (stored m n i v o)
 stored_gives m n i v None h is = absurd (cc)
-stored_gives m n i v (Some o) h is = written_gives (with_field i v o) is where
+stored_gives m n i v (Some o) h is = written_gives (pointers_with i v o) is where
   written_gives : (x : Option Object) → put_at m.heap (Ref n) x ≡ Some h → Gives (record m { heap = h }) (Ok tt) (written m n x)
   written_gives None is = absurd (cc)
   written_gives (Some x) is = record { agrees = (refl, ap (λ (g : Heap). record m { heap = g }) (cc)) }
 
-stored_ends : (m new : Machine) (n i : ℕ) (v : Value) (o : Option Object) (e : NotBuilt) → put_at m.heap (Ref n) (option_and_then (with_field i v) o) ≡ None → Gives new (Err e) (stored m n i v o)
+stored_ends : (m new : Machine) (n i : ℕ) (v : Value) (o : Option Object) (e : NotBuilt) → put_at m.heap (Ref n) (option_and_then (pointers_with i v) o) ≡ None → Gives new (Err e) (stored m n i v o)
 stored_ends m new n i v None e is = record { agrees = tt }
-stored_ends m new n i v (Some o) e is = written_ends (with_field i v o) is where
+stored_ends m new n i v (Some o) e is = written_ends (pointers_with i v o) is where
   written_ends : (x : Option Object) → put_at m.heap (Ref n) x ≡ None → Gives new (Err e) (written m n x)
   written_ends None is = record { agrees = tt }
   written_ends (Some x) is = absurd (cc)

@@ -10,7 +10,7 @@ use Rattle.long_names.specs.declared.object.Body.TheVariants.{Pointers, Words, B
 use Rattle.long_names.specs.declared.object.Object.{Object}
 use Rattle.long_names.specs.Objects.{name_of, fields_of}
 use Rattle.long_names.specs.Heap.{Heap, put_object}
-use Rattle.loom_run.specs.Machine.{with_field, fields_count}
+use Rattle.loom_run.specs.Machine.{pointers_with, fields_count}
 use Rattle.loom_run.specs.Fields.{object_with, heap_with}
 use Rattle.loom_run.specs.Gives.{put_at, heap_stored, IsStoredIn}
 use Rattle.long_names.specs.State.{object_at}
@@ -25,22 +25,22 @@ pub int_none : (v : Value) → name_of v ≡ None → (h : Heap) → object_at h
 int_none (Int z) is h = refl
 int_none (Ref m) is h = absurd (cc)
 
-with_field_there : (i count class : ℕ) (v : Value) (b : Body) → fields_count (record { class = class; body = b }) ≡ Some count → i < count → with_field i v (record { class = class; body = b }) ≡ Some (object_with (record { class = class; body = b }) i v)
-unfolding with_field fields_count
+with_field_there : (i count class : ℕ) (v : Value) (b : Body) → fields_count (record { class = class; body = b }) ≡ Some count → i < count → pointers_with i v (record { class = class; body = b }) ≡ Some (object_with (record { class = class; body = b }) i v)
+unfolding pointers_with fields_count
 with_field_there i count class v (Pointers values) is low = let same : length values ≡ count = cc in let t : nat_lt i (length values) ≡ true = grind (arith, nat_tests) in rw t refl
 with_field_there i count class v (Words words) is low = absurd (cc)
 with_field_there i count class v (Bytes bytes) is low = absurd (cc)
 with_field_there i count class v (Method header literals code) is low = absurd (cc)
 
-with_field_past : (i count class : ℕ) (v : Value) (b : Body) → fields_count (record { class = class; body = b }) ≡ Some count → count ≤ i → with_field i v (record { class = class; body = b }) ≡ None
-unfolding with_field fields_count
+with_field_past : (i count class : ℕ) (v : Value) (b : Body) → fields_count (record { class = class; body = b }) ≡ Some count → count ≤ i → pointers_with i v (record { class = class; body = b }) ≡ None
+unfolding pointers_with fields_count
 with_field_past i count class v (Pointers values) is high = let same : length values ≡ count = cc in let t : nat_lt i (length values) ≡ false = grind (arith, nat_tests) in rw t refl
 with_field_past i count class v (Words words) is high = absurd (cc)
 with_field_past i count class v (Bytes bytes) is high = absurd (cc)
 with_field_past i count class v (Method header literals code) is high = absurd (cc)
 
-with_field_none : (i class : ℕ) (v : Value) (b : Body) → fields_count (record { class = class; body = b }) ≡ None → with_field i v (record { class = class; body = b }) ≡ None
-unfolding with_field fields_count
+with_field_none : (i class : ℕ) (v : Value) (b : Body) → fields_count (record { class = class; body = b }) ≡ None → pointers_with i v (record { class = class; body = b }) ≡ None
+unfolding pointers_with fields_count
 with_field_none i class v (Pointers values) is = absurd (cc)
 with_field_none i class v (Words words) is = refl
 with_field_none i class v (Bytes bytes) is = refl
@@ -58,15 +58,15 @@ has_field_in i count None is low = absurd (cc)
 has_field_in i count (Some o) is low = field_there i count o.class o.body is low
 
 puts : (h : Heap) (n i count : ℕ) (v : Value) (x : Option Object) → option_and_then fields_count x ≡ Some count → i < count
-    → put_at h (Ref n) (option_and_then (with_field i v) x) ≡ Some (option_map_or (λ (o : Object). put_object h n (object_with o i v)) x h)
+    → put_at h (Ref n) (option_and_then (pointers_with i v) x) ≡ Some (option_map_or (λ (o : Object). put_object h n (object_with o i v)) x h)
 puts h n i count v None is low = absurd (cc)
 puts h n i count v (Some o) is low = ap (put_at h (Ref n)) (with_field_there i count o.class v o.body is low)
 
-puts_past : (h : Heap) (n i count : ℕ) (v : Value) (x : Option Object) → option_and_then fields_count x ≡ Some count → count ≤ i → put_at h (Ref n) (option_and_then (with_field i v) x) ≡ None
+puts_past : (h : Heap) (n i count : ℕ) (v : Value) (x : Option Object) → option_and_then fields_count x ≡ Some count → count ≤ i → put_at h (Ref n) (option_and_then (pointers_with i v) x) ≡ None
 puts_past h n i count v None is high = absurd (cc)
 puts_past h n i count v (Some o) is high = ap (put_at h (Ref n)) (with_field_past i count o.class v o.body is high)
 
-puts_none : (h : Heap) (n i : ℕ) (v : Value) (x : Option Object) → option_and_then fields_count x ≡ None → put_at h (Ref n) (option_and_then (with_field i v) x) ≡ None
+puts_none : (h : Heap) (n i : ℕ) (v : Value) (x : Option Object) → option_and_then fields_count x ≡ None → put_at h (Ref n) (option_and_then (pointers_with i v) x) ≡ None
 puts_none h n i v None is = refl
 puts_none h n i v (Some o) is = ap (put_at h (Ref n)) (with_field_none i o.class v o.body is)
 

@@ -5,7 +5,8 @@ use Rattle.long_names.specs.declared.value.Value.{Value}
 use Rattle.long_names.specs.declared.value.Value.TheVariants.{Int, Ref}
 use Rattle.long_names.specs.declared.object.Object.{Object}
 use Rattle.long_names.specs.Heap.{Heap, put_object}
-use Rattle.loom_run.specs.Machine.{with_field, Machine, Outcome, Go, Halt, Unbuilt, Rule, set_register, set_slot}
+use Rattle.long_names.specs.State.{object_at, set_register, set_slot, ACTIVE_CONTEXT, HOME, METHOD, RECEIVER}
+use Rattle.loom_run.specs.Machine.{pointers_with, Machine, Outcome, Go, Halt, Unbuilt, Rule}
 use Rattle.loom_run.specs.Map.{heap_of}
 use Rattle.loom_run.specs.declared.map.ObjectMap.{ObjectMap}
 use Rattle.loom_run.specs.declared.interpreter.Interpreter.{Interpreter}
@@ -15,8 +16,8 @@ use Rattle.loom_run.specs.declared.broken.NotBuilt.{NotBuilt}
 abbrev pub machine_of : Interpreter → Machine
 machine_of p = record {
   heap = heap_of p.map;
-  regs = set_register (set_register (set_register (set_register (λ r. Int (pos 0)) 0 (Ref p.active)) 1 (Ref p.home)) 2 (Ref p.method)) 3 p.receiver;
-  slots = set_slot (set_slot (set_slot (λ i. None) 0 p.active) 1 p.home) 2 p.method;
+  regs = set_register (set_register (set_register (set_register (λ r. Int (pos 0)) ACTIVE_CONTEXT (Ref p.active)) HOME (Ref p.home)) METHOD (Ref p.method)) RECEIVER p.receiver;
+  slots = set_slot (set_slot (set_slot (λ i. None) 0 (Some p.active)) 1 (Some p.home)) 2 (Some p.method);
   cpu = p.cpu;
 }
 
@@ -33,11 +34,6 @@ Agrees now (Err e) (Unbuilt log) = Unit {0}
 pub record Gives {A : Type 0} (now : Machine) (result : Result A NotBuilt) (outcome : Outcome A) : Type 0 where
   pub agrees : Agrees now result outcome
 
--- the object that a value names
-abbrev pub object_at : Heap → Value → Option Object
-object_at h (Int z) = None
-object_at h (Ref n) = h.at n
-
 -- The heap with this value as field i of the object of pointers that a value names, if it has one.
 abbrev pub put_at : Heap → Value → Option Object → Option Heap
 put_at h (Int z) changed = None
@@ -45,7 +41,7 @@ put_at h (Ref n) None = None
 put_at h (Ref n) (Some o) = Some (put_object h n o)
 
 abbrev pub heap_stored : Heap → Value → ℕ → Value → Option Heap
-heap_stored h of i v = put_at h of (option_and_then (with_field i v) (object_at h of))
+heap_stored h of i v = put_at h of (option_and_then (pointers_with i v) (object_at h of))
 
 -- the value was stored, or there is no such field and nothing changed
 abbrev pub IsStoredIn : {A : Type 0} → Heap → Heap → Option Heap → Result A NotBuilt → Type 0

@@ -3,6 +3,7 @@ pub mod Counts
 pub mod Faults
 pub mod Fields
 pub mod Gives
+pub mod Indexes
 pub mod Load
 pub mod Lowered
 pub mod Machine
@@ -14,7 +15,6 @@ pub mod RunLaws
 pub mod Saved
 pub mod Status
 pub mod Stored
-pub mod StoredProps
 pub mod Top
 pub mod Window
 pub mod Words

@@ -1,4 +1,4 @@
--- An image as it is read: its head, and the records of the objects so far.
+-- An image as it is read: the records of the objects so far.
 use Rattle.std.specs.Prelude.{◌≡◌, ℕ, ◌%◌, ◌^◌, ◌<◌, ◌≤◌, List, [], ◌∷◌, ◌++◌, codes, Some, Bool, true, ◌==◌, ◌&&◌, ◌||◌, nat_lt, is_some}
 use Rattle.std.specs.List.{flat_map, list_all}
 use Rattle.long_names.specs.Names.{is_known, known_names}
@@ -7,18 +7,6 @@ use Rattle.long_names.specs.Heap.{Heap, Has, count_of}
 use Rattle.long_names.specs.declared.object.Object.{Object}
 use Rattle.long_names.specs.declared.object.Rec.{Rec}
 use Rattle.long_names.specs.Record.{four_bytes, record_text}
-
--- LOOM, version 1, the number of objects, and the next name
-abbrev pub head_text : ℕ → ℕ → List ℕ
-head_text count next = codes "LOOM" ++ (four_bytes 1 ++ (four_bytes count ++ four_bytes next))
-
--- 22 to 1,048,576 objects, and a next name of 32 bits that is even and 60 or more
-pub record IsHead (count next : ℕ) : Type 0 where
-  pub enough : 22 ≤ count
-  pub few : count ≤ 1048576
-  pub even : next % 2 ≡ 0
-  pub low : 60 ≤ next
-  pub high : next < 2 ^ 32
 
 -- each name of the entries is below this one
 abbrev pub AreBelow : {X : Type 0} → ℕ → List (ℕ × X) → Type 0

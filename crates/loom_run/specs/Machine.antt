@@ -5,7 +5,11 @@ use Rattle.long_names.specs.declared.value.Value.TheVariants.{Int, Ref}
 use Rattle.long_names.specs.declared.object.Body.{Body}
 use Rattle.long_names.specs.declared.object.Body.TheVariants.{Pointers, Words, Bytes, Method}
 use Rattle.long_names.specs.declared.object.Object.{Object}
+use Rattle.long_names.specs.Names.{NIL, FALSE, TRUE, SCHEDULER_ASSOCIATION}
 use Rattle.long_names.specs.Heap.{Heap, put_object}
+use Rattle.long_names.specs.State.{set_register, set_slot, ACTIVE_CONTEXT, HOME, METHOD, RECEIVER}
+use Rattle.long_names.specs.Need.{Row}
+use Rattle.loom_run.specs.Indexes.{VALUE_INDEX, ASSOCIATION_SIZE, ACTIVE_PROCESS_INDEX, SCHEDULER_SIZE, SUSPENDED_CONTEXT_INDEX, PROCESS_SIZE, INSTRUCTION_POINTER_INDEX, STACK_POINTER_INDEX, METHOD_INDEX, RECEIVER_INDEX, HOME_INDEX, TEMP_FRAME_START, EMPTY_STACK, FULL_STACK}
 use Rattle.loom_run.specs.declared.cpu.Cpu.{Cpu}
 
 -- ---- machines
@@ -21,12 +25,7 @@ pub record Machine : Type 0 where
 
 -- nothing has been loaded: numbers in all registers, no object pinned
 abbrev pub at_rest : Heap → Machine
-at_rest h = record { heap = h; regs = λ r. Int (pos 0); slots = λ i. None; cpu = record { ip = pos 0; sp = pos 5 } }
-
--- an object that a rule looks at, by its name, with the objects that are pinned at that moment
-pub record Row : Type 0 where
-  pub object : ℕ
-  pub slots : ℕ → Option ℕ
+at_rest h = record { heap = h; regs = λ r. Int (pos 0); slots = λ i. None; cpu = record { ip = pos 0; sp = pos EMPTY_STACK } }
 
 -- Why a bytecode is stuck. Pointer: a byte is to be fetched, or a jump is taken to a place, outside the method's code. Stack: a
 -- stack field is no field of the stack or not in the context, or the stack pointer would leave its range. Shape: an object isn't
@@ -89,9 +88,6 @@ pick false p q = q
 unfoldable pub register : ℕ → Rule Value
 register r m = Go (m.regs r) m []
 
-abbrev pub set_register : (ℕ → Value) → ℕ → Value → ℕ → Value
-set_register regs r v = λ q. if q == r then v else regs q
-
 unfoldable pub put_register : ℕ → Value → Rule (Unit {0})
 put_register r v m = Go tt (record m { regs = set_register m.regs r v }) []
 
@@ -101,6 +97,7 @@ numbers m = Go m.cpu m []
 unfoldable pub set_numbers : Cpu → Rule (Unit {0})
 set_numbers cpu m = Go tt (record m { cpu = cpu }) []
 
+-- the row of a rule that looks at an object by its name, with the objects that are pinned at that moment
 abbrev pub row_of : Machine → ℕ → Row
 row_of m n = record { object = n; slots = m.slots }
 
@@ -122,8 +119,8 @@ unfoldable pub known : ℕ → Rule Value
 known n = look (Ref n) >>= λ o. done (Ref n)
 
 -- an object of pointers with this value as field i
-unfoldable pub with_field : ℕ → Value → Object → Option Object
-with_field i v o = field_put o.body where
+unfoldable pub pointers_with : ℕ → Value → Object → Option Object
+pointers_with i v o = field_put o.body where
   field_put : Body → Option Object
   field_put (Pointers values) = if nat_lt i (length values) then Some (record { class = o.class; body = Pointers (slice_set values i v) }) else None
   field_put (Words words) = None
@@ -136,15 +133,12 @@ written m n (Some o) = Go tt (record m { heap = put_object m.heap n o }) (row_of
 
 abbrev pub stored : Machine → ℕ → ℕ → Value → Option Object → Outcome (Unit {0})
 stored m n i v None = Halt Shape (row_of m n ∷ [])
-stored m n i v (Some o) = written m n (with_field i v o)
+stored m n i v (Some o) = written m n (pointers_with i v o)
 
 -- stores into field i of the object of pointers that a value names
 unfoldable pub store : Value → ℕ → Value → Rule (Unit {0})
 store (Int z) i v m = Halt Shape []
 store (Ref n) i v m = stored m n i v (m.heap.at n)
-
-abbrev pub set_slot : (ℕ → Option ℕ) → ℕ → ℕ → ℕ → Option ℕ
-set_slot slots slot n = λ i. if i == slot then Some n else slots i
 
 unfoldable pub unpin_all : Rule (Unit {0})
 unpin_all m = Go tt (record m { slots = λ i. None }) []
@@ -152,7 +146,7 @@ unpin_all m = Go tt (record m { slots = λ i. None }) []
 -- pins the object that a value names. It is looked at with the slots before and with the slots after
 unfoldable pub pin : ℕ → Value → Rule (Unit {0})
 pin slot (Int z) m = Halt Shape []
-pin slot (Ref n) m = let next : Machine = record m { slots = set_slot m.slots slot n } in Go tt next (row_of m n ∷ row_of next n ∷ [])
+pin slot (Ref n) m = let next : Machine = record m { slots = set_slot m.slots slot (Some n) } in Go tt next (row_of m n ∷ row_of next n ∷ [])
 
 -- ---- parts of objects
 
@@ -189,7 +183,7 @@ home_by context (Some (Ref n)) fifth = Some context
 
 -- the home of a context: field 5 of a block, whose field 3 is a number, and otherwise the context itself (chapter 27, contexts)
 unfoldable pub home_of : Value → Object → Option Value
-home_of context o = home_by context (field 6 3 o) (field 6 5 o)
+home_of context o = home_by context (field TEMP_FRAME_START METHOD_INDEX o) (field TEMP_FRAME_START HOME_INDEX o)
 
 -- a method's number of literals and its code
 pub record Code : Type 0 where
@@ -223,7 +217,7 @@ byte_of ip method = do
 
 -- the number of a field of the stack: 6 or more, in the context, and within the range of a stack pointer
 abbrev pub stack_place : ℤ → ℕ → Option ℕ
-stack_place (pos n) len = if nat_le 6 n && (nat_le n 16388 && nat_lt n len) then Some n else None
+stack_place (pos n) len = if nat_le TEMP_FRAME_START n && (nat_le n FULL_STACK && nat_lt n len) then Some n else None
 stack_place (negsuc n) len = None
 
 -- how many fields an object of pointers has
@@ -235,56 +229,57 @@ fields_count o = count_in o.body where
   count_in (Bytes bytes) = None
   count_in (Method header literals code) = None
 
--- writes the field above the top of the stack, and raises the top
+-- push: (chapter 28). Writes the field above the top of the stack, and raises the top. This profile tests the field
 unfoldable pub push : Value → Rule (Unit {0})
 push v = do
   cpu ← numbers
-  active ← register 0
+  active ← register ACTIVE_CONTEXT
   len ← part Shape fields_count active
   place ← given Stack (stack_place (cpu.sp +ℤ pos 1) len)
   store active place v
   set_numbers (record cpu { sp = cpu.sp +ℤ pos 1 })
 
--- the stack value at a depth
+-- stackValue: (chapter 28)
 unfoldable pub stack : ℕ → Rule Value
 stack depth = do
   cpu ← numbers
-  active ← register 0
+  active ← register ACTIVE_CONTEXT
   len ← part Shape fields_count active
   place ← given Stack (stack_place (cpu.sp -ℤ pos depth) len)
   part Shape (field 0 place) active
 
 -- the stack pointer after n values are popped, which is 5 or more
 abbrev pub lowered : ℤ → ℕ → Option ℤ
-lowered (pos k) n = if nat_le (n + 5) k then Some (pos (k - n)) else None
+lowered (pos k) n = if nat_le (n + EMPTY_STACK) k then Some (pos (k - n)) else None
 lowered (negsuc k) n = None
 
+-- pop: (chapter 28)
 unfoldable pub pop : ℕ → Rule (Unit {0})
 pop n = do
   cpu ← numbers
   sp ← given Stack (lowered cpu.sp n)
   set_numbers (record cpu { sp = sp })
 
--- the byte at the instruction pointer, which goes on by 1
+-- fetchByte (chapter 28). The byte at the instruction pointer, which goes on by 1. This profile tests that it is one of the method's
 unfoldable pub fetch : Rule ℕ
 fetch = do
   cpu ← numbers
-  method ← register 2
+  method ← register METHOD
   byte ← byte_of cpu.ip method
   set_numbers (record cpu { ip = cpu.ip +ℤ pos 1 })
   done byte
 
--- a jump over so many bytes, counted from the byte after the instruction, to a byte of the method
+-- jump: (chapter 28). Over so many bytes, counted from the byte after the instruction. This profile tests that a byte of the method is there
 unfoldable pub jump : ℤ → Rule (Unit {0})
 jump distance = do
   cpu ← numbers
-  method ← register 2
+  method ← register METHOD
   byte_of (cpu.ip +ℤ distance) method
   set_numbers (record cpu { ip = cpu.ip +ℤ distance })
 
 -- the stack pointer that a context states: the number of values on its stack, and the five fields before them
 abbrev pub stack_pointer : ℤ → Option ℤ
-stack_pointer (pos n) = Some (pos (n + 5))
+stack_pointer (pos n) = Some (pos (n + EMPTY_STACK))
 stack_pointer (negsuc n) = None
 
 -- takes the registers from a context. A MethodContext is its own home (chapter 28, fetchContextRegisters). This profile pins the
@@ -293,49 +288,49 @@ unfoldable pub load : Value → Rule (Unit {0})
 load context = do
   unpin_all
   pin 0 context
-  ip ← part Shape (number 6 1) context
-  depth ← part Shape (number 6 2) context
+  ip ← part Shape (number TEMP_FRAME_START INSTRUCTION_POINTER_INDEX) context
+  depth ← part Shape (number TEMP_FRAME_START STACK_POINTER_INDEX) context
   home ← part Shape (home_of context) context
   pin 1 home
-  method ← part Shape (field 6 3) home
+  method ← part Shape (field TEMP_FRAME_START METHOD_INDEX) home
   pin 2 method
   code ← part Shape code_of method
   sp ← given Stack (stack_pointer depth)
-  receiver ← part Shape (field 6 5) home
-  put_register 0 context
-  put_register 1 home
-  put_register 2 method
-  put_register 3 receiver
+  receiver ← part Shape (field TEMP_FRAME_START RECEIVER_INDEX) home
+  put_register ACTIVE_CONTEXT context
+  put_register HOME home
+  put_register METHOD method
+  put_register RECEIVER receiver
   set_numbers (record { ip = ip -ℤ pos 1; sp = sp })
 
--- the active process of the scheduler, which is the value of the scheduler's association (chapter 29)
+-- activeProcess (chapter 29), with no process switch waiting: the scheduler is the value of the scheduler's association
 unfoldable pub active_process : Rule Value
 active_process = do
-  scheduler ← part Shape (field 2 1) (Ref 8)
-  part Shape (field 2 1) scheduler
+  scheduler ← part Shape (field ASSOCIATION_SIZE VALUE_INDEX) (Ref SCHEDULER_ASSOCIATION)
+  part Shape (field SCHEDULER_SIZE ACTIVE_PROCESS_INDEX) scheduler
 
--- the suspended context of the active process is loaded
+-- firstContext (chapter 29), and its registers are fetched
 unfoldable pub start : Rule (Unit {0})
 start = do
   process ← active_process
-  context ← part Shape (field 4 1) process
+  context ← part Shape (field PROCESS_SIZE SUSPENDED_CONTEXT_INDEX) process
   load context
 
--- stores the registers into the active context, and that into the active process
+-- storeContextRegisters (chapter 28), and the active context is stored into the active process as at a process switch (chapter 29)
 unfoldable pub park : Rule (Unit {0})
 park = do
   cpu ← numbers
-  active ← register 0
-  store active 1 (Int (cpu.ip +ℤ pos 1))
-  store active 2 (Int (cpu.sp -ℤ pos 5))
+  active ← register ACTIVE_CONTEXT
+  store active INSTRUCTION_POINTER_INDEX (Int (cpu.ip +ℤ pos 1))
+  store active STACK_POINTER_INDEX (Int (cpu.sp -ℤ pos EMPTY_STACK))
   process ← active_process
-  store process 1 active
+  store process SUSPENDED_CONTEXT_INDEX active
 
 -- ---- bytecodes (chapter 28)
 
 unfoldable pub push_receiver : Rule (Unit {0})
 push_receiver = do
-  receiver ← register 3
+  receiver ← register RECEIVER
   push receiver
 
 unfoldable pub push_known : ℕ → Rule (Unit {0})
@@ -355,9 +350,9 @@ is_from low high b = nat_le low b && nat_le b high
 unfoldable pub bytecode : ℕ → Rule (Unit {0})
 bytecode b =
     pick (b == 112) push_receiver
-    (pick (b == 113) (push_known 6)
-    (pick (b == 114) (push_known 4)
-    (pick (b == 115) (push_known 2)
+    (pick (b == 113) (push_known TRUE)
+    (pick (b == 114) (push_known FALSE)
+    (pick (b == 115) (push_known NIL)
     (pick (is_from 116 119 b) (push (Int (pos b -ℤ pos 117)))
     (pick (b == 135) (pop 1)
     (pick (b == 136) push_top

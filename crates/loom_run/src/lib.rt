@@ -4,6 +4,7 @@
 mod broken;
 mod counts;
 mod cpu;
+mod indexes;
 mod interpreter;
 mod laws;
 mod load;
@@ -18,6 +19,7 @@ mod sweep;
 mod window;
 mod words;
 
+pub use indexes::same_indexes;
 pub use laws::{base_image, base_text, runs_add_up};
 pub use program::loom;
 pub use status::Status;

@@ -6,11 +6,11 @@ ghost use Rattle.loom_outside.specs.Outside.{SameBut};
 ghost use Rattle.long_names.specs.declared.object.Rec.{Rec as Spelled};
 ghost use Rattle.long_names.specs.Objects.{IsRecord};
 ghost use Rattle.long_names.specs.Record.{four_bytes, record_text};
-ghost use Rattle.image_format.specs.Text.{records_below, image_text};
+ghost use Rattle.image_format.specs.Text.{IsHead, head_text, records_below, image_text};
 ghost use Rattle.image_format.specs.Valid.{IsImageHeap, IsValid};
 ghost use Rattle.long_names.specs.Heap.{Heap, object_count};
 ghost use Rattle.loom_run.specs.Counts.{count_in};
-ghost use Rattle.loom_run.specs.Load.{head_text, IsHead, AreBelow, IsComplete, have_objects, have_counts, have_known, records_text};
+ghost use Rattle.loom_run.specs.Load.{AreBelow, IsComplete, have_objects, have_counts, have_known, records_text};
 ghost use Rattle.loom_run.specs.Map.{heap_of, entries_of};
 ghost use Rattle.loom_run.specs.Faults.{fault_of};
 ghost use Rattle.loom_run.specs.Window.{EndsTruly, OnlyRead, unused};
@@ -20,7 +20,7 @@ use crate::counts::Counts;
 use crate::map::ObjectMap;
 use crate::sweep::count_words;
 use crate::window::Window;
-use image_format::{MAX_RECORD, RecFault, decode_rec};
+use image_format::{HEAD_LEN, Head, MAX_RECORD, RecFault, decode_head, decode_rec};
 use long_names::{Name, Object, Rec};
 use loom_outside::{Failed, Host, Role};
 use std::alloc::{AllocError, Global};
@@ -63,73 +63,22 @@ impl From<RecFault> for LoadFault {
     }
 }
 
-/// The bytes before the records: `LOOM`, the version, the object count, and the next name.
-const HEAD: usize = 16;
-
-/// How many objects an image has at least: those that are known.
-const FEWEST: u32 = 22;
-
-/// How many objects an image has at most.
-const MOST: u32 = 1_048_576;
-
-/// The lowest next name.
-const LOWEST: u32 = 60;
-
-/// What an image states before its records.
-#[derive(Clone, Copy)]
-struct Head {
-    count: u32,
-    next: u32,
-}
-
-impl Head {
-    fn is_in_range(self) -> bool
-        ensures { IsTrue result ↔ IsHead self.count self.next }
-    {
-        (FEWEST..=MOST).contains(&self.count) && self.next >= LOWEST && self.next % 2 == 0
-    }
-}
-
-/// The long word at a place.
-fn word_at(bytes: &[u8], at: usize) -> u32
-    requires { at + 4 ≤ length bytes.now }
-    ensures { four_bytes result ≡ take 4 (drop at bytes.now) }
-{
-    u32::from_be_bytes([bytes[at], bytes[at + 1], bytes[at + 2], bytes[at + 3]])
-}
-
-/// Reads the head, and judges each part of it before anything is believed.
-fn read_head(bytes: &[u8]) -> Option<Head>
-    requires { length bytes.now ≡ HEAD }
-    ensures some { IfSome result (λ x. (bytes.now ≡ head_text x.count x.next) × IsHead x.count x.next) }
-    ensures none { IfNone result ((count next : ℕ) → IsHead count next → bytes.now ≢ head_text count next) }
-{
-    if &bytes[..4] != b"LOOM".as_slice() || word_at(bytes, 4) != 1 {
-        return None;
-    }
-    let head = Head {
-        count: word_at(bytes, 8),
-        next: word_at(bytes, 12),
-    };
-    if head.is_in_range() { Some(head) } else { None }
-}
-
 /// Takes the head from the window, which has it whole unless the file ends first.
 fn take_head(window: &mut Window) -> Result<Head, LoadFault>
-    requires { window.old.ended ≡ false → HEAD ≤ length window.old.bytes }
-    ensures taken { IfOk result (λ x. (window.old.bytes ≡ head_text x.count x.next ++ window.new.bytes) × IsHead x.count x.next) }
+    requires { window.old.ended ≡ false → HEAD_LEN ≤ length window.old.bytes }
+    ensures taken { IfOk result (λ x. (window.old.bytes ≡ head_text x.objects x.next ++ window.new.bytes) × IsHead x.objects x.next) }
     ensures ended { window.new.ended ≡ window.old.ended }
     ensures fault { IfErr result (λ f. f ≡ LoadFault.Bad) }
-    ensures bad { OnErr result ((left rest : List ℕ) (count next : ℕ) → (IsTrue window.old.ended → left ≡ []) → IsHead count next → window.old.bytes ++ left ≢ head_text count next ++ rest) }
+    ensures bad { OnErr result ((left rest : List ℕ) (objects next : ℕ) → (IsTrue window.old.ended → left ≡ []) → IsHead objects next → window.old.bytes ++ left ≢ head_text objects next ++ rest) }
 {
     let bytes = window.bytes();
-    if bytes.len() < HEAD {
+    if bytes.len() < HEAD_LEN {
         return Err(LoadFault::Bad);
     }
-    let Some(head) = read_head(&bytes[..HEAD]) else {
+    let Some(head) = decode_head(&bytes[..HEAD_LEN]) else {
         return Err(LoadFault::Bad);
     };
-    window.skip(HEAD);
+    window.skip(HEAD_LEN);
     Ok(head)
 }
 
@@ -250,7 +199,7 @@ pub fn load<H: Host>(alloc: Global, host: &mut H) -> Result<ObjectMap, LoadFault
     let head = take_head(&mut window)?;
     let mut map = ObjectMap::new(alloc, head.next);
     let mut stated = Counts::new(alloc);
-    read_objects(alloc, host, &mut window, &mut map, &mut stated, head.count)?;
+    read_objects(alloc, host, &mut window, &mut map, &mut stated, head.objects)?;
     window.fill(host)?;
     judge(alloc, &window, &map, &stated)?;
     Ok(map)

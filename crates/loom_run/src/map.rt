@@ -4,44 +4,18 @@ ghost use Rattle.std.specs.Option.{option_copied};
 ghost use Rattle.std.specs.Ordering.{nat_cmp};
 ghost use Rattle.std.specs.BTreeMap.{insert_entry};
 ghost use Rattle.long_names.specs.Words.{IsValue};
-ghost use Rattle.long_names.specs.Objects.{fields_of, IsObject};
+ghost use Rattle.long_names.specs.Objects.{with_field, fields_of, IsObject};
 ghost use Rattle.long_names.specs.Heap.{put_object, object_count};
 ghost use Rattle.long_names.specs.Names.{IsLongName};
-ghost use Rattle.loom_run.specs.Fields.{body_with, heap_with};
+ghost use Rattle.loom_run.specs.Fields.{heap_with};
 ghost use Rattle.loom_run.specs.Load.{AreBelow, have_counts, have_known};
 ghost use Rattle.loom_run.specs.Stored.{IsStored};
-ghost use Rattle.loom_run.specs.StoredProps.{IsStored-prop};
+ghost use Rattle.loom_run.specs.Stored.{IsStored-prop};
 
 use crate::counts::Counts;
 use long_names::{Body, Name, Object, Value};
 use std::alloc::{AllocError, Global};
 use std::collections::BTreeMap;
-
-/// The names of the known objects.
-const KNOWN: [Name; 22] = [
-    Name::NIL,
-    Name::FALSE,
-    Name::TRUE,
-    Name::SCHEDULER_ASSOCIATION,
-    Name::SMALL_INTEGER,
-    Name::STRING,
-    Name::ARRAY,
-    Name::METHOD_CONTEXT,
-    Name::BLOCK_CONTEXT,
-    Name::POINT,
-    Name::LARGE_POSITIVE_INTEGER,
-    Name::DISPLAY_BITMAP,
-    Name::MESSAGE,
-    Name::COMPILED_METHOD,
-    Name::SEMAPHORE,
-    Name::CHARACTER,
-    Name::DOES_NOT_UNDERSTAND,
-    Name::CANNOT_RETURN,
-    Name::SPECIAL_SELECTORS,
-    Name::CHARACTER_TABLE,
-    Name::MUST_BE_BOOLEAN,
-    Name::LARGE_NEGATIVE_INTEGER,
-];
 
 /// The objects of a heap under their names, and the next name, which is above them all.
 #[derive(Drop)]
@@ -122,7 +96,7 @@ impl ObjectMap {
     pub(crate) fn has_known(&self) -> bool
         ensures { result ≡ have_known (heap_of self.now) }
     {
-        KNOWN.iter().all(|name| self.get(*name).is_some())
+        Name::KNOWN.iter().all(|name| self.get(*name).is_some())
     }
 
     /// Puts an object under a name below the next one, in place of the one that the name has.
@@ -163,7 +137,7 @@ impl ObjectMap {
 
 fn set_body_field(body: &mut Body, i: usize, value: Value)
     requires { i < length (fields_of body.old) }
-    ensures { body.new ≡ body_with body.old i value }
+    ensures { body.new ≡ with_field body.old i value }
 {
     match body {
         Body::Pointers(values) => values.set_item(i, value),

@@ -7,6 +7,11 @@ ghost use Rattle.loom_run.specs.Gives.{Gives, Reads, Makes, Leaves, machine_of};
 
 use crate::broken::NotBuilt;
 use crate::cpu::Cpu;
+use crate::indexes::{
+    ACTIVE_PROCESS_INDEX, ASSOCIATION_SIZE, INSTRUCTION_POINTER_INDEX, METHOD_INDEX, PROCESS_SIZE,
+    RECEIVER_INDEX, SCHEDULER_SIZE, STACK_POINTER_INDEX, SUSPENDED_CONTEXT_INDEX, TEMP_FRAME_START,
+    VALUE_INDEX,
+};
 use crate::interpreter::Interpreter;
 use crate::map::ObjectMap;
 use crate::read::name_in;
@@ -16,8 +21,12 @@ use long_names::{Name, Value};
 fn active_process(map: &ObjectMap) -> Result<Value, NotBuilt>
     ensures { Reads (heap_of map.now) result rules.active_process }
 {
-    let scheduler = map.field(&Value::Ref(Name::SCHEDULER_ASSOCIATION), 2, 1)?;
-    map.field(&scheduler, 2, 1)
+    let scheduler = map.field(
+        &Value::Ref(Name::SCHEDULER_ASSOCIATION),
+        ASSOCIATION_SIZE,
+        VALUE_INDEX,
+    )?;
+    map.field(&scheduler, SCHEDULER_SIZE, ACTIVE_PROCESS_INDEX)
 }
 
 // The registers that a context gives.
@@ -26,17 +35,17 @@ fn load(map: ObjectMap, context: &Value) -> Result<Interpreter, NotBuilt>
     ensures { Makes result (rules.load context.now (rules.at_rest (heap_of map))) }
 {
     let active = name_in(context)?;
-    let ip = map.number(context, 6, 1)?;
-    let depth = map.number(context, 6, 2)?;
+    let ip = map.number(context, TEMP_FRAME_START, INSTRUCTION_POINTER_INDEX)?;
+    let depth = map.number(context, TEMP_FRAME_START, STACK_POINTER_INDEX)?;
     let home_value = map.home(context)?;
     let home = name_in(&home_value)?;
-    let method_value = map.field(&home_value, 6, 3)?;
+    let method_value = map.field(&home_value, TEMP_FRAME_START, METHOD_INDEX)?;
     let method = name_in(&method_value)?;
     if !map.is_method(&method_value) {
         return Err(NotBuilt);
     }
     let cpu = Cpu::stated(&ip, &depth)?;
-    let receiver = map.field(&home_value, 6, 5)?;
+    let receiver = map.field(&home_value, TEMP_FRAME_START, RECEIVER_INDEX)?;
     Ok(Interpreter {
         map,
         active,
@@ -68,7 +77,7 @@ impl Interpreter {
         ensures { Makes result (rules.start (rules.at_rest (heap_of map))) }
     {
         let process = active_process(&map)?;
-        let context = map.field(&process, 4, 1)?;
+        let context = map.field(&process, PROCESS_SIZE, SUSPENDED_CONTEXT_INDEX)?;
         load(map, &context)
     }
 
@@ -175,11 +184,12 @@ impl Interpreter {
     {
         let active = Value::Ref(self.active);
         let ip = self.cpu.stated_ip();
-        self.map.store(&active, 1, ip)?;
+        self.map.store(&active, INSTRUCTION_POINTER_INDEX, ip)?;
         let depth = self.cpu.stated_depth();
-        self.map.store(&active, 2, depth)?;
+        self.map.store(&active, STACK_POINTER_INDEX, depth)?;
         let process = active_process(&self.map)?;
-        self.map.store(&process, 1, Value::from(self.active))
+        self.map
+            .store(&process, SUSPENDED_CONTEXT_INDEX, Value::from(self.active))
     }
 
     /// Stores the registers into the active context, and that into the active process.

@@ -3,7 +3,8 @@ use Rattle.std.proofs.lemmas.List.{append-nil}
 use Rattle.long_names.specs.Heap.{object_count, count_of}
 use Rattle.loom_outside.specs.declared.outside.Role.TheVariants.{Image}
 use Rattle.loom_run.specs.Counts.{count_in}
-use Rattle.loom_run.specs.Load.{head_text, records_text}
+use Rattle.loom_run.specs.Load.{records_text}
+use Rattle.image_format.specs.Text.{head_text}
 use Rattle.loom_run.specs.Map.{entries_of}
 use Rattle.loom_run.proofs.Entries.{entries}
 use Rattle.loom_run.proofs.ImageLaws.{image-entries, texts-below}
@@ -30,8 +31,8 @@ returns-in_err-read_objects-clause-bad g c = λ told was valid.
     let begun = ap (λ s. s ++ left) c.new-window.ensures.bytes in
     let head = c.in_ok-head.ensures.taken in
     let is_bad = fault-is c.from_residual-in_err-read_objects.result c.in_err-read_objects.field-0.0 c.from_residual-in_err-read_objects.ensures.1 was in
-    let split = behind left c.fill.new.self.bytes c.take_head.new.window.bytes (g.H.Host.roles c.fill.new.host Image).left c.in_ok-head.head.count c.in_ok-head.head.next (c.in_ok-fill.ensures.rest told ∙ begun) head.0 in
-    let parts = valid-records h c.in_ok-head.head.count c.in_ok-head.head.next left _ valid.is valid.text head.1 split in
+    let split = behind left c.fill.new.self.bytes c.take_head.new.window.bytes (g.H.Host.roles c.fill.new.host Image).left c.in_ok-head.head.objects c.in_ok-head.head.next (c.in_ok-fill.ensures.rest told ∙ begun) head.0 in
+    let parts = valid-records h c.in_ok-head.head.objects c.in_ok-head.head.next left _ valid.is valid.text head.1 split in
     let none = ap length c.new-map.ensures.entries in
     let count = parts.0 in
     c.in_err-read_objects.ensures.bad told (ap (λ f. Err f) is_bad) h valid.is (sym parts.1 ∙ sym c.new-map.ensures.next) (omega arith)
@@ -53,8 +54,8 @@ returns-in_err-judge-clause-bad g c = λ told was valid.
     let begun = ap (λ s. s ++ left) c.new-window.ensures.bytes in
     let head = c.in_ok-head.ensures.taken in
     let is_bad = fault-is c.from_residual-in_err-judge.result c.in_err-judge.field-0.0 c.from_residual-in_err-judge.ensures.1 was in
-    let split = behind left c.fill.new.self.bytes c.take_head.new.window.bytes (g.H.Host.roles c.fill.new.host Image).left c.in_ok-head.head.count c.in_ok-head.head.next (c.in_ok-fill.ensures.rest told ∙ begun) head.0 in
-    let parts = valid-records h c.in_ok-head.head.count c.in_ok-head.head.next left _ valid.is valid.text head.1 split in
+    let split = behind left c.fill.new.self.bytes c.take_head.new.window.bytes (g.H.Host.roles c.fill.new.host Image).left c.in_ok-head.head.objects c.in_ok-head.head.next (c.in_ok-fill.ensures.rest told ∙ begun) head.0 in
+    let parts = valid-records h c.in_ok-head.head.objects c.in_ok-head.head.next left _ valid.is valid.text head.1 split in
     let map = c.read_objects.new.map in
     let stated = c.read_objects.new.stated in
     let none = ap length c.new-map.ensures.entries in
@@ -71,7 +72,7 @@ returns-clause-heap g c = λ told.
     let left = (g.H.Host.roles c.args.host.now Image).left in
     let begun = ap (λ s. s ++ left) c.new-window.ensures.bytes in
     let head = c.in_ok-head.ensures.taken in
-    let split = behind left c.fill.new.self.bytes c.take_head.new.window.bytes (g.H.Host.roles c.fill.new.host Image).left c.in_ok-head.head.count c.in_ok-head.head.next (c.in_ok-fill.ensures.rest told ∙ begun) head.0 in
+    let split = behind left c.fill.new.self.bytes c.take_head.new.window.bytes (g.H.Host.roles c.fill.new.host Image).left c.in_ok-head.head.objects c.in_ok-head.head.next (c.in_ok-fill.ensures.rest told ∙ begun) head.0 in
     let map = c.read_objects.new.map in
     let stated = c.read_objects.new.stated in
     let none = ap length c.new-map.ensures.entries in
@@ -79,7 +80,7 @@ returns-clause-heap g c = λ told.
     let judged = c.in_ok-judge.ensures.ok in
     let end = end-came c.fill-2.new.self.ended c.fill-2.new.self.bytes (g.H.Host.roles c.fill-2.new.host Image).left c.in_ok-fill-2.ensures.enough (c.in_ok-fill-2.ensures.ends told) judged.0 in
     let nothing : c.fill-2.new.self.bytes ++ (g.H.Host.roles c.fill-2.new.host Image).left ≡ [] = ap₂ (λ (s t : List ℕ). s ++ t) judged.0 end in
-    loaded map (count_in stated) c.in_ok-head.head.count c.in_ok-head.head.next left (c.take_head.new.window.bytes ++ (g.H.Host.roles c.fill.new.host Image).left) head.1
+    loaded map (count_in stated) c.in_ok-head.head.objects c.in_ok-head.head.next left (c.take_head.new.window.bytes ++ (g.H.Host.roles c.fill.new.host Image).left) head.1
     (c.in_ok-read_objects.ensures.next ∙ c.new-map.ensures.next) (omega arith) split
     (sym (append-nil (records_text (count_in stated) (entries_of map)))
     ∙ ap (λ s. records_text (count_in stated) (entries_of map) ++ s) (sym nothing)
