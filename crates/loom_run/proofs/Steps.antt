@@ -69,9 +69,9 @@ pub unpin_all_then : {B : Type 0} (k : Unit {0} → Rule B) (m new : Machine) (r
 unfolding ◌>>=◌ unpin_all
 unpin_all_then k m new r h = gives_after [] new r (k tt (record m { slots = λ i. None })) h
 
-pub pin_then : {B : Type 0} (slot n : ℕ) (k : Unit {0} → Rule B) (m new : Machine) (r : Result B NotBuilt) → Gives new r (k tt (record m { slots = set_slot m.slots slot n })) → Gives new r ((pin slot (Ref n) >>= k) m)
+pub pin_then : {B : Type 0} (slot n : ℕ) (k : Unit {0} → Rule B) (m new : Machine) (r : Result B NotBuilt) → Gives new r (k tt (record m { slots = set_slot m.slots slot (Some n) })) → Gives new r ((pin slot (Ref n) >>= k) m)
 unfolding ◌>>=◌ pin
-pin_then slot n k m new r h = gives_after (row_of m n ∷ row_of (record m { slots = set_slot m.slots slot n }) n ∷ []) new r (k tt (record m { slots = set_slot m.slots slot n })) h
+pin_then slot n k m new r h = gives_after (row_of m n ∷ row_of (record m { slots = set_slot m.slots slot (Some n) }) n ∷ []) new r (k tt (record m { slots = set_slot m.slots slot (Some n) })) h
 
 pub pin_stop : {B : Type 0} (slot : ℕ) (z : ℤ) (k : Unit {0} → Rule B) (m new : Machine) (e : NotBuilt) → Gives {A = B} new (Err e) ((pin slot (Int z) >>= k) m)
 unfolding ◌>>=◌ pin
@@ -237,7 +237,7 @@ set_numbers_done a cpu next m same = set_numbers_then cpu (λ u. done a) m (reco
 pub read_as : {A : Type 0} (f : Object → Option A) (v : Value) (r : Result A NotBuilt) (h g : Heap) → g ≡ h → IsRead r (option_and_then f (object_at h v)) → IsRead r (option_and_then f (object_at g v))
 read_as f v r h g same is = subst (λ (x : Heap). IsRead r (option_and_then f (object_at x v))) (sym same) is
 
-pub pin_at : {B : Type 0} (slot n : ℕ) (v : Value) (k : Unit {0} → Rule B) (m new : Machine) (r : Result B NotBuilt) → v ≡ Ref n → Gives new r (k tt (record m { slots = set_slot m.slots slot n })) → Gives new r ((pin slot v >>= k) m)
+pub pin_at : {B : Type 0} (slot n : ℕ) (v : Value) (k : Unit {0} → Rule B) (m new : Machine) (r : Result B NotBuilt) → v ≡ Ref n → Gives new r (k tt (record m { slots = set_slot m.slots slot (Some n) })) → Gives new r ((pin slot v >>= k) m)
 pin_at slot n v k m new r is h = subst (λ (x : Value). Gives new r ((pin slot x >>= k) m)) (sym is) (pin_then slot n k m new r h)
 
 pub pin_none : {B : Type 0} (slot : ℕ) (v : Value) (k : Unit {0} → Rule B) (m new : Machine) (e : NotBuilt) → name_of v ≡ None → Gives {A = B} new (Err e) ((pin slot v >>= k) m)
