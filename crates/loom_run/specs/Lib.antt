@@ -8,8 +8,10 @@ pub mod Load
 pub mod Lowered
 pub mod Machine
 pub mod Map
+pub mod Meanings
 pub mod Parts
 pub mod Pointers
+pub mod Promise
 pub mod Read
 pub mod RunLaws
 pub mod Saved

@@ -1,10 +1,11 @@
 -- What the parts of a run answer.
-use Rattle.std.specs.Prelude.{◌≡◌, ℕ, List, ◌⊎◌, Result, Err, IsOk}
+use Rattle.std.specs.Prelude.{◌≡◌, ℕ, Bool, List, ◌⊎◌, Result, Err, IsOk, IsTrue}
 use Rattle.long_names.specs.Heap.{Heap}
 use Rattle.loom_outside.specs.Outside.{RoleState, PutPrefix, puts}
 use Rattle.loom_outside.specs.declared.outside.Role.TheVariants.{Saved, Notes}
-use Rattle.loom_run.specs.Top.{Saves, BeginsToSave, WasRefused}
 use Rattle.long_names.specs.Counting.{Rose}
+use Rattle.loom_run.specs.Meanings.{Meanings}
+use Rattle.loom_run.specs.Top.{Saves, BeginsToSave, WasRefused}
 use Rattle.loom_run.specs.Status.{line_of}
 use Rattle.loom_run.specs.declared.status.Status.{Status}
 use Rattle.loom_run.specs.declared.status.Status.TheVariants.{Done, Usage, WriteFault, OutOfMemory, NotBuilt}
@@ -41,15 +42,15 @@ abbrev pub unsaid : Status → ℕ → Status
 unsaid (Done ran) now = WriteFault Notes now
 unsaid status now = status
 
--- the last line was put whole, or failed, where P says that Notes is told
-pub record IsWhole (P : Type 0) (status result : Status) (old new : RoleState) : Type 0 where
+-- the last line was put whole, or failed, where Notes is told or not
+pub record IsWhole (told : Bool) (status result : Status) (before now : Meanings) : Type 0 where
   pub answer : result ≡ status
-  pub put : P → new ≡ puts (line_of status) old
+  pub put : IsTrue told → now.roles Notes ≡ puts (line_of status) (before.roles Notes)
 
-pub record IsCut (P : Type 0) (status result : Status) (before now : ℕ) (old new : RoleState) : Type 0 where
-  pub answer : result ≡ unsaid status now
-  pub rose : Rose before now
-  pub put : P → PutPrefix (line_of status) old new
+pub record IsCut (told : Bool) (status result : Status) (before now : Meanings) : Type 0 where
+  pub answer : result ≡ unsaid status (now.faults Notes)
+  pub rose : Rose (before.faults Notes) (now.faults Notes)
+  pub put : IsTrue told → PutPrefix (line_of status) (before.roles Notes) (now.roles Notes)
 
-abbrev pub IsTold : Type 0 → Status → Status → ℕ → ℕ → RoleState → RoleState → Type 0
-IsTold P status result before now old new = IsWhole P status result old new ⊎ IsCut P status result before now old new
+abbrev pub IsTold : Bool → Status → Status → Meanings → Meanings → Type 0
+IsTold told status result before now = IsWhole told status result before now ⊎ IsCut told status result before now

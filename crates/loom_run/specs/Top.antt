@@ -1,7 +1,7 @@
 -- What a run does with the roles of its host, by its answer.
 use Rattle.std.specs.Prelude.{◌≡◌, ℕ, ◌+◌, ◌-◌, ◌^◌, ◌≤◌, min, List, ◌++◌, take, length, Bool, true, false, ◌⊎◌, Result, Err, IsOk, IsOkAnd, Some, IfSome}
 use Rattle.loom_outside.specs.Outside.{RoleState, Attached, puts, PutPrefix}
-use Rattle.long_names.specs.Counting.{counted}
+use Rattle.long_names.specs.Counting.{counted, Rose}
 use Rattle.loom_outside.specs.declared.outside.Failed.{Failed}
 use Rattle.loom_outside.specs.declared.outside.Role.{Role}
 use Rattle.loom_outside.specs.declared.outside.Role.TheVariants.{Image, Saved, Notes}
@@ -9,16 +9,13 @@ use Rattle.long_names.specs.Heap.{Heap}
 use Rattle.image_format.specs.Text.{image_text}
 use Rattle.image_format.specs.Valid.{IsImageHeap, IsValid}
 use Rattle.loom_run.specs.Machine.{ending}
+use Rattle.loom_run.specs.Meanings.{Meanings}
 use Rattle.loom_run.specs.Saved.{saved_text}
 use Rattle.loom_run.specs.Status.{line_of}
 use Rattle.loom_run.specs.declared.status.Status.{Status}
 use Rattle.loom_run.specs.declared.status.Status.TheVariants.{Done, Usage, ImageBad, ReadFault, WriteFault, OutOfMemory, NotBuilt}
 
 -- ---- faults
-
--- the count of faults rose, or stands at the greatest u64
-abbrev pub Rose : ℕ → ℕ → Type 0
-Rose before now = min (before + 1) (2 ^ 64 - 1) ≤ now
 
 -- a run writes Saved and Notes
 abbrev pub IsWritten : Role → Type 0
@@ -124,20 +121,20 @@ SavesBy _ image steps text old new = Unit {0}
 -- ---- Notes
 
 -- a prefix of this line was put, and the whole line unless the count of faults rose
-pub record Noted (line : List ℕ) (before now : ℕ) (old new : RoleState) : Type 0 where
-  pub prefix : PutPrefix line old new
-  pub whole : (Rose before now → ⊥) → new ≡ puts line old
+pub record Noted (line : List ℕ) (before now : Meanings) : Type 0 where
+  pub prefix : PutPrefix line (before.roles Notes) (now.roles Notes)
+  pub whole : (Rose (before.faults Notes) (now.faults Notes) → ⊥) → now.roles Notes ≡ puts line (before.roles Notes)
 
 -- What was put to Notes. Done has its whole line there. Where that couldn't be written, the answer is a fault of Notes and no
 -- second line is begun. Any other answer has its own line there, or as much of it as could be written.
-abbrev pub NotedFor : Role → ℕ → ℕ → ℕ → ℕ → RoleState → RoleState → Type 0
-NotedFor Notes count steps before now old new = PutPrefix (line_of (Done steps)) old new
-NotedFor role count steps before now old new = Noted (line_of (WriteFault role count)) before now old new
+abbrev pub NotedFor : Role → ℕ → ℕ → Meanings → Meanings → Type 0
+NotedFor Notes count steps before now = PutPrefix (line_of (Done steps)) (before.roles Notes) (now.roles Notes)
+NotedFor role count steps before now = Noted (line_of (WriteFault role count)) before now
 
-abbrev pub NotedBy : Status → ℕ → ℕ → ℕ → RoleState → RoleState → Type 0
-NotedBy (Done ran) steps before now old new = new ≡ puts (line_of (Done ran)) old
-NotedBy (WriteFault role count) steps before now old new = NotedFor role count steps before now old new
-NotedBy status steps before now old new = Noted (line_of status) before now old new
+abbrev pub NotedBy : Status → ℕ → Meanings → Meanings → Type 0
+NotedBy (Done ran) steps before now = now.roles Notes ≡ puts (line_of (Done ran)) (before.roles Notes)
+NotedBy (WriteFault role count) steps before now = NotedFor role count steps before now
+NotedBy status steps before now = Noted (line_of status) before now
 
 -- ---- a run that goes through
 

@@ -2,6 +2,7 @@
 ghost use Rattle.std.specs.Prelude.{◌≡◌, ◌+◌, ◌-◌, ◌%◌, ◌^◌, ◌<◌, ◌≤◌, ◌≢◌, ◌↔◌, ◌++◌, ◌&&◌, ℕ, List, [], IsTrue, OnOk, OnErr, IfSome, IfNone, IfErr, IfOk, Err, false, length, take, drop, min};
 ghost use Rattle.std.specs.Ordering.{nat_cmp};
 ghost use Rattle.std.specs.BTreeMap.{IsOrdered};
+ghost use Rattle.long_names.specs.Counting.{Rose};
 ghost use Rattle.loom_outside.specs.Outside.{SameBut};
 ghost use Rattle.long_names.specs.declared.object.Rec.{Rec as Spelled};
 ghost use Rattle.long_names.specs.Objects.{IsRecord};
@@ -173,7 +174,7 @@ fn read_objects<H: Host>(
     ensures other_faults { SameBut Role.Image (H.faults host.old) (H.faults host.new) }
     ensures writes { H.writes host.new ≡ H.writes host.old }
     ensures later { H.faults host.old Role.Image ≤ H.faults host.new Role.Image }
-    ensures read { result ≡ Err LoadFault.Read → min (H.faults host.old Role.Image + 1) (2 ^ 64 - 1) ≤ H.faults host.new Role.Image }
+    ensures read { result ≡ Err LoadFault.Read → Rose (H.faults host.old Role.Image) (H.faults host.new Role.Image) }
 {
     'records: for _ in 0..count {
         window.fill(host)?;
@@ -192,7 +193,7 @@ pub fn load<H: Host>(alloc: Global, host: &mut H) -> Result<ObjectMap, LoadFault
     ensures other_faults { SameBut Role.Image (H.faults host.old) (H.faults host.new) }
     ensures writes { H.writes host.new ≡ H.writes host.old }
     ensures later { H.faults host.old Role.Image ≤ H.faults host.new Role.Image }
-    ensures read { result ≡ Err LoadFault.Read → min (H.faults host.old Role.Image + 1) (2 ^ 64 - 1) ≤ H.faults host.new Role.Image }
+    ensures read { result ≡ Err LoadFault.Read → Rose (H.faults host.old Role.Image) (H.faults host.new Role.Image) }
 {
     let mut window = Window::new(alloc);
     window.fill(host)?;

@@ -1,16 +1,15 @@
 // The whole program.
-ghost use Rattle.std.specs.Prelude.{◌≡◌, ◌≢◌, ◌⊎◌, None, ◌≤◌, IsTrue, IfOk, IfErr, IsSome, OnOk, Err, Some};
-ghost use Rattle.loom_outside.specs.declared.outside.Role.{Role};
-ghost use Rattle.loom_outside.specs.Outside.{SameBut};
+ghost use Rattle.std.specs.Prelude.{◌≡◌, ◌⊎◌, [], ◌∷◌, IsTrue, IfOk, OnOk, Err};
 ghost use Rattle.image_format.specs.Text.{image_text};
 ghost use Rattle.image_format.specs.Valid.{IsImageHeap, IsValid};
 ghost use Rattle.loom_run.specs.Map.{heap_of};
 ghost use Rattle.loom_run.specs.Machine.{ending};
+ghost use Rattle.loom_run.specs.Meanings.{meanings, IsLeft, LeavesBut};
+ghost use Rattle.loom_run.specs.Promise.{Promise};
 ghost use Rattle.loom_run.specs.Saved.{saved_text};
-ghost use Rattle.loom_run.specs.Status.{usage_of, line_of};
-ghost use Rattle.loom_run.specs.Words.{texts_of, bad_word, image_word, saved_word, steps_of};
-ghost use Rattle.loom_run.specs.Top.{AttachedOnce, WasWritten, ImageBy, SavedBy, IsCaused, HasRun, NotedBy, Judges, SavesBy, WasBegun, WasRefused, IsDone, CanBeDone, bytes_of, is_before_saving};
 ghost use Rattle.long_names.specs.Counting.{Rose};
+ghost use Rattle.loom_run.specs.Words.{texts_of};
+ghost use Rattle.loom_run.specs.Top.{AttachedOnce, WasWritten, SavedBy, IsCaused, HasRun, Judges, SavesBy, WasBegun, WasRefused, bytes_of, is_before_saving};
 ghost use Rattle.loom_run.specs.Parts.{IsAfterLoading, IsOfRun, IsTold, Runs, SavesRun, unsaid};
 
 use crate::load::{LoadFault, load};
@@ -24,14 +23,14 @@ use std::alloc::Global;
 
 // Attaches Image by this name, and reads it to its end.
 fn read_image<H: Host>(alloc: Global, host: &mut H, name: &str) -> Result<ObjectMap, LoadFault>
-    ensures attached { IsTrue (H.tells Role.Image) → AttachedOnce name.now (H.roles host.old Role.Image) (H.roles host.new Role.Image) }
-    ensures heap { IsTrue (H.tells Role.Image) → IfOk result (λ m. IsImageHeap (heap_of m) × (bytes_of (H.roles host.new Role.Image) ≡ image_text (heap_of m))) }
-    ensures bad { IsTrue (H.tells Role.Image) → result ≡ Err LoadFault.Bad → IsValid (bytes_of (H.roles host.new Role.Image)) → ⊥ }
+    ensures attached { IsTrue (H.tells Role.Image)
+        → AttachedOnce name.now (H.roles host.old Role.Image) (H.roles host.new Role.Image) }
+    ensures heap { IsTrue (H.tells Role.Image)
+        → IfOk result (λ m. IsImageHeap (heap_of m) × (bytes_of (H.roles host.new Role.Image) ≡ image_text (heap_of m))) }
+    ensures bad { IsTrue (H.tells Role.Image)
+        → result ≡ Err LoadFault.Bad → IsValid (bytes_of (H.roles host.new Role.Image)) → ⊥ }
     ensures read { result ≡ Err LoadFault.Read → Rose (H.faults host.old Role.Image) (H.faults host.new Role.Image) }
-    ensures later { H.faults host.old Role.Image ≤ H.faults host.new Role.Image }
-    ensures others { SameBut Role.Image (H.roles host.old) (H.roles host.new) }
-    ensures other_faults { SameBut Role.Image (H.faults host.old) (H.faults host.new) }
-    ensures writes { H.writes host.new ≡ H.writes host.old }
+    ensures others { LeavesBut (Role.Image ∷ []) (meanings H.Host host.old) (meanings H.Host host.new) }
 {
     if host.attach(Role::Image, name).is_err() {
         return Err(LoadFault::Read);
@@ -46,15 +45,17 @@ fn write_saved<H: Host>(
     name: &str,
     map: ObjectMap,
 ) -> Result<(), SaveFault>
-    ensures attached { IsTrue (H.tells Role.Saved) → AttachedOnce name.now (H.roles host.old Role.Saved) (H.roles host.new Role.Saved) }
-    ensures put { IsTrue (H.tells Role.Saved) → OnOk result (WasWritten name.now (saved_text (heap_of map)) (H.roles host.old Role.Saved) (H.roles host.new Role.Saved)) }
-    ensures begun { IsTrue (H.tells Role.Saved) → result ≡ Err SaveFault.Memory → WasBegun name.now (saved_text (heap_of map)) (H.roles host.old Role.Saved) (H.roles host.new Role.Saved) }
-    ensures refused { IsTrue (H.tells Role.Saved) → result ≡ Err SaveFault.Write → WasRefused name.now (H.roles host.old Role.Saved) (H.roles host.new Role.Saved) ⊎ WasBegun name.now (saved_text (heap_of map)) (H.roles host.old Role.Saved) (H.roles host.new Role.Saved) }
+    ensures attached { IsTrue (H.tells Role.Saved)
+        → AttachedOnce name.now (H.roles host.old Role.Saved) (H.roles host.new Role.Saved) }
+    ensures put { IsTrue (H.tells Role.Saved)
+        → OnOk result (WasWritten name.now (saved_text (heap_of map)) (H.roles host.old Role.Saved) (H.roles host.new Role.Saved)) }
+    ensures begun { IsTrue (H.tells Role.Saved) → result ≡ Err SaveFault.Memory
+        → WasBegun name.now (saved_text (heap_of map)) (H.roles host.old Role.Saved) (H.roles host.new Role.Saved) }
+    ensures refused { IsTrue (H.tells Role.Saved) → result ≡ Err SaveFault.Write
+        → WasRefused name.now (H.roles host.old Role.Saved) (H.roles host.new Role.Saved)
+        ⊎ WasBegun name.now (saved_text (heap_of map)) (H.roles host.old Role.Saved) (H.roles host.new Role.Saved) }
     ensures write { result ≡ Err SaveFault.Write → Rose (H.faults host.old Role.Saved) (H.faults host.new Role.Saved) }
-    ensures later { H.faults host.old Role.Saved ≤ H.faults host.new Role.Saved }
-    ensures others { SameBut Role.Saved (H.roles host.old) (H.roles host.new) }
-    ensures other_faults { SameBut Role.Saved (H.faults host.old) (H.faults host.new) }
-    ensures writes { H.writes host.new ≡ H.writes host.old }
+    ensures others { LeavesBut (Role.Saved ∷ []) (meanings H.Host host.old) (meanings H.Host host.new) }
 {
     if host.attach(Role::Saved, name).is_err() {
         return Err(SaveFault::Write);
@@ -67,14 +68,14 @@ fn run_map<H: Host>(alloc: Global, host: &mut H, map: ObjectMap, command: &Comma
     ensures after { IsAfterLoading result }
     ensures ran { HasRun result command.now.steps }
     ensures cause { IsCaused result (H.faults host.old) (H.faults host.new) }
-    ensures saved { IsTrue (H.tells Role.Saved) → SavedBy result command.now.saved.now (H.roles host.old Role.Saved) (H.roles host.new Role.Saved) }
-    ensures unsaved { IsTrue (is_before_saving result) → (H.roles host.new Role.Saved ≡ H.roles host.old Role.Saved) × (H.faults host.new Role.Saved ≡ H.faults host.old Role.Saved) }
+    ensures saved { IsTrue (H.tells Role.Saved)
+        → SavedBy result command.now.saved.now (H.roles host.old Role.Saved) (H.roles host.new Role.Saved) }
+    ensures unsaved { IsTrue (is_before_saving result)
+        → IsLeft Role.Saved (meanings H.Host host.old) (meanings H.Host host.new) }
     ensures runs { Runs result (ending command.now.steps (heap_of map)) }
-    ensures saves { IsTrue (H.tells Role.Saved) → SavesRun result (ending command.now.steps (heap_of map)) command.now.saved.now (H.roles host.old Role.Saved) (H.roles host.new Role.Saved) }
-    ensures later { H.faults host.old Role.Saved ≤ H.faults host.new Role.Saved }
-    ensures others { SameBut Role.Saved (H.roles host.old) (H.roles host.new) }
-    ensures other_faults { SameBut Role.Saved (H.faults host.old) (H.faults host.new) }
-    ensures writes { H.writes host.new ≡ H.writes host.old }
+    ensures saves { IsTrue (H.tells Role.Saved) → SavesRun result (ending command.now.steps (heap_of map))
+        command.now.saved.now (H.roles host.old Role.Saved) (H.roles host.new Role.Saved) }
+    ensures others { LeavesBut (Role.Saved ∷ []) (meanings H.Host host.old) (meanings H.Host host.new) }
 {
     let map = match run(map, command.steps) {
         Ok(map) => map,
@@ -95,15 +96,18 @@ fn run_command<H: Host>(alloc: Global, host: &mut H, command: &Command<'_>) -> S
     ensures of_run { IsOfRun result }
     ensures ran { HasRun result command.now.steps }
     ensures cause { IsCaused result (H.faults host.old) (H.faults host.new) }
-    ensures image { IsTrue (H.tells Role.Image) → AttachedOnce command.now.image.now (H.roles host.old Role.Image) (H.roles host.new Role.Image) }
-    ensures saved { IsTrue (H.tells Role.Saved) → SavedBy result command.now.saved.now (H.roles host.old Role.Saved) (H.roles host.new Role.Saved) }
-    ensures unsaved { IsTrue (is_before_saving result) → (H.roles host.new Role.Saved ≡ H.roles host.old Role.Saved) × (H.faults host.new Role.Saved ≡ H.faults host.old Role.Saved) }
-    ensures judges { IsTrue (H.tells Role.Image) → Judges result (bytes_of (H.roles host.new Role.Image)) command.now.steps }
-    ensures saves { IsTrue (H.tells Role.Image) → IsTrue (H.tells Role.Saved) → SavesBy result (bytes_of (H.roles host.new Role.Image)) command.now.steps command.now.saved.now (H.roles host.old Role.Saved) (H.roles host.new Role.Saved) }
-    ensures later { (r : Role) → H.faults host.old r ≤ H.faults host.new r }
-    ensures others { (r : Role) → r ≢ Role.Image → r ≢ Role.Saved → H.roles host.new r ≡ H.roles host.old r }
-    ensures other_faults { (r : Role) → r ≢ Role.Image → r ≢ Role.Saved → H.faults host.new r ≡ H.faults host.old r }
-    ensures writes { H.writes host.new ≡ H.writes host.old }
+    ensures image { IsTrue (H.tells Role.Image)
+        → AttachedOnce command.now.image.now (H.roles host.old Role.Image) (H.roles host.new Role.Image) }
+    ensures saved { IsTrue (H.tells Role.Saved)
+        → SavedBy result command.now.saved.now (H.roles host.old Role.Saved) (H.roles host.new Role.Saved) }
+    ensures unsaved { IsTrue (is_before_saving result)
+        → IsLeft Role.Saved (meanings H.Host host.old) (meanings H.Host host.new) }
+    ensures judges { IsTrue (H.tells Role.Image)
+        → Judges result (bytes_of (H.roles host.new Role.Image)) command.now.steps }
+    ensures saves { IsTrue (H.tells Role.Image) → IsTrue (H.tells Role.Saved)
+        → SavesBy result (bytes_of (H.roles host.new Role.Image)) command.now.steps
+        command.now.saved.now (H.roles host.old Role.Saved) (H.roles host.new Role.Saved) }
+    ensures others { LeavesBut (Role.Image ∷ Role.Saved ∷ []) (meanings H.Host host.old) (meanings H.Host host.new) }
 {
     match read_image(alloc, host, command.image) {
         Ok(map) => run_map(alloc, host, map, command),
@@ -118,11 +122,8 @@ fn run_command<H: Host>(alloc: Global, host: &mut H, command: &Command<'_>) -> S
 
 // Puts the last line to Notes. Only a Done becomes another answer where that fails.
 fn tell<H: Host>(host: &mut H, status: Status) -> Status
-    ensures told { IsTold (IsTrue (H.tells Role.Notes)) status result (H.faults host.old Role.Notes) (H.faults host.new Role.Notes) (H.roles host.old Role.Notes) (H.roles host.new Role.Notes) }
-    ensures later { H.faults host.old Role.Notes ≤ H.faults host.new Role.Notes }
-    ensures others { SameBut Role.Notes (H.roles host.old) (H.roles host.new) }
-    ensures other_faults { SameBut Role.Notes (H.faults host.old) (H.faults host.new) }
-    ensures writes { H.writes host.new ≡ H.writes host.old }
+    ensures told { IsTold (H.tells Role.Notes) status result (meanings H.Host host.old) (meanings H.Host host.new) }
+    ensures others { LeavesBut (Role.Notes ∷ []) (meanings H.Host host.old) (meanings H.Host host.new) }
 {
     let line = status.line();
     match write_full(host, Role::Notes, line.as_str().as_bytes()) {
@@ -150,27 +151,7 @@ fn unsaid<H: Host>(host: &H, status: Status) -> Status
 /// attached, and the image of the kept objects is written to it. The last line goes to Notes. The first refusal ends the run:
 /// what comes later isn't attached, and only the line is still written.
 pub fn loom<H: Host>(alloc: Global, host: &mut H, words: &[String]) -> Status
-    // Usage comes exactly where a word is bad, missing or extra, and names it; `right_words` says which words are right.
-    ensures usage { usage_of result ≡ bad_word (texts_of words.now) }
-    ensures ran { HasRun result (steps_of (texts_of words.now)) }
-    // A fault is answered only where it rose in this run.
-    ensures cause { IsCaused result (H.faults host.old) (H.faults host.new) }
-    // Image and Saved are attached at most once, by their own words, and only in their turn.
-    ensures image { IsTrue (H.tells Role.Image) → ImageBy result (image_word (texts_of words.now)) (H.roles host.old Role.Image) (H.roles host.new Role.Image) }
-    ensures saved { IsTrue (H.tells Role.Saved) → SavedBy result (saved_word (texts_of words.now)) (H.roles host.old Role.Saved) (H.roles host.new Role.Saved) }
-    ensures unasked { IsSome (bad_word (texts_of words.now)) → (H.roles host.new Role.Image ≡ H.roles host.old Role.Image) × (H.faults host.new Role.Image ≡ H.faults host.old Role.Image) }
-    ensures unsaved { IsTrue (is_before_saving result) → (H.roles host.new Role.Saved ≡ H.roles host.old Role.Saved) × (H.faults host.new Role.Saved ≡ H.faults host.old Role.Saved) }
-    // An image is refused only where it is none, and a run stops only where the machine does.
-    ensures judges { IsTrue (H.tells Role.Image) → Judges result (bytes_of (H.roles host.new Role.Image)) (steps_of (texts_of words.now)) }
-    // With Done the saved image is that of the machine after so many bytecodes.
-    ensures saves { IsTrue (H.tells Role.Image) → IsTrue (H.tells Role.Saved) → SavesBy result (bytes_of (H.roles host.new Role.Image)) (steps_of (texts_of words.now)) (saved_word (texts_of words.now)) (H.roles host.old Role.Saved) (H.roles host.new Role.Saved) }
-    ensures noted { IsTrue (H.tells Role.Notes) → NotedBy result (steps_of (texts_of words.now)) (H.faults host.old Role.Notes) (H.faults host.new Role.Notes) (H.roles host.old Role.Notes) (H.roles host.new Role.Notes) }
-    // Right words, a right image, a run that doesn't stop and no fault give Done, unless memory runs out.
-    ensures completes { IsTrue (H.tells Role.Image) → usage_of result ≡ None → CanBeDone (bytes_of (H.roles host.new Role.Image)) (steps_of (texts_of words.now)) (H.faults host.old) (H.faults host.new) → IsDone result }
-    ensures later { (r : Role) → H.faults host.old r ≤ H.faults host.new r }
-    ensures others { (r : Role) → r ≢ Role.Image → r ≢ Role.Saved → r ≢ Role.Notes → H.roles host.new r ≡ H.roles host.old r }
-    ensures other_faults { (r : Role) → r ≢ Role.Image → r ≢ Role.Saved → r ≢ Role.Notes → H.faults host.new r ≡ H.faults host.old r }
-    ensures writes { H.writes host.new ≡ H.writes host.old }
+    ensures promise { Promise H.tells (meanings H.Host host.old) (meanings H.Host host.new) (texts_of words.now) result }
 {
     match command_of(words) {
         Ok(command) => {

@@ -1,5 +1,6 @@
 // The bytes of Image as they come.
 ghost use Rattle.std.specs.Prelude.{◌≡◌, ◌+◌, ◌-◌, ◌^◌, ◌≤◌, ◌<◌, ◌++◌, ◌==◌, [], IsTrue, OnOk, IfErr, Err, false, length, take, drop, min};
+ghost use Rattle.long_names.specs.Counting.{Rose};
 ghost use Rattle.loom_outside.specs.Outside.{SameBut, HasCause};
 ghost use Rattle.loom_run.specs.Window.{Ahead, EndsTruly, OnlyRead, unused};
 
@@ -100,7 +101,7 @@ impl Window {
         ensures writes { H.writes host.new ≡ H.writes host.old }
         ensures later { H.faults host.old Role.Image ≤ H.faults host.new Role.Image }
         ensures fault { IfErr result (λ f. f ≡ LoadFault.Bad → ⊥) }
-        ensures read { result ≡ Err LoadFault.Read → min (H.faults host.old Role.Image + 1) (2 ^ 64 - 1) ≤ H.faults host.new Role.Image }
+        ensures read { result ≡ Err LoadFault.Read → Rose (H.faults host.old Role.Image) (H.faults host.new Role.Image) }
     {
         let mut piece = [0; PIECE];
         let count = read_full(host, Role::Image, &mut piece)?;
@@ -122,7 +123,7 @@ impl Window {
         ensures writes { H.writes host.new ≡ H.writes host.old }
         ensures later { H.faults host.old Role.Image ≤ H.faults host.new Role.Image }
         ensures fault { IfErr result (λ f. f ≡ LoadFault.Bad → ⊥) }
-        ensures read { result ≡ Err LoadFault.Read → min (H.faults host.old Role.Image + 1) (2 ^ 64 - 1) ≤ H.faults host.new Role.Image }
+        ensures read { result ≡ Err LoadFault.Read → Rose (H.faults host.old Role.Image) (H.faults host.new Role.Image) }
     {
         while !self.ended && self.bytes.len() - self.at < MAX_RECORD {
             self.read_piece(host)?;
