@@ -1,0 +1,97 @@
+// A case, read from its paragraph.
+use crate::answer::Answer;
+use crate::edits::{cut, patch};
+use crate::paragraph::{Paragraph, parts_of};
+use crate::stage::at_this_stage;
+use anyhow::{Context, Result};
+use std::alloc::Global;
+
+/// An image, how it is run, and what has to come out.
+#[derive(Drop)]
+pub struct Case<'a> {
+    /// The bytes of the image.
+    pub image: Vec<u8>,
+    /// The bytes of the event file.
+    pub events: Vec<u8>,
+    /// How large the machine may be, as words of a command.
+    pub sizes: Sizes<'a>,
+    /// How many bytecodes are run, as a word of a command.
+    pub steps: &'a str,
+    /// What this stage of the program has to answer.
+    pub want: Answer,
+}
+
+/// The sizes of a machine, in decimal digits.
+#[derive(Clone, Copy, Debug)]
+pub struct Sizes<'a> {
+    /// The words of the core.
+    pub core: &'a str,
+    /// The entries of the object table.
+    pub entries: &'a str,
+    /// The objects for which the work file has room.
+    pub room: &'a str,
+}
+
+/// The case of a paragraph. `base` is the image that it may begin with.
+pub fn case_of<'a>(alloc: Global, base: &[u8], text: &'a str) -> Result<Case<'a>> {
+    let paragraph = Paragraph::new(text)?;
+    paragraph.needed("case")?;
+    Ok(Case {
+        image: image_of(alloc, base, paragraph)?,
+        events: paragraph.bytes(alloc, "events")?.unwrap_or(Vec::new(alloc)),
+        sizes: sizes_of(paragraph)?,
+        steps: paragraph.needed("steps")?,
+        want: at_this_stage(alloc, answer_of(alloc, paragraph)?)?,
+    })
+}
+
+fn sizes_of(paragraph: Paragraph<'_>) -> Result<Sizes<'_>> {
+    Ok(Sizes {
+        core: paragraph.value("core")?.unwrap_or("4096"),
+        entries: paragraph.value("entries")?.unwrap_or("512"),
+        room: paragraph.value("room")?.unwrap_or("1048576"),
+    })
+}
+
+// The stated image, with what is changed of it, in the order of the lines.
+fn image_of(alloc: Global, base: &[u8], paragraph: Paragraph<'_>) -> Result<Vec<u8>> {
+    let mut image = match paragraph.needed("image")? {
+        "base" => base.to_vec(alloc)?,
+        text => hex::decode(alloc, text).context("image")?,
+    };
+    for line in paragraph.text().lines() {
+        let (word, value) = parts_of(line);
+        edit(alloc, &mut image, word, value).context(word)?;
+    }
+    Ok(image)
+}
+
+// Makes the change that a line states, if it states one.
+fn edit(alloc: Global, image: &mut Vec<u8>, word: &str, value: &str) -> Result<()> {
+    match word {
+        "patch" => {
+            let (at, bytes) = value.split_once(' ').context("no bytes")?;
+            patch(image, at.parse()?, &hex::decode(alloc, bytes)?)?;
+        }
+        "cut" => cut(image, value.parse()?)?,
+        "append" => image.extend_from_slice(&hex::decode(alloc, value)?)?,
+        _ => {}
+    }
+    Ok(())
+}
+
+// What the whole machine answers.
+fn answer_of(alloc: Global, paragraph: Paragraph<'_>) -> Result<Answer> {
+    let status = paragraph.needed("status")?.parse().context("status")?;
+    let mut notes = paragraph.needed("notes")?.as_bytes().to_vec(alloc)?;
+    notes.push(b'\n')?;
+    Ok(Answer {
+        status,
+        notes,
+        transcript: paragraph
+            .bytes(alloc, "transcript")?
+            .unwrap_or(Vec::new(alloc)),
+        saved: paragraph.bytes(alloc, "saved")?,
+        display: paragraph.bytes(alloc, "display")?,
+    })
+}

@@ -1,0 +1,56 @@
+//! Runs the cases of the whole program, and prints each in which it answers otherwise than is wanted.
+//!
+//! A case is an image with what a run of so many bytecodes answers, role by role. The cases stand in files of data/, with the
+//! answers of a reference machine that was written apart from this program; what this stage of the program still answers otherwise
+//! is said in `stage`, in one function. A line is printed for each case that can't be read or differs, and one for each file with
+//! the number of its cases, so nothing is left out silently.
+//!
+//! The files lie where the program runs, or in the folder that its first word names.
+#![tactic(auto)]
+
+mod answer;
+mod case;
+mod edits;
+mod paragraph;
+mod report;
+mod run;
+mod stage;
+
+use crate::report::report;
+use std::path::Path;
+use std::{env, fs, io};
+
+/// The image that most cases change.
+const BASE: &str = "base.loom";
+
+/// The files of cases.
+const FILES: [&str; 15] = [
+    "runs.cases",
+    "start.cases",
+    "blocks.cases",
+    "bytecodes.cases",
+    "stack.cases",
+    "jumps.cases",
+    "methods.cases",
+    "kept.cases",
+    "image_rules.cases",
+    "image_objects.cases",
+    "bytes_1_more.cases",
+    "bytes_2_more.cases",
+    "bytes_128_more.cases",
+    "cuts.cases",
+    "not_built.cases",
+];
+
+fn main(rt: HostRuntime) -> io::Result<()> {
+    let word = env::args(&rt)?.nth(1).unwrap_or(String::new(rt.alloc()));
+    let folder = Path::new(word.as_str());
+    let base = match fs::read(&rt, folder.join(rt.alloc(), BASE)?) {
+        Ok(base) => base,
+        Err(error) => return println!(rt; "{BASE}: {error}"),
+    };
+    for file in FILES {
+        report(&rt, folder, file, &base)?;
+    }
+    Ok(())
+}
