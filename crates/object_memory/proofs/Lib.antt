@@ -1,8 +1,10 @@
 pub mod BaseLaws
 pub mod Callers
+pub mod CountDownLaws
 pub mod Entries
 pub mod MapLaws
 pub mod PlainLaws
 pub mod RecordLaws
 pub mod ShapeLaws
-pub mod SweepLaws
+pub mod WordLaws
+pub mod WorklistLaws

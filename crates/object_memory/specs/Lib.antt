@@ -4,6 +4,7 @@ pub mod Stored
 pub mod StoredProps
 pub mod Plain
 pub mod Counts
+pub mod Worklist
 pub mod Records
 pub mod Shape
 pub mod Base

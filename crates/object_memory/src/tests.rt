@@ -175,6 +175,25 @@ fn makes_a_cycle<M: ObjectMemory>(rt: &impl Abort, m: &mut M) -> Result<(), MemF
     Ok(())
 }
 
+/// As many objects as this, each of which holds the one before it. Nothing holds the last.
+fn makes_a_chain<M: ObjectMemory>(rt: &impl Abort, m: &mut M, count: u32) -> Result<(), MemFault>
+    requires sound { M.sound m.old }
+    requires ready { IsReady (M.told m.old) }
+    ensures ready { OnOk result (IsReady (M.told m.new)) }
+    ensures sound { KeepsSound result (M.sound m.new) }
+{
+    let (class, last, new) = (Reg::new(10), Reg::new(11), Reg::new(12));
+    m.int(last, 0);
+    for _ in 0..count {
+        assert!(rt; known_in(m, class, Name::ARRAY)?);
+        assert!(rt; is_name(m, class));
+        m.new_pointers(new, class, 1)?;
+        assert!(rt; set_field_at(m, new, 0, last)?);
+        m.copy(last, new);
+    }
+    Ok(())
+}
+
 #[test]
 fn each_call(rt: HostRuntime) -> Result<(), Fail> {
     let mut m = memory(rt.alloc(), 68)?;
@@ -207,11 +226,12 @@ fn names_are_spent(rt: HostRuntime) -> Result<(), Fail> {
     Ok(())
 }
 
-/// The kept records of the base image with a cycle of two objects: names, classes, kinds, lengths and counts.
+/// The kept records of the base image with a cycle of two objects, once a long chain is gone: names, classes, lengths and counts.
 #[test]
 fn kept_records(rt: HostRuntime) -> Result<(), Fail> {
     let mut m = memory(rt.alloc(), 68)?;
     makes_a_cycle(&rt, &mut m)?;
+    makes_a_chain(&rt, &mut m, 20_000)?;
     let recs = m.kept_recs(rt.alloc())?;
     assert_eq!(rt; recs.len(), 28);
     let rows = [
