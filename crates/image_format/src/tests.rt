@@ -1,5 +1,5 @@
 use super::*;
-use long_names::{Body, Octets, Value};
+use long_names::Octets;
 use std::alloc::Global;
 use std::test::Fail;
 
@@ -89,103 +89,6 @@ fn records_are_written_as_they_are_read(rt: HostRuntime) -> Result<(), Fail> {
         &FOUR_BYTES,
     ] {
         assert!(rt; is_kept(alloc, record)?);
-    }
-    Ok(())
-}
-
-// What the process's record tells, in order.
-fn are_its_values(body: &Body) -> bool {
-    match body {
-        Body::Pointers(values) if values.len() == 4 => {
-            matches!(values.item(0), Value::Ref(name) if name.get() == 2)
-                && matches!(values.item(1), Value::Ref(name) if name.get() == 66)
-                && matches!(values.item(2), Value::Int(1))
-        }
-        _ => false,
-    }
-}
-
-fn is_short_method(body: &Body) -> bool {
-    match body {
-        Body::Method {
-            header: 1,
-            literals,
-            code,
-        } if literals.len() == 1 => {
-            matches!(literals.item(0), Value::Int(-16384)) && code.bytes() == b"xyz".as_slice()
-        }
-        _ => false,
-    }
-}
-
-#[test]
-fn a_record_is_read_before_more_bytes(rt: HostRuntime) -> Result<(), Fail> {
-    let alloc = rt.alloc();
-    let mut bytes = Octets::new(alloc);
-    bytes.extend(&PROCESS)?;
-    bytes.extend(&SHORT_METHOD)?;
-    let (process, len) = decode_rec(alloc, bytes.bytes())?;
-    assert_eq!(rt; len, 36);
-    assert_eq!(rt; process.name.get(), 62);
-    assert_eq!(rt; process.class.get(), 16);
-    assert_eq!(rt; process.count, 1);
-    assert!(rt; are_its_values(&process.body));
-    let (method, len) = decode_rec(alloc, &SHORT_METHOD)?;
-    assert_eq!(rt; len, 36);
-    assert_eq!(rt; method.name.get(), 72);
-    assert_eq!(rt; method.count, 3);
-    assert!(rt; is_short_method(&method.body));
-    Ok(())
-}
-
-#[test]
-fn other_bytes_are_refused(rt: HostRuntime) -> Result<(), Fail> {
-    let alloc = rt.alloc();
-    // a byte of a record, and what makes it none
-    for (at, byte, why) in [
-        (3, 0, "the name 0"),
-        (3, 3, "an odd name"),
-        (7, 0, "the class 0"),
-        (7, 17, "an odd class"),
-        (16, 1, "kind 256"),
-        (17, 4, "kind 4"),
-        (18, 255, "more values than bytes"),
-        (27, 0, "the word 0"),
-        (29, 0x80, "a SmallInteger of 4,194,305"),
-        (30, 0x80, "the SmallInteger 16,385"),
-    ] {
-        let mut bytes = PROCESS;
-        bytes[at] = byte;
-        assert!(rt; is_refused(alloc, &bytes), "{why}");
-    }
-    for (at, byte, why) in [
-        (20, 255, "more literals than bytes"),
-        (23, 1, "a literal more than the header states"),
-        (27, 3, "a header of one literal"),
-        (27, 2, "a header that is a name"),
-        (26, 0x80, "a header out of range"),
-        (19, 5, "more code than bytes"),
-    ] {
-        let mut bytes = METHOD;
-        bytes[at] = byte;
-        assert!(rt; is_refused(alloc, &bytes), "{why}");
-    }
-    Ok(())
-}
-
-#[test]
-fn cut_and_unpadded_records_are_refused(rt: HostRuntime) -> Result<(), Fail> {
-    let alloc = rt.alloc();
-    for at in 21..24 {
-        let mut bytes = ONE_BYTE;
-        bytes[at] = 1;
-        assert!(rt; is_refused(alloc, &bytes), "a zero at {at}");
-    }
-    for len in 0..METHOD.len() {
-        assert!(rt; is_refused(alloc, &METHOD[..len]), "cut to {len}");
-    }
-    for len in 0..SHORT_METHOD.len() {
-        assert!(rt; is_refused(alloc, &SHORT_METHOD[..len]), "cut to {len}");
     }
     Ok(())
 }

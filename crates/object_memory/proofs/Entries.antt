@@ -1,5 +1,5 @@
 -- A heap as the list of its entries, by rising name.
-use Rattle.std.proofs.Common.{zero, suc, ◌≡◌, ◌≢◌, ℕ, ◌+◌, ◌<◌, ◌≤◌, nat_lt, Bool, true, false, cond, List, [], ◌∷◌, ◌++◌, length, Option, Some, None, is_some, refl, sym, ◌∙◌, ap, subst, arith, ◌⊎◌, inl, inr, ⊎_elim}
+use Rattle.std.proofs.Common.{zero, suc, ◌≡◌, ◌≢◌, ℕ, ◌+◌, ◌<◌, ◌≤◌, nat_lt, Bool, true, false, List, [], ◌∷◌, ◌++◌, length, Option, Some, None, refl, sym, ◌∙◌, ap, subst, arith, ◌⊎◌, inl, inr, ⊎_elim}
 use Rattle.std.proofs.lemmas.Grind.{common_steps}
 use Rattle.std.proofs.lemmas.Bool.{cases_lt, cases_eq}
 use Rattle.std.proofs.lemmas.List.Sums.{sum_by_push}
@@ -13,7 +13,7 @@ use Rattle.std.specs.Map.{lookup, keys_of}
 use Rattle.std.specs.BTreeMap.{BTreeMap, is_at, get, IsOrdered}
 use Rattle.std.specs.List.Sorted.{IsStrictlySortedBy}
 use Rattle.long_names.specs.Objects.{holdings}
-use Rattle.long_names.specs.Heap.{Heap, objects_below, object_count, holdings_below}
+use Rattle.long_names.specs.Heap.{Heap, holdings_below}
 use Rattle.long_names.specs.declared.object.Object.{Object}
 
 -- each name of the entries is below this one
@@ -172,19 +172,6 @@ map-below m n s h = below-from n 0 m.entries (map-rises m s) h
 -- the entries of a heap
 abbrev pub entries : Heap → List (ℕ × Object)
 entries h = entries_below h.at h.next
-
-objects-entries : (h : Heap) (n : ℕ) → objects_below h n ≡ length (entries_below h.at n)
-objects-entries h zero = refl
-objects-entries h (suc n) = rw (objects-entries h n) (one (entries_below h.at n) (h.at n))
-  where
-    one : (es : List (ℕ × Object)) (o : Option Object) → length es + cond (is_some o) 1 0 ≡ length (es ++ option_map_or (λ o. (n, o) ∷ []) o [])
-    one es None = grind (arith, common_steps)
-    one es (Some o) = grind (arith, common_steps)
-
--- it has as many objects as entries
-pub count-entries : (h : Heap) → object_count h ≡ length (entries h)
-unfolding object_count
-count-entries h = objects-entries h h.next
 
 abbrev pub words_of : ℕ → ℕ × Object → ℕ
 words_of name e = holdings e.1 name

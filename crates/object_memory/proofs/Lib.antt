@@ -1,5 +1,7 @@
+pub mod CountDownLaws
 pub mod Entries
 pub mod MapLaws
 pub mod PlainLaws
 pub mod RecordLaws
-pub mod SweepLaws
+pub mod WordLaws
+pub mod WorklistLaws

@@ -26,6 +26,7 @@ use Rattle.object_memory.specs.Plain.{heap_of}
 use Rattle.object_memory.specs.Stored.{IsStored}
 use Rattle.long_names.specs.Names.{IsLongName}
 use Rattle.object_memory.proofs.Entries.{entries, entries-found, map-rises, map-below}
+use Rattle.object_memory.proofs.WorklistLaws.{without-part}
 
 -- the entries of a map's heap are the map's
 pub heap-entries : (m : Objects) → entries (heap_of m) ≡ m.objects.entries
@@ -63,18 +64,31 @@ stored-put m n next now name x s up even fits ordered object named below put = r
 at-key : (name q : ℕ) → is_at (nat_cmp name) q ≡ eqb q name
 at-key name q = grind (arith, common_steps)
 
--- an object that was inserted, by name
-pub updated : (m n : BTreeMap ℕ Object) (name : ℕ) (x : Object) → Updates nat_cmp m n name (Some x) → (q : ℕ) → get nat_cmp n q ≡ cond (eqb q name) (Some x) (get nat_cmp m q)
-updated m n name x u q = u.0 q ∙ ap (λ b. cond b (Some x) (get nat_cmp m q)) (at-key name q)
+-- what was inserted or taken out, by name
+pub updated : {X : Type 0} (m n : BTreeMap ℕ X) (name : ℕ) (x : Option X) → Updates nat_cmp m n name x → (q : ℕ) → get nat_cmp n q ≡ cond (eqb q name) x (get nat_cmp m q)
+updated m n name x u q = u.0 q ∙ ap (λ b. cond b x (get nat_cmp m q)) (at-key name q)
+
+-- what is kept of a part of the objects
+stored-part : (m n : BTreeMap ℕ Object) (next : ℕ) → IsStored m next → IsOrdered nat_cmp n → ((q : ℕ) (o : Object) → get nat_cmp n q ≡ Some o → get nat_cmp m q ≡ Some o) → IsStored n next
+stored-part m n next s ordered same = record {
+  object = λ q o is. s.object q o (same q o is);
+  named = λ q o is. s.named q o (same q o is);
+  below = λ q o is. s.below q o (same q o is);
+  even = s.even;
+  fits = s.fits;
+  ordered = ordered;
+}
 
 pub same-entries : (m n : BTreeMap ℕ Object) (next : ℕ) → IsStored m next → n.entries ≡ m.entries → IsStored n next
-same-entries m n next s e =
-    let same : (q : ℕ) (o : Object) → get nat_cmp n q ≡ Some o → get nat_cmp m q ≡ Some o = λ q o is. ap (λ es. lookup (is_at (nat_cmp q)) es) (sym e) ∙ is in
-    record { object = λ q o is. s.object q o (same q o is); named = λ q o is. s.named q o (same q o is); below = λ q o is. s.below q o (same q o is); even = s.even; fits = s.fits; ordered = subst (λ es. IsStrictlySortedBy nat_cmp (keys_of es)) (sym e) s.ordered }
+same-entries m n next s e = stored-part m n next s (subst (λ es. IsStrictlySortedBy nat_cmp (keys_of es)) (sym e) s.ordered) (λ q o is. ap (λ es. lookup (is_at (nat_cmp q)) es) (sym e) ∙ is)
+
+-- and where an object is taken out
+pub stored-removed : (m n : BTreeMap ℕ Object) (next name : ℕ) → IsStored m next → IsOrdered nat_cmp n → Updates nat_cmp m n name None → IsStored n next
+stored-removed m n next name s ordered u = stored-part m n next s ordered (λ q o is. (without-part (record { at = get nat_cmp m; next = next }) name).same q o (sym (updated m n name None u q) ∙ is))
 
 -- whatever an insert answered
 pub stored-insert : {T E : Type 0} (r : Result T E) (m n : BTreeMap ℕ Object) (next name : ℕ) (x : Object) → OnOk r (Updates nat_cmp m n name (Some x)) → OnErr r (IsUnchanged m n) → IsOrdered nat_cmp n → IsStored m next → IsObject x → IsLongName name → name < next → IsStored n next
-stored-insert (Ok a) m n next name x ok err ordered s object named below = stored-put m n next next name x s (omega arith) s.even s.fits ordered object named below (updated m n name x ok)
+stored-insert (Ok a) m n next name x ok err ordered s object named below = stored-put m n next next name x s (omega arith) s.even s.fits ordered object named below (updated m n name (Some x) ok)
 stored-insert (Err e) m n next name x ok err ordered s object named below = same-entries m n next s err
 
 -- ---- objects that were written
@@ -157,9 +171,9 @@ heap-written f h name change o new there e put =
     ∙ ap (λ (x : Object). put_object h name x) e
     ∙ sym (ap (λ (x : Option Object). option_map_or (λ (p : Object). put_object h name (with p change)) x h) there)
 
--- an object that was written through a loan
-pub written : (m n : BTreeMap ℕ Object) (name : ℕ) (old new : Object) → WritesThrough nat_cmp (nat_cmp name) m new n → get nat_cmp m name ≡ Some old → (q : ℕ) → get nat_cmp n q ≡ cond (eqb q name) (Some new) (get nat_cmp m q)
-written m n name old new w there = updated m n name new (w.3 (ap is_some there))
+-- what was written through a loan
+pub written : {X : Type 0} (m n : BTreeMap ℕ X) (name : ℕ) (old new : X) → WritesThrough nat_cmp (nat_cmp name) m new n → get nat_cmp m name ≡ Some old → (q : ℕ) → get nat_cmp n q ≡ cond (eqb q name) (Some new) (get nat_cmp m q)
+written m n name old new w there = updated m n name (Some new) (w.3 (ap is_some there))
 
 -- a map's heap is bounded
 pub map-bounded : (m : Objects) → IsBounded (heap_of m)
@@ -169,13 +183,17 @@ map-bounded m = record { bounded = λ n high. go n high (get nat_cmp m.objects n
     go n high None e = e
     go n high (Some o) e = let low = m.stored.below n o e in absurd (omega arith)
 
--- counts stay small, whatever an insert answered
-pub small-insert : {T E : Type 0} (r : Result T E) (m n : BTreeMap ℕ ℕ) (name count : ℕ) → OnOk r (Updates nat_cmp m n name (Some count)) → OnErr r (IsUnchanged m n) → ((q : ℕ) → count_at (get nat_cmp m) q < 2 ^ 64) → count < 2 ^ 64 → (q : ℕ) → count_at (get nat_cmp n) q < 2 ^ 64
-small-insert (Ok a) m n name count ok err small fits q = go (is_at (nat_cmp name) q) (ok.0 q)
+-- counts stay small where one that fits is put
+pub small-put : (m n : BTreeMap ℕ ℕ) (name count : ℕ) → ((q : ℕ) → get nat_cmp n q ≡ cond (eqb q name) (Some count) (get nat_cmp m q)) → ((q : ℕ) → count_at (get nat_cmp m) q < 2 ^ 64) → count < 2 ^ 64 → (q : ℕ) → count_at (get nat_cmp n) q < 2 ^ 64
+small-put m n name count put small fits q = go (eqb q name) (put q)
   where
     go : (b : Bool) → get nat_cmp n q ≡ cond b (Some count) (get nat_cmp m q) → count_at (get nat_cmp n) q < 2 ^ 64
     go true e = let is = ap (λ o. unwrap_or o 0) e in omega arith
     go false e = let is = ap (λ o. unwrap_or o 0) e in let old = small q in omega arith
+
+-- whatever an insert answered
+pub small-insert : {T E : Type 0} (r : Result T E) (m n : BTreeMap ℕ ℕ) (name count : ℕ) → OnOk r (Updates nat_cmp m n name (Some count)) → OnErr r (IsUnchanged m n) → ((q : ℕ) → count_at (get nat_cmp m) q < 2 ^ 64) → count < 2 ^ 64 → (q : ℕ) → count_at (get nat_cmp n) q < 2 ^ 64
+small-insert (Ok a) m n name count ok err small fits q = small-put m n name count (updated m n name (Some count) ok) small fits q
 small-insert (Err e) m n name count ok err small fits q =
     let is = ap (λ es. unwrap_or (lookup (is_at (nat_cmp q)) es) 0) err in
     let old = small q in

@@ -3,6 +3,7 @@ pub mod Contract
 pub mod Stored
 pub mod Plain
 pub mod Counts
+pub mod Worklist
 pub mod Records
 pub mod Shape
 pub mod Base

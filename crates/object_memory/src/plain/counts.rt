@@ -46,4 +46,17 @@ impl Counts {
     {
         self.put(name, self.of(name) + 1)
     }
+
+    /// One less for this name. Gives its count then.
+    pub(crate) fn lower(&mut self, name: Name) -> u64
+        requires { 0 < count_in self.old name }
+        ensures value { result ≡ count_in self.new name }
+        ensures lower { (q : ℕ) → count_in self.new q + (if name == q then 1 else 0) ≡ count_in self.old q }
+    {
+        let Some(count) = self.words.get_mut(&name) else {
+            unreachable!()
+        };
+        *count -= 1;
+        *count
+    }
 }

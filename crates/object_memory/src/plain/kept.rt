@@ -1,15 +1,16 @@
 // Kept objects: what reference counting leaves in the end (chapter 30 of the Blue Book).
-ghost use Rattle.std.specs.Prelude.{◌≡◌, ◌+◌, ◌<◌, ◌^◌, ℕ, All, OnOk, IfOk, count_by, length};
+ghost use Rattle.std.specs.Prelude.{◌≡◌, ◌+◌, ◌<◌, ◌≤◌, ◌^◌, ◌==◌, if◌then◌else◌, ℕ, [], ◌∷◌, ◌++◌, All, OnOk, IfOk, is_some, count_by, length};
 ghost use Rattle.long_names.specs.Objects.{is_ref, holdings, IsObject, IsRecord};
 ghost use Rattle.long_names.specs.Heap.{count_of};
-ghost use Rattle.long_names.specs.Kept.{sweep, kept, no_roots};
+ghost use Rattle.long_names.specs.Kept.{kept, no_roots};
 ghost use Rattle.object_memory.specs.Counts.{count_in};
 ghost use Rattle.object_memory.specs.Plain.{heap_of};
 ghost use Rattle.object_memory.specs.Records.{recs_of};
+ghost use Rattle.object_memory.specs.Worklist.{without, IsFreeing, CountsDown};
 
 use crate::plain::counts::Counts;
 use crate::plain::objects::Objects;
-use long_names::{Body, Object, Rec, RecList, Value, Values};
+use long_names::{Body, Name, Object, Rec, RecList, Value, Values};
 use std::alloc::{AllocError, Global};
 
 /// Counts the names among values.
@@ -50,29 +51,98 @@ fn count_words(alloc: Global, heap: &Objects) -> Result<Counts, AllocError>
     Ok(counts)
 }
 
-/// Takes away each object that isn't known and that no word of the heap holds.
-fn take_away(heap: &mut Objects, counts: &Counts)
-    requires { (q : ℕ) → count_in counts.now q ≡ count_of (heap_of heap.old) q }
-    ensures { heap_of heap.new ≡ sweep (heap_of heap.old) no_roots }
+/// The names of the objects that aren't known and that no word of the heap holds.
+fn dead_names(alloc: Global, heap: &Objects, counts: &Counts) -> Result<Vec<Name>, AllocError>
+    requires { (q : ℕ) → count_in counts.now q ≡ count_of (heap_of heap.now) q }
+    ensures { IfOk result (λ dead. IsFreeing (heap_of heap.now) counts.now dead.items) }
 {
     heap.objects
-        .retain(|name, _| name.is_known() || counts.of(*name) > 0);
+        .keys()
+        .copied()
+        .filter(|name| !name.is_known() && counts.of(*name) == 0)
+        .collect(alloc)
 }
 
-/// Takes away objects until only kept ones are left, and says how many words hold each of their names. A cycle that nothing else
-/// holds is kept.
+/// Counts a name down, since one word less holds it (`countDown:`). Where none is left, and the name isn't known, it goes on the list.
+fn count_down(counts: &mut Counts, dead: &mut Vec<Name>, name: Name) -> Result<(), AllocError>
+    requires { 0 < count_in counts.old name }
+    ensures { OnOk result
+        (CountsDown (λ q. if name == q then 1 else 0) 1 counts.old dead.old.items counts.new dead.new.items) }
+{
+    if counts.lower(name) == 0 && !name.is_known() {
+        dead.push(name)?;
+    }
+    Ok(())
+}
+
+/// Counts the names among values down.
+fn count_down_values(
+    counts: &mut Counts,
+    dead: &mut Vec<Name>,
+    values: &Values,
+) -> Result<(), AllocError>
+    requires { (q : ℕ) → count_by (is_ref q) values.now ≤ count_in counts.old q }
+    ensures { OnOk result
+        (CountsDown (λ q. count_by (is_ref q) values.now) (length values.now) counts.old dead.old.items counts.new dead.new.items) }
+{
+    for i in 0..values.len() {
+        if let Value::Ref(name) = *values.item(i) {
+            count_down(counts, dead, name)?;
+        }
+    }
+    Ok(())
+}
+
+/// Counts the words of an object down: its class word, and its fields.
+fn count_down_object(
+    counts: &mut Counts,
+    dead: &mut Vec<Name>,
+    object: &Object,
+) -> Result<(), AllocError>
+    requires counted { (q : ℕ) → holdings object.now q ≤ count_in counts.old q }
+    requires object { IsObject object.now }
+    ensures { OnOk result
+        (CountsDown (holdings object.now) 65536 counts.old dead.old.items counts.new dead.new.items) }
+{
+    count_down(counts, dead, object.class)?;
+    match &object.body {
+        Body::Pointers(values) => count_down_values(counts, dead, values),
+        Body::Method { literals, .. } => count_down_values(counts, dead, literals),
+        Body::Words(_) | Body::Bytes(_) => Ok(()),
+    }
+}
+
+/// Takes the object of a name that was on the list away, if there is one, and counts its words down.
+fn free(
+    heap: &mut Objects,
+    counts: &mut Counts,
+    dead: &mut Vec<Name>,
+    name: Name,
+) -> Result<(), AllocError>
+    requires freeing { IsFreeing (heap_of heap.old) counts.old (dead.old.items ++ name ∷ []) }
+    ensures freeing { OnOk result (IsFreeing (heap_of heap.new) counts.new dead.new.items) }
+    ensures heap { OnOk result (heap_of heap.new ≡ without (heap_of heap.old) name) }
+    ensures short { OnOk result
+        (length dead.new.items ≤ length dead.old.items + (if is_some ((heap_of heap.old).at name) then 65536 else 0)) }
+{
+    let Some(object) = heap.remove(name) else {
+        return Ok(());
+    };
+    count_down_object(counts, dead, &object)
+}
+
+/// Takes away each object that isn't known and that no word holds, until only kept ones are left, and gives their counts. Each word is
+/// counted once, and counted down at most once. A cycle that nothing else holds is kept.
 pub(crate) fn keep(alloc: Global, heap: &mut Objects) -> Result<Counts, AllocError>
     ensures kept { OnOk result (heap_of heap.new ≡ kept (heap_of heap.old) no_roots) }
     ensures counts { IfOk result (λ counts. (q : ℕ) → count_in counts q ≡ count_of (heap_of heap.new) q) }
 {
-    loop {
-        let counts = count_words(alloc, heap)?;
-        let before = heap.len();
-        take_away(heap, &counts);
-        if heap.len() == before {
-            return Ok(counts);
-        }
+    let mut counts = count_words(alloc, heap)?;
+    let mut dead = dead_names(alloc, heap, &counts)?;
+    while let Some(name) = dead.pop() {
+        free(heap, &mut counts, &mut dead, name)?;
     }
+    Ok(counts)
 }
 
 /// The records of a heap, by rising name.

@@ -3,7 +3,7 @@ ghost use Rattle.std.specs.Prelude.{◌≡◌, ◌+◌, ◌%◌, ◌<◌, ◌≤
 ghost use Rattle.std.specs.Option.{option_copied};
 ghost use Rattle.long_names.specs.Words.{IsValue};
 ghost use Rattle.long_names.specs.Objects.{IsBody, HasRange, with_field, with_words, with_bytes, field_of, words_of, bytes_of, IsObject};
-ghost use Rattle.long_names.specs.Heap.{put_object, add_object, object_count};
+ghost use Rattle.long_names.specs.Heap.{put_object, add_object};
 ghost use Rattle.long_names.specs.declared.value.Value.TheVariants.{Ref};
 ghost use Rattle.long_names.specs.Access.{with_body};
 ghost use Rattle.long_names.specs.Names.{LAST_NAME, IsLongName};
@@ -25,6 +25,7 @@ pub(crate) struct Objects {
 impl Objects {
     ghost use Rattle.object_memory.specs.Plain.{heap_of};
     ghost use Rattle.object_memory.specs.Records.{AreWhole, heap_of_recs};
+    ghost use Rattle.object_memory.specs.Worklist.{without};
 
     /// A heap without objects. It takes no memory.
     fn new(alloc: Global, next: u32) -> Objects
@@ -70,13 +71,6 @@ impl Objects {
         self.next
     }
 
-    /// How many objects there are.
-    pub(crate) fn len(&self) -> usize
-        ensures { result ≡ object_count (heap_of self.now) }
-    {
-        self.objects.len()
-    }
-
     /// Puts an object under a name below the next one, in place of the one that the name has.
     fn put(&mut self, name: Name, object: Object) -> Result<(), AllocError>
         requires body { IsBody object.body }
@@ -109,6 +103,15 @@ impl Objects {
             }
             Err(_) => Err(AllocError),
         }
+    }
+
+    /// Takes the object of this name out, if there is one.
+    pub(crate) fn remove(&mut self, name: Name) -> Option<Object>
+        ensures at { result ≡ (heap_of self.old).at name }
+        ensures heap { heap_of self.new ≡ without (heap_of self.old) name }
+        ensures object { IfSome result IsObject }
+    {
+        self.objects.remove(&name)
     }
 
     /// Stores field i of the object of this name.

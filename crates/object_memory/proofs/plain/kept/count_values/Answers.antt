@@ -1,6 +1,6 @@
 use Rattle.std.proofs.Common.{arith}
 use Rattle.std.proofs.lemmas.Grind.{common_steps}
-use Rattle.object_memory.proofs.SweepLaws.{count_by-more}
+use Rattle.object_memory.proofs.WordLaws.{count_by-more}
 use Rattle.object_memory.proofs.plain.kept.count_values.Goals as goal
 use Rattle.object_memory.proofs.plain.kept.count_values.Goals.{in-Ref+in_ok-add, in_default}
 

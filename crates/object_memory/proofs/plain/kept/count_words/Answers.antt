@@ -6,7 +6,7 @@ use Rattle.std.specs.List.{sum_by}
 use Rattle.long_names.specs.declared.object.Object.{Object}
 use Rattle.long_names.specs.Objects.{IsObject}
 use Rattle.object_memory.proofs.Entries.{words_of}
-use Rattle.object_memory.proofs.SweepLaws.{entries-objects, words-few, counted-all}
+use Rattle.object_memory.proofs.WordLaws.{entries-objects, words-few, counted-all}
 use Rattle.object_memory.proofs.plain.kept.count_words.Goals as goal
 
 pub loop-object-init : goal.loop-object-init

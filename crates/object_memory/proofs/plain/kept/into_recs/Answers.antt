@@ -4,7 +4,7 @@ use Rattle.std.proofs.lemmas.List.{append-nil}
 use Rattle.long_names.specs.declared.object.Rec.{Rec}
 use Rattle.object_memory.specs.Counts.{count_in}
 use Rattle.long_names.specs.Objects.{IsRecord}
-use Rattle.object_memory.proofs.SweepLaws.{rec_with, recs-are, records-are}
+use Rattle.object_memory.proofs.WordLaws.{rec_with, recs-are, records-are}
 use Rattle.object_memory.proofs.plain.kept.into_recs.Goals as goal
 
 pub returns-clause-recs : goal.returns-clause-recs

@@ -1,6 +1,6 @@
 use Rattle.std.proofs.Common.{◌≡◌, ◌++◌, map}
 use Rattle.object_memory.specs.Counts.{count_in}
-use Rattle.object_memory.proofs.SweepLaws.{rec_with}
+use Rattle.object_memory.proofs.WordLaws.{rec_with}
 use Rattle.object_memory.proofs.plain.kept.into_recs.Given as goal
 
 -- the records so far, and those to come

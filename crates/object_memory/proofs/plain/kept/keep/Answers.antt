@@ -1,23 +1,29 @@
-use Rattle.std.proofs.Common.{sym, ◌∙◌, ap}
-use Rattle.long_names.specs.Heap.{count_of}
-use Rattle.long_names.specs.Kept.{no_roots}
+use Rattle.std.proofs.Common.{sym, ◌∙◌, ap, arith}
+use Rattle.long_names.specs.Heap.{object_count}
+use Rattle.long_names.specs.Kept.{kept, no_roots}
 use Rattle.object_memory.specs.Plain.{heap_of}
-use Rattle.long_names.proofs.KeptLaws.{kept-turn, same-turn, kept-end, count-turn}
 use Rattle.object_memory.proofs.MapLaws.{map-bounded}
+use Rattle.object_memory.proofs.CountDownLaws.{freeing-dead, freeing-kept, freeing-end, freeing-smaller}
 use Rattle.object_memory.proofs.plain.kept.keep.Goals as goal
 
-pub loop-counts-preserved : goal.loop-counts-preserved
-loop-counts-preserved c = kept-turn (heap_of c.args.heap.now) (heap_of c.loop-counts.heap) (heap_of c.take_away.new.heap) no_roots (map-bounded c.loop-counts.heap) c.take_away.ensures c.loop-counts.invariant
+pub loop-name-smaller : goal.loop-name-smaller
+loop-name-smaller c =
+    let heap = heap_of c.loop-name.heap in
+    let less = freeing-smaller heap c.in-Some.name _ _ (map-bounded c.loop-name.heap) c.in_ok-free.ensures.short in
+    let count = ap object_count c.in_ok-free.ensures.heap in
+    let long = c.in-Some.ensures.len in
+    omega arith
 
-pub loop-counts-smaller : goal.loop-counts-smaller
-loop-counts-smaller c = count-turn (heap_of c.loop-counts.heap) (heap_of c.take_away.new.heap) no_roots c.take_away.ensures (λ same. c.if-len-before.false (c.len.ensures ∙ same ∙ sym c.len-before.ensures))
+pub loop-name-preserved : goal.loop-name-preserved
+loop-name-preserved c =
+    let heap = heap_of c.loop-name.heap in
+    let dead = freeing-dead heap c.loop-name.counts c.loop-name.dead.items c.pop.new.self.items c.in-Some.name c.loop-name.invariant.freeing c.in-Some.ensures.items in
+    record {
+      kept = ap (λ h. kept h no_roots) c.in_ok-free.ensures.heap ∙ freeing-kept heap c.loop-name.counts c.loop-name.dead.items c.in-Some.name (map-bounded c.loop-name.heap) c.loop-name.invariant.freeing dead ∙ c.loop-name.invariant.kept;
+      freeing = c.in_ok-free.ensures.freeing;
+    }
 
-pub returns-then-len-before-clause-kept : goal.returns-then-len-before-clause-kept
-returns-then-len-before-clause-kept c =
-    kept-end (heap_of c.args.heap.now) (heap_of c.loop-counts.heap) (heap_of c.take_away.new.heap) no_roots (map-bounded c.loop-counts.heap) c.take_away.ensures
-    (sym c.len.ensures ∙ c.if-len-before.true ∙ c.len-before.ensures) c.loop-counts.invariant
-
-pub returns-then-len-before-clause-counts : goal.returns-then-len-before-clause-counts
-returns-then-len-before-clause-counts c = λ q.
-    c.in_ok-counts.ensures q
-    ∙ ap (λ h. count_of h q) (sym (same-turn (heap_of c.loop-counts.heap) (heap_of c.take_away.new.heap) no_roots (map-bounded c.loop-counts.heap) c.take_away.ensures (sym c.len.ensures ∙ c.if-len-before.true ∙ c.len-before.ensures)))
+pub returns-clause-kept : goal.returns-clause-kept
+returns-clause-kept c =
+    let heap = heap_of c.loop-name.heap in
+    sym (freeing-end heap c.loop-name.counts c.loop-name.dead.items c.loop-name.invariant.freeing (let none = c.in_default.ensures.cases.0 in omega arith)) ∙ c.loop-name.invariant.kept

@@ -1,4 +1,4 @@
-use Rattle.std.proofs.Common.{arith, refl}
+use Rattle.std.proofs.Common.{Some, arith, refl}
 use Rattle.object_memory.specs.Plain.{heap_of}
 use Rattle.long_names.specs.Names.{IsLongName}
 use Rattle.long_names.specs.Objects.{IsObject}
@@ -16,4 +16,4 @@ invariant_of-self c =
 pub returns-clause-ok : goal.returns-clause-ok
 returns-clause-ok c =
     let m = c.args.self.now in
-    heap-put _ (heap_of m) _ c.args.name c.args.object refl (updated m.objects c.insert.new.self c.args.name c.args.object c.in_ok-insert.ensures.updates)
+    heap-put _ (heap_of m) _ c.args.name c.args.object refl (updated m.objects c.insert.new.self c.args.name (Some c.args.object) c.in_ok-insert.ensures.updates)

@@ -1,33 +1,26 @@
--- Counting the words of a heap, sweeping it, and its records.
-use Rattle.std.proofs.Common.{zero, suc, ◌≡◌, ℕ, ◌+◌, ◌^◌, eqb, lit<, ◌<◌, ◌≤◌, Bool, true, false, cond, List, [], ◌∷◌, ◌++◌, length, take, Option, Some, None, refl, sym, ◌∙◌, ap, nat_lt, ◌||◌, arith, get_or, map}
-use Rattle.std.proofs.lemmas.Grind.{common_steps}
+-- Counting the words of a heap, and its records.
+use Rattle.std.proofs.Common.{zero, suc, ◌≡◌, ℕ, ◌+◌, ◌^◌, eqb, lit<, ◌<◌, ◌≤◌, Bool, true, false, cond, List, [], ◌∷◌, ◌++◌, length, take, Option, Some, None, refl, sym, ◌∙◌, ap, arith, get_or, map}
 use Rattle.std.proofs.lemmas.Option.{slice_get_within, get_or_from_slice_get}
 use Rattle.std.proofs.lemmas.List.Sums.{count_by_more_yes, count_by_more_no, count_by-le-length, sum_by-le}
 use Rattle.std.proofs.lemmas.Map.Views.{All-found}
-use Rattle.std.proofs.lemmas.Map.Entries.{lookup-filter-keys}
 use Rattle.std.proofs.lemmas.List.{map-append}
 use Rattle.std.proofs.lemmas.List.Elements.{All-map}
 use mathlib.Core.Path.{fun_ext}
 use Rattle.std.specs.Ordering.{nat_cmp}
 use Rattle.std.specs.Cmp.{nat_cmp_total}
-use Rattle.std.specs.Map.{lookup}
-use Rattle.std.specs.BTreeMap.{BTreeMap, is_at, get, IsOrdered}
-use Rattle.std.specs.List.{All, filter, count_by, slice_get, sum_by}
+use Rattle.std.specs.BTreeMap.{get}
+use Rattle.std.specs.List.{All, count_by, slice_get, sum_by}
 use Rattle.std.specs.Option.{option_map_or}
-use Rattle.long_names.specs.Names.{is_known}
 use Rattle.long_names.specs.Objects.{HasSize, fields_of, is_ref, holdings, IsObject, IsRecord}
 use Rattle.long_names.specs.Heap.{Heap, count_of, rec_of}
-use Rattle.long_names.specs.Kept.{sweep, no_roots}
 use Rattle.long_names.specs.declared.value.Value.{Value}
 use Rattle.long_names.specs.declared.object.Body.{Body}
 use Rattle.long_names.specs.declared.object.Body.TheVariants.{Pointers, Words, Bytes, Method}
 use Rattle.long_names.specs.declared.object.Object.{Object}
 use Rattle.long_names.specs.declared.object.Rec.{Rec}
-use Rattle.long_names.proofs.KeptLaws.{left-counted}
 use Rattle.object_memory.specs.declared.plain.objects.Objects.{Objects}
 use Rattle.object_memory.specs.Plain.{heap_of}
 use Rattle.object_memory.specs.Records.{recs_below, recs_of}
-use Rattle.object_memory.specs.Stored.{IsStored}
 use Rattle.object_memory.proofs.Entries.{entries_below, entry_at, words_of, length-le, map-rises, map-below, holdings-entries}
 use Rattle.object_memory.proofs.MapLaws.{heap-entries}
 
@@ -45,22 +38,23 @@ count_by-more q values i v e = go (is_ref q v) refl
     go true is = count_by_more_yes (is_ref q) values i v low (ap (is_ref q) here ∙ is) ∙ ap (λ b. count_by (is_ref q) (take i values) + cond b 1 0) (sym is)
     go false is = count_by_more_no (is_ref q) values i v low (ap (is_ref q) here ∙ is) ∙ (rw is (omega arith))
 
-count_by-fields : (name : ℕ) (o : Object) → IsObject o → count_by (is_ref name) (fields_of o.body) < 65536
-count_by-fields name o x = go o.body x.body.size
+-- an object has fewer than 65,536 fields
+pub fields-few : (o : Object) → IsObject o → length (fields_of o.body) < 65536
+fields-few o x = go o.body x.body.size
   where
-    go : (b : Body) → HasSize b → count_by (is_ref name) (fields_of b) < 65536
-    go (Pointers values) h = let few = count_by-le-length (is_ref name) values in omega arith
+    go : (b : Body) → HasSize b → length (fields_of b) < 65536
+    go (Pointers values) h = h
     go (Words words) h = lit< tt
     go (Bytes bytes) h = lit< tt
-    go (Method header literals code) h = let few = count_by-le-length (is_ref name) literals in let stated = h.1 in omega arith
+    go (Method header literals code) h = let stated = h.1 in omega arith
 
 -- an object has at most 65,536 words
 pub holdings-le : (name : ℕ) (o : Object) → IsObject o → holdings o name ≤ 65536
-holdings-le name o x = let few = count_by-fields name o x in go (eqb o.class name) few
+holdings-le name o x = go (eqb o.class name) (fields-few o x) (count_by-le-length (is_ref name) (fields_of o.body))
   where
-    go : (b : Bool) → count_by (is_ref name) (fields_of o.body) < 65536 → cond b 1 0 + count_by (is_ref name) (fields_of o.body) ≤ 65536
-    go true few = omega arith
-    go false few = omega arith
+    go : (b : Bool) → length (fields_of o.body) < 65536 → count_by (is_ref name) (fields_of o.body) ≤ length (fields_of o.body) → cond b 1 0 + count_by (is_ref name) (fields_of o.body) ≤ 65536
+    go true few part = omega arith
+    go false few part = omega arith
 
 -- each entry of a map is an object
 pub entries-objects : (m : Objects) → All (λ (e : ℕ × Object). IsObject e.1) m.objects.entries
@@ -79,42 +73,6 @@ words-few m name =
 pub counted-all : (m : Objects) (name : ℕ) → count_of (heap_of m) name ≡ sum_by (words_of name) m.objects.entries
 unfolding count_of
 counted-all m name = holdings-entries (heap_of m) name m.next ∙ ap (λ es. sum_by (words_of name) es) (heap-entries m)
-
--- ---- a sweep
-
--- the heap of a map that keeps just these entries
-pub swept : (m : Objects) (n : BTreeMap ℕ Object) (counts : ℕ → ℕ) → ((q : ℕ) → counts q ≡ count_of (heap_of m) q) → n.entries ≡ filter (λ e. is_known e.0 || nat_lt 0 (counts e.0)) m.objects.entries → (q : ℕ) → get nat_cmp n q ≡ (sweep (heap_of m) no_roots).at q
-swept m n counts exact e q =
-    ap (λ es. lookup (is_at (nat_cmp q)) es) e
-    ∙ lookup-filter-keys (is_at (nat_cmp q)) p (p q) one m.objects.entries
-    ∙ ap (λ b. cond b (get nat_cmp m.objects q) None) (sym (left-counted (heap_of m) q ∙ ap (λ k. is_known q || nat_lt 0 k) (sym (exact q))))
-  where
-    p : ℕ → Bool
-    p k = is_known k || nat_lt 0 (counts k)
-
-    one : (k : ℕ) → is_at (nat_cmp q) k ≡ true → p k ≡ p q
-    one k is = let same : q ≡ k = grind (arith, common_steps) in ap p (sym same)
-
--- what is kept where entries are taken away
-pub stored-swept : (m : BTreeMap ℕ Object) (n : BTreeMap ℕ Object) (next : ℕ) (p : ℕ → Bool) → IsStored m next → IsOrdered nat_cmp n → n.entries ≡ filter (λ e. p e.0) m.entries → IsStored n next
-stored-swept m n next p s ordered e = record {
-  object = λ q o is. s.object q o (same q o is);
-  named = λ q o is. s.named q o (same q o is);
-  below = λ q o is. s.below q o (same q o is);
-  even = s.even;
-  fits = s.fits;
-  ordered = ordered;
-}
-  where
-    one : (q k : ℕ) → is_at (nat_cmp q) k ≡ true → p k ≡ p q
-    one q k is = let same : q ≡ k = grind (arith, common_steps) in ap p (sym same)
-
-    first : (b : Bool) (x : Option Object) (o : Object) → cond b x None ≡ Some o → x ≡ Some o
-    first true x o is = is
-    first false x o is = let no : ◌≡◌ {A = Option Object} None (Some o) = is in cc
-
-    same : (q : ℕ) (o : Object) → get nat_cmp n q ≡ Some o → get nat_cmp m q ≡ Some o
-    same q o is = first (p q) (get nat_cmp m q) o (sym (ap (λ es. lookup (is_at (nat_cmp q)) es) e ∙ lookup-filter-keys (is_at (nat_cmp q)) p (p q) (one q) m.entries) ∙ is)
 
 -- ---- records
 
