@@ -15,7 +15,7 @@ use Rattle.long_names.specs.declared.object.Kind.{Kind}
 use Rattle.long_names.specs.declared.object.Kind.TheVariants as kind
 use Rattle.long_names.specs.Names.{IsLongName}
 use Rattle.long_names.specs.Record.{two_bytes, four_bytes, kind_number, values_text, words_text}
-use Rattle.image_format.specs.Reading.{◌>>=◌, number_at, name_at, kind_of_number, kind_at, value_at, many_at, values_at, words_at, octets_at, header_at, zeros_at}
+use Rattle.image_format.specs.Inside.{◌>>=◌, number_at, name_at, kind_of_number, kind_at, value_at, many_at, values_at, words_at, octets_at, header_at, zeros_at}
 use Rattle.image_format.proofs.Numbers.{AreBytes, Takes, takes_then, bind_some, some_is, passed_some, octets_take, octets_again, wide16, wide32, number_takes, number_again}
 use Rattle.image_format.proofs.Values.{chosen, none_is, value_back, value_again, word_fits}
 

@@ -9,7 +9,7 @@ use Rattle.image_format.specs.declared.fault.RecFault.TheVariants.{Bad, Memory}
 use Rattle.long_names.specs.Objects.{IsRecord}
 use Rattle.long_names.specs.Record.{record_text}
 use Rattle.image_format.specs.Faults.{IsBad}
-use Rattle.image_format.specs.Reading.{record_at, Decodes}
+use Rattle.image_format.specs.Inside.{record_at, Decodes}
 use Rattle.image_format.proofs.Numbers.{AreBytes}
 use Rattle.image_format.proofs.Values.{none_is}
 use Rattle.image_format.proofs.Records.{record_takes, record_again}

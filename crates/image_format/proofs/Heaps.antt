@@ -17,7 +17,7 @@ use Rattle.long_names.specs.Objects.{IsRecord}
 use Rattle.long_names.specs.Record.{four_bytes, record_text}
 use Rattle.image_format.specs.Text.{head_text, records_below, image_text}
 use Rattle.image_format.specs.Valid.{IsImageHeap}
-use Rattle.image_format.specs.Reading.{number_at}
+use Rattle.image_format.specs.Inside.{number_at}
 use Rattle.image_format.proofs.Numbers.{wide32, number_again}
 use Rattle.image_format.proofs.Records.{same_record}
 use Rattle.image_format.proofs.Lengths.{length_record}

@@ -7,7 +7,7 @@ use Rattle.long_names.specs.Words.{value_of}
 use Rattle.long_names.specs.declared.value.Value.{Value}
 use Rattle.image_format.specs.declared.fault.RecFault.{RecFault}
 use Rattle.image_format.specs.declared.fault.RecFault.TheVariants.{Bad, Memory}
-use Rattle.image_format.specs.Reading.{◌>>=◌, Fails, octets_at, number_at, value_at, many_at}
+use Rattle.image_format.specs.Inside.{◌>>=◌, Fails, octets_at, number_at, value_at, many_at}
 use Rattle.image_format.proofs.Numbers.{bind_some, guard_some, some_is}
 
 -- what was read before, and what is still read

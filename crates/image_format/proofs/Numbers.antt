@@ -7,7 +7,7 @@ use Rattle.std.proofs.lemmas.List.{take_at, drop_at, take-append-drop, length-ap
 use Rattle.std.proofs.lemmas.List.Elements.{All-from_get_or}
 use Rattle.std.proofs.lemmas.Nat.{be_bytes_2, be_bytes_4, be_bytes_8, from_be_bytes-to_be_bytes_2, from_be_bytes-to_be_bytes_4, from_be_bytes-to_be_bytes_8}
 use Rattle.long_names.specs.Record.{two_bytes, four_bytes, eight_bytes}
-use Rattle.image_format.specs.Reading.{◌>>=◌, octets_at, number_at}
+use Rattle.image_format.specs.Inside.{◌>>=◌, octets_at, number_at}
 
 pub record AreBytes (bytes : List ℕ) : Type 0 where
   pub below : (i : ℕ) → get_or bytes i 0 < 256

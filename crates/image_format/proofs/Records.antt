@@ -15,7 +15,7 @@ use Rattle.long_names.specs.declared.object.Body.{Body}
 use Rattle.long_names.specs.declared.object.Body.TheVariants.{Pointers, Words, Bytes, Method}
 use Rattle.long_names.specs.declared.object.Rec.{Rec}
 use Rattle.long_names.specs.Record.{two_bytes, four_bytes, eight_bytes, kind_number, values_text, contents_text, record_head, padding, padded, record_text}
-use Rattle.image_format.specs.Reading.{number_at, name_at, kind_at, values_at, words_at, octets_at, header_at, method_at, body_at, zeros_at, record_at}
+use Rattle.image_format.specs.Inside.{number_at, name_at, kind_at, values_at, words_at, octets_at, header_at, method_at, body_at, zeros_at, record_at}
 use Rattle.image_format.proofs.Numbers.{AreBytes, all_bytes, Takes, takes_then, bind_some, some_is, passed_some, octets_take, octets_again, wide16, wide32, wide64, number_takes, number_again}
 use Rattle.image_format.proofs.Fields.{name_takes, name_again, kind_takes, kind_again, values_take, values_again, words_take, words_again, header_takes, header_again, zeros_take, zeros_again}
 

@@ -1,5 +1,4 @@
 pub mod Text
 pub mod Valid
 pub mod Faults
-pub mod Reading
-pub mod Writing
+pub mod Inside

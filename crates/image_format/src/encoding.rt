@@ -4,7 +4,7 @@ ghost use Rattle.long_names.specs.Words.{IsValue};
 ghost use Rattle.long_names.specs.Objects.{IsBody, IsRecord, HasRange};
 ghost use Rattle.long_names.specs.Names.{IsLongName};
 ghost use Rattle.long_names.specs.Record.{two_bytes, four_bytes, eight_bytes, values_text, words_text, contents_text, record_head, record_text};
-ghost use Rattle.image_format.specs.Writing.{Extends};
+ghost use Rattle.image_format.specs.Inside.{Extends};
 
 use crate::reading::padding_of;
 use byteorder::{BigEndian, ByteOrder};

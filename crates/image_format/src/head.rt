@@ -2,7 +2,7 @@
 ghost use Rattle.std.specs.Prelude.{◌≡◌, ◌≢◌, ◌↔◌, ◌+◌, ◌≤◌, ◌++◌, ℕ, IsTrue, IfSome, IfNone, OnOk, OnErr, length, take, drop};
 ghost use Rattle.long_names.specs.Record.{four_bytes};
 ghost use Rattle.image_format.specs.Text.{IsHead, head_text};
-ghost use Rattle.image_format.specs.Writing.{Extends};
+ghost use Rattle.image_format.specs.Inside.{Extends};
 
 use crate::encoding::put_u32;
 use long_names::Octets;

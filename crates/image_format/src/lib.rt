@@ -5,14 +5,13 @@ mod decoding;
 mod encoding;
 mod fault;
 mod head;
-mod laws;
+pub mod laws;
 mod reading;
 
 pub use decoding::{MAX_RECORD, decode_rec};
 pub use encoding::encode_rec;
 pub use fault::RecFault;
 pub use head::{HEAD_LEN, Head, decode_head, encode_head};
-pub use laws::{longest_record, one_heap, one_text};
 
 #[cfg(test)]
 mod tests;

@@ -4,7 +4,7 @@ ghost use Rattle.std.specs.List.{list_all};
 ghost use Rattle.std.specs.Int.{w16, w32, w64};
 ghost use Rattle.image_format.specs.declared.fault.RecFault.TheVariants.{Bad};
 ghost use Rattle.long_names.specs.Record.{padding};
-ghost use Rattle.image_format.specs.Reading.{Gives, Shows, number_at, name_at, kind_at, value_at, values_at, words_at, octets_at, header_at, method_at, body_at, zeros_at, Decodes};
+ghost use Rattle.image_format.specs.Inside.{Gives, Shows, number_at, name_at, kind_at, value_at, values_at, words_at, octets_at, header_at, method_at, body_at, zeros_at, Decodes};
 
 use crate::fault::RecFault;
 use long_names::{Body, Kind, Name, Octets, Rec, Value, Values, Words16, literal_count, value_of};
@@ -40,7 +40,7 @@ struct Unread<'a> {
 
 // Each call takes what stands first, or refuses the bytes. A size is tested against what is left before memory is taken for it.
 impl<'a> Unread<'a> {
-    #[tactic(auto, unfolding(crate::specs::Reading::octets_at))]
+    #[tactic(auto, unfolding(crate::specs::Inside::octets_at))]
     fn take(&mut self, count: usize) -> Result<&'a [u8], RecFault>
         ensures given { Shows (λ x. x.now) result self.new.rest.now (octets_at count self.old.rest.now) }
         ensures len { IfOk result (λ x. length x.now ≡ count) }
@@ -53,7 +53,7 @@ impl<'a> Unread<'a> {
         Ok(front)
     }
 
-    #[tactic(auto, unfolding(crate::specs::Reading::number_at))]
+    #[tactic(auto, unfolding(crate::specs::Inside::number_at))]
     fn take_u16(&mut self) -> Result<u16, RecFault>
         ensures { Gives result self.new.rest.now (number_at w16 self.old.rest.now) }
     {
@@ -61,7 +61,7 @@ impl<'a> Unread<'a> {
         Ok(u16::from_be_bytes([bytes[0], bytes[1]]))
     }
 
-    #[tactic(auto, unfolding(crate::specs::Reading::number_at))]
+    #[tactic(auto, unfolding(crate::specs::Inside::number_at))]
     fn take_u32(&mut self) -> Result<u32, RecFault>
         ensures { Gives result self.new.rest.now (number_at w32 self.old.rest.now) }
     {
@@ -69,7 +69,7 @@ impl<'a> Unread<'a> {
         Ok(u32::from_be_bytes([bytes[0], bytes[1], bytes[2], bytes[3]]))
     }
 
-    #[tactic(auto, unfolding(crate::specs::Reading::number_at))]
+    #[tactic(auto, unfolding(crate::specs::Inside::number_at))]
     fn take_u64(&mut self) -> Result<u64, RecFault>
         ensures { Gives result self.new.rest.now (number_at w64 self.old.rest.now) }
     {
@@ -79,7 +79,7 @@ impl<'a> Unread<'a> {
         ]))
     }
 
-    #[tactic(auto, unfolding(crate::specs::Reading::name_at))]
+    #[tactic(auto, unfolding(crate::specs::Inside::name_at))]
     fn take_name(&mut self) -> Result<Name, RecFault>
         ensures { Gives result self.new.rest.now (name_at self.old.rest.now) }
     {
@@ -90,7 +90,7 @@ impl<'a> Unread<'a> {
         }
     }
 
-    #[tactic(auto, unfolding(crate::specs::Reading::kind_at))]
+    #[tactic(auto, unfolding(crate::specs::Inside::kind_at))]
     fn take_kind(&mut self) -> Result<Kind, RecFault>
         ensures { Gives result self.new.rest.now (kind_at self.old.rest.now) }
     {
@@ -103,7 +103,7 @@ impl<'a> Unread<'a> {
         }
     }
 
-    #[tactic(auto, unfolding(crate::specs::Reading::value_at))]
+    #[tactic(auto, unfolding(crate::specs::Inside::value_at))]
     fn take_value(&mut self) -> Result<Value, RecFault>
         ensures { Gives result self.new.rest.now (value_at self.old.rest.now) }
     {
@@ -151,7 +151,7 @@ impl<'a> Unread<'a> {
         Ok(octets)
     }
 
-    #[tactic(auto, unfolding(crate::specs::Reading::header_at))]
+    #[tactic(auto, unfolding(crate::specs::Inside::header_at))]
     fn take_header(&mut self) -> Result<i16, RecFault>
         ensures { Gives result self.new.rest.now (header_at self.old.rest.now) }
     {
@@ -161,7 +161,7 @@ impl<'a> Unread<'a> {
         }
     }
 
-    #[tactic(auto, unfolding(crate::specs::Reading::method_at))]
+    #[tactic(auto, unfolding(crate::specs::Inside::method_at))]
     fn take_method(&mut self, alloc: Global, size: usize) -> Result<Body, RecFault>
         ensures { Gives result self.new.rest.now (method_at size self.old.rest.now) }
     {
@@ -179,7 +179,7 @@ impl<'a> Unread<'a> {
         })
     }
 
-    #[tactic(auto, unfolding(crate::specs::Reading::body_at))]
+    #[tactic(auto, unfolding(crate::specs::Inside::body_at))]
     fn take_body(&mut self, alloc: Global, kind: Kind, size: usize) -> Result<Body, RecFault>
         ensures { Gives result self.new.rest.now (body_at kind size self.old.rest.now) }
     {
@@ -191,7 +191,7 @@ impl<'a> Unread<'a> {
         }
     }
 
-    #[tactic(auto, unfolding(crate::specs::Reading::zeros_at))]
+    #[tactic(auto, unfolding(crate::specs::Inside::zeros_at))]
     fn take_zeros(&mut self, count: usize) -> Result<(), RecFault>
         ensures { Gives result self.new.rest.now (zeros_at count self.old.rest.now) }
     {
@@ -201,7 +201,7 @@ impl<'a> Unread<'a> {
 }
 
 /// The first record, and its length.
-#[tactic(auto, unfolding(crate::specs::Reading::record_at))]
+#[tactic(auto, unfolding(crate::specs::Inside::record_at))]
 pub(crate) fn record_of(alloc: Global, bytes: &[u8]) -> Result<(Rec, usize), RecFault>
     ensures { Decodes result bytes.now }
 {

@@ -1,12 +1,12 @@
 -- An image as it is read: the records of the objects so far.
-use Rattle.std.specs.Prelude.{◌≡◌, ℕ, ◌%◌, ◌^◌, ◌<◌, ◌≤◌, List, [], ◌∷◌, ◌++◌, codes, Some, Bool, true, ◌==◌, ◌&&◌, ◌||◌, nat_lt, is_some}
+use Rattle.std.specs.Prelude.{◌≡◌, ℕ, ◌<◌, List, [], ◌∷◌, Some, Bool, true, ◌==◌, ◌&&◌, ◌||◌, nat_lt, is_some}
 use Rattle.std.specs.List.{flat_map, list_all}
 use Rattle.long_names.specs.Names.{is_known, known_names}
 use Rattle.long_names.specs.Objects.{holds}
 use Rattle.long_names.specs.Heap.{Heap, Has, count_of}
 use Rattle.long_names.specs.declared.object.Object.{Object}
 use Rattle.long_names.specs.declared.object.Rec.{Rec}
-use Rattle.long_names.specs.Record.{four_bytes, record_text}
+use Rattle.long_names.specs.Record.{record_text}
 
 -- each name of the entries is below this one
 abbrev pub AreBelow : {X : Type 0} → ℕ → List (ℕ × X) → Type 0

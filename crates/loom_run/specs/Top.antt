@@ -1,5 +1,5 @@
 -- What a run does with the roles of its host, by its answer.
-use Rattle.std.specs.Prelude.{◌≡◌, ℕ, ◌+◌, ◌-◌, ◌^◌, ◌≤◌, min, List, ◌++◌, take, length, Bool, true, false, ◌⊎◌, Result, Err, IsOk, IsOkAnd, Some, IfSome}
+use Rattle.std.specs.Prelude.{◌≡◌, ℕ, ◌≤◌, List, ◌++◌, take, length, Bool, true, false, ◌⊎◌, Result, Err, IsOk, IsOkAnd, Some, IfSome}
 use Rattle.loom_outside.specs.Outside.{RoleState, Attached, puts, PutPrefix}
 use Rattle.long_names.specs.Counting.{counted, Rose}
 use Rattle.loom_outside.specs.declared.outside.Failed.{Failed}

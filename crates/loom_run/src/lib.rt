@@ -6,7 +6,7 @@ mod counts;
 mod cpu;
 mod indexes;
 mod interpreter;
-mod laws;
+pub mod laws;
 mod load;
 mod map;
 mod program;
@@ -20,10 +20,8 @@ mod window;
 mod words;
 
 pub use indexes::same_indexes;
-pub use laws::{base_image, base_text, runs_add_up};
 pub use program::loom;
 pub use status::Status;
-pub use words::right_words;
 
 #[cfg(test)]
 mod base;

@@ -1,7 +1,7 @@
 // The words of a command.
-ghost use Rattle.std.specs.Prelude.{◌≡◌, ◌↔◌, ℕ, List, IsTrue, decimal, IfOk, Some, None, if◌then◌else◌};
+ghost use Rattle.std.specs.Prelude.{◌≡◌, ◌↔◌, IsTrue, decimal, IfOk, Some, None, if◌then◌else◌};
 ghost use Rattle.std.specs.Str.Parse.{digits_value};
-ghost use Rattle.loom_run.specs.Words.{texts_of, IsRow, is_steps, error_of, bad_word, image_word, saved_word, steps_of};
+ghost use Rattle.loom_run.specs.Words.{texts_of, is_steps, error_of, bad_word, image_word, saved_word, steps_of};
 
 use itoa::Buffer;
 
@@ -73,9 +73,3 @@ pub fn command_of(words: &[String]) -> Result<Command<'_>, u32>
         steps,
     })
 }
-
-/// Words of which none is bad are `run`, the two images, and a number of bytecodes as it is written in decimal digits.
-#[tactic(auto, using(crate::proofs::Rows::row_rules))]
-pub fn right_words()
-    ensures { (words : List (List ℕ)) → (bad_word words ≡ None) ↔ IsRow words (image_word words) (saved_word words) (steps_of words) }
-{}

@@ -1,7 +1,7 @@
 use Rattle.std.proofs.Common.{◌≡◌, ◌-◌, ◌++◌, length, Some, arith}
 use Rattle.long_names.specs.declared.object.Rec.{Rec}
 use Rattle.long_names.specs.Record.{record_head, contents_text, padding}
-use Rattle.image_format.specs.Reading.{zeros_at}
+use Rattle.image_format.specs.Inside.{zeros_at}
 use Rattle.image_format.proofs.Numbers.{AreBytes}
 use Rattle.image_format.proofs.Records.{Steps, steps_take, with_zeros, record_from_steps, shorter}
 use Rattle.image_format.proofs.reading.record_of.Goals as goal

@@ -1,6 +1,6 @@
 use Rattle.std.proofs.Common.{arith, refl}
 use Rattle.std.proofs.lemmas.Result.{err_from_is_err_and}
-use Rattle.image_format.specs.Reading.{value_at, many_at}
+use Rattle.image_format.specs.Inside.{value_at, many_at}
 use Rattle.image_format.proofs.Loop.{goes_on, ends, is_done, few_for_values}
 use Rattle.image_format.proofs.reading.Unread.take_values.Goals as goal
 

@@ -1,7 +1,7 @@
 use Rattle.std.proofs.Common.{arith, refl}
 use Rattle.std.proofs.lemmas.Result.{err_from_is_err_and}
 use Rattle.std.specs.Int.{w16}
-use Rattle.image_format.specs.Reading.{number_at, many_at}
+use Rattle.image_format.specs.Inside.{number_at, many_at}
 use Rattle.image_format.proofs.Loop.{goes_on, ends, is_done, few_for_words}
 use Rattle.image_format.proofs.reading.Unread.take_words.Goals as goal
 

@@ -1,5 +1,5 @@
--- Reading a record from the left, field by field: what the private readers answer. No public clause stands on it.
-use Rattle.std.specs.Prelude.{◌≡◌, ℕ, ℤ, zero, suc, ◌+◌, ◌-◌, ◌%◌, ◌&&◌, List, [], ◌∷◌, length, take, drop, Option, Some, None, Result, Ok, Err, nat_lt, nat_le, ◌==◌, if◌then◌else◌}
+-- What the private readers and writers of records answer. No public clause stands on it.
+use Rattle.std.specs.Prelude.{◌≡◌, ℕ, ℤ, zero, suc, ◌+◌, ◌-◌, ◌%◌, ◌&&◌, List, ◌++◌, [], ◌∷◌, length, take, drop, Option, Some, None, Result, Ok, Err, nat_lt, nat_le, ◌==◌, if◌then◌else◌}
 use Rattle.std.specs.Int.{Width, w16, w32, w64, byte_len, from_be_bytes}
 use Rattle.std.specs.List.{list_all}
 use Rattle.long_names.specs.Words.{value_of, literal_count}
@@ -13,6 +13,14 @@ use Rattle.long_names.specs.declared.object.Rec.{Rec}
 use Rattle.image_format.specs.declared.fault.RecFault.{RecFault}
 use Rattle.image_format.specs.declared.fault.RecFault.TheVariants.{Bad, Memory}
 use Rattle.long_names.specs.Record.{padding}
+
+-- ---- writing
+
+-- what was there, and maybe more
+abbrev pub Extends : List ℕ → List ℕ → Type 0
+Extends old new = (tail : List ℕ) × (new ≡ old ++ tail)
+
+-- ---- reading a record from the left, field by field
 
 infixl 10 ◌>>=◌
 abbrev pub ◌>>=◌ : {A B : Type 0} → Option A → (A → Option B) → Option B
