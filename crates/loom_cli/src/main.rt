@@ -16,8 +16,23 @@ use loom_outside::{Host, RealHost};
 use loom_run::{Status, loom};
 use std::alloc::{AllocError, Global};
 use std::env::{self, Args};
+use std::fs::File;
 use std::io::{self, ErrorKind};
 use std::process::ExitCode;
+use std::rt::Files;
+
+const NULL_DEVICE: &str = "/dev/null";
+
+// Takes the places of the standard streams that are closed, so that no file of the run becomes one: a new descriptor is
+// always the lowest that is free. What it opens is for reading only, so a write to a closed stream still fails. Where a
+// stream is open it has one more descriptor, which nothing uses.
+fn fill_streams<R: Files>(rt: &R) -> io::Result<[R::File; 3]> {
+    Ok([
+        File::open(rt, NULL_DEVICE)?,
+        File::open(rt, NULL_DEVICE)?,
+        File::open(rt, NULL_DEVICE)?,
+    ])
+}
 
 // The words after the program's name; none where they can't be had as text.
 fn words_of(alloc: Global, args: io::Result<Args>) -> Result<Vec<String>, AllocError>
@@ -48,6 +63,9 @@ fn answer<H: Host>(alloc: Global, host: &mut H, words: Result<Vec<String>, Alloc
 }
 
 fn main(rt: HostRuntime) -> ExitCode {
+    let Ok(_streams) = fill_streams(&rt) else {
+        return ExitCode::FAILURE;
+    };
     let words = words_of(rt.alloc(), env::args(&rt));
     let mut host = RealHost::new(rt, rt.stdout(), rt.stderr());
     answer(rt.alloc(), &mut host, words)
