@@ -1,19 +1,42 @@
 //! The program `loom`: it runs `loom` of `loom_run` over the files and the standard streams of its process.
 #![tactic(auto)]
 
-ghost use Rattle.std.specs.Prelude.{◌≡◌, ◌≢◌, [], IfErr, IsErr, IsOkAnd};
+ghost use Rattle.std.specs.Prelude.{◌≡◌, ◌≢◌, [], IfErr, IfOk, IsErr, IsOkAnd, drop};
 ghost use Rattle.std.specs.IoError.{error_kind};
+ghost use Rattle.std.specs.Process.{exit_status};
+ghost use Rattle.std.specs.Vec.Iter.{into_iter_items};
 ghost use Rattle.std.specs.declared.io.ErrorKind.TheVariants.{OutOfMemory};
+ghost use Rattle.loom_run.specs.declared.status.Status.{Status};
+ghost use Rattle.loom_run.specs.Meanings.{meanings};
+ghost use Rattle.loom_run.specs.Promise.{Promise};
+ghost use Rattle.loom_run.specs.Status.{code_of};
+ghost use Rattle.loom_run.specs.Words.{texts_of};
 
-use loom_outside::RealHost;
+use loom_outside::{Host, RealHost};
 use loom_run::{Status, loom};
 use std::alloc::{AllocError, Global};
 use std::env::{self, Args};
+use std::fs::File;
 use std::io::{self, ErrorKind};
 use std::process::ExitCode;
+use std::rt::Files;
+
+const NULL_DEVICE: &str = "/dev/null";
+
+// Takes the places of the standard streams that are closed, so that no file of the run becomes one: a new descriptor is
+// always the lowest that is free. What it opens is for reading only, so a write to a closed stream still fails. Where a
+// stream is open it has one more descriptor, which nothing uses.
+fn fill_streams<R: Files>(rt: &R) -> io::Result<[R::File; 3]> {
+    Ok([
+        File::open(rt, NULL_DEVICE)?,
+        File::open(rt, NULL_DEVICE)?,
+        File::open(rt, NULL_DEVICE)?,
+    ])
+}
 
 // The words after the program's name; none where they can't be had as text.
 fn words_of(alloc: Global, args: io::Result<Args>) -> Result<Vec<String>, AllocError>
+    ensures words { IfOk args (λ args. IfOk result (λ words. words.items ≡ drop 1 (into_iter_items args))) }
     ensures memory { IfErr args (λ error. error_kind error ≡ OutOfMemory → IsErr result) }
     ensures no_text { IfErr args (λ error. error_kind error ≢ OutOfMemory → IsOkAnd result (λ words. words.items ≡ [])) }
 {
@@ -24,14 +47,26 @@ fn words_of(alloc: Global, args: io::Result<Args>) -> Result<Vec<String>, AllocE
     }
 }
 
-fn main(rt: HostRuntime) -> ExitCode {
-    let status = match words_of(rt.alloc(), env::args(&rt)) {
-        Ok(words) => {
-            let mut host = RealHost::new(rt, rt.stdout(), rt.stderr());
-            loom(rt.alloc(), &mut host, &words)
-        }
-        // Without memory for the words it says nothing.
+// What the process ends with, by the words after the program's name or the refusal of memory for them.
+fn answer<H: Host>(alloc: Global, host: &mut H, words: Result<Vec<String>, AllocError>) -> ExitCode
+    // Without memory for the words it does and says nothing.
+    ensures refused { IsErr words → (exit_status result ≡ 12) × (host.new ≡ host.old) }
+    // It is the code of a status that is promised for these words.
+    ensures promised { IfOk words (λ words. (status : Status) × (exit_status result ≡ code_of status)
+        × Promise H.tells (meanings H.Host host.old) (meanings H.Host host.new) (texts_of words.items) status) }
+{
+    let status = match words {
+        Ok(words) => loom(alloc, host, &words),
         Err(_) => Status::OutOfMemory,
     };
     ExitCode::from(status.code())
+}
+
+fn main(rt: HostRuntime) -> ExitCode {
+    let Ok(_streams) = fill_streams(&rt) else {
+        return ExitCode::FAILURE;
+    };
+    let words = words_of(rt.alloc(), env::args(&rt));
+    let mut host = RealHost::new(rt, rt.stdout(), rt.stderr());
+    answer(rt.alloc(), &mut host, words)
 }

@@ -7,12 +7,16 @@ ghost use Rattle.loom_outside.specs.declared.outside.Role.{Role};
 use crate::per_role::PerRole;
 use crate::{Failed, Host, Role};
 use std::fs::{File, OpenOptions};
-use std::io::{Read, Seek, SeekFrom, Write};
+use std::io::{ErrorKind, Read, Seek, SeekFrom, Write};
 use std::rt::Files;
+
+// How often a call is made at most, while signals interrupt it.
+const MOST_TRIES: u32 = 1_000;
 
 /// A host over files, and a writer each for Transcript and Notes. It tells nothing of bytes, and counts
 /// each failure, a call on a role that isn't attached among them. It keeps no bytes back: each call goes
-/// on to the file or the writer.
+/// on to the file or the writer. A read, a write or a seek that a signal interrupts is made again, and
+/// has failed only where that happened 1,000 times in a row. The opening of a file is made again by std.
 #[derive(Drop)]
 pub struct RealHost<R: Files, T: Write, N: Write> {
     rt: R,
@@ -27,12 +31,25 @@ pub struct RealHost<R: Files, T: Write, N: Write> {
     writes: u64,
 }
 
-// Some bytes at the front of the buffer, or None where that failed or there is no file.
-fn read_some<F: Read>(file: &mut Option<F>, buf: &mut [u8]) -> Option<usize>
+// Some bytes to the front of the buffer, or None where that failed.
+fn read_some<F: Read>(file: &mut F, buf: &mut [u8]) -> Option<usize>
+    ensures { IfSome result (λ n. n ≤ length buf.old) }
+{
+    for _ in 0..MOST_TRIES {
+        match file.read(buf) {
+            Ok(n) => return Some(n),
+            Err(error) if error.kind() == ErrorKind::Interrupted => {}
+            Err(_) => return None,
+        }
+    }
+    None
+}
+
+fn read_from<F: Read>(file: &mut Option<F>, buf: &mut [u8]) -> Option<usize>
     ensures { IfSome result (λ n. n ≤ length buf.old) }
 {
     match file {
-        Some(file) => file.read(buf).ok(),
+        Some(file) => read_some(file, buf),
         None => None,
     }
 }
@@ -45,11 +62,15 @@ fn write_some<W: Write>(sink: &mut W, buf: &[u8]) -> Option<usize>
     if buf.is_empty() {
         return Some(0);
     }
-    match sink.write(buf) {
-        Ok(0) => None,
-        Ok(n) => Some(n),
-        Err(_) => None,
+    for _ in 0..MOST_TRIES {
+        match sink.write(buf) {
+            Ok(0) => return None,
+            Ok(n) => return Some(n),
+            Err(error) if error.kind() == ErrorKind::Interrupted => {}
+            Err(_) => return None,
+        }
     }
+    None
 }
 
 fn write_to<W: Write>(file: &mut Option<W>, buf: &[u8]) -> Option<usize>
@@ -62,20 +83,32 @@ fn write_to<W: Write>(file: &mut Option<W>, buf: &[u8]) -> Option<usize>
     }
 }
 
+// Goes to a place, counted from the start; false where that failed.
+fn seek_to<F: Seek>(file: &mut F, place: u64) -> bool {
+    for _ in 0..MOST_TRIES {
+        match file.seek(SeekFrom::Start(place)) {
+            Ok(_) => return true,
+            Err(error) if error.kind() == ErrorKind::Interrupted => {}
+            Err(_) => return false,
+        }
+    }
+    false
+}
+
 // The whole piece from a place on, with zeros past the end; false where that failed.
 fn read_whole<F: Read + Seek>(file: &mut F, place: u64, buf: &mut [u8]) -> bool {
-    if file.seek(SeekFrom::Start(place)).is_err() {
+    if !seek_to(file, place) {
         return false;
     }
     let mut done = 0;
     while done < buf.len() {
-        match file.read(&mut buf[done..]) {
-            Ok(0) => {
+        match read_some(file, &mut buf[done..]) {
+            Some(0) => {
                 buf[done..].fill(0);
                 return true;
             }
-            Ok(n) => done += n,
-            Err(_) => return false,
+            Some(n) => done += n,
+            None => return false,
         }
     }
     true
@@ -83,7 +116,7 @@ fn read_whole<F: Read + Seek>(file: &mut F, place: u64, buf: &mut [u8]) -> bool 
 
 // The whole piece to a place on; false where that failed.
 fn write_whole<F: Write + Seek>(file: &mut F, place: u64, buf: &[u8]) -> bool {
-    if file.seek(SeekFrom::Start(place)).is_err() {
+    if !seek_to(file, place) {
         return false;
     }
     let mut done = 0;
@@ -153,8 +186,8 @@ impl<R: Files, T: Write, N: Write> Host for RealHost<R, T, N> {
 
     fn read(&mut self, role: Role, buf: &mut [u8]) -> Result<usize, Failed> {
         let moved = match role {
-            Role::Image => read_some(&mut self.image, buf),
-            _ => read_some(&mut self.events, buf),
+            Role::Image => read_from(&mut self.image, buf),
+            _ => read_from(&mut self.events, buf),
         };
         match moved {
             Some(n) => Ok(n),

@@ -1,7 +1,9 @@
 use crate::{Failed, Host, MemoryHost, RealHost, Role, read_full, write_full};
-use std::fs;
+use std::fs::File;
+use std::io::{ErrorKind, Write};
 use std::process::Abort;
 use std::test::Fail;
+use std::{fs, io};
 
 const ROLES: [Role; 7] = [
     Role::Image,
@@ -114,9 +116,34 @@ const STEPS: [Step; 29] = [
     Step::WriteAt(1, b"y"),
 ];
 
+// A writer that is interrupted so many times before it takes a piece, and 1,000 times before the next.
+#[derive(Drop)]
+struct Interrupted {
+    times: u32,
+}
+
+impl Write for Interrupted {
+    fn write(&mut self, buf: &[u8]) -> io::Result<usize> {
+        if self.times > 0 {
+            self.times -= 1;
+            return Err(io::Error::from(ErrorKind::Interrupted));
+        }
+        self.times = 1_000;
+        Ok(buf.len())
+    }
+
+    fn flush(&mut self) -> io::Result<()> {
+        Ok(())
+    }
+}
+
 #[test]
 fn files_and_streams(rt: HostRuntime) -> Result<(), Fail> {
-    let mut host = RealHost::new(rt.clone()?, rt.stdout(), rt.stderr());
+    for name in ["s", "t", "d"] {
+        fs::write(&rt, name, "longer than what is put into it")?;
+    }
+    let said = File::create(&rt, "said")?;
+    let mut host = RealHost::new(rt.clone()?, said, Interrupted { times: 999 });
     assert_eq!(rt; call(&mut host, Role::Work), Err(Failed));
     assert_eq!(rt; call(&mut host, Role::Saved), Err(Failed));
     for step in STEPS {
@@ -130,7 +157,17 @@ fn files_and_streams(rt: HostRuntime) -> Result<(), Fail> {
     ] {
         assert_eq!(rt; host.fault_count(role), count, "{role:?}");
     }
-    for name in ["s", "t", "d", "w"] {
+    assert_eq!(rt; call(&mut host, Role::Notes), Err(Failed));
+    assert_eq!(rt; host.fault_count(Role::Notes), 1);
+    for (name, text) in [
+        ("s", "abcdef"),
+        ("t", "x"),
+        ("d", "picture"),
+        ("w", "\0y"),
+        ("said", "said\n"),
+    ] {
+        let file = fs::read_to_string(&rt, name)?;
+        assert_eq!(rt; file.as_str(), text, "{name}");
         fs::remove_file(&rt, name)?;
     }
     Ok(())
