@@ -27,12 +27,8 @@ use Rattle.object_memory.specs.Worklist.{without, IsDead, Lists, IsFreeing, Coun
 use Rattle.object_memory.proofs.WordLaws.{count_by-more, fields-few}
 use Rattle.object_memory.proofs.WorklistLaws.{without-here, without-part, without-none, count-without, object_count-without, kept-free, kept-counted}
 
--- no words
-pub down-none : (counts : Counts) (dead : List ℕ) → CountsDown (λ q. 0) 0 counts dead counts dead
-down-none counts dead = record { fewer = λ q. omega arith; sound = λ all. all; complete = λ q lists. lists; short = omega arith }
-
 -- some words after others
-pub down-then : (f g : ℕ → ℕ) (i j : ℕ) (a b c : Counts) (xs ys zs : List ℕ) → CountsDown f i a xs b ys → CountsDown g j b ys c zs → CountsDown (λ q. f q + g q) (i + j) a xs c zs
+down-then : (f g : ℕ → ℕ) (i j : ℕ) (a b c : Counts) (xs ys zs : List ℕ) → CountsDown f i a xs b ys → CountsDown g j b ys c zs → CountsDown (λ q. f q + g q) (i + j) a xs c zs
 down-then f g i j a b c xs ys zs one two = record {
   fewer = λ q. let first = one.fewer q in let second = two.fewer q in omega arith;
   sound = λ all. two.sound (one.sound all);
@@ -41,7 +37,7 @@ down-then f g i j a b c xs ys zs one two = record {
 }
 
 -- the same words, said otherwise
-pub down-as : (f g : ℕ → ℕ) (i j : ℕ) (a b : Counts) (xs ys : List ℕ) → ((q : ℕ) → f q ≡ g q) → i ≤ j → CountsDown f i a xs b ys → CountsDown g j a xs b ys
+down-as : (f g : ℕ → ℕ) (i j : ℕ) (a b : Counts) (xs ys : List ℕ) → ((q : ℕ) → f q ≡ g q) → i ≤ j → CountsDown f i a xs b ys → CountsDown g j a xs b ys
 down-as f g i j a b xs ys same up one = record {
   fewer = λ q. let first = one.fewer q in let is = same q in omega arith;
   sound = one.sound;
