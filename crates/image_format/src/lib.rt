@@ -1,4 +1,13 @@
-//! The image of a heap as bytes: its records, the text of a whole heap, and which images are valid.
+//! The image of a heap as bytes: its head, its records, the text of a whole heap, and which images are valid.
+//!
+//! `decode_rec` answers the record that the bytes begin with, and refuses exactly where they begin with none; `encode_rec` appends a
+//! record's one text, or nothing. What was written is read again, whatever follows it:
+//!
+//!     encode_rec(&rec, &mut out)?;
+//!     let (same, len) = decode_rec(alloc, out.bytes())?;
+//!
+//! `decode_head` and `encode_head` do the same for the 16 bytes before the records. Read `specs/Text.antt` and `Valid.antt` first; a
+//! record's text is `Record.antt` of long_names. Whole images are read and written by the crates above, piece by piece.
 #![tactic(auto)]
 
 mod decoding;

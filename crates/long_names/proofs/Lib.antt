@@ -2,4 +2,5 @@ pub mod ThinLemmas
 pub mod KeptLaws
 pub mod AccessLaws
 pub mod CycleLaws
+pub mod FreeLaws
 mod Examples

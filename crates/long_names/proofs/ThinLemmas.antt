@@ -10,7 +10,7 @@ use Rattle.long_names.specs.declared.object.Body.TheVariants.{Pointers, Words, B
 use Rattle.long_names.specs.declared.object.Object.{Object}
 use Rattle.long_names.specs.Names.{is_known}
 use Rattle.long_names.specs.Objects.{holds, is_ref, fields_of, field_of, with_field, with_words, with_bytes}
-use Rattle.long_names.specs.Heap.{Heap, Has, IsBounded, put_object, add_object}
+use Rattle.long_names.specs.Heap.{Heap, Has, IsBounded, put_object, add_object, without}
 use Rattle.long_names.specs.Thin.{IsLostCycle, IsThinner, IsClosed, IsWhole, IsThinning}
 
 -- the object that a heap has
@@ -386,12 +386,9 @@ IsThinning-trans h s t regs now slots pins a b = record { thinner = IsThinner-tr
 
 -- ---- freeing
 
-abbrev pub remove : Heap → ℕ → Heap
-remove h n = record { at = λ q. cond (eqb q n) None (h.at q); next = h.next }
-
 -- what no object holds may be freed
-pub IsThinner-remove : (h : Heap) (n : ℕ) → ((k : ℕ) (o : Object) → h.at k ≡ Some o → holds o n ≡ true → ⊥) → IsThinner h (remove h n)
-IsThinner-remove h n free = record {
+pub IsThinner-without : (h : Heap) (n : ℕ) → ((k : ℕ) (o : Object) → h.at k ≡ Some o → holds o n ≡ true → ⊥) → IsThinner h (without h n)
+IsThinner-without h n free = record {
   next = refl;
   same = λ q o e. same q o (eqb q n) e;
   acyclic = λ set c q. none set c q (set q) refl;
@@ -405,14 +402,14 @@ IsThinner-remove h n free = record {
     only q true f there e = grind (arith, common_steps, f)
     only q false f there e = let gone : h.at q ≡ None = subst (λ b. cond b None (h.at q) ≡ None) f e in absurd (cc)
 
-    none : (set : ℕ → Bool) → IsLostCycle h (remove h n) set → (q : ℕ) (b : Bool) → set q ≡ b → set q ≡ false
+    none : (set : ℕ → Bool) → IsLostCycle h (without h n) set → (q : ℕ) (b : Bool) → set q ≡ b → set q ≡ false
     none set c q false e = e
     none set c q true e =
         let g = c.held q e in
         let is : q ≡ n = only q (eqb q n) refl (c.had q e) (c.lost q e) in
         absurd (free g.by g.object g.there (subst (λ k. holds g.object k ≡ true) is g.holds_it))
 
-has_other : (h : Heap) (n k : ℕ) → (k ≡ n → ⊥) → Has h k → Has (remove h n) k
+has_other : (h : Heap) (n k : ℕ) → (k ≡ n → ⊥) → Has h k → Has (without h n) k
 has_other h n k other there = go (eqb k n) refl
   where
     go : (b : Bool) → eqb k n ≡ b → is_some (cond (eqb k n) None (h.at k)) ≡ true
@@ -420,8 +417,8 @@ has_other h n k other there = go (eqb k n) refl
     go false e = ap (λ b. is_some (cond b None (h.at k))) e ∙ there
 
 -- and what is neither known nor in a register or a slot leaves a whole heap
-pub IsWhole-remove : (h : Heap) (regs : ℕ → Value) (slots : ℕ → Option ℕ) (n : ℕ) → IsWhole h regs slots → is_known n ≡ false → ((k : ℕ) (o : Object) → h.at k ≡ Some o → holds o n ≡ true → ⊥) → ((r : ℕ) → regs r ≡ Ref n → ⊥) → ((i : ℕ) → slots i ≡ Some n → ⊥) → IsWhole (remove h n) regs slots
-IsWhole-remove h regs slots n w unknown free out unpinned = record {
+pub IsWhole-without : (h : Heap) (regs : ℕ → Value) (slots : ℕ → Option ℕ) (n : ℕ) → IsWhole h regs slots → is_known n ≡ false → ((k : ℕ) (o : Object) → h.at k ≡ Some o → holds o n ≡ true → ⊥) → ((r : ℕ) → regs r ≡ Ref n → ⊥) → ((i : ℕ) → slots i ≡ Some n → ⊥) → IsWhole (without h n) regs slots
+IsWhole-without h regs slots n w unknown free out unpinned = record {
   known = λ k e. has_other h n k (λ is. let yes : is_known n ≡ true = subst (λ x. is_known x ≡ true) is e in no_both (is_known n) yes unknown) (w.known k e);
   below = λ k there. w.below k (was k (eqb k n) there);
   closed = λ q o k e held. has_other h n k (λ is. free q o (before q o (eqb q n) e) (subst (λ x. holds o x ≡ true) is held)) (w.closed q o k (before q o (eqb q n) e) held);

@@ -26,6 +26,10 @@ put_object h n o = record { at = λ q. if q == n then Some o else h.at q; next =
 abbrev pub add_object : Heap → Object → Heap
 add_object h o = record { at = λ q. if q == h.next then Some o else h.at q; next = h.next + 2 }
 
+-- without the object of a name
+abbrev pub without : Heap → ℕ → Heap
+without h n = record { at = λ q. if q == n then None else h.at q; next = h.next }
+
 -- how many objects have a name below n
 abbrev pub objects_below : Heap → ℕ → ℕ
 objects_below h zero = 0

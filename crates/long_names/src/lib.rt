@@ -1,4 +1,14 @@
-//! Long names, values and objects, and the lists that records are made of.
+//! Long names, values and objects, and the words in which all crates above speak of them.
+//!
+//! A `Name` is always an even number above 0 of 32 bits, and a `Value` that was read is a SmallInteger in range or a name:
+//! `value_of` and `long_word` are inverse. A `Body` hands out its parts by methods whose clauses are equations.
+//!
+//!     let word = long_word(Value::Int(-1));              // 0xffff_ffff
+//!     let value = value_of(word);                        // Some(Value::Int(-1))
+//!
+//! Most of the crate is `specs/`: read `Names`, `Words` and `Objects` first, then `Heap` and `Kept` (what reference counting keeps),
+//! `State` and `Access` (what a memory is asked), `Need` (what a core has to hold for it) and `Thin` (what may be freed early).
+//! `laws` has what follows from these definitions. It holds no heap and reads no file.
 #![tactic(auto)]
 
 pub mod laws;

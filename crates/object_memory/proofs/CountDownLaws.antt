@@ -16,16 +16,16 @@ use Rattle.long_names.specs.declared.value.Value.TheVariants.{Int, Ref}
 use Rattle.long_names.specs.declared.object.Object.{Object}
 use Rattle.long_names.specs.Names.{is_known}
 use Rattle.long_names.specs.Objects.{holdings, is_ref, fields_of, IsObject}
-use Rattle.long_names.specs.Heap.{Heap, Has, IsBounded, object_count, count_of}
+use Rattle.long_names.specs.Heap.{Heap, Has, IsBounded, object_count, count_of, without}
 use Rattle.long_names.specs.Kept.{kept, no_roots}
 use Rattle.long_names.proofs.ThinLemmas.{has}
 use Rattle.object_memory.specs.declared.plain.counts.Counts.{Counts}
 use Rattle.object_memory.specs.declared.plain.objects.Objects.{Objects}
 use Rattle.object_memory.specs.Counts.{count_in}
 use Rattle.object_memory.specs.Plain.{heap_of}
-use Rattle.object_memory.specs.Worklist.{without, IsDead, Lists, IsFreeing, CountsDown}
+use Rattle.object_memory.specs.Worklist.{IsDead, Lists, IsFreeing, CountsDown}
 use Rattle.object_memory.proofs.WordLaws.{count_by-more, fields-few}
-use Rattle.object_memory.proofs.WorklistLaws.{without-here, without-part, without-none, count-without, object_count-without, kept-free, kept-counted}
+use Rattle.long_names.proofs.FreeLaws.{without-here, without-part, without-none, count-without, object_count-without, kept-free, kept-counted}
 
 -- some words after others
 down-then : (f g : ℕ → ℕ) (i j : ℕ) (a b c : Counts) (xs ys zs : List ℕ) → CountsDown f i a xs b ys → CountsDown g j b ys c zs → CountsDown (λ q. f q + g q) (i + j) a xs c zs

@@ -4,4 +4,3 @@ pub mod MapLaws
 pub mod PlainLaws
 pub mod RecordLaws
 pub mod WordLaws
-pub mod WorklistLaws

@@ -26,7 +26,7 @@ use Rattle.object_memory.specs.Plain.{heap_of}
 use Rattle.object_memory.specs.Stored.{IsStored}
 use Rattle.long_names.specs.Names.{IsLongName}
 use Rattle.object_memory.proofs.Entries.{entries, entries-found, map-rises, map-below}
-use Rattle.object_memory.proofs.WorklistLaws.{without-part}
+use Rattle.long_names.proofs.FreeLaws.{without-part}
 
 -- the entries of a map's heap are the map's
 pub heap-entries : (m : Objects) → entries (heap_of m) ≡ m.objects.entries

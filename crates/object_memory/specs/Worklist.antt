@@ -1,14 +1,10 @@
 -- Freeing what no word holds, by a list of names.
-use Rattle.std.specs.Prelude.{◌≡◌, ℕ, ◌+◌, ◌≤◌, ◌==◌, if◌then◌else◌, false, List, length, All, None}
+use Rattle.std.specs.Prelude.{◌≡◌, ℕ, ◌+◌, ◌≤◌, false, List, length, All}
 use Rattle.std.specs.List.{Contains}
 use Rattle.long_names.specs.Names.{is_known}
 use Rattle.long_names.specs.Heap.{Heap, Has, count_of}
 use Rattle.object_memory.specs.declared.plain.counts.Counts.{Counts}
 use Rattle.object_memory.specs.Counts.{count_in}
-
--- a heap without the object of a name
-abbrev pub without : Heap → ℕ → Heap
-without h n = record { at = λ q. if q == n then None else h.at q; next = h.next }
 
 -- no word holds the name, and it isn't known
 abbrev pub IsDead : Counts → ℕ → Type 0

@@ -1,12 +1,12 @@
 // Kept objects: what reference counting leaves in the end (chapter 30 of the Blue Book).
 ghost use Rattle.std.specs.Prelude.{◌≡◌, ◌+◌, ◌<◌, ◌≤◌, ◌^◌, ◌==◌, if◌then◌else◌, ℕ, [], ◌∷◌, ◌++◌, All, OnOk, IfOk, is_some, count_by, length};
 ghost use Rattle.long_names.specs.Objects.{is_ref, holdings, IsObject, IsRecord};
-ghost use Rattle.long_names.specs.Heap.{count_of};
+ghost use Rattle.long_names.specs.Heap.{count_of, without};
 ghost use Rattle.long_names.specs.Kept.{kept, no_roots};
 ghost use Rattle.object_memory.specs.Counts.{count_in};
 ghost use Rattle.object_memory.specs.Plain.{heap_of};
 ghost use Rattle.object_memory.specs.Records.{recs_of};
-ghost use Rattle.object_memory.specs.Worklist.{without, IsFreeing, CountsDown};
+ghost use Rattle.object_memory.specs.Worklist.{IsFreeing, CountsDown};
 
 use crate::plain::counts::Counts;
 use crate::plain::objects::Objects;

@@ -25,7 +25,7 @@ pub(crate) struct Objects {
 impl Objects {
     ghost use Rattle.object_memory.specs.Plain.{heap_of};
     ghost use Rattle.object_memory.specs.Records.{AreWhole, heap_of_recs};
-    ghost use Rattle.object_memory.specs.Worklist.{without};
+    ghost use Rattle.long_names.specs.Heap.{without};
 
     /// A heap without objects. It takes no memory.
     fn new(alloc: Global, next: u32) -> Objects

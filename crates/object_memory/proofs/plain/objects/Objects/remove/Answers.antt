@@ -4,7 +4,7 @@ use Rattle.long_names.specs.declared.object.Object.{Object}
 use Rattle.long_names.proofs.KeptLaws.{heap-same}
 use Rattle.object_memory.specs.Plain.{heap_of}
 use Rattle.long_names.specs.Objects.{IsObject}
-use Rattle.object_memory.specs.Worklist.{without}
+use Rattle.long_names.specs.Heap.{without}
 use Rattle.object_memory.proofs.MapLaws.{stored-removed, updated}
 use Rattle.object_memory.proofs.plain.objects.Objects.remove.Goals as goal
 

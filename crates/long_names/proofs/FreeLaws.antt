@@ -6,11 +6,10 @@ use Rattle.std.specs.Option.{option_map_or}
 use Rattle.long_names.specs.declared.object.Object.{Object}
 use Rattle.long_names.specs.Names.{is_known}
 use Rattle.long_names.specs.Objects.{holdings}
-use Rattle.long_names.specs.Heap.{Heap, Has, IsBounded, objects_below, object_count, holdings_below, count_of}
+use Rattle.long_names.specs.Heap.{Heap, Has, IsBounded, without, objects_below, object_count, holdings_below, count_of}
 use Rattle.long_names.specs.Kept.{is_left, kept, no_roots}
 use Rattle.long_names.proofs.ThinLemmas.{has_below}
 use Rattle.long_names.proofs.KeptLaws.{IsPart, IsFixed, IsPart-trans, bounded-part, left-part, left-counted, kept-fixed, kept-part, kept-greatest, kept-same, parts-same, fixed-same}
-use Rattle.object_memory.specs.Worklist.{without}
 
 -- ---- sums below a number
 
