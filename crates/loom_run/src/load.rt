@@ -254,6 +254,3 @@ pub fn load<H: Host>(alloc: Global, host: &mut H) -> Result<ObjectMap, LoadFault
     judge(alloc, &window, &map, &stated)?;
     Ok(map)
 }
-
-#[cfg(test)]
-mod tests;
