@@ -69,7 +69,7 @@ pub fn describe(
         }
         Part::Transcript => {
             let at = place(&want.transcript, &got.transcript);
-            format!(in alloc; "transcript from {at} on")
+            format!(in alloc; "transcript differs from {at} on")
         }
         Part::Saved => describe_file(alloc, "saved", &want.saved, &got.saved),
         Part::Display => describe_file(alloc, "display", &want.display, &got.display),
@@ -85,10 +85,10 @@ fn describe_file(
     match (want, got) {
         (Some(want), Some(got)) => {
             let at = place(want, got);
-            format!(in alloc; "{role} from {at} on")
+            format!(in alloc; "{role} differs from {at} on")
         }
-        (Some(_), None) => format!(in alloc; "{role} isn't there"),
-        (None, _) => format!(in alloc; "{role} is there"),
+        (Some(_), None) => format!(in alloc; "{role} is missing"),
+        (None, _) => format!(in alloc; "{role} isn't wanted"),
     }
 }
 

@@ -38,12 +38,3 @@ pub(crate) const BASE: &[u8; 652] = b"\
     \0\0\0\x02\0\0\0\x02\0\0\0\x02\0\0\0\x02\0\0\0\x02\
     \0\0\0\x02\0\0\0\x02\0\0\0\x02\0\0\0\x02\0\0\0\x02\
     \0\0\0\x02\0\0\0\x02\0\0\0\x02";
-
-/// Puts other bytes in some places.
-pub(crate) fn change(image: &mut [u8], changes: &[(usize, u8)]) {
-    for (at, byte) in changes {
-        if let Some(old) = image.get_mut(*at) {
-            *old = *byte;
-        }
-    }
-}

@@ -205,6 +205,3 @@ pub fn load<H: Host>(alloc: Global, host: &mut H) -> Result<ObjectMap, LoadFault
     judge(alloc, &window, &map, &stated)?;
     Ok(map)
 }
-
-#[cfg(test)]
-mod tests;
