@@ -4,6 +4,7 @@
 mod broken;
 mod counts;
 mod cpu;
+mod emit;
 mod interpreter;
 mod laws;
 mod load;

@@ -4,6 +4,7 @@ use super::save;
 use crate::base::BASE;
 use crate::load::load;
 use crate::map::ObjectMap;
+use crate::sweep::keep;
 use long_names::{Body, Name, Value};
 use loom_outside::{Host, MemoryHost, Role};
 use std::alloc::{AllocError, Global};
@@ -36,6 +37,13 @@ fn host_with(alloc: Global, image: &[u8], chunk: usize) -> Result<MemoryHost, Fa
     Ok(host)
 }
 
+// Puts the image of what is kept of a map.
+fn save_kept(alloc: Global, host: &mut MemoryHost, mut map: ObjectMap) -> Result<(), Fail> {
+    let counts = keep(alloc, &mut map)?;
+    save(host, map, &counts)?;
+    Ok(())
+}
+
 // The sum of Fowler, Noll and Vo over 64 bits.
 fn sum_of(bytes: &[u8]) -> u64 {
     let mut sum = 0xcbf2_9ce4_8422_2325;
@@ -53,7 +61,7 @@ fn base_is_saved_as_it_was(rt: HostRuntime) -> Result<(), Fail> {
         let mut host = host_with(rt.alloc(), &image, chunk)?;
         let map = load(rt.alloc(), &mut host)?;
         assert_eq!(rt; map.len(), 26);
-        save(rt.alloc(), &mut host, map)?;
+        save_kept(rt.alloc(), &mut host, map)?;
         assert_eq!(rt; host.file("saved"), Some(image.as_slice()));
     }
     Ok(())
@@ -90,7 +98,7 @@ fn a_long_chain_goes(rt: HostRuntime) -> Result<(), Fail> {
     let mut map = load(rt.alloc(), &mut host)?;
     assert_eq!(rt; map.len(), 1026);
     let_go(&mut map, Name::SCHEDULER_ASSOCIATION);
-    save(rt.alloc(), &mut host, map)?;
+    save_kept(rt.alloc(), &mut host, map)?;
     let mut rest = BASE.to_vec(rt.alloc())?;
     patch(&mut rest, 12, &2068u32.to_be_bytes());
     assert_eq!(rt; host.file("saved"), Some(rest.as_slice()));
@@ -120,7 +128,7 @@ fn a_large_image_is_saved_as_it_was(rt: HostRuntime) -> Result<(), Fail> {
     let mut host = host_with(rt.alloc(), &image, 65_536)?;
     let map = load(rt.alloc(), &mut host)?;
     assert_eq!(rt; map.len(), 65_566);
-    save(rt.alloc(), &mut host, map)?;
+    save_kept(rt.alloc(), &mut host, map)?;
     assert_eq!(rt; host.file("saved"), Some(image.as_slice()));
     Ok(())
 }

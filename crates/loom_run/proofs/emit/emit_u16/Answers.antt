@@ -1,0 +1,7 @@
+use Rattle.image_format.specs.Record.{two_bytes}
+use Rattle.loom_run.proofs.SaveLaws.{emits-of}
+use Rattle.loom_run.proofs.emit.emit_u16.Goals as goal
+
+pub returns : goal.returns
+unfolding two_bytes
+returns g c = emits-of c.to_be_bytes.ensures c.emit.ensures
