@@ -6,42 +6,33 @@ ghost use Rattle.long_names.specs.Names.{IsLongName};
 ghost use Rattle.long_names.specs.Record.{two_bytes, four_bytes, eight_bytes, values_text, words_text, contents_text, record_head, record_text};
 ghost use Rattle.image_format.specs.Inside.{Extends};
 
+use crate::big_endian::{bytes_of_u16, bytes_of_u32, bytes_of_u64};
 use crate::reading::padding_of;
-use byteorder::{BigEndian, ByteOrder};
 use long_names::{Body, Octets, Rec, Value, Values, Words16, long_word};
 use std::alloc::AllocError;
 
 /// The most zeros at a record's end.
 const ZEROS: [u8; 3] = [0; 3];
 
-#[tactic(auto, unfolding(long_names::specs::Record::two_bytes))]
 fn put_u16(out: &mut Octets, number: u16) -> Result<(), AllocError>
     ensures ok { OnOk result (out.new ≡ out.old ++ two_bytes number) }
     ensures err { OnErr result (out.new ≡ out.old) }
 {
-    let mut bytes = [0; 2];
-    BigEndian::write_u16(&mut bytes, number);
-    out.extend(&bytes)
+    out.extend(&bytes_of_u16(number))
 }
 
-#[tactic(auto, unfolding(long_names::specs::Record::four_bytes))]
-pub(crate) fn put_u32(out: &mut Octets, number: u32) -> Result<(), AllocError>
+fn put_u32(out: &mut Octets, number: u32) -> Result<(), AllocError>
     ensures ok { OnOk result (out.new ≡ out.old ++ four_bytes number) }
     ensures err { OnErr result (out.new ≡ out.old) }
 {
-    let mut bytes = [0; 4];
-    BigEndian::write_u32(&mut bytes, number);
-    out.extend(&bytes)
+    out.extend(&bytes_of_u32(number))
 }
 
-#[tactic(auto, unfolding(long_names::specs::Record::eight_bytes))]
 fn put_u64(out: &mut Octets, number: u64) -> Result<(), AllocError>
     ensures ok { OnOk result (out.new ≡ out.old ++ eight_bytes number) }
     ensures err { OnErr result (out.new ≡ out.old) }
 {
-    let mut bytes = [0; 8];
-    BigEndian::write_u64(&mut bytes, number);
-    out.extend(&bytes)
+    out.extend(&bytes_of_u64(number))
 }
 
 fn put_values(out: &mut Octets, values: &Values) -> Result<(), AllocError>

@@ -1,12 +1,9 @@
 // The head of an image: what it states before its records.
-ghost use Rattle.std.specs.Prelude.{◌≡◌, ◌≢◌, ◌↔◌, ◌+◌, ◌≤◌, ◌++◌, ℕ, IsTrue, IfSome, IfNone, OnOk, OnErr, length, take, drop};
+ghost use Rattle.std.specs.Prelude.{◌≡◌, ◌≢◌, ◌↔◌, ◌+◌, ◌≤◌, ℕ, IsTrue, IfSome, IfNone, length, take, drop};
 ghost use Rattle.long_names.specs.Record.{four_bytes};
 ghost use Rattle.image_format.specs.Text.{IsHead, head_text};
-ghost use Rattle.image_format.specs.Inside.{Extends};
 
-use crate::encoding::put_u32;
-use long_names::Octets;
-use std::alloc::AllocError;
+use crate::big_endian::bytes_of_u32;
 
 /// How many bytes the head has: `LOOM`, the version, the object count and the next name.
 pub const HEAD_LEN: usize = 16;
@@ -37,6 +34,18 @@ impl Head {
             && self.next >= LOWEST_NEXT
             && self.next % 2 == 0
     }
+
+    /// Its bytes.
+    pub fn bytes(&self) -> [u8; HEAD_LEN]
+        ensures { result ≡ head_text self.now.objects self.now.next }
+    {
+        let [v0, v1, v2, v3] = bytes_of_u32(VERSION);
+        let [o0, o1, o2, o3] = bytes_of_u32(self.objects);
+        let [n0, n1, n2, n3] = bytes_of_u32(self.next);
+        [
+            b'L', b'O', b'O', b'M', v0, v1, v2, v3, o0, o1, o2, o3, n0, n1, n2, n3,
+        ]
+    }
 }
 
 /// The long word at a place.
@@ -61,27 +70,4 @@ pub fn decode_head(bytes: &[u8]) -> Option<Head>
         next: word_at(bytes, 12),
     };
     if head.is_in_range() { Some(head) } else { None }
-}
-
-fn append_head(head: &Head, out: &mut Octets) -> Result<(), AllocError>
-    ensures ok { OnOk result (out.new ≡ out.old ++ head_text head.now.objects head.now.next) }
-    ensures err { OnErr result (Extends out.old out.new) }
-{
-    out.extend(b"LOOM")?;
-    put_u32(out, VERSION)?;
-    put_u32(out, head.objects)?;
-    put_u32(out, head.next)
-}
-
-/// Appends the head. Without memory the bytes are as before.
-pub fn encode_head(head: &Head, out: &mut Octets) -> Result<(), AllocError>
-    ensures ok { OnOk result (out.new ≡ out.old ++ head_text head.now.objects head.now.next) }
-    ensures err { OnErr result (out.new ≡ out.old) }
-{
-    let len = out.len();
-    let done = append_head(head, out);
-    if done.is_err() {
-        out.truncate(len);
-    }
-    done
 }

@@ -6,10 +6,11 @@
 //!     encode_rec(&rec, &mut out)?;
 //!     let (same, len) = decode_rec(alloc, out.bytes())?;
 //!
-//! `decode_head` and `encode_head` do the same for the 16 bytes before the records. Read `specs/Text.antt` and `Valid.antt` first; a
+//! `decode_head` and `Head::bytes` do the same for the 16 bytes before the records. Read `specs/Text.antt` and `Valid.antt` first; a
 //! record's text is `Record.antt` of long_names. Whole images are read and written by the crates above, piece by piece.
 #![tactic(auto)]
 
+mod big_endian;
 mod decoding;
 mod encoding;
 mod fault;
@@ -20,7 +21,8 @@ mod reading;
 pub use decoding::{MAX_RECORD, decode_rec};
 pub use encoding::encode_rec;
 pub use fault::RecFault;
-pub use head::{HEAD_LEN, Head, decode_head, encode_head};
+pub use head::{HEAD_LEN, Head, decode_head};
+pub use big_endian::{bytes_of_u16, bytes_of_u32, bytes_of_u64};
 
 #[cfg(test)]
 mod tests;

@@ -1,6 +1,7 @@
 pub mod Bytecodes
 pub mod CompleteLaws
 pub mod Entries
+pub mod Frames
 pub mod ImageLaws
 pub mod Lines
 pub mod LoadLaws

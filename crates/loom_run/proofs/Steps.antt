@@ -7,12 +7,11 @@ use Rattle.long_names.specs.declared.object.Object.{Object}
 use Rattle.long_names.specs.Heap.{Heap}
 use Rattle.loom_run.specs.Machine.{Machine, row_of, Outcome, Go, Halt, Unbuilt, Rule, Cause, Shape, Pointer, byte_at, byte_of, code_of, unbuilt, after, then_do, ◌>>=◌, ◌>>◌, done, halt, given, register, put_register, numbers, set_numbers, look, looked, part, store, stored, written, pointers_with, pin, unpin_all, known, pick}
 use Rattle.long_names.specs.Need.{Row}
-use Rattle.long_names.specs.State.{set_register, set_slot}
+use Rattle.long_names.specs.State.{set_register, set_slot, object_at}
 use Rattle.loom_run.specs.Read.{IsRead}
 use Rattle.long_names.specs.Objects.{name_of}
 use Rattle.loom_run.specs.declared.interpreter.Interpreter.{Interpreter}
 use Rattle.loom_run.specs.Gives.{IsStoredIn, Makes, machine_of, Gives, put_at, heap_stored}
-use Rattle.long_names.specs.State.{object_at}
 use Rattle.loom_run.specs.declared.cpu.Cpu.{Cpu}
 use Rattle.loom_run.specs.declared.broken.NotBuilt.{NotBuilt}
 

@@ -1,10 +1,11 @@
 -- What the parts of a run answer.
-use Rattle.std.specs.Prelude.{◌≡◌, ℕ, Bool, List, ◌⊎◌, Result, Err, IsOk, IsTrue}
+use Rattle.std.specs.Prelude.{◌≡◌, ℕ, Bool, List, [], ◌∷◌, ◌++◌, ◌⊎◌, Result, Err, IsOk, IsErr, OnOk, OnErr, IsTrue}
 use Rattle.long_names.specs.Heap.{Heap}
 use Rattle.loom_outside.specs.Outside.{RoleState, PutPrefix, puts}
+use Rattle.loom_outside.specs.declared.outside.Failed.{Failed}
 use Rattle.loom_outside.specs.declared.outside.Role.TheVariants.{Saved, Notes}
 use Rattle.long_names.specs.Counting.{Rose}
-use Rattle.loom_run.specs.Meanings.{Meanings}
+use Rattle.loom_run.specs.Meanings.{Meanings, LeavesBut}
 use Rattle.loom_run.specs.Top.{Saves, BeginsToSave, WasRefused}
 use Rattle.loom_run.specs.Status.{line_of}
 use Rattle.loom_run.specs.declared.status.Status.{Status}
@@ -34,8 +35,21 @@ Runs _ run = Unit {0}
 abbrev pub SavesRun : Status → Result Heap ℕ → List ℕ → RoleState → RoleState → Type 0
 SavesRun (Done ran) run text old new = Saves run text old new
 SavesRun (WriteFault role count) run text old new = WasRefused text old new ⊎ BeginsToSave run text old new
-SavesRun OutOfMemory run text old new = BeginsToSave run text old new
 SavesRun _ run text old new = Unit {0}
+
+-- of a text all but this rest was put
+pub record PutBut (text rest : List ℕ) (old new : RoleState) : Type 0 where
+  pub done : List ℕ
+  pub state : new ≡ puts done old
+  pub whole : done ++ rest ≡ text
+
+-- A text was gathered behind what waited, and all but what waits now was put to Saved. Where that failed, a prefix of both was, and
+-- the fault rose. No other role was used.
+pub record Emits {A : Type 0} (told : Bool) (before now : Meanings) (old text new : List ℕ) (result : Result A Failed) : Type 0 where
+  pub put : IsTrue told → OnOk result (PutBut (old ++ text) new (before.roles Saved) (now.roles Saved))
+  pub prefix : IsTrue told → OnErr result (PutPrefix (old ++ text) (before.roles Saved) (now.roles Saved))
+  pub rose : IsErr result → Rose (before.faults Saved) (now.faults Saved)
+  pub others : LeavesBut (Saved ∷ []) before now
 
 -- the answer once the last line couldn't be written
 abbrev pub unsaid : Status → ℕ → Status

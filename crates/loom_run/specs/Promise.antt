@@ -21,7 +21,8 @@ pub record Promise (tells : Role → Bool) (before now : Meanings) (words : List
   -- Image is attached once, by its own word, where the words are right; else nothing is done with it.
   pub image : IsTrue (tells Image) → ImageBy result (image_word words) (before.roles Image) (now.roles Image)
   pub unasked : IsSome (bad_word words) → IsLeft Image before now
-  -- Saved is attached at most once, by its own word, and only once the run was made; before that nothing is done with it.
+  -- Saved is attached at most once, by its own word, and only once the run was made and all memory for saving was had. With any
+  -- answer that comes before, want of memory among them, nothing is done with it.
   pub saved : IsTrue (tells Saved) → SavedBy result (saved_word words) (before.roles Saved) (now.roles Saved)
   pub unsaved : IsTrue (is_before_saving result) → IsLeft Saved before now
   -- The bytes of Image are refused only where they are no image. Done, and a fault in saving, come only where the machine goes

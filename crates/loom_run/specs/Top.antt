@@ -48,20 +48,17 @@ abbrev pub ImageBy : Status → List ℕ → RoleState → RoleState → Type 0
 ImageBy (Usage word) text old new = new ≡ old
 ImageBy _ text old new = AttachedOnce text old new
 
--- Saved is attached only once the run was made; want of memory may come before and after
+-- Saved is attached only once the run was made and all memory for saving was had
 abbrev pub SavedBy : Status → List ℕ → RoleState → RoleState → Type 0
 SavedBy (Done ran) text old new = AttachedOnce text old new
 SavedBy (WriteFault role count) text old new = AttachedOnce text old new
-SavedBy OutOfMemory text old new = (new ≡ old) ⊎ AttachedOnce text old new
 SavedBy _ text old new = new ≡ old
 
 -- the answer comes before Saved is attached
 abbrev pub is_before_saving : Status → Bool
-is_before_saving (Usage word) = true
-is_before_saving (ImageBad rule place) = true
-is_before_saving (ReadFault role count) = true
-is_before_saving (NotBuilt ran) = true
-is_before_saving _ = false
+is_before_saving (Done ran) = false
+is_before_saving (WriteFault role count) = false
+is_before_saving _ = true
 
 -- ---- what was read, and what was saved
 
@@ -106,7 +103,7 @@ abbrev pub WasRefused : List ℕ → RoleState → RoleState → Type 0
 WasRefused text old new = Attached {T = Unit {0}} text (Err failed) old new
 
 -- What an answer says of the bytes put to Saved: the whole saved image where it is Done, or would have been but for the line on
--- Notes; a prefix where Saved failed after its attach, or memory ran out.
+-- Notes; a prefix where Saved failed after its attach.
 abbrev pub SavesFor : Role → List ℕ → ℕ → List ℕ → RoleState → RoleState → Type 0
 SavesFor Saved image steps text old new = WasRefused text old new ⊎ RunOf image steps (λ run. BeginsToSave run text old new)
 SavesFor Notes image steps text old new = RunOf image steps (λ run. Saves run text old new)
@@ -115,7 +112,6 @@ SavesFor _ image steps text old new = Unit {0}
 abbrev pub SavesBy : Status → List ℕ → ℕ → List ℕ → RoleState → RoleState → Type 0
 SavesBy (Done ran) image steps text old new = RunOf image steps (λ run. Saves run text old new)
 SavesBy (WriteFault role count) image steps text old new = SavesFor role image steps text old new
-SavesBy OutOfMemory image steps text old new = (new ≡ old) ⊎ RunOf image steps (λ run. BeginsToSave run text old new)
 SavesBy _ image steps text old new = Unit {0}
 
 -- ---- Notes

@@ -5,6 +5,7 @@ mod broken;
 mod counts;
 mod cpu;
 mod indexes;
+mod emit;
 mod interpreter;
 pub mod laws;
 mod load;

@@ -9,8 +9,7 @@ ghost use Rattle.long_names.specs.Heap.{put_object, object_count};
 ghost use Rattle.long_names.specs.Names.{IsLongName};
 ghost use Rattle.loom_run.specs.Fields.{heap_with};
 ghost use Rattle.loom_run.specs.Load.{AreBelow, have_counts, have_known};
-ghost use Rattle.loom_run.specs.Stored.{IsStored};
-ghost use Rattle.loom_run.specs.Stored.{IsStored-prop};
+ghost use Rattle.loom_run.specs.Stored.{IsStored, IsStored-prop};
 
 use crate::counts::Counts;
 use long_names::{Body, Name, Object, Value};

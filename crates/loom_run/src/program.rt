@@ -1,24 +1,27 @@
 // The whole program.
-ghost use Rattle.std.specs.Prelude.{◌≡◌, ◌⊎◌, [], ◌∷◌, IsTrue, IfOk, OnOk, Err};
+ghost use Rattle.std.specs.Prelude.{◌≡◌, ◌⊎◌, [], ◌∷◌, ℕ, IsTrue, IsErr, IfOk, OnOk, OnErr, Err};
+ghost use Rattle.long_names.specs.Heap.{count_of};
 ghost use Rattle.image_format.specs.Text.{image_text};
 ghost use Rattle.image_format.specs.Valid.{IsImageHeap, IsValid};
+ghost use Rattle.loom_run.specs.Counts.{count_in};
 ghost use Rattle.loom_run.specs.Map.{heap_of};
 ghost use Rattle.loom_run.specs.Machine.{ending};
 ghost use Rattle.loom_run.specs.Meanings.{meanings, IsLeft, LeavesBut};
 ghost use Rattle.loom_run.specs.Promise.{Promise};
-ghost use Rattle.loom_run.specs.Saved.{saved_text};
-ghost use Rattle.long_names.specs.Counting.{Rose};
 ghost use Rattle.loom_run.specs.Words.{texts_of};
+ghost use Rattle.long_names.specs.Counting.{Rose};
 ghost use Rattle.loom_run.specs.Top.{AttachedOnce, WasWritten, SavedBy, IsCaused, HasRun, Judges, SavesBy, WasBegun, WasRefused, bytes_of, is_before_saving};
 ghost use Rattle.loom_run.specs.Parts.{IsAfterLoading, IsOfRun, IsTold, Runs, SavesRun, unsaid};
 
+use crate::counts::Counts;
 use crate::load::{LoadFault, load};
 use crate::map::ObjectMap;
 use crate::run::run;
-use crate::save::{SaveFault, save};
+use crate::save::save;
 use crate::status::Status;
+use crate::sweep::keep;
 use crate::words::{Command, command_of};
-use loom_outside::{Host, Role, write_full};
+use loom_outside::{Failed, Host, Role, write_full};
 use std::alloc::Global;
 
 // Attaches Image by this name, and reads it to its end.
@@ -38,32 +41,29 @@ fn read_image<H: Host>(alloc: Global, host: &mut H, name: &str) -> Result<Object
     load(alloc, host)
 }
 
-// Attaches Saved by this name, and puts the image of the kept objects to it.
+// Attaches Saved by this name, and puts the image of these objects to it.
 fn write_saved<H: Host>(
-    alloc: Global,
     host: &mut H,
     name: &str,
     map: ObjectMap,
-) -> Result<(), SaveFault>
+    counts: &Counts,
+) -> Result<(), Failed>
+    requires { (q : ℕ) → count_in counts.now q ≡ count_of (heap_of map) q }
     ensures attached { IsTrue (H.tells Role.Saved)
         → AttachedOnce name.now (H.roles host.old Role.Saved) (H.roles host.new Role.Saved) }
     ensures put { IsTrue (H.tells Role.Saved)
-        → OnOk result (WasWritten name.now (saved_text (heap_of map)) (H.roles host.old Role.Saved) (H.roles host.new Role.Saved)) }
-    ensures begun { IsTrue (H.tells Role.Saved) → result ≡ Err SaveFault.Memory
-        → WasBegun name.now (saved_text (heap_of map)) (H.roles host.old Role.Saved) (H.roles host.new Role.Saved) }
-    ensures refused { IsTrue (H.tells Role.Saved) → result ≡ Err SaveFault.Write
-        → WasRefused name.now (H.roles host.old Role.Saved) (H.roles host.new Role.Saved)
-        ⊎ WasBegun name.now (saved_text (heap_of map)) (H.roles host.old Role.Saved) (H.roles host.new Role.Saved) }
-    ensures write { result ≡ Err SaveFault.Write → Rose (H.faults host.old Role.Saved) (H.faults host.new Role.Saved) }
+        → OnOk result (WasWritten name.now (image_text (heap_of map)) (H.roles host.old Role.Saved) (H.roles host.new Role.Saved)) }
+    ensures refused { IsTrue (H.tells Role.Saved)
+        → OnErr result (WasRefused name.now (H.roles host.old Role.Saved) (H.roles host.new Role.Saved)
+        ⊎ WasBegun name.now (image_text (heap_of map)) (H.roles host.old Role.Saved) (H.roles host.new Role.Saved)) }
+    ensures rose { IsErr result → Rose (H.faults host.old Role.Saved) (H.faults host.new Role.Saved) }
     ensures others { LeavesBut (Role.Saved ∷ []) (meanings H.Host host.old) (meanings H.Host host.new) }
 {
-    if host.attach(Role::Saved, name).is_err() {
-        return Err(SaveFault::Write);
-    }
-    save(alloc, host, map)
+    host.attach(Role::Saved, name)?;
+    save(host, map, counts)
 }
 
-// Runs so many bytecodes, and writes what they come to.
+// Runs so many bytecodes, and writes what they come to. All memory for writing is taken before Saved is attached.
 fn run_map<H: Host>(alloc: Global, host: &mut H, map: ObjectMap, command: &Command<'_>) -> Status
     ensures after { IsAfterLoading result }
     ensures ran { HasRun result command.now.steps }
@@ -77,17 +77,19 @@ fn run_map<H: Host>(alloc: Global, host: &mut H, map: ObjectMap, command: &Comma
         command.now.saved.now (H.roles host.old Role.Saved) (H.roles host.new Role.Saved) }
     ensures others { LeavesBut (Role.Saved ∷ []) (meanings H.Host host.old) (meanings H.Host host.new) }
 {
-    let map = match run(map, command.steps) {
+    let mut map = match run(map, command.steps) {
         Ok(map) => map,
         Err(ran) => return Status::NotBuilt { ran },
     };
-    match write_saved(alloc, host, command.saved, map) {
+    let Ok(counts) = keep(alloc, &mut map) else {
+        return Status::OutOfMemory;
+    };
+    match write_saved(host, command.saved, map, &counts) {
         Ok(()) => Status::Done { ran: command.steps },
-        Err(SaveFault::Write) => Status::WriteFault {
+        Err(_) => Status::WriteFault {
             role: Role::Saved,
             count: host.fault_count(Role::Saved),
         },
-        Err(SaveFault::Memory) => Status::OutOfMemory,
     }
 }
 
@@ -147,9 +149,9 @@ fn unsaid<H: Host>(host: &H, status: Status) -> Status
 
 /// Does what the words after the program's name ask for: `run IMAGE SAVED STEPS`.
 ///
-/// The words are checked. Image is attached and read to its end. The machine starts, runs STEPS bytecodes and parks. Saved is
-/// attached, and the image of the kept objects is written to it. The last line goes to Notes. The first refusal ends the run:
-/// what comes later isn't attached, and only the line is still written.
+/// The words are checked. Image is attached and read to its end. The machine starts, runs STEPS bytecodes and parks. What isn't
+/// kept is swept away. Saved is attached, and the image is written to it. The last line goes to Notes. The first refusal ends
+/// the run: what comes later isn't attached, and only the line is still written.
 pub fn loom<H: Host>(alloc: Global, host: &mut H, words: &[String]) -> Status
     ensures promise { Promise H.tells (meanings H.Host host.old) (meanings H.Host host.new) (texts_of words.now) result }
 {

@@ -58,7 +58,7 @@ fn a_large_image_is_saved_as_it_was(rt: HostRuntime) -> Result<(), Fail> {
     host.attach(Role::Saved, "saved")?;
     let map = load(rt.alloc(), &mut host)?;
     assert_eq!(rt; map.len(), 65_566);
-    save(rt.alloc(), &mut host, map)?;
+    save_kept(rt.alloc(), &mut host, map)?;
     assert_eq!(rt; host.file("saved"), Some(image.as_slice()));
     Ok(())
 }
