@@ -12,6 +12,9 @@ use Rattle.long_names.specs.Heap.{Heap, add_object}
 use Rattle.long_names.specs.State.{IsRef, name_at, set_slot}
 use Rattle.long_names.specs.Need.{words_named}
 use Rattle.long_names.specs.Access.{Access, Make, Answer, Nothing, slots_after}
+use Rattle.long_names.specs.Access as accesses
+use Rattle.long_names.specs.Thin.{IsThinner}
+use Rattle.long_names.proofs.ThinLemmas.{has}
 use Rattle.object_memory.specs.declared.fault.Need.{Need}
 use Rattle.object_memory.specs.declared.fault.MemFault.{MemFault}
 use Rattle.object_memory.specs.declared.fault.MemFault.TheVariants.{CoreFull, WorkFault}
@@ -27,7 +30,7 @@ use Rattle.bounded_memory.specs.Pins.{pin_at}
 use Rattle.bounded_memory.specs.Bounded.{bounded_told, faulted, need_at, need_with, HasRoom, IsFull, IsPinnedAs, IsSound, CannotMake}
 use Rattle.bounded_memory.proofs.SizeLaws.{words-at}
 use Rattle.bounded_memory.proofs.BoundedLaws.{err-is, need-with}
-use Rattle.bounded_memory.proofs.HeapLaws.{pinned-after, pinned-same, size-add}
+use Rattle.bounded_memory.proofs.HeapLaws.{pinned-after, pinned-same, size-add, size-later}
 use Rattle.bounded_memory.proofs.CallLaws.{ready-over, ready-under, may-under, same-bounds, raised-same, answered-over, forwarded, never-refused, core-full, making-refused, work-faulted, leaves}
 
 -- the memory below may be asked what the whole one may, while both tell the same
@@ -66,18 +69,9 @@ pub sound-still : (m : BoundedMemory) (n : PlainMemory) (t : Told) → plain_tol
 sound-still m n t e heap slots sound =
     record { pinned = λ i. subst₂ (λ (h : Heap) (s : ℕ → Option ℕ). IsPinnedAs h (s i) (pin_at m.pins i)) (sym heap ∙ sym (ap (λ (t : Told). t.heap) e)) (sym slots ∙ sym (ap (λ (t : Told). t.slots) e)) (sound.pinned i) }
 
-pub ready-still : (m : BoundedMemory) (n : PlainMemory) → (IsReady (plain_told m.memory) → IsReady (plain_told n)) → IsReady (bounded_told m) → IsReady (bounded_told (record m { memory = n }))
-ready-still m n keeps ready = ready-over (plain_told n) m.refusals m.last (bounds_of m.limits) (keeps (ready-below m m refl ready))
-
--- ---- the class of a number
-
-pub no-words : (h : Heap) (v : Value) → IsTrue (is_some (int_of v)) → words_named h v ≡ 0
-no-words h (Int z) is = refl
-no-words h (Ref n) is = absurd (cc)
-
-pub is-named : (v : Value) → is_some (int_of v) ≡ false → IsRef v
-is-named (Int z) none = absurd (cc)
-is-named (Ref n) none = tt
+pub keeps : {A : Type 0} (r : Result A MemFault) (P : Type 0) → P → KeepsSound r P
+keeps (Ok x) P p = p
+keeps (Err f) P p = leaves f P p
 
 -- ---- slots
 
@@ -87,6 +81,19 @@ set-pins h slots pins pins' slot x p e is are i = subst (λ (f : ℕ → Option 
     go : (b : Bool) → IsPinnedAs h (cond b x (slots i)) (cond b p (pin_at pins i))
     go true = is
     go false = are i
+
+pub pin-sound : (o m : BoundedMemory) (n : PlainMemory) (pins : Pins) (slot r : ℕ) (pin : Pin) (x : Unit {0}) → bounded_told m ≡ bounded_told o → IsReady (bounded_told o) → MayDo (bounded_told o) (accesses.Pin slot r) → IsSound m → Accessed (plain_told m.memory) (plain_told n) (accesses.Pin slot r) (λ _. Nothing) (Ok x) → IsReady (plain_told n) → IsPinnedAs (bounded_told o).heap (Some (name_at ((bounded_told o).regs r))) (Some pin) → pin_at pins ≡ (λ i. if i == slot then Some pin else pin_at m.pins i) → IsSound (record m { memory = n; pins = pins })
+pin-sound o m n pins slot r pin x e ready may sound access later pinned set =
+    let p = plain_told m.memory in
+    let q = plain_told n in
+    let f = access.called.ok in
+    let thinner : IsThinner p.heap q.heap = f.heap refl in
+    let whole = (ready-below o m e ready).whole refl in
+    let kept : IsPinnedAs p.heap (Some (name_at (p.regs r))) (Some pin) = subst (λ (t : Told). IsPinnedAs t.heap (Some (name_at (t.regs r))) (Some pin)) (sym e) pinned in
+    let are = set-pins p.heap p.slots m.pins pins slot (Some (name_at (p.regs r))) (Some pin) set kept sound.pinned in
+    record { pinned = λ i. pinned-same p.heap q.heap (q.slots i) (pin_at pins i)
+    (λ k is. (let here = (later.whole refl).pinned i k is in let it = has q.heap k here in size-later p.heap q.heap p.regs p.slots (accesses.Pin slot r) k whole ((may-below o m (accesses.Pin slot r) e may).heap refl) thinner (ap is_some (thinner.same k it.0 it.1)) here))
+    (subst (λ (s : ℕ → Option ℕ). IsPinnedAs p.heap (s i) (pin_at pins i)) (sym f.slots) (are i)) }
 
 -- ---- a call that may want memory
 
@@ -101,11 +108,6 @@ completes o m n k a (Ok x) (Err f) none e core access kept ok err told rose rise
 completes o m n k a (Err g) (Err f) none e core access kept ok err told rose risen =
     subst₂ (λ (t u : Told). Accessed {A = Unit {0}} t u a (λ _. Nothing) (Err f)) e (sym told)
     (work-faulted (plain_told m.memory) (plain_told n) m.refusals m.last (bounds_of m.limits) a (λ _. Nothing) f g kept err.1 rose risen (λ make. absurd (omega arith)))
-
-pub completes-ready : (m : BoundedMemory) (n : PlainMemory) (k : BoundedMemory) (r s : Result (Unit {0}) MemFault) → OnOk r (IsReady (plain_told n)) → OnOk s (IsOk r × (k ≡ record m { memory = n })) → OnOk s (IsReady (bounded_told k))
-completes-ready m n k (Ok x) (Ok y) ready ok = subst (λ (k : BoundedMemory). IsReady (bounded_told k)) (sym ok.1) (ready-over (plain_told n) m.refusals m.last (bounds_of m.limits) ready)
-completes-ready m n k (Err g) (Ok y) ready ok = absurd (cc (ok.0))
-completes-ready m n k r (Err f) ready ok = tt
 
 pub completes-sound : (o m : BoundedMemory) (n : PlainMemory) (k : BoundedMemory) (a : Access) (r s : Result (Unit {0}) MemFault) → ((regs : ℕ → Value) (slots : ℕ → Option ℕ) → slots_after regs slots a ≡ slots) → bounded_told m ≡ bounded_told o → IsReady (bounded_told o) → MayDo (bounded_told o) a → IsSound m → Accessed (plain_told m.memory) (plain_told n) a (λ _. Nothing) r → OnOk r (IsReady (plain_told n)) → OnOk s (IsOk r × (k ≡ record m { memory = n })) → IfErr s (λ f. IsErr r × (f ≡ WorkFault (counted m.limits.work_faults))) → KeepsSound s (IsSound k)
 completes-sound o m n k a (Ok x) (Ok y) same e ready may sound access later ok err = subst (λ (k : BoundedMemory). IsSound k) (sym ok.1) (answered-sound o m n a (λ _. Nothing) x same e ready may sound access later)
@@ -140,7 +142,7 @@ making-core m to class what words e room = (let all = room.words in omega arith)
 pub counted-bounds : (b d : Bounds) → d ≡ (record b { made = b.made + 1 }) → SameBounds (Some b) (Some d) × Raised 1 (Some b) (Some d)
 counted-bounds b d e = subst (λ (d : Bounds). SameBounds (Some b) (Some d) × Raised 1 (Some b) (Some d)) (sym e) ((refl, refl, refl, omega arith, omega arith), (refl, refl))
 
-pub makes-one : (m : BoundedMemory) (n : PlainMemory) (k : BoundedMemory) (to class : ℕ) (what : Making) (words : ℕ) (r s : Result (Unit {0}) MemFault) → words ≡ 4 + body_words (body_made what) → (bounded_told m).heap.next < LAST_NAME → HasRoom (bounded_told m) (need_with m.pins (bounded_told m).heap.next words) → Accessed (plain_told m.memory) (plain_told n) (Make to class what) (λ _. Nothing) r → IfErr r (λ f. plain_told n ≡ refused (plain_told m.memory) f) → OnOk s (IsOk r × (k ≡ record m { memory = n; limits = k.limits })) → OnOk s (bounds_of k.limits ≡ (record (bounds_of m.limits) { made = m.limits.made + 1 })) → IfErr s (λ f. IsErr r × (f ≡ WorkFault (counted m.limits.work_faults))) → OnErr s (bounded_told k ≡ faulted (plain_told n) m.refusals (bounds_of m.limits)) → OnErr s (m.refusals ≤ counted m.refusals) → OnErr s (m.limits.work_faults ≤ counted m.limits.work_faults) → Accessed (bounded_told m) (bounded_told k) (Make to class what) (λ _. Nothing) s
+makes-one : (m : BoundedMemory) (n : PlainMemory) (k : BoundedMemory) (to class : ℕ) (what : Making) (words : ℕ) (r s : Result (Unit {0}) MemFault) → words ≡ 4 + body_words (body_made what) → (bounded_told m).heap.next < LAST_NAME → HasRoom (bounded_told m) (need_with m.pins (bounded_told m).heap.next words) → Accessed (plain_told m.memory) (plain_told n) (Make to class what) (λ _. Nothing) r → IfErr r (λ f. plain_told n ≡ refused (plain_told m.memory) f) → OnOk s (IsOk r × (k ≡ record m { memory = n; limits = k.limits })) → OnOk s (bounds_of k.limits ≡ (record (bounds_of m.limits) { made = m.limits.made + 1 })) → IfErr s (λ f. IsErr r × (f ≡ WorkFault (counted m.limits.work_faults))) → OnErr s (bounded_told k ≡ faulted (plain_told n) m.refusals (bounds_of m.limits)) → OnErr s (m.refusals ≤ counted m.refusals) → OnErr s (m.limits.work_faults ≤ counted m.limits.work_faults) → Accessed (bounded_told m) (bounded_told k) (Make to class what) (λ _. Nothing) s
 makes-one m n k to class what words (Ok x) (Ok y) size low room access kept ok bounds err told rose risen =
     let up = counted-bounds (bounds_of m.limits) (bounds_of k.limits) bounds in
     subst (λ (k' : BoundedMemory). Accessed (bounded_told m) (bounded_told k') (Make to class what) (λ _. Nothing) (Ok y)) (sym ok.1)
@@ -151,21 +153,21 @@ makes-one m n k to class what words (Err g) (Err f) size low room access kept ok
     subst (λ (u : Told). Accessed {A = Unit {0}} (bounded_told m) u (Make to class what) (λ _. Nothing) (Err f)) (sym told)
     (work-faulted (plain_told m.memory) (plain_told n) m.refusals m.last (bounds_of m.limits) (Make to class what) (λ _. Nothing) f g kept err.1 rose risen (λ make. low))
 
-pub makes-ready : (m : BoundedMemory) (n : PlainMemory) (k : BoundedMemory) (r s : Result (Unit {0}) MemFault) → OnOk r (IsReady (plain_told n)) → OnOk s (IsOk r × (k ≡ record m { memory = n; limits = k.limits })) → OnOk s (IsReady (bounded_told k))
-makes-ready m n k (Ok x) (Ok y) ready ok = subst (λ (k : BoundedMemory). IsReady (bounded_told k)) (sym ok.1) (ready-over (plain_told n) m.refusals m.last (bounds_of k.limits) ready)
-makes-ready m n k (Err g) (Ok y) ready ok = absurd (cc (ok.0))
-makes-ready m n k r (Err f) ready ok = tt
+-- the same, where no more was done before than asked whether it can be made
+pub makes-object : (o m : BoundedMemory) (n : PlainMemory) (k : BoundedMemory) (to class : ℕ) (what : Making) (words : ℕ) (r s : Result (Unit {0}) MemFault) → m ≡ o → words ≡ 4 + body_words (body_made what) → (bounded_told o).heap.next < LAST_NAME → HasRoom (bounded_told o) (need_with o.pins (bounded_told o).heap.next words) → Accessed (plain_told m.memory) (plain_told n) (Make to class what) (λ _. Nothing) r → IfErr r (λ f. plain_told n ≡ refused (plain_told m.memory) f) → OnOk s (IsOk r × (k ≡ record m { memory = n; limits = k.limits })) → OnOk s (bounds_of k.limits ≡ (record (bounds_of m.limits) { made = m.limits.made + 1 })) → IfErr s (λ f. IsErr r × (f ≡ WorkFault (counted m.limits.work_faults))) → OnErr s (bounded_told k ≡ faulted (plain_told n) m.refusals (bounds_of m.limits)) → OnErr s (m.refusals ≤ counted m.refusals) → OnErr s (m.limits.work_faults ≤ counted m.limits.work_faults) → Accessed (bounded_told o) (bounded_told k) (Make to class what) (λ _. Nothing) s
+makes-object o m n k to class what words r s same size low room access kept ok bounds err told rose risen =
+    subst (λ (o : BoundedMemory). (bounded_told o).heap.next < LAST_NAME → HasRoom (bounded_told o) (need_with o.pins (bounded_told o).heap.next words) → Accessed (bounded_told o) (bounded_told k) (Make to class what) (λ _. Nothing) s) same
+    (λ low room. makes-one m n k to class what words r s size low room access kept ok bounds err told rose risen) low room
 
-pub makes-named : (m : BoundedMemory) (n : PlainMemory) (k : BoundedMemory) (to : ℕ) (r s : Result (Unit {0}) MemFault) → OnOk r (IsRef ((plain_told n).regs to)) → OnOk s (IsOk r × (k ≡ record m { memory = n; limits = k.limits })) → OnOk s (IsRef ((bounded_told k).regs to))
-makes-named m n k to (Ok x) (Ok y) named ok = subst (λ (k : BoundedMemory). IsRef ((bounded_told k).regs to)) (sym ok.1) named
-makes-named m n k to (Err g) (Ok y) named ok = absurd (cc (ok.0))
-makes-named m n k to r (Err f) named ok = tt
-
-pub makes-sound : (m : BoundedMemory) (n : PlainMemory) (k : BoundedMemory) (to class : ℕ) (what : Making) (r s : Result (Unit {0}) MemFault) → IsReady (bounded_told m) → IsSound m → Accessed (plain_told m.memory) (plain_told n) (Make to class what) (λ _. Nothing) r → OnOk r (IsReady (plain_told n)) → OnOk s (IsOk r × (k ≡ record m { memory = n; limits = k.limits })) → IfErr s (λ f. IsErr r × (f ≡ WorkFault (counted m.limits.work_faults))) → KeepsSound s (IsSound k)
-makes-sound m n k to class what (Ok x) (Ok y) ready sound access later ok err =
+makes-sound-one : (m : BoundedMemory) (n : PlainMemory) (k : BoundedMemory) (to class : ℕ) (what : Making) (r s : Result (Unit {0}) MemFault) → IsReady (bounded_told m) → IsSound m → Accessed (plain_told m.memory) (plain_told n) (Make to class what) (λ _. Nothing) r → OnOk r (IsReady (plain_told n)) → OnOk s (IsOk r × (k ≡ record m { memory = n; limits = k.limits })) → IfErr s (λ f. IsErr r × (f ≡ WorkFault (counted m.limits.work_faults))) → KeepsSound s (IsSound k)
+makes-sound-one m n k to class what (Ok x) (Ok y) ready sound access later ok err =
     let p = plain_told m.memory in
     let f = access.called.ok in
     let pinned = pinned-after p (plain_told n) (Make to class what) m.pins (ready-below m m refl ready) later refl refl tt f.slots (f.heap refl) sound.pinned in
     subst (λ (k : BoundedMemory). IsSound k) (sym ok.1) (record { pinned = pinned })
-makes-sound m n k to class what (Err g) (Ok y) ready sound access later ok err = absurd (cc (ok.0))
-makes-sound m n k to class what r (Err f) ready sound access later ok err = subst (λ f. LeavesAll f (IsSound k)) (sym err.1) tt
+makes-sound-one m n k to class what (Err g) (Ok y) ready sound access later ok err = absurd (cc (ok.0))
+makes-sound-one m n k to class what r (Err f) ready sound access later ok err = subst (λ f. LeavesAll f (IsSound k)) (sym err.1) tt
+
+pub makes-sound : (o m : BoundedMemory) (n : PlainMemory) (k : BoundedMemory) (to class : ℕ) (what : Making) (r s : Result (Unit {0}) MemFault) → m ≡ o → IsReady (bounded_told o) → IsSound o → Accessed (plain_told m.memory) (plain_told n) (Make to class what) (λ _. Nothing) r → OnOk r (IsReady (plain_told n)) → OnOk s (IsOk r × (k ≡ record m { memory = n; limits = k.limits })) → IfErr s (λ f. IsErr r × (f ≡ WorkFault (counted m.limits.work_faults))) → KeepsSound s (IsSound k)
+makes-sound o m n k to class what r s same ready sound access later ok err =
+    makes-sound-one m n k to class what r s (subst (λ (o : BoundedMemory). IsReady (bounded_told o)) (sym same) ready) (subst (λ (o : BoundedMemory). IsSound o) (sym same) sound) access later ok err

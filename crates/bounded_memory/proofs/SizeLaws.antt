@@ -1,7 +1,8 @@
 -- Sizes of objects.
-use Rattle.std.proofs.Common.{◌≡◌, ℕ, ℤ, pos, negsuc, ◌+◌, ◌*◌, ◌/◌, ◌<◌, ◌≤◌, Bool, true, false, cond, eqb, List, [], ◌∷◌, ◌++◌, length, take, drop, Option, Some, None, IsTrue, refl, sym, ◌∙◌, ap, subst, arith}
+use Rattle.std.proofs.Common.{◌≡◌, ℕ, ℤ, pos, negsuc, ◌+◌, ◌*◌, ◌/◌, ◌<◌, ◌≤◌, Bool, true, false, cond, eqb, List, [], ◌∷◌, ◌++◌, length, take, drop, Option, Some, None, IsTrue, refl, sym, ◌∙◌, ap, ap₂, subst, arith}
 use Rattle.std.proofs.lemmas.Grind.{common_steps}
 use Rattle.std.proofs.lemmas.Int.{to_z-of_z}
+use Rattle.std.proofs.lemmas.List.{length-replicate}
 use mir.Val.{SFits, of_z, to_z}
 use mir.Syntax.{w16}
 use Rattle.long_names.specs.Words.{IsSmallInteger, literal_count}
@@ -14,7 +15,8 @@ use Rattle.long_names.specs.declared.object.Kind.TheVariants as kind
 use Rattle.long_names.specs.declared.object.Body.{Body}
 use Rattle.long_names.specs.declared.object.Body.TheVariants.{Pointers, Words, Bytes, Method}
 use Rattle.long_names.specs.declared.object.Object.{Object}
-use Rattle.long_names.specs.Objects.{kind_of, len_of, fields_of, body_words, header_of}
+use Rattle.long_names.specs.Objects.{kind_of, len_of, fields_of, body_words, header_of, body_made, OfPointers, OfWords, OfBytes, OfMethod}
+use Rattle.long_names.specs.Names.{NIL}
 use Rattle.long_names.specs.Heap.{Heap, Has}
 use Rattle.long_names.specs.Need.{words_at, entries_at}
 use Rattle.long_names.specs.State.{IsRef, name_at, object_at, part_at}
@@ -146,3 +148,21 @@ small-fits (negsuc n) small = omega arith
 -- the literals of a header that was kept in a variable
 pub literals-is : (z : ℤ) (n : ℕ) → IsSmallInteger z → n ≡ literal_count (to_z w16 (of_z w16 z)) → Some (literal_count z) ≡ Some n
 literals-is z n small e = ap (λ n. Some n) (sym (e ∙ ap literal_count (to_z-of_z w16 z (small-fits z small))))
+
+-- ---- the sizes of what is made
+
+pub pointers-size : (n : ℕ) → words_for kind.Pointers n 0 ≡ 4 + body_words (body_made (OfPointers n))
+pointers-size n = ap (λ k. 4 + k) (sym (length-replicate n (Ref NIL)))
+
+pub words-size : (n : ℕ) → words_for kind.Words n 0 ≡ 4 + body_words (body_made (OfWords n))
+words-size n = ap (λ k. 4 + k) (sym (length-replicate n 0))
+
+pub bytes-size : (n : ℕ) → words_for kind.Bytes n 0 ≡ 4 + body_words (body_made (OfBytes n))
+bytes-size n = ap (λ k. 4 + (k + 1) / 2) (sym (length-replicate n 0))
+
+made-method : (header : ℤ) (code : ℕ) → words_for kind.Method code (literal_count header) ≡ 4 + body_words (body_made (OfMethod header code))
+made-method header code = ap₂ (λ l k. 4 + (1 + l + (k + 1) / 2)) (sym (length-replicate (literal_count header) (Ref NIL))) (sym (length-replicate code 0))
+
+-- the header is one that was kept in a variable
+pub method-size : (header : ℤ) (code literals : ℕ) → SFits w16 header → literals ≡ literal_count (to_z w16 (of_z w16 header)) → words_for kind.Method code literals ≡ 4 + body_words (body_made (OfMethod header code))
+method-size header code literals fits e = ap (words_for kind.Method code) (e ∙ ap literal_count (to_z-of_z w16 header fits)) ∙ made-method header code
