@@ -91,9 +91,11 @@ pin-sound o m n pins slot r pin x e ready may sound access later pinned set =
     let whole = (ready-below o m e ready).whole refl in
     let kept : IsPinnedAs p.heap (Some (name_at (p.regs r))) (Some pin) = subst (λ (t : Told). IsPinnedAs t.heap (Some (name_at (t.regs r))) (Some pin)) (sym e) pinned in
     let are = set-pins p.heap p.slots m.pins pins slot (Some (name_at (p.regs r))) (Some pin) set kept sound.pinned in
-    record { pinned = λ i. pinned-same p.heap q.heap (q.slots i) (pin_at pins i)
-    (λ k is. (let here = (later.whole refl).pinned i k is in let it = has q.heap k here in size-later p.heap q.heap p.regs p.slots (accesses.Pin slot r) k whole ((may-below o m (accesses.Pin slot r) e may).heap refl) thinner (ap is_some (thinner.same k it.0 it.1)) here))
-    (subst (λ (s : ℕ → Option ℕ). IsPinnedAs p.heap (s i) (pin_at pins i)) (sym f.slots) (are i)) }
+    record {
+      pinned = λ i. pinned-same p.heap q.heap (q.slots i) (pin_at pins i)
+          (λ k is. (let here = (later.whole refl).pinned i k is in let it = has q.heap k here in size-later p.heap q.heap p.regs p.slots (accesses.Pin slot r) k whole ((may-below o m (accesses.Pin slot r) e may).heap refl) thinner (ap is_some (thinner.same k it.0 it.1)) here))
+          (subst (λ (s : ℕ → Option ℕ). IsPinnedAs p.heap (s i) (pin_at pins i)) (sym f.slots) (are i));
+    }
 
 -- ---- a call that may want memory
 

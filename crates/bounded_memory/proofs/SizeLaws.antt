@@ -99,7 +99,6 @@ kind-is a b x e f = cc (ap (option_and_then (λ k. Some (OfKind k))) e)
 pub len-is : (a b : ℕ) (x : Option ℕ) → x ≡ Some a → option_and_then (λ n. Some (OfNumber n)) x ≡ Some (OfNumber b) → a ≡ b
 len-is a b x e f = cc (ap (option_and_then (λ n. Some (OfNumber n))) e)
 
-
 pub may-header : (t : Told) (of : ℕ) (o : Object) → object_at t.heap (t.regs of) ≡ Some o → IsRef (t.regs of) → kind_of o.body ≡ kind.Method → MayDo t (Header of)
 may-header t of o there is method = record { heap = λ _. go o.body refl; names = is; ranges = tt }
   where

@@ -63,7 +63,13 @@ fn size_of(memory: &mut PlainMemory, of: Reg) -> Size
 impl BoundedMemory {
     /// A memory over another, which holds so many objects. The core has so many 16-bit words and entries for short names, and there
     /// is room for so many objects.
-    pub fn new(memory: PlainMemory, core: u32, entries: u32, room: u32, objects: u32) -> BoundedMemory
+    pub fn new(
+        memory: PlainMemory,
+        core: u32,
+        entries: u32,
+        room: u32,
+        objects: u32,
+    ) -> BoundedMemory
         requires slots { (plain_told memory).slots ≡ (λ i. None) }
         requires room { room < 4294967295 }
         requires objects { objects < 4294967295 }
@@ -78,6 +84,14 @@ impl BoundedMemory {
             refusals: 0,
             last: None,
         }
+    }
+
+    /// The memory below. What it tells is what this one told, without bounds.
+    pub fn into_plain(self) -> PlainMemory
+        ensures told { over (plain_told result) (bounded_told self).refusals (bounded_told self).last (bounds_of self.limits) ≡ bounded_told self }
+        ensures ready { IsReady (bounded_told self) → IsReady (plain_told result) }
+    {
+        self.memory
     }
 
     /// The bytes that were said.
@@ -130,6 +144,7 @@ impl BoundedMemory {
         requires name { IsRef ((bounded_told self.old).regs of) }
         ensures told { OnOk result (bounded_told self.new ≡ bounded_told self.old) }
         ensures pin { IfOk result (λ pin. IsPinnedAs (bounded_told self.old).heap (Some (name_at ((bounded_told self.old).regs of))) (Some pin)) }
+        ensures room { OnOk result (HasRoom (bounded_told self.old) (need_at (bounded_told self.old) of)) }
         ensures core { OnOk result (words_named (bounded_told self.old).heap ((bounded_told self.old).regs of) ≤ self.old.limits.core) }
         ensures refused { IfErr result (λ f. bounded_told self.new ≡ refused (bounded_told self.old) f) }
         ensures full { IfErr result (λ f. IsFull (bounded_told self.old) (need_at (bounded_told self.old) of) f) }

@@ -7,3 +7,6 @@ mod pins;
 mod size;
 
 pub use bounded::BoundedMemory;
+
+#[cfg(test)]
+mod tests;

@@ -98,7 +98,10 @@ impl Pins {
         let before_third = Pin::is_same(first, third) || Pin::is_same(second, third);
         words
             + Pin::words_unless(first, Pin::is_named(first, object))
-            + Pin::words_unless(second, Pin::is_named(second, object) || Pin::is_same(first, second))
+            + Pin::words_unless(
+                second,
+                Pin::is_named(second, object) || Pin::is_same(first, second),
+            )
             + Pin::words_unless(third, Pin::is_named(third, object) || before_third)
     }
 
@@ -111,6 +114,9 @@ impl Pins {
         let third = &self.slots[2];
         51 + Pin::entries_unless(first, false)
             + Pin::entries_unless(second, Pin::is_same(first, second))
-            + Pin::entries_unless(third, Pin::is_same(first, third) || Pin::is_same(second, third))
+            + Pin::entries_unless(
+                third,
+                Pin::is_same(first, third) || Pin::is_same(second, third),
+            )
     }
 }
