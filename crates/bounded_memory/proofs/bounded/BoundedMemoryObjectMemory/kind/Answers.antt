@@ -1,0 +1,21 @@
+use Rattle.std.proofs.Common.{refl}
+use Rattle.long_names.specs.Access.{KindOf, OfKind}
+use Rattle.bounded_memory.proofs.MemoryLaws.{ready-below, may-below, not-fitting, forwards, stays-sound}
+use Rattle.bounded_memory.proofs.bounded.BoundedMemoryObjectMemory.kind.Goals as goal
+
+pub returns-in_err-fits-clause-access : goal.returns-in_err-fits-clause-access
+returns-in_err-fits-clause-access c =
+    let e = c.in_err-fits.ensures in
+    not-fitting c.args.self.now c.fits.new.self (KindOf c.args.of) c.args.of OfKind c.from_residual.result c.in_err-fits.field-0.0 c.from_residual.ensures.1 refl refl (λ need told. refl) c.requires.ready e.refused e.later e.full
+
+pub kind-requires-clause-ready : goal.kind-requires-clause-ready
+kind-requires-clause-ready c = ready-below c.args.self.now c.fits.new.self c.in_ok-fits.ensures.told c.requires.ready
+
+pub kind-requires-clause-may : goal.kind-requires-clause-may
+kind-requires-clause-may c = may-below c.args.self.now c.fits.new.self (KindOf c.args.of) c.in_ok-fits.ensures.told c.requires.may
+
+pub returns-clause-access : goal.returns-clause-access
+returns-clause-access c = forwards c.args.self.now c.fits.new.self c.kind.new.self (KindOf c.args.of) OfKind c.kind.result (λ x. x) refl c.in_ok-fits.ensures.told (λ told. c.in_ok-fits.ensures.core) c.kind.ensures.access
+
+pub returns-clause-sound : goal.returns-clause-sound
+returns-clause-sound c = stays-sound c.args.self.now c.fits.new.self c.kind.new.self (KindOf c.args.of) OfKind c.kind.result (λ x. x) refl (λ regs slots. refl) c.in_ok-fits.ensures.told c.requires.ready c.requires.may c.in_ok-fits.ensures.sound c.kind.ensures.access c.kind.ensures.ready

@@ -1,0 +1,4 @@
+pub mod Bounded
+pub mod Limits
+pub mod Pins
+pub mod Sizes
