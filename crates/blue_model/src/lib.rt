@@ -1,0 +1,8 @@
+//! The machine of the Blue Book's chapters 26 to 30 over one unbounded memory of long names, as definitions with their laws.
+#![tactic(auto)]
+
+mod cause;
+mod cpu;
+
+pub use cause::Cause;
+pub use cpu::Cpu;
