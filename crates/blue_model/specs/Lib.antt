@@ -6,3 +6,5 @@ pub mod Contexts
 pub mod Lookup
 pub mod Bytecodes
 pub mod Cycle
+pub mod Law
+pub mod Alike
