@@ -5,8 +5,8 @@ use Rattle.long_names.specs.declared.value.Value.TheVariants.{Int, Ref}
 use Rattle.long_names.specs.Names.{is_known}
 use Rattle.blue_model.specs.Machine.{Rule, ◌>>=◌, pick, register, known, halt, unbuilt}
 use Rattle.blue_model.specs.Contexts.{store_field, push, stack, pop, pop_top, byte_of, fetch, jump, load, store_registers, enter, nil_context, go_back, return_to, active_process, start, park}
-use Rattle.blue_model.specs.Lookup.{method_at, find_in, found_or, find_from, lookup, put_found, find}
-use Rattle.blue_model.specs.Bytecodes.{receiver_variable, temporary, literal_constant, literal_variable, store_receiver_variable, store_temporary, store_literal_variable, push_of, push_known, push_number, push_receiver, push_active_context, duplicate_top, store_top, store_and_pop, by_kind, extended_push, extended_store_of, extended_store, extended_store_and_pop, return_home, return_of, return_from_block, jump_on, long_jump, long_jump_on, Range, bytecodes, ruled, bytecode}
+use Rattle.blue_model.specs.Lookup.{method_at, find_in, found_or, find_from, put_found, find, find_from_register}
+use Rattle.blue_model.specs.Bytecodes.{receiver_variable, temporary, literal_constant, literal_variable, store_receiver_variable, store_temporary, store_literal_variable, push_of, push_known, push_number, push_receiver, push_active_context, duplicate_top, store_top, store_and_pop, by_kind, extended_push, extended_store_of, extended_store, extended_store_and_pop, return_home, return_of, return_from_block, jump_on, long_jump, long_jump_on, Range, bytecodes, has_byte, ruled, bytecode}
 use Rattle.blue_model.specs.Cycle.{count_bytecode, step, cycle}
 use Rattle.blue_model.specs.Alike.{Lost, IsKept, IsKeptMaybe, IsPlain, Lawful, AreLawful}
 use Rattle.blue_model.proofs.LawSteps.{lawful, law_pick, law_done, law_unbuilt}
@@ -110,6 +110,9 @@ law-put_found {w} (Some v) k = let kept : IsKept w v = k.kept v refl in search l
 pub law-find : {w : Lost} (class : Value) → IsKept w class → Lawful w IsPlain (find class)
 unfolding find
 law-find {w} class k = search (lawful, law-find_from, law-put_found) depth 12
+
+pub law-find_from_register : {w : Lost} (r : ℕ) → Lawful w IsPlain (find_from_register r)
+law-find_from_register {w} r = search (lawful, law-find) depth 12
 
 -- ---- bytecodes
 
@@ -221,7 +224,7 @@ law-long_jump_on {w} taken passed i = search (lawful, law-fetch, law-jump_on) de
 
 pub law-ruled : {w : Lost} (ranges : List Range) (byte : ℕ) → AreLawful w ranges → Lawful w IsPlain (ruled ranges byte)
 law-ruled {w} [] byte f = law_unbuilt
-law-ruled {w} (r ∷ rs) byte f = law_pick (nat_le r.first byte && nat_le byte r.last) (r.rule (byte - r.first)) (ruled rs byte) (f.0 (byte - r.first)) (law-ruled rs byte f.1)
+law-ruled {w} (r ∷ rs) byte f = law_pick (has_byte byte r) (r.rule (byte - r.first)) (ruled rs byte) (f.0 (byte - r.first)) (law-ruled rs byte f.1)
 
 ruleset pushing = (law-push_of, law-push_known, law-push_number, law-push_receiver, law-push_active_context, law-duplicate_top, law-extended_push, law-receiver_variable, law-temporary, law-literal_constant, law-literal_variable)
 

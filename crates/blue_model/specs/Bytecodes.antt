@@ -205,10 +205,14 @@ bytecodes =
     ∷ from_to 176 255 (λ i. unbuilt)
     ∷ []
 
--- what the first range says that has the byte; bytes have 8 bits, and the last range ends at 255
+-- the range has the byte
+abbrev pub has_byte : ℕ → Range → Bool
+has_byte byte r = nat_le r.first byte && nat_le byte r.last
+
+-- what the first range says that has the byte; bytes have 8 bits, and each of them is in one range
 abbrev pub ruled : List Range → ℕ → Rule (Unit {0})
 ruled [] byte = unbuilt
-ruled (r ∷ rs) byte = pick (nat_le r.first byte && nat_le byte r.last) (r.rule (byte - r.first)) (ruled rs byte)
+ruled (r ∷ rs) byte = pick (has_byte byte r) (r.rule (byte - r.first)) (ruled rs byte)
 
 -- dispatchOnThisBytecode (chapter 28)
 unfoldable pub bytecode : ℕ → Rule (Unit {0})

@@ -8,3 +8,4 @@ pub mod Bytecodes
 pub mod Cycle
 pub mod Law
 pub mod Alike
+pub mod Base

@@ -91,3 +91,7 @@ find class = do
   selector ← register SELECTOR
   found ← lookup selector class
   put_found found
+
+-- from the class in a register
+abbrev pub find_from_register : ℕ → Rule Bool
+find_from_register r = register r >>= find

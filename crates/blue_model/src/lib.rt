@@ -3,6 +3,7 @@
 
 mod cause;
 mod cpu;
+pub mod laws;
 
 pub use cause::Cause;
 pub use cpu::Cpu;

@@ -1,0 +1,76 @@
+// Laws of the machine. No code calls these functions: what each of them ensures is the law.
+ghost use Rattle.std.specs.Prelude.{◌≡◌, ℕ, ◌+◌, ◌-◌, ◌<◌, ◌^◌, true, List, [], ◌∷◌, slice_get, count_by, Option, Some, None};
+ghost use Rattle.long_names.specs.declared.value.Value.{Value};
+ghost use Rattle.long_names.specs.declared.value.Value.TheVariants.{Ref};
+ghost use Rattle.long_names.specs.declared.object.Object.{Object};
+ghost use Rattle.long_names.specs.Names.{is_known};
+ghost use Rattle.long_names.specs.Objects.{field_of};
+ghost use Rattle.long_names.specs.Thin.{IsWhole};
+ghost use Rattle.blue_model.specs.declared.cause.Cause.TheVariants.{Pointer, Unused, Stack, Shape};
+ghost use Rattle.blue_model.specs.Machine.{Machine, is_there};
+ghost use Rattle.blue_model.specs.Contexts.{start, park};
+ghost use Rattle.blue_model.specs.Lookup.{find_from_register};
+ghost use Rattle.blue_model.specs.Bytecodes.{Range, bytecodes, has_byte, bytecode};
+ghost use Rattle.blue_model.specs.Cycle.{step, cycle, run, ending, Stuck, ByCause, ByUnbuilt};
+ghost use Rattle.blue_model.specs.Law.{IsThinned, RespectsThinning, RunsAgree, go_on};
+ghost use Rattle.blue_model.specs.Base.{nil, heap_of, base_code, context_at, context_in};
+
+/// A cycle over a thinning answers, stops and logs as over the heap, and leaves a thinning of what it leaves of the heap. So do its
+/// bytecode alone, the start and park. A machine whose heap is whole is a thinning of itself.
+pub fn a_cycle_respects_thinning()
+    ensures cycle { RespectsThinning cycle }
+    ensures step { RespectsThinning step }
+    ensures start { RespectsThinning start }
+    ensures park { RespectsThinning park }
+    ensures whole { (m : Machine) → IsWhole m.heap m.regs m.slots → IsThinned m m }
+{}
+
+/// So does the lookup from the class in a register.
+pub fn lookup_respects_thinning()
+    ensures { (r : ℕ) → RespectsThinning (find_from_register r) }
+{}
+
+/// A run of j + k cycles is a run of j and then, where that didn't stop, a run of k.
+pub fn runs_add_up()
+    ensures { (j k : ℕ) (m : Machine) → run (j + k) m ≡ go_on k (run j m) }
+{}
+
+/// A run of k cycles over a thinning runs as over the heap, or stops for the same reason with the same log, and is over a thinning
+/// again.
+pub fn a_run_respects_thinning()
+    ensures { (k : ℕ) (m s : Machine) → IsThinned m s → RunsAgree (run k m) (run k s) }
+{}
+
+/// The rules that write a value down test that its object is there. Over a whole heap it is: that of a value in a register or a
+/// field, of a class, and of a known name.
+pub fn tests_never_say_no()
+    ensures registers { (m : Machine) → IsWhole m.heap m.regs m.slots → (r : ℕ) → is_there m.heap (m.regs r) ≡ true }
+    ensures fields { (m : Machine) → IsWhole m.heap m.regs m.slots → (n i : ℕ) (o : Object) (v : Value) → m.heap.at n ≡ Some o → field_of o.body i ≡ Some v → is_there m.heap v ≡ true }
+    ensures classes { (m : Machine) → IsWhole m.heap m.regs m.slots → (n : ℕ) (o : Object) → m.heap.at n ≡ Some o → is_there m.heap (Ref o.class) ≡ true }
+    ensures known { (m : Machine) → IsWhole m.heap m.regs m.slots → (n : ℕ) → is_known n ≡ true → is_there m.heap (Ref n) ≡ true }
+{}
+
+/// Each byte is in one range of the table, and does what that range says.
+pub fn each_byte_has_one_range()
+    ensures one { (byte : ℕ) → byte < 2 ^ 8 → count_by (has_byte byte) bytecodes ≡ 1 }
+    ensures rule { (byte i : ℕ) (r : Range) → byte < 2 ^ 8 → slice_get bytecodes i ≡ Some r → has_byte byte r ≡ true → bytecode byte ≡ r.rule (byte - r.first) }
+{}
+
+/// A context whose method pushes the receiver, pops it and jumps back, after 0 to 4 bytecodes.
+pub fn base_image()
+    ensures none { context_in (ending 0 (heap_of base_code)) ≡ context_at 3 0 nil }
+    ensures one { context_in (ending 1 (heap_of base_code)) ≡ context_at 4 1 nil }
+    ensures two { context_in (ending 2 (heap_of base_code)) ≡ context_at 5 0 nil }
+    ensures three { context_in (ending 3 (heap_of base_code)) ≡ context_at 3 0 nil }
+    ensures four { context_in (ending 4 (heap_of base_code)) ≡ context_at 4 1 nil }
+{}
+
+/// Codes that stop at their first bytecode, and one that stops at its second.
+pub fn stuck_codes()
+    ensures unused { ending 5 (heap_of (126 ∷ [])) ≡ Stuck (ByCause Unused) 0 }
+    ensures empty_stack { ending 5 (heap_of (135 ∷ [])) ≡ Stuck (ByCause Stack) 0 }
+    ensures over_the_end { ending 5 (heap_of (151 ∷ [])) ≡ Stuck (ByCause Pointer) 0 }
+    ensures no_code { ending 5 (heap_of []) ≡ Stuck (ByCause Pointer) 0 }
+    ensures number { ending 5 (heap_of (117 ∷ 0 ∷ [])) ≡ Stuck (ByCause Shape) 1 }
+    ensures unbuilt { ending 5 (heap_of (176 ∷ [])) ≡ Stuck ByUnbuilt 0 }
+{}
