@@ -20,23 +20,23 @@ both : (a b : Bool) → (a && b) ≡ true → (a ≡ true) × (b ≡ true)
 both true b e = (refl, e)
 both false b e = cc
 
+named : (x y : ℕ) → eqb x y ≡ true → x ≡ y
+named x y f = grind (arith, common_steps)
+
+other : (x y : ℕ) → eqb x y ≡ false → x < suc y → x < y
+other x y f g = grind (arith, common_steps)
+
 below : (n byte : ℕ) → ones_below n ≡ true → byte < n → count_by (has_byte byte) bytecodes ≡ 1
 unfolding ones_below
 below zero byte e low = absurd (omega arith)
-below (suc n) byte e low = go (eqb byte n) refl
+below (suc n) byte e low = go (eqb byte n) refl (below n byte parts.1)
   where
     parts : (eqb (count_by (has_byte n) bytecodes) 1 ≡ true) × (ones_below n ≡ true)
     parts = both (eqb (count_by (has_byte n) bytecodes) 1) (ones_below n) e
 
-    named : (x y : ℕ) → eqb x y ≡ true → x ≡ y
-    named x y f = grind (arith, common_steps)
-
-    other : (x y : ℕ) → eqb x y ≡ false → x < suc y → x < y
-    other x y f g = grind (arith, common_steps)
-
-    go : (b : Bool) → eqb byte n ≡ b → count_by (has_byte byte) bytecodes ≡ 1
-    go true f = subst (λ k. count_by (has_byte k) bytecodes ≡ 1) (sym (named byte n f)) (named (count_by (has_byte n) bytecodes) 1 parts.0)
-    go false f = below n byte parts.1 (other byte n f low)
+    go : (b : Bool) → eqb byte n ≡ b → (byte < n → count_by (has_byte byte) bytecodes ≡ 1) → count_by (has_byte byte) bytecodes ≡ 1
+    go true f next = subst (λ k. count_by (has_byte k) bytecodes ≡ 1) (sym (named byte n f)) (named (count_by (has_byte n) bytecodes) 1 parts.0)
+    go false f next = next (other byte n f low)
 
 pub returns-clause-one : goal.returns-clause-one
 returns-clause-one c byte low = below 256 byte all_bytes low
@@ -48,7 +48,7 @@ counted byte (q ∷ rs) zero r e f =
     let same : q ≡ r = cc in
     let first : has_byte byte q ≡ true = ap (has_byte byte) same ∙ f in
     let is : count_by (has_byte byte) (q ∷ rs) ≡ cond (has_byte byte q) 1 0 + count_by (has_byte byte) rs = sum_by-cons (λ x. cond (has_byte byte x) 1 0) q rs in
-    let one : cond (has_byte byte q) 1 0 ≡ 1 = ap (λ b. cond b 1 0) first in
+    let one : ◌≡◌ {A = ℕ} (cond (has_byte byte q) 1 0) 1 = ap (λ b. cond b 1 0) first in
     omega arith
 counted byte (q ∷ rs) (suc i) r e f =
     let is : count_by (has_byte byte) (q ∷ rs) ≡ cond (has_byte byte q) 1 0 + count_by (has_byte byte) rs = sum_by-cons (λ x. cond (has_byte byte x) 1 0) q rs in
@@ -62,22 +62,22 @@ ruled_by byte (q ∷ rs) zero r one e f =
     let same : q ≡ r = cc in
     let first : has_byte byte q ≡ true = ap (has_byte byte) same ∙ f in
     ap (λ b. pick b (q.rule (byte - q.first)) (ruled rs byte)) first ∙ ap (λ (x : Range). x.rule (byte - x.first)) same
-ruled_by byte (q ∷ rs) (suc i) r one e f = go (has_byte byte q) refl
+ruled_by byte (q ∷ rs) (suc i) r one e f = go (has_byte byte q) refl (λ rest. ruled_by byte rs i r rest e f)
   where
     is : count_by (has_byte byte) (q ∷ rs) ≡ cond (has_byte byte q) 1 0 + count_by (has_byte byte) rs
     is = sum_by-cons (λ x. cond (has_byte byte x) 1 0) q rs
 
-    go : (b : Bool) → has_byte byte q ≡ b → ruled (q ∷ rs) byte ≡ r.rule (byte - r.first)
-    go true g =
-        let this : cond (has_byte byte q) 1 0 ≡ 1 = ap (λ b. cond b 1 0) g in
+    go : (b : Bool) → has_byte byte q ≡ b → (count_by (has_byte byte) rs ≡ 1 → ruled rs byte ≡ r.rule (byte - r.first)) → ruled (q ∷ rs) byte ≡ r.rule (byte - r.first)
+    go true g next =
+        let this : ◌≡◌ {A = ℕ} (cond (has_byte byte q) 1 0) 1 = ap (λ b. cond b 1 0) g in
         let rest : 1 ≤ count_by (has_byte byte) rs = counted byte rs i r e f in
         let sum = is in
         absurd (omega arith)
-    go false g =
-        let this : cond (has_byte byte q) 1 0 ≡ 0 = ap (λ b. cond b 1 0) g in
+    go false g next =
+        let this : ◌≡◌ {A = ℕ} (cond (has_byte byte q) 1 0) 0 = ap (λ b. cond b 1 0) g in
         let sum = is in
         let rest : count_by (has_byte byte) rs ≡ 1 = omega arith in
-        ap (λ b. pick b (q.rule (byte - q.first)) (ruled rs byte)) g ∙ ruled_by byte rs i r rest e f
+        ap (λ b. pick b (q.rule (byte - q.first)) (ruled rs byte)) g ∙ next rest
 
 pub returns-clause-rule : goal.returns-clause-rule
 unfolding bytecode
