@@ -1,9 +1,9 @@
 -- A machine over a thinner heap goes the same way.
-use Rattle.std.specs.Prelude.{◌≡◌, ℕ, ◌==◌, List}
+use Rattle.std.specs.Prelude.{◌≡◌, ℕ}
 use Rattle.long_names.specs.Heap.{IsBounded}
 use Rattle.long_names.specs.Thin.{IsThinning}
 use Rattle.blue_model.specs.Machine.{Machine, Outcome, Go, Halt, Spent, Unbuilt, Rule}
-use Rattle.blue_model.specs.Cycle.{Run, Ran, Stopped, run, one_more}
+use Rattle.blue_model.specs.Cycle.{Run, Ran, Stopped, run, Ending, Parked, Stuck}
 
 -- ---- one rule
 
@@ -40,3 +40,9 @@ RunsAgree _ _ = ⊥
 abbrev pub go_on : ℕ → Run → Run
 go_on k (Ran m) = run k m
 go_on k (Stopped m why log) = Stopped m why log
+
+-- and two whole runs
+abbrev pub EndingsAgree : Ending → Ending → Type 0
+EndingsAgree (Parked m) (Parked s) = IsThinned m s
+EndingsAgree (Stuck why ran) (Stuck reason counted) = (why ≡ reason) × (ran ≡ counted)
+EndingsAgree _ _ = ⊥
