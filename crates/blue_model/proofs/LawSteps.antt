@@ -1,5 +1,5 @@
 -- The law of thinning, for each combinator.
-use Rattle.std.proofs.Common.{◌≡◌, ℕ, ℤ, ◌+◌, ◌<◌, ◌≤◌, zero, suc, Bool, true, false, cond, nat_lt, nat_le, eqb, ◌||◌, ◌&&◌, List, [], ◌∷◌, ◌++◌, length, Option, Some, None, is_some, refl, sym, ◌∙◌, ap, ap₂, subst, arith, IsTrue}
+use Rattle.std.proofs.Common.{◌≡◌, ℕ, ℤ, ◌+◌, ◌≤◌, zero, suc, Bool, true, false, cond, nat_lt, nat_le, eqb, ◌&&◌, List, [], ◌∷◌, ◌++◌, length, Option, Some, None, is_some, refl, sym, ◌∙◌, ap, ap₂, subst, arith}
 use Rattle.std.specs.List.{slice_get}
 use Rattle.std.specs.Option.{option_map_or, option_and_then}
 use Rattle.std.proofs.lemmas.Grind.{common_steps}
@@ -14,11 +14,10 @@ use Rattle.long_names.specs.Heap.{Heap, Has, put_object, add_object}
 use Rattle.long_names.specs.State.{set_register, set_slot, object_at, name_at, class_at, part_at}
 use Rattle.long_names.specs.Access.{Make, with_body}
 use Rattle.long_names.specs.Need.{Row}
-use Rattle.long_names.specs.Thin.{IsThinner, IsWhole}
+use Rattle.long_names.specs.Thin.{IsWhole}
 use Rattle.long_names.proofs.ThinLemmas.{IsThinner-add_object, IsBounded-add_object, IsWhole-regs, IsWhole-set, IsWhole-slots, IsWhole-pin, IsWhole-with_field, has_put, holds-class, holds-field}
 use Rattle.long_names.proofs.AccessLaws.{words_of_row-same, entries_of_row-same, another, IsThinner-with_body, IsBounded-with_body, IsWhole-with_body, whole-heap}
 use Rattle.blue_model.specs.declared.cause.Cause.{Cause}
-use Rattle.blue_model.specs.declared.cause.Cause.TheVariants.{Shape}
 use Rattle.blue_model.specs.declared.cpu.Cpu.{Cpu}
 use Rattle.blue_model.specs.Indexes.{METHOD_INDEX, HOME_INDEX}
 use Rattle.blue_model.specs.Machine.{Machine, MACHINE_REGISTERS, LogRow, logged, row_of, making_row, Outcome, Go, Halt, Spent, Unbuilt, Rule, after, then_do, ◌>>=◌, done, halt, unbuilt, given, pick, is_there, register, placed, put_register, numbers, set_numbers, rows_at, looked, look, part, known, classed, class_of, stored, store, object_made, added, made, make, unpin_all, with_pin, pinned, pin, spoken, say, times}

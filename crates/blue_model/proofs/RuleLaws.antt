@@ -1,9 +1,8 @@
 -- The law of thinning, for each rule.
-use Rattle.std.proofs.Common.{◌≡◌, ℕ, ℤ, ◌+◌, ◌-◌, ◌&&◌, nat_le, zero, suc, Bool, true, false, List, [], ◌∷◌, Option, Some, None, refl, eqb}
+use Rattle.std.proofs.Common.{◌≡◌, ℕ, ℤ, ◌-◌, zero, suc, true, List, [], ◌∷◌, Option, Some, None, refl}
 use Rattle.long_names.specs.declared.value.Value.{Value}
-use Rattle.long_names.specs.declared.value.Value.TheVariants.{Int, Ref}
 use Rattle.long_names.specs.Names.{is_known}
-use Rattle.blue_model.specs.Machine.{Rule, ◌>>=◌, pick, register, known, halt, unbuilt}
+use Rattle.blue_model.specs.Machine.{Rule}
 use Rattle.blue_model.specs.Contexts.{store_field, push, stack, pop, pop_top, byte_of, fetch, jump, load, store_registers, enter, nil_context, go_back, return_to, active_process, start, park}
 use Rattle.blue_model.specs.Lookup.{method_at, find_in, found_or, find_from, put_found, find, find_from_register}
 use Rattle.blue_model.specs.Bytecodes.{receiver_variable, temporary, literal_constant, literal_variable, store_receiver_variable, store_temporary, store_literal_variable, push_of, push_known, push_number, push_receiver, push_active_context, duplicate_top, store_top, store_and_pop, by_kind, extended_push, extended_store_of, extended_store, extended_store_and_pop, return_home, return_of, return_from_block, jump_on, long_jump, long_jump_on, Range, bytecodes, has_byte, ruled, bytecode}

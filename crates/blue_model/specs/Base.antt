@@ -6,7 +6,6 @@ use Rattle.long_names.specs.declared.object.Body.TheVariants.{Pointers, Method}
 use Rattle.long_names.specs.declared.object.Object.{Object}
 use Rattle.long_names.specs.Names.{NIL, SCHEDULER_ASSOCIATION, ARRAY, METHOD_CONTEXT, COMPILED_METHOD, is_known}
 use Rattle.long_names.specs.Heap.{Heap}
-use Rattle.blue_model.specs.Machine.{Machine}
 use Rattle.blue_model.specs.Cycle.{Ending, Parked, Stuck}
 
 abbrev pub nil : Value

@@ -1,7 +1,7 @@
 -- The bytecodes (chapter 28): a table of ranges, each with its rule. The first range that has a byte says what it does.
 use Rattle.std.specs.Prelude.{ℕ, ℤ, pos, ◌-ℤ◌, ◌+◌, ◌-◌, ◌*◌, ◌/◌, ◌%◌, ◌==◌, ◌&&◌, Bool, nat_lt, nat_le, List, [], ◌∷◌, Option, Some, None, if◌then◌else◌}
 use Rattle.long_names.specs.declared.value.Value.{Value}
-use Rattle.long_names.specs.declared.value.Value.TheVariants.{Int, Ref}
+use Rattle.long_names.specs.declared.value.Value.TheVariants.{Int}
 use Rattle.long_names.specs.Names.{NIL, FALSE, TRUE}
 use Rattle.long_names.specs.Objects.{is_ref}
 use Rattle.long_names.specs.State.{ACTIVE_CONTEXT, HOME, METHOD, RECEIVER}

@@ -1,5 +1,5 @@
 -- The cycle (chapter 28, interpret), whole runs, and what is left of a heap.
-use Rattle.std.specs.Prelude.{zero, suc, ℕ, ◌+◌, List, Result, Ok, Err}
+use Rattle.std.specs.Prelude.{zero, suc, ℕ, ◌+◌, List}
 use Rattle.long_names.specs.Heap.{Heap}
 use Rattle.blue_model.specs.declared.cause.Cause.{Cause}
 use Rattle.blue_model.specs.Machine.{Machine, LogRow, Outcome, Go, Halt, Spent, Unbuilt, Rule, ◌>>=◌, ◌>>◌, numbers, set_numbers, at_rest}

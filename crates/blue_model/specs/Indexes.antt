@@ -1,5 +1,5 @@
 -- The fields of the interpreter's objects by their numbers (chapters 27 to 29), and how many they have at least in this profile.
-use Rattle.std.specs.Prelude.{ℕ, List, [], ◌∷◌}
+use Rattle.std.specs.Prelude.{ℕ}
 
 -- ---- associations
 

@@ -6,7 +6,7 @@ use Rattle.long_names.proofs.ThinLemmas.{holds-class, holds-field, has_here}
 use Rattle.long_names.specs.declared.object.Object.{Object}
 use Rattle.long_names.specs.Heap.{add_object}
 use Rattle.long_names.specs.Names.{NIL, LAST_NAME}
-use Rattle.blue_model.specs.Machine.{Machine, LogRow, Outcome, Go, Halt, Spent, is_there, object_made, added, made, making_row, make}
+use Rattle.blue_model.specs.Machine.{Machine, LogRow, Outcome, Go, is_there, object_made, added, made, make}
 use Rattle.blue_model.proofs.laws.tests_never_say_no.Goals as goal
 
 -- the object of each name that a value is

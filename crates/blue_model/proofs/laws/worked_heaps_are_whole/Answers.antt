@@ -1,4 +1,4 @@
-use Rattle.std.proofs.Common.{◌≡◌, ℕ, ◌<◌, Bool, true, false, nat_lt, eqb, cond, ◌||◌, ◌&&◌, List, [], ◌∷◌, Option, Some, None, is_some, refl, sym, ap, ◌∙◌, subst, arith, inl, inr}
+use Rattle.std.proofs.Common.{◌≡◌, ℕ, ◌<◌, Bool, true, false, nat_lt, eqb, cond, List, [], ◌∷◌, Option, Some, None, is_some, refl, sym, ap, subst, arith, inl, inr}
 use Rattle.std.proofs.lemmas.Grind.{common_steps}
 use Rattle.std.specs.List.{list_any, list_all}
 use borrow.Author.Tests.{ltb-true}
@@ -10,7 +10,7 @@ use Rattle.long_names.specs.Objects.{is_ref, holds, fields_of}
 use Rattle.long_names.specs.Heap.{Heap, Has}
 use Rattle.long_names.proofs.ThinLemmas.{both, or_cases, holds-cases}
 use Rattle.blue_model.specs.Machine.{is_there}
-use Rattle.blue_model.specs.Base.{heap_of, array, context_at, nil, SCHEDULER, PROCESS, CODE, CONTEXT}
+use Rattle.blue_model.specs.Base.{heap_of, array, SCHEDULER, PROCESS, CODE, CONTEXT}
 use Rattle.blue_model.proofs.laws.worked_heaps_are_whole.Goals as goal
 
 named : (x y : ℕ) → eqb x y ≡ true → x ≡ y
