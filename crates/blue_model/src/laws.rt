@@ -1,19 +1,13 @@
 // Laws of the machine. No code calls these functions: what each of them ensures is the law.
-ghost use Rattle.std.specs.Prelude.{◌≡◌, ℕ, ◌+◌, ◌-◌, ◌<◌, ◌^◌, true, List, [], ◌∷◌, slice_get, count_by, Option, Some, None};
-ghost use Rattle.long_names.specs.declared.value.Value.{Value};
-ghost use Rattle.long_names.specs.declared.value.Value.TheVariants.{Ref};
-ghost use Rattle.long_names.specs.declared.object.Object.{Object};
-ghost use Rattle.long_names.specs.Names.{is_known};
-ghost use Rattle.long_names.specs.Objects.{Making, field_of};
+ghost use Rattle.std.specs.Prelude.{◌≡◌, ℕ, ◌+◌, ◌-◌, ◌<◌, ◌^◌, true, List, [], ◌∷◌, Contains, count_by};
 ghost use Rattle.long_names.specs.Heap.{Heap};
-ghost use Rattle.long_names.specs.Thin.{IsWhole};
 ghost use Rattle.blue_model.specs.declared.cause.Cause.TheVariants.{Pointer, Unused, Stack, Shape};
-ghost use Rattle.blue_model.specs.Machine.{Machine, LogRow, Go, is_there, make, at_rest};
+ghost use Rattle.blue_model.specs.Machine.{Machine, at_rest};
 ghost use Rattle.blue_model.specs.Contexts.{start, park};
 ghost use Rattle.blue_model.specs.Lookup.{find_from_register};
 ghost use Rattle.blue_model.specs.Bytecodes.{Range, bytecodes, has_byte, bytecode};
 ghost use Rattle.blue_model.specs.Cycle.{step, cycle, run, ending, Stuck, ByCause, ByUnbuilt};
-ghost use Rattle.blue_model.specs.Law.{IsThinned, RespectsThinning, RunsAgree, EndingsAgree, go_on};
+ghost use Rattle.blue_model.specs.Law.{IsWholeMachine, IsThinned, RespectsThinning, RunsAgree, EndingsAgree, AllThere, go_on};
 ghost use Rattle.blue_model.specs.Base.{nil, heap_of, base_code, context_at, context_in};
 
 /// A cycle over a thinning answers, stops and logs as over the heap, and leaves a thinning of what it leaves of the heap. So do its
@@ -23,7 +17,7 @@ pub fn a_cycle_respects_thinning()
     ensures step { RespectsThinning step }
     ensures start { RespectsThinning start }
     ensures park { RespectsThinning park }
-    ensures whole { (m : Machine) → IsWhole m.heap m.regs m.slots → IsThinned m m }
+    ensures whole { (m : Machine) → IsWholeMachine m → IsThinned m m }
 {}
 
 /// So does the lookup from the class in a register.
@@ -48,25 +42,20 @@ pub fn a_whole_run_respects_thinning()
     ensures { (steps : ℕ) (h s : Heap) → IsThinned (at_rest h) (at_rest s) → EndingsAgree (ending steps h) (ending steps s) }
 {}
 
-/// The rules that write a value down test that its object is there. Over a whole heap it is: that of a value in a register or a
-/// field, of a class, and of a known name; and so is that of a new object.
+/// The tests of the rules that write a value down never say no over a whole heap.
 pub fn tests_never_say_no()
-    ensures registers { (m : Machine) → IsWhole m.heap m.regs m.slots → (r : ℕ) → is_there m.heap (m.regs r) ≡ true }
-    ensures fields { (m : Machine) → IsWhole m.heap m.regs m.slots → (n i : ℕ) (o : Object) (v : Value) → m.heap.at n ≡ Some o → field_of o.body i ≡ Some v → is_there m.heap v ≡ true }
-    ensures classes { (m : Machine) → IsWhole m.heap m.regs m.slots → (n : ℕ) (o : Object) → m.heap.at n ≡ Some o → is_there m.heap (Ref o.class) ≡ true }
-    ensures known { (m : Machine) → IsWhole m.heap m.regs m.slots → (n : ℕ) → is_known n ≡ true → is_there m.heap (Ref n) ≡ true }
-    ensures made { (m next : Machine) (class v : Value) (what : Making) (log : List LogRow) → make class what m ≡ Go v next log → is_there next.heap v ≡ true }
+    ensures { (m : Machine) → IsWholeMachine m → AllThere m }
 {}
 
 /// Each byte is in one range of the table, and does what that range says.
 pub fn each_byte_has_one_range()
     ensures one { (byte : ℕ) → byte < 2 ^ 8 → count_by (has_byte byte) bytecodes ≡ 1 }
-    ensures rule { (byte i : ℕ) (r : Range) → byte < 2 ^ 8 → slice_get bytecodes i ≡ Some r → has_byte byte r ≡ true → bytecode byte ≡ r.rule (byte - r.first) }
+    ensures rule { (byte : ℕ) (r : Range) → byte < 2 ^ 8 → Contains bytecodes r → has_byte byte r ≡ true → bytecode byte ≡ r.rule (byte - r.first) }
 {}
 
 /// The heaps of the worked values below are whole: their laws speak of something.
 pub fn worked_heaps_are_whole()
-    ensures { (code : List ℕ) → IsWhole (heap_of code) (at_rest (heap_of code)).regs (at_rest (heap_of code)).slots }
+    ensures { (code : List ℕ) → IsWholeMachine (at_rest (heap_of code)) }
 {}
 
 /// A context whose method pushes the receiver, pops it and jumps back, after 0 to 4 bytecodes.
