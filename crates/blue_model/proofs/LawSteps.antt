@@ -15,7 +15,7 @@ use Rattle.long_names.specs.State.{set_register, set_slot, object_at, name_at, c
 use Rattle.long_names.specs.Access.{Make, with_body}
 use Rattle.long_names.specs.Need.{Row}
 use Rattle.long_names.specs.Thin.{IsWhole}
-use Rattle.long_names.proofs.ThinLemmas.{IsThinner-add_object, IsBounded-add_object, IsWhole-regs, IsWhole-set, IsWhole-slots, IsWhole-pin, IsWhole-with_field, has_put, holds-class, holds-field}
+use Rattle.long_names.proofs.ThinLemmas.{IsThinner-add_object, IsBounded-add_object, IsWhole-regs, IsWhole-set, IsWhole-slots, IsWhole-pin, IsWhole-with_field, has_put, holds-class, holds-field, both}
 use Rattle.long_names.proofs.AccessLaws.{words_of_row-same, entries_of_row-same, another, IsThinner-with_body, IsBounded-with_body, IsWhole-with_body, whole-heap}
 use Rattle.blue_model.specs.declared.cause.Cause.{Cause}
 use Rattle.blue_model.specs.declared.cpu.Cpu.{Cpu}
@@ -319,10 +319,6 @@ whole_made s regs slots whole class what there =
     let of_class : IsWhole s (λ r. class) slots = IsWhole-regs s regs (λ r. class) slots whole (λ r n e. subst (λ v. Has s (name_at v)) e there) in
     IsWhole-regs (add_object s (object_made class what)) (λ r. class) regs slots (whole-heap s (λ r. class) slots of_class (Make 0 0 what)) (λ r n e. has_put s s.next (object_made class what) (s.next + 2) n (whole.rooted r n e))
 
-first_of_both : (a b : Bool) → (a && b) ≡ true → a ≡ true
-first_of_both true b e = refl
-first_of_both false b e = cc
-
 pub law_make : {w : Lost} (class : Value) (what : Making) → IsKept w class → Lawful w (IsKept w) (make class what)
 unfolding make
 law_make {w} class what k = record {
@@ -356,7 +352,7 @@ law_make {w} class what k = record {
         thinned = record {
           thinning = record {
             thinner = IsThinner-add_object m.heap s.heap (object_made class what) h.thinned.thinning.thinner;
-            whole = whole_made s.heap s.regs s.slots h.thinned.thinning.whole class what (first_of_both (is_there s.heap (Ref (name_at class))) (is_there s.heap (Ref NIL)) e);
+            whole = whole_made s.heap s.regs s.slots h.thinned.thinning.whole class what (both (is_there s.heap (Ref (name_at class))) (is_there s.heap (Ref NIL)) e).0;
           };
           bounded = IsBounded-add_object m.heap (object_made class what) h.thinned.bounded;
           regs = h.thinned.regs;

@@ -1,7 +1,8 @@
-use Rattle.std.proofs.Common.{◌≡◌, ℕ, zero, suc, ◌+◌, ◌-◌, ◌<◌, ◌≤◌, Bool, true, false, eqb, cond, ◌&&◌, List, [], ◌∷◌, length, Some, refl, sym, ap, ◌∙◌, subst, arith}
+use Rattle.std.proofs.Common.{◌≡◌, ℕ, zero, suc, ◌+◌, ◌-◌, ◌<◌, ◌≤◌, Bool, true, false, eqb, cond, ◌&&◌, List, [], ◌∷◌, length, refl, sym, ap, ◌∙◌, subst, arith}
 use Rattle.std.proofs.lemmas.Grind.{common_steps}
 use Rattle.std.specs.List.{slice_index_or, count_by}
 use Rattle.std.proofs.lemmas.List.Sums.{sum_by-cons}
+use Rattle.long_names.proofs.ThinLemmas.{both}
 use Rattle.blue_model.specs.Machine.{pick}
 use Rattle.blue_model.specs.Bytecodes.{Range, bytecodes, has_byte, ruled, bytecode}
 use Rattle.blue_model.proofs.laws.each_byte_has_one_range.Goals as goal
@@ -15,10 +16,6 @@ ones_below (suc n) = eqb (count_by (has_byte n) bytecodes) 1 && ones_below n
 all_bytes : ones_below 256 ≡ true
 unfolding ones_below bytecodes
 all_bytes = refl
-
-both : (a b : Bool) → (a && b) ≡ true → (a ≡ true) × (b ≡ true)
-both true b e = (refl, e)
-both false b e = cc
 
 named : (x y : ℕ) → eqb x y ≡ true → x ≡ y
 named x y f = grind (arith, common_steps)
