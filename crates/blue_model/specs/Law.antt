@@ -12,7 +12,7 @@ use Rattle.blue_model.specs.Cycle.{Run, Ran, Stopped, run, Ending, Parked, Stuck
 
 -- ---- one rule
 
--- each name that a word, a register or a slot of the machine holds has its object
+-- each known name, and each that a word, a register or a slot of the machine holds, has its object
 abbrev pub IsWholeMachine : Machine → Type 0
 IsWholeMachine m = IsWhole m.heap m.regs m.slots
 

@@ -73,6 +73,6 @@ pub fn stuck_codes()
     ensures empty_stack { ending 5 (heap_of (135 ∷ [])) ≡ Stuck (ByCause Stack) 0 }
     ensures over_the_end { ending 5 (heap_of (151 ∷ [])) ≡ Stuck (ByCause Pointer) 0 }
     ensures no_code { ending 5 (heap_of []) ≡ Stuck (ByCause Pointer) 0 }
-    ensures number { ending 5 (heap_of (117 ∷ 0 ∷ [])) ≡ Stuck (ByCause Shape) 1 }
+    ensures no_field { ending 5 (heap_of (117 ∷ 0 ∷ [])) ≡ Stuck (ByCause Shape) 1 }
     ensures unbuilt { ending 5 (heap_of (176 ∷ [])) ≡ Stuck ByUnbuilt 0 }
 {}

@@ -22,9 +22,9 @@ pub returns-clause-no_code : goal.returns-clause-no_code
 unfolding ending ◌>>=◌ run cycle step count_bytecode start load fetch park store_registers store_field active_process bytecode bytecodes push_receiver push_of push_number long_jump jump push pop store part look given pick register put_register numbers set_numbers pin unpin_all done halt unbuilt field number size home_of code_of byte_of receiver_variable
 returns-clause-no_code c = refl
 
-pub returns-clause-number : goal.returns-clause-number
+pub returns-clause-no_field : goal.returns-clause-no_field
 unfolding ending ◌>>=◌ run cycle step count_bytecode start load fetch park store_registers store_field active_process bytecode bytecodes push_receiver push_of push_number long_jump jump push pop store part look given pick register put_register numbers set_numbers pin unpin_all done halt unbuilt field number size home_of code_of byte_of receiver_variable
-returns-clause-number c = refl
+returns-clause-no_field c = refl
 
 pub returns-clause-unbuilt : goal.returns-clause-unbuilt
 unfolding ending ◌>>=◌ run cycle step count_bytecode start load fetch park store_registers store_field active_process bytecode bytecodes push_receiver push_of push_number long_jump jump push pop store part look given pick register put_register numbers set_numbers pin unpin_all done halt unbuilt field number size home_of code_of byte_of receiver_variable
