@@ -1,0 +1,580 @@
+-- The law of thinning, for each combinator.
+use Rattle.std.proofs.Common.{◌≡◌, ℕ, ℤ, ◌+◌, ◌≤◌, zero, suc, Bool, true, false, cond, nat_lt, nat_le, eqb, ◌&&◌, List, [], ◌∷◌, ◌++◌, length, Option, Some, None, is_some, refl, sym, ◌∙◌, ap, ap₂, subst, arith}
+use Rattle.std.specs.List.{slice_get}
+use Rattle.std.specs.Option.{option_map_or, option_and_then}
+use Rattle.std.proofs.lemmas.Grind.{common_steps}
+use Rattle.long_names.specs.declared.value.Value.{Value}
+use Rattle.long_names.specs.declared.value.Value.TheVariants.{Int, Ref}
+use Rattle.long_names.specs.declared.object.Object.{Object}
+use Rattle.long_names.specs.declared.object.Body.{Body}
+use Rattle.long_names.specs.declared.object.Body.TheVariants.{Pointers, Words, Bytes, Method}
+use Rattle.long_names.specs.Names.{is_known, NIL, SMALL_INTEGER, LAST_NAME}
+use Rattle.long_names.specs.Objects.{Making, holds, fields_of, field_of, with_field, text_of}
+use Rattle.long_names.specs.Heap.{Heap, Has, put_object, add_object}
+use Rattle.long_names.specs.State.{set_register, set_slot, object_at, name_at, class_at, part_at}
+use Rattle.long_names.specs.Access.{Make, with_body}
+use Rattle.long_names.specs.Need.{Row}
+use Rattle.long_names.specs.Thin.{IsWhole}
+use Rattle.long_names.proofs.ThinLemmas.{IsThinner-add_object, IsBounded-add_object, IsWhole-regs, IsWhole-set, IsWhole-slots, IsWhole-pin, IsWhole-with_field, has_put, holds-class, holds-field, both}
+use Rattle.long_names.proofs.AccessLaws.{words_of_row-same, entries_of_row-same, another, IsThinner-with_body, IsBounded-with_body, IsWhole-with_body, whole-heap}
+use Rattle.blue_model.specs.declared.cause.Cause.{Cause}
+use Rattle.blue_model.specs.declared.cpu.Cpu.{Cpu}
+use Rattle.blue_model.specs.Indexes.{METHOD_INDEX, HOME_INDEX}
+use Rattle.blue_model.specs.Machine.{Machine, MACHINE_REGISTERS, LogRow, logged, row_of, making_row, Outcome, Go, Halt, Spent, Unbuilt, Rule, after, then_do, ◌>>=◌, done, halt, unbuilt, given, pick, is_there, register, placed, put_register, numbers, set_numbers, rows_at, looked, look, part, known, classed, class_of, stored, store, object_made, added, made, make, unpin_all, with_pin, pinned, pin, spoken, say, times}
+use Rattle.blue_model.specs.Parts.{values_in, at_least, shaped, field, home_by, home_in, home_of, literal_in, literal}
+use Rattle.blue_model.specs.Law.{IsThinned, Agree, RespectsThinning}
+use Rattle.blue_model.specs.Alike.{Lost, IsAlike, IsKept, IsKeptMaybe, IsHeld, IsPlain, IsWithin, Agrees, Lawful}
+
+-- ---- what is there and what is lost
+
+-- what is there is not lost
+pub not_lost : (w : Lost) (m s : Machine) → IsAlike w m s → (n : ℕ) → Has s.heap n → w.lost n ≡ false
+not_lost w m s h n there = go (w.lost n) refl
+  where
+    go : (b : Bool) → w.lost n ≡ b → w.lost n ≡ false
+    go false e = e
+    go true e = let gone = h.gone n e in absurd (cc)
+
+pub kept_int : {w : Lost} (z : ℤ) → IsKept w (Int z)
+kept_int z = record { kept = λ n e. (cc) }
+
+kept_ref : (w : Lost) (n : ℕ) → w.lost n ≡ false → IsKept w (Ref n)
+kept_ref w n e = record { kept = λ k f. let same : n ≡ k = cc in subst (λ j. w.lost j ≡ false) same e }
+
+pub kept_known : {w : Lost} (n : ℕ) → is_known n ≡ true → IsKept w (Ref n)
+kept_known {w} n e = kept_ref w n (w.known n e)
+
+-- and so is the class of SmallIntegers
+name_kept : (w : Lost) (v : Value) → IsKept w v → w.lost (name_at v) ≡ false
+name_kept w (Int z) k = w.known SMALL_INTEGER refl
+name_kept w (Ref n) k = k.kept n refl
+
+object_alike : (w : Lost) (m s : Machine) → IsAlike w m s → (v : Value) → IsKept w v → object_at s.heap v ≡ object_at m.heap v
+object_alike w m s h (Int z) k = refl
+object_alike w m s h (Ref n) k = h.same n (k.kept n refl)
+
+there_alike : (w : Lost) (m s : Machine) → IsAlike w m s → (v : Value) → IsKept w v → is_there s.heap v ≡ is_there m.heap v
+there_alike w m s h (Int z) k = refl
+there_alike w m s h (Ref n) k = ap is_some (h.same n (k.kept n refl))
+
+there_has : (h : Heap) (v : Value) → is_there h v ≡ true → (n : ℕ) → v ≡ Ref n → Has h n
+there_has h (Int z) e n f = cc
+there_has h (Ref k) e n f = subst (λ x. is_there h x ≡ true) f e
+
+-- ---- rows
+
+logged-same : (h s : Heap) (r : Row) (makes : Bool) → h.at r.object ≡ s.at r.object → ((i k : ℕ) → r.slots i ≡ Some k → h.at k ≡ s.at k) → logged h r makes ≡ logged s r makes
+logged-same h s r makes object pins = λ i. record { object = r.object; words = words_of_row-same h s r object pins i; entries = entries_of_row-same h s r pins i; makes = makes }
+
+pub row_alike : (w : Lost) (m s : Machine) (n : ℕ) → IsAlike w m s → w.lost n ≡ false → row_of m n ≡ row_of s n
+row_alike w m s n h kept =
+    ap (λ (z : ℕ → Option ℕ). logged m.heap (record { object = n; slots = z }) false) (sym h.thinned.slots)
+    ∙ logged-same m.heap s.heap (record { object = n; slots = s.slots }) false (sym (h.same n kept)) (λ i k e. sym (h.same k (not_lost w m s h k (h.thinned.thinning.whole.pinned i k e))))
+
+rows_alike : (w : Lost) (m s : Machine) (v : Value) → IsAlike w m s → IsKept w v → rows_at m v ≡ rows_at s v
+rows_alike w m s (Int z) h k = refl
+rows_alike w m s (Ref n) h k = ap (λ r. r ∷ []) (row_alike w m s n h (k.kept n refl))
+
+-- ---- in a row
+
+Agrees-after : {A : Type 0} (w : Lost) (K : A → Type 0) (rows lines : List LogRow) (a b : Outcome A) → rows ≡ lines → Agrees w K a b → Agrees w K (after rows a) (after lines b)
+Agrees-after w K rows lines (Go x m log) (Go y s los) e h = (h.0, ap₂ (λ p q. p ++ q) e h.1, h.2, h.3)
+Agrees-after w K rows lines (Halt c log) (Halt d los) e h = (h.0, ap₂ (λ p q. p ++ q) e h.1)
+Agrees-after w K rows lines (Spent log) (Spent los) e h = ap₂ (λ p q. p ++ q) e h
+Agrees-after w K rows lines (Unbuilt log) (Unbuilt los) e h = ap₂ (λ p q. p ++ q) e h
+Agrees-after w K rows lines _ _ e h = absurd h
+
+Agrees-then : {A B : Type 0} (w : Lost) (K : A → Type 0) (Q : B → Type 0) (a b : Outcome A) (k : A → Rule B) → Agrees w K a b → ((x : A) → K x → Lawful w Q (k x)) → Agrees w Q (then_do a k) (then_do b k)
+Agrees-then w K Q (Go x m log) (Go y s los) k h f = Agrees-after w Q log los (k x m) (k y s) h.1 (subst (λ z. Agrees w Q (k x m) (k z s)) h.0 ((f x h.2).agrees m s h.3))
+Agrees-then w K Q (Halt c log) (Halt d los) k h f = h
+Agrees-then w K Q (Spent log) (Spent los) k h f = h
+Agrees-then w K Q (Unbuilt log) (Unbuilt los) k h f = h
+Agrees-then w K Q _ _ k h f = absurd h
+
+pub law_then : {w : Lost} {A B : Type 0} {K : A → Type 0} {Q : B → Type 0} {p : Rule A} (k : A → Rule B) → Lawful w K p → ((a : A) → K a → Lawful w Q (k a)) → Lawful w Q (p >>= k)
+unfolding ◌>>=◌
+law_then {w} {A} {B} {K} {Q} {p} k first f = record { agrees = λ m s h. Agrees-then w K Q (p m) (p s) k (first.agrees m s h) f }
+
+pub law_pick : {w : Lost} {A : Type 0} {K : A → Type 0} (b : Bool) (p q : Rule A) → Lawful w K p → Lawful w K q → Lawful w K (pick b p q)
+unfolding pick
+law_pick true p q f g = f
+law_pick false p q f g = g
+
+pub law_done : {w : Lost} {A : Type 0} {K : A → Type 0} (a : A) → K a → Lawful w K (done a)
+unfolding done
+law_done {w} {A} {K} a k = record { agrees = λ m s h. (refl, refl, k, h) }
+
+pub law_halt : {w : Lost} {A : Type 0} {K : A → Type 0} (c : Cause) → Lawful w K (halt c)
+unfolding halt
+law_halt {w} {A} {K} c = record { agrees = λ m s h. (refl, refl) }
+
+pub law_unbuilt : {w : Lost} {A : Type 0} {K : A → Type 0} → Lawful w K unbuilt
+unfolding unbuilt
+law_unbuilt {w} {A} {K} = record { agrees = λ m s h. refl }
+
+pub law_given : {w : Lost} {A : Type 0} (K : A → Type 0) (c : Cause) (o : Option A) → ((a : A) → o ≡ Some a → K a) → Lawful w K (given c o)
+unfolding given
+law_given K c None f = law_halt c
+law_given K c (Some a) f = law_done a (f a refl)
+
+pub law_given_plain : {w : Lost} {A : Type 0} (c : Cause) (o : Option A) → Lawful w IsPlain (given c o)
+law_given_plain c o = law_given IsPlain c o (λ a e. record {})
+
+pub law_times : {w : Lost} (n : ℕ) (p : Rule (Unit {0})) → Lawful w IsPlain p → Lawful w IsPlain (times n p)
+unfolding times
+law_times zero p f = law_done tt (record {})
+law_times (suc n) p f = law_then (λ _. p) (law_times n p f) (λ a k. f)
+
+-- ---- registers and numbers
+
+pub law_register : {w : Lost} (r : ℕ) → Lawful w (IsKept w) (register r)
+unfolding register
+law_register {w} r = record {
+  agrees = λ m s h. (
+    sym (ap (λ g. g r) h.thinned.regs),
+    refl,
+    record { kept = λ n e. not_lost w m s h n (h.thinned.thinning.whole.rooted r n (ap (λ g. g r) h.thinned.regs ∙ e)) },
+    h,
+  );
+}
+
+pub law_numbers : {w : Lost} → Lawful w IsPlain numbers
+unfolding numbers
+law_numbers {w} = record { agrees = λ m s h. (sym h.thinned.cpu, refl, record {}, h) }
+
+pub law_set_numbers : {w : Lost} (cpu : Cpu) → Lawful w IsPlain (set_numbers cpu)
+unfolding set_numbers
+law_set_numbers {w} cpu = record {
+  agrees = λ m s h. (
+    refl,
+    refl,
+    record {},
+    record {
+      thinned = record { thinning = h.thinned.thinning; bounded = h.thinned.bounded; regs = h.thinned.regs; slots = h.thinned.slots; transcript = h.thinned.transcript; cpu = refl };
+      same = h.same;
+      gone = h.gone;
+      fresh = h.fresh;
+    },
+  );
+}
+
+pub law_put_register : {w : Lost} (r : ℕ) (v : Value) → IsKept w v → Lawful w IsPlain (put_register r v)
+unfolding put_register
+law_put_register {w} r v kept = record { agrees = λ m s h. subst (λ b. Agrees w IsPlain (placed m r v b) (placed s r v (is_there s.heap v))) (there_alike w m s h v kept) (step m s h (is_there s.heap v) refl) }
+  where
+    set : (m s : Machine) → IsAlike w m s → (b : Bool) → ((n : ℕ) → v ≡ Ref n → Has s.heap n) → IsWhole s.heap (cond b (set_register s.regs r v) s.regs) s.slots
+    set m s h true there = IsWhole-set s.heap s.regs (set_register s.regs r v) s.slots r v h.thinned.thinning.whole refl there
+    set m s h false there = h.thinned.thinning.whole
+
+    step : (m s : Machine) → IsAlike w m s → (b : Bool) → is_there s.heap v ≡ b → Agrees w IsPlain (placed m r v b) (placed s r v b)
+    step m s h false e = (refl, refl)
+    step m s h true e = (
+      refl,
+      refl,
+      record {},
+      record {
+        thinned = record {
+          thinning = record { thinner = h.thinned.thinning.thinner; whole = set m s h (nat_lt r MACHINE_REGISTERS) (there_has s.heap v e) };
+          bounded = h.thinned.bounded;
+          regs = ap (λ g. cond (nat_lt r MACHINE_REGISTERS) (set_register g r v) g) h.thinned.regs;
+          slots = h.thinned.slots;
+          transcript = h.thinned.transcript;
+          cpu = h.thinned.cpu;
+        };
+        same = h.same;
+        gone = h.gone;
+        fresh = h.fresh;
+      },
+    )
+
+-- ---- looks
+
+-- what an object holds that is there is there
+held_there : (s : Machine) → IsWhole s.heap s.regs s.slots → (v : Value) (o : Object) → object_at s.heap v ≡ Some o → (n : ℕ) → holds o n ≡ true → Has s.heap n
+held_there s whole (Int z) o e n x = let no : ◌≡◌ {A = Option Object} None (Some o) = e in absurd (cc)
+held_there s whole (Ref k) o e n x = whole.closed k o n e x
+
+pub law_look : {w : Lost} (v : Value) → IsKept w v → Lawful w (IsHeld w) (look v)
+unfolding look
+law_look {w} v k = record { agrees = λ m s h. subst (λ o. Agrees w (IsHeld w) (looked m v o) (looked s v (object_at s.heap v))) (object_alike w m s h v k) (step m s h (object_at s.heap v) refl) }
+  where
+    step : (m s : Machine) → IsAlike w m s → (o : Option Object) → object_at s.heap v ≡ o → Agrees w (IsHeld w) (looked m v o) (looked s v o)
+    step m s h None e = (refl, rows_alike w m s v h k)
+    step m s h (Some o) e = (refl, rows_alike w m s v h k, record { held = λ n x. not_lost w m s h n (held_there s h.thinned.thinning.whole v o e n x) }, h)
+
+-- a part without names
+pub law_part : {w : Lost} {A : Type 0} (c : Cause) (f : Object → Option A) (v : Value) → IsKept w v → Lawful w IsPlain (part c f v)
+unfolding part
+law_part c f v k = law_then _ (law_look v k) (λ o h. law_given_plain c (f o))
+
+-- a part that is a value
+pub law_part_value : {w : Lost} (c : Cause) (f : Object → Option Value) (v : Value) → IsWithin w f → IsKept w v → Lawful w (IsKept w) (part c f v)
+unfolding part
+law_part_value {w} c f v within k = law_then _ (law_look v k) (λ o h. law_given (IsKept w) c (f o) (λ x e. within.within o x h e))
+
+pub law_known : {w : Lost} (n : ℕ) → is_known n ≡ true → Lawful w (IsKept w) (known n)
+unfolding known
+law_known n e = law_then _ (law_look (Ref n) (kept_known n e)) (λ o h. law_done (Ref n) (kept_known n e))
+
+class_alike : (w : Lost) (m s : Machine) → IsAlike w m s → (v : Value) → IsKept w v → class_at s.heap v ≡ class_at m.heap v
+class_alike w m s h (Int z) k = refl
+class_alike w m s h (Ref n) k = ap (λ x. option_and_then (λ (o : Object). Some o.class) x) (h.same n (k.kept n refl))
+
+class_there : (s : Machine) → IsWhole s.heap s.regs s.slots → (v : Value) (class : ℕ) → class_at s.heap v ≡ Some class → Has s.heap class
+class_there s whole (Int z) class e = let same : SMALL_INTEGER ≡ class = cc in subst (λ n. Has s.heap n) same (whole.known SMALL_INTEGER refl)
+class_there s whole (Ref n) class e = go (s.heap.at n) refl e
+  where
+    go : (x : Option Object) → s.heap.at n ≡ x → option_and_then (λ (o : Object). Some o.class) x ≡ Some class → Has s.heap class
+    go None f is = let no : ◌≡◌ {A = Option ℕ} None (Some class) = is in absurd (cc)
+    go (Some o) f is = let same : o.class ≡ class = cc in whole.closed n o class f (subst (λ k. holds o k ≡ true) same (holds-class o))
+
+pub law_class_of : {w : Lost} (v : Value) → IsKept w v → Lawful w (IsKept w) (class_of v)
+unfolding class_of
+law_class_of {w} v k = record { agrees = λ m s h. subst (λ o. Agrees w (IsKept w) (classed m v o) (classed s v (class_at s.heap v))) (class_alike w m s h v k) (step m s h (class_at s.heap v) refl) }
+  where
+    step : (m s : Machine) → IsAlike w m s → (o : Option ℕ) → class_at s.heap v ≡ o → Agrees w (IsKept w) (classed m v o) (classed s v o)
+    step m s h None e = (refl, ap (λ r. r ∷ []) (row_alike w m s (name_at v) h (name_kept w v k)))
+    step m s h (Some class) e = (refl, ap (λ r. r ∷ []) (row_alike w m s (name_at v) h (name_kept w v k)), kept_ref w class (not_lost w m s h class (class_there s h.thinned.thinning.whole v class e)), h)
+
+-- ---- stores
+
+body_put : Heap → (Body → Body) → ℕ → Option Object → Heap
+body_put h change n x = option_map_or (λ (o : Object). put_object h n (another change o)) x h
+
+same_body : (h s : Heap) (v : Value) (change : Body → Body) (q : ℕ) → object_at s v ≡ object_at h v → s.at q ≡ h.at q → (with_body s v change).at q ≡ (with_body h v change).at q
+unfolding body_put
+same_body h s (Int z) change q e f = f
+same_body h s (Ref n) change q e f = subst (λ x. (body_put s change n (s.at n)).at q ≡ (body_put h change n x).at q) e (go (s.at n))
+  where
+    go : (x : Option Object) → (body_put s change n x).at q ≡ (body_put h change n x).at q
+    go None = f
+    go (Some o) = ap (λ y. cond (eqb q n) (Some (another change o)) y) f
+
+next_body : (s : Heap) (v : Value) (change : Body → Body) → (with_body s v change).next ≡ s.next
+unfolding body_put
+next_body s (Int z) change = refl
+next_body s (Ref n) change = go (s.at n)
+  where
+    go : (x : Option Object) → (body_put s change n x).next ≡ s.next
+    go None = refl
+    go (Some o) = refl
+
+-- what is put under a kept name is not under a lost one
+gone_put : (w : Lost) (s : Heap) (n : ℕ) (o : Object) (q : ℕ) → w.lost n ≡ false → w.lost q ≡ true → s.at q ≡ None → cond (eqb q n) (Some o) (s.at q) ≡ None
+gone_put w s n o q kept lost none = go (eqb q n) refl
+  where
+    go : (x : Bool) → eqb q n ≡ x → cond (eqb q n) (Some o) (s.at q) ≡ None
+    go true e = let same : q ≡ n = grind (arith, common_steps, e) in let no_way = ap w.lost same in absurd (cc)
+    go false e = ap (λ x. cond x (Some o) (s.at q)) e ∙ none
+
+gone_body : (w : Lost) (s : Heap) (v : Value) (change : Body → Body) (q : ℕ) → IsKept w v → w.lost q ≡ true → s.at q ≡ None → (with_body s v change).at q ≡ None
+unfolding body_put
+gone_body w s (Int z) change q k lost none = none
+gone_body w s (Ref n) change q k lost none = go (s.at n)
+  where
+    go : (x : Option Object) → (body_put s change n x).at q ≡ None
+    go None = none
+    go (Some o) = gone_put w s n (another change o) q (k.kept n refl) lost none
+
+pub law_store : {w : Lost} (v : Value) (i : ℕ) (x : Value) → IsKept w v → IsKept w x → Lawful w IsPlain (store v i x)
+unfolding store
+law_store {w} v i x k l = record {
+  agrees = λ m s h.
+      let parts : part_at s.heap v (λ b. field_of b i) ≡ part_at m.heap v (λ b. field_of b i) = ap (λ z. option_and_then (λ (o : Object). field_of o.body i) z) (object_alike w m s h v k) in
+      subst (λ z. Agrees w IsPlain (stored m v i x z (is_there m.heap x)) (stored s v i x (part_at s.heap v (λ b. field_of b i)) (is_there s.heap x))) parts
+      (subst (λ z. Agrees w IsPlain (stored m v i x (part_at s.heap v (λ b. field_of b i)) z) (stored s v i x (part_at s.heap v (λ b. field_of b i)) (is_there s.heap x))) (there_alike w m s h x l)
+      (step m s h (part_at s.heap v (λ b. field_of b i)) (is_there s.heap x) refl));
+}
+  where
+    step : (m s : Machine) → IsAlike w m s → (old : Option Value) (b : Bool) → is_there s.heap x ≡ b → Agrees w IsPlain (stored m v i x old b) (stored s v i x old b)
+    step m s h None b e = (refl, rows_alike w m s v h k)
+    step m s h (Some old) false e = (refl, rows_alike w m s v h k)
+    step m s h (Some old) true e = (
+      refl,
+      rows_alike w m s v h k,
+      record {},
+      record {
+        thinned = record {
+          thinning = record {
+            thinner = IsThinner-with_body m.heap s.heap v (λ b. with_field b i x) h.thinned.thinning.thinner (sym (object_alike w m s h v k));
+            whole = IsWhole-with_body s.heap s.regs s.slots v (λ b. with_field b i x) h.thinned.thinning.whole (λ n o f. IsWhole-with_field s.heap s.regs s.slots n o i x h.thinned.thinning.whole f (there_has s.heap x e));
+          };
+          bounded = IsBounded-with_body m.heap v (λ b. with_field b i x) h.thinned.bounded;
+          regs = h.thinned.regs;
+          slots = h.thinned.slots;
+          transcript = h.thinned.transcript;
+          cpu = h.thinned.cpu;
+        };
+        same = λ q f. same_body m.heap s.heap v (λ b. with_field b i x) q (object_alike w m s h v k) (h.same q f);
+        gone = λ q f. gone_body w s.heap v (λ b. with_field b i x) q k f (h.gone q f);
+        fresh = λ q le. h.fresh q (subst (λ n. n ≤ q) (next_body s.heap v (λ b. with_field b i x)) le);
+      },
+    )
+
+-- ---- makings
+
+-- a heap with a new object of a class that is there is whole
+whole_made : (s : Heap) (regs : ℕ → Value) (slots : ℕ → Option ℕ) → IsWhole s regs slots → (class : Value) (what : Making) → Has s (name_at class) → IsWhole (add_object s (object_made class what)) regs slots
+whole_made s regs slots whole class what there =
+    let of_class : IsWhole s (λ r. class) slots = IsWhole-regs s regs (λ r. class) slots whole (λ r n e. subst (λ v. Has s (name_at v)) e there) in
+    IsWhole-regs (add_object s (object_made class what)) (λ r. class) regs slots (whole-heap s (λ r. class) slots of_class (Make 0 0 what)) (λ r n e. has_put s s.next (object_made class what) (s.next + 2) n (whole.rooted r n e))
+
+pub law_make : {w : Lost} (class : Value) (what : Making) → IsKept w class → Lawful w (IsKept w) (make class what)
+unfolding make
+law_make {w} class what k = record {
+  agrees = λ m s h. subst (λ n. Agrees w (IsKept w) (made m (object_made class what) (nat_lt n LAST_NAME)) (made s (object_made class what) (nat_lt s.heap.next LAST_NAME))) h.thinned.thinning.thinner.next (step m s h (nat_lt s.heap.next LAST_NAME));
+}
+  where
+    new_same : (m s : Machine) → IsAlike w m s → (q : ℕ) → w.lost q ≡ false → (add_object s.heap (object_made class what)).at q ≡ (add_object m.heap (object_made class what)).at q
+    new_same m s h q e =
+        ap (λ y. cond (eqb q s.heap.next) (Some (object_made class what)) y) (h.same q e)
+        ∙ ap (λ n. cond (eqb q n) (Some (object_made class what)) (m.heap.at q)) h.thinned.thinning.thinner.next
+
+    new_kept : (m s : Machine) → IsAlike w m s → w.lost s.heap.next ≡ false
+    new_kept m s h = h.fresh s.heap.next (omega arith)
+
+    row : (m s : Machine) → IsAlike w m s → making_row m (object_made class what) ≡ making_row s (object_made class what)
+    row m s h =
+        ap (λ n. logged (add_object m.heap (object_made class what)) (record { object = n; slots = m.slots }) true) (sym h.thinned.thinning.thinner.next)
+        ∙ ap (λ (z : ℕ → Option ℕ). logged (add_object m.heap (object_made class what)) (record { object = s.heap.next; slots = z }) true) (sym h.thinned.slots)
+        ∙ logged-same (add_object m.heap (object_made class what)) (add_object s.heap (object_made class what)) (record { object = s.heap.next; slots = s.slots }) true (sym (new_same m s h s.heap.next (new_kept m s h))) (λ i j e. sym (new_same m s h j (not_lost w m s h j (h.thinned.thinning.whole.pinned i j e))))
+
+    parts : (m s : Machine) → IsAlike w m s → (is_there s.heap (Ref (name_at class)) && is_there s.heap (Ref NIL)) ≡ (is_there m.heap (Ref (name_at class)) && is_there m.heap (Ref NIL))
+    parts m s h = ap₂ (λ a b. a && b) (ap is_some (h.same (name_at class) (name_kept w class k))) (ap is_some (h.same NIL (w.known NIL refl)))
+
+    add : (m s : Machine) → IsAlike w m s → (b : Bool) → (is_there s.heap (Ref (name_at class)) && is_there s.heap (Ref NIL)) ≡ b → Agrees w (IsKept w) (added m (object_made class what) b) (added s (object_made class what) b)
+    add m s h false e = (refl, ap (λ r. r ∷ []) (row m s h))
+    add m s h true e = (
+      ap (λ n. Ref n) (sym h.thinned.thinning.thinner.next),
+      ap (λ r. r ∷ []) (row m s h),
+      kept_ref w m.heap.next (subst (λ j. w.lost j ≡ false) h.thinned.thinning.thinner.next (new_kept m s h)),
+      record {
+        thinned = record {
+          thinning = record {
+            thinner = IsThinner-add_object m.heap s.heap (object_made class what) h.thinned.thinning.thinner;
+            whole = whole_made s.heap s.regs s.slots h.thinned.thinning.whole class what (both (is_there s.heap (Ref (name_at class))) (is_there s.heap (Ref NIL)) e).0;
+          };
+          bounded = IsBounded-add_object m.heap (object_made class what) h.thinned.bounded;
+          regs = h.thinned.regs;
+          slots = h.thinned.slots;
+          transcript = h.thinned.transcript;
+          cpu = h.thinned.cpu;
+        };
+        same = new_same m s h;
+        gone = λ q f. gone_put w s.heap s.heap.next (object_made class what) q (new_kept m s h) f (h.gone q f);
+        fresh = λ q le. h.fresh q (omega arith);
+      },
+    )
+
+    step : (m s : Machine) → IsAlike w m s → (b : Bool) → Agrees w (IsKept w) (made m (object_made class what) b) (made s (object_made class what) b)
+    step m s h true = subst (λ b. Agrees w (IsKept w) (added m (object_made class what) b) (added s (object_made class what) (is_there s.heap (Ref (name_at class)) && is_there s.heap (Ref NIL)))) (parts m s h) (add m s h (is_there s.heap (Ref (name_at class)) && is_there s.heap (Ref NIL)) refl)
+    step m s h false = refl
+
+-- ---- pins
+
+pub law_unpin_all : {w : Lost} → Lawful w IsPlain unpin_all
+unfolding unpin_all
+law_unpin_all {w} = record {
+  agrees = λ m s h. (
+    refl,
+    refl,
+    record {},
+    record {
+      thinned = record {
+        thinning = record { thinner = h.thinned.thinning.thinner; whole = IsWhole-slots s.heap s.regs s.slots (λ i. None) h.thinned.thinning.whole (λ i n e. absurd (cc)) };
+        bounded = h.thinned.bounded;
+        regs = h.thinned.regs;
+        slots = refl;
+        transcript = h.thinned.transcript;
+        cpu = h.thinned.cpu;
+      };
+      same = h.same;
+      gone = h.gone;
+      fresh = h.fresh;
+    },
+  );
+}
+
+pub law_pin : {w : Lost} (slot : ℕ) (v : Value) → IsKept w v → Lawful w IsPlain (pin slot v)
+unfolding pin
+law_pin {w} slot (Int z) k = record { agrees = λ m s h. (refl, refl) }
+law_pin {w} slot (Ref n) k = record { agrees = λ m s h. subst (λ o. Agrees w IsPlain (pinned m slot n o) (pinned s slot n (s.heap.at n))) (h.same n (k.kept n refl)) (step m s h (s.heap.at n) refl) }
+  where
+    with_it : (m s : Machine) → IsAlike w m s → Has s.heap n → IsAlike w (with_pin m slot n) (with_pin s slot n)
+    with_it m s h there = record {
+      thinned = record {
+        thinning = record {
+          thinner = h.thinned.thinning.thinner;
+          whole = IsWhole-pin s.heap s.regs s.slots (set_slot s.slots slot (Some n)) slot (Some n) h.thinned.thinning.whole refl (λ j e. let same : n ≡ j = cc in subst (λ q. Has s.heap q) same there);
+        };
+        bounded = h.thinned.bounded;
+        regs = h.thinned.regs;
+        slots = ap (λ z. set_slot z slot (Some n)) h.thinned.slots;
+        transcript = h.thinned.transcript;
+        cpu = h.thinned.cpu;
+      };
+      same = h.same;
+      gone = h.gone;
+      fresh = h.fresh;
+    }
+
+    step : (m s : Machine) → IsAlike w m s → (o : Option Object) → s.heap.at n ≡ o → Agrees w IsPlain (pinned m slot n o) (pinned s slot n o)
+    step m s h None e = (refl, ap (λ r. r ∷ []) (row_alike w m s n h (k.kept n refl)))
+    step m s h (Some o) e = (
+      refl,
+      ap₂ (λ r q. r ∷ q ∷ []) (row_alike w m s n h (k.kept n refl)) (row_alike w (with_pin m slot n) (with_pin s slot n) n (with_it m s h (ap is_some e)) (k.kept n refl)),
+      record {},
+      with_it m s h (ap is_some e),
+    )
+
+-- ---- saying
+
+pub law_say : {w : Lost} (v : Value) → IsKept w v → Lawful w IsPlain (say v)
+unfolding say
+law_say {w} v k = record {
+  agrees = λ m s h.
+      let parts : part_at s.heap v text_of ≡ part_at m.heap v text_of = ap (λ z. option_and_then (λ (o : Object). text_of o.body) z) (object_alike w m s h v k) in
+      subst (λ z. Agrees w IsPlain (spoken m v z) (spoken s v (part_at s.heap v text_of))) parts (step m s h (part_at s.heap v text_of));
+}
+  where
+    step : (m s : Machine) → IsAlike w m s → (b : Option (List ℕ)) → Agrees w IsPlain (spoken m v b) (spoken s v b)
+    step m s h None = (refl, rows_alike w m s v h k)
+    step m s h (Some bytes) = (
+      refl,
+      rows_alike w m s v h k,
+      record {},
+      record {
+        thinned = record {
+          thinning = h.thinned.thinning;
+          bounded = h.thinned.bounded;
+          regs = h.thinned.regs;
+          slots = h.thinned.slots;
+          transcript = ap (λ t. t ++ bytes) h.thinned.transcript;
+          cpu = h.thinned.cpu;
+        };
+        same = h.same;
+        gone = h.gone;
+        fresh = h.fresh;
+      },
+    )
+
+-- ---- what is taken out of objects
+
+-- the values of an object of pointers are its fields
+shaped_fields : (least : ℕ) (o : Object) (values : List Value) → shaped least o ≡ Some values → fields_of o.body ≡ values
+shaped_fields least o values e = go o.body e
+  where
+    long : (vs : List Value) (b : Bool) → cond b (Some vs) None ≡ Some values → vs ≡ values
+    long vs true f = cc
+    long vs false f = let no : ◌≡◌ {A = Option (List Value)} None (Some values) = f in absurd (cc)
+
+    go : (b : Body) → option_and_then (at_least least) (values_in b) ≡ Some values → fields_of b ≡ values
+    go (Pointers vs) f = long vs (nat_le least (length vs)) f
+    go (Words words) f = let no : ◌≡◌ {A = Option (List Value)} None (Some values) = f in absurd (cc)
+    go (Bytes bytes) f = let no : ◌≡◌ {A = Option (List Value)} None (Some values) = f in absurd (cc)
+    go (Method header literals code) f = let no : ◌≡◌ {A = Option (List Value)} None (Some values) = f in absurd (cc)
+
+field_kept : (w : Lost) (o : Object) → IsHeld w o → (i : ℕ) (v : Value) → field_of o.body i ≡ Some v → IsKept w v
+field_kept w o h i v e = record { kept = λ n f. h.held n (holds-field o i n (e ∙ ap (λ x. Some x) f)) }
+
+value_kept : (w : Lost) (o : Object) → IsHeld w o → (least : ℕ) (values : List Value) → shaped least o ≡ Some values → (i : ℕ) (v : Value) → slice_get values i ≡ Some v → IsKept w v
+value_kept w o h least values e i v f = field_kept w o h i v (ap (λ vs. slice_get vs i) (shaped_fields least o values e) ∙ f)
+
+pub within_field : {w : Lost} (least i : ℕ) → IsWithin w (field least i)
+unfolding field
+within_field {w} least i = record { within = λ o v h e. go o v h (shaped least o) refl e }
+  where
+    go : (o : Object) (v : Value) → IsHeld w o → (x : Option (List Value)) → shaped least o ≡ x → option_and_then (λ (values : List Value). slice_get values i) x ≡ Some v → IsKept w v
+    go o v h None e f = let no : ◌≡◌ {A = Option Value} None (Some v) = f in absurd (cc)
+    go o v h (Some values) e f = value_kept w o h least values e i v f
+
+pub within_literal : {w : Lost} (i : ℕ) → IsWithin w (literal i)
+unfolding literal
+within_literal {w} i = record { within = λ o v h e. field_kept w o h i v (go o.body v e) }
+  where
+    go : (b : Body) (v : Value) → literal_in i b ≡ Some v → field_of b i ≡ Some v
+    go (Pointers values) v e = let no : ◌≡◌ {A = Option Value} None (Some v) = e in absurd (cc)
+    go (Words words) v e = let no : ◌≡◌ {A = Option Value} None (Some v) = e in absurd (cc)
+    go (Bytes bytes) v e = let no : ◌≡◌ {A = Option Value} None (Some v) = e in absurd (cc)
+    go (Method header literals code) v e = e
+
+-- the home is the context itself or in a field
+pub within_home_of : {w : Lost} (context : Value) → IsKept w context → IsWithin w (home_of context)
+unfolding home_of
+within_home_of {w} context k = record { within = λ o v h e. go o v h (shaped 6 o) refl e }
+  where
+    by : (third fifth : Option Value) (v : Value) → ((u : Value) → fifth ≡ Some u → IsKept w u) → home_by context third fifth ≡ Some v → IsKept w v
+    by None fifth v h e = let no : ◌≡◌ {A = Option Value} None (Some v) = e in absurd (cc)
+    by (Some (Int z)) fifth v h e = h v e
+    by (Some (Ref n)) fifth v h e = let same : context ≡ v = cc in subst (λ u. IsKept w u) same k
+
+    go : (o : Object) (v : Value) → IsHeld w o → (x : Option (List Value)) → shaped 6 o ≡ x → option_and_then (home_in context) x ≡ Some v → IsKept w v
+    go o v h None e f = let no : ◌≡◌ {A = Option Value} None (Some v) = f in absurd (cc)
+    go o v h (Some values) e f = by (slice_get values METHOD_INDEX) (slice_get values HOME_INDEX) v (λ u g. value_kept w o h 6 values e HOME_INDEX u g) f
+
+-- ---- the law of a rule
+
+pub respects : {A : Type 0} {K : Lost → A → Type 0} {p : Rule A} → ((w : Lost) → Lawful w (K w) p) → RespectsThinning p
+respects {A} {K} {p} f = record { agree = λ m s h. weaken (world m s h) (p m) (p s) ((f (world m s h)).agrees m s (alike m s h)) }
+  where
+    lost_of : (m s : Machine) → ℕ → Bool
+    lost_of m s n = is_some (m.heap.at n) && cond (is_some (s.heap.at n)) false true
+
+    kept_at : (a b : Option Object) → is_some b ≡ true → (is_some a && cond (is_some b) false true) ≡ false
+    kept_at None b e = refl
+    kept_at (Some o) None e = cc
+    kept_at (Some o) (Some p) e = refl
+
+    world : (m s : Machine) → IsThinned m s → Lost
+    world m s h = record { lost = lost_of m s; known = λ n e. kept_at (m.heap.at n) (s.heap.at n) (h.thinning.whole.known n e) }
+
+    same_at : (a b : Option Object) → ((o : Object) → b ≡ Some o → a ≡ Some o) → (is_some a && cond (is_some b) false true) ≡ false → b ≡ a
+    same_at None None f e = refl
+    same_at None (Some p) f e = sym (f p refl)
+    same_at (Some o) None f e = cc
+    same_at (Some o) (Some p) f e = sym (f p refl)
+
+    gone_at : (a b : Option Object) → (is_some a && cond (is_some b) false true) ≡ true → b ≡ None
+    gone_at None b e = cc
+    gone_at (Some o) None e = refl
+    gone_at (Some o) (Some p) e = cc
+
+    alike : (m s : Machine) (h : IsThinned m s) → IsAlike (world m s h) m s
+    alike m s h = record {
+      thinned = h;
+      same = λ n e. same_at (m.heap.at n) (s.heap.at n) (λ o. h.thinning.thinner.same n o) e;
+      gone = λ n e. gone_at (m.heap.at n) (s.heap.at n) e;
+      fresh = λ n le. let next = h.thinning.thinner.next in let none : m.heap.at n ≡ None = h.bounded.bounded n (omega arith) in ap (λ o. is_some o && cond (is_some (s.heap.at n)) false true) none;
+    }
+
+    weaken : (w : Lost) (a b : Outcome A) → Agrees w (K w) a b → Agree a b
+    weaken w (Go x m log) (Go y s los) h = (h.0, h.1, h.3.thinned)
+    weaken w (Halt c log) (Halt d los) h = h
+    weaken w (Spent log) (Spent los) h = h
+    weaken w (Unbuilt log) (Unbuilt los) h = h
+    weaken w _ _ h = absurd h
+
+-- ---- the forms that a search uses
+
+pub then_plain : {w : Lost} {A B : Type 0} {Q : B → Type 0} {p : Rule A} (k : A → Rule B) → Lawful w IsPlain p → ((a : A) → Lawful w Q (k a)) → Lawful w Q (p >>= k)
+then_plain k f g = law_then k f (λ a _. g a)
+
+pub then_value : {w : Lost} {B : Type 0} {Q : B → Type 0} {p : Rule Value} (k : Value → Rule B) → Lawful w (IsKept w) p → ((a : Value) → IsKept w a → Lawful w Q (k a)) → Lawful w Q (p >>= k)
+then_value k f g = law_then k f g
+
+pub then_maybe : {w : Lost} {B : Type 0} {Q : B → Type 0} {p : Rule (Option Value)} (k : Option Value → Rule B) → Lawful w (IsKeptMaybe w) p → ((a : Option Value) → IsKeptMaybe w a → Lawful w Q (k a)) → Lawful w Q (p >>= k)
+then_maybe k f g = law_then k f g
+
+pub then_held : {w : Lost} {B : Type 0} {Q : B → Type 0} {p : Rule Object} (k : Object → Rule B) → Lawful w (IsHeld w) p → ((a : Object) → IsHeld w a → Lawful w Q (k a)) → Lawful w Q (p >>= k)
+then_held k f g = law_then k f g
+
+pub done_plain : {w : Lost} {A : Type 0} (a : A) → Lawful w IsPlain (done a)
+done_plain a = law_done a (record {})
+
+pub done_none : {w : Lost} → Lawful w (IsKeptMaybe w) (done None)
+done_none {w} = law_done None (record { kept = λ v e. (cc) })
+
+pub done_some : {w : Lost} (v : Value) → IsKept w v → Lawful w (IsKeptMaybe w) (done (Some v))
+done_some {w} v k = law_done (Some v) (record { kept = λ u e. let same : v ≡ u = cc in subst (λ x. IsKept w x) same k })
+
+pub ruleset lawful = (then_value, then_maybe, then_held, then_plain, law_pick, done_none, done_some, done_plain, law_done, law_halt, law_unbuilt, law_register, law_numbers, law_set_numbers, law_put_register, within_field, within_literal, within_home_of, law_look, law_known, law_class_of, law_part_value, law_part, law_given_plain, law_store, law_make, law_unpin_all, law_pin, law_say, law_times, kept_int, kept_known)

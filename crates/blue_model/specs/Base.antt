@@ -1,0 +1,55 @@
+-- Small heaps as worked values: one process whose context runs one method.
+use Rattle.std.specs.Prelude.{ℕ, pos, ◌==◌, if◌then◌else◌, List, [], ◌∷◌, replicate, Option, Some, None}
+use Rattle.long_names.specs.declared.value.Value.{Value}
+use Rattle.long_names.specs.declared.value.Value.TheVariants.{Int, Ref}
+use Rattle.long_names.specs.declared.object.Body.TheVariants.{Pointers, Method}
+use Rattle.long_names.specs.declared.object.Object.{Object}
+use Rattle.long_names.specs.Names.{NIL, SCHEDULER_ASSOCIATION, ARRAY, METHOD_CONTEXT, COMPILED_METHOD, is_known}
+use Rattle.long_names.specs.Heap.{Heap}
+use Rattle.blue_model.specs.Cycle.{Ending, Parked, Stuck}
+
+abbrev pub nil : Value
+nil = Ref NIL
+
+abbrev pub array : List Value → Option Object
+array values = Some (record { class = ARRAY; body = Pointers values })
+
+-- the names of the scheduler, its process, the method and the context
+abbrev pub SCHEDULER : ℕ
+SCHEDULER = 60
+
+abbrev pub PROCESS : ℕ
+PROCESS = 62
+
+abbrev pub CODE : ℕ
+CODE = 64
+
+abbrev pub CONTEXT : ℕ
+CONTEXT = 66
+
+-- a context of that method, with these instruction and stack pointers, and this first value on its stack
+abbrev pub context_at : ℕ → ℕ → Value → Option Object
+context_at ip depth top = Some (record { class = METHOD_CONTEXT; body = Pointers (nil ∷ Int (pos ip) ∷ Int (pos depth) ∷ Ref CODE ∷ nil ∷ nil ∷ top ∷ replicate 11 nil) })
+
+-- A scheduler with one process, whose context runs this code on nil. Field 1 of a context whose method has no literals is 3 before
+-- the first byte.
+abbrev pub heap_of : List ℕ → Heap
+heap_of code = record {
+  at = λ n.
+      if n == SCHEDULER_ASSOCIATION then array (nil ∷ Ref SCHEDULER ∷ []) else (
+      if n == SCHEDULER then array (nil ∷ Ref PROCESS ∷ []) else (
+      if n == PROCESS then array (nil ∷ Ref CONTEXT ∷ Int (pos 1) ∷ nil ∷ []) else (
+      if n == CODE then Some (record { class = COMPILED_METHOD; body = Method (pos 0) [] code }) else (
+      if n == CONTEXT then context_at 3 0 nil else (
+      if is_known n then array [] else None)))));
+  next = 68;
+}
+
+-- it pushes the receiver, pops it, and jumps back
+abbrev pub base_code : List ℕ
+base_code = 112 ∷ 135 ∷ 163 ∷ 252 ∷ []
+
+-- what a whole run leaves of the context
+abbrev pub context_in : Ending → Option Object
+context_in (Parked m) = m.heap.at CONTEXT
+context_in (Stuck why ran) = None

@@ -1,0 +1,219 @@
+-- The bytecodes (chapter 28): a table of ranges, each with its rule. The first range that has a byte says what it does.
+use Rattle.std.specs.Prelude.{ℕ, ℤ, pos, ◌-ℤ◌, ◌+◌, ◌-◌, ◌*◌, ◌/◌, ◌%◌, ◌==◌, ◌&&◌, Bool, nat_lt, nat_le, List, [], ◌∷◌, Option, Some, None, if◌then◌else◌}
+use Rattle.long_names.specs.declared.value.Value.{Value}
+use Rattle.long_names.specs.declared.value.Value.TheVariants.{Int}
+use Rattle.long_names.specs.Names.{NIL, FALSE, TRUE}
+use Rattle.long_names.specs.Objects.{is_ref}
+use Rattle.long_names.specs.State.{ACTIVE_CONTEXT, HOME, METHOD, RECEIVER}
+use Rattle.blue_model.specs.declared.cause.Cause.TheVariants.{Unused, Stack, Shape}
+use Rattle.blue_model.specs.Indexes.{VALUE_INDEX, ASSOCIATION_SIZE, SENDER_INDEX, TEMP_FRAME_START}
+use Rattle.blue_model.specs.Machine.{Rule, ◌>>=◌, ◌>>◌, done, halt, unbuilt, given, pick, register, part, known}
+use Rattle.blue_model.specs.Parts.{size, field, literal}
+use Rattle.blue_model.specs.Contexts.{store_field, push, stack, pop, pop_top, fetch, jump, return_to}
+
+-- ---- variables
+
+-- a receiver variable, which a receiver of pointers has
+unfoldable pub receiver_variable : ℕ → Rule Value
+receiver_variable i = do
+  receiver ← register RECEIVER
+  part Shape (field 0 i) receiver
+
+-- the field of a temporary, in a context with so many fields
+abbrev pub temporary_place : ℕ → ℕ → Option ℕ
+temporary_place i len = if nat_lt (TEMP_FRAME_START + i) len then Some (TEMP_FRAME_START + i) else None
+
+unfoldable pub temporary : ℕ → Rule Value
+temporary i = do
+  home ← register HOME
+  len ← part Shape (size 0) home
+  place ← given Stack (temporary_place i len)
+  part Shape (field 0 place) home
+
+unfoldable pub literal_constant : ℕ → Rule Value
+literal_constant i = do
+  method ← register METHOD
+  part Shape (literal i) method
+
+-- the value of an association that is a literal
+unfoldable pub literal_variable : ℕ → Rule Value
+literal_variable i = do
+  association ← literal_constant i
+  part Shape (field ASSOCIATION_SIZE VALUE_INDEX) association
+
+unfoldable pub store_receiver_variable : ℕ → Value → Rule (Unit {0})
+store_receiver_variable i v = do
+  receiver ← register RECEIVER
+  store_field receiver i v
+
+unfoldable pub store_temporary : ℕ → Value → Rule (Unit {0})
+store_temporary i v = do
+  home ← register HOME
+  len ← part Shape (size 0) home
+  place ← given Stack (temporary_place i len)
+  store_field home place v
+
+unfoldable pub store_literal_variable : ℕ → Value → Rule (Unit {0})
+store_literal_variable i v = do
+  association ← literal_constant i
+  store_field association VALUE_INDEX v
+
+-- ---- pushes
+
+unfoldable pub push_of : Rule Value → Rule (Unit {0})
+push_of p = p >>= push
+
+unfoldable pub push_known : ℕ → Rule (Unit {0})
+push_known n = known n >>= push
+
+unfoldable pub push_number : ℕ → Rule (Unit {0})
+push_number i = push (Int (pos i -ℤ pos 1))
+
+unfoldable pub push_receiver : Rule (Unit {0})
+push_receiver = push_of (register RECEIVER)
+
+unfoldable pub push_active_context : Rule (Unit {0})
+push_active_context = push_of (register ACTIVE_CONTEXT)
+
+unfoldable pub duplicate_top : Rule (Unit {0})
+duplicate_top = push_of (stack 0)
+
+-- ---- stores: the top is read first
+
+unfoldable pub store_top : (Value → Rule (Unit {0})) → Rule (Unit {0})
+store_top p = stack 0 >>= p
+
+unfoldable pub store_and_pop : (Value → Rule (Unit {0})) → Rule (Unit {0})
+store_and_pop p = do
+  store_top p
+  pop 1
+
+-- ---- the extended forms: kind and number stand in the next byte
+
+-- one of four by the kind
+unfoldable pub by_kind : {A : Type 0} → ℕ → Rule A → Rule A → Rule A → Rule A → Rule A
+by_kind n receiver temporary literal variable =
+    pick (n / 64 == 0) receiver
+    (pick (n / 64 == 1) temporary
+    (pick (n / 64 == 2) literal variable))
+
+unfoldable pub extended_push : Rule (Unit {0})
+extended_push = do
+  n ← fetch
+  push_of (by_kind n (receiver_variable (n % 64)) (temporary (n % 64)) (literal_constant (n % 64)) (literal_variable (n % 64)))
+
+-- a literal can't be stored into: kind 2 is unused, and nothing is read before
+unfoldable pub extended_store_of : ℕ → Rule (Unit {0})
+extended_store_of n = by_kind n (store_top (store_receiver_variable (n % 64))) (store_top (store_temporary (n % 64))) (halt Unused) (store_top (store_literal_variable (n % 64)))
+
+unfoldable pub extended_store : Rule (Unit {0})
+extended_store = do
+  n ← fetch
+  extended_store_of n
+
+unfoldable pub extended_store_and_pop : Rule (Unit {0})
+extended_store_and_pop = do
+  n ← fetch
+  extended_store_of n
+  pop 1
+
+-- ---- returns
+
+-- sender (chapter 28): of the home
+unfoldable pub return_home : Value → Rule (Unit {0})
+return_home v = do
+  home ← register HOME
+  sender ← part Shape (field 0 SENDER_INDEX) home
+  return_to sender v
+
+unfoldable pub return_of : Rule Value → Rule (Unit {0})
+return_of p = p >>= return_home
+
+-- caller (chapter 28): of the active context
+unfoldable pub return_from_block : Rule (Unit {0})
+return_from_block = do
+  v ← pop_top
+  active ← register ACTIVE_CONTEXT
+  caller ← part Shape (field 0 SENDER_INDEX) active
+  return_to caller v
+
+-- ---- jumps
+
+-- jumpIf: (chapter 28). mustBeBoolean is sent where the value is neither; sends aren't built yet
+unfoldable pub jump_on : ℕ → ℕ → ℤ → Rule (Unit {0})
+jump_on taken passed distance = do
+  v ← pop_top
+  pick (is_ref taken v) (jump distance) (pick (is_ref passed v) (done tt) unbuilt)
+
+unfoldable pub long_jump : ℕ → Rule (Unit {0})
+long_jump i = do
+  n ← fetch
+  jump (pos (256 * i + n) -ℤ pos 1024)
+
+unfoldable pub long_jump_on : ℕ → ℕ → ℕ → Rule (Unit {0})
+long_jump_on taken passed i = do
+  n ← fetch
+  jump_on taken passed (pos (256 * i + n))
+
+-- ---- the table
+
+-- the bytes from first to last, by their distance from first
+pub record Range : Type 0 where
+  pub first : ℕ
+  pub last : ℕ
+  pub rule : ℕ → Rule (Unit {0})
+
+abbrev pub from_to : ℕ → ℕ → (ℕ → Rule (Unit {0})) → Range
+from_to first last rule = record { first = first; last = last; rule = rule }
+
+abbrev pub only : ℕ → Rule (Unit {0}) → Range
+only byte rule = record { first = byte; last = byte; rule = λ i. rule }
+
+unfoldable pub bytecodes : List Range
+bytecodes =
+    from_to 0 15 (λ i. push_of (receiver_variable i))
+    ∷ from_to 16 31 (λ i. push_of (temporary i))
+    ∷ from_to 32 63 (λ i. push_of (literal_constant i))
+    ∷ from_to 64 95 (λ i. push_of (literal_variable i))
+    ∷ from_to 96 103 (λ i. store_and_pop (store_receiver_variable i))
+    ∷ from_to 104 111 (λ i. store_and_pop (store_temporary i))
+    ∷ only 112 push_receiver
+    ∷ only 113 (push_known TRUE)
+    ∷ only 114 (push_known FALSE)
+    ∷ only 115 (push_known NIL)
+    ∷ from_to 116 119 push_number
+    ∷ only 120 (return_of (register RECEIVER))
+    ∷ only 121 (return_of (known TRUE))
+    ∷ only 122 (return_of (known FALSE))
+    ∷ only 123 (return_of (known NIL))
+    ∷ only 124 (return_of pop_top)
+    ∷ only 125 return_from_block
+    ∷ from_to 126 127 (λ i. halt Unused)
+    ∷ only 128 extended_push
+    ∷ only 129 extended_store
+    ∷ only 130 extended_store_and_pop
+    ∷ from_to 131 134 (λ i. unbuilt)
+    ∷ only 135 (pop 1)
+    ∷ only 136 duplicate_top
+    ∷ only 137 push_active_context
+    ∷ from_to 138 143 (λ i. halt Unused)
+    ∷ from_to 144 151 (λ i. jump (pos (i + 1)))
+    ∷ from_to 152 159 (λ i. jump_on FALSE TRUE (pos (i + 1)))
+    ∷ from_to 160 167 long_jump
+    ∷ from_to 168 171 (long_jump_on TRUE FALSE)
+    ∷ from_to 172 175 (long_jump_on FALSE TRUE)
+    ∷ from_to 176 255 (λ i. unbuilt)
+    ∷ []
+
+-- the range has the byte
+abbrev pub has_byte : ℕ → Range → Bool
+has_byte byte r = nat_le r.first byte && nat_le byte r.last
+
+-- what the first range says that has the byte; bytes have 8 bits, and each of them is in one range
+abbrev pub ruled : List Range → ℕ → Rule (Unit {0})
+ruled [] byte = unbuilt
+ruled (r ∷ rs) byte = pick (has_byte byte r) (r.rule (byte - r.first)) (ruled rs byte)
+
+-- dispatchOnThisBytecode (chapter 28)
+unfoldable pub bytecode : ℕ → Rule (Unit {0})
+bytecode byte = ruled bytecodes byte

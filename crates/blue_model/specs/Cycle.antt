@@ -1,0 +1,79 @@
+-- The cycle (chapter 28, interpret), whole runs, and what is left of a heap.
+use Rattle.std.specs.Prelude.{zero, suc, ℕ, ◌+◌, List}
+use Rattle.long_names.specs.Heap.{Heap}
+use Rattle.blue_model.specs.declared.cause.Cause.{Cause}
+use Rattle.blue_model.specs.Machine.{Machine, LogRow, Outcome, Go, Halt, Spent, Unbuilt, Rule, ◌>>=◌, ◌>>◌, numbers, set_numbers, at_rest}
+use Rattle.blue_model.specs.Contexts.{fetch, start, park}
+use Rattle.blue_model.specs.Bytecodes.{bytecode}
+
+-- one bytecode more was run
+unfoldable pub count_bytecode : Rule (Unit {0})
+count_bytecode = do
+  cpu ← numbers
+  set_numbers (record cpu { ran = cpu.ran + 1 })
+
+-- one bytecode
+unfoldable pub step : Rule (Unit {0})
+step = do
+  byte ← fetch
+  bytecode byte
+
+unfoldable pub cycle : Rule (Unit {0})
+cycle = do
+  step
+  count_bytecode
+
+-- ---- runs
+
+-- why a run stopped
+pub data Stopping : Type 0 where
+  ByCause : (cause : Cause) → Stopping
+  BySpentNames : Stopping
+  ByUnbuilt : Stopping
+
+-- the machine after so many bytecodes, all of them run; or the last machine before the bytecode that stopped, with its log
+pub data Run : Type 0 where
+  Ran : (machine : Machine) → Run
+  Stopped : (machine : Machine) → (why : Stopping) → (log : List LogRow) → Run
+
+abbrev pub run_of : Machine → Outcome (Unit {0}) → Run
+run_of m (Go a next log) = Ran next
+run_of m (Halt c log) = Stopped m (ByCause c) log
+run_of m (Spent log) = Stopped m BySpentNames log
+run_of m (Unbuilt log) = Stopped m ByUnbuilt log
+
+-- one cycle more, where it hasn't stopped
+abbrev pub one_more : Run → Run
+one_more (Ran m) = run_of m (cycle m)
+one_more (Stopped m why log) = Stopped m why log
+
+unfoldable pub run : ℕ → Machine → Run
+run zero m = Ran m
+run (suc n) m = one_more (run n m)
+
+-- ---- a whole run
+
+-- the parked heap, or why and after how many bytecodes it stopped
+pub data Ending : Type 0 where
+  Parked : (machine : Machine) → Ending
+  Stuck : (why : Stopping) → (ran : ℕ) → Ending
+
+abbrev pub parked : Machine → Outcome (Unit {0}) → Ending
+parked m (Go a next log) = Parked next
+parked m (Halt c log) = Stuck (ByCause c) m.cpu.ran
+parked m (Spent log) = Stuck BySpentNames m.cpu.ran
+parked m (Unbuilt log) = Stuck ByUnbuilt m.cpu.ran
+
+abbrev pub ended : Run → Ending
+ended (Ran m) = parked m (park m)
+ended (Stopped m why log) = Stuck why m.cpu.ran
+
+abbrev pub run_from : ℕ → Outcome (Unit {0}) → Ending
+run_from steps (Go a m log) = ended (run steps m)
+run_from steps (Halt c log) = Stuck (ByCause c) 0
+run_from steps (Spent log) = Stuck BySpentNames 0
+run_from steps (Unbuilt log) = Stuck ByUnbuilt 0
+
+-- What becomes of a heap: the start, so many bytecodes, and park.
+unfoldable pub ending : ℕ → Heap → Ending
+ending steps h = run_from steps (start (at_rest h))

@@ -1,0 +1,84 @@
+-- The fields of the interpreter's objects by their numbers (chapters 27 to 29), and how many they have at least in this profile.
+use Rattle.std.specs.Prelude.{ℕ}
+
+-- ---- associations
+
+abbrev pub VALUE_INDEX : ℕ
+VALUE_INDEX = 1
+
+abbrev pub ASSOCIATION_SIZE : ℕ
+ASSOCIATION_SIZE = 2
+
+-- ---- the scheduler, and processes
+
+abbrev pub ACTIVE_PROCESS_INDEX : ℕ
+ACTIVE_PROCESS_INDEX = 1
+
+abbrev pub SCHEDULER_SIZE : ℕ
+SCHEDULER_SIZE = 2
+
+abbrev pub SUSPENDED_CONTEXT_INDEX : ℕ
+SUSPENDED_CONTEXT_INDEX = 1
+
+abbrev pub PROCESS_SIZE : ℕ
+PROCESS_SIZE = 4
+
+-- ---- contexts
+
+-- of a block context it is the caller
+abbrev pub SENDER_INDEX : ℕ
+SENDER_INDEX = 0
+
+abbrev pub INSTRUCTION_POINTER_INDEX : ℕ
+INSTRUCTION_POINTER_INDEX = 1
+
+abbrev pub STACK_POINTER_INDEX : ℕ
+STACK_POINTER_INDEX = 2
+
+-- of a method context; of a block context it is the number of its arguments
+abbrev pub METHOD_INDEX : ℕ
+METHOD_INDEX = 3
+
+-- of a method context
+abbrev pub RECEIVER_INDEX : ℕ
+RECEIVER_INDEX = 5
+
+-- of a block context
+abbrev pub HOME_INDEX : ℕ
+HOME_INDEX = 5
+
+-- the fields before it are in every context
+abbrev pub TEMP_FRAME_START : ℕ
+TEMP_FRAME_START = 6
+
+-- the stack pointer of an empty stack: the field before the first of the stack
+abbrev pub EMPTY_STACK : ℕ
+EMPTY_STACK = 5
+
+-- and the highest: as many values as the greatest SmallInteger
+abbrev pub FULL_STACK : ℕ
+FULL_STACK = 16388
+
+-- ---- classes and dictionaries
+
+abbrev pub SUPERCLASS_INDEX : ℕ
+SUPERCLASS_INDEX = 0
+
+abbrev pub METHOD_DICTIONARY_INDEX : ℕ
+METHOD_DICTIONARY_INDEX = 1
+
+abbrev pub CLASS_SIZE : ℕ
+CLASS_SIZE = 3
+
+abbrev pub METHOD_ARRAY_INDEX : ℕ
+METHOD_ARRAY_INDEX = 1
+
+abbrev pub SELECTOR_START : ℕ
+SELECTOR_START = 2
+
+abbrev pub DICTIONARY_SIZE : ℕ
+DICTIONARY_SIZE = 3
+
+-- the most classes that a lookup visits
+abbrev pub LONGEST_CHAIN : ℕ
+LONGEST_CHAIN = 1024

@@ -1,0 +1,11 @@
+pub mod Indexes
+pub mod Cause
+pub mod Machine
+pub mod Parts
+pub mod Contexts
+pub mod Lookup
+pub mod Bytecodes
+pub mod Cycle
+pub mod Law
+pub mod Alike
+pub mod Base

@@ -1,0 +1,26 @@
+// The numbers of the processor.
+
+/// What the interpreter knows beside its registers: two pointers, and numbers that count.
+#[derive(Clone, Copy, Debug, PartialEq, Eq)]
+pub struct Cpu {
+    /// The next byte, counted from twice the method's literals and 2: field 1 of the context less 1.
+    pub ip: i32,
+    /// The field number of the top of the stack: field 2 of the context and 5.
+    pub sp: i32,
+    /// How many arguments the message has that is being sent.
+    pub args: u8,
+    /// A process switch waits; the new process is in its register.
+    pub waiting: bool,
+    /// How many lines of the event list were taken.
+    pub line: u32,
+    /// How many input words joined the queue, and how many were taken out.
+    pub words_in: u32,
+    pub words_out: u32,
+    /// The tick at which the timer's semaphore is signaled.
+    pub timer: Option<u32>,
+    /// A form is the display, and a semaphore is signaled for input.
+    pub display: bool,
+    pub input: bool,
+    /// How many bytecodes were run.
+    pub ran: u32,
+}
