@@ -18,11 +18,11 @@ mod head;
 pub mod laws;
 mod reading;
 
+pub use big_endian::{bytes_of_u16, bytes_of_u32, bytes_of_u64};
 pub use decoding::{MAX_RECORD, decode_rec};
 pub use encoding::encode_rec;
 pub use fault::RecFault;
 pub use head::{HEAD_LEN, Head, decode_head};
-pub use big_endian::{bytes_of_u16, bytes_of_u32, bytes_of_u64};
 
 #[cfg(test)]
 mod tests;

@@ -4,8 +4,8 @@
 mod broken;
 mod counts;
 mod cpu;
-mod indexes;
 mod emit;
+mod indexes;
 mod interpreter;
 pub mod laws;
 mod load;

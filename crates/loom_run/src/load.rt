@@ -200,7 +200,14 @@ pub fn load<H: Host>(alloc: Global, host: &mut H) -> Result<ObjectMap, LoadFault
     let head = take_head(&mut window)?;
     let mut map = ObjectMap::new(alloc, head.next);
     let mut stated = Counts::new(alloc);
-    read_objects(alloc, host, &mut window, &mut map, &mut stated, head.objects)?;
+    read_objects(
+        alloc,
+        host,
+        &mut window,
+        &mut map,
+        &mut stated,
+        head.objects,
+    )?;
     window.fill(host)?;
     judge(alloc, &window, &map, &stated)?;
     Ok(map)

@@ -20,7 +20,12 @@ use long_names::{Name, Object, Rec};
 use loom_outside::{Failed, Host, Role, write_full};
 
 /// Gathers the head: the number of objects, and the next name.
-fn emit_head<H: Host>(host: &mut H, piece: &mut Piece, objects: u32, next: u32) -> Result<(), Failed>
+fn emit_head<H: Host>(
+    host: &mut H,
+    piece: &mut Piece,
+    objects: u32,
+    next: u32,
+) -> Result<(), Failed>
     ensures { Emits (H.tells Role.Saved) (meanings H.Host host.old) (meanings H.Host host.new)
         piece.old.items (head_text objects next) piece.new.items result }
 {

@@ -188,8 +188,7 @@ impl Interpreter {
         let depth = self.cpu.stated_depth();
         self.map.store(&active, STACK_POINTER_INDEX, depth)?;
         let process = active_process(&self.map)?;
-        self.map
-            .store(&process, SUSPENDED_CONTEXT_INDEX, Value::from(self.active))
+        self.map.store(&process, SUSPENDED_CONTEXT_INDEX, Value::from(self.active))
     }
 
     /// Stores the registers into the active context, and that into the active process.

@@ -2,6 +2,7 @@
 use super::save;
 use crate::base::BASE;
 use crate::load::load;
+use crate::sweep::keep;
 use loom_outside::{Host, MemoryHost, Role};
 use std::alloc::AllocError;
 use std::test::Fail;
@@ -56,9 +57,10 @@ fn a_large_image_is_saved_as_it_was(rt: HostRuntime) -> Result<(), Fail> {
     host.add_file("image", &image)?;
     host.attach(Role::Image, "image")?;
     host.attach(Role::Saved, "saved")?;
-    let map = load(rt.alloc(), &mut host)?;
+    let mut map = load(rt.alloc(), &mut host)?;
     assert_eq!(rt; map.len(), 65_566);
-    save_kept(rt.alloc(), &mut host, map)?;
+    let counts = keep(rt.alloc(), &mut map)?;
+    save(&mut host, map, &counts)?;
     assert_eq!(rt; host.file("saved"), Some(image.as_slice()));
     Ok(())
 }
