@@ -1,5 +1,5 @@
 -- Calls of a memory with bounds.
-use Rattle.std.proofs.Common.{◌≡◌, ℕ, ◌+◌, ◌<◌, ◌≤◌, Bool, true, false, cond, eqb, ◌||◌, List, ◌++◌, Option, Some, None, Result, Ok, Err, IsTrue, refl, sym, ◌∙◌, ap, ap₂, subst, arith}
+use Rattle.std.proofs.Common.{◌≡◌, ℕ, ◌+◌, Bool, false, cond, eqb, ◌||◌, Option, Some, None, Result, Ok, Err, refl, sym, ◌∙◌, ap, ap₂, subst}
 use Rattle.std.specs.Result.{IfErr, IsErrAnd}
 use Rattle.long_names.specs.Heap.{Heap}
 use Rattle.long_names.specs.Need.{words_at, entries_at, is_pinned, added, words_of_row, entries_of_row}

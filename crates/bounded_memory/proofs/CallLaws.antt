@@ -1,5 +1,5 @@
 -- Calls of a memory without bounds, as calls of one with bounds over it.
-use Rattle.std.proofs.Common.{◌≡◌, ℕ, ◌+◌, ◌<◌, ◌≤◌, Bool, true, false, List, Option, Some, None, Result, Ok, Err, IsTrue, ◌⊎◌, inl, inr, refl, sym, ◌∙◌, ap, subst, subst₂, add-zero, arith}
+use Rattle.std.proofs.Common.{◌≡◌, ℕ, ◌<◌, ◌≤◌, true, Option, Some, None, Result, Ok, Err, IsTrue, inl, inr, refl, sym, subst, subst₂, add-zero, arith}
 use Rattle.std.specs.Result.{OnOk, is_ok}
 use Rattle.long_names.specs.Counting.{counted}
 use Rattle.long_names.specs.Names.{LAST_NAME}

@@ -11,7 +11,7 @@ use Rattle.long_names.specs.declared.object.Object.{Object}
 use Rattle.long_names.specs.Objects.{fields_of, body_words, words_of, bytes_of, put_run, with_field, with_words, with_bytes}
 use Rattle.long_names.specs.Heap.{Heap, Has, put_object, add_object}
 use Rattle.long_names.specs.Need.{words_at, entries_at}
-use Rattle.long_names.specs.State.{name_at, part_at}
+use Rattle.long_names.specs.State.{part_at}
 use Rattle.long_names.specs.Access.{Access, Make, SetField, SetWord, SetByte, WriteWords, CanDo, with_body, heap_after}
 use Rattle.long_names.specs.Thin.{IsThinner, IsWhole}
 use Rattle.long_names.proofs.ThinLemmas.{same-there}

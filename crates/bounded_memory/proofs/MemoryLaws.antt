@@ -1,16 +1,14 @@
 -- What each kind of call leaves of a memory with bounds.
-use Rattle.std.proofs.Common.{◌≡◌, ℕ, ◌+◌, ◌<◌, ◌≤◌, ◌==◌, Bool, true, false, cond, eqb, if◌then◌else◌, Option, Some, None, is_some, Result, Ok, Err, IsTrue, refl, sym, ◌∙◌, ap, subst, subst₂, arith}
+use Rattle.std.proofs.Common.{◌≡◌, ℕ, ◌+◌, ◌<◌, ◌≤◌, ◌==◌, Bool, true, false, cond, eqb, if◌then◌else◌, Option, Some, is_some, Result, Ok, Err, refl, sym, ◌∙◌, ap, subst, subst₂, arith}
 use Rattle.std.proofs.lemmas.Grind.{common_steps}
 use Rattle.std.specs.Result.{OnOk, OnErr, IfErr, IsOk, IsErr, IsErrAnd}
 use Rattle.long_names.specs.Counting.{counted}
 use Rattle.long_names.specs.Names.{LAST_NAME}
 use Rattle.long_names.specs.declared.value.Value.{Value}
-use Rattle.long_names.specs.declared.value.Value.TheVariants.{Int, Ref}
 use Rattle.long_names.specs.declared.object.Object.{Object}
-use Rattle.long_names.specs.Objects.{int_of, Making, body_made, body_words}
+use Rattle.long_names.specs.Objects.{Making, body_made, body_words}
 use Rattle.long_names.specs.Heap.{Heap, add_object}
-use Rattle.long_names.specs.State.{IsRef, name_at, set_slot}
-use Rattle.long_names.specs.Need.{words_named}
+use Rattle.long_names.specs.State.{name_at, set_slot}
 use Rattle.long_names.specs.Access.{Access, Make, Answer, Nothing, slots_after}
 use Rattle.long_names.specs.Access as accesses
 use Rattle.long_names.specs.Thin.{IsThinner}
@@ -31,7 +29,7 @@ use Rattle.bounded_memory.specs.Bounded.{bounded_told, faulted, need_at, need_wi
 use Rattle.bounded_memory.proofs.SizeLaws.{words-at}
 use Rattle.bounded_memory.proofs.BoundedLaws.{err-is, need-with}
 use Rattle.bounded_memory.proofs.HeapLaws.{pinned-after, pinned-same, size-add, size-later}
-use Rattle.bounded_memory.proofs.CallLaws.{ready-over, ready-under, may-under, same-bounds, raised-same, answered-over, forwarded, never-refused, core-full, making-refused, work-faulted, leaves}
+use Rattle.bounded_memory.proofs.CallLaws.{ready-under, may-under, same-bounds, raised-same, answered-over, forwarded, never-refused, core-full, making-refused, work-faulted, leaves}
 
 -- the memory below may be asked what the whole one may, while both tell the same
 pub ready-below : (o m : BoundedMemory) → bounded_told m ≡ bounded_told o → IsReady (bounded_told o) → IsReady (plain_told m.memory)

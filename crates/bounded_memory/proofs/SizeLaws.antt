@@ -1,13 +1,11 @@
 -- Sizes of objects.
-use Rattle.std.proofs.Common.{◌≡◌, ℕ, ℤ, pos, negsuc, ◌+◌, ◌*◌, ◌/◌, ◌<◌, ◌≤◌, Bool, true, false, cond, eqb, List, [], ◌∷◌, ◌++◌, length, take, drop, Option, Some, None, IsTrue, refl, sym, ◌∙◌, ap, ap₂, subst, arith}
-use Rattle.std.proofs.lemmas.Grind.{common_steps}
+use Rattle.std.proofs.Common.{◌≡◌, ℕ, ℤ, pos, negsuc, ◌+◌, ◌/◌, length, Option, Some, IsTrue, refl, sym, ◌∙◌, ap, ap₂, subst, arith}
 use Rattle.std.proofs.lemmas.Int.{to_z-of_z}
 use Rattle.std.proofs.lemmas.List.{length-replicate}
 use mir.Val.{SFits, of_z, to_z}
 use mir.Syntax.{w16}
 use Rattle.long_names.specs.Words.{IsSmallInteger, literal_count}
 use Rattle.std.specs.Option.{option_map_or, option_and_then}
-use Rattle.std.specs.List.{slice_set}
 use Rattle.long_names.specs.declared.value.Value.{Value}
 use Rattle.long_names.specs.declared.value.Value.TheVariants.{Int, Ref}
 use Rattle.long_names.specs.declared.object.Kind.{Kind}
@@ -17,7 +15,7 @@ use Rattle.long_names.specs.declared.object.Body.TheVariants.{Pointers, Words, B
 use Rattle.long_names.specs.declared.object.Object.{Object}
 use Rattle.long_names.specs.Objects.{kind_of, len_of, fields_of, body_words, header_of, body_made, OfPointers, OfWords, OfBytes, OfMethod}
 use Rattle.long_names.specs.Names.{NIL}
-use Rattle.long_names.specs.Heap.{Heap, Has}
+use Rattle.long_names.specs.Heap.{Heap}
 use Rattle.long_names.specs.Need.{words_at, entries_at}
 use Rattle.long_names.specs.State.{IsRef, name_at, object_at, part_at}
 use Rattle.long_names.specs.Access.{KindOf, Length, Header, OfKind, OfNumber, answer_of}

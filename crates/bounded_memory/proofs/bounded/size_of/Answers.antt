@@ -1,11 +1,10 @@
-use Rattle.std.proofs.Common.{◌≡◌, ℕ, refl, sym, ap, ◌∙◌, subst, Some, length, Option}
+use Rattle.std.proofs.Common.{refl, sym, ap, ◌∙◌, subst}
 use Rattle.long_names.specs.Access.{Length, Header}
-use Rattle.long_names.specs.State.{IsRef}
-use Rattle.object_memory.specs.Told.{Told, IsReady}
+use Rattle.object_memory.specs.Told.{Told}
 use Rattle.object_memory.specs.Contract.{MayDo}
 use Rattle.object_memory.specs.Plain.{plain_told}
 use Rattle.bounded_memory.specs.Sizes.{words_for, entries_for}
-use Rattle.bounded_memory.proofs.SizeLaws.{Asked, asked, asked-words, asked-entries, literals-are, literals-is, may-kind, may-len, may-header}
+use Rattle.bounded_memory.proofs.SizeLaws.{asked, asked-words, asked-entries, literals-are, literals-is, may-kind, may-len, may-header}
 use Rattle.bounded_memory.proofs.bounded.size_of.Goals as goal
 
 pub kind-requires-clause-may : goal.kind-requires-clause-may

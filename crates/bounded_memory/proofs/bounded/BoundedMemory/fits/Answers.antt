@@ -1,10 +1,7 @@
-use Rattle.std.proofs.Common.{◌≡◌, ℕ, sym, ap, ◌∙◌, subst}
-use Rattle.long_names.specs.Need.{words_at, entries_at}
+use Rattle.std.proofs.Common.{◌≡◌, sym, ap, ◌∙◌, subst}
 use Rattle.long_names.specs.State.{IsRef, name_at}
 use Rattle.object_memory.specs.Told.{Told}
-use Rattle.object_memory.specs.Plain.{plain_told}
 use Rattle.object_memory.specs.declared.fault.Need.{Need}
-use Rattle.object_memory.specs.declared.fault.MemFault.{MemFault}
 use Rattle.bounded_memory.specs.declared.bounded.BoundedMemory.{BoundedMemory}
 use Rattle.bounded_memory.specs.Bounded.{bounded_told, ArePinned, IsSound, HasRoom, IsFull, need_at}
 use Rattle.bounded_memory.proofs.BoundedLaws.{need-at, if-err}

@@ -1,4 +1,4 @@
-use Rattle.std.proofs.Common.{◌≡◌, ℕ, Option, None, sym, subst}
+use Rattle.std.proofs.Common.{ℕ, Option, None, sym, subst}
 use Rattle.object_memory.specs.Plain.{plain_told}
 use Rattle.bounded_memory.specs.declared.pins.Pin.{Pin}
 use Rattle.bounded_memory.specs.Pins.{pin_at}
