@@ -1,4 +1,8 @@
-//! A memory that refuses whenever the contract of an object memory lets it.
+//! A memory with bounds, over one that is one map: a test double that refuses whenever it may.
+//!
+//! Each access to an object is refused where what it needs has no room in the core, with its exact need; each making where the
+//! names are spent, else where no object more may live, else where the core has no room. Want of memory is told as a fault of Work.
+//! What it tells is `bounded_told` of `specs/Bounded.antt`, what it keeps is `IsSound`. Its method cache has no rows.
 #![tactic(auto)]
 
 mod bounded;
