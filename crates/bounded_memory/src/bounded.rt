@@ -86,9 +86,9 @@ impl BoundedMemory {
         }
     }
 
-    /// The memory below. What it tells is what this one told, without bounds.
+    /// The memory below. It tells the same, but for refusals and bounds.
     pub fn into_plain(self) -> PlainMemory
-        ensures told { over (plain_told result) (bounded_told self).refusals (bounded_told self).last (bounds_of self.limits) ≡ bounded_told self }
+        ensures told { plain_told result ≡ record (bounded_told self) { refusals = (plain_told result).refusals; last = (plain_told result).last; bounds = None } }
         ensures ready { IsReady (bounded_told self) → IsReady (plain_told result) }
     {
         self.memory
