@@ -1,5 +1,10 @@
+pub mod Callers
 pub mod Entries
+pub mod LaterLaws
+pub mod LooksLaws
 pub mod MapLaws
 pub mod PlainLaws
 pub mod RecordLaws
+pub mod RefusedLaws
+pub mod ShapeLaws
 pub mod SweepLaws

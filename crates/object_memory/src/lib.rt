@@ -5,6 +5,7 @@ mod fault;
 mod memory;
 mod plain;
 mod reg;
+pub mod shape;
 
 pub use fault::{MemFault, Need};
 pub use memory::ObjectMemory;

@@ -433,6 +433,5 @@ impl ObjectMemory for PlainMemory {
         ensures follows { Follows (plain_told self.old) (plain_told self.new) Thins }
         ensures ready { IsReady (plain_told self.new) }
         ensures kept { plain_told self.new ≡ plain_told self.old }
-    {
-    }
+    {}
 }
