@@ -1,6 +1,8 @@
+mod BaseLaws
 pub mod Callers
 pub mod Entries
 pub mod LaterLaws
+pub mod LeftLaws
 pub mod LooksLaws
 pub mod MapLaws
 pub mod PlainLaws
