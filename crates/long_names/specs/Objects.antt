@@ -102,6 +102,20 @@ header_of (Method header literals code) = Some header
 abbrev pub field_of : Body → ℕ → Option Value
 field_of body i = slice_get (fields_of body) i
 
+-- the values of an object of pointers alone
+abbrev pub pointers_of : Body → Option (List Value)
+pointers_of (Pointers values) = Some values
+pointers_of (Words words) = None
+pointers_of (Bytes bytes) = None
+pointers_of (Method header literals code) = None
+
+-- the literals of a method alone
+abbrev pub literals_of : Body → Option (List Value)
+literals_of (Pointers values) = None
+literals_of (Words words) = None
+literals_of (Bytes bytes) = None
+literals_of (Method header literals code) = Some literals
+
 abbrev pub words_of : Body → Option (List ℕ)
 words_of (Pointers values) = None
 words_of (Words words) = Some words

@@ -1,6 +1,13 @@
+mod BaseLaws
+pub mod Callers
 pub mod CountDownLaws
 pub mod Entries
+pub mod LaterLaws
+pub mod LeftLaws
+pub mod LooksLaws
 pub mod MapLaws
 pub mod PlainLaws
 pub mod RecordLaws
+pub mod RefusedLaws
+pub mod ShapeLaws
 pub mod WordLaws

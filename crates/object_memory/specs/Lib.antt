@@ -6,4 +6,4 @@ pub mod Counts
 pub mod Worklist
 pub mod Records
 pub mod Shape
-pub mod Base
+pub mod tests

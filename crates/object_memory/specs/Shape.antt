@@ -1,10 +1,133 @@
--- What a caller knows of the object that a register names.
-use Rattle.std.specs.Prelude.{◌≡◌, ℕ, Some, IsTrue}
+-- What a caller knows of the object that a register names, and what reads leave.
+use Rattle.std.specs.Prelude.{◌≡◌, ◌↔◌, ℕ, ◌==◌, Bool, true, false, List, [], ◌∷◌, length, Option, Some, None, Result, IsTrue, IsSome, OnOk, OnErr}
+use Rattle.std.specs.Option.{option_map, option_map_or}
+use Rattle.std.specs.List.{list_any}
 use Rattle.long_names.specs.declared.object.Kind.{Kind}
-use Rattle.long_names.specs.Objects.{kind_of, len_of}
-use Rattle.long_names.specs.State.{HasPart}
+use Rattle.long_names.specs.declared.object.Kind.TheVariants as kind
+use Rattle.long_names.specs.declared.object.Body.{Body}
+use Rattle.long_names.specs.Objects.{kind_of, len_of, pointers_of, literals_of, words_of, bytes_of}
+use Rattle.long_names.specs.Thin.{IsThinner}
+use Rattle.long_names.specs.State.{IsRef, part_at, HasPart}
+use Rattle.long_names.specs.Access.{Access, KindOf, Length, Header, Word, Byte, ReadWords, ReadBytes, SetField, SetWord, SetByte, WriteWords, Make, Pin, Mark, Say, filled_by}
 use Rattle.object_memory.specs.Told.{Told}
+use Rattle.object_memory.specs.Contract.{Does, IsLater, LeavesCache, Raised, Called, IfBounds, HasCore}
+use Rattle.object_memory.specs.declared.fault.MemFault.{MemFault}
 
--- the register names an object of this kind and length, where the heap is told
-abbrev pub HasShape : Told → ℕ → Kind → ℕ → Type 0
-HasShape t r kind len = IsTrue t.tells → HasPart t.heap (t.regs r) (λ b. Some (kind_of b)) (λ k. k ≡ kind) × HasPart t.heap (t.regs r) (λ b. Some (len_of b)) (λ n. n ≡ len)
+-- ---- parts of a body
+
+-- its kind and its length
+abbrev pub shape_of : Body → Option (Kind × ℕ)
+shape_of body = Some (kind_of body, len_of body)
+
+-- how many values an object of pointers has, words an object of words, bytes an object of bytes or a method's code, literals a method
+abbrev pub field_count : Body → Option ℕ
+field_count body = option_map length (pointers_of body)
+
+abbrev pub word_count : Body → Option ℕ
+word_count body = option_map length (words_of body)
+
+abbrev pub byte_count : Body → Option ℕ
+byte_count body = option_map length (bytes_of body)
+
+abbrev pub literals_count : Body → Option ℕ
+literals_count body = option_map length (literals_of body)
+
+-- these numbers by kind and length
+abbrev pub fields_by : Kind → ℕ → Option ℕ
+fields_by kind.Pointers len = Some len
+fields_by kind.Words len = None
+fields_by kind.Bytes len = None
+fields_by kind.Method len = None
+
+abbrev pub words_by : Kind → ℕ → Option ℕ
+words_by kind.Pointers len = None
+words_by kind.Words len = Some len
+words_by kind.Bytes len = None
+words_by kind.Method len = None
+
+abbrev pub bytes_by : Kind → ℕ → Option ℕ
+bytes_by kind.Pointers len = None
+bytes_by kind.Words len = None
+bytes_by kind.Bytes len = Some len
+bytes_by kind.Method len = Some len
+
+-- ---- the object that a register names
+
+-- The register holds a name, and where the heap is told, its object has this part, of which P holds.
+pub record HasPartAt {A : Type 0} (t : Told) (r : ℕ) (part : Body → Option A) (P : A → Type 0) : Type 0 where
+  pub name : IsRef (t.regs r)
+  pub there : IsTrue t.tells → HasPart t.heap (t.regs r) part P
+
+-- What was found is this part of the object, where the heap is told. Wherever some part was found, the register holds a name.
+pub record IsPartAt {A : Type 0} (t : Told) (r : ℕ) (part : Body → Option A) (found : Option A) : Type 0 where
+  pub name : IsSome found → IsRef (t.regs r)
+  pub there : IsTrue t.tells → part_at t.heap (t.regs r) part ≡ found
+
+-- The answer is true exactly where the object has this part, of which P holds, where the heap is told. Wherever it is true, the
+-- register holds a name.
+pub record IsTestAt {A : Type 0} (t : Told) (r : ℕ) (part : Body → Option A) (P : A → Type 0) (answer : Bool) : Type 0 where
+  pub name : IsTrue answer → IsRef (t.regs r)
+  pub there : IsTrue t.tells → IsTrue answer ↔ HasPart t.heap (t.regs r) part P
+
+-- a call found this part of the object: it was there before the call, and is there after it
+pub record FindsPart {A : Type 0} (old new : Told) (r : ℕ) (part : Body → Option A) (found : Option A) : Type 0 where
+  pub before : IsPartAt old r part found
+  pub after : IsPartAt new r part found
+
+-- a call tested whether the object has this part, before the call and after it
+pub record TestsPart {A : Type 0} (old new : Told) (r : ℕ) (part : Body → Option A) (P : A → Type 0) (answer : Bool) : Type 0 where
+  pub before : IsTestAt old r part P answer
+  pub after : IsTestAt new r part P answer
+
+-- ---- reads
+
+-- the register is one of these
+abbrev pub is_among : List ℕ → ℕ → Bool
+is_among filled r = list_any (λ k. r == k) filled
+
+-- What reads leave, put together, where they brought values into these registers and none else: all other registers, the slots and the
+-- transcript are as before, the heap is thinner, the cache is kept or emptied, nothing was made and nothing refused.
+pub record Looks (filled : List ℕ) (old new : Told) : Type 0 where
+  pub later : IsLater old new
+  pub regs : (r : ℕ) → is_among filled r ≡ false → new.regs r ≡ old.regs r
+  pub slots : new.slots ≡ old.slots
+  pub transcript : IsTrue old.speaks → new.transcript ≡ old.transcript
+  pub heap : IsTrue old.tells → IsThinner old.heap new.heap
+  pub cache : LeavesCache None None old.cache old.cache new.cache
+  pub counts : Raised 0 old.bounds new.bounds
+  pub refusals : new.refusals ≡ old.refusals
+  pub last : new.last ≡ old.last
+
+-- What calls come to that read the object in a register and nothing else: put together, they are one call that asks for its kind. They
+-- are refused only where the register holds a name.
+pub record ReadsObject {A : Type 0} (old new : Told) (of : ℕ) (result : Result A MemFault) : Type 0 where
+  pub called : Called old new (Does (KindOf of)) result
+  pub core : OnOk result (IfBounds old.bounds (HasCore old (KindOf of)))
+  pub named : OnErr result (IsRef (old.regs of))
+
+-- whether an access stores, makes, pins, marks and says nothing
+abbrev pub only_looks : Access → Bool
+only_looks (SetField of i from) = false
+only_looks (SetWord of i word) = false
+only_looks (SetByte of i byte) = false
+only_looks (WriteWords of at run) = false
+only_looks (Make to class what) = false
+only_looks (Pin slot of) = false
+only_looks (Mark of) = false
+only_looks (Say of) = false
+only_looks _ = true
+
+-- the registers that it fills
+abbrev pub registers_of : Access → List ℕ
+registers_of a = option_map_or (λ to. to ∷ []) (filled_by a) []
+
+-- the register whose object it reads, where it fills no register and changes nothing
+abbrev pub only_reads : Access → Option ℕ
+only_reads (KindOf of) = Some of
+only_reads (Length of) = Some of
+only_reads (Header of) = Some of
+only_reads (Word of i) = Some of
+only_reads (Byte of i) = Some of
+only_reads (ReadWords of at count) = Some of
+only_reads (ReadBytes of at count) = Some of
+only_reads _ = None

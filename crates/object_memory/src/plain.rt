@@ -414,6 +414,7 @@ impl ObjectMemory for PlainMemory {
         ensures answered { IsOk result }
         ensures kept { plain_told self.new ≡ plain_told self.old }
     {
+        // Nothing is freed, and no making is counted.
         Ok(())
     }
 
@@ -433,6 +434,5 @@ impl ObjectMemory for PlainMemory {
         ensures follows { Follows (plain_told self.old) (plain_told self.new) Thins }
         ensures ready { IsReady (plain_told self.new) }
         ensures kept { plain_told self.new ≡ plain_told self.old }
-    {
-    }
+    {}
 }

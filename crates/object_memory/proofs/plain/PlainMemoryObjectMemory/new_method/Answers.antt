@@ -1,6 +1,5 @@
 use Rattle.std.proofs.Common.{w16, refl}
 use Rattle.std.proofs.Math.Facts.{to_z-of_z}
-
 use Rattle.long_names.specs.Objects.{OfMethod}
 use Rattle.long_names.specs.State.{name_at}
 use Rattle.object_memory.specs.Plain.{plain_told}
