@@ -1,7 +1,7 @@
 // The bytes of Image as they come.
-ghost use Rattle.std.specs.Prelude.{◌≡◌, ◌+◌, ◌-◌, ◌^◌, ◌≤◌, ◌<◌, ◌++◌, ◌==◌, [], IsTrue, OnOk, IfErr, Err, false, length, take, drop, min};
+ghost use Rattle.std.specs.Prelude.{◌≡◌, ◌+◌, ◌-◌, ◌≤◌, ◌<◌, ◌++◌, ◌==◌, [], ◌∷◌, IsTrue, OnOk, IfErr, Err, false, length, drop};
 ghost use Rattle.long_names.specs.Counting.{Rose};
-ghost use Rattle.loom_outside.specs.Outside.{SameBut, HasCause};
+ghost use Rattle.loom_run.specs.Meanings.{meanings, LeavesBut};
 ghost use Rattle.loom_run.specs.Window.{Ahead, EndsTruly, OnlyRead, unused};
 
 use crate::load::LoadFault;
@@ -96,10 +96,7 @@ impl Window {
         ensures ends { IsTrue (H.tells Role.Image) → OnOk result (EndsTruly self.new (H.roles host.new Role.Image)) }
         ensures more { OnOk result (self.new.ended ≡ false → length self.new.bytes ≡ length self.old.bytes + PIECE) }
         ensures image { IsTrue (H.tells Role.Image) → OnlyRead (H.roles host.old Role.Image) (H.roles host.new Role.Image) }
-        ensures others { SameBut Role.Image (H.roles host.old) (H.roles host.new) }
-        ensures other_faults { SameBut Role.Image (H.faults host.old) (H.faults host.new) }
-        ensures writes { H.writes host.new ≡ H.writes host.old }
-        ensures later { H.faults host.old Role.Image ≤ H.faults host.new Role.Image }
+        ensures others { LeavesBut (Role.Image ∷ []) (meanings H.Host host.old) (meanings H.Host host.new) }
         ensures fault { IfErr result (λ f. f ≡ LoadFault.Bad → ⊥) }
         ensures read { result ≡ Err LoadFault.Read → Rose (H.faults host.old Role.Image) (H.faults host.new Role.Image) }
     {
@@ -118,10 +115,7 @@ impl Window {
         ensures ends { IsTrue (H.tells Role.Image) → OnOk result (EndsTruly self.new (H.roles host.new Role.Image)) }
         ensures enough { OnOk result (self.new.ended ≡ false → MAX_RECORD ≤ length self.new.bytes) }
         ensures image { IsTrue (H.tells Role.Image) → OnlyRead (H.roles host.old Role.Image) (H.roles host.new Role.Image) }
-        ensures others { SameBut Role.Image (H.roles host.old) (H.roles host.new) }
-        ensures other_faults { SameBut Role.Image (H.faults host.old) (H.faults host.new) }
-        ensures writes { H.writes host.new ≡ H.writes host.old }
-        ensures later { H.faults host.old Role.Image ≤ H.faults host.new Role.Image }
+        ensures others { LeavesBut (Role.Image ∷ []) (meanings H.Host host.old) (meanings H.Host host.new) }
         ensures fault { IfErr result (λ f. f ≡ LoadFault.Bad → ⊥) }
         ensures read { result ≡ Err LoadFault.Read → Rose (H.faults host.old Role.Image) (H.faults host.new Role.Image) }
     {
