@@ -1,8 +1,7 @@
 // Reading an image.
-ghost use Rattle.std.specs.Prelude.{◌≡◌, ◌+◌, ◌-◌, ◌%◌, ◌^◌, ◌<◌, ◌≤◌, ◌≢◌, ◌↔◌, ◌++◌, ◌&&◌, ℕ, List, [], IsTrue, OnOk, OnErr, IfSome, IfNone, IfErr, IfOk, Err, false, length, take, drop, min};
+ghost use Rattle.std.specs.Prelude.{◌≡◌, ◌+◌, ◌-◌, ◌%◌, ◌<◌, ◌≤◌, ◌≢◌, ◌↔◌, ◌++◌, ◌&&◌, ℕ, List, [], ◌∷◌, IsTrue, OnOk, OnErr, IfSome, IfNone, IfErr, IfOk, Err, false, length, take, drop};
 ghost use Rattle.std.specs.Ordering.{nat_cmp};
 ghost use Rattle.std.specs.BTreeMap.{IsOrdered};
-ghost use Rattle.loom_outside.specs.Outside.{SameBut};
 ghost use Rattle.long_names.specs.declared.object.Rec.{Rec as Spelled};
 ghost use Rattle.image_format.specs.Record.{four_bytes, record_text, IsRecord};
 ghost use Rattle.image_format.specs.Text.{records_below, image_text};
@@ -12,6 +11,8 @@ ghost use Rattle.loom_run.specs.Counts.{count_in};
 ghost use Rattle.loom_run.specs.Load.{head_text, IsHead, AreBelow, IsComplete, have_objects, have_counts, have_known, records_text};
 ghost use Rattle.loom_run.specs.Map.{heap_of, entries_of};
 ghost use Rattle.loom_run.specs.Faults.{fault_of};
+ghost use Rattle.loom_run.specs.Meanings.{meanings, LeavesBut};
+ghost use Rattle.loom_run.specs.Top.{Rose};
 ghost use Rattle.loom_run.specs.Window.{EndsTruly, OnlyRead, unused};
 ghost use Rattle.loom_run.specs.declared.load.LoadFault.TheVariants.{Read, Memory};
 
@@ -219,11 +220,8 @@ fn read_objects<H: Host>(
     ensures next { (heap_of map.new).next ≡ (heap_of map.old).next }
     ensures bad { IsTrue (H.tells Role.Image) → result ≡ Err LoadFault.Bad → (h : Heap) → IsImageHeap h → h.next ≡ (heap_of map.old).next → length (entries_of map.old) + count ≤ object_count h → records_text (count_in stated.old) (entries_of map.old) ++ unused window.old (H.roles host.old Role.Image) ≢ records_below h h.next }
     ensures image { IsTrue (H.tells Role.Image) → OnlyRead (H.roles host.old Role.Image) (H.roles host.new Role.Image) }
-    ensures others { SameBut Role.Image (H.roles host.old) (H.roles host.new) }
-    ensures other_faults { SameBut Role.Image (H.faults host.old) (H.faults host.new) }
-    ensures writes { H.writes host.new ≡ H.writes host.old }
-    ensures later { H.faults host.old Role.Image ≤ H.faults host.new Role.Image }
-    ensures read { result ≡ Err LoadFault.Read → min (H.faults host.old Role.Image + 1) (2 ^ 64 - 1) ≤ H.faults host.new Role.Image }
+    ensures others { LeavesBut (Role.Image ∷ []) (meanings H.Host host.old) (meanings H.Host host.new) }
+    ensures read { result ≡ Err LoadFault.Read → Rose (H.faults host.old Role.Image) (H.faults host.new Role.Image) }
 {
     'records: for _ in 0..count {
         window.fill(host)?;
@@ -238,11 +236,8 @@ pub fn load<H: Host>(alloc: Global, host: &mut H) -> Result<ObjectMap, LoadFault
     ensures end { IsTrue (H.tells Role.Image) → OnOk result ((H.roles host.new Role.Image).left ≡ []) }
     ensures bad { IsTrue (H.tells Role.Image) → result ≡ Err LoadFault.Bad → IsValid (H.roles host.old Role.Image).left → ⊥ }
     ensures image { IsTrue (H.tells Role.Image) → OnlyRead (H.roles host.old Role.Image) (H.roles host.new Role.Image) }
-    ensures others { SameBut Role.Image (H.roles host.old) (H.roles host.new) }
-    ensures other_faults { SameBut Role.Image (H.faults host.old) (H.faults host.new) }
-    ensures writes { H.writes host.new ≡ H.writes host.old }
-    ensures later { H.faults host.old Role.Image ≤ H.faults host.new Role.Image }
-    ensures read { result ≡ Err LoadFault.Read → min (H.faults host.old Role.Image + 1) (2 ^ 64 - 1) ≤ H.faults host.new Role.Image }
+    ensures others { LeavesBut (Role.Image ∷ []) (meanings H.Host host.old) (meanings H.Host host.new) }
+    ensures read { result ≡ Err LoadFault.Read → Rose (H.faults host.old Role.Image) (H.faults host.new Role.Image) }
 {
     let mut window = Window::new(alloc);
     window.fill(host)?;

@@ -19,7 +19,12 @@ use long_names::{Name, Object, Rec};
 use loom_outside::{Failed, Host, Role, write_full};
 
 /// Gathers the head: `LOOM`, version 1, the number of objects, and the next name.
-fn emit_head<H: Host>(host: &mut H, piece: &mut Piece, count: u32, next: u32) -> Result<(), Failed>
+fn emit_image_head<H: Host>(
+    host: &mut H,
+    piece: &mut Piece,
+    count: u32,
+    next: u32,
+) -> Result<(), Failed>
     ensures { Emits (H.tells Role.Saved) (meanings H.Host host.old) (meanings H.Host host.new)
         piece.old.items (head_text count next) piece.new.items result }
 {
@@ -78,7 +83,7 @@ pub fn save<H: Host>(host: &mut H, map: ObjectMap, counts: &Counts) -> Result<()
     ensures others { LeavesBut (Role.Saved ∷ []) (meanings H.Host host.old) (meanings H.Host host.new) }
 {
     let mut piece = Piece::new();
-    emit_head(host, &mut piece, map.len() as u32, map.next())?;
+    emit_image_head(host, &mut piece, map.len() as u32, map.next())?;
     emit_objects(host, &mut piece, map, counts)?;
     write_full(host, Role::Saved, piece.as_slice())
 }

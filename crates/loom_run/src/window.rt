@@ -1,6 +1,7 @@
 // The bytes of Image as they come.
-ghost use Rattle.std.specs.Prelude.{◌≡◌, ◌+◌, ◌-◌, ◌^◌, ◌≤◌, ◌<◌, ◌++◌, ◌==◌, [], IsTrue, OnOk, IfErr, Err, false, length, take, drop, min};
-ghost use Rattle.loom_outside.specs.Outside.{SameBut, HasCause};
+ghost use Rattle.std.specs.Prelude.{◌≡◌, ◌+◌, ◌-◌, ◌≤◌, ◌<◌, ◌++◌, ◌==◌, [], ◌∷◌, IsTrue, OnOk, IfErr, Err, false, length, drop};
+ghost use Rattle.loom_run.specs.Meanings.{meanings, LeavesBut};
+ghost use Rattle.loom_run.specs.Top.{Rose};
 ghost use Rattle.loom_run.specs.Window.{Ahead, EndsTruly, OnlyRead, unused};
 
 use crate::load::LoadFault;
@@ -95,12 +96,9 @@ impl Window {
         ensures ends { IsTrue (H.tells Role.Image) → OnOk result (EndsTruly self.new (H.roles host.new Role.Image)) }
         ensures more { OnOk result (self.new.ended ≡ false → length self.new.bytes ≡ length self.old.bytes + PIECE) }
         ensures image { IsTrue (H.tells Role.Image) → OnlyRead (H.roles host.old Role.Image) (H.roles host.new Role.Image) }
-        ensures others { SameBut Role.Image (H.roles host.old) (H.roles host.new) }
-        ensures other_faults { SameBut Role.Image (H.faults host.old) (H.faults host.new) }
-        ensures writes { H.writes host.new ≡ H.writes host.old }
-        ensures later { H.faults host.old Role.Image ≤ H.faults host.new Role.Image }
+        ensures others { LeavesBut (Role.Image ∷ []) (meanings H.Host host.old) (meanings H.Host host.new) }
         ensures fault { IfErr result (λ f. f ≡ LoadFault.Bad → ⊥) }
-        ensures read { result ≡ Err LoadFault.Read → min (H.faults host.old Role.Image + 1) (2 ^ 64 - 1) ≤ H.faults host.new Role.Image }
+        ensures read { result ≡ Err LoadFault.Read → Rose (H.faults host.old Role.Image) (H.faults host.new Role.Image) }
     {
         let mut piece = [0; PIECE];
         let count = read_full(host, Role::Image, &mut piece)?;
@@ -117,12 +115,9 @@ impl Window {
         ensures ends { IsTrue (H.tells Role.Image) → OnOk result (EndsTruly self.new (H.roles host.new Role.Image)) }
         ensures enough { OnOk result (self.new.ended ≡ false → MAX_RECORD ≤ length self.new.bytes) }
         ensures image { IsTrue (H.tells Role.Image) → OnlyRead (H.roles host.old Role.Image) (H.roles host.new Role.Image) }
-        ensures others { SameBut Role.Image (H.roles host.old) (H.roles host.new) }
-        ensures other_faults { SameBut Role.Image (H.faults host.old) (H.faults host.new) }
-        ensures writes { H.writes host.new ≡ H.writes host.old }
-        ensures later { H.faults host.old Role.Image ≤ H.faults host.new Role.Image }
+        ensures others { LeavesBut (Role.Image ∷ []) (meanings H.Host host.old) (meanings H.Host host.new) }
         ensures fault { IfErr result (λ f. f ≡ LoadFault.Bad → ⊥) }
-        ensures read { result ≡ Err LoadFault.Read → min (H.faults host.old Role.Image + 1) (2 ^ 64 - 1) ≤ H.faults host.new Role.Image }
+        ensures read { result ≡ Err LoadFault.Read → Rose (H.faults host.old Role.Image) (H.faults host.new Role.Image) }
     {
         while !self.ended && self.bytes.len() - self.at < MAX_RECORD {
             self.read_piece(host)?;

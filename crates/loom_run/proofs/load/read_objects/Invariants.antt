@@ -1,7 +1,7 @@
-use Rattle.std.proofs.Common.{◌≡◌, ◌≤◌, ◌+◌, ◌++◌, IsTrue, length}
-use Rattle.loom_outside.specs.Outside.{SameBut}
+use Rattle.std.proofs.Common.{◌≡◌, [], ◌∷◌, ◌+◌, ◌++◌, IsTrue, length}
 use Rattle.loom_outside.specs.declared.outside.Role.TheVariants.{Image}
 use Rattle.loom_run.specs.Map.{heap_of, entries_of}
+use Rattle.loom_run.specs.Meanings.{meanings, LeavesBut}
 use Rattle.loom_run.specs.Window.{EndsTruly, OnlyRead, unused}
 use Rattle.loom_run.specs.Counts.{count_in}
 use Rattle.loom_run.specs.Load.{records_text}
@@ -14,8 +14,5 @@ invariant-records g l = record {
   ends : IsTrue (g.H.Host.tells Image) → EndsTruly l.window (g.H.Host.roles l.host Image);
   next : (heap_of l.map).next ≡ (heap_of l.initial.map).next;
   image : IsTrue (g.H.Host.tells Image) → OnlyRead (g.H.Host.roles l.initial.host Image) (g.H.Host.roles l.host Image);
-  others : SameBut Image (g.H.Host.roles l.initial.host) (g.H.Host.roles l.host);
-  other_faults : SameBut Image (g.H.Host.faults l.initial.host) (g.H.Host.faults l.host);
-  writes : g.H.Host.writes l.host ≡ g.H.Host.writes l.initial.host;
-  later : g.H.Host.faults l.initial.host Image ≤ g.H.Host.faults l.host Image;
+  others : LeavesBut (Image ∷ []) (meanings g.H.Host l.initial.host) (meanings g.H.Host l.host);
 }

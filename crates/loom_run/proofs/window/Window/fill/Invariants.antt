@@ -1,6 +1,6 @@
-use Rattle.std.proofs.Common.{◌≡◌, ◌+◌, ◌-◌, ◌≤◌, IsTrue, length, cond}
-use Rattle.loom_outside.specs.Outside.{SameBut}
+use Rattle.std.proofs.Common.{◌≡◌, [], ◌∷◌, ◌+◌, ◌-◌, IsTrue, length, cond}
 use Rattle.loom_outside.specs.declared.outside.Role.TheVariants.{Image}
+use Rattle.loom_run.specs.Meanings.{meanings, LeavesBut}
 use Rattle.loom_run.specs.Window.{EndsTruly, OnlyRead, unused}
 use Rattle.loom_run.proofs.window.Window.fill.Given as goal
 
@@ -9,10 +9,7 @@ invariant-loop-self g l = record {
   rest : IsTrue (g.H.Host.tells Image) → unused l.self (g.H.Host.roles l.host Image) ≡ unused l.initial.self (g.H.Host.roles l.initial.host Image);
   ends : IsTrue (g.H.Host.tells Image) → EndsTruly l.self (g.H.Host.roles l.host Image);
   image : IsTrue (g.H.Host.tells Image) → OnlyRead (g.H.Host.roles l.initial.host Image) (g.H.Host.roles l.host Image);
-  others : SameBut Image (g.H.Host.roles l.initial.host) (g.H.Host.roles l.host);
-  other_faults : SameBut Image (g.H.Host.faults l.initial.host) (g.H.Host.faults l.host);
-  writes : g.H.Host.writes l.host ≡ g.H.Host.writes l.initial.host;
-  later : g.H.Host.faults l.initial.host Image ≤ g.H.Host.faults l.host Image;
+  others : LeavesBut (Image ∷ []) (meanings g.H.Host l.initial.host) (meanings g.H.Host l.host);
 }
 
 abbrev pub decreases-loop-self : goal.decreases-loop-self

@@ -1,7 +1,7 @@
 use Rattle.std.proofs.Common.{◌++◌, codes}
 use Rattle.image_format.specs.Record.{four_bytes}
 use Rattle.loom_run.proofs.SaveLaws.{emits-both, emits-cut}
-use Rattle.loom_run.proofs.save.emit_head.Goals as goal
+use Rattle.loom_run.proofs.save.emit_image_head.Goals as goal
 
 pub returns-in_err-emit : goal.returns-in_err-emit
 returns-in_err-emit g c = emits-cut {x = codes "LOOM"} (four_bytes 1 ++ (four_bytes c.args.count ++ four_bytes c.args.next)) c.from_residual.ensures.0 c.in_err-emit.ensures
