@@ -1,0 +1,6 @@
+pub mod Numbers
+pub mod Taken
+pub mod Reading
+pub mod Spots
+pub mod Texts
+pub mod Calls

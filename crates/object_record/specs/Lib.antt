@@ -1,0 +1,4 @@
+pub mod Raw
+pub mod Buffer
+pub mod Inside
+pub mod Lending
