@@ -1,6 +1,6 @@
 -- What each call reads and writes, said of the bytes and of the places that the code finds.
 use Rattle.std.proofs.Common.{◌≡◌, ◌≢◌, ℕ, ◌+◌, ◌*◌, ◌^◌, ◌<◌, ◌≤◌, List, [], ◌∷◌, ◌++◌, length, take, drop, replicate, refl, sym, ap, subst, ◌∙◌, arith}
-use Rattle.std.specs.Prelude.{slice_index, Option, Some, None}
+use Rattle.std.specs.Prelude.{slice_index, Some}
 use Rattle.std.proofs.lemmas.List.{take_at, length-append, length-replicate}
 use Rattle.long_names.specs.Objects.{put_run}
 use Rattle.long_names.specs.Record.{two_bytes, four_bytes, eight_bytes, kind_number, padding}
@@ -10,7 +10,7 @@ use Rattle.object_record.specs.Raw.{RawBody, RawPointers, RawWords, RawBytes, Ra
 use Rattle.object_record.specs.Buffer.{long_at, word_at, kind_numbered, raw_of, HasRecord}
 use Rattle.object_record.specs.Inside.{longs_place, bytes_place, size_stated}
 use Rattle.object_record.proofs.Numbers.{wide16, wide32, wide64}
-use Rattle.object_record.proofs.Texts.{Part, length-contents, long-part, word-part, byte-part, header-part, long-range, word-range, byte-range, header-range, long-fits, word-fits, set-part, read-long, read-word, read-byte, part-within, kind-said, size-said, literals-said}
+use Rattle.object_record.proofs.Texts.{length-contents, long-part, word-part, byte-part, header-part, long-range, word-range, byte-range, header-range, long-fits, word-fits, set-part, read-long, read-word, read-byte, part-within, kind-said, size-said, literals-said}
 
 -- ---- places
 

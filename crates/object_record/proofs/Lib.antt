@@ -4,3 +4,5 @@ pub mod Reading
 pub mod Spots
 pub mod Texts
 pub mod Calls
+pub mod Judging
+pub mod Blanks

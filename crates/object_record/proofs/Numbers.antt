@@ -1,11 +1,30 @@
 -- Numbers of two, four and eight bytes: what is read is what was written, both ways.
-use Rattle.std.proofs.Common.{◌≡◌, ℕ, ◌^◌, ◌<◌, List, length, get_or, refl, arith}
+use Rattle.std.proofs.Common.{◌≡◌, ℕ, ◌+◌, ◌^◌, ◌<◌, List, length, take, drop, get_or, refl, arith, inl, inr}
+use Rattle.std.specs.Prelude.{All}
+use Rattle.std.proofs.lemmas.Bool.{cases_lt}
+use Rattle.std.proofs.lemmas.List.{length-take, get_or-drop, get_or-take, get_or_past}
+use Rattle.std.proofs.lemmas.List.Elements.{All-from_get_or}
 use Rattle.std.specs.Int.{Width, w16, w32, w64, byte_len, from_be_bytes}
 use Rattle.std.proofs.lemmas.Nat.{be_bytes_2, be_bytes_4, be_bytes_8, from_be_bytes-to_be_bytes_2, from_be_bytes-to_be_bytes_4, from_be_bytes-to_be_bytes_8}
 use Rattle.long_names.specs.Record.{two_bytes, four_bytes, eight_bytes}
 
 pub record AreBytes (bytes : List ℕ) : Type 0 where
   pub below : (i : ℕ) → get_or bytes i 0 < 256
+
+pub AreBytes-drop : (n : ℕ) (bytes : List ℕ) → AreBytes bytes → AreBytes (drop n bytes)
+AreBytes-drop n bytes h = record { below = λ i. rw get_or-drop (h.below (n + i)) }
+
+pub AreBytes-take : (n : ℕ) (bytes : List ℕ) → AreBytes bytes → AreBytes (take n bytes)
+AreBytes-take n bytes h =
+    record {
+      below = λ i. elim (cases_lt i n) [
+        | inl lt ↦ rw (get_or-take n bytes i 0 lt) (h.below i)
+        | inr le ↦ rw (get_or_past (take n bytes) i 0 (omega (arith, length-take n bytes))) (omega arith)
+      ];
+    }
+
+pub all-bytes : (bytes : List ℕ) → AreBytes bytes → All (λ b. b < 2 ^ 8) bytes
+all-bytes bytes h = All-from_get_or (λ b. b < 2 ^ 8) bytes 0 (λ i lt. omega (arith, h.below i))
 
 pub record IsWide (w : Width) (limit : ℕ) (text : ℕ → List ℕ) : Type 0 where
   pub len : (n : ℕ) → length (text n) ≡ byte_len w

@@ -1,7 +1,7 @@
 -- What the text of a raw record is read as: the raw record, whatever follows.
-use Rattle.std.proofs.Common.{zero, suc, ◌≡◌, ℕ, ◌+◌, ◌*◌, ◌^◌, ◌<◌, ◌≤◌, List, [], ◌∷◌, ◌++◌, length, take, drop, replicate, Option, Some, None, refl, sym, ap, subst, ◌∙◌, append_assoc, arith}
+use Rattle.std.proofs.Common.{suc, ◌≡◌, ℕ, ◌+◌, ◌*◌, ◌^◌, ◌<◌, List, [], ◌∷◌, ◌++◌, length, take, drop, replicate, Option, Some, None, refl, sym, ap, ◌∙◌, append_assoc, arith}
 use Rattle.std.specs.Int.{w16, w32, w64, from_be_bytes}
-use Rattle.std.proofs.lemmas.List.{take_at, drop_at, drop-drop, length-append, length-replicate}
+use Rattle.std.proofs.lemmas.List.{take_at, drop_at, drop-drop, length-append}
 use Rattle.std.proofs.lemmas.List.Elements.{All-head, All-tail}
 use Rattle.std.specs.Prelude.{All}
 use Rattle.long_names.specs.Words.{literal_count, value_of}
@@ -10,7 +10,7 @@ use Rattle.long_names.specs.declared.value.Value.{Value}
 use Rattle.long_names.specs.declared.value.Value.TheVariants.{Int, Ref}
 use Rattle.long_names.specs.declared.object.Kind.{Kind}
 use Rattle.long_names.specs.declared.object.Kind.TheVariants as kind
-use Rattle.object_record.specs.Raw.{RawBody, RawPointers, RawWords, RawBytes, RawMethod, RawRecord, IsRawRecord, HasRawSize, HasRawRange, raw_kind, raw_len, raw_contents, raw_size, raw_end, raw_text, longs_text, stated_by, stated_literals}
+use Rattle.object_record.specs.Raw.{RawBody, RawPointers, RawWords, RawBytes, RawMethod, RawRecord, IsRawRecord, HasRawSize, HasRawRange, raw_kind, raw_len, raw_contents, raw_end, raw_text, longs_text, stated_by, stated_literals}
 use Rattle.object_record.specs.Buffer.{long_at, word_at, count_in, longs_in, words_in, kind_numbered, body_in, raw_of}
 use Rattle.object_record.proofs.Numbers.{wide16, wide32, wide64}
 

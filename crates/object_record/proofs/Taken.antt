@@ -1,5 +1,5 @@
 -- The first elements past a place, one by one.
-use Rattle.std.proofs.Common.{zero, suc, ◌≡◌, ℕ, ◌+◌, ◌<◌, ◌≤◌, List, [], ◌∷◌, length, take, drop, get_or, refl, sym, ◌∙◌, ap, arith, drop-cons}
+use Rattle.std.proofs.Common.{suc, ◌≡◌, ℕ, ◌+◌, ◌<◌, ◌≤◌, List, [], ◌∷◌, length, take, drop, get_or, sym, ◌∙◌, ap, arith, drop-cons}
 
 four-at : (bytes : List ℕ) (a b c d : ℕ) → b ≡ suc a → c ≡ suc b → d ≡ suc c → d < length bytes → take 4 (drop a bytes) ≡ get_or bytes a 0 ∷ get_or bytes b 0 ∷ get_or bytes c 0 ∷ get_or bytes d 0 ∷ []
 four-at bytes a b c d eb ec ed low =

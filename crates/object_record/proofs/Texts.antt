@@ -1,17 +1,17 @@
 -- A part of a record's text, and the text of the same record with another part.
-use Rattle.std.proofs.Common.{◌≡◌, ℕ, ◌+◌, ◌*◌, ◌^◌, ◌<◌, ◌≤◌, List, [], ◌∷◌, ◌++◌, length, take, drop, replicate, refl, sym, ap, subst, ◌∙◌, append_assoc, arith, slice_set}
-use Rattle.std.specs.Prelude.{slice_index, All, Option, Some, None}
-use Rattle.std.proofs.lemmas.List.{take_at, drop_at, length-append, length-set, length-replicate}
+use Rattle.std.proofs.Common.{◌≡◌, ℕ, ◌+◌, ◌*◌, ◌^◌, ◌<◌, ◌≤◌, List, [], ◌∷◌, ◌++◌, length, drop, replicate, refl, sym, ap, subst, ◌∙◌, append_assoc, arith, slice_set}
+use Rattle.std.specs.Prelude.{slice_index, Option, Some}
+use Rattle.std.proofs.lemmas.List.{drop_at, length-append, length-set}
 use Rattle.std.proofs.lemmas.List.Elements.{All-set, All-get_or}
 use Rattle.long_names.specs.Objects.{put_run}
-use Rattle.long_names.specs.Record.{two_bytes, four_bytes, eight_bytes, kind_number, words_text, padding}
+use Rattle.long_names.specs.Record.{two_bytes, four_bytes, eight_bytes, kind_number, padding}
 use Rattle.long_names.specs.declared.object.Kind.{Kind}
 use Rattle.long_names.specs.declared.object.Kind.TheVariants as kind
 use Rattle.object_record.specs.Raw.{RawBody, RawPointers, RawWords, RawBytes, RawMethod, RawRecord, IsRawRecord, HasRawSize, HasRawRange, raw_kind, raw_len, raw_literals, raw_header, longs_of, raw_words, raw_bytes, raw_contents, raw_size, raw_end, raw_text, longs_text, with_raw, body_with_long, body_with_word, body_with_byte, body_with_header, stated_literals}
-use Rattle.object_record.specs.Buffer.{long_at, word_at, kind_numbered, raw_of, HasRecord, Begins}
+use Rattle.object_record.specs.Buffer.{long_at, word_at, kind_numbered, raw_of, HasRecord}
 use Rattle.object_record.specs.Inside.{longs_place, bytes_place}
 use Rattle.object_record.proofs.Numbers.{wide16, wide32, wide64}
-use Rattle.object_record.proofs.Reading.{IsLong, IsWord, headed, laid, after_head, text-laid, raw-again, kind-fits, size-fits, head-kind, head-size, head-rest, kind-again, length-longs, length-words, skip, long-front, few-literals}
+use Rattle.object_record.proofs.Reading.{IsLong, IsWord, headed, laid, after_head, text-laid, raw-again, kind-fits, size-fits, head-kind, head-size, head-rest, kind-again, length-longs, length-words, long-front, few-literals}
 use Rattle.object_record.proofs.Spots.{Spot, under-to, over, longs-spot, words-spot, bytes-spot, put-there, long-there, word-there, byte-there, within}
 
 abbrev IsByte : ℕ → Type 0

@@ -5,8 +5,8 @@ ghost use Rattle.object_record.specs.Raw.{raw_kind, raw_len, raw_literals, raw_h
 ghost use Rattle.object_record.specs.Buffer.{BUFFER, raw_of, HasRecord, Begins};
 
 use crate::layout::{
-    bytes_place, end_of, kind_of, literals_of, long_at, longs_place, padding_of, put, size_of,
-    word_at, zeros,
+    blank_method, blank_plain, bytes_place, end_of, is_laid, kind_of, literals_of, long_at,
+    longs_place, padding_of, put, size_of, word_at, zeros,
 };
 use long_names::{Kind, Name};
 use std::alloc::{AllocError, Global};
@@ -190,5 +190,25 @@ impl RecordBuf {
     {
         let end = end_of(&self.bytes);
         &self.bytes[..end + padding_of(end)]
+    }
+
+    /// Makes the record of an object of zeros: long words, words or bytes that are 0, or a method whose header states its literals and
+    /// nothing else. A number that an object of this kind has not is 0.
+    pub fn blank(&mut self, name: Name, class: Name, kind: Kind, len: u32, literals: u32)
+        requires { CanBlank kind len literals }
+        ensures record { HasRecord self.new }
+        ensures blank { raw_of self.new ≡ blank_record name class kind len literals }
+    {
+        match kind {
+            Kind::Method => blank_method(&mut self.bytes, name, class, len as u16, literals),
+            _ => blank_plain(&mut self.bytes, name, class, kind, len as u16),
+        }
+    }
+
+    /// Whether the bytes begin with a record of this name. Its fields are not judged: they may be any long words.
+    pub fn is_record(&self, name: Name) -> bool
+        ensures { IsTrue result ↔ (HasRecord self.now × ((raw_of self.now).name ≡ name)) }
+    {
+        long_at(&self.bytes, NAME_AT) == name.get() && is_laid(&self.bytes)
     }
 }

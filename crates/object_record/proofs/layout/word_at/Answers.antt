@@ -1,4 +1,4 @@
-use Rattle.std.proofs.Common.{sym, ◌∙◌, ap, List, ℕ}
+use Rattle.std.proofs.Common.{sym, ◌∙◌, ap}
 use Rattle.std.specs.Int.{w16, from_be_bytes}
 use Rattle.object_record.specs.Buffer.{word_at}
 use Rattle.object_record.proofs.Taken.{two-taken}

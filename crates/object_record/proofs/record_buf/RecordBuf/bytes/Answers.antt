@@ -1,4 +1,4 @@
-use Rattle.std.proofs.Common.{◌≡◌, ℕ, ◌+◌, ◌*◌, ◌≤◌, List, take, length, ◌∙◌, ap, sym, subst, arith}
+use Rattle.std.proofs.Common.{ℕ, ◌+◌, ◌≤◌, List, take, length, ◌∙◌, ap, sym, subst}
 use Rattle.std.proofs.lemmas.List.{length-take-le}
 use Rattle.object_record.specs.Buffer.{word_at, long_at, kind_numbered}
 use Rattle.object_record.specs.Inside.{size_stated}

@@ -1,4 +1,4 @@
-use Rattle.std.proofs.Common.{◌≡◌, ◌≢◌, ℕ, ◌+◌, ◌*◌, ◌<◌, ◌≤◌, ◌-◌, List, [], ◌∷◌, ◌++◌, take, drop, length, ◌∙◌, ap, sym, subst, arith, refl}
+use Rattle.std.proofs.Common.{ℕ, List, ◌∙◌, ap}
 use Rattle.object_record.specs.Buffer.{long_at}
 use Rattle.object_record.proofs.Calls.{get-header}
 use Rattle.object_record.proofs.record_buf.RecordBuf.header.Goals as goal

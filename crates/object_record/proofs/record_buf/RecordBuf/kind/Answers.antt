@@ -1,4 +1,4 @@
-use Rattle.std.proofs.Common.{◌≡◌, ◌≢◌, ℕ, ◌+◌, ◌*◌, ◌<◌, ◌≤◌, ◌-◌, List, [], ◌∷◌, ◌++◌, take, drop, length, ◌∙◌, ap, sym, subst, arith, refl}
+use Rattle.std.proofs.Common.{ℕ, List, ◌∙◌, ap}
 use Rattle.object_record.specs.Buffer.{word_at, kind_numbered}
 use Rattle.object_record.proofs.Texts.{kind-said}
 use Rattle.object_record.proofs.record_buf.RecordBuf.kind.Goals as goal

@@ -1,4 +1,4 @@
-use Rattle.std.proofs.Common.{◌≡◌, ◌≢◌, ℕ, ◌+◌, ◌*◌, ◌<◌, ◌≤◌, ◌-◌, List, [], ◌∷◌, ◌++◌, take, drop, length, ◌∙◌, ap, sym, subst, arith, refl}
+use Rattle.std.proofs.Common.{ℕ, List, ◌∙◌, ap}
 use Rattle.object_record.specs.Buffer.{word_at}
 use Rattle.object_record.proofs.Texts.{size-said}
 use Rattle.object_record.proofs.record_buf.RecordBuf.len.Goals as goal

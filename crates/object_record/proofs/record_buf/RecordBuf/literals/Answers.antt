@@ -1,4 +1,4 @@
-use Rattle.std.proofs.Common.{◌≡◌, ◌≢◌, ℕ, ◌+◌, ◌*◌, ◌<◌, ◌≤◌, ◌-◌, List, [], ◌∷◌, ◌++◌, take, drop, length, ◌∙◌, ap, sym, subst, arith, refl}
+use Rattle.std.proofs.Common.{ℕ, List, ◌∙◌, ap, sym}
 use Rattle.object_record.specs.Buffer.{word_at, long_at, kind_numbered, raw_of}
 use Rattle.object_record.proofs.Texts.{kind-said, literals-said}
 use Rattle.object_record.proofs.Calls.{no-literals}

@@ -1,4 +1,4 @@
-use Rattle.std.proofs.Common.{◌≡◌, ◌≢◌, ℕ, ◌+◌, ◌*◌, ◌<◌, ◌≤◌, ◌-◌, List, [], ◌∷◌, ◌++◌, take, drop, length, ◌∙◌, ap, sym, subst, arith, refl}
+use Rattle.std.proofs.Common.{ℕ, ◌+◌, ◌*◌, ◌≤◌, List, length, ◌∙◌, ap, sym, subst}
 use Rattle.object_record.specs.Buffer.{long_at, word_at, kind_numbered}
 use Rattle.object_record.specs.Inside.{longs_place}
 use Rattle.object_record.proofs.Calls.{get-long}

@@ -1,4 +1,4 @@
-use Rattle.std.proofs.Common.{◌≡◌, ◌≢◌, ℕ, ◌+◌, ◌*◌, ◌<◌, ◌≤◌, ◌-◌, List, [], ◌∷◌, ◌++◌, take, drop, length, ◌∙◌, ap, sym, subst, arith, refl}
+use Rattle.std.proofs.Common.{◌≡◌, ℕ, ◌+◌, ◌*◌, List, length, ◌∙◌, ap, sym, subst, arith}
 use Rattle.long_names.specs.Objects.{put_run}
 use Rattle.long_names.specs.Record.{four_bytes}
 use Rattle.object_record.specs.Buffer.{word_at, kind_numbered, raw_of, HasRecord}

@@ -1,9 +1,9 @@
-use Rattle.std.proofs.Common.{◌≡◌, ◌≢◌, ℕ, ◌+◌, ◌*◌, ◌<◌, ◌≤◌, ◌-◌, List, [], ◌∷◌, ◌++◌, take, drop, length, ◌∙◌, ap, sym, subst, arith, refl}
+use Rattle.std.proofs.Common.{◌≡◌, ℕ, ◌+◌, ◌*◌, List, ◌∙◌, ap, sym, subst}
 use Rattle.long_names.specs.Objects.{put_run}
 use Rattle.long_names.specs.Record.{two_bytes}
 use Rattle.object_record.specs.Buffer.{raw_of, HasRecord}
 use Rattle.object_record.specs.Raw.{with_word}
-use Rattle.object_record.proofs.Calls.{get-word, set-word}
+use Rattle.object_record.proofs.Calls.{set-word}
 use Rattle.object_record.proofs.record_buf.RecordBuf.set_word.Goals as goal
 
 abbrev Done : goal.After-put → Type 0
