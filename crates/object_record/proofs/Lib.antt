@@ -6,3 +6,4 @@ pub mod Texts
 pub mod Calls
 pub mod Judging
 pub mod Blanks
+pub mod Records
