@@ -53,8 +53,3 @@ raw_of bytes = record {
 pub record HasRecord (bytes : List ℕ) : Type 0 where
   pub is : IsRawRecord (raw_of bytes)
   pub begins : bytes ≡ raw_text (raw_of bytes) ++ drop (length (raw_text (raw_of bytes))) bytes
-
--- they begin with this one
-pub record Begins (bytes : List ℕ) (r : RawRecord) : Type 0 where
-  pub has : HasRecord bytes
-  pub raw : raw_of bytes ≡ r

@@ -2,7 +2,7 @@
 ghost use Rattle.std.specs.Prelude.{◌≡◌, ◌↔◌, ◌<◌, ◌≤◌, IsTrue, length, replicate, slice_index, IfOk, Some};
 ghost use Rattle.long_names.specs.declared.object.Kind.TheVariants.{Method};
 ghost use Rattle.object_record.specs.Raw.{raw_kind, raw_len, raw_literals, raw_header, longs_of, raw_words, raw_bytes, raw_text, with_long, with_header, with_word, with_byte, blank_record, CanBlank, stated_literals};
-ghost use Rattle.object_record.specs.Buffer.{BUFFER, raw_of, HasRecord, Begins};
+ghost use Rattle.object_record.specs.Buffer.{BUFFER, raw_of, HasRecord};
 
 use crate::layout::{
     blank_method, blank_plain, bytes_place, end_of, is_laid, kind_of, literals_of, long_at,
@@ -193,7 +193,7 @@ impl RecordBuf {
     }
 
     /// Makes the record of an object of zeros: long words, words or bytes that are 0, or a method whose header states its literals and
-    /// nothing else. A number that an object of this kind has not is 0.
+    /// nothing else. The sizes have to be such as an object of the kind may have; `literals` is 0 but for a method.
     pub fn blank(&mut self, name: Name, class: Name, kind: Kind, len: u32, literals: u32)
         requires { CanBlank kind len literals }
         ensures record { HasRecord self.new }
