@@ -1,0 +1,5 @@
+pub mod Raw
+pub mod Buffer
+pub mod Inside
+pub mod Filling
+pub mod Lending

@@ -1,0 +1,20 @@
+//! One object's record in a buffer: its fields are read and set in place.
+//!
+//! A buffer is 262,160 bytes, as many as the longest record has. `blank` makes a record in it, or `space` lends the bytes to be filled
+//! and `is_record` tells whether they begin with one of a name; every other call has as its condition that they do (`HasRecord`). What
+//! a record says is its raw record (`raw_of`): each getter answers a part of it, and each setter is one equation,
+//! `raw_of new ≡ with_long (raw_of old) i word`, so that all other parts stay. Fields are long words, and none of them is judged.
+//!
+//!     buffer.blank(name, class, Kind::Pointers, 2, 0);
+//!     buffer.set_long_field(1, long_word(value));
+//!     place.write(buffer.bytes())?;
+//!
+//! Read `specs/Raw.antt` first (raw records and their texts), then `Buffer.antt` (the raw record that bytes begin with). `laws` ties raw
+//! records to the records of an image. The crate holds no count: `blank` writes 0 where a record has its count, and nothing reads it.
+#![tactic(auto)]
+
+pub mod laws;
+mod layout;
+mod record_buf;
+
+pub use record_buf::RecordBuf;
