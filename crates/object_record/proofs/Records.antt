@@ -1,11 +1,10 @@
 -- Records of objects are raw records, with one text.
-use Rattle.std.proofs.Common.{zero, suc, ◌≡◌, ℕ, ℤ, pos, negsuc, ◌+◌, ◌-◌, ◌*◌, ◌/◌, ◌%◌, ◌^◌, ◌<◌, ◌≤◌, Bool, true, false, eqb, ltb, leb, List, [], ◌∷◌, ◌++◌, length, take, drop, replicate, map, refl, sym, ap, ◌∙◌, append_assoc, arith}
-use Rattle.std.specs.Prelude.{All, Option, Some}
-use Rattle.std.specs.List.{flat_map}
+use Rattle.std.proofs.Common.{◌≡◌, ℕ, ℤ, pos, negsuc, ◌+◌, ◌-◌, ◌*◌, ◌/◌, ◌%◌, ◌^◌, ◌<◌, ◌≤◌, true, false, eqb, ltb, leb, List, [], ◌∷◌, ◌++◌, length, drop, replicate, map, refl, sym, ap, ◌∙◌, append_assoc, arith}
+use Rattle.std.specs.Prelude.{All, Some}
 use Rattle.std.proofs.lemmas.Bool.{le-ltb, lt-ltb, le-leb, eq-eqb}
 use Rattle.std.proofs.lemmas.List.{take_at, length-append, length-map}
 use Rattle.std.proofs.lemmas.List.Elements.{All-map, All-weaker}
-use Rattle.long_names.specs.Words.{IsSmallInteger, IsValue, long_word, value_of, literal_count}
+use Rattle.long_names.specs.Words.{IsSmallInteger, IsValue, long_word, value_of}
 use Rattle.long_names.specs.Objects.{IsBody, IsRecord, HasRange, kind_of, len_of}
 use Rattle.long_names.specs.Record.{two_bytes, four_bytes, eight_bytes, kind_number, values_text, contents_text, record_head, padding, record_text}
 use Rattle.long_names.specs.declared.value.Value.{Value}
@@ -14,10 +13,9 @@ use Rattle.long_names.specs.declared.object.Kind.{Kind}
 use Rattle.long_names.specs.declared.object.Body.{Body}
 use Rattle.long_names.specs.declared.object.Body.TheVariants as body
 use Rattle.long_names.specs.declared.object.Rec.{Rec}
-use Rattle.object_record.specs.Raw.{RawBody, RawPointers, RawWords, RawBytes, RawMethod, RawRecord, IsRawRecord, HasRawSize, HasRawRange, raw_kind, raw_len, raw_contents, raw_size, raw_end, raw_text, raw_body, raw_record, longs_text, stated_literals}
+use Rattle.object_record.specs.Raw.{RawBody, RawPointers, RawWords, RawBytes, RawMethod, RawRecord, IsRawRecord, HasRawSize, HasRawRange, raw_kind, raw_len, raw_contents, raw_end, raw_text, raw_body, raw_record, longs_text}
 use Rattle.object_record.specs.Buffer.{BUFFER}
 use Rattle.object_record.specs.Filling.{filled_with}
-use Rattle.object_record.specs.Inside.{size_stated}
 use Rattle.object_record.proofs.Numbers.{wide16, wide32, wide64}
 use Rattle.object_record.proofs.Reading.{few-literals, IsLong}
 use Rattle.object_record.proofs.Texts.{length-contents}
