@@ -1,4 +1,4 @@
-mod BaseLaws
+pub mod BaseLaws
 pub mod Callers
 pub mod CountDownLaws
 pub mod Entries
