@@ -1,7 +1,10 @@
+mod BaseLaws
 pub mod Callers
 pub mod Entries
 pub mod LaterLaws
+pub mod LeftLaws
 pub mod LooksLaws
+pub mod MadeLaws
 pub mod MapLaws
 pub mod PlainLaws
 pub mod RecordLaws

@@ -1,30 +1,54 @@
 -- What reads leave, put together, and what stays known of objects meanwhile.
-use Rattle.std.proofs.Common.{◌≡◌, ℕ, ◌+◌, ◌≤◌, Bool, true, false, ◌||◌, cond, eqb, List, [], ◌∷◌, ◌++◌, Option, Some, None, IsTrue, ◌⊎◌, inl, inr, refl, sym, ◌∙◌, ap, subst, arith}
+use Rattle.std.proofs.Common.{◌≡◌, ℕ, ◌<◌, nat_le, Bool, true, false, ◌||◌, cond, eqb, List, [], ◌∷◌, ◌++◌, Option, None, Ok, IsTrue, refl, sym, ◌∙◌, ap, subst, arith}
 use Rattle.std.proofs.Math.Path.{fun_ext}
+use Rattle.std.proofs.lemmas.Grind.{common_steps}
 use Rattle.std.proofs.lemmas.List.Folds.{list_any-append}
-use Rattle.std.specs.List.{list_any}
+use borrow.Author.Tests.{leb-true}
+use Rattle.std.specs.Option.{option_and_then}
+use Rattle.std.specs.List.{list_all}
 use Rattle.long_names.specs.declared.value.Value.{Value}
 use Rattle.long_names.specs.declared.object.Body.{Body}
+use Rattle.long_names.specs.declared.object.Object.{Object}
 use Rattle.long_names.specs.Heap.{Heap}
-use Rattle.long_names.specs.State.{IsRef, set_register, part_at, HasPart}
-use Rattle.long_names.specs.Access.{Access, Known, Class, KindOf, Length, Header, Field, SetField, Word, SetWord, Byte, SetByte, ReadWords, WriteWords, ReadBytes, Make, Pin, Mark, Say}
+use Rattle.long_names.specs.State.{IsRef, set_register, object_at, part_at, HasPart}
+use Rattle.long_names.specs.Access.{Access, Known, Class, Field, SetField, SetWord, SetByte, WriteWords, Make, Pin, Mark, Say}
 use Rattle.long_names.specs.Thin.{IsThinning}
-use Rattle.long_names.proofs.ThinLemmas.{IsThinner-refl, IsThinner-trans}
-use Rattle.long_names.proofs.AccessLaws.{part-same}
-use Rattle.object_memory.specs.Told.{Told, Bounds, Cache, IsReady}
-use Rattle.object_memory.specs.Contract.{Does, SameBounds, IsLater, Raised, IsKeptCache, IsEmptied, LeavesCache, with_mark, Follows}
+use Rattle.long_names.proofs.ThinLemmas.{both, IsThinner-refl, IsThinner-trans}
+use Rattle.long_names.proofs.AccessLaws.{object-same}
+use Rattle.object_memory.specs.Told.{Told, IsReady}
+use Rattle.object_memory.specs.Contract.{Does, Called}
 use Rattle.object_memory.proofs.LaterLaws.{SameBounds-refl, IsLater-refl, IsLater-trans, Raised-refl, Raised-then, LeavesCache-refl, store_then}
 use Rattle.object_memory.specs.Shape.{HasPartAt, IsPartAt, IsTestAt, is_among, Looks, only_looks, registers_of}
 
 -- ---- put together
 
-neither : (x y : Bool) → (x || y) ≡ false → (x ≡ false) × (y ≡ false)
+pub neither : (x y : Bool) → (x || y) ≡ false → (x ≡ false) × (y ≡ false)
 neither true y e = cc
 neither false y e = (refl, e)
 
 -- a register other than the one that was set
 pub set_other : (regs : ℕ → Value) (to : ℕ) (v : Value) (r : ℕ) → eqb r to ≡ false → set_register regs to v r ≡ regs r
 set_other regs to v r apart = ap (λ b. cond b v (regs r)) apart
+
+pub set_same : (regs : ℕ → Value) (to : ℕ) (v : Value) → set_register regs to v to ≡ v
+set_same regs to v = grind (arith, common_steps)
+
+-- a register that is not this one
+pub not_among : (k r : ℕ) → (r ≡ k → ⊥) → is_among (k ∷ []) r ≡ false
+not_among k r apart = go (eqb r k) refl
+  where
+    go : (b : Bool) → eqb r k ≡ b → (b || false) ≡ false
+    go true e = let same : r ≡ k = grind (arith, common_steps, e) in absurd (apart same)
+    go false e = refl
+
+-- a register below all of these
+pub below_among : (n : ℕ) (xs : List ℕ) (r : ℕ) → r < n → list_all (λ k. nat_le n k) xs ≡ true → is_among xs r ≡ false
+below_among n [] r low above = refl
+below_among n (k ∷ xs) r low above = let parts = both (nat_le n k) (list_all (λ k. nat_le n k) xs) above in go (eqb r k) refl parts.0 (below_among n xs r low parts.1)
+  where
+    go : (b : Bool) → eqb r k ≡ b → nat_le n k ≡ true → is_among xs r ≡ false → (b || is_among xs r) ≡ false
+    go true e first rest = let same : r ≡ k = grind (arith, common_steps, e) in let up = leb-true n k first in absurd (omega arith)
+    go false e first rest = rest
 
 filled : (old new : Told) (to : ℕ) → new.regs ≡ set_register old.regs to (new.regs to) → (r : ℕ) → is_among (to ∷ []) r ≡ false → new.regs r ≡ old.regs r
 filled old new to e r apart = ap (λ (g : ℕ → Value). g r) e ∙ set_other old.regs to (new.regs to) r (neither (eqb r to) false apart).0
@@ -56,20 +80,24 @@ Looks-trans xs ys a b c ready x y = record {
   last = y.last ∙ x.last;
 }
 
+-- reads that filled fewer registers
+pub Looks-weaker : (xs ys : List ℕ) (a b : Told) → ((r : ℕ) → is_among ys r ≡ false → is_among xs r ≡ false) → Looks xs a b → Looks ys a b
+Looks-weaker xs ys a b fewer x = record { later = x.later; regs = λ r e. x.regs r (fewer r e); slots = x.slots; transcript = x.transcript; heap = x.heap; cache = x.cache; counts = x.counts; refusals = x.refusals; last = x.last }
+
 -- an access that was answered
-pub looked : (old new : Told) (a : Access) → only_looks a ≡ true → IsLater old new → Follows old new (Does a) → Looks (registers_of a) old new
-looked old new (Known to name) e later f = record { later = later; regs = filled old new to f.regs; slots = f.slots; transcript = f.transcript; heap = f.heap; cache = f.cache; counts = f.counts; refusals = f.refusals; last = f.last }
-looked old new (Class to of) e later f = record { later = later; regs = filled old new to f.regs; slots = f.slots; transcript = f.transcript; heap = f.heap; cache = f.cache; counts = f.counts; refusals = f.refusals; last = f.last }
-looked old new (Field to of i) e later f = record { later = later; regs = filled old new to f.regs; slots = f.slots; transcript = f.transcript; heap = f.heap; cache = f.cache; counts = f.counts; refusals = f.refusals; last = f.last }
-looked old new (SetField of i from) e later f = let no : ◌≡◌ {A = Bool} false true = e in cc
-looked old new (SetWord of i word) e later f = let no : ◌≡◌ {A = Bool} false true = e in cc
-looked old new (SetByte of i byte) e later f = let no : ◌≡◌ {A = Bool} false true = e in cc
-looked old new (WriteWords of at run) e later f = let no : ◌≡◌ {A = Bool} false true = e in cc
-looked old new (Make to class what) e later f = let no : ◌≡◌ {A = Bool} false true = e in cc
-looked old new (Pin slot of) e later f = let no : ◌≡◌ {A = Bool} false true = e in cc
-looked old new (Mark of) e later f = let no : ◌≡◌ {A = Bool} false true = e in cc
-looked old new (Say of) e later f = let no : ◌≡◌ {A = Bool} false true = e in cc
-looked old new _ e later f = record { later = later; regs = λ r e. ap (λ (g : ℕ → Value). g r) f.regs; slots = f.slots; transcript = f.transcript; heap = f.heap; cache = f.cache; counts = f.counts; refusals = f.refusals; last = f.last }
+pub looked : {Z : Type 0} {z : Z} (old new : Told) (a : Access) → only_looks a ≡ true → Called old new (Does a) (Ok z) → Looks (registers_of a) old new
+looked old new (Known to name) e f = record { later = f.later; regs = filled old new to f.ok.regs; slots = f.ok.slots; transcript = f.ok.transcript; heap = f.ok.heap; cache = f.ok.cache; counts = f.ok.counts; refusals = f.ok.refusals; last = f.ok.last }
+looked old new (Class to of) e f = record { later = f.later; regs = filled old new to f.ok.regs; slots = f.ok.slots; transcript = f.ok.transcript; heap = f.ok.heap; cache = f.ok.cache; counts = f.ok.counts; refusals = f.ok.refusals; last = f.ok.last }
+looked old new (Field to of i) e f = record { later = f.later; regs = filled old new to f.ok.regs; slots = f.ok.slots; transcript = f.ok.transcript; heap = f.ok.heap; cache = f.ok.cache; counts = f.ok.counts; refusals = f.ok.refusals; last = f.ok.last }
+looked old new (SetField of i from) e f = let no : ◌≡◌ {A = Bool} false true = e in cc
+looked old new (SetWord of i word) e f = let no : ◌≡◌ {A = Bool} false true = e in cc
+looked old new (SetByte of i byte) e f = let no : ◌≡◌ {A = Bool} false true = e in cc
+looked old new (WriteWords of at run) e f = let no : ◌≡◌ {A = Bool} false true = e in cc
+looked old new (Make to class what) e f = let no : ◌≡◌ {A = Bool} false true = e in cc
+looked old new (Pin slot of) e f = let no : ◌≡◌ {A = Bool} false true = e in cc
+looked old new (Mark of) e f = let no : ◌≡◌ {A = Bool} false true = e in cc
+looked old new (Say of) e f = let no : ◌≡◌ {A = Bool} false true = e in cc
+looked old new _ e f = record { later = f.later; regs = λ r e. ap (λ (g : ℕ → Value). g r) f.ok.regs; slots = f.ok.slots; transcript = f.ok.transcript; heap = f.ok.heap; cache = f.ok.cache; counts = f.ok.counts; refusals = f.ok.refusals; last = f.ok.last }
 
 -- a value that was put into a register
 pub put_looks : (old new : Told) (to : ℕ) (v : Value) → new ≡ (record old { regs = set_register old.regs to v }) → Looks (to ∷ []) old new
@@ -85,17 +113,24 @@ put_looks old new to v e = subst (λ (t : Told). Looks (to ∷ []) old t) (sym e
   last = refl;
 })
 
+pub put_value : (old new : Told) (to : ℕ) (v : Value) → new ≡ (record old { regs = set_register old.regs to v }) → new.regs to ≡ v
+put_value old new to v e = ap (λ (t : Told). t.regs to) e ∙ set_same old.regs to v
+
 -- all registers, where none was filled
 pub looked-regs : (old new : Told) → Looks [] old new → new.regs ≡ old.regs
 looked-regs old new x = fun_ext (λ r. x.regs r refl)
 
 -- ---- what stays known
 
--- the part of the object in a register that was not filled
-pub part_looked : {A : Type 0} (xs : List ℕ) (old new : Told) (r : ℕ) (f : Body → Option A) → IsReady new → Looks xs old new → is_among xs r ≡ false → IsTrue old.tells → part_at new.heap (new.regs r) f ≡ part_at old.heap (old.regs r) f
-part_looked {A} xs old new r f ready x e told =
+-- the object in a register that was not filled
+pub object_looked : (xs : List ℕ) (old new : Told) (r : ℕ) → IsReady new → Looks xs old new → is_among xs r ≡ false → IsTrue old.tells → object_at new.heap (new.regs r) ≡ object_at old.heap (old.regs r)
+object_looked xs old new r ready x e told =
     let thin : IsThinning old.heap new.heap new.regs new.slots = record { thinner = x.heap told; whole = ready.whole (x.later.tells ∙ told) } in
-    sym (part-same old.heap new.heap new.regs new.slots thin r f) ∙ ap (λ (v : Value). part_at old.heap v f) (x.regs r e)
+    sym (object-same old.heap new.heap new.regs new.slots thin r) ∙ ap (λ (v : Value). object_at old.heap v) (x.regs r e)
+
+-- a part of it
+pub part_looked : {A : Type 0} (xs : List ℕ) (old new : Told) (r : ℕ) (f : Body → Option A) → IsReady new → Looks xs old new → is_among xs r ≡ false → IsTrue old.tells → part_at new.heap (new.regs r) f ≡ part_at old.heap (old.regs r) f
+part_looked {A} xs old new r f ready x e told = ap (option_and_then (λ (o : Object). f o.body)) (object_looked xs old new r ready x e told)
 
 -- a name in it
 pub ref_looked : (xs : List ℕ) (old new : Told) (r : ℕ) → Looks xs old new → is_among xs r ≡ false → IsRef (old.regs r) → IsRef (new.regs r)

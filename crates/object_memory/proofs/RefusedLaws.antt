@@ -1,5 +1,5 @@
 -- A call that is refused after reads is refused as it would have been before them, and reads of one object are one.
-use Rattle.std.proofs.Common.{◌≡◌, ℕ, ◌+◌, ◌≤◌, Bool, true, false, ◌||◌, List, [], ◌∷◌, ◌++◌, Option, Some, None, Result, Ok, Err, IsTrue, ◌⊎◌, inl, inr, refl, sym, ◌∙◌, ap, subst, arith}
+use Rattle.std.proofs.Common.{◌≡◌, ℕ, ◌+◌, ◌≤◌, Bool, true, ◌||◌, List, [], ◌++◌, Option, Some, None, Result, Ok, Err, IsTrue, inl, inr, refl, sym, ◌∙◌, ap, subst, arith}
 use Rattle.std.specs.Result.{IsErrAnd}
 use Rattle.std.proofs.lemmas.Grind.{common_steps}
 use Rattle.long_names.specs.declared.value.Value.{Value}
@@ -11,7 +11,7 @@ use Rattle.long_names.specs.Objects.{is_ref, kind_of}
 use Rattle.long_names.specs.Heap.{Heap, Has, object_count}
 use Rattle.long_names.specs.Kept.{any_below, kept}
 use Rattle.long_names.specs.State.{IsRef, REGISTERS, SLOTS}
-use Rattle.long_names.specs.Access.{Access, Known, Class, KindOf, Length, Header, Field, SetField, Word, SetWord, Byte, SetByte, ReadWords, WriteWords, ReadBytes, Make, Pin, Mark, Say, CanDo, object_of, OfKind, made_by, with_made, said_by}
+use Rattle.long_names.specs.Access.{Access, KindOf, Length, Header, Word, Byte, ReadWords, ReadBytes, Say, CanDo, object_of, OfKind, made_by, with_made, said_by}
 use Rattle.long_names.specs.Need.{words_of_row, entries_of_row, is_pinned, words_named}
 use Rattle.long_names.specs.Thin.{IsThinning}
 use Rattle.long_names.proofs.ThinLemmas.{IsThinner-trans, IsWhole-bounded, or_cases}
@@ -21,7 +21,7 @@ use Rattle.object_memory.specs.declared.fault.Need.{Need}
 use Rattle.object_memory.specs.declared.fault.MemFault.{MemFault}
 use Rattle.object_memory.specs.declared.fault.MemFault.TheVariants.{CoreFull, WorkFull, WorkFault, Damaged, NamesSpent, Said, Memory}
 use Rattle.object_memory.specs.Told.{Told, Bounds, IsReady, is_root}
-use Rattle.object_memory.specs.Contract.{Does, ForBounds, SameBounds, Raised, Lives, HasCause, IsMaking, IsSaying, TakesMemory, work_faults, said_faults, need_of_access, SaysRefused, LeavesAll, IsLeft, Refuses, Follows, Called, Accessed, IfBounds, HasCore, IsLater}
+use Rattle.object_memory.specs.Contract.{Does, ForBounds, SameBounds, Raised, Lives, HasCause, IsMaking, IsSaying, TakesMemory, work_faults, said_faults, need_of_access, SaysRefused, LeavesAll, IsLeft, Refuses, Follows, Called, Accessed, IfBounds, HasCore}
 use Rattle.object_memory.specs.Shape.{Looks, ReadsObject, only_reads}
 use Rattle.object_memory.proofs.Callers.{any_there}
 use Rattle.object_memory.proofs.LaterLaws.{IsLater-refl, IsLater-trans, Raised-then, store_then}
@@ -193,15 +193,15 @@ refused_as_kind old new (ReadBytes r at count) of f e x = subst (λ q. Refuses o
 refused_as_kind old new _ of f e x = let no : ◌≡◌ {A = Option ℕ} None (Some of) = e in cc
 
 -- a read that was answered
-reads_looked : (old new : Told) (a : Access) (of : ℕ) → only_reads a ≡ Some of → IsLater old new → Follows old new (Does a) → Looks [] old new
-reads_looked old new (KindOf r) of e later f = looked old new (KindOf r) refl later f
-reads_looked old new (Length r) of e later f = looked old new (Length r) refl later f
-reads_looked old new (Header r) of e later f = looked old new (Header r) refl later f
-reads_looked old new (Word r i) of e later f = looked old new (Word r i) refl later f
-reads_looked old new (Byte r i) of e later f = looked old new (Byte r i) refl later f
-reads_looked old new (ReadWords r at count) of e later f = looked old new (ReadWords r at count) refl later f
-reads_looked old new (ReadBytes r at count) of e later f = looked old new (ReadBytes r at count) refl later f
-reads_looked old new _ of e later f = let no : ◌≡◌ {A = Option ℕ} None (Some of) = e in cc
+pub read_further : {Z : Type 0} {z : Z} (old new : Told) (a : Access) (of : ℕ) → only_reads a ≡ Some of → Called old new (Does a) (Ok z) → Looks [] old new
+read_further old new (KindOf r) of e called = looked old new (KindOf r) refl called
+read_further old new (Length r) of e called = looked old new (Length r) refl called
+read_further old new (Header r) of e called = looked old new (Header r) refl called
+read_further old new (Word r i) of e called = looked old new (Word r i) refl called
+read_further old new (Byte r i) of e called = looked old new (Byte r i) refl called
+read_further old new (ReadWords r at count) of e called = looked old new (ReadWords r at count) refl called
+read_further old new (ReadBytes r at count) of e called = looked old new (ReadBytes r at count) refl called
+read_further old new _ of e called = let no : ◌≡◌ {A = Option ℕ} None (Some of) = e in cc
 
 -- ---- reads of one object
 
@@ -230,22 +230,19 @@ read_first_err a b of f (Ok z) is ref access = absurd is
 read_first_err a b of f (Err g) is ref access = record { called = record { later = access.called.later; ok = tt; err = subst (λ h. Refuses a b (Does (KindOf of)) h) (sym is) access.called.err }; core = tt; named = ref }
 
 -- what reads leave that were answered
-pub read_looks : {A : Type 0} (old new : Told) (of : ℕ) (x : A) → ReadsObject old new of (Ok x) → Looks [] old new
-read_looks old new of x read = reads_looked old new (KindOf of) of refl read.called.later read.called.ok
-
-pub read_further : {A : Type 0} (old new : Told) (a : Access) (of : ℕ) (x : A) → only_reads a ≡ Some of → Called old new (Does a) (Ok x) → Looks [] old new
-read_further old new a of x e called = reads_looked old new a of e called.later called.ok
+pub read_looks : {Z : Type 0} {z : Z} (old new : Told) (of : ℕ) → ReadsObject old new of (Ok z) → Looks [] old new
+read_looks old new of read = looked old new (KindOf of) refl read.called
 
 -- reads, and one more that was answered
-pub read_ok : {A B C : Type 0} (a b c : Told) (of : ℕ) (x : Access) (first : C) (y : B) (z : A) → IsReady b → ReadsObject a b of (Ok first) → only_reads x ≡ Some of → Called b c (Does x) (Ok y) → ReadsObject a c of (Ok z)
-read_ok a b c of x first y z ready before e called =
-    let all = Looks-trans [] [] a b c ready (read_looks a b of first before) (read_further b c x of y e called) in
+pub read_ok : {A B C : Type 0} {first : C} {y : B} (a b c : Told) (of : ℕ) (x : Access) (z : A) → IsReady b → ReadsObject a b of (Ok first) → only_reads x ≡ Some of → Called b c (Does x) (Ok y) → ReadsObject a c of (Ok z)
+read_ok a b c of x z ready before e called =
+    let all = Looks-trans [] [] a b c ready (read_looks a b of before) (read_further b c x of e called) in
     record { called = record { later = all.later; ok = answered_as_kind a c of all; err = tt }; core = before.core; named = tt }
 
 -- reads, and one more that was refused
-pub read_err : {A B C : Type 0} (a b c : Told) (of : ℕ) (x : Access) (first : C) (f : MemFault) (r : Result A MemFault) → IsErrAnd r (λ e. e ≡ f) → IsReady a → IsReady b → IsRef (a.regs of) → ReadsObject a b of (Ok first) → only_reads x ≡ Some of → Called {A = B} b c (Does x) (Err f) → ReadsObject a c of r
-read_err a b c of x first f (Ok z) is ra rb ref before e called = absurd is
-read_err a b c of x first f (Err g) is ra rb ref before e called =
-    let looks = read_looks a b of first before in
+pub read_err : {A B C : Type 0} {first : C} (a b c : Told) (of : ℕ) (x : Access) (f : MemFault) (r : Result A MemFault) → IsErrAnd r (λ e. e ≡ f) → IsReady a → IsReady b → IsRef (a.regs of) → ReadsObject a b of (Ok first) → only_reads x ≡ Some of → Called {A = B} b c (Does x) (Err f) → ReadsObject a c of r
+read_err a b c of x f (Ok z) is ra rb ref before e called = absurd is
+read_err a b c of x f (Err g) is ra rb ref before e called =
+    let looks = read_looks a b of before in
     let again = refused_after a b c (KindOf of) f ra rb (λ told. (any_there b of kind_of rb (subst IsRef (sym (looks.regs of refl)) ref)).there told) looks (refused_as_kind b c x of f e called.err) in
     record { called = record { later = IsLater-trans a b c looks.later called.later; ok = tt; err = subst (λ h. Refuses a c (Does (KindOf of)) h) (sym is) again }; core = tt; named = ref }

@@ -2,22 +2,23 @@
 use Rattle.std.proofs.lemmas.Int.{to_z-of_z}
 use mir.Val.{SFits, of_z, to_z}
 use mir.Syntax.{w16}
-use Rattle.std.proofs.Common.{◌≡◌, ℕ, ℤ, pos, negsuc, ◌<◌, ◌≤◌, ◌↔◌, Bool, true, false, List, [], ◌∷◌, length, Option, Some, None, IsTrue, is_some, refl, sym, ◌∙◌, ap, subst, arith}
-use Rattle.std.specs.Option.{IsSome, option_and_then, option_map}
+use Rattle.std.proofs.Common.{◌≡◌, ℕ, ℤ, pos, negsuc, ◌↔◌, Bool, false, List, [], length, Option, Some, None, IsTrue, is_some, refl, sym, ◌∙◌, ap, subst, arith}
+use Rattle.std.specs.Option.{option_and_then, option_map}
 use Rattle.long_names.specs.declared.value.Value.{Value}
+use Rattle.long_names.specs.declared.value.Value.TheVariants.{Int, Ref}
 use Rattle.long_names.specs.declared.object.Kind.{Kind}
 use Rattle.long_names.specs.declared.object.Kind.TheVariants as kind
 use Rattle.long_names.specs.declared.object.Body.{Body}
 use Rattle.long_names.specs.declared.object.Body.TheVariants.{Pointers, Words, Bytes, Method}
 use Rattle.long_names.specs.declared.object.Object.{Object}
 use Rattle.long_names.specs.Words.{IsSmallInteger}
-use Rattle.long_names.specs.Objects.{kind_of, len_of, fields_of, pointers_of, literals_of, words_of, bytes_of, text_of}
+use Rattle.long_names.specs.Objects.{int_of, kind_of, len_of, fields_of, literals_of, text_of}
 use Rattle.long_names.specs.Heap.{Heap}
 use Rattle.long_names.specs.State.{IsRef, object_at, part_at, HasPart}
 use Rattle.long_names.specs.Access.{Answer, OfKind, OfNumber, OfSigned, answered}
 use Rattle.object_memory.specs.Told.{Told, IsReady}
 use Rattle.object_memory.specs.Shape.{HasPartAt, IsPartAt, IsTestAt, FindsPart, TestsPart, Looks, shape_of, literals_count}
-use Rattle.object_memory.proofs.LooksLaws.{found_looked, part_looked}
+use Rattle.object_memory.proofs.LooksLaws.{found_looked}
 
 -- ---- answers
 
@@ -52,7 +53,7 @@ shape_there h v k n e f = go (object_at h v) e f
 -- ---- tests
 
 -- a part that has so many elements
-has_counted : {X : Type 0} (h : Heap) (v : Value) (part : Body → Option (List X)) (n : ℕ) (P : ℕ → Type 0) → part_at h v (λ b. option_map length (part b)) ≡ Some n → P n → HasPart h v part (λ xs. P (length xs))
+pub has_counted : {X : Type 0} (h : Heap) (v : Value) (part : Body → Option (List X)) (n : ℕ) (P : ℕ → Type 0) → part_at h v (λ b. option_map length (part b)) ≡ Some n → P n → HasPart h v part (λ xs. P (length xs))
 has_counted {X} h v part n P e p = go (object_at h v) e
   where
     listed : (y : Option (List X)) → option_map length y ≡ Some n → (xs : List X) × (y ≡ Some xs) × P (length xs)
@@ -63,7 +64,7 @@ has_counted {X} h v part n P e p = go (object_at h v) e
     go None f = let no : ◌≡◌ {A = Option ℕ} None (Some n) = f in absurd (cc)
     go (Some o) f = listed (part o.body) f
 
-counted_has : {X : Type 0} (h : Heap) (v : Value) (part : Body → Option (List X)) (found : Option ℕ) (P : ℕ → Type 0) → part_at h v (λ b. option_map length (part b)) ≡ found → HasPart h v part (λ xs. P (length xs)) → (n : ℕ) × (found ≡ Some n) × P n
+pub counted_has : {X : Type 0} (h : Heap) (v : Value) (part : Body → Option (List X)) (found : Option ℕ) (P : ℕ → Type 0) → part_at h v (λ b. option_map length (part b)) ≡ found → HasPart h v part (λ xs. P (length xs)) → (n : ℕ) × (found ≡ Some n) × P n
 counted_has {X} h v part found P e has = go (object_at h v) e has.1
   where
     go : (x : Option Object) → option_and_then (λ (o : Object). option_map length (part o.body)) x ≡ found → option_and_then (λ (o : Object). part o.body) x ≡ Some has.0 → (n : ℕ) × (found ≡ Some n) × P n
@@ -92,6 +93,14 @@ pub tests_none : {X : Type 0} (old new : Told) (r : ℕ) (part : Body → Option
 tests_none {X} old new r part P found finds is =
     let same = subst (λ x. FindsPart old new r (λ b. option_map length (part b)) x) is finds in
     record { before = none_test old r part P same.before; after = none_test new r part P same.after }
+
+-- a list whose length was found
+pub sized : {X : Type 0} (t : Told) (r : ℕ) (part : Body → Option (List X)) (P : ℕ → Type 0) (found : Option ℕ) (n : ℕ) → IsPartAt t r (λ b. option_map length (part b)) found → found ≡ Some n → P n → HasPartAt t r part (λ xs. P (length xs))
+sized {X} t r part P found n is same p = record { name = is.name (ap is_some same); there = λ told. has_counted t.heap (t.regs r) part n P (is.there told ∙ same) p }
+
+-- a test that was passed
+pub passed : {A : Type 0} {t : Told} {r : ℕ} {f : Body → Option A} {P : A → Type 0} {answer : Bool} → IsTestAt t r f P answer → IsTrue answer → HasPartAt t r f P
+passed test is = record { name = test.name is; there = λ told. (test.there told).0 is }
 
 -- ---- by kind alone
 
@@ -160,6 +169,11 @@ method_found t r found part is = record { name = part.name (ap is_some is); ther
     go (Some o) e = of_body o.body (let same : kind_of o.body ≡ kind.Method = cc in same)
 
 -- ---- numbers
+
+-- a value that is read as a number
+pub int_is : (v : Value) (z : ℤ) → int_of v ≡ Some z → v ≡ Int z
+int_is (Int y) z e = cc
+int_is (Ref n) z e = cc
 
 small_fits : (z : ℤ) → IsSmallInteger z → SFits w16 z
 small_fits (pos n) small = omega arith

@@ -5,4 +5,4 @@ pub mod Plain
 pub mod Counts
 pub mod Records
 pub mod Shape
-pub mod Base
+pub mod tests

@@ -2,6 +2,7 @@
 #![tactic(auto)]
 
 mod fault;
+pub mod laws;
 mod memory;
 mod plain;
 mod reg;
@@ -11,3 +12,8 @@ pub use fault::{MemFault, Need};
 pub use memory::ObjectMemory;
 pub use plain::PlainMemory;
 pub use reg::Reg;
+
+#[cfg(test)]
+mod caller;
+#[cfg(test)]
+mod tests;

@@ -414,6 +414,7 @@ impl ObjectMemory for PlainMemory {
         ensures answered { IsOk result }
         ensures kept { plain_told self.new ≡ plain_told self.old }
     {
+        // Nothing is freed, and no making is counted.
         Ok(())
     }
 

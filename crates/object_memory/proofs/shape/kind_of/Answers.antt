@@ -17,4 +17,4 @@ returns-clause-kind g c =
     let u = g.M.ObjectMemory.told c.kind.new.self in
     let access = c.in_ok-kind.ensures.access in
     let ref = c.if-not-is_name.ensures.0 refl in
-    finds t u c.args.of (λ b. Some (kind_of b)) c.in_ok-kind.kind c.in_ok-kind.ensures.ready (read_looks t u c.args.of _ (read_first t u c.args.of c.in_ok-kind.kind c.in_ok-kind.kind access)) ref (λ told. kind_answer _ _ (access.answer told))
+    finds t u c.args.of (λ b. Some (kind_of b)) c.in_ok-kind.kind c.in_ok-kind.ensures.ready (read_looks t u c.args.of (read_first t u c.args.of c.in_ok-kind.kind c.in_ok-kind.kind access)) ref (λ told. kind_answer _ _ (access.answer told))

@@ -1,0 +1,3 @@
+-- What tests alone cite.
+pub mod Base
+pub mod Caller

@@ -1,0 +1,51 @@
+// A caller that is generic in the memory, proved from the clauses of the trait and of `shape` alone.
+ghost use Rattle.std.specs.Prelude.{◌≡◌, ◌<◌, ◌+ℤ◌, pos, false, [], ◌∷◌, IsTrue, OnOk, IfOk, IfErr, IfSome, Some};
+ghost use Rattle.long_names.specs.Words.{IsSmallInteger};
+ghost use Rattle.object_memory.specs.Told.{IsReady};
+ghost use Rattle.object_memory.specs.Contract.{KeepsSound};
+ghost use Rattle.object_memory.specs.Shape.{Looks};
+ghost use Rattle.object_memory.specs.tests.Caller.{IsBumped};
+
+use crate::{MemFault, ObjectMemory, Reg, shape};
+
+/// The next SmallInteger.
+fn next_number(number: i16) -> Option<i16>
+    requires { IsSmallInteger number }
+    ensures next { IfSome result (λ n. n ≡ number +ℤ pos 1) }
+    ensures range { IfSome result IsSmallInteger }
+{
+    if number == 16383 {
+        None
+    } else {
+        Some(number + 1)
+    }
+}
+
+/// Adds 1 to the number in field 1 of the object that a register names. False where there is no such field, no number in it, or no next
+/// number, and then it has only read.
+fn bump<M: ObjectMemory>(m: &mut M, of: Reg) -> Result<bool, MemFault>
+    requires of { of < 10 }
+    requires sound { M.sound m.old }
+    requires ready { IsReady (M.told m.old) }
+    ensures bumped { IfOk result (λ done. IsTrue done → IsTrue (M.told m.old).tells → IsBumped (M.told m.old) (M.told m.new) of) }
+    ensures looked { IfOk result (λ done. done ≡ false → Looks (10 ∷ []) (M.told m.old) (M.told m.new)) }
+    ensures last { IfErr result (λ f. (M.told m.new).last ≡ Some f) }
+    ensures ready { OnOk result (IsReady (M.told m.new)) }
+    ensures sound { KeepsSound result (M.sound m.new) }
+    ensures lender { M.lender m.new ≡ M.lender m.old }
+    ensures outside { M.outside m.new ≡ M.outside m.old }
+{
+    if !shape::has_field(m, of, 1)? {
+        return Ok(false);
+    }
+    m.field(Reg::SCRATCH_0, of, 1)?;
+    let Some(number) = m.as_int(Reg::SCRATCH_0) else {
+        return Ok(false);
+    };
+    let Some(next) = next_number(number) else {
+        return Ok(false);
+    };
+    m.int(Reg::SCRATCH_0, next);
+    m.set_field(of, 1, Reg::SCRATCH_0)?;
+    Ok(true)
+}
