@@ -5,6 +5,7 @@ pub mod Entries
 pub mod LaterLaws
 pub mod LeftLaws
 pub mod LooksLaws
+pub mod MadeLaws
 pub mod MapLaws
 pub mod PlainLaws
 pub mod RecordLaws
