@@ -6,7 +6,7 @@ use Rattle.long_names.specs.Heap.{Has}
 use Rattle.long_names.specs.Access.{Access, Say, Answer}
 use Rattle.object_memory.specs.declared.fault.MemFault.{MemFault}
 use Rattle.object_memory.specs.Told.{Told, Cache, IsReady}
-use Rattle.object_memory.specs.Contract.{Call, Does, MayDo, IsKeptCache, IsEmptied, LeavesCache, with_mark, touched_by, marked_by, SaysBy, Accessed, row_of_values}
+use Rattle.object_memory.specs.Contract.{Does, LeavesCache, with_mark, touched_by, marked_by, SaysBy, Accessed, row_of_values}
 use Rattle.bounded_memory.specs.declared.row.CachedRow.{CachedRow}
 use Rattle.bounded_memory.specs.Row.{is_row, with_row}
 

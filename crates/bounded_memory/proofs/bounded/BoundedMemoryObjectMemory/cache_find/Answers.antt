@@ -1,5 +1,4 @@
 use Rattle.std.proofs.Common.{refl}
-use Rattle.object_memory.specs.Plain.{plain_told}
 use Rattle.bounded_memory.specs.Bounded.{bounded_told}
 use Rattle.bounded_memory.proofs.RowLaws.{found-there}
 use Rattle.bounded_memory.proofs.MemoryLaws.{ready-still, sound-still}
