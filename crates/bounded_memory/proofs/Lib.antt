@@ -1,6 +1,6 @@
-pub mod BaseLaws
 pub mod SizeLaws
 pub mod BoundedLaws
 pub mod HeapLaws
 pub mod CallLaws
 pub mod MemoryLaws
+pub mod RowLaws

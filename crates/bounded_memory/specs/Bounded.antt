@@ -12,6 +12,7 @@ use Rattle.object_memory.specs.declared.fault.Need.{Need}
 use Rattle.object_memory.specs.declared.fault.MemFault.{MemFault}
 use Rattle.object_memory.specs.declared.fault.MemFault.TheVariants.{CoreFull, WorkFull, WorkFault, NamesSpent}
 use Rattle.bounded_memory.specs.Limits.{bounds_of}
+use Rattle.bounded_memory.specs.Row.{with_row}
 use Rattle.bounded_memory.specs.Pins.{pin_at, words_with, entries_with}
 use Rattle.bounded_memory.specs.declared.pins.Pin.{Pin}
 use Rattle.bounded_memory.specs.declared.pins.Pins.{Pins}
@@ -21,9 +22,13 @@ use Rattle.bounded_memory.specs.declared.bounded.BoundedMemory.{BoundedMemory}
 abbrev pub over : Told → ℕ → Option MemFault → Bounds → Told
 over t refusals last bounds = record t { refusals = refusals; last = last; bounds = Some bounds }
 
--- all but the refusals and the bounds is that of the memory below
+-- what the memory below tells, with the row
+abbrev pub row_told : BoundedMemory → Told
+row_told m = with_row (plain_told m.memory) m.row
+
+-- all but the row, the refusals and the bounds is that of the memory below
 abbrev pub bounded_told : BoundedMemory → Told
-bounded_told m = over (plain_told m.memory) m.refusals m.last (bounds_of m.limits)
+bounded_told m = over (row_told m) m.refusals m.last (bounds_of m.limits)
 
 -- what is told once a fault of Work was counted
 abbrev pub faulted : Told → ℕ → Bounds → Told

@@ -1,4 +1,5 @@
 pub mod Bounded
 pub mod Limits
 pub mod Pins
+pub mod Row
 pub mod Sizes

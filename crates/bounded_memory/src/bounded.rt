@@ -1,19 +1,21 @@
 // A memory with bounds over one without.
-ghost use Rattle.std.specs.Prelude.{◌≡◌, ◌+◌, ◌<◌, ◌≤◌, OnOk, IfOk, IfErr, OnErr, IsOk, None, Some};
+ghost use Rattle.std.specs.Prelude.{◌≡◌, ℕ, ◌+◌, ◌<◌, ◌≤◌, OnOk, IfOk, IfErr, IfSome, IfNone, OnErr, IsOk, None, Some, true, false};
 ghost use Rattle.std.specs.Result.{IsErr};
 ghost use Rattle.long_names.specs.Counting.{counted};
 ghost use Rattle.long_names.specs.Names.{LAST_NAME};
 ghost use Rattle.long_names.specs.Need.{words_at, entries_at, words_named};
 ghost use Rattle.long_names.specs.State.{IsRef, name_at};
 ghost use Rattle.object_memory.specs.Told.{IsReady};
+ghost use Rattle.object_memory.specs.Contract.{row_of_values};
 ghost use Rattle.object_memory.specs.Plain.{plain_told, refused};
 ghost use Rattle.object_memory.specs.declared.fault.MemFault.TheVariants.{WorkFault};
 ghost use Rattle.bounded_memory.specs.Limits.{bounds_of};
 ghost use Rattle.bounded_memory.specs.Pins.{words_with, entries_with};
-ghost use Rattle.bounded_memory.specs.Bounded.{over, faulted, bounded_told, IsPinnedAs, IsSound, need_at, need_with, HasRoom, IsFull, CannotMake};
+ghost use Rattle.bounded_memory.specs.Bounded.{over, faulted, row_told, bounded_told, IsPinnedAs, IsSound, need_at, need_with, HasRoom, IsFull, CannotMake};
 
 use crate::limits::Limits;
 use crate::pins::{Pin, Pins};
+use crate::row::CachedRow;
 use crate::size::Size;
 use long_names::{Kind, Name, literal_count};
 use object_memory::{MemFault, Need, ObjectMemory, PlainMemory, Reg};
@@ -28,6 +30,7 @@ pub struct BoundedMemory {
     memory: PlainMemory,
     limits: Limits,
     pins: Pins,
+    row: Option<CachedRow>,
     refusals: u64,
     last: Option<MemFault>,
 }
@@ -81,14 +84,15 @@ impl BoundedMemory {
             memory,
             limits: Limits::new(core, entries, room, objects),
             pins: Pins::new(),
+            row: None,
             refusals: 0,
             last: None,
         }
     }
 
-    /// The memory below. It tells the same, but for refusals and bounds.
+    /// The memory below. It tells the same, but for the row, refusals and bounds.
     pub fn into_plain(self) -> PlainMemory
-        ensures told { plain_told result ≡ record (bounded_told self) { refusals = (plain_told result).refusals; last = (plain_told result).last; bounds = None } }
+        ensures told { plain_told result ≡ record (bounded_told self) { cache = (plain_told result).cache; refusals = (plain_told result).refusals; last = (plain_told result).last; bounds = None } }
         ensures ready { IsReady (bounded_told self) → IsReady (plain_told result) }
     {
         self.memory
@@ -99,6 +103,40 @@ impl BoundedMemory {
         ensures { result.now ≡ (bounded_told self.now).transcript }
     {
         self.memory.transcript()
+    }
+
+    /// The method of the row of this pair.
+    fn cached(&self, class: Reg, selector: Reg) -> Option<Name>
+        ensures found { IfSome result (λ m. row_of_values (bounded_told self.now).cache ((bounded_told self.now).regs class) ((bounded_told self.now).regs selector) m ≡ true) }
+        ensures unknown { IfNone result ((m : ℕ) → row_of_values (bounded_told self.now).cache ((bounded_told self.now).regs class) ((bounded_told self.now).regs selector) m ≡ false) }
+    {
+        let Some(row) = &self.row else {
+            return None;
+        };
+        if !self.memory.path() {
+            return None;
+        }
+        let Some(class) = self.memory.name(class) else {
+            return None;
+        };
+        let Some(selector) = self.memory.name(selector) else {
+            return None;
+        };
+        if row.class != class || row.selector != selector {
+            return None;
+        }
+        Some(row.method)
+    }
+
+    /// Drops the row where its path was lost.
+    fn drop_lost_row(&mut self)
+        ensures row { self.new ≡ record self.old { row = self.new.row } }
+        ensures told { bounded_told self.new ≡ bounded_told self.old }
+        ensures lost { (plain_told self.new.memory).cache.path ≡ false → self.new.row ≡ None }
+    {
+        if !self.memory.path() {
+            self.row = None;
+        }
     }
 
     /// Counts a refusal and says why it was.
@@ -115,7 +153,7 @@ impl BoundedMemory {
     /// Counts a call on Work that failed.
     fn work_fault(&mut self) -> MemFault
         ensures result { result ≡ WorkFault (counted self.old.limits.work_faults) }
-        ensures told { bounded_told self.new ≡ faulted (plain_told self.old.memory) self.old.refusals (bounds_of self.old.limits) }
+        ensures told { bounded_told self.new ≡ faulted (row_told self.old) self.old.refusals (bounds_of self.old.limits) }
         ensures refusals { self.old.refusals ≤ counted self.old.refusals }
         ensures faults { self.old.limits.work_faults ≤ counted self.old.limits.work_faults }
     {
@@ -186,7 +224,7 @@ impl BoundedMemory {
     fn answered(&mut self, outcome: Result<(), MemFault>) -> Result<(), MemFault>
         ensures ok { OnOk result (IsOk outcome × (self.new ≡ self.old)) }
         ensures err { IfErr result (λ f. IsErr outcome × (f ≡ WorkFault (counted self.old.limits.work_faults))) }
-        ensures told { OnErr result (bounded_told self.new ≡ faulted (plain_told self.old.memory) self.old.refusals (bounds_of self.old.limits)) }
+        ensures told { OnErr result (bounded_told self.new ≡ faulted (row_told self.old) self.old.refusals (bounds_of self.old.limits)) }
         ensures refusals { OnErr result (self.old.refusals ≤ counted self.old.refusals) }
         ensures faults { OnErr result (self.old.limits.work_faults ≤ counted self.old.limits.work_faults) }
     {
@@ -202,7 +240,7 @@ impl BoundedMemory {
         ensures ok { OnOk result (IsOk outcome × (self.new ≡ record self.old { limits = self.new.limits })) }
         ensures counted { OnOk result (bounds_of self.new.limits ≡ record (bounds_of self.old.limits) { made = self.old.limits.made + 1 }) }
         ensures err { IfErr result (λ f. IsErr outcome × (f ≡ WorkFault (counted self.old.limits.work_faults))) }
-        ensures told { OnErr result (bounded_told self.new ≡ faulted (plain_told self.old.memory) self.old.refusals (bounds_of self.old.limits)) }
+        ensures told { OnErr result (bounded_told self.new ≡ faulted (row_told self.old) self.old.refusals (bounds_of self.old.limits)) }
         ensures refusals { OnErr result (self.old.refusals ≤ counted self.old.refusals) }
         ensures faults { OnErr result (self.old.limits.work_faults ≤ counted self.old.limits.work_faults) }
     {
@@ -362,6 +400,7 @@ impl ObjectMemory for BoundedMemory {
     }
 
     fn begin_path(&mut self) {
+        self.drop_lost_row();
         self.memory.begin_path();
     }
 
@@ -371,11 +410,32 @@ impl ObjectMemory for BoundedMemory {
     }
 
     fn cache_find(&mut self, to: Reg, class: Reg, selector: Reg) -> bool {
-        false
+        let Some(method) = self.cached(class, selector) else {
+            return false;
+        };
+        self.memory.put_name(to, method);
+        true
     }
 
     fn cache_put(&mut self, class: Reg, selector: Reg, method: Reg) -> bool {
-        false
+        if !self.memory.path() {
+            return false;
+        }
+        let Some(class) = self.memory.name(class) else {
+            return false;
+        };
+        let Some(selector) = self.memory.name(selector) else {
+            return false;
+        };
+        let Some(method) = self.memory.name(method) else {
+            return false;
+        };
+        self.row = Some(CachedRow {
+            class,
+            selector,
+            method,
+        });
+        true
     }
 
     fn say(&mut self, of: Reg) -> Result<(), MemFault> {

@@ -1,7 +1,8 @@
-// Each cause of a refusal, with its exact numbers, over the base image. It has 26 objects.
+// Each cause of a refusal, with its exact numbers, and the row of the cache, over the base image. It has 26 objects.
 ghost use Rattle.std.specs.Prelude.{◌≡◌, OnOk, true};
 ghost use Rattle.long_names.specs.Names.{is_known};
 ghost use Rattle.object_memory.specs.Told.{IsReady};
+ghost use Rattle.object_memory.specs.Contract.{KeepsSound};
 ghost use Rattle.bounded_memory.specs.Bounded.{bounded_told, IsSound};
 
 mod base;
@@ -9,7 +10,7 @@ mod base;
 use crate::BoundedMemory;
 use crate::tests::base::memory;
 use long_names::Name;
-use object_memory::{MemFault, Need, ObjectMemory, Reg};
+use object_memory::{MemFault, Need, ObjectMemory, Reg, shape};
 use std::test::Fail;
 
 /// Asks for the kind of a known object.
@@ -165,5 +166,58 @@ fn each_cause(rt: HostRuntime) -> Result<(), Fail> {
         );
         assert!(rt; m.transcript().is_empty());
     }
+    Ok(())
+}
+
+/// Marks 8 on a new path, and puts it into the cache as the method of itself.
+fn cache<M: ObjectMemory>(m: &mut M) -> Result<bool, MemFault>
+    requires sound { M.sound m.old }
+    requires ready { IsReady (M.told m.old) }
+    ensures sound { KeepsSound result (M.sound m.new) }
+    ensures ready { OnOk result (IsReady (M.told m.new)) }
+{
+    let r = Reg::SCRATCH_0;
+    m.known(r, Name::SCHEDULER_ASSOCIATION)?;
+    m.begin_path();
+    if !shape::is_name(m, r) {
+        return Ok(false);
+    }
+    m.mark(r)?;
+    Ok(m.cache_put(r, r, r))
+}
+
+/// Stores into the same object.
+fn store<M: ObjectMemory>(m: &mut M) -> Result<bool, MemFault>
+    requires sound { M.sound m.old }
+    requires ready { IsReady (M.told m.old) }
+    ensures sound { KeepsSound result (M.sound m.new) }
+    ensures ready { OnOk result (IsReady (M.told m.new)) }
+{
+    let r = Reg::SCRATCH_0;
+    if !shape::has_field(m, r, 0)? {
+        return Ok(false);
+    }
+    m.set_field(r, 0, r)?;
+    Ok(true)
+}
+
+// A row is found until its object is stored into, also on a later path.
+#[test]
+fn one_row(rt: HostRuntime) -> Result<(), Fail> {
+    let plain = memory(rt.alloc(), 68)?;
+    let mut m = BoundedMemory::new(plain, 65_536, 65_536, 26, 26);
+    let (r, to) = (Reg::SCRATCH_0, Reg::SCRATCH_1);
+    m.int(to, 0);
+    let put = cache(&mut m)?;
+    assert!(rt; put);
+    m.begin_path();
+    assert!(rt; !m.cache_find(to, r, to));
+    assert!(rt; m.cache_find(to, r, r));
+    assert!(rt; m.same(to, r));
+    let stored = store(&mut m)?;
+    assert!(rt; stored);
+    assert!(rt; !m.cache_find(to, r, r));
+    m.begin_path();
+    assert!(rt; !m.cache_find(to, r, r));
     Ok(())
 }

@@ -14,7 +14,7 @@ use Rattle.long_names.specs.declared.object.Body.TheVariants.{Pointers, Words, B
 use Rattle.long_names.specs.declared.object.Object.{Object}
 use Rattle.long_names.specs.declared.object.Rec.{Rec}
 use Rattle.object_memory.specs.Records.{object_of_rec, object_in, Rise, AreWhole}
-use Rattle.object_memory.specs.tests.Base.{base_recs}
+use Rattle.object_memory.specs.Base.{base_recs}
 
 both : (a b : Bool) → (a && b) ≡ true → (a ≡ true) × (b ≡ true)
 both true true e = (refl, refl)

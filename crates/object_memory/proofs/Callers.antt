@@ -1,7 +1,5 @@
 -- What a caller may do, from what it knows of registers and of the objects that they name.
-use Rattle.std.proofs.lemmas.Grind.{common_steps}
-use Rattle.std.proofs.lemmas.Option.{slice_get-get_or}
-use Rattle.std.proofs.Common.{zero, suc, ◌≡◌, ℕ, ℤ, ◌+◌, ◌^◌, ◌<◌, ◌≤◌, true, false, ◌||◌, List, [], ◌∷◌, length, All, Option, Some, None, IsTrue, is_some, refl, sym, ap, ◌∙◌, subst, arith}
+use Rattle.std.proofs.Common.{zero, suc, ◌≡◌, ℕ, ℤ, ◌+◌, ◌^◌, ◌<◌, ◌≤◌, true, List, [], ◌∷◌, length, All, Option, Some, None, IsTrue, is_some, refl, sym, ap, subst, arith}
 use Rattle.std.specs.Option.{option_and_then}
 use Rattle.std.specs.List.{slice_get}
 use Rattle.long_names.specs.declared.value.Value.{Value}
@@ -10,11 +8,10 @@ use Rattle.long_names.specs.declared.object.Body.{Body}
 use Rattle.long_names.specs.declared.object.Body.TheVariants.{Pointers, Words, Bytes, Method}
 use Rattle.long_names.specs.declared.object.Object.{Object}
 use Rattle.long_names.specs.Names.{SMALL_INTEGER, is_known}
-use Rattle.long_names.specs.Objects.{kind_of, len_of, fields_of, field_of, header_of, pointers_of, literals_of, words_of, bytes_of, text_of, holds, Making, CanMake}
-use Rattle.long_names.specs.Heap.{Heap, Has}
-use Rattle.long_names.specs.Kept.{any_below, holds_at}
+use Rattle.long_names.specs.Objects.{kind_of, len_of, field_of, header_of, pointers_of, literals_of, words_of, bytes_of, text_of, holds, Making, CanMake}
+use Rattle.long_names.specs.Kept.{holds_at}
 use Rattle.long_names.specs.Thin.{IsWhole}
-use Rattle.long_names.specs.State.{IsRef, object_at, class_at, part_at, HasPart}
+use Rattle.long_names.specs.State.{IsRef, object_at, class_at}
 use Rattle.long_names.specs.Access.{Known, Class, KindOf, Length, Header, Field, SetField, Word, SetWord, Byte, SetByte, ReadWords, WriteWords, ReadBytes, Make, Pin, Mark, Say, is_held}
 use Rattle.long_names.proofs.ThinLemmas.{has, or_first, or_second}
 use Rattle.long_names.proofs.KeptLaws.{any_below-from, holding}

@@ -1,9 +1,9 @@
 -- What several calls leave, put together: later, base and made, the cache.
-use Rattle.std.proofs.Common.{◌≡◌, ℕ, ◌+◌, ◌≤◌, Bool, true, false, ◌||◌, eqb, Option, Some, None, ◌⊎◌, inl, inr, refl, sym, ◌∙◌, ap, arith}
+use Rattle.std.proofs.Common.{◌≡◌, ℕ, ◌+◌, Bool, true, false, ◌||◌, eqb, Option, Some, None, inl, inr, refl, sym, ◌∙◌, ap, arith}
 use Rattle.std.proofs.lemmas.Grind.{common_steps}
 use Rattle.long_names.proofs.ThinLemmas.{or_second}
 use Rattle.object_memory.specs.Told.{Told, Bounds, Cache}
-use Rattle.object_memory.specs.Contract.{SameBounds, IsLater, Raised, IsKeptCache, IsEmptied, LeavesCache, with_mark}
+use Rattle.object_memory.specs.Contract.{SameBounds, IsLater, Raised, IsEmptied, LeavesCache, with_mark}
 
 -- ---- later
 

@@ -1,7 +1,7 @@
 -- What an access leaves of registers, slots and objects, and what stores and makings are of the heap before the reads before them.
-use Rattle.std.proofs.Common.{zero, suc, ◌≡◌, ℕ, ℤ, ◌+◌, ◌<◌, ◌≤◌, Bool, true, false, cond, eqb, List, [], ◌∷◌, ◌++◌, length, take, drop, replicate, Option, Some, None, is_some, Ok, IsTrue, refl, sym, ◌∙◌, ap, subst, arith, length-take, length-drop, length-append}
+use Rattle.std.proofs.Common.{zero, suc, ◌≡◌, ℕ, ◌+◌, ◌≤◌, Bool, true, false, cond, eqb, List, [], ◌∷◌, length, Option, Some, None, Ok, IsTrue, refl, sym, ◌∙◌, ap, subst, arith, length-take, length-drop, length-append}
 use Rattle.std.proofs.lemmas.Grind.{common_steps}
-use Rattle.std.proofs.lemmas.List.{length-set, length-replicate}
+use Rattle.std.proofs.lemmas.List.{length-set}
 use Rattle.std.specs.Option.{option_and_then, option_map, option_map_or}
 use Rattle.std.specs.List.{slice_get, slice_set}
 use Rattle.long_names.specs.declared.value.Value.{Value}
@@ -11,18 +11,16 @@ use Rattle.long_names.specs.declared.object.Body.{Body}
 use Rattle.long_names.specs.declared.object.Body.TheVariants.{Pointers, Words, Bytes, Method}
 use Rattle.long_names.specs.declared.object.Object.{Object}
 use Rattle.long_names.specs.declared.object.Kind.TheVariants as kind
-use Rattle.long_names.specs.Names.{NIL}
-use Rattle.long_names.specs.Objects.{kind_of, len_of, fields_of, field_of, pointers_of, literals_of, words_of, bytes_of, put_run, with_field, with_words, with_bytes, Making, OfPointers, OfWords, OfBytes, OfMethod, body_made}
-use Rattle.long_names.specs.Heap.{Heap, Has, put_object, add_object}
-use Rattle.long_names.specs.State.{IsRef, name_at, set_slot, set_register, object_at, part_at, HasPart}
-use Rattle.long_names.specs.Access.{Access, Field, SetField, SetWord, SetByte, WriteWords, Make, Pin, CanDo, target_of, filled_by, heap_after, regs_after, with_body, brought}
-use Rattle.long_names.specs.Thin.{IsThinner, IsThinning, IsWhole, IsClosed}
+use Rattle.long_names.specs.Objects.{kind_of, len_of, fields_of, field_of, pointers_of, literals_of, words_of, bytes_of, put_run, with_field, with_words, with_bytes}
+use Rattle.long_names.specs.Heap.{Heap, put_object}
+use Rattle.long_names.specs.State.{IsRef, name_at, set_register, object_at, part_at}
+use Rattle.long_names.specs.Access.{Access, SetField, SetWord, SetByte, WriteWords, Pin, CanDo, target_of, filled_by, heap_after, with_body, brought}
+use Rattle.long_names.specs.Thin.{IsThinner, IsThinning}
 use Rattle.long_names.proofs.ThinLemmas.{has, IsThinner-trans}
 use Rattle.long_names.proofs.AccessLaws.{part-same, heap-thinner, whole-heap}
 use Rattle.object_memory.specs.Told.{Told, IsReady}
 use Rattle.object_memory.specs.Contract.{Does, Follows, Called, MayDo, stores}
 use Rattle.object_memory.specs.Shape.{HasPartAt, Looks, is_among, registers_of, field_count, word_count, byte_count, literals_count, fields_by, words_by, bytes_by}
-use Rattle.object_memory.proofs.Callers.{has_other, may_store}
 use Rattle.object_memory.proofs.LooksLaws.{neither, set_other}
 use Rattle.object_memory.proofs.ShapeLaws.{has_counted}
 
@@ -294,62 +292,6 @@ bytes_stored old new a of r P s e may ready x has = listed_stored old new a of r
 
 pub literals_stored : {Z : Type 0} {z : Z} (old new : Told) (a : Access) (of r : ℕ) (P : ℕ → Type 0) → stores a ≡ true → target_of a ≡ Some of → MayDo old a → IsReady new → Called old new (Does a) (Ok z) → HasPartAt old r literals_of (λ xs. P (length xs)) → HasPartAt new r literals_of (λ xs. P (length xs))
 literals_stored old new a of r P s e may ready x has = listed_stored old new a of r literals_of (λ z. literals_by z.kind z.fields) P literals-sized s e may ready x has
-
--- ---- makings
-
-made_name : (v : Value) (n : ℕ) → Some (Ref n) ≡ Some v → v ≡ Ref n
-made_name v n e = cc
-
--- the object that was made
-pub made_there : {Z : Type 0} {z : Z} (old new : Told) (to class : ℕ) (what : Making) → IsReady new → Called old new (Does (Make to class what)) (Ok z) → IsRef (new.regs to) → HasPartAt new to (λ b. Some b) (λ b. b ≡ body_made what)
-made_there old new to class what ready x ref = record {
-  name = ref;
-  there = λ told.
-      let before : IsTrue old.tells = sym x.later.tells ∙ told in
-      let is : new.regs to ≡ Ref old.heap.next = made_name (new.regs to) old.heap.next (x.ok.brings before) in
-      let found = has new.heap old.heap.next ((ready.whole told).rooted to old.heap.next is) in
-      let o : Object = record { class = name_at (old.regs class); body = body_made what } in
-      let made : (add_object old.heap o).at old.heap.next ≡ Some found.0 = (x.ok.heap before).same old.heap.next found.0 found.1 in
-      let same : o ≡ found.0 = grind (arith, common_steps, made) in
-      (body_made what, ap (λ (v : Value). part_at new.heap v (λ b. Some b)) is ∙ ap (option_and_then (λ (p : Object). Some p.body)) found.1 ∙ ap (λ (p : Object). Some p.body) (sym same), refl);
-}
-
--- and every part of another object
-pub made_apart : {A Z : Type 0} {z : Z} (old new : Told) (to class : ℕ) (what : Making) (r : ℕ) (f : Body → Option A) → eqb r to ≡ false → IsReady old → IsReady new → Called old new (Does (Make to class what)) (Ok z) → IsTrue old.tells → part_at new.heap (new.regs r) f ≡ part_at old.heap (old.regs r) f
-made_apart {A} old new to class what r f apart before ready x told =
-    part_after old new (Make to class what) r f ready x told
-    ∙ ap (λ (v : Value). part_at (heap_after old.heap old.regs (Make to class what)) v f) (ap (λ (g : ℕ → Value). g r) x.ok.regs ∙ set_other old.regs to (new.regs to) r apart)
-    ∙ go (old.regs r) refl
-  where
-    o : Object
-    o = record { class = name_at (old.regs class); body = body_made what }
-
-    low : (k : ℕ) → old.regs r ≡ Ref k → eqb k old.heap.next ≡ false
-    low k e = let whole = before.whole told in let lt = whole.below k (whole.rooted r k e) in grind (arith, common_steps)
-
-    go : (v : Value) → old.regs r ≡ v → part_at (heap_after old.heap old.regs (Make to class what)) v f ≡ part_at old.heap v f
-    go (Int z) e = refl
-    go (Ref k) e = ap (λ b. option_and_then (λ (p : Object). f p.body) (cond b (Some (record { class = name_at (old.regs class); body = body_made what })) (old.heap.at k))) (low k e)
-
-pub has_made_apart : {A Z : Type 0} {z : Z} (old new : Told) (to class : ℕ) (what : Making) (r : ℕ) (f : Body → Option A) (P : A → Type 0) → eqb r to ≡ false → IsReady old → IsReady new → Called old new (Does (Make to class what)) (Ok z) → HasPartAt old r f P → HasPartAt new r f P
-has_made_apart {A} old new to class what r f P apart before ready x has = record {
-  name = subst IsRef (sym (ap (λ (g : ℕ → Value). g r) x.ok.regs ∙ set_other old.regs to (new.regs to) r apart)) has.name;
-  there = λ told. (let was : IsTrue old.tells = sym x.later.tells ∙ told in let it = has.there was in (it.0, made_apart old new to class what r f apart before ready x was ∙ it.1, it.2));
-}
-
--- the size of an object that was made
-pub made_fields : (t : Told) (r size : ℕ) → HasPartAt t r (λ b. Some b) (λ b. b ≡ body_made (OfPointers size)) → HasPartAt t r pointers_of (λ xs. length xs ≡ size)
-made_fields t r size made = has_other t r (λ b. Some b) (λ b. b ≡ body_made (OfPointers size)) pointers_of (λ xs. length xs ≡ size) (λ b x e is. (let body : b ≡ Pointers (replicate size (Ref NIL)) = cc in (replicate size (Ref NIL), ap pointers_of body, length-replicate size (Ref NIL)))) made
-
-pub made_words : (t : Told) (r size : ℕ) → HasPartAt t r (λ b. Some b) (λ b. b ≡ body_made (OfWords size)) → HasPartAt t r words_of (λ xs. length xs ≡ size)
-made_words t r size made = has_other t r (λ b. Some b) (λ b. b ≡ body_made (OfWords size)) words_of (λ xs. length xs ≡ size) (λ b x e is. (let body : b ≡ Words (replicate size 0) = cc in (replicate size 0, ap words_of body, length-replicate size 0))) made
-
-pub made_bytes : (t : Told) (r size : ℕ) → HasPartAt t r (λ b. Some b) (λ b. b ≡ body_made (OfBytes size)) → HasPartAt t r bytes_of (λ xs. length xs ≡ size)
-made_bytes t r size made = has_other t r (λ b. Some b) (λ b. b ≡ body_made (OfBytes size)) bytes_of (λ xs. length xs ≡ size) (λ b x e is. (let body : b ≡ Bytes (replicate size 0) = cc in (replicate size 0, ap bytes_of body, length-replicate size 0))) made
-
--- a store into an object of pointers that was made
-pub may_store_new : (t : Told) (of i from size : ℕ) → HasPartAt t of (λ b. Some b) (λ b. b ≡ body_made (OfPointers size)) → i < size → MayDo t (SetField of i from)
-may_store_new t of i from size made low = may_store t of i from (has_other t of pointers_of (λ xs. length xs ≡ size) pointers_of (λ xs. i < length xs) (λ b xs e is. (xs, e, (let long = is in omega arith))) (made_fields t of size made))
 
 -- ---- over a thinning
 

@@ -1,10 +1,11 @@
-mod BaseLaws
+pub mod BaseLaws
 pub mod Callers
 pub mod CountDownLaws
 pub mod Entries
 pub mod LaterLaws
 pub mod LeftLaws
 pub mod LooksLaws
+pub mod MadeLaws
 pub mod MapLaws
 pub mod PlainLaws
 pub mod RecordLaws

@@ -1,22 +1,22 @@
 -- What reads leave, put together, and what stays known of objects meanwhile.
-use Rattle.std.proofs.Common.{◌≡◌, ℕ, ◌+◌, ◌<◌, ◌≤◌, nat_le, Bool, true, false, ◌||◌, cond, eqb, List, [], ◌∷◌, ◌++◌, Option, Some, None, Ok, IsTrue, ◌⊎◌, inl, inr, refl, sym, ◌∙◌, ap, subst, arith}
+use Rattle.std.proofs.Common.{◌≡◌, ℕ, ◌<◌, nat_le, Bool, true, false, ◌||◌, cond, eqb, List, [], ◌∷◌, ◌++◌, Option, None, Ok, IsTrue, refl, sym, ◌∙◌, ap, subst, arith}
 use Rattle.std.proofs.Math.Path.{fun_ext}
 use Rattle.std.proofs.lemmas.Grind.{common_steps}
 use Rattle.std.proofs.lemmas.List.Folds.{list_any-append}
 use borrow.Author.Tests.{leb-true}
 use Rattle.std.specs.Option.{option_and_then}
-use Rattle.std.specs.List.{list_any, list_all}
+use Rattle.std.specs.List.{list_all}
 use Rattle.long_names.specs.declared.value.Value.{Value}
 use Rattle.long_names.specs.declared.object.Body.{Body}
 use Rattle.long_names.specs.declared.object.Object.{Object}
 use Rattle.long_names.specs.Heap.{Heap}
 use Rattle.long_names.specs.State.{IsRef, set_register, object_at, part_at, HasPart}
-use Rattle.long_names.specs.Access.{Access, Known, Class, KindOf, Length, Header, Field, SetField, Word, SetWord, Byte, SetByte, ReadWords, WriteWords, ReadBytes, Make, Pin, Mark, Say}
+use Rattle.long_names.specs.Access.{Access, Known, Class, Field, SetField, SetWord, SetByte, WriteWords, Make, Pin, Mark, Say}
 use Rattle.long_names.specs.Thin.{IsThinning}
 use Rattle.long_names.proofs.ThinLemmas.{both, IsThinner-refl, IsThinner-trans}
 use Rattle.long_names.proofs.AccessLaws.{object-same}
-use Rattle.object_memory.specs.Told.{Told, Bounds, Cache, IsReady}
-use Rattle.object_memory.specs.Contract.{Does, IsLater, LeavesCache, Called}
+use Rattle.object_memory.specs.Told.{Told, IsReady}
+use Rattle.object_memory.specs.Contract.{Does, Called}
 use Rattle.object_memory.proofs.LaterLaws.{SameBounds-refl, IsLater-refl, IsLater-trans, Raised-refl, Raised-then, LeavesCache-refl, store_then}
 use Rattle.object_memory.specs.Shape.{HasPartAt, IsPartAt, IsTestAt, is_among, Looks, only_looks, registers_of}
 

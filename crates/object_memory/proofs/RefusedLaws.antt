@@ -1,5 +1,5 @@
 -- A call that is refused after reads is refused as it would have been before them, and reads of one object are one.
-use Rattle.std.proofs.Common.{◌≡◌, ℕ, ◌+◌, ◌≤◌, Bool, true, false, ◌||◌, List, [], ◌∷◌, ◌++◌, Option, Some, None, Result, Ok, Err, IsTrue, ◌⊎◌, inl, inr, refl, sym, ◌∙◌, ap, subst, arith}
+use Rattle.std.proofs.Common.{◌≡◌, ℕ, ◌+◌, ◌≤◌, Bool, true, ◌||◌, List, [], ◌++◌, Option, Some, None, Result, Ok, Err, IsTrue, inl, inr, refl, sym, ◌∙◌, ap, subst, arith}
 use Rattle.std.specs.Result.{IsErrAnd}
 use Rattle.std.proofs.lemmas.Grind.{common_steps}
 use Rattle.long_names.specs.declared.value.Value.{Value}
@@ -11,7 +11,7 @@ use Rattle.long_names.specs.Objects.{is_ref, kind_of}
 use Rattle.long_names.specs.Heap.{Heap, Has, object_count}
 use Rattle.long_names.specs.Kept.{any_below, kept}
 use Rattle.long_names.specs.State.{IsRef, REGISTERS, SLOTS}
-use Rattle.long_names.specs.Access.{Access, Known, Class, KindOf, Length, Header, Field, SetField, Word, SetWord, Byte, SetByte, ReadWords, WriteWords, ReadBytes, Make, Pin, Mark, Say, CanDo, object_of, OfKind, made_by, with_made, said_by}
+use Rattle.long_names.specs.Access.{Access, KindOf, Length, Header, Word, Byte, ReadWords, ReadBytes, Say, CanDo, object_of, OfKind, made_by, with_made, said_by}
 use Rattle.long_names.specs.Need.{words_of_row, entries_of_row, is_pinned, words_named}
 use Rattle.long_names.specs.Thin.{IsThinning}
 use Rattle.long_names.proofs.ThinLemmas.{IsThinner-trans, IsWhole-bounded, or_cases}
@@ -21,7 +21,7 @@ use Rattle.object_memory.specs.declared.fault.Need.{Need}
 use Rattle.object_memory.specs.declared.fault.MemFault.{MemFault}
 use Rattle.object_memory.specs.declared.fault.MemFault.TheVariants.{CoreFull, WorkFull, WorkFault, Damaged, NamesSpent, Said, Memory}
 use Rattle.object_memory.specs.Told.{Told, Bounds, IsReady, is_root}
-use Rattle.object_memory.specs.Contract.{Does, ForBounds, SameBounds, Raised, Lives, HasCause, IsMaking, IsSaying, TakesMemory, work_faults, said_faults, need_of_access, SaysRefused, LeavesAll, IsLeft, Refuses, Follows, Called, Accessed, IfBounds, HasCore, IsLater}
+use Rattle.object_memory.specs.Contract.{Does, ForBounds, SameBounds, Raised, Lives, HasCause, IsMaking, IsSaying, TakesMemory, work_faults, said_faults, need_of_access, SaysRefused, LeavesAll, IsLeft, Refuses, Follows, Called, Accessed, IfBounds, HasCore}
 use Rattle.object_memory.specs.Shape.{Looks, ReadsObject, only_reads}
 use Rattle.object_memory.proofs.Callers.{any_there}
 use Rattle.object_memory.proofs.LaterLaws.{IsLater-refl, IsLater-trans, Raised-then, store_then}

@@ -2,8 +2,8 @@
 use Rattle.std.proofs.lemmas.Int.{to_z-of_z}
 use mir.Val.{SFits, of_z, to_z}
 use mir.Syntax.{w16}
-use Rattle.std.proofs.Common.{◌≡◌, ℕ, ℤ, pos, negsuc, ◌<◌, ◌≤◌, ◌↔◌, Bool, true, false, List, [], ◌∷◌, length, Option, Some, None, IsTrue, is_some, refl, sym, ◌∙◌, ap, subst, arith}
-use Rattle.std.specs.Option.{IsSome, option_and_then, option_map}
+use Rattle.std.proofs.Common.{◌≡◌, ℕ, ℤ, pos, negsuc, ◌↔◌, Bool, false, List, [], length, Option, Some, None, IsTrue, is_some, refl, sym, ◌∙◌, ap, subst, arith}
+use Rattle.std.specs.Option.{option_and_then, option_map}
 use Rattle.long_names.specs.declared.value.Value.{Value}
 use Rattle.long_names.specs.declared.value.Value.TheVariants.{Int, Ref}
 use Rattle.long_names.specs.declared.object.Kind.{Kind}
@@ -12,13 +12,13 @@ use Rattle.long_names.specs.declared.object.Body.{Body}
 use Rattle.long_names.specs.declared.object.Body.TheVariants.{Pointers, Words, Bytes, Method}
 use Rattle.long_names.specs.declared.object.Object.{Object}
 use Rattle.long_names.specs.Words.{IsSmallInteger}
-use Rattle.long_names.specs.Objects.{int_of, kind_of, len_of, fields_of, pointers_of, literals_of, words_of, bytes_of, text_of}
+use Rattle.long_names.specs.Objects.{int_of, kind_of, len_of, fields_of, literals_of, text_of}
 use Rattle.long_names.specs.Heap.{Heap}
 use Rattle.long_names.specs.State.{IsRef, object_at, part_at, HasPart}
 use Rattle.long_names.specs.Access.{Answer, OfKind, OfNumber, OfSigned, answered}
 use Rattle.object_memory.specs.Told.{Told, IsReady}
 use Rattle.object_memory.specs.Shape.{HasPartAt, IsPartAt, IsTestAt, FindsPart, TestsPart, Looks, shape_of, literals_count}
-use Rattle.object_memory.proofs.LooksLaws.{found_looked, part_looked}
+use Rattle.object_memory.proofs.LooksLaws.{found_looked}
 
 -- ---- answers
 

@@ -1,3 +1,4 @@
+pub mod Base
 pub mod Told
 pub mod Contract
 pub mod Stored

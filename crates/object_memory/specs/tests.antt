@@ -1,3 +1,2 @@
 -- What tests alone cite.
-pub mod Base
 pub mod Caller

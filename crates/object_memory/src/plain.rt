@@ -1,9 +1,9 @@
 // A memory that is one map of long names.
 ghost use Rattle.std.specs.Prelude.{◌≡◌, ◌+◌, ◌<◌, ◌≤◌, ◌%◌, All, OnOk, IfOk, IfErr, IsOk, IsOkAnd, IsSome, IsTrue, Some, Ok, true, length, ◌⊎◌};
-ghost use Rattle.long_names.specs.Objects.{fields_of, IsBody, HasRange, IsObject, IsRecord, OfPointers, OfWords, OfBytes, OfMethod};
+ghost use Rattle.long_names.specs.Objects.{name_of, fields_of, IsBody, HasRange, IsObject, IsRecord, OfPointers, OfWords, OfBytes, OfMethod};
 ghost use Rattle.long_names.specs.Access.{KindOf, Length, Header, Make, Mark, Say, Nothing, OfKind, OfNumber, OfSigned};
 ghost use Rattle.long_names.specs.Words.{IsSmallInteger, literal_count};
-ghost use Rattle.long_names.specs.Heap.{add_object};
+ghost use Rattle.long_names.specs.Heap.{Has, add_object};
 ghost use Rattle.long_names.specs.Kept.{kept, no_roots};
 ghost use Rattle.long_names.specs.Names.{LAST_NAME, IsLongName};
 ghost use Rattle.long_names.specs.State.{object_at, class_at, part_at, name_at, set_register, IsRef};
@@ -81,6 +81,28 @@ impl PlainMemory {
         ensures even { result % 2 ≡ 0 }
     {
         self.objects.next()
+    }
+
+    /// The name in a register that holds one.
+    pub fn name(&self, r: Reg) -> Option<Name>
+        ensures { result ≡ name_of ((plain_told self.now).regs r) }
+    {
+        self.registers.get(r).name()
+    }
+
+    /// Puts a name into a register. Before another call the memory has to have its object.
+    pub fn put_name(&mut self, to: Reg, name: Name)
+        ensures told { plain_told self.new ≡ record (plain_told self.old) { regs = set_register (plain_told self.old).regs to (Ref name) } }
+        ensures ready { IsReady (plain_told self.old) → Has (plain_told self.old).heap name → IsReady (plain_told self.new) }
+    {
+        self.registers.set(to, Value::Ref(name));
+    }
+
+    /// Whether the lookup path is whole: no mark was taken away since it began.
+    pub fn path(&self) -> bool
+        ensures { result ≡ (plain_told self.now).cache.path }
+    {
+        self.marks.path
     }
 
     /// The records of the kept objects, by rising name, with exact counts: what is left where no register and no slot holds anything. A

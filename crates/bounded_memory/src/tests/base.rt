@@ -1,6 +1,6 @@
 // The base image, on which tests run.
 ghost use Rattle.std.specs.Prelude.{◌≡◌, ◌++◌, ◌%◌, ◌≤◌, map, OnOk, IfOk, None};
-ghost use Rattle.long_names.specs.Names.{IsName};
+ghost use Rattle.long_names.specs.Names.{IsLongName};
 ghost use Rattle.object_memory.specs.Base.{pointers_rec, empty_rec, method_rec, context_rec, base_recs};
 ghost use Rattle.object_memory.specs.Told.{IsReady};
 ghost use Rattle.object_memory.specs.Plain.{plain_told};
@@ -10,7 +10,7 @@ use object_memory::PlainMemory;
 use std::alloc::{AllocError, Global};
 
 fn name(word: u32) -> Name
-    requires { IsName word }
+    requires { IsLongName word }
     ensures { result ≡ word }
 {
     let Some(name) = Name::new(word) else {

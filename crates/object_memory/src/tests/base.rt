@@ -1,7 +1,7 @@
 // The base image, on which tests run.
 ghost use Rattle.std.specs.Prelude.{◌≡◌, ◌++◌, ◌%◌, ◌≤◌, map, OnOk, IfOk, false};
 ghost use Rattle.long_names.specs.Names.{IsLongName};
-ghost use Rattle.object_memory.specs.tests.Base.{pointers_rec, empty_rec, method_rec, context_rec, base_recs};
+ghost use Rattle.object_memory.specs.Base.{pointers_rec, empty_rec, method_rec, context_rec, base_recs};
 ghost use Rattle.object_memory.specs.Told.{IsReady};
 ghost use Rattle.object_memory.specs.Plain.{plain_told};
 

@@ -1,9 +1,8 @@
-use Rattle.std.proofs.Common.{◌≡◌, ℕ, ℤ, pos, ◌+ℤ◌, ◌<◌, false, [], ◌∷◌, length, Some, refl, sym, ◌∙◌, ap, arith}
+use Rattle.std.proofs.Common.{pos, ◌+ℤ◌, ◌<◌, [], ◌∷◌, length, Some, refl, sym, ◌∙◌, ap}
 use Rattle.long_names.specs.declared.value.Value.TheVariants.{Int}
 use Rattle.long_names.specs.Objects.{field_of, pointers_of}
 use Rattle.long_names.specs.State.{set_register}
 use Rattle.long_names.specs.Access.{Field}
-use Rattle.object_memory.specs.Told.{Told}
 use Rattle.object_memory.specs.Shape.{Looks}
 use Rattle.object_memory.proofs.Callers.{may_field, may_store}
 use Rattle.object_memory.proofs.LooksLaws.{Looks-trans, looked, put_looks, put_value, part_looked, has_looked, below_among}

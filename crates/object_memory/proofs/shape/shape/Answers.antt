@@ -1,4 +1,4 @@
-use Rattle.std.proofs.Common.{Some, IsTrue, is_some, refl, sym, ◌∙◌, ap}
+use Rattle.std.proofs.Common.{Some, is_some, refl, sym, ◌∙◌, ap}
 use Rattle.long_names.specs.Objects.{len_of}
 use Rattle.long_names.specs.Access.{Length}
 use Rattle.object_memory.specs.Shape.{shape_of}

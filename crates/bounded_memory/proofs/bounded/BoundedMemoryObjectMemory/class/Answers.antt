@@ -1,6 +1,7 @@
 use Rattle.std.proofs.Common.{refl}
 use Rattle.long_names.specs.Access.{Class, Nothing}
-use Rattle.bounded_memory.proofs.MemoryLaws.{ready-below, may-below, not-fitting, forwards, stays-sound}
+use Rattle.bounded_memory.specs.Bounded.{bounded_told}
+use Rattle.bounded_memory.proofs.MemoryLaws.{number-core, ready-below, may-below, not-fitting, forwards, stays-sound, ready-after}
 use Rattle.bounded_memory.proofs.bounded.BoundedMemoryObjectMemory.class.Goals as goal
 
 pub returns-then-is_some-clause-sound : goal.returns-then-is_some-clause-sound
@@ -22,3 +23,12 @@ returns-clause-access c = forwards c.args.self.now c.fits.new.self c.class-2.new
 
 pub returns-clause-sound : goal.returns-clause-sound
 returns-clause-sound c = stays-sound c.args.self.now c.fits.new.self c.class-2.new.self (Class c.args.to c.args.of) (λ _. Nothing) c.class-2.result (λ x. x) refl (λ regs slots. refl) c.in_ok-fits.ensures.told c.requires.ready c.requires.may c.in_ok-fits.ensures.sound c.class-2.ensures.access c.class-2.ensures.ready
+
+pub returns-clause-ready : goal.returns-clause-ready
+returns-clause-ready c = ready-after c.args.self.now c.fits.new.self c.class-2.new.self (Class c.args.to c.args.of) (λ _. Nothing) c.class-2.result c.in_ok-fits.ensures.told c.requires.ready c.class-2.ensures.access c.class-2.ensures.ready
+
+pub returns-then-is_some-clause-ready : goal.returns-then-is_some-clause-ready
+returns-then-is_some-clause-ready c = ready-after c.args.self.now c.args.self.now c.class.new.self (Class c.args.to c.args.of) (λ _. Nothing) c.class.result refl c.requires.ready c.class.ensures.access c.class.ensures.ready
+
+pub returns-then-is_some-clause-access : goal.returns-then-is_some-clause-access
+returns-then-is_some-clause-access c = forwards c.args.self.now c.args.self.now c.class.new.self (Class c.args.to c.args.of) (λ _. Nothing) c.class.result (λ x. x) refl refl (λ told. number-core (bounded_told c.args.self.now).heap ((bounded_told c.args.self.now).regs c.args.of) c.args.self.now.limits.core (let number = c.as_int.ensures.number in let some = c.is_some.ensures in let is = c.if-is_some.true in cc)) c.class.ensures.access

@@ -1,6 +1,6 @@
 use Rattle.std.proofs.Common.{refl}
 use Rattle.long_names.specs.Access.{Field, Nothing}
-use Rattle.bounded_memory.proofs.MemoryLaws.{ready-below, may-below, not-fitting, forwards, stays-sound}
+use Rattle.bounded_memory.proofs.MemoryLaws.{ready-below, may-below, not-fitting, forwards, stays-sound, ready-after}
 use Rattle.bounded_memory.proofs.bounded.BoundedMemoryObjectMemory.field.Goals as goal
 
 pub returns-in_err-fits-clause-access : goal.returns-in_err-fits-clause-access
@@ -19,3 +19,6 @@ returns-clause-access c = forwards c.args.self.now c.fits.new.self c.field.new.s
 
 pub returns-clause-sound : goal.returns-clause-sound
 returns-clause-sound c = stays-sound c.args.self.now c.fits.new.self c.field.new.self (Field c.args.to c.args.of c.args.i) (λ _. Nothing) c.field.result (λ x. x) refl (λ regs slots. refl) c.in_ok-fits.ensures.told c.requires.ready c.requires.may c.in_ok-fits.ensures.sound c.field.ensures.access c.field.ensures.ready
+
+pub returns-clause-ready : goal.returns-clause-ready
+returns-clause-ready c = ready-after c.args.self.now c.fits.new.self c.field.new.self (Field c.args.to c.args.of c.args.i) (λ _. Nothing) c.field.result c.in_ok-fits.ensures.told c.requires.ready c.field.ensures.access c.field.ensures.ready

@@ -1,7 +1,7 @@
 use Rattle.std.proofs.Common.{◌∙◌}
 use Rattle.long_names.specs.Objects.{OfBytes}
 use Rattle.bounded_memory.proofs.SizeLaws.{bytes-size}
-use Rattle.bounded_memory.proofs.MemoryLaws.{cannot-make, makes-object, makes-sound}
+use Rattle.bounded_memory.proofs.MemoryLaws.{cannot-make, makes-object, makes-sound, makes-ready}
 use Rattle.bounded_memory.proofs.bounded.BoundedMemoryObjectMemory.new_bytes.Goals as goal
 
 pub returns-in_err-can_make-clause-access : goal.returns-in_err-can_make-clause-access
@@ -17,3 +17,6 @@ returns-clause-access c =
 
 pub returns-clause-sound : goal.returns-clause-sound
 returns-clause-sound c = makes-sound c.args.self.now c.can_make.new.self c.new_bytes-result.new.self c.made.new.self c.args.to c.args.class (OfBytes c.args.n) c.new_bytes-result.result c.made.result c.in_ok-can_make.ensures.kept c.requires.ready c.requires.sound c.new_bytes-result.ensures.access c.new_bytes-result.ensures.ready c.made.ensures.ok c.made.ensures.err
+
+pub returns-clause-ready : goal.returns-clause-ready
+returns-clause-ready c = makes-ready c.args.self.now c.can_make.new.self c.new_bytes-result.new.self c.made.new.self c.args.to c.args.class (OfBytes c.args.n) c.new_bytes-result.result c.made.result c.in_ok-can_make.ensures.kept c.requires.ready c.new_bytes-result.ensures.access c.new_bytes-result.ensures.ready c.made.ensures.ok

@@ -2,7 +2,7 @@ use Rattle.std.proofs.Common.{w16, ◌∙◌}
 use Rattle.std.proofs.Math.Facts.{to_z-of_z}
 use Rattle.long_names.specs.Objects.{OfMethod}
 use Rattle.bounded_memory.proofs.SizeLaws.{method-size}
-use Rattle.bounded_memory.proofs.MemoryLaws.{cannot-make, makes-object, makes-sound}
+use Rattle.bounded_memory.proofs.MemoryLaws.{cannot-make, makes-object, makes-sound, makes-ready}
 use Rattle.bounded_memory.proofs.bounded.BoundedMemoryObjectMemory.new_method.Goals as goal
 
 pub returns-in_err-can_make-clause-access : goal.returns-in_err-can_make-clause-access
@@ -18,3 +18,6 @@ returns-clause-access c =
 
 pub returns-clause-sound : goal.returns-clause-sound
 returns-clause-sound c = makes-sound c.args.self.now c.can_make.new.self c.new_method-result.new.self c.made.new.self c.args.to c.args.class (OfMethod c.args.header c.args.code) c.new_method-result.result c.made.result c.in_ok-can_make.ensures.kept c.requires.ready c.requires.sound (rw (to_z-of_z {w = w16} {z = c.args.header} (record { sfits = c.ranges.header.sfits })) at c.new_method-result.ensures.access) c.new_method-result.ensures.ready c.made.ensures.ok c.made.ensures.err
+
+pub returns-clause-ready : goal.returns-clause-ready
+returns-clause-ready c = makes-ready c.args.self.now c.can_make.new.self c.new_method-result.new.self c.made.new.self c.args.to c.args.class (OfMethod c.args.header c.args.code) c.new_method-result.result c.made.result c.in_ok-can_make.ensures.kept c.requires.ready (rw (to_z-of_z {w = w16} {z = c.args.header} (record { sfits = c.ranges.header.sfits })) at c.new_method-result.ensures.access) c.new_method-result.ensures.ready c.made.ensures.ok

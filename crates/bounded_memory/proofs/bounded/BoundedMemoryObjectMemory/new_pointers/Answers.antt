@@ -1,7 +1,7 @@
 use Rattle.std.proofs.Common.{◌∙◌}
 use Rattle.long_names.specs.Objects.{OfPointers}
 use Rattle.bounded_memory.proofs.SizeLaws.{pointers-size}
-use Rattle.bounded_memory.proofs.MemoryLaws.{cannot-make, makes-object, makes-sound}
+use Rattle.bounded_memory.proofs.MemoryLaws.{cannot-make, makes-object, makes-sound, makes-ready}
 use Rattle.bounded_memory.proofs.bounded.BoundedMemoryObjectMemory.new_pointers.Goals as goal
 
 pub returns-in_err-can_make-clause-access : goal.returns-in_err-can_make-clause-access
@@ -17,3 +17,6 @@ returns-clause-access c =
 
 pub returns-clause-sound : goal.returns-clause-sound
 returns-clause-sound c = makes-sound c.args.self.now c.can_make.new.self c.new_pointers-result.new.self c.made.new.self c.args.to c.args.class (OfPointers c.args.n) c.new_pointers-result.result c.made.result c.in_ok-can_make.ensures.kept c.requires.ready c.requires.sound c.new_pointers-result.ensures.access c.new_pointers-result.ensures.ready c.made.ensures.ok c.made.ensures.err
+
+pub returns-clause-ready : goal.returns-clause-ready
+returns-clause-ready c = makes-ready c.args.self.now c.can_make.new.self c.new_pointers-result.new.self c.made.new.self c.args.to c.args.class (OfPointers c.args.n) c.new_pointers-result.result c.made.result c.in_ok-can_make.ensures.kept c.requires.ready c.new_pointers-result.ensures.access c.new_pointers-result.ensures.ready c.made.ensures.ok

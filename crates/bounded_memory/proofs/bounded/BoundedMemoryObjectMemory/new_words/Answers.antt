@@ -1,7 +1,7 @@
 use Rattle.std.proofs.Common.{◌∙◌}
 use Rattle.long_names.specs.Objects.{OfWords}
 use Rattle.bounded_memory.proofs.SizeLaws.{words-size}
-use Rattle.bounded_memory.proofs.MemoryLaws.{cannot-make, makes-object, makes-sound}
+use Rattle.bounded_memory.proofs.MemoryLaws.{cannot-make, makes-object, makes-sound, makes-ready}
 use Rattle.bounded_memory.proofs.bounded.BoundedMemoryObjectMemory.new_words.Goals as goal
 
 pub returns-in_err-can_make-clause-access : goal.returns-in_err-can_make-clause-access
@@ -17,3 +17,6 @@ returns-clause-access c =
 
 pub returns-clause-sound : goal.returns-clause-sound
 returns-clause-sound c = makes-sound c.args.self.now c.can_make.new.self c.new_words-result.new.self c.made.new.self c.args.to c.args.class (OfWords c.args.n) c.new_words-result.result c.made.result c.in_ok-can_make.ensures.kept c.requires.ready c.requires.sound c.new_words-result.ensures.access c.new_words-result.ensures.ready c.made.ensures.ok c.made.ensures.err
+
+pub returns-clause-ready : goal.returns-clause-ready
+returns-clause-ready c = makes-ready c.args.self.now c.can_make.new.self c.new_words-result.new.self c.made.new.self c.args.to c.args.class (OfWords c.args.n) c.new_words-result.result c.made.result c.in_ok-can_make.ensures.kept c.requires.ready c.new_words-result.ensures.access c.new_words-result.ensures.ready c.made.ensures.ok

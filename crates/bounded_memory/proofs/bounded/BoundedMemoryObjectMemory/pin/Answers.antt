@@ -1,6 +1,6 @@
 use Rattle.std.proofs.Common.{Ok, refl}
 use Rattle.long_names.specs.Access.{Pin, Nothing}
-use Rattle.bounded_memory.proofs.MemoryLaws.{ready-below, may-below, not-fitting, forwards, pin-sound}
+use Rattle.bounded_memory.proofs.MemoryLaws.{ready-below, may-below, not-fitting, forwards, pin-sound, ready-after}
 use Rattle.bounded_memory.proofs.bounded.BoundedMemoryObjectMemory.pin.Goals as goal
 
 pub returns-in_err-pin-clause-access : goal.returns-in_err-pin-clause-access
@@ -19,3 +19,6 @@ returns-clause-access c = forwards c.args.self.now c.fits.new.self c.pin.new.sel
 
 pub returns-clause-sound : goal.returns-clause-sound
 returns-clause-sound c = pin-sound c.args.self.now c.fits.new.self c.pin.new.self c.set.new.self c.args.slot c.args.r c.in_ok-pin.pin c.in_ok-pin-2.field-0 c.in_ok-pin.ensures.told c.requires.ready c.requires.may c.in_ok-pin.ensures.sound c.in_ok-pin-2.ensures.access c.in_ok-pin-2.ensures.ready c.in_ok-pin.ensures.pin c.set.ensures
+
+pub returns-clause-ready : goal.returns-clause-ready
+returns-clause-ready c = ready-after c.args.self.now c.fits.new.self c.pin.new.self (Pin c.args.slot c.args.r) (λ _. Nothing) (Ok c.in_ok-pin-2.field-0) c.in_ok-pin.ensures.told c.requires.ready c.in_ok-pin-2.ensures.access c.in_ok-pin-2.ensures.ready

@@ -1,6 +1,6 @@
 use Rattle.std.proofs.Common.{length, refl}
 use Rattle.long_names.specs.Access.{ReadBytes, OfRun}
-use Rattle.bounded_memory.proofs.MemoryLaws.{ready-below, may-below, not-fitting, forwards, stays-sound}
+use Rattle.bounded_memory.proofs.MemoryLaws.{ready-below, may-below, not-fitting, forwards, stays-sound, ready-after}
 use Rattle.bounded_memory.proofs.bounded.BoundedMemoryObjectMemory.read_bytes.Goals as goal
 
 pub returns-in_err-fits-clause-access : goal.returns-in_err-fits-clause-access
@@ -19,3 +19,6 @@ returns-clause-access c = forwards c.args.self.now c.fits.new.self c.read_bytes.
 
 pub returns-clause-sound : goal.returns-clause-sound
 returns-clause-sound c = stays-sound c.args.self.now c.fits.new.self c.read_bytes.new.self (ReadBytes c.args.of c.args.at (length c.args.out.now)) (λ _. OfRun c.read_bytes.new.out) c.read_bytes.result (λ x. x) refl (λ regs slots. refl) c.in_ok-fits.ensures.told c.requires.ready c.requires.may c.in_ok-fits.ensures.sound c.read_bytes.ensures.access c.read_bytes.ensures.ready
+
+pub returns-clause-ready : goal.returns-clause-ready
+returns-clause-ready c = ready-after c.args.self.now c.fits.new.self c.read_bytes.new.self (ReadBytes c.args.of c.args.at (length c.args.out.now)) (λ _. OfRun c.read_bytes.new.out) c.read_bytes.result c.in_ok-fits.ensures.told c.requires.ready c.read_bytes.ensures.access c.read_bytes.ensures.ready

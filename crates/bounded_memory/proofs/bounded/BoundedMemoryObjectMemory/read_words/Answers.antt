@@ -1,6 +1,6 @@
 use Rattle.std.proofs.Common.{length, refl}
 use Rattle.long_names.specs.Access.{ReadWords, OfRun}
-use Rattle.bounded_memory.proofs.MemoryLaws.{ready-below, may-below, not-fitting, forwards, stays-sound}
+use Rattle.bounded_memory.proofs.MemoryLaws.{ready-below, may-below, not-fitting, forwards, stays-sound, ready-after}
 use Rattle.bounded_memory.proofs.bounded.BoundedMemoryObjectMemory.read_words.Goals as goal
 
 pub returns-in_err-fits-clause-access : goal.returns-in_err-fits-clause-access
@@ -19,3 +19,6 @@ returns-clause-access c = forwards c.args.self.now c.fits.new.self c.read_words.
 
 pub returns-clause-sound : goal.returns-clause-sound
 returns-clause-sound c = stays-sound c.args.self.now c.fits.new.self c.read_words.new.self (ReadWords c.args.of c.args.at (length c.args.out.now)) (λ _. OfRun c.read_words.new.out) c.read_words.result (λ x. x) refl (λ regs slots. refl) c.in_ok-fits.ensures.told c.requires.ready c.requires.may c.in_ok-fits.ensures.sound c.read_words.ensures.access c.read_words.ensures.ready
+
+pub returns-clause-ready : goal.returns-clause-ready
+returns-clause-ready c = ready-after c.args.self.now c.fits.new.self c.read_words.new.self (ReadWords c.args.of c.args.at (length c.args.out.now)) (λ _. OfRun c.read_words.new.out) c.read_words.result c.in_ok-fits.ensures.told c.requires.ready c.read_words.ensures.access c.read_words.ensures.ready

@@ -1,6 +1,6 @@
 use Rattle.std.proofs.Common.{refl}
 use Rattle.long_names.specs.Access.{Say, Nothing}
-use Rattle.bounded_memory.proofs.MemoryLaws.{ready-below, may-below, not-fitting, completes, completes-sound}
+use Rattle.bounded_memory.proofs.MemoryLaws.{ready-below, may-below, not-fitting, completes, completes-sound, completes-ready}
 use Rattle.bounded_memory.proofs.bounded.BoundedMemoryObjectMemory.say.Goals as goal
 
 pub returns-in_err-fits-clause-access : goal.returns-in_err-fits-clause-access
@@ -21,3 +21,6 @@ returns-clause-access c =
 
 pub returns-clause-sound : goal.returns-clause-sound
 returns-clause-sound c = completes-sound c.args.self.now c.fits.new.self c.say-result.new.self c.answered.new.self (Say c.args.of) c.say-result.result c.answered.result (λ regs slots. refl) c.in_ok-fits.ensures.told c.requires.ready c.requires.may c.in_ok-fits.ensures.sound c.say-result.ensures.access c.say-result.ensures.ready c.answered.ensures.ok c.answered.ensures.err
+
+pub returns-clause-ready : goal.returns-clause-ready
+returns-clause-ready c = completes-ready c.args.self.now c.fits.new.self c.say-result.new.self c.answered.new.self (Say c.args.of) c.say-result.result c.answered.result c.in_ok-fits.ensures.told c.requires.ready c.say-result.ensures.access c.say-result.ensures.ready c.answered.ensures.ok

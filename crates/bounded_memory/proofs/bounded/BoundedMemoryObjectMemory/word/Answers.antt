@@ -1,6 +1,6 @@
 use Rattle.std.proofs.Common.{refl}
 use Rattle.long_names.specs.Access.{Word, OfNumber}
-use Rattle.bounded_memory.proofs.MemoryLaws.{ready-below, may-below, not-fitting, forwards, stays-sound}
+use Rattle.bounded_memory.proofs.MemoryLaws.{ready-below, may-below, not-fitting, forwards, stays-sound, ready-after}
 use Rattle.bounded_memory.proofs.bounded.BoundedMemoryObjectMemory.word.Goals as goal
 
 pub returns-in_err-fits-clause-access : goal.returns-in_err-fits-clause-access
@@ -19,3 +19,6 @@ returns-clause-access c = forwards c.args.self.now c.fits.new.self c.word.new.se
 
 pub returns-clause-sound : goal.returns-clause-sound
 returns-clause-sound c = stays-sound c.args.self.now c.fits.new.self c.word.new.self (Word c.args.of c.args.i) OfNumber c.word.result (λ x. x) refl (λ regs slots. refl) c.in_ok-fits.ensures.told c.requires.ready c.requires.may c.in_ok-fits.ensures.sound c.word.ensures.access c.word.ensures.ready
+
+pub returns-clause-ready : goal.returns-clause-ready
+returns-clause-ready c = ready-after c.args.self.now c.fits.new.self c.word.new.self (Word c.args.of c.args.i) OfNumber c.word.result c.in_ok-fits.ensures.told c.requires.ready c.word.ensures.access c.word.ensures.ready

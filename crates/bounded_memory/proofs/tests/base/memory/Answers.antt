@@ -1,7 +1,7 @@
 use Rattle.std.proofs.Common.{List, sym, subst}
 use Rattle.long_names.specs.declared.object.Rec.{Rec}
 use Rattle.object_memory.specs.Records.{AreWhole}
-use Rattle.bounded_memory.proofs.BaseLaws.{base-whole}
+use Rattle.object_memory.proofs.BaseLaws.{base-whole}
 use Rattle.bounded_memory.proofs.tests.base.memory.Goals as goal
 
 pub from_recs-requires : goal.from_recs-requires

@@ -1,5 +1,5 @@
 use Rattle.std.proofs.Common.{◌≡◌, ◌++◌, take, map}
-use Rattle.object_memory.specs.tests.Base.{empty_rec}
+use Rattle.object_memory.specs.Base.{empty_rec}
 use Rattle.object_memory.proofs.tests.base.push_empty.Given as goal
 
 abbrev pub invariant-loop-name : goal.invariant-loop-name

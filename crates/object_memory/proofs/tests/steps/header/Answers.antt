@@ -1,4 +1,3 @@
-use Rattle.std.proofs.Common.{refl}
 use Rattle.long_names.specs.Objects.{literals_of}
 use Rattle.object_memory.proofs.Callers.{may_header}
 use Rattle.object_memory.proofs.ShapeLaws.{sized}
