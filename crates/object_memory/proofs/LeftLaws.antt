@@ -20,8 +20,8 @@ use Rattle.long_names.proofs.ThinLemmas.{has, IsThinner-trans}
 use Rattle.long_names.proofs.AccessLaws.{part-same, heap-thinner, whole-heap}
 use Rattle.object_memory.specs.Told.{Told, IsReady}
 use Rattle.object_memory.specs.Contract.{Does, Follows, Called, MayDo, stores}
-use Rattle.object_memory.specs.Shape.{HasPartAt, Looks, is_among, registers_of, field_count, word_count, byte_count, literals_count, fields_by, words_by, bytes_by}
-use Rattle.object_memory.proofs.LooksLaws.{neither, set_other}
+use Rattle.object_memory.specs.Shape.{HasPartAt, Looks, is_among, field_count, word_count, byte_count, literals_count, fields_by, words_by, bytes_by}
+use Rattle.object_memory.proofs.LooksLaws.{registers_of, neither, set_other}
 use Rattle.object_memory.proofs.ShapeLaws.{has_counted}
 
 -- ---- registers and slots

@@ -4,21 +4,39 @@ use Rattle.std.proofs.Math.Path.{fun_ext}
 use Rattle.std.proofs.lemmas.Grind.{common_steps}
 use Rattle.std.proofs.lemmas.List.Folds.{list_any-append}
 use borrow.Author.Tests.{leb-true}
-use Rattle.std.specs.Option.{option_and_then}
+use Rattle.std.specs.Option.{option_and_then, option_map_or}
 use Rattle.std.specs.List.{list_all}
 use Rattle.long_names.specs.declared.value.Value.{Value}
 use Rattle.long_names.specs.declared.object.Body.{Body}
 use Rattle.long_names.specs.declared.object.Object.{Object}
 use Rattle.long_names.specs.Heap.{Heap}
 use Rattle.long_names.specs.State.{IsRef, set_register, object_at, part_at, HasPart}
-use Rattle.long_names.specs.Access.{Access, Known, Class, Field, SetField, SetWord, SetByte, WriteWords, Make, Pin, Mark, Say}
+use Rattle.long_names.specs.Access.{Access, Known, Class, KindOf, Field, SetField, SetWord, SetByte, WriteWords, Make, Pin, Mark, Say, filled_by}
 use Rattle.long_names.specs.Thin.{IsThinning}
 use Rattle.long_names.proofs.ThinLemmas.{both, IsThinner-refl, IsThinner-trans}
 use Rattle.long_names.proofs.AccessLaws.{object-same}
 use Rattle.object_memory.specs.Told.{Told, IsReady}
 use Rattle.object_memory.specs.Contract.{Does, Called}
 use Rattle.object_memory.proofs.LaterLaws.{SameBounds-refl, IsLater-refl, IsLater-trans, Raised-refl, Raised-then, LeavesCache-refl, store_then}
-use Rattle.object_memory.specs.Shape.{HasPartAt, IsPartAt, IsTestAt, is_among, Looks, only_looks, registers_of}
+use Rattle.object_memory.specs.Shape.{HasPartAt, IsPartAt, IsTestAt, is_among, Looks, ReadsObject}
+
+-- ---- accesses
+
+-- whether an access stores, makes, pins, marks and says nothing
+abbrev pub only_looks : Access → Bool
+only_looks (SetField of i from) = false
+only_looks (SetWord of i word) = false
+only_looks (SetByte of i byte) = false
+only_looks (WriteWords of at run) = false
+only_looks (Make to class what) = false
+only_looks (Pin slot of) = false
+only_looks (Mark of) = false
+only_looks (Say of) = false
+only_looks _ = true
+
+-- the registers that it fills
+abbrev pub registers_of : Access → List ℕ
+registers_of a = option_map_or (λ to. to ∷ []) (filled_by a) []
 
 -- ---- put together
 
@@ -85,23 +103,27 @@ pub Looks-weaker : (xs ys : List ℕ) (a b : Told) → ((r : ℕ) → is_among y
 Looks-weaker xs ys a b fewer x = record { later = x.later; regs = λ r e. x.regs r (fewer r e); slots = x.slots; transcript = x.transcript; heap = x.heap; cache = x.cache; counts = x.counts; refusals = x.refusals; last = x.last }
 
 -- an access that was answered
-pub looked : {Z : Type 0} {z : Z} (old new : Told) (a : Access) → only_looks a ≡ true → Called old new (Does a) (Ok z) → Looks (registers_of a) old new
-looked old new (Known to name) e f = record { later = f.later; regs = filled old new to f.ok.regs; slots = f.ok.slots; transcript = f.ok.transcript; heap = f.ok.heap; cache = f.ok.cache; counts = f.ok.counts; refusals = f.ok.refusals; last = f.ok.last }
-looked old new (Class to of) e f = record { later = f.later; regs = filled old new to f.ok.regs; slots = f.ok.slots; transcript = f.ok.transcript; heap = f.ok.heap; cache = f.ok.cache; counts = f.ok.counts; refusals = f.ok.refusals; last = f.ok.last }
-looked old new (Field to of i) e f = record { later = f.later; regs = filled old new to f.ok.regs; slots = f.ok.slots; transcript = f.ok.transcript; heap = f.ok.heap; cache = f.ok.cache; counts = f.ok.counts; refusals = f.ok.refusals; last = f.ok.last }
-looked old new (SetField of i from) e f = let no : ◌≡◌ {A = Bool} false true = e in cc
-looked old new (SetWord of i word) e f = let no : ◌≡◌ {A = Bool} false true = e in cc
-looked old new (SetByte of i byte) e f = let no : ◌≡◌ {A = Bool} false true = e in cc
-looked old new (WriteWords of at run) e f = let no : ◌≡◌ {A = Bool} false true = e in cc
-looked old new (Make to class what) e f = let no : ◌≡◌ {A = Bool} false true = e in cc
-looked old new (Pin slot of) e f = let no : ◌≡◌ {A = Bool} false true = e in cc
-looked old new (Mark of) e f = let no : ◌≡◌ {A = Bool} false true = e in cc
-looked old new (Say of) e f = let no : ◌≡◌ {A = Bool} false true = e in cc
-looked old new _ e f = record { later = f.later; regs = λ r e. ap (λ (g : ℕ → Value). g r) f.ok.regs; slots = f.ok.slots; transcript = f.ok.transcript; heap = f.ok.heap; cache = f.ok.cache; counts = f.ok.counts; refusals = f.ok.refusals; last = f.ok.last }
+pub Looks-access : {Z : Type 0} {z : Z} (old new : Told) (a : Access) → only_looks a ≡ true → Called old new (Does a) (Ok z) → Looks (registers_of a) old new
+Looks-access old new (Known to name) e f = record { later = f.later; regs = filled old new to f.ok.regs; slots = f.ok.slots; transcript = f.ok.transcript; heap = f.ok.heap; cache = f.ok.cache; counts = f.ok.counts; refusals = f.ok.refusals; last = f.ok.last }
+Looks-access old new (Class to of) e f = record { later = f.later; regs = filled old new to f.ok.regs; slots = f.ok.slots; transcript = f.ok.transcript; heap = f.ok.heap; cache = f.ok.cache; counts = f.ok.counts; refusals = f.ok.refusals; last = f.ok.last }
+Looks-access old new (Field to of i) e f = record { later = f.later; regs = filled old new to f.ok.regs; slots = f.ok.slots; transcript = f.ok.transcript; heap = f.ok.heap; cache = f.ok.cache; counts = f.ok.counts; refusals = f.ok.refusals; last = f.ok.last }
+Looks-access old new (SetField of i from) e f = let no : ◌≡◌ {A = Bool} false true = e in cc
+Looks-access old new (SetWord of i word) e f = let no : ◌≡◌ {A = Bool} false true = e in cc
+Looks-access old new (SetByte of i byte) e f = let no : ◌≡◌ {A = Bool} false true = e in cc
+Looks-access old new (WriteWords of at run) e f = let no : ◌≡◌ {A = Bool} false true = e in cc
+Looks-access old new (Make to class what) e f = let no : ◌≡◌ {A = Bool} false true = e in cc
+Looks-access old new (Pin slot of) e f = let no : ◌≡◌ {A = Bool} false true = e in cc
+Looks-access old new (Mark of) e f = let no : ◌≡◌ {A = Bool} false true = e in cc
+Looks-access old new (Say of) e f = let no : ◌≡◌ {A = Bool} false true = e in cc
+Looks-access old new _ e f = record { later = f.later; regs = λ r e. ap (λ (g : ℕ → Value). g r) f.ok.regs; slots = f.ok.slots; transcript = f.ok.transcript; heap = f.ok.heap; cache = f.ok.cache; counts = f.ok.counts; refusals = f.ok.refusals; last = f.ok.last }
+
+-- calls that asked what an object is, and were answered
+pub Looks-read : {Z : Type 0} {z : Z} (old new : Told) (of : ℕ) → ReadsObject old new of (Ok z) → Looks [] old new
+Looks-read old new of read = Looks-access old new (KindOf of) refl read.called
 
 -- a value that was put into a register
-pub put_looks : (old new : Told) (to : ℕ) (v : Value) → new ≡ (record old { regs = set_register old.regs to v }) → Looks (to ∷ []) old new
-put_looks old new to v e = subst (λ (t : Told). Looks (to ∷ []) old t) (sym e) (record {
+pub Looks-put : (old new : Told) (to : ℕ) (v : Value) → new ≡ (record old { regs = set_register old.regs to v }) → Looks (to ∷ []) old new
+Looks-put old new to v e = subst (λ (t : Told). Looks (to ∷ []) old t) (sym e) (record {
   later = record { tells = refl; speaks = refl; bounds = SameBounds-refl old.bounds; refusals = omega arith };
   regs = λ r e. set_other old.regs to v r (neither (eqb r to) false e).0;
   slots = refl;
@@ -117,8 +139,8 @@ pub put_value : (old new : Told) (to : ℕ) (v : Value) → new ≡ (record old 
 put_value old new to v e = ap (λ (t : Told). t.regs to) e ∙ set_same old.regs to v
 
 -- all registers, where none was filled
-pub looked-regs : (old new : Told) → Looks [] old new → new.regs ≡ old.regs
-looked-regs old new x = fun_ext (λ r. x.regs r refl)
+pub regs_looked : (old new : Told) → Looks [] old new → new.regs ≡ old.regs
+regs_looked old new x = fun_ext (λ r. x.regs r refl)
 
 -- ---- what stays known
 

@@ -16,9 +16,9 @@ use Rattle.long_names.specs.Access.{Access, SetField, SetWord, SetByte, WriteWor
 use Rattle.long_names.proofs.ThinLemmas.{has}
 use Rattle.object_memory.specs.Told.{Told, IsReady}
 use Rattle.object_memory.specs.Contract.{Does, Called, MayDo, stores}
-use Rattle.object_memory.specs.Shape.{HasPartAt, is_among, registers_of}
+use Rattle.object_memory.specs.Shape.{HasPartAt, is_among}
 use Rattle.object_memory.proofs.Callers.{has_other, may_store}
-use Rattle.object_memory.proofs.LooksLaws.{neither, set_other}
+use Rattle.object_memory.proofs.LooksLaws.{registers_of, neither, set_other}
 use Rattle.object_memory.proofs.LeftLaws.{regs_left, part_after}
 
 -- ---- makings

@@ -22,10 +22,21 @@ use Rattle.object_memory.specs.declared.fault.MemFault.{MemFault}
 use Rattle.object_memory.specs.declared.fault.MemFault.TheVariants.{CoreFull, WorkFull, WorkFault, Damaged, NamesSpent, Said, Memory}
 use Rattle.object_memory.specs.Told.{Told, Bounds, IsReady, is_root}
 use Rattle.object_memory.specs.Contract.{Does, ForBounds, SameBounds, Raised, Lives, HasCause, IsMaking, IsSaying, TakesMemory, work_faults, said_faults, need_of_access, SaysRefused, LeavesAll, IsLeft, Refuses, Follows, Called, Accessed, IfBounds, HasCore}
-use Rattle.object_memory.specs.Shape.{Looks, ReadsObject, only_reads}
+use Rattle.object_memory.specs.Shape.{Looks, ReadsObject}
 use Rattle.object_memory.proofs.Callers.{any_there}
 use Rattle.object_memory.proofs.LaterLaws.{IsLater-refl, IsLater-trans, Raised-then, store_then}
-use Rattle.object_memory.proofs.LooksLaws.{Looks-refl, Looks-trans, looked, looked-regs}
+use Rattle.object_memory.proofs.LooksLaws.{Looks-refl, Looks-trans, Looks-access, Looks-read, regs_looked}
+
+-- the register whose object it reads, where it fills no register and changes nothing
+abbrev pub only_reads : Access → Option ℕ
+only_reads (KindOf of) = Some of
+only_reads (Length of) = Some of
+only_reads (Header of) = Some of
+only_reads (Word of i) = Some of
+only_reads (Byte of i) = Some of
+only_reads (ReadWords of at count) = Some of
+only_reads (ReadBytes of at count) = Some of
+only_reads _ = None
 
 -- ---- the cause
 
@@ -48,7 +59,7 @@ unfolding need_of
 need_after a b x ready l told can =
     let thin = thin_after a b ready l told in
     let same : need_at a.heap b.regs b.slots x ≡ need_at b.heap b.regs b.slots x = needs_same _ _ _ _ _ _ (object_of-same a.heap b.heap b.regs (l.heap told) x) (words-same a.heap b.heap b.regs b.slots thin x can) (entries-same a.heap b.heap b.regs b.slots thin x) in
-    sym same ∙ ap (λ (regs : ℕ → Value). need_at a.heap regs b.slots x) (looked-regs a b l) ∙ ap (λ (slots : ℕ → Option ℕ). need_at a.heap a.regs slots x) l.slots
+    sym same ∙ ap (λ (regs : ℕ → Value). need_at a.heap regs b.slots x) (regs_looked a b l) ∙ ap (λ (slots : ℕ → Option ℕ). need_at a.heap a.regs slots x) l.slots
 
 -- roots, by registers and slots
 abbrev pub root_of : (ℕ → Value) → (ℕ → Option ℕ) → ℕ → Bool
@@ -70,7 +81,7 @@ kept_after a b before ready l told =
     let now = l.later.tells ∙ told in
     let whole = before.whole told in
     kept-thinning a.heap b.heap b.regs b.slots (is_root b) (thin_after a b ready l told) (IsWhole-bounded a.heap a.regs a.slots whole) (root-there b ready now)
-    ∙ ap (λ (regs : ℕ → Value). kept a.heap (root_of regs b.slots)) (looked-regs a b l)
+    ∙ ap (λ (regs : ℕ → Value). kept a.heap (root_of regs b.slots)) (regs_looked a b l)
     ∙ ap (λ (slots : ℕ → Option ℕ). kept a.heap (root_of a.regs slots)) l.slots
 
 lives_after : (a b : Told) (live : ℕ) → IsReady a → IsReady b → Looks [] a b → (x y : Option Bounds) → Raised 0 x y → ForBounds y (λ k. Lives b k live) → ForBounds x (λ k. Lives a k live)
@@ -114,7 +125,7 @@ said_after a b c of thin l said speaks =
       now.0,
       now.1,
       now.2 ∙ ap (λ s. s ++ now.0) (l.transcript speaks),
-      λ told. (let after = l.later.tells ∙ told in ap (λ (regs : ℕ → Value). said_by a.heap regs (Say of)) (sym (looked-regs a b l)) ∙ said-same a.heap b.heap b.regs b.slots (thin after) (Say of) ∙ now.3 after),
+      λ told. (let after = l.later.tells ∙ told in ap (λ (regs : ℕ → Value). said_by a.heap regs (Say of)) (sym (regs_looked a b l)) ∙ said-same a.heap b.heap b.regs b.slots (thin after) (Say of) ∙ now.3 after),
     )
 
 silent_after : (a b c : Told) → Looks [] a b → (IsTrue b.speaks → c.transcript ≡ b.transcript) → IsTrue a.speaks → c.transcript ≡ a.transcript
@@ -141,7 +152,7 @@ LeavesAll-map Memory g p = g p
 
 left_after : (a b c : Told) → IsReady b → Looks [] a b → IsLeft b c → IsLeft a c
 left_after a b c ready l left = record {
-  regs = left.regs ∙ looked-regs a b l;
+  regs = left.regs ∙ regs_looked a b l;
   slots = left.slots ∙ l.slots;
   heap = λ told. (let now = l.later.tells ∙ told in IsThinner-trans a.heap b.heap c.heap (l.heap told) (left.heap now) (ready.whole now).closed);
   ready = left.ready;
@@ -164,7 +175,7 @@ refused_after a b c x f before ready can l r = record {
 
 -- What only reads the object of a register is answered as a call that asks for its kind,
 pub answered_as_kind : (old new : Told) (of : ℕ) → Looks [] old new → Follows old new (Does (KindOf of))
-answered_as_kind old new of l = record { regs = looked-regs old new l; brings = λ told. refl; slots = l.slots; transcript = l.transcript; heap = l.heap; cache = l.cache; counts = l.counts; refusals = l.refusals; last = l.last }
+answered_as_kind old new of l = record { regs = regs_looked old new l; brings = λ told. refl; slots = l.slots; transcript = l.transcript; heap = l.heap; cache = l.cache; counts = l.counts; refusals = l.refusals; last = l.last }
 
 -- the cause of a read, whose need is that of asking for the kind
 cause_as_kind : (old new : Told) (a : Access) (of : ℕ) (f : MemFault) → need_of_access old a ≡ need_of_access old (KindOf of) → (IsMaking (Does a) → ⊥) → (IsSaying (Does a) → ⊥) → (TakesMemory (Does a) → ⊥) → HasCause old new (Does a) f → HasCause old new (Does (KindOf of)) f
@@ -193,14 +204,14 @@ refused_as_kind old new (ReadBytes r at count) of f e x = subst (λ q. Refuses o
 refused_as_kind old new _ of f e x = let no : ◌≡◌ {A = Option ℕ} None (Some of) = e in cc
 
 -- a read that was answered
-pub read_further : {Z : Type 0} {z : Z} (old new : Told) (a : Access) (of : ℕ) → only_reads a ≡ Some of → Called old new (Does a) (Ok z) → Looks [] old new
-read_further old new (KindOf r) of e called = looked old new (KindOf r) refl called
-read_further old new (Length r) of e called = looked old new (Length r) refl called
-read_further old new (Header r) of e called = looked old new (Header r) refl called
-read_further old new (Word r i) of e called = looked old new (Word r i) refl called
-read_further old new (Byte r i) of e called = looked old new (Byte r i) refl called
-read_further old new (ReadWords r at count) of e called = looked old new (ReadWords r at count) refl called
-read_further old new (ReadBytes r at count) of e called = looked old new (ReadBytes r at count) refl called
+read_further : {Z : Type 0} {z : Z} (old new : Told) (a : Access) (of : ℕ) → only_reads a ≡ Some of → Called old new (Does a) (Ok z) → Looks [] old new
+read_further old new (KindOf r) of e called = Looks-access old new (KindOf r) refl called
+read_further old new (Length r) of e called = Looks-access old new (Length r) refl called
+read_further old new (Header r) of e called = Looks-access old new (Header r) refl called
+read_further old new (Word r i) of e called = Looks-access old new (Word r i) refl called
+read_further old new (Byte r i) of e called = Looks-access old new (Byte r i) refl called
+read_further old new (ReadWords r at count) of e called = Looks-access old new (ReadWords r at count) refl called
+read_further old new (ReadBytes r at count) of e called = Looks-access old new (ReadBytes r at count) refl called
 read_further old new _ of e called = let no : ◌≡◌ {A = Option ℕ} None (Some of) = e in cc
 
 -- ---- reads of one object
@@ -229,20 +240,16 @@ pub read_first_err : {A : Type 0} (a b : Told) (of : ℕ) (f : MemFault) (r : Re
 read_first_err a b of f (Ok z) is ref access = absurd is
 read_first_err a b of f (Err g) is ref access = record { called = record { later = access.called.later; ok = tt; err = subst (λ h. Refuses a b (Does (KindOf of)) h) (sym is) access.called.err }; core = tt; named = ref }
 
--- what reads leave that were answered
-pub read_looks : {Z : Type 0} {z : Z} (old new : Told) (of : ℕ) → ReadsObject old new of (Ok z) → Looks [] old new
-read_looks old new of read = looked old new (KindOf of) refl read.called
-
 -- reads, and one more that was answered
 pub read_ok : {A B C : Type 0} {first : C} {y : B} (a b c : Told) (of : ℕ) (x : Access) (z : A) → IsReady b → ReadsObject a b of (Ok first) → only_reads x ≡ Some of → Called b c (Does x) (Ok y) → ReadsObject a c of (Ok z)
 read_ok a b c of x z ready before e called =
-    let all = Looks-trans [] [] a b c ready (read_looks a b of before) (read_further b c x of e called) in
+    let all = Looks-trans [] [] a b c ready (Looks-read a b of before) (read_further b c x of e called) in
     record { called = record { later = all.later; ok = answered_as_kind a c of all; err = tt }; core = before.core; named = tt }
 
 -- reads, and one more that was refused
 pub read_err : {A B C : Type 0} {first : C} (a b c : Told) (of : ℕ) (x : Access) (f : MemFault) (r : Result A MemFault) → IsErrAnd r (λ e. e ≡ f) → IsReady a → IsReady b → IsRef (a.regs of) → ReadsObject a b of (Ok first) → only_reads x ≡ Some of → Called {A = B} b c (Does x) (Err f) → ReadsObject a c of r
 read_err a b c of x f (Ok z) is ra rb ref before e called = absurd is
 read_err a b c of x f (Err g) is ra rb ref before e called =
-    let looks = read_looks a b of before in
+    let looks = Looks-read a b of before in
     let again = refused_after a b c (KindOf of) f ra rb (λ told. (any_there b of kind_of rb (subst IsRef (sym (looks.regs of refl)) ref)).there told) looks (refused_as_kind b c x of f e called.err) in
     record { called = record { later = IsLater-trans a b c looks.later called.later; ok = tt; err = subst (λ h. Refuses a c (Does (KindOf of)) h) (sym is) again }; core = tt; named = ref }

@@ -37,8 +37,8 @@ signed_answer (Some a) z e = cc
 -- ---- what was found
 
 -- a part that was found, and is there after reads
-pub finds : {A : Type 0} (old new : Told) (r : ℕ) (f : Body → Option A) (x : A) → IsReady new → Looks [] old new → IsRef (old.regs r) → (IsTrue old.tells → part_at old.heap (old.regs r) f ≡ Some x) → FindsPart old new r f (Some x)
-finds {A} old new r f x ready l ref is =
+pub finds_part : {A : Type 0} (old new : Told) (r : ℕ) (f : Body → Option A) (x : A) → IsReady new → Looks [] old new → IsRef (old.regs r) → (IsTrue old.tells → part_at old.heap (old.regs r) f ≡ Some x) → FindsPart old new r f (Some x)
+finds_part {A} old new r f x ready l ref is =
     let before : IsPartAt old r f (Some x) = record { name = λ some. ref; there = is } in
     record { before = before; after = found_looked [] old new r f (Some x) ready l refl before }
 
@@ -78,8 +78,8 @@ is_test {X} t r part P n answer test is = record {
 }
 
 -- a test of the number of elements of a part
-pub tests : {X : Type 0} (old new : Told) (r : ℕ) (part : Body → Option (List X)) (P : ℕ → Type 0) (found : Option ℕ) (n : ℕ) (answer : Bool) → FindsPart old new r (λ b. option_map length (part b)) found → found ≡ Some n → IsTrue answer ↔ P n → TestsPart old new r part (λ xs. P (length xs)) answer
-tests {X} old new r part P found n answer finds is test =
+pub tests_part : {X : Type 0} (old new : Told) (r : ℕ) (part : Body → Option (List X)) (P : ℕ → Type 0) (found : Option ℕ) (n : ℕ) (answer : Bool) → FindsPart old new r (λ b. option_map length (part b)) found → found ≡ Some n → IsTrue answer ↔ P n → TestsPart old new r part (λ xs. P (length xs)) answer
+tests_part {X} old new r part P found n answer finds is test =
     let same = subst (λ x. FindsPart old new r (λ b. option_map length (part b)) x) is finds in
     record { before = is_test old r part P n answer test same.before; after = is_test new r part P n answer test same.after }
 
@@ -95,12 +95,12 @@ tests_none {X} old new r part P found finds is =
     record { before = none_test old r part P same.before; after = none_test new r part P same.after }
 
 -- a list whose length was found
-pub sized : {X : Type 0} (t : Told) (r : ℕ) (part : Body → Option (List X)) (P : ℕ → Type 0) (found : Option ℕ) (n : ℕ) → IsPartAt t r (λ b. option_map length (part b)) found → found ≡ Some n → P n → HasPartAt t r part (λ xs. P (length xs))
-sized {X} t r part P found n is same p = record { name = is.name (ap is_some same); there = λ told. has_counted t.heap (t.regs r) part n P (is.there told ∙ same) p }
+pub has_sized : {X : Type 0} (t : Told) (r : ℕ) (part : Body → Option (List X)) (P : ℕ → Type 0) (found : Option ℕ) (n : ℕ) → IsPartAt t r (λ b. option_map length (part b)) found → found ≡ Some n → P n → HasPartAt t r part (λ xs. P (length xs))
+has_sized {X} t r part P found n is same p = record { name = is.name (ap is_some same); there = λ told. has_counted t.heap (t.regs r) part n P (is.there told ∙ same) p }
 
 -- a test that was passed
-pub passed : {A : Type 0} {t : Told} {r : ℕ} {f : Body → Option A} {P : A → Type 0} {answer : Bool} → IsTestAt t r f P answer → IsTrue answer → HasPartAt t r f P
-passed test is = record { name = test.name is; there = λ told. (test.there told).0 is }
+pub has_passed : {A : Type 0} {t : Told} {r : ℕ} {f : Body → Option A} {P : A → Type 0} {answer : Bool} → IsTestAt t r f P answer → IsTrue answer → HasPartAt t r f P
+has_passed test is = record { name = test.name is; there = λ told. (test.there told).0 is }
 
 -- ---- by kind alone
 

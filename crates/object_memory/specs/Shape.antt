@@ -1,6 +1,6 @@
 -- What a caller knows of the object that a register names, and what reads leave.
 use Rattle.std.specs.Prelude.{◌≡◌, ◌↔◌, ℕ, ◌==◌, Bool, true, false, List, [], ◌∷◌, length, Option, Some, None, Result, IsTrue, IsSome, OnOk, OnErr}
-use Rattle.std.specs.Option.{option_map, option_map_or}
+use Rattle.std.specs.Option.{option_map}
 use Rattle.std.specs.List.{list_any}
 use Rattle.long_names.specs.declared.object.Kind.{Kind}
 use Rattle.long_names.specs.declared.object.Kind.TheVariants as kind
@@ -8,7 +8,7 @@ use Rattle.long_names.specs.declared.object.Body.{Body}
 use Rattle.long_names.specs.Objects.{kind_of, len_of, pointers_of, literals_of, words_of, bytes_of}
 use Rattle.long_names.specs.Thin.{IsThinner}
 use Rattle.long_names.specs.State.{IsRef, part_at, HasPart}
-use Rattle.long_names.specs.Access.{Access, KindOf, Length, Header, Word, Byte, ReadWords, ReadBytes, SetField, SetWord, SetByte, WriteWords, Make, Pin, Mark, Say, filled_by}
+use Rattle.long_names.specs.Access.{KindOf}
 use Rattle.object_memory.specs.Told.{Told}
 use Rattle.object_memory.specs.Contract.{Does, IsLater, LeavesCache, Raised, Called, IfBounds, HasCore}
 use Rattle.object_memory.specs.declared.fault.MemFault.{MemFault}
@@ -67,7 +67,7 @@ pub record IsPartAt {A : Type 0} (t : Told) (r : ℕ) (part : Body → Option A)
 -- register holds a name.
 pub record IsTestAt {A : Type 0} (t : Told) (r : ℕ) (part : Body → Option A) (P : A → Type 0) (answer : Bool) : Type 0 where
   pub name : IsTrue answer → IsRef (t.regs r)
-  pub there : IsTrue t.tells → IsTrue answer ↔ HasPart t.heap (t.regs r) part P
+  pub there : IsTrue t.tells → (IsTrue answer ↔ HasPart t.heap (t.regs r) part P)
 
 -- a call found this part of the object: it was there before the call, and is there after it
 pub record FindsPart {A : Type 0} (old new : Told) (r : ℕ) (part : Body → Option A) (found : Option A) : Type 0 where
@@ -104,30 +104,3 @@ pub record ReadsObject {A : Type 0} (old new : Told) (of : ℕ) (result : Result
   pub called : Called old new (Does (KindOf of)) result
   pub core : OnOk result (IfBounds old.bounds (HasCore old (KindOf of)))
   pub named : OnErr result (IsRef (old.regs of))
-
--- whether an access stores, makes, pins, marks and says nothing
-abbrev pub only_looks : Access → Bool
-only_looks (SetField of i from) = false
-only_looks (SetWord of i word) = false
-only_looks (SetByte of i byte) = false
-only_looks (WriteWords of at run) = false
-only_looks (Make to class what) = false
-only_looks (Pin slot of) = false
-only_looks (Mark of) = false
-only_looks (Say of) = false
-only_looks _ = true
-
--- the registers that it fills
-abbrev pub registers_of : Access → List ℕ
-registers_of a = option_map_or (λ to. to ∷ []) (filled_by a) []
-
--- the register whose object it reads, where it fills no register and changes nothing
-abbrev pub only_reads : Access → Option ℕ
-only_reads (KindOf of) = Some of
-only_reads (Length of) = Some of
-only_reads (Header of) = Some of
-only_reads (Word of i) = Some of
-only_reads (Byte of i) = Some of
-only_reads (ReadWords of at count) = Some of
-only_reads (ReadBytes of at count) = Some of
-only_reads _ = None

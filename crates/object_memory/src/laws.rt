@@ -15,12 +15,16 @@ pub fn reads_add_up()
 
 /// The object that a register names is the same after reads that did not fill the register.
 pub fn reads_keep_objects()
-    ensures { (xs : List ℕ) (old new : Told) (r : ℕ) → IsReady new → Looks xs old new → is_among xs r ≡ false → IsTrue old.tells → object_at new.heap (new.regs r) ≡ object_at old.heap (old.regs r) }
+    ensures { (xs : List ℕ) (old new : Told) (r : ℕ) → IsReady new → Looks xs old new → is_among xs r ≡ false → IsTrue old.tells
+        → object_at new.heap (new.regs r) ≡ object_at old.heap (old.regs r) }
 {}
 
-/// An access after reads leaves a heap that is thinner than what it makes of the heap before them. Where it is refused, and they filled no
-/// register, it is refused as it would have been before them.
+/// An access after reads leaves a heap that is thinner than what it makes of the heap before them. Where it is refused, and they
+/// filled no register, it is refused as it would have been before them.
 pub fn access_after_reads()
-    ensures answered { (xs : List ℕ) (first old new : Told) (a : Access) → Looks xs first old → IsReady old → Follows old new (Does a) → IsTrue first.tells → IsThinner (heap_after first.heap old.regs a) new.heap }
-    ensures refused { (first old new : Told) (a : Access) (f : MemFault) → IsReady first → IsReady old → (IsTrue old.tells → CanDo old.heap old.regs a) → Looks [] first old → Refuses old new (Does a) f → Refuses first new (Does a) f }
+    ensures answered { (xs : List ℕ) (first old new : Told) (a : Access) → Looks xs first old → IsReady old → Follows old new (Does a)
+        → IsTrue first.tells → IsThinner (heap_after first.heap old.regs a) new.heap }
+    ensures refused { (first old new : Told) (a : Access) (f : MemFault) → IsReady first → IsReady old
+        → (IsTrue old.tells → CanDo old.heap old.regs a) → Looks [] first old → Refuses old new (Does a) f
+        → Refuses first new (Does a) f }
 {}

@@ -1,4 +1,19 @@
-//! The contract of an object memory.
+//! The contract of an object memory (chapter 30 of the Blue Book, the object memory interface), as the trait `ObjectMemory`, and a
+//! memory that meets it, `PlainMemory`, which is one map.
+//!
+//! Of each call that may be refused the clause `access` or `called` says what it changes and answers, or why it is refused and what is
+//! left. Read `specs/Told.antt` first, what a memory tells of itself, then `specs/Contract.antt`.
+//!
+//! A caller is generic in the memory, and asks what an object is before it reads it:
+//!
+//! ```text
+//! if !shape::has_field(m, of, 1)? {
+//!     return Ok(false);
+//! }
+//! m.field(Reg::SCRATCH_0, of, 1)?;
+//! ```
+//!
+//! `caller.rt` has it whole. The trait doesn't say which objects stand in a core, nor when one is freed that nothing holds.
 #![tactic(auto)]
 
 mod fault;

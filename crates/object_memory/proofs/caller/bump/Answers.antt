@@ -5,16 +5,15 @@ use Rattle.long_names.specs.State.{set_register}
 use Rattle.long_names.specs.Access.{Field}
 use Rattle.object_memory.specs.Shape.{Looks}
 use Rattle.object_memory.proofs.Callers.{may_field, may_store}
-use Rattle.object_memory.proofs.LooksLaws.{Looks-trans, looked, put_looks, put_value, part_looked, has_looked, below_among}
+use Rattle.object_memory.proofs.LooksLaws.{Looks-trans, Looks-read, Looks-access, Looks-put, put_value, part_looked, has_looked, below_among}
 use Rattle.object_memory.proofs.LeftLaws.{store_over}
-use Rattle.object_memory.proofs.RefusedLaws.{read_looks}
-use Rattle.object_memory.proofs.ShapeLaws.{passed, int_is, small_number}
+use Rattle.object_memory.proofs.ShapeLaws.{has_passed, int_is, small_number}
 use Rattle.object_memory.proofs.caller.bump.Goals as goal
 use Rattle.object_memory.proofs.caller.bump.Goals.{In_ok-field}
 use Rattle.object_memory.proofs.caller.bump.Given.{Over}
 
 pub field-requires-clause-may : goal.field-requires-clause-may
-field-requires-clause-may g c = may_field _ _ _ _ (passed c.in_ok-has_field.ensures.field.after c.if-not-branch.false)
+field-requires-clause-may g c = may_field _ _ _ _ (has_passed c.in_ok-has_field.ensures.field.after c.if-not-branch.false)
 
 pub set_field-requires-clause-may : goal.set_field-requires-clause-may
 set_field-requires-clause-may g c =
@@ -23,9 +22,9 @@ set_field-requires-clause-may g c =
     let x = g.M.ObjectMemory.told c.int.new.self in
     let of = c.args.of in
     let load = c.in_ok-field.ensures in
-    let looks = Looks-trans _ _ u w x load.ready (looked u w (Field 10 of 1) refl load.access.called) (put_looks w x 10 _ c.int.ensures.told) in
+    let looks = Looks-trans _ _ u w x load.ready (Looks-access u w (Field 10 of 1) refl load.access.called) (Looks-put w x 10 _ c.int.ensures.told) in
     may_store x of 1 10 (has_looked _ u x of pointers_of (λ xs. 1 < length xs) (c.int.ensures.ready load.ready) looks (below_among 10 (10 ∷ 10 ∷ []) of c.requires.of refl)
-    (passed c.in_ok-has_field.ensures.field.after c.if-not-branch.false))
+    (has_passed c.in_ok-has_field.ensures.field.after c.if-not-branch.false))
 
 -- the field was read, and nothing stored
 read_field : (g : Over) (c : In_ok-field g) → Looks (10 ∷ []) (g.M.ObjectMemory.told c.args.m.now) (g.M.ObjectMemory.told c.field.new.self)
@@ -34,7 +33,7 @@ read_field g c =
     let u = g.M.ObjectMemory.told c.has_field.new.m in
     let w = g.M.ObjectMemory.told c.field.new.self in
     let test = c.in_ok-has_field.ensures in
-    Looks-trans _ _ t u w test.ready (read_looks t u c.args.of test.read) (looked u w (Field 10 c.args.of 1) refl c.in_ok-field.ensures.access.called)
+    Looks-trans _ _ t u w test.ready (Looks-read t u c.args.of test.read) (Looks-access u w (Field 10 c.args.of 1) refl c.in_ok-field.ensures.access.called)
 
 pub returns-in_default-clause-looked : goal.returns-in_default-clause-looked
 returns-in_default-clause-looked g c = λ none. read_field g (goal.at.returns-in_default-clause-looked g c).In_ok-field
@@ -54,8 +53,8 @@ returns-clause-bumped g c = λ done told.
     let load = c.in_ok-field.ensures in
     let number = c.in-Some.number in
     let next = c.in-Some-next_number.ensures in
-    let first = read_looks t u of test.read in
-    let looks = Looks-trans _ _ t u x test.ready first (Looks-trans _ _ u w x load.ready (looked u w (Field 10 of 1) refl load.access.called) (put_looks w x 10 _ c.int.ensures.told)) in
+    let first = Looks-read t u of test.read in
+    let looks = Looks-trans _ _ t u x test.ready first (Looks-trans _ _ u w x load.ready (Looks-access u w (Field 10 of 1) refl load.access.called) (Looks-put w x 10 _ c.int.ensures.told)) in
     record {
       number = number;
       was = sym (part_looked _ t u of (λ b. field_of b 1) test.ready first refl told) ∙ load.access.called.ok.brings (first.later.tells ∙ told) ∙ ap (λ v. Some v) (int_is (w.regs 10) number (sym c.as_int.ensures.number ∙ c.in-Some.is));

@@ -1,8 +1,9 @@
 use Rattle.std.proofs.Common.{Some, refl}
 use Rattle.long_names.specs.Objects.{kind_of}
 use Rattle.object_memory.proofs.Callers.{may_kind}
-use Rattle.object_memory.proofs.RefusedLaws.{read_none, read_first, read_looks}
-use Rattle.object_memory.proofs.ShapeLaws.{finds, kind_answer}
+use Rattle.object_memory.proofs.RefusedLaws.{read_none, read_first}
+use Rattle.object_memory.proofs.LooksLaws.{Looks-read}
+use Rattle.object_memory.proofs.ShapeLaws.{finds_part, kind_answer}
 use Rattle.object_memory.proofs.shape.kind_of.Goals as goal
 
 pub kind-requires-clause-may : goal.kind-requires-clause-may
@@ -17,4 +18,4 @@ returns-clause-kind g c =
     let u = g.M.ObjectMemory.told c.kind.new.self in
     let access = c.in_ok-kind.ensures.access in
     let ref = c.if-not-is_name.ensures.0 refl in
-    finds t u c.args.of (λ b. Some (kind_of b)) c.in_ok-kind.kind c.in_ok-kind.ensures.ready (read_looks t u c.args.of (read_first t u c.args.of c.in_ok-kind.kind c.in_ok-kind.kind access)) ref (λ told. kind_answer _ _ (access.answer told))
+    finds_part t u c.args.of (λ b. Some (kind_of b)) c.in_ok-kind.kind c.in_ok-kind.ensures.ready (Looks-read t u c.args.of (read_first t u c.args.of c.in_ok-kind.kind c.in_ok-kind.kind access)) ref (λ told. kind_answer _ _ (access.answer told))

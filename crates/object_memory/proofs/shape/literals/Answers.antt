@@ -4,9 +4,9 @@ use Rattle.long_names.specs.Objects.{fields_of}
 use Rattle.long_names.specs.Access.{Header}
 use Rattle.object_memory.specs.Shape.{literals_count}
 use Rattle.object_memory.proofs.Callers.{may_header}
-use Rattle.object_memory.proofs.LooksLaws.{Looks-trans, part_looked}
-use Rattle.object_memory.proofs.RefusedLaws.{read_looks, read_further, read_ok, read_err}
-use Rattle.object_memory.proofs.ShapeLaws.{finds, method_found, literals_there, small_number}
+use Rattle.object_memory.proofs.LooksLaws.{Looks-trans, Looks-access, Looks-read, part_looked}
+use Rattle.object_memory.proofs.RefusedLaws.{read_ok, read_err}
+use Rattle.object_memory.proofs.ShapeLaws.{finds_part, method_found, literals_there, small_number}
 use Rattle.object_memory.proofs.shape.literals.Goals as goal
 
 pub header-requires-clause-may : goal.header-requires-clause-may
@@ -37,10 +37,10 @@ returns-clause-literals g c =
     let kind = c.in_ok-kind.ensures in
     let header = c.in_ok-header.ensures in
     let method = c.if-not-is_kind.ensures.0 refl in
-    let first = read_looks t u of kind.read in
-    let both = Looks-trans _ _ t u w kind.ready first (read_further u w (Header of) of refl header.access.called) in
+    let first = Looks-read t u of kind.read in
+    let both = Looks-trans _ _ t u w kind.ready first (Looks-access u w (Header of) refl header.access.called) in
     let count : c.literal_count.result ≡ literal_count c.in_ok-header.header = c.literal_count.ensures ∙ ap literal_count (small_number c.in_ok-header.header header.range) in
-    finds t w of literals_count c.literal_count.result header.ready both (kind.named.0 (ap is_some method)) (λ told.
+    finds_part t w of literals_count c.literal_count.result header.ready both (kind.named.0 (ap is_some method)) (λ told.
     literals_there t.heap (t.regs of) c.literal_count.result
     (kind.kind.before.there told ∙ method)
     (sym (part_looked _ t u of (λ b. Some (length (fields_of b))) kind.ready first refl told) ∙ header.literals (first.later.tells ∙ told) ∙ ap (λ n. Some n) (sym count)))

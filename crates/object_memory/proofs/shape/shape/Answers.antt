@@ -3,9 +3,9 @@ use Rattle.long_names.specs.Objects.{len_of}
 use Rattle.long_names.specs.Access.{Length}
 use Rattle.object_memory.specs.Shape.{shape_of}
 use Rattle.object_memory.proofs.Callers.{may_length}
-use Rattle.object_memory.proofs.LooksLaws.{Looks-trans, part_looked, ref_looked}
-use Rattle.object_memory.proofs.RefusedLaws.{read_looks, read_further, read_ok, read_err}
-use Rattle.object_memory.proofs.ShapeLaws.{finds, number_answer, shape_there}
+use Rattle.object_memory.proofs.LooksLaws.{Looks-trans, Looks-access, Looks-read, part_looked, ref_looked}
+use Rattle.object_memory.proofs.RefusedLaws.{read_ok, read_err}
+use Rattle.object_memory.proofs.ShapeLaws.{finds_part, number_answer, shape_there}
 use Rattle.object_memory.proofs.shape.shape.Goals as goal
 
 pub len-requires-clause-may : goal.len-requires-clause-may
@@ -13,7 +13,7 @@ len-requires-clause-may g c =
     let t = g.M.ObjectMemory.told c.args.m.now in
     let u = g.M.ObjectMemory.told c.kind_of.new.m in
     let kind = c.in_ok-kind.ensures in
-    may_length u c.args.of kind.ready (ref_looked _ t u c.args.of (read_looks t u c.args.of kind.read) refl (kind.named.0 (ap is_some c.in-Some.is)))
+    may_length u c.args.of kind.ready (ref_looked _ t u c.args.of (Looks-read t u c.args.of kind.read) refl (kind.named.0 (ap is_some c.in-Some.is)))
 
 pub returns-in_err-len-clause-read : goal.returns-in_err-len-clause-read
 returns-in_err-len-clause-read g c =
@@ -38,9 +38,9 @@ returns-clause-shape g c =
     let of = c.args.of in
     let kind = c.in_ok-kind.ensures in
     let len = c.in_ok-len.ensures in
-    let first = read_looks t u of kind.read in
-    let both = Looks-trans _ _ t u w kind.ready first (read_further u w (Length of) of refl len.access.called) in
-    finds t w of shape_of (c.in-Some.kind, c.in_ok-len.len) len.ready both (kind.named.0 (ap is_some c.in-Some.is)) (λ told.
+    let first = Looks-read t u of kind.read in
+    let both = Looks-trans _ _ t u w kind.ready first (Looks-access u w (Length of) refl len.access.called) in
+    finds_part t w of shape_of (c.in-Some.kind, c.in_ok-len.len) len.ready both (kind.named.0 (ap is_some c.in-Some.is)) (λ told.
     shape_there t.heap (t.regs of) c.in-Some.kind c.in_ok-len.len
     (kind.kind.before.there told ∙ c.in-Some.is)
     (sym (part_looked _ t u of (λ b. Some (len_of b)) kind.ready first refl told) ∙ number_answer _ _ (len.access.answer (first.later.tells ∙ told))))
