@@ -28,7 +28,7 @@ use Rattle.bounded_memory.specs.declared.pins.Pin.{Pin}
 use Rattle.bounded_memory.specs.declared.pins.Pins.{Pins}
 use Rattle.bounded_memory.specs.Pins.{pin_at}
 use Rattle.bounded_memory.specs.Row.{with_row}
-use Rattle.bounded_memory.specs.Bounded.{over, row_told, bounded_told, faulted, need_at, need_with, HasRoom, IsFull, IsPinnedAs, IsSound, CannotMake}
+use Rattle.bounded_memory.specs.Bounded.{over, row_told, bounded_told, faulted, need_at, need_with, FitsCore, IsFull, IsPinnedAs, IsSound, CannotMake}
 use Rattle.bounded_memory.proofs.SizeLaws.{words-at}
 use Rattle.bounded_memory.proofs.BoundedLaws.{err-is, need-with}
 use Rattle.bounded_memory.proofs.HeapLaws.{pinned-after, pinned-same, size-add, size-later}
@@ -176,13 +176,13 @@ refused-sound m n r f is sound e =
     subst₂ (λ (n : BoundedMemory) (r : Result (Unit {0}) MemFault). KeepsSound r (IsSound n)) (sym e) (sym (err-is r f is)) (leaves f (IsSound (record m { refusals = counted m.refusals; last = Some f })) (record { pinned = sound.pinned }))
 
 -- the core holds the object that is made
-pub making-core : (m : BoundedMemory) (to class : ℕ) (what : Making) (words : ℕ) → words ≡ 4 + body_words (body_made what) → HasRoom (bounded_told m) (need_with m.pins (bounded_told m).heap.next words) → HasCore (bounded_told m) (Make to class what) (bounds_of m.limits)
+pub making-core : (m : BoundedMemory) (to class : ℕ) (what : Making) (words : ℕ) → words ≡ 4 + body_words (body_made what) → FitsCore (bounded_told m) (need_with m.pins (bounded_told m).heap.next words) → HasCore (bounded_told m) (Make to class what) (bounds_of m.limits)
 making-core m to class what words e room = (let all = room.words in omega arith)
 
 pub counted-bounds : (b d : Bounds) → d ≡ (record b { made = b.made + 1 }) → SameBounds (Some b) (Some d) × Raised 1 (Some b) (Some d)
 counted-bounds b d e = subst (λ (d : Bounds). SameBounds (Some b) (Some d) × Raised 1 (Some b) (Some d)) (sym e) ((refl, refl, refl, omega arith, omega arith), (refl, refl))
 
-makes-one : (m : BoundedMemory) (n : PlainMemory) (k : BoundedMemory) (to class : ℕ) (what : Making) (words : ℕ) (r s : Result (Unit {0}) MemFault) → words ≡ 4 + body_words (body_made what) → (bounded_told m).heap.next < LAST_NAME → HasRoom (bounded_told m) (need_with m.pins (bounded_told m).heap.next words) → Accessed (plain_told m.memory) (plain_told n) (Make to class what) (λ _. Nothing) r → IfErr r (λ f. plain_told n ≡ refused (plain_told m.memory) f) → OnOk s (IsOk r × (k ≡ record m { memory = n; limits = k.limits })) → OnOk s (bounds_of k.limits ≡ (record (bounds_of m.limits) { made = m.limits.made + 1 })) → IfErr s (λ f. IsErr r × (f ≡ WorkFault (counted m.limits.work_faults))) → OnErr s (bounded_told k ≡ faulted (with_row (plain_told n) m.row) m.refusals (bounds_of m.limits)) → OnErr s (m.refusals ≤ counted m.refusals) → OnErr s (m.limits.work_faults ≤ counted m.limits.work_faults) → Accessed (bounded_told m) (bounded_told k) (Make to class what) (λ _. Nothing) s
+makes-one : (m : BoundedMemory) (n : PlainMemory) (k : BoundedMemory) (to class : ℕ) (what : Making) (words : ℕ) (r s : Result (Unit {0}) MemFault) → words ≡ 4 + body_words (body_made what) → (bounded_told m).heap.next < LAST_NAME → FitsCore (bounded_told m) (need_with m.pins (bounded_told m).heap.next words) → Accessed (plain_told m.memory) (plain_told n) (Make to class what) (λ _. Nothing) r → IfErr r (λ f. plain_told n ≡ refused (plain_told m.memory) f) → OnOk s (IsOk r × (k ≡ record m { memory = n; limits = k.limits })) → OnOk s (bounds_of k.limits ≡ (record (bounds_of m.limits) { made = m.limits.made + 1 })) → IfErr s (λ f. IsErr r × (f ≡ WorkFault (counted m.limits.work_faults))) → OnErr s (bounded_told k ≡ faulted (with_row (plain_told n) m.row) m.refusals (bounds_of m.limits)) → OnErr s (m.refusals ≤ counted m.refusals) → OnErr s (m.limits.work_faults ≤ counted m.limits.work_faults) → Accessed (bounded_told m) (bounded_told k) (Make to class what) (λ _. Nothing) s
 makes-one m n k to class what words (Ok x) (Ok y) size low room access kept ok bounds err told rose risen =
     let up = counted-bounds (bounds_of m.limits) (bounds_of k.limits) bounds in
     subst (λ (k' : BoundedMemory). Accessed (bounded_told m) (bounded_told k') (Make to class what) (λ _. Nothing) (Ok y)) (sym ok.1)
@@ -195,9 +195,9 @@ makes-one m n k to class what words (Err g) (Err f) size low room access kept ok
     (work-faulted (row_told m) (with_row (plain_told n) m.row) m.refusals m.last (bounds_of m.limits) (Make to class what) (λ _. Nothing) f g (ap (λ (t : Told). with_row t m.row) kept) err.1 rose risen (λ make. low))
 
 -- the same, where no more was done before than asked whether it can be made
-pub makes-object : (o m : BoundedMemory) (n : PlainMemory) (k : BoundedMemory) (to class : ℕ) (what : Making) (words : ℕ) (r s : Result (Unit {0}) MemFault) → m ≡ o → words ≡ 4 + body_words (body_made what) → (bounded_told o).heap.next < LAST_NAME → HasRoom (bounded_told o) (need_with o.pins (bounded_told o).heap.next words) → Accessed (plain_told m.memory) (plain_told n) (Make to class what) (λ _. Nothing) r → IfErr r (λ f. plain_told n ≡ refused (plain_told m.memory) f) → OnOk s (IsOk r × (k ≡ record m { memory = n; limits = k.limits })) → OnOk s (bounds_of k.limits ≡ (record (bounds_of m.limits) { made = m.limits.made + 1 })) → IfErr s (λ f. IsErr r × (f ≡ WorkFault (counted m.limits.work_faults))) → OnErr s (bounded_told k ≡ faulted (with_row (plain_told n) m.row) m.refusals (bounds_of m.limits)) → OnErr s (m.refusals ≤ counted m.refusals) → OnErr s (m.limits.work_faults ≤ counted m.limits.work_faults) → Accessed (bounded_told o) (bounded_told k) (Make to class what) (λ _. Nothing) s
+pub makes-object : (o m : BoundedMemory) (n : PlainMemory) (k : BoundedMemory) (to class : ℕ) (what : Making) (words : ℕ) (r s : Result (Unit {0}) MemFault) → m ≡ o → words ≡ 4 + body_words (body_made what) → (bounded_told o).heap.next < LAST_NAME → FitsCore (bounded_told o) (need_with o.pins (bounded_told o).heap.next words) → Accessed (plain_told m.memory) (plain_told n) (Make to class what) (λ _. Nothing) r → IfErr r (λ f. plain_told n ≡ refused (plain_told m.memory) f) → OnOk s (IsOk r × (k ≡ record m { memory = n; limits = k.limits })) → OnOk s (bounds_of k.limits ≡ (record (bounds_of m.limits) { made = m.limits.made + 1 })) → IfErr s (λ f. IsErr r × (f ≡ WorkFault (counted m.limits.work_faults))) → OnErr s (bounded_told k ≡ faulted (with_row (plain_told n) m.row) m.refusals (bounds_of m.limits)) → OnErr s (m.refusals ≤ counted m.refusals) → OnErr s (m.limits.work_faults ≤ counted m.limits.work_faults) → Accessed (bounded_told o) (bounded_told k) (Make to class what) (λ _. Nothing) s
 makes-object o m n k to class what words r s same size low room access kept ok bounds err told rose risen =
-    subst (λ (o : BoundedMemory). (bounded_told o).heap.next < LAST_NAME → HasRoom (bounded_told o) (need_with o.pins (bounded_told o).heap.next words) → Accessed (bounded_told o) (bounded_told k) (Make to class what) (λ _. Nothing) s) same
+    subst (λ (o : BoundedMemory). (bounded_told o).heap.next < LAST_NAME → FitsCore (bounded_told o) (need_with o.pins (bounded_told o).heap.next words) → Accessed (bounded_told o) (bounded_told k) (Make to class what) (λ _. Nothing) s) same
     (λ low room. makes-one m n k to class what words r s size low room access kept ok bounds err told rose risen) low room
 
 makes-sound-one : (m : BoundedMemory) (n : PlainMemory) (k : BoundedMemory) (to class : ℕ) (what : Making) (r s : Result (Unit {0}) MemFault) → IsReady (bounded_told m) → IsSound m → Accessed (plain_told m.memory) (plain_told n) (Make to class what) (λ _. Nothing) r → OnOk r (IsReady (plain_told n)) → OnOk s (IsOk r × (k ≡ record m { memory = n; limits = k.limits })) → IfErr s (λ f. IsErr r × (f ≡ WorkFault (counted m.limits.work_faults))) → KeepsSound s (IsSound k)

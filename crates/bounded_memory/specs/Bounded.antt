@@ -59,8 +59,8 @@ abbrev pub need_with : Pins → ℕ → ℕ → Need
 need_with pins object words = record { object = object; words = words_with pins object words; entries = entries_with pins }
 
 -- the core has room for the need
-abbrev pub HasRoom : Told → Need → Type 0
-HasRoom t need = ForBounds t.bounds (λ b. Fits b.core b.entries need.words need.entries)
+abbrev pub FitsCore : Told → Need → Type 0
+FitsCore t need = ForBounds t.bounds (λ b. Fits b.core b.entries need.words need.entries)
 
 -- the core has no room for it
 abbrev pub IsFull : Told → Need → MemFault → Type 0

@@ -11,7 +11,7 @@ ghost use Rattle.object_memory.specs.Plain.{plain_told, refused};
 ghost use Rattle.object_memory.specs.declared.fault.MemFault.TheVariants.{WorkFault};
 ghost use Rattle.bounded_memory.specs.Limits.{bounds_of};
 ghost use Rattle.bounded_memory.specs.Pins.{words_with, entries_with};
-ghost use Rattle.bounded_memory.specs.Bounded.{over, faulted, row_told, bounded_told, IsPinnedAs, IsSound, need_at, need_with, HasRoom, IsFull, CannotMake};
+ghost use Rattle.bounded_memory.specs.Bounded.{over, faulted, row_told, bounded_told, IsPinnedAs, IsSound, need_at, need_with, FitsCore, IsFull, CannotMake};
 
 use crate::limits::Limits;
 use crate::pins::{Pin, Pins};
@@ -164,7 +164,7 @@ impl BoundedMemory {
     /// Refuses what the core has no room for.
     fn has_room(&mut self, need: Need) -> Result<(), MemFault>
         ensures kept { OnOk result (self.new ≡ self.old) }
-        ensures room { OnOk result (HasRoom (bounded_told self.old) need) }
+        ensures room { OnOk result (FitsCore (bounded_told self.old) need) }
         ensures refused { IfErr result (λ f. self.new ≡ record self.old { refusals = counted self.old.refusals; last = Some f }) }
         ensures full { IfErr result (λ f. IsFull (bounded_told self.old) need f) }
         ensures later { self.old.refusals ≤ self.new.refusals }
@@ -182,7 +182,7 @@ impl BoundedMemory {
         requires name { IsRef ((bounded_told self.old).regs of) }
         ensures told { OnOk result (bounded_told self.new ≡ bounded_told self.old) }
         ensures pin { IfOk result (λ pin. IsPinnedAs (bounded_told self.old).heap (Some (name_at ((bounded_told self.old).regs of))) (Some pin)) }
-        ensures room { OnOk result (HasRoom (bounded_told self.old) (need_at (bounded_told self.old) of)) }
+        ensures room { OnOk result (FitsCore (bounded_told self.old) (need_at (bounded_told self.old) of)) }
         ensures core { OnOk result (words_named (bounded_told self.old).heap ((bounded_told self.old).regs of) ≤ self.old.limits.core) }
         ensures refused { IfErr result (λ f. bounded_told self.new ≡ refused (bounded_told self.old) f) }
         ensures full { IfErr result (λ f. IsFull (bounded_told self.old) (need_at (bounded_told self.old) of) f) }
@@ -202,7 +202,7 @@ impl BoundedMemory {
         ensures kept { OnOk result (self.new ≡ self.old) }
         ensures named { OnOk result ((bounded_told self.old).heap.next < LAST_NAME) }
         ensures live { OnOk result (self.old.limits.base + self.old.limits.made + 1 ≤ self.old.limits.room) }
-        ensures room { OnOk result (HasRoom (bounded_told self.old) (need_with self.old.pins (bounded_told self.old).heap.next size.words)) }
+        ensures room { OnOk result (FitsCore (bounded_told self.old) (need_with self.old.pins (bounded_told self.old).heap.next size.words)) }
         ensures refused { IfErr result (λ f. self.new ≡ record self.old { refusals = counted self.old.refusals; last = Some f }) }
         ensures cause { IfErr result (λ f. CannotMake (bounded_told self.old) (need_with self.old.pins (bounded_told self.old).heap.next size.words) f) }
         ensures later { self.old.refusals ≤ self.new.refusals }

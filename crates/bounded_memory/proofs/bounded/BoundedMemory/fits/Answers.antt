@@ -3,7 +3,7 @@ use Rattle.long_names.specs.State.{IsRef, name_at}
 use Rattle.object_memory.specs.Told.{Told}
 use Rattle.object_memory.specs.declared.fault.Need.{Need}
 use Rattle.bounded_memory.specs.declared.bounded.BoundedMemory.{BoundedMemory}
-use Rattle.bounded_memory.specs.Bounded.{bounded_told, ArePinned, IsSound, HasRoom, IsFull, need_at}
+use Rattle.bounded_memory.specs.Bounded.{bounded_told, ArePinned, IsSound, FitsCore, IsFull, need_at}
 use Rattle.bounded_memory.proofs.BoundedLaws.{need-at, if-err}
 use Rattle.bounded_memory.proofs.bounded.BoundedMemory.fits.Goals as goal
 
@@ -25,7 +25,7 @@ returns-clause-room c =
     let t = bounded_told m in
     let named = c.name_in-name.ensures ∙ ap (λ (u : Told). name_at (u.regs c.args.of)) c.size_of-size.ensures.kept in
     let is : c.need-need.result ≡ need_at t c.args.of = c.need-need.ensures ∙ need-at t m.pins c.args.of c.name_in-name.result c.size_of-size.result.words c.requires.sound.pinned named c.size_of-size.ensures.words in
-    subst (λ (n : Need). HasRoom t n) is c.in_ok-has_room.ensures.room
+    subst (λ (n : Need). FitsCore t n) is c.in_ok-has_room.ensures.room
 
 pub returns-in_err-has_room-clause-sound : goal.returns-in_err-has_room-clause-sound
 returns-in_err-has_room-clause-sound c =
