@@ -1,5 +1,5 @@
 -- The law of thinning, for each combinator.
-use Rattle.std.proofs.Common.{◌≡◌, ℕ, ℤ, ◌+◌, ◌≤◌, zero, suc, Bool, true, false, cond, nat_lt, nat_le, eqb, ◌&&◌, List, [], ◌∷◌, ◌++◌, length, Option, Some, None, is_some, refl, sym, ◌∙◌, ap, ap₂, subst, arith}
+use Rattle.std.proofs.Common.{◌≡◌, ℕ, ℤ, pos, ◌+◌, ◌≤◌, zero, suc, Bool, true, false, cond, nat_lt, nat_le, eqb, ◌&&◌, List, [], ◌∷◌, ◌++◌, length, Option, Some, None, is_some, refl, sym, ◌∙◌, ap, ap₂, subst, arith}
 use Rattle.std.specs.List.{slice_get}
 use Rattle.std.specs.Option.{option_map_or, option_and_then}
 use Rattle.std.proofs.lemmas.Grind.{common_steps}
@@ -9,7 +9,7 @@ use Rattle.long_names.specs.declared.object.Object.{Object}
 use Rattle.long_names.specs.declared.object.Body.{Body}
 use Rattle.long_names.specs.declared.object.Body.TheVariants.{Pointers, Words, Bytes, Method}
 use Rattle.long_names.specs.Names.{is_known, NIL, SMALL_INTEGER, LAST_NAME}
-use Rattle.long_names.specs.Objects.{Making, holds, fields_of, field_of, with_field, text_of}
+use Rattle.long_names.specs.Objects.{Making, holds, fields_of, field_of, pointers_of, literals_of, with_field, text_of}
 use Rattle.long_names.specs.Heap.{Heap, Has, put_object, add_object}
 use Rattle.long_names.specs.State.{set_register, set_slot, object_at, name_at, class_at, part_at}
 use Rattle.long_names.specs.Access.{Make, with_body}
@@ -20,8 +20,8 @@ use Rattle.long_names.proofs.AccessLaws.{words_of_row-same, entries_of_row-same,
 use Rattle.blue_model.specs.declared.cause.Cause.{Cause}
 use Rattle.blue_model.specs.declared.cpu.Cpu.{Cpu}
 use Rattle.blue_model.specs.Indexes.{METHOD_INDEX, HOME_INDEX}
-use Rattle.blue_model.specs.Machine.{Machine, MACHINE_REGISTERS, LogRow, logged, row_of, making_row, Outcome, Go, Halt, Spent, Unbuilt, Rule, after, then_do, ◌>>=◌, done, halt, unbuilt, given, pick, is_there, register, placed, put_register, numbers, set_numbers, rows_at, looked, look, part, known, classed, class_of, stored, store, object_made, added, made, make, unpin_all, with_pin, pinned, pin, spoken, say, times}
-use Rattle.blue_model.specs.Parts.{values_in, at_least, shaped, field, home_by, home_in, home_of, literal_in, literal}
+use Rattle.blue_model.specs.Machine.{Machine, MACHINE_REGISTERS, LogRow, logged, row_of, making_row, Outcome, Go, Halt, Spent, Unbuilt, Rule, after, then_do, ◌>>=◌, done, halt, unbuilt, given, pick, is_there, register, placed, put_register, clear, numbers, set_numbers, rows_at, looked, look, part, known, classed, class_of, stored, store, object_made, added, made, make, unpinned, unpin_all, with_pin, pinned, pin, spoken, say, times}
+use Rattle.blue_model.specs.Parts.{at_least, shaped, field, home_by, home_in, home_of, literal}
 use Rattle.blue_model.specs.Law.{IsThinned, Agree, RespectsThinning}
 use Rattle.blue_model.specs.Alike.{Lost, IsAlike, IsKept, IsKeptMaybe, IsHeld, IsPlain, IsWithin, Agrees, Lawful}
 
@@ -141,6 +141,36 @@ law_register {w} r = record {
 pub law_numbers : {w : Lost} → Lawful w IsPlain numbers
 unfolding numbers
 law_numbers {w} = record { agrees = λ m s h. (sym h.thinned.cpu, refl, record {}, h) }
+
+pub law_clear : {w : Lost} (among : ℕ → Bool) → Lawful w IsPlain (clear among)
+unfolding clear
+law_clear {w} among = record {
+  agrees = λ m s h. (
+    refl,
+    refl,
+    record {},
+    record {
+      thinned = record {
+        thinning = record { thinner = h.thinned.thinning.thinner; whole = cleared s h.thinned.thinning.whole };
+        bounded = h.thinned.bounded;
+        regs = let f : (ℕ → Value) → ℕ → Value = λ regs r. cond (among r) (Int (pos 0)) (regs r) in ap f h.thinned.regs;
+        slots = h.thinned.slots;
+        transcript = h.thinned.transcript;
+        cpu = h.thinned.cpu;
+      };
+      same = h.same;
+      gone = h.gone;
+      fresh = h.fresh;
+    },
+  );
+}
+  where
+    held : (s : Machine) → IsWhole s.heap s.regs s.slots → (r n : ℕ) (b : Bool) → cond b (Int (pos 0)) (s.regs r) ≡ Ref n → Has s.heap n
+    held s whole r n true e = cc
+    held s whole r n false e = whole.rooted r n e
+
+    cleared : (s : Machine) → IsWhole s.heap s.regs s.slots → IsWhole s.heap (λ r. cond (among r) (Int (pos 0)) (s.regs r)) s.slots
+    cleared s whole = record { known = whole.known; below = whole.below; closed = whole.closed; pinned = whole.pinned; rooted = λ r n e. held s whole r n (among r) e }
 
 pub law_set_numbers : {w : Lost} (cpu : Cpu) → Lawful w IsPlain (set_numbers cpu)
 unfolding set_numbers
@@ -381,10 +411,10 @@ law_unpin_all {w} = record {
     record {},
     record {
       thinned = record {
-        thinning = record { thinner = h.thinned.thinning.thinner; whole = IsWhole-slots s.heap s.regs s.slots (λ i. None) h.thinned.thinning.whole (λ i n e. absurd (cc)) };
+        thinning = record { thinner = h.thinned.thinning.thinner; whole = IsWhole-slots s.heap s.regs s.slots (unpinned s.slots) h.thinned.thinning.whole (λ i n e. held s h.thinned.thinning.whole i n (eqb i 2) (eqb i 1) (eqb i 0) e) };
         bounded = h.thinned.bounded;
         regs = h.thinned.regs;
-        slots = refl;
+        slots = ap unpinned h.thinned.slots;
         transcript = h.thinned.transcript;
         cpu = h.thinned.cpu;
       };
@@ -394,6 +424,12 @@ law_unpin_all {w} = record {
     },
   );
 }
+  where
+    held : (s : Machine) → IsWhole s.heap s.regs s.slots → (i n : ℕ) (a b c : Bool) → cond a None (cond b None (cond c None (s.slots i))) ≡ Some n → Has s.heap n
+    held s whole i n true b c e = let no : ◌≡◌ {A = Option ℕ} None (Some n) = e in absurd (cc)
+    held s whole i n false true c e = let no : ◌≡◌ {A = Option ℕ} None (Some n) = e in absurd (cc)
+    held s whole i n false false true e = let no : ◌≡◌ {A = Option ℕ} None (Some n) = e in absurd (cc)
+    held s whole i n false false false e = whole.pinned i n e
 
 pub law_pin : {w : Lost} (slot : ℕ) (v : Value) → IsKept w v → Lawful w IsPlain (pin slot v)
 unfolding pin
@@ -468,7 +504,7 @@ shaped_fields least o values e = go o.body e
     long vs true f = cc
     long vs false f = let no : ◌≡◌ {A = Option (List Value)} None (Some values) = f in absurd (cc)
 
-    go : (b : Body) → option_and_then (at_least least) (values_in b) ≡ Some values → fields_of b ≡ values
+    go : (b : Body) → option_and_then (at_least least) (pointers_of b) ≡ Some values → fields_of b ≡ values
     go (Pointers vs) f = long vs (nat_le least (length vs)) f
     go (Words words) f = let no : ◌≡◌ {A = Option (List Value)} None (Some values) = f in absurd (cc)
     go (Bytes bytes) f = let no : ◌≡◌ {A = Option (List Value)} None (Some values) = f in absurd (cc)
@@ -492,7 +528,7 @@ pub within_literal : {w : Lost} (i : ℕ) → IsWithin w (literal i)
 unfolding literal
 within_literal {w} i = record { within = λ o v h e. field_kept w o h i v (go o.body v e) }
   where
-    go : (b : Body) (v : Value) → literal_in i b ≡ Some v → field_of b i ≡ Some v
+    go : (b : Body) (v : Value) → option_and_then (λ (literals : List Value). slice_get literals i) (literals_of b) ≡ Some v → field_of b i ≡ Some v
     go (Pointers values) v e = let no : ◌≡◌ {A = Option Value} None (Some v) = e in absurd (cc)
     go (Words words) v e = let no : ◌≡◌ {A = Option Value} None (Some v) = e in absurd (cc)
     go (Bytes bytes) v e = let no : ◌≡◌ {A = Option Value} None (Some v) = e in absurd (cc)
@@ -577,4 +613,4 @@ done_none {w} = law_done None (record { kept = λ v e. (cc) })
 pub done_some : {w : Lost} (v : Value) → IsKept w v → Lawful w (IsKeptMaybe w) (done (Some v))
 done_some {w} v k = law_done (Some v) (record { kept = λ u e. let same : v ≡ u = cc in subst (λ x. IsKept w x) same k })
 
-pub ruleset lawful = (then_value, then_maybe, then_held, then_plain, law_pick, done_none, done_some, done_plain, law_done, law_halt, law_unbuilt, law_register, law_numbers, law_set_numbers, law_put_register, within_field, within_literal, within_home_of, law_look, law_known, law_class_of, law_part_value, law_part, law_given_plain, law_store, law_make, law_unpin_all, law_pin, law_say, law_times, kept_int, kept_known)
+pub ruleset lawful = (then_value, then_maybe, then_held, then_plain, law_pick, done_none, done_some, done_plain, law_done, law_halt, law_unbuilt, law_register, law_numbers, law_set_numbers, law_clear, law_put_register, within_field, within_literal, within_home_of, law_look, law_known, law_class_of, law_part_value, law_part, law_given_plain, law_store, law_make, law_unpin_all, law_pin, law_say, law_times, kept_int, kept_known)

@@ -3,9 +3,9 @@ use Rattle.std.proofs.Common.{◌≡◌, ℕ, ℤ, ◌-◌, zero, suc, true, Lis
 use Rattle.long_names.specs.declared.value.Value.{Value}
 use Rattle.long_names.specs.Names.{is_known}
 use Rattle.blue_model.specs.Machine.{Rule}
-use Rattle.blue_model.specs.Contexts.{store_field, push, stack, pop, pop_top, byte_of, fetch, jump, load, store_registers, enter, nil_context, go_back, return_to, active_process, start, park}
+use Rattle.blue_model.specs.Contexts.{store_field, push, stack, pop, pop_top, byte_of, fetch, jump, need_method, put_context, load_home, load, store_registers, enter, nil_context, back, back_with, return_to, active_process, start, park}
 use Rattle.blue_model.specs.Lookup.{method_at, find_in, found_or, find_from, put_found, find, find_from_register}
-use Rattle.blue_model.specs.Bytecodes.{receiver_variable, temporary, literal_constant, literal_variable, store_receiver_variable, store_temporary, store_literal_variable, push_of, push_known, push_number, push_receiver, push_active_context, duplicate_top, store_top, store_and_pop, by_kind, extended_push, extended_store_of, extended_store, extended_store_and_pop, return_home, return_of, return_from_block, jump_on, long_jump, long_jump_on, Range, bytecodes, has_byte, ruled, bytecode}
+use Rattle.blue_model.specs.Bytecodes.{receiver_variable, temporary, literal_constant, literal_variable, store_receiver_variable, store_temporary, store_literal_variable, push_of, push_known, push_number, push_receiver, push_active_context, duplicate_top, store_top, store_and_pop, by_kind, extended_push, extended_store_of, extended_store, extended_store_and_pop, return_home, return_of, return_from_block, jump_where, jump_on, long_jump, long_jump_on, Range, bytecodes, has_byte, ruled, bytecode}
 use Rattle.blue_model.specs.Cycle.{count_bytecode, step, cycle}
 use Rattle.blue_model.specs.Alike.{Lost, IsKept, IsKeptMaybe, IsPlain, Lawful, AreLawful}
 use Rattle.blue_model.proofs.LawSteps.{lawful, law_pick, law_done, law_unbuilt}
@@ -44,13 +44,25 @@ pub law-jump : {w : Lost} (distance : ℤ) → Lawful w IsPlain (jump distance)
 unfolding jump
 law-jump {w} distance = search (lawful, law-byte_of) depth 12
 
+pub law-need_method : {w : Lost} (method : Value) → IsKept w method → Lawful w IsPlain (need_method method)
+unfolding need_method
+law-need_method {w} method k = search lawful depth 12
+
+pub law-put_context : {w : Lost} (context home method receiver : Value) → IsKept w context → IsKept w home → IsKept w method → IsKept w receiver → Lawful w IsPlain (put_context context home method receiver)
+unfolding put_context
+law-put_context {w} context home method receiver c h m r = search lawful depth 12
+
+pub law-load_home : {w : Lost} (context home : Value) (ip depth : ℤ) → IsKept w context → IsKept w home → Lawful w IsPlain (load_home context home ip depth)
+unfolding load_home
+law-load_home {w} context home ip depth c h = search (lawful, law-need_method, law-put_context) depth 30 fits 5000
+
 pub law-load : {w : Lost} (context : Value) → IsKept w context → Lawful w IsPlain (load context)
 unfolding load
-law-load {w} context k = search lawful depth 40 fits 6000
+law-load {w} context k = search (lawful, law-load_home) depth 30 fits 5000
 
 pub law-store_registers : {w : Lost} → Lawful w IsPlain store_registers
 unfolding store_registers
-law-store_registers {w} = search (lawful, law-store_field) depth 12
+law-store_registers {w} = search (lawful, law-store_field) depth 16
 
 pub law-enter : {w : Lost} (context : Value) → IsKept w context → Lawful w IsPlain (enter context)
 unfolding enter
@@ -60,13 +72,17 @@ pub law-nil_context : {w : Lost} → Lawful w IsPlain nil_context
 unfolding nil_context
 law-nil_context {w} = search (lawful, law-store_field) depth 12
 
-pub law-go_back : {w : Lost} (context v : Value) → IsKept w context → IsKept w v → Lawful w IsPlain (go_back context v)
-unfolding go_back
-law-go_back {w} context v k l = search (lawful, law-nil_context, law-load, law-push) depth 12
+pub law-back : {w : Lost} (context : Value) → IsKept w context → Lawful w IsPlain (back context)
+unfolding back
+law-back {w} context k = search (lawful, law-nil_context, law-load) depth 12
+
+pub law-back_with : {w : Lost} (context v : Value) → IsKept w context → IsKept w v → Lawful w IsPlain (back_with context v)
+unfolding back_with
+law-back_with {w} context v k l = search (lawful, law-back, law-push) depth 12
 
 pub law-return_to : {w : Lost} (context v : Value) → IsKept w context → IsKept w v → Lawful w IsPlain (return_to context v)
 unfolding return_to
-law-return_to {w} context v k l = search (lawful, law-go_back) depth 12
+law-return_to {w} context v k l = search (lawful, law-back_with) depth 12
 
 pub law-active_process : {w : Lost} → Lawful w (IsKept w) active_process
 unfolding active_process
@@ -74,7 +90,7 @@ law-active_process {w} = search lawful depth 12
 
 pub law-start : {w : Lost} → Lawful w IsPlain start
 unfolding start
-law-start {w} = search (lawful, law-active_process, law-load) depth 12
+law-start {w} = search (lawful, law-active_process, law-load) depth 16
 
 pub law-park : {w : Lost} → Lawful w IsPlain park
 unfolding park
@@ -207,9 +223,13 @@ pub law-return_from_block : {w : Lost} → Lawful w IsPlain return_from_block
 unfolding return_from_block
 law-return_from_block {w} = search (lawful, law-pop_top, law-return_to) depth 12
 
+pub law-jump_where : {w : Lost} (taken passed : ℕ) (distance : ℤ) (v : Value) → Lawful w IsPlain (jump_where taken passed distance v)
+unfolding jump_where
+law-jump_where {w} taken passed distance v = search (lawful, law-jump) depth 12
+
 pub law-jump_on : {w : Lost} (taken passed : ℕ) (distance : ℤ) → Lawful w IsPlain (jump_on taken passed distance)
 unfolding jump_on
-law-jump_on {w} taken passed distance = search (lawful, law-pop_top, law-jump) depth 12
+law-jump_on {w} taken passed distance = search (lawful, law-pop_top, law-jump_where) depth 12
 
 pub law-long_jump : {w : Lost} (i : ℕ) → Lawful w IsPlain (long_jump i)
 unfolding long_jump
@@ -241,9 +261,9 @@ law-bytecode {w} byte = law-ruled bytecodes byte (bytecodes_lawful w)
 
 -- ---- the cycle
 
-pub law-count_bytecode : {w : Lost} → Lawful w IsPlain count_bytecode
+pub law-count_bytecode : {w : Lost} (before : ℕ) → Lawful w IsPlain (count_bytecode before)
 unfolding count_bytecode
-law-count_bytecode {w} = search lawful depth 12
+law-count_bytecode {w} before = search lawful depth 12
 
 pub law-step : {w : Lost} → Lawful w IsPlain step
 unfolding step

@@ -139,11 +139,15 @@ return_from_block = do
 
 -- ---- jumps
 
--- jumpIf: (chapter 28). mustBeBoolean is sent where the value is neither; sends aren't built yet
+-- what a conditional jump does with the value that it popped. mustBeBoolean is sent to one that is neither; sends aren't built yet
+unfoldable pub jump_where : ℕ → ℕ → ℤ → Value → Rule (Unit {0})
+jump_where taken passed distance v = pick (is_ref taken v) (jump distance) (pick (is_ref passed v) (done tt) unbuilt)
+
+-- jumpIf: (chapter 28)
 unfoldable pub jump_on : ℕ → ℕ → ℤ → Rule (Unit {0})
 jump_on taken passed distance = do
   v ← pop_top
-  pick (is_ref taken v) (jump distance) (pick (is_ref passed v) (done tt) unbuilt)
+  jump_where taken passed distance v
 
 unfoldable pub long_jump : ℕ → Rule (Unit {0})
 long_jump i = do

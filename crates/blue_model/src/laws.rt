@@ -6,7 +6,7 @@ ghost use Rattle.blue_model.specs.Machine.{Machine, at_rest};
 ghost use Rattle.blue_model.specs.Contexts.{start, park};
 ghost use Rattle.blue_model.specs.Lookup.{find_from_register};
 ghost use Rattle.blue_model.specs.Bytecodes.{Range, bytecodes, has_byte, bytecode};
-ghost use Rattle.blue_model.specs.Cycle.{step, cycle, run, ending, Stuck, ByCause, ByUnbuilt};
+ghost use Rattle.blue_model.specs.Cycle.{step, cycle, run, Ran, ending, Stuck, ByCause, ByUnbuilt};
 ghost use Rattle.blue_model.specs.Law.{IsWholeMachine, IsThinned, RespectsThinning, RunsAgree, EndingsAgree, AllThere, go_on};
 ghost use Rattle.blue_model.specs.Base.{nil, heap_of, base_code, context_at, context_in};
 
@@ -28,6 +28,11 @@ pub fn lookup_respects_thinning()
 /// A run of j + k cycles is a run of j and then, where that didn't stop, a run of k.
 pub fn runs_add_up()
     ensures { (j k : ℕ) (m : Machine) → run (j + k) m ≡ go_on k (run j m) }
+{}
+
+/// A run of k cycles that goes through ran k bytecodes more.
+pub fn runs_count_bytecodes()
+    ensures { (k : ℕ) (m n : Machine) → run k m ≡ Ran n → n.cpu.ran ≡ m.cpu.ran + k }
 {}
 
 /// A run of k cycles over a thinning runs as over the heap, or stops for the same reason with the same log, and is over a thinning
