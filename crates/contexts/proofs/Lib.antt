@@ -1,0 +1,11 @@
+pub mod CacheLaws
+pub mod CodeLaws
+pub mod Frames
+pub mod LookupLaws
+pub mod MakeLaws
+pub mod PartLaws
+pub mod ReadLaws
+pub mod RegisterLaws
+pub mod ServesLaws
+pub mod Steps
+pub mod StoreLaws

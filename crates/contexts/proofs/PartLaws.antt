@@ -1,0 +1,270 @@
+-- What a rule takes out of an object, by the parts that a memory tells of it.
+use Rattle.std.proofs.Common.{◌≡◌, ℕ, ℤ, ◌<◌, ◌≤◌, nat_le, nat_lt, Bool, true, false, cond, List, length, Option, Some, None, Result, IsTrue, is_some, refl, sym, ◌∙◌, ap, arith}
+use borrow.Author.Tests.{leb-true, le-leb, ltb-true, ltb-false}
+use Rattle.std.proofs.lemmas.Option.{slice_get_past}
+use Rattle.std.specs.List.{slice_get}
+use Rattle.std.specs.Option.{option_and_then, option_map}
+use Rattle.long_names.specs.declared.value.Value.{Value}
+use Rattle.long_names.specs.declared.value.Value.TheVariants.{Int, Ref}
+use Rattle.long_names.specs.declared.object.Body.{Body}
+use Rattle.long_names.specs.declared.object.Body.TheVariants.{Pointers, Words, Bytes, Method}
+use Rattle.long_names.specs.declared.object.Object.{Object}
+use Rattle.long_names.specs.Objects.{int_of, field_of, pointers_of, literals_of, bytes_of}
+use Rattle.long_names.specs.Heap.{Heap}
+use Rattle.long_names.specs.State.{object_at, part_at, HasPart}
+use Rattle.object_memory.specs.Told.{Told}
+use Rattle.object_memory.specs.Shape.{HasPartAt, IsPartAt, IsTestAt, field_count, literals_count}
+use Rattle.object_memory.proofs.Callers.{field_there}
+use Rattle.blue_model.specs.declared.cause.Cause.TheVariants.{Shape}
+use Rattle.blue_model.specs.declared.cpu.Cpu.{Cpu}
+use Rattle.blue_model.specs.Machine.{◌>>=◌, given, part}
+use Rattle.blue_model.specs.Indexes.{METHOD_INDEX, HOME_INDEX, TEMP_FRAME_START}
+use Rattle.blue_model.specs.Parts.{at_least, shaped, size, field, number, home_by, home_in, home_of, code_by, code_of, literal}
+use Rattle.contexts.specs.declared.stop.Stop.{Stop}
+use Rattle.contexts.specs.Serves.{Serves}
+use Rattle.contexts.proofs.ReadLaws.{part_steps}
+
+-- ---- objects of pointers
+
+-- the values of an object whose number of fields was found
+pub record HasFields (h : Heap) (v : Value) (n : ℕ) : Type 0 where
+  pub object : Object
+  pub values : List Value
+  pub at : object_at h v ≡ Some object
+  pub is : pointers_of object.body ≡ Some values
+  pub count : length values ≡ n
+
+pub has_fields : (h : Heap) (v : Value) (n : ℕ) → part_at h v field_count ≡ Some n → HasFields h v n
+has_fields h v n e = go (object_at h v) refl e
+  where
+    counted : (o : Object) (x : Option (List Value)) → object_at h v ≡ Some o → pointers_of o.body ≡ x → option_map length x ≡ Some n → HasFields h v n
+    counted o None at is e = let no : ◌≡◌ {A = Option ℕ} None (Some n) = e in absurd (cc)
+    counted o (Some xs) at is e = record { object = o; values = xs; at = at; is = is; count = cc }
+
+    go : (x : Option Object) → object_at h v ≡ x → option_and_then (λ (o : Object). field_count o.body) x ≡ Some n → HasFields h v n
+    go None at e = let no : ◌≡◌ {A = Option ℕ} None (Some n) = e in absurd (cc)
+    go (Some o) at e = counted o (pointers_of o.body) at refl e
+
+-- the number of the values of an object of pointers
+counted : (h : Heap) (v : Value) (xs : List Value) → part_at h v pointers_of ≡ Some xs → part_at h v field_count ≡ Some (length xs)
+counted h v xs e = go (object_at h v) e
+  where
+    go : (x : Option Object) → option_and_then (λ (o : Object). pointers_of o.body) x ≡ Some xs → option_and_then (λ (o : Object). field_count o.body) x ≡ Some (length xs)
+    go None e = let no : ◌≡◌ {A = Option (List Value)} None (Some xs) = e in absurd (cc)
+    go (Some o) e = ap (option_map length) e
+
+enough : (least : ℕ) (xs : List Value) → least ≤ length xs → at_least least xs ≡ Some xs
+enough least xs low = ap (λ b. cond b (Some xs) None) (le-leb least (length xs) low)
+
+too_few : (least : ℕ) (xs : List Value) → length xs < least → at_least least xs ≡ None
+too_few least xs few = go (nat_le least (length xs)) refl
+  where
+    go : (b : Bool) → nat_le least (length xs) ≡ b → cond b (Some xs) None ≡ None
+    go true e = let low = leb-true least (length xs) e in absurd (omega arith)
+    go false e = refl
+
+-- What a rule takes out of the values of an object of pointers with at least so many, it takes out of the values that were found,
+shaped_is : {A : Type 0} (h : Heap) (v : Value) (least n : ℕ) (g : Option (List Value) → Option A) → least ≤ n → (x : HasFields h v n) → option_and_then (λ (o : Object). g (shaped least o)) (object_at h v) ≡ g (Some x.values)
+shaped_is {A} h v least n g low x =
+    let within : least ≤ length x.values = omega (arith, x.count) in
+    ap (option_and_then (λ (o : Object). g (shaped least o))) x.at ∙ ap (λ (y : Option (List Value)). g (option_and_then (at_least least) y)) x.is ∙ ap g (enough least x.values within)
+
+-- and nothing, where there are too few,
+shaped_few : {A : Type 0} (h : Heap) (v : Value) (least n : ℕ) (g : Option (List Value) → Option A) → g None ≡ None → n < least → HasFields h v n → option_and_then (λ (o : Object). g (shaped least o)) (object_at h v) ≡ None
+shaped_few {A} h v least n g none few x =
+    let short : length x.values < least = omega (arith, x.count) in
+    ap (option_and_then (λ (o : Object). g (shaped least o))) x.at ∙ ap (λ (y : Option (List Value)). g (option_and_then (at_least least) y)) x.is ∙ ap g (too_few least x.values short) ∙ none
+
+-- or where they lack it,
+shaped_past : {A : Type 0} (h : Heap) (v : Value) (least n : ℕ) (g : Option (List Value) → Option A) → g None ≡ None → (x : HasFields h v n) → g (Some x.values) ≡ None → option_and_then (λ (o : Object). g (shaped least o)) (object_at h v) ≡ None
+shaped_past {A} h v least n g none x past = ap (option_and_then (λ (o : Object). g (shaped least o))) x.at ∙ ap (λ (y : Option (List Value)). g (option_and_then (at_least least) y)) x.is ∙ go (nat_le least (length x.values))
+  where
+    go : (b : Bool) → g (cond b (Some x.values) None) ≡ None
+    go true = past
+    go false = none
+
+-- or where the object isn't one of pointers.
+shaped_none : {A : Type 0} (h : Heap) (v : Value) (least : ℕ) (g : Option (List Value) → Option A) → g None ≡ None → part_at h v field_count ≡ None → option_and_then (λ (o : Object). g (shaped least o)) (object_at h v) ≡ None
+shaped_none {A} h v least g none e = go (object_at h v) e
+  where
+    values : (x : Option (List Value)) → option_map length x ≡ None → g (option_and_then (at_least least) x) ≡ None
+    values None e = none
+    values (Some xs) e = let no : ◌≡◌ {A = Option ℕ} (Some (length xs)) None = e in absurd (cc)
+
+    go : (x : Option Object) → option_and_then (λ (o : Object). field_count o.body) x ≡ None → option_and_then (λ (o : Object). g (shaped least o)) x ≡ None
+    go None e = refl
+    go (Some o) e = values (pointers_of o.body) e
+
+-- a field of the values that were found
+pub field_found : (h : Heap) (v : Value) (n i : ℕ) → (x : HasFields h v n) → part_at h v (λ b. field_of b i) ≡ slice_get x.values i
+field_found h v n i x = ap (option_and_then (λ (o : Object). field_of o.body i)) x.at ∙ of_body x.object.body x.values x.is
+  where
+    of_body : (b : Body) (xs : List Value) → pointers_of b ≡ Some xs → field_of b i ≡ slice_get xs i
+    of_body (Pointers values) xs e = let same : values ≡ xs = cc in ap (λ (ys : List Value). slice_get ys i) same
+    of_body (Words words) xs e = let no : ◌≡◌ {A = Option (List Value)} None (Some xs) = e in absurd (cc)
+    of_body (Bytes bytes) xs e = let no : ◌≡◌ {A = Option (List Value)} None (Some xs) = e in absurd (cc)
+    of_body (Method header literals code) xs e = let no : ◌≡◌ {A = Option (List Value)} None (Some xs) = e in absurd (cc)
+
+no_value : (h : Heap) (v : Value) (n i : ℕ) → n ≤ i → (x : HasFields h v n) → slice_get x.values i ≡ None
+no_value h v n i past x = let high : length x.values ≤ i = omega (arith, x.count) in slice_get_past x.values i high
+
+-- What a rule takes of a list at an index is nothing where the list or the index is lacking.
+lacking : {A : Type 0} (h : Heap) (v : Value) (i : ℕ) (list : Body → Option (List Value)) (g : Option (List Value) → Option A) → g None ≡ None → ((xs : List Value) → length xs ≤ i → g (Some xs) ≡ None) → (HasPart h v list (λ xs. i < length xs) → ⊥) → option_and_then (λ (o : Object). g (list o.body)) (object_at h v) ≡ None
+lacking {A} h v i list g none past lack = go (object_at h v) refl
+  where
+    at_index : (xs : List Value) → part_at h v list ≡ Some xs → (b : Bool) → nat_lt i (length xs) ≡ b → g (Some xs) ≡ None
+    at_index xs e true low = absurd (lack (xs, e, ltb-true i (length xs) low))
+    at_index xs e false high = past xs (ltb-false i (length xs) high)
+
+    of_list : (x : Option (List Value)) → part_at h v list ≡ x → g x ≡ None
+    of_list None e = none
+    of_list (Some xs) e = at_index xs e (nat_lt i (length xs)) refl
+
+    go : (x : Option Object) → object_at h v ≡ x → option_and_then (λ (o : Object). g (list o.body)) x ≡ None
+    go None at = refl
+    go (Some o) at = of_list (list o.body) (ap (option_and_then (λ (o : Object). list o.body)) at)
+
+-- a test that wasn't passed
+not_passed : {A : Type 0} {t : Told} {r : ℕ} {f : Body → Option A} {P : A → Type 0} {answer : Bool} → IsTestAt t r f P answer → answer ≡ false → IsTrue t.tells → HasPart t.heap (t.regs r) f P → ⊥
+not_passed {A} {t} {r} {f} {P} {answer} test is told has = let yes = (test.there told).1 has in let no : ◌≡◌ {A = Bool} true false = sym yes ∙ is in absurd (cc)
+
+-- ---- sizes
+
+pub size_is : {t : Told} {r : ℕ} {found : Option ℕ} (least n : ℕ) → IsPartAt t r field_count found → found ≡ Some n → least ≤ n → IsTrue t.tells → option_and_then (size least) (object_at t.heap (t.regs r)) ≡ Some n
+unfolding size
+size_is {t} {r} {found} least n is e low told = let x = has_fields t.heap (t.regs r) n (is.there told ∙ e) in shaped_is t.heap (t.regs r) least n (option_and_then (λ (values : List Value). Some (length values))) low x ∙ ap (λ k. Some k) x.count
+
+pub size_few : {t : Told} {r : ℕ} {found : Option ℕ} (least n : ℕ) → IsPartAt t r field_count found → found ≡ Some n → n < least → IsTrue t.tells → option_and_then (size least) (object_at t.heap (t.regs r)) ≡ None
+unfolding size
+size_few {t} {r} {found} least n is e few told = shaped_few t.heap (t.regs r) least n (option_and_then (λ (values : List Value). Some (length values))) refl few (has_fields t.heap (t.regs r) n (is.there told ∙ e))
+
+pub size_none : {t : Told} {r : ℕ} {found : Option ℕ} (least : ℕ) → IsPartAt t r field_count found → found ≡ None → IsTrue t.tells → option_and_then (size least) (object_at t.heap (t.regs r)) ≡ None
+unfolding size
+size_none {t} {r} {found} least is e told = shaped_none t.heap (t.regs r) least (option_and_then (λ (values : List Value). Some (length values))) refl (is.there told ∙ e)
+
+-- ---- fields
+
+pub field_is : {t : Told} {r : ℕ} {found : Option ℕ} (least i n : ℕ) → IsPartAt t r field_count found → found ≡ Some n → least ≤ n → IsTrue t.tells → option_and_then (field least i) (object_at t.heap (t.regs r)) ≡ part_at t.heap (t.regs r) (λ b. field_of b i)
+unfolding field
+field_is {t} {r} {found} least i n is e low told = let x = has_fields t.heap (t.regs r) n (is.there told ∙ e) in shaped_is t.heap (t.regs r) least n (option_and_then (λ (values : List Value). slice_get values i)) low x ∙ sym (field_found t.heap (t.regs r) n i x)
+
+pub field_few : {t : Told} {r : ℕ} {found : Option ℕ} (least i n : ℕ) → IsPartAt t r field_count found → found ≡ Some n → n < least → IsTrue t.tells → option_and_then (field least i) (object_at t.heap (t.regs r)) ≡ None
+unfolding field
+field_few {t} {r} {found} least i n is e few told = shaped_few t.heap (t.regs r) least n (option_and_then (λ (values : List Value). slice_get values i)) refl few (has_fields t.heap (t.regs r) n (is.there told ∙ e))
+
+pub field_past : {t : Told} {r : ℕ} {found : Option ℕ} (least i n : ℕ) → IsPartAt t r field_count found → found ≡ Some n → n ≤ i → IsTrue t.tells → option_and_then (field least i) (object_at t.heap (t.regs r)) ≡ None
+unfolding field
+field_past {t} {r} {found} least i n is e past told = (let x = has_fields t.heap (t.regs r) n (is.there told ∙ e) in shaped_past t.heap (t.regs r) least n (option_and_then (λ (values : List Value). slice_get values i)) refl x (no_value t.heap (t.regs r) n i past x))
+
+pub field_none : {t : Told} {r : ℕ} {found : Option ℕ} (least i : ℕ) → IsPartAt t r field_count found → found ≡ None → IsTrue t.tells → option_and_then (field least i) (object_at t.heap (t.regs r)) ≡ None
+unfolding field
+field_none {t} {r} {found} least i is e told = shaped_none t.heap (t.regs r) least (option_and_then (λ (values : List Value). slice_get values i)) refl (is.there told ∙ e)
+
+-- a field of an object of pointers that was tested to have it,
+pub field_tested : {t : Told} {r : ℕ} (i : ℕ) → HasPartAt t r pointers_of (λ xs. i < length xs) → IsTrue t.tells → (v : Value) × (option_and_then (field 0 i) (object_at t.heap (t.regs r)) ≡ Some v) × (part_at t.heap (t.regs r) (λ b. field_of b i) ≡ Some v)
+unfolding field
+field_tested {t} {r} i known told =
+    let has = known.there told in
+    let value = (field_there t r i known).there told in
+    let x = has_fields t.heap (t.regs r) (length has.0) (counted t.heap (t.regs r) has.0 has.1) in (
+      value.0,
+      shaped_is t.heap (t.regs r) 0 (length has.0) (option_and_then (λ (values : List Value). slice_get values i)) (omega arith) x ∙ sym (field_found t.heap (t.regs r) (length has.0) i x) ∙ value.1,
+      value.1,
+    )
+
+-- or to lack it
+pub field_lacking : {t : Told} {r : ℕ} {answer : Bool} (i : ℕ) → IsTestAt t r pointers_of (λ xs. i < length xs) answer → answer ≡ false → IsTrue t.tells → option_and_then (field 0 i) (object_at t.heap (t.regs r)) ≡ None
+unfolding field
+field_lacking {t} {r} {answer} i test is told =
+    lacking t.heap (t.regs r) i pointers_of (λ x. option_and_then (λ (values : List Value). slice_get values i) (option_and_then (at_least 0) x)) refl (λ xs past. ap (option_and_then (λ (values : List Value). slice_get values i)) (enough 0 xs (omega arith)) ∙ slice_get_past xs i past) (not_passed test is told)
+
+-- ---- numbers in fields
+
+-- the number that a field holds is the number that its value is
+pub number_by : {old new : Told} {cpu now : Cpu} {answer : Result ℤ Stop} (least i : ℕ) (v : Value) → Serves old cpu new now (part Shape (field least i) v >>= (λ x. given Shape (int_of x))) answer → Serves old cpu new now (part Shape (number least i) v) answer
+unfolding number field
+number_by {old} {new} {cpu} {now} {answer} least i v s = part_steps Shape (λ o. option_and_then (λ (values : List Value). slice_get values i) (shaped least o)) int_of v s
+
+-- ---- homes
+
+-- the home by the values that there may be
+abbrev home_here : Value → Option (List Value) → Option Value
+home_here context x = option_and_then (home_in context) x
+
+pub home_is : {t : Told} {r : ℕ} {found : Option ℕ} (context : Value) (n : ℕ) → IsPartAt t r field_count found → found ≡ Some n → TEMP_FRAME_START ≤ n → IsTrue t.tells → option_and_then (home_of context) (object_at t.heap (t.regs r)) ≡ home_by context (part_at t.heap (t.regs r) (λ b. field_of b METHOD_INDEX)) (part_at t.heap (t.regs r) (λ b. field_of b HOME_INDEX))
+unfolding home_of
+home_is {t} {r} {found} context n is e low told =
+    let x = has_fields t.heap (t.regs r) n (is.there told ∙ e) in
+    shaped_is t.heap (t.regs r) TEMP_FRAME_START n (home_here context) low x
+    ∙ ap (λ (y : Option Value). home_by context y (slice_get x.values HOME_INDEX)) (sym (field_found t.heap (t.regs r) n METHOD_INDEX x))
+    ∙ ap (λ (y : Option Value). home_by context (part_at t.heap (t.regs r) (λ b. field_of b METHOD_INDEX)) y) (sym (field_found t.heap (t.regs r) n HOME_INDEX x))
+
+pub home_few : {t : Told} {r : ℕ} {found : Option ℕ} (context : Value) (n : ℕ) → IsPartAt t r field_count found → found ≡ Some n → n < TEMP_FRAME_START → IsTrue t.tells → option_and_then (home_of context) (object_at t.heap (t.regs r)) ≡ None
+unfolding home_of
+home_few {t} {r} {found} context n is e few told = shaped_few t.heap (t.regs r) TEMP_FRAME_START n (home_here context) refl few (has_fields t.heap (t.regs r) n (is.there told ∙ e))
+
+pub home_none : {t : Told} {r : ℕ} {found : Option ℕ} (context : Value) → IsPartAt t r field_count found → found ≡ None → IsTrue t.tells → option_and_then (home_of context) (object_at t.heap (t.regs r)) ≡ None
+unfolding home_of
+home_none {t} {r} {found} context is e told = shaped_none t.heap (t.regs r) TEMP_FRAME_START (home_here context) refl (is.there told ∙ e)
+
+-- a block's context, whose field 3 is a number,
+pub home_of_block : (context v : Value) (fifth : Option Value) → is_some (int_of v) ≡ true → home_by context (Some v) fifth ≡ fifth
+home_of_block context (Int z) fifth e = refl
+home_of_block context (Ref n) fifth e = let no : ◌≡◌ {A = Bool} false true = e in absurd (cc)
+
+-- and a method's
+pub home_of_method : (context v : Value) (fifth : Option Value) → is_some (int_of v) ≡ false → home_by context (Some v) fifth ≡ Some context
+home_of_method context (Int z) fifth e = let no : ◌≡◌ {A = Bool} true false = e in absurd (cc)
+home_of_method context (Ref n) fifth e = refl
+
+-- ---- methods
+
+-- a literal is what a memory has as a field of a method,
+pub literal_is : {t : Told} {r : ℕ} {P : List Value → Type 0} (i : ℕ) → HasPartAt t r literals_of P → IsTrue t.tells → option_and_then (literal i) (object_at t.heap (t.regs r)) ≡ part_at t.heap (t.regs r) (λ b. field_of b i)
+unfolding literal
+literal_is {t} {r} {P} i known told = go (object_at t.heap (t.regs r)) (known.there told).0 (known.there told).1
+  where
+    of_body : (b : Body) (xs : List Value) → literals_of b ≡ Some xs → option_and_then (λ (xs : List Value). slice_get xs i) (literals_of b) ≡ field_of b i
+    of_body (Pointers values) xs e = let no : ◌≡◌ {A = Option (List Value)} None (Some xs) = e in absurd (cc)
+    of_body (Words words) xs e = let no : ◌≡◌ {A = Option (List Value)} None (Some xs) = e in absurd (cc)
+    of_body (Bytes bytes) xs e = let no : ◌≡◌ {A = Option (List Value)} None (Some xs) = e in absurd (cc)
+    of_body (Method header literals code) xs e = refl
+
+    go : (x : Option Object) (xs : List Value) → option_and_then (λ (o : Object). literals_of o.body) x ≡ Some xs → option_and_then (λ (o : Object). option_and_then (λ (xs : List Value). slice_get xs i) (literals_of o.body)) x ≡ option_and_then (λ (o : Object). field_of o.body i) x
+    go None xs e = refl
+    go (Some o) xs e = of_body o.body xs e
+
+-- where there is one.
+pub literal_none : {t : Told} {r : ℕ} {answer : Bool} (i : ℕ) → IsTestAt t r literals_of (λ xs. i < length xs) answer → answer ≡ false → IsTrue t.tells → option_and_then (literal i) (object_at t.heap (t.regs r)) ≡ None
+unfolding literal
+literal_none {t} {r} {answer} i test is told = lacking t.heap (t.regs r) i literals_of (option_and_then (λ (xs : List Value). slice_get xs i)) refl (λ xs past. slice_get_past xs i past) (not_passed test is told)
+
+-- a method, whose literals were counted, has code,
+pub code_is : {t : Told} {r : ℕ} {found : Option ℕ} (n : ℕ) → IsPartAt t r literals_count found → found ≡ Some n → IsTrue t.tells → (code : List ℕ) × (option_and_then code_of (object_at t.heap (t.regs r)) ≡ Some (record { literals = n; bytes = code })) × (part_at t.heap (t.regs r) bytes_of ≡ Some code)
+unfolding code_of
+code_is {t} {r} {found} n is e told = go (object_at t.heap (t.regs r)) (is.there told ∙ e)
+  where
+    of_body : (b : Body) → literals_count b ≡ Some n → (code : List ℕ) × (option_and_then (code_by (bytes_of b)) (literals_of b) ≡ Some (record { literals = n; bytes = code })) × (bytes_of b ≡ Some code)
+    of_body (Pointers values) e = let no : ◌≡◌ {A = Option ℕ} None (Some n) = e in absurd (cc)
+    of_body (Words words) e = let no : ◌≡◌ {A = Option ℕ} None (Some n) = e in absurd (cc)
+    of_body (Bytes bytes) e = let no : ◌≡◌ {A = Option ℕ} None (Some n) = e in absurd (cc)
+    of_body (Method header literals code) e = let same : length literals ≡ n = cc in (code, ap (λ k. Some (record { literals = k; bytes = code })) same, refl)
+
+    go : (x : Option Object) → option_and_then (λ (o : Object). literals_count o.body) x ≡ Some n → (code : List ℕ) × (option_and_then (λ (o : Object). option_and_then (code_by (bytes_of o.body)) (literals_of o.body)) x ≡ Some (record { literals = n; bytes = code })) × (option_and_then (λ (o : Object). bytes_of o.body) x ≡ Some code)
+    go None e = let no : ◌≡◌ {A = Option ℕ} None (Some n) = e in absurd (cc)
+    go (Some o) e = of_body o.body e
+
+-- and nothing else has.
+pub code_none : {t : Told} {r : ℕ} {found : Option ℕ} → IsPartAt t r literals_count found → found ≡ None → IsTrue t.tells → option_and_then code_of (object_at t.heap (t.regs r)) ≡ None
+unfolding code_of
+code_none {t} {r} {found} is e told = go (object_at t.heap (t.regs r)) (is.there told ∙ e)
+  where
+    of_body : (b : Body) → literals_count b ≡ None → option_and_then (code_by (bytes_of b)) (literals_of b) ≡ None
+    of_body (Pointers values) e = refl
+    of_body (Words words) e = refl
+    of_body (Bytes bytes) e = refl
+    of_body (Method header literals code) e = let no : ◌≡◌ {A = Option ℕ} (Some (length literals)) None = e in absurd (cc)
+
+    go : (x : Option Object) → option_and_then (λ (o : Object). literals_count o.body) x ≡ None → option_and_then (λ (o : Object). option_and_then (code_by (bytes_of o.body)) (literals_of o.body)) x ≡ None
+    go None e = refl
+    go (Some o) e = of_body o.body e

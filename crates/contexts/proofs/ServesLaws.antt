@@ -1,0 +1,216 @@
+-- Laws of serving: two calls in a row serve two rules in a row, and a call that stopped serves whatever was to follow.
+use Rattle.std.proofs.Common.{◌≡◌, ℕ, ◌+◌, ◌≤◌, List, [], ◌∷◌, ◌++◌, Option, Some, None, Result, Ok, Err, OnOk, inl, inr, refl, sym, ◌∙◌, ap, subst, arith}
+use Rattle.std.specs.Result.{IsErrAnd}
+use Rattle.std.proofs.lemmas.Result.{err_from_is_err_and}
+use Rattle.long_names.specs.Counting.{Rose}
+use Rattle.object_memory.specs.declared.fault.Need.{Need}
+use Rattle.object_memory.specs.declared.fault.MemFault.{MemFault}
+use Rattle.object_memory.specs.declared.fault.MemFault.TheVariants.{CoreFull, WorkFull, WorkFault, Damaged, NamesSpent, Said, Memory}
+use Rattle.object_memory.specs.Told.{Told, Bounds}
+use Rattle.object_memory.specs.Contract.{ForBounds, SameBounds, IsLater, Raised, work_faults, said_faults}
+use Rattle.object_memory.proofs.LaterLaws.{IsLater-trans, Raised-refl, Raised-then}
+use Rattle.blue_model.specs.declared.cpu.Cpu.{Cpu}
+use Rattle.blue_model.specs.Machine.{Machine, LogRow, Outcome, Go, Halt, Spent, Unbuilt, Rule, log_of, after, then_do, ◌>>=◌}
+use Rattle.contexts.specs.declared.stop.Stop.{Stop}
+use Rattle.contexts.specs.declared.stop.Stop.TheVariants.{Stuck, Mem, NotBuilt}
+use Rattle.contexts.specs.Serves.{Stands, IsLogged, HasMaking, IsGo, Allows, Gives, WasFull, IsCounted, IsCaused, HasReason, Serves}
+
+-- ---- counts
+
+-- some number of makings came between
+abbrev pub HasCounted : Told → Told → Type 0
+HasCounted old new = (makings : ℕ) × IsCounted makings old new
+
+pub IsCounted-refl : (t : Told) → IsCounted 0 t t
+IsCounted-refl t = record { counts = Raised-refl t.bounds; next = λ told. omega arith }
+
+pub IsCounted-trans : (j k : ℕ) (a b c : Told) → IsLater a b → IsCounted j a b → IsCounted k b c → IsCounted (j + k) a c
+IsCounted-trans j k a b c l x y = record {
+  counts = Raised-then j k a.bounds b.bounds c.bounds x.counts y.counts;
+  next = λ told. (let first = x.next told in let second = y.next (l.tells ∙ told) in omega arith);
+}
+
+pub counts_trans : {A : Type 0} (a b c : Told) (r : Result A Stop) → IsLater a b → HasCounted a b → OnOk r (HasCounted b c) → OnOk r (HasCounted a c)
+counts_trans a b c (Ok x) l p q = (p.0 + q.0, IsCounted-trans p.0 q.0 a b c l p.1 q.1)
+counts_trans a b c (Err e) l p q = tt
+
+-- ---- causes
+
+-- counts of faults do not fall
+faults_later : (a b : Option Bounds) → SameBounds a b → (work_faults a ≤ work_faults b) × (said_faults a ≤ said_faults b)
+faults_later None None l = (omega arith, omega arith)
+faults_later None (Some b) l = absurd l
+faults_later (Some a) None l = absurd l
+faults_later (Some a) (Some b) l = (l.3, l.4)
+
+Rose-earlier : (a b c : ℕ) → a ≤ b → Rose b c → Rose a c
+Rose-earlier a b c p q = omega arith
+
+-- makings that came before the ones after which there was no room
+full_earlier : (a b : Option Bounds) (j k live : ℕ) → Raised j a b → ForBounds b (WasFull k live) → ForBounds a (WasFull (j + k) live)
+full_earlier None None j k live p q = q
+full_earlier None (Some y) j k live p q = absurd p
+full_earlier (Some x) None j k live p q = absurd p
+full_earlier (Some x) (Some y) j k live p (inl q) = inl (q.0, sym p.0 ∙ q.1, (let made = p.1 in let lives = q.2 in omega arith))
+full_earlier (Some x) (Some y) j k live p (inr q) = inr (let made = p.1 in omega arith)
+
+IsCaused-earlier : (a b c : Told) (f : MemFault) → IsLater a b → HasCounted a b → IsCaused b c f → IsCaused a c f
+IsCaused-earlier a b c (CoreFull need) l n q = q
+IsCaused-earlier a b c (WorkFull live room) l n q = (q.0, (n.0 + q.1.0, IsCounted-trans n.0 q.1.0 a b c l n.1 q.1.1, full_earlier a.bounds b.bounds n.0 q.1.0 live n.1.counts q.1.2))
+IsCaused-earlier a b c (WorkFault count) l n q = (q.0, Rose-earlier (work_faults a.bounds) (work_faults b.bounds) (work_faults c.bounds) (faults_later a.bounds b.bounds l.bounds).0 q.1)
+IsCaused-earlier a b c (Damaged place name) l n q = λ told. q (l.tells ∙ told)
+IsCaused-earlier a b c NamesSpent l n q = tt
+IsCaused-earlier a b c (Said count) l n q = (q.0, Rose-earlier (said_faults a.bounds) (said_faults b.bounds) (said_faults c.bounds) (faults_later a.bounds b.bounds l.bounds).1 q.1)
+IsCaused-earlier a b c Memory l n q = q
+
+pub HasReason-earlier : {A : Type 0} (a b c : Told) (r : Result A Stop) → IsLater a b → HasCounted a b → HasReason b c r → HasReason a c r
+HasReason-earlier a b c (Ok x) l n q = tt
+HasReason-earlier a b c (Err (Stuck d)) l n q = tt
+HasReason-earlier a b c (Err NotBuilt) l n q = tt
+HasReason-earlier a b c (Err (Mem f)) l n q = record { rose = Rose-earlier a.refusals b.refusals c.refusals l.refusals q.rose; last = q.last; cause = IsCaused-earlier a b c f l n q.cause }
+
+-- ---- logs
+
+IsLogged-after : (need : Need) (xs ys : List LogRow) → IsLogged need ys → IsLogged need (xs ++ ys)
+IsLogged-after need [] ys h = h
+IsLogged-after need (x ∷ xs) ys h = inr (IsLogged-after need xs ys h)
+
+IsLogged-before : (need : Need) (xs ys : List LogRow) → IsLogged need xs → IsLogged need (xs ++ ys)
+IsLogged-before need [] ys h = absurd h
+IsLogged-before need (x ∷ xs) ys (inl h) = inl h
+IsLogged-before need (x ∷ xs) ys (inr h) = inr (IsLogged-before need xs ys h)
+
+HasMaking-after : (n : ℕ) (xs ys : List LogRow) → HasMaking n ys → HasMaking n (xs ++ ys)
+HasMaking-after n [] ys h = h
+HasMaking-after n (x ∷ xs) ys h = inr (HasMaking-after n xs ys h)
+
+HasMaking-before : (n : ℕ) (xs ys : List LogRow) → HasMaking n xs → HasMaking n (xs ++ ys)
+HasMaking-before n [] ys h = absurd h
+HasMaking-before n (x ∷ xs) ys (inl h) = inl h
+HasMaking-before n (x ∷ xs) ys (inr h) = inr (HasMaking-before n xs ys h)
+
+log_after : {A : Type 0} (rows : List LogRow) (o : Outcome A) → log_of (after rows o) ≡ rows ++ log_of o
+log_after rows (Go a m log) = refl
+log_after rows (Halt c log) = refl
+log_after rows (Spent log) = refl
+log_after rows (Unbuilt log) = refl
+
+-- ---- rows that came before change no answer
+
+go_after : {A : Type 0} (rows : List LogRow) (a : A) (P : Machine → Type 0) (o : Outcome A) → IsGo a P o → IsGo a P (after rows o)
+go_after rows a P (Go b m log) h = h
+go_after rows a P (Halt c log) h = h
+go_after rows a P (Spent log) h = h
+go_after rows a P (Unbuilt log) h = h
+
+allows_after : {A : Type 0} (t : Told) (rows : List LogRow) (f : MemFault) (o : Outcome A) → Allows t f o → Allows t f (after rows o)
+allows_after t rows (CoreFull need) o h = subst (IsLogged need) (sym (log_after rows o)) (IsLogged-after need rows (log_of o) h)
+allows_after t rows (WorkFull live room) o h = subst (HasMaking t.heap.next) (sym (log_after rows o)) (HasMaking-after t.heap.next rows (log_of o) h)
+allows_after t rows (WorkFault count) o h = tt
+allows_after t rows (Damaged place name) o h = absurd h
+allows_after t rows NamesSpent (Go a m log) h = absurd h
+allows_after t rows NamesSpent (Halt c log) h = absurd h
+allows_after t rows NamesSpent (Spent log) h = tt
+allows_after t rows NamesSpent (Unbuilt log) h = absurd h
+allows_after t rows (Said count) o h = tt
+allows_after t rows Memory o h = tt
+
+pub Gives-after : {A : Type 0} (t : Told) (cpu : Cpu) (rows : List LogRow) (o : Outcome A) (r : Result A Stop) → Gives t cpu r o → Gives t cpu r (after rows o)
+Gives-after t cpu rows o (Ok a) h = go_after rows a (Stands t cpu) o h
+Gives-after t cpu rows o (Err (Mem f)) h = allows_after t rows f o h
+Gives-after t cpu rows (Go a m log) (Err (Stuck d)) h = absurd h
+Gives-after t cpu rows (Halt c log) (Err (Stuck d)) h = h
+Gives-after t cpu rows (Spent log) (Err (Stuck d)) h = absurd h
+Gives-after t cpu rows (Unbuilt log) (Err (Stuck d)) h = absurd h
+Gives-after t cpu rows (Go a m log) (Err NotBuilt) h = absurd h
+Gives-after t cpu rows (Halt c log) (Err NotBuilt) h = absurd h
+Gives-after t cpu rows (Spent log) (Err NotBuilt) h = absurd h
+Gives-after t cpu rows (Unbuilt log) (Err NotBuilt) h = h
+
+-- ---- a rule after another
+
+-- one that went on, and another
+pub Gives-then : {A B : Type 0} (mid new : Told) (cpu now : Cpu) (o : Outcome A) (k : A → Rule B) (a : A) (r : Result B Stop) → Gives mid cpu (Ok a) o → ((m : Machine) → Stands mid cpu m → Gives new now r (k a m)) → Gives new now r (then_do o k)
+Gives-then mid new cpu now (Go b m log) k a r h next = Gives-after new now log (k b m) r (subst (λ x. Gives new now r (k x m)) (sym h.0) (next m h.1))
+Gives-then mid new cpu now (Halt c log) k a r h next = absurd h
+Gives-then mid new cpu now (Spent log) k a r h next = absurd h
+Gives-then mid new cpu now (Unbuilt log) k a r h next = absurd h
+
+logged_then : {A B : Type 0} (need : Need) (o : Outcome A) (k : A → Rule B) → IsLogged need (log_of o) → IsLogged need (log_of (then_do o k))
+logged_then need (Go b m log) k h = subst (IsLogged need) (sym (log_after log (k b m))) (IsLogged-before need log (log_of (k b m)) h)
+logged_then need (Halt c log) k h = h
+logged_then need (Spent log) k h = h
+logged_then need (Unbuilt log) k h = h
+
+making_then : {A B : Type 0} (n : ℕ) (o : Outcome A) (k : A → Rule B) → HasMaking n (log_of o) → HasMaking n (log_of (then_do o k))
+making_then n (Go b m log) k h = subst (HasMaking n) (sym (log_after log (k b m))) (HasMaking-before n log (log_of (k b m)) h)
+making_then n (Halt c log) k h = h
+making_then n (Spent log) k h = h
+making_then n (Unbuilt log) k h = h
+
+allows_then : {A B : Type 0} (new : Told) (o : Outcome A) (k : A → Rule B) (f : MemFault) → Allows new f o → Allows new f (then_do o k)
+allows_then new o k (CoreFull need) h = logged_then need o k h
+allows_then new o k (WorkFull live room) h = making_then new.heap.next o k h
+allows_then new o k (WorkFault count) h = tt
+allows_then new o k (Damaged place name) h = absurd h
+allows_then new (Go b m log) k NamesSpent h = absurd h
+allows_then new (Halt c log) k NamesSpent h = absurd h
+allows_then new (Spent log) k NamesSpent h = tt
+allows_then new (Unbuilt log) k NamesSpent h = absurd h
+allows_then new o k (Said count) h = tt
+allows_then new o k Memory h = tt
+
+-- one at which it stopped
+pub Gives-stop : {A B : Type 0} (new : Told) (now : Cpu) (o : Outcome A) (k : A → Rule B) (e : Stop) → Gives new now (Err e) o → Gives {A = B} new now (Err e) (then_do o k)
+Gives-stop new now o k (Mem f) h = allows_then new o k f h
+Gives-stop new now (Go b m log) k (Stuck c) h = absurd h
+Gives-stop new now (Halt d log) k (Stuck c) h = h
+Gives-stop new now (Spent log) k (Stuck c) h = absurd h
+Gives-stop new now (Unbuilt log) k (Stuck c) h = absurd h
+Gives-stop new now (Go b m log) k NotBuilt h = absurd h
+Gives-stop new now (Halt d log) k NotBuilt h = absurd h
+Gives-stop new now (Spent log) k NotBuilt h = absurd h
+Gives-stop new now (Unbuilt log) k NotBuilt h = h
+
+-- ---- the laws
+
+-- two calls in a row serve the two rules in a row
+pub serves_then : {A B : Type 0} {old mid new : Told} {cpu between now : Cpu} {p : Rule A} (k : A → Rule B) {a : A} {answer : Result B Stop} → Serves old cpu mid between p (Ok a) → Serves mid between new now (k a) answer → Serves old cpu new now (p >>= k) answer
+unfolding ◌>>=◌
+serves_then {A} {B} {old} {mid} {new} {cpu} {between} {now} {p} k {a} {answer} f s = record {
+  later = IsLater-trans old mid new f.later s.later;
+  ready = s.ready;
+  reason = HasReason-earlier old mid new answer f.later f.counts s.reason;
+  counts = counts_trans old mid new answer f.later f.counts s.counts;
+  silent = λ speaks. s.silent (f.later.speaks ∙ speaks) ∙ f.silent speaks;
+  model = λ told m st. Gives-then mid new between now (p m) k a answer (f.model told m st) (λ n sn. s.model (f.later.tells ∙ told) n sn);
+}
+
+-- a call that stopped serves whatever was to follow
+pub serves_stop : {A B : Type 0} {old new : Told} {cpu now : Cpu} {p : Rule A} (k : A → Rule B) {e : Stop} → Serves old cpu new now p (Err e) → Serves {A = B} old cpu new now (p >>= k) (Err e)
+unfolding ◌>>=◌
+serves_stop {A} {B} {old} {new} {cpu} {now} {p} k {e} f = record {
+  later = f.later;
+  ready = tt;
+  reason = reason e f.reason;
+  counts = tt;
+  silent = f.silent;
+  model = λ told m st. Gives-stop new now (p m) k e (f.model told m st);
+}
+  where
+    reason : (e : Stop) → HasReason {A = A} old new (Err e) → HasReason {A = B} old new (Err e)
+    reason (Stuck c) h = tt
+    reason NotBuilt h = tt
+    reason (Mem f) h = h
+
+-- the exit of a `?`
+pub serves_exit : {A B : Type 0} {old new : Told} {cpu now : Cpu} {p : Rule A} (k : A → Rule B) {e : Stop} (r : Result B Stop) → Serves old cpu new now p (Err e) → IsErrAnd r (λ y. y ≡ e) → Serves old cpu new now (p >>= k) r
+serves_exit {A} {B} {old} {new} {cpu} {now} {p} k {e} r s is =
+    let q = err_from_is_err_and r is in
+    subst (λ x. Serves {A = B} old cpu new now (p >>= k) x) (sym (q.1 ∙ ap (λ y. Err y) q.2)) (serves_stop k s)
+
+-- the exit of a `?`, for a whole rule
+pub exits : {A : Type 0} {old new : Told} {cpu now : Cpu} {rule : Rule A} {e : Stop} (r : Result A Stop) → IsErrAnd r (λ y. y ≡ e) → Serves old cpu new now rule (Err e) → Serves old cpu new now rule r
+exits {A} {old} {new} {cpu} {now} {rule} {e} r is s =
+    let q = err_from_is_err_and r is in
+    subst (λ x. Serves {A = A} old cpu new now rule x) (sym (q.1 ∙ ap (λ y. Err y) q.2)) s

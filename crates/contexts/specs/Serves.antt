@@ -1,0 +1,155 @@
+-- When what a memory did serves a rule of the model: read this first.
+use Rattle.std.specs.Prelude.{◌≡◌, ℕ, ◌+◌, ◌*◌, ◌<◌, ◌≤◌, ◌⊎◌, pos, true, List, [], ◌∷◌, Some, Result, Ok, Err, IsTrue, OnOk}
+use Rattle.long_names.specs.Counting.{Rose}
+use Rattle.long_names.specs.Need.{Fits}
+use Rattle.long_names.specs.State.{REGISTERS, RECEIVER}
+use Rattle.long_names.specs.declared.value.Value.TheVariants.{Int}
+use Rattle.long_names.specs.Thin.{IsThinner}
+use Rattle.object_memory.specs.declared.fault.Need.{Need}
+use Rattle.object_memory.specs.declared.fault.MemFault.{MemFault}
+use Rattle.object_memory.specs.declared.fault.MemFault.TheVariants.{CoreFull, WorkFull, WorkFault, Damaged, NamesSpent, Said, Memory}
+use Rattle.object_memory.specs.Told.{Told, Bounds, IsReady}
+use Rattle.object_memory.specs.Contract.{ForBounds, NoBounds, IsLater, Raised, work_faults, said_faults, LeavesAll}
+use Rattle.blue_model.specs.declared.cpu.Cpu.{Cpu}
+use Rattle.blue_model.specs.Cycle.{is_message}
+use Rattle.blue_model.specs.Machine.{Machine, MACHINE_REGISTERS, LogRow, Outcome, Go, Halt, Spent, Unbuilt, Rule, log_of}
+use Rattle.contexts.specs.Cache.{IsSound}
+use Rattle.contexts.specs.declared.stop.Stop.{Stop}
+use Rattle.contexts.specs.declared.stop.Stop.TheVariants.{Stuck, Mem, NotBuilt}
+
+-- ---- the machine that a memory stands for
+
+-- A memory and the numbers of the processor stand for this machine: its heap is thinner, registers, slots, numbers and, where it is
+-- told, the transcript are the machine's, and each row of the cache is a lookup in the memory's heap.
+pub record Stands (t : Told) (cpu : Cpu) (m : Machine) : Type 0 where
+  pub heap : IsThinner m.heap t.heap
+  pub regs : (r : ℕ) → r < MACHINE_REGISTERS → m.regs r ≡ t.regs r
+  pub slots : m.slots ≡ t.slots
+  pub numbers : m.cpu ≡ cpu
+  pub transcript : IsTrue t.speaks → t.transcript ≡ m.transcript
+  pub cache : IsSound t.heap t.cache
+
+-- ---- what the rule's outcome has to do with the answer
+
+-- the row needs this
+pub record HasNeed (need : Need) (row : LogRow) : Type 0 where
+  pub object : row.object ≡ need.object
+  pub words : row.words ≡ need.words
+  pub entries : row.entries ≡ need.entries
+
+-- a row of this need is in the log
+abbrev pub IsLogged : Need → List LogRow → Type 0
+IsLogged need [] = ⊥
+IsLogged need (row ∷ rows) = HasNeed need row ⊎ IsLogged need rows
+
+-- the log has the making of this name
+abbrev pub HasMaking : ℕ → List LogRow → Type 0
+HasMaking n [] = ⊥
+HasMaking n (row ∷ rows) = ((row.makes ≡ true) × (row.object ≡ n)) ⊎ HasMaking n rows
+
+-- the rule went on, with this answer, to a machine of which P holds
+abbrev pub IsGo : {A : Type 0} → A → (Machine → Type 0) → Outcome A → Type 0
+IsGo a P (Go b m log) = (b ≡ a) × P m
+IsGo a P (Halt c log) = ⊥
+IsGo a P (Spent log) = ⊥
+IsGo a P (Unbuilt log) = ⊥
+
+abbrev pub IsSpent : {A : Type 0} → Outcome A → Type 0
+IsSpent (Go a m log) = ⊥
+IsSpent (Halt c log) = ⊥
+IsSpent (Spent log) = Unit {0}
+IsSpent (Unbuilt log) = ⊥
+
+-- the rule came to a stop that no memory has a part in
+abbrev pub IsStop : {A : Type 0} → Stop → Outcome A → Type 0
+IsStop (Stuck c) (Halt d log) = d ≡ c
+IsStop NotBuilt (Unbuilt log) = Unit {0}
+IsStop _ _ = ⊥
+
+-- The rule allows a fault, after which this is told: a need that doesn't fit is that of a row of its log, room is missing for an
+-- object that it makes, and names are spent where it says so. Faults of the outside and want of memory may come anywhere. A memory
+-- that tells its heap is never damaged.
+abbrev pub Allows : {A : Type 0} → Told → MemFault → Outcome A → Type 0
+Allows new (CoreFull need) o = IsLogged need (log_of o)
+Allows new (WorkFull live room) o = HasMaking new.heap.next (log_of o)
+Allows new (WorkFault count) o = Unit {0}
+Allows new (Damaged place name) o = ⊥
+Allows new NamesSpent o = IsSpent o
+Allows new (Said count) o = Unit {0}
+Allows new Memory o = Unit {0}
+
+-- the answer is the rule's, and what is told now stands for its machine; or it is the rule's stop, or a fault that it allows
+abbrev pub Gives : {A : Type 0} → Told → Cpu → Result A Stop → Outcome A → Type 0
+Gives new now (Ok a) o = IsGo a (Stands new now) o
+Gives new now (Err (Stuck c)) o = IsStop (Stuck c) o
+Gives new now (Err NotBuilt) o = IsStop NotBuilt o
+Gives new now (Err (Mem f)) o = Allows new f o
+
+-- ---- why a memory refused, as far as no row is named
+
+-- So many makings came before one that found no room for so many living objects: they are counted from the last settling, or are
+-- eight or more.
+abbrev pub WasFull : ℕ → ℕ → Bounds → Type 0
+WasFull makings live b = ((base : ℕ) × (b.base ≡ Some base) × (live ≡ base + b.made + makings + 1)) ⊎ (8 ≤ b.made + makings)
+
+-- base stays, made rises by so many makings, and the next name by two for each
+pub record IsCounted (makings : ℕ) (old new : Told) : Type 0 where
+  pub counts : Raised makings old.bounds new.bounds
+  pub next : IsTrue old.tells → new.heap.next ≡ old.heap.next + 2 * makings
+
+abbrev pub IsCaused : Told → Told → MemFault → Type 0
+IsCaused old new (CoreFull need) = ForBounds new.bounds (λ b. Fits b.core b.entries need.words need.entries → ⊥)
+IsCaused old new (WorkFull live room) = ForBounds new.bounds (λ b. (b.room ≡ room) × (room < live)) × ((makings : ℕ) × IsCounted makings old new × ForBounds old.bounds (WasFull makings live))
+IsCaused old new (WorkFault count) = ForBounds new.bounds (λ b. b.work_faults ≡ count) × Rose (work_faults old.bounds) (work_faults new.bounds)
+IsCaused old new (Damaged place name) = IsTrue old.tells → ⊥
+IsCaused old new NamesSpent = Unit {0}
+IsCaused old new (Said count) = ForBounds new.bounds (λ b. b.said_faults ≡ count) × Rose (said_faults old.bounds) (said_faults new.bounds)
+IsCaused old new Memory = NoBounds new.bounds
+
+-- a refusal was counted, it is the last one, and it has its cause
+pub record IsRefused (old new : Told) (f : MemFault) : Type 0 where
+  pub rose : Rose old.refusals new.refusals
+  pub last : new.last ≡ Some f
+  pub cause : IsCaused old new f
+
+abbrev pub HasReason : {A : Type 0} → Told → Told → Result A Stop → Type 0
+HasReason old new (Ok a) = Unit {0}
+HasReason old new (Err (Stuck c)) = Unit {0}
+HasReason old new (Err NotBuilt) = Unit {0}
+HasReason old new (Err (Mem f)) = IsRefused old new f
+
+-- ---- serving
+
+-- What was done from old to new, with this answer, serves a rule that says nothing: for each machine that the memory stood for, the
+-- answer is the rule's, and the memory stands for the rule's next machine. No access was made whose row isn't in the log, since it
+-- might have been refused. A memory that tells no heap serves every rule as far as its own counts and causes go.
+pub record Serves {A : Type 0} (old : Told) (cpu : Cpu) (new : Told) (now : Cpu) (rule : Rule A) (answer : Result A Stop) : Type 0 where
+  pub later : IsLater old new
+  pub ready : OnOk answer (IsReady new)
+  pub reason : HasReason old new answer
+  pub counts : OnOk answer ((makings : ℕ) × IsCounted makings old new)
+  pub silent : IsTrue old.speaks → new.transcript ≡ old.transcript
+  pub model : IsTrue old.tells → (m : Machine) → Stands old cpu m → Gives new now answer (rule m)
+
+-- the answer of a call, with what it left in a register as its value
+abbrev pub with_value : {A E : Type 0} → Result (Unit {0}) E → A → Result A E
+with_value (Ok u) a = Ok a
+with_value (Err e) a = Err e
+
+-- sound after every answer but a fault that leaves nothing known
+abbrev pub StaysSound : {A : Type 0} → Result A Stop → Type 0 → Type 0
+StaysSound (Ok a) P = P
+StaysSound (Err (Stuck c)) P = P
+StaysSound (Err NotBuilt) P = P
+StaysSound (Err (Mem f)) P = LeavesAll f P
+
+-- ---- registers
+
+-- the registers behind those of the context and below this one are as before
+abbrev pub KeepsOthers : ℕ → Told → Told → Type 0
+KeepsOthers high old new = (r : ℕ) → RECEIVER < r → r < high → new.regs r ≡ old.regs r
+
+-- no message is in its registers, and no value in a scratch register
+pub record HasRest (t : Told) : Type 0 where
+  pub message : (r : ℕ) → IsTrue (is_message r) → t.regs r ≡ Int (pos 0)
+  pub scratch : (r : ℕ) → MACHINE_REGISTERS ≤ r → r < REGISTERS → t.regs r ≡ Int (pos 0)

@@ -1,0 +1,148 @@
+// The instruction pointer and the stack pointer.
+ghost use Rattle.std.specs.Prelude.{◌≡◌, ◌+ℤ◌, ◌-ℤ◌, ◌<ℤ◌, ◌<◌, ◌≤◌, ◌+◌, pos, Some, None, IfSome, OnSome, MatchBool};
+ghost use Rattle.std.specs.Bool.{OnFalse};
+ghost use Rattle.long_names.specs.Words.{IsSmallInteger};
+ghost use Rattle.blue_model.specs.Contexts.{stack_place, lowered, stated, stack_pointer};
+ghost use Rattle.contexts.specs.Places.{code_place, code_index};
+
+use blue_model::Cpu;
+
+/// The field above the top of the stack, of a context with so many fields, if it is one of the stack.
+pub(crate) fn place_above(cpu: &Cpu, len: u32) -> Option<u32>
+    ensures place { result ≡ stack_place (cpu.now.sp +ℤ pos 1) len }
+    ensures within { IfSome result (λ place. place < len) }
+    ensures small { OnSome result (cpu.now.sp <ℤ pos 16388) }
+{
+    if cpu.sp < 5 || cpu.sp > 16387 {
+        return None;
+    }
+    let place = cpu.sp as u32 + 1;
+    if place < len { Some(place) } else { None }
+}
+
+/// The field so much below the top of the stack, of a context with so many fields, if it is one of the stack.
+pub(crate) fn place_at(cpu: &Cpu, depth: u32, len: u32) -> Option<u32>
+    ensures place { result ≡ stack_place (cpu.now.sp -ℤ pos depth) len }
+    ensures within { IfSome result (λ place. place < len) }
+{
+    if cpu.sp < 6 || cpu.sp as u32 - 6 < depth {
+        return None;
+    }
+    let place = cpu.sp as u32 - depth;
+    if place <= 16388 && place < len {
+        Some(place)
+    } else {
+        None
+    }
+}
+
+/// One value more is on the stack.
+pub(crate) fn raise(cpu: &mut Cpu)
+    requires { cpu.old.sp <ℤ pos 16388 }
+    ensures { cpu.new ≡ record cpu.old { sp = cpu.old.sp +ℤ pos 1 } }
+{
+    cpu.sp += 1;
+}
+
+/// So many values fewer are on the stack, if it has them.
+pub(crate) fn lower(cpu: &mut Cpu, count: u32) -> bool
+    ensures lowered { MatchBool result (lowered cpu.old.sp count ≡ Some cpu.new.sp) (lowered cpu.old.sp count ≡ None) }
+    ensures rest { cpu.new ≡ record cpu.old { sp = cpu.new.sp } }
+    ensures unchanged { OnFalse result (cpu.new ≡ cpu.old) }
+{
+    if cpu.sp < 5 || cpu.sp as u32 - 5 < count {
+        return false;
+    }
+    cpu.sp = (cpu.sp as u32 - count) as i32;
+    true
+}
+
+/// The number of the byte at the instruction pointer, if it may be one of code.
+pub(crate) fn place_here(cpu: &Cpu) -> Option<u32>
+    ensures { result ≡ code_place cpu.now.ip }
+{
+    if cpu.ip < 0 || cpu.ip > 16381 {
+        None
+    } else {
+        Some(cpu.ip as u32)
+    }
+}
+
+/// The number of the byte so far from the instruction pointer, if it may be one of code.
+pub(crate) fn place_from(cpu: &Cpu, distance: &i32) -> Option<u32>
+    ensures place { result ≡ code_place (cpu.now.ip +ℤ distance.now) }
+{
+    let place = i64::from(cpu.ip) + i64::from(*distance);
+    if place < 0 || place > 16381 {
+        None
+    } else {
+        Some(place as u32)
+    }
+}
+
+/// The index in a method's code of the byte of a number, if there is one: of a method with so many literals and bytes.
+pub(crate) fn index_of(place: Option<u32>, literals: u32, len: u32) -> Option<u32>
+    requires { literals < 64 }
+    ensures index { result ≡ code_index literals len place }
+    ensures within { IfSome result (λ i. i < len) }
+{
+    let first = 2 * (literals + 1);
+    let place = place?;
+    if place < first || place - first >= len {
+        return None;
+    }
+    Some(place - first)
+}
+
+/// The instruction pointer goes on by one byte.
+pub(crate) fn advance(cpu: &mut Cpu)
+    requires { cpu.old.ip <ℤ pos 16382 }
+    ensures { cpu.new ≡ record cpu.old { ip = cpu.old.ip +ℤ pos 1 } }
+{
+    cpu.ip += 1;
+}
+
+/// The instruction pointer goes to the byte of this number.
+pub(crate) fn go_to(cpu: &mut Cpu, place: u32)
+    requires { place < 16382 }
+    ensures { cpu.new ≡ record cpu.old { ip = pos place } }
+{
+    cpu.ip = place as i32;
+}
+
+/// The pointers become those that a context states in its fields 1 and 2, if the second is a number of values.
+pub(crate) fn take_stated(cpu: &mut Cpu, ip: &i16, depth: &i16) -> bool
+    ensures depth { MatchBool result (stack_pointer depth.now ≡ Some cpu.new.sp) (stack_pointer depth.now ≡ None) }
+    ensures numbers { MatchBool result (cpu.new ≡ record cpu.old { ip = ip.now -ℤ pos 1; sp = cpu.new.sp }) (cpu.new ≡ cpu.old) }
+{
+    if *depth < 0 {
+        return false;
+    }
+    cpu.ip = i32::from(*ip) - 1;
+    cpu.sp = i32::from(*depth) + 5;
+    true
+}
+
+/// The instruction pointer as a context states it, if it can be stated.
+pub(crate) fn stated_ip(cpu: &Cpu) -> Option<i16>
+    ensures value { result ≡ stated (cpu.now.ip +ℤ pos 1) }
+    ensures range { IfSome result IsSmallInteger }
+{
+    if cpu.ip < -16385 || cpu.ip > 16382 {
+        None
+    } else {
+        Some((cpu.ip + 1) as i16)
+    }
+}
+
+/// The stack pointer as a context states it, if it can be stated.
+pub(crate) fn stated_depth(cpu: &Cpu) -> Option<i16>
+    ensures value { result ≡ stated (cpu.now.sp -ℤ pos 5) }
+    ensures range { IfSome result IsSmallInteger }
+{
+    if cpu.sp < -16379 || cpu.sp > 16388 {
+        None
+    } else {
+        Some((cpu.sp - 5) as i16)
+    }
+}

@@ -1,0 +1,184 @@
+// Parts of objects that rules read, and the store into a field.
+ghost use Rattle.std.specs.Prelude.{◌≡◌, ◌≤◌, ◌<◌, [], ◌∷◌, OnOk, IfOk, length, true};
+ghost use Rattle.long_names.specs.Names.{is_known};
+ghost use Rattle.long_names.specs.Objects.{pointers_of};
+ghost use Rattle.long_names.specs.Words.{IsSmallInteger};
+ghost use Rattle.long_names.specs.declared.value.Value.TheVariants.{Ref};
+ghost use Rattle.object_memory.specs.Told.{IsReady};
+ghost use Rattle.object_memory.specs.Shape.{HasPartAt, Looks};
+ghost use Rattle.blue_model.specs.declared.cause.Cause.TheVariants.{Shape};
+ghost use Rattle.blue_model.specs.declared.cpu.Cpu.{Cpu};
+ghost use Rattle.blue_model.specs.Machine.{MACHINE_REGISTERS, part, known};
+ghost use Rattle.blue_model.specs.Parts.{size, field, number, literal, home_of};
+ghost use Rattle.blue_model.specs.Contexts.{store_field, need_method};
+ghost use Rattle.contexts.specs.Serves.{Serves, StaysSound, with_value};
+
+use crate::stop::Stop;
+use blue_model::Cause;
+use long_names::Name;
+use object_memory::{ObjectMemory, Reg, shape};
+
+/// How many fields the object of pointers has that a register names. It has at least so many.
+pub fn size<M: ObjectMemory>(m: &mut M, of: Reg, least: u32) -> Result<u32, Stop>
+    requires sound { M.sound m.old }
+    requires ready { IsReady (M.told m.old) }
+    ensures serves { (cpu : Cpu) → Serves (M.told m.old) cpu (M.told m.new) cpu (part Shape (size least) ((M.told m.old).regs of)) result }
+    ensures looks { OnOk result (Looks [] (M.told m.old) (M.told m.new)) }
+    ensures there { IfOk result (λ len. HasPartAt (M.told m.new) of pointers_of (λ xs. length xs ≡ len)) }
+    ensures bound { IfOk result (λ len. len < 65536) }
+    ensures ready { OnOk result (IsReady (M.told m.new)) }
+    ensures sound { StaysSound result (M.sound m.new) }
+    ensures lender { M.lender m.new ≡ M.lender m.old }
+    ensures outside { M.outside m.new ≡ M.outside m.old }
+{
+    let Some(len) = shape::fields(m, of)? else {
+        return Err(Stop::Stuck(Cause::Shape));
+    };
+    if len < least {
+        return Err(Stop::Stuck(Cause::Shape));
+    }
+    Ok(len)
+}
+
+/// Loads field i of the object of pointers that a register names. It has at least so many fields.
+pub fn field<M: ObjectMemory>(m: &mut M, to: Reg, of: Reg, least: u32, i: u32) -> Result<(), Stop>
+    requires sound { M.sound m.old }
+    requires ready { IsReady (M.told m.old) }
+    requires scratch { MACHINE_REGISTERS ≤ to }
+    ensures serves { (cpu : Cpu) → Serves (M.told m.old) cpu (M.told m.new) cpu (part Shape (field least i) ((M.told m.old).regs of)) (with_value result ((M.told m.new).regs to)) }
+    ensures looks { OnOk result (Looks (to ∷ []) (M.told m.old) (M.told m.new)) }
+    ensures ready { OnOk result (IsReady (M.told m.new)) }
+    ensures sound { StaysSound result (M.sound m.new) }
+    ensures lender { M.lender m.new ≡ M.lender m.old }
+    ensures outside { M.outside m.new ≡ M.outside m.old }
+{
+    let Some(len) = shape::fields(m, of)? else {
+        return Err(Stop::Stuck(Cause::Shape));
+    };
+    if len < least || len <= i {
+        return Err(Stop::Stuck(Cause::Shape));
+    }
+    m.field(to, of, i)?;
+    Ok(())
+}
+
+/// The number in field i of the object of pointers that a register names. It has at least so many fields. The field is loaded into a
+/// scratch register.
+pub fn number<M: ObjectMemory>(m: &mut M, to: Reg, of: Reg, least: u32, i: u32) -> Result<i16, Stop>
+    requires sound { M.sound m.old }
+    requires ready { IsReady (M.told m.old) }
+    requires scratch { MACHINE_REGISTERS ≤ to }
+    ensures serves { (cpu : Cpu) → Serves (M.told m.old) cpu (M.told m.new) cpu (part Shape (number least i) ((M.told m.old).regs of)) result }
+    ensures looks { OnOk result (Looks (to ∷ []) (M.told m.old) (M.told m.new)) }
+    ensures range { IfOk result IsSmallInteger }
+    ensures ready { OnOk result (IsReady (M.told m.new)) }
+    ensures sound { StaysSound result (M.sound m.new) }
+    ensures lender { M.lender m.new ≡ M.lender m.old }
+    ensures outside { M.outside m.new ≡ M.outside m.old }
+{
+    field(m, to, of, least, i)?;
+    let Some(number) = m.as_int(to) else {
+        return Err(Stop::Stuck(Cause::Shape));
+    };
+    Ok(number)
+}
+
+/// Loads literal i of the method that a register names.
+pub fn literal<M: ObjectMemory>(m: &mut M, to: Reg, of: Reg, i: u32) -> Result<(), Stop>
+    requires sound { M.sound m.old }
+    requires ready { IsReady (M.told m.old) }
+    requires scratch { MACHINE_REGISTERS ≤ to }
+    ensures serves { (cpu : Cpu) → Serves (M.told m.old) cpu (M.told m.new) cpu (part Shape (literal i) ((M.told m.old).regs of)) (with_value result ((M.told m.new).regs to)) }
+    ensures looks { OnOk result (Looks (to ∷ []) (M.told m.old) (M.told m.new)) }
+    ensures ready { OnOk result (IsReady (M.told m.new)) }
+    ensures sound { StaysSound result (M.sound m.new) }
+    ensures lender { M.lender m.new ≡ M.lender m.old }
+    ensures outside { M.outside m.new ≡ M.outside m.old }
+{
+    if !shape::has_literal(m, of, i)? {
+        return Err(Stop::Stuck(Cause::Shape));
+    }
+    m.field(to, of, i)?;
+    Ok(())
+}
+
+/// Whether a register names a method: it is stuck where it doesn't.
+pub fn need_method<M: ObjectMemory>(m: &mut M, of: Reg) -> Result<(), Stop>
+    requires sound { M.sound m.old }
+    requires ready { IsReady (M.told m.old) }
+    ensures serves { (cpu : Cpu) → Serves (M.told m.old) cpu (M.told m.new) cpu (need_method ((M.told m.old).regs of)) result }
+    ensures looks { OnOk result (Looks [] (M.told m.old) (M.told m.new)) }
+    ensures ready { OnOk result (IsReady (M.told m.new)) }
+    ensures sound { StaysSound result (M.sound m.new) }
+    ensures lender { M.lender m.new ≡ M.lender m.old }
+    ensures outside { M.outside m.new ≡ M.outside m.old }
+{
+    if shape::literals(m, of)?.is_none() {
+        return Err(Stop::Stuck(Cause::Shape));
+    }
+    Ok(())
+}
+
+/// Loads the home of the context that a register names: of a block, whose field 3 is a number, field 5, and otherwise the context.
+pub fn home<M: ObjectMemory>(m: &mut M, to: Reg, context: Reg) -> Result<(), Stop>
+    requires sound { M.sound m.old }
+    requires ready { IsReady (M.told m.old) }
+    requires scratch { MACHINE_REGISTERS ≤ to }
+    requires apart { to ≡ context → ⊥ }
+    ensures serves { (cpu : Cpu) → Serves (M.told m.old) cpu (M.told m.new) cpu (part Shape (home_of ((M.told m.old).regs context)) ((M.told m.old).regs context)) (with_value result ((M.told m.new).regs to)) }
+    ensures looks { OnOk result (Looks (to ∷ []) (M.told m.old) (M.told m.new)) }
+    ensures ready { OnOk result (IsReady (M.told m.new)) }
+    ensures sound { StaysSound result (M.sound m.new) }
+    ensures lender { M.lender m.new ≡ M.lender m.old }
+    ensures outside { M.outside m.new ≡ M.outside m.old }
+{
+    let Some(len) = shape::fields(m, context)? else {
+        return Err(Stop::Stuck(Cause::Shape));
+    };
+    if len < 6 {
+        return Err(Stop::Stuck(Cause::Shape));
+    }
+    m.field(to, context, 3)?;
+    if m.as_int(to).is_some() {
+        m.field(to, context, 5)?;
+    } else {
+        m.copy(to, context);
+    }
+    Ok(())
+}
+
+/// Loads the name of a known object.
+pub fn known<M: ObjectMemory>(m: &mut M, to: Reg, name: Name) -> Result<(), Stop>
+    requires sound { M.sound m.old }
+    requires ready { IsReady (M.told m.old) }
+    requires scratch { MACHINE_REGISTERS ≤ to }
+    requires name { is_known name ≡ true }
+    ensures serves { (cpu : Cpu) → Serves (M.told m.old) cpu (M.told m.new) cpu (known name) (with_value result ((M.told m.new).regs to)) }
+    ensures name { OnOk result ((M.told m.new).regs to ≡ Ref name) }
+    ensures looks { OnOk result (Looks (to ∷ []) (M.told m.old) (M.told m.new)) }
+    ensures ready { OnOk result (IsReady (M.told m.new)) }
+    ensures sound { StaysSound result (M.sound m.new) }
+    ensures lender { M.lender m.new ≡ M.lender m.old }
+    ensures outside { M.outside m.new ≡ M.outside m.old }
+{
+    m.known(to, name)?;
+    Ok(())
+}
+
+/// Stores into field i of the object of pointers that a register names.
+pub fn store_field<M: ObjectMemory>(m: &mut M, of: Reg, i: u32, from: Reg) -> Result<(), Stop>
+    requires sound { M.sound m.old }
+    requires ready { IsReady (M.told m.old) }
+    ensures serves { (cpu : Cpu) → Serves (M.told m.old) cpu (M.told m.new) cpu (store_field ((M.told m.old).regs of) i ((M.told m.old).regs from)) result }
+    ensures regs { OnOk result ((M.told m.new).regs ≡ (M.told m.old).regs) }
+    ensures ready { OnOk result (IsReady (M.told m.new)) }
+    ensures sound { StaysSound result (M.sound m.new) }
+    ensures lender { M.lender m.new ≡ M.lender m.old }
+    ensures outside { M.outside m.new ≡ M.outside m.old }
+{
+    if !shape::has_field(m, of, i)? {
+        return Err(Stop::Stuck(Cause::Shape));
+    }
+    m.set_field(of, i, from)?;
+    Ok(())
+}

@@ -1,0 +1,38 @@
+// Why a call of the interpreter stopped.
+ghost use Rattle.std.specs.Prelude.{◌≡◌};
+ghost use Rattle.contexts.specs.declared.stop.Stop.TheVariants.{Mem};
+
+use blue_model::Cause;
+use object_memory::MemFault;
+
+/// Why a call stopped. After each of them the transcript is as before the call.
+#[derive(Clone, Copy, Debug, PartialEq, Eq)]
+pub enum Stop {
+    /// The machine is stuck.
+    Stuck(Cause),
+    /// The memory refused an access.
+    Mem(MemFault),
+    /// What comes next isn't built yet.
+    NotBuilt,
+}
+
+impl From<MemFault> for Stop {
+    ghost from_gives = { λ f e. e ≡ Mem f };
+
+    fn from(fault: MemFault) -> Stop {
+        Stop::Mem(fault)
+    }
+}
+
+/// How a call of a primitive ended.
+#[derive(Clone, Copy, Debug, PartialEq, Eq)]
+pub enum Answer {
+    /// It was done.
+    Done,
+    /// Its condition isn't met, and nothing has changed.
+    Failed,
+    /// A method that it found is to be executed.
+    Execute,
+    /// The machine is to end.
+    Quit,
+}
