@@ -1,0 +1,2 @@
+pub mod DispatchLaws
+pub mod VariableLaws

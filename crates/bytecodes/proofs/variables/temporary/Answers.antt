@@ -1,0 +1,30 @@
+use Rattle.std.proofs.Common.{refl, sym, [], ◌∷◌}
+use Rattle.object_memory.proofs.LooksLaws.{regs_looked, Looks-trans}
+use Rattle.blue_model.specs.Bytecodes.{temporary}
+use Rattle.contexts.proofs.ServesLaws.{serves_then, serves_stop}
+use Rattle.contexts.proofs.ReadLaws.{exits_with}
+use Rattle.contexts.proofs.Steps.{register_then, given_then, given_stuck}
+use Rattle.bytecodes.proofs.variables.temporary.Goals as goal
+
+pub returns-in_err-len-clause-serves : goal.returns-in_err-len-clause-serves
+unfolding temporary
+returns-in_err-len-clause-serves g c = λ cpu. exits_with _ _ c.from_residual.ensures.1 (register_then _ _ refl (serves_stop _ (c.in_err-len.ensures.serves cpu)))
+
+pub returns-in_default-clause-serves : goal.returns-in_default-clause-serves
+unfolding temporary
+returns-in_default-clause-serves g c = λ cpu. register_then _ _ refl (serves_then _ (c.in_ok-len.ensures.serves cpu) (given_stuck _ _ (λ told. sym c.in_default.ensures.place)))
+
+pub returns-in_err-field-clause-serves : goal.returns-in_err-field-clause-serves
+unfolding temporary
+returns-in_err-field-clause-serves g c = λ cpu.
+    let same = regs_looked _ _ c.in_ok-len.ensures.looks in
+    exits_with _ _ c.from_residual-in_err-field.ensures.1 (register_then _ _ refl (serves_then _ (c.in_ok-len.ensures.serves cpu) (given_then _ _ _ _ (λ told. sym c.in-Some.ensures.place) (rw same at c.in_err-field.ensures.serves cpu))))
+
+pub returns-clause-serves : goal.returns-clause-serves
+unfolding temporary
+returns-clause-serves g c = λ cpu.
+    let same = regs_looked _ _ c.in_ok-len.ensures.looks in
+    register_then _ _ refl (serves_then _ (c.in_ok-len.ensures.serves cpu) (given_then _ _ _ _ (λ told. sym c.in-Some.ensures.place) (rw same at c.in_ok-field.ensures.serves cpu)))
+
+pub returns-clause-looks : goal.returns-clause-looks
+returns-clause-looks g c = Looks-trans [] (c.args.to ∷ []) _ _ _ c.in_ok-len.ensures.ready c.in_ok-len.ensures.looks c.in_ok-field.ensures.looks

@@ -1,0 +1,153 @@
+// The table of bytecodes, and one step of the machine.
+ghost use Rattle.std.specs.Prelude.{◌≡◌, ◌≤◌, ◌<◌, Ok, OnOk, IfOk};
+ghost use Rattle.object_memory.specs.Told.{IsReady};
+ghost use Rattle.blue_model.specs.Bytecodes.{bytecode as bytecode_rule};
+ghost use Rattle.blue_model.specs.Cycle.{step as step_rule, is_message};
+ghost use Rattle.contexts.specs.Serves.{Serves, StaysSound, HasRest};
+ghost use Rattle.blue_model.specs.declared.cpu.Cpu.{Cpu as Numbers};
+ghost use Rattle.blue_model.specs.Machine.{clear as clear_rule};
+ghost use Rattle.bytecodes.specs.Steps.{done_by};
+
+use crate::ended::Step;
+use crate::jumps::{jump_on, long_jump, long_jump_on, short_jump};
+use crate::returns::{return_from_block, return_known, return_receiver, return_top};
+use crate::stacks::{
+    duplicate_top, extended_push, extended_store, extended_store_and_pop, push_active_context,
+    push_known, push_number, push_receiver, push_variable, store_and_pop,
+};
+use crate::variables::Variable;
+use contexts::{Cause, Cpu, Stop, clear, fetch, pop};
+use long_names::Name;
+use object_memory::ObjectMemory;
+
+/// Pushes, and stores that pop: bytecodes 0 to 119.
+pub(crate) fn push_bytecode<M: ObjectMemory>(m: &mut M, cpu: &mut Cpu, byte: u8) -> Result<(), Stop>
+    requires sound { M.sound m.old }
+    requires ready { IsReady (M.told m.old) }
+    requires to { byte ≤ 119 }
+    ensures serves { Serves (M.told m.old) cpu.old (M.told m.new) cpu.new (bytecode_rule byte) result }
+    ensures ready { OnOk result (IsReady (M.told m.new)) }
+    ensures sound { StaysSound result (M.sound m.new) }
+    ensures lender { M.lender m.new ≡ M.lender m.old }
+    ensures outside { M.outside m.new ≡ M.outside m.old }
+{
+    match byte {
+        0..=15 => push_variable(m, cpu, Variable::Receiver, u32::from(byte)),
+        16..=31 => push_variable(m, cpu, Variable::Temporary, u32::from(byte - 16)),
+        32..=63 => push_variable(m, cpu, Variable::Literal, u32::from(byte - 32)),
+        64..=95 => push_variable(m, cpu, Variable::LiteralVariable, u32::from(byte - 64)),
+        96..=103 => store_and_pop(m, cpu, Variable::Receiver, u32::from(byte - 96)),
+        104..=111 => store_and_pop(m, cpu, Variable::Temporary, u32::from(byte - 104)),
+        112 => push_receiver(m, cpu),
+        113 => push_known(m, cpu, Name::TRUE),
+        114 => push_known(m, cpu, Name::FALSE),
+        115 => push_known(m, cpu, Name::NIL),
+        _ => push_number(m, cpu, byte - 116),
+    }
+}
+
+/// Returns, extended forms, and single bytecodes on the stack: 120 to 143.
+pub(crate) fn return_bytecode<M: ObjectMemory>(
+    m: &mut M,
+    cpu: &mut Cpu,
+    byte: u8,
+) -> Result<(), Stop>
+    requires sound { M.sound m.old }
+    requires ready { IsReady (M.told m.old) }
+    requires from { 120 ≤ byte }
+    requires to { byte ≤ 143 }
+    ensures serves { Serves (M.told m.old) cpu.old (M.told m.new) cpu.new (bytecode_rule byte) result }
+    ensures ready { OnOk result (IsReady (M.told m.new)) }
+    ensures sound { StaysSound result (M.sound m.new) }
+    ensures lender { M.lender m.new ≡ M.lender m.old }
+    ensures outside { M.outside m.new ≡ M.outside m.old }
+{
+    match byte {
+        120 => return_receiver(m, cpu),
+        121 => return_known(m, cpu, Name::TRUE),
+        122 => return_known(m, cpu, Name::FALSE),
+        123 => return_known(m, cpu, Name::NIL),
+        124 => return_top(m, cpu),
+        125 => return_from_block(m, cpu),
+        126..=127 => Err(Stop::Stuck(Cause::Unused)),
+        128 => extended_push(m, cpu),
+        129 => extended_store(m, cpu),
+        130 => extended_store_and_pop(m, cpu),
+        131..=134 => Err(Stop::NotBuilt),
+        135 => pop(cpu, 1),
+        136 => duplicate_top(m, cpu),
+        137 => push_active_context(m, cpu),
+        _ => Err(Stop::Stuck(Cause::Unused)),
+    }
+}
+
+/// Jumps, and the sends, which aren't built yet: bytecodes 144 to 255.
+pub(crate) fn jump_bytecode<M: ObjectMemory>(m: &mut M, cpu: &mut Cpu, byte: u8) -> Result<(), Stop>
+    requires sound { M.sound m.old }
+    requires ready { IsReady (M.told m.old) }
+    requires from { 144 ≤ byte }
+    ensures serves { Serves (M.told m.old) cpu.old (M.told m.new) cpu.new (bytecode_rule byte) result }
+    ensures ready { OnOk result (IsReady (M.told m.new)) }
+    ensures sound { StaysSound result (M.sound m.new) }
+    ensures lender { M.lender m.new ≡ M.lender m.old }
+    ensures outside { M.outside m.new ≡ M.outside m.old }
+{
+    match byte {
+        144..=151 => short_jump(m, cpu, u32::from(byte - 144) + 1),
+        152..=159 => jump_on(m, cpu, Name::FALSE, Name::TRUE, u32::from(byte - 152) + 1),
+        160..=167 => long_jump(m, cpu, u32::from(byte - 160)),
+        168..=171 => long_jump_on(m, cpu, Name::TRUE, Name::FALSE, u32::from(byte - 168)),
+        172..=175 => long_jump_on(m, cpu, Name::FALSE, Name::TRUE, u32::from(byte - 172)),
+        _ => Err(Stop::NotBuilt),
+    }
+}
+
+/// Does what a byte says (dispatchOnThisBytecode, chapter 28).
+pub(crate) fn bytecode<M: ObjectMemory>(m: &mut M, cpu: &mut Cpu, byte: u8) -> Result<(), Stop>
+    requires sound { M.sound m.old }
+    requires ready { IsReady (M.told m.old) }
+    ensures serves { Serves (M.told m.old) cpu.old (M.told m.new) cpu.new (bytecode_rule byte) result }
+    ensures ready { OnOk result (IsReady (M.told m.new)) }
+    ensures sound { StaysSound result (M.sound m.new) }
+    ensures lender { M.lender m.new ≡ M.lender m.old }
+    ensures outside { M.outside m.new ≡ M.outside m.old }
+{
+    match byte {
+        0..=119 => push_bytecode(m, cpu, byte),
+        120..=143 => return_bytecode(m, cpu, byte),
+        _ => jump_bytecode(m, cpu, byte),
+    }
+}
+
+/// No message is left in its registers, and no value in a scratch register.
+fn rest<M: ObjectMemory>(m: &mut M)
+    requires sound { M.sound m.old }
+    requires ready { IsReady (M.told m.old) }
+    ensures serves { (cpu : Numbers) → Serves (M.told m.old) cpu (M.told m.new) cpu (clear_rule is_message) (Ok tt) }
+    ensures rest { HasRest (M.told m.new) }
+    ensures ready { IsReady (M.told m.new) }
+    ensures sound { M.sound m.new }
+    ensures lender { M.lender m.new ≡ M.lender m.old }
+    ensures outside { M.outside m.new ≡ M.outside m.old }
+{
+    clear(m, 4, 6);
+    clear(m, 10, 24);
+}
+
+/// Fetches a bytecode and does it (interpret, chapter 28). It isn't counted here.
+pub fn step<M: ObjectMemory>(m: &mut M, cpu: &mut Cpu) -> Result<Step, Stop>
+    requires sound { M.sound m.old }
+    requires ready { IsReady (M.told m.old) }
+    ensures serves { Serves (M.told m.old) cpu.old (M.told m.new) cpu.new step_rule (done_by result) }
+    ensures next { IfOk result (λ step. step ≡ Step.Next) }
+    ensures rest { OnOk result (HasRest (M.told m.new)) }
+    ensures ready { OnOk result (IsReady (M.told m.new)) }
+    ensures sound { StaysSound result (M.sound m.new) }
+    ensures lender { M.lender m.new ≡ M.lender m.old }
+    ensures outside { M.outside m.new ≡ M.outside m.old }
+{
+    let byte = fetch(m, cpu)?;
+    bytecode(m, cpu, byte)?;
+    rest(m);
+    Ok(Step::Next)
+}

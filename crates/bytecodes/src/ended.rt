@@ -1,0 +1,10 @@
+// How a step ended.
+
+/// How a step ended.
+#[derive(Clone, Copy, Debug, PartialEq, Eq)]
+pub enum Step {
+    /// The next bytecode follows.
+    Next,
+    /// The machine is to end.
+    Quit,
+}

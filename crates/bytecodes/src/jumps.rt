@@ -1,0 +1,118 @@
+// Jumps (chapter 28, jump bytecodes).
+ghost use Rattle.std.specs.Prelude.{◌≡◌, ◌<◌, ◌-ℤ◌, ◌+◌, ◌*◌, pos, OnOk};
+ghost use Rattle.object_memory.specs.Told.{IsReady};
+ghost use Rattle.blue_model.specs.Bytecodes as model;
+ghost use Rattle.blue_model.specs.Contexts.{jump as jump_rule};
+ghost use Rattle.contexts.specs.Serves.{Serves, StaysSound};
+
+use contexts::{Cpu, Stop, fetch, jump, pop_top};
+use long_names::Name;
+use object_memory::{ObjectMemory, Reg};
+
+/// Jumps so far where the value in SCRATCH_0 is the first of two objects, and goes on where it is the second. mustBeBoolean would be
+/// sent to any other, which isn't built yet.
+pub(crate) fn jump_where<M: ObjectMemory>(
+    m: &mut M,
+    cpu: &mut Cpu,
+    taken: Name,
+    passed: Name,
+    distance: u32,
+) -> Result<(), Stop>
+    requires sound { M.sound m.old }
+    requires ready { IsReady (M.told m.old) }
+    requires distance { distance < 1024 }
+    ensures serves { Serves (M.told m.old) cpu.old (M.told m.new) cpu.new (model.jump_where taken passed (pos distance) ((M.told m.old).regs 10)) result }
+    ensures ready { OnOk result (IsReady (M.told m.new)) }
+    ensures sound { StaysSound result (M.sound m.new) }
+    ensures lender { M.lender m.new ≡ M.lender m.old }
+    ensures outside { M.outside m.new ≡ M.outside m.old }
+{
+    if m.is(Reg::SCRATCH_0, taken) {
+        return jump(m, cpu, distance as i32);
+    }
+    if m.is(Reg::SCRATCH_0, passed) {
+        Ok(())
+    } else {
+        Err(Stop::NotBuilt)
+    }
+}
+
+/// Pops the top, and jumps so far where it is the first of two objects (jumpIf:).
+pub(crate) fn jump_on<M: ObjectMemory>(
+    m: &mut M,
+    cpu: &mut Cpu,
+    taken: Name,
+    passed: Name,
+    distance: u32,
+) -> Result<(), Stop>
+    requires sound { M.sound m.old }
+    requires ready { IsReady (M.told m.old) }
+    requires distance { distance < 1024 }
+    ensures serves { Serves (M.told m.old) cpu.old (M.told m.new) cpu.new (model.jump_on taken passed (pos distance)) result }
+    ensures ready { OnOk result (IsReady (M.told m.new)) }
+    ensures sound { StaysSound result (M.sound m.new) }
+    ensures lender { M.lender m.new ≡ M.lender m.old }
+    ensures outside { M.outside m.new ≡ M.outside m.old }
+{
+    pop_top(m, cpu, Reg::SCRATCH_0)?;
+    jump_where(m, cpu, taken, passed, distance)?;
+    Ok(())
+}
+
+/// Jumps so far ahead.
+pub(crate) fn short_jump<M: ObjectMemory>(
+    m: &mut M,
+    cpu: &mut Cpu,
+    distance: u32,
+) -> Result<(), Stop>
+    requires sound { M.sound m.old }
+    requires ready { IsReady (M.told m.old) }
+    requires distance { distance < 1024 }
+    ensures serves { Serves (M.told m.old) cpu.old (M.told m.new) cpu.new (jump_rule (pos distance)) result }
+    ensures ready { OnOk result (IsReady (M.told m.new)) }
+    ensures sound { StaysSound result (M.sound m.new) }
+    ensures lender { M.lender m.new ≡ M.lender m.old }
+    ensures outside { M.outside m.new ≡ M.outside m.old }
+{
+    jump(m, cpu, distance as i32)?;
+    Ok(())
+}
+
+/// Jumps by 256 times i - 4, and the next byte.
+pub(crate) fn long_jump<M: ObjectMemory>(m: &mut M, cpu: &mut Cpu, i: u32) -> Result<(), Stop>
+    requires sound { M.sound m.old }
+    requires ready { IsReady (M.told m.old) }
+    requires number { i < 8 }
+    ensures serves { Serves (M.told m.old) cpu.old (M.told m.new) cpu.new (model.long_jump i) result }
+    ensures ready { OnOk result (IsReady (M.told m.new)) }
+    ensures sound { StaysSound result (M.sound m.new) }
+    ensures lender { M.lender m.new ≡ M.lender m.old }
+    ensures outside { M.outside m.new ≡ M.outside m.old }
+{
+    let byte = fetch(m, cpu)?;
+    let distance = (256 * i + u32::from(byte)) as i32 - 1024;
+    jump(m, cpu, distance)?;
+    Ok(())
+}
+
+/// Pops the top, and jumps by 256 times i and the next byte where it is the first of two objects.
+pub(crate) fn long_jump_on<M: ObjectMemory>(
+    m: &mut M,
+    cpu: &mut Cpu,
+    taken: Name,
+    passed: Name,
+    i: u32,
+) -> Result<(), Stop>
+    requires sound { M.sound m.old }
+    requires ready { IsReady (M.told m.old) }
+    requires number { i < 4 }
+    ensures serves { Serves (M.told m.old) cpu.old (M.told m.new) cpu.new (model.long_jump_on taken passed i) result }
+    ensures ready { OnOk result (IsReady (M.told m.new)) }
+    ensures sound { StaysSound result (M.sound m.new) }
+    ensures lender { M.lender m.new ≡ M.lender m.old }
+    ensures outside { M.outside m.new ≡ M.outside m.old }
+{
+    let byte = fetch(m, cpu)?;
+    jump_on(m, cpu, taken, passed, 256 * i + u32::from(byte))?;
+    Ok(())
+}

@@ -1,0 +1,95 @@
+// Steps over a memory that is one map, with what they come to, and refused by one with bounds.
+ghost use Rattle.std.specs.Prelude.{OnOk};
+ghost use Rattle.object_memory.specs.Told.{IsReady};
+
+mod base;
+
+use crate::{Step, step};
+use base::memory;
+use bounded_memory::BoundedMemory;
+use contexts::parts::field;
+use contexts::{Cause, Cpu, Stop, start};
+use long_names::Name;
+use object_memory::{MemFault, Need, ObjectMemory, Reg};
+use std::process::Abort;
+use std::test::Fail;
+
+// The active context of the base image is 66, of 18 fields, with the instruction pointer 3 and an empty stack. Its method 64 has the
+// bytes 112, which pushes the receiver, 135, which pops, and 163 and 252, which jump by -4.
+
+// The two pointers after each step.
+const POINTERS: [(i32, i32); 4] = [(3, 6), (4, 5), (2, 5), (3, 6)];
+
+/// Starts, and goes once round the method and a step further, with true as receiver.
+fn walk<M: ObjectMemory>(rt: &impl Abort, m: &mut M) -> Result<(), Stop>
+    requires sound { M.sound m.old }
+    requires ready { IsReady (M.told m.old) }
+    ensures ready { OnOk result (IsReady (M.told m.new)) }
+    ensures sound { OnOk result (M.sound m.new) }
+{
+    let mut cpu = Cpu::at_rest();
+    start(m, &mut cpu)?;
+    assert_eq!(rt; (cpu.ip, cpu.sp), (2, 5));
+    m.known(Reg::RECEIVER, Name::TRUE)?;
+    for (i, pointers) in POINTERS.iter().enumerate() {
+        assert_eq!(rt; step(m, &mut cpu)?, Step::Next, "step {i}");
+        assert_eq!(rt; (cpu.ip, cpu.sp), *pointers, "step {i}");
+        assert_eq!(rt; m.as_int(Reg::SCRATCH_0), Some(0), "step {i}");
+    }
+    field(m, Reg::SCRATCH_0, Reg::ACTIVE_CONTEXT, 0, 6)?;
+    assert!(rt; m.is(Reg::SCRATCH_0, Name::TRUE));
+    Ok(())
+}
+
+#[test]
+fn each_step(rt: HostRuntime) -> Result<(), Fail> {
+    let mut m = memory(rt.alloc())?;
+    walk(&rt, &mut m)?;
+    Ok(())
+}
+
+// The context takes 22 words and 20 entries, the method 7 and 2, and a call 51 entries.
+#[test]
+fn in_the_smallest_core(rt: HostRuntime) -> Result<(), Fail> {
+    let mut m = BoundedMemory::new(memory(rt.alloc())?, 29, 73, 26, 26);
+    walk(&rt, &mut m)?;
+    Ok(())
+}
+
+// An empty stack, a send, and the end of the method.
+#[test]
+fn each_stop(rt: HostRuntime) -> Result<(), Fail> {
+    let rows = [
+        (3, Stop::Stuck(Cause::Stack)),
+        (5, Stop::NotBuilt),
+        (6, Stop::Stuck(Cause::Pointer)),
+    ];
+    for (ip, stop) in rows {
+        let mut m = memory(rt.alloc())?;
+        let mut cpu = Cpu::at_rest();
+        start(&mut m, &mut cpu)?;
+        cpu.ip = ip;
+        assert_eq!(rt; step(&mut m, &mut cpu), Err(stop));
+    }
+    Ok(())
+}
+
+// The object 8, of two fields, stands for the method, and for the context that the receiver is pushed to: it takes 6 words more.
+#[test]
+fn each_refusal(rt: HostRuntime) -> Result<(), Fail> {
+    let need = Need {
+        object: 8,
+        words: 35,
+        entries: 73,
+    };
+    for (register, ip) in [(Reg::METHOD, 2), (Reg::ACTIVE_CONTEXT, 3)] {
+        let mut m = BoundedMemory::new(memory(rt.alloc())?, 29, 73, 26, 26);
+        let mut cpu = Cpu::at_rest();
+        start(&mut m, &mut cpu)?;
+        m.known(register, Name::SCHEDULER_ASSOCIATION)?;
+        let refused = Err(Stop::Mem(MemFault::CoreFull(need)));
+        assert_eq!(rt; step(&mut m, &mut cpu), refused);
+        assert_eq!(rt; cpu.ip, ip);
+    }
+    Ok(())
+}
