@@ -9,7 +9,7 @@ use Rattle.loom_run.specs.Top.{HasRun, Noted, NotedBy}
 use Rattle.long_names.specs.Counting.{Rose}
 use Rattle.loom_run.specs.Parts.{IsOfRun, IsTold, unsaid}
 use Rattle.loom_run.specs.declared.status.Status.{Status}
-use Rattle.loom_run.specs.declared.status.Status.TheVariants.{Done, Usage, ImageBad, ReadFault, WriteFault, OutOfMemory, NotBuilt}
+use Rattle.loom_run.specs.declared.status.Status.TheVariants.{Done, Usage, ImageBad, Stuck, NamesSpent, ReadFault, WriteFault, OutOfMemory, NotBuilt}
 
 -- a whole line, and a cut one
 noted-whole : (line : List ℕ) (before now : Meanings) → now.roles Notes ≡ puts line (before.roles Notes) → Noted line before now
@@ -36,6 +36,8 @@ noted-told (Done ran) result steps before now of_run run (inl whole) p = rw whol
 noted-told (Done ran) result steps before now of_run run (inr cut) p = rw (cut.answer, sym run) (cut.put p)
 noted-told (Usage word) result steps before now of_run run told p = absurd of_run
 noted-told (ImageBad rule place) result steps before now of_run run told p = let own = noted-own _ _ _ _ refl told p in rw own.0 own.1
+noted-told (Stuck cause ran) result steps before now of_run run told p = let own = noted-own _ _ _ _ refl told p in rw own.0 own.1
+noted-told (NamesSpent ran) result steps before now of_run run told p = let own = noted-own _ _ _ _ refl told p in rw own.0 own.1
 noted-told (ReadFault role count) result steps before now of_run run told p = let own = noted-own _ _ _ _ refl told p in rw own.0 own.1
 noted-told (WriteFault role count) result steps before now of_run run told p = let own = noted-own _ _ _ _ refl told p in rw (own.0, of_run) (rw of_run at own.1)
 noted-told OutOfMemory result steps before now of_run run told p = let own = noted-own _ _ _ _ refl told p in rw own.0 own.1

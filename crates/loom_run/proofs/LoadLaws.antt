@@ -1,23 +1,22 @@
--- Records that are read from a window, and what they say of the whole image.
-use Rattle.std.proofs.Common.{◌≡◌, ℕ, ◌+◌, ◌<◌, ◌≤◌, Bool, true, false, cond, List, [], ◌∷◌, ◌++◌, length, take, drop, Result, Ok, Err, IsTrue, IsErrAnd, refl, sym, ◌∙◌, ap, ap₂, arith, eqb, append_assoc, length-append, take-append-drop}
-use Rattle.std.proofs.lemmas.List.{take-append-le, take_at, append-nil}
-use Rattle.std.proofs.lemmas.List.Concat.{flat_map-cons}
-use Rattle.std.proofs.lemmas.Grind.{common_steps, flat_map-append}
-use Rattle.std.specs.Ordering.{nat_cmp}
-use Rattle.std.specs.BTreeMap.{insert_entry}
-use Rattle.std.specs.declared.cmp.Ordering.TheVariants.{Greater}
-use Rattle.long_names.specs.declared.object.Object.{Object}
-use Rattle.loom_run.specs.Load.{AreBelow, rec_with, records_text}
+-- Records that are read from a window.
+use Rattle.std.proofs.Common.{◌≡◌, ℕ, ◌<◌, ◌≤◌, Bool, true, false, List, [], ◌∷◌, ◌++◌, length, take, drop, Result, Ok, Err, IsTrue, IsErrAnd, refl, sym, ◌∙◌, ap, subst, arith, length-append, take-append-drop}
+use Rattle.std.proofs.lemmas.List.{take-append-le, take_at}
 use Rattle.long_names.specs.declared.object.Rec.{Rec}
-use Rattle.image_format.specs.declared.fault.RecFault.{RecFault}
-use Rattle.image_format.specs.declared.fault.RecFault.TheVariants as rec_fault
 use Rattle.long_names.specs.Objects.{IsRecord}
 use Rattle.long_names.specs.Record.{record_text}
+use Rattle.long_names.specs.Heap.{Heap, object_count}
+use Rattle.image_format.specs.declared.fault.RecFault.{RecFault}
+use Rattle.image_format.specs.declared.fault.RecFault.TheVariants as rec_fault
 use Rattle.image_format.specs.Faults.{IsBad}
+use Rattle.image_format.specs.Text.{records_below}
+use Rattle.image_format.specs.Valid.{IsImageHeap}
 use Rattle.image_format.proofs.Lengths.{longest}
 use Rattle.loom_run.specs.declared.load.LoadFault.{LoadFault}
 use Rattle.loom_run.specs.declared.load.LoadFault.TheVariants.{Bad}
 use Rattle.loom_run.specs.Faults.{fault_of}
+use Rattle.loom_run.specs.Image.{recs_text, AreInOrder}
+use Rattle.loom_run.proofs.RecLaws.{text-recs}
+use Rattle.loom_run.proofs.ImageLaws.{next-record}
 
 -- bytes that begin with a text have it whole, unless they are too few
 whole : (bytes left text rest : List ℕ) (ended : Bool) (most : ℕ) → (ended ≡ false → most ≤ length bytes) → (IsTrue ended → left ≡ []) → length text ≤ most → bytes ++ left ≡ text ++ rest → bytes ≡ text ++ drop (length text) bytes
@@ -49,35 +48,9 @@ pub fault-is : {A : Type 0} (result : Result A LoadFault) (fault : LoadFault) �
 fault-is (Ok x) fault h was = absurd h
 fault-is (Err e) fault h was = let same : e ≡ Bad = cc in sym h ∙ same
 
--- ---- an object more
-
-insert-last : (es : List (ℕ × Object)) (name : ℕ) (o : Object) → AreBelow name es → insert_entry nat_cmp es name o ≡ es ++ (name, o) ∷ []
-insert-last [] name o b = refl
-insert-last (e ∷ es) name o b =
-    let low = b.0 in
-    let greater : nat_cmp name e.0 ≡ Greater = grind (arith, common_steps) in
-    rw greater (ap (λ xs. e ∷ xs) (insert-last es name o b.1))
-
--- counts that differ at a later name alone
-texts-same : (c d : ℕ → ℕ) (es : List (ℕ × Object)) (name : ℕ) → ((q : ℕ) → q < name → d q ≡ c q) → AreBelow name es → records_text d es ≡ records_text c es
-texts-same c d [] name same b = refl
-texts-same c d (e ∷ es) name same b =
-    flat_map-cons (λ x. record_text (rec_with d x)) e es
-    ∙ ap₂ (λ (n : ℕ) (t : List ℕ). let r : Rec = record { name = e.0; class = e.1.class; count = n; body = e.1.body } in record_text r ++ t) (same e.0 b.0) (texts-same c d es name same b.1)
-    ∙ sym (flat_map-cons (λ x. record_text (rec_with c x)) e es)
-
-pub one-object : (c d : ℕ → ℕ) (es fs : List (ℕ × Object)) (r : Rec) (bytes rest : List ℕ) → AreBelow r.name es → ((q : ℕ) → d q ≡ cond (eqb r.name q) r.count (c q)) → fs ≡ insert_entry nat_cmp es r.name (record { class = r.class; body = r.body }) → bytes ≡ record_text r ++ rest → records_text d fs ++ rest ≡ records_text c es ++ bytes
-one-object c d es fs r bytes rest b put e text =
-    let o : Object = record { class = r.class; body = r.body } in
-    let entry : ℕ × Object = (r.name, o) in
-    let count : d r.name ≡ r.count = put r.name ∙ (let here : eqb r.name r.name ≡ true = grind (arith, common_steps) in rw here refl) in
-    let old : records_text d es ≡ records_text c es = texts-same c d es r.name (λ q low. put q ∙ (let other : eqb r.name q ≡ false = grind (arith, common_steps) in rw other refl)) b in
-    let one : records_text d (entry ∷ []) ≡ record_text r =
-    flat_map-cons (λ x. record_text (rec_with d x)) entry [] ∙ append-nil (record_text (rec_with d entry)) ∙ ap (λ (n : ℕ). let x : Rec = record { name = r.name; class = r.class; count = n; body = r.body } in record_text x) count in
-    ap (λ (xs : List (ℕ × Object)). records_text d xs ++ rest) (e ∙ insert-last es r.name o b)
-    ∙ ap (λ (t : List ℕ). t ++ rest) (flat_map-append (λ x. record_text (rec_with d x)) es (entry ∷ []) ∙ ap₂ (λ (s t : List ℕ). s ++ t) old one)
-    ∙ append_assoc (records_text c es) (record_text r) rest
-    ∙ ap (λ (t : List ℕ). records_text c es ++ t) (sym text)
-
-pub one-longer : (es fs : List (ℕ × Object)) (name : ℕ) (o : Object) → AreBelow name es → fs ≡ insert_entry nat_cmp es name o → length fs ≡ length es + 1
-one-longer es fs name o b e = ap length (e ∙ insert-last es name o b) ∙ length-append es ((name, o) ∷ [])
+-- a record that no valid image has next
+pub refused-record : (h : Heap) (recs : List Rec) (next : ℕ) (bytes left : List ℕ) (ended : Bool) → IsImageHeap h → h.next ≡ next → AreInOrder recs next → length recs < object_count h → recs_text recs ++ (bytes ++ left) ≡ records_below h h.next → (IsTrue ended → left ≡ []) → ((left rest : List ℕ) (r : Rec) → (IsTrue ended → left ≡ []) → AreInOrder (recs ++ r ∷ []) next → bytes ++ left ≡ record_text r ++ rest → ⊥) → ⊥
+refused-record h recs next bytes left ended is same order few text ends bad =
+    let there : AreInOrder recs h.next = subst (λ n. AreInOrder recs n) (sym same) order in
+    let one = next-record h recs (bytes ++ left) is there (text ∙ text-recs h) few in
+    bad left one.after one.rec ends (subst (λ n. AreInOrder (recs ++ one.rec ∷ []) n) same one.order) one.text

@@ -4,13 +4,11 @@ use Rattle.std.specs.Prelude.{OnOk, OnErr, IsErr, slice_get}
 use Rattle.std.specs.List.{flat_map}
 use Rattle.std.proofs.lemmas.List.{append-nil, take_at, take_all, flat_map_more}
 use Rattle.std.proofs.lemmas.Grind.{flat_map-append}
-use Rattle.std.proofs.lemmas.List.Concat.{flat_map-cons}
 use Rattle.std.proofs.lemmas.Bool.{false≢true}
 use Rattle.long_names.specs.Words.{long_word, literal_count}
 use Rattle.long_names.specs.declared.value.Value.{Value}
 use Rattle.long_names.specs.declared.value.Value.TheVariants.{Int}
 use Rattle.long_names.specs.declared.object.Body.TheVariants.{Method}
-use Rattle.long_names.specs.declared.object.Object.{Object}
 use Rattle.long_names.specs.declared.object.Rec.{Rec}
 use Rattle.long_names.specs.Record.{four_bytes, values_text, contents_text, padding, record_head, record_text}
 use Rattle.image_format.proofs.Lengths.{length_values, length_head}
@@ -19,7 +17,6 @@ use Rattle.image_format.proofs.Writing.{push_taken}
 use Rattle.loom_outside.specs.Outside.{RoleState, PutPrefix, SameBut, HasCause, puts}
 use Rattle.loom_outside.specs.declared.outside.Failed.{Failed}
 use Rattle.loom_outside.specs.declared.outside.Role.TheVariants.{Saved}
-use Rattle.loom_run.specs.Load.{rec_with, records_text}
 use Rattle.loom_run.specs.Meanings.{Meanings}
 use Rattle.loom_run.specs.Parts.{PutBut, Emits}
 use Rattle.long_names.specs.Counting.{Rose}
@@ -172,40 +169,6 @@ emits-fail text xs i x at is e f =
 -- no more
 pub emits-end : {A X : Type 0} {told : Bool} {w v : Meanings} {old new : List ℕ} {r : Result A Failed} (text : X → List ℕ) (xs : List X) (i : ℕ) → length xs ≤ i → Emits told w v old (flat_map text (take i xs)) new r → Emits told w v old (flat_map text xs) new r
 emits-end text xs i past e = emits-of (ap (flat_map text) (take_all i xs past)) e
-
--- ---- records, one after the other
-
--- of the text of all records these are left
-pub record EmitsBut (told : Bool) (before now : Meanings) (old new : List ℕ) (rest all : List ℕ) : Type 0 where
-  pub done : List ℕ
-  pub whole : done ++ rest ≡ all
-  pub emits : Emits {A = Unit {0}} told before now old done new (Ok tt)
-
-pub emits-start : {told : Bool} {w : Meanings} (old all : List ℕ) → EmitsBut told w w old old all all
-emits-start old all = record { done = []; whole = refl; emits = emits-none (append-nil old) }
-
--- one record less
-less : (c : ℕ → ℕ) (e : ℕ × Object) (entries es : List (ℕ × Object)) (done all : List ℕ) → entries ≡ e ∷ es → done ++ records_text c entries ≡ all → (done ++ record_text (rec_with c e)) ++ records_text c es ≡ all
-less c e entries es done all first whole =
-    append_assoc done (record_text (rec_with c e)) (records_text c es)
-    ∙ ap (λ t. done ++ t) (sym (ap (records_text c) first ∙ flat_map-cons (λ x. record_text (rec_with c x)) e es))
-    ∙ whole
-
-pub emits-record : {told : Bool} {w0 w1 w2 : Meanings} {old mid new all : List ℕ} {e : ℕ × Object} {entries es : List (ℕ × Object)} {u : Unit {0}} (c : ℕ → ℕ) → entries ≡ e ∷ es → EmitsBut told w0 w1 old mid (records_text c entries) all → Emits told w1 w2 mid (record_text (rec_with c e)) new (Ok u) → EmitsBut told w0 w2 old new (records_text c es) all
-emits-record {all = all} {e = e} {entries = entries} {es = es} c first so f = record {
-  done = so.done ++ record_text (rec_with c e);
-  whole = less c e entries es so.done all first so.whole;
-  emits = emits-both so.emits f;
-}
-
--- one that failed
-pub emits-broken : {A B : Type 0} {told : Bool} {w0 w1 w2 : Meanings} {old mid end new all : List ℕ} {e : ℕ × Object} {entries es : List (ℕ × Object)} {b : Failed} {s : Result B Failed} (c : ℕ → ℕ) → entries ≡ e ∷ es → IsErr s → EmitsBut told w0 w1 old mid (records_text c entries) all → Emits {A = A} told w1 w2 mid (record_text (rec_with c e)) end (Err b) → Emits told w0 w2 old all new s
-emits-broken {all = all} {e = e} {entries = entries} {es = es} c first is so f =
-    emits-of (less c e entries es so.done all first so.whole) (emits-cut (records_text c es) is (emits-both so.emits f))
-
--- no more
-pub emits-over : {told : Bool} {w v : Meanings} {old new all : List ℕ} {entries : List (ℕ × Object)} (c : ℕ → ℕ) → entries ≡ [] → EmitsBut told w v old new (records_text c entries) all → Emits {A = Unit {0}} told w v old all new (Ok tt)
-emits-over {entries = entries} c none so = emits-of (sym (append-nil so.done) ∙ ap (λ es. so.done ++ records_text c es) (sym none) ∙ so.whole) so.emits
 
 -- ---- what a text is made of
 

@@ -1,39 +1,9 @@
--- The base image, as a worked value for the machine's rules.
-use Rattle.std.specs.Prelude.{ℕ, pos, ◌==◌, if◌then◌else◌, List, [], ◌∷◌, replicate, Option, Some, None, Result, Ok, Err}
-use Rattle.long_names.specs.declared.value.Value.{Value}
-use Rattle.long_names.specs.declared.value.Value.TheVariants.{Int, Ref}
-use Rattle.long_names.specs.declared.object.Body.TheVariants.{Pointers, Method}
-use Rattle.long_names.specs.declared.object.Object.{Object}
-use Rattle.long_names.specs.Names.{is_known}
-use Rattle.long_names.specs.Heap.{Heap}
+-- The base image as bytes, as a worked value.
+use Rattle.std.specs.Prelude.{ℕ, List, [], ◌∷◌}
 use Rattle.image_format.specs.Text.{image_text}
+use Rattle.blue_model.specs.Cycle.{Ending, Parked, Stuck}
 
-abbrev pub array : List Value → Option Object
-array values = Some (record { class = 16; body = Pointers values })
-
--- the context's fields, with these instruction and stack pointers, and this first value on its stack
-abbrev pub context_fields : ℕ → ℕ → Value → List Value
-context_fields ip depth top = Ref 2 ∷ Int (pos ip) ∷ Int (pos depth) ∷ Ref 64 ∷ Ref 2 ∷ Ref 2 ∷ top ∷ replicate 11 (Ref 2)
-
--- A scheduler 60 with one process 62, whose context 66 runs the method 64 on nil: it pushes the receiver, pops it, and jumps back.
-abbrev pub base_heap : Heap
-base_heap = record {
-  at = λ n.
-      if n == 8 then array (Ref 2 ∷ Ref 60 ∷ []) else (
-      if n == 60 then array (Ref 2 ∷ Ref 62 ∷ []) else (
-      if n == 62 then array (Ref 2 ∷ Ref 66 ∷ Int (pos 1) ∷ Ref 2 ∷ []) else (
-      if n == 64 then Some (record { class = 34; body = Method (pos 0) [] (112 ∷ 135 ∷ 163 ∷ 252 ∷ []) }) else (
-      if n == 66 then Some (record { class = 22; body = Pointers (context_fields 3 0 (Ref 2)) }) else (
-      if is_known n then array [] else None)))));
-  next = 68;
-}
-
--- what a run leaves under a name
-abbrev pub object_in : Result Heap ℕ → ℕ → Option Object
-object_in (Ok h) n = h.at n
-object_in (Err ran) n = None
-
--- the text of the base image, whose byte at 587 is the context's instruction pointer, twice and 1
+-- the text of the base image: the one whose context runs `base_code`. Its byte at 587 is the context's instruction pointer, twice and 1
 abbrev pub base_bytes : ℕ → List ℕ
 base_bytes ip =
     76 ∷ 79 ∷ 79 ∷ 77 ∷ 0 ∷ 0 ∷ 0 ∷ 1 ∷ 0 ∷ 0 ∷ 0 ∷ 26 ∷ 0 ∷ 0 ∷ 0 ∷ 68 ∷ 0 ∷ 0 ∷ 0 ∷ 2 ∷ 0 ∷ 0 ∷ 0 ∷ 16 ∷ 0 ∷ 0 ∷ 0 ∷
@@ -64,6 +34,6 @@ base_bytes ip =
     0 ∷ 0 ∷ 0 ∷ 2 ∷ 0 ∷ 0 ∷ 0 ∷ 2 ∷ []
 
 -- the text of what a run leaves
-abbrev pub text_of : Result Heap ℕ → List ℕ
-text_of (Ok h) = image_text h
-text_of (Err ran) = []
+abbrev pub text_of : Ending → List ℕ
+text_of (Parked m) = image_text m.heap
+text_of (Stuck why ran) = []

@@ -1,21 +1,24 @@
 -- What the parts of a run answer.
-use Rattle.std.specs.Prelude.{◌≡◌, ℕ, Bool, List, [], ◌∷◌, ◌++◌, ◌⊎◌, Result, Err, IsOk, IsErr, OnOk, OnErr, IsTrue}
-use Rattle.long_names.specs.Heap.{Heap}
+use Rattle.std.specs.Prelude.{◌≡◌, ℕ, Bool, List, [], ◌∷◌, ◌++◌, ◌⊎◌, Result, IsErr, OnOk, OnErr, IsTrue}
+use Rattle.blue_model.specs.Cycle.{BySpentNames, ByUnbuilt, Ending}
+use Rattle.blue_model.specs.Cycle as model
 use Rattle.loom_outside.specs.Outside.{RoleState, PutPrefix, puts}
 use Rattle.loom_outside.specs.declared.outside.Failed.{Failed}
 use Rattle.loom_outside.specs.declared.outside.Role.TheVariants.{Saved, Notes}
 use Rattle.long_names.specs.Counting.{Rose}
 use Rattle.loom_run.specs.Meanings.{Meanings, LeavesBut}
-use Rattle.loom_run.specs.Top.{Saves, BeginsToSave, WasRefused}
+use Rattle.loom_run.specs.Top.{IsParked, IsStuck, Saves, BeginsToSave, WasRefused}
 use Rattle.loom_run.specs.Status.{line_of}
 use Rattle.loom_run.specs.declared.status.Status.{Status}
-use Rattle.loom_run.specs.declared.status.Status.TheVariants.{Done, Usage, WriteFault, OutOfMemory, NotBuilt}
+use Rattle.loom_run.specs.declared.status.Status.TheVariants.{Done, Usage, Stuck, NamesSpent, WriteFault, OutOfMemory, NotBuilt}
 
 -- once the image is read
 abbrev pub IsAfterLoading : Status → Type 0
 IsAfterLoading (Done ran) = Unit {0}
 IsAfterLoading (WriteFault role count) = role ≡ Saved
 IsAfterLoading OutOfMemory = Unit {0}
+IsAfterLoading (Stuck cause ran) = Unit {0}
+IsAfterLoading (NamesSpent ran) = Unit {0}
 IsAfterLoading (NotBuilt ran) = Unit {0}
 IsAfterLoading _ = ⊥
 
@@ -26,16 +29,26 @@ IsOfRun (WriteFault role count) = role ≡ Saved
 IsOfRun _ = Unit {0}
 
 -- by what becomes of a heap
-abbrev pub Runs : Status → Result Heap ℕ → Type 0
-Runs (Done ran) run = IsOk run
-Runs (WriteFault role count) run = IsOk run
-Runs (NotBuilt ran) run = run ≡ Err ran
+abbrev pub Runs : Status → Ending → Type 0
+Runs (Done ran) run = IsParked run
+Runs (WriteFault role count) run = IsParked run
+Runs (Stuck cause ran) run = IsStuck cause ran run
+Runs (NamesSpent ran) run = run ≡ model.Stuck BySpentNames ran
+Runs (NotBuilt ran) run = run ≡ model.Stuck ByUnbuilt ran
 Runs _ run = Unit {0}
 
-abbrev pub SavesRun : Status → Result Heap ℕ → List ℕ → RoleState → RoleState → Type 0
+abbrev pub SavesRun : Status → Ending → List ℕ → RoleState → RoleState → Type 0
 SavesRun (Done ran) run text old new = Saves run text old new
 SavesRun (WriteFault role count) run text old new = WasRefused text old new ⊎ BeginsToSave run text old new
 SavesRun _ run text old new = Unit {0}
+
+-- the answer of a run that ended before its end
+abbrev pub IsStopped : Status → Type 0
+IsStopped (Stuck cause ran) = Unit {0}
+IsStopped (NamesSpent ran) = Unit {0}
+IsStopped (NotBuilt ran) = Unit {0}
+IsStopped OutOfMemory = Unit {0}
+IsStopped _ = ⊥
 
 -- of a text all but this rest was put
 pub record PutBut (text rest : List ℕ) (old new : RoleState) : Type 0 where

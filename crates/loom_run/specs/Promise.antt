@@ -1,5 +1,5 @@
 -- What a run of the program promises, over any host: read this first. Its words stand in `Top` (what a run does with each role),
--- `Words` (the row of words), `Status` (the answers and their lines), `Machine` (the machine's rules) and `Meanings`.
+-- `Words` (the row of words), `Status` (the answers and their lines) and `Meanings`. The machine's rules are those of `blue_model`.
 use Rattle.std.specs.Prelude.{◌≡◌, ℕ, Bool, List, [], ◌∷◌, None, IsTrue, IsSome}
 use Rattle.loom_outside.specs.declared.outside.Role.{Role}
 use Rattle.loom_outside.specs.declared.outside.Role.TheVariants.{Image, Saved, Notes}
@@ -14,7 +14,7 @@ pub record Promise (tells : Role → Bool) (before now : Meanings) (words : List
   -- Usage comes exactly where a word is bad, missing or extra, and names the first such word. `right_words` says which words
   -- are right: `run IMAGE SAVED STEPS`.
   pub usage : usage_of result ≡ bad_word words
-  -- Done says that as many bytecodes were run as the words ask for, and NotBuilt that no more were.
+  -- Done says that as many bytecodes were run as the words ask for, and Stuck, NamesSpent and NotBuilt that no more were.
   pub ran : HasRun result (steps_of words)
   -- A fault is answered only where it rose in this run, for a role that the run uses so, and with its count.
   pub cause : IsCaused result before.faults now.faults
@@ -26,7 +26,7 @@ pub record Promise (tells : Role → Bool) (before now : Meanings) (words : List
   pub saved : IsTrue (tells Saved) → SavedBy result (saved_word words) (before.roles Saved) (now.roles Saved)
   pub unsaved : IsTrue (is_before_saving result) → IsLeft Saved before now
   -- The bytes of Image are refused only where they are no image. Done, and a fault in saving, come only where the machine goes
-  -- through all bytecodes, and NotBuilt only where it stops after that many.
+  -- through all bytecodes. Stuck, NamesSpent and NotBuilt come only where it stops so after that many, Stuck with its cause.
   pub judges : IsTrue (tells Image) → Judges result (bytes_of (now.roles Image)) (steps_of words)
   -- With Done the bytes of Saved are the image of the kept objects of the machine's heap after so many bytecodes, with exact
   -- counts. Where saving failed they are a prefix of it.

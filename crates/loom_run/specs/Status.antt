@@ -3,7 +3,7 @@ use Rattle.std.specs.Prelude.{ℕ, List, ◌++◌, codes, decimal, Option, Some,
 use Rattle.loom_outside.specs.declared.outside.Role.{Role}
 use Rattle.loom_outside.specs.declared.outside.Role.TheVariants.{Image, Events, Work, Saved, Display, Transcript, Notes}
 use Rattle.loom_run.specs.declared.status.Status.{Status}
-use Rattle.loom_run.specs.declared.status.Status.TheVariants.{Done, Usage, ImageBad, ReadFault, WriteFault, OutOfMemory, NotBuilt}
+use Rattle.loom_run.specs.declared.status.Status.TheVariants.{Done, Usage, ImageBad, Stuck, NamesSpent, ReadFault, WriteFault, OutOfMemory, NotBuilt}
 
 -- what a role is called
 abbrev pub role_text : Role → List ℕ
@@ -20,6 +20,8 @@ abbrev pub text_of : Status → List ℕ
 text_of (Done ran) = codes "ran " ++ decimal ran
 text_of (Usage word) = codes "usage: word " ++ decimal word
 text_of (ImageBad rule place) = codes "image: rule " ++ decimal rule ++ codes " at " ++ decimal place
+text_of (Stuck cause ran) = codes "stuck: cause " ++ decimal cause ++ codes " after " ++ decimal ran
+text_of (NamesSpent ran) = codes "names spent after " ++ decimal ran
 text_of (ReadFault role count) = codes "read fault: " ++ role_text role
 text_of (WriteFault role count) = codes "write fault: " ++ role_text role
 text_of OutOfMemory = codes "out of memory"
@@ -34,6 +36,8 @@ abbrev pub code_of : Status → ℕ
 code_of (Done ran) = 0
 code_of (Usage word) = 2
 code_of (ImageBad rule place) = 3
+code_of (Stuck cause ran) = 5
+code_of (NamesSpent ran) = 7
 code_of (ReadFault role count) = 9
 code_of (WriteFault role count) = 11
 code_of OutOfMemory = 12

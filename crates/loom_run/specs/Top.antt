@@ -1,5 +1,5 @@
 -- What a run does with the roles of its host, by its answer.
-use Rattle.std.specs.Prelude.{◌≡◌, ℕ, ◌≤◌, List, ◌++◌, take, length, Bool, true, false, ◌⊎◌, Result, Err, IsOk, IsOkAnd, Some, IfSome}
+use Rattle.std.specs.Prelude.{◌≡◌, ℕ, ◌≤◌, List, ◌++◌, take, length, Bool, true, false, ◌⊎◌, Err, Some, IfSome}
 use Rattle.loom_outside.specs.Outside.{RoleState, Attached, puts, PutPrefix}
 use Rattle.long_names.specs.Counting.{counted, Rose}
 use Rattle.loom_outside.specs.declared.outside.Failed.{Failed}
@@ -8,12 +8,16 @@ use Rattle.loom_outside.specs.declared.outside.Role.TheVariants.{Image, Saved, N
 use Rattle.long_names.specs.Heap.{Heap}
 use Rattle.image_format.specs.Text.{image_text}
 use Rattle.image_format.specs.Valid.{IsImageHeap, IsValid}
-use Rattle.loom_run.specs.Machine.{ending}
+use Rattle.blue_model.specs.declared.cause.Cause.{Cause}
+use Rattle.blue_model.specs.Cause.{cause_number}
+use Rattle.blue_model.specs.Cycle.{ByCause, BySpentNames, ByUnbuilt, Ending, ending}
+use Rattle.blue_model.specs.Cycle as model
 use Rattle.loom_run.specs.Meanings.{Meanings}
+use Rattle.loom_run.specs.Run.{OnParked}
 use Rattle.loom_run.specs.Saved.{saved_text}
 use Rattle.loom_run.specs.Status.{line_of}
 use Rattle.loom_run.specs.declared.status.Status.{Status}
-use Rattle.loom_run.specs.declared.status.Status.TheVariants.{Done, Usage, ImageBad, ReadFault, WriteFault, OutOfMemory, NotBuilt}
+use Rattle.loom_run.specs.declared.status.Status.TheVariants.{Done, Usage, ImageBad, Stuck, NamesSpent, ReadFault, WriteFault, OutOfMemory, NotBuilt}
 
 -- ---- faults
 
@@ -33,6 +37,8 @@ IsCaused _ before now = Unit {0}
 -- so many bytecodes were asked for
 abbrev pub HasRun : Status → ℕ → Type 0
 HasRun (Done ran) steps = ran ≡ steps
+HasRun (Stuck cause ran) steps = ran ≤ steps
+HasRun (NamesSpent ran) steps = ran ≤ steps
 HasRun (NotBuilt ran) steps = ran ≤ steps
 HasRun _ steps = Unit {0}
 
@@ -66,16 +72,25 @@ is_before_saving _ = true
 abbrev pub bytes_of : RoleState → List ℕ
 bytes_of s = s.taken ++ s.left
 
+-- the machine goes through, or it is stuck by the cause of this number after so many bytecodes
+abbrev pub IsParked : Ending → Type 0
+IsParked run = OnParked run (λ m. Unit {0})
+
+abbrev pub IsStuck : ℕ → ℕ → Ending → Type 0
+IsStuck number ran run = (cause : Cause) × (run ≡ model.Stuck (ByCause cause) ran) × (number ≡ cause_number cause)
+
 -- the bytes are an image, and P holds of what becomes of its heap
-abbrev pub RunOf : List ℕ → ℕ → (Result Heap ℕ → Type 0) → Type 0
+abbrev pub RunOf : List ℕ → ℕ → (Ending → Type 0) → Type 0
 RunOf image steps P = (h : Heap) × IsImageHeap h × (image ≡ image_text h) × P (ending steps h)
 
 -- What an answer says of the bytes of Image: they are no image, or the machine stops after so many bytecodes, or it goes through.
 abbrev pub Judges : Status → List ℕ → ℕ → Type 0
 Judges (ImageBad rule place) image steps = IsValid image → ⊥
-Judges (NotBuilt ran) image steps = RunOf image steps (λ r. r ≡ Err ran)
-Judges (Done ran) image steps = RunOf image steps (λ r. IsOk r)
-Judges (WriteFault role count) image steps = RunOf image steps (λ r. IsOk r)
+Judges (Stuck cause ran) image steps = RunOf image steps (IsStuck cause ran)
+Judges (NamesSpent ran) image steps = RunOf image steps (λ run. run ≡ model.Stuck BySpentNames ran)
+Judges (NotBuilt ran) image steps = RunOf image steps (λ run. run ≡ model.Stuck ByUnbuilt ran)
+Judges (Done ran) image steps = RunOf image steps IsParked
+Judges (WriteFault role count) image steps = RunOf image steps IsParked
 Judges _ image steps = Unit {0}
 
 -- the role was attached once more, by this name, and then these bytes were put to it
@@ -89,11 +104,11 @@ abbrev pub WasBegun : List ℕ → List ℕ → RoleState → RoleState → Type
 WasBegun text bytes old new = (n : ℕ) × (n ≤ length bytes) × WasWritten text (take n bytes) old new
 
 -- what became of the heap was saved, or saving it was begun
-abbrev pub Saves : Result Heap ℕ → List ℕ → RoleState → RoleState → Type 0
-Saves run text old new = IsOkAnd run (λ h. WasWritten text (saved_text h) old new)
+abbrev pub Saves : Ending → List ℕ → RoleState → RoleState → Type 0
+Saves run text old new = OnParked run (λ m. WasWritten text (saved_text m.heap) old new)
 
-abbrev pub BeginsToSave : Result Heap ℕ → List ℕ → RoleState → RoleState → Type 0
-BeginsToSave run text old new = IsOkAnd run (λ h. WasBegun text (saved_text h) old new)
+abbrev pub BeginsToSave : Ending → List ℕ → RoleState → RoleState → Type 0
+BeginsToSave run text old new = OnParked run (λ m. WasBegun text (saved_text m.heap) old new)
 
 abbrev pub failed : Failed
 failed = record {}
@@ -142,5 +157,5 @@ IsDone _ = ⊥
 -- the image is right, no run of it stops, and no call on a role failed
 pub record CanBeDone (image : List ℕ) (steps : ℕ) (before now : Role → ℕ) : Type 0 where
   pub valid : IsValid image
-  pub runs : (h : Heap) → IsImageHeap h → image ≡ image_text h → IsOk (ending steps h)
+  pub runs : (h : Heap) → IsImageHeap h → image ≡ image_text h → IsParked (ending steps h)
   pub still : (r : Role) → Rose (before r) (now r) → ⊥

@@ -1,7 +1,6 @@
 // An image for tests.
 
-/// An image of 26 objects. Its one process runs a method that pushes the receiver, pops it, and then comes to a bytecode that
-/// isn't built.
+/// An image of 26 objects. Its one process runs a method that pushes the receiver, pops it, and jumps back.
 pub(crate) const BASE: &[u8; 652] = b"\
     LOOM\0\0\0\x01\0\0\0\x1a\0\0\0\x44\
     \0\0\0\x02\0\0\0\x10\0\0\0\0\0\0\0\x13\0\0\0\0\

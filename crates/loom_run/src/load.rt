@@ -1,28 +1,24 @@
 // Reading an image.
-ghost use Rattle.std.specs.Prelude.{◌≡◌, ◌+◌, ◌-◌, ◌%◌, ◌<◌, ◌≤◌, ◌≢◌, ◌↔◌, ◌++◌, ◌&&◌, ℕ, List, [], ◌∷◌, IsTrue, OnOk, OnErr, IfSome, IfNone, IfErr, IfOk, Err, false, length, take, drop};
-ghost use Rattle.std.specs.Ordering.{nat_cmp};
-ghost use Rattle.std.specs.BTreeMap.{IsOrdered};
+ghost use Rattle.std.specs.Prelude.{◌≡◌, ◌+◌, ◌<◌, ◌≤◌, ◌^◌, ◌≢◌, ◌↔◌, ◌++◌, ℕ, List, [], ◌∷◌, IsTrue, OnOk, OnErr, IfErr, IfOk, Err, All, false, length};
 ghost use Rattle.long_names.specs.Counting.{Rose};
 ghost use Rattle.long_names.specs.declared.object.Rec.{Rec as Spelled};
+ghost use Rattle.long_names.specs.Heap.{Heap, object_count};
 ghost use Rattle.long_names.specs.Objects.{IsRecord};
-ghost use Rattle.long_names.specs.Record.{four_bytes, record_text};
+ghost use Rattle.long_names.specs.Record.{record_text};
 ghost use Rattle.image_format.specs.Text.{IsHead, head_text, records_below, image_text};
 ghost use Rattle.image_format.specs.Valid.{IsImageHeap, IsValid};
-ghost use Rattle.long_names.specs.Heap.{Heap, object_count};
-ghost use Rattle.loom_run.specs.Counts.{count_in};
-ghost use Rattle.loom_run.specs.Load.{AreBelow, IsComplete, have_objects, have_counts, have_known, records_text};
-ghost use Rattle.loom_run.specs.Map.{heap_of, entries_of};
+ghost use Rattle.object_memory.specs.Records.{Rise, AreWhole};
 ghost use Rattle.loom_run.specs.Faults.{fault_of};
+ghost use Rattle.loom_run.specs.Image.{AreInOrder, IsComplete, heap_of, recs_text};
 ghost use Rattle.loom_run.specs.Meanings.{meanings, LeavesBut};
 ghost use Rattle.loom_run.specs.Window.{EndsTruly, OnlyRead, unused};
 ghost use Rattle.loom_run.specs.declared.load.LoadFault.TheVariants.{Read, Memory};
 
-use crate::counts::Counts;
-use crate::map::ObjectMap;
-use crate::sweep::count_words;
+use crate::image::Image;
+use crate::tally::Tally;
 use crate::window::Window;
 use image_format::{HEAD_LEN, Head, MAX_RECORD, RecFault, decode_head, decode_rec};
-use long_names::{Name, Object, Rec};
+use long_names::{Rec, RecList};
 use loom_outside::{Failed, Host, Role};
 use std::alloc::{AllocError, Global};
 
@@ -97,92 +93,106 @@ fn take_record(alloc: Global, window: &mut Window) -> Result<Rec, LoadFault>
     Ok(rec)
 }
 
-/// Takes an object from the window, under a name above those before.
-fn take_object(
+/// Whether the name of a record is above those of the records before it.
+fn is_above(recs: &RecList, rec: &Rec) -> bool
+    requires rise { Rise 0 recs.now }
+    requires record { IsRecord rec.now }
+    ensures { IsTrue result ↔ Rise 0 (recs.now ++ rec.now ∷ []) }
+{
+    match recs.len() {
+        0 => true,
+        len => recs.item(len - 1).name < rec.name,
+    }
+}
+
+/// Whether a record may come next, behind those that came before it.
+fn comes_next(recs: &RecList, rec: &Rec, next: u32) -> bool
+    requires order { AreInOrder recs.now next }
+    requires record { IsRecord rec.now }
+    ensures { IsTrue result ↔ AreInOrder (recs.now ++ rec.now ∷ []) next }
+{
+    is_above(recs, rec) && rec.name.get() < next
+}
+
+/// Takes a record from the window, which may come next behind those before it.
+fn take_next(
     alloc: Global,
     window: &mut Window,
-    map: &mut ObjectMap,
-    stated: &mut Counts,
+    recs: &mut RecList,
+    next: u32,
 ) -> Result<(), LoadFault>
-    requires { window.old.ended ≡ false → MAX_RECORD ≤ length window.old.bytes }
-    ensures taken { OnOk result (records_text (count_in stated.new) (entries_of map.new) ++ window.new.bytes ≡ records_text (count_in stated.old) (entries_of map.old) ++ window.old.bytes) }
-    ensures one { OnOk result (length (entries_of map.new) ≡ length (entries_of map.old) + 1) }
-    ensures next { (heap_of map.new).next ≡ (heap_of map.old).next }
+    requires window { window.old.ended ≡ false → MAX_RECORD ≤ length window.old.bytes }
+    requires order { AreInOrder recs.old next }
+    ensures taken { OnOk result (recs_text recs.new ++ window.new.bytes ≡ recs_text recs.old ++ window.old.bytes) }
+    ensures one { OnOk result (length recs.new ≡ length recs.old + 1) }
+    ensures order { OnOk result (AreInOrder recs.new next) }
     ensures ended { window.new.ended ≡ window.old.ended }
     ensures fault { result ≡ Err LoadFault.Read → ⊥ }
-    ensures bad { result ≡ Err LoadFault.Bad → (left rest : List ℕ) (r : Spelled) → (IsTrue window.old.ended → left ≡ []) → IsRecord r → AreBelow r.name (entries_of map.old) → r.name < (heap_of map.old).next → window.old.bytes ++ left ≢ record_text r ++ rest }
+    ensures bad { result ≡ Err LoadFault.Bad → (left rest : List ℕ) (r : Spelled) → (IsTrue window.old.ended → left ≡ [])
+        → AreInOrder (recs.old ++ r ∷ []) next → window.old.bytes ++ left ≢ record_text r ++ rest }
 {
-    let Rec {
-        name,
-        class,
-        count,
-        body,
-    } = take_record(alloc, window)?;
-    if !map.comes_next(name) {
+    let rec = take_record(alloc, window)?;
+    if !comes_next(recs, &rec, next) {
         return Err(LoadFault::Bad);
     }
-    stated.put(name, count)?;
-    map.put(name, Object { class, body })?;
+    recs.push(rec)?;
     Ok(())
 }
 
-/// Whether the objects make an image, where these are the exact counts.
-fn pass(map: &ObjectMap, counts: &Counts, stated: &Counts) -> bool
-    ensures ordered { IsOrdered nat_cmp counts.now.words }
-    ensures all { result ≡ (have_objects (heap_of map.now) counts.now.words.entries && (have_counts (count_in counts.now) (count_in stated.now) (entries_of map.now) && have_known (heap_of map.now))) }
+/// Whether the objects of the records make an image: each name that is held has an object, the stated counts are exact, only known objects are held by nothing, and all known objects are there.
+fn is_complete(alloc: Global, recs: &RecList) -> Result<bool, AllocError>
+    requires records { All IsRecord recs.now }
+    requires few { length recs.now < 2 ^ 32 }
+    ensures { IfOk result (λ complete. IsTrue complete ↔ IsComplete recs.now) }
 {
-    counts.all_have_objects(map) && map.has_counts(counts, stated) && map.has_known()
-}
-
-/// Whether the objects make an image: each name that is held has an object, the stated counts are exact, only known objects are held by nothing, and all known objects are there.
-fn is_complete(alloc: Global, map: &ObjectMap, stated: &Counts) -> Result<bool, AllocError>
-    ensures { IfOk result (λ complete. IsTrue complete ↔ IsComplete (heap_of map.now) (count_in stated.now)) }
-{
-    let counts = count_words(alloc, map)?;
-    Ok(pass(map, &counts, stated))
+    let mut tally = Tally::new(alloc, recs)?;
+    Ok(tally.passes(recs))
 }
 
 /// Judges what is left once all records were taken: that the file ends there, and that the objects make an image.
-fn judge(alloc: Global, window: &Window, map: &ObjectMap, stated: &Counts) -> Result<(), LoadFault>
-    ensures ok { OnOk result ((window.now.bytes ≡ []) × IsComplete (heap_of map.now) (count_in stated.now)) }
-    ensures bad { result ≡ Err LoadFault.Bad → window.now.bytes ≡ [] → IsComplete (heap_of map.now) (count_in stated.now) → ⊥ }
+fn judge(alloc: Global, window: &Window, recs: &RecList) -> Result<(), LoadFault>
+    requires records { All IsRecord recs.now }
+    requires few { length recs.now < 2 ^ 32 }
+    ensures ok { OnOk result ((window.now.bytes ≡ []) × IsComplete recs.now) }
+    ensures bad { result ≡ Err LoadFault.Bad → window.now.bytes ≡ [] → IsComplete recs.now → ⊥ }
     ensures fault { result ≡ Err LoadFault.Read → ⊥ }
 {
-    if !window.is_empty() || !is_complete(alloc, map, stated)? {
+    if !window.is_empty() || !is_complete(alloc, recs)? {
         return Err(LoadFault::Bad);
     }
     Ok(())
 }
 
-/// Takes so many objects from Image.
-fn read_objects<H: Host>(
+/// Takes so many records from Image.
+fn read_recs<H: Host>(
     alloc: Global,
     host: &mut H,
     window: &mut Window,
-    map: &mut ObjectMap,
-    stated: &mut Counts,
-    count: u32,
-) -> Result<(), LoadFault>
+    head: &Head,
+) -> Result<RecList, LoadFault>
     requires { IsTrue (H.tells Role.Image) → EndsTruly window.old (H.roles host.old Role.Image) }
     ensures ends { IsTrue (H.tells Role.Image) → OnOk result (EndsTruly window.new (H.roles host.new Role.Image)) }
-    ensures text { IsTrue (H.tells Role.Image) → OnOk result (records_text (count_in stated.new) (entries_of map.new) ++ unused window.new (H.roles host.new Role.Image) ≡ records_text (count_in stated.old) (entries_of map.old) ++ unused window.old (H.roles host.old Role.Image)) }
-    ensures all { OnOk result (length (entries_of map.new) ≡ length (entries_of map.old) + count) }
-    ensures next { (heap_of map.new).next ≡ (heap_of map.old).next }
-    ensures bad { IsTrue (H.tells Role.Image) → result ≡ Err LoadFault.Bad → (h : Heap) → IsImageHeap h → h.next ≡ (heap_of map.old).next → length (entries_of map.old) + count ≤ object_count h → records_text (count_in stated.old) (entries_of map.old) ++ unused window.old (H.roles host.old Role.Image) ≢ records_below h h.next }
+    ensures text { IsTrue (H.tells Role.Image) → IfOk result (λ recs. recs_text recs ++ unused window.new (H.roles host.new Role.Image) ≡ unused window.old (H.roles host.old Role.Image)) }
+    ensures order { IfOk result (λ recs. AreInOrder recs head.now.next) }
+    ensures all { IfOk result (λ recs. length recs ≡ head.now.objects) }
+    ensures bad { IsTrue (H.tells Role.Image) → result ≡ Err LoadFault.Bad → (h : Heap) → IsImageHeap h → h.next ≡ head.now.next
+        → head.now.objects ≤ object_count h → unused window.old (H.roles host.old Role.Image) ≢ records_below h h.next }
     ensures image { IsTrue (H.tells Role.Image) → OnlyRead (H.roles host.old Role.Image) (H.roles host.new Role.Image) }
     ensures others { LeavesBut (Role.Image ∷ []) (meanings H.Host host.old) (meanings H.Host host.new) }
     ensures read { result ≡ Err LoadFault.Read → Rose (H.faults host.old Role.Image) (H.faults host.new Role.Image) }
 {
-    'records: for _ in 0..count {
+    let mut recs = RecList::new(alloc);
+    'records: for _ in 0..head.objects {
         window.fill(host)?;
-        take_object(alloc, window, map, stated)?;
+        take_next(alloc, window, &mut recs, head.next)?;
     }
-    Ok(())
+    Ok(recs)
 }
 
 /// Reads Image to its end, record by record, and judges it as a whole. What it states is tested before it is believed, so it takes no more memory than the file fills.
-pub fn load<H: Host>(alloc: Global, host: &mut H) -> Result<ObjectMap, LoadFault>
-    ensures heap { IsTrue (H.tells Role.Image) → IfOk result (λ m. IsImageHeap (heap_of m) × ((H.roles host.old Role.Image).left ≡ image_text (heap_of m))) }
+pub(crate) fn load<H: Host>(alloc: Global, host: &mut H) -> Result<Image, LoadFault>
+    ensures heap { IsTrue (H.tells Role.Image) → IfOk result (λ image. IsImageHeap (heap_of image) × ((H.roles host.old Role.Image).left ≡ image_text (heap_of image))) }
+    ensures whole { IfOk result (λ image. AreWhole image.recs image.next) }
     ensures end { IsTrue (H.tells Role.Image) → OnOk result ((H.roles host.new Role.Image).left ≡ []) }
     ensures bad { IsTrue (H.tells Role.Image) → result ≡ Err LoadFault.Bad → IsValid (H.roles host.old Role.Image).left → ⊥ }
     ensures image { IsTrue (H.tells Role.Image) → OnlyRead (H.roles host.old Role.Image) (H.roles host.new Role.Image) }
@@ -192,17 +202,11 @@ pub fn load<H: Host>(alloc: Global, host: &mut H) -> Result<ObjectMap, LoadFault
     let mut window = Window::new(alloc);
     window.fill(host)?;
     let head = take_head(&mut window)?;
-    let mut map = ObjectMap::new(alloc, head.next);
-    let mut stated = Counts::new(alloc);
-    read_objects(
-        alloc,
-        host,
-        &mut window,
-        &mut map,
-        &mut stated,
-        head.objects,
-    )?;
+    let recs = read_recs(alloc, host, &mut window, &head)?;
     window.fill(host)?;
-    judge(alloc, &window, &map, &stated)?;
-    Ok(map)
+    judge(alloc, &window, &recs)?;
+    Ok(Image {
+        recs,
+        next: head.next,
+    })
 }

@@ -1,35 +1,36 @@
 // The whole program.
-ghost use Rattle.std.specs.Prelude.{◌≡◌, ◌⊎◌, [], ◌∷◌, ℕ, IsTrue, IsErr, IfOk, OnOk, OnErr, Err};
-ghost use Rattle.long_names.specs.Heap.{count_of};
+ghost use Rattle.std.specs.Prelude.{◌≡◌, ◌<◌, ◌^◌, ◌⊎◌, [], ◌∷◌, All, IsTrue, IsErr, IfOk, IfErr, OnOk, OnErr, Err, length};
+ghost use Rattle.long_names.specs.Counting.{Rose};
+ghost use Rattle.long_names.specs.Objects.{IsRecord};
 ghost use Rattle.image_format.specs.Text.{image_text};
 ghost use Rattle.image_format.specs.Valid.{IsImageHeap, IsValid};
-ghost use Rattle.loom_run.specs.Counts.{count_in};
-ghost use Rattle.loom_run.specs.Map.{heap_of};
-ghost use Rattle.loom_run.specs.Machine.{ending};
+ghost use Rattle.object_memory.specs.Records.{AreWhole};
+ghost use Rattle.blue_model.specs.Cycle.{ending};
+ghost use Rattle.loom_run.specs.Image.{heap_of, text_of};
 ghost use Rattle.loom_run.specs.Meanings.{meanings, IsLeft, LeavesBut};
+ghost use Rattle.loom_run.specs.Parts.{IsAfterLoading, IsOfRun, IsStopped, IsTold, Runs, SavesRun, unsaid};
 ghost use Rattle.loom_run.specs.Promise.{Promise};
-ghost use Rattle.loom_run.specs.Words.{texts_of};
-ghost use Rattle.long_names.specs.Counting.{Rose};
+ghost use Rattle.loom_run.specs.Run.{OnParked};
+ghost use Rattle.loom_run.specs.Saved.{saved_text};
 ghost use Rattle.loom_run.specs.Top.{AttachedOnce, WasWritten, SavedBy, IsCaused, HasRun, Judges, SavesBy, WasBegun, WasRefused, bytes_of, is_before_saving};
-ghost use Rattle.loom_run.specs.Parts.{IsAfterLoading, IsOfRun, IsTold, Runs, SavesRun, unsaid};
+ghost use Rattle.loom_run.specs.Words.{texts_of};
 
-use crate::counts::Counts;
+use crate::image::Image;
 use crate::load::{LoadFault, load};
-use crate::map::ObjectMap;
-use crate::run::run;
+use crate::running::whole_run;
 use crate::save::save;
-use crate::status::Status;
-use crate::sweep::keep;
+use crate::status::{Status, status_of};
 use crate::words::{Command, command_of};
 use loom_outside::{Failed, Host, Role, write_full};
 use std::alloc::Global;
 
 // Attaches Image by this name, and reads it to its end.
-fn read_image<H: Host>(alloc: Global, host: &mut H, name: &str) -> Result<ObjectMap, LoadFault>
+fn read_image<H: Host>(alloc: Global, host: &mut H, name: &str) -> Result<Image, LoadFault>
     ensures attached { IsTrue (H.tells Role.Image)
         → AttachedOnce name.now (H.roles host.old Role.Image) (H.roles host.new Role.Image) }
     ensures heap { IsTrue (H.tells Role.Image)
-        → IfOk result (λ m. IsImageHeap (heap_of m) × (bytes_of (H.roles host.new Role.Image) ≡ image_text (heap_of m))) }
+        → IfOk result (λ image. IsImageHeap (heap_of image) × (bytes_of (H.roles host.new Role.Image) ≡ image_text (heap_of image))) }
+    ensures whole { IfOk result (λ image. AreWhole image.recs image.next) }
     ensures bad { IsTrue (H.tells Role.Image)
         → result ≡ Err LoadFault.Bad → IsValid (bytes_of (H.roles host.new Role.Image)) → ⊥ }
     ensures read { result ≡ Err LoadFault.Read → Rose (H.faults host.old Role.Image) (H.faults host.new Role.Image) }
@@ -41,30 +42,49 @@ fn read_image<H: Host>(alloc: Global, host: &mut H, name: &str) -> Result<Object
     load(alloc, host)
 }
 
-// Attaches Saved by this name, and puts the image of these objects to it.
-fn write_saved<H: Host>(
-    host: &mut H,
-    name: &str,
-    map: ObjectMap,
-    counts: &Counts,
-) -> Result<(), Failed>
-    requires { (q : ℕ) → count_in counts.now q ≡ count_of (heap_of map) q }
+// Attaches Saved by this name, and puts an image to it.
+fn write_saved<H: Host>(host: &mut H, name: &str, image: &Image) -> Result<(), Failed>
+    requires records { All IsRecord image.now.recs }
+    requires few { length image.now.recs < 2 ^ 32 }
     ensures attached { IsTrue (H.tells Role.Saved)
         → AttachedOnce name.now (H.roles host.old Role.Saved) (H.roles host.new Role.Saved) }
     ensures put { IsTrue (H.tells Role.Saved)
-        → OnOk result (WasWritten name.now (image_text (heap_of map)) (H.roles host.old Role.Saved) (H.roles host.new Role.Saved)) }
+        → OnOk result (WasWritten name.now (text_of image.now) (H.roles host.old Role.Saved) (H.roles host.new Role.Saved)) }
     ensures refused { IsTrue (H.tells Role.Saved)
         → OnErr result (WasRefused name.now (H.roles host.old Role.Saved) (H.roles host.new Role.Saved)
-        ⊎ WasBegun name.now (image_text (heap_of map)) (H.roles host.old Role.Saved) (H.roles host.new Role.Saved)) }
+        ⊎ WasBegun name.now (text_of image.now) (H.roles host.old Role.Saved) (H.roles host.new Role.Saved)) }
     ensures rose { IsErr result → Rose (H.faults host.old Role.Saved) (H.faults host.new Role.Saved) }
     ensures others { LeavesBut (Role.Saved ∷ []) (meanings H.Host host.old) (meanings H.Host host.new) }
 {
     host.attach(Role::Saved, name)?;
-    save(host, map, counts)
+    save(host, image)
+}
+
+// Runs so many bytecodes over an image's objects, and gives the image of what is kept of them. The error is the answer.
+fn run_image(alloc: Global, image: Image, steps: u32) -> Result<Image, Status>
+    requires { AreWhole image.recs image.next }
+    ensures kept { IfOk result (λ kept. OnParked (ending steps (heap_of image)) (λ m. text_of kept ≡ saved_text m.heap)) }
+    ensures records { IfOk result (λ kept. All IsRecord kept.recs) }
+    ensures few { IfOk result (λ kept. length kept.recs < 2 ^ 32) }
+    ensures stopped { IfErr result IsStopped }
+    ensures ran { IfErr result (λ status. HasRun status steps) }
+    ensures runs { IfErr result (λ status. Runs status (ending steps (heap_of image))) }
+{
+    let Ok(mut memory) = image.into_memory(alloc) else {
+        return Err(Status::OutOfMemory);
+    };
+    if let Err(halted) = whole_run(&mut memory, steps) {
+        return Err(status_of(&halted));
+    }
+    let Ok(kept) = Image::of_kept(alloc, &memory) else {
+        return Err(Status::OutOfMemory);
+    };
+    Ok(kept)
 }
 
 // Runs so many bytecodes, and writes what they come to. All memory for writing is taken before Saved is attached.
-fn run_map<H: Host>(alloc: Global, host: &mut H, map: ObjectMap, command: &Command<'_>) -> Status
+fn run_and_save<H: Host>(alloc: Global, host: &mut H, image: Image, command: &Command<'_>) -> Status
+    requires { AreWhole image.recs image.next }
     ensures after { IsAfterLoading result }
     ensures ran { HasRun result command.now.steps }
     ensures cause { IsCaused result (H.faults host.old) (H.faults host.new) }
@@ -72,19 +92,16 @@ fn run_map<H: Host>(alloc: Global, host: &mut H, map: ObjectMap, command: &Comma
         → SavedBy result command.now.saved.now (H.roles host.old Role.Saved) (H.roles host.new Role.Saved) }
     ensures unsaved { IsTrue (is_before_saving result)
         → IsLeft Role.Saved (meanings H.Host host.old) (meanings H.Host host.new) }
-    ensures runs { Runs result (ending command.now.steps (heap_of map)) }
-    ensures saves { IsTrue (H.tells Role.Saved) → SavesRun result (ending command.now.steps (heap_of map))
+    ensures runs { Runs result (ending command.now.steps (heap_of image)) }
+    ensures saves { IsTrue (H.tells Role.Saved) → SavesRun result (ending command.now.steps (heap_of image))
         command.now.saved.now (H.roles host.old Role.Saved) (H.roles host.new Role.Saved) }
     ensures others { LeavesBut (Role.Saved ∷ []) (meanings H.Host host.old) (meanings H.Host host.new) }
 {
-    let mut map = match run(map, command.steps) {
-        Ok(map) => map,
-        Err(ran) => return Status::NotBuilt { ran },
+    let kept = match run_image(alloc, image, command.steps) {
+        Ok(kept) => kept,
+        Err(status) => return status,
     };
-    let Ok(counts) = keep(alloc, &mut map) else {
-        return Status::OutOfMemory;
-    };
-    match write_saved(host, command.saved, map, &counts) {
+    match write_saved(host, command.saved, &kept) {
         Ok(()) => Status::Done { ran: command.steps },
         Err(_) => Status::WriteFault {
             role: Role::Saved,
@@ -112,7 +129,7 @@ fn run_command<H: Host>(alloc: Global, host: &mut H, command: &Command<'_>) -> S
     ensures others { LeavesBut (Role.Image ∷ Role.Saved ∷ []) (meanings H.Host host.old) (meanings H.Host host.new) }
 {
     match read_image(alloc, host, command.image) {
-        Ok(map) => run_map(alloc, host, map, command),
+        Ok(image) => run_and_save(alloc, host, image, command),
         Err(LoadFault::Bad) => Status::ImageBad { rule: 0, place: 0 },
         Err(LoadFault::Read) => Status::ReadFault {
             role: Role::Image,

@@ -1,22 +1,17 @@
 // Writing an image.
-ghost use Rattle.std.specs.Prelude.{◌≡◌, [], ◌∷◌, ℕ, IsTrue, IsErr, OnOk, OnErr};
-ghost use Rattle.long_names.specs.Heap.{count_of};
-ghost use Rattle.long_names.specs.Objects.{IsBody};
-ghost use Rattle.long_names.specs.Record.{record_text};
-ghost use Rattle.image_format.specs.Text.{head_text, image_text};
+ghost use Rattle.std.specs.Prelude.{◌≡◌, ◌<◌, ◌^◌, [], ◌∷◌, All, IsTrue, IsErr, OnOk, OnErr, length};
+ghost use Rattle.long_names.specs.Counting.{Rose};
+ghost use Rattle.long_names.specs.Objects.{IsRecord};
+ghost use Rattle.image_format.specs.Text.{head_text};
 ghost use Rattle.loom_outside.specs.Outside.{PutPrefix, puts};
-ghost use Rattle.loom_run.specs.Counts.{count_in};
-ghost use Rattle.loom_run.specs.Load.{rec_with, records_text};
-ghost use Rattle.loom_run.specs.Map.{heap_of, entries_of};
+ghost use Rattle.loom_run.specs.Image.{recs_text, text_of};
 ghost use Rattle.loom_run.specs.Meanings.{meanings, LeavesBut};
 ghost use Rattle.loom_run.specs.Parts.{Emits};
-ghost use Rattle.long_names.specs.Counting.{Rose};
 
-use crate::counts::Counts;
 use crate::emit::{Piece, emit, emit_rec};
-use crate::map::ObjectMap;
+use crate::image::Image;
 use image_format::Head;
-use long_names::{Name, Object, Rec};
+use long_names::RecList;
 use loom_outside::{Failed, Host, Role, write_full};
 
 /// Gathers the head: the number of objects, and the next name.
@@ -33,57 +28,32 @@ fn emit_image_head<H: Host>(
     emit(host, piece, &head.bytes())
 }
 
-/// Gathers the record of an object, which is used up.
-fn emit_object<H: Host>(
-    host: &mut H,
-    piece: &mut Piece,
-    name: Name,
-    object: Object,
-    counts: &Counts,
-) -> Result<(), Failed>
-    requires { IsBody object.body }
+/// Gathers the records.
+fn emit_recs<H: Host>(host: &mut H, piece: &mut Piece, recs: &RecList) -> Result<(), Failed>
+    requires { All IsRecord recs.now }
     ensures { Emits (H.tells Role.Saved) (meanings H.Host host.old) (meanings H.Host host.new)
-        piece.old.items (record_text (rec_with (count_in counts.now) (name, object))) piece.new.items result }
+        piece.old.items (recs_text recs.now) piece.new.items result }
 {
-    let rec = Rec {
-        name,
-        class: object.class,
-        count: counts.of(name),
-        body: object.body,
-    };
-    emit_rec(host, piece, &rec)
-}
-
-/// Gathers the records of all objects, by rising name.
-fn emit_objects<H: Host>(
-    host: &mut H,
-    piece: &mut Piece,
-    mut map: ObjectMap,
-    counts: &Counts,
-) -> Result<(), Failed>
-    ensures { Emits (H.tells Role.Saved) (meanings H.Host host.old) (meanings H.Host host.new)
-        piece.old.items (records_text (count_in counts.now) (entries_of map)) piece.new.items result }
-{
-    while let Some((name, object)) = map.pop_first() {
-        emit_object(host, piece, name, object, counts)?;
+    for i in 0..recs.len() {
+        emit_rec(host, piece, recs.item(i))?;
     }
     Ok(())
 }
 
-/// Puts the image of these objects to Saved, which is attached. It takes no memory, and no object is copied: each leaves the
-/// map as it is written.
-pub fn save<H: Host>(host: &mut H, map: ObjectMap, counts: &Counts) -> Result<(), Failed>
-    requires { (q : ℕ) → count_in counts.now q ≡ count_of (heap_of map) q }
+/// Puts an image to Saved, which is attached. It takes no memory.
+pub(crate) fn save<H: Host>(host: &mut H, image: &Image) -> Result<(), Failed>
+    requires records { All IsRecord image.now.recs }
+    requires few { length image.now.recs < 2 ^ 32 }
     ensures put { IsTrue (H.tells Role.Saved)
-        → OnOk result (H.roles host.new Role.Saved ≡ puts (image_text (heap_of map)) (H.roles host.old Role.Saved)) }
+        → OnOk result (H.roles host.new Role.Saved ≡ puts (text_of image.now) (H.roles host.old Role.Saved)) }
     ensures failed { IsTrue (H.tells Role.Saved)
-        → OnErr result (PutPrefix (image_text (heap_of map)) (H.roles host.old Role.Saved) (H.roles host.new Role.Saved)) }
+        → OnErr result (PutPrefix (text_of image.now) (H.roles host.old Role.Saved) (H.roles host.new Role.Saved)) }
     ensures rose { IsErr result → Rose (H.faults host.old Role.Saved) (H.faults host.new Role.Saved) }
     ensures others { LeavesBut (Role.Saved ∷ []) (meanings H.Host host.old) (meanings H.Host host.new) }
 {
     let mut piece = Piece::new();
-    emit_image_head(host, &mut piece, map.len() as u32, map.next())?;
-    emit_objects(host, &mut piece, map, counts)?;
+    emit_image_head(host, &mut piece, image.recs.len() as u32, image.next)?;
+    emit_recs(host, &mut piece, &image.recs)?;
     write_full(host, Role::Saved, piece.as_slice())
 }
 

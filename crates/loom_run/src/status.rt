@@ -1,11 +1,18 @@
 // How a run ends, and the line that says so.
-ghost use Rattle.std.specs.Prelude.{◌≡◌, ◌+◌, ◌≤◌, ◌++◌, length, codes, decimal};
+ghost use Rattle.std.specs.Prelude.{◌≡◌, ◌+◌, ◌≤◌, ◌++◌, ℕ, length, codes, decimal};
 ghost use Rattle.arrayvec.specs.ArrayString.{array_string_len};
+ghost use Rattle.blue_model.specs.Cycle.{Ending};
+ghost use Rattle.loom_run.specs.Parts.{IsStopped, Runs};
+ghost use Rattle.loom_run.specs.Run.{StopsAs};
 ghost use Rattle.loom_run.specs.Status.{role_text, text_of, line_of, code_of};
+ghost use Rattle.loom_run.specs.Top.{HasRun};
 
+use crate::running::Halted;
 use arrayvec::ArrayString;
+use contexts::Stop;
 use itoa::Buffer;
 use loom_outside::Role;
+use object_memory::MemFault;
 
 /// The last line on Notes, with its newline. It takes no memory.
 pub(crate) type Line = ArrayString<64>;
@@ -19,13 +26,17 @@ pub enum Status {
     Usage { word: u32 },
     /// The image breaks a rule at a place. Both are 0 so far.
     ImageBad { rule: u8, place: u64 },
+    /// After so many bytecodes the machine came to a broken rule. `cause` is the number of its `Cause`.
+    Stuck { cause: u8, ran: u32 },
+    /// After so many bytecodes the machine was to make an object, and no name is left for one.
+    NamesSpent { ran: u32 },
     /// A call on a role that is read failed; `count` is its fault count since then.
     ReadFault { role: Role, count: u64 },
     /// A call on a role that is written failed; `count` is its fault count since then.
     WriteFault { role: Role, count: u64 },
     /// There was no memory.
     OutOfMemory,
-    /// After so many bytecodes the machine came to one that isn't built, or to a broken rule.
+    /// After so many bytecodes the machine came to one that isn't built.
     NotBuilt { ran: u32 },
 }
 
@@ -38,6 +49,8 @@ impl Status {
             Status::Done { .. } => 0,
             Status::Usage { .. } => 2,
             Status::ImageBad { .. } => 3,
+            Status::Stuck { .. } => 5,
+            Status::NamesSpent { .. } => 7,
             Status::ReadFault { .. } => 9,
             Status::WriteFault { .. } => 11,
             Status::OutOfMemory => 12,
@@ -61,12 +74,36 @@ impl Status {
         match *self {
             Status::Done { ran } => numbered("ran ", ran as u64),
             Status::Usage { word } => numbered("usage: word ", word as u64),
-            Status::ImageBad { rule, place } => placed(rule, place),
+            Status::ImageBad { rule, place } => {
+                twice_numbered("image: rule ", rule as u64, " at ", place)
+            }
+            Status::Stuck { cause, ran } => {
+                twice_numbered("stuck: cause ", cause as u64, " after ", ran as u64)
+            }
+            Status::NamesSpent { ran } => numbered("names spent after ", ran as u64),
             Status::ReadFault { role, .. } => named("read fault: ", role),
             Status::WriteFault { role, .. } => named("write fault: ", role),
             Status::OutOfMemory => begun("out of memory"),
             Status::NotBuilt { ran } => numbered("not built after ", ran as u64),
         }
+    }
+}
+
+// The answer of a run that ended before its end. A memory without bounds has no fault but that names are spent, and want of memory.
+pub(crate) fn status_of(halted: &Halted) -> Status
+    ensures stopped { IsStopped result }
+    ensures ran { (steps : ℕ) → halted.now.ran ≤ steps → HasRun result steps }
+    ensures runs { (run : Ending) → StopsAs halted.now.why halted.now.ran run → Runs result run }
+{
+    let ran = halted.ran;
+    match halted.why {
+        Stop::Stuck(cause) => Status::Stuck {
+            cause: cause.number(),
+            ran,
+        },
+        Stop::NotBuilt => Status::NotBuilt { ran },
+        Stop::Mem(MemFault::NamesSpent) => Status::NamesSpent { ran },
+        Stop::Mem(_) => Status::OutOfMemory,
     }
 }
 
@@ -100,14 +137,16 @@ fn numbered(text: &str, number: u64) -> Line
     line
 }
 
-// A rule of an image, and the place where it breaks.
-fn placed(rule: u8, place: u64) -> Line
-    ensures text { result.bytes ≡ codes "image: rule " ++ decimal rule ++ codes " at " ++ decimal place }
+// A text and two numbers, with a text between them.
+fn twice_numbered(text: &str, number: u64, between: &str, other: u64) -> Line
+    requires first { length text.now ≤ 13 }
+    requires second { length between.now ≤ 7 }
+    ensures text { result.bytes ≡ text.now ++ decimal number ++ between.now ++ decimal other }
     ensures short { array_string_len result ≤ 60 }
 {
-    let mut line = numbered("image: rule ", rule as u64);
-    line.push_str(" at ");
-    put_number(&mut line, place);
+    let mut line = numbered(text, number);
+    line.push_str(between);
+    put_number(&mut line, other);
     line
 }
 

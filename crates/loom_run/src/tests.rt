@@ -72,12 +72,10 @@ fn runs_are_refused(rt: HostRuntime) -> Result<(), Fail> {
     let role = Notes;
     let unsaid = Status::WriteFault { role, count };
     let bad = Status::ImageBad { rule: 0, place: 0 };
-    let stop = Status::NotBuilt { ran: 2 };
     let none = (Work, 0);
     let base = "run base saved 0";
     let cut = "run cut saved 0";
     let rows = [
-        ("run base saved 3", none, stop, "not built after 2\n", None),
         (cut, none, bad, "image: rule 0 at 0\n", None),
         ("run no saved 0", none, unread, "read fault: Image\n", None),
         (base, (Image, 3), unread, "read fault: Image\n", None),

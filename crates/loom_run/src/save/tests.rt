@@ -1,8 +1,8 @@
 // An image that is too large for a case.
 use super::save;
 use crate::base::BASE;
+use crate::image::Image;
 use crate::load::load;
-use crate::sweep::keep;
 use loom_outside::{Host, MemoryHost, Role};
 use std::alloc::AllocError;
 use std::test::Fail;
@@ -57,10 +57,11 @@ fn a_large_image_is_saved_as_it_was(rt: HostRuntime) -> Result<(), Fail> {
     host.add_file("image", &image)?;
     host.attach(Role::Image, "image")?;
     host.attach(Role::Saved, "saved")?;
-    let mut map = load(rt.alloc(), &mut host)?;
-    assert_eq!(rt; map.len(), 65_566);
-    let counts = keep(rt.alloc(), &mut map)?;
-    save(&mut host, map, &counts)?;
+    let loaded = load(rt.alloc(), &mut host)?;
+    assert_eq!(rt; loaded.recs.len(), 65_566);
+    let memory = loaded.into_memory(rt.alloc())?;
+    let kept = Image::of_kept(rt.alloc(), &memory)?;
+    save(&mut host, &kept)?;
     assert_eq!(rt; host.file("saved"), Some(image.as_slice()));
     Ok(())
 }

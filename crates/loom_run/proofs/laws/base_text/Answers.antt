@@ -2,7 +2,11 @@ use Rattle.std.proofs.Common.{refl}
 use Rattle.image_format.specs.Text.{image_text}
 use Rattle.long_names.specs.Record.{record_text, two_bytes, four_bytes, eight_bytes}
 use Rattle.long_names.specs.Heap.{object_count, count_of}
-use Rattle.loom_run.specs.Machine.{ending, ◌>>=◌, run, cycle, start, load, fetch, park, known, bytecode, push_receiver, push_known, push_top, jump, push, pop, stack, store, part, look, given, pick, register, put_register, numbers, set_numbers, pin, unpin_all, done, halt, unbuilt, active_process, field, number, home_of, code_of, fields_count, byte_of, pointers_with}
+use Rattle.blue_model.specs.Machine.{◌>>=◌, store, part, look, known, given, pick, register, put_register, numbers, set_numbers, clear, pin, unpin_all, done, halt, unbuilt}
+use Rattle.blue_model.specs.Parts.{field, number, size, home_of, code_of}
+use Rattle.blue_model.specs.Contexts.{start, need_method, put_context, load_home, load, fetch, park, store_registers, store_field, active_process, jump, push, pop, byte_of}
+use Rattle.blue_model.specs.Bytecodes.{bytecode, bytecodes, push_receiver, push_of, push_number, long_jump, receiver_variable}
+use Rattle.blue_model.specs.Cycle.{ending, run, cycle, step, count_bytecode}
 use Rattle.loom_run.proofs.laws.base_text.Goals as goal
 
 pub returns-clause-before : goal.returns-clause-before
@@ -10,5 +14,5 @@ unfolding image_text record_text two_bytes four_bytes eight_bytes object_count c
 returns-clause-before c = refl
 
 pub returns-clause-after : goal.returns-clause-after
-unfolding image_text record_text two_bytes four_bytes eight_bytes object_count count_of ending ◌>>=◌ run cycle start load fetch park known bytecode push_receiver push_known push_top jump push pop stack store part look given pick register put_register numbers set_numbers pin unpin_all done halt unbuilt active_process field number home_of code_of fields_count byte_of pointers_with
+unfolding image_text record_text two_bytes four_bytes eight_bytes object_count count_of ending ◌>>=◌ run cycle step count_bytecode start need_method put_context load_home load fetch park store_registers store_field active_process bytecode bytecodes push_receiver push_of push_number long_jump jump push pop store part look known given pick register put_register numbers set_numbers clear pin unpin_all done halt unbuilt field number size home_of code_of byte_of receiver_variable
 returns-clause-after c = refl

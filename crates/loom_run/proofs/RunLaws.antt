@@ -1,0 +1,38 @@
+-- What a whole run over a memory says of the model's run over its heap.
+use Rattle.std.proofs.Common.{◌≡◌, ℕ, pos, Bool, false, true, List, None, IsTrue, refl, sym, ◌∙◌, ap, subst}
+use Rattle.long_names.specs.declared.value.Value.TheVariants.{Int}
+use Rattle.long_names.specs.Heap.{Heap}
+use Rattle.long_names.specs.Kept.{no_roots}
+use Rattle.long_names.specs.Thin.{IsThinner, IsWhole}
+use Rattle.long_names.proofs.KeptLaws.{kept-thinning}
+use Rattle.long_names.proofs.ThinLemmas.{IsThinner-refl, IsThinning-refl, IsWhole-bounded}
+use Rattle.image_format.specs.Text.{image_text}
+use Rattle.object_memory.specs.Told.{Told, IsReady}
+use Rattle.object_memory.specs.Plain.{fresh}
+use Rattle.blue_model.specs.Cycle.{Ending, Parked, Stuck, ending}
+use Rattle.blue_model.specs.Law.{EndingsAgree}
+use Rattle.blue_model.proofs.RunLaws.{endings-agree}
+use Rattle.loom_run.specs.Run.{Begins, OnParked}
+use Rattle.loom_run.specs.Saved.{saved_text}
+
+-- a fresh memory of a heap begins with it
+pub begins-fresh : (h : Heap) (t : Told) → t ≡ fresh h → Begins h t
+begins-fresh h t e = subst (Begins h) (sym e) record {
+  heap = IsThinner-refl h;
+  slots = λ i. refl;
+  rows = λ class selector method. refl;
+  transcript = λ speaks. refl;
+}
+
+-- a whole heap runs as itself
+agrees : (steps : ℕ) (h : Heap) → IsWhole h (λ r. Int (pos 0)) (λ i. None) → EndingsAgree (ending steps h) (ending steps h)
+agrees steps h whole = endings-agree steps h h record { thinning = IsThinning-refl h (λ r. Int (pos 0)) (λ i. None) whole; bounded = IsWhole-bounded h (λ r. Int (pos 0)) (λ i. None) whole; regs = refl; slots = refl; transcript = refl; cpu = refl }
+
+-- what a memory keeps is what the model's parked machine keeps
+pub parked-text : (steps : ℕ) (h : Heap) (new : Told) (text : List ℕ) → IsWhole h (λ r. Int (pos 0)) (λ i. None) → OnParked (ending steps h) (λ m. IsThinner m.heap new.heap) → IsReady new → IsTrue new.tells → text ≡ saved_text new.heap → OnParked (ending steps h) (λ m. text ≡ saved_text m.heap)
+parked-text steps h new text whole ends ready tells same = go (ending steps h) (agrees steps h whole) ends
+  where
+    go : (e : Ending) → EndingsAgree e e → OnParked e (λ m. IsThinner m.heap new.heap) → OnParked e (λ m. text ≡ saved_text m.heap)
+    go (Parked m) agree thinner =
+        same ∙ ap image_text (kept-thinning m.heap new.heap new.regs new.slots no_roots record { thinner = thinner; whole = ready.whole tells } agree.bounded (λ n e. let no : ◌≡◌ {A = Bool} false true = e in absurd (cc)))
+    go (Stuck why ran) agree ends = absurd ends

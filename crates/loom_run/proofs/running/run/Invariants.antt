@@ -1,0 +1,23 @@
+use Rattle.std.proofs.Common.{◌≡◌, ◌+◌, ◌<◌, IsTrue}
+use Rattle.object_memory.specs.Told.{IsReady}
+use Rattle.object_memory.specs.Contract.{IsLater, Settled}
+use Rattle.blue_model.specs.Machine.{Machine}
+use Rattle.contexts.specs.Serves.{Stands, HasRest}
+use Rattle.loom_run.specs.Run.{Reaches}
+use Rattle.loom_run.proofs.running.run.Given as goal
+
+-- The memory stands for the machine after so many cycles, all of them counted.
+abbrev pub invariant-loop-turn : goal.invariant-loop-turn
+invariant-loop-turn g l =
+    let told = g.M.ObjectMemory.told in
+    record {
+      runs : IsTrue (told l.fn.m).tells → (m : Machine) → Stands (told l.fn.m) l.fn.cpu m → Reaches (told l.m) l.cpu l.turn m;
+      ran : l.cpu.ran ≡ l.fn.cpu.ran + l.turn;
+      settled : 0 < l.turn → Settled (told l.fn.m).bounds (told l.m).bounds;
+      later : IsLater (told l.fn.m) (told l.m);
+      rest : HasRest (told l.m);
+      ready : IsReady (told l.m);
+      sound : g.M.ObjectMemory.sound l.m;
+      lender : g.M.ObjectMemory.lender l.m ≡ g.M.ObjectMemory.lender l.fn.m;
+      outside : g.M.ObjectMemory.outside l.m ≡ g.M.ObjectMemory.outside l.fn.m;
+    }

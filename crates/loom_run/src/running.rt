@@ -1,0 +1,115 @@
+// Runs over any memory.
+ghost use Rattle.std.specs.Prelude.{◌≡◌, ◌≤◌, ◌<◌, ◌+◌, ◌^◌, Ok, IfErr, IfOk, IsTrue, OnOk, OnErr};
+ghost use Rattle.long_names.specs.Heap.{Heap};
+ghost use Rattle.object_memory.specs.Told.{IsReady};
+ghost use Rattle.object_memory.specs.Contract.{IsLater, Settled};
+ghost use Rattle.blue_model.specs.Machine.{Machine};
+ghost use Rattle.blue_model.specs.Cycle.{cycle as cycle_rule, ending};
+ghost use Rattle.bytecodes.specs.Steps.{done_by};
+ghost use Rattle.contexts.specs.Serves.{Serves, Stands, HasRest, StaysSound as StopsSound};
+ghost use Rattle.loom_run.specs.Run.{Begins, EndsAs, FaultsBy, GoesAs, RunsAs, StaysSound};
+
+use bytecodes::{Step, step};
+use contexts::{Cpu, Stop, park, start};
+use object_memory::ObjectMemory;
+
+/// One bytecode, which is counted unless it stopped.
+fn cycle<M: ObjectMemory>(m: &mut M, cpu: &mut Cpu) -> Result<Step, Stop>
+    requires sound { M.sound m.old }
+    requires ready { IsReady (M.told m.old) }
+    requires room { cpu.old.ran + 1 < 2 ^ 32 }
+    ensures serves { Serves (M.told m.old) cpu.old (M.told m.new) cpu.new cycle_rule (done_by result) }
+    ensures next { IfOk result (λ step. step ≡ Step.Next) }
+    ensures counted { OnOk result (cpu.new.ran ≡ cpu.old.ran + 1) }
+    ensures kept { OnErr result (cpu.new.ran ≡ cpu.old.ran) }
+    ensures rest { OnOk result (HasRest (M.told m.new)) }
+    ensures ready { OnOk result (IsReady (M.told m.new)) }
+    ensures sound { StopsSound result (M.sound m.new) }
+    ensures lender { M.lender m.new ≡ M.lender m.old }
+    ensures outside { M.outside m.new ≡ M.outside m.old }
+{
+    let ran = cpu.ran;
+    match step(m, cpu) {
+        Ok(step) => {
+            cpu.ran = ran + 1;
+            Ok(step)
+        }
+        Err(stop) => {
+            cpu.ran = ran;
+            Err(stop)
+        }
+    }
+}
+
+/// Runs so many bytecodes (interpret, chapter 28). The memory settles after each. `cpu.ran` says how many were run, where it stops too.
+pub fn run<M: ObjectMemory>(m: &mut M, cpu: &mut Cpu, steps: u32) -> Result<Step, Stop>
+    requires sound { M.sound m.old }
+    requires ready { IsReady (M.told m.old) }
+    requires rest { HasRest (M.told m.old) }
+    requires room { cpu.old.ran + steps < 2 ^ 32 }
+    ensures runs { IsTrue (M.told m.old).tells → (machine : Machine) → Stands (M.told m.old) cpu.old machine → RunsAs (M.told m.new) cpu.new steps machine result }
+    ensures fault { IfErr result (FaultsBy (M.told m.old) (M.told m.new)) }
+    ensures next { IfOk result (λ step. step ≡ Step.Next) }
+    ensures counted { OnOk result (cpu.new.ran ≡ cpu.old.ran + steps) }
+    ensures few { cpu.new.ran ≤ cpu.old.ran + steps }
+    ensures settled { OnOk result (0 < steps → Settled (M.told m.old).bounds (M.told m.new).bounds) }
+    ensures later { IsLater (M.told m.old) (M.told m.new) }
+    ensures rest { OnOk result (HasRest (M.told m.new)) }
+    ensures ready { OnOk result (IsReady (M.told m.new)) }
+    ensures sound { StopsSound result (M.sound m.new) }
+    ensures lender { M.lender m.new ≡ M.lender m.old }
+    ensures outside { M.outside m.new ≡ M.outside m.old }
+{
+    for turn in 0..steps {
+        cycle(m, cpu)?;
+        m.settle()?;
+    }
+    Ok(Step::Next)
+}
+
+/// Where a whole run ended before its end, and why.
+#[derive(Clone, Copy, Debug, PartialEq, Eq)]
+pub struct Halted {
+    pub why: Stop,
+    /// How many bytecodes were run.
+    pub ran: u32,
+}
+
+/// Starts, runs so many bytecodes, and parks. `cpu.ran` says how many were run.
+fn go_through<M: ObjectMemory>(m: &mut M, cpu: &mut Cpu, steps: u32) -> Result<(), Stop>
+    requires sound { M.sound m.old }
+    requires ready { IsReady (M.told m.old) }
+    ensures ends { IsTrue (M.told m.old).tells → (h : Heap) → Begins h (M.told m.old) → GoesAs (M.told m.new) cpu.new result (ending steps h) }
+    ensures fault { IfErr result (FaultsBy (M.told m.old) (M.told m.new)) }
+    ensures few { cpu.new.ran ≤ steps }
+    ensures ready { OnOk result (IsReady (M.told m.new)) }
+    ensures tells { (M.told m.new).tells ≡ (M.told m.old).tells }
+    ensures sound { StopsSound result (M.sound m.new) }
+    ensures lender { M.lender m.new ≡ M.lender m.old }
+    ensures outside { M.outside m.new ≡ M.outside m.old }
+{
+    start(m, cpu)?;
+    run(m, cpu, steps)?;
+    park(m, cpu)?;
+    Ok(())
+}
+
+/// Starts, runs so many bytecodes, and parks.
+pub fn whole_run<M: ObjectMemory>(m: &mut M, steps: u32) -> Result<(), Halted>
+    requires sound { M.sound m.old }
+    requires ready { IsReady (M.told m.old) }
+    ensures ends { IsTrue (M.told m.old).tells → (h : Heap) → Begins h (M.told m.old) → EndsAs (M.told m.new) result (ending steps h) }
+    ensures fault { IfErr result (λ halted. FaultsBy (M.told m.old) (M.told m.new) halted.why) }
+    ensures ran { IfErr result (λ halted. halted.ran ≤ steps) }
+    ensures ready { OnOk result (IsReady (M.told m.new)) }
+    ensures tells { OnOk result ((M.told m.new).tells ≡ (M.told m.old).tells) }
+    ensures sound { StaysSound result (M.sound m.new) }
+    ensures lender { M.lender m.new ≡ M.lender m.old }
+    ensures outside { M.outside m.new ≡ M.outside m.old }
+{
+    let mut cpu = Cpu::at_rest();
+    match go_through(m, &mut cpu, steps) {
+        Ok(()) => Ok(()),
+        Err(why) => Err(Halted { why, ran: cpu.ran }),
+    }
+}
