@@ -25,13 +25,21 @@ use std::{env, fs, io};
 const BASE: &str = "base.loom";
 
 /// The files of cases. Those of the last are wrong on purpose: each has to be reported.
-const FILES: [&str; 16] = [
+const FILES: [&str; 24] = [
     "runs.cases",
     "start.cases",
     "blocks.cases",
     "bytecodes.cases",
+    "variables.cases",
+    "extended.cases",
     "stack.cases",
+    "long_contexts.cases",
     "jumps.cases",
+    "long_jumps.cases",
+    "conditions.cases",
+    "loops.cases",
+    "returns.cases",
+    "own_objects.cases",
     "methods.cases",
     "kept.cases",
     "image_rules.cases",
