@@ -30,6 +30,11 @@ base=$top/images/base.loom
 cp "$base" base.loom && cp "$base" after.loom || exit 1
 patch after.loom 587 '\013'
 
+# The base image with another first bytecode: a send, which isn't built yet, and one that no machine has.
+cp "$base" send.loom && cp "$base" unused.loom || exit 1
+patch send.loom 556 '\320'
+patch unused.loom 556 '\176'
+
 # The base image and two more objects. A field above the stack pointer of the context holds 68, which holds 70 twice; the
 # first bytecode pushes nil there. So both are dead when the image is saved, which has 652 bytes again in place of 728.
 dead_image() {
@@ -105,7 +110,8 @@ try 'all three closed, no file yet'     '0<&- 1>&- 2>&-' 'run base.loom new.loom
 for streams in '2>&-' '0<&- 2>&-' '1>&- 2>&-' '0<&- 1>&- 2>&-'; do
     try "$streams, words missing"       "$streams"    'run base.loom saved.loom' 2 '' saved.loom old.loom
     try "$streams, a missing image"     "$streams"    'run none.loom saved.loom 2' 9 '' saved.loom old.loom
-    try "$streams, not built"           "$streams"    'run base.loom saved.loom 3' 14 '' saved.loom old.loom
+    try "$streams, stuck"               "$streams"    'run unused.loom saved.loom 2' 5 '' saved.loom old.loom
+    try "$streams, not built"           "$streams"    'run send.loom saved.loom 2' 14 '' saved.loom old.loom
 done
 
 # Streams that can't be written. The image is saved before the line is written.
@@ -130,7 +136,9 @@ try 'IMAGE is empty'                    '' 'run /dev/null saved.loom 2'     3  '
 try 'IMAGE is no image'                 '' 'run old.loom saved.loom 2'      3  'image: rule 0 at 0' saved.loom old.loom
 cat /proc/version >version
 try 'SAVED is for reading only'         '' 'run base.loom /proc/version 2'  11 'write fault: Saved' /proc/version version
-try 'not built'                         '' 'run base.loom saved.loom 3'     14 'not built after 2'  saved.loom old.loom
+try 'not built'                         '' 'run send.loom saved.loom 2'     14 'not built after 0'  saved.loom old.loom
+try 'stuck'                             '' 'run unused.loom saved.loom 2'   5  'stuck: cause 2 after 0' saved.loom old.loom
+try 'a million bytecodes'               '' 'run base.loom saved.loom 999999' 0 'ran 999999'         saved.loom base.loom
 
 # SAVED is IMAGE, and the new image is shorter: it is written from the start, and nothing of the old one is left.
 dead_image both.loom
@@ -140,8 +148,10 @@ dead_image both.loom
 ln -s both.loom link.loom
 try 'SAVED is a link to IMAGE'          '' 'run both.loom link.loom 2'      0 'ran 2' both.loom  swept.loom
 dead_image both.loom
+patch both.loom 556 '\320'
 cp both.loom dead.loom
-try 'SAVED is IMAGE, not built'         '' 'run both.loom both.loom 3'      14 'not built after 2' both.loom dead.loom
+try 'SAVED is IMAGE, not built'         '' 'run both.loom both.loom 3'      14 'not built after 0' both.loom dead.loom
+dead_image both.loom
 try 'SAVED is IMAGE, streams closed'    '0<&- 1>&- 2>&-' 'run both.loom both.loom 2' 11 '' both.loom swept.loom
 
 # Words that are missing, extra or bad.
