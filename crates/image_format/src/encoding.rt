@@ -8,7 +8,7 @@ ghost use Rattle.image_format.specs.Inside.{Extends};
 
 use crate::big_endian::{bytes_of_u16, bytes_of_u32, bytes_of_u64};
 use crate::reading::padding_of;
-use long_names::{Body, Octets, Rec, Value, Values, Words16, long_word};
+use long_names::{Body, Name, Object, Octets, Rec, Value, Values, Words16, long_word};
 use std::alloc::AllocError;
 
 /// The most zeros at a record's end.
@@ -90,36 +90,84 @@ fn put_contents(out: &mut Octets, body: &Body) -> Result<(), AllocError>
     }
 }
 
-fn put_head(out: &mut Octets, rec: &Rec) -> Result<(), AllocError>
-    requires { IsBody rec.now.body }
-    ensures ok { OnOk result (out.new ≡ out.old ++ record_head rec.now) }
-    ensures names { OnOk result (IsLongName rec.now.name × IsLongName rec.now.class) }
-    ensures count { OnOk result (rec.now.count < 2 ^ 64) }
+fn put_head(
+    out: &mut Octets,
+    name: Name,
+    class: Name,
+    count: u64,
+    body: &Body,
+) -> Result<(), AllocError>
+    requires { IsBody body.now }
+    ensures ok { OnOk result (out.new ≡ out.old ++ record_head record { name = name; class = class; count = count; body = body.now }) }
+    ensures names { OnOk result (IsLongName name × IsLongName class) }
     ensures err { OnErr result (Extends out.old out.new) }
 {
-    put_u32(out, rec.name.get())?;
-    put_u32(out, rec.class.get())?;
-    put_u64(out, rec.count)?;
-    put_u16(out, rec.body.kind() as u16)?;
-    put_u16(out, rec.body.len() as u16)
+    put_u32(out, name.get())?;
+    put_u32(out, class.get())?;
+    put_u64(out, count)?;
+    put_u16(out, body.kind() as u16)?;
+    put_u16(out, body.len() as u16)
 }
 
-fn append_rec(out: &mut Octets, rec: &Rec) -> Result<(), AllocError>
-    requires { IsBody rec.now.body }
-    ensures ok { OnOk result (out.new ≡ out.old ++ record_text rec.now) }
-    ensures record { OnOk result (IsRecord rec.now) }
+fn append(
+    out: &mut Octets,
+    name: Name,
+    class: Name,
+    count: u64,
+    body: &Body,
+) -> Result<(), AllocError>
+    requires { IsBody body.now }
+    ensures ok { OnOk result (out.new ≡ out.old ++ record_text record { name = name; class = class; count = count; body = body.now }) }
+    ensures record { OnOk result (IsRecord record { name = name; class = class; count = count; body = body.now }) }
     ensures err { OnErr result (Extends out.old out.new) }
 {
     let start = out.len();
-    put_head(out, rec)?;
-    put_contents(out, &rec.body)?;
+    put_head(out, name, class, count, body)?;
+    put_contents(out, body)?;
     let zeros = padding_of(out.len() - start);
     out.extend(&ZEROS[..zeros])
 }
 
-/// Appends the one text of the record. Without memory the bytes are as before.
+/// Appends the whole record, or nothing.
+fn append_whole(
+    out: &mut Octets,
+    name: Name,
+    class: Name,
+    count: u64,
+    body: &Body,
+) -> Result<(), AllocError>
+    requires { IsBody body.now }
+    ensures ok { OnOk result (out.new ≡ out.old ++ record_text record { name = name; class = class; count = count; body = body.now }) }
+    ensures record { OnOk result (IsRecord record { name = name; class = class; count = count; body = body.now }) }
+    ensures err { OnErr result (out.new ≡ out.old) }
+{
+    let len = out.len();
+    let done = append(out, name, class, count, body);
+    if done.is_err() {
+        out.truncate(len);
+    }
+    done
+}
+
+/// Appends the one text of the record of an object, with its name and its count. Without memory the bytes are as before.
 ///
 /// The condition is that the body is one that an object may have. What was appended is read again by `decode_rec`, whatever follows it: each record has one text, and no text of a record begins another (`one_text`).
+pub fn encode_object(
+    name: Name,
+    count: u64,
+    object: &Object,
+    out: &mut Octets,
+) -> Result<(), AllocError>
+    requires { IsBody object.now.body }
+    ensures ok { OnOk result (out.new ≡ out.old ++ record_text record { name = name; class = object.now.class; count = count; body = object.now.body }) }
+    // It is a record, so that it is read again.
+    ensures record { OnOk result (IsRecord record { name = name; class = object.now.class; count = count; body = object.now.body }) }
+    ensures err { OnErr result (out.new ≡ out.old) }
+{
+    append_whole(out, name, object.class, count, &object.body)
+}
+
+/// Appends the one text of the record, as `encode_object` does.
 pub fn encode_rec(rec: &Rec, out: &mut Octets) -> Result<(), AllocError>
     requires { IsBody rec.now.body }
     ensures ok { OnOk result (out.new ≡ out.old ++ record_text rec.now) }
@@ -127,10 +175,5 @@ pub fn encode_rec(rec: &Rec, out: &mut Octets) -> Result<(), AllocError>
     ensures record { OnOk result (IsRecord rec.now) }
     ensures err { OnErr result (out.new ≡ out.old) }
 {
-    let len = out.len();
-    let done = append_rec(out, rec);
-    if done.is_err() {
-        out.truncate(len);
-    }
-    done
+    append_whole(out, rec.name, rec.class, rec.count, &rec.body)
 }

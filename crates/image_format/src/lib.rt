@@ -1,7 +1,8 @@
 //! The image of a heap as bytes: its head, its records, the text of a whole heap, and which images are valid.
 //!
 //! `decode_rec` answers the record that the bytes begin with, and refuses exactly where they begin with none; `encode_rec` appends a
-//! record's one text, or nothing. What was written is read again, whatever follows it:
+//! record's one text, or nothing, and `encode_object` that of an object where it stands. What was written is read again, whatever
+//! follows it:
 //!
 //!     encode_rec(&rec, &mut out)?;
 //!     let (same, len) = decode_rec(alloc, out.bytes())?;
@@ -20,7 +21,7 @@ mod reading;
 
 pub use big_endian::{bytes_of_u16, bytes_of_u32, bytes_of_u64};
 pub use decoding::{MAX_RECORD, decode_rec};
-pub use encoding::encode_rec;
+pub use encoding::{encode_object, encode_rec};
 pub use fault::RecFault;
 pub use head::{HEAD_LEN, Head, decode_head};
 
