@@ -1,0 +1,4 @@
+pub mod Rules
+pub mod Sizes
+pub mod Builder
+pub mod Parts

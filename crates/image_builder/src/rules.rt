@@ -1,0 +1,116 @@
+// What an object breaks by itself.
+ghost use Rattle.std.specs.Prelude.{◌≡◌, ◌↔◌, IsTrue, All, IfNone, Some, None, if◌then◌else◌};
+ghost use Rattle.std.specs.List.{list_all};
+ghost use Rattle.long_names.specs.Words.{IsSmallInteger, IsValue};
+ghost use Rattle.long_names.specs.Objects.{HasSize, IsBody};
+ghost use Rattle.long_names.specs.declared.object.Body.TheVariants.{Method};
+ghost use Rattle.image_builder.specs.Rules as rules;
+ghost use Rattle.image_builder.specs.Sizes.{Fits};
+
+use long_names::{Body, Name, Object, Octets, Value, Values, literal_count};
+
+/// How many objects an image has at least: those that are known.
+const FEWEST_OBJECTS: usize = 22;
+
+/// How many objects an image has at most.
+const MOST_OBJECTS: usize = 1_048_576;
+
+/// The lowest next name: the known objects' names are below it.
+const LOWEST_NEXT: u32 = 60;
+
+/// The most code bytes of a method.
+const MOST_CODE: usize = 16_000;
+
+/// The SmallIntegers are below this number, and from its negative on.
+const SMALL_INTEGERS: i16 = 16_384;
+
+/// Whether a head may state so many objects and this next name.
+pub(crate) fn is_head(objects: usize, next: u32) -> bool
+    ensures { rules.head_breaks objects next ≡ (if result then None else Some (3, 0)) }
+{
+    (FEWEST_OBJECTS..=MOST_OBJECTS).contains(&objects) && next >= LOWEST_NEXT && next % 2 == 0
+}
+
+fn is_small(number: i16) -> bool
+    ensures is { result ≡ rules.is_small number }
+    ensures small { IsTrue result ↔ IsSmallInteger number }
+{
+    (-SMALL_INTEGERS..SMALL_INTEGERS).contains(&number)
+}
+
+/// Whether a field may hold the value: a name, or a SmallInteger in range.
+fn is_field(value: Value) -> bool
+    ensures is { result ≡ rules.is_field value }
+    ensures value { IsTrue result → IsValue value }
+{
+    match value {
+        Value::Int(number) => is_small(number),
+        Value::Ref(name) => {
+            // The word of a name is one.
+            let _word = name.get();
+            true
+        }
+    }
+}
+
+fn are_fields(values: &Values) -> bool
+    ensures are { result ≡ list_all rules.is_field values.now }
+    ensures values { IsTrue result → All IsValue values.now }
+{
+    for i in 0..values.len() {
+        if !is_field(*values.item(i)) {
+            return false;
+        }
+    }
+    true
+}
+
+/// Whether the header is in range, it says how many literals there are, and the code is not too long.
+fn is_method(header: i16, literals: &Values, code: &Octets) -> bool
+    ensures is { result ≡ rules.is_method header literals.now code.now }
+    ensures size { IsTrue result → HasSize (Method header literals.now code.now) }
+{
+    code.len() <= MOST_CODE && is_small(header) && literal_count(header) == literals.len()
+}
+
+fn judge_fields(values: &Values) -> Option<u8>
+    ensures rule { result ≡ rules.fields_break values.now }
+    ensures values { IfNone result (All IsValue values.now) }
+{
+    if are_fields(values) { None } else { Some(6) }
+}
+
+fn judge_body(body: &Body) -> Option<u8>
+    requires { Fits body.now }
+    ensures rule { result ≡ rules.body_breaks body.now }
+    ensures body { IfNone result (IsBody body.now) }
+{
+    match body {
+        Body::Pointers(values) => judge_fields(values),
+        Body::Words(_) | Body::Bytes(_) => None,
+        Body::Method {
+            header,
+            literals,
+            code,
+        } => {
+            if is_method(*header, literals, code) {
+                judge_fields(literals)
+            } else {
+                Some(7)
+            }
+        }
+    }
+}
+
+/// The first rule that an object breaks as its record is read, if it breaks one.
+pub(crate) fn judge_record(name: Name, object: &Object, next: u32) -> Option<u8>
+    requires { Fits object.now.body }
+    ensures rule { result ≡ rules.record_breaks next name object.now }
+    ensures body { IfNone result (IsBody object.now.body) }
+{
+    if name.get() < next {
+        judge_body(&object.body)
+    } else {
+        Some(4)
+    }
+}
