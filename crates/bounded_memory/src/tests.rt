@@ -5,12 +5,10 @@ ghost use Rattle.object_memory.specs.Told.{IsReady};
 ghost use Rattle.object_memory.specs.Contract.{KeepsSound};
 ghost use Rattle.bounded_memory.specs.Bounded.{bounded_told, IsSound};
 
-mod base;
-
 use crate::BoundedMemory;
-use crate::tests::base::memory;
 use long_names::Name;
 use object_memory::{MemFault, Need, ObjectMemory, Reg, shape};
+use sample_images::{NEXT, base, memory};
 use std::test::Fail;
 
 /// Asks for the kind of a known object.
@@ -155,8 +153,8 @@ fn each_cause(rt: HostRuntime) -> Result<(), Fail> {
         },
     ];
     for row in &rows {
-        let next = if row.spent { 4_294_967_294 } else { 68 };
-        let plain = memory(rt.alloc(), next)?;
+        let next = if row.spent { 4_294_967_294 } else { NEXT };
+        let plain = memory(rt.alloc(), &base(rt.alloc())?, next)?;
         let mut m = BoundedMemory::new(plain, row.core, row.entries, u32::from(row.room), 26);
         assert_eq!(rt;
             take(&mut m, row.steps),
@@ -204,7 +202,7 @@ fn store<M: ObjectMemory>(m: &mut M) -> Result<bool, MemFault>
 // A row is found until its object is stored into, also on a later path.
 #[test]
 fn one_row(rt: HostRuntime) -> Result<(), Fail> {
-    let plain = memory(rt.alloc(), 68)?;
+    let plain = memory(rt.alloc(), &base(rt.alloc())?, NEXT)?;
     let mut m = BoundedMemory::new(plain, 65_536, 65_536, 26, 26);
     let (r, to) = (Reg::SCRATCH_0, Reg::SCRATCH_1);
     m.int(to, 0);

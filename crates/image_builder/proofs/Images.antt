@@ -13,7 +13,7 @@ use Rattle.std.specs.List.{All, list_all, list_any, sum_by}
 use Rattle.std.specs.Option.{option_map_or}
 use Rattle.long_names.specs.Names.{is_known, known_names}
 use Rattle.long_names.specs.Words.{IsSmallInteger, IsValue}
-use Rattle.long_names.specs.Objects.{IsBody, IsRecord, fields_of, holds, is_ref}
+use Rattle.long_names.specs.Objects.{IsBody, fields_of, holds, is_ref}
 use Rattle.long_names.specs.Record.{record_text}
 use Rattle.long_names.specs.Heap.{Heap, objects_below, object_count, count_of, rec_of}
 use Rattle.long_names.specs.declared.value.Value.{Value}
@@ -26,10 +26,10 @@ use Rattle.image_format.specs.Text.{IsHead, head_text, records_below, image_text
 use Rattle.image_format.specs.Valid.{IsImageHeap}
 use Rattle.object_memory.proofs.Entries.{AreBelow, entries_below, entry_at, entries-found, found, map-rises, map-below, holdings-entries}
 use Rattle.image_builder.specs.Rules.{◌or◌, head_breaks, is_small, is_field, fields_break, body_breaks, record_breaks, is_there, held_breaks, count_breaks, missing, first_of, reading_breaks, whole_breaks, first_broken}
-use Rattle.image_builder.specs.Builder.{heap_of, Tells}
+use Rattle.image_builder.specs.Builder.{heap_of, Tells, IsRefused}
 use Rattle.image_builder.specs.declared.fault.BuildFault.{BuildFault}
-use Rattle.image_builder.specs.declared.fault.BuildFault.TheVariants.{Rule}
-use Rattle.image_builder.specs.Parts.{words_of, rec_with, texts_with}
+use Rattle.image_builder.specs.declared.fault.BuildFault.TheVariants.{Rule, Memory}
+use Rattle.image_builder.specs.Parts.{IsEntry, words_of, rec_with, texts_with}
 use Rattle.image_builder.specs.declared.builder.Builder.{Builder}
 use Rattle.image_builder.proofs.Firsts.{both-none, first-none, none-first}
 
@@ -266,12 +266,12 @@ none-missing at (x ∷ xs) h = ap (λ (b : Bool). cond b (missing at xs) (Some (
 
 -- ---- nothing is broken: an image
 
-pub makes-image : (b : Builder) (next : ℕ) → next < 2 ^ 32 → reading_breaks b.objects.entries next ≡ None → whole_breaks b.objects.entries (heap_of b next).at (count_of (heap_of b next)) ≡ None → All (λ (e : ℕ × Object). IsRecord (rec_with (count_of (heap_of b next)) e)) b.objects.entries → IsImageHeap (heap_of b next)
-makes-image b next high reading whole records = record {
+pub makes-image : (b : Builder) (next : ℕ) → next < 2 ^ 32 → reading_breaks b.objects.entries next ≡ None → whole_breaks b.objects.entries (heap_of b next).at (count_of (heap_of b next)) ≡ None → All IsEntry b.objects.entries → IsImageHeap (heap_of b next)
+makes-image b next high reading whole are = record {
   head = subst (λ (n : ℕ). IsHead n next) (sym (objects-are b next entries)) (head-is (length es) next high read.0);
   bounded = record { bounded = λ n above. bounded n above (h.at n) refl };
-  names = λ n there. let o = has h n there in (at-found is es n o.0 records o.1).name.0;
-  objects = λ n o at. let r = at-found is es n o records at in record { class = r.class; body = r.body; range = r.range };
+  names = λ n there. let o = has h n there in (at-found IsEntry es n o.0 are o.1).0.0;
+  objects = λ n o at. (at-found IsEntry es n o are at).1;
   closed = λ n q o at held. held-there h.at n q o (at-found (λ (e : ℕ × Object). held_breaks h.at e.0 e.1 ≡ None) es n o (first-none (held_breaks h.at) es w.0) at) held;
   counted = λ n there none. let o = has h n there in count-known (count_of h) n o.0 (at-found (λ (e : ℕ × Object). count_breaks (count_of h) e.0 e.1 ≡ None) es n o.0 (first-none (count_breaks (count_of h)) es v.0) o.1) none;
   known = missing-none h.at known_names v.1;
@@ -282,9 +282,6 @@ makes-image b next high reading whole records = record {
 
     es : List (ℕ × Object)
     es = b.objects.entries
-
-    is : ℕ × Object → Type 0
-    is e = IsRecord (rec_with (count_of h) e)
 
     entries : AreEntries b next
     entries = read-entries b next reading
@@ -304,6 +301,10 @@ makes-image b next high reading whole records = record {
 
 -- ---- an image: nothing is broken
 
+-- its names are below the next one
+pub image-entries : (b : Builder) (next : ℕ) → IsImageHeap (heap_of b next) → AreEntries b next
+image-entries b next is = are-entries b next (map-below b.objects next b.kept.ordered (λ q x at. below (heap_of b next) q x is.bounded at))
+
 none-none : {X : Type 0} (a b : Option X) → a ≡ None → b ≡ None → (a or b) ≡ None
 none-none a b e f = ap (λ x. x or b) e ∙ f
 
@@ -320,7 +321,7 @@ image-unbroken b next is =
     es = b.objects.entries
 
     entries : AreEntries b next
-    entries = are-entries b next (map-below b.objects next b.kept.ordered (λ q x at. below h q x is.bounded at))
+    entries = image-entries b next is
 
     at : All (λ (e : ℕ × Object). h.at e.0 ≡ Some e.1) es
     at = All-found nat_cmp_total b.objects b.kept.ordered
@@ -354,16 +355,33 @@ pub tells-broken : {A : Type 0} (r : Result A BuildFault) (x : Option (ℕ × �
 tells-broken (Ok a) x rule name is e = absurd is
 tells-broken {A} (Err f) x rule name is e = subst (λ (g : BuildFault). let r : Result A BuildFault = Err g in Tells r x) (sym is) e
 
--- ---- all that is wanted of an image that was written
+-- ---- of the objects of an image
 
-pub record Made (b : Builder) (next : ℕ) (bytes : List ℕ) : Type 0 where
-  pub text : bytes ≡ image_text (heap_of b next)
-  pub image : IsImageHeap (heap_of b next)
-  pub unbroken : first_broken b.objects.entries (heap_of b next) ≡ None
+pub image-bodies : (b : Builder) (next : ℕ) → IsImageHeap (heap_of b next) → All (λ (e : ℕ × Object). IsBody e.1.body) b.objects.entries
+image-bodies b next is = All-weaker (λ (e : ℕ × Object). (heap_of b next).at e.0 ≡ Some e.1) (λ (e : ℕ × Object). IsBody e.1.body) (λ e at. (is.objects e.0 e.1 at).body) b.objects.entries (All-found nat_cmp_total b.objects b.kept.ordered)
 
-pub made : (b : Builder) (next : ℕ) (counts : ℕ → ℕ) (text : List ℕ) → next < 2 ^ 32 → reading_breaks b.objects.entries next ≡ None → counts ≡ count_of (heap_of b next) → whole_breaks b.objects.entries (heap_of b next).at counts ≡ None → text ≡ head_text (length b.objects.entries) next ++ texts_with counts b.objects.entries → All (λ (e : ℕ × Object). IsRecord (rec_with counts e)) b.objects.entries → Made b next text
-made b next counts text high reading same whole is records = record {
-  text = is ∙ ap (λ (f : ℕ → ℕ). head_text (length b.objects.entries) next ++ texts_with f b.objects.entries) same ∙ sym (text-is b next (read-entries b next reading));
-  image = makes-image b next high reading (ap (whole_breaks b.objects.entries (heap_of b next).at) (sym same) ∙ whole) (subst (λ (f : ℕ → ℕ). All (λ (e : ℕ × Object). IsRecord (rec_with f e)) b.objects.entries) same records);
-  unbroken = broken-whole b next counts None reading same (sym whole);
-}
+pub image-few : (b : Builder) (next : ℕ) → IsImageHeap (heap_of b next) → length b.objects.entries < 2 ^ 32
+image-few b next is = let same = objects-are b next (image-entries b next is) in let few = is.head.few in omega arith
+
+pub image-text : (b : Builder) (next : ℕ) (counts : ℕ → ℕ) (text : List ℕ) → IsImageHeap (heap_of b next) → ((q : ℕ) → counts q ≡ count_of (heap_of b next) q) → text ≡ head_text (length b.objects.entries) next ++ texts_with counts b.objects.entries → text ≡ image_text (heap_of b next)
+image-text b next counts text is exact e =
+    e
+    ∙ ap (λ (f : ℕ → ℕ). head_text (length b.objects.entries) next ++ texts_with f b.objects.entries) (fun_ext exact)
+    ∙ sym (text-is b next (image-entries b next is))
+
+-- the answer of a judge, handed on
+pub tells-on : {A : Type 0} (B : Type 0) (r : Result A BuildFault) (f : BuildFault) (x : Option (ℕ × ℕ)) → IsErrAnd r (λ e. e ≡ f) → (let s : Result B BuildFault = Err f in Tells s x) → Tells r x
+tells-on B (Ok a) f x is tells = absurd is
+tells-on {A} B (Err g) f x is tells = subst (λ (e : BuildFault). let r : Result A BuildFault = Err e in Tells r x) (sym is) (same f tells)
+  where
+    same : (e : BuildFault) → (let s : Result B BuildFault = Err e in Tells s x) → (let r : Result A BuildFault = Err e in Tells r x)
+    same (Rule rule name) t = t
+    same Memory t = t
+
+pub refused-on : {A : Type 0} (B : Type 0) (r : Result A BuildFault) (f : BuildFault) → IsErrAnd r (λ e. e ≡ f) → IsRefused r → (let s : Result B BuildFault = Err f in IsRefused s)
+refused-on B (Ok a) f is refused = absurd is
+refused-on {A} B (Err g) f is refused = same f (subst (λ (e : BuildFault). let r : Result A BuildFault = Err e in IsRefused r) is refused)
+  where
+    same : (e : BuildFault) → (let r : Result A BuildFault = Err e in IsRefused r) → (let s : Result B BuildFault = Err e in IsRefused s)
+    same (Rule rule name) t = t
+    same Memory t = t

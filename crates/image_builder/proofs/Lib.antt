@@ -1,3 +1,4 @@
 pub mod Firsts
 pub mod Images
 pub mod Kept
+pub mod Recs

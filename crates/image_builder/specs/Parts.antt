@@ -4,12 +4,17 @@ use Rattle.std.specs.List.{flat_map}
 use Rattle.std.specs.Ordering.{nat_cmp}
 use Rattle.std.specs.BTreeMap.{get}
 use Rattle.std.specs.Map.{count_at}
-use Rattle.long_names.specs.Objects.{holdings}
+use Rattle.long_names.specs.Objects.{IsObject, holdings}
+use Rattle.long_names.specs.Names.{IsLongName}
 use Rattle.long_names.specs.Record.{record_text}
 use Rattle.long_names.specs.declared.object.Object.{Object}
 use Rattle.long_names.specs.declared.object.Rec.{Rec}
 use Rattle.image_builder.specs.declared.fault.Broken.{Broken}
 use Rattle.image_builder.specs.declared.counts.Counts.{Counts}
+
+-- an entry that an image may have: a name, and an object
+abbrev pub IsEntry : ℕ × Object → Type 0
+IsEntry e = IsLongName e.0 × IsObject e.1
 
 -- what a judge found
 abbrev pub found_by : {A : Type 0} → Result A Broken → Option (ℕ × ℕ)

@@ -1,11 +1,13 @@
 // A builder of images.
-ghost use Rattle.std.specs.Prelude.{◌≡◌, ◌<◌, ◌^◌, ◌==◌, ◌++◌, ℕ, [], All, IsOkAnd, IfOk, OnOk, OnErr, Some, None, if◌then◌else◌, length, is_some};
+ghost use Rattle.std.specs.Prelude.{◌≡◌, ◌<◌, ◌^◌, ◌==◌, ◌++◌, ℕ, [], All, IsOkAnd, IfOk, OnOk, OnErr, Some, None, if◌then◌else◌, length, is_some, map};
 ghost use Rattle.std.specs.BTreeMap.{insert_entry};
 ghost use Rattle.std.specs.List.{list_all, sum_by};
 ghost use Rattle.std.specs.Ordering.{nat_cmp};
-ghost use Rattle.long_names.specs.Objects.{IsBody, IsRecord};
+ghost use Rattle.long_names.specs.Objects.{IsBody};
+ghost use Rattle.long_names.specs.Heap.{count_of};
 ghost use Rattle.image_format.specs.Text.{head_text, image_text};
 ghost use Rattle.image_format.specs.Valid.{IsImageHeap};
+ghost use Rattle.object_memory.specs.Records.{AreWhole, heap_of_recs, recs_of};
 ghost use Rattle.image_builder.specs.Rules.{is_there, held_breaks, count_breaks, missing, first_of, reading_breaks, whole_breaks, first_broken};
 ghost use Rattle.image_builder.specs.Sizes.{Fits, IsKept, IsKept-prop};
 
@@ -13,7 +15,7 @@ use crate::counts::Counts;
 use crate::fault::{Broken, BuildFault};
 use crate::rules::{is_head, judge_record};
 use image_format::{Head, encode_object};
-use long_names::{Body, Name, Object, Octets, Value, Values};
+use long_names::{Body, Name, Object, Octets, Rec, RecList, Value, Values};
 use std::alloc::{AllocError, Global};
 use std::collections::BTreeMap;
 
@@ -26,7 +28,7 @@ pub struct Builder {
 
 impl Builder {
     ghost use Rattle.image_builder.specs.Builder.{objects_of, object_at, heap_of, Tells, IsRefused};
-    ghost use Rattle.image_builder.specs.Parts.{found_by, count_in, words_of, rec_with, texts_with};
+    ghost use Rattle.image_builder.specs.Parts.{IsEntry, found_by, count_in, words_of, rec_with, texts_with};
 
     /// A builder to which nothing was added. It takes no memory.
     pub fn new(alloc: Global) -> Result<Builder, AllocError>
@@ -54,7 +56,7 @@ impl Builder {
     /// Judges the head, and each record as it is read.
     fn judge_reading(&self, next: u32) -> Result<(), Broken>
         ensures broken { found_by result ≡ reading_breaks (objects_of self.now) next }
-        ensures bodies { OnOk result (All (λ e. IsBody e.1.body) (objects_of self.now)) }
+        ensures entries { OnOk result (All IsEntry (objects_of self.now)) }
     {
         if !is_head(self.objects.len(), next) {
             return Err(Broken { rule: 3, name: 0 });
@@ -171,12 +173,24 @@ impl Builder {
         Ok(counts)
     }
 
-    /// The head, and the records with these counts.
+    /// Judges the objects as an image with this next name, and counts their words.
+    fn judge(&self, alloc: Global, next: u32) -> Result<Counts, BuildFault>
+        ensures image { OnOk result (IsImageHeap (heap_of self.now next)) }
+        ensures counts { IfOk result (λ counts. (q : ℕ) → count_in counts q ≡ count_of (heap_of self.now next) q) }
+        ensures broken { Tells result (first_broken (objects_of self.now) (heap_of self.now next)) }
+        ensures refused { IsRefused result → IsImageHeap (heap_of self.now next) → ⊥ }
+    {
+        self.judge_reading(next)?;
+        let counts = self.count_words(alloc)?;
+        self.judge_whole(&counts)?;
+        Ok(counts)
+    }
+
+    /// The head, and the texts of the records with these counts.
     fn text(&self, alloc: Global, next: u32, counts: &Counts) -> Result<Octets, AllocError>
         requires bodies { All (λ e. IsBody e.1.body) (objects_of self.now) }
         requires few { length (objects_of self.now) < 2 ^ 32 }
-        ensures text { IfOk result (λ out. out ≡ head_text (length (objects_of self.now)) next ++ texts_with (count_in counts.now) (objects_of self.now)) }
-        ensures records { OnOk result (All (λ e. IsRecord (rec_with (count_in counts.now) e)) (objects_of self.now)) }
+        ensures { IfOk result (λ out. out ≡ head_text (length (objects_of self.now)) next ++ texts_with (count_in counts.now) (objects_of self.now)) }
     {
         let head = Head {
             objects: self.objects.len() as u32,
@@ -187,6 +201,22 @@ impl Builder {
             encode_object(*name, counts.of(*name), object, &mut out)?;
         }
         Ok(out)
+    }
+
+    /// The records with these counts, by rising name.
+    fn recs(&self, alloc: Global, counts: &Counts) -> Result<RecList, AllocError>
+        ensures { IfOk result (λ recs. recs ≡ map (rec_with (count_in counts.now)) (objects_of self.now)) }
+    {
+        let mut recs = RecList::new(alloc);
+        for (name, object) in &self.objects {
+            recs.push(Rec {
+                name: *name,
+                class: object.class,
+                count: counts.of(*name),
+                body: object.body.clone()?,
+            })?;
+        }
+        Ok(recs)
     }
 
     /// The image of the objects that were added, with this next name. The counts are computed.
@@ -200,10 +230,22 @@ impl Builder {
         ensures broken { Tells result (first_broken (objects_of self.now) (heap_of self.now next)) }
         ensures refused { IsRefused result → IsImageHeap (heap_of self.now next) → ⊥ }
     {
-        self.judge_reading(next)?;
-        let counts = self.count_words(alloc)?;
-        self.judge_whole(&counts)?;
+        let counts = self.judge(alloc, next)?;
         let text = self.text(alloc, next, &counts)?;
         Ok(text)
+    }
+
+    /// The records of that image, for a memory that is made without a file. It is refused as `finish` is.
+    pub fn records(&self, alloc: Global, next: u32) -> Result<RecList, BuildFault>
+        ensures recs { IfOk result (λ recs. recs ≡ recs_of (heap_of self.now next)) }
+        ensures whole { IfOk result (λ recs. AreWhole recs next) }
+        ensures heap { IfOk result (λ recs. heap_of_recs recs next ≡ heap_of self.now next) }
+        ensures image { OnOk result (IsImageHeap (heap_of self.now next)) }
+        ensures broken { Tells result (first_broken (objects_of self.now) (heap_of self.now next)) }
+        ensures refused { IsRefused result → IsImageHeap (heap_of self.now next) → ⊥ }
+    {
+        let counts = self.judge(alloc, next)?;
+        let recs = self.recs(alloc, &counts)?;
+        Ok(recs)
     }
 }

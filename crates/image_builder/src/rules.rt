@@ -1,8 +1,9 @@
 // What an object breaks by itself.
-ghost use Rattle.std.specs.Prelude.{◌≡◌, ◌↔◌, IsTrue, All, IfNone, Some, None, if◌then◌else◌};
+ghost use Rattle.std.specs.Prelude.{◌≡◌, ◌↔◌, ◌<◌, ◌^◌, IsTrue, All, IfNone, Some, None, if◌then◌else◌};
 ghost use Rattle.std.specs.List.{list_all};
 ghost use Rattle.long_names.specs.Words.{IsSmallInteger, IsValue};
-ghost use Rattle.long_names.specs.Objects.{HasSize, IsBody};
+ghost use Rattle.long_names.specs.Objects.{HasSize, HasRange, IsBody, IsObject};
+ghost use Rattle.long_names.specs.Names.{IsLongName};
 ghost use Rattle.long_names.specs.declared.object.Body.TheVariants.{Method};
 ghost use Rattle.image_builder.specs.Rules as rules;
 ghost use Rattle.image_builder.specs.Sizes.{Fits};
@@ -102,12 +103,35 @@ fn judge_body(body: &Body) -> Option<u8>
     }
 }
 
+/// A hint for the prover, as the two below: words have 16 bits by their type.
+fn have_16_bits(_words: &[u16])
+    ensures { All (λ w. w < 2 ^ 16) _words.now }
+{}
+
+fn have_8_bits(_bytes: &[u8])
+    ensures { All (λ b. b < 2 ^ 8) _bytes.now }
+{}
+
+fn is_in_range(body: &Body)
+    ensures { HasRange body.now }
+{
+    match body {
+        Body::Pointers(_) => {}
+        Body::Words(words) => have_16_bits(words.words()),
+        Body::Bytes(bytes) => have_8_bits(bytes.bytes()),
+        Body::Method { code, .. } => have_8_bits(code.bytes()),
+    }
+}
+
 /// The first rule that an object breaks as its record is read, if it breaks one.
 pub(crate) fn judge_record(name: Name, object: &Object, next: u32) -> Option<u8>
     requires { Fits object.now.body }
     ensures rule { result ≡ rules.record_breaks next name object.now }
-    ensures body { IfNone result (IsBody object.now.body) }
+    ensures entry { IfNone result (IsLongName name × IsObject object.now) }
 {
+    // A hint for the prover: the class is a name.
+    let _class = object.class.get();
+    is_in_range(&object.body);
     if name.get() < next {
         judge_body(&object.body)
     } else {

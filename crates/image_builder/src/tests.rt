@@ -196,3 +196,16 @@ fn the_first_rule_that_breaks(rt: HostRuntime) -> Result<(), Fail> {
     }
     Ok(())
 }
+
+// The counts of nil and of Array are those that stand in the image.
+#[test]
+fn the_records_of_the_base_image(rt: HostRuntime) -> Result<(), Fail> {
+    let recs = base(rt.alloc(), 0)?.records(rt.alloc(), 68)?;
+    assert_eq!(rt; recs.len(), 26);
+    assert_eq!(rt; (recs.item(0).name, recs.item(0).count), (Name::NIL, 0x13));
+    assert_eq!(rt;
+        (recs.item(6).name, recs.item(6).count),
+        (Name::ARRAY, 0x18)
+    );
+    Ok(())
+}

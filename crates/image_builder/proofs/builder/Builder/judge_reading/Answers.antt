@@ -3,10 +3,10 @@ use Rattle.std.proofs.lemmas.Map.Views.{All-turn}
 use Rattle.std.proofs.lemmas.List.Elements.{All-cons}
 use Rattle.std.specs.List.{All}
 use Rattle.std.specs.Map.Iter.{deref_pair}
-use Rattle.long_names.specs.Objects.{IsBody}
 use Rattle.long_names.specs.declared.object.Object.{Object}
 use Rattle.image_builder.specs.Rules.{record_breaks}
 use Rattle.image_builder.specs.Sizes.{Fits}
+use Rattle.image_builder.specs.Parts.{IsEntry}
 use Rattle.image_builder.proofs.Firsts.{goes-on}
 use Rattle.image_builder.proofs.Kept.{entries-fit}
 use Rattle.image_builder.proofs.builder.Builder.judge_reading.Goals as goal
@@ -18,9 +18,8 @@ judge_record-requires c =
 
 pub loop-name-preserved : goal.loop-name-preserved
 loop-name-preserved c =
-    let body : ℕ × Object → Type 0 = λ e. IsBody e.1.body in
     let e : ℕ × Object = (c.in-Some.name.now, c.in-Some.object.now) in
     record {
       first = goes-on (record_breaks c.args.next) c.args.self.now.objects.entries c.loop-name.name-iterator c.next.new.self e c.loop-name.invariant.first c.in-Some.ensures.steps (sym c.judge_record.ensures.rule ∙ c.in_default.is);
-      bodies = λ rest. c.loop-name.invariant.bodies (subst (λ (es : List (ℕ × Object)). All body es) (sym c.in-Some.ensures.steps) (All-cons body e c.next.new.self c.in_default.ensures.body rest));
+      entries = λ rest. c.loop-name.invariant.entries (subst (λ (es : List (ℕ × Object)). All IsEntry es) (sym c.in-Some.ensures.steps) (All-cons IsEntry e c.next.new.self c.in_default.ensures.entry rest));
     }

@@ -1,10 +1,7 @@
-use Rattle.std.proofs.Common.{ℕ, List, ◌++◌, length, sym, subst}
-use Rattle.std.proofs.lemmas.List.Elements.{All-cons}
-use Rattle.std.specs.List.{All}
-use Rattle.long_names.specs.Objects.{IsRecord}
+use Rattle.std.proofs.Common.{ℕ, ◌++◌, length}
 use Rattle.long_names.specs.declared.object.Object.{Object}
 use Rattle.image_format.specs.Text.{head_text}
-use Rattle.image_builder.specs.Parts.{count_in, rec_with, texts_with}
+use Rattle.image_builder.specs.Parts.{count_in, texts_with}
 use Rattle.image_builder.proofs.Kept.{written-on}
 use Rattle.image_builder.proofs.builder.Builder.text.Goals as goal
 
@@ -12,9 +9,5 @@ pub loop-name-preserved : goal.loop-name-preserved
 loop-name-preserved c =
     let counts = count_in c.args.counts.now in
     let entries = c.args.self.now.objects.entries in
-    let is : ℕ × Object → Type 0 = λ e. IsRecord (rec_with counts e) in
     let e : ℕ × Object = (c.in-Some.name.now, c.in-Some.object.now) in
-    record {
-      text = written-on counts c.loop-name.out c.encode_object.new.out (head_text (length entries) c.args.next ++ texts_with counts entries) e c.loop-name.name-iterator c.next.new.self (rw c.of.ensures at c.in_ok-encode_object.ensures.ok) c.in-Some.ensures.steps c.loop-name.invariant.text;
-      records = λ rest. c.loop-name.invariant.records (subst (λ (es : List (ℕ × Object)). All is es) (sym c.in-Some.ensures.steps) (All-cons is e c.next.new.self (rw c.of.ensures at c.in_ok-encode_object.ensures.record) rest));
-    }
+    written-on counts c.loop-name.out c.encode_object.new.out (head_text (length entries) c.args.next ++ texts_with counts entries) e c.loop-name.name-iterator c.next.new.self (rw c.of.ensures at c.in_ok-encode_object.ensures.ok) c.in-Some.ensures.steps c.loop-name.invariant
