@@ -1,5 +1,5 @@
 -- The law of thinning, for each combinator.
-use Rattle.std.proofs.Common.{◌≡◌, ℕ, ℤ, pos, ◌+◌, ◌≤◌, zero, suc, Bool, true, false, cond, nat_lt, nat_le, eqb, ◌&&◌, List, [], ◌∷◌, ◌++◌, length, Option, Some, None, is_some, refl, sym, ◌∙◌, ap, ap₂, subst, arith}
+use Rattle.std.proofs.Common.{◌≡◌, ℕ, ℤ, pos, ◌+◌, ◌-◌, ◌≤◌, zero, suc, Bool, true, false, cond, nat_lt, nat_le, eqb, ◌&&◌, List, [], ◌∷◌, ◌++◌, length, Option, Some, None, is_some, refl, sym, ◌∙◌, ap, ap₂, subst, arith}
 use Rattle.std.specs.List.{slice_get}
 use Rattle.std.specs.Option.{option_map_or, option_and_then}
 use Rattle.std.proofs.lemmas.Grind.{common_steps}
@@ -9,19 +9,22 @@ use Rattle.long_names.specs.declared.object.Object.{Object}
 use Rattle.long_names.specs.declared.object.Body.{Body}
 use Rattle.long_names.specs.declared.object.Body.TheVariants.{Pointers, Words, Bytes, Method}
 use Rattle.long_names.specs.Names.{is_known, NIL, SMALL_INTEGER, LAST_NAME}
-use Rattle.long_names.specs.Objects.{Making, holds, fields_of, field_of, pointers_of, literals_of, with_field, text_of}
+use Rattle.long_names.specs.Objects.{Making, holds, fields_of, field_of, pointers_of, literals_of, words_of, bytes_of, with_field, with_words, with_bytes, text_of}
 use Rattle.long_names.specs.Heap.{Heap, Has, put_object, add_object}
 use Rattle.long_names.specs.State.{set_register, set_slot, object_at, name_at, class_at, part_at}
 use Rattle.long_names.specs.Access.{Make, with_body}
 use Rattle.long_names.specs.Need.{Row}
 use Rattle.long_names.specs.Thin.{IsWhole}
-use Rattle.long_names.proofs.ThinLemmas.{IsThinner-add_object, IsBounded-add_object, IsWhole-regs, IsWhole-set, IsWhole-slots, IsWhole-pin, IsWhole-with_field, has_put, holds-class, holds-field, both}
+use Rattle.long_names.proofs.ThinLemmas.{IsThinner-add_object, IsBounded-add_object, IsWhole-regs, IsWhole-set, IsWhole-slots, IsWhole-pin, IsWhole-with_field, IsWhole-same_fields, fields-with_words, fields-with_bytes, has_put, holds-class, holds-field, both}
 use Rattle.long_names.proofs.AccessLaws.{words_of_row-same, entries_of_row-same, another, IsThinner-with_body, IsBounded-with_body, IsWhole-with_body, whole-heap}
 use Rattle.blue_model.specs.declared.cause.Cause.{Cause}
 use Rattle.blue_model.specs.declared.cpu.Cpu.{Cpu}
 use Rattle.blue_model.specs.Indexes.{METHOD_INDEX, HOME_INDEX}
-use Rattle.blue_model.specs.Machine.{Machine, MACHINE_REGISTERS, LogRow, logged, row_of, making_row, Outcome, Go, Halt, Spent, Unbuilt, Rule, after, then_do, ◌>>=◌, done, halt, unbuilt, given, pick, is_there, register, placed, put_register, clear, numbers, set_numbers, rows_at, looked, look, part, known, classed, class_of, stored, store, object_made, added, made, make, unpinned, unpin_all, with_pin, pinned, pin, spoken, say, times}
+use Rattle.blue_model.specs.Machine.{Machine, MACHINE_REGISTERS, LogRow, logged, row_of, making_row, Outcome, Go, Halt, Spent, Unbuilt, Rule, after, then_do, ◌>>=◌, done, halt, unbuilt, given, pick, is_there, register, placed, put_register, clear, numbers, set_numbers, rows_at, looked, look, part, known, classed, class_of, stored, store, changed, store_word, store_byte, object_made, added, made, make, unpinned, unpin_all, with_pin, pinned, pin, spoken, say, times, each}
+use Rattle.blue_model.specs.declared.answer.Answer.{Answer}
 use Rattle.blue_model.specs.Parts.{at_least, shaped, field, home_by, home_in, home_of, literal}
+use Rattle.blue_model.specs.Sends.{last_literal}
+use Rattle.blue_model.specs.Trials.{failed, where_some, where_true, ◌>>?◌, peek}
 use Rattle.blue_model.specs.Law.{IsThinned, Agree, RespectsThinning}
 use Rattle.blue_model.specs.Alike.{Lost, IsAlike, IsKept, IsKeptMaybe, IsHeld, IsPlain, IsWithin, Agrees, Lawful}
 
@@ -341,6 +344,46 @@ law_store {w} v i x k l = record {
       },
     )
 
+-- a change of a body that leaves its fields
+law_changed : {w : Lost} (v : Value) (change : Body → Body) (test : Body → Option ℕ) → ((b : Body) → fields_of (change b) ≡ fields_of b) → IsKept w v → Lawful w IsPlain (λ m. changed m v change (is_some (part_at m.heap v test)))
+law_changed {w} v change test fields k = record {
+  agrees = λ m s h.
+      let parts : is_some (part_at s.heap v test) ≡ is_some (part_at m.heap v test) = ap (λ z. is_some (option_and_then (λ (o : Object). test o.body) z)) (object_alike w m s h v k) in
+      subst (λ b. Agrees w IsPlain (changed m v change b) (changed s v change (is_some (part_at s.heap v test)))) parts (step m s h (is_some (part_at s.heap v test)));
+}
+  where
+    step : (m s : Machine) → IsAlike w m s → (b : Bool) → Agrees w IsPlain (changed m v change b) (changed s v change b)
+    step m s h false = (refl, rows_alike w m s v h k)
+    step m s h true = (
+      refl,
+      rows_alike w m s v h k,
+      record {},
+      record {
+        thinned = record {
+          thinning = record {
+            thinner = IsThinner-with_body m.heap s.heap v change h.thinned.thinning.thinner (sym (object_alike w m s h v k));
+            whole = IsWhole-with_body s.heap s.regs s.slots v change h.thinned.thinning.whole (λ n o e. IsWhole-same_fields s.heap s.regs s.slots n o (change o.body) h.thinned.thinning.whole e (fields o.body));
+          };
+          bounded = IsBounded-with_body m.heap v change h.thinned.bounded;
+          regs = h.thinned.regs;
+          slots = h.thinned.slots;
+          transcript = h.thinned.transcript;
+          cpu = h.thinned.cpu;
+        };
+        same = λ q f. same_body m.heap s.heap v change q (object_alike w m s h v k) (h.same q f);
+        gone = λ q f. gone_body w s.heap v change q k f (h.gone q f);
+        fresh = λ q le. h.fresh q (subst (λ n. n ≤ q) (next_body s.heap v change) le);
+      },
+    )
+
+pub law_store_word : {w : Lost} (v : Value) (i word : ℕ) → IsKept w v → Lawful w IsPlain (store_word v i word)
+unfolding store_word
+law_store_word v i word k = law_changed v (λ b. with_words b i (word ∷ [])) (λ b. option_and_then (λ (words : List ℕ). slice_get words i) (words_of b)) (λ b. fields-with_words b i (word ∷ [])) k
+
+pub law_store_byte : {w : Lost} (v : Value) (i byte : ℕ) → IsKept w v → Lawful w IsPlain (store_byte v i byte)
+unfolding store_byte
+law_store_byte v i byte k = law_changed v (λ b. with_bytes b i (byte ∷ [])) (λ b. option_and_then (λ (bytes : List ℕ). slice_get bytes i) (bytes_of b)) (λ b. fields-with_bytes b i (byte ∷ [])) k
+
 -- ---- makings
 
 -- a heap with a new object of a class that is there is whole
@@ -534,6 +577,23 @@ within_literal {w} i = record { within = λ o v h e. field_kept w o h i v (go o.
     go (Bytes bytes) v e = let no : ◌≡◌ {A = Option Value} None (Some v) = e in absurd (cc)
     go (Method header literals code) v e = e
 
+literals_kept : (w : Lost) (o : Object) → IsHeld w o → (literals : List Value) → literals_of o.body ≡ Some literals → (i : ℕ) (v : Value) → slice_get literals i ≡ Some v → IsKept w v
+literals_kept w o h literals e i v f = field_kept w o h i v (go o.body e)
+  where
+    go : (b : Body) → literals_of b ≡ Some literals → field_of b i ≡ Some v
+    go (Pointers values) g = let no : ◌≡◌ {A = Option (List Value)} None (Some literals) = g in absurd (cc)
+    go (Words words) g = let no : ◌≡◌ {A = Option (List Value)} None (Some literals) = g in absurd (cc)
+    go (Bytes bytes) g = let no : ◌≡◌ {A = Option (List Value)} None (Some literals) = g in absurd (cc)
+    go (Method header all code) g = let same : all ≡ literals = cc in ap (λ vs. slice_get vs i) same ∙ f
+
+pub within_last_literal : {w : Lost} → IsWithin w last_literal
+unfolding last_literal
+within_last_literal {w} = record { within = λ o v h e. go o v h (literals_of o.body) refl e }
+  where
+    go : (o : Object) (v : Value) → IsHeld w o → (x : Option (List Value)) → literals_of o.body ≡ x → option_and_then (λ (literals : List Value). slice_get literals (length literals - 1)) x ≡ Some v → IsKept w v
+    go o v h None e f = let no : ◌≡◌ {A = Option Value} None (Some v) = f in absurd (cc)
+    go o v h (Some literals) e f = literals_kept w o h literals e (length literals - 1) v f
+
 -- the home is the context itself or in a field
 pub within_home_of : {w : Lost} (context : Value) → IsKept w context → IsWithin w (home_of context)
 unfolding home_of
@@ -613,4 +673,51 @@ done_none {w} = law_done None (record { kept = λ v e. (cc) })
 pub done_some : {w : Lost} (v : Value) → IsKept w v → Lawful w (IsKeptMaybe w) (done (Some v))
 done_some {w} v k = law_done (Some v) (record { kept = λ u e. let same : v ≡ u = cc in subst (λ x. IsKept w x) same k })
 
-pub ruleset lawful = (then_value, then_maybe, then_held, then_plain, law_pick, done_none, done_some, done_plain, law_done, law_halt, law_unbuilt, law_register, law_numbers, law_set_numbers, law_clear, law_put_register, within_field, within_literal, within_home_of, law_look, law_known, law_class_of, law_part_value, law_part, law_given_plain, law_store, law_make, law_unpin_all, law_pin, law_say, law_times, kept_int, kept_known)
+-- ---- conditions
+
+pub law_failed : {w : Lost} → Lawful w IsPlain failed
+unfolding failed
+law_failed = done_plain _
+
+pub law_where_some : {w : Lost} {A : Type 0} (o : Option A) (k : A → Rule Answer) → ((a : A) → Lawful w IsPlain (k a)) → Lawful w IsPlain (where_some o k)
+unfolding where_some
+law_where_some None k f = law_failed
+law_where_some (Some a) k f = f a
+
+law_where_value : {w : Lost} (o : Option Value) (k : Value → Rule Answer) → IsKeptMaybe w o → ((v : Value) → IsKept w v → Lawful w IsPlain (k v)) → Lawful w IsPlain (where_some o k)
+unfolding where_some
+law_where_value None k h f = law_failed
+law_where_value (Some v) k h f = f v (h.kept v refl)
+
+pub law_where_true : {w : Lost} (b : Bool) (p : Rule Answer) → Lawful w IsPlain p → Lawful w IsPlain (where_true b p)
+unfolding where_true
+law_where_true b p f = law_pick b p failed f law_failed
+
+pub try_plain : {w : Lost} {A : Type 0} {p : Rule (Option A)} (k : A → Rule Answer) → Lawful w IsPlain p → ((a : A) → Lawful w IsPlain (k a)) → Lawful w IsPlain (p >>? k)
+unfolding ◌>>?◌
+try_plain k first f = law_then _ first (λ o h. law_where_some o k f)
+
+pub try_value : {w : Lost} {p : Rule (Option Value)} (k : Value → Rule Answer) → Lawful w (IsKeptMaybe w) p → ((v : Value) → IsKept w v → Lawful w IsPlain (k v)) → Lawful w IsPlain (p >>? k)
+unfolding ◌>>?◌
+try_value k first f = law_then _ first (λ o h. law_where_value o k h f)
+
+-- a part without names
+pub law_peek : {w : Lost} {A : Type 0} (f : Object → Option A) (v : Value) → IsKept w v → Lawful w IsPlain (peek f v)
+unfolding peek
+law_peek f (Int z) k = done_plain None
+law_peek f (Ref n) k = law_then _ (law_look (Ref n) k) (λ o h. done_plain (f o))
+
+-- a part that is a value
+pub law_peek_value : {w : Lost} (f : Object → Option Value) (v : Value) → IsWithin w f → IsKept w v → Lawful w (IsKeptMaybe w) (peek f v)
+unfolding peek
+law_peek_value f (Int z) within k = done_none
+law_peek_value f (Ref n) within k = law_then _ (law_look (Ref n) k) (λ o h. law_done (f o) (record { kept = λ v e. within.within o v h e }))
+
+pub law_each : {w : Lost} (p : ℕ → Rule (Unit {0})) (n : ℕ) → ((i : ℕ) → Lawful w IsPlain (p i)) → Lawful w IsPlain (each p n)
+unfolding each
+law_each {w} p zero f = law_done tt (record {})
+law_each {w} p (suc n) f = then_plain (λ _. p n) (law_each {w = w} p n f) (λ _. f n)
+
+pub ruleset lawful = (then_value, then_maybe, then_held, then_plain, law_pick, done_none, done_some, done_plain, law_done, law_halt, law_unbuilt, law_register, law_numbers, law_set_numbers, law_clear, law_put_register, within_field, within_literal, within_last_literal, within_home_of, law_look, law_known, law_class_of, law_part_value, law_part, law_given_plain, law_store, law_store_word, law_store_byte, law_make, law_unpin_all, law_pin, law_say, law_times, law_each, kept_int, kept_known)
+
+pub ruleset trying = (try_value, try_plain, law_where_true, law_where_some, law_failed, law_peek_value, law_peek)

@@ -1,14 +1,24 @@
 -- The law of thinning, for each rule.
-use Rattle.std.proofs.Common.{◌≡◌, ℕ, ℤ, ◌-◌, zero, suc, true, List, [], ◌∷◌, Option, Some, None, refl}
+use Rattle.std.proofs.Common.{◌≡◌, ℕ, ℤ, ◌-◌, zero, suc, Bool, true, List, [], ◌∷◌, ◌++◌, Option, Some, None, refl}
+use Rattle.long_names.specs.declared.value.Value.TheVariants.{Int, Ref}
 use Rattle.long_names.specs.declared.value.Value.{Value}
 use Rattle.long_names.specs.Names.{is_known}
 use Rattle.blue_model.specs.Machine.{Rule}
-use Rattle.blue_model.specs.Contexts.{store_field, push, stack, pop, pop_top, byte_of, fetch, jump, need_method, put_context, load_home, load, store_registers, enter, nil_context, back, back_with, return_to, active_process, start, park}
+use Rattle.blue_model.specs.Contexts.{store_field, push, stack, pop, pop_top, byte_of, fetch, jump, need_method, put_context, load_home, load, store_registers, enter, nil_context, back, back_with, active_process, start, park}
 use Rattle.blue_model.specs.Lookup.{method_at, find_in, found_or, find_from, put_found, find, find_from_register}
-use Rattle.blue_model.specs.Bytecodes.{receiver_variable, temporary, literal_constant, literal_variable, store_receiver_variable, store_temporary, store_literal_variable, push_of, push_known, push_number, push_receiver, push_active_context, duplicate_top, store_top, store_and_pop, by_kind, extended_push, extended_store_of, extended_store, extended_store_and_pop, return_home, return_of, return_from_block, jump_where, jump_on, long_jump, long_jump_on, Range, bytecodes, has_byte, ruled, bytecode}
+use Rattle.blue_model.specs.Bytecodes.{receiver_variable, temporary, literal_constant, literal_variable, store_receiver_variable, store_temporary, store_literal_variable, push_of, push_known, push_number, push_receiver, push_active_context, duplicate_top, store_top, store_and_pop, by_kind, extended_push, extended_store_of, extended_store, extended_store_and_pop, return_home, return_of, return_from_block, jump_where, jump_on, long_jump, long_jump_on, send_literal, send_literal_super, single_extended, double_extended, tried_for, arithmetic_send, block_send, Range, bytecodes, has_byte, ruled, bytecode}
+use Rattle.blue_model.specs.Sends.{set_arguments, copy_argument, make_arguments, make_message, create_message, tell, find_or_tell, pass, fill_context, make_context, activate, put_stack, answer_field, execute_extended, execute, send_from, send, send_super, special_send, cannot_return, must_be_boolean, return_to}
 use Rattle.blue_model.specs.Cycle.{count_bytecode, step, cycle}
 use Rattle.blue_model.specs.Alike.{Lost, IsKept, IsKeptMaybe, IsPlain, Lawful, AreLawful}
-use Rattle.blue_model.proofs.LawSteps.{lawful, law_pick, law_done, law_unbuilt}
+use Rattle.blue_model.specs.declared.answer.Answer.{Answer}
+use Rattle.blue_model.specs.declared.spot.Spot.{Spot}
+use Rattle.blue_model.specs.declared.spot.Spot.TheVariants.{Field, Word, Byte}
+use Rattle.blue_model.specs.Trials.{answer, boolean, Primitive, with_arguments, primitive_in}
+use Rattle.blue_model.specs.Arithmetic.{of_numbers, arithmetic, comparison, make_point, point, integer_primitives}
+use Rattle.blue_model.specs.Elements.{index_argument, make_large, number_object, specification_of, fixed_of, element_number, spot_at, element_of, element_at, put_element, character_of, byte_of_value, byte_of_character}
+use Rattle.blue_model.specs.Storage.{at, at_put, size_of, string_at, string_at_put, streamed_by, streamed, of_stream, next_spot, advance, streamed_element, next, put_streamed, next_put, at_end, method_object, object_at_index, object_at_put, new, new_with_size, new_method, instance_variable_at, instance_variable_at_put, hash, equivalent, class, object_primitives}
+use Rattle.blue_model.specs.Primitives.{is_unbuilt, primitive, has_failed, tried}
+use Rattle.blue_model.proofs.LawSteps.{lawful, trying, then_plain, try_plain, law_pick, law_done, law_numbers, law_store, law_store_word, law_store_byte, law_unbuilt, law_failed, law_part, law_where_some, law_where_true, kept_int, law_peek, done_plain}
 
 -- ---- contexts
 
@@ -80,10 +90,6 @@ pub law-back_with : {w : Lost} (context v : Value) → IsKept w context → IsKe
 unfolding back_with
 law-back_with {w} context v k l = search (lawful, law-back, law-push) depth 12
 
-pub law-return_to : {w : Lost} (context v : Value) → IsKept w context → IsKept w v → Lawful w IsPlain (return_to context v)
-unfolding return_to
-law-return_to {w} context v k l = search (lawful, law-back_with) depth 12
-
 pub law-active_process : {w : Lost} → Lawful w (IsKept w) active_process
 unfolding active_process
 law-active_process {w} = search lawful depth 12
@@ -128,6 +134,302 @@ law-find {w} class k = search (lawful, law-find_from, law-put_found) depth 12
 
 pub law-find_from_register : {w : Lost} (r : ℕ) → Lawful w IsPlain (find_from_register r)
 law-find_from_register {w} r = search (lawful, law-find) depth 12
+
+-- ---- primitives
+
+pub law-answer : {w : Lost} (n : ℕ) (v : Value) → IsKept w v → Lawful w IsPlain (answer n v)
+unfolding answer
+law-answer {w} n v k = search (lawful, law-pop, law-push) depth 12
+
+pub law-boolean : {w : Lost} (b : Bool) → Lawful w (IsKept w) (boolean b)
+unfolding boolean
+law-boolean {w} b = search lawful depth 12
+
+pub law-of_numbers : {w : Lost} (p : ℤ → ℤ → Rule Answer) → ((a b : ℤ) → Lawful w IsPlain (p a b)) → Lawful w IsPlain (of_numbers p)
+unfolding of_numbers
+law-of_numbers {w} p f = search (lawful, trying, law-stack, f) depth 14
+
+pub law-arithmetic : {w : Lost} (f : ℤ → ℤ → Option ℤ) → Lawful w IsPlain (arithmetic f)
+unfolding arithmetic
+law-arithmetic {w} f = search (lawful, trying, law-of_numbers, law-answer) depth 14
+
+pub law-comparison : {w : Lost} (f : ℤ → ℤ → Bool) → Lawful w IsPlain (comparison f)
+unfolding comparison
+law-comparison {w} f = search (lawful, trying, law-of_numbers, law-boolean, law-answer) depth 14
+
+pub law-make_point : {w : Lost} (x y : ℤ) → Lawful w (IsKept w) (make_point x y)
+unfolding make_point
+law-make_point {w} x y = search (lawful, law-store_field) depth 16
+
+pub law-point : {w : Lost} → Lawful w IsPlain point
+unfolding point
+law-point {w} = search (lawful, trying, law-of_numbers, law-make_point, law-answer) depth 14
+
+pub law-index_argument : {w : Lost} (v : Value) → IsKept w v → Lawful w IsPlain (index_argument v)
+unfolding index_argument
+law-index_argument (Int z) k = done_plain (Some z)
+law-index_argument (Ref n) k = law_peek _ (Ref n) k
+
+pub law-make_large : {w : Lost} (n : ℕ) → Lawful w (IsKept w) (make_large n)
+unfolding make_large
+law-make_large {w} n = search lawful depth 16
+
+pub law-number_object : {w : Lost} (n : ℕ) → Lawful w (IsKept w) (number_object n)
+unfolding number_object
+law-number_object {w} n = search (lawful, law-make_large) depth 12
+
+pub law-specification_of : {w : Lost} (v : Value) → IsKept w v → Lawful w IsPlain (specification_of v)
+unfolding specification_of
+law-specification_of {w} v k = search (lawful, trying) depth 12
+
+pub law-fixed_of : {w : Lost} (v : Value) → IsKept w v → Lawful w IsPlain (fixed_of v)
+unfolding fixed_of
+law-fixed_of {w} v k = search (lawful, law-specification_of) depth 12
+
+pub law-spot_at : {w : Lost} (v : Value) (e : Option ℕ) → IsKept w v → Lawful w IsPlain (spot_at v e)
+law-spot_at v None k = done_plain None
+law-spot_at v (Some e) k = law_peek _ v k
+
+pub law-element_of : {w : Lost} (v : Value) (i : ℤ) → IsKept w v → Lawful w IsPlain (element_of v i)
+unfolding element_of
+law-element_of {w} v i k = search (lawful, law-fixed_of, law-spot_at) depth 12
+
+pub law-element_at : {w : Lost} (v : Value) (spot : Spot) → IsKept w v → Lawful w (IsKept w) (element_at v spot)
+law-element_at v (Field i) k = search lawful depth 12
+law-element_at v (Word i) k = search (lawful, law-number_object) depth 12
+law-element_at v (Byte i) k = search (lawful, law-number_object) depth 12
+
+pub law-put_element : {w : Lost} (v : Value) (spot : Spot) (x : Value) (rest : Rule Answer) → IsKept w v → IsKept w x → Lawful w IsPlain rest → Lawful w IsPlain (put_element v spot x rest)
+law-put_element v (Field i) x rest k l f = then_plain (λ _. rest) (law_store v i x k l) (λ _. f)
+law-put_element v (Word i) x rest k l f = try_plain _ (law-index_argument x l) (λ z. law_where_some _ _ (λ n. then_plain (λ _. rest) (law_store_word v i n k) (λ _. f)))
+law-put_element v (Byte i) x rest k l f = law_where_some _ _ (λ n. then_plain (λ _. rest) (law_store_byte v i n k) (λ _. f))
+
+pub law-character_of : {w : Lost} (byte : ℕ) → Lawful w (IsKeptMaybe w) (character_of byte)
+unfolding character_of
+law-character_of {w} byte = search (lawful, trying) depth 12
+
+pub law-byte_of_character : {w : Lost} (v : Value) → IsKept w v → Lawful w IsPlain (byte_of_character v)
+unfolding byte_of_character
+law-byte_of_character {w} v k = search (lawful, trying) depth 12
+
+ruleset elements = (law-index_argument, law-number_object, law-specification_of, law-fixed_of, law-element_of, law-element_at, law-put_element, law-character_of, law-byte_of_character, law-boolean, law-answer, law-stack, law-store_field)
+
+pub law-at : {w : Lost} → Lawful w IsPlain at
+unfolding at
+law-at {w} = search (lawful, trying, elements) depth 16
+
+pub law-at_put : {w : Lost} → Lawful w IsPlain at_put
+unfolding at_put
+law-at_put {w} = search (lawful, trying, elements) depth 16
+
+pub law-size_of : {w : Lost} → Lawful w IsPlain size_of
+unfolding size_of
+law-size_of {w} = search (lawful, trying, elements) depth 16
+
+pub law-string_at : {w : Lost} → Lawful w IsPlain string_at
+unfolding string_at
+law-string_at {w} = search (lawful, trying, elements) depth 18
+
+pub law-string_at_put : {w : Lost} → Lawful w IsPlain string_at_put
+unfolding string_at_put
+law-string_at_put {w} = search (lawful, trying, elements) depth 20
+
+pub law-streamed : {w : Lost} (v : Value) → IsKept w v → Lawful w IsPlain (streamed v)
+unfolding streamed streamed_by
+law-streamed {w} v k = search (lawful, trying) depth 14
+
+pub law-of_stream : {w : Lost} (limit : ℕ) (stream : Value) (p : Value → Bool → ℕ → ℤ → Rule Answer) → IsKept w stream → ((array : Value) (text : Bool) (index : ℕ) (bound : ℤ) → IsKept w array → Lawful w IsPlain (p array text index bound)) → Lawful w IsPlain (of_stream limit stream p)
+unfolding of_stream
+law-of_stream {w} limit stream p k f = search (lawful, trying, law-streamed, f) depth 16
+
+pub law-next_spot : {w : Lost} (array : Value) (index : ℕ) (bound : ℤ) (p : Spot → Rule Answer) → IsKept w array → ((spot : Spot) → Lawful w IsPlain (p spot)) → Lawful w IsPlain (next_spot array index bound p)
+unfolding next_spot
+law-next_spot {w} array index bound p k f = search (lawful, trying, elements, f) depth 14
+
+pub law-advance : {w : Lost} (stream : Value) (index : ℕ) → IsKept w stream → Lawful w IsPlain (advance stream index)
+unfolding advance
+law-advance {w} stream index k = search (lawful, law-store_field) depth 12
+
+pub law-streamed_element : {w : Lost} (array : Value) (text : Bool) (spot : Spot) (p : Value → Rule Answer) → IsKept w array → ((v : Value) → IsKept w v → Lawful w IsPlain (p v)) → Lawful w IsPlain (streamed_element array text spot p)
+unfolding streamed_element
+law-streamed_element {w} array text spot p k f = search (lawful, trying, elements, f) depth 16
+
+pub law-put_streamed : {w : Lost} (array : Value) (text : Bool) (spot : Spot) (v : Value) (rest : Rule Answer) → IsKept w array → IsKept w v → Lawful w IsPlain rest → Lawful w IsPlain (put_streamed array text spot v rest)
+unfolding put_streamed
+law-put_streamed array text spot v rest k l f = law_pick text _ _ (try_plain _ (law-byte_of_character v l) (λ byte. law-put_element array spot _ rest k (kept_int _) f)) (law-put_element array spot v rest k l f)
+
+ruleset streams = (law-of_stream, law-next_spot, law-advance, law-streamed_element, law-put_streamed)
+
+pub law-next : {w : Lost} → Lawful w IsPlain next
+unfolding next
+law-next {w} = search (lawful, trying, elements, streams) depth 20
+
+pub law-next_put : {w : Lost} → Lawful w IsPlain next_put
+unfolding next_put
+law-next_put {w} = search (lawful, trying, elements, streams) depth 20
+
+pub law-at_end : {w : Lost} → Lawful w IsPlain at_end
+unfolding at_end
+law-at_end {w} = search (lawful, trying, elements, streams) depth 20
+
+pub law-method_object : {w : Lost} (method : Value) (header : ℤ) (n : ℕ) → IsKept w method → Lawful w IsPlain (method_object method header n)
+law-method_object {w} method header n k = search (lawful, trying, elements) depth 14
+
+pub law-object_at_index : {w : Lost} → Lawful w IsPlain object_at_index
+unfolding object_at_index
+law-object_at_index {w} = search (lawful, trying, elements, law-method_object) depth 18
+
+pub law-object_at_put : {w : Lost} → Lawful w IsPlain object_at_put
+unfolding object_at_put
+law-object_at_put {w} = search (lawful, trying, elements) depth 20
+
+pub law-new : {w : Lost} → Lawful w IsPlain new
+unfolding new
+law-new {w} = search (lawful, trying, elements) depth 16
+
+pub law-new_with_size : {w : Lost} → Lawful w IsPlain new_with_size
+unfolding new_with_size
+law-new_with_size {w} = search (lawful, trying, elements) depth 20
+
+pub law-new_method : {w : Lost} → Lawful w IsPlain new_method
+unfolding new_method
+law-new_method {w} = search (lawful, trying, elements) depth 20
+
+pub law-instance_variable_at : {w : Lost} → Lawful w IsPlain instance_variable_at
+unfolding instance_variable_at
+law-instance_variable_at {w} = search (lawful, trying, elements) depth 18
+
+pub law-instance_variable_at_put : {w : Lost} → Lawful w IsPlain instance_variable_at_put
+unfolding instance_variable_at_put
+law-instance_variable_at_put {w} = search (lawful, trying, elements) depth 20
+
+pub law-hash : {w : Lost} → Lawful w IsPlain hash
+unfolding hash
+law-hash {w} = search (lawful, trying, elements) depth 14
+
+pub law-equivalent : {w : Lost} → Lawful w IsPlain equivalent
+unfolding equivalent
+law-equivalent {w} = search (lawful, trying, elements) depth 14
+
+pub law-class : {w : Lost} → Lawful w IsPlain class
+unfolding class
+law-class {w} = search (lawful, trying, elements) depth 14
+
+-- each row has a lawful rule
+ArePrimitivesLawful : Lost → List Primitive → Type 0
+ArePrimitivesLawful w [] = Unit {0}
+ArePrimitivesLawful w (p ∷ ps) = Lawful w IsPlain p.rule × ArePrimitivesLawful w ps
+
+law-with_arguments : {w : Lost} (p : Primitive) → Lawful w IsPlain p.rule → Lawful w IsPlain (with_arguments p)
+unfolding with_arguments
+law-with_arguments {w} p f = then_plain _ law_numbers (λ cpu. law_where_true _ _ f)
+
+law-primitive_in : {w : Lost} (ps : List Primitive) (index : ℕ) → ArePrimitivesLawful w ps → Lawful w IsPlain (primitive_in ps index)
+unfolding ArePrimitivesLawful
+law-primitive_in [] index f = law_failed
+law-primitive_in (p ∷ ps) index f = law_pick _ _ _ (law-with_arguments p f.0) (law-primitive_in ps index f.1)
+
+primitives_lawful : (w : Lost) → ArePrimitivesLawful w (integer_primitives ++ object_primitives)
+unfolding ArePrimitivesLawful integer_primitives object_primitives
+primitives_lawful w = search (law-arithmetic, law-comparison, law-point, law-at, law-at_put, law-size_of, law-string_at, law-string_at_put, law-next, law-next_put, law-at_end, law-object_at_index, law-object_at_put, law-new, law-new_with_size, law-new_method, law-instance_variable_at, law-instance_variable_at_put, law-hash, law-equivalent, law-class) depth 80 fits 40000
+
+pub law-primitive : {w : Lost} (index : ℕ) → Lawful w IsPlain (primitive index)
+unfolding primitive
+law-primitive {w} index = law_pick _ _ _ law_unbuilt (law-primitive_in _ index (primitives_lawful w))
+
+pub law-tried : {w : Lost} (index : ℕ) (rest : Rule (Unit {0})) → Lawful w IsPlain rest → Lawful w IsPlain (tried index rest)
+unfolding tried
+law-tried {w} index rest f = then_plain _ (law-primitive index) (λ answer. law_pick _ _ _ f (done_plain tt))
+
+-- ---- sends
+
+pub law-set_arguments : {w : Lost} (n : ℕ) → Lawful w IsPlain (set_arguments n)
+unfolding set_arguments
+law-set_arguments {w} n = search lawful depth 12
+
+pub law-copy_argument : {w : Lost} (n : ℕ) (array : Value) (i : ℕ) → IsKept w array → Lawful w IsPlain (copy_argument n array i)
+unfolding copy_argument
+law-copy_argument {w} n array i k = search (lawful, law-stack, law-store_field) depth 12
+
+pub law-make_arguments : {w : Lost} (n : ℕ) → Lawful w (IsKept w) (make_arguments n)
+unfolding make_arguments
+law-make_arguments {w} n = search (lawful, law-copy_argument) depth 16
+
+pub law-make_message : {w : Lost} (selector array : Value) → IsKept w selector → IsKept w array → Lawful w (IsKept w) (make_message selector array)
+unfolding make_message
+law-make_message {w} selector array k l = search (lawful, law-store_field) depth 16
+
+pub law-create_message : {w : Lost} (selector : Value) (n : ℕ) → IsKept w selector → Lawful w IsPlain (create_message selector n)
+unfolding create_message
+law-create_message {w} selector n k = search (lawful, law-make_arguments, law-make_message, law-pop, law-push) depth 16
+
+pub law-tell : {w : Lost} (class selector : Value) → IsKept w class → IsKept w selector → Lawful w IsPlain (tell class selector)
+unfolding tell
+law-tell {w} class selector k l = search (lawful, law-create_message, law-set_arguments, law-find) depth 20
+
+pub law-find_or_tell : {w : Lost} (class : Value) → IsKept w class → Lawful w IsPlain (find_or_tell class)
+unfolding find_or_tell
+law-find_or_tell {w} class k = search (lawful, law-tell, law-find) depth 16
+
+pub law-pass : {w : Lost} (n len : ℕ) (context : Value) (k : ℕ) → IsKept w context → Lawful w IsPlain (pass n len context k)
+unfolding pass
+law-pass {w} n len context k kept = search (lawful, law-stack, law-store_field) depth 12
+
+pub law-fill_context : {w : Lost} (context method : Value) (header : ℤ) → IsKept w context → IsKept w method → Lawful w IsPlain (fill_context context method header)
+unfolding fill_context
+law-fill_context {w} context method header k l = search (lawful, law-store_field) depth 16
+
+pub law-make_context : {w : Lost} (method : Value) (header : ℤ) (n : ℕ) → IsKept w method → Lawful w (IsKept w) (make_context method header n)
+unfolding make_context
+law-make_context {w} method header n k = search (lawful, law-fill_context, law-pass) depth 16
+
+pub law-activate : {w : Lost} → Lawful w IsPlain activate
+unfolding activate
+law-activate {w} = search (lawful, law-make_context, law-pop, law-enter) depth 16
+
+pub law-put_stack : {w : Lost} (depth : ℕ) (v : Value) → IsKept w v → Lawful w IsPlain (put_stack depth v)
+unfolding put_stack
+law-put_stack {w} depth v k = search (lawful, law-store_field) depth 16
+
+pub law-answer_field : {w : Lost} (i : ℕ) → Lawful w IsPlain (answer_field i)
+unfolding answer_field
+law-answer_field {w} i = search (lawful, law-stack, law-put_stack) depth 14
+
+pub law-execute_extended : {w : Lost} (method : Value) → IsKept w method → Lawful w IsPlain (execute_extended method)
+unfolding execute_extended
+law-execute_extended {w} method k = then_plain _ (law_part _ _ method k) (λ it. law_pick _ _ _ law-activate (law-tried _ _ law-activate))
+
+pub law-execute : {w : Lost} → Lawful w IsPlain execute
+unfolding execute
+law-execute {w} = search (lawful, law-answer_field, law-execute_extended, law-activate) depth 16
+
+pub law-send_from : {w : Lost} (class selector : Value) (n : ℕ) → IsKept w class → IsKept w selector → Lawful w IsPlain (send_from class selector n)
+unfolding send_from
+law-send_from {w} class selector n k l = search (lawful, law-set_arguments, law-find_or_tell, law-execute) depth 14
+
+pub law-send : {w : Lost} (selector : Value) (n : ℕ) → IsKept w selector → Lawful w IsPlain (send selector n)
+unfolding send
+law-send {w} selector n k = search (lawful, law-stack, law-send_from) depth 12
+
+pub law-send_super : {w : Lost} (selector : Value) (n : ℕ) → IsKept w selector → Lawful w IsPlain (send_super selector n)
+unfolding send_super
+law-send_super {w} selector n k = search (lawful, law-stack, law-send_from) depth 16
+
+pub law-special_send : {w : Lost} (s : ℕ) → Lawful w IsPlain (special_send s)
+unfolding special_send
+law-special_send {w} s = search (lawful, law-send) depth 14
+
+pub law-cannot_return : {w : Lost} (v : Value) → IsKept w v → Lawful w IsPlain (cannot_return v)
+unfolding cannot_return
+law-cannot_return {w} v k = search (lawful, law-push, law-send) depth 14
+
+pub law-must_be_boolean : {w : Lost} (v : Value) → IsKept w v → Lawful w IsPlain (must_be_boolean v)
+unfolding must_be_boolean
+law-must_be_boolean {w} v k = search (lawful, law-push, law-send) depth 12
+
+pub law-return_to : {w : Lost} (context v : Value) → IsKept w context → IsKept w v → Lawful w IsPlain (return_to context v)
+unfolding return_to
+law-return_to {w} context v k l = search (lawful, law-cannot_return, law-back_with) depth 12
 
 -- ---- bytecodes
 
@@ -223,9 +525,9 @@ pub law-return_from_block : {w : Lost} → Lawful w IsPlain return_from_block
 unfolding return_from_block
 law-return_from_block {w} = search (lawful, law-pop_top, law-return_to) depth 12
 
-pub law-jump_where : {w : Lost} (taken passed : ℕ) (distance : ℤ) (v : Value) → Lawful w IsPlain (jump_where taken passed distance v)
+pub law-jump_where : {w : Lost} (taken passed : ℕ) (distance : ℤ) (v : Value) → IsKept w v → Lawful w IsPlain (jump_where taken passed distance v)
 unfolding jump_where
-law-jump_where {w} taken passed distance v = search (lawful, law-jump) depth 12
+law-jump_where {w} taken passed distance v k = search (lawful, law-jump, law-must_be_boolean) depth 12
 
 pub law-jump_on : {w : Lost} (taken passed : ℕ) (distance : ℤ) → Lawful w IsPlain (jump_on taken passed distance)
 unfolding jump_on
@@ -239,6 +541,34 @@ pub law-long_jump_on : {w : Lost} (taken passed i : ℕ) → Lawful w IsPlain (l
 unfolding long_jump_on
 law-long_jump_on {w} taken passed i = search (lawful, law-fetch, law-jump_on) depth 12
 
+pub law-send_literal : {w : Lost} (i n : ℕ) → Lawful w IsPlain (send_literal i n)
+unfolding send_literal
+law-send_literal {w} i n = search (lawful, law-literal_constant, law-send) depth 12
+
+pub law-send_literal_super : {w : Lost} (i n : ℕ) → Lawful w IsPlain (send_literal_super i n)
+unfolding send_literal_super
+law-send_literal_super {w} i n = search (lawful, law-literal_constant, law-send_super) depth 12
+
+pub law-single_extended : {w : Lost} (p : ℕ → ℕ → Rule (Unit {0})) → ((i n : ℕ) → Lawful w IsPlain (p i n)) → Lawful w IsPlain (single_extended p)
+unfolding single_extended
+law-single_extended {w} p f = search (lawful, law-fetch, f) depth 12
+
+pub law-double_extended : {w : Lost} (p : ℕ → ℕ → Rule (Unit {0})) → ((i n : ℕ) → Lawful w IsPlain (p i n)) → Lawful w IsPlain (double_extended p)
+unfolding double_extended
+law-double_extended {w} p f = search (lawful, law-fetch, f) depth 12
+
+pub law-tried_for : {w : Lost} (index n s : ℕ) → Lawful w IsPlain (tried_for index n s)
+unfolding tried_for
+law-tried_for {w} index n s = search (lawful, law-set_arguments, law-tried, law-special_send) depth 12
+
+pub law-arithmetic_send : {w : Lost} (s : ℕ) → Lawful w IsPlain (arithmetic_send s)
+unfolding arithmetic_send
+law-arithmetic_send {w} s = search (lawful, law-stack, law-tried_for, law-special_send) depth 12
+
+pub law-block_send : {w : Lost} (index n : ℕ) (classes : ℕ → Bool) (s : ℕ) → Lawful w IsPlain (block_send index n classes s)
+unfolding block_send
+law-block_send {w} index n classes s = search (lawful, law-stack, law-tried_for, law-special_send) depth 12
+
 -- ---- the table
 
 pub law-ruled : {w : Lost} (ranges : List Range) (byte : ℕ) → AreLawful w ranges → Lawful w IsPlain (ruled ranges byte)
@@ -251,9 +581,11 @@ ruleset storing = (law-store_and_pop, law-extended_store, law-extended_store_and
 
 ruleset leaving = (law-return_of, law-return_from_block, law-pop_top, law-jump, law-jump_on, law-long_jump, law-long_jump_on)
 
+ruleset sending = (law-single_extended, law-double_extended, law-send_literal, law-send_literal_super, law-arithmetic_send, law-special_send, law-tried_for, law-block_send)
+
 bytecodes_lawful : (w : Lost) → AreLawful w bytecodes
 unfolding bytecodes
-bytecodes_lawful w = search (lawful, pushing, storing, leaving) depth 60 fits 20000
+bytecodes_lawful w = search (lawful, pushing, storing, leaving, sending) depth 80 fits 40000
 
 pub law-bytecode : {w : Lost} (byte : ℕ) → Lawful w IsPlain (bytecode byte)
 unfolding bytecode

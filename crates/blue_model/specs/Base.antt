@@ -1,11 +1,14 @@
--- Small heaps as worked values: one process whose context runs one method.
-use Rattle.std.specs.Prelude.{ℕ, pos, ◌==◌, if◌then◌else◌, List, [], ◌∷◌, replicate, Option, Some, None}
+-- Small heaps as worked values, one process whose context runs one method, and words for worked arithmetic.
+use Rattle.std.specs.Prelude.{ℕ, ℤ, pos, ◌==◌, if◌then◌else◌, List, [], ◌∷◌, replicate, Option, Some, None}
+use Rattle.std.specs.Option.{option_and_then}
+use Rattle.std.proofs.Math.IntN.{neg_ℤ}
 use Rattle.long_names.specs.declared.value.Value.{Value}
 use Rattle.long_names.specs.declared.value.Value.TheVariants.{Int, Ref}
 use Rattle.long_names.specs.declared.object.Body.TheVariants.{Pointers, Method}
 use Rattle.long_names.specs.declared.object.Object.{Object}
 use Rattle.long_names.specs.Names.{NIL, SCHEDULER_ASSOCIATION, ARRAY, METHOD_CONTEXT, COMPILED_METHOD, is_known}
 use Rattle.long_names.specs.Heap.{Heap}
+use Rattle.blue_model.specs.Contexts.{stated}
 use Rattle.blue_model.specs.Cycle.{Ending, Parked, Stuck}
 
 abbrev pub nil : Value
@@ -53,3 +56,12 @@ base_code = 112 ∷ 135 ∷ 163 ∷ 252 ∷ []
 abbrev pub context_in : Ending → Option Object
 context_in (Parked m) = m.heap.at CONTEXT
 context_in (Stuck why ran) = None
+
+-- ---- arithmetic
+
+abbrev pub minus : ℕ → ℤ
+minus n = neg_ℤ (pos n)
+
+-- the SmallInteger that an operation gives, if it gives one
+abbrev pub small_result : (ℤ → ℤ → Option ℤ) → ℤ → ℤ → Option ℤ
+small_result f a b = option_and_then stated (f a b)

@@ -1,15 +1,18 @@
 -- The bytecodes (chapter 28): a table of ranges, each with its rule. The first range that has a byte says what it does.
-use Rattle.std.specs.Prelude.{ℕ, ℤ, pos, ◌-ℤ◌, ◌+◌, ◌-◌, ◌*◌, ◌/◌, ◌%◌, ◌==◌, ◌&&◌, Bool, nat_lt, nat_le, List, [], ◌∷◌, Option, Some, None, if◌then◌else◌}
+use Rattle.std.specs.Prelude.{ℕ, ℤ, pos, ◌-ℤ◌, ◌+◌, ◌-◌, ◌*◌, ◌/◌, ◌%◌, ◌==◌, ◌&&◌, ◌||◌, Bool, true, false, is_some, nat_lt, nat_le, List, [], ◌∷◌, Option, Some, None, if◌then◌else◌}
+use Rattle.std.specs.List.{slice_index_or}
 use Rattle.long_names.specs.declared.value.Value.{Value}
-use Rattle.long_names.specs.declared.value.Value.TheVariants.{Int}
-use Rattle.long_names.specs.Names.{NIL, FALSE, TRUE}
-use Rattle.long_names.specs.Objects.{is_ref}
+use Rattle.long_names.specs.declared.value.Value.TheVariants.{Int, Ref}
+use Rattle.long_names.specs.Names.{NIL, FALSE, TRUE, METHOD_CONTEXT, BLOCK_CONTEXT}
+use Rattle.long_names.specs.Objects.{int_of, is_ref}
 use Rattle.long_names.specs.State.{ACTIVE_CONTEXT, HOME, METHOD, RECEIVER}
 use Rattle.blue_model.specs.declared.cause.Cause.TheVariants.{Unused, Stack, Shape}
 use Rattle.blue_model.specs.Indexes.{VALUE_INDEX, ASSOCIATION_SIZE, SENDER_INDEX, TEMP_FRAME_START}
-use Rattle.blue_model.specs.Machine.{Rule, ◌>>=◌, ◌>>◌, done, halt, unbuilt, given, pick, register, part, known}
+use Rattle.blue_model.specs.Machine.{Rule, ◌>>=◌, ◌>>◌, done, halt, unbuilt, given, pick, register, part, known, class_of}
 use Rattle.blue_model.specs.Parts.{size, field, literal}
-use Rattle.blue_model.specs.Contexts.{store_field, push, stack, pop, pop_top, fetch, jump, return_to}
+use Rattle.blue_model.specs.Contexts.{store_field, push, stack, pop, pop_top, fetch, jump}
+use Rattle.blue_model.specs.Primitives.{tried}
+use Rattle.blue_model.specs.Sends.{set_arguments, send, send_super, special_send, must_be_boolean, return_to}
 
 -- ---- variables
 
@@ -139,9 +142,9 @@ return_from_block = do
 
 -- ---- jumps
 
--- what a conditional jump does with the value that it popped. mustBeBoolean is sent to one that is neither; sends aren't built yet
+-- what a conditional jump does with the value that it popped. mustBeBoolean is sent to one that is neither
 unfoldable pub jump_where : ℕ → ℕ → ℤ → Value → Rule (Unit {0})
-jump_where taken passed distance v = pick (is_ref taken v) (jump distance) (pick (is_ref passed v) (done tt) unbuilt)
+jump_where taken passed distance v = pick (is_ref taken v) (jump distance) (pick (is_ref passed v) (done tt) (must_be_boolean v))
 
 -- jumpIf: (chapter 28)
 unfoldable pub jump_on : ℕ → ℕ → ℤ → Rule (Unit {0})
@@ -158,6 +161,66 @@ unfoldable pub long_jump_on : ℕ → ℕ → ℕ → Rule (Unit {0})
 long_jump_on taken passed i = do
   n ← fetch
   jump_on taken passed (pos (256 * i + n))
+
+-- ---- sends
+
+unfoldable pub send_literal : ℕ → ℕ → Rule (Unit {0})
+send_literal i n = do
+  selector ← literal_constant i
+  send selector n
+
+unfoldable pub send_literal_super : ℕ → ℕ → Rule (Unit {0})
+send_literal_super i n = do
+  selector ← literal_constant i
+  send_super selector n
+
+-- literal and number of arguments in one byte
+unfoldable pub single_extended : (ℕ → ℕ → Rule (Unit {0})) → Rule (Unit {0})
+single_extended p = do
+  n ← fetch
+  p (n % 32) (n / 32)
+
+-- the number of arguments in one byte, and the literal in the next
+unfoldable pub double_extended : (ℕ → ℕ → Rule (Unit {0})) → Rule (Unit {0})
+double_extended p = do
+  n ← fetch
+  i ← fetch
+  p i n
+
+-- ---- special sends. Where the receiver is as it has to be, a primitive is tried at once, and the message is sent where it fails
+
+-- the primitive for a message of so many arguments
+unfoldable pub tried_for : ℕ → ℕ → ℕ → Rule (Unit {0})
+tried_for index n s = do
+  set_arguments n
+  tried index (special_send s)
+
+-- + - < > <= >= = ~= * / \\ @ bitShift: // bitAnd: bitOr:
+abbrev pub arithmetic_primitives : List ℕ
+arithmetic_primitives = 1 ∷ 2 ∷ 3 ∷ 4 ∷ 5 ∷ 6 ∷ 7 ∷ 8 ∷ 9 ∷ 10 ∷ 11 ∷ 18 ∷ 17 ∷ 12 ∷ 14 ∷ 15 ∷ []
+
+-- of two numbers
+unfoldable pub arithmetic_send : ℕ → Rule (Unit {0})
+arithmetic_send s = do
+  receiver ← stack 1
+  pick (is_some (int_of receiver)) (tried_for (slice_index_or arithmetic_primitives s 0) 1 s) (special_send s)
+
+abbrev pub is_among : (ℕ → Bool) → Value → Bool
+is_among classes (Int z) = false
+is_among classes (Ref n) = classes n
+
+abbrev pub is_context_class : ℕ → Bool
+is_context_class n = (n == METHOD_CONTEXT) || (n == BLOCK_CONTEXT)
+
+abbrev pub is_block_class : ℕ → Bool
+is_block_class n = n == BLOCK_CONTEXT
+
+-- of a receiver of these classes
+unfoldable pub block_send : ℕ → ℕ → (ℕ → Bool) → ℕ → Rule (Unit {0})
+block_send index n classes s = do
+  receiver ← stack n
+  class ← class_of receiver
+  pick (is_among classes class) (tried_for index n s) (special_send s)
 
 -- ---- the table
 
@@ -196,7 +259,10 @@ bytecodes =
     ∷ only 128 extended_push
     ∷ only 129 extended_store
     ∷ only 130 extended_store_and_pop
-    ∷ from_to 131 134 (λ i. unbuilt)
+    ∷ only 131 (single_extended send_literal)
+    ∷ only 132 (double_extended send_literal)
+    ∷ only 133 (single_extended send_literal_super)
+    ∷ only 134 (double_extended send_literal_super)
     ∷ only 135 (pop 1)
     ∷ only 136 duplicate_top
     ∷ only 137 push_active_context
@@ -206,7 +272,17 @@ bytecodes =
     ∷ from_to 160 167 long_jump
     ∷ from_to 168 171 (long_jump_on TRUE FALSE)
     ∷ from_to 172 175 (long_jump_on FALSE TRUE)
-    ∷ from_to 176 255 (λ i. unbuilt)
+    ∷ from_to 176 191 arithmetic_send
+    ∷ from_to 192 197 (λ i. special_send (16 + i))
+    ∷ only 198 (tried_for 110 1 22)
+    ∷ only 199 (tried_for 111 0 23)
+    ∷ only 200 (block_send 80 1 is_context_class 24)
+    ∷ only 201 (block_send 81 0 is_block_class 25)
+    ∷ only 202 (block_send 81 1 is_block_class 26)
+    ∷ from_to 203 207 (λ i. special_send (27 + i))
+    ∷ from_to 208 223 (λ i. send_literal i 0)
+    ∷ from_to 224 239 (λ i. send_literal i 1)
+    ∷ from_to 240 255 (λ i. send_literal i 2)
     ∷ []
 
 -- the range has the byte

@@ -171,12 +171,6 @@ back_with context v = do
   back context
   push v
 
--- returnValue:to: (chapter 28). cannotReturn: is sent where the context is nil or has ended; sends aren't built yet
-unfoldable pub return_to : Value → Value → Rule (Unit {0})
-return_to context v = pick (is_nil context) unbuilt (do
-  ip ← part Shape (field 0 INSTRUCTION_POINTER_INDEX) context
-  pick (is_nil ip) unbuilt (back_with context v))
-
 -- ---- start and park
 
 -- activeProcess (chapter 29), with no process switch waiting: the scheduler is the value of the scheduler's association

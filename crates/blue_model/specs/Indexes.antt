@@ -59,6 +59,57 @@ EMPTY_STACK = 5
 abbrev pub FULL_STACK : ℕ
 FULL_STACK = 16388
 
+-- the two sizes of a method context
+abbrev pub SMALL_CONTEXT_SIZE : ℕ
+SMALL_CONTEXT_SIZE = 18
+
+abbrev pub LARGE_CONTEXT_SIZE : ℕ
+LARGE_CONTEXT_SIZE = 38
+
+-- ---- streams
+
+abbrev pub STREAM_ARRAY_INDEX : ℕ
+STREAM_ARRAY_INDEX = 0
+
+abbrev pub STREAM_INDEX_INDEX : ℕ
+STREAM_INDEX_INDEX = 1
+
+abbrev pub STREAM_READ_LIMIT_INDEX : ℕ
+STREAM_READ_LIMIT_INDEX = 2
+
+abbrev pub STREAM_WRITE_LIMIT_INDEX : ℕ
+STREAM_WRITE_LIMIT_INDEX = 3
+
+abbrev pub STREAM_SIZE : ℕ
+STREAM_SIZE = 4
+
+-- ---- points and characters
+
+abbrev pub X_INDEX : ℕ
+X_INDEX = 0
+
+abbrev pub Y_INDEX : ℕ
+Y_INDEX = 1
+
+abbrev pub POINT_SIZE : ℕ
+POINT_SIZE = 2
+
+abbrev pub CHARACTER_VALUE_INDEX : ℕ
+CHARACTER_VALUE_INDEX = 0
+
+-- ---- messages
+
+abbrev pub MESSAGE_SELECTOR_INDEX : ℕ
+MESSAGE_SELECTOR_INDEX = 0
+
+abbrev pub MESSAGE_ARGUMENTS_INDEX : ℕ
+MESSAGE_ARGUMENTS_INDEX = 1
+
+abbrev pub MESSAGE_SIZE : ℕ
+MESSAGE_SIZE = 2
+
+-- ---- code
+
 -- the highest number of a byte of code, behind which an instruction pointer can be stated by a SmallInteger
 abbrev pub LAST_BYTE : ℕ
 LAST_BYTE = 16381
@@ -70,6 +121,9 @@ SUPERCLASS_INDEX = 0
 
 abbrev pub METHOD_DICTIONARY_INDEX : ℕ
 METHOD_DICTIONARY_INDEX = 1
+
+abbrev pub INSTANCE_SPECIFICATION_INDEX : ℕ
+INSTANCE_SPECIFICATION_INDEX = 2
 
 abbrev pub CLASS_SIZE : ℕ
 CLASS_SIZE = 3

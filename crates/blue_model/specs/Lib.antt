@@ -4,6 +4,13 @@ pub mod Machine
 pub mod Parts
 pub mod Contexts
 pub mod Lookup
+pub mod ClassList
+pub mod Trials
+pub mod Arithmetic
+pub mod Elements
+pub mod Storage
+pub mod Primitives
+pub mod Sends
 pub mod Bytecodes
 pub mod Cycle
 pub mod Law

@@ -1,10 +1,12 @@
 -- The machine of chapters 26 to 30 over one unbounded memory of long names, and rules that take it on.
-use Rattle.std.specs.Prelude.{zero, suc, ℕ, pos, Bool, true, false, ◌&&◌, nat_lt, List, [], ◌∷◌, ◌++◌, Option, Some, None, is_some, if◌then◌else◌}
+use Rattle.std.specs.Prelude.{zero, suc, ℕ, pos, Bool, true, false, ◌&&◌, nat_lt, List, [], ◌∷◌, ◌++◌, Option, Some, None, is_some, slice_get, if◌then◌else◌}
+use Rattle.std.specs.Option.{option_and_then}
 use Rattle.long_names.specs.declared.value.Value.{Value}
 use Rattle.long_names.specs.declared.value.Value.TheVariants.{Int, Ref}
+use Rattle.long_names.specs.declared.object.Body.{Body}
 use Rattle.long_names.specs.declared.object.Object.{Object}
 use Rattle.long_names.specs.Names.{NIL, LAST_NAME}
-use Rattle.long_names.specs.Objects.{Making, body_made, with_field, field_of, text_of}
+use Rattle.long_names.specs.Objects.{Making, body_made, with_field, with_words, with_bytes, field_of, words_of, bytes_of, text_of}
 use Rattle.long_names.specs.Heap.{Heap, add_object}
 use Rattle.long_names.specs.State.{set_register, set_slot, object_at, name_at, class_at, part_at}
 use Rattle.long_names.specs.Access.{with_body}
@@ -182,6 +184,18 @@ stored m v i w (Some old) true = Go tt (record m { heap = with_body m.heap v (λ
 unfoldable pub store : Value → ℕ → Value → Rule (Unit {0})
 store v i w m = stored m v i w (part_at m.heap v (λ b. field_of b i)) (is_there m.heap w)
 
+abbrev pub changed : Machine → Value → (Body → Body) → Bool → Outcome (Unit {0})
+changed m v change true = Go tt (record m { heap = with_body m.heap v change }) (rows_at m v)
+changed m v change false = Halt Shape (rows_at m v)
+
+-- storeWord:ofObject:withValue: (chapter 30)
+unfoldable pub store_word : Value → ℕ → ℕ → Rule (Unit {0})
+store_word v i word m = changed m v (λ b. with_words b i (word ∷ [])) (is_some (part_at m.heap v (λ b. option_and_then (λ (words : List ℕ). slice_get words i) (words_of b))))
+
+-- storeByte:ofObject:withValue: (chapter 30), of code too
+unfoldable pub store_byte : Value → ℕ → ℕ → Rule (Unit {0})
+store_byte v i byte m = changed m v (λ b. with_bytes b i (byte ∷ [])) (is_some (part_at m.heap v (λ b. option_and_then (λ (bytes : List ℕ). slice_get bytes i) (bytes_of b))))
+
 abbrev pub object_made : Value → Making → Object
 object_made class what = record { class = name_at class; body = body_made what }
 
@@ -227,3 +241,8 @@ say v m = spoken m v (part_at m.heap v text_of)
 unfoldable pub times : ℕ → Rule (Unit {0}) → Rule (Unit {0})
 times zero p = done tt
 times (suc n) p = times n p >> p
+
+-- a rule for each number below n, in order
+unfoldable pub each : (ℕ → Rule (Unit {0})) → ℕ → Rule (Unit {0})
+each p zero = done tt
+each p (suc n) = each p n >> p n

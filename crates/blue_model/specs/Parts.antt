@@ -5,7 +5,7 @@ use Rattle.long_names.specs.declared.value.Value.{Value}
 use Rattle.long_names.specs.declared.value.Value.TheVariants.{Int, Ref}
 use Rattle.long_names.specs.declared.object.Object.{Object}
 use Rattle.long_names.specs.Names.{NIL}
-use Rattle.long_names.specs.Objects.{int_of, is_ref, pointers_of, literals_of, bytes_of}
+use Rattle.long_names.specs.Objects.{int_of, is_ref, header_of, pointers_of, literals_of, bytes_of}
 use Rattle.blue_model.specs.Indexes.{METHOD_INDEX, HOME_INDEX, TEMP_FRAME_START, LAST_BYTE}
 
 -- ---- values
@@ -61,6 +61,10 @@ code_by (Some bytes) literals = Some (record { literals = length literals; bytes
 
 unfoldable pub code_of : Object → Option Code
 code_of o = option_and_then (code_by (bytes_of o.body)) (literals_of o.body)
+
+-- the header of a method
+unfoldable pub heading : Object → Option ℤ
+heading o = header_of o.body
 
 -- literal i of a method
 unfoldable pub literal : ℕ → Object → Option Value

@@ -13,9 +13,13 @@
 //! primitives and processes aren't there yet: such a bytecode comes to `Unbuilt`.
 #![tactic(auto)]
 
+mod answer;
 mod cause;
 mod cpu;
 pub mod laws;
+mod spot;
 
+pub use answer::Answer;
 pub use cause::Cause;
 pub use cpu::Cpu;
+pub use spot::Spot;

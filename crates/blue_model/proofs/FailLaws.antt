@@ -1,0 +1,346 @@
+-- A primitive that fails has changed nothing.
+use Rattle.std.proofs.Common.{◌≡◌, ℕ, ℤ, Bool, true, false, List, [], ◌∷◌, ◌++◌, Option, Some, None, refl, sym, ◌∙◌, ap, subst}
+use Rattle.long_names.specs.declared.value.Value.{Value}
+use Rattle.long_names.specs.declared.value.Value.TheVariants.{Int, Ref}
+use Rattle.long_names.specs.declared.object.Object.{Object}
+use Rattle.long_names.specs.State.{class_at, name_at}
+use Rattle.blue_model.specs.declared.answer.Answer.{Answer}
+use Rattle.blue_model.specs.declared.answer.Answer.TheVariants.{Done, Failed}
+use Rattle.blue_model.specs.declared.cause.Cause.{Cause}
+use Rattle.blue_model.specs.declared.cause.Cause.TheVariants.{Shape}
+use Rattle.blue_model.specs.declared.cpu.Cpu.{Cpu}
+use Rattle.blue_model.specs.declared.spot.Spot.{Spot}
+use Rattle.blue_model.specs.declared.spot.Spot.TheVariants.{Field, Word, Byte}
+use Rattle.blue_model.specs.Machine.{Machine, LogRow, Outcome, Go, Halt, Spent, Unbuilt, Rule, after, then_do, ◌>>=◌, done, halt, unbuilt, given, pick, register, numbers, row_of, rows_at, look, part, known, classed, class_of, store, store_word, store_byte, make}
+use Rattle.blue_model.specs.Contexts.{stack, store_field}
+use Rattle.blue_model.specs.Trials.{failed, where_some, where_true, ◌>>?◌, peek, answer, boolean, Primitive, with_arguments, primitive_in}
+use Rattle.blue_model.specs.Arithmetic.{of_numbers, arithmetic, comparison, point, integer_primitives}
+use Rattle.blue_model.specs.Elements.{index_argument, number_object, specification_of, fixed_of, spot_at, element_of, element_at, put_element, character_of, byte_of_value, byte_of_character}
+use Rattle.blue_model.specs.Storage.{at, at_put, size_of, string_at, string_at_put, streamed_by, streamed, of_stream, next_spot, advance, streamed_element, next, put_streamed, next_put, at_end, method_object, object_at_index, object_at_put, new, new_with_size, new_method, instance_variable_at, instance_variable_at_put, hash, equivalent, class, object_primitives}
+use Rattle.blue_model.specs.Primitives.{is_unbuilt, primitive}
+use Rattle.blue_model.proofs.ClassLaws.{Answers, answers_then, answers_done, answers_halt, answers_look}
+
+-- ---- rules that only look, whatever they answer
+
+record Looks (m : Machine) {A : Type 0} (p : Rule A) : Type 0 where
+  looks : Answers m (λ a. Unit {0}) p
+
+looks_then : {m : Machine} {A B : Type 0} {p : Rule A} (k : A → Rule B) → Looks m p → ((a : A) → Looks m (k a)) → Looks m (p >>= k)
+looks_then k first f = record { looks = answers_then k first.looks (λ a u. (f a).looks) }
+
+looks_done : {m : Machine} {A : Type 0} (a : A) → Looks m (done a)
+looks_done a = record { looks = answers_done a tt }
+
+looks_halt : {m : Machine} {A : Type 0} (c : Cause) → Looks m {A = A} (halt c)
+looks_halt c = record { looks = answers_halt c }
+
+looks_pick : {m : Machine} {A : Type 0} (b : Bool) (p q : Rule A) → Looks m p → Looks m q → Looks m (pick b p q)
+unfolding pick
+looks_pick true p q f g = f
+looks_pick false p q f g = g
+
+looks_look : {m : Machine} (v : Value) → Looks m (look v)
+looks_look {m} v = record { looks = record { told = λ a s log e. (((answers_look {m = m} v).told a s log e).0, tt) } }
+
+looks_given : {m : Machine} {A : Type 0} (c : Cause) (x : Option A) → Looks m (given c x)
+unfolding given
+looks_given c None = looks_halt c
+looks_given c (Some a) = looks_done a
+
+looks_part : {m : Machine} {A : Type 0} (c : Cause) (f : Object → Option A) (v : Value) → Looks m (part c f v)
+unfolding part
+looks_part c f v = looks_then _ (looks_look v) (λ o. looks_given c (f o))
+
+looks_known : {m : Machine} (n : ℕ) → Looks m (known n)
+unfolding known
+looks_known n = looks_then _ (looks_look (Ref n)) (λ o. looks_done (Ref n))
+
+looks_peek : {m : Machine} {A : Type 0} (f : Object → Option A) (v : Value) → Looks m (peek f v)
+unfolding peek
+looks_peek f (Int z) = looks_done None
+looks_peek f (Ref n) = looks_then _ (looks_look (Ref n)) (λ o. looks_done (f o))
+
+looks_register : {m : Machine} (r : ℕ) → Looks m (register r)
+unfolding register
+looks_register {m} r = record { looks = record { told = λ a s log e. let same : m ≡ s = cc in (sym same, tt) } }
+
+looks_numbers : {m : Machine} → Looks m numbers
+unfolding numbers
+looks_numbers {m} = record { looks = record { told = λ a s log e. let same : m ≡ s = cc in (sym same, tt) } }
+
+looks_class_of : {m : Machine} (v : Value) → Looks m (class_of v)
+unfolding class_of
+looks_class_of {m} v = record { looks = record { told = λ a s log e. go (class_at m.heap v) a s log e } }
+  where
+    go : (x : Option ℕ) (a : Value) (s : Machine) (log : List LogRow) → classed m v x ≡ Go a s log → (s ≡ m) × Unit {0}
+    go None a s log e = let no : ◌≡◌ {A = Outcome Value} (Halt Shape (row_of m (name_at v) ∷ [])) (Go a s log) = e in absurd (cc)
+    go (Some n) a s log e = let same : m ≡ s = cc in (sym same, tt)
+
+ruleset looking = (looks_then, looks_pick, looks_done, looks_halt, looks_look, looks_given, looks_part, looks_known, looks_peek, looks_register, looks_numbers, looks_class_of)
+
+looks-stack : {m : Machine} (depth : ℕ) → Looks m (stack depth)
+unfolding stack
+looks-stack {m} depth = search looking depth 12
+
+looks-index_argument : {m : Machine} (v : Value) → Looks m (index_argument v)
+unfolding index_argument
+looks-index_argument (Int z) = looks_done (Some z)
+looks-index_argument (Ref n) = looks_peek _ (Ref n)
+
+looks-specification_of : {m : Machine} (v : Value) → Looks m (specification_of v)
+unfolding specification_of
+looks-specification_of v = looks_peek _ v
+
+looks-fixed_of : {m : Machine} (v : Value) → Looks m (fixed_of v)
+unfolding fixed_of
+looks-fixed_of {m} v = search (looking, looks-specification_of) depth 12
+
+looks-spot_at : {m : Machine} (v : Value) (e : Option ℕ) → Looks m (spot_at v e)
+looks-spot_at v None = looks_done None
+looks-spot_at v (Some e) = looks_peek _ v
+
+looks-element_of : {m : Machine} (v : Value) (i : ℤ) → Looks m (element_of v i)
+unfolding element_of
+looks-element_of {m} v i = search (looking, looks-fixed_of, looks-spot_at) depth 12
+
+looks-character_of : {m : Machine} (byte : ℕ) → Looks m (character_of byte)
+unfolding character_of
+looks-character_of {m} byte = search looking depth 12
+
+looks-byte_of_character : {m : Machine} (v : Value) → Looks m (byte_of_character v)
+unfolding byte_of_character
+looks-byte_of_character {m} v = search looking depth 12
+
+looks-streamed : {m : Machine} (v : Value) → Looks m (streamed v)
+unfolding streamed streamed_by
+looks-streamed {m} v = search looking depth 14
+
+ruleset places = (looks-stack, looks-index_argument, looks-specification_of, looks-fixed_of, looks-element_of, looks-character_of, looks-byte_of_character, looks-streamed)
+
+-- ---- rules that never fail
+
+record NeverFails (p : Rule Answer) : Type 0 where
+  never : (m s : Machine) (log : List LogRow) → p m ≡ Go Failed s log → ⊥
+
+never_then : {A : Type 0} (p : Rule A) (k : A → Rule Answer) → ((a : A) → NeverFails (k a)) → NeverFails (p >>= k)
+unfolding ◌>>=◌
+never_then {A} p k f = record { never = λ m s log e. go (p m) s log e }
+  where
+    go : (o : Outcome A) (s : Machine) (log : List LogRow) → then_do o k ≡ Go Failed s log → ⊥
+    go (Go a n rows) s log e = next (k a n) refl e
+      where
+        next : (o : Outcome Answer) → k a n ≡ o → after rows o ≡ Go Failed s log → ⊥
+        next (Go b t lines) h i = let same : b ≡ Failed = cc in (f a).never n t lines (h ∙ ap (λ x. Go x t lines) same)
+        next (Halt c lines) h i = let no : ◌≡◌ {A = Outcome Answer} (Halt c (rows ++ lines)) (Go Failed s log) = i in absurd (cc)
+        next (Spent lines) h i = let no : ◌≡◌ {A = Outcome Answer} (Spent (rows ++ lines)) (Go Failed s log) = i in absurd (cc)
+        next (Unbuilt lines) h i = let no : ◌≡◌ {A = Outcome Answer} (Unbuilt (rows ++ lines)) (Go Failed s log) = i in absurd (cc)
+    go (Halt c rows) s log e = let no : ◌≡◌ {A = Outcome Answer} (Halt c rows) (Go Failed s log) = e in absurd (cc)
+    go (Spent rows) s log e = let no : ◌≡◌ {A = Outcome Answer} (Spent rows) (Go Failed s log) = e in absurd (cc)
+    go (Unbuilt rows) s log e = let no : ◌≡◌ {A = Outcome Answer} (Unbuilt rows) (Go Failed s log) = e in absurd (cc)
+
+never_done : NeverFails (done Done)
+unfolding done
+never_done = record { never = λ m s log e. let no : ◌≡◌ {A = Answer} Done Failed = cc in absurd (cc) }
+
+never-answer : (n : ℕ) (v : Value) → NeverFails (answer n v)
+unfolding answer
+never-answer n v = never_then _ _ (λ a. never_then _ _ (λ b. never_done))
+
+-- ---- rules that change nothing where they fail
+
+record FailsClean (m : Machine) (p : Rule Answer) : Type 0 where
+  clean : (s : Machine) (log : List LogRow) → p m ≡ Go Failed s log → s ≡ m
+
+clean_never : {m : Machine} {p : Rule Answer} → NeverFails p → FailsClean m p
+clean_never {m} {p} f = record { clean = λ s log e. absurd (f.never m s log e) }
+
+clean_failed : {m : Machine} → FailsClean m failed
+unfolding failed done
+clean_failed {m} = record { clean = λ s log e. let same : m ≡ s = cc in sym same }
+
+clean_unbuilt : {m : Machine} → FailsClean m unbuilt
+unfolding unbuilt
+clean_unbuilt {m} = record { clean = λ s log e. let no : ◌≡◌ {A = Outcome Answer} (Unbuilt []) (Go Failed s log) = e in absurd (cc) }
+
+clean_then : {m : Machine} {A : Type 0} {p : Rule A} (k : A → Rule Answer) → Looks m p → ((a : A) → FailsClean m (k a)) → FailsClean m (p >>= k)
+unfolding ◌>>=◌
+clean_then {m} {A} {p} k first f = record { clean = λ s log e. go (p m) refl s log e }
+  where
+    go : (o : Outcome A) → p m ≡ o → (s : Machine) (log : List LogRow) → then_do o k ≡ Go Failed s log → s ≡ m
+    go (Go a n rows) e s log g = next (k a m) refl (subst (λ x. after rows (k a x) ≡ Go Failed s log) (first.looks.told a n rows e).0 g)
+      where
+        next : (o : Outcome Answer) → k a m ≡ o → after rows o ≡ Go Failed s log → s ≡ m
+        next (Go b t lines) h i =
+            let same : b ≡ Failed = cc in
+            let left : t ≡ s = cc in
+            sym left ∙ (f a).clean t lines (h ∙ ap (λ x. Go x t lines) same)
+        next (Halt c lines) h i = let no : ◌≡◌ {A = Outcome Answer} (Halt c (rows ++ lines)) (Go Failed s log) = i in absurd (cc)
+        next (Spent lines) h i = let no : ◌≡◌ {A = Outcome Answer} (Spent (rows ++ lines)) (Go Failed s log) = i in absurd (cc)
+        next (Unbuilt lines) h i = let no : ◌≡◌ {A = Outcome Answer} (Unbuilt (rows ++ lines)) (Go Failed s log) = i in absurd (cc)
+    go (Halt c rows) e s log g = let no : ◌≡◌ {A = Outcome Answer} (Halt c rows) (Go Failed s log) = g in absurd (cc)
+    go (Spent rows) e s log g = let no : ◌≡◌ {A = Outcome Answer} (Spent rows) (Go Failed s log) = g in absurd (cc)
+    go (Unbuilt rows) e s log g = let no : ◌≡◌ {A = Outcome Answer} (Unbuilt rows) (Go Failed s log) = g in absurd (cc)
+
+clean_pick : {m : Machine} (b : Bool) (p q : Rule Answer) → FailsClean m p → FailsClean m q → FailsClean m (pick b p q)
+unfolding pick
+clean_pick true p q f g = f
+clean_pick false p q f g = g
+
+clean_where_true : {m : Machine} (b : Bool) (p : Rule Answer) → FailsClean m p → FailsClean m (where_true b p)
+unfolding where_true
+clean_where_true b p f = clean_pick b p failed f clean_failed
+
+clean_where_some : {m : Machine} {A : Type 0} (o : Option A) (k : A → Rule Answer) → ((a : A) → FailsClean m (k a)) → FailsClean m (where_some o k)
+unfolding where_some
+clean_where_some None k f = clean_failed
+clean_where_some (Some a) k f = f a
+
+clean_try : {m : Machine} {A : Type 0} {p : Rule (Option A)} (k : A → Rule Answer) → Looks m p → ((a : A) → FailsClean m (k a)) → FailsClean m (p >>? k)
+unfolding ◌>>?◌
+clean_try k first f = clean_then _ first (λ o. clean_where_some o k f)
+
+-- a rule that ends in an answer
+clean_end : {m : Machine} {A : Type 0} (p : Rule A) (k : A → Rule Answer) → ((a : A) → NeverFails (k a)) → FailsClean m (p >>= k)
+clean_end p k f = clean_never (never_then p k f)
+
+clean-answer : {m : Machine} (n : ℕ) (v : Value) → FailsClean m (answer n v)
+clean-answer n v = clean_never (never-answer n v)
+
+clean-put_element : {m : Machine} (v : Value) (spot : Spot) (x : Value) (rest : Rule Answer) → NeverFails rest → FailsClean m (put_element v spot x rest)
+clean-put_element v (Field i) x rest f = clean_end _ _ (λ _. f)
+clean-put_element v (Word i) x rest f = clean_try _ (looks-index_argument x) (λ z. clean_where_some _ _ (λ n. clean_end _ _ (λ _. f)))
+clean-put_element v (Byte i) x rest f = clean_where_some _ _ (λ n. clean_end _ _ (λ _. f))
+
+ruleset cleanly = (clean_try, clean_where_true, clean_where_some, clean_failed, clean-answer, clean-put_element, clean_end, clean_then, clean_pick, never_then, never-answer, never_done)
+
+-- ---- the primitives
+
+clean-of_numbers : {m : Machine} (p : ℤ → ℤ → Rule Answer) → ((a b : ℤ) → FailsClean m (p a b)) → FailsClean m (of_numbers p)
+unfolding of_numbers
+clean-of_numbers {m} p f = clean_then _ (looks-stack 1) (λ receiver. clean_then _ (looks-stack 0) (λ argument. clean_where_some _ _ (λ a. clean_where_some _ _ (λ b. f a b))))
+
+clean-arithmetic : {m : Machine} (f : ℤ → ℤ → Option ℤ) → FailsClean m (arithmetic f)
+unfolding arithmetic
+clean-arithmetic {m} f = clean-of_numbers _ (λ a b. clean_where_some _ _ (λ z. clean-answer 1 (Int z)))
+
+clean-comparison : {m : Machine} (f : ℤ → ℤ → Bool) → FailsClean m (comparison f)
+unfolding comparison
+clean-comparison {m} f = clean-of_numbers _ (λ a b. clean_end _ _ (λ v. never-answer 1 v))
+
+clean-point : {m : Machine} → FailsClean m point
+unfolding point
+clean-point {m} = clean-of_numbers _ (λ a b. clean_end _ _ (λ v. never-answer 1 v))
+
+clean-at : {m : Machine} → FailsClean m at
+unfolding at
+clean-at {m} = search (cleanly, places) depth 20
+
+clean-at_put : {m : Machine} → FailsClean m at_put
+unfolding at_put
+clean-at_put {m} = search (cleanly, places) depth 20
+
+clean-size_of : {m : Machine} → FailsClean m size_of
+unfolding size_of
+clean-size_of {m} = search (cleanly, looks_peek, places) depth 20
+
+clean-string_at : {m : Machine} → FailsClean m string_at
+unfolding string_at
+clean-string_at {m} = search (cleanly, looks_peek, places) depth 20
+
+clean-string_at_put : {m : Machine} → FailsClean m string_at_put
+unfolding string_at_put
+clean-string_at_put {m} = search (cleanly, looks_peek, places) depth 24
+
+clean-of_stream : {m : Machine} (limit : ℕ) (stream : Value) (p : Value → Bool → ℕ → ℤ → Rule Answer) → ((array : Value) (text : Bool) (index : ℕ) (bound : ℤ) → FailsClean m (p array text index bound)) → FailsClean m (of_stream limit stream p)
+unfolding of_stream
+clean-of_stream {m} limit stream p f = clean_try _ (looks_peek _ stream) (λ array. clean_try _ (looks-streamed array) (λ text. clean_try _ (looks_peek _ stream) (λ z. clean_try _ (looks_peek _ stream) (λ bound. clean_where_some _ _ (λ index. f array text index bound)))))
+
+clean-next_spot : {m : Machine} (array : Value) (index : ℕ) (bound : ℤ) (p : Spot → Rule Answer) → ((spot : Spot) → FailsClean m (p spot)) → FailsClean m (next_spot array index bound p)
+unfolding next_spot
+clean-next_spot {m} array index bound p f = clean_where_true _ _ (clean_try _ (looks-element_of array _) (λ spot. clean_where_true _ _ (f spot)))
+
+clean-streamed_element : {m : Machine} (array : Value) (text : Bool) (spot : Spot) (p : Value → Rule Answer) → ((v : Value) → NeverFails (p v)) → FailsClean m (streamed_element array text spot p)
+unfolding streamed_element
+clean-streamed_element {m} array text spot p f = clean_pick text _ _ (clean_try _ (looks_peek _ array) (λ byte. clean_try _ (looks-character_of byte) (λ v. clean_never (f v)))) (clean_end _ _ f)
+
+clean-next : {m : Machine} → FailsClean m next
+unfolding next
+clean-next {m} = clean_then _ (looks-stack 0) (λ stream. clean-of_stream _ stream _ (λ array text index bound. clean-next_spot array index bound _ (λ spot. clean-streamed_element array text spot _ (λ v. never_then _ _ (λ _. never-answer 0 v)))))
+
+clean-put_streamed : {m : Machine} (array : Value) (text : Bool) (spot : Spot) (v : Value) (rest : Rule Answer) → NeverFails rest → FailsClean m (put_streamed array text spot v rest)
+unfolding put_streamed
+clean-put_streamed {m} array text spot v rest f = clean_pick text _ _ (clean_try _ (looks-byte_of_character v) (λ byte. clean-put_element array spot _ rest f)) (clean-put_element array spot v rest f)
+
+clean-next_put : {m : Machine} → FailsClean m next_put
+unfolding next_put
+clean-next_put {m} = clean_then _ (looks-stack 1) (λ stream. clean_then _ (looks-stack 0) (λ v. clean-of_stream _ stream _ (λ array text index bound. clean-next_spot array index bound _ (λ spot. clean-put_streamed array text spot v _ (never_then _ _ (λ _. never-answer 1 v))))))
+
+clean-at_end : {m : Machine} → FailsClean m at_end
+unfolding at_end
+clean-at_end {m} = clean_then _ (looks-stack 0) (λ stream. clean-of_stream _ stream _ (λ array text index bound. clean_try _ (looks_peek _ array) (λ n. clean_end _ _ (λ v. never-answer 0 v))))
+
+clean-method_object : {m : Machine} (method : Value) (header : ℤ) (n : ℕ) → FailsClean m (method_object method header n)
+clean-method_object {m} method header n = clean_pick _ _ _ (clean-answer 1 (Int header)) (clean_where_true _ _ (clean_try _ (looks_peek _ method) (λ v. clean-answer 1 v)))
+
+clean-object_at_index : {m : Machine} → FailsClean m object_at_index
+unfolding object_at_index
+clean-object_at_index {m} = search (cleanly, looks_peek, places, clean-method_object) depth 24
+
+clean-object_at_put : {m : Machine} → FailsClean m object_at_put
+unfolding object_at_put
+clean-object_at_put {m} = search (cleanly, looks_peek, places) depth 24
+
+clean-new : {m : Machine} → FailsClean m new
+unfolding new
+clean-new {m} = search (cleanly, looks_peek, places) depth 24
+
+clean-new_with_size : {m : Machine} → FailsClean m new_with_size
+unfolding new_with_size
+clean-new_with_size {m} = search (cleanly, looks_peek, places) depth 24
+
+clean-new_method : {m : Machine} → FailsClean m new_method
+unfolding new_method
+clean-new_method {m} = search (cleanly, looks_peek, places) depth 24
+
+clean-instance_variable_at : {m : Machine} → FailsClean m instance_variable_at
+unfolding instance_variable_at
+clean-instance_variable_at {m} = search (cleanly, looks_peek, places) depth 24
+
+clean-instance_variable_at_put : {m : Machine} → FailsClean m instance_variable_at_put
+unfolding instance_variable_at_put
+clean-instance_variable_at_put {m} = search (cleanly, looks_peek, places) depth 24
+
+clean-hash : {m : Machine} → FailsClean m hash
+unfolding hash
+clean-hash {m} = search (cleanly, looks_peek, places) depth 16
+
+clean-equivalent : {m : Machine} → FailsClean m equivalent
+unfolding equivalent
+clean-equivalent {m} = search (cleanly, looks_peek, places) depth 16
+
+clean-class : {m : Machine} → FailsClean m class
+unfolding class
+clean-class {m} = search (cleanly, looks_peek, places) depth 16
+
+-- ---- the table
+
+AreClean : Machine → List Primitive → Type 0
+AreClean m [] = Unit {0}
+AreClean m (p ∷ ps) = FailsClean m p.rule × AreClean m ps
+
+clean-with_arguments : {m : Machine} (p : Primitive) → FailsClean m p.rule → FailsClean m (with_arguments p)
+unfolding with_arguments
+clean-with_arguments p f = clean_then _ looks_numbers (λ cpu. clean_where_true _ _ f)
+
+clean-primitive_in : {m : Machine} (ps : List Primitive) (index : ℕ) → AreClean m ps → FailsClean m (primitive_in ps index)
+unfolding AreClean
+clean-primitive_in [] index f = clean_failed
+clean-primitive_in (p ∷ ps) index f = clean_pick _ _ _ (clean-with_arguments p f.0) (clean-primitive_in ps index f.1)
+
+primitives_clean : (m : Machine) → AreClean m (integer_primitives ++ object_primitives)
+unfolding AreClean integer_primitives object_primitives
+primitives_clean m = search (clean-arithmetic, clean-comparison, clean-point, clean-at, clean-at_put, clean-size_of, clean-string_at, clean-string_at_put, clean-next, clean-next_put, clean-at_end, clean-object_at_index, clean-object_at_put, clean-new, clean-new_with_size, clean-new_method, clean-instance_variable_at, clean-instance_variable_at_put, clean-hash, clean-equivalent, clean-class) depth 80 fits 40000
+
+pub failed_changes_nothing : (index : ℕ) (m s : Machine) (log : List LogRow) → primitive index m ≡ Go Failed s log → s ≡ m
+unfolding primitive
+failed_changes_nothing index m s log e = (clean_pick (is_unbuilt index) unbuilt _ clean_unbuilt (clean-primitive_in {m = m} _ index (primitives_clean m))).clean s log e
