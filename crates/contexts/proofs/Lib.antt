@@ -1,11 +1,14 @@
 pub mod CacheLaws
+pub mod ClassLaws
 pub mod CodeLaws
 pub mod Frames
 pub mod LookupLaws
 pub mod MakeLaws
 pub mod PartLaws
+pub mod PeekLaws
 pub mod ReadLaws
 pub mod RegisterLaws
 pub mod ServesLaws
 pub mod Steps
 pub mod StoreLaws
+pub mod TrialLaws

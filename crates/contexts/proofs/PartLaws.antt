@@ -1,7 +1,7 @@
 -- What a rule takes out of an object, by the parts that a memory tells of it.
-use Rattle.std.proofs.Common.{◌≡◌, ℕ, ℤ, ◌<◌, ◌≤◌, nat_le, nat_lt, Bool, true, false, cond, List, length, Option, Some, None, Result, IsTrue, is_some, refl, sym, ◌∙◌, ap, arith}
-use borrow.Author.Tests.{leb-true, le-leb, ltb-true, ltb-false}
-use Rattle.std.proofs.lemmas.Option.{slice_get_past}
+use Rattle.std.proofs.Common.{◌≡◌, ℕ, ℤ, suc, ◌+◌, ◌-◌, ◌<◌, ◌≤◌, if◌then◌else◌, nat_le, nat_lt, Bool, true, false, cond, List, [], ◌∷◌, length, get_or, Option, Some, None, Result, IsTrue, is_some, refl, sym, ◌∙◌, ap, arith}
+use borrow.Author.Tests.{leb-true, le-leb, lt-ltb, ltb-true, ltb-false}
+use Rattle.std.proofs.lemmas.Option.{slice_get_past, slice_get-get_or}
 use Rattle.std.specs.List.{slice_get}
 use Rattle.std.specs.Option.{option_and_then, option_map}
 use Rattle.long_names.specs.declared.value.Value.{Value}
@@ -9,7 +9,7 @@ use Rattle.long_names.specs.declared.value.Value.TheVariants.{Int, Ref}
 use Rattle.long_names.specs.declared.object.Body.{Body}
 use Rattle.long_names.specs.declared.object.Body.TheVariants.{Pointers, Words, Bytes, Method}
 use Rattle.long_names.specs.declared.object.Object.{Object}
-use Rattle.long_names.specs.Objects.{int_of, field_of, pointers_of, literals_of, bytes_of}
+use Rattle.long_names.specs.Objects.{int_of, field_of, pointers_of, literals_of, header_of, bytes_of}
 use Rattle.long_names.specs.Heap.{Heap}
 use Rattle.long_names.specs.State.{object_at, part_at, HasPart}
 use Rattle.object_memory.specs.Told.{Told}
@@ -19,7 +19,8 @@ use Rattle.blue_model.specs.declared.cause.Cause.TheVariants.{Shape}
 use Rattle.blue_model.specs.declared.cpu.Cpu.{Cpu}
 use Rattle.blue_model.specs.Machine.{◌>>=◌, given, part}
 use Rattle.blue_model.specs.Indexes.{METHOD_INDEX, HOME_INDEX, TEMP_FRAME_START}
-use Rattle.blue_model.specs.Parts.{at_least, shaped, size, field, number, home_by, home_in, home_of, code_by, code_of, literal}
+use Rattle.blue_model.specs.Parts.{at_least, shaped, size, field, number, heading, home_by, home_in, home_of, code_by, code_of, literal}
+use Rattle.blue_model.specs.Sends.{last_literal, literal_before_last, extension}
 use Rattle.contexts.specs.declared.stop.Stop.{Stop}
 use Rattle.contexts.specs.Serves.{Serves}
 use Rattle.contexts.proofs.ReadLaws.{part_steps}
@@ -109,14 +110,14 @@ no_value : (h : Heap) (v : Value) (n i : ℕ) → n ≤ i → (x : HasFields h v
 no_value h v n i past x = let high : length x.values ≤ i = omega (arith, x.count) in slice_get_past x.values i high
 
 -- What a rule takes of a list at an index is nothing where the list or the index is lacking.
-lacking : {A : Type 0} (h : Heap) (v : Value) (i : ℕ) (list : Body → Option (List Value)) (g : Option (List Value) → Option A) → g None ≡ None → ((xs : List Value) → length xs ≤ i → g (Some xs) ≡ None) → (HasPart h v list (λ xs. i < length xs) → ⊥) → option_and_then (λ (o : Object). g (list o.body)) (object_at h v) ≡ None
-lacking {A} h v i list g none past lack = go (object_at h v) refl
+lacking : {A X : Type 0} (h : Heap) (v : Value) (i : ℕ) (list : Body → Option (List X)) (g : Option (List X) → Option A) → g None ≡ None → ((xs : List X) → length xs ≤ i → g (Some xs) ≡ None) → (HasPart h v list (λ xs. i < length xs) → ⊥) → option_and_then (λ (o : Object). g (list o.body)) (object_at h v) ≡ None
+lacking {A} {X} h v i list g none past lack = go (object_at h v) refl
   where
-    at_index : (xs : List Value) → part_at h v list ≡ Some xs → (b : Bool) → nat_lt i (length xs) ≡ b → g (Some xs) ≡ None
+    at_index : (xs : List X) → part_at h v list ≡ Some xs → (b : Bool) → nat_lt i (length xs) ≡ b → g (Some xs) ≡ None
     at_index xs e true low = absurd (lack (xs, e, ltb-true i (length xs) low))
     at_index xs e false high = past xs (ltb-false i (length xs) high)
 
-    of_list : (x : Option (List Value)) → part_at h v list ≡ x → g x ≡ None
+    of_list : (x : Option (List X)) → part_at h v list ≡ x → g x ≡ None
     of_list None e = none
     of_list (Some xs) e = at_index xs e (nat_lt i (length xs)) refl
 
@@ -127,6 +128,35 @@ lacking {A} h v i list g none past lack = go (object_at h v) refl
 -- a test that wasn't passed
 not_passed : {A : Type 0} {t : Told} {r : ℕ} {f : Body → Option A} {P : A → Type 0} {answer : Bool} → IsTestAt t r f P answer → answer ≡ false → IsTrue t.tells → HasPart t.heap (t.regs r) f P → ⊥
 not_passed {A} {t} {r} {f} {P} {answer} test is told has = let yes = (test.there told).1 has in let no : ◌≡◌ {A = Bool} true false = sym yes ∙ is in absurd (cc)
+
+-- an element of a list that was tested to have it,
+pub element_there : {t : Told} {r : ℕ} (list : Body → Option (List ℕ)) (i : ℕ) → HasPartAt t r list (λ xs. i + 1 ≤ length xs) → IsTrue t.tells → (x : ℕ) × (part_at t.heap (t.regs r) (λ b. option_and_then (λ (xs : List ℕ). slice_get xs i) (list b)) ≡ Some x)
+element_there {t} {r} list i known told = there t.heap (t.regs r) (known.there told)
+  where
+    there : (h : Heap) (v : Value) → HasPart h v list (λ xs. i + 1 ≤ length xs) → (x : ℕ) × (part_at h v (λ b. option_and_then (λ (xs : List ℕ). slice_get xs i) (list b)) ≡ Some x)
+    there h v has = (get_or has.0 i 0, go (object_at h v) has.0 has.2 has.1)
+      where
+        go : (o : Option Object) (xs : List ℕ) → i + 1 ≤ length xs → option_and_then (λ (o : Object). list o.body) o ≡ Some xs → option_and_then (λ (o : Object). option_and_then (λ (xs : List ℕ). slice_get xs i) (list o.body)) o ≡ Some (get_or xs i 0)
+        go None xs low e = let no : ◌≡◌ {A = Option (List ℕ)} None (Some xs) = e in absurd (cc)
+        go (Some o) xs low e = ap (option_and_then (λ (xs : List ℕ). slice_get xs i)) e ∙ slice_get-get_or xs i 0 (omega arith)
+
+-- and one of a list that was tested to lack it
+pub element_none : {X : Type 0} {t : Told} {r : ℕ} {P : List X → Type 0} {answer : Bool} (list : Body → Option (List X)) (i : ℕ) → ((xs : List X) → i < length xs → P xs) → IsTestAt t r list P answer → answer ≡ false → IsTrue t.tells → part_at t.heap (t.regs r) (λ b. option_and_then (λ (xs : List X). slice_get xs i) (list b)) ≡ None
+element_none {X} {t} {r} {P} {answer} list i within test is told = lacking t.heap (t.regs r) i list (option_and_then (λ (xs : List X). slice_get xs i)) refl (λ xs past. slice_get_past xs i past) (λ has. not_passed test is told (has.0, has.1, within has.0 has.2))
+
+-- An object that was tested to have neither a value nor a literal i has no field i.
+pub value_none : {t : Told} {r : ℕ} {some other : Bool} (i : ℕ) → IsTestAt t r pointers_of (λ xs. i < length xs) some → some ≡ false → IsTestAt t r literals_of (λ xs. i < length xs) other → other ≡ false → IsTrue t.tells → part_at t.heap (t.regs r) (λ b. field_of b i) ≡ None
+value_none {t} {r} {some} {other} i values valueless literals without told = go (object_at t.heap (t.regs r)) (element_none pointers_of i (λ xs low. low) values valueless told) (element_none literals_of i (λ xs low. low) literals without told)
+  where
+    of_body : (b : Body) → option_and_then (λ (xs : List Value). slice_get xs i) (pointers_of b) ≡ None → option_and_then (λ (xs : List Value). slice_get xs i) (literals_of b) ≡ None → field_of b i ≡ None
+    of_body (Pointers values) e f = e
+    of_body (Words words) e f = refl
+    of_body (Bytes bytes) e f = refl
+    of_body (Method header literals code) e f = f
+
+    go : (x : Option Object) → option_and_then (λ (o : Object). option_and_then (λ (xs : List Value). slice_get xs i) (pointers_of o.body)) x ≡ None → option_and_then (λ (o : Object). option_and_then (λ (xs : List Value). slice_get xs i) (literals_of o.body)) x ≡ None → option_and_then (λ (o : Object). field_of o.body i) x ≡ None
+    go None e f = refl
+    go (Some o) e f = of_body o.body e f
 
 -- ---- sizes
 
@@ -268,3 +298,130 @@ code_none {t} {r} {found} is e told = go (object_at t.heap (t.regs r)) (is.there
     go : (x : Option Object) → option_and_then (λ (o : Object). literals_count o.body) x ≡ None → option_and_then (λ (o : Object). option_and_then (code_by (bytes_of o.body)) (literals_of o.body)) x ≡ None
     go None e = refl
     go (Some o) e = of_body o.body e
+
+-- A method's header is what a memory tells of it,
+pub heading_is : (t : Told) (r : ℕ) → IsTrue t.tells → option_and_then heading (object_at t.heap (t.regs r)) ≡ part_at t.heap (t.regs r) header_of
+unfolding heading
+heading_is t r told = refl
+
+-- and what is no method has none.
+pub heading_none : {t : Told} {r : ℕ} {found : Option ℕ} → IsPartAt t r literals_count found → found ≡ None → IsTrue t.tells → option_and_then heading (object_at t.heap (t.regs r)) ≡ None
+unfolding heading
+heading_none {t} {r} {found} is e told = go (object_at t.heap (t.regs r)) (is.there told ∙ e)
+  where
+    of_body : (b : Body) → literals_count b ≡ None → header_of b ≡ None
+    of_body (Pointers values) e = refl
+    of_body (Words words) e = refl
+    of_body (Bytes bytes) e = refl
+    of_body (Method header literals code) e = let no : ◌≡◌ {A = Option ℕ} (Some (length literals)) None = e in absurd (cc)
+
+    go : (x : Option Object) → option_and_then (λ (o : Object). literals_count o.body) x ≡ None → option_and_then (λ (o : Object). header_of o.body) x ≡ None
+    go None e = refl
+    go (Some o) e = of_body o.body e
+
+-- The last literals of a method are fields of it.
+pub last_is : {t : Told} {r : ℕ} {found : Option ℕ} (n : ℕ) → IsPartAt t r literals_count found → found ≡ Some n → IsTrue t.tells → option_and_then last_literal (object_at t.heap (t.regs r)) ≡ part_at t.heap (t.regs r) (λ b. field_of b (n - 1))
+unfolding last_literal
+last_is {t} {r} {found} n is e told = go (object_at t.heap (t.regs r)) (is.there told ∙ e)
+  where
+    of_body : (b : Body) → literals_count b ≡ Some n → option_and_then (λ (literals : List Value). slice_get literals (length literals - 1)) (literals_of b) ≡ field_of b (n - 1)
+    of_body (Pointers values) e = let no : ◌≡◌ {A = Option ℕ} None (Some n) = e in absurd (cc)
+    of_body (Words words) e = let no : ◌≡◌ {A = Option ℕ} None (Some n) = e in absurd (cc)
+    of_body (Bytes bytes) e = let no : ◌≡◌ {A = Option ℕ} None (Some n) = e in absurd (cc)
+    of_body (Method header literals code) e = let same : length literals ≡ n = cc in ap (λ k. slice_get literals (k - 1)) same
+
+    go : (x : Option Object) → option_and_then (λ (o : Object). literals_count o.body) x ≡ Some n → option_and_then (λ (o : Object). option_and_then (λ (literals : List Value). slice_get literals (length literals - 1)) (literals_of o.body)) x ≡ option_and_then (λ (o : Object). field_of o.body (n - 1)) x
+    go None e = let no : ◌≡◌ {A = Option ℕ} None (Some n) = e in absurd (cc)
+    go (Some o) e = of_body o.body e
+
+pub last_few : {t : Told} {r : ℕ} {found : Option ℕ} (n : ℕ) → IsPartAt t r literals_count found → found ≡ Some n → n < 1 → IsTrue t.tells → option_and_then last_literal (object_at t.heap (t.regs r)) ≡ None
+unfolding last_literal
+last_few {t} {r} {found} n is e few told = go (object_at t.heap (t.regs r)) (is.there told ∙ e)
+  where
+    none : (literals : List Value) → length literals ≡ n → slice_get literals (length literals - 1) ≡ None
+    none [] e = refl
+    none (v ∷ vs) e = let many : suc (length vs) ≡ n = e in absurd (omega arith)
+
+    of_body : (b : Body) → literals_count b ≡ Some n → option_and_then (λ (literals : List Value). slice_get literals (length literals - 1)) (literals_of b) ≡ None
+    of_body (Pointers values) e = refl
+    of_body (Words words) e = refl
+    of_body (Bytes bytes) e = refl
+    of_body (Method header literals code) e = let same : length literals ≡ n = cc in none literals same
+
+    go : (x : Option Object) → option_and_then (λ (o : Object). literals_count o.body) x ≡ Some n → option_and_then (λ (o : Object). option_and_then (λ (literals : List Value). slice_get literals (length literals - 1)) (literals_of o.body)) x ≡ None
+    go None e = refl
+    go (Some o) e = of_body o.body e
+
+pub last_none : {t : Told} {r : ℕ} {found : Option ℕ} → IsPartAt t r literals_count found → found ≡ None → IsTrue t.tells → option_and_then last_literal (object_at t.heap (t.regs r)) ≡ None
+unfolding last_literal
+last_none {t} {r} {found} is e told = go (object_at t.heap (t.regs r)) (is.there told ∙ e)
+  where
+    of_body : (b : Body) → literals_count b ≡ None → option_and_then (λ (literals : List Value). slice_get literals (length literals - 1)) (literals_of b) ≡ None
+    of_body (Pointers values) e = refl
+    of_body (Words words) e = refl
+    of_body (Bytes bytes) e = refl
+    of_body (Method header literals code) e = let no : ◌≡◌ {A = Option ℕ} (Some (length literals)) None = e in absurd (cc)
+
+    go : (x : Option Object) → option_and_then (λ (o : Object). literals_count o.body) x ≡ None → option_and_then (λ (o : Object). option_and_then (λ (literals : List Value). slice_get literals (length literals - 1)) (literals_of o.body)) x ≡ None
+    go None e = refl
+    go (Some o) e = of_body o.body e
+
+abbrev before_last : List Value → Option Value
+before_last literals = if nat_lt 1 (length literals) then slice_get literals (length literals - 2) else None
+
+pub before_last_is : {t : Told} {r : ℕ} {found : Option ℕ} (n : ℕ) → IsPartAt t r literals_count found → found ≡ Some n → 2 ≤ n → IsTrue t.tells → option_and_then literal_before_last (object_at t.heap (t.regs r)) ≡ part_at t.heap (t.regs r) (λ b. field_of b (n - 2))
+unfolding literal_before_last
+before_last_is {t} {r} {found} n is e many told = go (object_at t.heap (t.regs r)) (is.there told ∙ e)
+  where
+    some : (literals : List Value) → length literals ≡ n → before_last literals ≡ slice_get literals (n - 2)
+    some literals same =
+        let low : 1 < length literals = omega (arith, same, many) in
+        ap (λ b. cond b (slice_get literals (length literals - 2)) None) (lt-ltb 1 (length literals) low) ∙ ap (λ k. slice_get literals (k - 2)) same
+
+    of_body : (b : Body) → literals_count b ≡ Some n → option_and_then before_last (literals_of b) ≡ field_of b (n - 2)
+    of_body (Pointers values) e = let no : ◌≡◌ {A = Option ℕ} None (Some n) = e in absurd (cc)
+    of_body (Words words) e = let no : ◌≡◌ {A = Option ℕ} None (Some n) = e in absurd (cc)
+    of_body (Bytes bytes) e = let no : ◌≡◌ {A = Option ℕ} None (Some n) = e in absurd (cc)
+    of_body (Method header literals code) e = let same : length literals ≡ n = cc in some literals same
+
+    go : (x : Option Object) → option_and_then (λ (o : Object). literals_count o.body) x ≡ Some n → option_and_then (λ (o : Object). option_and_then before_last (literals_of o.body)) x ≡ option_and_then (λ (o : Object). field_of o.body (n - 2)) x
+    go None e = let no : ◌≡◌ {A = Option ℕ} None (Some n) = e in absurd (cc)
+    go (Some o) e = of_body o.body e
+
+pub before_last_few : {t : Told} {r : ℕ} {found : Option ℕ} (n : ℕ) → IsPartAt t r literals_count found → found ≡ Some n → n < 2 → IsTrue t.tells → option_and_then literal_before_last (object_at t.heap (t.regs r)) ≡ None
+unfolding literal_before_last
+before_last_few {t} {r} {found} n is e few told = go (object_at t.heap (t.regs r)) (is.there told ∙ e)
+  where
+    none : (literals : List Value) → length literals ≡ n → before_last literals ≡ None
+    none [] e = refl
+    none (v ∷ []) e = refl
+    none (v ∷ (w ∷ vs)) e = let many : suc (suc (length vs)) ≡ n = e in absurd (omega arith)
+
+    of_body : (b : Body) → literals_count b ≡ Some n → option_and_then before_last (literals_of b) ≡ None
+    of_body (Pointers values) e = refl
+    of_body (Words words) e = refl
+    of_body (Bytes bytes) e = refl
+    of_body (Method header literals code) e = let same : length literals ≡ n = cc in none literals same
+
+    go : (x : Option Object) → option_and_then (λ (o : Object). literals_count o.body) x ≡ Some n → option_and_then (λ (o : Object). option_and_then before_last (literals_of o.body)) x ≡ None
+    go None e = refl
+    go (Some o) e = of_body o.body e
+
+pub before_last_none : {t : Told} {r : ℕ} {found : Option ℕ} → IsPartAt t r literals_count found → found ≡ None → IsTrue t.tells → option_and_then literal_before_last (object_at t.heap (t.regs r)) ≡ None
+unfolding literal_before_last
+before_last_none {t} {r} {found} is e told = go (object_at t.heap (t.regs r)) (is.there told ∙ e)
+  where
+    of_body : (b : Body) → literals_count b ≡ None → option_and_then before_last (literals_of b) ≡ None
+    of_body (Pointers values) e = refl
+    of_body (Words words) e = refl
+    of_body (Bytes bytes) e = refl
+    of_body (Method header literals code) e = let no : ◌≡◌ {A = Option ℕ} (Some (length literals)) None = e in absurd (cc)
+
+    go : (x : Option Object) → option_and_then (λ (o : Object). literals_count o.body) x ≡ None → option_and_then (λ (o : Object). option_and_then before_last (literals_of o.body)) x ≡ None
+    go None e = refl
+    go (Some o) e = of_body o.body e
+
+-- A header extension is the number that the literal before the last is.
+pub extension_by : {old new : Told} {cpu now : Cpu} {answer : Result ℤ Stop} (v : Value) → Serves old cpu new now (part Shape literal_before_last v >>= (λ x. given Shape (int_of x))) answer → Serves old cpu new now (part Shape extension v) answer
+unfolding extension
+extension_by v s = part_steps Shape literal_before_last int_of v s

@@ -14,7 +14,7 @@ use Rattle.object_memory.proofs.LaterLaws.{SameBounds-refl, IsLater-refl, IsLate
 use Rattle.object_memory.proofs.LooksLaws.{below_among}
 use Rattle.blue_model.specs.declared.cause.Cause.{Cause}
 use Rattle.blue_model.specs.declared.cpu.Cpu.{Cpu}
-use Rattle.blue_model.specs.Machine.{Machine, MACHINE_REGISTERS, Outcome, Go, Halt, Spent, Unbuilt, Rule, then_do, ◌>>=◌, done, halt, unbuilt, given, pick, register, clear, numbers, set_numbers, times}
+use Rattle.blue_model.specs.Machine.{Machine, MACHINE_REGISTERS, Outcome, Go, Halt, Spent, Unbuilt, Rule, then_do, ◌>>=◌, done, halt, unbuilt, given, pick, register, clear, numbers, set_numbers, times, each}
 use Rattle.contexts.specs.declared.stop.Stop.{Stop}
 use Rattle.contexts.specs.declared.stop.Stop.TheVariants.{Stuck, NotBuilt}
 use Rattle.contexts.specs.Cache.{IsSound}
@@ -26,6 +26,10 @@ use Rattle.contexts.proofs.ServesLaws.{IsCounted-refl, IsCounted-trans, counts_t
 pub done_serves : {A : Type 0} {t : Told} {cpu : Cpu} {a : A} → IsReady t → Serves t cpu t cpu (done a) (Ok a)
 unfolding done
 done_serves {A} {t} {cpu} {a} r = record { later = IsLater-refl t; ready = r; reason = tt; counts = (0, IsCounted-refl t); silent = λ speaks. refl; model = λ told m st. (refl, st) }
+
+-- a register that was carried over later calls has the value
+pub done_same : {A : Type 0} {t : Told} {cpu : Cpu} {a b : A} → b ≡ a → IsReady t → Serves t cpu t cpu (done a) (Ok b)
+done_same {A} {t} {cpu} {a} {b} e ready = subst (λ x. Serves t cpu t cpu (done a) (Ok x)) (sym e) (done_serves ready)
 
 pub halt_serves : {A : Type 0} {t : Told} {cpu : Cpu} {c : Cause} → Serves {A = A} t cpu t cpu (halt c) (Err (Stuck c))
 unfolding halt
@@ -182,6 +186,23 @@ times_stop {old} {new} {cpu} {now} k (suc n) p {e} le s = go (nat_lt n k) refl (
     go : (b : Bool) → nat_lt n k ≡ b → (k ≤ n → Serves old cpu new now (times n p) (Err e)) → Serves old cpu new now (times (suc n) p) (Err e)
     go true f next = let above = ltb-true n k f in let same : k ≡ suc n = omega arith in subst (λ x. Serves old cpu new now (times x p) (Err e)) same s
     go false f next = serves_stop (λ _. p) (next (ltb-false n k f))
+
+pub each_none : {t : Told} {cpu : Cpu} (p : ℕ → Rule (Unit {0})) → IsReady t → Serves t cpu t cpu (each p 0) (Ok tt)
+unfolding each
+each_none p ready = done_serves ready
+
+pub each_more : {old mid new : Told} {cpu between now : Cpu} (p : ℕ → Rule (Unit {0})) (n : ℕ) {answer : Result (Unit {0}) Stop} → Serves old cpu mid between (each p n) (Ok tt) → Serves mid between new now (p n) answer → Serves old cpu new now (each p (n + 1)) answer
+unfolding each
+each_more {old} {mid} {new} {cpu} {between} {now} p n {answer} s f = subst (λ k. Serves old cpu new now (each p k) answer) (sym (add-one n)) (serves_then (λ _. p n) s f)
+
+pub each_stop : {old new : Told} {cpu now : Cpu} (p : ℕ → Rule (Unit {0})) (k n : ℕ) {e : Stop} → k ≤ n → Serves old cpu new now (each p k) (Err e) → Serves old cpu new now (each p n) (Err e)
+unfolding each
+each_stop {old} {new} {cpu} {now} p k zero {e} le s = let same : k ≡ 0 = omega arith in subst (λ x. Serves old cpu new now (each p x) (Err e)) same s
+each_stop {old} {new} {cpu} {now} p k (suc n) {e} le s = go (nat_lt n k) refl (λ below. each_stop {old = old} {new = new} {cpu = cpu} {now = now} p k n {e = e} below s)
+  where
+    go : (b : Bool) → nat_lt n k ≡ b → (k ≤ n → Serves old cpu new now (each p n) (Err e)) → Serves old cpu new now (each p (suc n)) (Err e)
+    go true f next = let above = ltb-true n k f in let same : k ≡ suc n = omega arith in subst (λ x. Serves old cpu new now (each p x) (Err e)) same s
+    go false f next = serves_stop (λ _. p n) (next (ltb-false n k f))
 
 -- ---- reads
 

@@ -1,5 +1,5 @@
 -- When what a memory did serves a rule of the model: read this first.
-use Rattle.std.specs.Prelude.{◌≡◌, ℕ, ◌+◌, ◌*◌, ◌<◌, ◌≤◌, ◌⊎◌, pos, true, List, [], ◌∷◌, Some, Result, Ok, Err, IsTrue, OnOk}
+use Rattle.std.specs.Prelude.{◌≡◌, ℕ, ◌+◌, ◌*◌, ◌<◌, ◌≤◌, ◌⊎◌, pos, Bool, true, false, List, [], ◌∷◌, Option, Some, None, Result, Ok, Err, IsTrue, OnOk}
 use Rattle.long_names.specs.Counting.{Rose}
 use Rattle.long_names.specs.Need.{Fits}
 use Rattle.long_names.specs.State.{REGISTERS, RECEIVER}
@@ -135,6 +135,12 @@ pub record Serves {A : Type 0} (old : Told) (cpu : Cpu) (new : Told) (now : Cpu)
 abbrev pub with_value : {A E : Type 0} → Result (Unit {0}) E → A → Result A E
 with_value (Ok u) a = Ok a
 with_value (Err e) a = Err e
+
+-- the answer of a call that tells whether it found something, with what it left in a register as what it found
+abbrev pub with_found : {A E : Type 0} → Result Bool E → A → Result (Option A) E
+with_found (Ok true) a = Ok (Some a)
+with_found (Ok false) a = Ok None
+with_found (Err e) a = Err e
 
 -- sound after every answer but a fault that leaves nothing known
 abbrev pub StaysSound : {A : Type 0} → Result A Stop → Type 0 → Type 0

@@ -1,20 +1,24 @@
 //! Contexts over any object memory.
 #![tactic(auto)]
 
+mod answers;
 mod code;
 mod context;
+pub mod data;
 mod numbers;
 pub mod parts;
+pub mod peeks;
 mod registers;
 mod stacks;
 mod stop;
 
-pub use blue_model::{Cause, Cpu};
+pub use answers::{answer, boolean};
+pub use blue_model::{Answer, Cause, Cpu};
 pub use code::{fetch, jump};
 pub use context::{back, enter, park, start};
-pub use registers::clear;
-pub use stacks::{pop, pop_top, push, stack};
-pub use stop::{Answer, Stop};
+pub use registers::{clear, set_arguments};
+pub use stacks::{pop, pop_top, push, put_stack, stack};
+pub use stop::Stop;
 
 #[cfg(test)]
 mod tests;

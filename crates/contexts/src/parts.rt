@@ -1,15 +1,17 @@
 // Parts of objects that rules read, and the store into a field.
-ghost use Rattle.std.specs.Prelude.{◌≡◌, ◌≤◌, ◌<◌, [], ◌∷◌, OnOk, IfOk, length, true};
+ghost use Rattle.std.specs.Prelude.{◌≡◌, ◌≤◌, ◌<◌, ℕ, [], ◌∷◌, OnOk, IfOk, length, true};
 ghost use Rattle.long_names.specs.Names.{is_known};
-ghost use Rattle.long_names.specs.Objects.{pointers_of};
+ghost use Rattle.long_names.specs.Objects.{pointers_of, OfPointers, OfWords, OfBytes, OfMethod, MOST_CODE};
+ghost use Rattle.long_names.specs.State.{IsRef};
 ghost use Rattle.long_names.specs.Words.{IsSmallInteger};
 ghost use Rattle.long_names.specs.declared.value.Value.TheVariants.{Ref};
 ghost use Rattle.object_memory.specs.Told.{IsReady};
 ghost use Rattle.object_memory.specs.Shape.{HasPartAt, Looks};
 ghost use Rattle.blue_model.specs.declared.cause.Cause.TheVariants.{Shape};
 ghost use Rattle.blue_model.specs.declared.cpu.Cpu.{Cpu};
-ghost use Rattle.blue_model.specs.Machine.{MACHINE_REGISTERS, part, known};
-ghost use Rattle.blue_model.specs.Parts.{size, field, number, literal, home_of};
+ghost use Rattle.blue_model.specs.Machine.{MACHINE_REGISTERS, part, known, class_of, make, store};
+ghost use Rattle.blue_model.specs.Sends.{last_literal, literal_before_last, extension};
+ghost use Rattle.blue_model.specs.Parts.{size, field, number, heading, literal, home_of};
 ghost use Rattle.blue_model.specs.Contexts.{store_field, need_method};
 ghost use Rattle.contexts.specs.Serves.{Serves, StaysSound, with_value};
 
@@ -25,6 +27,7 @@ pub fn size<M: ObjectMemory>(m: &mut M, of: Reg, least: u32) -> Result<u32, Stop
     ensures serves { (cpu : Cpu) → Serves (M.told m.old) cpu (M.told m.new) cpu (part Shape (size least) ((M.told m.old).regs of)) result }
     ensures looks { OnOk result (Looks [] (M.told m.old) (M.told m.new)) }
     ensures there { IfOk result (λ len. HasPartAt (M.told m.new) of pointers_of (λ xs. length xs ≡ len)) }
+    ensures least { IfOk result (λ len. least ≤ len) }
     ensures bound { IfOk result (λ len. len < 65536) }
     ensures ready { OnOk result (IsReady (M.told m.new)) }
     ensures sound { StaysSound result (M.sound m.new) }
@@ -119,6 +122,105 @@ pub fn need_method<M: ObjectMemory>(m: &mut M, of: Reg) -> Result<(), Stop>
     Ok(())
 }
 
+/// The header of the method that a register names.
+pub fn header<M: ObjectMemory>(m: &mut M, of: Reg) -> Result<i16, Stop>
+    requires sound { M.sound m.old }
+    requires ready { IsReady (M.told m.old) }
+    ensures serves { (cpu : Cpu) → Serves (M.told m.old) cpu (M.told m.new) cpu (part Shape heading ((M.told m.old).regs of)) result }
+    ensures range { IfOk result IsSmallInteger }
+    ensures looks { OnOk result (Looks [] (M.told m.old) (M.told m.new)) }
+    ensures ready { OnOk result (IsReady (M.told m.new)) }
+    ensures sound { StaysSound result (M.sound m.new) }
+    ensures lender { M.lender m.new ≡ M.lender m.old }
+    ensures outside { M.outside m.new ≡ M.outside m.old }
+{
+    let Some(_) = shape::literals(m, of)? else {
+        return Err(Stop::Stuck(Cause::Shape));
+    };
+    let header = m.header(of)?;
+    Ok(header)
+}
+
+/// Loads the class of what a register holds (fetchClassOf:, chapter 30).
+pub fn class_of<M: ObjectMemory>(m: &mut M, to: Reg, of: Reg) -> Result<(), Stop>
+    requires sound { M.sound m.old }
+    requires ready { IsReady (M.told m.old) }
+    requires scratch { MACHINE_REGISTERS ≤ to }
+    ensures serves { (cpu : Cpu) → Serves (M.told m.old) cpu (M.told m.new) cpu (class_of ((M.told m.old).regs of)) (with_value result ((M.told m.new).regs to)) }
+    ensures looks { OnOk result (Looks (to ∷ []) (M.told m.old) (M.told m.new)) }
+    ensures ready { OnOk result (IsReady (M.told m.new)) }
+    ensures sound { StaysSound result (M.sound m.new) }
+    ensures lender { M.lender m.new ≡ M.lender m.old }
+    ensures outside { M.outside m.new ≡ M.outside m.old }
+{
+    m.class(to, of)?;
+    Ok(())
+}
+
+/// Loads the last literal of the method that a register names.
+pub fn last_literal<M: ObjectMemory>(m: &mut M, to: Reg, of: Reg) -> Result<(), Stop>
+    requires sound { M.sound m.old }
+    requires ready { IsReady (M.told m.old) }
+    requires scratch { MACHINE_REGISTERS ≤ to }
+    ensures serves { (cpu : Cpu) → Serves (M.told m.old) cpu (M.told m.new) cpu (part Shape last_literal ((M.told m.old).regs of)) (with_value result ((M.told m.new).regs to)) }
+    ensures looks { OnOk result (Looks (to ∷ []) (M.told m.old) (M.told m.new)) }
+    ensures ready { OnOk result (IsReady (M.told m.new)) }
+    ensures sound { StaysSound result (M.sound m.new) }
+    ensures lender { M.lender m.new ≡ M.lender m.old }
+    ensures outside { M.outside m.new ≡ M.outside m.old }
+{
+    let Some(count) = shape::literals(m, of)? else {
+        return Err(Stop::Stuck(Cause::Shape));
+    };
+    if count < 1 {
+        return Err(Stop::Stuck(Cause::Shape));
+    }
+    m.field(to, of, count - 1)?;
+    Ok(())
+}
+
+/// Loads the literal before the last of the method that a register names.
+pub fn literal_before_last<M: ObjectMemory>(m: &mut M, to: Reg, of: Reg) -> Result<(), Stop>
+    requires sound { M.sound m.old }
+    requires ready { IsReady (M.told m.old) }
+    requires scratch { MACHINE_REGISTERS ≤ to }
+    ensures serves { (cpu : Cpu) → Serves (M.told m.old) cpu (M.told m.new) cpu (part Shape literal_before_last ((M.told m.old).regs of)) (with_value result ((M.told m.new).regs to)) }
+    ensures looks { OnOk result (Looks (to ∷ []) (M.told m.old) (M.told m.new)) }
+    ensures ready { OnOk result (IsReady (M.told m.new)) }
+    ensures sound { StaysSound result (M.sound m.new) }
+    ensures lender { M.lender m.new ≡ M.lender m.old }
+    ensures outside { M.outside m.new ≡ M.outside m.old }
+{
+    let Some(count) = shape::literals(m, of)? else {
+        return Err(Stop::Stuck(Cause::Shape));
+    };
+    if count < 2 {
+        return Err(Stop::Stuck(Cause::Shape));
+    }
+    m.field(to, of, count - 2)?;
+    Ok(())
+}
+
+/// The header extension of the method that a register names: the number that is its literal before the last.
+pub fn extension<M: ObjectMemory>(m: &mut M, to: Reg, of: Reg) -> Result<i16, Stop>
+    requires sound { M.sound m.old }
+    requires ready { IsReady (M.told m.old) }
+    requires scratch { MACHINE_REGISTERS ≤ to }
+    ensures serves { (cpu : Cpu) → Serves (M.told m.old) cpu (M.told m.new) cpu (part Shape extension ((M.told m.old).regs of)) result }
+    ensures looks { OnOk result (Looks (to ∷ []) (M.told m.old) (M.told m.new)) }
+    ensures range { IfOk result IsSmallInteger }
+    ensures ready { OnOk result (IsReady (M.told m.new)) }
+    ensures sound { StaysSound result (M.sound m.new) }
+    ensures lender { M.lender m.new ≡ M.lender m.old }
+    ensures outside { M.outside m.new ≡ M.outside m.old }
+{
+    literal_before_last(m, to, of)?;
+    let Some(number) = m.as_int(to) else {
+        return Err(Stop::Stuck(Cause::Shape));
+    };
+    Ok(number)
+}
+
 /// Loads the home of the context that a register names: of a block, whose field 3 is a number, field 5, and otherwise the context.
 pub fn home<M: ObjectMemory>(m: &mut M, to: Reg, context: Reg) -> Result<(), Stop>
     requires sound { M.sound m.old }
@@ -180,5 +282,103 @@ pub fn store_field<M: ObjectMemory>(m: &mut M, of: Reg, i: u32, from: Reg) -> Re
         return Err(Stop::Stuck(Cause::Shape));
     }
     m.set_field(of, i, from)?;
+    Ok(())
+}
+
+/// Stores into value or literal i of the object that a register names.
+pub fn store_value<M: ObjectMemory>(m: &mut M, of: Reg, i: u32, from: Reg) -> Result<(), Stop>
+    requires sound { M.sound m.old }
+    requires ready { IsReady (M.told m.old) }
+    ensures serves { (cpu : Cpu) → Serves (M.told m.old) cpu (M.told m.new) cpu (store ((M.told m.old).regs of) i ((M.told m.old).regs from)) result }
+    ensures regs { OnOk result ((M.told m.new).regs ≡ (M.told m.old).regs) }
+    ensures ready { OnOk result (IsReady (M.told m.new)) }
+    ensures sound { StaysSound result (M.sound m.new) }
+    ensures lender { M.lender m.new ≡ M.lender m.old }
+    ensures outside { M.outside m.new ≡ M.outside m.old }
+{
+    if !shape::has_field(m, of, i)? && !shape::has_literal(m, of, i)? {
+        return Err(Stop::Stuck(Cause::Shape));
+    }
+    m.set_field(of, i, from)?;
+    Ok(())
+}
+
+/// Makes an object of so many nils (instantiateClass:withPointers:, chapter 30). Its class stands in a register.
+pub fn make_pointers<M: ObjectMemory>(m: &mut M, to: Reg, class: Reg, n: u32) -> Result<(), Stop>
+    requires sound { M.sound m.old }
+    requires ready { IsReady (M.told m.old) }
+    requires scratch { MACHINE_REGISTERS ≤ to }
+    requires class { IsRef ((M.told m.old).regs class) }
+    requires few { n < 65536 }
+    ensures serves { (cpu : Cpu) → Serves (M.told m.old) cpu (M.told m.new) cpu (make ((M.told m.old).regs class) (OfPointers n)) (with_value result ((M.told m.new).regs to)) }
+    ensures regs { OnOk result ((r : ℕ) → (r ≡ to → ⊥) → (M.told m.new).regs r ≡ (M.told m.old).regs r) }
+    ensures ready { OnOk result (IsReady (M.told m.new)) }
+    ensures sound { StaysSound result (M.sound m.new) }
+    ensures lender { M.lender m.new ≡ M.lender m.old }
+    ensures outside { M.outside m.new ≡ M.outside m.old }
+{
+    m.new_pointers(to, class, n)?;
+    Ok(())
+}
+
+/// Makes an object of so many words that are 0 (instantiateClass:withWords:, chapter 30). Its class stands in a register.
+pub fn make_words<M: ObjectMemory>(m: &mut M, to: Reg, class: Reg, n: u32) -> Result<(), Stop>
+    requires sound { M.sound m.old }
+    requires ready { IsReady (M.told m.old) }
+    requires scratch { MACHINE_REGISTERS ≤ to }
+    requires class { IsRef ((M.told m.old).regs class) }
+    requires few { n < 65536 }
+    ensures serves { (cpu : Cpu) → Serves (M.told m.old) cpu (M.told m.new) cpu (make ((M.told m.old).regs class) (OfWords n)) (with_value result ((M.told m.new).regs to)) }
+    ensures regs { OnOk result ((r : ℕ) → (r ≡ to → ⊥) → (M.told m.new).regs r ≡ (M.told m.old).regs r) }
+    ensures ready { OnOk result (IsReady (M.told m.new)) }
+    ensures sound { StaysSound result (M.sound m.new) }
+    ensures lender { M.lender m.new ≡ M.lender m.old }
+    ensures outside { M.outside m.new ≡ M.outside m.old }
+{
+    m.new_words(to, class, n)?;
+    Ok(())
+}
+
+/// Makes an object of so many bytes that are 0 (instantiateClass:withBytes:, chapter 30). Its class stands in a register.
+pub fn make_bytes<M: ObjectMemory>(m: &mut M, to: Reg, class: Reg, n: u32) -> Result<(), Stop>
+    requires sound { M.sound m.old }
+    requires ready { IsReady (M.told m.old) }
+    requires scratch { MACHINE_REGISTERS ≤ to }
+    requires class { IsRef ((M.told m.old).regs class) }
+    requires few { n < 65536 }
+    ensures serves { (cpu : Cpu) → Serves (M.told m.old) cpu (M.told m.new) cpu (make ((M.told m.old).regs class) (OfBytes n)) (with_value result ((M.told m.new).regs to)) }
+    ensures regs { OnOk result ((r : ℕ) → (r ≡ to → ⊥) → (M.told m.new).regs r ≡ (M.told m.old).regs r) }
+    ensures ready { OnOk result (IsReady (M.told m.new)) }
+    ensures sound { StaysSound result (M.sound m.new) }
+    ensures lender { M.lender m.new ≡ M.lender m.old }
+    ensures outside { M.outside m.new ≡ M.outside m.old }
+{
+    m.new_bytes(to, class, n)?;
+    Ok(())
+}
+
+/// Makes a method with this header, literals that are nil and so much code of zeros (chapter 30, methods). Its class stands in a
+/// register.
+pub fn make_method<M: ObjectMemory>(
+    m: &mut M,
+    to: Reg,
+    class: Reg,
+    header: i16,
+    code: u32,
+) -> Result<(), Stop>
+    requires sound { M.sound m.old }
+    requires ready { IsReady (M.told m.old) }
+    requires scratch { MACHINE_REGISTERS ≤ to }
+    requires class { IsRef ((M.told m.old).regs class) }
+    requires header { IsSmallInteger header }
+    requires few { code ≤ MOST_CODE }
+    ensures serves { (cpu : Cpu) → Serves (M.told m.old) cpu (M.told m.new) cpu (make ((M.told m.old).regs class) (OfMethod header code)) (with_value result ((M.told m.new).regs to)) }
+    ensures regs { OnOk result ((r : ℕ) → (r ≡ to → ⊥) → (M.told m.new).regs r ≡ (M.told m.old).regs r) }
+    ensures ready { OnOk result (IsReady (M.told m.new)) }
+    ensures sound { StaysSound result (M.sound m.new) }
+    ensures lender { M.lender m.new ≡ M.lender m.old }
+    ensures outside { M.outside m.new ≡ M.outside m.old }
+{
+    m.new_method(to, class, header, code)?;
     Ok(())
 }

@@ -1,16 +1,17 @@
 // Registers and slots.
 ghost use Rattle.std.specs.Prelude.{◌≡◌, ◌≤◌, ◌<◌, ◌&&◌, ℕ, pos, nat_le, nat_lt, OnOk, if◌then◌else◌};
 ghost use Rattle.long_names.specs.declared.value.Value.TheVariants.{Int};
-ghost use Rattle.object_memory.specs.Told.{IsReady};
-ghost use Rattle.blue_model.specs.declared.cpu.Cpu.{Cpu};
+ghost use Rattle.object_memory.specs.Told.{Told, IsReady};
+ghost use Rattle.blue_model.specs.declared.cpu.Cpu.{Cpu as Numbers};
 ghost use Rattle.blue_model.specs.Machine.{pin as pin_rule, unpin_all as unpin_rule, MACHINE_REGISTERS};
 ghost use Rattle.blue_model.specs.Contexts.{put_context as put_rule};
+ghost use Rattle.blue_model.specs.Sends.{set_arguments as set_rule};
 ghost use Rattle.contexts.specs.Serves.{Serves, StaysSound};
 ghost use Rattle.std.specs.Prelude.{Ok};
 ghost use Rattle.long_names.specs.State.{RECEIVER};
 
 use crate::stop::Stop;
-use blue_model::Cause;
+use blue_model::{Cause, Cpu};
 use object_memory::{ObjectMemory, Reg, shape};
 
 /// The registers from one number up to another, without it, hold 0.
@@ -30,11 +31,19 @@ pub fn clear<M: ObjectMemory>(m: &mut M, from: u8, to: u8)
     }
 }
 
+/// The message that is sent has so many arguments.
+pub fn set_arguments(cpu: &mut Cpu, n: u8)
+    ensures serves { (t : Told) → IsReady t → Serves t cpu.old t cpu.new (set_rule n) (Ok tt) }
+    ensures numbers { cpu.new ≡ record cpu.old { args = n } }
+{
+    cpu.args = n;
+}
+
 /// No object is pinned any more.
 pub(crate) fn unpin_all<M: ObjectMemory>(m: &mut M)
     requires sound { M.sound m.old }
     requires ready { IsReady (M.told m.old) }
-    ensures serves { (cpu : Cpu) → Serves (M.told m.old) cpu (M.told m.new) cpu unpin_rule (Ok tt) }
+    ensures serves { (cpu : Numbers) → Serves (M.told m.old) cpu (M.told m.new) cpu unpin_rule (Ok tt) }
     ensures regs { (M.told m.new).regs ≡ (M.told m.old).regs }
     ensures ready { IsReady (M.told m.new) }
     ensures sound { M.sound m.new }
@@ -51,7 +60,7 @@ pub(crate) fn pin<M: ObjectMemory>(m: &mut M, slot: u8, of: Reg) -> Result<(), S
     requires sound { M.sound m.old }
     requires ready { IsReady (M.told m.old) }
     requires slot { slot < 3 }
-    ensures serves { (cpu : Cpu) → Serves (M.told m.old) cpu (M.told m.new) cpu (pin_rule slot ((M.told m.old).regs of)) result }
+    ensures serves { (cpu : Numbers) → Serves (M.told m.old) cpu (M.told m.new) cpu (pin_rule slot ((M.told m.old).regs of)) result }
     ensures regs { OnOk result ((M.told m.new).regs ≡ (M.told m.old).regs) }
     ensures ready { OnOk result (IsReady (M.told m.new)) }
     ensures sound { StaysSound result (M.sound m.new) }
@@ -69,7 +78,7 @@ pub(crate) fn pin<M: ObjectMemory>(m: &mut M, slot: u8, of: Reg) -> Result<(), S
 pub(crate) fn put_context<M: ObjectMemory>(m: &mut M, context: Reg)
     requires sound { M.sound m.old }
     requires ready { IsReady (M.told m.old) }
-    ensures serves { (cpu : Cpu) → Serves (M.told m.old) cpu (M.told m.new) cpu (put_rule ((M.told m.old).regs context) ((M.told m.old).regs 21) ((M.told m.old).regs 22) ((M.told m.old).regs 23)) (Ok tt) }
+    ensures serves { (cpu : Numbers) → Serves (M.told m.old) cpu (M.told m.new) cpu (put_rule ((M.told m.old).regs context) ((M.told m.old).regs 21) ((M.told m.old).regs 22) ((M.told m.old).regs 23)) (Ok tt) }
     ensures others { (r : ℕ) → RECEIVER < r → (M.told m.new).regs r ≡ (M.told m.old).regs r }
     ensures ready { IsReady (M.told m.new) }
     ensures sound { M.sound m.new }

@@ -4,6 +4,7 @@ ghost use Rattle.object_memory.specs.Told.{Told, IsReady};
 ghost use Rattle.object_memory.specs.Shape.{Looks};
 ghost use Rattle.blue_model.specs.Machine.{MACHINE_REGISTERS};
 ghost use Rattle.blue_model.specs.Contexts as model;
+ghost use Rattle.blue_model.specs.Sends.{put_stack as put_rule};
 ghost use Rattle.contexts.specs.Serves.{Serves, StaysSound, with_value};
 
 use crate::numbers::{lower, place_above, place_at, raise};
@@ -51,6 +52,25 @@ pub fn stack<M: ObjectMemory>(m: &mut M, cpu: &Cpu, to: Reg, depth: u32) -> Resu
         return Err(Stop::Stuck(Cause::Stack));
     };
     field(m, to, Reg::ACTIVE_CONTEXT, 0, place)?;
+    Ok(())
+}
+
+/// Puts the value of a register so much below the top of the stack. Stuck with Stack where that field is none of the stack.
+pub fn put_stack<M: ObjectMemory>(m: &mut M, cpu: &Cpu, depth: u32, from: Reg) -> Result<(), Stop>
+    requires sound { M.sound m.old }
+    requires ready { IsReady (M.told m.old) }
+    ensures serves { Serves (M.told m.old) cpu.now (M.told m.new) cpu.now (put_rule depth ((M.told m.old).regs from)) result }
+    ensures regs { OnOk result ((M.told m.new).regs ≡ (M.told m.old).regs) }
+    ensures ready { OnOk result (IsReady (M.told m.new)) }
+    ensures sound { StaysSound result (M.sound m.new) }
+    ensures lender { M.lender m.new ≡ M.lender m.old }
+    ensures outside { M.outside m.new ≡ M.outside m.old }
+{
+    let len = size(m, Reg::ACTIVE_CONTEXT, 0)?;
+    let Some(place) = place_at(cpu, depth, len) else {
+        return Err(Stop::Stuck(Cause::Stack));
+    };
+    store_field(m, Reg::ACTIVE_CONTEXT, place, from)?;
     Ok(())
 }
 

@@ -2,14 +2,13 @@
 ghost use Rattle.std.specs.Prelude.{OnOk};
 ghost use Rattle.object_memory.specs.Told.{IsReady};
 
-mod base;
 mod calls;
 
 use crate::{Cause, Cpu, Stop};
-use base::memory;
 use bounded_memory::BoundedMemory;
 use calls::{Answer, Below, Call, Change, Load, MADE, TO, make_call};
 use object_memory::{MemFault, Need, ObjectMemory, Reg};
+use sample_images::{NEXT, base, memory};
 use std::process::Abort;
 use std::test::Fail;
 
@@ -154,7 +153,7 @@ fn walk<M: ObjectMemory>(
 
 #[test]
 fn each_answer(rt: HostRuntime) -> Result<(), Fail> {
-    let mut m = memory(rt.alloc())?;
+    let mut m = memory(rt.alloc(), &base(rt.alloc())?, NEXT)?;
     let mut cpu = Cpu::at_rest();
     walk(&rt, &mut m, &mut cpu, &START)?;
     walk(&rt, &mut m, &mut cpu, &CODE)?;
@@ -176,7 +175,7 @@ fn each_stop(rt: HostRuntime) -> Result<(), Fail> {
         (Call::Change(Change::Back), Cause::Shape),
     ];
     for (call, cause) in rows {
-        let mut m = memory(rt.alloc())?;
+        let mut m = memory(rt.alloc(), &base(rt.alloc())?, NEXT)?;
         let mut cpu = Cpu::at_rest();
         walk(&rt, &mut m, &mut cpu, &START)?;
         assert_eq!(rt; make_call(&mut m, &mut cpu, call), Err(Stop::Stuck(cause)));
@@ -187,7 +186,8 @@ fn each_stop(rt: HostRuntime) -> Result<(), Fail> {
 #[test]
 fn each_refusal(rt: HostRuntime) -> Result<(), Fail> {
     for (i, (call, core, room, (object, words, entries))) in REFUSED.iter().enumerate() {
-        let mut m = BoundedMemory::new(memory(rt.alloc())?, *core, *room, 26, 26);
+        let plain = memory(rt.alloc(), &base(rt.alloc())?, NEXT)?;
+        let mut m = BoundedMemory::new(plain, *core, *room, 26, 26);
         let mut cpu = Cpu::at_rest();
         walk(&rt, &mut m, &mut cpu, &CORE)?;
         let need = Need {
