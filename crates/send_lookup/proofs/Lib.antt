@@ -1,0 +1,5 @@
+pub mod ActivationLaws
+pub mod ChainLaws
+pub mod ClassLaws
+pub mod MessageLaws
+pub mod SlotLaws

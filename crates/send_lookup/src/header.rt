@@ -1,0 +1,51 @@
+// What a method's header says (chapter 27, compiled methods).
+ghost use Rattle.std.specs.Prelude.{◌≡◌, ◌≤◌, ◌<◌};
+ghost use Rattle.long_names.specs.Words.{IsSmallInteger, unsigned_of};
+ghost use Rattle.blue_model.specs.Sends as model;
+
+use long_names::literal_count;
+
+/// The fifteen bits of a SmallInteger.
+fn bits(header: i16) -> u32
+    requires { IsSmallInteger header }
+    ensures { result ≡ unsigned_of header }
+{
+    (header as i32).rem_euclid(32768) as u32
+}
+
+/// How a method is executed: 0 to 4 say so many arguments and no primitive; 5 answers self, 6 a field of the receiver; 7 has a header
+/// extension.
+pub fn flag(header: i16) -> u32
+    requires { IsSmallInteger header }
+    ensures flag { result ≡ model.flag_of header }
+    ensures few { result < 8 }
+{
+    bits(header) / 4096
+}
+
+/// How many temporaries a method has, arguments among them; of a method that answers a field, the field's number.
+pub fn temporaries(header: i16) -> u32
+    requires { IsSmallInteger header }
+    ensures temporaries { result ≡ model.temporaries_of header }
+    ensures few { result < 32 }
+{
+    bits(header) / 128 % 32
+}
+
+/// How many fields a method's context has.
+pub(crate) fn context_size(header: i16) -> u32
+    requires { IsSmallInteger header }
+    ensures size { result ≡ model.context_size header }
+    ensures few { result ≤ 38 }
+{
+    if bits(header) / 64 % 2 == 1 { 38 } else { 18 }
+}
+
+/// The instruction pointer that a method's context states at first.
+pub(crate) fn first_pointer(header: i16) -> i16
+    requires { IsSmallInteger header }
+    ensures pointer { result ≡ model.first_pointer header }
+    ensures range { IsSmallInteger result }
+{
+    2 * (literal_count(header) as i16 + 1) + 1
+}

@@ -1,0 +1,67 @@
+// The lookup along the superclass chain.
+ghost use Rattle.std.specs.Prelude.{◌≡◌, [], ◌∷◌, OnOk};
+ghost use Rattle.long_names.specs.State.{SELECTOR};
+ghost use Rattle.object_memory.specs.Told.{IsReady};
+ghost use Rattle.object_memory.specs.Shape.{Looks};
+ghost use Rattle.blue_model.specs.declared.cpu.Cpu.{Cpu};
+ghost use Rattle.blue_model.specs.Lookup as model;
+ghost use Rattle.contexts.specs.Serves.{Serves, StaysSound, with_found};
+ghost use Rattle.send_lookup.specs.Found.{KeepsButMethod};
+
+use crate::classes::find_in;
+use contexts::parts::field;
+use contexts::{Cause, Stop};
+use long_names::Name;
+use object_memory::{ObjectMemory, Reg};
+
+/// The most classes that a lookup visits.
+const LONGEST_CHAIN: u32 = 1024;
+
+/// Loads the method that the class in a register, or the first class above it that has one, has for the message's selector into
+/// SCRATCH_12. False where the chain ends before.
+fn look_up<M: ObjectMemory>(m: &mut M, class: Reg) -> Result<bool, Stop>
+    requires sound { M.sound m.old }
+    requires ready { IsReady (M.told m.old) }
+    ensures serves { (cpu : Cpu) → Serves (M.told m.old) cpu (M.told m.new) cpu (model.lookup ((M.told m.old).regs SELECTOR) ((M.told m.old).regs class)) (with_found result ((M.told m.new).regs 22)) }
+    ensures looks { OnOk result (Looks (20 ∷ 21 ∷ 22 ∷ []) (M.told m.old) (M.told m.new)) }
+    ensures ready { OnOk result (IsReady (M.told m.new)) }
+    ensures sound { StaysSound result (M.sound m.new) }
+    ensures lender { M.lender m.new ≡ M.lender m.old }
+    ensures outside { M.outside m.new ≡ M.outside m.old }
+{
+    m.copy(Reg::SCRATCH_10, class);
+    for _turn in 0..LONGEST_CHAIN {
+        if m.is(Reg::SCRATCH_10, Name::NIL) {
+            return Ok(false);
+        }
+        if find_in(m)? {
+            return Ok(true);
+        }
+        field(m, Reg::SCRATCH_10, Reg::SCRATCH_10, 3, 0)?;
+    }
+    if !m.is(Reg::SCRATCH_10, Name::NIL) {
+        return Err(Stop::Stuck(Cause::Chain));
+    }
+    Ok(false)
+}
+
+/// Looks the message's selector (register 4) up from the class in a register, and puts the method into register 5 (lookupMethodInClass:,
+/// chapter 28). False exactly where the chain's end was met. A class or dictionary that isn't one, a selector that is a number and a
+/// method that isn't one are stuck with Shape, and a chain of more than 1,024 classes with Chain. The scratch registers from 20 on are
+/// used.
+pub fn find<M: ObjectMemory>(m: &mut M, class: Reg) -> Result<bool, Stop>
+    requires sound { M.sound m.old }
+    requires ready { IsReady (M.told m.old) }
+    ensures serves { (cpu : Cpu) → Serves (M.told m.old) cpu (M.told m.new) cpu (model.find ((M.told m.old).regs class)) result }
+    ensures others { OnOk result (KeepsButMethod 20 (M.told m.old) (M.told m.new)) }
+    ensures ready { OnOk result (IsReady (M.told m.new)) }
+    ensures sound { StaysSound result (M.sound m.new) }
+    ensures lender { M.lender m.new ≡ M.lender m.old }
+    ensures outside { M.outside m.new ≡ M.outside m.old }
+{
+    if !look_up(m, class)? {
+        return Ok(false);
+    }
+    m.copy(Reg::NEW_METHOD, Reg::SCRATCH_12);
+    Ok(true)
+}

@@ -1,0 +1,58 @@
+// The slots of a method dictionary. They follow its two first fields.
+ghost use Rattle.std.specs.Prelude.{◌≡◌, ◌<◌, ◌≤◌, [], ◌∷◌, OnOk, IfOk, IfSome, length};
+ghost use Rattle.long_names.specs.Objects.{pointers_of};
+ghost use Rattle.long_names.specs.State.{IsRef, SELECTOR};
+ghost use Rattle.object_memory.specs.Told.{IsReady};
+ghost use Rattle.object_memory.specs.Shape.{HasPartAt, Looks};
+ghost use Rattle.blue_model.specs.declared.cause.Cause.TheVariants.{Shape};
+ghost use Rattle.blue_model.specs.declared.cpu.Cpu.{Cpu};
+ghost use Rattle.blue_model.specs.Machine.{part};
+ghost use Rattle.blue_model.specs.Lookup.{slot_of, turned_back};
+ghost use Rattle.contexts.specs.Serves.{Serves, StaysSound};
+
+use contexts::Stop;
+use long_names::Name;
+use object_memory::{ObjectMemory, Reg};
+
+/// The slot at a place of the round that begins at the first slot.
+fn slot_at(first: u32, slots: u32, place: u32) -> u32
+    requires first { first < slots }
+    requires place { place < slots }
+    requires few { slots < 65536 }
+    ensures slot { result ≡ turned_back first slots place }
+    ensures within { result < slots }
+{
+    let slot = first + place;
+    if slot < slots { slot } else { slot - slots }
+}
+
+/// The slot of the dictionary in SCRATCH_11 that holds the selector (lookupMethodInDictionary:, chapter 28): the search goes round all
+/// slots from that of the selector's hash on, and ends at nil. The dictionary has so many fields. SCRATCH_12 is used.
+pub(crate) fn find_slot<M: ObjectMemory>(m: &mut M, fields: u32) -> Result<Option<u32>, Stop>
+    requires sound { M.sound m.old }
+    requires ready { IsReady (M.told m.old) }
+    requires selector { IsRef ((M.told m.old).regs SELECTOR) }
+    requires some { 3 ≤ fields }
+    requires few { fields < 65536 }
+    requires there { HasPartAt (M.told m.old) 21 pointers_of (λ xs. length xs ≡ fields) }
+    ensures serves { (cpu : Cpu) → Serves (M.told m.old) cpu (M.told m.new) cpu (part Shape (slot_of ((M.told m.old).regs SELECTOR)) ((M.told m.old).regs 21)) result }
+    ensures looks { OnOk result (Looks (22 ∷ []) (M.told m.old) (M.told m.new)) }
+    ensures ready { OnOk result (IsReady (M.told m.new)) }
+    ensures sound { StaysSound result (M.sound m.new) }
+    ensures lender { M.lender m.new ≡ M.lender m.old }
+    ensures outside { M.outside m.new ≡ M.outside m.old }
+{
+    let slots = fields - 2;
+    let first = m.hash(Reg::SELECTOR) & (slots - 1);
+    for place in 0..slots {
+        let slot = slot_at(first, slots, place);
+        m.field(Reg::SCRATCH_12, Reg::SCRATCH_11, 2 + slot)?;
+        if m.is(Reg::SCRATCH_12, Name::NIL) {
+            return Ok(None);
+        }
+        if m.same(Reg::SCRATCH_12, Reg::SELECTOR) {
+            return Ok(Some(slot));
+        }
+    }
+    Ok(None)
+}
