@@ -1,0 +1,5 @@
+mod NumberLaws
+mod OperandLaws
+mod PointLaws
+mod ShiftLaws
+mod TableLaws

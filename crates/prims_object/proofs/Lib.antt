@@ -1,0 +1,10 @@
+pub mod ExtentLaws
+pub mod InstanceLaws
+pub mod LeadLaws
+pub mod NaturalLaws
+pub mod NumberLaws
+pub mod TableLaws
+pub mod TestLaws
+pub mod TextLaws
+pub mod ValueLaws
+pub mod WithinLaws

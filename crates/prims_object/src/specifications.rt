@@ -1,0 +1,98 @@
+// What a class says of its instances (chapter 27, classes).
+ghost use Rattle.std.specs.Prelude.{◌≡◌, ◌<◌, [], ◌∷◌, OnOk, IfOk, IfSome, IsSome};
+ghost use Rattle.long_names.specs.State.{IsRef};
+ghost use Rattle.long_names.specs.Words.{IsSmallInteger, unsigned_of};
+ghost use Rattle.object_memory.specs.Told.{IsReady};
+ghost use Rattle.object_memory.specs.Shape.{Looks};
+ghost use Rattle.blue_model.specs.declared.cpu.Cpu.{Cpu};
+ghost use Rattle.blue_model.specs.Elements as model;
+ghost use Rattle.contexts.specs.Serves.{Serves, StaysSound};
+
+use contexts::Stop;
+use contexts::parts::class_of;
+use contexts::peeks::peek_number;
+use object_memory::{ObjectMemory, Reg, shape};
+
+/// The fifteen bits of a SmallInteger.
+fn bits(specification: i16) -> u32
+    requires { IsSmallInteger specification }
+    ensures { result ≡ unsigned_of specification }
+{
+    (specification as i32).rem_euclid(32768) as u32
+}
+
+/// Whether instances are objects of values.
+pub(crate) fn has_pointers(specification: i16) -> bool
+    requires { IsSmallInteger specification }
+    ensures { result ≡ model.has_pointers specification }
+{
+    bits(specification) / 16384 == 1
+}
+
+/// Whether instances that have no values have words, and not bytes.
+pub(crate) fn has_words(specification: i16) -> bool
+    requires { IsSmallInteger specification }
+    ensures { result ≡ model.has_words specification }
+{
+    bits(specification) / 8192 % 2 == 1
+}
+
+/// Whether instances have elements behind their fixed fields.
+pub(crate) fn is_indexable(specification: i16) -> bool
+    requires { IsSmallInteger specification }
+    ensures { result ≡ model.is_indexable specification }
+{
+    bits(specification) / 4096 % 2 == 1
+}
+
+/// How many fixed fields instances have.
+pub(crate) fn fixed_fields(specification: i16) -> u32
+    requires { IsSmallInteger specification }
+    ensures fixed { result ≡ model.fixed_fields specification }
+    ensures few { result < 2048 }
+{
+    bits(specification) % 2048
+}
+
+/// The instance specification of the class that a register names. None where it names nothing of a class's shape, or where no number
+/// is there. SCRATCH_9 is used.
+pub(crate) fn specification_of<M: ObjectMemory>(m: &mut M, class: Reg) -> Result<Option<i16>, Stop>
+    requires sound { M.sound m.old }
+    requires ready { IsReady (M.told m.old) }
+    ensures serves { (cpu : Cpu) → Serves (M.told m.old) cpu (M.told m.new) cpu (model.specification_of ((M.told m.old).regs class)) result }
+    ensures looks { OnOk result (Looks (19 ∷ []) (M.told m.old) (M.told m.new)) }
+    ensures range { IfOk result (λ found. IfSome found IsSmallInteger) }
+    ensures named { IfOk result (λ found. IsSome found → IsRef ((M.told m.old).regs class)) }
+    ensures ready { OnOk result (IsReady (M.told m.new)) }
+    ensures sound { StaysSound result (M.sound m.new) }
+    ensures lender { M.lender m.new ≡ M.lender m.old }
+    ensures outside { M.outside m.new ≡ M.outside m.old }
+{
+    if !shape::is_name(m, class) {
+        return Ok(None);
+    }
+    peek_number(m, Reg::SCRATCH_9, class, 3, 2)
+}
+
+/// How many fixed fields the object has that a register names (fixedFieldsOf:). None where it holds a number, or where the class says
+/// nothing. SCRATCH_9 is used.
+pub(crate) fn fixed_of<M: ObjectMemory>(m: &mut M, of: Reg) -> Result<Option<u32>, Stop>
+    requires sound { M.sound m.old }
+    requires ready { IsReady (M.told m.old) }
+    ensures serves { (cpu : Cpu) → Serves (M.told m.old) cpu (M.told m.new) cpu (model.fixed_of ((M.told m.old).regs of)) result }
+    ensures looks { OnOk result (Looks (19 ∷ []) (M.told m.old) (M.told m.new)) }
+    ensures few { IfOk result (λ found. IfSome found (λ n. n < 2048)) }
+    ensures ready { OnOk result (IsReady (M.told m.new)) }
+    ensures sound { StaysSound result (M.sound m.new) }
+    ensures lender { M.lender m.new ≡ M.lender m.old }
+    ensures outside { M.outside m.new ≡ M.outside m.old }
+{
+    if !shape::is_name(m, of) {
+        return Ok(None);
+    }
+    class_of(m, Reg::SCRATCH_9, of)?;
+    let Some(specification) = specification_of(m, Reg::SCRATCH_9)? else {
+        return Ok(None);
+    };
+    Ok(Some(fixed_fields(specification)))
+}
