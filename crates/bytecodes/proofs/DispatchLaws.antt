@@ -14,15 +14,15 @@ use Rattle.contexts.specs.declared.stop.Stop.{Stop}
 use Rattle.contexts.specs.Serves.{Serves}
 use Rattle.bytecodes.specs.Steps.{done_by}
 
-within : (i : ℕ) → nat_lt i 32 ≡ true → i < length bytecodes
+within : (i : ℕ) → nat_lt i 45 ≡ true → i < length bytecodes
 unfolding bytecodes
-within i e = ltb-true i 32 e
+within i e = ltb-true i 45 e
 
 inside : (low high byte : ℕ) → low ≤ byte → byte ≤ high → (nat_le low byte && nat_le byte high) ≡ true
 inside low high byte above below = grind (arith, nat_tests)
 
 -- What serves the rule of a range serves the bytecode that is in the range, which stands at this place of the table.
-pub dispatched : {old new : Told} {cpu now : Cpu} {answer : Result (Unit {0}) Stop} (byte i : ℕ) (r : Range) → byte < 2 ^ 8 → nat_lt i 32 ≡ true → slice_index_or bytecodes i r ≡ r → r.first ≤ byte → byte ≤ r.last → Serves old cpu new now (r.rule (byte - r.first)) answer → Serves old cpu new now (bytecode byte) answer
+pub dispatched : {old new : Told} {cpu now : Cpu} {answer : Result (Unit {0}) Stop} (byte i : ℕ) (r : Range) → byte < 2 ^ 8 → nat_lt i 45 ≡ true → slice_index_or bytecodes i r ≡ r → r.first ≤ byte → byte ≤ r.last → Serves old cpu new now (r.rule (byte - r.first)) answer → Serves old cpu new now (bytecode byte) answer
 dispatched {old} {new} {cpu} {now} {answer} byte i r low place at above below s =
     subst (λ (rule : Rule (Unit {0})). Serves old cpu new now rule answer) (sym (bytecode_by byte i r low (within i place) at (inside r.first r.last byte above below))) s
 

@@ -1,2 +1,4 @@
 pub mod DispatchLaws
 pub mod VariableLaws
+pub mod SendLaws
+pub mod TryLaws

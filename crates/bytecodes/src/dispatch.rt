@@ -11,6 +11,10 @@ ghost use Rattle.bytecodes.specs.Steps.{done_by};
 use crate::ended::Step;
 use crate::jumps::{jump_on, long_jump, long_jump_on, short_jump};
 use crate::returns::{return_from_block, return_known, return_receiver, return_top};
+use crate::sends::{
+    arithmetic_send, block_send, context_send, double_extended_send, double_extended_super,
+    send_literal, single_extended_send, single_extended_super, special_send, tried_for,
+};
 use crate::stacks::{
     duplicate_top, extended_push, extended_store, extended_store_and_pop, push_active_context,
     push_known, push_number, push_receiver, push_variable, store_and_pop,
@@ -73,7 +77,10 @@ pub(crate) fn return_bytecode<M: ObjectMemory>(
         128 => extended_push(m, cpu),
         129 => extended_store(m, cpu),
         130 => extended_store_and_pop(m, cpu),
-        131..=134 => Err(Stop::NotBuilt),
+        131 => single_extended_send(m, cpu),
+        132 => double_extended_send(m, cpu),
+        133 => single_extended_super(m, cpu),
+        134 => double_extended_super(m, cpu),
         135 => pop(cpu, 1),
         136 => duplicate_top(m, cpu),
         137 => push_active_context(m, cpu),
@@ -81,11 +88,12 @@ pub(crate) fn return_bytecode<M: ObjectMemory>(
     }
 }
 
-/// Jumps, and the sends, which aren't built yet: bytecodes 144 to 255.
+/// Jumps: bytecodes 144 to 175.
 pub(crate) fn jump_bytecode<M: ObjectMemory>(m: &mut M, cpu: &mut Cpu, byte: u8) -> Result<(), Stop>
     requires sound { M.sound m.old }
     requires ready { IsReady (M.told m.old) }
     requires from { 144 ≤ byte }
+    requires to { byte ≤ 175 }
     ensures serves { Serves (M.told m.old) cpu.old (M.told m.new) cpu.new (bytecode_rule byte) result }
     ensures ready { OnOk result (IsReady (M.told m.new)) }
     ensures sound { StaysSound result (M.sound m.new) }
@@ -97,8 +105,33 @@ pub(crate) fn jump_bytecode<M: ObjectMemory>(m: &mut M, cpu: &mut Cpu, byte: u8)
         152..=159 => jump_on(m, cpu, Name::FALSE, Name::TRUE, u32::from(byte - 152) + 1),
         160..=167 => long_jump(m, cpu, u32::from(byte - 160)),
         168..=171 => long_jump_on(m, cpu, Name::TRUE, Name::FALSE, u32::from(byte - 168)),
-        172..=175 => long_jump_on(m, cpu, Name::FALSE, Name::TRUE, u32::from(byte - 172)),
-        _ => Err(Stop::NotBuilt),
+        _ => long_jump_on(m, cpu, Name::FALSE, Name::TRUE, u32::from(byte - 172)),
+    }
+}
+
+/// Sends: bytecodes 176 to 255.
+pub(crate) fn send_bytecode<M: ObjectMemory>(m: &mut M, cpu: &mut Cpu, byte: u8) -> Result<(), Stop>
+    requires sound { M.sound m.old }
+    requires ready { IsReady (M.told m.old) }
+    requires from { 176 ≤ byte }
+    ensures serves { Serves (M.told m.old) cpu.old (M.told m.new) cpu.new (bytecode_rule byte) result }
+    ensures ready { OnOk result (IsReady (M.told m.new)) }
+    ensures sound { StaysSound result (M.sound m.new) }
+    ensures lender { M.lender m.new ≡ M.lender m.old }
+    ensures outside { M.outside m.new ≡ M.outside m.old }
+{
+    match byte {
+        176..=191 => arithmetic_send(m, cpu, u32::from(byte - 176)),
+        192..=197 => special_send(m, cpu, 16 + u32::from(byte - 192)),
+        198 => tried_for(m, cpu, 110, 1, 22),
+        199 => tried_for(m, cpu, 111, 0, 23),
+        200 => context_send(m, cpu),
+        201 => block_send(m, cpu, 0, 25),
+        202 => block_send(m, cpu, 1, 26),
+        203..=207 => special_send(m, cpu, 27 + u32::from(byte - 203)),
+        208..=223 => send_literal(m, cpu, u32::from(byte - 208), 0),
+        224..=239 => send_literal(m, cpu, u32::from(byte - 224), 1),
+        _ => send_literal(m, cpu, u32::from(byte - 240), 2),
     }
 }
 
@@ -115,7 +148,8 @@ pub(crate) fn bytecode<M: ObjectMemory>(m: &mut M, cpu: &mut Cpu, byte: u8) -> R
     match byte {
         0..=119 => push_bytecode(m, cpu, byte),
         120..=143 => return_bytecode(m, cpu, byte),
-        _ => jump_bytecode(m, cpu, byte),
+        144..=175 => jump_bytecode(m, cpu, byte),
+        _ => send_bytecode(m, cpu, byte),
     }
 }
 

@@ -5,12 +5,13 @@ ghost use Rattle.blue_model.specs.Bytecodes as model;
 ghost use Rattle.blue_model.specs.Contexts.{jump as jump_rule};
 ghost use Rattle.contexts.specs.Serves.{Serves, StaysSound};
 
+use crate::sends::must_be_boolean;
 use contexts::{Cpu, Stop, fetch, jump, pop_top};
 use long_names::Name;
 use object_memory::{ObjectMemory, Reg};
 
-/// Jumps so far where the value in SCRATCH_0 is the first of two objects, and goes on where it is the second. mustBeBoolean would be
-/// sent to any other, which isn't built yet.
+/// Jumps so far where the value in SCRATCH_0 is the first of two objects, and goes on where it is the second. mustBeBoolean is
+/// sent to any other.
 pub(crate) fn jump_where<M: ObjectMemory>(
     m: &mut M,
     cpu: &mut Cpu,
@@ -31,10 +32,10 @@ pub(crate) fn jump_where<M: ObjectMemory>(
         return jump(m, cpu, distance as i32);
     }
     if m.is(Reg::SCRATCH_0, passed) {
-        Ok(())
-    } else {
-        Err(Stop::NotBuilt)
+        return Ok(());
     }
+    must_be_boolean(m, cpu)?;
+    Ok(())
 }
 
 /// Pops the top, and jumps so far where it is the first of two objects (jumpIf:).

@@ -3,9 +3,12 @@
 
 mod dispatch;
 mod ended;
+mod execution;
 mod jumps;
 mod returns;
+mod sends;
 mod stacks;
+mod tries;
 mod variables;
 
 pub use dispatch::step;

@@ -3,11 +3,13 @@ ghost use Rattle.std.specs.Prelude.{◌≡◌, ◌<◌, true, OnOk};
 ghost use Rattle.long_names.specs.Names.{is_known};
 ghost use Rattle.object_memory.specs.Told.{IsReady};
 ghost use Rattle.blue_model.specs.Bytecodes as model;
-ghost use Rattle.blue_model.specs.Contexts.{return_to, back_with, pop_top as pop_rule};
+ghost use Rattle.blue_model.specs.Contexts.{back_with, pop_top as pop_rule};
+ghost use Rattle.blue_model.specs.Sends.{return_to};
 ghost use Rattle.blue_model.specs.Machine.{register, known as known_rule};
 ghost use Rattle.long_names.specs.State.{RECEIVER};
 ghost use Rattle.contexts.specs.Serves.{Serves, StaysSound};
 
+use crate::sends::cannot_return;
 use contexts::parts::{field, known};
 use contexts::{Cpu, Stop, back, pop_top, push};
 use long_names::Name;
@@ -29,7 +31,7 @@ pub(crate) fn back_with<M: ObjectMemory>(m: &mut M, cpu: &mut Cpu) -> Result<(),
 }
 
 /// Returns a value to a context (returnValue:to:): the value in SCRATCH_0, the context in SCRATCH_1. Where that is nil or has ended,
-/// cannotReturn: would be sent, which isn't built yet.
+/// cannotReturn: is sent.
 pub(crate) fn return_to<M: ObjectMemory>(m: &mut M, cpu: &mut Cpu) -> Result<(), Stop>
     requires sound { M.sound m.old }
     requires ready { IsReady (M.told m.old) }
@@ -40,11 +42,11 @@ pub(crate) fn return_to<M: ObjectMemory>(m: &mut M, cpu: &mut Cpu) -> Result<(),
     ensures outside { M.outside m.new ≡ M.outside m.old }
 {
     if m.is(Reg::SCRATCH_1, Name::NIL) {
-        return Err(Stop::NotBuilt);
+        return cannot_return(m, cpu);
     }
     field(m, Reg::SCRATCH_2, Reg::SCRATCH_1, 0, 1)?;
     if m.is(Reg::SCRATCH_2, Name::NIL) {
-        return Err(Stop::NotBuilt);
+        return cannot_return(m, cpu);
     }
     back_with(m, cpu)?;
     Ok(())

@@ -2,15 +2,13 @@
 ghost use Rattle.std.specs.Prelude.{OnOk};
 ghost use Rattle.object_memory.specs.Told.{IsReady};
 
-mod base;
-
 use crate::{Step, step};
-use base::memory;
 use bounded_memory::BoundedMemory;
 use contexts::parts::field;
 use contexts::{Cause, Cpu, Stop, start};
 use long_names::Name;
 use object_memory::{MemFault, Need, ObjectMemory, Reg};
+use sample_images::{Header, METHOD, NEXT, add_method, base, memory, name};
 use std::process::Abort;
 use std::test::Fail;
 
@@ -43,7 +41,7 @@ fn walk<M: ObjectMemory>(rt: &impl Abort, m: &mut M) -> Result<(), Stop>
 
 #[test]
 fn each_step(rt: HostRuntime) -> Result<(), Fail> {
-    let mut m = memory(rt.alloc())?;
+    let mut m = memory(rt.alloc(), &base(rt.alloc())?, NEXT)?;
     walk(&rt, &mut m)?;
     Ok(())
 }
@@ -51,25 +49,51 @@ fn each_step(rt: HostRuntime) -> Result<(), Fail> {
 // The context takes 22 words and 20 entries, the method 7 and 2, and a call 51 entries.
 #[test]
 fn in_the_smallest_core(rt: HostRuntime) -> Result<(), Fail> {
-    let mut m = BoundedMemory::new(memory(rt.alloc())?, 29, 73, 26, 26);
+    let plain = memory(rt.alloc(), &base(rt.alloc())?, NEXT)?;
+    let mut m = BoundedMemory::new(plain, 29, 73, 26, 26);
     walk(&rt, &mut m)?;
     Ok(())
 }
 
-// An empty stack, a send, and the end of the method.
+/// Goes on until a step stops, for at most four steps.
+fn go<M: ObjectMemory>(m: &mut M, cpu: &mut Cpu) -> Result<(), Stop>
+    requires sound { M.sound m.old }
+    requires ready { IsReady (M.told m.old) }
+    ensures ready { OnOk result (IsReady (M.told m.new)) }
+    ensures sound { OnOk result (M.sound m.new) }
+{
+    for _turn in 0..4 {
+        step(m, cpu)?;
+    }
+    Ok(())
+}
+
+// Code, the instruction pointer where it stops, and why: an empty stack, a send whose literal is missing, the end of the method, the
+// same after a sum, and a primitive that is tried and not built.
 #[test]
 fn each_stop(rt: HostRuntime) -> Result<(), Fail> {
     let rows = [
-        (3, Stop::Stuck(Cause::Stack)),
-        (5, Stop::NotBuilt),
-        (6, Stop::Stuck(Cause::Pointer)),
+        ([135, 120, 120], 3, Stop::Stuck(Cause::Stack)),
+        ([252, 120, 120], 3, Stop::Stuck(Cause::Shape)),
+        ([112, 112, 112], 5, Stop::Stuck(Cause::Pointer)),
+        ([118, 119, 176], 5, Stop::Stuck(Cause::Pointer)),
+        ([137, 117, 200], 5, Stop::NotBuilt),
     ];
-    for (ip, stop) in rows {
-        let mut m = memory(rt.alloc())?;
+    for (code, ip, stop) in rows {
+        let mut builder = base(rt.alloc())?;
+        add_method(
+            rt.alloc(),
+            &mut builder,
+            name(METHOD),
+            Header::PLAIN,
+            &[],
+            &code,
+        )?;
+        let mut m = memory(rt.alloc(), &builder, NEXT)?;
         let mut cpu = Cpu::at_rest();
         start(&mut m, &mut cpu)?;
-        cpu.ip = ip;
-        assert_eq!(rt; step(&mut m, &mut cpu), Err(stop));
+        assert_eq!(rt; go(&mut m, &mut cpu), Err(stop));
+        assert_eq!(rt; cpu.ip, ip);
     }
     Ok(())
 }
@@ -83,7 +107,8 @@ fn each_refusal(rt: HostRuntime) -> Result<(), Fail> {
         entries: 73,
     };
     for (register, ip) in [(Reg::METHOD, 2), (Reg::ACTIVE_CONTEXT, 3)] {
-        let mut m = BoundedMemory::new(memory(rt.alloc())?, 29, 73, 26, 26);
+        let plain = memory(rt.alloc(), &base(rt.alloc())?, NEXT)?;
+        let mut m = BoundedMemory::new(plain, 29, 73, 26, 26);
         let mut cpu = Cpu::at_rest();
         start(&mut m, &mut cpu)?;
         m.known(register, Name::SCHEDULER_ASSOCIATION)?;

@@ -1,36 +1,26 @@
 use Rattle.std.proofs.Common.{pos, ◌+◌, refl, arith}
 use Rattle.long_names.specs.Names.{FALSE, TRUE}
-use Rattle.blue_model.specs.Machine.{unbuilt}
 use Rattle.blue_model.specs.Contexts.{jump}
 use Rattle.blue_model.specs.Bytecodes.{from_to, bytecodes, jump_on, long_jump, long_jump_on}
-use Rattle.contexts.proofs.Steps.{unbuilt_serves}
 use Rattle.bytecodes.proofs.DispatchLaws.{dispatched}
 use Rattle.bytecodes.proofs.dispatch.jump_bytecode.Goals as goal
 
 pub returns-in-144-to-151-clause-serves : goal.returns-in-144-to-151-clause-serves
 unfolding bytecodes
-returns-in-144-to-151-clause-serves g c = dispatched c.args.byte 26 (from_to 144 151 (λ i. jump (pos (i + 1)))) (omega arith) refl refl (omega arith) (omega arith) (rw c.from.ensures at c.short_jump.ensures.serves)
+returns-in-144-to-151-clause-serves g c = dispatched c.args.byte 29 (from_to 144 151 (λ i. jump (pos (i + 1)))) (omega arith) refl refl (omega arith) (omega arith) (rw c.from.ensures at c.short_jump.ensures.serves)
 
 pub returns-in-152-to-159-clause-serves : goal.returns-in-152-to-159-clause-serves
 unfolding bytecodes
-returns-in-152-to-159-clause-serves g c = dispatched c.args.byte 27 (from_to 152 159 (λ i. jump_on FALSE TRUE (pos (i + 1)))) (omega arith) refl refl (omega arith) (omega arith) (rw c.from-in-152-to-159.ensures at c.jump_on.ensures.serves)
+returns-in-152-to-159-clause-serves g c = dispatched c.args.byte 30 (from_to 152 159 (λ i. jump_on FALSE TRUE (pos (i + 1)))) (omega arith) refl refl (omega arith) (omega arith) (rw c.from-in-152-to-159.ensures at c.jump_on.ensures.serves)
 
 pub returns-in-160-to-167-clause-serves : goal.returns-in-160-to-167-clause-serves
 unfolding bytecodes
-returns-in-160-to-167-clause-serves g c = dispatched c.args.byte 28 (from_to 160 167 long_jump) (omega arith) refl refl (omega arith) (omega arith) (rw c.from-in-160-to-167.ensures at c.long_jump.ensures.serves)
+returns-in-160-to-167-clause-serves g c = dispatched c.args.byte 31 (from_to 160 167 long_jump) (omega arith) refl refl (omega arith) (omega arith) (rw c.from-in-160-to-167.ensures at c.long_jump.ensures.serves)
 
 pub returns-in-168-to-171-clause-serves : goal.returns-in-168-to-171-clause-serves
 unfolding bytecodes
-returns-in-168-to-171-clause-serves g c = dispatched c.args.byte 29 (from_to 168 171 (long_jump_on TRUE FALSE)) (omega arith) refl refl (omega arith) (omega arith) (rw c.from-in-168-to-171.ensures at c.long_jump_on.ensures.serves)
-
-pub returns-in-172-to-175-clause-serves : goal.returns-in-172-to-175-clause-serves
-unfolding bytecodes
-returns-in-172-to-175-clause-serves g c = dispatched c.args.byte 30 (from_to 172 175 (long_jump_on FALSE TRUE)) (omega arith) refl refl (omega arith) (omega arith) (rw c.from-in-172-to-175.ensures at c.long_jump_on-in-172-to-175.ensures.serves)
+returns-in-168-to-171-clause-serves g c = dispatched c.args.byte 32 (from_to 168 171 (long_jump_on TRUE FALSE)) (omega arith) refl refl (omega arith) (omega arith) (rw c.from-in-168-to-171.ensures at c.long_jump_on.ensures.serves)
 
 pub returns-in_default-clause-serves : goal.returns-in_default-clause-serves
 unfolding bytecodes
-returns-in_default-clause-serves g c = dispatched c.args.byte 31 (from_to 176 255 (λ i. unbuilt)) (omega arith) refl refl (omega arith) (omega arith) unbuilt_serves
-
-pub returns-in_default-2-clause-serves : goal.returns-in_default-2-clause-serves
-unfolding bytecodes
-returns-in_default-2-clause-serves g c = dispatched c.args.byte 31 (from_to 176 255 (λ i. unbuilt)) (omega arith) refl refl (omega arith) (omega arith) unbuilt_serves
+returns-in_default-clause-serves g c = dispatched c.args.byte 33 (from_to 172 175 (long_jump_on FALSE TRUE)) (omega arith) refl refl (grind arith) (omega arith) (rw c.from-in_default.ensures at c.long_jump_on-in_default.ensures.serves)

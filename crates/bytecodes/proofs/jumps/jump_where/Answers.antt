@@ -1,7 +1,8 @@
 use Rattle.std.proofs.Common.{sym, arith, w32}
 use Rattle.std.proofs.lemmas.Int.{to_z_pos}
 use Rattle.blue_model.specs.Bytecodes.{jump_where}
-use Rattle.contexts.proofs.Steps.{pick_true, pick_false, done_serves, unbuilt_serves}
+use Rattle.contexts.proofs.ServesLaws.{exits}
+use Rattle.contexts.proofs.Steps.{pick_true, pick_false, done_serves}
 use Rattle.bytecodes.proofs.jumps.jump_where.Goals as goal
 
 pub returns-then-is-clause-serves : goal.returns-then-is-clause-serves
@@ -14,6 +15,10 @@ pub returns-then-is-2-clause-serves : goal.returns-then-is-2-clause-serves
 unfolding jump_where
 returns-then-is-2-clause-serves g c = pick_false _ _ _ (sym c.if-is.ensures) (pick_true _ _ _ (sym c.if-is-2.ensures) (done_serves c.requires.ready))
 
-pub returns-else-is-2-clause-serves : goal.returns-else-is-2-clause-serves
+pub returns-in_err-must_be_boolean-clause-serves : goal.returns-in_err-must_be_boolean-clause-serves
 unfolding jump_where
-returns-else-is-2-clause-serves g c = pick_false _ _ _ (sym c.if-is.ensures) (pick_false _ _ _ (sym c.if-is-2.ensures) unbuilt_serves)
+returns-in_err-must_be_boolean-clause-serves g c = pick_false _ _ _ (sym c.if-is.ensures) (pick_false _ _ _ (sym c.if-is-2.ensures) (exits _ c.from_residual.ensures.1 c.in_err-must_be_boolean.ensures.serves))
+
+pub returns-clause-serves : goal.returns-clause-serves
+unfolding jump_where
+returns-clause-serves g c = pick_false _ _ _ (sym c.if-is.ensures) (pick_false _ _ _ (sym c.if-is-2.ensures) c.in_ok-must_be_boolean.ensures.serves)

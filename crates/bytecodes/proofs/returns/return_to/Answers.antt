@@ -1,12 +1,12 @@
 use Rattle.std.proofs.Common.{refl, sym}
-use Rattle.blue_model.specs.Contexts.{return_to}
+use Rattle.blue_model.specs.Sends.{return_to}
 use Rattle.contexts.proofs.ServesLaws.{serves_then, serves_exit, exits}
-use Rattle.contexts.proofs.Steps.{pick_true, pick_false, unbuilt_serves}
+use Rattle.contexts.proofs.Steps.{pick_true, pick_false}
 use Rattle.bytecodes.proofs.returns.return_to.Goals as goal
 
 pub returns-then-is-clause-serves : goal.returns-then-is-clause-serves
 unfolding return_to
-returns-then-is-clause-serves g c = pick_true _ _ _ (sym c.if-is.ensures) unbuilt_serves
+returns-then-is-clause-serves g c = pick_true _ _ _ (sym c.if-is.ensures) c.cannot_return.ensures.serves
 
 pub returns-in_err-field-clause-serves : goal.returns-in_err-field-clause-serves
 unfolding return_to
@@ -14,7 +14,9 @@ returns-in_err-field-clause-serves g c = pick_false _ _ _ (sym c.if-is.ensures) 
 
 pub returns-then-is-2-clause-serves : goal.returns-then-is-2-clause-serves
 unfolding return_to
-returns-then-is-2-clause-serves g c = pick_false _ _ _ (sym c.if-is.ensures) (serves_then _ (c.in_ok-field.ensures.serves _) (pick_true _ _ _ (sym c.if-is-2.ensures) unbuilt_serves))
+returns-then-is-2-clause-serves g c =
+    let value = c.in_ok-field.ensures.looks.regs 10 refl in
+    pick_false _ _ _ (sym c.if-is.ensures) (serves_then _ (c.in_ok-field.ensures.serves _) (pick_true _ _ _ (sym c.if-is-2.ensures) (rw value at c.cannot_return-then-is-2.ensures.serves)))
 
 pub returns-in_err-back_with-clause-serves : goal.returns-in_err-back_with-clause-serves
 unfolding return_to
