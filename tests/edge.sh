@@ -26,7 +26,7 @@ patch() {
 }
 
 # The base image, and what two bytecodes make of it: the instruction pointer of its context is 5 in place of 3.
-base=$top/images/base.loom
+base=$top/crates/loom_images/data/base.loom
 cp "$base" base.loom && cp "$base" after.loom || exit 1
 patch after.loom 587 '\013'
 

@@ -3,7 +3,7 @@ use crate::answer::Answer;
 use crate::edits::{cut, patch};
 use crate::paragraph::{Paragraph, parts_of};
 use crate::stage::at_this_stage;
-use anyhow::{Context, Result};
+use anyhow::{Context, Result, bail};
 use std::alloc::Global;
 
 /// An image, how it is run, and what has to come out.
@@ -36,12 +36,13 @@ pub struct Sizes<'a> {
 pub fn case_of<'a>(alloc: Global, base: &[u8], text: &'a str) -> Result<Case<'a>> {
     let paragraph = Paragraph::new(text)?;
     paragraph.needed("case")?;
+    let (image, saved) = files_of(alloc, base, paragraph)?;
     Ok(Case {
-        image: image_of(alloc, base, paragraph)?,
+        image,
         events: paragraph.bytes(alloc, "events")?.unwrap_or(Vec::new(alloc)),
         sizes: sizes_of(paragraph)?,
         steps: paragraph.needed("steps")?,
-        want: at_this_stage(alloc, answer_of(alloc, paragraph)?)?,
+        want: at_this_stage(alloc, answer_of(alloc, paragraph, saved)?)?,
     })
 }
 
@@ -53,35 +54,63 @@ fn sizes_of(paragraph: Paragraph<'_>) -> Result<Sizes<'_>> {
     })
 }
 
-// The stated image, with what is changed of it, in the order of the lines.
-fn image_of(alloc: Global, base: &[u8], paragraph: Paragraph<'_>) -> Result<Vec<u8>> {
+// The stated image, and the file that has to be saved, if any. What is changed stands in the order of the lines: up to the line
+// `saved` it is changed of the image, and behind that line of the saved file.
+fn files_of(
+    alloc: Global,
+    base: &[u8],
+    paragraph: Paragraph<'_>,
+) -> Result<(Vec<u8>, Option<Vec<u8>>)> {
     let mut image = match paragraph.needed("image")? {
         "base" => base.to_vec(alloc)?,
         text => hex::decode(alloc, text).context("image")?,
     };
+    let mut saved = None;
     for line in paragraph.text().lines() {
         let (word, value) = parts_of(line);
-        edit(alloc, &mut image, word, value).context(word)?;
+        match &mut saved {
+            Some(_) if word == "saved" => bail!("saved twice"),
+            Some(saved) => edit(alloc, saved, word, value)
+                .context(word)
+                .context("saved")?,
+            None if word == "saved" => saved = Some(saved_of(alloc, &image, value)?),
+            None => edit(alloc, &mut image, word, value).context(word)?,
+        }
     }
-    Ok(image)
+    Ok((image, saved))
+}
+
+// The file that is saved: the image itself, or these bytes.
+fn saved_of(alloc: Global, image: &[u8], value: &str) -> Result<Vec<u8>> {
+    match value {
+        "image" => Ok(image.to_vec(alloc)?),
+        text => hex::decode(alloc, text).context("saved"),
+    }
 }
 
 // Makes the change that a line states, if it states one.
-fn edit(alloc: Global, image: &mut Vec<u8>, word: &str, value: &str) -> Result<()> {
+fn edit(alloc: Global, file: &mut Vec<u8>, word: &str, value: &str) -> Result<()> {
     match word {
         "patch" => {
             let (at, bytes) = value.split_once(' ').context("no bytes")?;
-            patch(image, at.parse()?, &hex::decode(alloc, bytes)?)?;
+            patch(file, at.parse()?, &hex::decode(alloc, bytes)?)?;
         }
-        "cut" => cut(image, value.parse()?)?,
-        "append" => image.extend_from_slice(&hex::decode(alloc, value)?)?,
+        "cut" => cut(file, value.parse()?)?,
+        "append" => file.extend_from_slice(&hex::decode(alloc, value)?)?,
+        "repeat" => {
+            let (count, bytes) = value.split_once(' ').context("no bytes")?;
+            let bytes = hex::decode(alloc, bytes)?;
+            for _ in 0..count.parse::<usize>()? {
+                file.extend_from_slice(&bytes)?;
+            }
+        }
         _ => {}
     }
     Ok(())
 }
 
 // What the whole machine answers.
-fn answer_of(alloc: Global, paragraph: Paragraph<'_>) -> Result<Answer> {
+fn answer_of(alloc: Global, paragraph: Paragraph<'_>, saved: Option<Vec<u8>>) -> Result<Answer> {
     let status = paragraph.needed("status")?.parse().context("status")?;
     let mut notes = paragraph.needed("notes")?.as_bytes().to_vec(alloc)?;
     notes.push(b'\n')?;
@@ -91,7 +120,7 @@ fn answer_of(alloc: Global, paragraph: Paragraph<'_>) -> Result<Answer> {
         transcript: paragraph
             .bytes(alloc, "transcript")?
             .unwrap_or(Vec::new(alloc)),
-        saved: paragraph.bytes(alloc, "saved")?,
+        saved,
         display: paragraph.bytes(alloc, "display")?,
     })
 }

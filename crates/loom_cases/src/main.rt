@@ -25,7 +25,7 @@ use std::{env, fs, io};
 const BASE: &str = "base.loom";
 
 /// The files of cases. Those of the last are wrong on purpose: each has to be reported.
-const FILES: [&str; 24] = [
+const FILES: [&str; 40] = [
     "runs.cases",
     "start.cases",
     "blocks.cases",
@@ -39,6 +39,22 @@ const FILES: [&str; 24] = [
     "conditions.cases",
     "loops.cases",
     "returns.cases",
+    "sends.cases",
+    "special_sends.cases",
+    "super_sends.cases",
+    "lookups.cases",
+    "long_chains.cases",
+    "methods_run.cases",
+    "untold.cases",
+    "cannot_return.cases",
+    "must_be_boolean.cases",
+    "tries.cases",
+    "integers.cases",
+    "elements.cases",
+    "strings.cases",
+    "streams.cases",
+    "storage.cases",
+    "long_arrays.cases",
     "own_objects.cases",
     "methods.cases",
     "kept.cases",

@@ -3,13 +3,14 @@ use anyhow::{Context, Result, bail};
 use std::alloc::Global;
 
 /// The words that lines begin with. `#` begins a comment.
-const WORDS: [&str; 16] = [
+const WORDS: [&str; 17] = [
     "case",
     "#",
     "image",
     "patch",
     "cut",
     "append",
+    "repeat",
     "events",
     "core",
     "entries",

@@ -22,6 +22,4 @@ pub use running::{Halted, run, whole_run};
 pub use status::Status;
 
 #[cfg(test)]
-mod base;
-#[cfg(test)]
 mod tests;
