@@ -1,5 +1,5 @@
 // Memories of what a builder has.
-ghost use Rattle.std.specs.Prelude.{◌≡◌, IfOk, None, ⊥};
+ghost use Rattle.std.specs.Prelude.{◌≡◌, IfOk, None};
 ghost use Rattle.object_memory.specs.Told.{IsReady};
 ghost use Rattle.object_memory.specs.Plain.{plain_told, fresh};
 ghost use Rattle.image_format.specs.Valid.{IsImageHeap};
