@@ -8,15 +8,14 @@ use Rattle.blue_model.specs.declared.answer.Answer.{Answer}
 use Rattle.blue_model.specs.declared.answer.Answer.TheVariants.{Done, Failed}
 use Rattle.blue_model.specs.declared.cause.Cause.{Cause}
 use Rattle.blue_model.specs.declared.cause.Cause.TheVariants.{Shape}
-use Rattle.blue_model.specs.declared.cpu.Cpu.{Cpu}
 use Rattle.blue_model.specs.declared.spot.Spot.{Spot}
 use Rattle.blue_model.specs.declared.spot.Spot.TheVariants.{Field, Word, Byte}
-use Rattle.blue_model.specs.Machine.{Machine, LogRow, Outcome, Go, Halt, Spent, Unbuilt, Rule, after, then_do, ◌>>=◌, done, halt, unbuilt, given, pick, register, numbers, row_of, rows_at, look, part, known, classed, class_of, store, store_word, store_byte, make}
-use Rattle.blue_model.specs.Contexts.{stack, store_field}
-use Rattle.blue_model.specs.Trials.{failed, where_some, where_true, ◌>>?◌, peek, answer, boolean, Primitive, with_arguments, primitive_in}
+use Rattle.blue_model.specs.Machine.{Machine, LogRow, Outcome, Go, Halt, Spent, Unbuilt, Rule, after, then_do, ◌>>=◌, done, halt, unbuilt, given, pick, register, numbers, row_of, look, part, known, classed, class_of}
+use Rattle.blue_model.specs.Contexts.{stack}
+use Rattle.blue_model.specs.Trials.{failed, where_some, where_true, ◌>>?◌, peek, answer, Primitive, with_arguments, primitive_in}
 use Rattle.blue_model.specs.Arithmetic.{of_numbers, arithmetic, comparison, point, integer_primitives}
-use Rattle.blue_model.specs.Elements.{index_argument, number_object, specification_of, fixed_of, spot_at, element_of, element_at, put_element, character_of, byte_of_value, byte_of_character}
-use Rattle.blue_model.specs.Storage.{at, at_put, size_of, string_at, string_at_put, streamed_by, streamed, of_stream, next_spot, advance, streamed_element, next, put_streamed, next_put, at_end, method_object, object_at_index, object_at_put, new, new_with_size, new_method, instance_variable_at, instance_variable_at_put, hash, equivalent, class, object_primitives}
+use Rattle.blue_model.specs.Elements.{index_argument, specification_of, fixed_of, spot_at, element_of, variable_of, put_element, character_of, byte_of_character}
+use Rattle.blue_model.specs.Storage.{at, at_put, size_of, string_at, string_at_put, streamed_by, streamed, of_stream, next_spot, streamed_element, next, put_streamed, next_put, at_end, method_object, object_at_index, object_at_put, new, new_with_size, new_method, instance_variable_at, instance_variable_at_put, hash, equivalent, class, object_primitives}
 use Rattle.blue_model.specs.Primitives.{is_unbuilt, primitive}
 use Rattle.blue_model.proofs.ClassLaws.{Answers, answers_then, answers_done, answers_halt, answers_look}
 
@@ -103,6 +102,10 @@ looks-element_of : {m : Machine} (v : Value) (i : ℤ) → Looks m (element_of v
 unfolding element_of
 looks-element_of {m} v i = search (looking, looks-fixed_of, looks-spot_at) depth 12
 
+looks-variable_of : {m : Machine} (v : Value) (i : ℤ) → Looks m (variable_of v i)
+unfolding variable_of
+looks-variable_of {m} v i = search looks-spot_at depth 12
+
 looks-character_of : {m : Machine} (byte : ℕ) → Looks m (character_of byte)
 unfolding character_of
 looks-character_of {m} byte = search looking depth 12
@@ -115,7 +118,7 @@ looks-streamed : {m : Machine} (v : Value) → Looks m (streamed v)
 unfolding streamed streamed_by
 looks-streamed {m} v = search looking depth 14
 
-ruleset places = (looks-stack, looks-index_argument, looks-specification_of, looks-fixed_of, looks-element_of, looks-character_of, looks-byte_of_character, looks-streamed)
+ruleset places = (looks-stack, looks-index_argument, looks-specification_of, looks-fixed_of, looks-element_of, looks-variable_of, looks-character_of, looks-byte_of_character, looks-streamed)
 
 -- ---- rules that never fail
 

@@ -1,18 +1,12 @@
 -- The slots of a method dictionary, and the places of the round that goes over them.
-use Rattle.std.proofs.Common.{◌≡◌, zero, suc, ℕ, ◌+◌, ◌-◌, ◌/◌, ◌<◌, ◌≤◌, pos, nat_lt, Bool, true, false, cond, List, [], ◌∷◌, length, take, drop, get_or, Option, Some, None, refl, sym, ◌∙◌, ap, subst, arith}
-use Rattle.std.proofs.lemmas.Grind.{common_steps}
+use Rattle.std.proofs.Common.{◌≡◌, ℕ, ◌+◌, ◌-◌, ◌<◌, ◌≤◌, pos, nat_lt, Bool, true, false, cond, List, length, take, drop, get_or, Some, refl, sym, ◌∙◌, ap, arith}
 use borrow.Author.Tests.{ltb-true, ltb-false}
 use Rattle.std.specs.List.{slice_get}
-use Rattle.std.specs.Option.{option_and_then}
-use Rattle.std.proofs.lemmas.Nat.{and_le_r}
 use Rattle.std.proofs.lemmas.Option.{slice_get-get_or}
 use Rattle.std.proofs.lemmas.List.{length-append, length-drop, length-take-le, get_or_append_left, get_or-append-add, get_or-drop, get_or-take}
 use Rattle.long_names.specs.declared.value.Value.{Value}
-use Rattle.long_names.specs.declared.value.Value.TheVariants.{Int, Ref}
-use Rattle.long_names.specs.Names.{NIL}
-use Rattle.long_names.specs.Objects.{is_ref}
-use Rattle.blue_model.specs.Parts.{is_nil}
-use Rattle.blue_model.specs.Lookup.{raised, place_in, first_slot, turned, turned_back, slot_in}
+use Rattle.long_names.specs.declared.value.Value.TheVariants.{Int}
+use Rattle.blue_model.specs.Lookup.{turned, turned_back}
 
 -- ---- a list that is turned
 

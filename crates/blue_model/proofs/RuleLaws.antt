@@ -15,9 +15,9 @@ use Rattle.blue_model.specs.declared.spot.Spot.{Spot}
 use Rattle.blue_model.specs.declared.spot.Spot.TheVariants.{Field, Word, Byte}
 use Rattle.blue_model.specs.Trials.{answer, boolean, Primitive, with_arguments, primitive_in}
 use Rattle.blue_model.specs.Arithmetic.{of_numbers, arithmetic, comparison, make_point, point, integer_primitives}
-use Rattle.blue_model.specs.Elements.{index_argument, make_large, number_object, specification_of, fixed_of, element_number, spot_at, element_of, element_at, put_element, character_of, byte_of_value, byte_of_character}
+use Rattle.blue_model.specs.Elements.{index_argument, make_large, number_object, specification_of, fixed_of, spot_at, element_of, variable_of, element_at, put_element, character_of, byte_of_character}
 use Rattle.blue_model.specs.Storage.{at, at_put, size_of, string_at, string_at_put, streamed_by, streamed, of_stream, next_spot, advance, streamed_element, next, put_streamed, next_put, at_end, method_object, object_at_index, object_at_put, new, new_with_size, new_method, instance_variable_at, instance_variable_at_put, hash, equivalent, class, object_primitives}
-use Rattle.blue_model.specs.Primitives.{is_unbuilt, primitive, has_failed, tried}
+use Rattle.blue_model.specs.Primitives.{primitive, tried}
 use Rattle.blue_model.proofs.LawSteps.{lawful, trying, then_plain, try_plain, law_pick, law_done, law_numbers, law_store, law_store_word, law_store_byte, law_unbuilt, law_failed, law_part, law_where_some, law_where_true, kept_int, law_peek, done_plain}
 
 -- ---- contexts
@@ -194,6 +194,10 @@ pub law-element_of : {w : Lost} (v : Value) (i : ℤ) → IsKept w v → Lawful 
 unfolding element_of
 law-element_of {w} v i k = search (lawful, law-fixed_of, law-spot_at) depth 12
 
+pub law-variable_of : {w : Lost} (v : Value) (i : ℤ) → IsKept w v → Lawful w IsPlain (variable_of v i)
+unfolding variable_of
+law-variable_of {w} v i k = search law-spot_at depth 12
+
 pub law-element_at : {w : Lost} (v : Value) (spot : Spot) → IsKept w v → Lawful w (IsKept w) (element_at v spot)
 law-element_at v (Field i) k = search lawful depth 12
 law-element_at v (Word i) k = search (lawful, law-number_object) depth 12
@@ -212,7 +216,7 @@ pub law-byte_of_character : {w : Lost} (v : Value) → IsKept w v → Lawful w I
 unfolding byte_of_character
 law-byte_of_character {w} v k = search (lawful, trying) depth 12
 
-ruleset elements = (law-index_argument, law-number_object, law-specification_of, law-fixed_of, law-element_of, law-element_at, law-put_element, law-character_of, law-byte_of_character, law-boolean, law-answer, law-stack, law-store_field)
+ruleset elements = (law-index_argument, law-number_object, law-specification_of, law-fixed_of, law-element_of, law-variable_of, law-element_at, law-put_element, law-character_of, law-byte_of_character, law-boolean, law-answer, law-stack, law-store_field)
 
 pub law-at : {w : Lost} → Lawful w IsPlain at
 unfolding at

@@ -6,8 +6,8 @@ use Rattle.long_names.specs.Names.{NIL, SCHEDULER_ASSOCIATION}
 use Rattle.long_names.specs.State.{ACTIVE_CONTEXT, HOME, METHOD, RECEIVER}
 use Rattle.blue_model.specs.declared.cause.Cause.TheVariants.{Pointer, Stack, Shape}
 use Rattle.blue_model.specs.Indexes.{VALUE_INDEX, ASSOCIATION_SIZE, ACTIVE_PROCESS_INDEX, SCHEDULER_SIZE, SUSPENDED_CONTEXT_INDEX, PROCESS_SIZE, SENDER_INDEX, INSTRUCTION_POINTER_INDEX, STACK_POINTER_INDEX, METHOD_INDEX, RECEIVER_INDEX, TEMP_FRAME_START, EMPTY_STACK, FULL_STACK}
-use Rattle.blue_model.specs.Machine.{Rule, ◌>>=◌, ◌>>◌, done, unbuilt, given, pick, register, put_register, clear, numbers, numbers_at_rest, set_numbers, part, known, store, unpin_all, pin}
-use Rattle.blue_model.specs.Parts.{is_nil, size, field, number, home_of, code_of, byte_at}
+use Rattle.blue_model.specs.Machine.{Rule, ◌>>=◌, ◌>>◌, done, given, register, put_register, clear, numbers, numbers_at_rest, set_numbers, part, known, store, unpin_all, pin}
+use Rattle.blue_model.specs.Parts.{size, field, number, home_of, code_of, byte_at}
 
 -- a store into a field of an object of pointers, which has it
 unfoldable pub store_field : Value → ℕ → Value → Rule (Unit {0})

@@ -1,8 +1,8 @@
 -- Indexes and elements (chapter 29, array and stream primitives).
-use Rattle.std.specs.Prelude.{ℕ, ℤ, pos, negsuc, ◌+◌, ◌-◌, ◌*◌, ◌/◌, ◌%◌, ◌==◌, Bool, true, false, nat_lt, nat_le, List, [], ◌∷◌, length, slice_get, Option, Some, None, is_some, if◌then◌else◌}
+use Rattle.std.specs.Prelude.{ℕ, ℤ, pos, negsuc, ◌+◌, ◌-◌, ◌*◌, ◌/◌, ◌%◌, ◌==◌, Bool, false, nat_lt, nat_le, List, [], ◌∷◌, length, slice_get, Option, Some, None, is_some, if◌then◌else◌}
 use Rattle.std.specs.Option.{option_and_then}
 use Rattle.long_names.specs.declared.value.Value.{Value}
-use Rattle.long_names.specs.declared.value.Value.TheVariants.{Int, Ref}
+use Rattle.long_names.specs.declared.value.Value.TheVariants.{Int}
 use Rattle.long_names.specs.declared.object.Body.{Body}
 use Rattle.long_names.specs.declared.object.Body.TheVariants.{Pointers, Words, Bytes, Method}
 use Rattle.long_names.specs.declared.object.Object.{Object}
@@ -138,6 +138,10 @@ is_positive (negsuc n) = false
 -- element i of an object (checkIndexableBoundsOf:in:)
 unfoldable pub element_of : Value → ℤ → Rule (Option Spot)
 element_of array i = pick (is_positive i) (fixed_of array >>= λ fixed. spot_at array (element_number i fixed)) (done None)
+
+-- variable i of an object: its element i, with no regard to its fixed fields
+unfoldable pub variable_of : Value → ℤ → Rule (Option Spot)
+variable_of receiver i = spot_at receiver (element_number i (Some 0))
 
 -- ---- reading
 

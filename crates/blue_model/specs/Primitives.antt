@@ -1,10 +1,10 @@
 -- The table of primitives (chapter 29), and their tries.
-use Rattle.std.specs.Prelude.{ℕ, ◌==◌, ◌||◌, Bool, true, false, List, [], ◌∷◌, ◌++◌}
+use Rattle.std.specs.Prelude.{ℕ, ◌==◌, Bool, true, false, List, [], ◌∷◌, ◌++◌}
 use Rattle.std.specs.List.{list_any}
 use Rattle.blue_model.specs.declared.answer.Answer.{Answer}
 use Rattle.blue_model.specs.declared.answer.Answer.TheVariants.{Done, Failed, Execute, Quit}
-use Rattle.blue_model.specs.Machine.{Rule, ◌>>=◌, ◌>>◌, done, unbuilt, pick}
-use Rattle.blue_model.specs.Trials.{Primitive, primitive_in}
+use Rattle.blue_model.specs.Machine.{Rule, ◌>>=◌, done, unbuilt, pick}
+use Rattle.blue_model.specs.Trials.{primitive_in}
 use Rattle.blue_model.specs.Arithmetic.{integer_primitives}
 use Rattle.blue_model.specs.Storage.{object_primitives}
 

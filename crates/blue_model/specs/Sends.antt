@@ -1,10 +1,10 @@
 -- Sends and returns (chapter 28): from the receiver's class to the method, execution by its header, activation, the end of the chain,
 -- and what is sent where the machine can't go on.
-use Rattle.std.specs.Prelude.{ℕ, ℤ, pos, negsuc, ◌-ℤ◌, ◌+◌, ◌-◌, ◌*◌, ◌/◌, ◌%◌, ◌==◌, Bool, false, nat_lt, is_some, List, length, Option, Some, None, if◌then◌else◌}
+use Rattle.std.specs.Prelude.{ℕ, ℤ, pos, negsuc, ◌-ℤ◌, ◌+◌, ◌-◌, ◌*◌, ◌/◌, ◌%◌, ◌==◌, nat_lt, List, length, Option, Some, None, if◌then◌else◌}
 use Rattle.std.specs.List.{slice_get}
 use Rattle.std.specs.Option.{option_and_then}
 use Rattle.long_names.specs.declared.value.Value.{Value}
-use Rattle.long_names.specs.declared.value.Value.TheVariants.{Int, Ref}
+use Rattle.long_names.specs.declared.value.Value.TheVariants.{Int}
 use Rattle.long_names.specs.declared.object.Object.{Object}
 use Rattle.long_names.specs.Names.{ARRAY, METHOD_CONTEXT, MESSAGE, DOES_NOT_UNDERSTAND, CANNOT_RETURN, SPECIAL_SELECTORS, MUST_BE_BOOLEAN}
 use Rattle.long_names.specs.Words.{unsigned_of, literal_count}

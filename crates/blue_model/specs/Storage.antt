@@ -1,5 +1,5 @@
 -- Array, stream and storage primitives (chapter 29).
-use Rattle.std.specs.Prelude.{ℕ, ℤ, pos, ◌+◌, ◌-◌, ◌/◌, ◌%◌, ◌==◌, ◌&&◌, ◌||◌, Bool, true, false, nat_lt, nat_le, List, [], ◌∷◌, Option, Some, None, if◌then◌else◌}
+use Rattle.std.specs.Prelude.{ℕ, ℤ, pos, ◌+◌, ◌-◌, ◌/◌, ◌%◌, ◌==◌, ◌||◌, Bool, true, false, nat_lt, nat_le, List, [], ◌∷◌, Option, Some, None, if◌then◌else◌}
 use Rattle.std.specs.Option.{option_and_then}
 use Rattle.std.specs.Int.Signed.{lt_z}
 use Rattle.std.specs.Ordering.{int_eq}
@@ -14,8 +14,8 @@ use Rattle.blue_model.specs.Indexes.{STREAM_ARRAY_INDEX, STREAM_INDEX_INDEX, STR
 use Rattle.blue_model.specs.Machine.{Rule, ◌>>=◌, ◌>>◌, done, pick, class_of, store, make}
 use Rattle.blue_model.specs.Parts.{size, field, number, literal, heading}
 use Rattle.blue_model.specs.Contexts.{store_field, stack}
-use Rattle.blue_model.specs.Trials.{failed, where_some, where_true, ◌>>?◌, peek, answer, boolean, Primitive}
-use Rattle.blue_model.specs.Elements.{natural, index_argument, number_object, has_pointers, has_words, is_indexable, fixed_fields, specification_of, fixed_of, length_of, element_of, element_at, put_element, text_at, character_of, byte_of_character}
+use Rattle.blue_model.specs.Trials.{where_some, where_true, ◌>>?◌, peek, answer, boolean, Primitive}
+use Rattle.blue_model.specs.Elements.{natural, index_argument, number_object, has_pointers, has_words, is_indexable, fixed_fields, specification_of, fixed_of, length_of, element_of, variable_of, element_at, put_element, text_at, character_of, byte_of_character}
 
 -- ---- arrays
 
@@ -175,15 +175,12 @@ new_method = do
 
 -- ---- variables of any instance, with no regard to its fixed fields
 
-abbrev pub variable_number : ℤ → Option ℕ
-variable_number z = option_and_then (λ n. if nat_lt 0 n then Some (n - 1) else None) (natural z)
-
 -- primitiveInstVarAt
 unfoldable pub instance_variable_at : Rule Answer
 instance_variable_at = do
   receiver ← stack 1
   argument ← stack 0
-  peek (size 0) receiver >>? λ n. index_argument argument >>? λ z. where_some (variable_number z) (λ i. peek (field 0 i) receiver >>? answer 1)
+  peek (size 0) receiver >>? λ n. index_argument argument >>? λ i. variable_of receiver i >>? λ spot. element_at receiver spot >>= answer 1
 
 -- primitiveInstVarAtPut
 unfoldable pub instance_variable_at_put : Rule Answer
@@ -191,7 +188,7 @@ instance_variable_at_put = do
   receiver ← stack 2
   argument ← stack 1
   v ← stack 0
-  peek (size 0) receiver >>? λ n. index_argument argument >>? λ z. where_some (variable_number z) (λ i. peek (field 0 i) receiver >>? λ old. store receiver i v >> answer 2 v)
+  peek (size 0) receiver >>? λ n. index_argument argument >>? λ i. variable_of receiver i >>? λ spot. put_element receiver spot v (answer 2 v)
 
 -- ---- names
 

@@ -1,5 +1,5 @@
--- What classes and numbers that are passed by value say of new objects and of variables.
-use Rattle.std.proofs.Common.{◌≡◌, ℕ, ℤ, ◌+◌, ◌<◌, ◌≤◌, Bool, true, false, nat_lt, Option, Result, sym, ◌∙◌, ap, subst}
+-- What classes and numbers that are passed by value say of new objects.
+use Rattle.std.proofs.Common.{◌≡◌, ℕ, ℤ, ◌+◌, ◌<◌, ◌≤◌, Bool, true, false, nat_lt, Result, sym, ◌∙◌, ap, subst}
 use Rattle.std.specs.Prelude.{if◌then◌else◌}
 use borrow.Author.Tests.{lt-ltb, le-ltb}
 use Rattle.long_names.specs.declared.value.Value.{Value}
@@ -8,7 +8,7 @@ use Rattle.object_memory.specs.Told.{Told}
 use Rattle.blue_model.specs.declared.cpu.Cpu.{Cpu}
 use Rattle.blue_model.specs.Machine.{make}
 use Rattle.blue_model.specs.Elements.{has_pointers, has_words, fixed_fields}
-use Rattle.blue_model.specs.Storage.{is_made_by_new, fields_making, sized_making, variable_number}
+use Rattle.blue_model.specs.Storage.{is_made_by_new, fields_making, sized_making}
 use Rattle.contexts.specs.declared.stop.Stop.{Stop}
 use Rattle.contexts.specs.Serves.{Serves}
 
@@ -69,6 +69,3 @@ too_many y z elements fixed e count many = subst (λ k. nat_lt (elements + k) 65
 
 pub few_enough : (y z : ℤ) (elements fixed : ℕ) → y ≡ z → fixed ≡ fixed_fields y → elements + fixed < 65536 → nat_lt (elements + fixed_fields z) 65536 ≡ true
 few_enough y z elements fixed e count few = subst (λ k. nat_lt (elements + k) 65536 ≡ true) (count ∙ ap (λ k. fixed_fields k) e) (lt-ltb (elements + fixed) 65536 few)
-
-pub numbered : (y z : ℤ) (found x : Option ℕ) → y ≡ z → found ≡ variable_number y → found ≡ x → variable_number z ≡ x
-numbered y z found x e is found_x = ap (λ k. variable_number k) (sym e) ∙ sym is ∙ found_x

@@ -21,7 +21,7 @@ use Rattle.object_memory.proofs.ShapeLaws.{small_number}
 use Rattle.object_memory.proofs.LooksLaws.{put_value}
 use Rattle.blue_model.specs.declared.cause.Cause.TheVariants.{Shape}
 use Rattle.blue_model.specs.declared.cpu.Cpu.{Cpu}
-use Rattle.blue_model.specs.Machine.{Machine, MACHINE_REGISTERS, Outcome, Go, Halt, Rule, row_of, after, then_do, ◌>>=◌, done, pick, part, class_of}
+use Rattle.blue_model.specs.Machine.{Machine, MACHINE_REGISTERS, Outcome, Go, Rule, row_of, after, then_do, ◌>>=◌, done, pick, part, class_of}
 use Rattle.blue_model.specs.declared.spot.Spot.{Spot}
 use Rattle.blue_model.specs.Trials.{peek}
 use Rattle.blue_model.specs.Elements.{two_bytes, large_number, index_by, index_argument, is_positive, element_number, spot_of, spot_at, byte_of_object}
@@ -33,7 +33,7 @@ use Rattle.contexts.proofs.Steps.{read_last}
 use Rattle.prims_object.specs.Extents.{text_length}
 use Rattle.prims_object.specs.Numbers.{IsIndex, is_pair, positive}
 use Rattle.prims_object.proofs.TestLaws.{done_as}
-use Rattle.prims_object.proofs.WithinLaws.{IsWithin, only_row, rows_only, goes_within, halts_within, peek_goes, peek_halts, part_goes, class_goes, class_halts}
+use Rattle.prims_object.proofs.WithinLaws.{IsWithin, only_row, goes_within, halts_within, peek_goes, peek_halts, part_goes, class_goes, class_halts}
 
 -- ---- numbers of 32 bits
 
@@ -81,8 +81,16 @@ element_there (pos k) n fixed e = go (nat_lt 0 k) e
     go true e = let same : k ≡ n = cc in ap (λ x. Some (x + fixed)) same
     go false e = let no : ◌≡◌ {A = Option ℕ} None (Some n) = e in absurd (cc)
 
+-- the element of an object that has no fixed fields
+pub element_unfixed : (z : ℤ) → element_number z (Some 0) ≡ positive z
+element_unfixed (negsuc k) = refl
+element_unfixed (pos k) = let same : k + 0 ≡ k = omega arith in ap (λ x. if nat_lt 0 k then Some x else None) same
+
 pub spot_there : {old new : Told} {cpu now : Cpu} {answer : Result (Option Spot) Stop} (v : Value) (e : Option ℕ) (n : ℕ) → e ≡ Some n → Serves old cpu new now (peek (spot_of n) v) answer → Serves old cpu new now (spot_at v e) answer
 spot_there {old} {new} {cpu} {now} {answer} v e n is s = subst (λ x. Serves old cpu new now (spot_at v x) answer) (sym is) s
+
+pub spot_nowhere : {t : Told} {cpu : Cpu} (v : Value) (e : Option ℕ) → e ≡ None → IsReady t → Serves t cpu t cpu (spot_at v e) (Ok None)
+spot_nowhere {t} {cpu} v e none ready = subst (λ x. Serves t cpu t cpu (spot_at v x) (Ok None)) (sym none) (done_as _ _ refl ready)
 
 -- ---- two bytes, which are looked at one after the other
 

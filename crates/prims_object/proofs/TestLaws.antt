@@ -1,5 +1,5 @@
 -- What tests of registers and of values say.
-use Rattle.std.proofs.Common.{◌≡◌, ℕ, ℤ, ◌↔◌, Bool, true, false, ◌||◌, List, [], ◌∷◌, eqb, Option, Some, None, Result, Ok, Err, OnOk, IsTrue, IfSome, is_some, refl, sym, ap, subst, arith}
+use Rattle.std.proofs.Common.{◌≡◌, ℕ, ◌↔◌, Bool, true, false, ◌||◌, List, [], ◌∷◌, eqb, Option, Some, None, Result, Ok, Err, OnOk, IsTrue, IfSome, is_some, refl, ap, subst, arith}
 use Rattle.std.proofs.lemmas.Grind.{common_steps}
 use Rattle.long_names.specs.declared.value.Value.{Value}
 use Rattle.long_names.specs.declared.value.Value.TheVariants.{Int, Ref}

@@ -44,6 +44,27 @@ pub(crate) fn element_of<M: ObjectMemory>(
     spot_of(m, array, e + fixed)
 }
 
+/// Where variable i of the object that a register names stands, with no regard to its fixed fields, where it has it.
+pub(crate) fn variable_of<M: ObjectMemory>(
+    m: &mut M,
+    receiver: Reg,
+    i: i32,
+) -> Result<Option<Spot>, Stop>
+    requires sound { M.sound m.old }
+    requires ready { IsReady (M.told m.old) }
+    ensures serves { (cpu : Cpu) → Serves (M.told m.old) cpu (M.told m.new) cpu (model.variable_of ((M.told m.old).regs receiver) i) result }
+    ensures looks { OnOk result (Looks [] (M.told m.old) (M.told m.new)) }
+    ensures ready { OnOk result (IsReady (M.told m.new)) }
+    ensures sound { StaysSound result (M.sound m.new) }
+    ensures lender { M.lender m.new ≡ M.lender m.old }
+    ensures outside { M.outside m.new ≡ M.outside m.old }
+{
+    let Some(e) = positive(i) else {
+        return Ok(None);
+    };
+    spot_of(m, receiver, e)
+}
+
 /// Loads word i of the object of words that a register names, as a number.
 fn word_object<M: ObjectMemory>(m: &mut M, array: Reg, i: u32) -> Result<(), Stop>
     requires sound { M.sound m.old }

@@ -9,12 +9,13 @@ ghost use Rattle.blue_model.specs.Machine.{make};
 ghost use Rattle.blue_model.specs.Storage as model;
 ghost use Rattle.contexts.specs.Serves.{Serves, StaysSound, with_value};
 
-use crate::indexes::{index_argument, natural_argument, positive};
+use crate::elements::{element_at, store_element, variable_of};
+use crate::indexes::{index_argument, natural_argument};
 use crate::specifications::{
     fixed_fields, has_pointers, has_words, is_indexable, specification_of,
 };
-use contexts::parts::{make_bytes, make_pointers, make_words, store_value};
-use contexts::peeks::{peek_field, peek_size};
+use contexts::parts::{make_bytes, make_pointers, make_words};
+use contexts::peeks::peek_size;
 use contexts::{Answer, Cpu, Stop, answer, stack};
 use long_names::Name;
 use object_memory::{ObjectMemory, Reg};
@@ -121,14 +122,6 @@ pub(crate) fn new_with_size<M: ObjectMemory>(m: &mut M, cpu: &mut Cpu) -> Result
     answer(m, cpu, 1, Reg::SCRATCH_2)
 }
 
-/// The field of a variable, counted from 1 on.
-fn variable_number(number: i32) -> Option<u32>
-    ensures { result ≡ model.variable_number number }
-{
-    let n = positive(number)?;
-    Some(n - 1)
-}
-
 /// Answers a variable of any object of values (primitiveInstVarAt).
 pub(crate) fn instance_variable_at<M: ObjectMemory>(
     m: &mut M,
@@ -147,15 +140,13 @@ pub(crate) fn instance_variable_at<M: ObjectMemory>(
     let Some(_) = peek_size(m, Reg::SCRATCH_0, 0)? else {
         return Ok(Answer::Failed);
     };
-    let Some(number) = index_argument(m, Reg::SCRATCH_1)? else {
+    let Some(i) = index_argument(m, Reg::SCRATCH_1)? else {
         return Ok(Answer::Failed);
     };
-    let Some(i) = variable_number(number) else {
+    let Some(spot) = variable_of(m, Reg::SCRATCH_0, i)? else {
         return Ok(Answer::Failed);
     };
-    if !peek_field(m, Reg::SCRATCH_2, Reg::SCRATCH_0, 0, i)? {
-        return Ok(Answer::Failed);
-    }
+    element_at(m, Reg::SCRATCH_0, spot)?;
     answer(m, cpu, 1, Reg::SCRATCH_2)
 }
 
@@ -178,15 +169,14 @@ pub(crate) fn instance_variable_at_put<M: ObjectMemory>(
     let Some(_) = peek_size(m, Reg::SCRATCH_0, 0)? else {
         return Ok(Answer::Failed);
     };
-    let Some(number) = index_argument(m, Reg::SCRATCH_1)? else {
+    let Some(i) = index_argument(m, Reg::SCRATCH_1)? else {
         return Ok(Answer::Failed);
     };
-    let Some(i) = variable_number(number) else {
+    let Some(spot) = variable_of(m, Reg::SCRATCH_0, i)? else {
         return Ok(Answer::Failed);
     };
-    if !peek_field(m, Reg::SCRATCH_9, Reg::SCRATCH_0, 0, i)? {
+    if !store_element(m, Reg::SCRATCH_0, spot, Reg::SCRATCH_2)? {
         return Ok(Answer::Failed);
     }
-    store_value(m, Reg::SCRATCH_0, i, Reg::SCRATCH_2)?;
     answer(m, cpu, 2, Reg::SCRATCH_2)
 }

@@ -1,5 +1,4 @@
-use Rattle.std.proofs.Common.{[], ◌∷◌, sym, ◌∙◌, ap, refl}
-use Rattle.object_memory.proofs.LooksLaws.{Looks-trans}
+use Rattle.std.proofs.Common.{sym, ◌∙◌}
 use Rattle.blue_model.specs.Elements.{byte_of_character}
 use Rattle.contexts.proofs.Frames.{below}
 use Rattle.contexts.proofs.ReadLaws.{looks_again}

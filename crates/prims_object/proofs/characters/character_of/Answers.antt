@@ -1,4 +1,4 @@
-use Rattle.std.proofs.Common.{[], ◌∷◌, ap, refl}
+use Rattle.std.proofs.Common.{[], ◌∷◌}
 use Rattle.object_memory.proofs.LooksLaws.{Looks-trans}
 use Rattle.blue_model.specs.Elements.{character_of}
 use Rattle.contexts.proofs.PeekLaws.{exits_found}

@@ -1,4 +1,4 @@
-use Rattle.std.proofs.Common.{◌<◌, refl, sym, ap, ◌∙◌, arith}
+use Rattle.std.proofs.Common.{◌<◌, ap, ◌∙◌, arith}
 use Rattle.object_memory.proofs.LooksLaws.{Looks-put, not_among, put_value}
 use Rattle.long_names.specs.declared.value.Value.TheVariants.{Int}
 use Rattle.contexts.proofs.Frames.{below}

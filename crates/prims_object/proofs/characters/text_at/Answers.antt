@@ -1,4 +1,4 @@
-use Rattle.std.proofs.Common.{None, refl}
+use Rattle.std.proofs.Common.{None}
 use Rattle.blue_model.specs.Elements.{text_at}
 use Rattle.blue_model.specs.declared.spot.Spot.TheVariants.{Field, Word}
 use Rattle.contexts.proofs.PeekLaws.{peek_here}

@@ -1,6 +1,5 @@
 use Rattle.std.proofs.Common.{ap, ◌∙◌}
 use Rattle.object_memory.proofs.LooksLaws.{not_among}
-use Rattle.blue_model.specs.Machine.{◌>>◌, store_word}
 use Rattle.contexts.proofs.Frames.{below}
 use Rattle.contexts.proofs.ServesLaws.{serves_then, serves_stop}
 use Rattle.prims_object.proofs.LeadLaws.{found_exit}

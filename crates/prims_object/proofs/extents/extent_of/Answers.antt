@@ -1,4 +1,4 @@
-use Rattle.std.proofs.Common.{[], Some, None, is_some, refl, sym, ◌∙◌, ap}
+use Rattle.std.proofs.Common.{[], None, refl, sym, ◌∙◌}
 use Rattle.long_names.specs.Access.{KindOf}
 use Rattle.object_memory.specs.Shape.{literals_count}
 use Rattle.object_memory.proofs.LooksLaws.{Looks-read, Looks-trans, part_looked}

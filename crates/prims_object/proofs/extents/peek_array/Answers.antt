@@ -1,4 +1,4 @@
-use Rattle.std.proofs.Common.{Some, None, sym}
+use Rattle.std.proofs.Common.{Some, None}
 use Rattle.blue_model.specs.Parts.{size}
 use Rattle.blue_model.specs.Storage.{is_array}
 use Rattle.contexts.proofs.ServesLaws.{exits}

@@ -1,4 +1,4 @@
-use Rattle.std.proofs.Common.{Some, None, sym}
+use Rattle.std.proofs.Common.{Some, None}
 use Rattle.blue_model.specs.Storage.{is_text}
 use Rattle.contexts.proofs.ServesLaws.{exits}
 use Rattle.prims_object.specs.Extents.{text_length}

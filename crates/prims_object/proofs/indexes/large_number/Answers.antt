@@ -1,4 +1,4 @@
-use Rattle.std.proofs.Common.{[], ◌∷◌, sym, ◌∙◌, refl}
+use Rattle.std.proofs.Common.{[], ◌∷◌, sym, ◌∙◌}
 use Rattle.object_memory.proofs.LooksLaws.{Looks-trans}
 use Rattle.contexts.proofs.Frames.{below}
 use Rattle.contexts.proofs.ServesLaws.{serves_then, serves_stop, exits}

@@ -1,4 +1,4 @@
-use Rattle.std.proofs.Common.{refl, ap, ◌∙◌}
+use Rattle.std.proofs.Common.{ap, ◌∙◌}
 use Rattle.object_memory.proofs.LooksLaws.{not_among}
 use Rattle.blue_model.specs.Elements.{make_large}
 use Rattle.contexts.proofs.ServesLaws.{serves_then, serves_stop}

@@ -1,4 +1,4 @@
-use Rattle.std.proofs.Common.{sym, ◌∙◌, ap}
+use Rattle.std.proofs.Common.{◌∙◌, ap}
 use Rattle.blue_model.specs.Elements.{natural}
 use Rattle.contexts.proofs.TrialLaws.{none_found, finding_stopped}
 use Rattle.prims_object.specs.Numbers.{IsIndex}

@@ -1,4 +1,4 @@
-use Rattle.std.proofs.Common.{◌<◌, arith, sym, ◌∙◌, refl}
+use Rattle.std.proofs.Common.{arith}
 use Rattle.std.proofs.lemmas.Int.{to_z_pos}
 use mir.Syntax.{w16}
 use Rattle.blue_model.specs.Elements.{number_object}

@@ -1,11 +1,10 @@
 use Rattle.std.proofs.Common.{refl, ◌∙◌}
 use Rattle.blue_model.specs.Storage.{instance_variable_at}
 use Rattle.contexts.proofs.ServesLaws.{serves_then, serves_exit}
-use Rattle.contexts.proofs.TrialLaws.{some_then, none_fails, found_then, none_found, finding_exit}
+use Rattle.contexts.proofs.TrialLaws.{found_then, none_found, finding_exit}
 use Rattle.prims_object.specs.Numbers.{IsIndex}
-use Rattle.prims_object.proofs.TestLaws.{of_some}
 use Rattle.prims_object.proofs.NumberLaws.{index_kept}
-use Rattle.prims_object.proofs.InstanceLaws.{numbered}
+use Rattle.prims_object.proofs.TestLaws.{of_some}
 use Rattle.prims_object.proofs.instances.instance_variable_at.Goals as goal
 
 pub returns-in_err-stack-clause-serves : goal.returns-in_err-stack-clause-serves
@@ -23,81 +22,91 @@ pub returns-in_err-peek_size-clause-serves : goal.returns-in_err-peek_size-claus
 unfolding instance_variable_at
 returns-in_err-peek_size-clause-serves g c =
     let receiver = c.in_ok-stack-2.ensures.looks.regs 10 refl in
-    serves_then _ c.in_ok-stack.ensures.serves (serves_then _ c.in_ok-stack-2.ensures.serves
-    (finding_exit _ _ (rw receiver at (c.in_err-peek_size.ensures.serves c.args.cpu.now)) c.from_residual-in_err-peek_size.ensures.1))
+    serves_then _ c.in_ok-stack.ensures.serves
+    (serves_then _ c.in_ok-stack-2.ensures.serves
+    (finding_exit _ _ (rw receiver at c.in_err-peek_size.ensures.serves _) c.from_residual-in_err-peek_size.ensures.1))
 
 pub returns-in_default-clause-serves : goal.returns-in_default-clause-serves
 unfolding instance_variable_at
 returns-in_default-clause-serves g c =
     let receiver = c.in_ok-stack-2.ensures.looks.regs 10 refl in
-    serves_then _ c.in_ok-stack.ensures.serves (serves_then _ c.in_ok-stack-2.ensures.serves
-    (none_found _ c.in_default.is (rw receiver at (c.in_ok-peek_size.ensures.serves c.args.cpu.now))))
+    serves_then _ c.in_ok-stack.ensures.serves
+    (serves_then _ c.in_ok-stack-2.ensures.serves
+    (none_found _ c.in_default.is (rw receiver at c.in_ok-peek_size.ensures.serves _)))
 
-pub returns-in_err-number-clause-serves : goal.returns-in_err-number-clause-serves
+pub returns-in_err-i-clause-serves : goal.returns-in_err-i-clause-serves
 unfolding instance_variable_at
-returns-in_err-number-clause-serves g c =
+returns-in_err-i-clause-serves g c =
     let receiver = c.in_ok-stack-2.ensures.looks.regs 10 refl in
     let argument = c.in_ok-peek_size.ensures.looks.regs 11 refl in
-    serves_then _ c.in_ok-stack.ensures.serves (serves_then _ c.in_ok-stack-2.ensures.serves
-    (found_then _ c.in-Some.is (rw receiver at (c.in_ok-peek_size.ensures.serves c.args.cpu.now))
-    (finding_exit _ _ (rw argument at (c.in_err-number.ensures.serves c.args.cpu.now)) c.from_residual-in_err-number.ensures.1)))
+    serves_then _ c.in_ok-stack.ensures.serves
+    (serves_then _ c.in_ok-stack-2.ensures.serves
+    (found_then _ c.in-Some.is (rw receiver at c.in_ok-peek_size.ensures.serves _)
+    (finding_exit _ _ (rw argument at c.in_err-i.ensures.serves _) c.from_residual-in_err-i.ensures.1)))
 
 pub returns-in_default-2-clause-serves : goal.returns-in_default-2-clause-serves
 unfolding instance_variable_at
 returns-in_default-2-clause-serves g c =
     let receiver = c.in_ok-stack-2.ensures.looks.regs 10 refl in
     let argument = c.in_ok-peek_size.ensures.looks.regs 11 refl in
-    serves_then _ c.in_ok-stack.ensures.serves (serves_then _ c.in_ok-stack-2.ensures.serves
-    (found_then _ c.in-Some.is (rw receiver at (c.in_ok-peek_size.ensures.serves c.args.cpu.now))
-    (none_found _ c.in_default-2.is (rw argument at (c.in_ok-number.ensures.serves c.args.cpu.now)))))
+    serves_then _ c.in_ok-stack.ensures.serves
+    (serves_then _ c.in_ok-stack-2.ensures.serves
+    (found_then _ c.in-Some.is (rw receiver at c.in_ok-peek_size.ensures.serves _)
+    (none_found _ c.in_default-2.is (rw argument at c.in_ok-i.ensures.serves _))))
 
-pub returns-in_default-variable_number-clause-serves : goal.returns-in_default-variable_number-clause-serves
+pub returns-in_err-spot-clause-serves : goal.returns-in_err-spot-clause-serves
 unfolding instance_variable_at
-returns-in_default-variable_number-clause-serves g c =
+returns-in_err-spot-clause-serves g c =
     let receiver = c.in_ok-stack-2.ensures.looks.regs 10 refl in
     let argument = c.in_ok-peek_size.ensures.looks.regs 11 refl in
-    let z = index_kept _ (of_some IsIndex _ c.in-Some-2.is c.in_ok-number.ensures.range) in
-    serves_then _ c.in_ok-stack.ensures.serves (serves_then _ c.in_ok-stack-2.ensures.serves
-    (found_then _ c.in-Some.is (rw receiver at (c.in_ok-peek_size.ensures.serves c.args.cpu.now))
-    (found_then _ c.in-Some-2.is (rw argument at (c.in_ok-number.ensures.serves c.args.cpu.now))
-    (none_fails _ _ c.in_ok-number.ensures.ready (λ told. numbered _ _ _ _ z c.variable_number.ensures c.in_default-variable_number.is)))))
+    let receiver-4 = c.in_ok-i.ensures.looks.regs 10 refl ∙ c.in_ok-peek_size.ensures.looks.regs 10 refl ∙ receiver in
+    let z = index_kept _ (of_some IsIndex _ c.in-Some-2.is c.in_ok-i.ensures.range) in
+    serves_then _ c.in_ok-stack.ensures.serves
+    (serves_then _ c.in_ok-stack-2.ensures.serves
+    (found_then _ c.in-Some.is (rw receiver at c.in_ok-peek_size.ensures.serves _)
+    (found_then _ c.in-Some-2.is (rw argument at c.in_ok-i.ensures.serves _)
+    (finding_exit _ _ (rw (receiver-4, z) at c.in_err-spot.ensures.serves _) c.from_residual-in_err-spot.ensures.1))))
 
-pub returns-in_err-peek_field-clause-serves : goal.returns-in_err-peek_field-clause-serves
+pub returns-in_default-3-clause-serves : goal.returns-in_default-3-clause-serves
 unfolding instance_variable_at
-returns-in_err-peek_field-clause-serves g c =
+returns-in_default-3-clause-serves g c =
     let receiver = c.in_ok-stack-2.ensures.looks.regs 10 refl in
     let argument = c.in_ok-peek_size.ensures.looks.regs 11 refl in
-    let z = index_kept _ (of_some IsIndex _ c.in-Some-2.is c.in_ok-number.ensures.range) in
-    let still = c.in_ok-number.ensures.looks.regs 10 refl ∙ c.in_ok-peek_size.ensures.looks.regs 10 refl ∙ receiver in
-    serves_then _ c.in_ok-stack.ensures.serves (serves_then _ c.in_ok-stack-2.ensures.serves
-    (found_then _ c.in-Some.is (rw receiver at (c.in_ok-peek_size.ensures.serves c.args.cpu.now))
-    (found_then _ c.in-Some-2.is (rw argument at (c.in_ok-number.ensures.serves c.args.cpu.now))
-    (some_then _ _ _ (λ told. numbered _ _ _ _ z c.variable_number.ensures c.in-Some-variable_number.is)
-    (finding_exit _ _ (rw still at (c.in_err-peek_field.ensures.serves c.args.cpu.now)) c.from_residual-in_err-peek_field.ensures.1)))))
+    let receiver-4 = c.in_ok-i.ensures.looks.regs 10 refl ∙ c.in_ok-peek_size.ensures.looks.regs 10 refl ∙ receiver in
+    let z = index_kept _ (of_some IsIndex _ c.in-Some-2.is c.in_ok-i.ensures.range) in
+    serves_then _ c.in_ok-stack.ensures.serves
+    (serves_then _ c.in_ok-stack-2.ensures.serves
+    (found_then _ c.in-Some.is (rw receiver at c.in_ok-peek_size.ensures.serves _)
+    (found_then _ c.in-Some-2.is (rw argument at c.in_ok-i.ensures.serves _)
+    (none_found _ c.in_default-3.is (rw (receiver-4, z) at c.in_ok-spot.ensures.serves _)))))
 
-pub returns-then-not-branch-clause-serves : goal.returns-then-not-branch-clause-serves
+pub returns-in_err-element_at-clause-serves : goal.returns-in_err-element_at-clause-serves
 unfolding instance_variable_at
-returns-then-not-branch-clause-serves g c =
+returns-in_err-element_at-clause-serves g c =
     let receiver = c.in_ok-stack-2.ensures.looks.regs 10 refl in
     let argument = c.in_ok-peek_size.ensures.looks.regs 11 refl in
-    let z = index_kept _ (of_some IsIndex _ c.in-Some-2.is c.in_ok-number.ensures.range) in
-    let still = c.in_ok-number.ensures.looks.regs 10 refl ∙ c.in_ok-peek_size.ensures.looks.regs 10 refl ∙ receiver in
-    serves_then _ c.in_ok-stack.ensures.serves (serves_then _ c.in_ok-stack-2.ensures.serves
-    (found_then _ c.in-Some.is (rw receiver at (c.in_ok-peek_size.ensures.serves c.args.cpu.now))
-    (found_then _ c.in-Some-2.is (rw argument at (c.in_ok-number.ensures.serves c.args.cpu.now))
-    (some_then _ _ _ (λ told. numbered _ _ _ _ z c.variable_number.ensures c.in-Some-variable_number.is)
-    (none_found _ refl (rw (still, c.if-not-branch.true) at (c.in_ok-peek_field.ensures.serves c.args.cpu.now)))))))
+    let receiver-4 = c.in_ok-i.ensures.looks.regs 10 refl ∙ c.in_ok-peek_size.ensures.looks.regs 10 refl ∙ receiver in
+    let z = index_kept _ (of_some IsIndex _ c.in-Some-2.is c.in_ok-i.ensures.range) in
+    let receiver-5 = c.in_ok-spot.ensures.looks.regs 10 refl ∙ receiver-4 in
+    serves_then _ c.in_ok-stack.ensures.serves
+    (serves_then _ c.in_ok-stack-2.ensures.serves
+    (found_then _ c.in-Some.is (rw receiver at c.in_ok-peek_size.ensures.serves _)
+    (found_then _ c.in-Some-2.is (rw argument at c.in_ok-i.ensures.serves _)
+    (found_then _ c.in-Some-3.is (rw (receiver-4, z) at c.in_ok-spot.ensures.serves _)
+    (serves_exit _ _ (rw receiver-5 at c.in_err-element_at.ensures.serves _) c.from_residual-in_err-element_at.ensures.1)))))
 
 pub returns-clause-serves : goal.returns-clause-serves
 unfolding instance_variable_at
 returns-clause-serves g c =
     let receiver = c.in_ok-stack-2.ensures.looks.regs 10 refl in
     let argument = c.in_ok-peek_size.ensures.looks.regs 11 refl in
-    let z = index_kept _ (of_some IsIndex _ c.in-Some-2.is c.in_ok-number.ensures.range) in
-    let still = c.in_ok-number.ensures.looks.regs 10 refl ∙ c.in_ok-peek_size.ensures.looks.regs 10 refl ∙ receiver in
-    serves_then _ c.in_ok-stack.ensures.serves (serves_then _ c.in_ok-stack-2.ensures.serves
-    (found_then _ c.in-Some.is (rw receiver at (c.in_ok-peek_size.ensures.serves c.args.cpu.now))
-    (found_then _ c.in-Some-2.is (rw argument at (c.in_ok-number.ensures.serves c.args.cpu.now))
-    (some_then _ _ _ (λ told. numbered _ _ _ _ z c.variable_number.ensures c.in-Some-variable_number.is)
-    (found_then _ refl (rw (still, c.if-not-branch.false) at (c.in_ok-peek_field.ensures.serves c.args.cpu.now))
+    let receiver-4 = c.in_ok-i.ensures.looks.regs 10 refl ∙ c.in_ok-peek_size.ensures.looks.regs 10 refl ∙ receiver in
+    let z = index_kept _ (of_some IsIndex _ c.in-Some-2.is c.in_ok-i.ensures.range) in
+    let receiver-5 = c.in_ok-spot.ensures.looks.regs 10 refl ∙ receiver-4 in
+    serves_then _ c.in_ok-stack.ensures.serves
+    (serves_then _ c.in_ok-stack-2.ensures.serves
+    (found_then _ c.in-Some.is (rw receiver at c.in_ok-peek_size.ensures.serves _)
+    (found_then _ c.in-Some-2.is (rw argument at c.in_ok-i.ensures.serves _)
+    (found_then _ c.in-Some-3.is (rw (receiver-4, z) at c.in_ok-spot.ensures.serves _)
+    (serves_then _ (rw receiver-5 at c.in_ok-element_at.ensures.serves _)
     (c.answer.ensures.serves))))))

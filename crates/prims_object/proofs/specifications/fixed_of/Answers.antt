@@ -2,7 +2,7 @@ use Rattle.std.proofs.Common.{Some, sym, ap, ◌∙◌}
 use Rattle.long_names.specs.Words.{IsSmallInteger}
 use Rattle.object_memory.proofs.ShapeLaws.{small_number}
 use Rattle.blue_model.specs.Elements.{fixed_fields, fixed_of}
-use Rattle.contexts.proofs.ServesLaws.{serves_then, serves_exit, exits}
+use Rattle.contexts.proofs.ServesLaws.{serves_then, serves_exit}
 use Rattle.contexts.proofs.ReadLaws.{looks_again}
 use Rattle.contexts.proofs.Steps.{pick_true, pick_false, done_serves}
 use Rattle.prims_object.proofs.TestLaws.{differs, of_some, done_as, is_number, is_name}
