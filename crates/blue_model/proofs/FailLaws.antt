@@ -5,19 +5,23 @@ use Rattle.long_names.specs.declared.value.Value.TheVariants.{Int, Ref}
 use Rattle.long_names.specs.declared.object.Object.{Object}
 use Rattle.long_names.specs.State.{class_at, name_at}
 use Rattle.blue_model.specs.declared.answer.Answer.{Answer}
-use Rattle.blue_model.specs.declared.answer.Answer.TheVariants.{Done, Failed}
+use Rattle.blue_model.specs.declared.answer.Answer.TheVariants.{Done, Failed, Execute, Quit}
 use Rattle.blue_model.specs.declared.cause.Cause.{Cause}
 use Rattle.blue_model.specs.declared.cause.Cause.TheVariants.{Shape}
 use Rattle.blue_model.specs.declared.spot.Spot.{Spot}
 use Rattle.blue_model.specs.declared.spot.Spot.TheVariants.{Field, Word, Byte}
-use Rattle.blue_model.specs.Machine.{Machine, LogRow, Outcome, Go, Halt, Spent, Unbuilt, Rule, after, then_do, ◌>>=◌, done, halt, unbuilt, given, pick, register, numbers, row_of, look, part, known, classed, class_of}
-use Rattle.blue_model.specs.Contexts.{stack}
-use Rattle.blue_model.specs.Trials.{failed, where_some, where_true, ◌>>?◌, peek, answer, Primitive, with_arguments, primitive_in}
+use Rattle.blue_model.specs.Machine.{Machine, LogRow, Outcome, Go, Halt, Spent, Unbuilt, Rule, after, then_do, ◌>>=◌, done, halt, unbuilt, given, pick, register, numbers, row_of, rows_at, look, part, known, classed, class_of, store, store_word, store_byte, make}
+use Rattle.blue_model.specs.Contexts.{stack, store_field, scheduler, active_process}
+use Rattle.blue_model.specs.Lookup.{lookup}
+use Rattle.blue_model.specs.Messages.{arguments_of}
+use Rattle.blue_model.specs.Processes.{process_lists, current_process, primitive_signal, primitive_wait, has_list, primitive_resume, primitive_suspend, process_primitives}
+use Rattle.blue_model.specs.Control.{block_copy, pointer_for, block_start, enter_block, value, array_length, value_with_arguments, taking, method_for, execute_found, perform_with, perform, has_room, perform_with_arguments, flush_cache, quit, control_primitives, control_primitive}
+use Rattle.blue_model.specs.Trials.{failed, where_some, where_true, ◌>>?◌, peek, answer, boolean, Primitive, with_arguments, primitive_in}
 use Rattle.blue_model.specs.Arithmetic.{of_numbers, arithmetic, comparison, point, integer_primitives}
 use Rattle.blue_model.specs.Elements.{index_argument, specification_of, fixed_of, spot_at, element_of, variable_of, put_element, character_of, byte_of_character}
 use Rattle.blue_model.specs.Storage.{at, at_put, size_of, string_at, string_at_put, streamed_by, streamed, of_stream, next_spot, streamed_element, next, put_streamed, next_put, at_end, method_object, object_at_index, object_at_put, new, new_with_size, new_method, instance_variable_at, instance_variable_at_put, hash, equivalent, class, object_primitives}
 use Rattle.blue_model.specs.Primitives.{is_unbuilt, primitive}
-use Rattle.blue_model.proofs.ClassLaws.{Answers, answers_then, answers_done, answers_halt, answers_look}
+use Rattle.blue_model.proofs.ClassLaws.{Answers, answers_then, answers_done, answers_halt, answers_look, lookup_takes}
 
 -- ---- rules that only look, whatever they answer
 
@@ -144,6 +148,14 @@ never_then {A} p k f = record { never = λ m s log e. go (p m) s log e }
 never_done : NeverFails (done Done)
 unfolding done
 never_done = record { never = λ m s log e. let no : ◌≡◌ {A = Answer} Done Failed = cc in absurd (cc) }
+
+never_execute : NeverFails (done Execute)
+unfolding done
+never_execute = record { never = λ m s log e. let no : ◌≡◌ {A = Answer} Execute Failed = cc in absurd (cc) }
+
+never_quit : NeverFails (done Quit)
+unfolding done
+never_quit = record { never = λ m s log e. let no : ◌≡◌ {A = Answer} Quit Failed = cc in absurd (cc) }
 
 never-answer : (n : ℕ) (v : Value) → NeverFails (answer n v)
 unfolding answer
@@ -325,6 +337,119 @@ clean-class : {m : Machine} → FailsClean m class
 unfolding class
 clean-class {m} = search (cleanly, looks_peek, places) depth 16
 
+-- ---- blocks and performs
+
+clean-block_copy : {m : Machine} → FailsClean m block_copy
+unfolding block_copy
+clean-block_copy {m} = search (cleanly, looks_peek, places) depth 24
+
+looks-pointer_for : {m : Machine} (block : Value) (n : ℕ) → Looks m (pointer_for block n)
+unfolding pointer_for
+looks-pointer_for {m} block n = looks_then _ (looks_peek _ block) (λ count. looks_pick _ _ _ (looks_peek _ block) (looks_done None))
+
+looks-block_start : {m : Machine} (block : Value) (n : ℕ) → Looks m (block_start block n)
+unfolding block_start
+looks-block_start {m} block n = looks_then _ (looks_class_of block) (λ class. looks_pick _ _ _ (looks-pointer_for block n) (looks_done None))
+
+never-enter_block : (block : Value) (n : ℕ) (ip : ℤ) → NeverFails (enter_block block n ip)
+unfolding enter_block
+never-enter_block block n ip = never_then _ _ (λ a. never_then _ _ (λ b. never_then _ _ (λ active. never_then _ _ (λ c. never_then _ _ (λ d. never_done)))))
+
+clean-value : {m : Machine} → FailsClean m value
+unfolding value
+clean-value {m} = clean_then _ looks_numbers (λ cpu. clean_then _ (looks-stack cpu.args) (λ block. clean_try _ (looks-block_start block cpu.args) (λ ip. clean_never (never_then _ _ (λ a. never_then _ _ (λ b. never-enter_block block cpu.args ip))))))
+
+looks-array_length : {m : Machine} (array : Value) → Looks m (array_length array)
+unfolding array_length
+looks-array_length {m} array = looks_then _ (looks_class_of array) (λ class. looks_pick _ _ _ (looks_peek _ array) (looks_done None))
+
+clean-value_with_arguments : {m : Machine} → FailsClean m value_with_arguments
+unfolding value_with_arguments
+clean-value_with_arguments {m} = clean_then _ (looks-stack 1) (λ block. clean_then _ (looks-stack 0) (λ array. clean_try _ (looks-array_length array) (λ n. clean_try _ (looks-block_start block n) (λ ip. clean_never (never_then _ _ (λ a. never_then _ _ (λ b. never-enter_block block n ip)))))))
+
+looks-lookup : {m : Machine} (selector class : Value) → Looks m (lookup selector class)
+looks-lookup {m} selector class = record { looks = record { told = λ found s log e. ((lookup_takes m s selector class found log e).0, tt) } }
+
+looks-arguments_of : {m : Machine} (method : Value) → Looks m (arguments_of method)
+unfolding arguments_of
+looks-arguments_of {m} method = looks_then _ (looks_part _ _ method) (λ header. looks_pick _ _ _ (looks_then _ (looks_part _ _ method) (λ it. looks_done _)) (looks_done _))
+
+looks-taking : {m : Machine} (n : ℕ) (o : Option Value) → Looks m (taking n o)
+unfolding taking
+looks-taking n None = looks_done None
+looks-taking n (Some v) = looks_pick _ _ _ (looks_then _ (looks-arguments_of v) (λ k. looks_done _)) (looks_done None)
+
+looks-method_for : {m : Machine} (receiver selector : Value) (n : ℕ) → Looks m (method_for receiver selector n)
+unfolding method_for
+looks-method_for {m} receiver selector n = looks_then _ (looks_class_of receiver) (λ class. looks_then _ (looks-lookup selector class) (λ found. looks-taking n found))
+
+never-execute_found : (method : Value) (n : ℕ) → NeverFails (execute_found method n)
+unfolding execute_found
+never-execute_found method n = never_then _ _ (λ a. never_then _ _ (λ b. never_execute))
+
+clean-perform : {m : Machine} → FailsClean m perform
+unfolding perform perform_with
+clean-perform {m} =
+    clean_then _ looks_numbers (λ cpu. clean_where_true _ _ (clean_then _ (looks-stack _) (λ receiver. clean_then _ (looks-stack _) (λ selector.
+    clean_where_true _ _ (clean_try _ (looks-method_for receiver selector _) (λ method. clean_never (never_then _ _ (λ a. never_then _ _ (λ b. never-execute_found method _)))))))))
+
+looks-has_room : {m : Machine} (n : ℕ) → Looks m (has_room n)
+unfolding has_room
+looks-has_room {m} n = looks_then _ looks_numbers (λ cpu. looks_then _ (looks_register _) (λ active. looks_then _ (looks_part _ _ active) (λ len. looks_done _)))
+
+clean-perform_with_arguments : {m : Machine} → FailsClean m perform_with_arguments
+unfolding perform_with_arguments
+clean-perform_with_arguments {m} =
+    clean_then _ (looks-stack 2) (λ receiver. clean_then _ (looks-stack 1) (λ selector. clean_then _ (looks-stack 0) (λ array.
+    clean_where_true _ _ (clean_try _ (looks-array_length array) (λ n. clean_try _ (looks-method_for receiver selector n) (λ method.
+    clean_then _ (looks-has_room n) (λ room. clean_where_true _ _ (clean_never (never_then _ _ (λ a. never_then _ _ (λ b. never-execute_found method n)))))))))))
+
+clean-flush_cache : {m : Machine} → FailsClean m flush_cache
+unfolding flush_cache
+clean-flush_cache {m} = clean_never never_done
+
+clean-quit : {m : Machine} → FailsClean m quit
+unfolding quit
+clean-quit {m} = clean_never never_quit
+
+-- ---- processes
+
+clean-primitive_signal : {m : Machine} → FailsClean m primitive_signal
+unfolding primitive_signal
+clean-primitive_signal {m} = clean_then _ (looks-stack 0) (λ semaphore. clean_try _ (looks_peek _ semaphore) (λ excess. clean_end _ _ (λ a. never_done)))
+
+clean-primitive_wait : {m : Machine} → FailsClean m primitive_wait
+unfolding primitive_wait
+clean-primitive_wait {m} = clean_then _ (looks-stack 0) (λ semaphore. clean_try _ (looks_peek _ semaphore) (λ excess. clean_end _ _ (λ a. never_done)))
+
+looks-scheduler : {m : Machine} → Looks m scheduler
+unfolding scheduler
+looks-scheduler {m} = search looking depth 12
+
+looks-process_lists : {m : Machine} → Looks m process_lists
+unfolding process_lists
+looks-process_lists {m} = looks_then _ looks-scheduler (λ scheduler. looks_part _ _ scheduler)
+
+looks-has_list : {m : Machine} (priority : ℤ) → Looks m (has_list priority)
+unfolding has_list
+looks-has_list {m} priority = looks_then _ looks-process_lists (λ lists. looks_then _ (looks_part _ _ lists) (λ n. looks_done _))
+
+clean-primitive_resume : {m : Machine} → FailsClean m primitive_resume
+unfolding primitive_resume
+clean-primitive_resume {m} =
+    clean_then _ (looks-stack 0) (λ process. clean_try _ (looks_peek _ process) (λ priority.
+    clean_then _ (looks-has_list priority) (λ has. clean_where_true _ _ (clean_end _ _ (λ a. never_done)))))
+
+looks-current_process : {m : Machine} → Looks m current_process
+unfolding current_process active_process
+looks-current_process {m} = looks_then _ looks_numbers (λ cpu. looks_pick _ _ _ (looks_register _) (looks_then _ looks-scheduler (λ scheduler. looks_part _ _ scheduler)))
+
+clean-primitive_suspend : {m : Machine} → FailsClean m primitive_suspend
+unfolding primitive_suspend
+clean-primitive_suspend {m} =
+    clean_then _ (looks-stack 0) (λ process. clean_then _ looks-current_process (λ current. clean_where_true _ _
+    (clean_end _ _ (λ nil. never_then _ _ (λ a. never_then _ _ (λ b. never_done))))))
+
 -- ---- the table
 
 AreClean : Machine → List Primitive → Type 0
@@ -344,6 +469,18 @@ primitives_clean : (m : Machine) → AreClean m (integer_primitives ++ object_pr
 unfolding AreClean integer_primitives object_primitives
 primitives_clean m = search (clean-arithmetic, clean-comparison, clean-point, clean-at, clean-at_put, clean-size_of, clean-string_at, clean-string_at_put, clean-next, clean-next_put, clean-at_end, clean-object_at_index, clean-object_at_put, clean-new, clean-new_with_size, clean-new_method, clean-instance_variable_at, clean-instance_variable_at_put, clean-hash, clean-equivalent, clean-class) depth 80 fits 40000
 
+control_clean : (m : Machine) → AreClean m control_primitives
+unfolding AreClean control_primitives
+control_clean m = (clean-block_copy, (clean-value_with_arguments, (clean-perform_with_arguments, (clean-flush_cache, (clean-quit, tt)))))
+
+clean-control_primitive : {m : Machine} (index : ℕ) → FailsClean m (control_primitive index)
+unfolding control_primitive
+clean-control_primitive {m} index = clean_pick _ _ _ clean-value (clean_pick _ _ _ clean-perform (clean-primitive_in _ index (control_clean m)))
+
+processes_clean : (m : Machine) → AreClean m process_primitives
+unfolding AreClean process_primitives
+processes_clean m = (clean-primitive_signal, (clean-primitive_wait, (clean-primitive_resume, (clean-primitive_suspend, tt))))
+
 pub failed_changes_nothing : (index : ℕ) (m s : Machine) (log : List LogRow) → primitive index m ≡ Go Failed s log → s ≡ m
 unfolding primitive
-failed_changes_nothing index m s log e = (clean_pick (is_unbuilt index) unbuilt _ clean_unbuilt (clean-primitive_in {m = m} _ index (primitives_clean m))).clean s log e
+failed_changes_nothing index m s log e = let clean : FailsClean m (primitive index) = clean_pick _ _ _ clean_unbuilt (clean_pick _ _ _ (clean-control_primitive index) (clean_pick _ _ _ (clean-primitive_in _ index (processes_clean m)) (clean-primitive_in _ index (primitives_clean m)))) in clean.clean s log e

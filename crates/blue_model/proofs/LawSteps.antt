@@ -23,7 +23,7 @@ use Rattle.blue_model.specs.Indexes.{METHOD_INDEX, HOME_INDEX}
 use Rattle.blue_model.specs.Machine.{Machine, MACHINE_REGISTERS, LogRow, logged, row_of, making_row, Outcome, Go, Halt, Spent, Unbuilt, Rule, after, then_do, ◌>>=◌, done, halt, unbuilt, given, pick, is_there, register, placed, put_register, clear, numbers, set_numbers, rows_at, looked, look, part, known, classed, class_of, stored, store, changed, store_word, store_byte, object_made, added, made, make, unpinned, unpin_all, with_pin, pinned, pin, spoken, say, times, each}
 use Rattle.blue_model.specs.declared.answer.Answer.{Answer}
 use Rattle.blue_model.specs.Parts.{at_least, shaped, field, home_by, home_in, home_of, literal}
-use Rattle.blue_model.specs.Sends.{last_literal}
+use Rattle.blue_model.specs.Messages.{last_literal}
 use Rattle.blue_model.specs.Trials.{failed, where_some, where_true, ◌>>?◌, peek}
 use Rattle.blue_model.specs.Law.{IsThinned, Agree, RespectsThinning}
 use Rattle.blue_model.specs.Alike.{Lost, IsAlike, IsKept, IsKeptMaybe, IsHeld, IsPlain, IsWithin, Agrees, Lawful}

@@ -1,24 +1,31 @@
 -- The law of thinning, for each rule.
-use Rattle.std.proofs.Common.{◌≡◌, ℕ, ℤ, ◌-◌, zero, suc, Bool, true, List, [], ◌∷◌, ◌++◌, Option, Some, None, refl}
+use Rattle.std.specs.Prelude.{if◌then◌else◌, ◌==◌}
+use Rattle.std.proofs.Common.{◌≡◌, ℕ, ℤ, ◌-◌, zero, suc, Bool, true, false, List, [], ◌∷◌, ◌++◌, Option, Some, None, refl}
 use Rattle.long_names.specs.declared.value.Value.TheVariants.{Int, Ref}
 use Rattle.long_names.specs.declared.value.Value.{Value}
 use Rattle.long_names.specs.Names.{is_known}
-use Rattle.blue_model.specs.Machine.{Rule}
-use Rattle.blue_model.specs.Contexts.{store_field, push, stack, pop, pop_top, byte_of, fetch, jump, need_method, put_context, load_home, load, store_registers, enter, nil_context, back, back_with, active_process, start, park}
+use Rattle.blue_model.specs.Indexes.{FIRST_LINK_INDEX}
+use Rattle.blue_model.specs.Machine.{Rule, ◌>>◌, ◌>>=◌, done}
+use Rattle.blue_model.specs.Contexts.{store_field, push, stack, pop, pop_top, byte_of, fetch, jump, need_method, put_context, load_home, load, store_registers, enter, nil_context, back, back_with, scheduler, active_process, start, park_new, park}
 use Rattle.blue_model.specs.Lookup.{method_at, find_in, found_or, find_from, put_found, find, find_from_register}
 use Rattle.blue_model.specs.Bytecodes.{receiver_variable, temporary, literal_constant, literal_variable, store_receiver_variable, store_temporary, store_literal_variable, push_of, push_known, push_number, push_receiver, push_active_context, duplicate_top, store_top, store_and_pop, by_kind, extended_push, extended_store_of, extended_store, extended_store_and_pop, return_home, return_of, return_from_block, jump_where, jump_on, long_jump, long_jump_on, send_literal, send_literal_super, single_extended, double_extended, tried_for, arithmetic_send, block_send, Range, bytecodes, has_byte, ruled, bytecode}
-use Rattle.blue_model.specs.Sends.{set_arguments, copy_argument, make_arguments, make_message, create_message, tell, find_or_tell, pass, fill_context, make_context, activate, put_stack, answer_field, execute_extended, execute, send_from, send, send_super, special_send, cannot_return, must_be_boolean, return_to}
-use Rattle.blue_model.specs.Cycle.{count_bytecode, step, cycle}
+use Rattle.blue_model.specs.Messages.{arguments_of, set_arguments, put_stack, copy_argument, make_arguments, make_message, create_message, tell, find_or_tell, pass, fill_context, make_context, activate}
+use Rattle.blue_model.specs.Processes.{link_behind, add, empty_list, shorten, take, process_lists, sleep, wake_among, wake, current_process, transfer, resume, switch, check_switch, suspend_active, add_signal, signal, sleep_at, wait, primitive_signal, primitive_wait, has_list, primitive_resume, primitive_suspend, process_primitives}
+use Rattle.blue_model.specs.Control.{make_block, block_copy, pointer_for, block_start, enter_block, pass_argument, value, array_length, pass_element, value_with_arguments, taking, method_for, execute_found, move_down, perform_with, perform, has_room, push_element, perform_with_arguments, flush_cache, quit, control_primitives, control_primitive}
+use Rattle.blue_model.specs.Sends.{answer_field, execute_extended, execute_method, execute, send_from, send, send_super, special_send, cannot_return, must_be_boolean, return_to}
+use Rattle.blue_model.specs.Cycle.{count_bytecode, step, turn, cycle}
 use Rattle.blue_model.specs.Alike.{Lost, IsKept, IsKeptMaybe, IsPlain, Lawful, AreLawful}
 use Rattle.blue_model.specs.declared.answer.Answer.{Answer}
+use Rattle.blue_model.specs.declared.answer.Answer.TheVariants.{Done}
 use Rattle.blue_model.specs.declared.spot.Spot.{Spot}
+use Rattle.blue_model.specs.declared.step.Step.{Step}
 use Rattle.blue_model.specs.declared.spot.Spot.TheVariants.{Field, Word, Byte}
 use Rattle.blue_model.specs.Trials.{answer, boolean, Primitive, with_arguments, primitive_in}
 use Rattle.blue_model.specs.Arithmetic.{of_numbers, arithmetic, comparison, make_point, point, integer_primitives}
 use Rattle.blue_model.specs.Elements.{index_argument, make_large, number_object, specification_of, fixed_of, spot_at, element_of, variable_of, element_at, put_element, character_of, byte_of_character}
 use Rattle.blue_model.specs.Storage.{at, at_put, size_of, string_at, string_at_put, streamed_by, streamed, of_stream, next_spot, advance, streamed_element, next, put_streamed, next_put, at_end, method_object, object_at_index, object_at_put, new, new_with_size, new_method, instance_variable_at, instance_variable_at_put, hash, equivalent, class, object_primitives}
-use Rattle.blue_model.specs.Primitives.{primitive, tried}
-use Rattle.blue_model.proofs.LawSteps.{lawful, trying, then_plain, try_plain, law_pick, law_done, law_numbers, law_store, law_store_word, law_store_byte, law_unbuilt, law_failed, law_part, law_where_some, law_where_true, kept_int, law_peek, done_plain}
+use Rattle.blue_model.specs.Primitives.{is_unbuilt, primitive, has_failed, then_next, tried}
+use Rattle.blue_model.proofs.LawSteps.{lawful, trying, then_plain, then_value, law_part_value, within_field, try_plain, law_pick, law_done, law_numbers, law_store, law_store_word, law_store_byte, law_unbuilt, law_failed, law_part, law_where_some, law_where_true, kept_int, law_peek, done_plain}
 
 -- ---- contexts
 
@@ -90,17 +97,25 @@ pub law-back_with : {w : Lost} (context v : Value) → IsKept w context → IsKe
 unfolding back_with
 law-back_with {w} context v k l = search (lawful, law-back, law-push) depth 12
 
+pub law-scheduler : {w : Lost} → Lawful w (IsKept w) scheduler
+unfolding scheduler
+law-scheduler {w} = search lawful depth 12
+
 pub law-active_process : {w : Lost} → Lawful w (IsKept w) active_process
 unfolding active_process
-law-active_process {w} = search lawful depth 12
+law-active_process {w} = search (lawful, law-scheduler) depth 12
 
 pub law-start : {w : Lost} → Lawful w IsPlain start
 unfolding start
 law-start {w} = search (lawful, law-active_process, law-load) depth 16
 
+pub law-park_new : {w : Lost} (scheduler : Value) → IsKept w scheduler → Lawful w IsPlain (park_new scheduler)
+unfolding park_new
+law-park_new {w} scheduler k = search (lawful, law-store_field) depth 14
+
 pub law-park : {w : Lost} → Lawful w IsPlain park
 unfolding park
-law-park {w} = search (lawful, law-store_registers, law-active_process, law-store_field) depth 12
+law-park {w} = search (lawful, law-store_registers, law-scheduler, law-store_field, law-park_new) depth 16
 
 -- ---- lookup
 
@@ -134,6 +149,60 @@ law-find {w} class k = search (lawful, law-find_from, law-put_found) depth 12
 
 pub law-find_from_register : {w : Lost} (r : ℕ) → Lawful w IsPlain (find_from_register r)
 law-find_from_register {w} r = search (lawful, law-find) depth 12
+
+-- ---- messages
+
+pub law-set_arguments : {w : Lost} (n : ℕ) → Lawful w IsPlain (set_arguments n)
+unfolding set_arguments
+law-set_arguments {w} n = search lawful depth 12
+
+pub law-copy_argument : {w : Lost} (n : ℕ) (array : Value) (i : ℕ) → IsKept w array → Lawful w IsPlain (copy_argument n array i)
+unfolding copy_argument
+law-copy_argument {w} n array i k = search (lawful, law-stack, law-store_field) depth 12
+
+pub law-make_arguments : {w : Lost} (n : ℕ) → Lawful w (IsKept w) (make_arguments n)
+unfolding make_arguments
+law-make_arguments {w} n = search (lawful, law-copy_argument) depth 16
+
+pub law-make_message : {w : Lost} (selector array : Value) → IsKept w selector → IsKept w array → Lawful w (IsKept w) (make_message selector array)
+unfolding make_message
+law-make_message {w} selector array k l = search (lawful, law-store_field) depth 16
+
+pub law-create_message : {w : Lost} (selector : Value) (n : ℕ) → IsKept w selector → Lawful w IsPlain (create_message selector n)
+unfolding create_message
+law-create_message {w} selector n k = search (lawful, law-make_arguments, law-make_message, law-pop, law-push) depth 16
+
+pub law-tell : {w : Lost} (class selector : Value) → IsKept w class → IsKept w selector → Lawful w IsPlain (tell class selector)
+unfolding tell
+law-tell {w} class selector k l = search (lawful, law-create_message, law-set_arguments, law-find) depth 20
+
+pub law-find_or_tell : {w : Lost} (class : Value) → IsKept w class → Lawful w IsPlain (find_or_tell class)
+unfolding find_or_tell
+law-find_or_tell {w} class k = search (lawful, law-tell, law-find) depth 16
+
+pub law-pass : {w : Lost} (n len : ℕ) (context : Value) (k : ℕ) → IsKept w context → Lawful w IsPlain (pass n len context k)
+unfolding pass
+law-pass {w} n len context k kept = search (lawful, law-stack, law-store_field) depth 12
+
+pub law-fill_context : {w : Lost} (context method : Value) (header : ℤ) → IsKept w context → IsKept w method → Lawful w IsPlain (fill_context context method header)
+unfolding fill_context
+law-fill_context {w} context method header k l = search (lawful, law-store_field) depth 16
+
+pub law-make_context : {w : Lost} (method : Value) (header : ℤ) (n : ℕ) → IsKept w method → Lawful w (IsKept w) (make_context method header n)
+unfolding make_context
+law-make_context {w} method header n k = search (lawful, law-fill_context, law-pass) depth 16
+
+pub law-activate : {w : Lost} → Lawful w IsPlain activate
+unfolding activate
+law-activate {w} = search (lawful, law-make_context, law-pop, law-enter) depth 16
+
+pub law-put_stack : {w : Lost} (depth : ℕ) (v : Value) → IsKept w v → Lawful w IsPlain (put_stack depth v)
+unfolding put_stack
+law-put_stack {w} depth v k = search (lawful, law-store_field) depth 16
+
+pub law-arguments_of : {w : Lost} (method : Value) → IsKept w method → Lawful w IsPlain (arguments_of method)
+unfolding arguments_of
+law-arguments_of {w} method k = search lawful depth 14
 
 -- ---- primitives
 
@@ -319,6 +388,201 @@ pub law-class : {w : Lost} → Lawful w IsPlain class
 unfolding class
 law-class {w} = search (lawful, trying, elements) depth 14
 
+-- ---- processes
+
+pub law-link_behind : {w : Lost} (process list : Value) → IsKept w process → IsKept w list → Lawful w IsPlain (link_behind process list)
+unfolding link_behind
+law-link_behind {w} process list k l = search (lawful, law-store_field) depth 12
+
+pub law-add : {w : Lost} (process list : Value) → IsKept w process → IsKept w list → Lawful w IsPlain (add process list)
+unfolding add
+law-add {w} process list k l = search (lawful, law-store_field, law-link_behind) depth 14
+
+pub law-empty_list : {w : Lost} (list : Value) → IsKept w list → Lawful w IsPlain (empty_list list)
+unfolding empty_list
+law-empty_list {w} list k = search (lawful, law-store_field) depth 12
+
+pub law-shorten : {w : Lost} (list first : Value) → IsKept w list → IsKept w first → Lawful w IsPlain (shorten list first)
+unfolding shorten
+law-shorten {w} list first k l = search (lawful, law-store_field) depth 12
+
+pub law-take : {w : Lost} (list : Value) → IsKept w list → Lawful w (IsKept w) (take list)
+unfolding take
+law-take {w} list k = search (lawful, law-store_field, law-empty_list, law-shorten) depth 16
+
+pub law-process_lists : {w : Lost} → Lawful w (IsKept w) process_lists
+unfolding process_lists
+law-process_lists {w} = search (lawful, law-scheduler) depth 12
+
+pub law-sleep : {w : Lost} (process : Value) → IsKept w process → Lawful w IsPlain (sleep process)
+unfolding sleep
+law-sleep {w} process k = search (lawful, law-process_lists, law-add) depth 16
+
+pub law-wake_among : {w : Lost} (n : ℕ) (lists : Value) → IsKept w lists → Lawful w (IsKept w) (wake_among n lists)
+unfolding wake_among
+law-wake_among {w} zero lists k = search lawful depth 12
+law-wake_among {w} (suc n) lists k =
+    then_value _ (law_part_value _ _ lists (within_field 0 n) k) (λ list l.
+    then_value _ (law_part_value _ _ list (within_field 0 FIRST_LINK_INDEX) l) (λ first f.
+    law_pick _ _ _ (law-wake_among {w = w} n lists k) (law-take list l)))
+
+pub law-wake : {w : Lost} → Lawful w (IsKept w) wake
+unfolding wake
+law-wake {w} = search (lawful, law-process_lists, law-wake_among) depth 14
+
+pub law-current_process : {w : Lost} → Lawful w (IsKept w) current_process
+unfolding current_process
+law-current_process {w} = search (lawful, law-active_process) depth 12
+
+pub law-transfer : {w : Lost} (process : Value) → IsKept w process → Lawful w IsPlain (transfer process)
+unfolding transfer
+law-transfer {w} process k = search lawful depth 12
+
+pub law-resume : {w : Lost} (process : Value) → IsKept w process → Lawful w IsPlain (resume process)
+unfolding resume
+law-resume {w} process k = search (lawful, law-current_process, law-sleep, law-transfer) depth 16
+
+pub law-switch : {w : Lost} → Lawful w IsPlain switch
+unfolding switch
+law-switch {w} = search (lawful, law-scheduler, law-store_field, law-enter) depth 24 fits 5000
+
+pub law-check_switch : {w : Lost} → Lawful w IsPlain check_switch
+unfolding check_switch
+law-check_switch {w} = search (lawful, law-switch) depth 12
+
+pub law-suspend_active : {w : Lost} → Lawful w IsPlain suspend_active
+unfolding suspend_active
+law-suspend_active {w} = search (lawful, law-wake, law-transfer) depth 12
+
+pub law-add_signal : {w : Lost} (semaphore : Value) → IsKept w semaphore → Lawful w IsPlain (add_signal semaphore)
+unfolding add_signal
+law-add_signal {w} semaphore k = search (lawful, law-store_field) depth 12
+
+pub law-signal : {w : Lost} (semaphore : Value) → IsKept w semaphore → Lawful w IsPlain (signal semaphore)
+unfolding signal
+law-signal {w} semaphore k = search (lawful, law-add_signal, law-take, law-resume) depth 14
+
+pub law-sleep_at : {w : Lost} (semaphore : Value) → IsKept w semaphore → Lawful w IsPlain (sleep_at semaphore)
+unfolding sleep_at
+law-sleep_at {w} semaphore k = search (lawful, law-current_process, law-add, law-suspend_active) depth 14
+
+pub law-wait : {w : Lost} (semaphore : Value) → IsKept w semaphore → Lawful w IsPlain (wait semaphore)
+unfolding wait
+law-wait {w} semaphore k = search (lawful, law-store_field, law-sleep_at) depth 14
+
+pub law-primitive_signal : {w : Lost} → Lawful w IsPlain primitive_signal
+unfolding primitive_signal
+law-primitive_signal {w} = search (lawful, trying, law-stack, law-signal) depth 16
+
+pub law-primitive_wait : {w : Lost} → Lawful w IsPlain primitive_wait
+unfolding primitive_wait
+law-primitive_wait {w} = search (lawful, trying, law-stack, law-wait) depth 16
+
+pub law-has_list : {w : Lost} (priority : ℤ) → Lawful w IsPlain (has_list priority)
+unfolding has_list
+law-has_list {w} priority = search (lawful, law-process_lists) depth 12
+
+pub law-primitive_resume : {w : Lost} → Lawful w IsPlain primitive_resume
+unfolding primitive_resume
+law-primitive_resume {w} = search (lawful, trying, law-stack, law-has_list, law-resume) depth 18
+
+pub law-primitive_suspend : {w : Lost} → Lawful w IsPlain primitive_suspend
+unfolding primitive_suspend
+law-primitive_suspend {w} = search (lawful, trying, law-stack, law-current_process, law-put_stack, law-suspend_active) depth 20
+
+-- ---- blocks and performs
+
+pub law-make_block : {w : Lost} (home : Value) (len n : ℕ) → IsKept w home → Lawful w (IsKept w) (make_block home len n)
+unfolding make_block
+law-make_block {w} home len n k = search (lawful, law-store_field) depth 24 fits 5000
+
+pub law-block_copy : {w : Lost} → Lawful w IsPlain block_copy
+unfolding block_copy
+law-block_copy {w} = search (lawful, trying, law-stack, law-make_block, law-answer) depth 20
+
+pub law-pointer_for : {w : Lost} (block : Value) (n : ℕ) → IsKept w block → Lawful w IsPlain (pointer_for block n)
+unfolding pointer_for
+law-pointer_for {w} block n k = search (lawful, trying) depth 14
+
+pub law-block_start : {w : Lost} (block : Value) (n : ℕ) → IsKept w block → Lawful w IsPlain (block_start block n)
+unfolding block_start
+law-block_start {w} block n k = search (lawful, law-pointer_for) depth 14
+
+pub law-enter_block : {w : Lost} (block : Value) (n : ℕ) (ip : ℤ) → IsKept w block → Lawful w IsPlain (enter_block block n ip)
+unfolding enter_block
+law-enter_block {w} block n ip k = search (lawful, law-store_field, law-enter) depth 16
+
+pub law-pass_argument : {w : Lost} (n : ℕ) (block : Value) (k : ℕ) → IsKept w block → Lawful w IsPlain (pass_argument n block k)
+unfolding pass_argument
+law-pass_argument {w} n block k kept = search (lawful, law-stack, law-store_field) depth 12
+
+pub law-value : {w : Lost} → Lawful w IsPlain value
+unfolding value
+law-value {w} = search (lawful, trying, law-stack, law-block_start, law-pass_argument, law-pop, law-enter_block) depth 20
+
+pub law-array_length : {w : Lost} (array : Value) → IsKept w array → Lawful w IsPlain (array_length array)
+unfolding array_length
+law-array_length {w} array k = search (lawful, trying) depth 12
+
+pub law-pass_element : {w : Lost} (array block : Value) (k : ℕ) → IsKept w array → IsKept w block → Lawful w IsPlain (pass_element array block k)
+unfolding pass_element
+law-pass_element {w} array block k a b = search (lawful, law-store_field) depth 12
+
+pub law-value_with_arguments : {w : Lost} → Lawful w IsPlain value_with_arguments
+unfolding value_with_arguments
+law-value_with_arguments {w} = search (lawful, trying, law-stack, law-array_length, law-block_start, law-pass_element, law-pop, law-enter_block) depth 22
+
+pub law-taking : {w : Lost} (n : ℕ) (o : Option Value) → IsKeptMaybe w o → Lawful w (IsKeptMaybe w) (taking n o)
+unfolding taking
+law-taking {w} n None k = law_done None k
+law-taking {w} n (Some v) k = law_pick _ _ _ (then_plain _ (law-arguments_of v (k.kept v refl)) (λ j. law_done _ (kept_if (j == n) v k))) (law_done None (record { kept = λ x e. absurd (cc) }))
+  where
+    kept_if : (b : Bool) (v : Value) → IsKeptMaybe w (Some v) → IsKeptMaybe w (if b then Some v else None)
+    kept_if true v k = k
+    kept_if false v k = record { kept = λ x e. absurd (cc) }
+
+pub law-method_for : {w : Lost} (receiver selector : Value) (n : ℕ) → IsKept w receiver → IsKept w selector → Lawful w (IsKeptMaybe w) (method_for receiver selector n)
+unfolding method_for
+law-method_for {w} receiver selector n k l = search (lawful, law-find_from, law-taking) depth 16
+
+pub law-execute_found : {w : Lost} (method : Value) (n : ℕ) → IsKept w method → Lawful w IsPlain (execute_found method n)
+unfolding execute_found
+law-execute_found {w} method n k = search (lawful, law-set_arguments) depth 12
+
+pub law-move_down : {w : Lost} (n k : ℕ) → Lawful w IsPlain (move_down n k)
+unfolding move_down
+law-move_down {w} n k = search (lawful, law-stack, law-put_stack) depth 12
+
+pub law-perform_with : {w : Lost} (n : ℕ) → Lawful w IsPlain (perform_with n)
+unfolding perform_with
+law-perform_with {w} n = search (lawful, trying, law-stack, law-method_for, law-move_down, law-pop, law-execute_found) depth 22
+
+pub law-perform : {w : Lost} → Lawful w IsPlain perform
+unfolding perform
+law-perform {w} = search (lawful, trying, law-perform_with) depth 12
+
+pub law-has_room : {w : Lost} (n : ℕ) → Lawful w IsPlain (has_room n)
+unfolding has_room
+law-has_room {w} n = search lawful depth 14
+
+pub law-push_element : {w : Lost} (array : Value) (k : ℕ) → IsKept w array → Lawful w IsPlain (push_element array k)
+unfolding push_element
+law-push_element {w} array k kept = search (lawful, law-push) depth 12
+
+pub law-perform_with_arguments : {w : Lost} → Lawful w IsPlain perform_with_arguments
+unfolding perform_with_arguments
+law-perform_with_arguments {w} = search (lawful, trying, law-stack, law-array_length, law-method_for, law-has_room, law-pop, law-push_element, law-execute_found) depth 28 fits 5000
+
+pub law-flush_cache : {w : Lost} → Lawful w IsPlain flush_cache
+unfolding flush_cache
+law-flush_cache {w} = done_plain _
+
+pub law-quit : {w : Lost} → Lawful w IsPlain quit
+unfolding quit
+law-quit {w} = done_plain _
+
+-- ---- the table of primitives
+
 -- each row has a lawful rule
 ArePrimitivesLawful : Lost → List Primitive → Type 0
 ArePrimitivesLawful w [] = Unit {0}
@@ -337,75 +601,50 @@ primitives_lawful : (w : Lost) → ArePrimitivesLawful w (integer_primitives ++ 
 unfolding ArePrimitivesLawful integer_primitives object_primitives
 primitives_lawful w = search (law-arithmetic, law-comparison, law-point, law-at, law-at_put, law-size_of, law-string_at, law-string_at_put, law-next, law-next_put, law-at_end, law-object_at_index, law-object_at_put, law-new, law-new_with_size, law-new_method, law-instance_variable_at, law-instance_variable_at_put, law-hash, law-equivalent, law-class) depth 80 fits 40000
 
+control_lawful : (w : Lost) → ArePrimitivesLawful w control_primitives
+unfolding ArePrimitivesLawful control_primitives
+control_lawful w = (law-block_copy, (law-value_with_arguments, (law-perform_with_arguments, (law-flush_cache, (law-quit, tt)))))
+
+pub law-control_primitive : {w : Lost} (index : ℕ) → Lawful w IsPlain (control_primitive index)
+unfolding control_primitive
+law-control_primitive {w} index = law_pick _ _ _ law-value (law_pick _ _ _ law-perform (law-primitive_in _ index (control_lawful w)))
+
+processes_lawful : (w : Lost) → ArePrimitivesLawful w process_primitives
+unfolding ArePrimitivesLawful process_primitives
+processes_lawful w = (law-primitive_signal, (law-primitive_wait, (law-primitive_resume, (law-primitive_suspend, tt))))
+
 pub law-primitive : {w : Lost} (index : ℕ) → Lawful w IsPlain (primitive index)
 unfolding primitive
-law-primitive {w} index = law_pick _ _ _ law_unbuilt (law-primitive_in _ index (primitives_lawful w))
+law-primitive {w} index = law_pick _ _ _ law_unbuilt (law_pick _ _ _ (law-control_primitive index) (law_pick _ _ _ (law-primitive_in _ index (processes_lawful w)) (law-primitive_in _ index (primitives_lawful w))))
 
-pub law-tried : {w : Lost} (index : ℕ) (rest : Rule (Unit {0})) → Lawful w IsPlain rest → Lawful w IsPlain (tried index rest)
+pub law-then_next : {w : Lost} (p : Rule (Unit {0})) → Lawful w IsPlain p → Lawful w IsPlain (then_next p)
+unfolding then_next
+law-then_next {w} p f = then_plain _ f (λ _. done_plain _)
+
+pub law-tried : {w : Lost} (index : ℕ) (rest : Rule Step) → Lawful w IsPlain rest → Lawful w IsPlain (tried index rest)
 unfolding tried
-law-tried {w} index rest f = then_plain _ (law-primitive index) (λ answer. law_pick _ _ _ f (done_plain tt))
+law-tried {w} index rest f = then_plain _ (law-primitive index) (λ answer. law_pick _ _ _ f (done_plain _))
 
 -- ---- sends
-
-pub law-set_arguments : {w : Lost} (n : ℕ) → Lawful w IsPlain (set_arguments n)
-unfolding set_arguments
-law-set_arguments {w} n = search lawful depth 12
-
-pub law-copy_argument : {w : Lost} (n : ℕ) (array : Value) (i : ℕ) → IsKept w array → Lawful w IsPlain (copy_argument n array i)
-unfolding copy_argument
-law-copy_argument {w} n array i k = search (lawful, law-stack, law-store_field) depth 12
-
-pub law-make_arguments : {w : Lost} (n : ℕ) → Lawful w (IsKept w) (make_arguments n)
-unfolding make_arguments
-law-make_arguments {w} n = search (lawful, law-copy_argument) depth 16
-
-pub law-make_message : {w : Lost} (selector array : Value) → IsKept w selector → IsKept w array → Lawful w (IsKept w) (make_message selector array)
-unfolding make_message
-law-make_message {w} selector array k l = search (lawful, law-store_field) depth 16
-
-pub law-create_message : {w : Lost} (selector : Value) (n : ℕ) → IsKept w selector → Lawful w IsPlain (create_message selector n)
-unfolding create_message
-law-create_message {w} selector n k = search (lawful, law-make_arguments, law-make_message, law-pop, law-push) depth 16
-
-pub law-tell : {w : Lost} (class selector : Value) → IsKept w class → IsKept w selector → Lawful w IsPlain (tell class selector)
-unfolding tell
-law-tell {w} class selector k l = search (lawful, law-create_message, law-set_arguments, law-find) depth 20
-
-pub law-find_or_tell : {w : Lost} (class : Value) → IsKept w class → Lawful w IsPlain (find_or_tell class)
-unfolding find_or_tell
-law-find_or_tell {w} class k = search (lawful, law-tell, law-find) depth 16
-
-pub law-pass : {w : Lost} (n len : ℕ) (context : Value) (k : ℕ) → IsKept w context → Lawful w IsPlain (pass n len context k)
-unfolding pass
-law-pass {w} n len context k kept = search (lawful, law-stack, law-store_field) depth 12
-
-pub law-fill_context : {w : Lost} (context method : Value) (header : ℤ) → IsKept w context → IsKept w method → Lawful w IsPlain (fill_context context method header)
-unfolding fill_context
-law-fill_context {w} context method header k l = search (lawful, law-store_field) depth 16
-
-pub law-make_context : {w : Lost} (method : Value) (header : ℤ) (n : ℕ) → IsKept w method → Lawful w (IsKept w) (make_context method header n)
-unfolding make_context
-law-make_context {w} method header n k = search (lawful, law-fill_context, law-pass) depth 16
-
-pub law-activate : {w : Lost} → Lawful w IsPlain activate
-unfolding activate
-law-activate {w} = search (lawful, law-make_context, law-pop, law-enter) depth 16
-
-pub law-put_stack : {w : Lost} (depth : ℕ) (v : Value) → IsKept w v → Lawful w IsPlain (put_stack depth v)
-unfolding put_stack
-law-put_stack {w} depth v k = search (lawful, law-store_field) depth 16
 
 pub law-answer_field : {w : Lost} (i : ℕ) → Lawful w IsPlain (answer_field i)
 unfolding answer_field
 law-answer_field {w} i = search (lawful, law-stack, law-put_stack) depth 14
 
-pub law-execute_extended : {w : Lost} (method : Value) → IsKept w method → Lawful w IsPlain (execute_extended method)
+activated : {w : Lost} → Lawful w IsPlain (activate >> done Done)
+activated {w} = then_plain _ law-activate (λ _. done_plain Done)
+
+pub law-execute_extended : {w : Lost} (performed : Bool) (method : Value) → IsKept w method → Lawful w IsPlain (execute_extended performed method)
 unfolding execute_extended
-law-execute_extended {w} method k = then_plain _ (law_part _ _ method k) (λ it. law_pick _ _ _ law-activate (law-tried _ _ law-activate))
+law-execute_extended {w} performed method k = then_plain _ (law_part _ _ method k) (λ it. law_pick _ _ _ activated (then_plain _ (law-primitive _) (λ answer. law_pick _ _ _ activated (done_plain answer))))
+
+pub law-execute_method : {w : Lost} (performed : Bool) → Lawful w IsPlain (execute_method performed)
+unfolding execute_method
+law-execute_method {w} performed = search (lawful, law-answer_field, law-execute_extended, activated) depth 16
 
 pub law-execute : {w : Lost} → Lawful w IsPlain execute
 unfolding execute
-law-execute {w} = search (lawful, law-answer_field, law-execute_extended, law-activate) depth 16
+law-execute {w} = then_plain _ (law-execute_method _) (λ answer. law_pick _ _ _ (then_plain _ (law-execute_method _) (λ last. done_plain _)) (done_plain _))
 
 pub law-send_from : {w : Lost} (class selector : Value) (n : ℕ) → IsKept w class → IsKept w selector → Lawful w IsPlain (send_from class selector n)
 unfolding send_from
@@ -433,7 +672,7 @@ law-must_be_boolean {w} v k = search (lawful, law-push, law-send) depth 12
 
 pub law-return_to : {w : Lost} (context v : Value) → IsKept w context → IsKept w v → Lawful w IsPlain (return_to context v)
 unfolding return_to
-law-return_to {w} context v k l = search (lawful, law-cannot_return, law-back_with) depth 12
+law-return_to {w} context v k l = search (lawful, law-cannot_return, law-back_with, law-then_next) depth 14
 
 -- ---- bytecodes
 
@@ -531,7 +770,7 @@ law-return_from_block {w} = search (lawful, law-pop_top, law-return_to) depth 12
 
 pub law-jump_where : {w : Lost} (taken passed : ℕ) (distance : ℤ) (v : Value) → IsKept w v → Lawful w IsPlain (jump_where taken passed distance v)
 unfolding jump_where
-law-jump_where {w} taken passed distance v k = search (lawful, law-jump, law-must_be_boolean) depth 12
+law-jump_where {w} taken passed distance v k = search (lawful, law-jump, law-must_be_boolean, law-then_next) depth 12
 
 pub law-jump_on : {w : Lost} (taken passed : ℕ) (distance : ℤ) → Lawful w IsPlain (jump_on taken passed distance)
 unfolding jump_on
@@ -553,11 +792,11 @@ pub law-send_literal_super : {w : Lost} (i n : ℕ) → Lawful w IsPlain (send_l
 unfolding send_literal_super
 law-send_literal_super {w} i n = search (lawful, law-literal_constant, law-send_super) depth 12
 
-pub law-single_extended : {w : Lost} (p : ℕ → ℕ → Rule (Unit {0})) → ((i n : ℕ) → Lawful w IsPlain (p i n)) → Lawful w IsPlain (single_extended p)
+pub law-single_extended : {w : Lost} (p : ℕ → ℕ → Rule Step) → ((i n : ℕ) → Lawful w IsPlain (p i n)) → Lawful w IsPlain (single_extended p)
 unfolding single_extended
 law-single_extended {w} p f = search (lawful, law-fetch, f) depth 12
 
-pub law-double_extended : {w : Lost} (p : ℕ → ℕ → Rule (Unit {0})) → ((i n : ℕ) → Lawful w IsPlain (p i n)) → Lawful w IsPlain (double_extended p)
+pub law-double_extended : {w : Lost} (p : ℕ → ℕ → Rule Step) → ((i n : ℕ) → Lawful w IsPlain (p i n)) → Lawful w IsPlain (double_extended p)
 unfolding double_extended
 law-double_extended {w} p f = search (lawful, law-fetch, f) depth 12
 
@@ -583,7 +822,7 @@ ruleset pushing = (law-push_of, law-push_known, law-push_number, law-push_receiv
 
 ruleset storing = (law-store_and_pop, law-extended_store, law-extended_store_and_pop, law-store_receiver_variable, law-store_temporary, law-pop)
 
-ruleset leaving = (law-return_of, law-return_from_block, law-pop_top, law-jump, law-jump_on, law-long_jump, law-long_jump_on)
+ruleset leaving = (law-then_next, law-return_of, law-return_from_block, law-pop_top, law-jump, law-jump_on, law-long_jump, law-long_jump_on)
 
 ruleset sending = (law-single_extended, law-double_extended, law-send_literal, law-send_literal_super, law-arithmetic_send, law-special_send, law-tried_for, law-block_send)
 
@@ -605,6 +844,10 @@ pub law-step : {w : Lost} → Lawful w IsPlain step
 unfolding step
 law-step {w} = search (lawful, law-fetch, law-bytecode) depth 12
 
+pub law-turn : {w : Lost} → Lawful w IsPlain turn
+unfolding turn
+law-turn {w} = search (lawful, law-check_switch, law-step) depth 12
+
 pub law-cycle : {w : Lost} → Lawful w IsPlain cycle
 unfolding cycle
-law-cycle {w} = search (lawful, law-step, law-count_bytecode) depth 12
+law-cycle {w} = search (lawful, law-turn, law-count_bytecode) depth 14

@@ -54,7 +54,7 @@ base_code = 112 ∷ 135 ∷ 163 ∷ 252 ∷ []
 
 -- what a whole run leaves of the context
 abbrev pub context_in : Ending → Option Object
-context_in (Parked m) = m.heap.at CONTEXT
+context_in (Parked end m) = m.heap.at CONTEXT
 context_in (Stuck why ran) = None
 
 -- ---- arithmetic

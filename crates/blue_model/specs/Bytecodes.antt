@@ -7,12 +7,15 @@ use Rattle.long_names.specs.Names.{NIL, FALSE, TRUE, METHOD_CONTEXT, BLOCK_CONTE
 use Rattle.long_names.specs.Objects.{int_of, is_ref}
 use Rattle.long_names.specs.State.{ACTIVE_CONTEXT, HOME, METHOD, RECEIVER}
 use Rattle.blue_model.specs.declared.cause.Cause.TheVariants.{Unused, Stack, Shape}
+use Rattle.blue_model.specs.declared.step.Step.{Step}
+use Rattle.blue_model.specs.declared.step.Step.TheVariants.{Next}
 use Rattle.blue_model.specs.Indexes.{VALUE_INDEX, ASSOCIATION_SIZE, SENDER_INDEX, TEMP_FRAME_START}
 use Rattle.blue_model.specs.Machine.{Rule, ◌>>=◌, ◌>>◌, done, halt, unbuilt, given, pick, register, part, known, class_of}
 use Rattle.blue_model.specs.Parts.{size, field, literal}
 use Rattle.blue_model.specs.Contexts.{store_field, push, stack, pop, pop_top, fetch, jump}
-use Rattle.blue_model.specs.Primitives.{tried}
-use Rattle.blue_model.specs.Sends.{set_arguments, send, send_super, special_send, must_be_boolean, return_to}
+use Rattle.blue_model.specs.Messages.{set_arguments}
+use Rattle.blue_model.specs.Primitives.{then_next, tried}
+use Rattle.blue_model.specs.Sends.{send, send_super, special_send, must_be_boolean, return_to}
 
 -- ---- variables
 
@@ -123,17 +126,17 @@ extended_store_and_pop = do
 -- ---- returns
 
 -- sender (chapter 28): of the home
-unfoldable pub return_home : Value → Rule (Unit {0})
+unfoldable pub return_home : Value → Rule Step
 return_home v = do
   home ← register HOME
   sender ← part Shape (field 0 SENDER_INDEX) home
   return_to sender v
 
-unfoldable pub return_of : Rule Value → Rule (Unit {0})
+unfoldable pub return_of : Rule Value → Rule Step
 return_of p = p >>= return_home
 
 -- caller (chapter 28): of the active context
-unfoldable pub return_from_block : Rule (Unit {0})
+unfoldable pub return_from_block : Rule Step
 return_from_block = do
   v ← pop_top
   active ← register ACTIVE_CONTEXT
@@ -143,11 +146,11 @@ return_from_block = do
 -- ---- jumps
 
 -- what a conditional jump does with the value that it popped. mustBeBoolean is sent to one that is neither
-unfoldable pub jump_where : ℕ → ℕ → ℤ → Value → Rule (Unit {0})
-jump_where taken passed distance v = pick (is_ref taken v) (jump distance) (pick (is_ref passed v) (done tt) (must_be_boolean v))
+unfoldable pub jump_where : ℕ → ℕ → ℤ → Value → Rule Step
+jump_where taken passed distance v = pick (is_ref taken v) (then_next (jump distance)) (pick (is_ref passed v) (done Next) (must_be_boolean v))
 
 -- jumpIf: (chapter 28)
-unfoldable pub jump_on : ℕ → ℕ → ℤ → Rule (Unit {0})
+unfoldable pub jump_on : ℕ → ℕ → ℤ → Rule Step
 jump_on taken passed distance = do
   v ← pop_top
   jump_where taken passed distance v
@@ -157,31 +160,31 @@ long_jump i = do
   n ← fetch
   jump (pos (256 * i + n) -ℤ pos 1024)
 
-unfoldable pub long_jump_on : ℕ → ℕ → ℕ → Rule (Unit {0})
+unfoldable pub long_jump_on : ℕ → ℕ → ℕ → Rule Step
 long_jump_on taken passed i = do
   n ← fetch
   jump_on taken passed (pos (256 * i + n))
 
 -- ---- sends
 
-unfoldable pub send_literal : ℕ → ℕ → Rule (Unit {0})
+unfoldable pub send_literal : ℕ → ℕ → Rule Step
 send_literal i n = do
   selector ← literal_constant i
   send selector n
 
-unfoldable pub send_literal_super : ℕ → ℕ → Rule (Unit {0})
+unfoldable pub send_literal_super : ℕ → ℕ → Rule Step
 send_literal_super i n = do
   selector ← literal_constant i
   send_super selector n
 
 -- literal and number of arguments in one byte
-unfoldable pub single_extended : (ℕ → ℕ → Rule (Unit {0})) → Rule (Unit {0})
+unfoldable pub single_extended : (ℕ → ℕ → Rule Step) → Rule Step
 single_extended p = do
   n ← fetch
   p (n % 32) (n / 32)
 
 -- the number of arguments in one byte, and the literal in the next
-unfoldable pub double_extended : (ℕ → ℕ → Rule (Unit {0})) → Rule (Unit {0})
+unfoldable pub double_extended : (ℕ → ℕ → Rule Step) → Rule Step
 double_extended p = do
   n ← fetch
   i ← fetch
@@ -190,7 +193,7 @@ double_extended p = do
 -- ---- special sends. Where the receiver is as it has to be, a primitive is tried at once, and the message is sent where it fails
 
 -- the primitive for a message of so many arguments
-unfoldable pub tried_for : ℕ → ℕ → ℕ → Rule (Unit {0})
+unfoldable pub tried_for : ℕ → ℕ → ℕ → Rule Step
 tried_for index n s = do
   set_arguments n
   tried index (special_send s)
@@ -200,7 +203,7 @@ abbrev pub arithmetic_primitives : List ℕ
 arithmetic_primitives = 1 ∷ 2 ∷ 3 ∷ 4 ∷ 5 ∷ 6 ∷ 7 ∷ 8 ∷ 9 ∷ 10 ∷ 11 ∷ 18 ∷ 17 ∷ 12 ∷ 14 ∷ 15 ∷ []
 
 -- of two numbers
-unfoldable pub arithmetic_send : ℕ → Rule (Unit {0})
+unfoldable pub arithmetic_send : ℕ → Rule Step
 arithmetic_send s = do
   receiver ← stack 1
   pick (is_some (int_of receiver)) (tried_for (slice_index_or arithmetic_primitives s 0) 1 s) (special_send s)
@@ -216,7 +219,7 @@ abbrev pub is_block_class : ℕ → Bool
 is_block_class n = n == BLOCK_CONTEXT
 
 -- of a receiver of these classes
-unfoldable pub block_send : ℕ → ℕ → (ℕ → Bool) → ℕ → Rule (Unit {0})
+unfoldable pub block_send : ℕ → ℕ → (ℕ → Bool) → ℕ → Rule Step
 block_send index n classes s = do
   receiver ← stack n
   class ← class_of receiver
@@ -228,48 +231,55 @@ block_send index n classes s = do
 pub record Range : Type 0 where
   pub first : ℕ
   pub last : ℕ
-  pub rule : ℕ → Rule (Unit {0})
+  pub rule : ℕ → Rule Step
 
-abbrev pub from_to : ℕ → ℕ → (ℕ → Rule (Unit {0})) → Range
+abbrev pub from_to : ℕ → ℕ → (ℕ → Rule Step) → Range
 from_to first last rule = record { first = first; last = last; rule = rule }
 
-abbrev pub only : ℕ → Rule (Unit {0}) → Range
+abbrev pub only : ℕ → Rule Step → Range
 only byte rule = record { first = byte; last = byte; rule = λ i. rule }
+
+-- of bytes after which the next always follows
+abbrev pub next_from_to : ℕ → ℕ → (ℕ → Rule (Unit {0})) → Range
+next_from_to first last rule = record { first = first; last = last; rule = λ i. then_next (rule i) }
+
+abbrev pub next_only : ℕ → Rule (Unit {0}) → Range
+next_only byte rule = record { first = byte; last = byte; rule = λ i. then_next rule }
 
 unfoldable pub bytecodes : List Range
 bytecodes =
-    from_to 0 15 (λ i. push_of (receiver_variable i))
-    ∷ from_to 16 31 (λ i. push_of (temporary i))
-    ∷ from_to 32 63 (λ i. push_of (literal_constant i))
-    ∷ from_to 64 95 (λ i. push_of (literal_variable i))
-    ∷ from_to 96 103 (λ i. store_and_pop (store_receiver_variable i))
-    ∷ from_to 104 111 (λ i. store_and_pop (store_temporary i))
-    ∷ only 112 push_receiver
-    ∷ only 113 (push_known TRUE)
-    ∷ only 114 (push_known FALSE)
-    ∷ only 115 (push_known NIL)
-    ∷ from_to 116 119 push_number
+    next_from_to 0 15 (λ i. push_of (receiver_variable i))
+    ∷ next_from_to 16 31 (λ i. push_of (temporary i))
+    ∷ next_from_to 32 63 (λ i. push_of (literal_constant i))
+    ∷ next_from_to 64 95 (λ i. push_of (literal_variable i))
+    ∷ next_from_to 96 103 (λ i. store_and_pop (store_receiver_variable i))
+    ∷ next_from_to 104 111 (λ i. store_and_pop (store_temporary i))
+    ∷ next_only 112 push_receiver
+    ∷ next_only 113 (push_known TRUE)
+    ∷ next_only 114 (push_known FALSE)
+    ∷ next_only 115 (push_known NIL)
+    ∷ next_from_to 116 119 push_number
     ∷ only 120 (return_of (register RECEIVER))
     ∷ only 121 (return_of (known TRUE))
     ∷ only 122 (return_of (known FALSE))
     ∷ only 123 (return_of (known NIL))
     ∷ only 124 (return_of pop_top)
     ∷ only 125 return_from_block
-    ∷ from_to 126 127 (λ i. halt Unused)
-    ∷ only 128 extended_push
-    ∷ only 129 extended_store
-    ∷ only 130 extended_store_and_pop
+    ∷ next_from_to 126 127 (λ i. halt Unused)
+    ∷ next_only 128 extended_push
+    ∷ next_only 129 extended_store
+    ∷ next_only 130 extended_store_and_pop
     ∷ only 131 (single_extended send_literal)
     ∷ only 132 (double_extended send_literal)
     ∷ only 133 (single_extended send_literal_super)
     ∷ only 134 (double_extended send_literal_super)
-    ∷ only 135 (pop 1)
-    ∷ only 136 duplicate_top
-    ∷ only 137 push_active_context
-    ∷ from_to 138 143 (λ i. halt Unused)
-    ∷ from_to 144 151 (λ i. jump (pos (i + 1)))
+    ∷ next_only 135 (pop 1)
+    ∷ next_only 136 duplicate_top
+    ∷ next_only 137 push_active_context
+    ∷ next_from_to 138 143 (λ i. halt Unused)
+    ∷ next_from_to 144 151 (λ i. jump (pos (i + 1)))
     ∷ from_to 152 159 (λ i. jump_on FALSE TRUE (pos (i + 1)))
-    ∷ from_to 160 167 long_jump
+    ∷ next_from_to 160 167 long_jump
     ∷ from_to 168 171 (long_jump_on TRUE FALSE)
     ∷ from_to 172 175 (long_jump_on FALSE TRUE)
     ∷ from_to 176 191 arithmetic_send
@@ -290,10 +300,10 @@ abbrev pub has_byte : ℕ → Range → Bool
 has_byte byte r = nat_le r.first byte && nat_le byte r.last
 
 -- what the first range says that has the byte; bytes have 8 bits, and each of them is in one range
-abbrev pub ruled : List Range → ℕ → Rule (Unit {0})
+abbrev pub ruled : List Range → ℕ → Rule Step
 ruled [] byte = unbuilt
 ruled (r ∷ rs) byte = pick (has_byte byte r) (r.rule (byte - r.first)) (ruled rs byte)
 
 -- dispatchOnThisBytecode (chapter 28)
-unfoldable pub bytecode : ℕ → Rule (Unit {0})
+unfoldable pub bytecode : ℕ → Rule Step
 bytecode byte = ruled bytecodes byte

@@ -3,10 +3,10 @@ use Rattle.std.specs.Prelude.{ℕ, ℤ, pos, negsuc, ◌+ℤ◌, ◌-ℤ◌, ◌
 use Rattle.long_names.specs.declared.value.Value.{Value}
 use Rattle.long_names.specs.declared.value.Value.TheVariants.{Int}
 use Rattle.long_names.specs.Names.{NIL, SCHEDULER_ASSOCIATION}
-use Rattle.long_names.specs.State.{ACTIVE_CONTEXT, HOME, METHOD, RECEIVER}
+use Rattle.long_names.specs.State.{ACTIVE_CONTEXT, HOME, METHOD, RECEIVER, NEW_PROCESS}
 use Rattle.blue_model.specs.declared.cause.Cause.TheVariants.{Pointer, Stack, Shape}
 use Rattle.blue_model.specs.Indexes.{VALUE_INDEX, ASSOCIATION_SIZE, ACTIVE_PROCESS_INDEX, SCHEDULER_SIZE, SUSPENDED_CONTEXT_INDEX, PROCESS_SIZE, SENDER_INDEX, INSTRUCTION_POINTER_INDEX, STACK_POINTER_INDEX, METHOD_INDEX, RECEIVER_INDEX, TEMP_FRAME_START, EMPTY_STACK, FULL_STACK}
-use Rattle.blue_model.specs.Machine.{Rule, ◌>>=◌, ◌>>◌, done, given, register, put_register, clear, numbers, numbers_at_rest, set_numbers, part, known, store, unpin_all, pin}
+use Rattle.blue_model.specs.Machine.{Rule, ◌>>=◌, ◌>>◌, done, given, pick, register, put_register, clear, numbers, numbers_at_rest, set_numbers, part, known, store, unpin_all, pin}
 use Rattle.blue_model.specs.Parts.{size, field, number, home_of, code_of, byte_at}
 
 -- a store into a field of an object of pointers, which has it
@@ -173,11 +173,16 @@ back_with context v = do
 
 -- ---- start and park
 
--- activeProcess (chapter 29), with no process switch waiting: the scheduler is the value of the scheduler's association
+-- schedulerPointer (chapter 29): the value of the scheduler's association
+unfoldable pub scheduler : Rule Value
+scheduler = do
+  association ← known SCHEDULER_ASSOCIATION
+  part Shape (field ASSOCIATION_SIZE VALUE_INDEX) association
+
+-- the process that the scheduler says is active
 unfoldable pub active_process : Rule Value
 active_process = do
-  association ← known SCHEDULER_ASSOCIATION
-  scheduler ← part Shape (field ASSOCIATION_SIZE VALUE_INDEX) association
+  scheduler ← scheduler
   part Shape (field SCHEDULER_SIZE ACTIVE_PROCESS_INDEX) scheduler
 
 -- firstContext (chapter 29), and its registers are fetched. All else is at rest
@@ -189,10 +194,20 @@ start = do
   context ← part Shape (field PROCESS_SIZE SUSPENDED_CONTEXT_INDEX) process
   load context
 
+-- where a process switch waits, the new process becomes the scheduler's active one
+unfoldable pub park_new : Value → Rule (Unit {0})
+park_new scheduler = do
+  cpu ← numbers
+  pick cpu.waiting (do
+    new ← register NEW_PROCESS
+    store_field scheduler ACTIVE_PROCESS_INDEX new) (done tt)
+
 -- storeContextRegisters (chapter 28), and the active context is stored into the active process as at a process switch (chapter 29)
 unfoldable pub park : Rule (Unit {0})
 park = do
   store_registers
   active ← register ACTIVE_CONTEXT
-  process ← active_process
+  scheduler ← scheduler
+  process ← part Shape (field SCHEDULER_SIZE ACTIVE_PROCESS_INDEX) scheduler
   store_field process SUSPENDED_CONTEXT_INDEX active
+  park_new scheduler

@@ -9,7 +9,10 @@ VALUE_INDEX = 1
 abbrev pub ASSOCIATION_SIZE : ℕ
 ASSOCIATION_SIZE = 2
 
--- ---- the scheduler, and processes
+-- ---- the scheduler, processes and semaphores
+
+abbrev pub PROCESS_LISTS_INDEX : ℕ
+PROCESS_LISTS_INDEX = 0
 
 abbrev pub ACTIVE_PROCESS_INDEX : ℕ
 ACTIVE_PROCESS_INDEX = 1
@@ -17,8 +20,31 @@ ACTIVE_PROCESS_INDEX = 1
 abbrev pub SCHEDULER_SIZE : ℕ
 SCHEDULER_SIZE = 2
 
+-- the first and the last process of a list, which a semaphore is too
+abbrev pub FIRST_LINK_INDEX : ℕ
+FIRST_LINK_INDEX = 0
+
+abbrev pub LAST_LINK_INDEX : ℕ
+LAST_LINK_INDEX = 1
+
+abbrev pub EXCESS_SIGNALS_INDEX : ℕ
+EXCESS_SIGNALS_INDEX = 2
+
+abbrev pub SEMAPHORE_SIZE : ℕ
+SEMAPHORE_SIZE = 3
+
+-- of a process
+abbrev pub NEXT_LINK_INDEX : ℕ
+NEXT_LINK_INDEX = 0
+
 abbrev pub SUSPENDED_CONTEXT_INDEX : ℕ
 SUSPENDED_CONTEXT_INDEX = 1
+
+abbrev pub PRIORITY_INDEX : ℕ
+PRIORITY_INDEX = 2
+
+abbrev pub MY_LIST_INDEX : ℕ
+MY_LIST_INDEX = 3
 
 abbrev pub PROCESS_SIZE : ℕ
 PROCESS_SIZE = 4
@@ -35,9 +61,20 @@ INSTRUCTION_POINTER_INDEX = 1
 abbrev pub STACK_POINTER_INDEX : ℕ
 STACK_POINTER_INDEX = 2
 
+-- of a block context
+abbrev pub CALLER_INDEX : ℕ
+CALLER_INDEX = 0
+
 -- of a method context; of a block context it is the number of its arguments
 abbrev pub METHOD_INDEX : ℕ
 METHOD_INDEX = 3
+
+abbrev pub BLOCK_ARGUMENT_COUNT_INDEX : ℕ
+BLOCK_ARGUMENT_COUNT_INDEX = 3
+
+-- of a block context: its instruction pointer before its first byte
+abbrev pub INITIAL_IP_INDEX : ℕ
+INITIAL_IP_INDEX = 4
 
 -- of a method context
 abbrev pub RECEIVER_INDEX : ℕ

@@ -7,6 +7,7 @@ use Rattle.long_names.specs.Names.{is_known}
 use Rattle.long_names.specs.Objects.{Making, field_of}
 use Rattle.long_names.specs.Heap.{IsBounded}
 use Rattle.long_names.specs.Thin.{IsWhole, IsThinning}
+use Rattle.blue_model.specs.declared.step.Step.TheVariants.{Next, Quit}
 use Rattle.blue_model.specs.Machine.{Machine, LogRow, Outcome, Go, Halt, Spent, Unbuilt, Rule, is_there, make}
 use Rattle.blue_model.specs.Cycle.{Run, Ran, Stopped, run, Ending, Parked, Stuck}
 
@@ -41,18 +42,19 @@ pub record RespectsThinning {A : Type 0} (p : Rule A) : Type 0 where
 
 -- two runs are the same but for a thinning
 abbrev pub RunsAgree : Run → Run → Type 0
-RunsAgree (Ran m) (Ran s) = IsThinned m s
+RunsAgree (Ran end m) (Ran last s) = (end ≡ last) × IsThinned m s
 RunsAgree (Stopped m why log) (Stopped s reason rows) = (why ≡ reason) × (log ≡ rows) × IsThinned m s
 RunsAgree _ _ = ⊥
 
--- k cycles more, where it hasn't stopped
+-- k cycles more, where it hasn't ended or stopped
 abbrev pub go_on : ℕ → Run → Run
-go_on k (Ran m) = run k m
+go_on k (Ran Next m) = run k m
+go_on k (Ran Quit m) = Ran Quit m
 go_on k (Stopped m why log) = Stopped m why log
 
 -- and two whole runs
 abbrev pub EndingsAgree : Ending → Ending → Type 0
-EndingsAgree (Parked m) (Parked s) = IsThinned m s
+EndingsAgree (Parked end m) (Parked last s) = (end ≡ last) × IsThinned m s
 EndingsAgree (Stuck why ran) (Stuck reason counted) = (why ≡ reason) × (ran ≡ counted)
 EndingsAgree _ _ = ⊥
 

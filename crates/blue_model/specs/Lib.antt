@@ -9,6 +9,10 @@ pub mod Trials
 pub mod Arithmetic
 pub mod Elements
 pub mod Storage
+pub mod Messages
+pub mod Processes
+pub mod Queues
+pub mod Control
 pub mod Primitives
 pub mod Sends
 pub mod Bytecodes
@@ -16,3 +20,4 @@ pub mod Cycle
 pub mod Law
 pub mod Alike
 pub mod Base
+pub mod Worked

@@ -1,23 +1,42 @@
 -- The table of primitives (chapter 29), and their tries.
-use Rattle.std.specs.Prelude.{ℕ, ◌==◌, Bool, true, false, List, [], ◌∷◌, ◌++◌}
+use Rattle.std.specs.Prelude.{ℕ, ◌==◌, ◌||◌, ◌&&◌, Bool, true, false, nat_le, List, [], ◌∷◌, ◌++◌}
 use Rattle.std.specs.List.{list_any}
 use Rattle.blue_model.specs.declared.answer.Answer.{Answer}
 use Rattle.blue_model.specs.declared.answer.Answer.TheVariants.{Done, Failed, Execute, Quit}
-use Rattle.blue_model.specs.Machine.{Rule, ◌>>=◌, done, unbuilt, pick}
-use Rattle.blue_model.specs.Trials.{primitive_in}
+use Rattle.blue_model.specs.declared.step.Step.{Step}
+use Rattle.blue_model.specs.declared.step.Step.TheVariants as step
+use Rattle.blue_model.specs.Machine.{Rule, ◌>>=◌, ◌>>◌, done, unbuilt, pick}
+use Rattle.blue_model.specs.Trials.{Primitive, primitive_in}
 use Rattle.blue_model.specs.Arithmetic.{integer_primitives}
 use Rattle.blue_model.specs.Storage.{object_primitives}
+use Rattle.blue_model.specs.Control.{control_primitive}
+use Rattle.blue_model.specs.Processes.{process_primitives}
 
 -- those that the table has and that aren't built yet
 abbrev pub unbuilt_primitives : List ℕ
-unbuilt_primitives = 80 ∷ 81 ∷ 82 ∷ 83 ∷ 84 ∷ 85 ∷ 86 ∷ 87 ∷ 88 ∷ 89 ∷ 93 ∷ 95 ∷ 96 ∷ 99 ∷ 100 ∷ 102 ∷ 113 ∷ 128 ∷ []
+unbuilt_primitives = 93 ∷ 95 ∷ 96 ∷ 99 ∷ 100 ∷ 102 ∷ 128 ∷ []
 
 abbrev pub is_unbuilt : ℕ → Bool
 is_unbuilt index = list_any (λ n. n == index) unbuilt_primitives
 
+-- blocks, performs, the method cache and the end of the run
+abbrev pub is_control : ℕ → Bool
+is_control index = (nat_le 80 index && nat_le index 84) || (index == 89) || (index == 113)
+
+-- signal, wait, resume and suspend
+abbrev pub is_process : ℕ → Bool
+is_process index = nat_le 85 index && nat_le index 88
+
 -- dispatchPrimitives. A primitive that isn't in the table fails
 unfoldable pub primitive : ℕ → Rule Answer
-primitive index = pick (is_unbuilt index) unbuilt (primitive_in (integer_primitives ++ object_primitives) index)
+primitive index =
+    pick (is_unbuilt index) unbuilt
+    (pick (is_control index) (control_primitive index)
+    (pick (is_process index) (primitive_in process_primitives index)
+    (primitive_in (integer_primitives ++ object_primitives) index)))
+
+abbrev pub is_perform : ℕ → Bool
+is_perform index = (index == 83) || (index == 84)
 
 abbrev pub has_failed : Answer → Bool
 has_failed Done = false
@@ -25,6 +44,18 @@ has_failed Failed = true
 has_failed Execute = false
 has_failed Quit = false
 
+-- ---- how a bytecode ends
+
+abbrev pub step_of : Answer → Step
+step_of Done = step.Next
+step_of Failed = step.Next
+step_of Execute = step.Next
+step_of Quit = step.Quit
+
+-- a rule after which the next bytecode follows
+unfoldable pub then_next : Rule (Unit {0}) → Rule Step
+then_next p = p >> done step.Next
+
 -- the primitive, and where it fails the rest
-unfoldable pub tried : ℕ → Rule (Unit {0}) → Rule (Unit {0})
-tried index rest = primitive index >>= λ answer. pick (has_failed answer) rest (done tt)
+unfoldable pub tried : ℕ → Rule Step → Rule Step
+tried index rest = primitive index >>= λ answer. pick (has_failed answer) rest (done (step_of answer))

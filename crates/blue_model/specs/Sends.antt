@@ -1,163 +1,21 @@
--- Sends and returns (chapter 28): from the receiver's class to the method, execution by its header, activation, the end of the chain,
--- and what is sent where the machine can't go on.
-use Rattle.std.specs.Prelude.{ℕ, ℤ, pos, negsuc, ◌-ℤ◌, ◌+◌, ◌-◌, ◌*◌, ◌/◌, ◌%◌, ◌==◌, nat_lt, List, length, Option, Some, None, if◌then◌else◌}
-use Rattle.std.specs.List.{slice_get}
-use Rattle.std.specs.Option.{option_and_then}
+-- Sends and returns (chapter 28): execution of a method by its header, messages by their selectors, and what is sent where the
+-- machine can't go on.
+use Rattle.std.specs.Prelude.{ℕ, ℤ, pos, negsuc, ◌+◌, ◌*◌, ◌==◌, ◌&&◌, ◌||◌, Bool, true, false, nat_lt, Option, Some, None, if◌then◌else◌}
 use Rattle.long_names.specs.declared.value.Value.{Value}
-use Rattle.long_names.specs.declared.value.Value.TheVariants.{Int}
-use Rattle.long_names.specs.declared.object.Object.{Object}
-use Rattle.long_names.specs.Names.{ARRAY, METHOD_CONTEXT, MESSAGE, DOES_NOT_UNDERSTAND, CANNOT_RETURN, SPECIAL_SELECTORS, MUST_BE_BOOLEAN}
-use Rattle.long_names.specs.Words.{unsigned_of, literal_count}
-use Rattle.long_names.specs.Objects.{OfPointers, int_of, is_ref, literals_of}
+use Rattle.long_names.specs.Names.{CANNOT_RETURN, SPECIAL_SELECTORS, MUST_BE_BOOLEAN}
 use Rattle.long_names.specs.State.{ACTIVE_CONTEXT, METHOD, SELECTOR, NEW_METHOD}
-use Rattle.blue_model.specs.declared.cause.Cause.TheVariants.{Stack, Shape, NotUnderstood}
-use Rattle.blue_model.specs.Indexes.{VALUE_INDEX, ASSOCIATION_SIZE, SENDER_INDEX, INSTRUCTION_POINTER_INDEX, STACK_POINTER_INDEX, METHOD_INDEX, RECEIVER_INDEX, SUPERCLASS_INDEX, SMALL_CONTEXT_SIZE, LARGE_CONTEXT_SIZE, MESSAGE_SELECTOR_INDEX, MESSAGE_ARGUMENTS_INDEX, MESSAGE_SIZE}
-use Rattle.blue_model.specs.Machine.{Rule, ◌>>=◌, ◌>>◌, done, halt, given, pick, each, register, put_register, numbers, set_numbers, part, known, class_of, make}
-use Rattle.blue_model.specs.Parts.{is_nil, size, field, number, heading}
-use Rattle.blue_model.specs.Contexts.{stack_place, store_field, push, stack, pop, enter, back_with}
-use Rattle.blue_model.specs.Lookup.{find}
-use Rattle.blue_model.specs.Primitives.{tried}
-
--- ---- methods (chapter 27, compiled methods)
-
--- 0 to 4: so many arguments, and no primitive; 5 answers self, 6 a field of the receiver; 7 has a header extension
-abbrev pub flag_of : ℤ → ℕ
-flag_of header = unsigned_of header / 4096
-
--- how many temporaries, arguments among them; with flag 6 the number of the field
-abbrev pub temporaries_of : ℤ → ℕ
-temporaries_of header = unsigned_of header / 128 % 32
-
--- how many fields its context has
-abbrev pub context_size : ℤ → ℕ
-context_size header = if unsigned_of header / 64 % 2 == 1 then LARGE_CONTEXT_SIZE else SMALL_CONTEXT_SIZE
-
--- field 1 of its context at first: its header and literals take two bytes each, and the pointer is counted from 1
-abbrev pub first_pointer : ℤ → ℤ
-first_pointer header = pos (2 * (literal_count header + 1) + 1)
-
--- the last literal of a method, which is the association of the class that it stands in
-unfoldable pub last_literal : Object → Option Value
-last_literal o = option_and_then (λ (literals : List Value). slice_get literals (length literals - 1)) (literals_of o.body)
-
--- the literal before the last
-unfoldable pub literal_before_last : Object → Option Value
-literal_before_last o = option_and_then (λ (literals : List Value). if nat_lt 1 (length literals) then slice_get literals (length literals - 2) else None) (literals_of o.body)
-
--- the header extension of a method is a number
-unfoldable pub extension : Object → Option ℤ
-extension o = option_and_then int_of (literal_before_last o)
-
-abbrev pub primitive_of : ℤ → ℕ
-primitive_of extension = unsigned_of extension % 256
-
--- ---- the message
-
-unfoldable pub set_arguments : ℕ → Rule (Unit {0})
-set_arguments n = do
-  cpu ← numbers
-  set_numbers (record cpu { args = n })
-
--- ---- the end of the chain
-
--- argument i goes into an array, in order; the last is on top of the stack
-unfoldable pub copy_argument : ℕ → Value → ℕ → Rule (Unit {0})
-copy_argument n array i = do
-  v ← stack (n - 1 - i)
-  store_field array i v
-
--- an array of the arguments
-unfoldable pub make_arguments : ℕ → Rule Value
-make_arguments n = do
-  arrays ← known ARRAY
-  array ← make arrays (OfPointers n)
-  each (copy_argument n array) n
-  done array
-
-unfoldable pub make_message : Value → Value → Rule Value
-make_message selector array = do
-  messages ← known MESSAGE
-  message ← make messages (OfPointers MESSAGE_SIZE)
-  store_field message MESSAGE_SELECTOR_INDEX selector
-  store_field message MESSAGE_ARGUMENTS_INDEX array
-  done message
-
--- createActualMessage (chapter 28): the message takes the place of the arguments on the stack
-unfoldable pub create_message : Value → ℕ → Rule (Unit {0})
-create_message selector n = do
-  array ← make_arguments n
-  message ← make_message selector array
-  pop n
-  push message
-
--- the same class is asked for doesNotUnderstand:, with the message as its argument
-unfoldable pub tell : Value → Value → Rule (Unit {0})
-tell class selector = do
-  cpu ← numbers
-  create_message selector cpu.args
-  told ← known DOES_NOT_UNDERSTAND
-  put_register SELECTOR told
-  set_arguments 1
-  found ← find class
-  pick found (done tt) (halt NotUnderstood)
-
--- findNewMethodInClass: (chapter 28), with doesNotUnderstand: in place of a message that no class of the chain has
-unfoldable pub find_or_tell : Value → Rule (Unit {0})
-find_or_tell class = do
-  found ← find class
-  selector ← register SELECTOR
-  pick found (done tt) (pick (is_ref DOES_NOT_UNDERSTAND selector) (halt NotUnderstood) (tell class selector))
-
--- ---- activation
-
--- receiver and arguments, in order, from field 5 of a new context on, if it has the field
-abbrev pub argument_place : ℕ → ℕ → Option ℕ
-argument_place len k = if nat_lt (RECEIVER_INDEX + k) len then Some (RECEIVER_INDEX + k) else None
-
-unfoldable pub pass : ℕ → ℕ → Value → ℕ → Rule (Unit {0})
-pass n len context k = do
-  place ← given Stack (argument_place len k)
-  v ← stack (n - k)
-  store_field context place v
-
--- where a method's first byte is found, and how deep its stack is at first
-unfoldable pub fill_context : Value → Value → ℤ → Rule (Unit {0})
-fill_context context method header = do
-  active ← register ACTIVE_CONTEXT
-  store_field context SENDER_INDEX active
-  store_field context INSTRUCTION_POINTER_INDEX (Int (first_pointer header))
-  store_field context STACK_POINTER_INDEX (Int (pos (temporaries_of header)))
-  store_field context METHOD_INDEX method
-
--- a context for a method with this header and n arguments. It is made before anything is tested
-unfoldable pub make_context : Value → ℤ → ℕ → Rule Value
-make_context method header n = do
-  contexts ← known METHOD_CONTEXT
-  context ← make contexts (OfPointers (context_size header))
-  fill_context context method header
-  each (pass n (context_size header) context) (n + 1)
-  done context
-
--- activateNewMethod (chapter 28)
-unfoldable pub activate : Rule (Unit {0})
-activate = do
-  cpu ← numbers
-  method ← register NEW_METHOD
-  header ← part Shape heading method
-  context ← make_context method header cpu.args
-  pop (cpu.args + 1)
-  enter context
+use Rattle.blue_model.specs.declared.answer.Answer.{Answer}
+use Rattle.blue_model.specs.declared.answer.Answer.TheVariants.{Done, Failed, Execute, Quit}
+use Rattle.blue_model.specs.declared.cause.Cause.TheVariants.{Shape}
+use Rattle.blue_model.specs.declared.step.Step.{Step}
+use Rattle.blue_model.specs.Indexes.{VALUE_INDEX, ASSOCIATION_SIZE, INSTRUCTION_POINTER_INDEX, SUPERCLASS_INDEX}
+use Rattle.blue_model.specs.Machine.{Rule, ◌>>=◌, ◌>>◌, done, given, pick, register, put_register, numbers, part, known, class_of}
+use Rattle.blue_model.specs.Parts.{is_nil, field, number, heading}
+use Rattle.blue_model.specs.Contexts.{push, stack, back_with}
+use Rattle.blue_model.specs.Messages.{flag_of, temporaries_of, last_literal, extension, primitive_of, set_arguments, put_stack, find_or_tell, activate}
+use Rattle.blue_model.specs.Primitives.{is_perform, primitive, has_failed, step_of, then_next}
 
 -- ---- execution
-
--- a value of the stack is replaced
-unfoldable pub put_stack : ℕ → Value → Rule (Unit {0})
-put_stack depth v = do
-  cpu ← numbers
-  active ← register ACTIVE_CONTEXT
-  len ← part Shape (size 0) active
-  place ← given Stack (stack_place (cpu.sp -ℤ pos depth) len)
-  store_field active place v
 
 -- the receiver is replaced by one of its fields; arguments stay where they are
 unfoldable pub answer_field : ℕ → Rule (Unit {0})
@@ -167,22 +25,36 @@ answer_field i = do
   v ← part Shape (field 0 i) receiver
   put_stack cpu.args v
 
--- a method with a header extension: primitive 0 is none, and another is tried first
-unfoldable pub execute_extended : Value → Rule (Unit {0})
-execute_extended method = do
-  it ← part Shape extension method
-  pick (primitive_of it == 0) activate (tried (primitive_of it) activate)
+-- the answer of what a method does by its primitive, or by what comes in its place
+abbrev pub is_execute : Answer → Bool
+is_execute Done = false
+is_execute Failed = false
+is_execute Execute = true
+is_execute Quit = false
 
--- executeNewMethod (chapter 28)
-unfoldable pub execute : Rule (Unit {0})
-execute = do
+-- a method with a header extension: primitive 0 is none, and another is tried first. Of a method that a perform found, neither perform
+-- is tried again
+unfoldable pub execute_extended : Bool → Value → Rule Answer
+execute_extended performed method = do
+  it ← part Shape extension method
+  pick (primitive_of it == 0 || (performed && is_perform (primitive_of it))) (activate >> done Done) (primitive (primitive_of it) >>= λ answer. pick (has_failed answer) (activate >> done Done) (done answer))
+
+-- a method by its header: it answers self, or a field of the receiver, or its primitive is tried, or it is activated
+unfoldable pub execute_method : Bool → Rule Answer
+execute_method performed = do
   method ← register NEW_METHOD
   header ← part Shape heading method
-  pick (flag_of header == 5) (done tt) (pick (flag_of header == 6) (answer_field (temporaries_of header)) (pick (flag_of header == 7) (execute_extended method) activate))
+  pick (flag_of header == 5) (done Done) (pick (flag_of header == 6) (answer_field (temporaries_of header) >> done Done) (pick (flag_of header == 7) (execute_extended performed method) (activate >> done Done)))
+
+-- executeNewMethod (chapter 28), and the method that a perform found
+unfoldable pub execute : Rule Step
+execute = do
+  answer ← execute_method false
+  pick (is_execute answer) (execute_method true >>= λ last. done (step_of last)) (done (step_of answer))
 
 -- ---- sends
 
-unfoldable pub send_from : Value → Value → ℕ → Rule (Unit {0})
+unfoldable pub send_from : Value → Value → ℕ → Rule Step
 send_from class selector n = do
   put_register SELECTOR selector
   set_arguments n
@@ -190,14 +62,14 @@ send_from class selector n = do
   execute
 
 -- sendSelector:argumentCount: (chapter 28)
-unfoldable pub send : Value → ℕ → Rule (Unit {0})
+unfoldable pub send : Value → ℕ → Rule Step
 send selector n = do
   receiver ← stack n
   class ← class_of receiver
   send_from class selector n
 
 -- to super: the class above the one that the method stands in
-unfoldable pub send_super : Value → ℕ → Rule (Unit {0})
+unfoldable pub send_super : Value → ℕ → Rule Step
 send_super selector n = do
   stack n
   method ← register METHOD
@@ -212,7 +84,7 @@ argument_count (pos n) = if nat_lt n 256 then Some n else None
 argument_count (negsuc n) = None
 
 -- the special selectors stand in an array with their numbers of arguments
-unfoldable pub special_send : ℕ → Rule (Unit {0})
+unfoldable pub special_send : ℕ → Rule Step
 special_send s = do
   specials ← known SPECIAL_SELECTORS
   selector ← part Shape (field (2 * s + 2) (2 * s)) specials
@@ -221,7 +93,7 @@ special_send s = do
   send selector n
 
 -- cannotReturn: (chapter 28), with the value that can't be returned
-unfoldable pub cannot_return : Value → Rule (Unit {0})
+unfoldable pub cannot_return : Value → Rule Step
 cannot_return v = do
   active ← register ACTIVE_CONTEXT
   push active
@@ -230,7 +102,7 @@ cannot_return v = do
   send selector 1
 
 -- mustBeBoolean (chapter 28): the value goes back on the stack
-unfoldable pub must_be_boolean : Value → Rule (Unit {0})
+unfoldable pub must_be_boolean : Value → Rule Step
 must_be_boolean v = do
   push v
   selector ← known MUST_BE_BOOLEAN
@@ -239,7 +111,7 @@ must_be_boolean v = do
 -- ---- returns
 
 -- returnValue:to: (chapter 28). cannotReturn: is sent where the context is nil or has ended
-unfoldable pub return_to : Value → Value → Rule (Unit {0})
+unfoldable pub return_to : Value → Value → Rule Step
 return_to context v = pick (is_nil context) (cannot_return v) (do
   ip ← part Shape (field 0 INSTRUCTION_POINTER_INDEX) context
-  pick (is_nil ip) (cannot_return v) (back_with context v))
+  pick (is_nil ip) (cannot_return v) (then_next (back_with context v)))

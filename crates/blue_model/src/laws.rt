@@ -1,19 +1,25 @@
 // Laws of the machine. No code calls these functions: what each of them ensures is the law.
-ghost use Rattle.std.specs.Prelude.{◌≡◌, ℕ, ℤ, pos, ◌+◌, ◌-◌, ◌+ℤ◌, ◌*ℤ◌, ◌<◌, ◌^◌, true, List, [], ◌∷◌, Contains, count_by, Option, Some, None};
+ghost use Rattle.std.specs.Prelude.{◌≡◌, ℕ, ℤ, pos, ◌+◌, ◌-◌, ◌+ℤ◌, ◌*ℤ◌, ◌<◌, ◌≤◌, ◌^◌, true, List, [], ◌∷◌, ◌++◌, Contains, count_by, Option, Some, None};
 ghost use Rattle.long_names.specs.declared.value.Value.{Value};
+ghost use Rattle.long_names.specs.declared.value.Value.TheVariants.{Ref};
+ghost use Rattle.long_names.specs.Names.{NIL, SCHEDULER_ASSOCIATION};
 ghost use Rattle.long_names.specs.Heap.{Heap};
 ghost use Rattle.blue_model.specs.declared.cause.Cause.TheVariants.{Pointer, Unused, Stack, Shape};
-ghost use Rattle.blue_model.specs.Indexes.{LONGEST_CHAIN};
+ghost use Rattle.blue_model.specs.Indexes.{NEXT_LINK_INDEX, LONGEST_CHAIN};
 ghost use Rattle.blue_model.specs.Machine.{Machine, LogRow, Go, at_rest};
 ghost use Rattle.blue_model.specs.Contexts.{start, park};
 ghost use Rattle.blue_model.specs.Arithmetic.{sum, divided, exact_quotient, rounded_down, quotient_down, remainder_down, quotient_to_zero, bits_and, shifted};
 ghost use Rattle.blue_model.specs.Lookup.{lookup, find_from_register};
 ghost use Rattle.blue_model.specs.ClassList.{class_list, taken};
+ghost use Rattle.blue_model.specs.Processes.{add, take, current_process, resume, suspend_active, signal, wait};
+ghost use Rattle.blue_model.specs.Queues.{IsAmong, IsNotAmong, AreApart, IsQueue, lists_of, Schedule, others_in, objects_in, HasSchedule, NobodyAbove, GoesOn};
 ghost use Rattle.blue_model.specs.declared.answer.Answer.TheVariants.{Failed};
 ghost use Rattle.blue_model.specs.Primitives.{primitive};
 ghost use Rattle.blue_model.specs.Bytecodes.{Range, bytecodes, has_byte, bytecode};
-ghost use Rattle.blue_model.specs.Cycle.{step, cycle, run, Ran, ending, Stuck, ByCause, ByUnbuilt};
+ghost use Rattle.blue_model.specs.declared.step.Step.TheVariants.{Next, Quit};
+ghost use Rattle.blue_model.specs.Cycle.{step, cycle, run, Ran, ending, Stuck, ByCause};
 ghost use Rattle.blue_model.specs.Law.{IsWholeMachine, IsThinned, RespectsThinning, RunsAgree, EndingsAgree, AllThere, go_on};
+ghost use Rattle.blue_model.specs.Worked.{worked_heap, worked_schedule, current_after, field_after, GATE, RUNNER, LOW_SECOND, MIDDLE, HIGH, NEWCOMER};
 ghost use Rattle.blue_model.specs.Base.{nil, heap_of, base_code, context_at, context_in, minus, small_result};
 
 /// A cycle over a thinning answers, stops and logs as over the heap, and leaves a thinning of what it leaves of the heap. So do its
@@ -42,14 +48,49 @@ pub fn a_failed_primitive_changes_nothing()
     ensures { (index : ℕ) (m s : Machine) (log : List LogRow) → primitive index m ≡ Go Failed s log → s ≡ m }
 {}
 
-/// A run of j + k cycles is a run of j and then, where that didn't stop, a run of k.
+/// A list of processes is a queue: a process is added behind the others, and the one that is taken is the first. A list of other
+/// objects stays as it is.
+pub fn a_process_list_is_a_queue()
+    ensures add { (m s : Machine) (list p : ℕ) (names : List ℕ) (log : List LogRow) → IsQueue m.heap list names → IsNotAmong p (NIL ∷ list ∷ names) → add (Ref p) (Ref list) m ≡ Go tt s log → IsQueue s.heap list (names ++ p ∷ []) }
+    ensures take { (m s : Machine) (list p : ℕ) (names : List ℕ) (v : Value) (log : List LogRow) → IsQueue m.heap list (p ∷ names) → take (Ref list) m ≡ Go v s log → (v ≡ Ref p) × IsQueue s.heap list names }
+    ensures add_elsewhere { (m s : Machine) (list p : ℕ) (names : List ℕ) (other : ℕ) (others : List ℕ) (log : List LogRow) → IsQueue m.heap list names → IsNotAmong p (NIL ∷ list ∷ names) → AreApart (other ∷ others) (list ∷ p ∷ names) → add (Ref p) (Ref list) m ≡ Go tt s log → IsQueue m.heap other others → IsQueue s.heap other others }
+    ensures take_elsewhere { (m s : Machine) (list p : ℕ) (names : List ℕ) (other : ℕ) (others : List ℕ) (v : Value) (log : List LogRow) → IsQueue m.heap list (p ∷ names) → AreApart (other ∷ others) (list ∷ p ∷ names) → take (Ref list) m ≡ Go v s log → IsQueue m.heap other others → IsQueue s.heap other others }
+{}
+
+/// Where no process on the scheduler's lists has a priority above that of the current process, a resumption, a signal or a wait that
+/// goes through leaves it so for the process that is current then, and a suspension makes it so. The lists and the semaphores are
+/// queues again. No process is lost or stands twice, but for the suspended one, which stands nowhere.
+pub fn nobody_above_the_current_process_waits()
+    ensures current { (m s : Machine) (here : Schedule) (v : Value) (log : List LogRow) → HasSchedule m here → current_process m ≡ Go v s log → (s ≡ m) × (v ≡ Ref here.current) }
+    ensures resume { (m s : Machine) (here : Schedule) (p : ℕ) (log : List LogRow) → HasSchedule m here → NobodyAbove m.heap here → IsNotAmong p (NIL ∷ SCHEDULER_ASSOCIATION ∷ objects_in here) → resume (Ref p) m ≡ Go tt s log → GoesOn here (p ∷ objects_in here) s }
+    ensures suspend { (m s : Machine) (here : Schedule) (log : List LogRow) → HasSchedule m here → suspend_active m ≡ Go tt s log → GoesOn here (others_in here) s }
+    ensures signal { (m s : Machine) (here : Schedule) (semaphore : ℕ) (log : List LogRow) → HasSchedule m here → NobodyAbove m.heap here → IsAmong semaphore (lists_of here.semaphores) → signal (Ref semaphore) m ≡ Go tt s log → GoesOn here (objects_in here) s }
+    ensures wait { (m s : Machine) (here : Schedule) (semaphore : ℕ) (log : List LogRow) → HasSchedule m here → NobodyAbove m.heap here → IsAmong semaphore (lists_of here.semaphores) → wait (Ref semaphore) m ≡ Go tt s log → GoesOn here (objects_in here) s }
+{}
+
+/// A heap of which the law speaks, and what the rules leave of it. Two processes of priority 1 and one of priority 2 wait on the
+/// scheduler's lists, one of priority 3 waits at a semaphore, one of priority 2 runs, and a newcomer has priority 1.
+pub fn worked_schedule_is_one()
+    ensures schedule { HasSchedule (at_rest worked_heap) worked_schedule }
+    ensures above { NobodyAbove worked_heap worked_schedule }
+    ensures signalled { current_after (signal (Ref GATE)) ≡ Some (Ref HIGH) }
+    ensures behind_its_kind { field_after (signal (Ref GATE)) MIDDLE NEXT_LINK_INDEX ≡ Some (Ref RUNNER) }
+    ensures waited { current_after (wait (Ref GATE)) ≡ Some (Ref MIDDLE) }
+    ensures behind_the_waiting { field_after (wait (Ref GATE)) HIGH NEXT_LINK_INDEX ≡ Some (Ref RUNNER) }
+    ensures suspended { current_after suspend_active ≡ Some (Ref MIDDLE) }
+    ensures resumed { current_after (resume (Ref NEWCOMER)) ≡ Some (Ref RUNNER) }
+    ensures behind_the_low { field_after (resume (Ref NEWCOMER)) LOW_SECOND NEXT_LINK_INDEX ≡ Some (Ref NEWCOMER) }
+{}
+
+/// A run of j + k cycles is a run of j and then, where that didn't end or stop, a run of k.
 pub fn runs_add_up()
     ensures { (j k : ℕ) (m : Machine) → run (j + k) m ≡ go_on k (run j m) }
 {}
 
-/// A run of k cycles that goes through ran k bytecodes more.
+/// A run of k cycles that goes through ran k bytecodes more, and one that the machine ended no more than that.
 pub fn runs_count_bytecodes()
-    ensures { (k : ℕ) (m n : Machine) → run k m ≡ Ran n → n.cpu.ran ≡ m.cpu.ran + k }
+    ensures through { (k : ℕ) (m n : Machine) → run k m ≡ Ran Next n → n.cpu.ran ≡ m.cpu.ran + k }
+    ensures ended { (k : ℕ) (m n : Machine) → run k m ≡ Ran Quit n → n.cpu.ran ≤ m.cpu.ran + k }
 {}
 
 /// A run of k cycles over a thinning runs as over the heap, or stops for the same reason with the same log, and is over a thinning
@@ -117,5 +158,4 @@ pub fn stuck_codes()
     ensures no_code { ending 5 (heap_of []) ≡ Stuck (ByCause Pointer) 0 }
     ensures no_field { ending 5 (heap_of (117 ∷ 0 ∷ [])) ≡ Stuck (ByCause Shape) 1 }
     ensures no_receiver { ending 5 (heap_of (176 ∷ [])) ≡ Stuck (ByCause Stack) 0 }
-    ensures unbuilt { ending 5 (heap_of (137 ∷ 117 ∷ 200 ∷ [])) ≡ Stuck ByUnbuilt 2 }
 {}

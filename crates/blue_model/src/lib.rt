@@ -5,12 +5,13 @@
 //! and that a cycle, a lookup and a whole run go the same way over a heap from which objects were freed early.
 //!
 //!     ghost use Rattle.blue_model.specs.Cycle.{Parked, Stuck, ending};
-//!     // a contract cites a run: `ending steps heap` is `Parked m`, or `Stuck why ran`, and then:
+//!     // a contract cites a run: `ending steps heap` is `Parked step m`, or `Stuck why ran`, and then:
 //!     let number = cause.number();                       // 1 to 7, of a run that is stuck
 //!
-//! Read `Machine` first, of the files of `specs/`, then `Contexts`, `Lookup`, `Bytecodes` and `Cycle`. `Law` says what the laws of
-//! thinning promise, `Alike` how they are proved of rules, and `Base` has heaps as worked values. The crate runs nothing. Sends,
-//! primitives and processes aren't there yet: such a bytecode comes to `Unbuilt`.
+//! Read `Machine` first, of the files of `specs/`, then `Contexts`, `Lookup`, `Messages`, `Sends`, `Bytecodes` and `Cycle`; primitives
+//! are in `Arithmetic`, `Storage`, `Control` and `Processes`, and `Queues` reads process lists as lists. `Law` says what the laws of
+//! thinning promise, `Alike` how they are proved of rules, and `Base` has heaps as worked values. The crate runs nothing. Input and
+//! output aren't there yet: such a primitive comes to `Unbuilt`.
 #![tactic(auto)]
 
 mod answer;
@@ -18,8 +19,10 @@ mod cause;
 mod cpu;
 pub mod laws;
 mod spot;
+mod step;
 
 pub use answer::Answer;
 pub use cause::Cause;
 pub use cpu::Cpu;
 pub use spot::Spot;
+pub use step::Step;

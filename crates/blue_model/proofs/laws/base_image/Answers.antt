@@ -1,27 +1,29 @@
 use Rattle.std.proofs.Common.{refl}
 use Rattle.blue_model.specs.Machine.{◌>>=◌, store, part, look, known, given, pick, register, put_register, numbers, set_numbers, clear, pin, unpin_all, done, halt, unbuilt}
 use Rattle.blue_model.specs.Parts.{field, number, size, home_of, code_of}
-use Rattle.blue_model.specs.Contexts.{start, need_method, put_context, load_home, load, fetch, park, store_registers, store_field, active_process, jump, push, pop, byte_of}
+use Rattle.blue_model.specs.Contexts.{start, need_method, put_context, load_home, load, fetch, park, store_registers, store_field, scheduler, active_process, park_new, jump, push, pop, byte_of}
 use Rattle.blue_model.specs.Bytecodes.{bytecode, bytecodes, push_receiver, push_of, push_number, long_jump, receiver_variable}
-use Rattle.blue_model.specs.Cycle.{ending, run, cycle, step, count_bytecode}
+use Rattle.blue_model.specs.Primitives.{then_next}
+use Rattle.blue_model.specs.Processes.{check_switch}
+use Rattle.blue_model.specs.Cycle.{ending, run, cycle, turn, step, count_bytecode}
 use Rattle.blue_model.proofs.laws.base_image.Goals as goal
 
 pub returns-clause-none : goal.returns-clause-none
-unfolding ending ◌>>=◌ run cycle step count_bytecode start need_method put_context load_home load fetch park store_registers store_field active_process bytecode bytecodes push_receiver push_of push_number long_jump jump push pop store part look known given pick register put_register numbers set_numbers clear pin unpin_all done halt unbuilt field number size home_of code_of byte_of receiver_variable
+unfolding ending ◌>>=◌ run cycle turn step count_bytecode start need_method put_context load_home load fetch park store_registers store_field scheduler active_process park_new check_switch then_next bytecode bytecodes push_receiver push_of push_number long_jump jump push pop store part look known given pick register put_register numbers set_numbers clear pin unpin_all done halt unbuilt field number size home_of code_of byte_of receiver_variable
 returns-clause-none c = refl
 
 pub returns-clause-one : goal.returns-clause-one
-unfolding ending ◌>>=◌ run cycle step count_bytecode start need_method put_context load_home load fetch park store_registers store_field active_process bytecode bytecodes push_receiver push_of push_number long_jump jump push pop store part look known given pick register put_register numbers set_numbers clear pin unpin_all done halt unbuilt field number size home_of code_of byte_of receiver_variable
+unfolding ending ◌>>=◌ run cycle turn step count_bytecode start need_method put_context load_home load fetch park store_registers store_field scheduler active_process park_new check_switch then_next bytecode bytecodes push_receiver push_of push_number long_jump jump push pop store part look known given pick register put_register numbers set_numbers clear pin unpin_all done halt unbuilt field number size home_of code_of byte_of receiver_variable
 returns-clause-one c = refl
 
 pub returns-clause-two : goal.returns-clause-two
-unfolding ending ◌>>=◌ run cycle step count_bytecode start need_method put_context load_home load fetch park store_registers store_field active_process bytecode bytecodes push_receiver push_of push_number long_jump jump push pop store part look known given pick register put_register numbers set_numbers clear pin unpin_all done halt unbuilt field number size home_of code_of byte_of receiver_variable
+unfolding ending ◌>>=◌ run cycle turn step count_bytecode start need_method put_context load_home load fetch park store_registers store_field scheduler active_process park_new check_switch then_next bytecode bytecodes push_receiver push_of push_number long_jump jump push pop store part look known given pick register put_register numbers set_numbers clear pin unpin_all done halt unbuilt field number size home_of code_of byte_of receiver_variable
 returns-clause-two c = refl
 
 pub returns-clause-three : goal.returns-clause-three
-unfolding ending ◌>>=◌ run cycle step count_bytecode start need_method put_context load_home load fetch park store_registers store_field active_process bytecode bytecodes push_receiver push_of push_number long_jump jump push pop store part look known given pick register put_register numbers set_numbers clear pin unpin_all done halt unbuilt field number size home_of code_of byte_of receiver_variable
+unfolding ending ◌>>=◌ run cycle turn step count_bytecode start need_method put_context load_home load fetch park store_registers store_field scheduler active_process park_new check_switch then_next bytecode bytecodes push_receiver push_of push_number long_jump jump push pop store part look known given pick register put_register numbers set_numbers clear pin unpin_all done halt unbuilt field number size home_of code_of byte_of receiver_variable
 returns-clause-three c = refl
 
 pub returns-clause-four : goal.returns-clause-four
-unfolding ending ◌>>=◌ run cycle step count_bytecode start need_method put_context load_home load fetch park store_registers store_field active_process bytecode bytecodes push_receiver push_of push_number long_jump jump push pop store part look known given pick register put_register numbers set_numbers clear pin unpin_all done halt unbuilt field number size home_of code_of byte_of receiver_variable
+unfolding ending ◌>>=◌ run cycle turn step count_bytecode start need_method put_context load_home load fetch park store_registers store_field scheduler active_process park_new check_switch then_next bytecode bytecodes push_receiver push_of push_number long_jump jump push pop store part look known given pick register put_register numbers set_numbers clear pin unpin_all done halt unbuilt field number size home_of code_of byte_of receiver_variable
 returns-clause-four c = refl

@@ -1,0 +1,10 @@
+// How a bytecode ended.
+
+/// How a bytecode ended.
+#[derive(Clone, Copy, Debug, PartialEq, Eq)]
+pub enum Step {
+    /// The next bytecode follows.
+    Next,
+    /// The machine is to end.
+    Quit,
+}
