@@ -147,8 +147,25 @@ pub fn back<M: ObjectMemory>(m: &mut M, cpu: &mut Cpu, context: Reg) -> Result<(
     Ok(())
 }
 
-/// Loads the active process of the scheduler (activeProcess, chapter 29).
-fn active_process<M: ObjectMemory>(m: &mut M, to: Reg) -> Result<(), Stop>
+/// Loads the scheduler: the value of its association (schedulerPointer, chapter 29).
+pub fn scheduler<M: ObjectMemory>(m: &mut M, to: Reg) -> Result<(), Stop>
+    requires sound { M.sound m.old }
+    requires ready { IsReady (M.told m.old) }
+    requires scratch { MACHINE_REGISTERS ≤ to }
+    ensures serves { (cpu : Numbers) → Serves (M.told m.old) cpu (M.told m.new) cpu model.scheduler (with_value result ((M.told m.new).regs to)) }
+    ensures looks { OnOk result (Looks (to ∷ []) (M.told m.old) (M.told m.new)) }
+    ensures ready { OnOk result (IsReady (M.told m.new)) }
+    ensures sound { StaysSound result (M.sound m.new) }
+    ensures lender { M.lender m.new ≡ M.lender m.old }
+    ensures outside { M.outside m.new ≡ M.outside m.old }
+{
+    known(m, to, Name::SCHEDULER_ASSOCIATION)?;
+    field(m, to, to, 2, 1)?;
+    Ok(())
+}
+
+/// Loads the process that the scheduler says is active.
+pub fn active_process<M: ObjectMemory>(m: &mut M, to: Reg) -> Result<(), Stop>
     requires sound { M.sound m.old }
     requires ready { IsReady (M.told m.old) }
     requires scratch { MACHINE_REGISTERS ≤ to }
@@ -159,8 +176,7 @@ fn active_process<M: ObjectMemory>(m: &mut M, to: Reg) -> Result<(), Stop>
     ensures lender { M.lender m.new ≡ M.lender m.old }
     ensures outside { M.outside m.new ≡ M.outside m.old }
 {
-    known(m, to, Name::SCHEDULER_ASSOCIATION)?;
-    field(m, to, to, 2, 1)?;
+    scheduler(m, to)?;
     field(m, to, to, 2, 1)?;
     Ok(())
 }
@@ -187,8 +203,24 @@ pub fn start<M: ObjectMemory>(m: &mut M, cpu: &mut Cpu) -> Result<(), Stop>
     Ok(())
 }
 
+/// Where a process switch waits, stores the new process as the active one of the scheduler in SCRATCH_1.
+fn park_new<M: ObjectMemory>(m: &mut M, cpu: &Cpu) -> Result<(), Stop>
+    requires sound { M.sound m.old }
+    requires ready { IsReady (M.told m.old) }
+    ensures serves { Serves (M.told m.old) cpu.now (M.told m.new) cpu.now (model.park_new ((M.told m.old).regs 11)) result }
+    ensures ready { OnOk result (IsReady (M.told m.new)) }
+    ensures sound { StaysSound result (M.sound m.new) }
+    ensures lender { M.lender m.new ≡ M.lender m.old }
+    ensures outside { M.outside m.new ≡ M.outside m.old }
+{
+    if cpu.waiting {
+        store_field(m, Reg::SCRATCH_1, 1, Reg::NEW_PROCESS)?;
+    }
+    Ok(())
+}
+
 /// Parks the machine: the pointers are stored into the active context, and that into the active process, as at a process switch
-/// (chapters 28 and 29).
+/// (chapters 28 and 29). Where a switch waits, the new process becomes the scheduler's active one.
 pub fn park<M: ObjectMemory>(m: &mut M, cpu: &mut Cpu) -> Result<(), Stop>
     requires sound { M.sound m.old }
     requires ready { IsReady (M.told m.old) }
@@ -200,7 +232,9 @@ pub fn park<M: ObjectMemory>(m: &mut M, cpu: &mut Cpu) -> Result<(), Stop>
     ensures outside { M.outside m.new ≡ M.outside m.old }
 {
     store_registers(m, cpu)?;
-    active_process(m, Reg::SCRATCH_0)?;
+    scheduler(m, Reg::SCRATCH_1)?;
+    field(m, Reg::SCRATCH_0, Reg::SCRATCH_1, 2, 1)?;
     store_field(m, Reg::SCRATCH_0, 1, Reg::ACTIVE_CONTEXT)?;
+    park_new(m, cpu)?;
     Ok(())
 }

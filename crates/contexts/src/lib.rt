@@ -1,4 +1,4 @@
-//! Contexts over any object memory.
+//! Contexts over any object memory: their registers, stacks and code, how they are entered and left, and what rules look for in objects.
 #![tactic(auto)]
 
 mod answers;
@@ -15,7 +15,7 @@ mod stop;
 pub use answers::{answer, boolean};
 pub use blue_model::{Answer, Cause, Cpu};
 pub use code::{fetch, jump};
-pub use context::{back, enter, park, start};
+pub use context::{active_process, back, enter, park, scheduler, start};
 pub use registers::{clear, set_arguments};
 pub use stacks::{pop, pop_top, push, put_stack, stack};
 pub use stop::Stop;

@@ -10,7 +10,7 @@ ghost use Rattle.object_memory.specs.Shape.{HasPartAt, Looks};
 ghost use Rattle.blue_model.specs.declared.cause.Cause.TheVariants.{Shape};
 ghost use Rattle.blue_model.specs.declared.cpu.Cpu.{Cpu};
 ghost use Rattle.blue_model.specs.Machine.{MACHINE_REGISTERS, part, known, class_of, make, store};
-ghost use Rattle.blue_model.specs.Sends.{last_literal, literal_before_last, extension};
+ghost use Rattle.blue_model.specs.Messages.{last_literal, literal_before_last, extension};
 ghost use Rattle.blue_model.specs.Parts.{size, field, number, heading, literal, home_of};
 ghost use Rattle.blue_model.specs.Contexts.{store_field, need_method};
 ghost use Rattle.contexts.specs.Serves.{Serves, StaysSound, with_value};

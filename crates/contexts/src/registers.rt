@@ -5,7 +5,7 @@ ghost use Rattle.object_memory.specs.Told.{Told, IsReady};
 ghost use Rattle.blue_model.specs.declared.cpu.Cpu.{Cpu as Numbers};
 ghost use Rattle.blue_model.specs.Machine.{pin as pin_rule, unpin_all as unpin_rule, MACHINE_REGISTERS};
 ghost use Rattle.blue_model.specs.Contexts.{put_context as put_rule};
-ghost use Rattle.blue_model.specs.Sends.{set_arguments as set_rule};
+ghost use Rattle.blue_model.specs.Messages.{set_arguments as set_rule};
 ghost use Rattle.contexts.specs.Serves.{Serves, StaysSound};
 ghost use Rattle.std.specs.Prelude.{Ok};
 ghost use Rattle.long_names.specs.State.{RECEIVER};

@@ -4,7 +4,7 @@ ghost use Rattle.object_memory.specs.Told.{Told, IsReady};
 ghost use Rattle.object_memory.specs.Shape.{Looks};
 ghost use Rattle.blue_model.specs.Machine.{MACHINE_REGISTERS};
 ghost use Rattle.blue_model.specs.Contexts as model;
-ghost use Rattle.blue_model.specs.Sends.{put_stack as put_rule};
+ghost use Rattle.blue_model.specs.Messages.{put_stack as put_rule};
 ghost use Rattle.contexts.specs.Serves.{Serves, StaysSound, with_value};
 
 use crate::numbers::{lower, place_above, place_at, raise};

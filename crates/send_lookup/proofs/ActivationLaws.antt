@@ -11,7 +11,7 @@ use Rattle.object_memory.specs.Told.{Told, IsReady}
 use Rattle.object_memory.proofs.LooksLaws.{Looks-put, put_value}
 use Rattle.blue_model.specs.declared.cpu.Cpu.{Cpu}
 use Rattle.blue_model.specs.Contexts.{store_field}
-use Rattle.blue_model.specs.Sends.{argument_place}
+use Rattle.blue_model.specs.Messages.{argument_place}
 use Rattle.contexts.specs.declared.stop.Stop.{Stop}
 use Rattle.contexts.specs.Serves.{Serves}
 use Rattle.contexts.proofs.Steps.{read_first}

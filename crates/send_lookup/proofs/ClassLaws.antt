@@ -1,5 +1,5 @@
 -- Steps of a lookup in one class.
-use Rattle.std.proofs.Common.{◌≡◌, ℕ, ◌<◌, List, [], ◌∷◌, ◌++◌, append-nil, false, ◌||◌, eqb, Option, Some, None, Result, Ok, Err, OnOk, refl, sym, ◌∙◌, ap, subst}
+use Rattle.std.proofs.Common.{◌≡◌, ℕ, ◌<◌, List, [], ◌∷◌, ◌++◌, append-nil, Bool, true, false, ◌||◌, eqb, Option, Some, None, Result, Ok, Err, OnOk, refl, sym, ◌∙◌, ap, subst}
 use Rattle.std.proofs.lemmas.List.Folds.{list_any-append}
 use Rattle.long_names.specs.declared.value.Value.{Value}
 use Rattle.long_names.specs.declared.value.Value.TheVariants.{Int, Ref}
@@ -115,10 +115,31 @@ looks_rest k xs a b x = Looks-weaker xs (k ∷ xs) a b (λ r e. (neither (eqb r 
 pub looks_joined : (xs : List ℕ) (a b c : Told) → IsReady b → Looks xs a b → Looks xs b c → Looks xs a c
 looks_joined xs a b c ready x y = Looks-weaker (xs ++ xs) xs a c (λ r e. list_any-append (λ k. eqb r k) xs xs ∙ ap (λ b. b || b) e) (Looks-trans xs xs a b c ready x y)
 
+-- the registers of a lookup: that of the class,
+pub looks_tenth : (a b : Told) → Looks (20 ∷ []) a b → Looks (20 ∷ 21 ∷ 22 ∷ 23 ∷ []) a b
+looks_tenth a b x = looks_first 20 (21 ∷ 22 ∷ 23 ∷ []) a b x
+
+-- that of the selector,
+pub looks_last : (a b : Told) → Looks (23 ∷ []) a b → Looks (20 ∷ 21 ∷ 22 ∷ 23 ∷ []) a b
+looks_last a b x = looks_rest 20 (21 ∷ 22 ∷ 23 ∷ []) a b (looks_rest 21 (22 ∷ 23 ∷ []) a b (looks_rest 22 (23 ∷ []) a b x))
+
+-- and the others
+pub looks_four : (a b : Told) → Looks (20 ∷ 21 ∷ 22 ∷ []) a b → Looks (20 ∷ 21 ∷ 22 ∷ 23 ∷ []) a b
+looks_four a b x = Looks-weaker (20 ∷ 21 ∷ 22 ∷ []) (20 ∷ 21 ∷ 22 ∷ 23 ∷ []) a b (λ r e. fewer r e) x
+  where
+    fewer : (r : ℕ) → is_among (20 ∷ 21 ∷ 22 ∷ 23 ∷ []) r ≡ false → is_among (20 ∷ 21 ∷ 22 ∷ []) r ≡ false
+    fewer r e = both_false (eqb r 20) (eqb r 21) (eqb r 22) (eqb r 23) e
+      where
+        both_false : (a b c d : Bool) → (a || (b || (c || (d || false)))) ≡ false → (a || (b || (c || false))) ≡ false
+        both_false true b c d e = e
+        both_false false true c d e = e
+        both_false false false true d e = e
+        both_false false false false d e = refl
+
 pub on_ok : {A E P Q : Type 0} (r : Result A E) → (P → Q) → OnOk r P → OnOk r Q
 on_ok (Ok a) f p = f p
 on_ok (Err e) f p = p
 
 -- registers below the scratch registers that a lookup fills
-pub low_among : (r : ℕ) → r < 20 → is_among (20 ∷ 21 ∷ 22 ∷ []) r ≡ false
-low_among r low = below_among 20 (20 ∷ 21 ∷ 22 ∷ []) r low refl
+pub low_among : (r : ℕ) → r < 20 → is_among (20 ∷ 21 ∷ 22 ∷ 23 ∷ []) r ≡ false
+low_among r low = below_among 20 (20 ∷ 21 ∷ 22 ∷ 23 ∷ []) r low refl

@@ -1,6 +1,5 @@
 // The method of one class.
 ghost use Rattle.std.specs.Prelude.{◌≡◌, [], ◌∷◌, OnOk};
-ghost use Rattle.long_names.specs.State.{SELECTOR};
 ghost use Rattle.object_memory.specs.Told.{IsReady};
 ghost use Rattle.object_memory.specs.Shape.{Looks};
 ghost use Rattle.blue_model.specs.declared.cpu.Cpu.{Cpu};
@@ -32,11 +31,11 @@ fn method_at<M: ObjectMemory>(m: &mut M, slot: Option<u32>) -> Result<bool, Stop
     Ok(true)
 }
 
-/// Loads the method that the class in SCRATCH_10 has for the message's selector into SCRATCH_12. False where it has none.
+/// Loads the method that the class in SCRATCH_10 has for the selector in SCRATCH_13 into SCRATCH_12. False where it has none.
 pub(crate) fn find_in<M: ObjectMemory>(m: &mut M) -> Result<bool, Stop>
     requires sound { M.sound m.old }
     requires ready { IsReady (M.told m.old) }
-    ensures serves { (cpu : Cpu) → Serves (M.told m.old) cpu (M.told m.new) cpu (model.find_in ((M.told m.old).regs SELECTOR) ((M.told m.old).regs 20)) (with_found result ((M.told m.new).regs 22)) }
+    ensures serves { (cpu : Cpu) → Serves (M.told m.old) cpu (M.told m.new) cpu (model.find_in ((M.told m.old).regs 23) ((M.told m.old).regs 20)) (with_found result ((M.told m.new).regs 22)) }
     ensures looks { OnOk result (Looks (21 ∷ 22 ∷ []) (M.told m.old) (M.told m.new)) }
     ensures ready { OnOk result (IsReady (M.told m.new)) }
     ensures sound { StaysSound result (M.sound m.new) }
@@ -45,7 +44,7 @@ pub(crate) fn find_in<M: ObjectMemory>(m: &mut M) -> Result<bool, Stop>
 {
     field(m, Reg::SCRATCH_11, Reg::SCRATCH_10, 3, 1)?;
     let fields = size(m, Reg::SCRATCH_11, 3)?;
-    if !shape::is_name(m, Reg::SELECTOR) {
+    if !shape::is_name(m, Reg::SCRATCH_13) {
         return Err(Stop::Stuck(Cause::Shape));
     }
     let slot = find_slot(m, fields)?;

@@ -1,7 +1,7 @@
 // What a method's header says (chapter 27, compiled methods).
 ghost use Rattle.std.specs.Prelude.{◌≡◌, ◌≤◌, ◌<◌};
 ghost use Rattle.long_names.specs.Words.{IsSmallInteger, unsigned_of};
-ghost use Rattle.blue_model.specs.Sends as model;
+ghost use Rattle.blue_model.specs.Messages as model;
 
 use long_names::literal_count;
 

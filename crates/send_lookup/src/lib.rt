@@ -1,4 +1,5 @@
-//! The lookup of messages over any object memory (chapter 28 of the Blue Book).
+//! Messages over any object memory (chapter 28 of the Blue Book): the lookup of a selector along the superclass chain, what is sent at
+//! the chain's end, and the activation of the method that was found.
 #![tactic(auto)]
 
 mod activation;
@@ -10,7 +11,7 @@ mod slots;
 
 pub use activation::activate;
 pub use contexts::{Cause, Stop};
-pub use lookup::find;
+pub use lookup::{find, look_up};
 pub use message::find_or_tell;
 
 #[cfg(test)]

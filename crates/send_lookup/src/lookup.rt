@@ -1,6 +1,5 @@
 // The lookup along the superclass chain.
-ghost use Rattle.std.specs.Prelude.{◌≡◌, [], ◌∷◌, OnOk};
-ghost use Rattle.long_names.specs.State.{SELECTOR};
+ghost use Rattle.std.specs.Prelude.{◌≡◌, ◌<◌, [], ◌∷◌, OnOk};
 ghost use Rattle.object_memory.specs.Told.{IsReady};
 ghost use Rattle.object_memory.specs.Shape.{Looks};
 ghost use Rattle.blue_model.specs.declared.cpu.Cpu.{Cpu};
@@ -17,19 +16,18 @@ use object_memory::{ObjectMemory, Reg};
 /// The most classes that a lookup visits.
 const LONGEST_CHAIN: u32 = 1024;
 
-/// Loads the method that the class in a register, or the first class above it that has one, has for the message's selector into
-/// SCRATCH_12. False where the chain ends before.
-fn look_up<M: ObjectMemory>(m: &mut M, class: Reg) -> Result<bool, Stop>
+/// Looks the selector in SCRATCH_13 up from the class in SCRATCH_10 on, and loads the method into SCRATCH_12. False where the chain ends
+/// before.
+fn go_up<M: ObjectMemory>(m: &mut M) -> Result<bool, Stop>
     requires sound { M.sound m.old }
     requires ready { IsReady (M.told m.old) }
-    ensures serves { (cpu : Cpu) → Serves (M.told m.old) cpu (M.told m.new) cpu (model.lookup ((M.told m.old).regs SELECTOR) ((M.told m.old).regs class)) (with_found result ((M.told m.new).regs 22)) }
+    ensures serves { (cpu : Cpu) → Serves (M.told m.old) cpu (M.told m.new) cpu (model.lookup ((M.told m.old).regs 23) ((M.told m.old).regs 20)) (with_found result ((M.told m.new).regs 22)) }
     ensures looks { OnOk result (Looks (20 ∷ 21 ∷ 22 ∷ []) (M.told m.old) (M.told m.new)) }
     ensures ready { OnOk result (IsReady (M.told m.new)) }
     ensures sound { StaysSound result (M.sound m.new) }
     ensures lender { M.lender m.new ≡ M.lender m.old }
     ensures outside { M.outside m.new ≡ M.outside m.old }
 {
-    m.copy(Reg::SCRATCH_10, class);
     for _turn in 0..LONGEST_CHAIN {
         if m.is(Reg::SCRATCH_10, Name::NIL) {
             return Ok(false);
@@ -43,6 +41,24 @@ fn look_up<M: ObjectMemory>(m: &mut M, class: Reg) -> Result<bool, Stop>
         return Err(Stop::Stuck(Cause::Chain));
     }
     Ok(false)
+}
+
+/// Loads the method that the class in a register, or the first class above it that has one, has for the selector in another into
+/// SCRATCH_12. False where the chain ends before. The scratch registers from 20 on are used.
+pub fn look_up<M: ObjectMemory>(m: &mut M, selector: Reg, class: Reg) -> Result<bool, Stop>
+    requires sound { M.sound m.old }
+    requires ready { IsReady (M.told m.old) }
+    requires selector { selector < 20 }
+    ensures serves { (cpu : Cpu) → Serves (M.told m.old) cpu (M.told m.new) cpu (model.lookup ((M.told m.old).regs selector) ((M.told m.old).regs class)) (with_found result ((M.told m.new).regs 22)) }
+    ensures looks { OnOk result (Looks (20 ∷ 21 ∷ 22 ∷ 23 ∷ []) (M.told m.old) (M.told m.new)) }
+    ensures ready { OnOk result (IsReady (M.told m.new)) }
+    ensures sound { StaysSound result (M.sound m.new) }
+    ensures lender { M.lender m.new ≡ M.lender m.old }
+    ensures outside { M.outside m.new ≡ M.outside m.old }
+{
+    m.copy(Reg::SCRATCH_10, class);
+    m.copy(Reg::SCRATCH_13, selector);
+    go_up(m)
 }
 
 /// Looks the message's selector (register 4) up from the class in a register, and puts the method into register 5 (lookupMethodInClass:,
@@ -59,7 +75,7 @@ pub fn find<M: ObjectMemory>(m: &mut M, class: Reg) -> Result<bool, Stop>
     ensures lender { M.lender m.new ≡ M.lender m.old }
     ensures outside { M.outside m.new ≡ M.outside m.old }
 {
-    if !look_up(m, class)? {
+    if !look_up(m, Reg::SELECTOR, class)? {
         return Ok(false);
     }
     m.copy(Reg::NEW_METHOD, Reg::SCRATCH_12);

@@ -4,7 +4,7 @@ ghost use Rattle.long_names.specs.State.{SELECTOR, NEW_METHOD};
 ghost use Rattle.object_memory.specs.Told.{IsReady};
 ghost use Rattle.blue_model.specs.declared.cpu.Cpu.{Cpu as Numbers};
 ghost use Rattle.blue_model.specs.Machine.{each};
-ghost use Rattle.blue_model.specs.Sends as model;
+ghost use Rattle.blue_model.specs.Messages as model;
 ghost use Rattle.contexts.specs.Serves.{Serves, StaysSound, with_value};
 
 use crate::lookup::find;

@@ -1,7 +1,7 @@
 // The slots of a method dictionary. They follow its two first fields.
 ghost use Rattle.std.specs.Prelude.{◌≡◌, ◌<◌, ◌≤◌, [], ◌∷◌, OnOk, IfOk, IfSome, length};
 ghost use Rattle.long_names.specs.Objects.{pointers_of};
-ghost use Rattle.long_names.specs.State.{IsRef, SELECTOR};
+ghost use Rattle.long_names.specs.State.{IsRef};
 ghost use Rattle.object_memory.specs.Told.{IsReady};
 ghost use Rattle.object_memory.specs.Shape.{HasPartAt, Looks};
 ghost use Rattle.blue_model.specs.declared.cause.Cause.TheVariants.{Shape};
@@ -26,16 +26,16 @@ fn slot_at(first: u32, slots: u32, place: u32) -> u32
     if slot < slots { slot } else { slot - slots }
 }
 
-/// The slot of the dictionary in SCRATCH_11 that holds the selector (lookupMethodInDictionary:, chapter 28): the search goes round all
+/// The slot of the dictionary in SCRATCH_11 that holds the selector in SCRATCH_13 (lookupMethodInDictionary:, chapter 28): the search goes round all
 /// slots from that of the selector's hash on, and ends at nil. The dictionary has so many fields. SCRATCH_12 is used.
 pub(crate) fn find_slot<M: ObjectMemory>(m: &mut M, fields: u32) -> Result<Option<u32>, Stop>
     requires sound { M.sound m.old }
     requires ready { IsReady (M.told m.old) }
-    requires selector { IsRef ((M.told m.old).regs SELECTOR) }
+    requires selector { IsRef ((M.told m.old).regs 23) }
     requires some { 3 ≤ fields }
     requires few { fields < 65536 }
     requires there { HasPartAt (M.told m.old) 21 pointers_of (λ xs. length xs ≡ fields) }
-    ensures serves { (cpu : Cpu) → Serves (M.told m.old) cpu (M.told m.new) cpu (part Shape (slot_of ((M.told m.old).regs SELECTOR)) ((M.told m.old).regs 21)) result }
+    ensures serves { (cpu : Cpu) → Serves (M.told m.old) cpu (M.told m.new) cpu (part Shape (slot_of ((M.told m.old).regs 23)) ((M.told m.old).regs 21)) result }
     ensures looks { OnOk result (Looks (22 ∷ []) (M.told m.old) (M.told m.new)) }
     ensures ready { OnOk result (IsReady (M.told m.new)) }
     ensures sound { StaysSound result (M.sound m.new) }
@@ -43,14 +43,14 @@ pub(crate) fn find_slot<M: ObjectMemory>(m: &mut M, fields: u32) -> Result<Optio
     ensures outside { M.outside m.new ≡ M.outside m.old }
 {
     let slots = fields - 2;
-    let first = m.hash(Reg::SELECTOR) & (slots - 1);
+    let first = m.hash(Reg::SCRATCH_13) & (slots - 1);
     for place in 0..slots {
         let slot = slot_at(first, slots, place);
         m.field(Reg::SCRATCH_12, Reg::SCRATCH_11, 2 + slot)?;
         if m.is(Reg::SCRATCH_12, Name::NIL) {
             return Ok(None);
         }
-        if m.same(Reg::SCRATCH_12, Reg::SELECTOR) {
+        if m.same(Reg::SCRATCH_12, Reg::SCRATCH_13) {
             return Ok(Some(slot));
         }
     }

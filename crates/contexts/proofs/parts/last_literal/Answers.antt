@@ -5,7 +5,7 @@ use Rattle.object_memory.proofs.Callers.{may_literal}
 use Rattle.object_memory.proofs.LooksLaws.{Looks-read}
 use Rattle.object_memory.proofs.ShapeLaws.{has_sized}
 use Rattle.blue_model.specs.declared.cause.Cause.TheVariants.{Shape}
-use Rattle.blue_model.specs.Sends.{last_literal}
+use Rattle.blue_model.specs.Messages.{last_literal}
 use Rattle.contexts.proofs.ReadLaws.{scratch, read_serves, read_stuck, read_refused, later_refused, loaded, looks_loaded, exits_with}
 use Rattle.contexts.proofs.PartLaws.{last_is, last_few, last_none}
 use Rattle.contexts.proofs.parts.last_literal.Goals as goal

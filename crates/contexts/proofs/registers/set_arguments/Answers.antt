@@ -1,5 +1,5 @@
 use Rattle.std.proofs.Common.{refl}
-use Rattle.blue_model.specs.Sends.{set_arguments}
+use Rattle.blue_model.specs.Messages.{set_arguments}
 use Rattle.contexts.proofs.Steps.{numbers_then, set_numbers_at}
 use Rattle.contexts.proofs.registers.set_arguments.Goals as goal
 

@@ -1,6 +1,6 @@
 use Rattle.std.proofs.Common.{refl, sym}
 use Rattle.object_memory.proofs.LooksLaws.{regs_looked}
-use Rattle.blue_model.specs.Sends.{put_stack}
+use Rattle.blue_model.specs.Messages.{put_stack}
 use Rattle.contexts.proofs.ServesLaws.{serves_then, serves_exit, exits}
 use Rattle.contexts.proofs.Steps.{register_then, numbers_then, given_then, given_stuck}
 use Rattle.contexts.proofs.stacks.put_stack.Goals as goal

@@ -1,6 +1,6 @@
 use Rattle.std.proofs.Common.{refl}
 use Rattle.object_memory.proofs.ShapeLaws.{small_number}
-use Rattle.blue_model.specs.Sends.{activate}
+use Rattle.blue_model.specs.Messages.{activate}
 use Rattle.contexts.proofs.ServesLaws.{serves_then, serves_exit, exits}
 use Rattle.contexts.proofs.Steps.{register_then, numbers_then}
 use Rattle.send_lookup.proofs.activation.activate.Goals as goal

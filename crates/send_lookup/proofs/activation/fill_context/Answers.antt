@@ -1,7 +1,7 @@
 use Rattle.std.proofs.Common.{refl, ◌∙◌, ap}
 use Rattle.object_memory.proofs.LooksLaws.{Looks-put}
 use Rattle.object_memory.proofs.ShapeLaws.{small_number}
-use Rattle.blue_model.specs.Sends.{temporaries_of, first_pointer, fill_context}
+use Rattle.blue_model.specs.Messages.{temporaries_of, first_pointer, fill_context}
 use Rattle.contexts.proofs.ServesLaws.{serves_then, serves_exit, exits}
 use Rattle.contexts.proofs.Steps.{register_then}
 use Rattle.send_lookup.proofs.ActivationLaws.{number_first, count_kept}

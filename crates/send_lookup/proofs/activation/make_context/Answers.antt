@@ -1,7 +1,7 @@
 use Rattle.contexts.proofs.Steps.{done_same}
 use Rattle.std.proofs.Common.{◌∙◌, ap, refl, arith}
 use Rattle.object_memory.proofs.ShapeLaws.{small_number}
-use Rattle.blue_model.specs.Sends.{context_size, make_context}
+use Rattle.blue_model.specs.Messages.{context_size, make_context}
 use Rattle.contexts.proofs.ServesLaws.{serves_then, serves_stop}
 use Rattle.contexts.proofs.ReadLaws.{exits_with}
 use Rattle.send_lookup.proofs.activation.make_context.Goals as goal

@@ -1,5 +1,5 @@
 use Rattle.std.proofs.Common.{refl}
-use Rattle.blue_model.specs.Sends.{pass}
+use Rattle.blue_model.specs.Messages.{pass}
 use Rattle.contexts.proofs.ServesLaws.{serves_then, serves_exit, exits}
 use Rattle.contexts.proofs.Steps.{given_then, given_stuck}
 use Rattle.send_lookup.proofs.ActivationLaws.{place_there, place_lacking}

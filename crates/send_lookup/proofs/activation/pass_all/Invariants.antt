@@ -1,7 +1,7 @@
 use Rattle.std.proofs.Common.{◌≡◌, ℕ, Ok}
 use Rattle.object_memory.specs.Told.{IsReady}
 use Rattle.blue_model.specs.Machine.{each}
-use Rattle.blue_model.specs.Sends as model
+use Rattle.blue_model.specs.Messages as model
 use Rattle.contexts.specs.Serves.{Serves}
 use Rattle.send_lookup.proofs.activation.pass_all.Given as goal
 

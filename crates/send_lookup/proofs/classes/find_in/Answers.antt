@@ -19,16 +19,16 @@ unfolding find_in
 returns-then-not-is_name-clause-serves g c = λ cpu.
     let load = c.in_ok-field.ensures in
     let size = c.in_ok-fields.ensures in
-    serves_then _ (load.serves _) (serves_then _ (size.serves _) (look_stuck 4 _ _ (size.looks.regs 4 refl ∙ load.looks.regs 4 refl) (differs _ _ c.is_name.ensures c.if-not-is_name.true)))
+    serves_then _ (load.serves _) (serves_then _ (size.serves _) (look_stuck 23 _ _ (size.looks.regs 23 refl ∙ load.looks.regs 23 refl) (differs _ _ c.is_name.ensures c.if-not-is_name.true)))
 
 pub returns-in_err-slot-clause-serves : goal.returns-in_err-slot-clause-serves
 unfolding find_in
 returns-in_err-slot-clause-serves g c = λ cpu.
     let load = c.in_ok-field.ensures in
     let size = c.in_ok-fields.ensures in
-    let selector = size.looks.regs 4 refl ∙ load.looks.regs 4 refl in
+    let selector = size.looks.regs 23 refl ∙ load.looks.regs 23 refl in
     let dictionary = size.looks.regs 21 refl in
-    exits_found _ _ c.from_residual-in_err-slot.ensures.1 (serves_then _ (load.serves _) (serves_then _ (size.serves _) (look_first 4 _ selector size.ready (c.is_name.ensures.0 c.if-not-is_name.false)
+    exits_found _ _ c.from_residual-in_err-slot.ensures.1 (serves_then _ (load.serves _) (serves_then _ (size.serves _) (look_first 23 _ selector size.ready (c.is_name.ensures.0 c.if-not-is_name.false)
     (serves_stop _ (rw (selector, dictionary) at c.in_err-slot.ensures.serves _)))))
 
 pub returns-clause-serves : goal.returns-clause-serves
@@ -37,9 +37,9 @@ returns-clause-serves g c = λ cpu.
     let load = c.in_ok-field.ensures in
     let size = c.in_ok-fields.ensures in
     let slot = c.in_ok-slot.ensures in
-    let selector = size.looks.regs 4 refl ∙ load.looks.regs 4 refl in
+    let selector = size.looks.regs 23 refl ∙ load.looks.regs 23 refl in
     let dictionary = size.looks.regs 21 refl in
-    serves_then _ (load.serves _) (serves_then _ (size.serves _) (look_first 4 _ selector size.ready (c.is_name.ensures.0 c.if-not-is_name.false)
+    serves_then _ (load.serves _) (serves_then _ (size.serves _) (look_first 23 _ selector size.ready (c.is_name.ensures.0 c.if-not-is_name.false)
     (serves_then _ (rw (selector, dictionary) at slot.serves _) (rw (slot.looks.regs 21 refl ∙ dictionary) at c.method_at.ensures.serves _))))
 
 pub returns-clause-looks : goal.returns-clause-looks

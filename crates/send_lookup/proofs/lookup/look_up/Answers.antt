@@ -1,87 +1,26 @@
-use Rattle.std.proofs.Common.{◌≡◌, ℕ, suc, ◌+◌, ◌-◌, List, [], ◌∷◌, refl, sym, ◌∙◌, arith}
-use Rattle.object_memory.proofs.LooksLaws.{Looks-put, put_value}
+use Rattle.std.proofs.Common.{◌≡◌, ℕ, List, [], ◌∷◌, refl, ◌∙◌, arith}
+use Rattle.object_memory.proofs.LooksLaws.{Looks-put, put_value, below_among}
 use Rattle.contexts.proofs.Steps.{read_first}
 use Rattle.contexts.proofs.RegisterLaws.{copy_quiet}
-use Rattle.contexts.proofs.PeekLaws.{exits_found, found_one, found_none}
-use Rattle.send_lookup.proofs.ClassLaws.{looks_first, looks_rest, looks_joined}
-use Rattle.send_lookup.proofs.ChainLaws.{chain_ends, chain_stops, chain_found, chain_stuck, chain_torn, chain_on}
+use Rattle.send_lookup.proofs.ClassLaws.{looks_joined, looks_four, looks_last, looks_tenth, on_ok}
 use Rattle.send_lookup.proofs.lookup.look_up.Goals as goal
-
-pub loop-turn-init : goal.loop-turn-init
-loop-turn-init g c =
-    let copy = c.copy.ensures in
-    let ready = copy.ready c.requires.ready in
-    let selector = (Looks-put _ _ 20 _ copy.told).regs 4 refl in
-    let class = put_value _ _ 20 _ copy.told in
-    record {
-      whole = λ cpu new answer s. read_first c.requires.ready (copy_quiet _ _ 20 c.args.class (omega arith) c.requires.ready ready copy.told) (rw (selector, class) at s);
-      looks = looks_first 20 (21 ∷ 22 ∷ []) _ _ (Looks-put _ _ 20 _ copy.told);
-      ready = ready;
-      sound = copy.sound;
-      lender = copy.lender;
-      outside = copy.outside;
-    }
-
-pub loop-turn-preserved : goal.loop-turn-preserved
-loop-turn-preserved g c =
-    let here = c.loop-turn.invariant in
-    let found = c.in_ok-find_in.ensures in
-    let load = c.in_ok-field.ensures in
-    let all : List ℕ = 20 ∷ 21 ∷ 22 ∷ [] in
-    let turn = c.loop-turn._turn in
-    let more : 1024 - turn ≡ suc (1024 - (turn + 1)) = omega (arith, c.loop-turn-test.true) in
-    let selector = load.looks.regs 4 refl ∙ found.looks.regs 4 refl in
-    let class = found.looks.regs 20 refl in
-    record {
-      whole = λ cpu new answer s. here.whole cpu new answer (chain_on _ _ _ _ _ more (sym c.is.ensures ∙ c.if-is.false) (found_none _ _ c.if-branch.false (found.serves cpu)) (rw (class) at load.serves cpu) (rw (selector) at s));
-      looks = looks_joined all _ _ _ found.ready (looks_joined all _ _ _ here.ready here.looks (looks_rest 20 (21 ∷ 22 ∷ []) _ _ found.looks)) (looks_first 20 (21 ∷ 22 ∷ []) _ _ load.looks);
-      ready = load.ready;
-      sound = load.sound;
-      lender = load.lender ∙ found.lender ∙ here.lender;
-      outside = load.outside ∙ found.outside ∙ here.outside;
-    }
-
-pub returns-then-is-clause-serves : goal.returns-then-is-clause-serves
-returns-then-is-clause-serves g c = λ cpu.
-    let here = c.loop-turn.invariant in
-    here.whole cpu _ _ (chain_ends _ _ _ (sym c.is.ensures ∙ c.if-is.true) here.ready)
-
-pub returns-in_err-find_in-clause-serves : goal.returns-in_err-find_in-clause-serves
-returns-in_err-find_in-clause-serves g c = λ cpu.
-    let here = c.loop-turn.invariant in
-    let turn = c.loop-turn._turn in
-    let more : 1024 - turn ≡ suc (1024 - (turn + 1)) = omega (arith, c.loop-turn-test.true) in
-    exits_found _ _ c.from_residual.ensures.1 (here.whole cpu _ _ (chain_stuck _ _ _ _ more (sym c.is.ensures ∙ c.if-is.false) (c.in_err-find_in.ensures.serves cpu)))
-
-pub returns-then-branch-clause-serves : goal.returns-then-branch-clause-serves
-returns-then-branch-clause-serves g c = λ cpu.
-    let here = c.loop-turn.invariant in
-    let found = c.in_ok-find_in.ensures in
-    let turn = c.loop-turn._turn in
-    let more : 1024 - turn ≡ suc (1024 - (turn + 1)) = omega (arith, c.loop-turn-test.true) in
-    here.whole cpu _ _ (chain_found _ _ _ _ _ more (sym c.is.ensures ∙ c.if-is.false) found.ready (found_one _ _ c.if-branch.true (found.serves cpu)))
-
-pub returns-then-branch-clause-looks : goal.returns-then-branch-clause-looks
-returns-then-branch-clause-looks g c =
-    let here = c.loop-turn.invariant in
-    looks_joined (20 ∷ 21 ∷ 22 ∷ []) _ _ _ here.ready here.looks (looks_rest 20 (21 ∷ 22 ∷ []) _ _ c.in_ok-find_in.ensures.looks)
-
-pub returns-in_err-field-clause-serves : goal.returns-in_err-field-clause-serves
-returns-in_err-field-clause-serves g c = λ cpu.
-    let here = c.loop-turn.invariant in
-    let found = c.in_ok-find_in.ensures in
-    let turn = c.loop-turn._turn in
-    let more : 1024 - turn ≡ suc (1024 - (turn + 1)) = omega (arith, c.loop-turn-test.true) in
-    let class = found.looks.regs 20 refl in
-    exits_found _ _ c.from_residual-in_err-field.ensures.1 (here.whole cpu _ _ (chain_torn _ _ _ _ more (sym c.is.ensures ∙ c.if-is.false) (found_none _ _ c.if-branch.false (found.serves cpu)) (rw (class) at c.in_err-field.ensures.serves cpu)))
-
-pub returns-then-not-is-clause-serves : goal.returns-then-not-is-clause-serves
-returns-then-not-is-clause-serves g c = λ cpu.
-    let here = c.loop-turn.invariant in
-    let none : 1024 - c.loop-turn._turn ≡ 0 = omega (arith, c.loop-turn-test.false) in
-    here.whole cpu _ _ (chain_stops _ _ _ none (sym c.is-2.ensures ∙ c.if-not-is.true))
 
 pub returns-clause-serves : goal.returns-clause-serves
 returns-clause-serves g c = λ cpu.
-    let here = c.loop-turn.invariant in
-    here.whole cpu _ _ (chain_ends _ _ _ (sym c.is-2.ensures ∙ c.if-not-is.false) here.ready)
+    let class = c.copy.ensures in
+    let selector = c.copy-2.ensures in
+    let between = class.ready c.requires.ready in
+    let ready = selector.ready between in
+    let the_class = (Looks-put _ _ 23 _ selector.told).regs 20 refl ∙ put_value _ _ 20 _ class.told in
+    let the_selector = put_value _ _ 23 _ selector.told ∙ (Looks-put _ _ 20 _ class.told).regs c.args.selector (below_among 20 (20 ∷ []) _ c.requires.selector refl) in
+    read_first c.requires.ready (copy_quiet _ _ 20 c.args.class (omega arith) c.requires.ready between class.told)
+    (read_first between (copy_quiet _ _ 23 c.args.selector (omega arith) between ready selector.told) (rw (the_class, the_selector) at c.go_up.ensures.serves cpu))
+
+pub returns-clause-looks : goal.returns-clause-looks
+returns-clause-looks g c =
+    let class = c.copy.ensures in
+    let selector = c.copy-2.ensures in
+    let between = class.ready c.requires.ready in
+    let ready = selector.ready between in
+    let all = 20 ∷ 21 ∷ 22 ∷ 23 ∷ [] in
+    on_ok c.go_up.result (λ last. looks_joined all _ _ _ ready (looks_joined all _ _ _ between (looks_tenth _ _ (Looks-put _ _ 20 _ class.told)) (looks_last _ _ (Looks-put _ _ 23 _ selector.told))) (looks_four _ _ last)) c.go_up.ensures.looks

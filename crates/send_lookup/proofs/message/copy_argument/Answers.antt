@@ -1,5 +1,5 @@
 use Rattle.std.proofs.Common.{refl}
-use Rattle.blue_model.specs.Sends.{copy_argument}
+use Rattle.blue_model.specs.Messages.{copy_argument}
 use Rattle.contexts.proofs.ServesLaws.{serves_then, serves_exit, exits}
 use Rattle.send_lookup.proofs.message.copy_argument.Goals as goal
 

@@ -1,7 +1,7 @@
 use Rattle.std.proofs.Common.{◌≡◌, ℕ, Ok}
 use Rattle.object_memory.specs.Told.{IsReady}
 use Rattle.blue_model.specs.Machine.{each}
-use Rattle.blue_model.specs.Sends.{copy_argument}
+use Rattle.blue_model.specs.Messages.{copy_argument}
 use Rattle.contexts.specs.Serves.{Serves}
 use Rattle.send_lookup.proofs.message.copy_arguments.Given as goal
 

@@ -1,5 +1,5 @@
 use Rattle.std.proofs.Common.{arith}
-use Rattle.blue_model.specs.Sends.{create_message}
+use Rattle.blue_model.specs.Messages.{create_message}
 use Rattle.contexts.proofs.ServesLaws.{serves_then, serves_exit, exits}
 use Rattle.send_lookup.proofs.message.create_message.Goals as goal
 

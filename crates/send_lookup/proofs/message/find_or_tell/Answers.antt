@@ -1,5 +1,5 @@
 use Rattle.std.proofs.Common.{refl, sym, ◌∙◌, arith}
-use Rattle.blue_model.specs.Sends.{find_or_tell}
+use Rattle.blue_model.specs.Messages.{find_or_tell}
 use Rattle.contexts.proofs.ServesLaws.{serves_then, serves_exit, exits}
 use Rattle.contexts.proofs.Steps.{register_then, pick_true, pick_false, done_serves, halt_serves}
 use Rattle.send_lookup.proofs.message.find_or_tell.Goals as goal

@@ -1,6 +1,6 @@
 use Rattle.contexts.proofs.Steps.{done_same}
 use Rattle.std.proofs.Common.{refl, ap, ◌∙◌}
-use Rattle.blue_model.specs.Sends.{make_message}
+use Rattle.blue_model.specs.Messages.{make_message}
 use Rattle.contexts.proofs.ServesLaws.{serves_then, serves_stop}
 use Rattle.contexts.proofs.ReadLaws.{exits_with}
 use Rattle.send_lookup.proofs.MessageLaws.{unequal}

@@ -1,6 +1,6 @@
 use Rattle.std.proofs.Common.{refl, ◌∙◌}
 use Rattle.object_memory.proofs.LooksLaws.{Looks-put, not_among}
-use Rattle.blue_model.specs.Sends.{tell}
+use Rattle.blue_model.specs.Messages.{tell}
 use Rattle.contexts.proofs.Frames.{below}
 use Rattle.contexts.proofs.ServesLaws.{serves_then, serves_exit}
 use Rattle.contexts.proofs.Steps.{numbers_then, pick_true, pick_false, done_serves, halt_serves}

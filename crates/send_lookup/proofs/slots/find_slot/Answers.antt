@@ -42,9 +42,9 @@ returns-then-is-clause-serves g c = λ cpu.
     let slots : ℕ = c.args.fields - 2 in
     let slot : ℕ = c.slot_at-slot.result in
     let first : ℕ = bit_and c.hash.result (slots - 1) in
-    read_serves (22 ∷ []) Shape (slot_of (t.regs 4)) 21 None refl c.requires.ready c.in_ok-field.ensures.ready (returns-then-is-clause-looks g c)
+    read_serves (22 ∷ []) Shape (slot_of (t.regs 23)) 21 None refl c.requires.ready c.in_ok-field.ensures.ready (returns-then-is-clause-looks g c)
     (λ told.
-    let round = dictionary t.heap (t.regs 21) (t.regs 4) c.args.fields slots first (c.requires.there.there told) c.requires.some refl (ap (λ n. bit_and n (slots - 1)) c.hash.ensures) in
+    let round = dictionary t.heap (t.regs 21) (t.regs 23) c.args.fields slots first (c.requires.there.there told) c.requires.some refl (ap (λ n. bit_and n (slots - 1)) c.hash.ensures) in
     let held = by_place t.heap (t.regs 21) (w.regs 22) slots first c.loop-place.place slot c.slot_at-slot.ensures.slot (loaded (22 ∷ []) t u w 22 21 (2 + slot) here.ready here.looks refl c.in_ok-field.ensures.access.called told) in
     slot_nil c.loop-place.place (w.regs 22) round c.loop-place-test.true (here.passed told) held (sym c.is.ensures ∙ c.if-is.true))
 
@@ -63,11 +63,11 @@ returns-then-same-clause-serves g c = λ cpu.
     let slot : ℕ = c.slot_at-slot.result in
     let first : ℕ = bit_and c.hash.result (slots - 1) in
     let looks = returns-then-same-clause-looks g c in
-    read_serves (22 ∷ []) Shape (slot_of (t.regs 4)) 21 (Some slot) refl c.requires.ready c.in_ok-field.ensures.ready looks
+    read_serves (22 ∷ []) Shape (slot_of (t.regs 23)) 21 (Some slot) refl c.requires.ready c.in_ok-field.ensures.ready looks
     (λ told.
-    let round = dictionary t.heap (t.regs 21) (t.regs 4) c.args.fields slots first (c.requires.there.there told) c.requires.some refl (ap (λ n. bit_and n (slots - 1)) c.hash.ensures) in
+    let round = dictionary t.heap (t.regs 21) (t.regs 23) c.args.fields slots first (c.requires.there.there told) c.requires.some refl (ap (λ n. bit_and n (slots - 1)) c.hash.ensures) in
     let held = by_place t.heap (t.regs 21) (w.regs 22) slots first c.loop-place.place slot c.slot_at-slot.ensures.slot (loaded (22 ∷ []) t u w 22 21 (2 + slot) here.ready here.looks refl c.in_ok-field.ensures.access.called told) in
-    slot_found c.loop-place.place (w.regs 22) round c.loop-place-test.true (here.passed told) held (sym c.is.ensures ∙ c.if-is.false) (is_selector (w.regs 22) (t.regs 4) c.requires.selector (c.same.ensures.0 c.if-same.true ∙ looks.regs 4 refl))
+    slot_found c.loop-place.place (w.regs 22) round c.loop-place-test.true (here.passed told) held (sym c.is.ensures ∙ c.if-is.false) (is_selector (w.regs 22) (t.regs 23) c.requires.selector (c.same.ensures.0 c.if-same.true ∙ looks.regs 23 refl))
     ∙ ap (λ k. Some (Some k)) (sym c.slot_at-slot.ensures.slot))
 
 pub loop-place-preserved : goal.loop-place-preserved
@@ -81,12 +81,12 @@ loop-place-preserved g c =
     let slot : ℕ = c.slot_at-slot.result in
     let first : ℕ = bit_and c.hash.result (slots - 1) in
     let looks = looks_once 22 t w (looks_loaded (22 ∷ []) t u w 22 21 (2 + slot) here.ready here.looks load.access.called) in
-    let same : w.regs 4 ≡ t.regs 4 = looks.regs 4 refl in
+    let same : w.regs 23 ≡ t.regs 23 = looks.regs 23 refl in
     record {
       passed = λ told.
           let held = by_place t.heap (t.regs 21) (w.regs 22) slots first c.loop-place.place slot c.slot_at-slot.ensures.slot (loaded (22 ∷ []) t u w 22 21 (2 + slot) here.ready here.looks refl load.access.called told) in
-          passed_more t.heap (t.regs 21) (t.regs 4) slots first c.loop-place.place (w.regs 22) (here.passed told) held (sym c.is.ensures ∙ c.if-is.false)
-          (not_selector (w.regs 22) (t.regs 4) c.requires.selector (λ e. differs _ _ c.same.ensures c.if-same.false (e ∙ sym same)));
+          passed_more t.heap (t.regs 21) (t.regs 23) slots first c.loop-place.place (w.regs 22) (here.passed told) held (sym c.is.ensures ∙ c.if-is.false)
+          (not_selector (w.regs 22) (t.regs 23) c.requires.selector (λ e. differs _ _ c.same.ensures c.if-same.false (e ∙ sym same)));
       looks = looks;
       ready = load.ready;
       sound = load.sound;
@@ -101,7 +101,7 @@ returns-clause-serves g c = λ cpu.
     let slots : ℕ = c.args.fields - 2 in
     let first : ℕ = bit_and c.hash.result (slots - 1) in
     let all : c.loop-place.place ≡ slots = omega (arith, c.loop-place-test.false, c.loop-place.auto.place-end, c.requires.some) in
-    read_serves (22 ∷ []) Shape (slot_of (t.regs 4)) 21 None refl c.requires.ready here.ready here.looks
+    read_serves (22 ∷ []) Shape (slot_of (t.regs 23)) 21 None refl c.requires.ready here.ready here.looks
     (λ told.
-    let round = dictionary t.heap (t.regs 21) (t.regs 4) c.args.fields slots first (c.requires.there.there told) c.requires.some refl (ap (λ n. bit_and n (slots - 1)) c.hash.ensures) in
+    let round = dictionary t.heap (t.regs 21) (t.regs 23) c.args.fields slots first (c.requires.there.there told) c.requires.some refl (ap (λ n. bit_and n (slots - 1)) c.hash.ensures) in
     slot_past round (λ i low. here.passed told i (omega (arith, all))))

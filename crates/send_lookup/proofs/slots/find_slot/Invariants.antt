@@ -1,5 +1,4 @@
 use Rattle.std.proofs.Common.{◌≡◌, [], ◌∷◌, IsTrue}
-use Rattle.long_names.specs.State.{SELECTOR}
 use Rattle.object_memory.specs.Told.{IsReady}
 use Rattle.object_memory.specs.Shape.{Looks}
 use Rattle.send_lookup.proofs.SlotLaws.{HasPassed}
@@ -10,7 +9,7 @@ abbrev pub invariant-loop-place : goal.invariant-loop-place
 invariant-loop-place g l =
     let told = g.M.ObjectMemory.told in
     record {
-      passed : IsTrue (told l.fn.m).tells → HasPassed (told l.fn.m).heap ((told l.fn.m).regs 21) ((told l.fn.m).regs SELECTOR) l.slots l.first l.place;
+      passed : IsTrue (told l.fn.m).tells → HasPassed (told l.fn.m).heap ((told l.fn.m).regs 21) ((told l.fn.m).regs 23) l.slots l.first l.place;
       looks : Looks (22 ∷ []) (told l.fn.m) (told l.m);
       ready : IsReady (told l.m);
       sound : g.M.ObjectMemory.sound l.m;

@@ -1,20 +1,19 @@
 use Rattle.std.proofs.Common.{◌≡◌, ◌-◌, [], ◌∷◌, Option, Result}
 use Rattle.long_names.specs.declared.value.Value.{Value}
-use Rattle.long_names.specs.State.{SELECTOR}
 use Rattle.object_memory.specs.Told.{Told, IsReady}
 use Rattle.object_memory.specs.Shape.{Looks}
 use Rattle.blue_model.specs.declared.cpu.Cpu.{Cpu}
 use Rattle.blue_model.specs.Lookup.{find_from, lookup}
 use Rattle.contexts.specs.declared.stop.Stop.{Stop}
 use Rattle.contexts.specs.Serves.{Serves}
-use Rattle.send_lookup.proofs.lookup.look_up.Given as goal
+use Rattle.send_lookup.proofs.lookup.go_up.Given as goal
 
 -- What serves the lookup from this class on serves the whole.
 abbrev pub invariant-loop-turn : goal.invariant-loop-turn
 invariant-loop-turn g l =
     let told = g.M.ObjectMemory.told in
     record {
-      whole : (cpu : Cpu) (new : Told) (answer : Result (Option Value) Stop) → Serves (told l.m) cpu new cpu (find_from (1024 - l._turn) ((told l.m).regs SELECTOR) ((told l.m).regs 20)) answer → Serves (told l.fn.m) cpu new cpu (lookup ((told l.fn.m).regs SELECTOR) ((told l.fn.m).regs l.fn.class)) answer;
+      whole : (cpu : Cpu) (new : Told) (answer : Result (Option Value) Stop) → Serves (told l.m) cpu new cpu (find_from (1024 - l._turn) ((told l.m).regs 23) ((told l.m).regs 20)) answer → Serves (told l.fn.m) cpu new cpu (lookup ((told l.fn.m).regs 23) ((told l.fn.m).regs 20)) answer;
       looks : Looks (20 ∷ 21 ∷ 22 ∷ []) (told l.fn.m) (told l.m);
       ready : IsReady (told l.m);
       sound : g.M.ObjectMemory.sound l.m;
