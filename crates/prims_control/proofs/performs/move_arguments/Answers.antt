@@ -1,0 +1,39 @@
+use Rattle.std.proofs.Common.{◌≡◌, ◌+◌, ◌∙◌, Ok, Err, refl, arith}
+use Rattle.contexts.proofs.ServesLaws.{exits}
+use Rattle.contexts.proofs.Steps.{each_none, each_more, each_stop}
+use Rattle.prims_control.proofs.performs.move_arguments.Goals as goal
+
+pub loop-k-init : goal.loop-k-init
+loop-k-init g c = record {
+  serves = each_none _ c.requires.ready;
+  regs = λ r off. refl;
+  ready = c.requires.ready;
+  sound = c.requires.sound;
+  lender = refl;
+  outside = refl;
+}
+
+pub loop-k-preserved : goal.loop-k-preserved
+loop-k-preserved g c =
+    let here = c.loop-k.invariant in
+    let passed = c.in_ok-move_down.ensures in
+    record {
+      serves = each_more _ c.loop-k.k {answer = Ok tt} here.serves (c.in_ok-move_down.ensures.serves);
+      regs = λ r off. passed.regs r off ∙ here.regs r off;
+      ready = passed.ready;
+      sound = passed.sound;
+      lender = passed.lender ∙ here.lender;
+      outside = passed.outside ∙ here.outside;
+    }
+
+pub returns-in_err-move_down-clause-serves : goal.returns-in_err-move_down-clause-serves
+returns-in_err-move_down-clause-serves g c =
+    let here = c.loop-k.invariant in
+    exits _ c.from_residual.ensures.1
+    (each_stop _ (c.loop-k.k + 1) c.args.n (omega (arith, c.loop-k-test.true)) (each_more _ c.loop-k.k {answer = Err _} here.serves (c.in_err-move_down.ensures.serves)))
+
+pub returns-clause-serves : goal.returns-clause-serves
+returns-clause-serves g c =
+    let here = c.loop-k.invariant in
+    let all : c.loop-k.k ≡ c.args.n = omega (arith, c.loop-k-test.false, c.loop-k.auto.k-end) in
+    rw all at here.serves

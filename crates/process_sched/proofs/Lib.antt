@@ -1,0 +1,4 @@
+pub mod RegisterLaws
+pub mod TableLaws
+pub mod ValueLaws
+pub mod WakeLaws
