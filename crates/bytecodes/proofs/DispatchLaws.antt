@@ -1,5 +1,5 @@
 -- Which range of the table has a byte.
-use Rattle.std.proofs.Common.{◌≡◌, ℕ, ◌-◌, ◌^◌, ◌<◌, ◌≤◌, ◌&&◌, nat_lt, nat_le, true, length, Result, Err, sym, ◌∙◌, ap, subst, arith}
+use Rattle.std.proofs.Common.{◌≡◌, ℕ, ◌-◌, ◌^◌, ◌<◌, ◌≤◌, ◌&&◌, nat_lt, nat_le, true, length, Result, Ok, Err, sym, ◌∙◌, ap, subst, arith}
 use Rattle.std.proofs.lemmas.Bool.Decides.{nat_tests}
 use borrow.Author.Tests.{ltb-true}
 use Rattle.std.specs.List.{slice_index_or}
@@ -7,12 +7,16 @@ use Rattle.std.specs.Result.{IsErrAnd}
 use Rattle.std.proofs.lemmas.Result.{err_from_is_err_and}
 use Rattle.object_memory.specs.Told.{Told}
 use Rattle.blue_model.specs.declared.cpu.Cpu.{Cpu}
+use Rattle.blue_model.specs.declared.step.Step.{Step}
 use Rattle.blue_model.specs.Machine.{Rule}
+use Rattle.blue_model.specs.Primitives.{then_next}
 use Rattle.blue_model.specs.Bytecodes.{Range, bytecodes, bytecode}
 use Rattle.blue_model.proofs.RangeLaws.{bytecode_by}
 use Rattle.contexts.specs.declared.stop.Stop.{Stop}
 use Rattle.contexts.specs.Serves.{Serves}
-use Rattle.bytecodes.specs.Steps.{done_by}
+use Rattle.contexts.proofs.ServesLaws.{serves_then, serves_stop}
+use Rattle.contexts.proofs.Steps.{done_serves}
+use Rattle.bytecodes.specs.Steps.{next_by}
 
 within : (i : ℕ) → nat_lt i 45 ≡ true → i < length bytecodes
 unfolding bytecodes
@@ -22,16 +26,22 @@ inside : (low high byte : ℕ) → low ≤ byte → byte ≤ high → (nat_le lo
 inside low high byte above below = grind (arith, nat_tests)
 
 -- What serves the rule of a range serves the bytecode that is in the range, which stands at this place of the table.
-pub dispatched : {old new : Told} {cpu now : Cpu} {answer : Result (Unit {0}) Stop} (byte i : ℕ) (r : Range) → byte < 2 ^ 8 → nat_lt i 45 ≡ true → slice_index_or bytecodes i r ≡ r → r.first ≤ byte → byte ≤ r.last → Serves old cpu new now (r.rule (byte - r.first)) answer → Serves old cpu new now (bytecode byte) answer
+pub dispatched : {old new : Told} {cpu now : Cpu} {answer : Result Step Stop} (byte i : ℕ) (r : Range) → byte < 2 ^ 8 → nat_lt i 45 ≡ true → slice_index_or bytecodes i r ≡ r → r.first ≤ byte → byte ≤ r.last → Serves old cpu new now (r.rule (byte - r.first)) answer → Serves old cpu new now (bytecode byte) answer
 dispatched {old} {new} {cpu} {now} {answer} byte i r low place at above below s =
-    subst (λ (rule : Rule (Unit {0})). Serves old cpu new now rule answer) (sym (bytecode_by byte i r low (within i place) at (inside r.first r.last byte above below))) s
+    subst (λ (rule : Rule Step). Serves old cpu new now rule answer) (sym (bytecode_by byte i r low (within i place) at (inside r.first r.last byte above below))) s
 
 -- the first range begins at 0
 pub from_zero : {old new : Told} {cpu now : Cpu} {answer : Result (Unit {0}) Stop} (rule : ℕ → Rule (Unit {0})) (byte : ℕ) → Serves old cpu new now (rule byte) answer → Serves old cpu new now (rule (byte - 0)) answer
 from_zero {old} {new} {cpu} {now} {answer} rule byte s = subst (λ n. Serves old cpu new now (rule n) answer) (omega arith) s
 
--- the exit of a `?` of a step
-pub exits_done : {A : Type 0} {old new : Told} {cpu now : Cpu} {rule : Rule (Unit {0})} {e : Stop} (r : Result A Stop) → IsErrAnd r (λ y. y ≡ e) → Serves old cpu new now rule (Err e) → Serves old cpu new now rule (done_by r)
-exits_done {A} {old} {new} {cpu} {now} {rule} {e} r is s =
+-- a call after which the next bytecode follows
+pub next_serves : {old new : Told} {cpu now : Cpu} {p : Rule (Unit {0})} (r : Result (Unit {0}) Stop) → Serves old cpu new now p r → Serves old cpu new now (then_next p) (next_by r)
+unfolding then_next
+next_serves (Ok tt) s = serves_then _ s (done_serves s.ready)
+next_serves (Err e) s = serves_stop _ s
+
+-- the exit of its `?`
+pub next_stops : {old new : Told} {cpu now : Cpu} {rule : Rule Step} {e : Stop} (r : Result Step Stop) → IsErrAnd r (λ y. y ≡ e) → Serves old cpu new now rule (next_by (Err e)) → Serves old cpu new now rule r
+next_stops {old} {new} {cpu} {now} {rule} {e} r is s =
     let q = err_from_is_err_and r is in
-    subst (λ (x : Result A Stop). Serves old cpu new now rule (done_by x)) (sym (q.1 ∙ ap (λ y. Err y) q.2)) s
+    subst (λ (x : Result Step Stop). Serves old cpu new now rule x) (sym (q.1 ∙ ap (λ y. Err y) q.2)) s

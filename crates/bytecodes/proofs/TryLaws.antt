@@ -11,10 +11,12 @@ use Rattle.blue_model.specs.Machine.{Rule, pick, unbuilt}
 use Rattle.blue_model.specs.Trials.{Primitive, with_arguments, primitive_in}
 use Rattle.blue_model.specs.Arithmetic.{integer_primitives}
 use Rattle.blue_model.specs.Storage.{object_primitives}
-use Rattle.blue_model.specs.Primitives.{is_unbuilt, primitive}
+use Rattle.blue_model.specs.Primitives.{is_unbuilt, is_control, is_process, primitive}
+use Rattle.blue_model.specs.Control.{control_primitive}
+use Rattle.blue_model.specs.Processes.{process_primitives}
 use Rattle.contexts.specs.declared.stop.Stop.{Stop}
 use Rattle.contexts.specs.Serves.{Serves}
-use Rattle.contexts.proofs.Steps.{pick_false}
+use Rattle.contexts.proofs.Steps.{pick_true, pick_false}
 
 -- ---- rows that a table hasn't
 
@@ -62,12 +64,22 @@ integers_below = refl
 
 -- ---- tries of what is built
 
-pub try_integer : {old new : Told} {cpu now : Cpu} {answer : Result Answer Stop} (index : ℕ) → is_unbuilt index ≡ false → index < 60 → Serves old cpu new now (primitive_in integer_primitives index) answer → Serves old cpu new now (primitive index) answer
+try_first : {old new : Told} {cpu now : Cpu} {answer : Result Answer Stop} (index : ℕ) → is_unbuilt index ≡ false → is_control index ≡ false → is_process index ≡ false → Serves old cpu new now (primitive_in (integer_primitives ++ object_primitives) index) answer → Serves old cpu new now (primitive index) answer
 unfolding primitive
-try_integer {old} {new} {cpu} {now} {answer} index built low s =
-    pick_false _ unbuilt _ built (subst (λ (rule : Rule Answer). Serves old cpu new now rule answer) (sym (first_rows integer_primitives object_primitives index (none_above object_primitives 60 index objects_above low))) s)
+try_first {old} {new} {cpu} {now} {answer} index built control process s = pick_false _ unbuilt _ built (pick_false _ (control_primitive index) _ control (pick_false _ (primitive_in process_primitives index) _ process s))
 
-pub try_object : {old new : Told} {cpu now : Cpu} {answer : Result Answer Stop} (index : ℕ) → is_unbuilt index ≡ false → 60 ≤ index → Serves old cpu new now (primitive_in object_primitives index) answer → Serves old cpu new now (primitive index) answer
+pub try_integer : {old new : Told} {cpu now : Cpu} {answer : Result Answer Stop} (index : ℕ) → is_unbuilt index ≡ false → is_control index ≡ false → is_process index ≡ false → index < 60 → Serves old cpu new now (primitive_in integer_primitives index) answer → Serves old cpu new now (primitive index) answer
+try_integer {old} {new} {cpu} {now} {answer} index built control process low s =
+    try_first index built control process (subst (λ (rule : Rule Answer). Serves old cpu new now rule answer) (sym (first_rows integer_primitives object_primitives index (none_above object_primitives 60 index objects_above low))) s)
+
+pub try_object : {old new : Told} {cpu now : Cpu} {answer : Result Answer Stop} (index : ℕ) → is_unbuilt index ≡ false → is_control index ≡ false → is_process index ≡ false → 60 ≤ index → Serves old cpu new now (primitive_in object_primitives index) answer → Serves old cpu new now (primitive index) answer
+try_object {old} {new} {cpu} {now} {answer} index built control process high s =
+    try_first index built control process (subst (λ (rule : Rule Answer). Serves old cpu new now rule answer) (sym (last_rows integer_primitives object_primitives 59 index integers_below (omega arith))) s)
+
+pub try_control : {old new : Told} {cpu now : Cpu} {answer : Result Answer Stop} (index : ℕ) → is_unbuilt index ≡ false → is_control index ≡ true → Serves old cpu new now (control_primitive index) answer → Serves old cpu new now (primitive index) answer
 unfolding primitive
-try_object {old} {new} {cpu} {now} {answer} index built high s =
-    pick_false _ unbuilt _ built (subst (λ (rule : Rule Answer). Serves old cpu new now rule answer) (sym (last_rows integer_primitives object_primitives 59 index integers_below (omega arith))) s)
+try_control {old} {new} {cpu} {now} {answer} index built control s = pick_false _ unbuilt _ built (pick_true _ (control_primitive index) _ control s)
+
+pub try_process : {old new : Told} {cpu now : Cpu} {answer : Result Answer Stop} (index : ℕ) → is_unbuilt index ≡ false → is_control index ≡ false → is_process index ≡ true → Serves old cpu new now (primitive_in process_primitives index) answer → Serves old cpu new now (primitive index) answer
+unfolding primitive
+try_process {old} {new} {cpu} {now} {answer} index built control process s = pick_false _ unbuilt _ built (pick_false _ (control_primitive index) _ control (pick_true _ (primitive_in process_primitives index) _ process s))

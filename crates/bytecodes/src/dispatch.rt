@@ -1,14 +1,13 @@
 // The table of bytecodes, and one step of the machine.
-ghost use Rattle.std.specs.Prelude.{◌≡◌, ◌≤◌, ◌<◌, Ok, OnOk, IfOk};
+ghost use Rattle.std.specs.Prelude.{◌≡◌, ◌≤◌, Ok, OnOk};
 ghost use Rattle.object_memory.specs.Told.{IsReady};
 ghost use Rattle.blue_model.specs.Bytecodes.{bytecode as bytecode_rule};
 ghost use Rattle.blue_model.specs.Cycle.{step as step_rule, is_message};
 ghost use Rattle.contexts.specs.Serves.{Serves, StaysSound, HasRest};
 ghost use Rattle.blue_model.specs.declared.cpu.Cpu.{Cpu as Numbers};
 ghost use Rattle.blue_model.specs.Machine.{clear as clear_rule};
-ghost use Rattle.bytecodes.specs.Steps.{done_by};
+ghost use Rattle.bytecodes.specs.Steps.{next_by};
 
-use crate::ended::Step;
 use crate::jumps::{jump_on, long_jump, long_jump_on, short_jump};
 use crate::returns::{return_from_block, return_known, return_receiver, return_top};
 use crate::sends::{
@@ -20,6 +19,7 @@ use crate::stacks::{
     push_known, push_number, push_receiver, push_variable, store_and_pop,
 };
 use crate::variables::Variable;
+use blue_model::Step;
 use contexts::{Cause, Cpu, Stop, clear, fetch, pop};
 use long_names::Name;
 use object_memory::ObjectMemory;
@@ -29,7 +29,7 @@ pub(crate) fn push_bytecode<M: ObjectMemory>(m: &mut M, cpu: &mut Cpu, byte: u8)
     requires sound { M.sound m.old }
     requires ready { IsReady (M.told m.old) }
     requires to { byte ≤ 119 }
-    ensures serves { Serves (M.told m.old) cpu.old (M.told m.new) cpu.new (bytecode_rule byte) result }
+    ensures serves { Serves (M.told m.old) cpu.old (M.told m.new) cpu.new (bytecode_rule byte) (next_by result) }
     ensures ready { OnOk result (IsReady (M.told m.new)) }
     ensures sound { StaysSound result (M.sound m.new) }
     ensures lender { M.lender m.new ≡ M.lender m.old }
@@ -50,16 +50,16 @@ pub(crate) fn push_bytecode<M: ObjectMemory>(m: &mut M, cpu: &mut Cpu, byte: u8)
     }
 }
 
-/// Returns, extended forms, and single bytecodes on the stack: 120 to 143.
+/// Returns: bytecodes 120 to 125.
 pub(crate) fn return_bytecode<M: ObjectMemory>(
     m: &mut M,
     cpu: &mut Cpu,
     byte: u8,
-) -> Result<(), Stop>
+) -> Result<Step, Stop>
     requires sound { M.sound m.old }
     requires ready { IsReady (M.told m.old) }
     requires from { 120 ≤ byte }
-    requires to { byte ≤ 143 }
+    requires to { byte ≤ 125 }
     ensures serves { Serves (M.told m.old) cpu.old (M.told m.new) cpu.new (bytecode_rule byte) result }
     ensures ready { OnOk result (IsReady (M.told m.new)) }
     ensures sound { StaysSound result (M.sound m.new) }
@@ -72,15 +72,75 @@ pub(crate) fn return_bytecode<M: ObjectMemory>(
         122 => return_known(m, cpu, Name::FALSE),
         123 => return_known(m, cpu, Name::NIL),
         124 => return_top(m, cpu),
-        125 => return_from_block(m, cpu),
-        126..=127 => Err(Stop::Stuck(Cause::Unused)),
+        _ => return_from_block(m, cpu),
+    }
+}
+
+/// Extended pushes and stores, and two unused bytecodes: 126 to 130.
+pub(crate) fn extended_bytecode<M: ObjectMemory>(
+    m: &mut M,
+    cpu: &mut Cpu,
+    byte: u8,
+) -> Result<(), Stop>
+    requires sound { M.sound m.old }
+    requires ready { IsReady (M.told m.old) }
+    requires from { 126 ≤ byte }
+    requires to { byte ≤ 130 }
+    ensures serves { Serves (M.told m.old) cpu.old (M.told m.new) cpu.new (bytecode_rule byte) (next_by result) }
+    ensures ready { OnOk result (IsReady (M.told m.new)) }
+    ensures sound { StaysSound result (M.sound m.new) }
+    ensures lender { M.lender m.new ≡ M.lender m.old }
+    ensures outside { M.outside m.new ≡ M.outside m.old }
+{
+    match byte {
         128 => extended_push(m, cpu),
         129 => extended_store(m, cpu),
         130 => extended_store_and_pop(m, cpu),
+        _ => Err(Stop::Stuck(Cause::Unused)),
+    }
+}
+
+/// Extended sends: bytecodes 131 to 134.
+pub(crate) fn extended_send_bytecode<M: ObjectMemory>(
+    m: &mut M,
+    cpu: &mut Cpu,
+    byte: u8,
+) -> Result<Step, Stop>
+    requires sound { M.sound m.old }
+    requires ready { IsReady (M.told m.old) }
+    requires from { 131 ≤ byte }
+    requires to { byte ≤ 134 }
+    ensures serves { Serves (M.told m.old) cpu.old (M.told m.new) cpu.new (bytecode_rule byte) result }
+    ensures ready { OnOk result (IsReady (M.told m.new)) }
+    ensures sound { StaysSound result (M.sound m.new) }
+    ensures lender { M.lender m.new ≡ M.lender m.old }
+    ensures outside { M.outside m.new ≡ M.outside m.old }
+{
+    match byte {
         131 => single_extended_send(m, cpu),
         132 => double_extended_send(m, cpu),
         133 => single_extended_super(m, cpu),
-        134 => double_extended_super(m, cpu),
+        _ => double_extended_super(m, cpu),
+    }
+}
+
+/// Single bytecodes on the stack, and the unused ones behind them: 135 to 143.
+pub(crate) fn stack_bytecode<M: ObjectMemory>(
+    m: &mut M,
+    cpu: &mut Cpu,
+    byte: u8,
+) -> Result<(), Stop>
+    requires sound { M.sound m.old }
+    requires ready { IsReady (M.told m.old) }
+    requires from { 135 ≤ byte }
+    requires to { byte ≤ 143 }
+    ensures serves { Serves (M.told m.old) cpu.old (M.told m.new) cpu.new (bytecode_rule byte) (next_by result) }
+    ensures ready { OnOk result (IsReady (M.told m.new)) }
+    ensures sound { StaysSound result (M.sound m.new) }
+    ensures lender { M.lender m.new ≡ M.lender m.old }
+    ensures outside { M.outside m.new ≡ M.outside m.old }
+{
+    match byte {
         135 => pop(cpu, 1),
         136 => duplicate_top(m, cpu),
         137 => push_active_context(m, cpu),
@@ -89,7 +149,11 @@ pub(crate) fn return_bytecode<M: ObjectMemory>(
 }
 
 /// Jumps: bytecodes 144 to 175.
-pub(crate) fn jump_bytecode<M: ObjectMemory>(m: &mut M, cpu: &mut Cpu, byte: u8) -> Result<(), Stop>
+pub(crate) fn jump_bytecode<M: ObjectMemory>(
+    m: &mut M,
+    cpu: &mut Cpu,
+    byte: u8,
+) -> Result<Step, Stop>
     requires sound { M.sound m.old }
     requires ready { IsReady (M.told m.old) }
     requires from { 144 ≤ byte }
@@ -101,16 +165,26 @@ pub(crate) fn jump_bytecode<M: ObjectMemory>(m: &mut M, cpu: &mut Cpu, byte: u8)
     ensures outside { M.outside m.new ≡ M.outside m.old }
 {
     match byte {
-        144..=151 => short_jump(m, cpu, u32::from(byte - 144) + 1),
+        144..=151 => {
+            short_jump(m, cpu, u32::from(byte - 144) + 1)?;
+            Ok(Step::Next)
+        }
         152..=159 => jump_on(m, cpu, Name::FALSE, Name::TRUE, u32::from(byte - 152) + 1),
-        160..=167 => long_jump(m, cpu, u32::from(byte - 160)),
+        160..=167 => {
+            long_jump(m, cpu, u32::from(byte - 160))?;
+            Ok(Step::Next)
+        }
         168..=171 => long_jump_on(m, cpu, Name::TRUE, Name::FALSE, u32::from(byte - 168)),
         _ => long_jump_on(m, cpu, Name::FALSE, Name::TRUE, u32::from(byte - 172)),
     }
 }
 
 /// Sends: bytecodes 176 to 255.
-pub(crate) fn send_bytecode<M: ObjectMemory>(m: &mut M, cpu: &mut Cpu, byte: u8) -> Result<(), Stop>
+pub(crate) fn send_bytecode<M: ObjectMemory>(
+    m: &mut M,
+    cpu: &mut Cpu,
+    byte: u8,
+) -> Result<Step, Stop>
     requires sound { M.sound m.old }
     requires ready { IsReady (M.told m.old) }
     requires from { 176 ≤ byte }
@@ -136,7 +210,7 @@ pub(crate) fn send_bytecode<M: ObjectMemory>(m: &mut M, cpu: &mut Cpu, byte: u8)
 }
 
 /// Does what a byte says (dispatchOnThisBytecode, chapter 28).
-pub(crate) fn bytecode<M: ObjectMemory>(m: &mut M, cpu: &mut Cpu, byte: u8) -> Result<(), Stop>
+pub(crate) fn bytecode<M: ObjectMemory>(m: &mut M, cpu: &mut Cpu, byte: u8) -> Result<Step, Stop>
     requires sound { M.sound m.old }
     requires ready { IsReady (M.told m.old) }
     ensures serves { Serves (M.told m.old) cpu.old (M.told m.new) cpu.new (bytecode_rule byte) result }
@@ -146,8 +220,20 @@ pub(crate) fn bytecode<M: ObjectMemory>(m: &mut M, cpu: &mut Cpu, byte: u8) -> R
     ensures outside { M.outside m.new ≡ M.outside m.old }
 {
     match byte {
-        0..=119 => push_bytecode(m, cpu, byte),
-        120..=143 => return_bytecode(m, cpu, byte),
+        0..=119 => {
+            push_bytecode(m, cpu, byte)?;
+            Ok(Step::Next)
+        }
+        120..=125 => return_bytecode(m, cpu, byte),
+        126..=130 => {
+            extended_bytecode(m, cpu, byte)?;
+            Ok(Step::Next)
+        }
+        131..=134 => extended_send_bytecode(m, cpu, byte),
+        135..=143 => {
+            stack_bytecode(m, cpu, byte)?;
+            Ok(Step::Next)
+        }
         144..=175 => jump_bytecode(m, cpu, byte),
         _ => send_bytecode(m, cpu, byte),
     }
@@ -172,8 +258,7 @@ fn rest<M: ObjectMemory>(m: &mut M)
 pub fn step<M: ObjectMemory>(m: &mut M, cpu: &mut Cpu) -> Result<Step, Stop>
     requires sound { M.sound m.old }
     requires ready { IsReady (M.told m.old) }
-    ensures serves { Serves (M.told m.old) cpu.old (M.told m.new) cpu.new step_rule (done_by result) }
-    ensures next { IfOk result (λ step. step ≡ Step.Next) }
+    ensures serves { Serves (M.told m.old) cpu.old (M.told m.new) cpu.new step_rule result }
     ensures rest { OnOk result (HasRest (M.told m.new)) }
     ensures ready { OnOk result (IsReady (M.told m.new)) }
     ensures sound { StaysSound result (M.sound m.new) }
@@ -181,7 +266,7 @@ pub fn step<M: ObjectMemory>(m: &mut M, cpu: &mut Cpu) -> Result<Step, Stop>
     ensures outside { M.outside m.new ≡ M.outside m.old }
 {
     let byte = fetch(m, cpu)?;
-    bytecode(m, cpu, byte)?;
+    let step = bytecode(m, cpu, byte)?;
     rest(m);
-    Ok(Step::Next)
+    Ok(step)
 }

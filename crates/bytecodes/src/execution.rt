@@ -1,14 +1,18 @@
 // Execution of methods (chapter 28, executeNewMethod).
-ghost use Rattle.std.specs.Prelude.{◌≡◌, ◌<◌, OnOk};
+ghost use Rattle.std.specs.Prelude.{◌≡◌, ◌<◌, ◌==◌, ◌||◌, ◌&&◌, OnOk};
 ghost use Rattle.long_names.specs.Words.{IsSmallInteger};
 ghost use Rattle.long_names.specs.State.{NEW_METHOD};
 ghost use Rattle.object_memory.specs.Told.{IsReady};
+ghost use Rattle.blue_model.specs.Messages.{primitive_of};
+ghost use Rattle.blue_model.specs.Primitives.{is_perform as is_perform_rule};
 ghost use Rattle.blue_model.specs.Sends as model;
+ghost use Rattle.bytecodes.specs.Steps.{activation};
 ghost use Rattle.contexts.specs.Serves.{Serves, StaysSound};
 
-use crate::tries::{has_failed, try_primitive};
+use crate::tries::{has_failed, is_execute, is_perform, step_of, try_primitive};
+use blue_model::Step;
 use contexts::parts::{extension, field, header};
-use contexts::{Cpu, Stop, put_stack, stack};
+use contexts::{Answer, Cpu, Stop, put_stack, stack};
 use object_memory::{ObjectMemory, Reg};
 use send_lookup::activate;
 use send_lookup::header::{flag, temporaries};
@@ -34,16 +38,42 @@ fn answer_field<M: ObjectMemory>(m: &mut M, cpu: &mut Cpu, i: u32) -> Result<(),
 /// The index of the primitive that a header extension names; 0 is none.
 fn primitive(extension: i16) -> u8
     requires { IsSmallInteger extension }
-    ensures { result ≡ model.primitive_of extension }
+    ensures { result ≡ primitive_of extension }
 {
     extension.rem_euclid(256) as u8
 }
 
-/// Executes a method that has a header extension. Its primitive is tried first, where it has one.
-fn execute_extended<M: ObjectMemory>(m: &mut M, cpu: &mut Cpu) -> Result<(), Stop>
+/// Whether nothing is tried: primitive 0 is none, and a perform isn't tried of a method that a perform found.
+fn is_none(index: u8, performed: bool) -> bool
+    ensures { result ≡ ((index == 0) || (performed && is_perform_rule index)) }
+{
+    index == 0 || (performed && is_perform(index))
+}
+
+/// Activates the method in register 5.
+fn activated<M: ObjectMemory>(m: &mut M, cpu: &mut Cpu) -> Result<Answer, Stop>
     requires sound { M.sound m.old }
     requires ready { IsReady (M.told m.old) }
-    ensures serves { Serves (M.told m.old) cpu.old (M.told m.new) cpu.new (model.execute_extended ((M.told m.old).regs NEW_METHOD)) result }
+    ensures serves { Serves (M.told m.old) cpu.old (M.told m.new) cpu.new activation result }
+    ensures ready { OnOk result (IsReady (M.told m.new)) }
+    ensures sound { StaysSound result (M.sound m.new) }
+    ensures lender { M.lender m.new ≡ M.lender m.old }
+    ensures outside { M.outside m.new ≡ M.outside m.old }
+{
+    activate(m, cpu)?;
+    Ok(Answer::Done)
+}
+
+/// Executes a method that has a header extension. Its primitive is tried first, where it has one. Of a method that a perform found,
+/// neither perform is tried again.
+fn execute_extended<M: ObjectMemory>(
+    m: &mut M,
+    cpu: &mut Cpu,
+    performed: bool,
+) -> Result<Answer, Stop>
+    requires sound { M.sound m.old }
+    requires ready { IsReady (M.told m.old) }
+    ensures serves { Serves (M.told m.old) cpu.old (M.told m.new) cpu.new (model.execute_extended performed ((M.told m.old).regs NEW_METHOD)) result }
     ensures ready { OnOk result (IsReady (M.told m.new)) }
     ensures sound { StaysSound result (M.sound m.new) }
     ensures lender { M.lender m.new ≡ M.lender m.old }
@@ -51,21 +81,26 @@ fn execute_extended<M: ObjectMemory>(m: &mut M, cpu: &mut Cpu) -> Result<(), Sto
 {
     let extension = extension(m, Reg::SCRATCH_0, Reg::NEW_METHOD)?;
     let index = primitive(extension);
-    if index == 0 {
-        return activate(m, cpu);
+    if is_none(index, performed) {
+        return activated(m, cpu);
     }
     let answer = try_primitive(m, cpu, index)?;
     if has_failed(answer) {
-        activate(m, cpu)?;
+        return activated(m, cpu);
     }
-    Ok(())
+    Ok(answer)
 }
 
-/// Executes the method in register 5 by its header: it answers self or a field of the receiver, or it is activated.
-pub(crate) fn execute<M: ObjectMemory>(m: &mut M, cpu: &mut Cpu) -> Result<(), Stop>
+/// Executes the method in register 5 by its header: it answers self or a field of the receiver, its primitive is tried, or it is
+/// activated.
+fn execute_method<M: ObjectMemory>(
+    m: &mut M,
+    cpu: &mut Cpu,
+    performed: bool,
+) -> Result<Answer, Stop>
     requires sound { M.sound m.old }
     requires ready { IsReady (M.told m.old) }
-    ensures serves { Serves (M.told m.old) cpu.old (M.told m.new) cpu.new (model.execute) result }
+    ensures serves { Serves (M.told m.old) cpu.old (M.told m.new) cpu.new (model.execute_method performed) result }
     ensures ready { OnOk result (IsReady (M.told m.new)) }
     ensures sound { StaysSound result (M.sound m.new) }
     ensures lender { M.lender m.new ≡ M.lender m.old }
@@ -73,9 +108,30 @@ pub(crate) fn execute<M: ObjectMemory>(m: &mut M, cpu: &mut Cpu) -> Result<(), S
 {
     let header = header(m, Reg::NEW_METHOD)?;
     match flag(header) {
-        5 => Ok(()),
-        6 => answer_field(m, cpu, temporaries(header)),
-        7 => execute_extended(m, cpu),
-        _ => activate(m, cpu),
+        5 => Ok(Answer::Done),
+        6 => {
+            answer_field(m, cpu, temporaries(header))?;
+            Ok(Answer::Done)
+        }
+        7 => execute_extended(m, cpu, performed),
+        _ => activated(m, cpu),
     }
+}
+
+/// Executes the method in register 5, and the one that it performs (executeNewMethod).
+pub(crate) fn execute<M: ObjectMemory>(m: &mut M, cpu: &mut Cpu) -> Result<Step, Stop>
+    requires sound { M.sound m.old }
+    requires ready { IsReady (M.told m.old) }
+    ensures serves { Serves (M.told m.old) cpu.old (M.told m.new) cpu.new model.execute result }
+    ensures ready { OnOk result (IsReady (M.told m.new)) }
+    ensures sound { StaysSound result (M.sound m.new) }
+    ensures lender { M.lender m.new ≡ M.lender m.old }
+    ensures outside { M.outside m.new ≡ M.outside m.old }
+{
+    let answer = execute_method(m, cpu, false)?;
+    if is_execute(answer) {
+        let last = execute_method(m, cpu, true)?;
+        return Ok(step_of(last));
+    }
+    Ok(step_of(answer))
 }

@@ -6,6 +6,7 @@ ghost use Rattle.blue_model.specs.Contexts.{jump as jump_rule};
 ghost use Rattle.contexts.specs.Serves.{Serves, StaysSound};
 
 use crate::sends::must_be_boolean;
+use blue_model::Step;
 use contexts::{Cpu, Stop, fetch, jump, pop_top};
 use long_names::Name;
 use object_memory::{ObjectMemory, Reg};
@@ -18,7 +19,7 @@ pub(crate) fn jump_where<M: ObjectMemory>(
     taken: Name,
     passed: Name,
     distance: u32,
-) -> Result<(), Stop>
+) -> Result<Step, Stop>
     requires sound { M.sound m.old }
     requires ready { IsReady (M.told m.old) }
     requires distance { distance < 1024 }
@@ -29,13 +30,13 @@ pub(crate) fn jump_where<M: ObjectMemory>(
     ensures outside { M.outside m.new ≡ M.outside m.old }
 {
     if m.is(Reg::SCRATCH_0, taken) {
-        return jump(m, cpu, distance as i32);
+        jump(m, cpu, distance as i32)?;
+        return Ok(Step::Next);
     }
     if m.is(Reg::SCRATCH_0, passed) {
-        return Ok(());
+        return Ok(Step::Next);
     }
-    must_be_boolean(m, cpu)?;
-    Ok(())
+    must_be_boolean(m, cpu)
 }
 
 /// Pops the top, and jumps so far where it is the first of two objects (jumpIf:).
@@ -45,7 +46,7 @@ pub(crate) fn jump_on<M: ObjectMemory>(
     taken: Name,
     passed: Name,
     distance: u32,
-) -> Result<(), Stop>
+) -> Result<Step, Stop>
     requires sound { M.sound m.old }
     requires ready { IsReady (M.told m.old) }
     requires distance { distance < 1024 }
@@ -56,8 +57,7 @@ pub(crate) fn jump_on<M: ObjectMemory>(
     ensures outside { M.outside m.new ≡ M.outside m.old }
 {
     pop_top(m, cpu, Reg::SCRATCH_0)?;
-    jump_where(m, cpu, taken, passed, distance)?;
-    Ok(())
+    jump_where(m, cpu, taken, passed, distance)
 }
 
 /// Jumps so far ahead.
@@ -103,7 +103,7 @@ pub(crate) fn long_jump_on<M: ObjectMemory>(
     taken: Name,
     passed: Name,
     i: u32,
-) -> Result<(), Stop>
+) -> Result<Step, Stop>
     requires sound { M.sound m.old }
     requires ready { IsReady (M.told m.old) }
     requires number { i < 4 }
@@ -114,6 +114,5 @@ pub(crate) fn long_jump_on<M: ObjectMemory>(
     ensures outside { M.outside m.new ≡ M.outside m.old }
 {
     let byte = fetch(m, cpu)?;
-    jump_on(m, cpu, taken, passed, 256 * i + u32::from(byte))?;
-    Ok(())
+    jump_on(m, cpu, taken, passed, 256 * i + u32::from(byte))
 }

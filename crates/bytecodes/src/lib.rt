@@ -1,8 +1,8 @@
-//! The bytecodes over any object memory.
+//! The bytecodes over any object memory (chapter 28 of the Blue Book): one step of the machine, by the byte that it fetches. Sends
+//! execute the method that lookup finds, and a method's primitive is tried first.
 #![tactic(auto)]
 
 mod dispatch;
-mod ended;
 mod execution;
 mod jumps;
 mod returns;
@@ -11,8 +11,8 @@ mod stacks;
 mod tries;
 mod variables;
 
+pub use blue_model::Step;
 pub use dispatch::step;
-pub use ended::Step;
 
 #[cfg(test)]
 mod tests;

@@ -10,6 +10,7 @@ ghost use Rattle.long_names.specs.State.{RECEIVER};
 ghost use Rattle.contexts.specs.Serves.{Serves, StaysSound};
 
 use crate::sends::cannot_return;
+use blue_model::Step;
 use contexts::parts::{field, known};
 use contexts::{Cpu, Stop, back, pop_top, push};
 use long_names::Name;
@@ -32,7 +33,7 @@ pub(crate) fn back_with<M: ObjectMemory>(m: &mut M, cpu: &mut Cpu) -> Result<(),
 
 /// Returns a value to a context (returnValue:to:): the value in SCRATCH_0, the context in SCRATCH_1. Where that is nil or has ended,
 /// cannotReturn: is sent.
-pub(crate) fn return_to<M: ObjectMemory>(m: &mut M, cpu: &mut Cpu) -> Result<(), Stop>
+pub(crate) fn return_to<M: ObjectMemory>(m: &mut M, cpu: &mut Cpu) -> Result<Step, Stop>
     requires sound { M.sound m.old }
     requires ready { IsReady (M.told m.old) }
     ensures serves { Serves (M.told m.old) cpu.old (M.told m.new) cpu.new (return_to ((M.told m.old).regs 11) ((M.told m.old).regs 10)) result }
@@ -49,11 +50,11 @@ pub(crate) fn return_to<M: ObjectMemory>(m: &mut M, cpu: &mut Cpu) -> Result<(),
         return cannot_return(m, cpu);
     }
     back_with(m, cpu)?;
-    Ok(())
+    Ok(Step::Next)
 }
 
 /// Returns the value in SCRATCH_0 to the sender of the home.
-pub(crate) fn return_home<M: ObjectMemory>(m: &mut M, cpu: &mut Cpu) -> Result<(), Stop>
+pub(crate) fn return_home<M: ObjectMemory>(m: &mut M, cpu: &mut Cpu) -> Result<Step, Stop>
     requires sound { M.sound m.old }
     requires ready { IsReady (M.told m.old) }
     ensures serves { Serves (M.told m.old) cpu.old (M.told m.new) cpu.new (model.return_home ((M.told m.old).regs 10)) result }
@@ -63,12 +64,11 @@ pub(crate) fn return_home<M: ObjectMemory>(m: &mut M, cpu: &mut Cpu) -> Result<(
     ensures outside { M.outside m.new ≡ M.outside m.old }
 {
     field(m, Reg::SCRATCH_1, Reg::HOME, 0, 0)?;
-    return_to(m, cpu)?;
-    Ok(())
+    return_to(m, cpu)
 }
 
 /// Returns the receiver.
-pub(crate) fn return_receiver<M: ObjectMemory>(m: &mut M, cpu: &mut Cpu) -> Result<(), Stop>
+pub(crate) fn return_receiver<M: ObjectMemory>(m: &mut M, cpu: &mut Cpu) -> Result<Step, Stop>
     requires sound { M.sound m.old }
     requires ready { IsReady (M.told m.old) }
     ensures serves { Serves (M.told m.old) cpu.old (M.told m.new) cpu.new (model.return_of (register RECEIVER)) result }
@@ -78,8 +78,7 @@ pub(crate) fn return_receiver<M: ObjectMemory>(m: &mut M, cpu: &mut Cpu) -> Resu
     ensures outside { M.outside m.new ≡ M.outside m.old }
 {
     m.copy(Reg::SCRATCH_0, Reg::RECEIVER);
-    return_home(m, cpu)?;
-    Ok(())
+    return_home(m, cpu)
 }
 
 /// Returns a known object.
@@ -87,7 +86,7 @@ pub(crate) fn return_known<M: ObjectMemory>(
     m: &mut M,
     cpu: &mut Cpu,
     name: Name,
-) -> Result<(), Stop>
+) -> Result<Step, Stop>
     requires sound { M.sound m.old }
     requires ready { IsReady (M.told m.old) }
     requires name { is_known name ≡ true }
@@ -98,12 +97,11 @@ pub(crate) fn return_known<M: ObjectMemory>(
     ensures outside { M.outside m.new ≡ M.outside m.old }
 {
     known(m, Reg::SCRATCH_0, name)?;
-    return_home(m, cpu)?;
-    Ok(())
+    return_home(m, cpu)
 }
 
 /// Returns the top.
-pub(crate) fn return_top<M: ObjectMemory>(m: &mut M, cpu: &mut Cpu) -> Result<(), Stop>
+pub(crate) fn return_top<M: ObjectMemory>(m: &mut M, cpu: &mut Cpu) -> Result<Step, Stop>
     requires sound { M.sound m.old }
     requires ready { IsReady (M.told m.old) }
     ensures serves { Serves (M.told m.old) cpu.old (M.told m.new) cpu.new (model.return_of pop_rule) result }
@@ -113,12 +111,11 @@ pub(crate) fn return_top<M: ObjectMemory>(m: &mut M, cpu: &mut Cpu) -> Result<()
     ensures outside { M.outside m.new ≡ M.outside m.old }
 {
     pop_top(m, cpu, Reg::SCRATCH_0)?;
-    return_home(m, cpu)?;
-    Ok(())
+    return_home(m, cpu)
 }
 
 /// Returns the top to the caller of the active context.
-pub(crate) fn return_from_block<M: ObjectMemory>(m: &mut M, cpu: &mut Cpu) -> Result<(), Stop>
+pub(crate) fn return_from_block<M: ObjectMemory>(m: &mut M, cpu: &mut Cpu) -> Result<Step, Stop>
     requires sound { M.sound m.old }
     requires ready { IsReady (M.told m.old) }
     ensures serves { Serves (M.told m.old) cpu.old (M.told m.new) cpu.new (model.return_from_block) result }
@@ -129,6 +126,5 @@ pub(crate) fn return_from_block<M: ObjectMemory>(m: &mut M, cpu: &mut Cpu) -> Re
 {
     pop_top(m, cpu, Reg::SCRATCH_0)?;
     field(m, Reg::SCRATCH_1, Reg::ACTIVE_CONTEXT, 0, 0)?;
-    return_to(m, cpu)?;
-    Ok(())
+    return_to(m, cpu)
 }

@@ -7,8 +7,9 @@ ghost use Rattle.contexts.specs.Serves.{Serves, StaysSound};
 ghost use Rattle.std.specs.List.{slice_index_or};
 
 use crate::execution::execute;
-use crate::tries::{has_failed, try_primitive};
+use crate::tries::{has_failed, step_of, try_primitive};
 use crate::variables::literal_constant;
+use blue_model::Step;
 use contexts::parts::{class_of, field, known, last_literal, number};
 use contexts::{Cause, Cpu, Stop, fetch, push, set_arguments, stack};
 use long_names::Name;
@@ -16,7 +17,7 @@ use object_memory::{ObjectMemory, Reg};
 use send_lookup::find_or_tell;
 
 /// Sends the selector in SCRATCH_0 with n arguments, looked up from the class in SCRATCH_1 on.
-fn send_from<M: ObjectMemory>(m: &mut M, cpu: &mut Cpu, n: u8) -> Result<(), Stop>
+fn send_from<M: ObjectMemory>(m: &mut M, cpu: &mut Cpu, n: u8) -> Result<Step, Stop>
     requires sound { M.sound m.old }
     requires ready { IsReady (M.told m.old) }
     ensures serves { Serves (M.told m.old) cpu.old (M.told m.new) cpu.new (model.send_from ((M.told m.old).regs 11) ((M.told m.old).regs 10) n) result }
@@ -28,12 +29,11 @@ fn send_from<M: ObjectMemory>(m: &mut M, cpu: &mut Cpu, n: u8) -> Result<(), Sto
     m.copy(Reg::SELECTOR, Reg::SCRATCH_0);
     set_arguments(cpu, n);
     find_or_tell(m, cpu, Reg::SCRATCH_1)?;
-    execute(m, cpu)?;
-    Ok(())
+    execute(m, cpu)
 }
 
 /// Sends the selector in SCRATCH_0 with n arguments (sendSelector:argumentCount:).
-pub(crate) fn send<M: ObjectMemory>(m: &mut M, cpu: &mut Cpu, n: u8) -> Result<(), Stop>
+pub(crate) fn send<M: ObjectMemory>(m: &mut M, cpu: &mut Cpu, n: u8) -> Result<Step, Stop>
     requires sound { M.sound m.old }
     requires ready { IsReady (M.told m.old) }
     ensures serves { Serves (M.told m.old) cpu.old (M.told m.new) cpu.new (model.send ((M.told m.old).regs 10) n) result }
@@ -44,12 +44,11 @@ pub(crate) fn send<M: ObjectMemory>(m: &mut M, cpu: &mut Cpu, n: u8) -> Result<(
 {
     stack(m, cpu, Reg::SCRATCH_1, u32::from(n))?;
     class_of(m, Reg::SCRATCH_1, Reg::SCRATCH_1)?;
-    send_from(m, cpu, n)?;
-    Ok(())
+    send_from(m, cpu, n)
 }
 
 /// Sends the selector in SCRATCH_0 with n arguments to super: the lookup starts above the class that the method stands in.
-pub(crate) fn send_super<M: ObjectMemory>(m: &mut M, cpu: &mut Cpu, n: u8) -> Result<(), Stop>
+pub(crate) fn send_super<M: ObjectMemory>(m: &mut M, cpu: &mut Cpu, n: u8) -> Result<Step, Stop>
     requires sound { M.sound m.old }
     requires ready { IsReady (M.told m.old) }
     ensures serves { Serves (M.told m.old) cpu.old (M.told m.new) cpu.new (model.send_super ((M.told m.old).regs 10) n) result }
@@ -62,8 +61,7 @@ pub(crate) fn send_super<M: ObjectMemory>(m: &mut M, cpu: &mut Cpu, n: u8) -> Re
     last_literal(m, Reg::SCRATCH_1, Reg::METHOD)?;
     field(m, Reg::SCRATCH_1, Reg::SCRATCH_1, 2, 1)?;
     field(m, Reg::SCRATCH_1, Reg::SCRATCH_1, 0, 0)?;
-    send_from(m, cpu, n)?;
-    Ok(())
+    send_from(m, cpu, n)
 }
 
 /// A number of arguments, where it is one.
@@ -74,7 +72,7 @@ fn argument_count(number: i16) -> Option<u8>
 }
 
 /// Sends special selector s with as many arguments as the array of special selectors says.
-pub(crate) fn special_send<M: ObjectMemory>(m: &mut M, cpu: &mut Cpu, s: u32) -> Result<(), Stop>
+pub(crate) fn special_send<M: ObjectMemory>(m: &mut M, cpu: &mut Cpu, s: u32) -> Result<Step, Stop>
     requires sound { M.sound m.old }
     requires ready { IsReady (M.told m.old) }
     requires number { s < 32 }
@@ -90,12 +88,11 @@ pub(crate) fn special_send<M: ObjectMemory>(m: &mut M, cpu: &mut Cpu, s: u32) ->
     let Some(n) = argument_count(count) else {
         return Err(Stop::Stuck(Cause::Shape));
     };
-    send(m, cpu, n)?;
-    Ok(())
+    send(m, cpu, n)
 }
 
 /// Sends cannotReturn: to the active context, with the value in SCRATCH_0.
-pub(crate) fn cannot_return<M: ObjectMemory>(m: &mut M, cpu: &mut Cpu) -> Result<(), Stop>
+pub(crate) fn cannot_return<M: ObjectMemory>(m: &mut M, cpu: &mut Cpu) -> Result<Step, Stop>
     requires sound { M.sound m.old }
     requires ready { IsReady (M.told m.old) }
     ensures serves { Serves (M.told m.old) cpu.old (M.told m.new) cpu.new (model.cannot_return ((M.told m.old).regs 10)) result }
@@ -107,12 +104,11 @@ pub(crate) fn cannot_return<M: ObjectMemory>(m: &mut M, cpu: &mut Cpu) -> Result
     push(m, cpu, Reg::ACTIVE_CONTEXT)?;
     push(m, cpu, Reg::SCRATCH_0)?;
     known(m, Reg::SCRATCH_0, Name::CANNOT_RETURN)?;
-    send(m, cpu, 1)?;
-    Ok(())
+    send(m, cpu, 1)
 }
 
 /// Sends mustBeBoolean to the value in SCRATCH_0.
-pub(crate) fn must_be_boolean<M: ObjectMemory>(m: &mut M, cpu: &mut Cpu) -> Result<(), Stop>
+pub(crate) fn must_be_boolean<M: ObjectMemory>(m: &mut M, cpu: &mut Cpu) -> Result<Step, Stop>
     requires sound { M.sound m.old }
     requires ready { IsReady (M.told m.old) }
     ensures serves { Serves (M.told m.old) cpu.old (M.told m.new) cpu.new (model.must_be_boolean ((M.told m.old).regs 10)) result }
@@ -123,8 +119,7 @@ pub(crate) fn must_be_boolean<M: ObjectMemory>(m: &mut M, cpu: &mut Cpu) -> Resu
 {
     push(m, cpu, Reg::SCRATCH_0)?;
     known(m, Reg::SCRATCH_0, Name::MUST_BE_BOOLEAN)?;
-    send(m, cpu, 0)?;
-    Ok(())
+    send(m, cpu, 0)
 }
 
 /// Sends literal i with n arguments.
@@ -133,7 +128,7 @@ pub(crate) fn send_literal<M: ObjectMemory>(
     cpu: &mut Cpu,
     i: u32,
     n: u8,
-) -> Result<(), Stop>
+) -> Result<Step, Stop>
     requires sound { M.sound m.old }
     requires ready { IsReady (M.told m.old) }
     requires number { i < 256 }
@@ -144,8 +139,7 @@ pub(crate) fn send_literal<M: ObjectMemory>(
     ensures outside { M.outside m.new ≡ M.outside m.old }
 {
     literal_constant(m, Reg::SCRATCH_0, i)?;
-    send(m, cpu, n)?;
-    Ok(())
+    send(m, cpu, n)
 }
 
 /// Sends literal i with n arguments to super.
@@ -154,7 +148,7 @@ pub(crate) fn send_literal_super<M: ObjectMemory>(
     cpu: &mut Cpu,
     i: u32,
     n: u8,
-) -> Result<(), Stop>
+) -> Result<Step, Stop>
     requires sound { M.sound m.old }
     requires ready { IsReady (M.told m.old) }
     requires number { i < 256 }
@@ -165,12 +159,11 @@ pub(crate) fn send_literal_super<M: ObjectMemory>(
     ensures outside { M.outside m.new ≡ M.outside m.old }
 {
     literal_constant(m, Reg::SCRATCH_0, i)?;
-    send_super(m, cpu, n)?;
-    Ok(())
+    send_super(m, cpu, n)
 }
 
 /// Sends a literal: its number and that of the arguments stand in the next byte.
-pub(crate) fn single_extended_send<M: ObjectMemory>(m: &mut M, cpu: &mut Cpu) -> Result<(), Stop>
+pub(crate) fn single_extended_send<M: ObjectMemory>(m: &mut M, cpu: &mut Cpu) -> Result<Step, Stop>
     requires sound { M.sound m.old }
     requires ready { IsReady (M.told m.old) }
     ensures serves { Serves (M.told m.old) cpu.old (M.told m.new) cpu.new (table.single_extended table.send_literal) result }
@@ -180,12 +173,11 @@ pub(crate) fn single_extended_send<M: ObjectMemory>(m: &mut M, cpu: &mut Cpu) ->
     ensures outside { M.outside m.new ≡ M.outside m.old }
 {
     let byte = fetch(m, cpu)?;
-    send_literal(m, cpu, u32::from(byte % 32), byte / 32)?;
-    Ok(())
+    send_literal(m, cpu, u32::from(byte % 32), byte / 32)
 }
 
 /// Sends a literal: the number of arguments stands in the next byte, that of the literal in the byte after it.
-pub(crate) fn double_extended_send<M: ObjectMemory>(m: &mut M, cpu: &mut Cpu) -> Result<(), Stop>
+pub(crate) fn double_extended_send<M: ObjectMemory>(m: &mut M, cpu: &mut Cpu) -> Result<Step, Stop>
     requires sound { M.sound m.old }
     requires ready { IsReady (M.told m.old) }
     ensures serves { Serves (M.told m.old) cpu.old (M.told m.new) cpu.new (table.double_extended table.send_literal) result }
@@ -196,12 +188,11 @@ pub(crate) fn double_extended_send<M: ObjectMemory>(m: &mut M, cpu: &mut Cpu) ->
 {
     let n = fetch(m, cpu)?;
     let i = fetch(m, cpu)?;
-    send_literal(m, cpu, u32::from(i), n)?;
-    Ok(())
+    send_literal(m, cpu, u32::from(i), n)
 }
 
 /// Sends a literal to super: its number and that of the arguments stand in the next byte.
-pub(crate) fn single_extended_super<M: ObjectMemory>(m: &mut M, cpu: &mut Cpu) -> Result<(), Stop>
+pub(crate) fn single_extended_super<M: ObjectMemory>(m: &mut M, cpu: &mut Cpu) -> Result<Step, Stop>
     requires sound { M.sound m.old }
     requires ready { IsReady (M.told m.old) }
     ensures serves { Serves (M.told m.old) cpu.old (M.told m.new) cpu.new (table.single_extended table.send_literal_super) result }
@@ -211,12 +202,11 @@ pub(crate) fn single_extended_super<M: ObjectMemory>(m: &mut M, cpu: &mut Cpu) -
     ensures outside { M.outside m.new ≡ M.outside m.old }
 {
     let byte = fetch(m, cpu)?;
-    send_literal_super(m, cpu, u32::from(byte % 32), byte / 32)?;
-    Ok(())
+    send_literal_super(m, cpu, u32::from(byte % 32), byte / 32)
 }
 
 /// Sends a literal to super: the number of arguments stands in the next byte, that of the literal in the byte after it.
-pub(crate) fn double_extended_super<M: ObjectMemory>(m: &mut M, cpu: &mut Cpu) -> Result<(), Stop>
+pub(crate) fn double_extended_super<M: ObjectMemory>(m: &mut M, cpu: &mut Cpu) -> Result<Step, Stop>
     requires sound { M.sound m.old }
     requires ready { IsReady (M.told m.old) }
     ensures serves { Serves (M.told m.old) cpu.old (M.told m.new) cpu.new (table.double_extended table.send_literal_super) result }
@@ -227,8 +217,7 @@ pub(crate) fn double_extended_super<M: ObjectMemory>(m: &mut M, cpu: &mut Cpu) -
 {
     let n = fetch(m, cpu)?;
     let i = fetch(m, cpu)?;
-    send_literal_super(m, cpu, u32::from(i), n)?;
-    Ok(())
+    send_literal_super(m, cpu, u32::from(i), n)
 }
 
 /// Tries a primitive for a message of n arguments, and sends special selector s where it fails.
@@ -238,7 +227,7 @@ pub(crate) fn tried_for<M: ObjectMemory>(
     index: u8,
     n: u8,
     s: u32,
-) -> Result<(), Stop>
+) -> Result<Step, Stop>
     requires sound { M.sound m.old }
     requires ready { IsReady (M.told m.old) }
     requires number { s < 32 }
@@ -251,9 +240,9 @@ pub(crate) fn tried_for<M: ObjectMemory>(
     set_arguments(cpu, n);
     let answer = try_primitive(m, cpu, index)?;
     if has_failed(answer) {
-        special_send(m, cpu, s)?;
+        return special_send(m, cpu, s);
     }
-    Ok(())
+    Ok(step_of(answer))
 }
 
 /// The primitives of the arithmetic special selectors, in their order.
@@ -268,7 +257,11 @@ fn arithmetic_primitive(s: u32) -> u8
 }
 
 /// Sends special selector s. To a number its primitive is tried first.
-pub(crate) fn arithmetic_send<M: ObjectMemory>(m: &mut M, cpu: &mut Cpu, s: u32) -> Result<(), Stop>
+pub(crate) fn arithmetic_send<M: ObjectMemory>(
+    m: &mut M,
+    cpu: &mut Cpu,
+    s: u32,
+) -> Result<Step, Stop>
     requires sound { M.sound m.old }
     requires ready { IsReady (M.told m.old) }
     requires number { s < 16 }
@@ -286,7 +279,7 @@ pub(crate) fn arithmetic_send<M: ObjectMemory>(m: &mut M, cpu: &mut Cpu, s: u32)
 }
 
 /// Sends blockCopy:. To a context its primitive is tried first.
-pub(crate) fn context_send<M: ObjectMemory>(m: &mut M, cpu: &mut Cpu) -> Result<(), Stop>
+pub(crate) fn context_send<M: ObjectMemory>(m: &mut M, cpu: &mut Cpu) -> Result<Step, Stop>
     requires sound { M.sound m.old }
     requires ready { IsReady (M.told m.old) }
     ensures serves { Serves (M.told m.old) cpu.old (M.told m.new) cpu.new (table.block_send 80 1 table.is_context_class 24) result }
@@ -309,7 +302,7 @@ pub(crate) fn block_send<M: ObjectMemory>(
     cpu: &mut Cpu,
     n: u8,
     s: u32,
-) -> Result<(), Stop>
+) -> Result<Step, Stop>
     requires sound { M.sound m.old }
     requires ready { IsReady (M.told m.old) }
     requires number { s < 32 }

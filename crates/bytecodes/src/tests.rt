@@ -69,7 +69,7 @@ fn go<M: ObjectMemory>(m: &mut M, cpu: &mut Cpu) -> Result<(), Stop>
 }
 
 // Code, the instruction pointer where it stops, and why: an empty stack, a send whose literal is missing, the end of the method, the
-// same after a sum, and a primitive that is tried and not built.
+// same after a sum, and after a block is made.
 #[test]
 fn each_stop(rt: HostRuntime) -> Result<(), Fail> {
     let rows = [
@@ -77,7 +77,7 @@ fn each_stop(rt: HostRuntime) -> Result<(), Fail> {
         ([252, 120, 120], 3, Stop::Stuck(Cause::Shape)),
         ([112, 112, 112], 5, Stop::Stuck(Cause::Pointer)),
         ([118, 119, 176], 5, Stop::Stuck(Cause::Pointer)),
-        ([137, 117, 200], 5, Stop::NotBuilt),
+        ([137, 117, 200], 5, Stop::Stuck(Cause::Pointer)),
     ];
     for (code, ip, stop) in rows {
         let mut builder = base(rt.alloc())?;

@@ -2,8 +2,10 @@
 ghost use Rattle.std.specs.Prelude.{◌≡◌, OnOk};
 ghost use Rattle.object_memory.specs.Told.{IsReady};
 ghost use Rattle.blue_model.specs.Primitives as model;
+ghost use Rattle.blue_model.specs.Sends.{is_execute as is_execute_rule};
 ghost use Rattle.contexts.specs.Serves.{Serves, StaysSound};
 
+use blue_model::Step;
 use contexts::{Answer, Cpu, Stop};
 use object_memory::ObjectMemory;
 
@@ -11,7 +13,28 @@ use object_memory::ObjectMemory;
 fn is_unbuilt(index: u8) -> bool
     ensures { result ≡ model.is_unbuilt index }
 {
-    matches!(index, 80..=89 | 93 | 95 | 96 | 99 | 100 | 102 | 113 | 128)
+    matches!(index, 93 | 95 | 96 | 99 | 100 | 102 | 128)
+}
+
+/// Whether the primitive is one of blocks, performs, the cache and the end of the run.
+fn is_control(index: u8) -> bool
+    ensures { result ≡ model.is_control index }
+{
+    matches!(index, 80..=84 | 89 | 113)
+}
+
+/// Whether the primitive is one of processes and semaphores.
+fn is_process(index: u8) -> bool
+    ensures { result ≡ model.is_process index }
+{
+    matches!(index, 85..=88)
+}
+
+/// Whether the primitive is one of the two performs.
+pub(crate) fn is_perform(index: u8) -> bool
+    ensures { result ≡ model.is_perform index }
+{
+    matches!(index, 83 | 84)
 }
 
 /// Whether a primitive failed.
@@ -21,6 +44,26 @@ pub(crate) fn has_failed(answer: Answer) -> bool
     match answer {
         Answer::Failed => true,
         Answer::Done | Answer::Execute | Answer::Quit => false,
+    }
+}
+
+/// Whether a method that a primitive found is to be executed.
+pub(crate) fn is_execute(answer: Answer) -> bool
+    ensures { result ≡ is_execute_rule answer }
+{
+    match answer {
+        Answer::Execute => true,
+        Answer::Done | Answer::Failed | Answer::Quit => false,
+    }
+}
+
+/// How a bytecode ends whose primitive ended so.
+pub(crate) fn step_of(answer: Answer) -> Step
+    ensures { result ≡ model.step_of answer }
+{
+    match answer {
+        Answer::Quit => Step::Quit,
+        Answer::Done | Answer::Failed | Answer::Execute => Step::Next,
     }
 }
 
@@ -40,6 +83,12 @@ pub(crate) fn try_primitive<M: ObjectMemory>(
 {
     if is_unbuilt(index) {
         return Err(Stop::NotBuilt);
+    }
+    if is_control(index) {
+        return prims_control::run(m, cpu, index);
+    }
+    if is_process(index) {
+        return process_sched::run(m, cpu, index);
     }
     if index < 60 {
         prims_integer::run(m, cpu, index)

@@ -9,7 +9,7 @@ use Rattle.loom_run.specs.Top.{HasRun, Noted, NotedBy}
 use Rattle.long_names.specs.Counting.{Rose}
 use Rattle.loom_run.specs.Parts.{IsOfRun, IsTold, unsaid}
 use Rattle.loom_run.specs.declared.status.Status.{Status}
-use Rattle.loom_run.specs.declared.status.Status.TheVariants.{Done, Usage, ImageBad, Stuck, NamesSpent, ReadFault, WriteFault, OutOfMemory, NotBuilt}
+use Rattle.loom_run.specs.declared.status.Status.TheVariants.{Done, Quit, Usage, ImageBad, Stuck, NamesSpent, ReadFault, WriteFault, OutOfMemory, NotBuilt}
 
 -- a whole line, and a cut one
 noted-whole : (line : List ℕ) (before now : Meanings) → now.roles Notes ≡ puts line (before.roles Notes) → Noted line before now
@@ -33,7 +33,9 @@ told-since status result before mid now left (inr cut) = inr record { answer = c
 
 noted-told : {told : Bool} (status result : Status) (steps : ℕ) (before now : Meanings) → IsOfRun status → HasRun status steps → IsTold told status result before now → IsTrue told → NotedBy result steps before now
 noted-told (Done ran) result steps before now of_run run (inl whole) p = rw whole.answer (whole.put p)
-noted-told (Done ran) result steps before now of_run run (inr cut) p = rw (cut.answer, sym run) (cut.put p)
+noted-told (Done ran) result steps before now of_run run (inr cut) p = rw (cut.answer, sym run) (inl (cut.put p))
+noted-told (Quit ran) result steps before now of_run run (inl whole) p = rw whole.answer (whole.put p)
+noted-told (Quit ran) result steps before now of_run run (inr cut) p = rw cut.answer (inr (ran, run, cut.put p))
 noted-told (Usage word) result steps before now of_run run told p = absurd of_run
 noted-told (ImageBad rule place) result steps before now of_run run told p = let own = noted-own _ _ _ _ refl told p in rw own.0 own.1
 noted-told (Stuck cause ran) result steps before now of_run run told p = let own = noted-own _ _ _ _ refl told p in rw own.0 own.1

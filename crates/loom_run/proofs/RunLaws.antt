@@ -33,6 +33,6 @@ pub parked-text : (steps : ℕ) (h : Heap) (new : Told) (text : List ℕ) → Is
 parked-text steps h new text whole ends ready tells same = go (ending steps h) (agrees steps h whole) ends
   where
     go : (e : Ending) → EndingsAgree e e → OnParked e (λ m. IsThinner m.heap new.heap) → OnParked e (λ m. text ≡ saved_text m.heap)
-    go (Parked m) agree thinner =
-        same ∙ ap image_text (kept-thinning m.heap new.heap new.regs new.slots no_roots record { thinner = thinner; whole = ready.whole tells } agree.bounded (λ n e. let no : ◌≡◌ {A = Bool} false true = e in absurd (cc)))
+    go (Parked end m) agree thinner =
+        same ∙ ap image_text (kept-thinning m.heap new.heap new.regs new.slots no_roots record { thinner = thinner; whole = ready.whole tells } agree.1.bounded (λ n e. let no : ◌≡◌ {A = Bool} false true = e in absurd (cc)))
     go (Stuck why ran) agree ends = absurd ends

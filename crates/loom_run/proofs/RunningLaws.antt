@@ -13,6 +13,8 @@ use Rattle.object_memory.specs.Contract.{Settles, IsLater, SameBounds, Settled, 
 use Rattle.object_memory.specs.declared.fault.MemFault.{MemFault}
 use Rattle.object_memory.specs.declared.fault.MemFault.TheVariants.{CoreFull, WorkFull, WorkFault, Damaged, NamesSpent, Said, Memory}
 use Rattle.blue_model.specs.declared.cpu.Cpu.{Cpu}
+use Rattle.blue_model.specs.declared.step.Step.{Step}
+use Rattle.blue_model.specs.declared.step.Step.TheVariants.{Next, Quit}
 use Rattle.blue_model.specs.Machine.{Machine, LogRow, Outcome, Go, Halt, Spent, Unbuilt, Rule, at_rest, ◌>>=◌, clear, set_numbers}
 use Rattle.blue_model.specs.Contexts.{start, park}
 use Rattle.blue_model.specs.Cycle.{Run, Ran, Stopped, Stopping, ByCause, BySpentNames, ByUnbuilt, Ending, run_of, one_more, run, ended, parked, run_from, ending, cycle}
@@ -21,7 +23,7 @@ use Rattle.contexts.specs.declared.stop.Stop.{Stop}
 use Rattle.contexts.specs.declared.stop.Stop.TheVariants.{Stuck, Mem, NotBuilt}
 use Rattle.contexts.specs.Serves.{HasRest, Stands, IsGo, Gives, IsCaused, HasReason, Serves}
 use Rattle.contexts.proofs.CacheLaws.{sound_follows}
-use Rattle.loom_run.specs.Run.{Reaches, StopsIn, IsWorkFault, StopsAfter, RunsAs, HasFault, FaultsBy, Begins, OnParked, FaultsAs, StopsAs, GoesAs}
+use Rattle.loom_run.specs.Run.{Reaches, StopsIn, IsWorkFault, StopsAfter, RunsAs, HasFault, FaultsBy, Begins, OnParked, FaultsAs, StopsAs, GoesThrough, GoesAs, is_quit}
 
 -- ---- stops
 
@@ -114,24 +116,49 @@ settling_fails old new f told x = go f x.err.cause
 
 -- ---- cycles
 
-pub reaches_start : (t : Told) (cpu : Cpu) (m : Machine) → Stands t cpu m → Reaches t cpu 0 m
+pub reaches_start : (t : Told) (cpu : Cpu) (m : Machine) → Stands t cpu m → Reaches t cpu Next 0 m
 unfolding run
 reaches_start t cpu m st = record { machine = m; ran = refl; stands = st }
 
-pub reaches_more : (mid new : Told) (between now : Cpu) (k : ℕ) (m : Machine) → IsTrue mid.tells → Reaches mid between k m → Serves mid between new now cycle (Ok tt) → Reaches new now (k + 1) m
+pub reaches_more : (mid new : Told) (between now : Cpu) (end : Step) (k : ℕ) (m : Machine) → IsTrue mid.tells → Reaches mid between Next k m → Serves mid between new now cycle (Ok end) → Reaches new now end (k + 1) m
 unfolding run
-reaches_more mid new between now k m told x s = go (cycle x.machine) refl (s.model told x.machine x.stands)
+reaches_more mid new between now end k m told x s = go (cycle x.machine) refl (s.model told x.machine x.stands)
   where
     next : (n : ℕ) → suc n ≡ n + 1
     next n = omega arith
 
-    go : (o : Outcome (Unit {0})) → cycle x.machine ≡ o → IsGo tt (Stands new now) o → Reaches new now (k + 1) m
-    go (Go a n log) e g = record { machine = n; ran = ap (λ i. run i m) (sym (next k)) ∙ ap one_more x.ran ∙ ap (run_of x.machine) e; stands = g.1 }
+    go : (o : Outcome Step) → cycle x.machine ≡ o → IsGo end (Stands new now) o → Reaches new now end (k + 1) m
+    go (Go a n log) e g = record { machine = n; ran = ap (λ i. run i m) (sym (next k)) ∙ ap one_more x.ran ∙ ap (run_of x.machine) e ∙ ap (λ s. Ran s n) g.0; stands = g.1 }
     go (Halt c log) e g = absurd g
     go (Spent log) e g = absurd g
     go (Unbuilt log) e g = absurd g
 
-pub stops_in : (mid new : Told) (between now : Cpu) (k steps : ℕ) (m : Machine) (e : Stop) → IsTrue mid.tells → k < steps → now.ran ≡ between.ran → Reaches mid between k m → Serves {A = Unit {0}} mid between new now cycle (Err e) → StopsIn new now e steps m
+-- a run that the machine ended stays so
+quit_stays : (k done : ℕ) (m n : Machine) → run done m ≡ Ran Quit n → done ≤ k → run k m ≡ Ran Quit n
+unfolding run
+quit_stays zero done m n e low = let same : done ≡ 0 = omega arith in ap (λ i. run i m) (sym same) ∙ e
+quit_stays (suc k) done m n e low = go (nat_lt k done) refl (λ few. quit_stays k done m n e few)
+  where
+    go : (b : Bool) → nat_lt k done ≡ b → (done ≤ k → run k m ≡ Ran Quit n) → one_more (run k m) ≡ Ran Quit n
+    go true g before =
+        let high = ltb-true k done g in
+        let same : done ≡ suc k = omega arith in
+        ap (λ i. run i m) (sym same) ∙ e
+    go false g before = let few = ltb-false k done g in ap one_more (before few)
+
+pub reaches_end : (new : Told) (now : Cpu) (done k : ℕ) (m : Machine) → done ≤ k → Reaches new now Quit done m → Reaches new now Quit k m
+reaches_end new now done k m few x = record { machine = x.machine; ran = quit_stays k done m x.machine x.ran few; stands = x.stands }
+
+-- a machine that hasn't ended goes on
+pub goes_on : (end : Step) → is_quit end ≡ false → end ≡ Next
+goes_on Next e = refl
+goes_on Quit e = absurd (cc)
+
+pub has_ended : (end : Step) → is_quit end ≡ true → end ≡ Quit
+has_ended Quit e = refl
+has_ended Next e = absurd (cc)
+
+pub stops_in : (mid new : Told) (between now : Cpu) (k steps : ℕ) (m : Machine) (e : Stop) → IsTrue mid.tells → k < steps → now.ran ≡ between.ran → Reaches mid between Next k m → Serves {A = Step} mid between new now cycle (Err e) → StopsIn new now e steps m
 stops_in mid new between now k steps m e told few same x s = record {
   done = k;
   machine = x.machine;
@@ -142,9 +169,10 @@ stops_in mid new between now k steps m e told few same x s = record {
   gives = s.model told x.machine x.stands;
 }
 
-pub stops_after : {Z : Type 0} (mid new : Told) (now : Cpu) (k steps : ℕ) (m : Machine) (f : MemFault) → IsTrue mid.tells → k ≤ steps → Reaches mid now k m → Called {A = Z} mid new Settles (Err f) → StopsAfter new now (Mem f) steps m
-stops_after mid new now k steps m f told few x c = record {
+pub stops_after : {Z : Type 0} (mid new : Told) (now : Cpu) (end : Step) (k steps : ℕ) (m : Machine) (f : MemFault) → IsTrue mid.tells → k ≤ steps → Reaches mid now end k m → Called {A = Z} mid new Settles (Err f) → StopsAfter new now (Mem f) steps m
+stops_after mid new now end k steps m f told few x c = record {
   done = k;
+  end = end;
   machine = x.machine;
   few = few;
   ran = x.ran;
@@ -154,14 +182,14 @@ stops_after mid new now k steps m f told few x c = record {
 }
 
 -- the answer of a `?`
-pub runs_exit : {A : Type 0} {new : Told} {now : Cpu} {steps : ℕ} {m : Machine} {e : Stop} (r : Result A Stop) → IsErrAnd r (λ y. y ≡ e) → RunsAs {A = A} new now steps m (Err e) → RunsAs new now steps m r
-runs_exit {A} {new} {now} {steps} {m} {e} r is h =
+pub runs_exit : {new : Told} {now : Cpu} {steps : ℕ} {m : Machine} {e : Stop} (r : Result Step Stop) → IsErrAnd r (λ y. y ≡ e) → RunsAs new now steps m (Err e) → RunsAs new now steps m r
+runs_exit {new} {now} {steps} {m} {e} r is h =
     let q = err_from_is_err_and r is in
-    subst (λ (x : Result A Stop). RunsAs new now steps m x) (sym (q.1 ∙ ap (λ y. Err y) q.2)) h
+    subst (λ (x : Result Step Stop). RunsAs new now steps m x) (sym (q.1 ∙ ap (λ y. Err y) q.2)) h
 
 -- ---- the model's run behind a stop
 
-run_stopped : (k done : ℕ) (m n : Machine) (why : Stopping) (log : List LogRow) → run done m ≡ Ran n → run_of n (cycle n) ≡ Stopped n why log → done < k → run k m ≡ Stopped n why log
+run_stopped : (k done : ℕ) (m n : Machine) (why : Stopping) (log : List LogRow) → run done m ≡ Ran Next n → run_of n (cycle n) ≡ Stopped n why log → done < k → run k m ≡ Stopped n why log
 unfolding run
 run_stopped zero done m n why log e f low = absurd (omega arith)
 run_stopped (suc k) done m n why log e f low = go (nat_lt done k) refl (λ below. run_stopped k done m n why log e f below)
@@ -174,18 +202,18 @@ run_stopped (suc k) done m n why log e f low = go (nat_lt done k) refl (λ below
         ap one_more (ap (λ i. run i m) (sym same) ∙ e) ∙ f
 
 -- an outcome that stopped ends the run so
-pub parked_stops : (o : Outcome (Unit {0})) (m : Machine) (new : Told) (now : Cpu) (e : Stop) → Gives {A = Unit {0}} new now (Err e) o → m.cpu.ran ≡ now.ran → StopsAs e now.ran (parked m o)
-parked_stops (Halt d log) m new now (Stuck c) g same = ap (λ x. model.Stuck (ByCause x) m.cpu.ran) g ∙ ap (λ k. model.Stuck (ByCause c) k) same
-parked_stops (Go a n log) m new now (Stuck c) g same = absurd g
-parked_stops (Spent log) m new now (Stuck c) g same = absurd g
-parked_stops (Unbuilt log) m new now (Stuck c) g same = absurd g
-parked_stops (Unbuilt log) m new now NotBuilt g same = ap (λ k. model.Stuck ByUnbuilt k) same
-parked_stops (Go a n log) m new now NotBuilt g same = absurd g
-parked_stops (Halt d log) m new now NotBuilt g same = absurd g
-parked_stops (Spent log) m new now NotBuilt g same = absurd g
-parked_stops o m new now (Mem f) g same = fault f o g
+pub parked_stops : (end : Step) (o : Outcome (Unit {0})) (m : Machine) (new : Told) (now : Cpu) (e : Stop) → Gives {A = Unit {0}} new now (Err e) o → m.cpu.ran ≡ now.ran → StopsAs e now.ran (parked end m o)
+parked_stops end (Halt d log) m new now (Stuck c) g same = ap (λ x. model.Stuck (ByCause x) m.cpu.ran) g ∙ ap (λ k. model.Stuck (ByCause c) k) same
+parked_stops end (Go a n log) m new now (Stuck c) g same = absurd g
+parked_stops end (Spent log) m new now (Stuck c) g same = absurd g
+parked_stops end (Unbuilt log) m new now (Stuck c) g same = absurd g
+parked_stops end (Unbuilt log) m new now NotBuilt g same = ap (λ k. model.Stuck ByUnbuilt k) same
+parked_stops end (Go a n log) m new now NotBuilt g same = absurd g
+parked_stops end (Halt d log) m new now NotBuilt g same = absurd g
+parked_stops end (Spent log) m new now NotBuilt g same = absurd g
+parked_stops end o m new now (Mem f) g same = fault f o g
   where
-    fault : (f : MemFault) (o : Outcome (Unit {0})) → Gives {A = Unit {0}} new now (Err (Mem f)) o → FaultsAs f now.ran (parked m o)
+    fault : (f : MemFault) (o : Outcome (Unit {0})) → Gives {A = Unit {0}} new now (Err (Mem f)) o → FaultsAs f now.ran (parked end m o)
     fault NamesSpent (Spent log) g = ap (λ k. model.Stuck BySpentNames k) same
     fault NamesSpent (Go a n log) g = absurd g
     fault NamesSpent (Halt d log) g = absurd g
@@ -228,13 +256,13 @@ run_stops new now e steps m x = go e (cycle x.machine) refl x.gives
     by : (why : Stopping) (log : List LogRow) → run_of x.machine (cycle x.machine) ≡ Stopped x.machine why log → ended (run steps m) ≡ model.Stuck why now.ran
     by why log f = ap ended (run_stopped steps x.done m x.machine why log x.ran f x.few) ∙ ap (λ k. model.Stuck why k) x.count
 
-    spent : (o : Outcome (Unit {0})) → cycle x.machine ≡ o → Gives {A = Unit {0}} new now (Err (Mem NamesSpent)) o → ended (run steps m) ≡ model.Stuck BySpentNames now.ran
+    spent : (o : Outcome Step) → cycle x.machine ≡ o → Gives {A = Step} new now (Err (Mem NamesSpent)) o → ended (run steps m) ≡ model.Stuck BySpentNames now.ran
     spent (Spent log) f g = by BySpentNames log (ap (run_of x.machine) f)
     spent (Go a n log) f g = absurd g
     spent (Halt d log) f g = absurd g
     spent (Unbuilt log) f g = absurd g
 
-    fault : (f : MemFault) (o : Outcome (Unit {0})) → cycle x.machine ≡ o → Gives {A = Unit {0}} new now (Err (Mem f)) o → FaultsAs f now.ran (ended (run steps m))
+    fault : (f : MemFault) (o : Outcome Step) → cycle x.machine ≡ o → Gives {A = Step} new now (Err (Mem f)) o → FaultsAs f now.ran (ended (run steps m))
     fault NamesSpent o e g = spent o e g
     fault (CoreFull need) o e g = tt
     fault (WorkFull live room) o e g = tt
@@ -243,7 +271,7 @@ run_stops new now e steps m x = go e (cycle x.machine) refl x.gives
     fault (Said count) o e g = tt
     fault Memory o e g = tt
 
-    go : (e : Stop) (o : Outcome (Unit {0})) → cycle x.machine ≡ o → Gives {A = Unit {0}} new now (Err e) o → StopsAs e now.ran (ended (run steps m))
+    go : (e : Stop) (o : Outcome Step) → cycle x.machine ≡ o → Gives {A = Step} new now (Err e) o → StopsAs e now.ran (ended (run steps m))
     go (Stuck c) (Halt d log) f g = by (ByCause d) log (ap (run_of x.machine) f) ∙ ap (λ y. model.Stuck (ByCause y) now.ran) g
     go (Stuck c) (Go a n log) f g = absurd g
     go (Stuck c) (Spent log) f g = absurd g
@@ -320,11 +348,11 @@ unfolding ending
 goes_start steps h a new cpu now e told b s same =
     start_stops (start (at_rest h)) steps new now e (subst (Gives {A = Unit {0}} new now (Err e)) (starts_same h a cpu) (s.model told (fresh_machine h a cpu) (fresh_stands h a cpu b))) same
 
-pub goes_run : (A : Type 0) (steps : ℕ) (h : Heap) (a mid new : Told) (cpu between now : Cpu) (e : Stop) → IsTrue a.tells → Begins h a → Serves a cpu mid between start (Ok tt) → ((m : Machine) → Stands mid between m → RunsAs {A = A} new now steps m (Err e)) → StopsAs e now.ran (ending steps h)
+pub goes_run : (steps : ℕ) (h : Heap) (a mid new : Told) (cpu between now : Cpu) (e : Stop) → IsTrue a.tells → Begins h a → Serves a cpu mid between start (Ok tt) → ((m : Machine) → Stands mid between m → RunsAs new now steps m (Err e)) → StopsAs e now.ran (ending steps h)
 unfolding ending
-goes_run A steps h a mid new cpu between now e told b s runs = go (start (at_rest h)) (begun h a mid cpu between told b s)
+goes_run steps h a mid new cpu between now e told b s runs = go (start (at_rest h)) (begun h a mid cpu between told b s)
   where
-    either : (m : Machine) → RunsAs {A = A} new now steps m (Err e) → StopsAs e now.ran (ended (run steps m))
+    either : (m : Machine) → RunsAs new now steps m (Err e) → StopsAs e now.ran (ended (run steps m))
     either m (inl x) = run_stops new now e steps m x
     either m (inr x) = unsettled_stops new now e steps m x
 
@@ -334,14 +362,14 @@ goes_run A steps h a mid new cpu between now e told b s runs = go (start (at_res
     go (Spent log) g = absurd g
     go (Unbuilt log) g = absurd g
 
-pub goes_park : (steps : ℕ) (h : Heap) (a mid far new : Told) (cpu between then now : Cpu) (e : Stop) → IsTrue a.tells → Begins h a → Serves a cpu mid between start (Ok tt) → ((m : Machine) → Stands mid between m → Reaches far then steps m) → IsTrue far.tells → Serves {A = Unit {0}} far then new now park (Err e) → now ≡ then → StopsAs e now.ran (ending steps h)
+pub goes_park : (end : Step) (steps : ℕ) (h : Heap) (a mid far new : Told) (cpu between then now : Cpu) (e : Stop) → IsTrue a.tells → Begins h a → Serves a cpu mid between start (Ok tt) → ((m : Machine) → Stands mid between m → Reaches far then end steps m) → IsTrue far.tells → Serves {A = Unit {0}} far then new now park (Err e) → now ≡ then → StopsAs e now.ran (ending steps h)
 unfolding ending
-goes_park steps h a mid far new cpu between then now e told b s runs tells p same = go (start (at_rest h)) (begun h a mid cpu between told b s)
+goes_park end steps h a mid far new cpu between then now e told b s runs tells p same = go (start (at_rest h)) (begun h a mid cpu between told b s)
   where
-    at : (m : Machine) → Reaches far then steps m → StopsAs e now.ran (ended (run steps m))
+    at : (m : Machine) → Reaches far then end steps m → StopsAs e now.ran (ended (run steps m))
     at m x =
         let count = ap (λ (c : Cpu). c.ran) (x.stands.numbers ∙ sym same) in
-        subst (λ r. StopsAs e now.ran (ended r)) (sym x.ran) (parked_stops (park x.machine) x.machine new now e (p.model tells x.machine x.stands) count)
+        subst (λ r. StopsAs e now.ran (ended r)) (sym x.ran) (parked_stops end (park x.machine) x.machine new now e (p.model tells x.machine x.stands) count)
 
     go : (o : Outcome (Unit {0})) → IsGo tt (Stands mid between) o → StopsAs e now.ran (run_from steps o)
     go (Go u m log) g = at m (runs m g.1)
@@ -349,26 +377,26 @@ goes_park steps h a mid far new cpu between then now e told b s runs tells p sam
     go (Spent log) g = absurd g
     go (Unbuilt log) g = absurd g
 
-pub goes_through : (steps : ℕ) (h : Heap) (a mid far new : Told) (cpu between then now : Cpu) → IsTrue a.tells → Begins h a → Serves a cpu mid between start (Ok tt) → ((m : Machine) → Stands mid between m → Reaches far then steps m) → IsTrue far.tells → Serves far then new now park (Ok tt) → OnParked (ending steps h) (λ m. IsThinner m.heap new.heap)
+pub goes_through : (end : Step) (steps : ℕ) (h : Heap) (a mid far new : Told) (cpu between then now : Cpu) → IsTrue a.tells → Begins h a → Serves a cpu mid between start (Ok tt) → ((m : Machine) → Stands mid between m → Reaches far then end steps m) → IsTrue far.tells → Serves far then new now park (Ok tt) → GoesThrough new end now.ran (ending steps h)
 unfolding ending
-goes_through steps h a mid far new cpu between then now told b s runs tells p = go (start (at_rest h)) (begun h a mid cpu between told b s)
+goes_through end steps h a mid far new cpu between then now told b s runs tells p = go (start (at_rest h)) (begun h a mid cpu between told b s)
   where
-    stands : (m : Machine) (o : Outcome (Unit {0})) → IsGo tt (Stands new now) o → OnParked (parked m o) (λ n. IsThinner n.heap new.heap)
-    stands m (Go u n log) g = g.1.heap
+    stands : (m : Machine) (o : Outcome (Unit {0})) → IsGo tt (Stands new now) o → GoesThrough new end now.ran (parked end m o)
+    stands m (Go u n log) g = record { parked = (refl, ap (λ (c : Cpu). c.ran) g.1.numbers); heap = g.1.heap }
     stands m (Halt c log) g = absurd g
     stands m (Spent log) g = absurd g
     stands m (Unbuilt log) g = absurd g
 
-    at : (m : Machine) → Reaches far then steps m → OnParked (ended (run steps m)) (λ n. IsThinner n.heap new.heap)
-    at m x = subst (λ r. OnParked (ended r) (λ n. IsThinner n.heap new.heap)) (sym x.ran) (stands x.machine (park x.machine) (p.model tells x.machine x.stands))
+    at : (m : Machine) → Reaches far then end steps m → GoesThrough new end now.ran (ended (run steps m))
+    at m x = subst (λ r. GoesThrough new end now.ran (ended r)) (sym x.ran) (stands x.machine (park x.machine) (p.model tells x.machine x.stands))
 
-    go : (o : Outcome (Unit {0})) → IsGo tt (Stands mid between) o → OnParked (run_from steps o) (λ n. IsThinner n.heap new.heap)
+    go : (o : Outcome (Unit {0})) → IsGo tt (Stands mid between) o → GoesThrough new end now.ran (run_from steps o)
     go (Go u m log) g = at m (runs m g.1)
     go (Halt c log) g = absurd g
     go (Spent log) g = absurd g
     go (Unbuilt log) g = absurd g
 
-pub goes_exit : (new : Told) (now : Cpu) (e : Stop) (r : Result (Unit {0}) Stop) (ending : Ending) → IsErrAnd r (λ y. y ≡ e) → StopsAs e now.ran ending → GoesAs new now r ending
+pub goes_exit : (new : Told) (now : Cpu) (e : Stop) (r : Result Step Stop) (ending : Ending) → IsErrAnd r (λ y. y ≡ e) → StopsAs e now.ran ending → GoesAs new now r ending
 goes_exit new now e r ending is h =
     let q = err_from_is_err_and r is in
-    subst (λ (x : Result (Unit {0}) Stop). GoesAs new now x ending) (sym (q.1 ∙ ap (λ y. Err y) q.2)) h
+    subst (λ (x : Result Step Stop). GoesAs new now x ending) (sym (q.1 ∙ ap (λ y. Err y) q.2)) h

@@ -14,7 +14,7 @@ pub record Promise (tells : Role → Bool) (before now : Meanings) (words : List
   -- Usage comes exactly where a word is bad, missing or extra, and names the first such word. `right_words` says which words
   -- are right: `run IMAGE SAVED STEPS`.
   pub usage : usage_of result ≡ bad_word words
-  -- Done says that as many bytecodes were run as the words ask for, and Stuck, NamesSpent and NotBuilt that no more were.
+  -- Done says that as many bytecodes were run as the words ask for, and Quit, Stuck, NamesSpent and NotBuilt that no more were.
   pub ran : HasRun result (steps_of words)
   -- A fault is answered only where it rose in this run, for a role that the run uses so, and with its count.
   pub cause : IsCaused result before.faults now.faults
@@ -25,16 +25,17 @@ pub record Promise (tells : Role → Bool) (before now : Meanings) (words : List
   -- answer that comes before, want of memory among them, nothing is done with it.
   pub saved : IsTrue (tells Saved) → SavedBy result (saved_word words) (before.roles Saved) (now.roles Saved)
   pub unsaved : IsTrue (is_before_saving result) → IsLeft Saved before now
-  -- The bytes of Image are refused only where they are no image. Done, and a fault in saving, come only where the machine goes
-  -- through all bytecodes. Stuck, NamesSpent and NotBuilt come only where it stops so after that many, Stuck with its cause.
+  -- The bytes of Image are refused only where they are no image. Done comes only where the machine goes through all bytecodes, Quit
+  -- only where its primitive ended the last of that many, and a fault in saving only after one of these. Stuck, NamesSpent and
+  -- NotBuilt come only where it stops so after that many, Stuck with its cause.
   pub judges : IsTrue (tells Image) → Judges result (bytes_of (now.roles Image)) (steps_of words)
-  -- With Done the bytes of Saved are the image of the kept objects of the machine's heap after so many bytecodes, with exact
+  -- With Done and Quit the bytes of Saved are the image of the kept objects of the machine's heap after so many bytecodes, with exact
   -- counts. Where saving failed they are a prefix of it.
   pub saves : IsTrue (tells Image) → IsTrue (tells Saved)
       → SavesBy result (bytes_of (now.roles Image)) (steps_of words) (saved_word words) (before.roles Saved) (now.roles Saved)
-  -- Notes has the answer's line, or a prefix of it where Notes failed. Only Done becomes another answer then.
+  -- Notes has the answer's line, or a prefix of it where Notes failed. Only Done and Quit become another answer then.
   pub noted : IsTrue (tells Notes) → NotedBy result (steps_of words) before now
-  -- Right words, a right image, a run that doesn't stop and no fault give Done, unless memory is refused.
+  -- Right words, a right image, a run that doesn't stop and no fault give Done, or Quit, unless memory is refused.
   pub completes : IsTrue (tells Image) → bad_word words ≡ None
       → CanBeDone (bytes_of (now.roles Image)) (steps_of words) before.faults now.faults → IsDone result
   -- Nothing is done with any other role, Work is not written, and no count of faults falls.

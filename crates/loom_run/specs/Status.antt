@@ -3,7 +3,7 @@ use Rattle.std.specs.Prelude.{ℕ, List, ◌++◌, codes, decimal, Option, Some,
 use Rattle.loom_outside.specs.declared.outside.Role.{Role}
 use Rattle.loom_outside.specs.declared.outside.Role.TheVariants.{Image, Events, Work, Saved, Display, Transcript, Notes}
 use Rattle.loom_run.specs.declared.status.Status.{Status}
-use Rattle.loom_run.specs.declared.status.Status.TheVariants.{Done, Usage, ImageBad, Stuck, NamesSpent, ReadFault, WriteFault, OutOfMemory, NotBuilt}
+use Rattle.loom_run.specs.declared.status.Status.TheVariants.{Done, Quit, Usage, ImageBad, Stuck, NamesSpent, ReadFault, WriteFault, OutOfMemory, NotBuilt}
 
 -- what a role is called
 abbrev pub role_text : Role → List ℕ
@@ -18,6 +18,7 @@ role_text Notes = codes "Notes"
 -- what is said of a status, with no newline
 abbrev pub text_of : Status → List ℕ
 text_of (Done ran) = codes "ran " ++ decimal ran
+text_of (Quit ran) = codes "quit after " ++ decimal ran
 text_of (Usage word) = codes "usage: word " ++ decimal word
 text_of (ImageBad rule place) = codes "image: rule " ++ decimal rule ++ codes " at " ++ decimal place
 text_of (Stuck cause ran) = codes "stuck: cause " ++ decimal cause ++ codes " after " ++ decimal ran
@@ -34,6 +35,7 @@ line_of status = text_of status ++ codes "\n"
 -- the exit status of the program
 abbrev pub code_of : Status → ℕ
 code_of (Done ran) = 0
+code_of (Quit ran) = 0
 code_of (Usage word) = 2
 code_of (ImageBad rule place) = 3
 code_of (Stuck cause ran) = 5

@@ -9,15 +9,16 @@ use Rattle.long_names.specs.Heap.{Heap}
 use Rattle.image_format.specs.Text.{image_text}
 use Rattle.image_format.specs.Valid.{IsImageHeap, IsValid}
 use Rattle.blue_model.specs.declared.cause.Cause.{Cause}
+use Rattle.blue_model.specs.declared.step.Step.TheVariants as step
 use Rattle.blue_model.specs.Cause.{cause_number}
 use Rattle.blue_model.specs.Cycle.{ByCause, BySpentNames, ByUnbuilt, Ending, ending}
 use Rattle.blue_model.specs.Cycle as model
 use Rattle.loom_run.specs.Meanings.{Meanings}
-use Rattle.loom_run.specs.Run.{OnParked}
+use Rattle.loom_run.specs.Run.{OnParked, IsParkedBy}
 use Rattle.loom_run.specs.Saved.{saved_text}
 use Rattle.loom_run.specs.Status.{line_of}
 use Rattle.loom_run.specs.declared.status.Status.{Status}
-use Rattle.loom_run.specs.declared.status.Status.TheVariants.{Done, Usage, ImageBad, Stuck, NamesSpent, ReadFault, WriteFault, OutOfMemory, NotBuilt}
+use Rattle.loom_run.specs.declared.status.Status.TheVariants.{Done, Quit, Usage, ImageBad, Stuck, NamesSpent, ReadFault, WriteFault, OutOfMemory, NotBuilt}
 
 -- ---- faults
 
@@ -37,6 +38,7 @@ IsCaused _ before now = Unit {0}
 -- so many bytecodes were asked for
 abbrev pub HasRun : Status → ℕ → Type 0
 HasRun (Done ran) steps = ran ≡ steps
+HasRun (Quit ran) steps = ran ≤ steps
 HasRun (Stuck cause ran) steps = ran ≤ steps
 HasRun (NamesSpent ran) steps = ran ≤ steps
 HasRun (NotBuilt ran) steps = ran ≤ steps
@@ -57,12 +59,14 @@ ImageBy _ text old new = AttachedOnce text old new
 -- Saved is attached only once the run was made and all memory for saving was had
 abbrev pub SavedBy : Status → List ℕ → RoleState → RoleState → Type 0
 SavedBy (Done ran) text old new = AttachedOnce text old new
+SavedBy (Quit ran) text old new = AttachedOnce text old new
 SavedBy (WriteFault role count) text old new = AttachedOnce text old new
 SavedBy _ text old new = new ≡ old
 
 -- the answer comes before Saved is attached
 abbrev pub is_before_saving : Status → Bool
 is_before_saving (Done ran) = false
+is_before_saving (Quit ran) = false
 is_before_saving (WriteFault role count) = false
 is_before_saving _ = true
 
@@ -83,13 +87,15 @@ IsStuck number ran run = (cause : Cause) × (run ≡ model.Stuck (ByCause cause)
 abbrev pub RunOf : List ℕ → ℕ → (Ending → Type 0) → Type 0
 RunOf image steps P = (h : Heap) × IsImageHeap h × (image ≡ image_text h) × P (ending steps h)
 
--- What an answer says of the bytes of Image: they are no image, or the machine stops after so many bytecodes, or it goes through.
+-- What an answer says of the bytes of Image: they are no image, or the machine stops after so many bytecodes, or it goes through them, or
+-- it ends itself after so many.
 abbrev pub Judges : Status → List ℕ → ℕ → Type 0
 Judges (ImageBad rule place) image steps = IsValid image → ⊥
 Judges (Stuck cause ran) image steps = RunOf image steps (IsStuck cause ran)
 Judges (NamesSpent ran) image steps = RunOf image steps (λ run. run ≡ model.Stuck BySpentNames ran)
 Judges (NotBuilt ran) image steps = RunOf image steps (λ run. run ≡ model.Stuck ByUnbuilt ran)
-Judges (Done ran) image steps = RunOf image steps IsParked
+Judges (Done ran) image steps = RunOf image steps (IsParkedBy step.Next ran)
+Judges (Quit ran) image steps = RunOf image steps (IsParkedBy step.Quit ran)
 Judges (WriteFault role count) image steps = RunOf image steps IsParked
 Judges _ image steps = Unit {0}
 
@@ -117,7 +123,7 @@ failed = record {}
 abbrev pub WasRefused : List ℕ → RoleState → RoleState → Type 0
 WasRefused text old new = Attached {T = Unit {0}} text (Err failed) old new
 
--- What an answer says of the bytes put to Saved: the whole saved image where it is Done, or would have been but for the line on
+-- What an answer says of the bytes put to Saved: the whole saved image where it is Done or Quit, or would have been but for the line on
 -- Notes; a prefix where Saved failed after its attach.
 abbrev pub SavesFor : Role → List ℕ → ℕ → List ℕ → RoleState → RoleState → Type 0
 SavesFor Saved image steps text old new = WasRefused text old new ⊎ RunOf image steps (λ run. BeginsToSave run text old new)
@@ -126,6 +132,7 @@ SavesFor _ image steps text old new = Unit {0}
 
 abbrev pub SavesBy : Status → List ℕ → ℕ → List ℕ → RoleState → RoleState → Type 0
 SavesBy (Done ran) image steps text old new = RunOf image steps (λ run. Saves run text old new)
+SavesBy (Quit ran) image steps text old new = RunOf image steps (λ run. Saves run text old new)
 SavesBy (WriteFault role count) image steps text old new = SavesFor role image steps text old new
 SavesBy _ image steps text old new = Unit {0}
 
@@ -136,14 +143,19 @@ pub record Noted (line : List ℕ) (before now : Meanings) : Type 0 where
   pub prefix : PutPrefix line (before.roles Notes) (now.roles Notes)
   pub whole : (Rose (before.faults Notes) (now.faults Notes) → ⊥) → now.roles Notes ≡ puts line (before.roles Notes)
 
--- What was put to Notes. Done has its whole line there. Where that couldn't be written, the answer is a fault of Notes and no
+-- the line of a run that went through, or of one that ended itself after no more bytecodes, was begun
+abbrev pub HasBegun : ℕ → RoleState → RoleState → Type 0
+HasBegun steps old new = PutPrefix (line_of (Done steps)) old new ⊎ ((ran : ℕ) × (ran ≤ steps) × PutPrefix (line_of (Quit ran)) old new)
+
+-- What was put to Notes. Done and Quit have their whole line there. Where that couldn't be written, the answer is a fault of Notes and no
 -- second line is begun. Any other answer has its own line there, or as much of it as could be written.
 abbrev pub NotedFor : Role → ℕ → ℕ → Meanings → Meanings → Type 0
-NotedFor Notes count steps before now = PutPrefix (line_of (Done steps)) (before.roles Notes) (now.roles Notes)
+NotedFor Notes count steps before now = HasBegun steps (before.roles Notes) (now.roles Notes)
 NotedFor role count steps before now = Noted (line_of (WriteFault role count)) before now
 
 abbrev pub NotedBy : Status → ℕ → Meanings → Meanings → Type 0
 NotedBy (Done ran) steps before now = now.roles Notes ≡ puts (line_of (Done ran)) (before.roles Notes)
+NotedBy (Quit ran) steps before now = now.roles Notes ≡ puts (line_of (Quit ran)) (before.roles Notes)
 NotedBy (WriteFault role count) steps before now = NotedFor role count steps before now
 NotedBy status steps before now = Noted (line_of status) before now
 
@@ -151,6 +163,7 @@ NotedBy status steps before now = Noted (line_of status) before now
 
 abbrev pub IsDone : Status → Type 0
 IsDone (Done ran) = Unit {0}
+IsDone (Quit ran) = Unit {0}
 IsDone OutOfMemory = Unit {0}
 IsDone _ = ⊥
 

@@ -18,7 +18,7 @@ mod window;
 mod words;
 
 pub use program::loom;
-pub use running::{Halted, run, whole_run};
+pub use running::{Finished, Halted, run, whole_run};
 pub use status::Status;
 
 #[cfg(test)]

@@ -8,7 +8,7 @@ ghost use Rattle.object_memory.specs.Records.{AreWhole};
 ghost use Rattle.blue_model.specs.Cycle.{ending};
 ghost use Rattle.loom_run.specs.Image.{heap_of, text_of};
 ghost use Rattle.loom_run.specs.Meanings.{meanings, IsLeft, LeavesBut};
-ghost use Rattle.loom_run.specs.Parts.{IsAfterLoading, IsOfRun, IsStopped, IsTold, Runs, SavesRun, unsaid};
+ghost use Rattle.loom_run.specs.Parts.{IsAfterLoading, IsFinished, IsOfRun, IsStopped, IsTold, Runs, SavesRun, unsaid};
 ghost use Rattle.loom_run.specs.Promise.{Promise};
 ghost use Rattle.loom_run.specs.Run.{OnParked};
 ghost use Rattle.loom_run.specs.Saved.{saved_text};
@@ -19,7 +19,7 @@ use crate::image::Image;
 use crate::load::{LoadFault, load};
 use crate::running::whole_run;
 use crate::save::save;
-use crate::status::{Status, status_of};
+use crate::status::{Status, status_of, status_of_end};
 use crate::words::{Command, command_of};
 use loom_outside::{Failed, Host, Role, write_full};
 use std::alloc::Global;
@@ -60,12 +60,24 @@ fn write_saved<H: Host>(host: &mut H, name: &str, image: &Image) -> Result<(), F
     save(host, image)
 }
 
+// What a run that went through leaves to be saved.
+#[derive(Drop)]
+struct Kept {
+    // The image of what is kept.
+    image: Image,
+    // The answer once it is saved.
+    status: Status,
+}
+
 // Runs so many bytecodes over an image's objects, and gives the image of what is kept of them. The error is the answer.
-fn run_image(alloc: Global, image: Image, steps: u32) -> Result<Image, Status>
+fn run_image(alloc: Global, image: Image, steps: u32) -> Result<Kept, Status>
     requires { AreWhole image.recs image.next }
-    ensures kept { IfOk result (λ kept. OnParked (ending steps (heap_of image)) (λ m. text_of kept ≡ saved_text m.heap)) }
-    ensures records { IfOk result (λ kept. All IsRecord kept.recs) }
-    ensures few { IfOk result (λ kept. length kept.recs < 2 ^ 32) }
+    ensures kept { IfOk result (λ kept. OnParked (ending steps (heap_of image)) (λ m. text_of kept.image ≡ saved_text m.heap)) }
+    ensures finished { IfOk result (λ kept. IsFinished kept.status) }
+    ensures counted { IfOk result (λ kept. HasRun kept.status steps) }
+    ensures parked { IfOk result (λ kept. Runs kept.status (ending steps (heap_of image))) }
+    ensures records { IfOk result (λ kept. All IsRecord kept.image.recs) }
+    ensures few { IfOk result (λ kept. length kept.image.recs < 2 ^ 32) }
     ensures stopped { IfErr result IsStopped }
     ensures ran { IfErr result (λ status. HasRun status steps) }
     ensures runs { IfErr result (λ status. Runs status (ending steps (heap_of image))) }
@@ -73,13 +85,17 @@ fn run_image(alloc: Global, image: Image, steps: u32) -> Result<Image, Status>
     let Ok(mut memory) = image.into_memory(alloc) else {
         return Err(Status::OutOfMemory);
     };
-    if let Err(halted) = whole_run(&mut memory, steps) {
-        return Err(status_of(&halted));
-    }
-    let Ok(kept) = Image::of_kept(alloc, &memory) else {
+    let finished = match whole_run(&mut memory, steps) {
+        Ok(finished) => finished,
+        Err(halted) => return Err(status_of(&halted)),
+    };
+    let Ok(image) = Image::of_kept(alloc, &memory) else {
         return Err(Status::OutOfMemory);
     };
-    Ok(kept)
+    Ok(Kept {
+        image,
+        status: status_of_end(&finished),
+    })
 }
 
 // Runs so many bytecodes, and writes what they come to. All memory for writing is taken before Saved is attached.
@@ -101,8 +117,8 @@ fn run_and_save<H: Host>(alloc: Global, host: &mut H, image: Image, command: &Co
         Ok(kept) => kept,
         Err(status) => return status,
     };
-    match write_saved(host, command.saved, &kept) {
-        Ok(()) => Status::Done { ran: command.steps },
+    match write_saved(host, command.saved, &kept.image) {
+        Ok(()) => kept.status,
         Err(_) => Status::WriteFault {
             role: Role::Saved,
             count: host.fault_count(Role::Saved),
@@ -139,7 +155,7 @@ fn run_command<H: Host>(alloc: Global, host: &mut H, command: &Command<'_>) -> S
     }
 }
 
-// Puts the last line to Notes. Only a Done becomes another answer where that fails.
+// Puts the last line to Notes. Only a Done and a Quit become another answer where that fails.
 fn tell<H: Host>(host: &mut H, status: Status) -> Status
     ensures told { IsTold (H.tells Role.Notes) status result (meanings H.Host host.old) (meanings H.Host host.new) }
     ensures others { LeavesBut (Role.Notes ∷ []) (meanings H.Host host.old) (meanings H.Host host.new) }
@@ -156,7 +172,7 @@ fn unsaid<H: Host>(host: &H, status: Status) -> Status
     ensures { result ≡ unsaid status (H.faults host.now Role.Notes) }
 {
     match status {
-        Status::Done { .. } => Status::WriteFault {
+        Status::Done { .. } | Status::Quit { .. } => Status::WriteFault {
             role: Role::Notes,
             count: host.fault_count(Role::Notes),
         },
@@ -166,7 +182,7 @@ fn unsaid<H: Host>(host: &H, status: Status) -> Status
 
 /// Does what the words after the program's name ask for: `run IMAGE SAVED STEPS`.
 ///
-/// The words are checked. Image is attached and read to its end. The machine starts, runs STEPS bytecodes and parks. What isn't
+/// The words are checked. Image is attached and read to its end. The machine starts, runs STEPS bytecodes, or fewer where one ends it, and parks. What isn't
 /// kept is swept away. Saved is attached, and the image is written to it. The last line goes to Notes. The first refusal ends
 /// the run: what comes later isn't attached, and only the line is still written.
 pub fn loom<H: Host>(alloc: Global, host: &mut H, words: &[String]) -> Status

@@ -2,13 +2,14 @@
 ghost use Rattle.std.specs.Prelude.{◌≡◌, ◌+◌, ◌≤◌, ◌++◌, ℕ, length, codes, decimal};
 ghost use Rattle.arrayvec.specs.ArrayString.{array_string_len};
 ghost use Rattle.blue_model.specs.Cycle.{Ending};
-ghost use Rattle.loom_run.specs.Parts.{IsStopped, Runs};
-ghost use Rattle.loom_run.specs.Run.{StopsAs};
+ghost use Rattle.loom_run.specs.Parts.{IsFinished, IsStopped, Runs};
+ghost use Rattle.loom_run.specs.Run.{HasCounted, IsParkedBy, StopsAs};
 ghost use Rattle.loom_run.specs.Status.{role_text, text_of, line_of, code_of};
 ghost use Rattle.loom_run.specs.Top.{HasRun};
 
-use crate::running::Halted;
+use crate::running::{Finished, Halted};
 use arrayvec::ArrayString;
+use blue_model::Step;
 use contexts::Stop;
 use itoa::Buffer;
 use loom_outside::Role;
@@ -22,6 +23,8 @@ pub(crate) type Line = ArrayString<64>;
 pub enum Status {
     /// So many bytecodes were run, and the saved image is written.
     Done { ran: u32 },
+    /// The machine ended itself in the last of so many bytecodes, and the saved image is written.
+    Quit { ran: u32 },
     /// The words are no command. `word` is the position, from 1, of the first bad, missing or extra one.
     Usage { word: u32 },
     /// The image breaks a rule at a place. Both are 0 so far.
@@ -46,7 +49,7 @@ impl Status {
         ensures { result ≡ code_of self.now }
     {
         match self {
-            Status::Done { .. } => 0,
+            Status::Done { .. } | Status::Quit { .. } => 0,
             Status::Usage { .. } => 2,
             Status::ImageBad { .. } => 3,
             Status::Stuck { .. } => 5,
@@ -73,6 +76,7 @@ impl Status {
     {
         match *self {
             Status::Done { ran } => numbered("ran ", ran as u64),
+            Status::Quit { ran } => numbered("quit after ", ran as u64),
             Status::Usage { word } => numbered("usage: word ", word as u64),
             Status::ImageBad { rule, place } => {
                 twice_numbered("image: rule ", rule as u64, " at ", place)
@@ -86,6 +90,19 @@ impl Status {
             Status::OutOfMemory => begun("out of memory"),
             Status::NotBuilt { ran } => numbered("not built after ", ran as u64),
         }
+    }
+}
+
+// The answer of a run that went through.
+pub(crate) fn status_of_end(finished: &Finished) -> Status
+    ensures finished { IsFinished result }
+    ensures ran { (steps : ℕ) → HasCounted finished.now.end finished.now.ran steps → HasRun result steps }
+    ensures runs { (run : Ending) → IsParkedBy finished.now.end finished.now.ran run → Runs result run }
+{
+    let ran = finished.ran;
+    match finished.end {
+        Step::Next => Status::Done { ran },
+        Step::Quit => Status::Quit { ran },
     }
 }
 

@@ -1,43 +1,26 @@
-use Rattle.std.proofs.Common.{refl, arith}
-use Rattle.object_memory.proofs.ShapeLaws.{small_number}
-use Rattle.bytecodes.proofs.SendLaws.{equal, unequal}
+use Rattle.std.proofs.Common.{sym, ◌∙◌}
 use Rattle.blue_model.specs.Sends.{execute}
 use Rattle.contexts.proofs.ServesLaws.{serves_then, serves_exit}
-use Rattle.contexts.proofs.Steps.{register_then, pick_true, pick_false, done_serves}
+use Rattle.contexts.proofs.Steps.{pick_true, pick_false, done_same}
 use Rattle.bytecodes.proofs.execution.execute.Goals as goal
 
-pub returns-in_err-header-clause-serves : goal.returns-in_err-header-clause-serves
+pub returns-in_err-answer-clause-serves : goal.returns-in_err-answer-clause-serves
 unfolding execute
-returns-in_err-header-clause-serves g c = register_then _ _ refl (serves_exit _ _ (c.in_err-header.ensures.serves _) c.from_residual.ensures.1)
+returns-in_err-answer-clause-serves g c = serves_exit _ _ c.in_err-answer.ensures.serves c.from_residual.ensures.1
 
-pub returns-in-5-clause-serves : goal.returns-in-5-clause-serves
+pub returns-in_err-last-clause-serves : goal.returns-in_err-last-clause-serves
 unfolding execute
-returns-in-5-clause-serves g c =
-    let z = small_number _ c.in_ok-header.ensures.range in
-    let flag = rw z at c.flag.ensures.flag in
-    register_then _ _ refl (serves_then _ (c.in_ok-header.ensures.serves _)
-    (pick_true _ _ _ (equal _ _ 5 flag c.in-5.is) (done_serves c.in_ok-header.ensures.ready)))
+returns-in_err-last-clause-serves g c =
+    serves_then _ c.in_ok-answer.ensures.serves (pick_true _ _ _ (sym c.is_execute.ensures ∙ c.if-is_execute.true)
+    (serves_exit _ _ c.in_err-last.ensures.serves c.from_residual-in_err-last.ensures.1))
 
-pub returns-in-6-clause-serves : goal.returns-in-6-clause-serves
+pub returns-then-is_execute-clause-serves : goal.returns-then-is_execute-clause-serves
 unfolding execute
-returns-in-6-clause-serves g c =
-    let z = small_number _ c.in_ok-header.ensures.range in
-    let flag = rw z at c.flag.ensures.flag in
-    register_then _ _ refl (serves_then _ (c.in_ok-header.ensures.serves _)
-    (pick_false _ _ _ (unequal _ _ 5 flag (λ e. absurd (let is = c.in-6.is in omega arith))) (pick_true _ _ _ (equal _ _ 6 flag c.in-6.is) (rw (rw z at c.temporaries.ensures.temporaries) at c.answer_field.ensures.serves))))
+returns-then-is_execute-clause-serves g c =
+    serves_then _ c.in_ok-answer.ensures.serves (pick_true _ _ _ (sym c.is_execute.ensures ∙ c.if-is_execute.true)
+    (serves_then _ c.in_ok-last.ensures.serves (done_same c.step_of.ensures c.in_ok-last.ensures.ready)))
 
-pub returns-in-7-clause-serves : goal.returns-in-7-clause-serves
+pub returns-clause-serves : goal.returns-clause-serves
 unfolding execute
-returns-in-7-clause-serves g c =
-    let z = small_number _ c.in_ok-header.ensures.range in
-    let flag = rw z at c.flag.ensures.flag in
-    register_then _ _ refl (serves_then _ (c.in_ok-header.ensures.serves _)
-    (pick_false _ _ _ (unequal _ _ 5 flag (λ e. absurd (let is = c.in-7.is in omega arith))) (pick_false _ _ _ (unequal _ _ 6 flag (λ e. absurd (let is = c.in-7.is in omega arith))) (pick_true _ _ _ (equal _ _ 7 flag c.in-7.is) (rw (c.in_ok-header.ensures.looks.regs 5 refl) at c.execute_extended.ensures.serves)))))
-
-pub returns-in_default-clause-serves : goal.returns-in_default-clause-serves
-unfolding execute
-returns-in_default-clause-serves g c =
-    let z = small_number _ c.in_ok-header.ensures.range in
-    let flag = rw z at c.flag.ensures.flag in
-    register_then _ _ refl (serves_then _ (c.in_ok-header.ensures.serves _)
-    (pick_false _ _ _ (unequal _ _ 5 flag (λ e. absurd (omega arith))) (pick_false _ _ _ (unequal _ _ 6 flag (λ e. absurd (omega arith))) (pick_false _ _ _ (unequal _ _ 7 flag (λ e. absurd (omega arith))) c.activate.ensures.serves))))
+returns-clause-serves g c =
+    serves_then _ c.in_ok-answer.ensures.serves (pick_false _ _ _ (sym c.is_execute.ensures ∙ c.if-is_execute.false) (done_same c.step_of-2.ensures c.in_ok-answer.ensures.ready))

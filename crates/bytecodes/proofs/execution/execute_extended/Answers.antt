@@ -1,9 +1,7 @@
 use Rattle.std.proofs.Common.{sym, ◌∙◌}
 use Rattle.object_memory.proofs.ShapeLaws.{small_number}
-use Rattle.bytecodes.proofs.SendLaws.{equal, unequal}
-use Rattle.blue_model.specs.Primitives.{tried}
 use Rattle.blue_model.specs.Sends.{execute_extended}
-use Rattle.contexts.proofs.ServesLaws.{serves_then, serves_exit, exits}
+use Rattle.contexts.proofs.ServesLaws.{serves_then, serves_exit}
 use Rattle.contexts.proofs.Steps.{pick_true, pick_false, done_serves}
 use Rattle.bytecodes.proofs.execution.execute_extended.Goals as goal
 
@@ -11,39 +9,32 @@ pub returns-in_err-extension-clause-serves : goal.returns-in_err-extension-claus
 unfolding execute_extended
 returns-in_err-extension-clause-serves g c = serves_exit _ _ (c.in_err-extension.ensures.serves _) c.from_residual.ensures.1
 
-pub returns-then-index-eq0-clause-serves : goal.returns-then-index-eq0-clause-serves
+pub returns-then-is_none-clause-serves : goal.returns-then-is_none-clause-serves
 unfolding execute_extended
-returns-then-index-eq0-clause-serves g c =
+returns-then-is_none-clause-serves g c =
     let z = small_number _ c.in_ok-extension.ensures.range in
-    serves_then _ (c.in_ok-extension.ensures.serves _) (pick_true _ _ _ (equal _ _ 0 (rw z at c.primitive-index.ensures) c.if-index-eq0.true) c.activate.ensures.serves)
+    let index = rw z at c.primitive-index.ensures in
+    serves_then _ (c.in_ok-extension.ensures.serves _) (pick_true _ _ _ (sym (rw index at c.is_none.ensures) ∙ c.if-is_none.true) c.activated.ensures.serves)
 
 pub returns-in_err-answer-clause-serves : goal.returns-in_err-answer-clause-serves
-unfolding execute_extended tried
+unfolding execute_extended
 returns-in_err-answer-clause-serves g c =
     let z = small_number _ c.in_ok-extension.ensures.range in
     let index = rw z at c.primitive-index.ensures in
-    serves_then _ (c.in_ok-extension.ensures.serves _) (pick_false _ _ _ (unequal _ _ 0 index c.if-index-eq0.false) (serves_exit _ _ (rw index at c.in_err-answer.ensures.serves) c.from_residual-in_err-answer.ensures.1))
+    serves_then _ (c.in_ok-extension.ensures.serves _) (pick_false _ _ _ (sym (rw index at c.is_none.ensures) ∙ c.if-is_none.false) (serves_exit _ _ (rw index at c.in_err-answer.ensures.serves) c.from_residual-in_err-answer.ensures.1))
 
-pub returns-in_err-activate-clause-serves : goal.returns-in_err-activate-clause-serves
-unfolding execute_extended tried
-returns-in_err-activate-clause-serves g c =
+pub returns-then-has_failed-clause-serves : goal.returns-then-has_failed-clause-serves
+unfolding execute_extended
+returns-then-has_failed-clause-serves g c =
     let z = small_number _ c.in_ok-extension.ensures.range in
     let index = rw z at c.primitive-index.ensures in
-    serves_then _ (c.in_ok-extension.ensures.serves _) (pick_false _ _ _ (unequal _ _ 0 index c.if-index-eq0.false) (serves_then _ (rw index at c.in_ok-answer.ensures.serves)
-    (pick_true _ _ _ (sym c.has_failed.ensures ∙ c.if-has_failed.true) (exits _ c.from_residual-in_err-activate.ensures.1 c.in_err-activate.ensures.serves))))
+    serves_then _ (c.in_ok-extension.ensures.serves _) (pick_false _ _ _ (sym (rw index at c.is_none.ensures) ∙ c.if-is_none.false) (serves_then _ (rw index at c.in_ok-answer.ensures.serves)
+    (pick_true _ _ _ (sym c.has_failed.ensures ∙ c.if-has_failed.true) c.activated-then-has_failed.ensures.serves)))
 
-pub returns-in_ok-activate-clause-serves : goal.returns-in_ok-activate-clause-serves
-unfolding execute_extended tried
-returns-in_ok-activate-clause-serves g c =
+pub returns-clause-serves : goal.returns-clause-serves
+unfolding execute_extended
+returns-clause-serves g c =
     let z = small_number _ c.in_ok-extension.ensures.range in
     let index = rw z at c.primitive-index.ensures in
-    serves_then _ (c.in_ok-extension.ensures.serves _) (pick_false _ _ _ (unequal _ _ 0 index c.if-index-eq0.false) (serves_then _ (rw index at c.in_ok-answer.ensures.serves)
-    (pick_true _ _ _ (sym c.has_failed.ensures ∙ c.if-has_failed.true) c.in_ok-activate.ensures.serves)))
-
-pub returns-else-has_failed-clause-serves : goal.returns-else-has_failed-clause-serves
-unfolding execute_extended tried
-returns-else-has_failed-clause-serves g c =
-    let z = small_number _ c.in_ok-extension.ensures.range in
-    let index = rw z at c.primitive-index.ensures in
-    serves_then _ (c.in_ok-extension.ensures.serves _) (pick_false _ _ _ (unequal _ _ 0 index c.if-index-eq0.false) (serves_then _ (rw index at c.in_ok-answer.ensures.serves)
+    serves_then _ (c.in_ok-extension.ensures.serves _) (pick_false _ _ _ (sym (rw index at c.is_none.ensures) ∙ c.if-is_none.false) (serves_then _ (rw index at c.in_ok-answer.ensures.serves)
     (pick_false _ _ _ (sym c.has_failed.ensures ∙ c.if-has_failed.false) (done_serves c.in_ok-answer.ensures.ready))))

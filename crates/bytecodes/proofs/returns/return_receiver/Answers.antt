@@ -1,18 +1,9 @@
 use Rattle.std.proofs.Common.{refl, arith}
 use Rattle.object_memory.proofs.LooksLaws.{put_value}
 use Rattle.blue_model.specs.Bytecodes.{return_of}
-use Rattle.contexts.proofs.ServesLaws.{exits}
 use Rattle.contexts.proofs.Steps.{register_then, read_first}
 use Rattle.contexts.proofs.RegisterLaws.{copy_quiet}
 use Rattle.bytecodes.proofs.returns.return_receiver.Goals as goal
-
-pub returns-in_err-return_home-clause-serves : goal.returns-in_err-return_home-clause-serves
-unfolding return_of
-returns-in_err-return_home-clause-serves g c =
-    let ready = c.requires.ready in
-    let value = put_value _ _ 10 _ c.copy.ensures.told in
-    register_then _ _ refl (read_first ready (copy_quiet _ _ 10 3 (omega arith) ready (c.copy.ensures.ready ready) c.copy.ensures.told)
-    (exits _ c.from_residual.ensures.1 (rw value at c.in_err-return_home.ensures.serves)))
 
 pub returns-clause-serves : goal.returns-clause-serves
 unfolding return_of
@@ -20,4 +11,4 @@ returns-clause-serves g c =
     let ready = c.requires.ready in
     let value = put_value _ _ 10 _ c.copy.ensures.told in
     register_then _ _ refl (read_first ready (copy_quiet _ _ 10 3 (omega arith) ready (c.copy.ensures.ready ready) c.copy.ensures.told)
-    (rw value at c.in_ok-return_home.ensures.serves))
+    (rw value at c.return_home.ensures.serves))

@@ -1,15 +1,11 @@
 use Rattle.blue_model.specs.Bytecodes.{return_of}
-use Rattle.contexts.proofs.ServesLaws.{serves_then, serves_exit, exits}
+use Rattle.contexts.proofs.ServesLaws.{serves_then, serves_exit}
 use Rattle.bytecodes.proofs.returns.return_top.Goals as goal
 
 pub returns-in_err-pop_top-clause-serves : goal.returns-in_err-pop_top-clause-serves
 unfolding return_of
 returns-in_err-pop_top-clause-serves g c = serves_exit _ _ c.in_err-pop_top.ensures.serves c.from_residual.ensures.1
 
-pub returns-in_err-return_home-clause-serves : goal.returns-in_err-return_home-clause-serves
-unfolding return_of
-returns-in_err-return_home-clause-serves g c = serves_then _ c.in_ok-pop_top.ensures.serves (exits _ c.from_residual-in_err-return_home.ensures.1 c.in_err-return_home.ensures.serves)
-
 pub returns-clause-serves : goal.returns-clause-serves
 unfolding return_of
-returns-clause-serves g c = serves_then _ c.in_ok-pop_top.ensures.serves c.in_ok-return_home.ensures.serves
+returns-clause-serves g c = serves_then _ c.in_ok-pop_top.ensures.serves c.return_home.ensures.serves

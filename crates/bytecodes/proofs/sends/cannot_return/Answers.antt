@@ -1,6 +1,6 @@
 use Rattle.std.proofs.Common.{refl}
 use Rattle.blue_model.specs.Sends.{cannot_return}
-use Rattle.contexts.proofs.ServesLaws.{serves_then, serves_exit, exits}
+use Rattle.contexts.proofs.ServesLaws.{serves_then, serves_exit}
 use Rattle.contexts.proofs.Steps.{register_then}
 use Rattle.bytecodes.proofs.sends.cannot_return.Goals as goal
 
@@ -21,18 +21,10 @@ returns-in_err-known-clause-serves g c =
     (serves_then _ (rw c.in_ok-push.ensures.regs at c.in_ok-push-2.ensures.serves)
     (serves_exit _ _ (c.in_err-known.ensures.serves _) c.from_residual-in_err-known.ensures.1)))
 
-pub returns-in_err-send-clause-serves : goal.returns-in_err-send-clause-serves
-unfolding cannot_return
-returns-in_err-send-clause-serves g c =
-    register_then _ _ refl (serves_then _ c.in_ok-push.ensures.serves
-    (serves_then _ (rw c.in_ok-push.ensures.regs at c.in_ok-push-2.ensures.serves)
-    (serves_then _ (c.in_ok-known.ensures.serves _)
-    (exits _ c.from_residual-in_err-send.ensures.1 c.in_err-send.ensures.serves))))
-
 pub returns-clause-serves : goal.returns-clause-serves
 unfolding cannot_return
 returns-clause-serves g c =
     register_then _ _ refl (serves_then _ c.in_ok-push.ensures.serves
     (serves_then _ (rw c.in_ok-push.ensures.regs at c.in_ok-push-2.ensures.serves)
     (serves_then _ (c.in_ok-known.ensures.serves _)
-    c.in_ok-send.ensures.serves)))
+    c.send.ensures.serves)))

@@ -1,5 +1,5 @@
 use Rattle.blue_model.specs.Bytecodes.{double_extended}
-use Rattle.contexts.proofs.ServesLaws.{serves_then, serves_exit, exits}
+use Rattle.contexts.proofs.ServesLaws.{serves_then, serves_exit}
 use Rattle.bytecodes.proofs.sends.double_extended_send.Goals as goal
 
 pub returns-in_err-n-clause-serves : goal.returns-in_err-n-clause-serves
@@ -10,12 +10,6 @@ pub returns-in_err-i-clause-serves : goal.returns-in_err-i-clause-serves
 unfolding double_extended
 returns-in_err-i-clause-serves g c = serves_then _ c.in_ok-n.ensures.serves (serves_exit _ _ c.in_err-i.ensures.serves c.from_residual-in_err-i.ensures.1)
 
-pub returns-in_err-send_literal-clause-serves : goal.returns-in_err-send_literal-clause-serves
-unfolding double_extended
-returns-in_err-send_literal-clause-serves g c =
-    serves_then _ c.in_ok-n.ensures.serves (serves_then _ c.in_ok-i.ensures.serves
-    (exits _ c.from_residual-in_err-send_literal.ensures.1 (rw c.from.ensures at c.in_err-send_literal.ensures.serves)))
-
 pub returns-clause-serves : goal.returns-clause-serves
 unfolding double_extended
-returns-clause-serves g c = serves_then _ c.in_ok-n.ensures.serves (serves_then _ c.in_ok-i.ensures.serves (rw c.from.ensures at c.in_ok-send_literal.ensures.serves))
+returns-clause-serves g c = serves_then _ c.in_ok-n.ensures.serves (serves_then _ c.in_ok-i.ensures.serves (rw c.from.ensures at c.send_literal.ensures.serves))

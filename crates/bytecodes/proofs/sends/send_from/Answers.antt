@@ -2,7 +2,7 @@ use Rattle.std.proofs.Common.{refl}
 use Rattle.object_memory.proofs.LooksLaws.{Looks-put}
 use Rattle.blue_model.specs.Sends.{send_from}
 use Rattle.contexts.proofs.RegisterLaws.{put_serves}
-use Rattle.contexts.proofs.ServesLaws.{serves_then, serves_exit, exits}
+use Rattle.contexts.proofs.ServesLaws.{serves_then, serves_exit}
 use Rattle.bytecodes.proofs.sends.send_from.Goals as goal
 
 pub returns-in_err-find_or_tell-clause-serves : goal.returns-in_err-find_or_tell-clause-serves
@@ -14,16 +14,6 @@ returns-in_err-find_or_tell-clause-serves g c =
     (serves_then _ (c.set_arguments.ensures.serves _ ready)
     (serves_exit _ _ (rw class at c.in_err-find_or_tell.ensures.serves) c.from_residual.ensures.1))
 
-pub returns-in_err-execute-clause-serves : goal.returns-in_err-execute-clause-serves
-unfolding send_from
-returns-in_err-execute-clause-serves g c =
-    let ready = c.copy.ensures.ready c.requires.ready in
-    let class = (Looks-put _ _ 4 _ c.copy.ensures.told).regs 11 refl in
-    serves_then _ (put_serves 4 10 refl c.requires.ready ready c.copy.ensures.told)
-    (serves_then _ (c.set_arguments.ensures.serves _ ready)
-    (serves_then _ (rw class at c.in_ok-find_or_tell.ensures.serves)
-    (exits _ c.from_residual-in_err-execute.ensures.1 c.in_err-execute.ensures.serves)))
-
 pub returns-clause-serves : goal.returns-clause-serves
 unfolding send_from
 returns-clause-serves g c =
@@ -31,4 +21,4 @@ returns-clause-serves g c =
     let class = (Looks-put _ _ 4 _ c.copy.ensures.told).regs 11 refl in
     serves_then _ (put_serves 4 10 refl c.requires.ready ready c.copy.ensures.told)
     (serves_then _ (c.set_arguments.ensures.serves _ ready)
-    (serves_then _ (rw class at c.in_ok-find_or_tell.ensures.serves) c.in_ok-execute.ensures.serves))
+    (serves_then _ (rw class at c.in_ok-find_or_tell.ensures.serves) c.execute.ensures.serves))

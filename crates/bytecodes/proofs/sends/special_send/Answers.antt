@@ -1,7 +1,7 @@
 use Rattle.std.proofs.Common.{refl, sym, ◌∙◌}
 use Rattle.object_memory.proofs.ShapeLaws.{small_number}
 use Rattle.blue_model.specs.Sends.{special_send}
-use Rattle.contexts.proofs.ServesLaws.{serves_then, serves_exit, exits}
+use Rattle.contexts.proofs.ServesLaws.{serves_then, serves_exit}
 use Rattle.contexts.proofs.Steps.{given_then, given_stuck}
 use Rattle.bytecodes.proofs.sends.special_send.Goals as goal
 
@@ -34,17 +34,6 @@ returns-in_default-clause-serves g c =
     (serves_then _ (rw specials at c.in_ok-count.ensures.serves _)
     (given_stuck _ _ (λ told. sym (rw z at c.argument_count.ensures) ∙ c.in_default.is))))
 
-pub returns-in_err-send-clause-serves : goal.returns-in_err-send-clause-serves
-unfolding special_send
-returns-in_err-send-clause-serves g c =
-    let z = small_number _ c.in_ok-count.ensures.range in
-    let specials = c.in_ok-field.ensures.looks.regs 12 refl in
-    let selector = c.in_ok-count.ensures.looks.regs 10 refl in
-    serves_then _ (c.in_ok-known.ensures.serves _)
-    (serves_then _ (c.in_ok-field.ensures.serves _)
-    (serves_then _ (rw specials at c.in_ok-count.ensures.serves _)
-    (given_then _ _ _ _ (λ told. sym (rw z at c.argument_count.ensures) ∙ c.in-Some.is) (exits _ c.from_residual-in_err-send.ensures.1 (rw selector at c.in_err-send.ensures.serves)))))
-
 pub returns-clause-serves : goal.returns-clause-serves
 unfolding special_send
 returns-clause-serves g c =
@@ -54,4 +43,4 @@ returns-clause-serves g c =
     serves_then _ (c.in_ok-known.ensures.serves _)
     (serves_then _ (c.in_ok-field.ensures.serves _)
     (serves_then _ (rw specials at c.in_ok-count.ensures.serves _)
-    (given_then _ _ _ _ (λ told. sym (rw z at c.argument_count.ensures) ∙ c.in-Some.is) (rw selector at c.in_ok-send.ensures.serves))))
+    (given_then _ _ _ _ (λ told. sym (rw z at c.argument_count.ensures) ∙ c.in-Some.is) (rw selector at c.send.ensures.serves))))

@@ -1,28 +1,22 @@
 use Rattle.std.proofs.Common.{sym, ◌∙◌}
 use Rattle.blue_model.specs.Primitives.{tried}
 use Rattle.blue_model.specs.Bytecodes.{tried_for}
-use Rattle.contexts.proofs.ServesLaws.{serves_then, serves_exit, exits}
-use Rattle.contexts.proofs.Steps.{pick_true, pick_false, done_serves}
+use Rattle.contexts.proofs.ServesLaws.{serves_then, serves_exit}
+use Rattle.contexts.proofs.Steps.{pick_true, pick_false, done_same}
 use Rattle.bytecodes.proofs.sends.tried_for.Goals as goal
 
 pub returns-in_err-answer-clause-serves : goal.returns-in_err-answer-clause-serves
 unfolding tried_for tried
 returns-in_err-answer-clause-serves g c = serves_then _ (c.set_arguments.ensures.serves _ c.requires.ready) (serves_exit _ _ c.in_err-answer.ensures.serves c.from_residual.ensures.1)
 
-pub returns-in_err-special_send-clause-serves : goal.returns-in_err-special_send-clause-serves
+pub returns-then-has_failed-clause-serves : goal.returns-then-has_failed-clause-serves
 unfolding tried_for tried
-returns-in_err-special_send-clause-serves g c =
+returns-then-has_failed-clause-serves g c =
     serves_then _ (c.set_arguments.ensures.serves _ c.requires.ready) (serves_then _ c.in_ok-answer.ensures.serves
-    (pick_true _ _ _ (sym c.has_failed.ensures ∙ c.if-has_failed.true) (exits _ c.from_residual-in_err-special_send.ensures.1 c.in_err-special_send.ensures.serves)))
+    (pick_true _ _ _ (sym c.has_failed.ensures ∙ c.if-has_failed.true) c.special_send.ensures.serves))
 
-pub returns-in_ok-special_send-clause-serves : goal.returns-in_ok-special_send-clause-serves
+pub returns-clause-serves : goal.returns-clause-serves
 unfolding tried_for tried
-returns-in_ok-special_send-clause-serves g c =
+returns-clause-serves g c =
     serves_then _ (c.set_arguments.ensures.serves _ c.requires.ready) (serves_then _ c.in_ok-answer.ensures.serves
-    (pick_true _ _ _ (sym c.has_failed.ensures ∙ c.if-has_failed.true) c.in_ok-special_send.ensures.serves))
-
-pub returns-else-has_failed-clause-serves : goal.returns-else-has_failed-clause-serves
-unfolding tried_for tried
-returns-else-has_failed-clause-serves g c =
-    serves_then _ (c.set_arguments.ensures.serves _ c.requires.ready) (serves_then _ c.in_ok-answer.ensures.serves
-    (pick_false _ _ _ (sym c.has_failed.ensures ∙ c.if-has_failed.false) (done_serves c.in_ok-answer.ensures.ready)))
+    (pick_false _ _ _ (sym c.has_failed.ensures ∙ c.if-has_failed.false) (done_same c.step_of.ensures c.in_ok-answer.ensures.ready)))

@@ -1,8 +1,10 @@
-use Rattle.std.proofs.Common.{◌+◌, inl, inr, refl, ◌∙◌, subst, arith}
+use Rattle.std.proofs.Common.{◌+◌, inl, inr, refl, sym, ◌∙◌, subst, arith}
+use Rattle.blue_model.specs.declared.step.Step.{Step}
+use Rattle.blue_model.specs.declared.step.Step.TheVariants.{Next, Quit}
 use Rattle.object_memory.proofs.LaterLaws.{IsLater-refl, IsLater-trans}
 use Rattle.contexts.specs.declared.stop.Stop.TheVariants.{Mem}
 use Rattle.loom_run.specs.Run.{Reaches}
-use Rattle.loom_run.proofs.RunningLaws.{faulted, faults_earlier, settled_stands, settling_faulted, reaches_start, reaches_more, stops_in, stops_after, runs_exit, settled_earlier, rest_stays, faults_exit}
+use Rattle.loom_run.proofs.RunningLaws.{faulted, faults_earlier, settled_stands, settling_faulted, reaches_start, reaches_more, reaches_end, goes_on, has_ended, stops_in, stops_after, runs_exit, settled_earlier, rest_stays, faults_exit}
 use Rattle.loom_run.proofs.running.run.Goals as goal
 
 pub loop-turn-init : goal.loop-turn-init
@@ -31,73 +33,74 @@ cycle-requires-clause-room g c =
     let room = c.requires.room in
     omega arith
 
-pub returns-in_err-cycle-clause-runs : goal.returns-in_err-cycle-clause-runs
-returns-in_err-cycle-clause-runs g c = λ told m st.
+pub returns-in_err-step-clause-runs : goal.returns-in_err-step-clause-runs
+returns-in_err-step-clause-runs g c = λ told m st.
     let here = c.loop-turn.invariant in
-    runs_exit _ c.from_residual.ensures.1 (inl (stops_in _ _ _ _ c.loop-turn.turn c.args.steps m _ (here.later.tells ∙ told) c.loop-turn-test.true c.in_err-cycle.ensures.kept (here.runs told m st) c.in_err-cycle.ensures.serves))
+    runs_exit _ c.from_residual.ensures.1 (inl (stops_in _ _ _ _ c.loop-turn.turn c.args.steps m _ (here.later.tells ∙ told) c.loop-turn-test.true c.in_err-step.ensures.kept (here.runs told m st) c.in_err-step.ensures.serves))
 
-pub returns-in_err-cycle-clause-fault : goal.returns-in_err-cycle-clause-fault
-returns-in_err-cycle-clause-fault g c =
+pub returns-in_err-step-clause-fault : goal.returns-in_err-step-clause-fault
+returns-in_err-step-clause-fault g c =
     let told = g.M.ObjectMemory.told in
-    let stop = c.in_err-cycle.field-0.0 in
-    faults_exit (told c.args.m.now) (told c.cycle.new.m) stop c.from_residual.result c.from_residual.ensures.1 (faults_earlier (told c.args.m.now) (told c.loop-turn.m) (told c.cycle.new.m) stop c.loop-turn.invariant.later (faulted (Unit {0}) (told c.loop-turn.m) (told c.cycle.new.m) stop c.in_err-cycle.ensures.serves.reason))
+    let stop = c.in_err-step.field-0.0 in
+    faults_exit (told c.args.m.now) (told c.cycle.new.m) stop c.from_residual.result c.from_residual.ensures.1 (faults_earlier (told c.args.m.now) (told c.loop-turn.m) (told c.cycle.new.m) stop c.loop-turn.invariant.later (faulted Step (told c.loop-turn.m) (told c.cycle.new.m) stop c.in_err-step.ensures.serves.reason))
 
-pub returns-in_err-cycle-clause-few : goal.returns-in_err-cycle-clause-few
-returns-in_err-cycle-clause-few g c =
+pub returns-in_err-step-clause-few : goal.returns-in_err-step-clause-few
+returns-in_err-step-clause-few g c =
     let ran = c.loop-turn.invariant.ran in
     let few = c.loop-turn-test.true in
-    let kept = c.in_err-cycle.ensures.kept in
+    let kept = c.in_err-step.ensures.kept in
     omega arith
 
-pub returns-in_err-cycle-clause-later : goal.returns-in_err-cycle-clause-later
-returns-in_err-cycle-clause-later g c = IsLater-trans _ _ _ c.loop-turn.invariant.later c.in_err-cycle.ensures.serves.later
+pub returns-in_err-step-clause-later : goal.returns-in_err-step-clause-later
+returns-in_err-step-clause-later g c = IsLater-trans _ _ _ c.loop-turn.invariant.later c.in_err-step.ensures.serves.later
 
-pub returns-in_err-cycle-clause-lender : goal.returns-in_err-cycle-clause-lender
-returns-in_err-cycle-clause-lender g c = c.in_err-cycle.ensures.lender ∙ c.loop-turn.invariant.lender
+pub returns-in_err-step-clause-lender : goal.returns-in_err-step-clause-lender
+returns-in_err-step-clause-lender g c = c.in_err-step.ensures.lender ∙ c.loop-turn.invariant.lender
 
-pub returns-in_err-cycle-clause-outside : goal.returns-in_err-cycle-clause-outside
-returns-in_err-cycle-clause-outside g c = c.in_err-cycle.ensures.outside ∙ c.loop-turn.invariant.outside
+pub returns-in_err-step-clause-outside : goal.returns-in_err-step-clause-outside
+returns-in_err-step-clause-outside g c = c.in_err-step.ensures.outside ∙ c.loop-turn.invariant.outside
 
 pub returns-in_err-settle-clause-runs : goal.returns-in_err-settle-clause-runs
 returns-in_err-settle-clause-runs g c = λ told m st.
     let here = c.loop-turn.invariant in
     let few = c.loop-turn-test.true in
     let now = here.later.tells ∙ told in
-    let next = reaches_more _ _ _ _ c.loop-turn.turn m now (here.runs told m st) c.in_ok-cycle.ensures.serves in
-    runs_exit _ c.from_residual-in_err-settle.ensures.1 (inr (stops_after _ _ _ (c.loop-turn.turn + 1) c.args.steps m _ (c.in_ok-cycle.ensures.serves.later.tells ∙ now) (omega arith) next c.in_err-settle.ensures.called))
+    let next = reaches_more _ _ _ _ _ c.loop-turn.turn m now (here.runs told m st) c.in_ok-step.ensures.serves in
+    runs_exit _ c.from_residual-in_err-settle.ensures.1 (inr (stops_after _ _ _ _ (c.loop-turn.turn + 1) c.args.steps m _ (c.in_ok-step.ensures.serves.later.tells ∙ now) (omega arith) next c.in_err-settle.ensures.called))
 
 pub returns-in_err-settle-clause-fault : goal.returns-in_err-settle-clause-fault
 returns-in_err-settle-clause-fault g c =
     let told = g.M.ObjectMemory.told in
     let stop = Mem c.in_err-settle.field-0.0 in
     faults_exit (told c.args.m.now) (told c.settle.new.self) stop c.from_residual-in_err-settle.result c.from_residual-in_err-settle.ensures.1
-    (faults_earlier (told c.args.m.now) (told c.cycle.new.m) (told c.settle.new.self) stop (IsLater-trans _ _ _ c.loop-turn.invariant.later c.in_ok-cycle.ensures.serves.later) (settling_faulted _ _ c.in_err-settle.field-0.0 c.in_err-settle.ensures.called))
+    (faults_earlier (told c.args.m.now) (told c.cycle.new.m) (told c.settle.new.self) stop (IsLater-trans _ _ _ c.loop-turn.invariant.later c.in_ok-step.ensures.serves.later) (settling_faulted _ _ c.in_err-settle.field-0.0 c.in_err-settle.ensures.called))
 
 pub returns-in_err-settle-clause-few : goal.returns-in_err-settle-clause-few
 returns-in_err-settle-clause-few g c =
     let ran = c.loop-turn.invariant.ran in
     let few = c.loop-turn-test.true in
-    let counted = c.in_ok-cycle.ensures.counted in
+    let counted = c.in_ok-step.ensures.counted in
     omega arith
 
 pub returns-in_err-settle-clause-later : goal.returns-in_err-settle-clause-later
-returns-in_err-settle-clause-later g c = IsLater-trans _ _ _ (IsLater-trans _ _ _ c.loop-turn.invariant.later c.in_ok-cycle.ensures.serves.later) c.in_err-settle.ensures.called.later
+returns-in_err-settle-clause-later g c = IsLater-trans _ _ _ (IsLater-trans _ _ _ c.loop-turn.invariant.later c.in_ok-step.ensures.serves.later) c.in_err-settle.ensures.called.later
 
 pub returns-in_err-settle-clause-lender : goal.returns-in_err-settle-clause-lender
-returns-in_err-settle-clause-lender g c = c.in_err-settle.ensures.lender ∙ c.in_ok-cycle.ensures.lender ∙ c.loop-turn.invariant.lender
+returns-in_err-settle-clause-lender g c = c.in_err-settle.ensures.lender ∙ c.in_ok-step.ensures.lender ∙ c.loop-turn.invariant.lender
 
 pub returns-in_err-settle-clause-outside : goal.returns-in_err-settle-clause-outside
-returns-in_err-settle-clause-outside g c = c.in_err-settle.ensures.outside ∙ c.in_ok-cycle.ensures.outside ∙ c.loop-turn.invariant.outside
+returns-in_err-settle-clause-outside g c = c.in_err-settle.ensures.outside ∙ c.in_ok-step.ensures.outside ∙ c.loop-turn.invariant.outside
 
 pub loop-turn-preserved : goal.loop-turn-preserved
 loop-turn-preserved g c =
     let here = c.loop-turn.invariant in
-    let did = c.in_ok-cycle.ensures in
+    let did = c.in_ok-step.ensures in
     let settled = c.in_ok-settle.ensures in
     record {
       runs = λ told m st.
           let now = here.later.tells ∙ told in
-          let next = reaches_more _ _ _ _ c.loop-turn.turn m now (here.runs told m st) did.serves in
+          let on = goes_on _ (sym c.is_quit.ensures ∙ c.if-is_quit.false) in
+          let next = reaches_more _ _ _ _ Next c.loop-turn.turn m now (here.runs told m st) (rw on at did.serves) in
           record { machine = next.machine; ran = next.ran; stands = settled_stands _ _ _ next.machine did.ready settled.ready settled.called (did.serves.later.tells ∙ now) next.stands };
       ran = (let before = here.ran in let counted = did.counted in omega arith);
       settled = λ some. settled_earlier (g.M.ObjectMemory.told c.args.m.now) (g.M.ObjectMemory.told c.cycle.new.m) (g.M.ObjectMemory.told c.settle.new.self) (IsLater-trans _ _ _ here.later did.serves.later) settled.called.ok.counts;
@@ -110,7 +113,7 @@ loop-turn-preserved g c =
     }
 
 pub returns-clause-runs : goal.returns-clause-runs
-returns-clause-runs g c = λ told m st. subst (λ k. Reaches (g.M.ObjectMemory.told c.loop-turn.m) c.loop-turn.cpu k m) (omega (arith, c.loop-turn-test.false)) (c.loop-turn.invariant.runs told m st)
+returns-clause-runs g c = λ told m st. subst (λ k. Reaches (g.M.ObjectMemory.told c.loop-turn.m) c.loop-turn.cpu Next k m) (omega (arith, c.loop-turn-test.false)) (c.loop-turn.invariant.runs told m st)
 
 pub returns-clause-counted : goal.returns-clause-counted
 returns-clause-counted g c = let ran = c.loop-turn.invariant.ran in omega (arith, c.loop-turn-test.false)
@@ -138,3 +141,49 @@ returns-clause-lender g c = c.loop-turn.invariant.lender
 
 pub returns-clause-outside : goal.returns-clause-outside
 returns-clause-outside g c = c.loop-turn.invariant.outside
+
+pub returns-then-is_quit-clause-runs : goal.returns-then-is_quit-clause-runs
+returns-then-is_quit-clause-runs g c = λ told m st.
+    let here = c.loop-turn.invariant in
+    let did = c.in_ok-step.ensures in
+    let settled = c.in_ok-settle.ensures in
+    let now = here.later.tells ∙ told in
+    let few = c.loop-turn-test.true in
+    let ended = has_ended _ (sym c.is_quit.ensures ∙ c.if-is_quit.true) in
+    let next = reaches_more _ _ _ _ Quit c.loop-turn.turn m now (here.runs told m st) (rw ended at did.serves) in
+    reaches_end _ _ (c.loop-turn.turn + 1) c.args.steps m (omega arith) record { machine = next.machine; ran = next.ran; stands = settled_stands _ _ _ next.machine did.ready settled.ready settled.called (did.serves.later.tells ∙ now) next.stands }
+
+pub returns-then-is_quit-clause-counted : goal.returns-then-is_quit-clause-counted
+returns-then-is_quit-clause-counted g c =
+    let ran = c.loop-turn.invariant.ran in
+    let few = c.loop-turn-test.true in
+    let counted = c.in_ok-step.ensures.counted in
+    omega arith
+
+pub returns-then-is_quit-clause-few : goal.returns-then-is_quit-clause-few
+returns-then-is_quit-clause-few g c =
+    let ran = c.loop-turn.invariant.ran in
+    let few = c.loop-turn-test.true in
+    let counted = c.in_ok-step.ensures.counted in
+    omega arith
+
+pub returns-then-is_quit-clause-settled : goal.returns-then-is_quit-clause-settled
+returns-then-is_quit-clause-settled g c = λ some. settled_earlier (g.M.ObjectMemory.told c.args.m.now) (g.M.ObjectMemory.told c.cycle.new.m) (g.M.ObjectMemory.told c.settle.new.self) (IsLater-trans _ _ _ c.loop-turn.invariant.later c.in_ok-step.ensures.serves.later) c.in_ok-settle.ensures.called.ok.counts
+
+pub returns-then-is_quit-clause-later : goal.returns-then-is_quit-clause-later
+returns-then-is_quit-clause-later g c = IsLater-trans _ _ _ (IsLater-trans _ _ _ c.loop-turn.invariant.later c.in_ok-step.ensures.serves.later) c.in_ok-settle.ensures.called.later
+
+pub returns-then-is_quit-clause-rest : goal.returns-then-is_quit-clause-rest
+returns-then-is_quit-clause-rest g c = rest_stays _ _ c.in_ok-settle.ensures.called.ok.regs c.in_ok-step.ensures.rest
+
+pub returns-then-is_quit-clause-ready : goal.returns-then-is_quit-clause-ready
+returns-then-is_quit-clause-ready g c = c.in_ok-settle.ensures.ready
+
+pub returns-then-is_quit-clause-sound : goal.returns-then-is_quit-clause-sound
+returns-then-is_quit-clause-sound g c = c.in_ok-settle.ensures.sound
+
+pub returns-then-is_quit-clause-lender : goal.returns-then-is_quit-clause-lender
+returns-then-is_quit-clause-lender g c = c.in_ok-settle.ensures.lender ∙ c.in_ok-step.ensures.lender ∙ c.loop-turn.invariant.lender
+
+pub returns-then-is_quit-clause-outside : goal.returns-then-is_quit-clause-outside
+returns-then-is_quit-clause-outside g c = c.in_ok-settle.ensures.outside ∙ c.in_ok-step.ensures.outside ∙ c.loop-turn.invariant.outside
