@@ -25,7 +25,7 @@ use std::{env, fs, io};
 const BASE: &str = "base.loom";
 
 /// The files of cases. Those of the last are wrong on purpose: each has to be reported.
-const FILES: [&str; 40] = [
+const FILES: [&str; 48] = [
     "runs.cases",
     "start.cases",
     "blocks.cases",
@@ -57,6 +57,14 @@ const FILES: [&str; 40] = [
     "long_arrays.cases",
     "own_objects.cases",
     "methods.cases",
+    "block_copies.cases",
+    "values.cases",
+    "performs.cases",
+    "flushes.cases",
+    "semaphores.cases",
+    "processes.cases",
+    "three_processes.cases",
+    "quits.cases",
     "kept.cases",
     "image_rules.cases",
     "image_objects.cases",
