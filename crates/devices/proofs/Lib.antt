@@ -1,0 +1,4 @@
+mod ClockLaws
+mod DueLaws
+mod InputLaws
+mod TextLaws
