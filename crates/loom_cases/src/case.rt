@@ -1,7 +1,9 @@
 // A case, read from its paragraph.
 use crate::answer::Answer;
 use crate::edits::{cut, patch};
+use crate::files::{display_of, events_of};
 use crate::paragraph::{Paragraph, parts_of};
+use crate::pieces::{append_times, bytes_of};
 use crate::stage::at_this_stage;
 use anyhow::{Context, Result, bail};
 use std::alloc::Global;
@@ -39,7 +41,7 @@ pub fn case_of<'a>(alloc: Global, base: &[u8], text: &'a str) -> Result<Case<'a>
     let (image, saved) = files_of(alloc, base, paragraph)?;
     Ok(Case {
         image,
-        events: paragraph.bytes(alloc, "events")?.unwrap_or(Vec::new(alloc)),
+        events: events_of(alloc, paragraph)?,
         sizes: sizes_of(paragraph)?,
         steps: paragraph.needed("steps")?,
         want: at_this_stage(alloc, answer_of(alloc, paragraph, saved)?)?,
@@ -99,10 +101,7 @@ fn edit(alloc: Global, file: &mut Vec<u8>, word: &str, value: &str) -> Result<()
         "append" => file.extend_from_slice(&hex::decode(alloc, value)?)?,
         "repeat" => {
             let (count, bytes) = value.split_once(' ').context("no bytes")?;
-            let bytes = hex::decode(alloc, bytes)?;
-            for _ in 0..count.parse::<usize>()? {
-                file.extend_from_slice(&bytes)?;
-            }
+            append_times(file, count.parse()?, &hex::decode(alloc, bytes)?)?;
         }
         _ => {}
     }
@@ -114,13 +113,12 @@ fn answer_of(alloc: Global, paragraph: Paragraph<'_>, saved: Option<Vec<u8>>) ->
     let status = paragraph.needed("status")?.parse().context("status")?;
     let mut notes = paragraph.needed("notes")?.as_bytes().to_vec(alloc)?;
     notes.push(b'\n')?;
+    let said = paragraph.value("transcript")?.unwrap_or("");
     Ok(Answer {
         status,
         notes,
-        transcript: paragraph
-            .bytes(alloc, "transcript")?
-            .unwrap_or(Vec::new(alloc)),
+        transcript: bytes_of(alloc, said).context("transcript")?,
+        display: display_of(alloc, paragraph, saved.is_some())?,
         saved,
-        display: paragraph.bytes(alloc, "display")?,
     })
 }

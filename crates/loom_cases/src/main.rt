@@ -12,7 +12,9 @@
 mod answer;
 mod case;
 mod edits;
+mod files;
 mod paragraph;
+mod pieces;
 mod report;
 mod run;
 mod stage;
@@ -25,7 +27,7 @@ use std::{env, fs, io};
 const BASE: &str = "base.loom";
 
 /// The files of cases. Those of the last are wrong on purpose: each has to be reported.
-const FILES: [&str; 48] = [
+const FILES: [&str; 54] = [
     "runs.cases",
     "start.cases",
     "blocks.cases",
@@ -65,6 +67,12 @@ const FILES: [&str; 48] = [
     "processes.cases",
     "three_processes.cases",
     "quits.cases",
+    "event_files.cases",
+    "inputs.cases",
+    "clocks.cases",
+    "displays.cases",
+    "transcripts.cases",
+    "purges.cases",
     "kept.cases",
     "image_rules.cases",
     "image_objects.cases",

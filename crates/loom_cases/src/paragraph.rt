@@ -1,9 +1,8 @@
 // The paragraph of a case: lines that begin with a word, and then have its value.
-use anyhow::{Context, Result, bail};
-use std::alloc::Global;
+use anyhow::{Result, bail};
 
 /// The words that lines begin with. `#` begins a comment.
-const WORDS: [&str; 17] = [
+const WORDS: [&str; 18] = [
     "case",
     "#",
     "image",
@@ -11,6 +10,7 @@ const WORDS: [&str; 17] = [
     "cut",
     "append",
     "repeat",
+    "event",
     "events",
     "core",
     "entries",
@@ -71,14 +71,6 @@ impl<'a> Paragraph<'a> {
         match self.value(word)? {
             Some(value) => Ok(value),
             None => bail!("no {word}"),
-        }
-    }
-
-    /// The bytes that the value of a word states in hex.
-    pub fn bytes(&self, alloc: Global, word: &str) -> Result<Option<Vec<u8>>> {
-        match self.value(word)? {
-            Some(value) => Ok(Some(hex::decode(alloc, value).context(word)?)),
-            None => Ok(None),
         }
     }
 }

@@ -1,13 +1,13 @@
 // Objects as they are added to a builder.
 ghost use Rattle.std.specs.Prelude.{◌≡◌, ◌<◌, ◌==◌, ℕ, length, OnOk, OnErr, Some, if◌then◌else◌};
 ghost use Rattle.long_names.specs.Names.{IsLongName, COMPILED_METHOD};
-ghost use Rattle.long_names.specs.declared.object.Body.TheVariants.{Pointers, Bytes, Method};
+ghost use Rattle.long_names.specs.declared.object.Body.TheVariants.{Pointers, Words, Bytes, Method};
 ghost use Rattle.image_builder.specs.Builder.{objects_of, object_at};
 ghost use Rattle.sample_images.specs.Header.{number_of};
 ghost use Rattle.long_names.specs.declared.value.Value.TheVariants.{Ref};
 
 use image_builder::Builder;
-use long_names::{Body, Name, Octets, Value, Values};
+use long_names::{Body, Name, Octets, Value, Values, Words16};
 use std::alloc::{AllocError, Global};
 
 /// nil's name as a field holds it.
@@ -45,6 +45,22 @@ pub fn add_pointers(
     ensures err { OnErr result (objects_of builder.new ≡ objects_of builder.old) }
 {
     let body = Body::Pointers(Values::from_slice(alloc, fields)?);
+    builder.add(name, class, body)
+}
+
+/// Adds an object of these words of 16 bits, in place of the one that the name has. Without memory the builder is as before.
+pub fn add_words(
+    alloc: Global,
+    builder: &mut Builder,
+    name: Name,
+    class: Name,
+    words: &[u16],
+) -> Result<(), AllocError>
+    requires { length words.now < 65536 }
+    ensures ok { OnOk result ((n : ℕ) → object_at builder.new n ≡ (if n == name then Some record { class = class; body = Words words.now } else object_at builder.old n)) }
+    ensures err { OnErr result (objects_of builder.new ≡ objects_of builder.old) }
+{
+    let body = Body::Words(Words16::from_slice(alloc, words)?);
     builder.add(name, class, body)
 }
 
