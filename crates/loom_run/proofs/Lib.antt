@@ -9,3 +9,4 @@ pub mod RunLaws
 pub mod RunningLaws
 pub mod SaveLaws
 pub mod TallyLaws
+mod ProgramLaws

@@ -2,14 +2,14 @@
 use Rattle.std.proofs.Common.{◌≡◌, inl, inr, ℕ, Bool, List, IsTrue, length, arith, refl, sym, ◌∙◌}
 use Rattle.std.proofs.Math.Seq.{take-length}
 use Rattle.loom_outside.specs.Outside.{PutPrefix, puts}
-use Rattle.loom_outside.specs.declared.outside.Role.TheVariants.{Notes}
+use Rattle.loom_outside.specs.declared.outside.Role.TheVariants.{Image, Events, Work, Saved, Display, Transcript, Notes}
 use Rattle.loom_run.specs.Meanings.{Meanings, IsLeft}
 use Rattle.loom_run.specs.Status.{line_of}
 use Rattle.loom_run.specs.Top.{HasRun, Noted, NotedBy}
 use Rattle.long_names.specs.Counting.{Rose}
 use Rattle.loom_run.specs.Parts.{IsOfRun, IsTold, unsaid}
 use Rattle.loom_run.specs.declared.status.Status.{Status}
-use Rattle.loom_run.specs.declared.status.Status.TheVariants.{Done, Quit, Usage, ImageBad, Stuck, NamesSpent, ReadFault, WriteFault, OutOfMemory, NotBuilt}
+use Rattle.loom_run.specs.declared.status.Status.TheVariants.{Done, Quit, Usage, ImageBad, EventsBad, Stuck, NamesSpent, ReadFault, WriteFault, OutOfMemory, NotBuilt}
 
 -- a whole line, and a cut one
 noted-whole : (line : List ℕ) (before now : Meanings) → now.roles Notes ≡ puts line (before.roles Notes) → Noted line before now
@@ -38,10 +38,17 @@ noted-told (Quit ran) result steps before now of_run run (inl whole) p = rw whol
 noted-told (Quit ran) result steps before now of_run run (inr cut) p = rw cut.answer (inr (ran, run, cut.put p))
 noted-told (Usage word) result steps before now of_run run told p = absurd of_run
 noted-told (ImageBad rule place) result steps before now of_run run told p = let own = noted-own _ _ _ _ refl told p in rw own.0 own.1
+noted-told (EventsBad line) result steps before now of_run run told p = let own = noted-own _ _ _ _ refl told p in rw own.0 own.1
 noted-told (Stuck cause ran) result steps before now of_run run told p = let own = noted-own _ _ _ _ refl told p in rw own.0 own.1
 noted-told (NamesSpent ran) result steps before now of_run run told p = let own = noted-own _ _ _ _ refl told p in rw own.0 own.1
 noted-told (ReadFault role count) result steps before now of_run run told p = let own = noted-own _ _ _ _ refl told p in rw own.0 own.1
-noted-told (WriteFault role count) result steps before now of_run run told p = let own = noted-own _ _ _ _ refl told p in rw (own.0, of_run) (rw of_run at own.1)
+noted-told (WriteFault Image count) result steps before now of_run run told p = let own = noted-own _ _ _ _ refl told p in rw own.0 own.1
+noted-told (WriteFault Events count) result steps before now of_run run told p = let own = noted-own _ _ _ _ refl told p in rw own.0 own.1
+noted-told (WriteFault Work count) result steps before now of_run run told p = let own = noted-own _ _ _ _ refl told p in rw own.0 own.1
+noted-told (WriteFault Saved count) result steps before now of_run run told p = let own = noted-own _ _ _ _ refl told p in rw own.0 own.1
+noted-told (WriteFault Display count) result steps before now of_run run told p = let own = noted-own _ _ _ _ refl told p in rw own.0 own.1
+noted-told (WriteFault Transcript count) result steps before now of_run run told p = let own = noted-own _ _ _ _ refl told p in rw own.0 own.1
+noted-told (WriteFault Notes count) result steps before now of_run run told p = absurd (of_run refl)
 noted-told OutOfMemory result steps before now of_run run told p = let own = noted-own _ _ _ _ refl told p in rw own.0 own.1
 noted-told (NotBuilt ran) result steps before now of_run run told p = let own = noted-own _ _ _ _ refl told p in rw own.0 own.1
 

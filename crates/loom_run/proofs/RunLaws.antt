@@ -9,6 +9,7 @@ use Rattle.long_names.proofs.ThinLemmas.{IsThinner-refl, IsThinning-refl, IsWhol
 use Rattle.image_format.specs.Text.{image_text}
 use Rattle.object_memory.specs.Told.{Told, IsReady}
 use Rattle.object_memory.specs.Plain.{fresh}
+use Rattle.blue_model.specs.declared.event.Line.{Line}
 use Rattle.blue_model.specs.Cycle.{Ending, Parked, Stuck, ending}
 use Rattle.blue_model.specs.Law.{EndingsAgree}
 use Rattle.blue_model.proofs.RunLaws.{endings-agree}
@@ -25,14 +26,14 @@ begins-fresh h t e = subst (Begins h) (sym e) record {
 }
 
 -- a whole heap runs as itself
-agrees : (steps : ℕ) (h : Heap) → IsWhole h (λ r. Int (pos 0)) (λ i. None) → EndingsAgree (ending steps h) (ending steps h)
-agrees steps h whole = endings-agree steps h h record { thinning = IsThinning-refl h (λ r. Int (pos 0)) (λ i. None) whole; bounded = IsWhole-bounded h (λ r. Int (pos 0)) (λ i. None) whole; regs = refl; slots = refl; transcript = refl; cpu = refl }
+agrees : (events : List Line) (steps : ℕ) (h : Heap) → IsWhole h (λ r. Int (pos 0)) (λ i. None) → EndingsAgree (ending events steps h) (ending events steps h)
+agrees events steps h whole = endings-agree events steps h h record { thinning = IsThinning-refl h (λ r. Int (pos 0)) (λ i. None) whole; bounded = IsWhole-bounded h (λ r. Int (pos 0)) (λ i. None) whole; regs = refl; slots = refl; transcript = refl; cpu = refl }
 
 -- what a memory keeps is what the model's parked machine keeps
-pub parked-text : (steps : ℕ) (h : Heap) (new : Told) (text : List ℕ) → IsWhole h (λ r. Int (pos 0)) (λ i. None) → OnParked (ending steps h) (λ m. IsThinner m.heap new.heap) → IsReady new → IsTrue new.tells → text ≡ saved_text new.heap → OnParked (ending steps h) (λ m. text ≡ saved_text m.heap)
-parked-text steps h new text whole ends ready tells same = go (ending steps h) (agrees steps h whole) ends
+pub parked-text : (events : List Line) (steps : ℕ) (h : Heap) (new : Told) (text : List ℕ) → IsWhole h (λ r. Int (pos 0)) (λ i. None) → OnParked (ending events steps h) (λ m. IsThinner m.heap new.heap) → IsReady new → IsTrue new.tells → text ≡ saved_text new.heap → OnParked (ending events steps h) (λ m. text ≡ saved_text m.heap)
+parked-text events steps h new text whole ends ready tells same = go (ending events steps h) (agrees events steps h whole) ends
   where
     go : (e : Ending) → EndingsAgree e e → OnParked e (λ m. IsThinner m.heap new.heap) → OnParked e (λ m. text ≡ saved_text m.heap)
-    go (Parked end m) agree thinner =
-        same ∙ ap image_text (kept-thinning m.heap new.heap new.regs new.slots no_roots record { thinner = thinner; whole = ready.whole tells } agree.1.bounded (λ n e. let no : ◌≡◌ {A = Bool} false true = e in absurd (cc)))
-    go (Stuck why ran) agree ends = absurd ends
+    go (Parked end m picture) agree thinner =
+        same ∙ ap image_text (kept-thinning m.heap new.heap new.regs new.slots no_roots record { thinner = thinner; whole = ready.whole tells } agree.2.bounded (λ n e. let no : ◌≡◌ {A = Bool} false true = e in absurd (cc)))
+    go (Stuck why ran said) agree ends = absurd ends

@@ -1,5 +1,5 @@
 -- Runs over a memory, and runs of the model.
-use Rattle.std.proofs.Common.{zero, suc, ◌≡◌, ℕ, ◌+◌, ◌<◌, ◌≤◌, nat_lt, Bool, true, false, List, [], Option, Some, None, Result, Ok, Err, IsTrue, IfErr, inl, inr, refl, sym, ◌∙◌, ap, subst, arith}
+use Rattle.std.proofs.Common.{zero, suc, ◌≡◌, ℕ, ◌+◌, ◌<◌, ◌≤◌, nat_lt, Bool, true, false, List, [], ◌++◌, Option, Some, None, Result, Ok, Err, IsTrue, IfErr, inl, inr, refl, sym, ◌∙◌, ap, subst, arith}
 use Rattle.std.proofs.Math.Path.{fun_ext}
 use borrow.Author.Tests.{ltb-true, ltb-false}
 use Rattle.std.specs.Result.{IsErrAnd}
@@ -15,20 +15,28 @@ use Rattle.object_memory.specs.declared.fault.MemFault.TheVariants.{CoreFull, Wo
 use Rattle.blue_model.specs.declared.cpu.Cpu.{Cpu}
 use Rattle.blue_model.specs.declared.step.Step.{Step}
 use Rattle.blue_model.specs.declared.step.Step.TheVariants.{Next, Quit}
-use Rattle.blue_model.specs.Machine.{Machine, LogRow, Outcome, Go, Halt, Spent, Unbuilt, Rule, at_rest, ◌>>=◌, clear, set_numbers}
+use Rattle.blue_model.specs.declared.event.Line.{Line}
+use Rattle.blue_model.specs.Machine.{Machine, LogRow, Outcome, Go, Halt, Spent, Unbuilt, Rule, log_of, after, then_do, at_rest, ◌>>=◌, done, clear, set_numbers}
+use Rattle.blue_model.specs.Devices.{picture}
+use Rattle.blue_model.proofs.FailLaws.{picture_leaves}
 use Rattle.blue_model.specs.Contexts.{start, park}
-use Rattle.blue_model.specs.Cycle.{Run, Ran, Stopped, Stopping, ByCause, BySpentNames, ByUnbuilt, Ending, run_of, one_more, run, ended, parked, run_from, ending, cycle}
+use Rattle.blue_model.specs.Cycle.{Run, Ran, Stopped, Stopping, ByCause, BySpentNames, ByUnbuilt, Ending, run_of, one_more, run, ended, parked, run_from, ending, cycle, park_and_draw, count_bytecode}
 use Rattle.blue_model.specs.Cycle as model
 use Rattle.contexts.specs.declared.stop.Stop.{Stop}
 use Rattle.contexts.specs.declared.stop.Stop.TheVariants.{Stuck, Mem, NotBuilt}
-use Rattle.contexts.specs.Serves.{HasRest, Stands, IsGo, Gives, IsCaused, HasReason, Serves}
+use Rattle.contexts.specs.Serves.{HasRest, Stands, IsGo, Gives, GivesAs, IsCaused, HasReason, SaidNothing, SaysLast, Serves, ServesAs, Speaks}
+use Rattle.contexts.proofs.SpeaksLaws.{GoesOn, goes_done, goes_then, goes_numbers, goes_set_numbers}
+use Rattle.contexts.proofs.ServesLaws.{Gives-after, serves_stop, says_quietly}
 use Rattle.contexts.proofs.CacheLaws.{sound_follows}
-use Rattle.loom_run.specs.Run.{Reaches, StopsIn, IsWorkFault, StopsAfter, RunsAs, HasFault, FaultsBy, Begins, OnParked, FaultsAs, StopsAs, GoesThrough, GoesAs, is_quit}
+use Rattle.loom_run.specs.Run.{Reaches, StopsIn, IsWorkFault, StopsAfter, RunsAs, HasFault, FaultsBy, Begins, OnParked, HasSaid, IsStuckBy, StopsAs, SaysAs, Awaits, GoesThrough, GoesAs, DrawsAs, HaltsAs, is_own, said_in, is_quit}
+use Rattle.loom_run.specs.declared.running.Reason.{Reason}
+use Rattle.loom_run.specs.declared.running.Reason.TheVariants.{ByStop, NoMemory}
+use Rattle.loom_run.specs.declared.running.Finished.{Finished}
 
 -- ---- stops
 
 -- what stopped says nothing of the numbers
-pub stop_numbers : {A : Type 0} {old new : Told} {cpu now other : Cpu} {rule : Rule A} (e : Stop) → Serves old cpu new now rule (Err e) → Serves old cpu new other rule (Err e)
+pub stop_numbers : {A : Type 0} {w : Option A} {old new : Told} {cpu now other : Cpu} {rule : Rule A} (e : Stop) → ServesAs w old cpu new now rule (Err e) → ServesAs w old cpu new other rule (Err e)
 stop_numbers (Stuck c) s = record { later = s.later; ready = s.ready; reason = s.reason; counts = s.counts; silent = s.silent; model = s.model }
 stop_numbers NotBuilt s = record { later = s.later; ready = s.ready; reason = s.reason; counts = s.counts; silent = s.silent; model = s.model }
 stop_numbers (Mem f) s = record { later = s.later; ready = s.ready; reason = s.reason; counts = s.counts; silent = s.silent; model = s.model }
@@ -116,38 +124,43 @@ settling_fails old new f told x = go f x.err.cause
 
 -- ---- cycles
 
-pub reaches_start : (t : Told) (cpu : Cpu) (m : Machine) → Stands t cpu m → Reaches t cpu Next 0 m
+pub reaches_start : (events : List Line) (t : Told) (cpu : Cpu) (m : Machine) → Stands t cpu m → Reaches events t cpu Next 0 m
 unfolding run
-reaches_start t cpu m st = record { machine = m; ran = refl; stands = st }
+reaches_start events t cpu m st = record { machine = m; ran = refl; stands = st }
 
-pub reaches_more : (mid new : Told) (between now : Cpu) (end : Step) (k : ℕ) (m : Machine) → IsTrue mid.tells → Reaches mid between Next k m → Serves mid between new now cycle (Ok end) → Reaches new now end (k + 1) m
+pub reaches_more : (events : List Line) (mid new : Told) (between now : Cpu) (end : Step) (k : ℕ) (m : Machine) → IsTrue mid.tells → Reaches events mid between Next k m → Speaks Next mid between new now (cycle events) (Ok end) → Reaches events new now end (k + 1) m
 unfolding run
-reaches_more mid new between now end k m told x s = go (cycle x.machine) refl (s.model told x.machine x.stands)
+reaches_more events mid new between now end k m told x s = go (cycle events x.machine) refl (s.model told x.machine x.stands)
   where
     next : (n : ℕ) → suc n ≡ n + 1
     next n = omega arith
 
-    go : (o : Outcome Step) → cycle x.machine ≡ o → IsGo end (Stands new now) o → Reaches new now end (k + 1) m
-    go (Go a n log) e g = record { machine = n; ran = ap (λ i. run i m) (sym (next k)) ∙ ap one_more x.ran ∙ ap (run_of x.machine) e ∙ ap (λ s. Ran s n) g.0; stands = g.1 }
+    go : (o : Outcome Step) → cycle events x.machine ≡ o → IsGo end (Stands new now) o → Reaches events new now end (k + 1) m
+    go (Go a n log) e g = record { machine = n; ran = ap (λ i. run events i m) (sym (next k)) ∙ ap (one_more events) x.ran ∙ ap (run_of x.machine) e ∙ ap (λ s. Ran s n) g.0; stands = g.1 }
     go (Halt c log) e g = absurd g
     go (Spent log) e g = absurd g
     go (Unbuilt log) e g = absurd g
 
+-- that a bytecode is counted changes neither its answer nor what was said
+pub counts_on : (before : ℕ) → GoesOn Next (count_bytecode before >>= λ _. done Next)
+unfolding count_bytecode
+counts_on before = goes_then _ (goes_numbers _ (λ cpu. goes_set_numbers _)) goes_done
+
 -- a run that the machine ended stays so
-quit_stays : (k done : ℕ) (m n : Machine) → run done m ≡ Ran Quit n → done ≤ k → run k m ≡ Ran Quit n
+quit_stays : (events : List Line) (k done : ℕ) (m n : Machine) → run events done m ≡ Ran Quit n → done ≤ k → run events k m ≡ Ran Quit n
 unfolding run
-quit_stays zero done m n e low = let same : done ≡ 0 = omega arith in ap (λ i. run i m) (sym same) ∙ e
-quit_stays (suc k) done m n e low = go (nat_lt k done) refl (λ few. quit_stays k done m n e few)
+quit_stays events zero done m n e low = let same : done ≡ 0 = omega arith in ap (λ i. run events i m) (sym same) ∙ e
+quit_stays events (suc k) done m n e low = go (nat_lt k done) refl (λ few. quit_stays events k done m n e few)
   where
-    go : (b : Bool) → nat_lt k done ≡ b → (done ≤ k → run k m ≡ Ran Quit n) → one_more (run k m) ≡ Ran Quit n
+    go : (b : Bool) → nat_lt k done ≡ b → (done ≤ k → run events k m ≡ Ran Quit n) → one_more events (run events k m) ≡ Ran Quit n
     go true g before =
         let high = ltb-true k done g in
         let same : done ≡ suc k = omega arith in
-        ap (λ i. run i m) (sym same) ∙ e
-    go false g before = let few = ltb-false k done g in ap one_more (before few)
+        ap (λ i. run events i m) (sym same) ∙ e
+    go false g before = let few = ltb-false k done g in ap (one_more events) (before few)
 
-pub reaches_end : (new : Told) (now : Cpu) (done k : ℕ) (m : Machine) → done ≤ k → Reaches new now Quit done m → Reaches new now Quit k m
-reaches_end new now done k m few x = record { machine = x.machine; ran = quit_stays k done m x.machine x.ran few; stands = x.stands }
+pub reaches_end : (events : List Line) (new : Told) (now : Cpu) (done k : ℕ) (m : Machine) → done ≤ k → Reaches events new now Quit done m → Reaches events new now Quit k m
+reaches_end events new now done k m few x = record { machine = x.machine; ran = quit_stays events k done m x.machine x.ran few; stands = x.stands }
 
 -- a machine that hasn't ended goes on
 pub goes_on : (end : Step) → is_quit end ≡ false → end ≡ Next
@@ -158,19 +171,35 @@ pub has_ended : (end : Step) → is_quit end ≡ true → end ≡ Quit
 has_ended Quit e = refl
 has_ended Next e = absurd (cc)
 
-pub stops_in : (mid new : Told) (between now : Cpu) (k steps : ℕ) (m : Machine) (e : Stop) → IsTrue mid.tells → k < steps → now.ran ≡ between.ran → Reaches mid between Next k m → Serves {A = Step} mid between new now cycle (Err e) → StopsIn new now e steps m
-stops_in mid new between now k steps m e told few same x s = record {
+-- what was said when a call stopped that may say something
+has_said : (e : Stop) (mid new : Told) (before : List ℕ) → IsTrue mid.speaks → mid.transcript ≡ before → SaysLast Next mid new (Err e) → HasSaid e before new.transcript
+has_said (Stuck c) mid new before spoke was s = s spoke ∙ was
+has_said NotBuilt mid new before spoke was s = s spoke ∙ was
+has_said (Mem (Said count)) mid new before spoke was s = let joined = s spoke in (joined.0, joined.1 ∙ ap (λ (t : List ℕ). t ++ joined.0) was)
+has_said (Mem (CoreFull need)) mid new before spoke was s = s spoke ∙ was
+has_said (Mem (WorkFull live room)) mid new before spoke was s = s spoke ∙ was
+has_said (Mem (WorkFault count)) mid new before spoke was s = s spoke ∙ was
+has_said (Mem (Damaged place name)) mid new before spoke was s = s spoke ∙ was
+has_said (Mem NamesSpent) mid new before spoke was s = s spoke ∙ was
+has_said (Mem Memory) mid new before spoke was s = s spoke ∙ was
+
+-- and of one that says nothing
+said_before : (e : Stop) (mid new : Told) (before : List ℕ) → IsTrue mid.speaks → mid.transcript ≡ before → SaidNothing mid new → HasSaid e before new.transcript
+said_before e mid new before spoke was s = has_said e mid new before spoke was (says_quietly (Some Next) mid new (Err e) s)
+
+pub stops_in : (events : List Line) (mid new : Told) (between now : Cpu) (k steps : ℕ) (m : Machine) (e : Stop) → IsTrue mid.tells → k < steps → now.ran ≡ between.ran → Reaches events mid between Next k m → Speaks Next mid between new now (cycle events) (Err e) → StopsIn events new now e steps m
+stops_in events mid new between now k steps m e told few same x s = record {
   done = k;
   machine = x.machine;
   few = few;
   ran = x.ran;
   count = ap (λ (c : Cpu). c.ran) x.stands.numbers ∙ sym same;
-  said = λ speaks. (let spoke = sym s.later.speaks ∙ speaks in s.silent spoke ∙ x.stands.transcript spoke);
+  said = λ speaks. (let spoke = sym s.later.speaks ∙ speaks in has_said e mid new x.machine.transcript spoke (x.stands.transcript spoke) s.silent);
   gives = s.model told x.machine x.stands;
 }
 
-pub stops_after : {Z : Type 0} (mid new : Told) (now : Cpu) (end : Step) (k steps : ℕ) (m : Machine) (f : MemFault) → IsTrue mid.tells → k ≤ steps → Reaches mid now end k m → Called {A = Z} mid new Settles (Err f) → StopsAfter new now (Mem f) steps m
-stops_after mid new now end k steps m f told few x c = record {
+pub stops_after : {Z : Type 0} (events : List Line) (mid new : Told) (now : Cpu) (end : Step) (k steps : ℕ) (m : Machine) (f : MemFault) → IsTrue mid.tells → k ≤ steps → Reaches events mid now end k m → Called {A = Z} mid new Settles (Err f) → StopsAfter events new now (Mem f) steps m
+stops_after events mid new now end k steps m f told few x c = record {
   done = k;
   end = end;
   machine = x.machine;
@@ -182,113 +211,100 @@ stops_after mid new now end k steps m f told few x c = record {
 }
 
 -- the answer of a `?`
-pub runs_exit : {new : Told} {now : Cpu} {steps : ℕ} {m : Machine} {e : Stop} (r : Result Step Stop) → IsErrAnd r (λ y. y ≡ e) → RunsAs new now steps m (Err e) → RunsAs new now steps m r
-runs_exit {new} {now} {steps} {m} {e} r is h =
+pub runs_exit : {events : List Line} {new : Told} {now : Cpu} {steps : ℕ} {m : Machine} {e : Stop} (r : Result Step Stop) → IsErrAnd r (λ y. y ≡ e) → RunsAs events new now steps m (Err e) → RunsAs events new now steps m r
+runs_exit {events} {new} {now} {steps} {m} {e} r is h =
     let q = err_from_is_err_and r is in
-    subst (λ (x : Result Step Stop). RunsAs new now steps m x) (sym (q.1 ∙ ap (λ y. Err y) q.2)) h
+    subst (λ (x : Result Step Stop). RunsAs events new now steps m x) (sym (q.1 ∙ ap (λ y. Err y) q.2)) h
 
 -- ---- the model's run behind a stop
 
-run_stopped : (k done : ℕ) (m n : Machine) (why : Stopping) (log : List LogRow) → run done m ≡ Ran Next n → run_of n (cycle n) ≡ Stopped n why log → done < k → run k m ≡ Stopped n why log
+-- why an outcome stopped
+abbrev stopping_of : {A : Type 0} → Outcome A → Option Stopping
+stopping_of (Go a m log) = None
+stopping_of (Halt c log) = Some (ByCause c)
+stopping_of (Spent log) = Some BySpentNames
+stopping_of (Unbuilt log) = Some ByUnbuilt
+
+-- A stop of the machine's own is the reason why its run ended, and all was said that the run says. Of another fault nothing is asked.
+abbrev pub IsHalt : Stop → ℕ → Told → Ending → Type 0
+IsHalt e ran new ending = StopsAs e ran ending × SaysAs e new ending
+
+never : {P : Type 0} → IsTrue false → P
+never e = let no : ◌≡◌ {A = Bool} false true = e in absurd (cc)
+
+halts : {A : Type 0} (w : Option A) (o : Outcome A) (new : Told) (now : Cpu) (e : Stop) (ran : ℕ) (end : Ending) (said : List ℕ) → GivesAs w new now (Err e) o → ((why : Stopping) → stopping_of o ≡ Some why → end ≡ model.Stuck why ran said) → (IsTrue new.speaks → HasSaid e said new.transcript) → IsHalt e ran new end
+halts w (Halt d log) new now (Stuck c) ran end said g f s =
+    let is : end ≡ model.Stuck (ByCause d) ran said = f (ByCause d) refl in
+    let cause : d ≡ c = g in (
+      subst (IsStuckBy (ByCause c) ran) (sym is) (ap (λ x. ByCause x) cause, refl),
+      λ own speaks. s speaks ∙ sym (ap said_in is),
+    )
+halts w (Go a n log) new now (Stuck c) ran end said g f s = absurd g
+halts w (Spent log) new now (Stuck c) ran end said g f s = absurd g
+halts w (Unbuilt log) new now (Stuck c) ran end said g f s = absurd g
+halts w (Unbuilt log) new now NotBuilt ran end said g f s =
+    let is : end ≡ model.Stuck ByUnbuilt ran said = f ByUnbuilt refl in
+    (subst (IsStuckBy ByUnbuilt ran) (sym is) (refl, refl), λ own speaks. s speaks ∙ sym (ap said_in is))
+halts w (Go a n log) new now NotBuilt ran end said g f s = absurd g
+halts w (Halt d log) new now NotBuilt ran end said g f s = absurd g
+halts w (Spent log) new now NotBuilt ran end said g f s = absurd g
+halts w (Spent log) new now (Mem NamesSpent) ran end said g f s =
+    let is : end ≡ model.Stuck BySpentNames ran said = f BySpentNames refl in
+    (subst (IsStuckBy BySpentNames ran) (sym is) (refl, refl), λ own speaks. s speaks ∙ sym (ap said_in is))
+halts w (Go a n log) new now (Mem NamesSpent) ran end said g f s = absurd g
+halts w (Halt d log) new now (Mem NamesSpent) ran end said g f s = absurd g
+halts w (Unbuilt log) new now (Mem NamesSpent) ran end said g f s = absurd g
+halts w o new now (Mem (CoreFull need)) ran end said g f s = (tt, λ own. never own)
+halts w o new now (Mem (WorkFull live room)) ran end said g f s = (tt, λ own. never own)
+halts w o new now (Mem (WorkFault count)) ran end said g f s = (tt, λ own. never own)
+halts w o new now (Mem (Damaged place name)) ran end said g f s = (tt, λ own. never own)
+halts w o new now (Mem (Said count)) ran end said g f s = (tt, λ own. never own)
+halts w o new now (Mem Memory) ran end said g f s = (tt, λ own. never own)
+
+run_stopped : (events : List Line) (k done : ℕ) (m n : Machine) (why : Stopping) (log : List LogRow) → run events done m ≡ Ran Next n → run_of n (cycle events n) ≡ Stopped n why log → done < k → run events k m ≡ Stopped n why log
 unfolding run
-run_stopped zero done m n why log e f low = absurd (omega arith)
-run_stopped (suc k) done m n why log e f low = go (nat_lt done k) refl (λ below. run_stopped k done m n why log e f below)
+run_stopped events zero done m n why log e f low = absurd (omega arith)
+run_stopped events (suc k) done m n why log e f low = go (nat_lt done k) refl (λ below. run_stopped events k done m n why log e f below)
   where
-    go : (b : Bool) → nat_lt done k ≡ b → (done < k → run k m ≡ Stopped n why log) → one_more (run k m) ≡ Stopped n why log
-    go true g next = ap one_more (next (ltb-true done k g))
+    go : (b : Bool) → nat_lt done k ≡ b → (done < k → run events k m ≡ Stopped n why log) → one_more events (run events k m) ≡ Stopped n why log
+    go true g next = ap (one_more events) (next (ltb-true done k g))
     go false g next =
         let high = ltb-false done k g in
         let same : done ≡ k = omega arith in
-        ap one_more (ap (λ i. run i m) (sym same) ∙ e) ∙ f
+        ap (one_more events) (ap (λ i. run events i m) (sym same) ∙ e) ∙ f
 
--- an outcome that stopped ends the run so
-pub parked_stops : (end : Step) (o : Outcome (Unit {0})) (m : Machine) (new : Told) (now : Cpu) (e : Stop) → Gives {A = Unit {0}} new now (Err e) o → m.cpu.ran ≡ now.ran → StopsAs e now.ran (parked end m o)
-parked_stops end (Halt d log) m new now (Stuck c) g same = ap (λ x. model.Stuck (ByCause x) m.cpu.ran) g ∙ ap (λ k. model.Stuck (ByCause c) k) same
-parked_stops end (Go a n log) m new now (Stuck c) g same = absurd g
-parked_stops end (Spent log) m new now (Stuck c) g same = absurd g
-parked_stops end (Unbuilt log) m new now (Stuck c) g same = absurd g
-parked_stops end (Unbuilt log) m new now NotBuilt g same = ap (λ k. model.Stuck ByUnbuilt k) same
-parked_stops end (Go a n log) m new now NotBuilt g same = absurd g
-parked_stops end (Halt d log) m new now NotBuilt g same = absurd g
-parked_stops end (Spent log) m new now NotBuilt g same = absurd g
-parked_stops end o m new now (Mem f) g same = fault f o g
-  where
-    fault : (f : MemFault) (o : Outcome (Unit {0})) → Gives {A = Unit {0}} new now (Err (Mem f)) o → FaultsAs f now.ran (parked end m o)
-    fault NamesSpent (Spent log) g = ap (λ k. model.Stuck BySpentNames k) same
-    fault NamesSpent (Go a n log) g = absurd g
-    fault NamesSpent (Halt d log) g = absurd g
-    fault NamesSpent (Unbuilt log) g = absurd g
-    fault (CoreFull need) o g = tt
-    fault (WorkFull live room) o g = tt
-    fault (WorkFault count) o g = tt
-    fault (Damaged place name) o g = tt
-    fault (Said count) o g = tt
-    fault Memory o g = tt
+stopped_by : (n : Machine) (o : Outcome Step) (why : Stopping) → stopping_of o ≡ Some why → run_of n o ≡ Stopped n why (log_of o)
+stopped_by n (Go a m log) why e = absurd (cc)
+stopped_by n (Halt c log) why e = let same : ByCause c ≡ why = cc in ap (λ x. Stopped n x log) same
+stopped_by n (Spent log) why e = let same : BySpentNames ≡ why = cc in ap (λ x. Stopped n x log) same
+stopped_by n (Unbuilt log) why e = let same : ByUnbuilt ≡ why = cc in ap (λ x. Stopped n x log) same
 
--- a stop in the start
-pub start_stops : (o : Outcome (Unit {0})) (steps : ℕ) (new : Told) (now : Cpu) (e : Stop) → Gives {A = Unit {0}} new now (Err e) o → now.ran ≡ 0 → StopsAs e now.ran (run_from steps o)
-start_stops (Halt d log) steps new now (Stuck c) g same = ap (λ x. model.Stuck (ByCause x) 0) g ∙ ap (λ k. model.Stuck (ByCause c) k) (sym same)
-start_stops (Go a n log) steps new now (Stuck c) g same = absurd g
-start_stops (Spent log) steps new now (Stuck c) g same = absurd g
-start_stops (Unbuilt log) steps new now (Stuck c) g same = absurd g
-start_stops (Unbuilt log) steps new now NotBuilt g same = ap (λ k. model.Stuck ByUnbuilt k) (sym same)
-start_stops (Go a n log) steps new now NotBuilt g same = absurd g
-start_stops (Halt d log) steps new now NotBuilt g same = absurd g
-start_stops (Spent log) steps new now NotBuilt g same = absurd g
-start_stops o steps new now (Mem f) g same = fault f o g
-  where
-    fault : (f : MemFault) (o : Outcome (Unit {0})) → Gives {A = Unit {0}} new now (Err (Mem f)) o → FaultsAs f now.ran (run_from steps o)
-    fault NamesSpent (Spent log) g = ap (λ k. model.Stuck BySpentNames k) (sym same)
-    fault NamesSpent (Go a n log) g = absurd g
-    fault NamesSpent (Halt d log) g = absurd g
-    fault NamesSpent (Unbuilt log) g = absurd g
-    fault (CoreFull need) o g = tt
-    fault (WorkFull live room) o g = tt
-    fault (WorkFault count) o g = tt
-    fault (Damaged place name) o g = tt
-    fault (Said count) o g = tt
-    fault Memory o g = tt
+parked_by : (end : Step) (m : Machine) (o : Outcome (List ℕ)) (why : Stopping) → stopping_of o ≡ Some why → parked end m o ≡ model.Stuck why m.cpu.ran m.transcript
+parked_by end m (Go a n log) why e = absurd (cc)
+parked_by end m (Halt c log) why e = let same : ByCause c ≡ why = cc in ap (λ x. model.Stuck x m.cpu.ran m.transcript) same
+parked_by end m (Spent log) why e = let same : BySpentNames ≡ why = cc in ap (λ x. model.Stuck x m.cpu.ran m.transcript) same
+parked_by end m (Unbuilt log) why e = let same : ByUnbuilt ≡ why = cc in ap (λ x. model.Stuck x m.cpu.ran m.transcript) same
+
+started_by : (events : List Line) (steps : ℕ) (o : Outcome (Unit {0})) (why : Stopping) → stopping_of o ≡ Some why → run_from events steps o ≡ model.Stuck why 0 []
+started_by events steps (Go a n log) why e = absurd (cc)
+started_by events steps (Halt c log) why e = let same : ByCause c ≡ why = cc in ap (λ x. model.Stuck x 0 []) same
+started_by events steps (Spent log) why e = let same : BySpentNames ≡ why = cc in ap (λ x. model.Stuck x 0 []) same
+started_by events steps (Unbuilt log) why e = let same : ByUnbuilt ≡ why = cc in ap (λ x. model.Stuck x 0 []) same
 
 -- a stop in a cycle
-pub run_stops : (new : Told) (now : Cpu) (e : Stop) (steps : ℕ) (m : Machine) → StopsIn new now e steps m → StopsAs e now.ran (ended (run steps m))
-run_stops new now e steps m x = go e (cycle x.machine) refl x.gives
+pub run_stops : (events : List Line) (new : Told) (now : Cpu) (e : Stop) (steps : ℕ) (m : Machine) → StopsIn events new now e steps m → IsHalt e now.ran new (ended (run events steps m))
+run_stops events new now e steps m x = halts (Some Next) (cycle events x.machine) new now e now.ran (ended (run events steps m)) x.machine.transcript x.gives by x.said
   where
-    by : (why : Stopping) (log : List LogRow) → run_of x.machine (cycle x.machine) ≡ Stopped x.machine why log → ended (run steps m) ≡ model.Stuck why now.ran
-    by why log f = ap ended (run_stopped steps x.done m x.machine why log x.ran f x.few) ∙ ap (λ k. model.Stuck why k) x.count
+    by : (why : Stopping) → stopping_of (cycle events x.machine) ≡ Some why → ended (run events steps m) ≡ model.Stuck why now.ran x.machine.transcript
+    by why f = ap ended (run_stopped events steps x.done m x.machine why _ x.ran (stopped_by x.machine (cycle events x.machine) why f) x.few) ∙ ap (λ k. model.Stuck why k x.machine.transcript) x.count
 
-    spent : (o : Outcome Step) → cycle x.machine ≡ o → Gives {A = Step} new now (Err (Mem NamesSpent)) o → ended (run steps m) ≡ model.Stuck BySpentNames now.ran
-    spent (Spent log) f g = by BySpentNames log (ap (run_of x.machine) f)
-    spent (Go a n log) f g = absurd g
-    spent (Halt d log) f g = absurd g
-    spent (Unbuilt log) f g = absurd g
-
-    fault : (f : MemFault) (o : Outcome Step) → cycle x.machine ≡ o → Gives {A = Step} new now (Err (Mem f)) o → FaultsAs f now.ran (ended (run steps m))
-    fault NamesSpent o e g = spent o e g
-    fault (CoreFull need) o e g = tt
-    fault (WorkFull live room) o e g = tt
-    fault (WorkFault count) o e g = tt
-    fault (Damaged place name) o e g = tt
-    fault (Said count) o e g = tt
-    fault Memory o e g = tt
-
-    go : (e : Stop) (o : Outcome Step) → cycle x.machine ≡ o → Gives {A = Step} new now (Err e) o → StopsAs e now.ran (ended (run steps m))
-    go (Stuck c) (Halt d log) f g = by (ByCause d) log (ap (run_of x.machine) f) ∙ ap (λ y. model.Stuck (ByCause y) now.ran) g
-    go (Stuck c) (Go a n log) f g = absurd g
-    go (Stuck c) (Spent log) f g = absurd g
-    go (Stuck c) (Unbuilt log) f g = absurd g
-    go NotBuilt (Unbuilt log) f g = by ByUnbuilt log (ap (run_of x.machine) f)
-    go NotBuilt (Go a n log) f g = absurd g
-    go NotBuilt (Halt d log) f g = absurd g
-    go NotBuilt (Spent log) f g = absurd g
-    go (Mem f) o e g = fault f o e g
-
-pub unsettled_stops : (new : Told) (now : Cpu) (e : Stop) (steps : ℕ) (m : Machine) → StopsAfter new now e steps m → StopsAs e now.ran (ended (run steps m))
-unsettled_stops new now e steps m x = go e x.fault
+pub unsettled_stops : (events : List Line) (new : Told) (now : Cpu) (e : Stop) (steps : ℕ) (m : Machine) → StopsAfter events new now e steps m → IsHalt e now.ran new (ended (run events steps m))
+unsettled_stops events new now e steps m x = go e x.fault
   where
-    go : (e : Stop) → IsWorkFault e → StopsAs e now.ran (ended (run steps m))
+    go : (e : Stop) → IsWorkFault e → StopsAs e now.ran (ended (run events steps m)) × SaysAs e new (ended (run events steps m))
     go (Stuck c) h = absurd h
     go NotBuilt h = absurd h
-    go (Mem (WorkFault count)) h = tt
+    go (Mem (WorkFault count)) h = (tt, λ own. never own)
     go (Mem (CoreFull need)) h = absurd h
     go (Mem (WorkFull live room)) h = absurd h
     go (Mem (Damaged place name)) h = absurd h
@@ -343,60 +359,111 @@ faults_exit {A} old new e r is h =
 begun : (h : Heap) (a mid : Told) (cpu between : Cpu) → IsTrue a.tells → Begins h a → Serves a cpu mid between start (Ok tt) → IsGo tt (Stands mid between) (start (at_rest h))
 begun h a mid cpu between told b s = subst (IsGo tt (Stands mid between)) (starts_same h a cpu) (s.model told (fresh_machine h a cpu) (fresh_stands h a cpu b))
 
-pub goes_start : (steps : ℕ) (h : Heap) (a new : Told) (cpu now : Cpu) (e : Stop) → IsTrue a.tells → Begins h a → Serves {A = Unit {0}} a cpu new now start (Err e) → now.ran ≡ 0 → StopsAs e now.ran (ending steps h)
+pub goes_start : (events : List Line) (steps : ℕ) (h : Heap) (a new : Told) (cpu now : Cpu) (e : Stop) → IsTrue a.tells → Begins h a → Serves {A = Unit {0}} a cpu new now start (Err e) → now.ran ≡ 0 → IsHalt e now.ran new (ending events steps h)
 unfolding ending
-goes_start steps h a new cpu now e told b s same =
-    start_stops (start (at_rest h)) steps new now e (subst (Gives {A = Unit {0}} new now (Err e)) (starts_same h a cpu) (s.model told (fresh_machine h a cpu) (fresh_stands h a cpu b))) same
+goes_start events steps h a new cpu now e told b s same =
+    subst (λ k. IsHalt e k new (run_from events steps (start (at_rest h)))) (sym same)
+    (halts None (start (at_rest h)) new now e 0 (run_from events steps (start (at_rest h))) []
+    (subst (Gives {A = Unit {0}} new now (Err e)) (starts_same h a cpu) (s.model told (fresh_machine h a cpu) (fresh_stands h a cpu b)))
+    (started_by events steps (start (at_rest h)))
+    (λ speaks. let spoke = sym s.later.speaks ∙ speaks in said_before e a new [] spoke (b.transcript spoke) s.silent))
 
-pub goes_run : (steps : ℕ) (h : Heap) (a mid new : Told) (cpu between now : Cpu) (e : Stop) → IsTrue a.tells → Begins h a → Serves a cpu mid between start (Ok tt) → ((m : Machine) → Stands mid between m → RunsAs new now steps m (Err e)) → StopsAs e now.ran (ending steps h)
+pub goes_run : (events : List Line) (steps : ℕ) (h : Heap) (a mid new : Told) (cpu between now : Cpu) (e : Stop) → IsTrue a.tells → Begins h a → Serves a cpu mid between start (Ok tt) → ((m : Machine) → Stands mid between m → RunsAs events new now steps m (Err e)) → IsHalt e now.ran new (ending events steps h)
 unfolding ending
-goes_run steps h a mid new cpu between now e told b s runs = go (start (at_rest h)) (begun h a mid cpu between told b s)
+goes_run events steps h a mid new cpu between now e told b s runs = go (start (at_rest h)) (begun h a mid cpu between told b s)
   where
-    either : (m : Machine) → RunsAs new now steps m (Err e) → StopsAs e now.ran (ended (run steps m))
-    either m (inl x) = run_stops new now e steps m x
-    either m (inr x) = unsettled_stops new now e steps m x
+    either : (m : Machine) → RunsAs events new now steps m (Err e) → IsHalt e now.ran new (ended (run events steps m))
+    either m (inl x) = run_stops events new now e steps m x
+    either m (inr x) = unsettled_stops events new now e steps m x
 
-    go : (o : Outcome (Unit {0})) → IsGo tt (Stands mid between) o → StopsAs e now.ran (run_from steps o)
+    go : (o : Outcome (Unit {0})) → IsGo tt (Stands mid between) o → IsHalt e now.ran new (run_from events steps o)
     go (Go u m log) g = either m (runs m g.1)
     go (Halt c log) g = absurd g
     go (Spent log) g = absurd g
     go (Unbuilt log) g = absurd g
 
-pub goes_park : (end : Step) (steps : ℕ) (h : Heap) (a mid far new : Told) (cpu between then now : Cpu) (e : Stop) → IsTrue a.tells → Begins h a → Serves a cpu mid between start (Ok tt) → ((m : Machine) → Stands mid between m → Reaches far then end steps m) → IsTrue far.tells → Serves {A = Unit {0}} far then new now park (Err e) → now ≡ then → StopsAs e now.ran (ending steps h)
-unfolding ending
-goes_park end steps h a mid far new cpu between then now e told b s runs tells p same = go (start (at_rest h)) (begun h a mid cpu between told b s)
+-- a stop in parking or in drawing
+draw_stops : (end : Step) (last : Machine) (o : Outcome (List ℕ)) (new : Told) (now : Cpu) (e : Stop) → Gives {A = List ℕ} new now (Err e) o → last.cpu.ran ≡ now.ran → (IsTrue new.speaks → HasSaid e last.transcript new.transcript) → IsHalt e now.ran new (parked end last o)
+draw_stops end last o new now e g same said = halts None o new now e now.ran (parked end last o) last.transcript g (λ why f. parked_by end last o why f ∙ ap (λ k. model.Stuck why k last.transcript) same) said
+
+pub goes_park : (events : List Line) (end : Step) (steps : ℕ) (h : Heap) (a mid far new : Told) (cpu between then now : Cpu) (e : Stop) → IsTrue a.tells → Begins h a → Serves a cpu mid between start (Ok tt) → ((m : Machine) → Stands mid between m → Reaches events far then end steps m) → IsTrue far.tells → Serves {A = Unit {0}} far then new now park (Err e) → now ≡ then → IsHalt e now.ran new (ending events steps h)
+unfolding ending park_and_draw
+goes_park events end steps h a mid far new cpu between then now e told b s runs tells p same = go (start (at_rest h)) (begun h a mid cpu between told b s)
   where
-    at : (m : Machine) → Reaches far then end steps m → StopsAs e now.ran (ended (run steps m))
+    at : (m : Machine) → Reaches events far then end steps m → IsHalt e now.ran new (ended (run events steps m))
     at m x =
         let count = ap (λ (c : Cpu). c.ran) (x.stands.numbers ∙ sym same) in
-        subst (λ r. StopsAs e now.ran (ended r)) (sym x.ran) (parked_stops end (park x.machine) x.machine new now e (p.model tells x.machine x.stands) count)
+        let whole : Serves {A = List ℕ} far then new now (park >>= λ _. picture) (Err e) = serves_stop (λ _. picture) p in
+        subst (λ r. IsHalt e now.ran new (ended r)) (sym x.ran) (draw_stops end x.machine (park_and_draw x.machine) new now e (whole.model tells x.machine x.stands) count (λ speaks. let spoke = sym p.later.speaks ∙ speaks in said_before e far new x.machine.transcript spoke (x.stands.transcript spoke) p.silent))
 
-    go : (o : Outcome (Unit {0})) → IsGo tt (Stands mid between) o → StopsAs e now.ran (run_from steps o)
+    go : (o : Outcome (Unit {0})) → IsGo tt (Stands mid between) o → IsHalt e now.ran new (run_from events steps o)
     go (Go u m log) g = at m (runs m g.1)
     go (Halt c log) g = absurd g
     go (Spent log) g = absurd g
     go (Unbuilt log) g = absurd g
 
-pub goes_through : (end : Step) (steps : ℕ) (h : Heap) (a mid far new : Told) (cpu between then now : Cpu) → IsTrue a.tells → Begins h a → Serves a cpu mid between start (Ok tt) → ((m : Machine) → Stands mid between m → Reaches far then end steps m) → IsTrue far.tells → Serves far then new now park (Ok tt) → GoesThrough new end now.ran (ending steps h)
-unfolding ending
-goes_through end steps h a mid far new cpu between then now told b s runs tells p = go (start (at_rest h)) (begun h a mid cpu between told b s)
+pub goes_through : (events : List Line) (end : Step) (steps : ℕ) (h : Heap) (a mid far new : Told) (cpu between then now : Cpu) → IsTrue a.tells → Begins h a → Serves a cpu mid between start (Ok tt) → ((m : Machine) → Stands mid between m → Reaches events far then end steps m) → IsTrue far.tells → Serves far then new now park (Ok tt) → now ≡ then → Awaits new now end (ending events steps h)
+unfolding ending park_and_draw ◌>>=◌
+goes_through events end steps h a mid far new cpu between then now told b s runs tells p same = go (start (at_rest h)) (begun h a mid cpu between told b s)
   where
-    stands : (m : Machine) (o : Outcome (Unit {0})) → IsGo tt (Stands new now) o → GoesThrough new end now.ran (parked end m o)
-    stands m (Go u n log) g = record { parked = (refl, ap (λ (c : Cpu). c.ran) g.1.numbers); heap = g.1.heap }
-    stands m (Halt c log) g = absurd g
-    stands m (Spent log) g = absurd g
-    stands m (Unbuilt log) g = absurd g
+    stands : (m : Machine) (o : Outcome (Unit {0})) → IsGo tt (Stands new now) o → Stands far then m → Awaits new now end (parked end m (then_do o (λ _. picture)))
+    stands m (Go u n log) g st = record {
+      machine = n;
+      stands = g.1;
+      last = m;
+      log = log;
+      count = ap (λ (c : Cpu). c.ran) (st.numbers ∙ sym same);
+      said = λ speaks. (let spoke = sym p.later.speaks ∙ speaks in p.silent spoke ∙ st.transcript spoke);
+      ends = refl;
+    }
+    stands m (Halt c log) g st = absurd g
+    stands m (Spent log) g st = absurd g
+    stands m (Unbuilt log) g st = absurd g
 
-    at : (m : Machine) → Reaches far then end steps m → GoesThrough new end now.ran (ended (run steps m))
-    at m x = subst (λ r. GoesThrough new end now.ran (ended r)) (sym x.ran) (stands x.machine (park x.machine) (p.model tells x.machine x.stands))
+    at : (m : Machine) → Reaches events far then end steps m → Awaits new now end (ended (run events steps m))
+    at m x = subst (λ r. Awaits new now end (ended r)) (sym x.ran) (stands x.machine (park x.machine) (p.model tells x.machine x.stands) x.stands)
 
-    go : (o : Outcome (Unit {0})) → IsGo tt (Stands mid between) o → GoesThrough new end now.ran (run_from steps o)
+    go : (o : Outcome (Unit {0})) → IsGo tt (Stands mid between) o → Awaits new now end (run_from events steps o)
     go (Go u m log) g = at m (runs m g.1)
     go (Halt c log) g = absurd g
     go (Spent log) g = absurd g
     go (Unbuilt log) g = absurd g
 
-pub goes_exit : (new : Told) (now : Cpu) (e : Stop) (r : Result Step Stop) (ending : Ending) → IsErrAnd r (λ y. y ≡ e) → StopsAs e now.ran ending → GoesAs new now r ending
+pub goes_exit : (new : Told) (now : Cpu) (e : Stop) (r : Result Step Stop) (ending : Ending) → IsErrAnd r (λ y. y ≡ e) → IsHalt e now.ran new ending → GoesAs new now r ending
 goes_exit new now e r ending is h =
     let q = err_from_is_err_and r is in
     subst (λ (x : Result Step Stop). GoesAs new now x ending) (sym (q.1 ∙ ap (λ y. Err y) q.2)) h
+
+-- ---- the picture
+
+pub draws_through : (mid new : Told) (now : Cpu) (end : Step) (ending : Ending) (finished : Finished) → IsTrue mid.tells → Awaits mid now end ending → Serves mid now new now picture (Ok finished.picture) → finished.end ≡ end → finished.ran ≡ now.ran → GoesThrough new finished ending
+draws_through mid new now end ending finished tells x s last ran = subst (GoesThrough new finished) (sym x.ends) (go (picture x.machine) (s.model tells x.machine x.stands))
+  where
+    go : (o : Outcome (List ℕ)) → IsGo finished.picture (Stands new now) o → GoesThrough new finished (parked end x.last (after x.log o))
+    go (Go bytes n rows) g = record { parked = (sym last, ap (λ (c : Cpu). c.ran) g.1.numbers ∙ sym ran); heap = g.1.heap; drawn = sym g.0; said = λ speaks. g.1.transcript speaks }
+    go (Halt c rows) g = absurd g
+    go (Spent rows) g = absurd g
+    go (Unbuilt rows) g = absurd g
+
+pub draws_stop : (mid new : Told) (now : Cpu) (end : Step) (ending : Ending) (e : Stop) → IsTrue mid.tells → Awaits mid now end ending → Serves {A = List ℕ} mid now new now picture (Err e) → StopsAs e now.ran ending × SaysAs e new ending
+draws_stop mid new now end ending e tells x s =
+    let stop : IsHalt e now.ran new (parked end x.last (after x.log (picture x.machine))) = draw_stops end x.last (after x.log (picture x.machine)) new now e (Gives-after None new now x.log (picture x.machine) (Err e) (s.model tells x.machine x.stands)) x.count (λ speaks. let spoke = sym s.later.speaks ∙ speaks in said_before e mid new x.last.transcript spoke (x.said spoke) s.silent) in
+    subst (λ (y : Ending). StopsAs e now.ran y × SaysAs e new y) (sym x.ends) stop
+
+-- whatever drawing comes to, what was said is what the run said
+pub draws_nothing : (mid new : Told) (now : Cpu) (end : Step) (ending : Ending) → IsTrue mid.tells → Awaits mid now end ending → IsLater mid new → SaidNothing mid new → IsTrue new.speaks → new.transcript ≡ said_in ending
+draws_nothing mid new now end ending tells x later silent speaks =
+    let spoke = sym later.speaks ∙ speaks in
+    let told : new.transcript ≡ x.machine.transcript = silent spoke ∙ x.stands.transcript spoke in
+    let last : new.transcript ≡ x.last.transcript = silent spoke ∙ x.said spoke in
+    go (picture x.machine) refl told last ∙ sym (ap said_in x.ends)
+  where
+    go : (o : Outcome (List ℕ)) → picture x.machine ≡ o → new.transcript ≡ x.machine.transcript → new.transcript ≡ x.last.transcript → new.transcript ≡ said_in (parked end x.last (after x.log o))
+    go (Go bytes n rows) e told last = told ∙ ap (λ (m : Machine). m.transcript) (sym (picture_leaves x.machine n bytes rows e))
+    go (Halt c rows) e told last = last
+    go (Spent rows) e told last = last
+    go (Unbuilt rows) e told last = last
+
+pub draw_halts : (mid new : Told) (now : Cpu) (end : Step) (ending : Ending) (why : Reason) → IsTrue mid.tells → Awaits mid now end ending → DrawsAs mid now new (Err why) → HaltsAs why now.ran new ending
+draw_halts mid new now end ending (ByStop stop) tells x s = draws_stop mid new now end ending stop tells x s
+draw_halts mid new now end ending NoMemory tells x s = λ speaks. draws_nothing mid new now end ending tells x s.0 s.1 speaks

@@ -35,5 +35,5 @@ base_bytes ip =
 
 -- the text of what a run leaves
 abbrev pub text_of : Ending → List ℕ
-text_of (Parked end m) = image_text m.heap
-text_of (Stuck why ran) = []
+text_of (Parked end m picture) = image_text m.heap
+text_of (Stuck why ran said) = []

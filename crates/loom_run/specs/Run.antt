@@ -1,44 +1,53 @@
 -- What a run over a memory has to do with a run of the model.
-use Rattle.std.specs.Prelude.{◌≡◌, ◌⊎◌, ℕ, ◌<◌, ◌≤◌, Bool, true, false, [], Some, None, Result, Ok, Err, IsTrue}
+use Rattle.std.specs.Prelude.{◌≡◌, ◌⊎◌, ℕ, ◌<◌, ◌≤◌, Bool, true, false, List, [], ◌++◌, Some, None, Result, Ok, Err, IsTrue}
 use Rattle.long_names.specs.Counting.{Rose}
 use Rattle.long_names.specs.Heap.{Heap}
 use Rattle.long_names.specs.Need.{Fits}
 use Rattle.long_names.specs.Thin.{IsThinner}
 use Rattle.object_memory.specs.Told.{Told}
-use Rattle.object_memory.specs.Contract.{ForBounds, NoBounds, work_faults, said_faults}
+use Rattle.object_memory.specs.Contract.{IsLater, ForBounds, NoBounds, work_faults, said_faults}
 use Rattle.object_memory.specs.declared.fault.MemFault.{MemFault}
 use Rattle.object_memory.specs.declared.fault.MemFault.TheVariants.{CoreFull, WorkFull, WorkFault, Damaged, NamesSpent, Said, Memory}
 use Rattle.blue_model.specs.declared.cpu.Cpu.{Cpu}
 use Rattle.blue_model.specs.declared.step.Step.{Step}
 use Rattle.blue_model.specs.declared.step.Step.TheVariants.{Next, Quit}
-use Rattle.blue_model.specs.Machine.{Machine}
-use Rattle.blue_model.specs.Cycle.{Ran, ByCause, BySpentNames, ByUnbuilt, Ending, cycle}
+use Rattle.blue_model.specs.declared.event.Line.{Line}
+use Rattle.blue_model.specs.Machine.{Machine, LogRow, after}
+use Rattle.blue_model.specs.Devices.{picture}
+use Rattle.blue_model.specs.Cycle.{Ran, Stopping, ByCause, BySpentNames, ByUnbuilt, Ending, cycle, parked}
 use Rattle.blue_model.specs.Cycle as model
 use Rattle.contexts.specs.declared.stop.Stop.{Stop}
 use Rattle.contexts.specs.declared.stop.Stop.TheVariants.{Stuck, Mem, NotBuilt}
-use Rattle.contexts.specs.Serves.{Stands, Gives}
+use Rattle.contexts.specs.Serves.{Stands, GivesAs, Serves, SaidNothing}
 use Rattle.contexts.specs.Serves as serves
 use Rattle.loom_run.specs.declared.running.Finished.{Finished}
 use Rattle.loom_run.specs.declared.running.Halted.{Halted}
+use Rattle.loom_run.specs.declared.running.Reason.{Reason}
+use Rattle.loom_run.specs.declared.running.Reason.TheVariants.{ByStop, NoMemory}
 
 -- ---- runs
 
 -- the memory stands for the machine after so many cycles, or after the one that ended it
-pub record Reaches (new : Told) (now : Cpu) (end : Step) (cycles : ℕ) (m : Machine) : Type 0 where
+pub record Reaches (events : List Line) (new : Told) (now : Cpu) (end : Step) (cycles : ℕ) (m : Machine) : Type 0 where
   pub machine : Machine
-  pub ran : model.run cycles m ≡ Ran end machine
+  pub ran : model.run events cycles m ≡ Ran end machine
   pub stands : Stands new now machine
+
+-- What was said when a call stopped: what had been said before it, and where its own saying failed a part of that.
+abbrev pub HasSaid : Stop → List ℕ → List ℕ → Type 0
+HasSaid (Mem (Said count)) before now = (z : List ℕ) × (now ≡ before ++ z)
+HasSaid _ before now = now ≡ before
 
 -- The run stopped in the cycle after so many: the model's machine there comes to this stop, or allows the fault. So many bytecodes
 -- were run, and what was said is what that machine had said.
-pub record StopsIn (new : Told) (now : Cpu) (stop : Stop) (cycles : ℕ) (m : Machine) : Type 0 where
+pub record StopsIn (events : List Line) (new : Told) (now : Cpu) (stop : Stop) (cycles : ℕ) (m : Machine) : Type 0 where
   pub done : ℕ
   pub machine : Machine
   pub few : done < cycles
-  pub ran : model.run done m ≡ Ran Next machine
+  pub ran : model.run events done m ≡ Ran Next machine
   pub count : machine.cpu.ran ≡ now.ran
-  pub said : IsTrue new.speaks → new.transcript ≡ machine.transcript
-  pub gives : Gives {A = Step} new now (Err stop) (cycle machine)
+  pub said : IsTrue new.speaks → HasSaid stop machine.transcript new.transcript
+  pub gives : GivesAs (Some Next) new now (Err stop) (cycle events machine)
 
 abbrev pub IsWorkFault : Stop → Type 0
 IsWorkFault (Mem (WorkFault count)) = Unit {0}
@@ -55,20 +64,20 @@ is_quit Next = false
 is_quit Quit = true
 
 -- the memory couldn't settle after a cycle
-pub record StopsAfter (new : Told) (now : Cpu) (stop : Stop) (cycles : ℕ) (m : Machine) : Type 0 where
+pub record StopsAfter (events : List Line) (new : Told) (now : Cpu) (stop : Stop) (cycles : ℕ) (m : Machine) : Type 0 where
   pub done : ℕ
   pub end : Step
   pub machine : Machine
   pub few : done ≤ cycles
-  pub ran : model.run done m ≡ Ran end machine
+  pub ran : model.run events done m ≡ Ran end machine
   pub count : machine.cpu.ran ≡ now.ran
   pub said : IsTrue new.speaks → new.transcript ≡ machine.transcript
   pub fault : IsWorkFault stop
 
 -- a run of at most so many cycles, with this answer, is the model's
-abbrev pub RunsAs : Told → Cpu → ℕ → Machine → Result Step Stop → Type 0
-RunsAs new now cycles m (Ok end) = Reaches new now end cycles m
-RunsAs new now cycles m (Err stop) = StopsIn new now stop cycles m ⊎ StopsAfter new now stop cycles m
+abbrev pub RunsAs : List Line → Told → Cpu → ℕ → Machine → Result Step Stop → Type 0
+RunsAs events new now cycles m (Ok end) = Reaches events new now end cycles m
+RunsAs events new now cycles m (Err stop) = StopsIn events new now stop cycles m ⊎ StopsAfter events new now stop cycles m
 
 -- ---- why a memory refused, as far as no row is named
 
@@ -105,12 +114,27 @@ pub record Begins (h : Heap) (t : Told) : Type 0 where
 
 -- the model's run went through, and P holds of the machine that is parked
 abbrev pub OnParked : Ending → (Machine → Type 0) → Type 0
-OnParked (model.Parked end m) P = P m
-OnParked (model.Stuck why ran) P = ⊥
+OnParked (model.Parked end m drawn) P = P m
+OnParked (model.Stuck why ran said) P = ⊥
+
+-- and P holds of the picture
+abbrev pub OnDrawn : Ending → (List ℕ → Type 0) → Type 0
+OnDrawn (model.Parked end m drawn) P = P drawn
+OnDrawn (model.Stuck why ran said) P = ⊥
+
+-- all that the model's run said
+abbrev pub said_in : Ending → List ℕ
+said_in (model.Parked end m drawn) = m.transcript
+said_in (model.Stuck why ran said) = said
+
+-- the model's run stopped for this reason, after so many bytecodes
+abbrev pub IsStuckBy : Stopping → ℕ → Ending → Type 0
+IsStuckBy why ran (model.Parked end m drawn) = ⊥
+IsStuckBy why ran (model.Stuck reason count said) = (reason ≡ why) × (count ≡ ran)
 
 -- a fault of the memory: names are spent where the model's run says so, and any other fault may come at any time
 abbrev pub FaultsAs : MemFault → ℕ → Ending → Type 0
-FaultsAs NamesSpent ran ending = ending ≡ model.Stuck BySpentNames ran
+FaultsAs NamesSpent ran ending = IsStuckBy BySpentNames ran ending
 FaultsAs (CoreFull need) ran ending = Unit {0}
 FaultsAs (WorkFull live room) ran ending = Unit {0}
 FaultsAs (WorkFault count) ran ending = Unit {0}
@@ -120,31 +144,74 @@ FaultsAs Memory ran ending = Unit {0}
 
 -- the stop is the one that ended the model's run, after so many bytecodes
 abbrev pub StopsAs : Stop → ℕ → Ending → Type 0
-StopsAs (Stuck cause) ran ending = ending ≡ model.Stuck (ByCause cause) ran
-StopsAs NotBuilt ran ending = ending ≡ model.Stuck ByUnbuilt ran
+StopsAs (Stuck cause) ran ending = IsStuckBy (ByCause cause) ran ending
+StopsAs NotBuilt ran ending = IsStuckBy ByUnbuilt ran ending
 StopsAs (Mem fault) ran ending = FaultsAs fault ran ending
+
+-- the stop is one of the machine, and no fault of a memory beside spent names
+abbrev pub is_own : Stop → Bool
+is_own (Stuck cause) = true
+is_own NotBuilt = true
+is_own (Mem NamesSpent) = true
+is_own (Mem _) = false
+
+-- what was said when the model's run stopped
+abbrev pub SaysAs : Stop → Told → Ending → Type 0
+SaysAs stop new ending = IsTrue (is_own stop) → IsTrue new.speaks → new.transcript ≡ said_in ending
 
 -- the model's run went through, and ended so after so many bytecodes
 abbrev pub IsParkedBy : Step → ℕ → Ending → Type 0
-IsParkedBy end ran (model.Parked last m) = (last ≡ end) × (m.cpu.ran ≡ ran)
-IsParkedBy end ran (model.Stuck why count) = ⊥
+IsParkedBy end ran (model.Parked last m drawn) = (last ≡ end) × (m.cpu.ran ≡ ran)
+IsParkedBy end ran (model.Stuck why count said) = ⊥
 
--- and the memory stands for the heap of the parked machine
-pub record GoesThrough (new : Told) (end : Step) (ran : ℕ) (ending : Ending) : Type 0 where
-  pub parked : IsParkedBy end ran ending
-  pub heap : OnParked ending (λ m. IsThinner m.heap new.heap)
+-- The memory stands for the machine that was parked after a run, whose picture is still to be drawn: what the run comes to is what
+-- drawing it comes to.
+pub record Awaits (new : Told) (now : Cpu) (end : Step) (ending : Ending) : Type 0 where
+  pub machine : Machine
+  pub stands : Stands new now machine
+  pub last : Machine
+  pub log : List LogRow
+  pub count : last.cpu.ran ≡ now.ran
+  pub said : IsTrue new.speaks → new.transcript ≡ last.transcript
+  pub ends : ending ≡ parked end last (after log (picture machine))
 
--- the run went through as the model's, or stopped as it
+-- the run up to the picture went as the model's, or stopped as it
 abbrev pub GoesAs : Told → Cpu → Result Step Stop → Ending → Type 0
-GoesAs new now (Ok end) ending = GoesThrough new end now.ran ending
-GoesAs new now (Err stop) ending = StopsAs stop now.ran ending
+GoesAs new now (Ok end) ending = Awaits new now end ending
+GoesAs new now (Err stop) ending = StopsAs stop now.ran ending × SaysAs stop new ending
 
--- the same, with the count in the answer
+-- the memory stands for the heap of the parked machine, whose picture this is, and said what the run said
+pub record GoesThrough (new : Told) (finished : Finished) (ending : Ending) : Type 0 where
+  pub parked : IsParkedBy finished.end finished.ran ending
+  pub heap : OnParked ending (λ m. IsThinner m.heap new.heap)
+  pub drawn : OnDrawn ending (λ picture. finished.picture ≡ picture)
+  pub said : IsTrue new.speaks → new.transcript ≡ said_in ending
+
+-- drawing comes to the model's picture, or to its stop, or no memory was found
+abbrev pub DrawsAs : Told → Cpu → Told → Result (List ℕ) Reason → Type 0
+DrawsAs old cpu new (Ok bytes) = Serves old cpu new cpu picture (Ok bytes)
+DrawsAs old cpu new (Err (ByStop stop)) = Serves old cpu new cpu picture (Err stop)
+DrawsAs old cpu new (Err NoMemory) = IsLater old new × SaidNothing old new
+
+-- why a whole run halted, by what became of the model's
+abbrev pub HaltsAs : Reason → ℕ → Told → Ending → Type 0
+HaltsAs (ByStop stop) ran new ending = StopsAs stop ran ending × SaysAs stop new ending
+HaltsAs NoMemory ran new ending = IsTrue new.speaks → new.transcript ≡ said_in ending
+
 abbrev pub EndsAs : Told → Result Finished Halted → Ending → Type 0
-EndsAs new (Ok finished) ending = GoesThrough new finished.end finished.ran ending
-EndsAs new (Err halted) ending = StopsAs halted.why halted.ran ending
+EndsAs new (Ok finished) ending = GoesThrough new finished ending
+EndsAs new (Err halted) ending = HaltsAs halted.why halted.ran new ending
+
+-- only a memory that refused answers a fault
+abbrev pub HaltsBy : Told → Told → Reason → Type 0
+HaltsBy old new (ByStop stop) = FaultsBy old new stop
+HaltsBy old new NoMemory = Unit {0}
 
 -- the memory is sound after every end but a fault that leaves nothing known
+abbrev pub SoundBy : Reason → Type 0 → Type 0
+SoundBy (ByStop stop) P = serves.StaysSound {A = Unit {0}} (Err stop) P
+SoundBy NoMemory P = P
+
 abbrev pub StaysSound : Result Finished Halted → Type 0 → Type 0
 StaysSound (Ok finished) P = P
-StaysSound (Err halted) P = serves.StaysSound {A = Unit {0}} (Err halted.why) P
+StaysSound (Err halted) P = SoundBy halted.why P

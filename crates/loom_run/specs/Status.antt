@@ -3,7 +3,7 @@ use Rattle.std.specs.Prelude.{ℕ, List, ◌++◌, codes, decimal, Option, Some,
 use Rattle.loom_outside.specs.declared.outside.Role.{Role}
 use Rattle.loom_outside.specs.declared.outside.Role.TheVariants.{Image, Events, Work, Saved, Display, Transcript, Notes}
 use Rattle.loom_run.specs.declared.status.Status.{Status}
-use Rattle.loom_run.specs.declared.status.Status.TheVariants.{Done, Quit, Usage, ImageBad, Stuck, NamesSpent, ReadFault, WriteFault, OutOfMemory, NotBuilt}
+use Rattle.loom_run.specs.declared.status.Status.TheVariants.{Done, Quit, Usage, ImageBad, EventsBad, Stuck, NamesSpent, ReadFault, WriteFault, OutOfMemory, NotBuilt}
 
 -- what a role is called
 abbrev pub role_text : Role → List ℕ
@@ -21,6 +21,7 @@ text_of (Done ran) = codes "ran " ++ decimal ran
 text_of (Quit ran) = codes "quit after " ++ decimal ran
 text_of (Usage word) = codes "usage: word " ++ decimal word
 text_of (ImageBad rule place) = codes "image: rule " ++ decimal rule ++ codes " at " ++ decimal place
+text_of (EventsBad line) = codes "events: line " ++ decimal line
 text_of (Stuck cause ran) = codes "stuck: cause " ++ decimal cause ++ codes " after " ++ decimal ran
 text_of (NamesSpent ran) = codes "names spent after " ++ decimal ran
 text_of (ReadFault role count) = codes "read fault: " ++ role_text role
@@ -38,6 +39,7 @@ code_of (Done ran) = 0
 code_of (Quit ran) = 0
 code_of (Usage word) = 2
 code_of (ImageBad rule place) = 3
+code_of (EventsBad line) = 4
 code_of (Stuck cause ran) = 5
 code_of (NamesSpent ran) = 7
 code_of (ReadFault role count) = 9

@@ -1,19 +1,20 @@
 // Laws of the program. No code calls these functions: what each of them ensures is the law.
-ghost use Rattle.std.specs.Prelude.{◌↔◌, List, None, ◌≡◌, ℕ};
+ghost use Rattle.std.specs.Prelude.{◌↔◌, List, [], None, ◌≡◌, ℕ};
 ghost use Rattle.image_format.specs.Text.{image_text};
 ghost use Rattle.blue_model.specs.Base.{heap_of, base_code};
 ghost use Rattle.blue_model.specs.Cycle.{ending};
 ghost use Rattle.loom_run.specs.Base.{base_bytes, text_of};
-ghost use Rattle.loom_run.specs.Words.{IsRow, bad_word, image_word, saved_word, steps_of};
+ghost use Rattle.loom_run.specs.Words.{IsRow, bad_word, image_word, events_word, saved_word, display_word, steps_of};
 
 /// The base image as bytes, before two bytecodes and after them: its context's instruction pointer is field 1, 3 and then 5.
 pub fn base_text()
     ensures before { image_text (heap_of base_code) ≡ base_bytes 7 }
-    ensures after { text_of (ending 2 (heap_of base_code)) ≡ base_bytes 11 }
+    ensures after { text_of (ending [] 2 (heap_of base_code)) ≡ base_bytes 11 }
 {}
 
-/// Words of which none is bad are `run`, the two images, and a number of bytecodes as it is written in decimal digits.
+/// Words of which none is bad are `run`, the files of the image, the events, the saved image and the picture, which
+/// is none of the three before it, and a number of bytecodes as it is written in decimal digits.
 #[tactic(auto, using(crate::proofs::Rows::row_rules))]
 pub fn right_words()
-    ensures { (words : List (List ℕ)) → (bad_word words ≡ None) ↔ IsRow words (image_word words) (saved_word words) (steps_of words) }
+    ensures { (words : List (List ℕ)) → (bad_word words ≡ None) ↔ IsRow words (image_word words) (events_word words) (saved_word words) (display_word words) (steps_of words) }
 {}

@@ -6,13 +6,18 @@ ghost use Rattle.object_memory.specs.Contract.{IsLater, Settled};
 ghost use Rattle.blue_model.specs.Machine.{Machine};
 ghost use Rattle.blue_model.specs.Processes.{check_switch as check_switch_rule};
 ghost use Rattle.blue_model.specs.Cycle.{cycle as cycle_rule, turn as turn_rule, ending};
-ghost use Rattle.contexts.specs.Serves.{Serves, Stands, HasRest, StaysSound as StopsSound};
-ghost use Rattle.loom_run.specs.Run.{Begins, EndsAs, FaultsBy, GoesAs, HasCounted, RunsAs, StaysSound, is_quit as is_quit_step};
+ghost use Rattle.blue_model.specs.declared.step.Step.TheVariants as step;
+ghost use Rattle.contexts.specs.Serves.{Serves, Speaks, Stands, HasRest, StaysSound as StopsSound};
+ghost use Rattle.loom_run.specs.Run.{Begins, DrawsAs, EndsAs, FaultsBy, GoesAs, HaltsBy, HasCounted, RunsAs, SoundBy, StaysSound, is_quit as is_quit_step};
 
 use bytecodes::{Step, step};
 use contexts::{Cpu, Stop, park, start};
+use devices::{PictureFault, due, picture};
+use event_file::EventList;
+use long_names::Octets;
 use object_memory::ObjectMemory;
 use process_sched::switch;
+use std::alloc::Global;
 
 /// A process switch, where one waits (checkProcessSwitch, chapter 28).
 fn check_switch<M: ObjectMemory>(m: &mut M, cpu: &mut Cpu) -> Result<(), Stop>
@@ -30,27 +35,28 @@ fn check_switch<M: ObjectMemory>(m: &mut M, cpu: &mut Cpu) -> Result<(), Stop>
     Ok(())
 }
 
-/// A process switch where one waits, and one bytecode.
-fn turn<M: ObjectMemory>(m: &mut M, cpu: &mut Cpu) -> Result<Step, Stop>
+/// The lines that are due, the timer, a process switch where one waits, and one bytecode.
+fn turn<M: ObjectMemory>(m: &mut M, cpu: &mut Cpu, events: &EventList) -> Result<Step, Stop>
     requires sound { M.sound m.old }
     requires ready { IsReady (M.told m.old) }
-    ensures serves { Serves (M.told m.old) cpu.old (M.told m.new) cpu.new turn_rule result }
+    ensures serves { Speaks step.Next (M.told m.old) cpu.old (M.told m.new) cpu.new (turn_rule events.now) result }
     ensures rest { OnOk result (HasRest (M.told m.new)) }
     ensures ready { OnOk result (IsReady (M.told m.new)) }
     ensures sound { StopsSound result (M.sound m.new) }
     ensures lender { M.lender m.new ≡ M.lender m.old }
     ensures outside { M.outside m.new ≡ M.outside m.old }
 {
+    due(m, cpu, events)?;
     check_switch(m, cpu)?;
-    step(m, cpu)
+    step(m, cpu, events)
 }
 
 /// One cycle of the machine. Its bytecode is counted unless it stopped.
-fn cycle<M: ObjectMemory>(m: &mut M, cpu: &mut Cpu) -> Result<Step, Stop>
+fn cycle<M: ObjectMemory>(m: &mut M, cpu: &mut Cpu, events: &EventList) -> Result<Step, Stop>
     requires sound { M.sound m.old }
     requires ready { IsReady (M.told m.old) }
     requires room { cpu.old.ran + 1 < 2 ^ 32 }
-    ensures serves { Serves (M.told m.old) cpu.old (M.told m.new) cpu.new cycle_rule result }
+    ensures serves { Speaks step.Next (M.told m.old) cpu.old (M.told m.new) cpu.new (cycle_rule events.now) result }
     ensures counted { OnOk result (cpu.new.ran ≡ cpu.old.ran + 1) }
     ensures kept { OnErr result (cpu.new.ran ≡ cpu.old.ran) }
     ensures rest { OnOk result (HasRest (M.told m.new)) }
@@ -60,7 +66,7 @@ fn cycle<M: ObjectMemory>(m: &mut M, cpu: &mut Cpu) -> Result<Step, Stop>
     ensures outside { M.outside m.new ≡ M.outside m.old }
 {
     let ran = cpu.ran;
-    match turn(m, cpu) {
+    match turn(m, cpu, events) {
         Ok(step) => {
             cpu.ran = ran + 1;
             Ok(step)
@@ -82,14 +88,14 @@ fn is_quit(step: Step) -> bool
     }
 }
 
-/// Runs so many bytecodes, or until one ends the machine (interpret, chapter 28). The memory settles after each. `cpu.ran` says how many
-/// were run, where it stops too. Quit comes exactly where the last bytecode ended the machine.
-pub fn run<M: ObjectMemory>(m: &mut M, cpu: &mut Cpu, steps: u32) -> Result<Step, Stop>
+/// Runs so many bytecodes under an event list, or until one ends the machine (interpret, chapter 28). The memory settles after each.
+/// `cpu.ran` says how many were run, where it stops too. Quit comes exactly where the last bytecode ended the machine.
+pub fn run<M: ObjectMemory>(m: &mut M, cpu: &mut Cpu, events: &EventList, steps: u32) -> Result<Step, Stop>
     requires sound { M.sound m.old }
     requires ready { IsReady (M.told m.old) }
     requires rest { HasRest (M.told m.old) }
     requires room { cpu.old.ran + steps < 2 ^ 32 }
-    ensures runs { IsTrue (M.told m.old).tells → (machine : Machine) → Stands (M.told m.old) cpu.old machine → RunsAs (M.told m.new) cpu.new steps machine result }
+    ensures runs { IsTrue (M.told m.old).tells → (machine : Machine) → Stands (M.told m.old) cpu.old machine → RunsAs events.now (M.told m.new) cpu.new steps machine result }
     ensures fault { IfErr result (FaultsBy (M.told m.old) (M.told m.new)) }
     ensures counted { IfOk result (λ end. HasCounted end cpu.new.ran (cpu.old.ran + steps)) }
     ensures few { cpu.new.ran ≤ cpu.old.ran + steps }
@@ -102,7 +108,7 @@ pub fn run<M: ObjectMemory>(m: &mut M, cpu: &mut Cpu, steps: u32) -> Result<Step
     ensures outside { M.outside m.new ≡ M.outside m.old }
 {
     for turn in 0..steps {
-        let step = cycle(m, cpu)?;
+        let step = cycle(m, cpu, events)?;
         m.settle()?;
         if is_quit(step) {
             return Ok(Step::Quit);
@@ -112,59 +118,101 @@ pub fn run<M: ObjectMemory>(m: &mut M, cpu: &mut Cpu, steps: u32) -> Result<Step
 }
 
 /// How a whole run went through.
-#[derive(Clone, Copy, Debug, PartialEq, Eq)]
+#[derive(Debug, Drop)]
 pub struct Finished {
     /// Next where all bytecodes were run, Quit where the last one ended the machine.
     pub end: Step,
     /// How many bytecodes were run.
     pub ran: u32,
+    /// The picture of the display, or nothing where it has none.
+    pub picture: Octets,
+}
+
+/// Why a whole run ended before its end.
+#[derive(Clone, Copy, Debug, PartialEq, Eq)]
+pub enum Reason {
+    ByStop(Stop),
+    /// There was no memory for the picture.
+    NoMemory,
 }
 
 /// Where a whole run ended before its end, and why.
 #[derive(Clone, Copy, Debug, PartialEq, Eq)]
 pub struct Halted {
-    pub why: Stop,
+    pub why: Reason,
     /// How many bytecodes were run.
     pub ran: u32,
 }
 
 /// Starts, runs so many bytecodes, and parks. `cpu.ran` says how many were run.
-fn go_through<M: ObjectMemory>(m: &mut M, cpu: &mut Cpu, steps: u32) -> Result<Step, Stop>
+fn go_through<M: ObjectMemory>(m: &mut M, cpu: &mut Cpu, events: &EventList, steps: u32) -> Result<Step, Stop>
     requires sound { M.sound m.old }
     requires ready { IsReady (M.told m.old) }
-    ensures ends { IsTrue (M.told m.old).tells → (h : Heap) → Begins h (M.told m.old) → GoesAs (M.told m.new) cpu.new result (ending steps h) }
+    ensures ends { IsTrue (M.told m.old).tells → (h : Heap) → Begins h (M.told m.old) → GoesAs (M.told m.new) cpu.new result (ending events.now steps h) }
     ensures fault { IfErr result (FaultsBy (M.told m.old) (M.told m.new)) }
     ensures few { cpu.new.ran ≤ steps }
     ensures counted { IfOk result (λ end. HasCounted end cpu.new.ran steps) }
     ensures ready { OnOk result (IsReady (M.told m.new)) }
-    ensures tells { (M.told m.new).tells ≡ (M.told m.old).tells }
+    ensures later { IsLater (M.told m.old) (M.told m.new) }
     ensures sound { StopsSound result (M.sound m.new) }
     ensures lender { M.lender m.new ≡ M.lender m.old }
     ensures outside { M.outside m.new ≡ M.outside m.old }
 {
     start(m, cpu)?;
-    let step = run(m, cpu, steps)?;
+    let step = run(m, cpu, events, steps)?;
     park(m, cpu)?;
     Ok(step)
 }
 
-/// Starts, runs so many bytecodes, and parks.
-pub fn whole_run<M: ObjectMemory>(m: &mut M, steps: u32) -> Result<Finished, Halted>
+/// Draws the display of a machine that is parked.
+fn draw<M: ObjectMemory>(alloc: Global, m: &mut M, cpu: &Cpu) -> Result<Octets, Reason>
     requires sound { M.sound m.old }
     requires ready { IsReady (M.told m.old) }
-    ensures ends { IsTrue (M.told m.old).tells → (h : Heap) → Begins h (M.told m.old) → EndsAs (M.told m.new) result (ending steps h) }
-    ensures fault { IfErr result (λ halted. FaultsBy (M.told m.old) (M.told m.new) halted.why) }
+    ensures draws { DrawsAs (M.told m.old) cpu.now (M.told m.new) result }
+    ensures ready { OnOk result (IsReady (M.told m.new)) }
+    ensures sound { IfErr result (λ why. SoundBy why (M.sound m.new)) }
+    ensures still { OnOk result (M.sound m.new) }
+    ensures lender { M.lender m.new ≡ M.lender m.old }
+    ensures outside { M.outside m.new ≡ M.outside m.old }
+{
+    match picture(alloc, m, cpu) {
+        Ok(bytes) => Ok(bytes),
+        Err(PictureFault::Stop(stop)) => Err(Reason::ByStop(stop)),
+        Err(PictureFault::Memory) => Err(Reason::NoMemory),
+    }
+}
+
+/// Starts, runs so many bytecodes under an event list, parks, and draws the display.
+pub fn whole_run<M: ObjectMemory>(alloc: Global, m: &mut M, events: &EventList, steps: u32) -> Result<Finished, Halted>
+    requires sound { M.sound m.old }
+    requires ready { IsReady (M.told m.old) }
+    ensures ends { IsTrue (M.told m.old).tells → (h : Heap) → Begins h (M.told m.old) → EndsAs (M.told m.new) result (ending events.now steps h) }
+    ensures fault { IfErr result (λ halted. HaltsBy (M.told m.old) (M.told m.new) halted.why) }
     ensures ran { IfErr result (λ halted. halted.ran ≤ steps) }
     ensures counted { IfOk result (λ finished. HasCounted finished.end finished.ran steps) }
     ensures ready { OnOk result (IsReady (M.told m.new)) }
-    ensures tells { OnOk result ((M.told m.new).tells ≡ (M.told m.old).tells) }
+    ensures later { IsLater (M.told m.old) (M.told m.new) }
     ensures sound { StaysSound result (M.sound m.new) }
     ensures lender { M.lender m.new ≡ M.lender m.old }
     ensures outside { M.outside m.new ≡ M.outside m.old }
 {
     let mut cpu = Cpu::at_rest();
-    match go_through(m, &mut cpu, steps) {
-        Ok(end) => Ok(Finished { end, ran: cpu.ran }),
-        Err(why) => Err(Halted { why, ran: cpu.ran }),
+    let end = match go_through(m, &mut cpu, events, steps) {
+        Ok(end) => end,
+        Err(stop) => return Err(halt_of(Reason::ByStop(stop), cpu.ran)),
+    };
+    match draw(alloc, m, &cpu) {
+        Ok(picture) => Ok(Finished {
+            end,
+            ran: cpu.ran,
+            picture,
+        }),
+        Err(why) => Err(halt_of(why, cpu.ran)),
     }
+}
+
+fn halt_of(why: Reason, ran: u32) -> Halted
+    ensures { result ≡ record { why = why; ran = ran } }
+{
+    Halted { why, ran }
 }

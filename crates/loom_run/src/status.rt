@@ -1,13 +1,13 @@
 // How a run ends, and the line that says so.
-ghost use Rattle.std.specs.Prelude.{◌≡◌, ◌+◌, ◌≤◌, ◌++◌, ℕ, length, codes, decimal};
+ghost use Rattle.std.specs.Prelude.{◌≡◌, ◌+◌, ◌≤◌, ◌++◌, ℕ, length, codes, decimal, IsFalse};
 ghost use Rattle.arrayvec.specs.ArrayString.{array_string_len};
 ghost use Rattle.blue_model.specs.Cycle.{Ending};
-ghost use Rattle.loom_run.specs.Parts.{IsFinished, IsStopped, Runs};
-ghost use Rattle.loom_run.specs.Run.{HasCounted, IsParkedBy, StopsAs};
+ghost use Rattle.loom_run.specs.Parts.{IsFinished, IsStopped, StopsBy, is_own_reason};
+ghost use Rattle.loom_run.specs.Run.{HasCounted, IsParkedBy};
 ghost use Rattle.loom_run.specs.Status.{role_text, text_of, line_of, code_of};
-ghost use Rattle.loom_run.specs.Top.{HasRun};
+ghost use Rattle.loom_run.specs.Top.{HasRun, JudgesRun};
 
-use crate::running::{Finished, Halted};
+use crate::running::{Finished, Halted, Reason};
 use arrayvec::ArrayString;
 use blue_model::Step;
 use contexts::Stop;
@@ -29,6 +29,8 @@ pub enum Status {
     Usage { word: u32 },
     /// The image breaks a rule at a place. Both are 0 so far.
     ImageBad { rule: u8, place: u64 },
+    /// This line of the event file, counted from 1, is the first bad one.
+    EventsBad { line: u32 },
     /// After so many bytecodes the machine came to a broken rule. `cause` is the number of its `Cause`.
     Stuck { cause: u8, ran: u32 },
     /// After so many bytecodes the machine was to make an object, and no name is left for one.
@@ -52,6 +54,7 @@ impl Status {
             Status::Done { .. } | Status::Quit { .. } => 0,
             Status::Usage { .. } => 2,
             Status::ImageBad { .. } => 3,
+            Status::EventsBad { .. } => 4,
             Status::Stuck { .. } => 5,
             Status::NamesSpent { .. } => 7,
             Status::ReadFault { .. } => 9,
@@ -81,6 +84,7 @@ impl Status {
             Status::ImageBad { rule, place } => {
                 twice_numbered("image: rule ", rule as u64, " at ", place)
             }
+            Status::EventsBad { line } => numbered("events: line ", line as u64),
             Status::Stuck { cause, ran } => {
                 twice_numbered("stuck: cause ", cause as u64, " after ", ran as u64)
             }
@@ -97,7 +101,7 @@ impl Status {
 pub(crate) fn status_of_end(finished: &Finished) -> Status
     ensures finished { IsFinished result }
     ensures ran { (steps : ℕ) → HasCounted finished.now.end finished.now.ran steps → HasRun result steps }
-    ensures runs { (run : Ending) → IsParkedBy finished.now.end finished.now.ran run → Runs result run }
+    ensures runs { (run : Ending) → IsParkedBy finished.now.end finished.now.ran run → JudgesRun result run }
 {
     let ran = finished.ran;
     match finished.end {
@@ -110,17 +114,19 @@ pub(crate) fn status_of_end(finished: &Finished) -> Status
 pub(crate) fn status_of(halted: &Halted) -> Status
     ensures stopped { IsStopped result }
     ensures ran { (steps : ℕ) → halted.now.ran ≤ steps → HasRun result steps }
-    ensures runs { (run : Ending) → StopsAs halted.now.why halted.now.ran run → Runs result run }
+    ensures runs { (run : Ending) → StopsBy halted.now.why halted.now.ran run → JudgesRun result run }
+    ensures memory { IsFalse (is_own_reason halted.now.why) → result ≡ Status.OutOfMemory }
+    ensures unwritten { (role : Role) (count : ℕ) → result ≡ Status.WriteFault role count → ⊥ }
 {
     let ran = halted.ran;
     match halted.why {
-        Stop::Stuck(cause) => Status::Stuck {
+        Reason::ByStop(Stop::Stuck(cause)) => Status::Stuck {
             cause: cause.number(),
             ran,
         },
-        Stop::NotBuilt => Status::NotBuilt { ran },
-        Stop::Mem(MemFault::NamesSpent) => Status::NamesSpent { ran },
-        Stop::Mem(_) => Status::OutOfMemory,
+        Reason::ByStop(Stop::NotBuilt) => Status::NotBuilt { ran },
+        Reason::ByStop(Stop::Mem(MemFault::NamesSpent)) => Status::NamesSpent { ran },
+        Reason::ByStop(Stop::Mem(_)) | Reason::NoMemory => Status::OutOfMemory,
     }
 }
 

@@ -1,16 +1,17 @@
 use Rattle.std.proofs.Common.{refl}
 use Rattle.blue_model.specs.Cycle.{cycle, count_bytecode}
-use Rattle.contexts.proofs.ServesLaws.{serves_then, serves_stop}
+use Rattle.contexts.proofs.ServesLaws.{serves_then}
+use Rattle.contexts.proofs.SpeaksLaws.{speaks_then, speaks_stop}
 use Rattle.contexts.proofs.Steps.{numbers_then, set_numbers_at, done_serves}
-use Rattle.loom_run.proofs.RunningLaws.{stop_numbers}
+use Rattle.loom_run.proofs.RunningLaws.{stop_numbers, counts_on}
 use Rattle.loom_run.proofs.running.cycle.Goals as goal
 
 pub returns-in-Ok-clause-serves : goal.returns-in-Ok-clause-serves
 unfolding cycle count_bytecode
 returns-in-Ok-clause-serves g c =
     let ready = rw c.in-Ok.is at c.turn.ensures.ready in
-    numbers_then _ (serves_then _ (rw c.in-Ok.is at c.turn.ensures.serves) (serves_then _ (numbers_then _ (set_numbers_at _ refl ready)) (done_serves ready)))
+    numbers_then _ (speaks_then _ (λ e. e) (rw c.in-Ok.is at c.turn.ensures.serves) (serves_then _ (numbers_then _ (set_numbers_at _ refl ready)) (done_serves ready)))
 
 pub returns-in-Err-clause-serves : goal.returns-in-Err-clause-serves
 unfolding cycle
-returns-in-Err-clause-serves g c = stop_numbers _ (numbers_then _ (serves_stop _ (rw c.in-Err.is at c.turn.ensures.serves)))
+returns-in-Err-clause-serves g c = stop_numbers _ (numbers_then _ (speaks_stop _ (counts_on _) (rw c.in-Err.is at c.turn.ensures.serves)))

@@ -9,7 +9,7 @@ use Rattle.loom_run.proofs.running.run.Goals as goal
 
 pub loop-turn-init : goal.loop-turn-init
 loop-turn-init g c = record {
-  runs = λ told m st. reaches_start _ _ m st;
+  runs = λ told m st. reaches_start _ _ _ m st;
   ran = omega arith;
   settled = λ some. absurd (omega arith);
   later = IsLater-refl _;
@@ -36,7 +36,7 @@ cycle-requires-clause-room g c =
 pub returns-in_err-step-clause-runs : goal.returns-in_err-step-clause-runs
 returns-in_err-step-clause-runs g c = λ told m st.
     let here = c.loop-turn.invariant in
-    runs_exit _ c.from_residual.ensures.1 (inl (stops_in _ _ _ _ c.loop-turn.turn c.args.steps m _ (here.later.tells ∙ told) c.loop-turn-test.true c.in_err-step.ensures.kept (here.runs told m st) c.in_err-step.ensures.serves))
+    runs_exit _ c.from_residual.ensures.1 (inl (stops_in _ _ _ _ _ c.loop-turn.turn c.args.steps m _ (here.later.tells ∙ told) c.loop-turn-test.true c.in_err-step.ensures.kept (here.runs told m st) c.in_err-step.ensures.serves))
 
 pub returns-in_err-step-clause-fault : goal.returns-in_err-step-clause-fault
 returns-in_err-step-clause-fault g c =
@@ -65,8 +65,8 @@ returns-in_err-settle-clause-runs g c = λ told m st.
     let here = c.loop-turn.invariant in
     let few = c.loop-turn-test.true in
     let now = here.later.tells ∙ told in
-    let next = reaches_more _ _ _ _ _ c.loop-turn.turn m now (here.runs told m st) c.in_ok-step.ensures.serves in
-    runs_exit _ c.from_residual-in_err-settle.ensures.1 (inr (stops_after _ _ _ _ (c.loop-turn.turn + 1) c.args.steps m _ (c.in_ok-step.ensures.serves.later.tells ∙ now) (omega arith) next c.in_err-settle.ensures.called))
+    let next = reaches_more _ _ _ _ _ _ c.loop-turn.turn m now (here.runs told m st) c.in_ok-step.ensures.serves in
+    runs_exit _ c.from_residual-in_err-settle.ensures.1 (inr (stops_after _ _ _ _ _ (c.loop-turn.turn + 1) c.args.steps m _ (c.in_ok-step.ensures.serves.later.tells ∙ now) (omega arith) next c.in_err-settle.ensures.called))
 
 pub returns-in_err-settle-clause-fault : goal.returns-in_err-settle-clause-fault
 returns-in_err-settle-clause-fault g c =
@@ -100,7 +100,7 @@ loop-turn-preserved g c =
       runs = λ told m st.
           let now = here.later.tells ∙ told in
           let on = goes_on _ (sym c.is_quit.ensures ∙ c.if-is_quit.false) in
-          let next = reaches_more _ _ _ _ Next c.loop-turn.turn m now (here.runs told m st) (rw on at did.serves) in
+          let next = reaches_more _ _ _ _ _ Next c.loop-turn.turn m now (here.runs told m st) (rw on at did.serves) in
           record { machine = next.machine; ran = next.ran; stands = settled_stands _ _ _ next.machine did.ready settled.ready settled.called (did.serves.later.tells ∙ now) next.stands };
       ran = (let before = here.ran in let counted = did.counted in omega arith);
       settled = λ some. settled_earlier (g.M.ObjectMemory.told c.args.m.now) (g.M.ObjectMemory.told c.cycle.new.m) (g.M.ObjectMemory.told c.settle.new.self) (IsLater-trans _ _ _ here.later did.serves.later) settled.called.ok.counts;
@@ -113,7 +113,7 @@ loop-turn-preserved g c =
     }
 
 pub returns-clause-runs : goal.returns-clause-runs
-returns-clause-runs g c = λ told m st. subst (λ k. Reaches (g.M.ObjectMemory.told c.loop-turn.m) c.loop-turn.cpu Next k m) (omega (arith, c.loop-turn-test.false)) (c.loop-turn.invariant.runs told m st)
+returns-clause-runs g c = λ told m st. subst (λ k. Reaches c.args.events.now (g.M.ObjectMemory.told c.loop-turn.m) c.loop-turn.cpu Next k m) (omega (arith, c.loop-turn-test.false)) (c.loop-turn.invariant.runs told m st)
 
 pub returns-clause-counted : goal.returns-clause-counted
 returns-clause-counted g c = let ran = c.loop-turn.invariant.ran in omega (arith, c.loop-turn-test.false)
@@ -150,8 +150,8 @@ returns-then-is_quit-clause-runs g c = λ told m st.
     let now = here.later.tells ∙ told in
     let few = c.loop-turn-test.true in
     let ended = has_ended _ (sym c.is_quit.ensures ∙ c.if-is_quit.true) in
-    let next = reaches_more _ _ _ _ Quit c.loop-turn.turn m now (here.runs told m st) (rw ended at did.serves) in
-    reaches_end _ _ (c.loop-turn.turn + 1) c.args.steps m (omega arith) record { machine = next.machine; ran = next.ran; stands = settled_stands _ _ _ next.machine did.ready settled.ready settled.called (did.serves.later.tells ∙ now) next.stands }
+    let next = reaches_more _ _ _ _ _ Quit c.loop-turn.turn m now (here.runs told m st) (rw ended at did.serves) in
+    reaches_end _ _ _ (c.loop-turn.turn + 1) c.args.steps m (omega arith) record { machine = next.machine; ran = next.ran; stands = settled_stands _ _ _ next.machine did.ready settled.ready settled.called (did.serves.later.tells ∙ now) next.stands }
 
 pub returns-then-is_quit-clause-counted : goal.returns-then-is_quit-clause-counted
 returns-then-is_quit-clause-counted g c =

@@ -12,7 +12,7 @@ abbrev pub invariant-loop-turn : goal.invariant-loop-turn
 invariant-loop-turn g l =
     let told = g.M.ObjectMemory.told in
     record {
-      runs : IsTrue (told l.fn.m).tells → (m : Machine) → Stands (told l.fn.m) l.fn.cpu m → Reaches (told l.m) l.cpu Next l.turn m;
+      runs : IsTrue (told l.fn.m).tells → (m : Machine) → Stands (told l.fn.m) l.fn.cpu m → Reaches l.fn.events (told l.m) l.cpu Next l.turn m;
       ran : l.cpu.ran ≡ l.fn.cpu.ran + l.turn;
       settled : 0 < l.turn → Settled (told l.fn.m).bounds (told l.m).bounds;
       later : IsLater (told l.fn.m) (told l.m);

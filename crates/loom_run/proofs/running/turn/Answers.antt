@@ -2,10 +2,14 @@ use Rattle.blue_model.specs.Cycle.{turn}
 use Rattle.contexts.proofs.ServesLaws.{serves_then, serves_exit}
 use Rattle.loom_run.proofs.running.turn.Goals as goal
 
+pub returns-in_err-due-clause-serves : goal.returns-in_err-due-clause-serves
+unfolding turn
+returns-in_err-due-clause-serves g c = serves_exit _ _ c.in_err-due.ensures.serves c.from_residual.ensures.1
+
 pub returns-in_err-check_switch-clause-serves : goal.returns-in_err-check_switch-clause-serves
 unfolding turn
-returns-in_err-check_switch-clause-serves g c = serves_exit _ _ c.in_err-check_switch.ensures.serves c.from_residual.ensures.1
+returns-in_err-check_switch-clause-serves g c = serves_then _ c.in_ok-due.ensures.serves (serves_exit _ _ c.in_err-check_switch.ensures.serves c.from_residual-in_err-check_switch.ensures.1)
 
 pub returns-clause-serves : goal.returns-clause-serves
 unfolding turn
-returns-clause-serves g c = serves_then _ c.in_ok-check_switch.ensures.serves c.step.ensures.serves
+returns-clause-serves g c = serves_then _ c.in_ok-due.ensures.serves (serves_then _ c.in_ok-check_switch.ensures.serves c.step.ensures.serves)
