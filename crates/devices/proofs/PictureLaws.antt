@@ -1,16 +1,14 @@
 -- Rows of a picture, and the whole.
-use Rattle.std.proofs.Common.{◌≡◌, ℕ, zero, suc, ◌<◌, ◌≤◌, ◌+◌, ◌*◌, ◌/◌, ◌%◌, ◌-◌, nat_lt, nat_le, cond, Bool, true, false, List, [], ◌∷◌, ◌++◌, length, map, take, drop, get_or, Option, Some, None, Result, Ok, Err, IsTrue, refl, sym, ◌∙◌, ap, ap₂, subst, arith, append_assoc, mul-le-mul_left}
+use Rattle.std.proofs.Common.{◌≡◌, ℕ, zero, suc, ◌<◌, ◌≤◌, ◌+◌, ◌*◌, ◌/◌, ◌%◌, nat_lt, cond, Bool, true, false, List, [], ◌∷◌, ◌++◌, length, map, take, drop, get_or, Option, Some, None, Result, Ok, Err, IsTrue, refl, sym, ◌∙◌, ap, ap₂, subst, arith, append_assoc, mul-le-mul_left}
 use Rattle.std.specs.Prelude.{unwrap_or, IfOk}
 use Rattle.std.specs.List.{range_with_len, concat}
 use Rattle.std.specs.Option.{option_and_then}
 use Rattle.std.specs.Result.{IsErrAnd}
 use Rattle.std.proofs.lemmas.Result.{err_from_is_err_and}
-use Rattle.std.proofs.lemmas.Bool.Decides.{nat_tests}
 use Rattle.std.proofs.lemmas.List.{get_or-take, get_or-drop, append-nil}
 use Rattle.std.proofs.lemmas.List.FromFn.{map-range_with_len_more}
 use borrow.Author.Tests.{ltb-true}
 use Rattle.long_names.specs.declared.value.Value.{Value}
-use Rattle.long_names.specs.declared.object.Object.{Object}
 use Rattle.long_names.specs.Objects.{words_of}
 use Rattle.long_names.specs.State.{object_at, part_at}
 use Rattle.object_memory.specs.Told.{Told, IsReady}
@@ -22,13 +20,13 @@ use Rattle.long_names.specs.Access.{answered, answer_of, ReadWords}
 use Rattle.long_names.specs.Access as access
 use Rattle.blue_model.specs.declared.cause.Cause.TheVariants.{Shape}
 use Rattle.blue_model.specs.declared.cpu.Cpu.{Cpu}
-use Rattle.blue_model.specs.Machine.{Machine, Outcome, Go, Halt, Spent, Unbuilt, Rule, ◌>>=◌, done, part}
+use Rattle.blue_model.specs.Machine.{Outcome, Go, Halt, Spent, Unbuilt, Rule, done, part}
 use Rattle.blue_model.specs.BitBlt.{words_in}
-use Rattle.blue_model.specs.Forms.{Form, row_words, bit, left_bit, pixel, padded_pixel, number_of, row_byte, row_bytes, picture_rows, picture_head, picture_text}
+use Rattle.blue_model.specs.Forms.{Form, row_words, bit, left_bit, pixel, padded_pixel, number_of, row_byte, row_bytes, picture_head, picture_text}
 use Rattle.blue_model.specs.Devices.{display_form, display_row, picture_of, picture}
 use Rattle.contexts.specs.declared.stop.Stop.{Stop}
 use Rattle.contexts.specs.declared.stop.Stop.TheVariants.{Stuck}
-use Rattle.contexts.specs.Serves.{Stands, Gives, Serves, SaidNothing}
+use Rattle.contexts.specs.Serves.{Gives, Serves, SaidNothing}
 use Rattle.contexts.proofs.ServesLaws.{serves_then, serves_stop, said_nothing}
 use Rattle.contexts.proofs.Steps.{done_serves, read_first, given_then, given_stuck}
 use Rattle.contexts.proofs.ReadLaws.{quiet, read_serves}

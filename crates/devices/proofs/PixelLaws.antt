@@ -1,10 +1,9 @@
 -- Pixels of a row, and rows of a picture.
-use Rattle.std.proofs.Common.{◌≡◌, ℕ, zero, suc, add-one, ◌<◌, ◌≤◌, ◌+◌, ◌-◌, ◌*◌, ◌/◌, ◌%◌, ◌^◌, List, [], ◌∷◌, ◌++◌, length, map, take, drop, set, get_or, refl, sym, ◌∙◌, ap, ap₂, arith}
+use Rattle.std.proofs.Common.{◌≡◌, ℕ, add-one, ◌<◌, ◌+◌, ◌-◌, ◌*◌, ◌/◌, ◌%◌, ◌^◌, List, [], ◌∷◌, ◌++◌, length, map, take, set, get_or, refl, sym, ◌∙◌, ap, ap₂, arith}
 use Rattle.std.specs.List.{range_with_len}
-use Rattle.std.specs.Int.{bit_at}
 use Rattle.std.proofs.Math.Seq.{take-suc-set}
 use Rattle.std.proofs.lemmas.List.FromFn.{map-range_with_len_more}
-use Rattle.blue_model.specs.Forms.{left_bit, bit, pixel, row_words, padded_pixel, row_byte, row_bytes}
+use Rattle.blue_model.specs.Forms.{left_bit, bit, pixel, row_words, row_byte}
 
 -- in the first row the words are numbered from 0
 pub pixel_is : (words : List ℕ) (width x : ℕ) → pixel width words x 0 ≡ bit words x

@@ -1,5 +1,5 @@
 -- What drawing the display comes to.
-use Rattle.std.specs.Prelude.{◌≡◌, ◌<◌, ◌≤◌, ◌+◌, ◌*◌, ℕ, List, [], length, take, drop, Option, Some, None, unwrap_or, Result, Ok, Err, IsTrue}
+use Rattle.std.specs.Prelude.{◌<◌, ◌≤◌, ◌+◌, ◌*◌, ℕ, List, [], length, take, drop, Option, Some, None, unwrap_or, Result, Ok, Err}
 use Rattle.long_names.specs.Objects.{words_of}
 use Rattle.long_names.specs.State.{part_at}
 use Rattle.object_memory.specs.Told.{Told}

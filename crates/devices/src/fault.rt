@@ -29,4 +29,3 @@ impl From<AllocError> for PictureFault {
         PictureFault::Memory
     }
 }
-

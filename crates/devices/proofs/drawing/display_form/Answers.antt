@@ -4,7 +4,6 @@ use Rattle.blue_model.specs.Devices.{display_form}
 use Rattle.contexts.proofs.Steps.{numbers_then, register_then, pick_true, pick_false, done_serves, read_first}
 use Rattle.contexts.proofs.RegisterLaws.{copy_quiet}
 use Rattle.devices.proofs.drawing.display_form.Goals as goal
-use Rattle.devices.proofs.PictureLaws.{drawn}
 
 pub returns-then-not-cpu-clause-serves : goal.returns-then-not-cpu-clause-serves
 unfolding display_form

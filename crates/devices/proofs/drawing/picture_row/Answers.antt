@@ -1,4 +1,4 @@
-use Rattle.std.proofs.Common.{◌<◌, arith}
+use Rattle.std.proofs.Common.{arith}
 use Rattle.object_memory.proofs.LooksLaws.{Looks-refl}
 use Rattle.blue_model.specs.Devices.{display_row}
 use Rattle.contexts.proofs.ServesLaws.{serves_stop}

@@ -1,4 +1,4 @@
-use Rattle.std.proofs.Common.{◌≡◌, ◌*◌, ℕ, [], refl, sym, ◌∙◌, subst, subst₂, ap₂, take, drop, arith}
+use Rattle.std.proofs.Common.{◌≡◌, ◌*◌, ℕ, [], refl, sym, ◌∙◌, subst₂, ap₂, take, drop, arith}
 use Rattle.std.proofs.lemmas.Bool.Decides.{nat_tests}
 use Rattle.long_names.specs.Access.{ReadWords}
 use Rattle.object_memory.specs.Contract.{MayDo}
