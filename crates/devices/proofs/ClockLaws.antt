@@ -2,14 +2,12 @@
 use Rattle.std.proofs.Common.{◌≡◌, ℕ, ◌≤◌, nat_le, Bool, true, false, List, [], ◌∷◌, length, take, drop, IsTrue, Option, Some, None, IsTrue, IsSome, refl, sym, ◌∙◌, ap, arith, ◌+◌}
 use Rattle.std.specs.Option.{option_and_then}
 use Rattle.std.proofs.lemmas.Bool.Decides.{nat_tests}
-use Rattle.long_names.specs.declared.value.Value.{Value}
 use Rattle.long_names.specs.declared.object.Object.{Object}
 use Rattle.long_names.specs.declared.object.Kind.{Kind}
 use Rattle.long_names.specs.declared.object.Body.{Body}
 use Rattle.long_names.specs.declared.object.Body.TheVariants.{Pointers, Words, Bytes, Method}
-use Rattle.long_names.specs.Heap.{Heap}
 use Rattle.long_names.specs.Objects.{text_of, bytes_of}
-use Rattle.long_names.specs.State.{object_at, part_at, HasPart}
+use Rattle.long_names.specs.State.{object_at}
 use Rattle.long_names.specs.Access.{answered, ReadBytes, answer_of}
 use Rattle.long_names.specs.Access as access
 use Rattle.object_memory.specs.Told.{Told}

@@ -1,5 +1,5 @@
 -- Lines that are due, and a memory that puts out what it can or closes its gaps.
-use Rattle.std.proofs.Common.{◌≡◌, ℕ, suc, add-one, ◌+◌, ◌<◌, ◌≤◌, Bool, true, false, eqb, List, [], ◌∷◌, length, drop, Option, Some, None, Result, Ok, Err, IsTrue, slice_get, refl, sym, ◌∙◌, ap, subst, arith}
+use Rattle.std.proofs.Common.{◌≡◌, ℕ, suc, add-one, ◌+◌, ◌<◌, true, false, eqb, List, [], ◌∷◌, length, drop, Some, Result, Ok, Err, IsTrue, slice_get, sym, ◌∙◌, ap, subst, arith}
 use Rattle.std.proofs.Math.Seq.{drop-cons}
 use Rattle.std.proofs.lemmas.Option.{slice_get-get_or}
 use Rattle.object_memory.specs.declared.fault.MemFault.{MemFault}
@@ -8,7 +8,7 @@ use Rattle.object_memory.specs.Told.{Told, IsReady}
 use Rattle.object_memory.specs.Contract.{Thins, IsLater, Follows, Called, HasCause}
 use Rattle.blue_model.specs.declared.cpu.Cpu.{Cpu}
 use Rattle.blue_model.specs.declared.event.Line.{Line}
-use Rattle.blue_model.specs.Machine.{Machine, Go, Rule, ◌>>◌, done, pick}
+use Rattle.blue_model.specs.Machine.{Machine, ◌>>◌, done}
 use Rattle.blue_model.specs.Devices.{take_line, take_lines}
 use Rattle.contexts.specs.declared.stop.Stop.{Stop}
 use Rattle.contexts.specs.declared.stop.Stop.TheVariants.{Mem}

@@ -1,12 +1,11 @@
 -- Semaphores that registers of the machine take, and counts.
-use Rattle.std.proofs.Common.{◌≡◌, ℕ, pos, ◌<◌, ◌≤◌, nat_lt, Bool, true, false, Ok, refl, sym, ap, subst, arith}
+use Rattle.std.proofs.Common.{◌≡◌, ℕ, pos, ◌<◌, nat_lt, Bool, true, false, Ok, sym, subst, arith}
 use Rattle.std.proofs.lemmas.Bool.Decides.{nat_tests}
-use Rattle.long_names.specs.declared.value.Value.{Value}
 use Rattle.long_names.specs.declared.value.Value.TheVariants.{Int}
 use Rattle.long_names.specs.State.{set_register}
 use Rattle.object_memory.specs.Told.{Told, IsReady}
 use Rattle.blue_model.specs.declared.cpu.Cpu.{Cpu}
-use Rattle.blue_model.specs.Machine.{MACHINE_REGISTERS, put_register}
+use Rattle.blue_model.specs.Machine.{MACHINE_REGISTERS}
 use Rattle.blue_model.specs.Devices.{put_semaphore}
 use Rattle.contexts.specs.Serves.{Serves}
 use Rattle.contexts.proofs.RegisterLaws.{put_serves}

@@ -2,4 +2,6 @@ mod ClockLaws
 mod DueLaws
 mod FormLaws
 mod InputLaws
+mod PictureLaws
+mod PixelLaws
 mod TextLaws

@@ -1,14 +1,12 @@
 -- Strings.
-use Rattle.std.proofs.Common.{◌≡◌, ℕ, nat_le, Bool, true, false, List, [], ◌∷◌, Option, Some, None, Result, Ok, Err, IsTrue, refl, sym, ◌∙◌, ap, subst}
+use Rattle.std.proofs.Common.{◌≡◌, ℕ, Bool, true, false, List, [], ◌∷◌, Option, Some, None, Ok, Err, IsTrue, refl, sym, ◌∙◌, ap, subst}
 use Rattle.std.specs.Prelude.{unwrap_or}
-use Rattle.std.specs.Option.{option_and_then}
 use Rattle.long_names.specs.declared.value.Value.{Value}
-use Rattle.long_names.specs.declared.object.Object.{Object}
 use Rattle.long_names.specs.Objects.{text_of}
-use Rattle.long_names.specs.State.{object_at, part_at}
+use Rattle.long_names.specs.State.{part_at}
 use Rattle.object_memory.specs.Told.{Told, IsReady}
 use Rattle.object_memory.specs.Shape.{Looks, IsTestAt, ReadsObject}
-use Rattle.object_memory.proofs.LooksLaws.{part_looked, Looks-trans}
+use Rattle.object_memory.proofs.LooksLaws.{part_looked}
 use Rattle.blue_model.specs.declared.cpu.Cpu.{Cpu}
 use Rattle.blue_model.specs.Machine.{Rule}
 use Rattle.blue_model.specs.Trials.{peek}

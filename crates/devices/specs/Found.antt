@@ -1,5 +1,5 @@
 -- What calls found, as the rules of the model say it.
-use Rattle.std.specs.Prelude.{◌≡◌, ◌==◌, ℕ, Bool, true, false, nat_le, ◌<◌, ◌≤◌, ◌*◌, length, List, [], ◌∷◌, drop, Option, Some, None, unwrap_or, Result, Ok, Err}
+use Rattle.std.specs.Prelude.{◌==◌, ℕ, Bool, true, false, nat_le, ◌<◌, ◌≤◌, ◌*◌, length, List, [], ◌∷◌, drop, Option, Some, None, unwrap_or, Result, Ok, Err}
 use Rattle.long_names.specs.declared.value.Value.{Value}
 use Rattle.long_names.specs.declared.object.Kind.{Kind}
 use Rattle.long_names.specs.declared.object.Kind.TheVariants as kind

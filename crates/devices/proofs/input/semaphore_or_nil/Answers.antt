@@ -1,5 +1,4 @@
 use Rattle.std.proofs.Common.{sym, ◌∙◌}
-use Rattle.object_memory.proofs.LooksLaws.{Looks-refl}
 use Rattle.blue_model.specs.Devices.{semaphore_or_nil}
 use Rattle.contexts.proofs.ServesLaws.{serves_then, serves_stop, exits}
 use Rattle.contexts.proofs.Steps.{pick_true, pick_false, done_serves, done_same}

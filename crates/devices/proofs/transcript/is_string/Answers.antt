@@ -1,6 +1,5 @@
-use Rattle.std.proofs.Common.{[], ◌∷◌, refl, sym, ◌∙◌, true, false}
+use Rattle.std.proofs.Common.{[], ◌∷◌, sym, ◌∙◌}
 use Rattle.object_memory.proofs.LooksLaws.{Looks-read, Looks-trans}
-use Rattle.long_names.specs.Objects.{text_of}
 use Rattle.blue_model.specs.Devices.{string_text}
 use Rattle.contexts.proofs.ServesLaws.{serves_then, serves_stop}
 use Rattle.contexts.proofs.PeekLaws.{exits_found}
