@@ -1,1 +1,5 @@
 mod ListLaws
+mod OneReading
+mod PieceLaws
+mod ReadLaws
+mod TextLaws

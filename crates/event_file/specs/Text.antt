@@ -6,17 +6,20 @@ use Rattle.blue_model.specs.declared.event.Event.TheVariants.{Word, Purge, Compa
 use Rattle.blue_model.specs.declared.event.Line.{Line}
 use Rattle.blue_model.specs.Devices.{AreRising}
 
--- an event and the end of its line
 abbrev pub event_text : Event → List ℕ
-event_text (Word word) = codes "word " ++ decimal word ++ codes "\n"
-event_text Purge = codes "purge\n"
-event_text Compact = codes "compact\n"
+event_text (Word word) = codes "word " ++ decimal word
+event_text Purge = codes "purge"
+event_text Compact = codes "compact"
 
--- a line: numbers are plain decimal, and single spaces stand between
-unfoldable pub line_text : Line → List ℕ
-line_text line = decimal line.count ++ codes " " ++ event_text line.event
+-- what stands on a line: numbers are plain decimal, and a single space (32) stands behind the count
+abbrev pub line_body : Line → List ℕ
+line_body line = decimal line.count ++ 32 ∷ event_text line.event
 
-unfoldable pub events_text : List Line → List ℕ
+-- with its end
+abbrev pub line_text : Line → List ℕ
+line_text line = line_body line ++ 10 ∷ []
+
+abbrev pub events_text : List Line → List ℕ
 events_text lines = flat_map line_text lines
 
 -- a word has 16 bits
