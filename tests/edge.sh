@@ -30,10 +30,20 @@ base=$top/crates/loom_images/data/base.loom
 cp "$base" base.loom && cp "$base" after.loom || exit 1
 patch after.loom 587 '\013'
 
-# The base image with another first bytecode: a send, which isn't built yet, and one that no machine has.
-cp "$base" send.loom && cp "$base" unused.loom || exit 1
-patch send.loom 556 '\320'
+# The base image with another first bytecode: one that no machine has.
+cp "$base" unused.loom || exit 1
 patch unused.loom 556 '\176'
+
+# An image that says `hi` and a newline in its third bytecode, and has no fourth; and one that says `loom`, draws a picture and quits.
+cp "$top/crates/loom_cli/data/say.loom" "$top/crates/loom_images/data/hello.loom" . || exit 1
+cp "$top/tests/hello.pbm" . || exit 1
+
+# Event files.
+: >none.events
+printf '0 word 7\n1 purge\n1 compact\n' >good.events
+printf '0 word 7\n1 purge\n0 compact\n' >falls.events
+printf '0 word 65536\n' >large.events
+printf '0 purge' >cut.events
 
 # The base image and two more objects. A field above the stack pointer of the context holds 68, which holds 70 twice; the
 # first bytecode pushes nil there. So both are dead when the image is saved, which has 652 bytes again in place of 728.
@@ -55,28 +65,39 @@ dead_image() {
 cp after.loom swept.loom
 patch swept.loom 15 '\110'
 
-# What stands in SAVED before each run: text that is no image, and longer than any that is saved here.
+# What stands in SAVED and DISPLAY before each run: text that is no image, and longer than any file that is written here.
 yes 'this is not an image' | head -n 100 >old.loom
 mkdir directory
 
-# How many descriptors a run may have, where that is limited.
+# What a run is tried with, beside its words: how many descriptors it may have, what has to be said on standard output, and
+# what has to be in DISPLAY: 'old' for what was there before, 'empty', or a file.
 most=
+said=
+display=empty
 
 # try NAME STREAMS WORDS CODE LINE FILE WANTED: runs the program on the words, with its standard streams redirected as
-# STREAMS says. It has to end with the code, say this line alone on standard error ('' for none) and nothing on standard
-# output, leave FILE the bytes of WANTED ('none' for no file), and leave base.loom as it was.
+# STREAMS says. It has to end with the code, say this line alone on standard error ('' for none), leave FILE the bytes of
+# WANTED ('none' for no file), and leave base.loom as it was.
 try() {
     cp old.loom saved.loom
-    rm -f new.loom out notes wanted_notes
+    cp old.loom display.pbm
+    rm -f new.loom new.pbm out notes wanted_notes wanted_out
     : >out
     : >notes
+    : >empty
     eval "( ${most:+ulimit -n $most;} exec \"\$loom\" $3 ) </dev/null >out 2>notes $2"
     code=$?
     if [ -n "$5" ]; then echo "$5" >wanted_notes; else : >wanted_notes; fi
+    if [ -n "$said" ]; then echo "$said" >wanted_out; else : >wanted_out; fi
+    case $display in
+        old) picture=old.loom ;;
+        *) picture=$display ;;
+    esac
     why=
     [ "$code" = "$4" ] || why="$why; it ended with $code, not $4"
     cmp -s notes wanted_notes || why="$why; standard error has '$(cat notes)', not '$5'"
-    [ ! -s out ] || why="$why; standard output has '$(cat out)'"
+    cmp -s out wanted_out || why="$why; standard output has '$(cat out)', not '$said'"
+    cmp -s display.pbm "$picture" || why="$why; display.pbm isn't $display"
     if [ "$7" = none ]; then
         [ ! -e "$6" ] || why="$why; there is a file $6"
     else
@@ -92,11 +113,15 @@ try() {
     fi
 }
 
-good='run base.loom saved.loom 2'
+good='run base.loom none.events saved.loom display.pbm 2'
 
-# A run that goes through. SAVED holds the image alone, whatever it held before.
-try 'SAVED is a longer file'            ''            "$good" 0  'ran 2' saved.loom after.loom
-try 'SAVED is no file yet'              ''            'run base.loom new.loom 2' 0 'ran 2' new.loom after.loom
+# A run that goes through. SAVED holds the image alone and DISPLAY nothing, whatever they held before.
+try 'SAVED and DISPLAY are longer files' ''           "$good" 0  'ran 2' saved.loom after.loom
+try 'events that change nothing'        ''            'run base.loom good.events saved.loom display.pbm 2' 0 'ran 2' saved.loom after.loom
+display=old
+try 'SAVED and DISPLAY are no files yet' ''           'run base.loom none.events new.loom new.pbm 2' 0 'ran 2' new.loom after.loom
+try 'DISPLAY is no file yet'            ''            'run base.loom none.events saved.loom new.pbm 2' 0 'ran 2' new.pbm empty
+display=empty
 
 # Standard streams that are closed. A file must never take the place of one: the line of Done would go into it.
 try 'stdin closed'                      '0<&-'        "$good" 0  'ran 2' saved.loom after.loom
@@ -106,64 +131,151 @@ try 'stderr closed'                     '2>&-'        "$good" 11 ''      saved.l
 try 'stdin and stderr closed'           '0<&- 2>&-'   "$good" 11 ''      saved.loom after.loom
 try 'stdout and stderr closed'          '1>&- 2>&-'   "$good" 11 ''      saved.loom after.loom
 try 'all three closed'                  '0<&- 1>&- 2>&-' "$good" 11 ''   saved.loom after.loom
-try 'all three closed, no file yet'     '0<&- 1>&- 2>&-' 'run base.loom new.loom 2' 11 '' new.loom after.loom
+display=old
+try 'all three closed, no files yet'    '0<&- 1>&- 2>&-' 'run base.loom none.events new.loom new.pbm 2' 11 '' new.loom after.loom
 for streams in '2>&-' '0<&- 2>&-' '1>&- 2>&-' '0<&- 1>&- 2>&-'; do
-    try "$streams, words missing"       "$streams"    'run base.loom saved.loom' 2 '' saved.loom old.loom
-    try "$streams, a missing image"     "$streams"    'run none.loom saved.loom 2' 9 '' saved.loom old.loom
-    try "$streams, stuck"               "$streams"    'run unused.loom saved.loom 2' 5 '' saved.loom old.loom
-    try "$streams, not built"           "$streams"    'run send.loom saved.loom 2' 14 '' saved.loom old.loom
+    try "$streams, words missing"       "$streams"    'run base.loom none.events saved.loom display.pbm' 2 '' saved.loom old.loom
+    try "$streams, a missing image"     "$streams"    'run none.loom none.events saved.loom display.pbm 2' 9 '' saved.loom old.loom
+    try "$streams, missing events"      "$streams"    'run base.loom no.events saved.loom display.pbm 2' 9 '' saved.loom old.loom
+    try "$streams, wrong events"        "$streams"    'run base.loom cut.events saved.loom display.pbm 2' 4 '' saved.loom old.loom
+    try "$streams, stuck"               "$streams"    'run unused.loom none.events saved.loom display.pbm 2' 5 '' saved.loom old.loom
 done
+display=empty
 
 # Streams that can't be written. The image is saved before the line is written.
 try 'stderr full'                       '2>/dev/full' "$good" 11 ''      saved.loom after.loom
 try 'stderr for reading only'           '2<old.loom'  "$good" 11 ''      saved.loom after.loom
 try 'stdout full'                       '1>/dev/full' "$good" 0  'ran 2' saved.loom after.loom
 
-# Too few descriptors to hold the places of the standard streams, and just enough: then there is none for IMAGE.
+# What is said goes to standard output before SAVED is attached, also after a run that stopped.
+say='run say.loom none.events saved.loom display.pbm'
+"$loom" run say.loom none.events said.loom said.pbm 3 >/dev/null 2>&1
+said=hi
+try 'a line is said'                    ''            "$say 3" 0  'ran 3' saved.loom said.loom
+display=old
+try 'a line is said before a stop'      ''            "$say 4" 5  'stuck: cause 1 after 3' saved.loom old.loom
+try 'a line is said, SAVED is full'     ''            'run say.loom none.events /dev/full display.pbm 3' 11 'write fault: Saved' saved.loom old.loom
+try 'a line is said before a stop, stderr closed' '2>&-' "$say 4" 5 ''   saved.loom old.loom
+display=empty
+try 'a line is said, stderr closed'     '2>&-'        "$say 3" 11 ''     saved.loom said.loom
+said=
+try 'nothing is said yet, stdout closed' '1>&-'       "$say 0" 0  'ran 0' saved.loom say.loom
+display=old
+for streams in '1>&-' '1>/dev/full' '1<old.loom' '0<&- 1>&-'; do
+    try "$streams, a line is said"      "$streams"    "$say 3" 11 'write fault: Transcript' saved.loom old.loom
+    try "$streams, a line is said before a stop" "$streams" "$say 4" 11 'write fault: Transcript' saved.loom old.loom
+done
+try 'stdout and stderr closed, a line is said' '1>&- 2>&-' "$say 3" 11 '' saved.loom old.loom
+
+# A picture. DISPLAY is written once the image is saved.
+said=loom
+"$loom" run hello.loom none.events drawn.loom drawn.pbm 9999 >/dev/null 2>&1
+display=hello.pbm
+try 'a picture'                         ''            'run hello.loom none.events saved.loom display.pbm 9999' 0 'quit after 2056' saved.loom drawn.loom
+try 'a picture, stderr closed'          '2>&-'        'run hello.loom none.events saved.loom display.pbm 9999' 11 '' saved.loom drawn.loom
+display=empty
+try 'no picture yet'                    ''            'run hello.loom none.events saved.loom display.pbm 2000' 0 'ran 2000' display.pbm empty
+display=old
+try 'a picture, DISPLAY is no file yet' ''            'run hello.loom none.events saved.loom new.pbm 9999' 0 'quit after 2056' new.pbm hello.pbm
+try 'a picture, DISPLAY is full'        ''            'run hello.loom none.events saved.loom /dev/full 9999' 11 'write fault: Display' saved.loom drawn.loom
+try 'a picture, DISPLAY is for reading only' ''       'run hello.loom none.events saved.loom /proc/version 9999' 11 'write fault: Display' saved.loom drawn.loom
+try 'a picture, SAVED is full'          ''            'run hello.loom none.events /dev/full display.pbm 9999' 11 'write fault: Saved' saved.loom old.loom
+said=
+try 'no picture, DISPLAY is full'       ''            'run base.loom none.events saved.loom /dev/full 2' 0 'ran 2' saved.loom after.loom
+
+# Too few descriptors to hold the places of the standard streams, and just enough: then there is none for IMAGE, for EVENTS,
+# for SAVED, for DISPLAY.
 most=4
 try 'four descriptors'                  ''            "$good" 1  ''      saved.loom old.loom
 most=6
 try 'six descriptors'                   ''            "$good" 9  'read fault: Image' saved.loom old.loom
+most=7
+try 'seven descriptors'                 ''            "$good" 9  'read fault: Events' saved.loom old.loom
+most=8
+try 'eight descriptors'                 ''            "$good" 11 'write fault: Saved' saved.loom old.loom
+most=9
+try 'nine descriptors'                  ''            "$good" 11 'write fault: Display' saved.loom after.loom
+most=10
+display=empty
+try 'ten descriptors'                   ''            "$good" 0  'ran 2' saved.loom after.loom
 most=
 
 # Files that can't be read or written.
-try 'SAVED is full'                     '' 'run base.loom /dev/full 2'      11 'write fault: Saved' saved.loom old.loom
-try 'SAVED is a directory'              '' 'run base.loom directory 2'      11 'write fault: Saved' saved.loom old.loom
-try 'SAVED in no directory'             '' 'run base.loom none/saved.loom 2' 11 'write fault: Saved' none none
-try 'IMAGE is a directory'              '' 'run directory saved.loom 2'     9  'read fault: Image'  saved.loom old.loom
-try 'IMAGE is no file'                  '' 'run none.loom saved.loom 2'     9  'read fault: Image'  saved.loom old.loom
-try 'IMAGE is empty'                    '' 'run /dev/null saved.loom 2'     3  'image: rule 0 at 0' saved.loom old.loom
-try 'IMAGE is no image'                 '' 'run old.loom saved.loom 2'      3  'image: rule 0 at 0' saved.loom old.loom
+display=old
+try 'SAVED is full'                     '' 'run base.loom none.events /dev/full display.pbm 2'   11 'write fault: Saved' saved.loom old.loom
+try 'SAVED is a directory'              '' 'run base.loom none.events directory display.pbm 2'   11 'write fault: Saved' saved.loom old.loom
+try 'SAVED in no directory'             '' 'run base.loom none.events none/saved.loom display.pbm 2' 11 'write fault: Saved' none none
+try 'DISPLAY is a directory'            '' 'run base.loom none.events saved.loom directory 2'    11 'write fault: Display' saved.loom after.loom
+try 'DISPLAY in no directory'           '' 'run base.loom none.events saved.loom none/display 2' 11 'write fault: Display' saved.loom after.loom
+try 'IMAGE is a directory'              '' 'run directory none.events saved.loom display.pbm 2'  9  'read fault: Image'  saved.loom old.loom
+try 'IMAGE is no file'                  '' 'run none.loom none.events saved.loom display.pbm 2'  9  'read fault: Image'  saved.loom old.loom
+try 'IMAGE is empty'                    '' 'run /dev/null none.events saved.loom display.pbm 2'  3  'image: rule 0 at 0' saved.loom old.loom
+try 'IMAGE is no image'                 '' 'run old.loom none.events saved.loom display.pbm 2'   3  'image: rule 0 at 0' saved.loom old.loom
+try 'IMAGE is no image, EVENTS no file' '' 'run old.loom no.events saved.loom display.pbm 2'     3  'image: rule 0 at 0' saved.loom old.loom
+try 'IMAGE and EVENTS are no files'     '' 'run none.loom no.events saved.loom display.pbm 2'    9  'read fault: Image'  saved.loom old.loom
 cat /proc/version >version
-try 'SAVED is for reading only'         '' 'run base.loom /proc/version 2'  11 'write fault: Saved' /proc/version version
-try 'not built'                         '' 'run send.loom saved.loom 2'     14 'not built after 0'  saved.loom old.loom
-try 'stuck'                             '' 'run unused.loom saved.loom 2'   5  'stuck: cause 2 after 0' saved.loom old.loom
-try 'a million bytecodes'               '' 'run base.loom saved.loom 999999' 0 'ran 999999'         saved.loom base.loom
+try 'SAVED is for reading only'         '' 'run base.loom none.events /proc/version display.pbm 2' 11 'write fault: Saved' /proc/version version
+try 'stuck'                             '' 'run unused.loom none.events saved.loom display.pbm 2' 5 'stuck: cause 2 after 0' saved.loom old.loom
+display=empty
+try 'a million bytecodes'               '' 'run base.loom none.events saved.loom display.pbm 999999' 0 'ran 999999' saved.loom base.loom
+
+# Events.
+try 'EVENTS is the null device'         '' 'run base.loom /dev/null saved.loom display.pbm 2'       0 'ran 2' saved.loom after.loom
+display=old
+try 'EVENTS is a directory'             '' 'run base.loom directory saved.loom display.pbm 2'       9 'read fault: Events' saved.loom old.loom
+try 'EVENTS is no file'                 '' 'run base.loom no.events saved.loom display.pbm 2'       9 'read fault: Events' saved.loom old.loom
+try 'EVENTS has a count that falls'     '' 'run base.loom falls.events saved.loom display.pbm 2'    4 'events: line 3' saved.loom old.loom
+try 'EVENTS has a word that is too large' '' 'run base.loom large.events saved.loom display.pbm 2'  4 'events: line 1' saved.loom old.loom
+try 'EVENTS has no last newline'        '' 'run base.loom cut.events saved.loom display.pbm 2'      4 'events: line 1' saved.loom old.loom
+try 'EVENTS is IMAGE'                   '' 'run base.loom base.loom saved.loom display.pbm 2'       4 'events: line 1' saved.loom old.loom
+try 'EVENTS is SAVED'                   '' 'run base.loom saved.loom saved.loom display.pbm 2'      4 'events: line 1' saved.loom old.loom
+try 'EVENTS has no end'                 '' 'run base.loom /dev/zero saved.loom display.pbm 2'       4 'events: line 1' saved.loom old.loom
+try 'EVENTS is wrong, and stuck'        '' 'run unused.loom cut.events saved.loom display.pbm 2'    4 'events: line 1' saved.loom old.loom
+display=empty
+cp none.events both.events
+try 'EVENTS is SAVED, and right'        '' 'run base.loom both.events both.events display.pbm 2'    0 'ran 2' both.events after.loom
 
 # SAVED is IMAGE, and the new image is shorter: it is written from the start, and nothing of the old one is left.
 dead_image both.loom
-try 'IMAGE with two dead objects'       '' 'run both.loom saved.loom 2'     0 'ran 2' saved.loom swept.loom
-try 'SAVED is IMAGE'                    '' 'run both.loom both.loom 2'      0 'ran 2' both.loom  swept.loom
+try 'IMAGE with two dead objects'       '' 'run both.loom none.events saved.loom display.pbm 2'  0 'ran 2' saved.loom swept.loom
+try 'SAVED is IMAGE'                    '' 'run both.loom none.events both.loom display.pbm 2'   0 'ran 2' both.loom  swept.loom
 dead_image both.loom
 ln -s both.loom link.loom
-try 'SAVED is a link to IMAGE'          '' 'run both.loom link.loom 2'      0 'ran 2' both.loom  swept.loom
+try 'SAVED is a link to IMAGE'          '' 'run both.loom none.events link.loom display.pbm 2'   0 'ran 2' both.loom  swept.loom
+display=old
 dead_image both.loom
-patch both.loom 556 '\320'
+patch both.loom 556 '\176'
 cp both.loom dead.loom
-try 'SAVED is IMAGE, not built'         '' 'run both.loom both.loom 3'      14 'not built after 0' both.loom dead.loom
+try 'SAVED is IMAGE, stuck'             '' 'run both.loom none.events both.loom display.pbm 3'   5 'stuck: cause 2 after 0' both.loom dead.loom
 dead_image both.loom
-try 'SAVED is IMAGE, streams closed'    '0<&- 1>&- 2>&-' 'run both.loom both.loom 2' 11 '' both.loom swept.loom
+cp both.loom dead.loom
+try 'SAVED is IMAGE, wrong events'      '' 'run both.loom cut.events both.loom display.pbm 3'    4 'events: line 1' both.loom dead.loom
+display=empty
+try 'SAVED is IMAGE, streams closed'    '0<&- 1>&- 2>&-' 'run both.loom none.events both.loom display.pbm 2' 11 '' both.loom swept.loom
 
 # Words that are missing, extra or bad.
+display=old
 not_text=$(printf '\377')
-try 'no words'                          '' ''                               2 'usage: word 1' saved.loom old.loom
-try 'one word'                          '' 'run'                            2 'usage: word 2' saved.loom old.loom
-try 'two words'                         '' 'run base.loom'                  2 'usage: word 3' saved.loom old.loom
-try 'three words'                       '' 'run base.loom saved.loom'       2 'usage: word 4' saved.loom old.loom
-try 'five words'                        '' 'run base.loom saved.loom 2 2'   2 'usage: word 5' saved.loom old.loom
-try 'another command'                   '' '--help'                         2 'usage: word 1' saved.loom old.loom
-try 'STEPS with a leading zero'         '' 'run base.loom saved.loom 02'    2 'usage: word 4' saved.loom old.loom
-try 'a word that is no text'            '' 'run base.loom saved.loom "$not_text"' 2 'usage: word 1' saved.loom old.loom
+try 'no words'                          '' ''                                                    2 'usage: word 1' saved.loom old.loom
+try 'one word'                          '' 'run'                                                 2 'usage: word 2' saved.loom old.loom
+try 'two words'                         '' 'run base.loom'                                       2 'usage: word 3' saved.loom old.loom
+try 'three words'                       '' 'run base.loom none.events'                           2 'usage: word 4' saved.loom old.loom
+try 'four words'                        '' 'run base.loom none.events saved.loom'                2 'usage: word 5' saved.loom old.loom
+try 'five words'                        '' 'run base.loom none.events saved.loom display.pbm'    2 'usage: word 6' saved.loom old.loom
+try 'seven words'                       '' "$good 2"                                             2 'usage: word 7' saved.loom old.loom
+try 'another command'                   '' '--help'                                              2 'usage: word 1' saved.loom old.loom
+try 'the version'                       '' '--version'                                           2 'usage: word 1' saved.loom old.loom
+try 'a command in capitals'             '' 'RUN base.loom none.events saved.loom display.pbm 2'  2 'usage: word 1' saved.loom old.loom
+try 'STEPS with a leading zero'         '' 'run base.loom none.events saved.loom display.pbm 02' 2 'usage: word 6' saved.loom old.loom
+try 'STEPS with a sign'                 '' 'run base.loom none.events saved.loom display.pbm -1' 2 'usage: word 6' saved.loom old.loom
+try 'STEPS is too large'                '' 'run base.loom none.events saved.loom display.pbm 2147483648' 2 'usage: word 6' saved.loom old.loom
+try 'STEPS is empty'                    '' 'run base.loom none.events saved.loom display.pbm ""' 2 'usage: word 6' saved.loom old.loom
+try 'DISPLAY is IMAGE'                  '' 'run base.loom none.events saved.loom base.loom 2'    2 'usage: word 5' saved.loom old.loom
+try 'DISPLAY is EVENTS'                 '' 'run base.loom none.events saved.loom none.events 2'  2 'usage: word 5' none.events empty
+try 'DISPLAY is SAVED'                  '' 'run base.loom none.events saved.loom saved.loom 2'   2 'usage: word 5' saved.loom old.loom
+try 'DISPLAY is IMAGE, STEPS is bad'    '' 'run base.loom none.events saved.loom base.loom x'    2 'usage: word 5' saved.loom old.loom
+try 'DISPLAY is IMAGE, no STEPS'        '' 'run base.loom none.events saved.loom base.loom'      2 'usage: word 5' saved.loom old.loom
+try 'a word that is no text'            '' 'run base.loom none.events saved.loom display.pbm "$not_text"' 2 'usage: word 1' saved.loom old.loom
 
 if [ "$failed" -gt 0 ]; then
     echo "edge: $passed passed, $failed failed"
