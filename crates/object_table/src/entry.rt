@@ -6,6 +6,19 @@ use long_names::{Kind, Name};
 #[derive(Clone, Copy, Debug, PartialEq, Eq)]
 pub struct Short(pub u16);
 
+impl Short {
+    ghost use Rattle.std.specs.Prelude.{◌≡◌, ◌-◌, ◌/◌, true};
+    ghost use Rattle.object_table.specs.Entries.{is_short};
+
+    // Its place in a table.
+    pub(crate) fn index(self) -> usize
+        requires { is_short self.0 ≡ true }
+        ensures { result ≡ self.0 / 2 - 1 }
+    {
+        self.0 as usize / 2 - 1
+    }
+}
+
 /// What an entry stands for: nothing, an object that isn't in the segment, or one whose body lies at this place there.
 #[derive(Clone, Copy, Debug, PartialEq, Eq)]
 pub enum EntryState {
