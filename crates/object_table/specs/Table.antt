@@ -9,9 +9,13 @@ use Rattle.object_table.specs.Entries.{is_short, is_free, free_entry}
 unfoldable pub entry_at : Table → ℕ → Entry
 entry_at t s = if is_short s then slice_index_or t.entries.items (s / 2 - 1) free_entry else free_entry
 
+-- how many entries it has
+unfoldable pub entries_of : Table → ℕ
+entries_of t = length t.entries.items
+
 -- no short word from here on names an entry of the table
-unfoldable pub bound_of : Table → ℕ
-bound_of t = 2 * length t.entries.items + 2
+abbrev pub bound_of : Table → ℕ
+bound_of t = 2 * entries_of t + 2
 
 -- how many entries are free
 unfoldable pub free_of : Table → ℕ

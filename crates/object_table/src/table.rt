@@ -20,13 +20,13 @@ pub struct Table {
 impl Table {
     ghost use Rattle.std.specs.Prelude.{◌≡◌, ◌+◌, ◌*◌, ◌<◌, ◌^◌, ℕ, IfOk, IfSome, IfNone, true, ◌-◌, length, slice_index};
     ghost use Rattle.object_table.specs.Entries.{put, is_short, is_used, is_free, free_entry, leaf_entry, with_refs};
-    ghost use Rattle.object_table.specs.Table.{entry_at, bound_of, free_of};
+    ghost use Rattle.object_table.specs.Table.{entry_at, entries_of, bound_of, free_of};
 
     /// A table of so many entries, all of them free.
     pub fn new(alloc: Global, entries: u16) -> Result<Table, AllocError>
         requires { entries ≤ 32767 }
         ensures entry { IfOk result (λ t. entry_at t ≡ (λ s. free_entry)) }
-        ensures bound { IfOk result (λ t. bound_of t ≡ 2 * entries + 2) }
+        ensures entries { IfOk result (λ t. entries_of t ≡ entries) }
         ensures free { IfOk result (λ t. free_of t ≡ entries) }
     {
         let vacant = Table::falling(alloc, entries)?;
@@ -51,16 +51,16 @@ impl Table {
 
     /// How many entries it was made with.
     pub fn entries(&self) -> u16
-        ensures bound { 2 * result + 2 ≡ bound_of self.now }
+        ensures entries { result ≡ entries_of self.now }
         ensures small { result ≤ 32767 }
     {
         self.entries.len() as u16
     }
 
     /// How many entries are free.
-    #[tactic(auto, unfolding(crate::specs::Table::free_of))]
     pub fn free(&self) -> u16
-        ensures { result ≡ free_of self.now }
+        ensures free { result ≡ free_of self.now }
+        ensures most { result ≤ entries_of self.now }
     {
         self.free
     }
@@ -81,7 +81,7 @@ impl Table {
         requires used { is_used (entry_at self.old s.0).state ≡ true }
         requires stays { is_used e.state ≡ true }
         ensures entry { entry_at self.new ≡ put (entry_at self.old) s.0 e }
-        ensures bound { bound_of self.new ≡ bound_of self.old }
+        ensures entries { entries_of self.new ≡ entries_of self.old }
         ensures free { free_of self.new ≡ free_of self.old }
     {
         let entry = e;
@@ -94,7 +94,7 @@ impl Table {
         ensures was_free { IfSome result (λ s. is_free (entry_at self.old s.0) ≡ true) }
         ensures entry { IfSome result (λ s. entry_at self.new ≡ put (entry_at self.old) s.0 (leaf_entry name)) }
         ensures free { IfSome result (λ s. free_of self.new + 1 ≡ free_of self.old) }
-        ensures bound { bound_of self.new ≡ bound_of self.old }
+        ensures entries { entries_of self.new ≡ entries_of self.old }
         ensures none { IfNone result ((free_of self.old ≡ 0) × (self.new ≡ self.old)) }
     {
         if self.free == 0 {
@@ -112,7 +112,7 @@ impl Table {
         requires within { s.0 < bound_of self.old }
         requires used { is_used (entry_at self.old s.0).state ≡ true }
         ensures entry { entry_at self.new ≡ put (entry_at self.old) s.0 free_entry }
-        ensures bound { bound_of self.new ≡ bound_of self.old }
+        ensures entries { entries_of self.new ≡ entries_of self.old }
         ensures free { free_of self.new ≡ free_of self.old + 1 }
     {
         self.entries[s.index()] = Entry::none();
@@ -127,7 +127,7 @@ impl Table {
         requires used { is_used (entry_at self.old s.0).state ≡ true }
         requires few { (entry_at self.old s.0).refs < 2 ^ 32 - 1 }
         ensures entry { let e = entry_at self.old s.0 in entry_at self.new ≡ put (entry_at self.old) s.0 (with_refs e (e.refs + 1)) }
-        ensures bound { bound_of self.new ≡ bound_of self.old }
+        ensures entries { entries_of self.new ≡ entries_of self.old }
         ensures free { free_of self.new ≡ free_of self.old }
     {
         let mut entry = self.entry(s);
@@ -142,7 +142,7 @@ impl Table {
         requires used { is_used (entry_at self.old s.0).state ≡ true }
         requires some { 0 < (entry_at self.old s.0).refs }
         ensures entry { let e = entry_at self.old s.0 in entry_at self.new ≡ put (entry_at self.old) s.0 (with_refs e (e.refs - 1)) }
-        ensures bound { bound_of self.new ≡ bound_of self.old }
+        ensures entries { entries_of self.new ≡ entries_of self.old }
         ensures free { free_of self.new ≡ free_of self.old }
     {
         let mut entry = self.entry(s);

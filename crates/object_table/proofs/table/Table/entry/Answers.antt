@@ -1,18 +1,18 @@
 use Rattle.std.proofs.Common.{ℕ, ◌<◌, length, sym, ◌∙◌, subst}
 use Rattle.std.proofs.lemmas.List.{get_or_default}
 use Rattle.object_table.specs.Entries.{free_entry}
-use Rattle.object_table.specs.Table.{entry_at, bound_of}
+use Rattle.object_table.specs.Table.{entry_at, entries_of}
 use Rattle.object_table.proofs.ShortLaws.{short-index, at_short-is}
 use Rattle.object_table.proofs.table.Table.entry.Goals as goal
 
 pub index-requires-2 : goal.index-requires-2
-unfolding bound_of
+unfolding entries_of
 index-requires-2 c =
     subst (λ (z : ℕ). c.index.result < z) (sym c.args.self.now.entries.ok.0)
     (short-index c.args.s.0 (length c.args.self.now.entries.items) c.index.result c.index.ensures c.requires.short c.requires.within)
 
 pub returns : goal.returns
-unfolding entry_at bound_of
+unfolding entry_at entries_of
 returns c =
     let items = c.args.self.now.entries.items in
     c.index-2.ensures

@@ -4,19 +4,19 @@ use Rattle.std.specs.List.{slice_set}
 use Rattle.object_table.specs.declared.entry.Entry.{Entry}
 use Rattle.object_table.specs.Entries.{put, is_short, is_used, free_entry}
 use Rattle.object_table.specs.Vacant.{IsVacant}
-use Rattle.object_table.specs.Table.{entry_at, bound_of, free_of}
+use Rattle.object_table.specs.Table.{entry_at, entries_of, free_of}
 use Rattle.object_table.proofs.ShortLaws.{short-index, at_short, at_short-set}
 use Rattle.object_table.proofs.VacantLaws.{known-give}
 use Rattle.object_table.proofs.table.Table.give.Goals as goal
 
 pub index_mut-requires : goal.index_mut-requires
-unfolding bound_of
+unfolding entries_of
 index_mut-requires c =
     subst (λ (z : ℕ). c.index.result < z) (sym c.args.self.now.entries.ok.0)
     (short-index c.args.s.0 (length c.args.self.now.entries.items) c.index.result c.index.ensures c.requires.short c.requires.within)
 
 pub index_mut-requires-2 : goal.index_mut-requires-2
-unfolding bound_of entry_at
+unfolding entries_of entry_at
 index_mut-requires-2 c =
     let t = c.args.self.now in
     let now = known-give t.entries.items t.vacant.items t.free c.args.s.0 c.index.result t.known c.index.ensures c.requires.short c.requires.within c.requires.used in
@@ -33,7 +33,7 @@ given entries places n s i j none v at at' short low used is =
     (known-give entries places n s i v at short low used).1)
 
 pub invariant_of-self : goal.invariant_of-self
-unfolding bound_of entry_at
+unfolding entries_of entry_at
 invariant_of-self c =
     let t = c.args.self.now in
     record {
@@ -43,18 +43,18 @@ invariant_of-self c =
     }
 
 pub returns-clause-entry : goal.returns-clause-entry
-unfolding bound_of entry_at
+unfolding entries_of entry_at
 returns-clause-entry c =
     let t = c.args.self.now in
     at_short-set free_entry t.entries.items c.args.s.0 c.index.result c.none.result c.index.ensures c.requires.short c.requires.within
     ∙ ap (put (entry_at t) c.args.s.0) c.none.ensures
 
-pub returns-clause-bound : goal.returns-clause-bound
-unfolding bound_of
-returns-clause-bound c = ap (λ (z : ℕ). 2 * z + 2) (length-set c.args.self.now.entries.items c.index.result c.none.result)
+pub returns-clause-entries : goal.returns-clause-entries
+unfolding entries_of
+returns-clause-entries c = length-set c.args.self.now.entries.items c.index.result c.none.result
 
 pub returns-clause-free : goal.returns-clause-free
-unfolding free_of bound_of entry_at
+unfolding free_of entries_of entry_at
 returns-clause-free c =
     let t = c.args.self.now in
     let now = given t.entries.items t.vacant.items t.free c.args.s.0 c.index.result c.index-2.result c.none.result t.known c.index.ensures c.index-2.ensures

@@ -1,8 +1,8 @@
-use Rattle.std.proofs.Common.{ℕ, ◌≡◌, ◌+◌, ◌*◌, List, length, replicate, ◌∙◌, ap, arith}
+use Rattle.std.proofs.Common.{ℕ, ◌≡◌, List, length, replicate, ◌∙◌, ap, arith}
 use Rattle.std.proofs.Math.ListN.{length-replicate}
 use Rattle.object_table.specs.declared.entry.Entry.{Entry}
 use Rattle.object_table.specs.Entries.{free_entry}
-use Rattle.object_table.specs.Table.{entry_at, bound_of, free_of}
+use Rattle.object_table.specs.Table.{entry_at, entries_of, free_of}
 use Rattle.object_table.proofs.ShortLaws.{at_short-all}
 use Rattle.object_table.proofs.VacantLaws.{vacant-new, free-new}
 use Rattle.object_table.proofs.table.Table.new.Goals as goal
@@ -28,12 +28,12 @@ returns-clause-entry c =
     let all = made items c.args.entries c.none.result (c.in_ok-vec.ensures.items_if_clones_equal (λ y e. e)) c.none.ensures in
     at_short-all free_entry items (free-new items c.args.entries all)
 
-pub returns-clause-bound : goal.returns-clause-bound
-unfolding bound_of
-returns-clause-bound c =
+pub returns-clause-entries : goal.returns-clause-entries
+unfolding entries_of
+returns-clause-entries c =
     let items = c.in_ok-vec.field-0.items in
     let all = made items c.args.entries c.none.result (c.in_ok-vec.ensures.items_if_clones_equal (λ y e. e)) c.none.ensures in
-    ap (λ (z : ℕ). 2 * z + 2) (ap (λ (l : List Entry). length l) all ∙ length-replicate c.args.entries free_entry)
+    ap (λ (l : List Entry). length l) all ∙ length-replicate c.args.entries free_entry
 
 pub returns-clause-free : goal.returns-clause-free
 unfolding free_of

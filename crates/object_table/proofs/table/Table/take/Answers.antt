@@ -4,7 +4,7 @@ use Rattle.std.specs.List.{slice_set}
 use Rattle.object_table.specs.declared.entry.Entry.{Entry}
 use Rattle.object_table.specs.Entries.{put, is_free, free_entry, leaf_entry}
 use Rattle.object_table.specs.Vacant.{IsVacant}
-use Rattle.object_table.specs.Table.{entry_at, bound_of, free_of}
+use Rattle.object_table.specs.Table.{entry_at, entries_of, free_of}
 use Rattle.object_table.proofs.ShortLaws.{short-of, at_short-index, at_short-set}
 use Rattle.object_table.proofs.VacantLaws.{vacant-take, vacant-top}
 use Rattle.object_table.proofs.table.Table.take.Goals as goal
@@ -36,7 +36,7 @@ invariant_of-self c =
     }
 
 pub returns-clause-short : goal.returns-clause-short
-unfolding bound_of
+unfolding entries_of
 returns-clause-short c =
     let t = c.args.self.now in
     let there = vacant-top t.entries.items t.vacant.items t.free c.index-place.result.now t.known (omega arith) c.index-place.ensures in
@@ -51,7 +51,7 @@ returns-clause-was_free c =
     ap is_free (at_short-index free_entry t.entries.items c.index-place.result.now) ∙ there.2
 
 pub returns-clause-entry : goal.returns-clause-entry
-unfolding entry_at bound_of
+unfolding entry_at entries_of
 returns-clause-entry c =
     let t = c.args.self.now in
     let there = vacant-top t.entries.items t.vacant.items t.free c.index-place.result.now t.known (omega arith) c.index-place.ensures in
@@ -69,6 +69,6 @@ returns-clause-free c =
     let b = t.known.counted in
     omega arith
 
-pub returns-clause-bound : goal.returns-clause-bound
-unfolding bound_of
-returns-clause-bound c = ap (λ (z : ℕ). 2 * z + 2) (length-set c.args.self.now.entries.items c.index-place.result.now c.leaf.result)
+pub returns-clause-entries : goal.returns-clause-entries
+unfolding entries_of
+returns-clause-entries c = length-set c.args.self.now.entries.items c.index-place.result.now c.leaf.result
