@@ -1,0 +1,4 @@
+pub mod ChunkLaws
+pub mod GapLaws
+pub mod SpanLaws
+pub mod WordLaws
