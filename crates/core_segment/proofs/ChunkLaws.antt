@@ -1,12 +1,13 @@
 -- How the chunks of a region change with its words and with where they lie.
-use Rattle.std.proofs.Common.{◌≡◌, ◌≢◌, ℕ, ◌+◌, ◌-◌, ◌<◌, ◌≤◌, ◌⊎◌, inl, inr, List, length, get_or, map, Option, Some, None, refl, sym, ◌∙◌, ap, subst, arith, ⊎_elim}
+use Rattle.std.proofs.Common.{◌≡◌, ◌≢◌, ℕ, ◌+◌, ◌-◌, ◌<◌, ◌≤◌, ◌⊎◌, inl, inr, List, length, get_or, map, sum_by, Option, Some, None, refl, sym, ◌∙◌, ap, subst, arith, ⊎_elim, [], ◌∷◌}
 use Rattle.std.proofs.lemmas.Bool.{cases_eq, cases_lt}
 use Rattle.std.proofs.lemmas.List.{get_or-set_same, get_or-set_other}
 use Rattle.std.proofs.lemmas.List.Edits.{get_or-insert_at}
+use Rattle.std.proofs.lemmas.List.Sums.{sum_by-cons}
 use Rattle.std.proofs.Math.ListN.{length-set}
 use Rattle.std.specs.List.{slice_set, slice_range, insert, remove}
 use Rattle.core_segment.specs.declared.segment.Span.{Span}
-use Rattle.core_segment.specs.Chunks.{Chunk, no_chunk, with_chunk, with_word, at_place}
+use Rattle.core_segment.specs.Chunks.{Chunk, Placed, no_chunk, with_chunk, with_word, at_place}
 use Rattle.core_segment.specs.Spans.{no_span, end_of, placed, IsLaid, IsGap}
 use Rattle.core_segment.proofs.SpanLaws.{span_at, chunk_in, at-span, IsFound, found, absent, insert-other, remove-other, set-other, laid-other, laid-there, removed, changed, with-chunk, same-eqb, other-eqb}
 use Rattle.core_segment.proofs.WordLaws.{length-range, range-same, range-set}
@@ -219,3 +220,13 @@ chunk-len region spans k p laid low e =
     let b = length-range region (s.place + 4) (end_of s) (laid.within k low) in
     let c = laid.sized k low in
     omega arith
+
+-- the places of all chunks
+pub places-sum : (region : List ℕ) (spans : List Span) → sum_by (λ (c : Placed). c.place) (map (placed region) spans) ≡ sum_by (λ (s : Span). s.place) spans
+places-sum region [] = refl
+places-sum region (s ∷ ss) = omega (
+  arith,
+  places-sum region ss,
+  sum_by-cons (λ (c : Placed). c.place) (placed region s) (map (placed region) ss),
+  sum_by-cons (λ (x : Span). x.place) s ss,
+)

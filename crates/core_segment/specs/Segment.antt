@@ -2,7 +2,6 @@
 use Rattle.std.specs.Prelude.{◌≡◌, ℕ, ◌+◌, ◌<◌, List, length, map, sum_by}
 use Rattle.core_segment.specs.declared.segment.Moved.{Moved}
 use Rattle.core_segment.specs.declared.segment.Segment.{Segment}
-use Rattle.core_segment.specs.declared.segment.Span.{Span}
 use Rattle.core_segment.specs.Chunks.{Chunk, Placed, no_chunk, at_place, with_chunk}
 use Rattle.core_segment.specs.Spans.{placed, largest_gap}
 
@@ -26,9 +25,9 @@ free_of g = g.free
 unfoldable pub largest_of : Segment → ℕ
 largest_of g = largest_gap 0 g.used.items (length g.region.items)
 
--- what is left for compaction to do: no step is possible at 0
+-- how far down the used chunks could go at most, all together
 unfoldable pub work_of : Segment → ℕ
-work_of g = sum_by (λ (s : Span). s.place) g.used.items
+work_of g = sum_by (λ (c : Placed). c.place) (chunks_of g)
 
 -- the same words are free, in the same chunks
 pub record SameRoom (old new : Segment) : Type 0 where

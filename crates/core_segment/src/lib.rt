@@ -19,3 +19,6 @@ pub mod laws;
 mod segment;
 
 pub use segment::{Addr, Moved, Segment};
+
+#[cfg(test)]
+mod tests;

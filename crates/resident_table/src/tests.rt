@@ -1,3 +1,6 @@
+ghost use Rattle.std.specs.Prelude.{◌≡◌, ◌+◌, ◌<◌, ◌≤◌};
+ghost use Rattle.resident_table.specs.Resident.{held_of, room_of};
+
 use super::*;
 use long_names::Name;
 use object_table::Short;
@@ -16,7 +19,8 @@ fn name(k: u16) -> Result<Name, Fail> {
 }
 
 fn add(resident: &mut Resident, k: u16) -> Result<(), Fail>
-    requires { held_of resident.old < room_of resident.old }
+    requires few { k < 1000 }
+    requires room { held_of resident.old < room_of resident.old }
     ensures held { held_of resident.new ≤ held_of resident.old + 1 }
     ensures room { room_of resident.new ≡ room_of resident.old }
 {

@@ -8,7 +8,7 @@ use Rattle.core_segment.specs.Spans.{no_span, IsLaid, IsGap, IsFirst}
 use Rattle.core_segment.specs.Segment.{chunks_of, chunk_at, size_of, free_of, largest_of, work_of, IsMove}
 use Rattle.core_segment.proofs.SpanLaws.{laid-move, laid-there, at-span, chunk_in}
 use Rattle.core_segment.proofs.GapLaws.{lens, free-gaps, one-gap, more-gaps, end-gap, no-gap}
-use Rattle.core_segment.proofs.ChunkLaws.{chunks, gap-vacant, move-chunks, IsShift}
+use Rattle.core_segment.proofs.ChunkLaws.{chunks, gap-vacant, move-chunks, places-sum, IsShift}
 use Rattle.core_segment.proofs.segment.Segment.compact_step.Goals as goal
 
 -- ---- nothing is left to move
@@ -142,7 +142,7 @@ returns-clause-many c =
     (free-gaps spans (length g.region.items) g.free g.laid g.counted)
 
 pub returns-clause-less : goal.returns-clause-less
-unfolding work_of
+unfolding work_of chunks_of
 returns-clause-less c =
     let g = c.args.self.now in
     let spans = g.used.items in
@@ -152,6 +152,8 @@ returns-clause-less c =
     let low : k < length spans = omega (arith, c.len.ensures, c.if-gap-len.false) in
     let below = c.in_ok-gap.ensures.gap.behind k (omega arith) low in
     let sum = sum_by-set (λ (s : Span). s.place) spans k (down c.index_mut.result.now c.in_ok-gap.gap.place) no_span low in
+    let was = places-sum g.region.items spans in
+    let now = places-sum c.copy_within.new.self.items (slice_set spans k (down c.index_mut.result.now c.in_ok-gap.gap.place)) in
     omega arith
 
 pub returns-clause-free : goal.returns-clause-free
