@@ -8,7 +8,7 @@ use Rattle.std.proofs.Math.ListN.{length-set}
 use Rattle.std.specs.List.{slice_set, slice_range, insert, remove}
 use Rattle.core_segment.specs.declared.segment.Span.{Span}
 use Rattle.core_segment.specs.Chunks.{Chunk, Placed, no_chunk, with_chunk, with_word, at_place}
-use Rattle.core_segment.specs.Spans.{no_span, end_of, placed, IsLaid, IsGap}
+use Rattle.core_segment.specs.Inside.{no_span, end_of, placed, IsLaid, IsGap}
 use Rattle.core_segment.proofs.SpanLaws.{span_at, chunk_in, at-span, IsFound, found, absent, insert-other, remove-other, set-other, laid-other, laid-there, removed, changed, with-chunk, same-eqb, other-eqb}
 use Rattle.core_segment.proofs.WordLaws.{length-range, range-same, range-set}
 

@@ -3,7 +3,7 @@ use Rattle.std.proofs.Common.{zero, suc, ◌≡◌, ◌≢◌, ℕ, ◌+◌, ◌
 use Rattle.std.proofs.lemmas.Bool.{cases_eq, cases_lt}
 use Rattle.std.proofs.lemmas.List.Sums.{sum_by-cons}
 use Rattle.core_segment.specs.declared.segment.Span.{Span}
-use Rattle.core_segment.specs.Spans.{no_span, end_of, IsLaid, IsGap, IsFirst, largest_gap, all_gaps}
+use Rattle.core_segment.specs.Inside.{no_span, end_of, IsLaid, IsGap, IsFirst, largest_gap, all_gaps}
 
 abbrev pub lens : List Span → ℕ
 lens spans = sum_by (λ (s : Span). s.len) spans

@@ -9,7 +9,7 @@ use Rattle.std.proofs.Math.Path.{fun_ext}
 use Rattle.std.specs.List.{slice_set, insert, remove}
 use Rattle.core_segment.specs.declared.segment.Span.{Span}
 use Rattle.core_segment.specs.Chunks.{Chunk, no_chunk, with_chunk, at_place}
-use Rattle.core_segment.specs.Spans.{no_span, end_of, placed, IsLaid, IsGap}
+use Rattle.core_segment.specs.Inside.{no_span, end_of, placed, IsLaid, IsGap}
 
 -- ---- the span that begins at a place
 

@@ -1,4 +1,4 @@
 pub mod Chunks
 pub mod Segment
-pub mod Spans
+pub mod Inside
 pub mod tests

@@ -3,7 +3,7 @@ use Rattle.std.specs.Prelude.{◌≡◌, ℕ, ◌+◌, ◌<◌, List, length, ma
 use Rattle.core_segment.specs.declared.segment.Moved.{Moved}
 use Rattle.core_segment.specs.declared.segment.Segment.{Segment}
 use Rattle.core_segment.specs.Chunks.{Chunk, Placed, no_chunk, at_place, with_chunk}
-use Rattle.core_segment.specs.Spans.{placed, largest_gap}
+use Rattle.core_segment.specs.Inside.{placed, largest_gap}
 
 -- the used chunks, by rising place
 unfoldable pub chunks_of : Segment → List Placed

@@ -2,7 +2,7 @@
 ghost use Rattle.std.specs.Prelude.{◌≡◌, ℕ, ◌+◌, ◌/◌, ◌^◌, ◌≤◌, length, sum_by};
 ghost use Rattle.std.specs.Vec.{vec_capacity};
 ghost use Rattle.core_segment.specs.declared.segment.Span.{Span};
-ghost use Rattle.core_segment.specs.Spans.{IsLaid};
+ghost use Rattle.core_segment.specs.Inside.{IsLaid};
 
 use std::alloc::{AllocError, Global};
 
@@ -50,7 +50,7 @@ pub struct Segment {
 impl Segment {
     ghost use Rattle.std.specs.Prelude.{◌≡◌, ◌≢◌, ◌+◌, ◌-◌, ◌*◌, ◌<◌, ◌≤◌, ◌^◌, ℕ, IfOk, IfSome, IfNone, Some, length, slice_get, slice_index_or};
     ghost use Rattle.core_segment.specs.Chunks.{Chunk, no_chunk, with_chunk, with_word};
-    ghost use Rattle.core_segment.specs.Spans.{no_span, largest_gap, IsGap, IsFirst};
+    ghost use Rattle.core_segment.specs.Inside.{no_span, largest_gap, IsGap, IsFirst};
     ghost use Rattle.core_segment.specs.Segment.{chunk_at, size_of, free_of, largest_of, work_of, SameRoom, IsTaken, IsMove};
 
     /// A segment of so many words, all of them free.

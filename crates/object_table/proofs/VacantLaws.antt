@@ -8,7 +8,7 @@ use Rattle.std.proofs.Math.ListN.{length-set, length-replicate}
 use Rattle.std.specs.List.{slice_set}
 use Rattle.object_table.specs.declared.entry.Entry.{Entry}
 use Rattle.object_table.specs.Entries.{is_short, is_used, is_free, free_entry}
-use Rattle.object_table.specs.Vacant.{IsVacant}
+use Rattle.object_table.specs.Inside.{IsVacant}
 use Rattle.object_table.proofs.ShortLaws.{at_short, at_short-is, short-index}
 
 -- ---- counts

@@ -1,6 +1,6 @@
 // The table of entries. Its free entries are known by their places, so that one is taken or given back in constant time.
 ghost use Rattle.std.specs.Prelude.{◌≤◌, length};
-ghost use Rattle.object_table.specs.Vacant.{IsVacant};
+ghost use Rattle.object_table.specs.Inside.{IsVacant};
 
 use crate::entry::{Entry, Short};
 use long_names::Name;

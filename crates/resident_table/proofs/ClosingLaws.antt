@@ -3,10 +3,10 @@ use Rattle.std.proofs.Common.{◌≡◌, ◌≢◌, ℕ, ◌+◌, ◌-◌, ◌<�
 use Rattle.std.proofs.Math.Nat.{eq-or-lt_of_le}
 use Rattle.std.proofs.lemmas.Bool.Decides.{nat_tests}
 use Rattle.resident_table.specs.declared.probe.Slot.{Slot}
-use Rattle.resident_table.specs.Probing.{IsTable, used, turned, home_of, looked_up, apart, nil, without, Puts, IsClosedUp}
+use Rattle.resident_table.specs.Inside.{IsTable, used, turned, home_of, looked_up, apart, no_slot, without, Puts, IsClosedUp}
 use Rattle.resident_table.proofs.ProbeLaws.{turned-below, turned-apart, used-more, used-same, equal_or_not, looked_up_some, looked_up_none, looked_up-same, turned-reaches, empty_slot}
 
-without-here : (f : ℕ → Slot) (hole : ℕ) → without f hole hole ≡ nil
+without-here : (f : ℕ → Slot) (hole : ℕ) → without f hole hole ≡ no_slot
 unfolding without
 without-here f hole = let e : (hole == hole) ≡ true = grind (arith, nat_tests) in rw e refl
 
@@ -144,7 +144,7 @@ passes home far hole gap n h l m g k low end = grind (arith, nat_tests)
 -- v with the slot of j moved into the hole
 pub record Moves (v u : ℕ → Slot) (n hole j : ℕ) : Type 0 where
   pub here : u hole ≡ v j
-  pub gone : u j ≡ nil
+  pub gone : u j ≡ no_slot
   pub others : (i : ℕ) → i < n → i ≢ hole → i ≢ j → u i ≡ v i
 
 module _ (v u : ℕ → Slot) (n count hole gap : ℕ) (t : IsNearTable v n count hole gap) (within : hole < n) (low : 1 ≤ gap) (high : gap < n) (some : (v (turned hole gap n)).name ≢ 0) (moves : Moves v u n hole (turned hole gap n)) where
@@ -248,7 +248,7 @@ module _ (v u : ℕ → Slot) (n count hole gap : ℕ) (t : IsNearTable v n coun
       by_place i l (inr a) (inr b) = inl (moves.others i l a b)
 
 -- what stands while the hole moves: f was there first, g is there now
-pub record Closing (f g : ℕ → Slot) (n count at hole gap step : ℕ) : Type 0 where
+pub record IsClosing (f g : ℕ → Slot) (n count at hole gap step : ℕ) : Type 0 where
   pub near : IsNearTable (without g hole) n (count - 1) hole gap
   pub place_is : turned at (step - gap) n ≡ hole
   pub met : (e : ℕ) → e < step → (f (turned at e n)).name ≢ 0
@@ -259,7 +259,7 @@ turned-none : (at n : ℕ) → at < n → turned at 0 n ≡ at
 unfolding turned
 turned-none at n h = grind (arith, nat_tests)
 
-pub closing_start : (f : ℕ → Slot) (n count at : ℕ) → IsTable f n count → at < n → (f at).name ≢ 0 → Closing f f n count at at 1 1
+pub closing_start : (f : ℕ → Slot) (n count at : ℕ) → IsTable f n count → at < n → (f at).name ≢ 0 → IsClosing f f n count at at 1 1
 closing_start f n count at t within some = record {
   near = opened f n count at t within some;
   place_is = turned-none at n within;
@@ -283,7 +283,7 @@ closing_start f n count at t within some = record {
         by_place name named other i l (inl a) = inr ((λ e. named (sym e ∙ name_of (ap (without f at) a ∙ without-here f at))), (λ e. other (sym e ∙ ap (λ k. (f k).name) a)))
         by_place name named other i l (inr a) = inl (without-other f at i a)
 
-module _ (f g : ℕ → Slot) (n count at hole gap step : ℕ) (c : Closing f g n count at hole gap step) (start : at < n) (within : hole < n) (low : 1 ≤ gap) (high : gap ≤ step) (room : step < n) where
+module _ (f g : ℕ → Slot) (n count at hole gap step : ℕ) (c : IsClosing f g n count at hole gap step) (start : at < n) (within : hole < n) (low : 1 ≤ gap) (high : gap ≤ step) (room : step < n) where
   -- the place that is looked at next
   next_is : turned hole gap n ≡ turned at step n
   next_is = ap (λ k. turned k gap n) (sym c.place_is) ∙ turned-turned at (step - gap) gap n start (omega arith) ∙ ap (λ m. turned at m n) (let e : step - gap + gap ≡ step = omega arith in e)
@@ -302,7 +302,7 @@ module _ (f g : ℕ → Slot) (n count at hole gap step : ℕ) (c : Closing f g 
   met_more : (g (turned hole gap n)).name ≢ 0 → (e : ℕ) → e < step + 1 → (f (turned at e n)).name ≢ 0
   met_more some = below_more (λ e. (f (turned at e n)).name ≢ 0) step c.met (λ nought. some (c.empties (turned hole gap n) next_below (ap (λ k. (f k).name) next_is ∙ nought)))
 
-  pub closing_left : (g (turned hole gap n)).name ≢ 0 → apart (home_of (g (turned hole gap n)).name n) (turned hole gap n) n < gap → Closing f g n count at hole (gap + 1) (step + 1)
+  pub closing_left : (g (turned hole gap n)).name ≢ 0 → apart (home_of (g (turned hole gap n)).name n) (turned hole gap n) n < gap → IsClosing f g n count at hole (gap + 1) (step + 1)
   closing_left some near = record {
     near = left (without g hole) n (count - 1) hole gap c.near within (omega arith) (rw slot_is near);
     place_is = ap (λ m. turned at m n) (let e : step + 1 - (gap + 1) ≡ step - gap = omega arith in e) ∙ c.place_is;
@@ -319,7 +319,7 @@ module _ (f g : ℕ → Slot) (n count at hole gap step : ℕ) (c : Closing f g 
       others = λ i l a b. without-other u (turned hole gap n) i b ∙ p.others i l a ∙ sym (without-other g hole i a);
     }
 
-    pub closing_moved : gap ≤ apart (home_of (g (turned hole gap n)).name n) (turned hole gap n) n → Closing f u n count at (turned hole gap n) 1 (step + 1)
+    pub closing_moved : gap ≤ apart (home_of (g (turned hole gap n)).name n) (turned hole gap n) n → IsClosing f u n count at (turned hole gap n) 1 (step + 1)
     closing_moved far =
         let some' : (without g hole (turned hole gap n)).name ≢ 0 = λ nought. some (sym (name_of slot_is) ∙ nought) in
         record {
@@ -333,7 +333,7 @@ module _ (f g : ℕ → Slot) (n count at hole gap step : ℕ) (c : Closing f g 
           by_place i l nought (inl is) = absurd (c.met (step - gap) (omega arith) (ap (λ k. (f k).name) (c.place_is ∙ sym is) ∙ nought))
           by_place i l nought (inr away) = name_of (p.others i l away) ∙ c.empties i l nought
 
-  module _ (u : ℕ → Slot) (end : (g (turned hole gap n)).name ≡ 0) (p : Puts g u n hole nil) where
+  module _ (u : ℕ → Slot) (end : (g (turned hole gap n)).name ≡ 0) (p : Puts g u n hole no_slot) where
     same : (i : ℕ) → i < n → u i ≡ without g hole i
     same i l = by_place (equal_or_not i hole) where
       by_place : (i ≡ hole) ⊎ (i ≢ hole) → u i ≡ without g hole i
@@ -371,7 +371,7 @@ used_some f n at within some =
     omega (arith, more)
 
 -- the same by the values that the code has
-module _ (f g : ℕ → Slot) (n count at hole gap step place d : ℕ) (slot : Slot) (c : Closing f g n count at hole gap step) (start : at < n) (within : hole < n) (low : 1 ≤ gap) (high : gap ≤ step) (room : step < n) (place_is : place ≡ turned hole gap n) (slot_is : slot ≡ g place) where
+module _ (f g : ℕ → Slot) (n count at hole gap step place d : ℕ) (slot : Slot) (c : IsClosing f g n count at hole gap step) (start : at < n) (within : hole < n) (low : 1 ≤ gap) (high : gap ≤ step) (room : step < n) (place_is : place ≡ turned hole gap n) (slot_is : slot ≡ g place) where
   here : slot ≡ g (turned hole gap n)
   here = slot_is ∙ ap g place_is
 
@@ -381,15 +381,15 @@ module _ (f g : ℕ → Slot) (n count at hole gap step place d : ℕ) (slot : S
   far_is : d ≡ apart (home_of slot.name n) place n → d ≡ apart (home_of (g (turned hole gap n)).name n) (turned hole gap n) n
   far_is is = is ∙ ap (λ m. apart (home_of m n) place n) (name_of here) ∙ ap (λ k. apart (home_of (g (turned hole gap n)).name n) k n) place_is
 
-  pub step_left : slot.name ≢ 0 → d ≡ apart (home_of slot.name n) place n → d < gap → Closing f g n count at hole (gap + 1) (step + 1)
+  pub step_left : slot.name ≢ 0 → d ≡ apart (home_of slot.name n) place n → d < gap → IsClosing f g n count at hole (gap + 1) (step + 1)
   step_left some is near = closing_left f g n count at hole gap step c start within low high room (used_here some) (rw (← far_is is) near)
 
-  pub step_moved : (u : ℕ → Slot) → slot.name ≢ 0 → d ≡ apart (home_of slot.name n) place n → gap ≤ d → Puts g u n hole slot → Closing f u n count at place 1 (step + 1)
+  pub step_moved : (u : ℕ → Slot) → slot.name ≢ 0 → d ≡ apart (home_of slot.name n) place n → gap ≤ d → Puts g u n hole slot → IsClosing f u n count at place 1 (step + 1)
   step_moved u some is far p =
       let moved = closing_moved f g n count at hole gap step c start within low high room u (used_here some) (subst (λ s. Puts g u n hole s) here p) (rw (← far_is is) far) in
-      subst (λ k. Closing f u n count at k 1 (step + 1)) (sym place_is) moved
+      subst (λ k. IsClosing f u n count at k 1 (step + 1)) (sym place_is) moved
 
-  pub step_end : (u : ℕ → Slot) → slot.name ≡ 0 → Puts g u n hole nil → IsClosedUp f u n count at
+  pub step_end : (u : ℕ → Slot) → slot.name ≡ 0 → Puts g u n hole no_slot → IsClosedUp f u n count at
   step_end u end p = record {
     table = closed_table f g n count at hole gap step c start within low high room u (name_of (sym here) ∙ end) p;
     removed = closed_looked_up f g n count at hole gap step c start within low high room u (name_of (sym here) ∙ end) p;

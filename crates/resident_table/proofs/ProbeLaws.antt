@@ -3,7 +3,7 @@ use Rattle.std.proofs.Common.{◌≡◌, ◌≢◌, ℕ, zero, suc, ◌+◌, ◌
 use Rattle.std.proofs.Math.Nat.{eq-or-lt_of_le}
 use Rattle.std.proofs.lemmas.Bool.Decides.{nat_tests}
 use Rattle.resident_table.specs.declared.probe.Slot.{Slot}
-use Rattle.resident_table.specs.Probing.{IsTable, IsVacancy, IsPassed, used, turned, home_of, looked_up, Puts}
+use Rattle.resident_table.specs.Inside.{IsTable, IsVacancy, IsPassed, used, turned, home_of, looked_up, Puts}
 
 pub turned-by_test : (home d n : ℕ) (b : Bool) → nat_lt (home + d) n ≡ b → cond b (home + d) (home + d - n) ≡ turned home d n
 unfolding turned

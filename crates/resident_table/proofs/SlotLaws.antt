@@ -9,7 +9,7 @@ use Rattle.std.specs.List.{slice_set}
 use Rattle.std.specs.Option.{IsSome}
 use Rattle.object_table.specs.Entries.{put}
 use Rattle.resident_table.specs.declared.probe.Slot.{Slot}
-use Rattle.resident_table.specs.Probing.{slot_at, nil, looked_up, IsTable, IsVacancy, IsClosedUp, Ends, Puts}
+use Rattle.resident_table.specs.Inside.{slot_at, no_slot, looked_up, IsTable, IsVacancy, IsClosedUp, Ends, Puts}
 use Rattle.resident_table.proofs.ProbeLaws.{equal_or_not, looked_up_none, looked_up_held, looked_up_vacant, put_looked_up}
 
 other-zero : (n : ℕ) (a b : Option ℕ) → n ≢ 0 → cond (n == 0) a b ≡ b
@@ -21,13 +21,13 @@ zero-other n a b h = let test : (0 == n) ≡ false = grind (arith, nat_tests) in
 -- a slot that is written stands there, and the others stay
 pub puts : (slots : List Slot) (n at : ℕ) (slot : Slot) → at < length slots → Puts (slot_at slots) (slot_at (slice_set slots at slot)) n at slot
 puts slots n at slot low = record {
-  here = get_or-set_same slots at slot nil low;
-  others = λ j l away. get_or-set_other slots at j slot nil away;
+  here = get_or-set_same slots at slot no_slot low;
+  others = λ j l away. get_or-set_other slots at j slot no_slot away;
 }
 
 -- a slot as it is read
 pub read : (slots : List Slot) (at : ℕ) (slot : Slot) → at < length slots → slot ≡ get_or slots at slot → slot ≡ slot_at slots at
-read slots at slot low e = e ∙ get_or_default slots at slot nil low
+read slots at slot low e = e ∙ get_or_default slots at slot no_slot low
 
 -- ---- the map that slots stand for
 
@@ -109,13 +109,13 @@ ends-there slots count name at t named ends some = ⊎_elim
 
 -- ---- a new table
 
-pub slots-none : (slots : List Slot) (n : ℕ) → slots ≡ replicate n nil → (i : ℕ) → (slot_at slots i).name ≡ 0
-slots-none slots n e i = ap (λ (l : List Slot). (get_or l i nil).name) e ∙ ap (λ (s : Slot). s.name) (none n i)
+pub slots-none : (slots : List Slot) (n : ℕ) → slots ≡ replicate n no_slot → (i : ℕ) → (slot_at slots i).name ≡ 0
+slots-none slots n e i = ap (λ (l : List Slot). (get_or l i no_slot).name) e ∙ ap (λ (s : Slot). s.name) (none n i)
   where
-    none : (n i : ℕ) → get_or (replicate n nil) i nil ≡ nil
+    none : (n i : ℕ) → get_or (replicate n no_slot) i no_slot ≡ no_slot
     none n i = ⊎_elim
-        (λ (h : i < n). get_or-replicate n i nil nil h)
-        (λ (h : n ≤ i). get_or_past (replicate n nil) i nil (subst (λ (z : ℕ). z ≤ i) (sym (length-replicate n nil)) h))
+        (λ (h : i < n). get_or-replicate n i no_slot no_slot h)
+        (λ (h : n ≤ i). get_or_past (replicate n no_slot) i no_slot (subst (λ (z : ℕ). z ≤ i) (sym (length-replicate n no_slot)) h))
         (cases_lt i n)
 
 pub short-none : (slots : List Slot) → ((i : ℕ) → (slot_at slots i).name ≡ 0) → short_in slots ≡ (λ name. None)

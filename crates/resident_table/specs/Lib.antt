@@ -1,2 +1,2 @@
-pub mod Probing
+pub mod Inside
 pub mod Resident

@@ -1,7 +1,7 @@
 -- What a resident table stands for: a map from names to short words.
 use Rattle.std.specs.Prelude.{ℕ, ◌==◌, Option, None, length, if◌then◌else◌}
 use Rattle.resident_table.specs.declared.resident.Resident.{Resident}
-use Rattle.resident_table.specs.Probing.{slot_at, looked_up}
+use Rattle.resident_table.specs.Inside.{slot_at, looked_up}
 
 -- the short word of a name
 unfoldable pub short_of : Resident → ℕ → Option ℕ

@@ -11,16 +11,15 @@
 //! }
 //! ```
 //!
-//! Read `specs/Resident.antt` first; `specs/Probing.antt` has how names are found. The table doesn't know what a short name means: that an
+//! Read `specs/Resident.antt` first; `specs/Inside.antt` has how names are found. The table doesn't know what a short name means: that an
 //! entry and its name belong together is for the layers above `Parts2` to keep.
 #![tactic(auto)]
 
 mod probe;
 mod resident;
 
-pub use resident::Resident;
-
 use object_table::Table;
+pub use resident::Resident;
 
 /// The entries of a core, and the table that finds them by their names.
 #[derive(Drop)]

@@ -1,6 +1,6 @@
 // Linear probing over a list of slots.
 ghost use Rattle.std.specs.Prelude.{◌≡◌, ◌≢◌, ◌<◌, ◌^◌, length};
-ghost use Rattle.resident_table.specs.Probing.{turned, apart, used, slot_at, IsTable, IsClosedUp};
+ghost use Rattle.resident_table.specs.Inside.{turned, apart, used, slot_at, IsTable, IsClosedUp};
 
 // A name and its short name. A slot of the name 0 is empty.
 #[derive(Clone, Copy)]
@@ -14,7 +14,7 @@ impl Slot {
 }
 
 // The slot `step` on from home, around the end.
-#[tactic(auto, unfolding(crate::specs::Probing::turned))]
+#[tactic(auto, unfolding(crate::specs::Inside::turned))]
 pub(crate) fn turn(home: usize, step: usize, slots: usize) -> usize
     requires few { slots < 2 ^ 31 }
     requires home_within { home < slots }
@@ -27,7 +27,7 @@ pub(crate) fn turn(home: usize, step: usize, slots: usize) -> usize
 }
 
 // How many slots on from one the other is, around the end.
-#[tactic(auto, unfolding(crate::specs::Probing::apart))]
+#[tactic(auto, unfolding(crate::specs::Inside::apart))]
 pub(crate) fn distance(from: usize, to: usize, slots: usize) -> usize
     requires few { slots < 2 ^ 31 }
     requires from_within { from < slots }

@@ -1,6 +1,6 @@
 // The resident table: names and their short names in slots, found by linear probing from a name's home.
 ghost use Rattle.std.specs.Prelude.{◌≡◌, ◌+◌, ◌*◌, ◌≤◌, length};
-ghost use Rattle.resident_table.specs.Probing.{slot_at, IsTable};
+ghost use Rattle.resident_table.specs.Inside.{slot_at, IsTable};
 
 use crate::probe::{Slot, close_up, turn};
 use long_names::Name;
@@ -24,7 +24,7 @@ impl Resident {
     ghost use Rattle.std.specs.Prelude.{◌≡◌, ◌≢◌, ◌+◌, ◌-◌, ◌<◌, ℕ, IfOk, IfSome, IfNone, Some, None, IsSome, length, option_map};
     ghost use Rattle.object_table.specs.declared.entry.Short.{Short};
     ghost use Rattle.object_table.specs.Entries.{put};
-    ghost use Rattle.resident_table.specs.Probing.{Ends, slot_at};
+    ghost use Rattle.resident_table.specs.Inside.{Ends, slot_at};
     ghost use Rattle.resident_table.specs.Resident.{short_of, held_of, room_of};
 
     /// An empty table with room for so many names.

@@ -46,7 +46,11 @@ fn a_table_is_filled_and_emptied(rt: HostRuntime) -> Result<(), Fail> {
         add(&mut resident, k)?;
     }
     for k in 0..ROOM {
-        assert_eq!(rt; resident.find(name(k)?), Some(Short(2 * k + 2)), "of name {k}");
+        assert_eq!(rt;
+            resident.find(name(k)?),
+            Some(Short(2 * k + 2)),
+            "of name {k}"
+        );
     }
     for k in 0..ROOM {
         if k % 3 != 0 {
@@ -54,7 +58,11 @@ fn a_table_is_filled_and_emptied(rt: HostRuntime) -> Result<(), Fail> {
         }
     }
     for k in 0..ROOM {
-        let want = if k % 3 == 0 { Some(Short(2 * k + 2)) } else { None };
+        let want = if k % 3 == 0 {
+            Some(Short(2 * k + 2))
+        } else {
+            None
+        };
         assert_eq!(rt; resident.find(name(k)?), want, "of name {k}");
     }
     for k in 0..ROOM {

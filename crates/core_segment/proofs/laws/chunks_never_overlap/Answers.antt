@@ -3,7 +3,7 @@ use Rattle.std.proofs.lemmas.List.{get_or-map, length-map}
 use Rattle.std.proofs.lemmas.List.Sums.{sum_by-cons}
 use Rattle.core_segment.specs.declared.segment.Span.{Span}
 use Rattle.core_segment.specs.Chunks.{Placed, IsLaidOut, room_of}
-use Rattle.core_segment.specs.Spans.{no_span, end_of, placed, IsLaid}
+use Rattle.core_segment.specs.Inside.{no_span, end_of, placed, IsLaid}
 use Rattle.core_segment.specs.Segment.{chunks_of, free_of, size_of}
 use Rattle.core_segment.proofs.GapLaws.{lens}
 use Rattle.core_segment.proofs.WordLaws.{length-range}

@@ -1,4 +1,4 @@
-use Rattle.std.proofs.Common.{ℕ, ◌≡◌, ◌<◌, ◌≤◌, length, ap, arith}
+use Rattle.std.proofs.Common.{◌≡◌, length, ap, arith}
 use Rattle.core_segment.proofs.KeptLaws.{known-none}
 use Rattle.core_segment.proofs.tests.a_segment_is_compacted.Goals as goal
 

@@ -1,4 +1,3 @@
-use Rattle.std.proofs.Common.{ℕ}
 use Rattle.core_segment.specs.Segment.{chunk_at}
 use Rattle.core_segment.proofs.KeptLaws.{known-move, there-move}
 use Rattle.core_segment.proofs.tests.compact.Goals as goal

@@ -1,6 +1,5 @@
-use Rattle.std.proofs.Common.{ℕ, ◌≡◌, ◌+◌, length, arith}
 use Rattle.core_segment.specs.Segment.{chunk_at}
-use Rattle.core_segment.proofs.KeptLaws.{taken-size, known-fill, there-fill}
+use Rattle.core_segment.proofs.KeptLaws.{taken-size}
 use Rattle.core_segment.proofs.tests.fill.Goals as goal
 
 pub write-requires-clause-size : goal.write-requires-clause-size

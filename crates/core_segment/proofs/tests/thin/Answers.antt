@@ -1,4 +1,4 @@
-use Rattle.std.proofs.Common.{ℕ, ◌≡◌, ◌≢◌, ◌+◌, ◌<◌, ◌%◌, ◌≤◌, ◌⊎◌, inl, inr, ap, arith, ⊎_elim}
+use Rattle.std.proofs.Common.{ℕ, ◌≡◌, ◌+◌, ◌%◌, ◌≤◌, ◌⊎◌, inl, inr, ap, arith, ⊎_elim}
 use Rattle.core_segment.specs.Segment.{chunk_at}
 use Rattle.core_segment.proofs.KeptLaws.{known-give, there-give}
 use Rattle.core_segment.proofs.tests.thin.Goals as goal

@@ -1,7 +1,7 @@
 use Rattle.std.proofs.Common.{ℕ, ◌≡◌, ◌<◌, length, sym, ◌∙◌, subst, arith}
 use Rattle.std.proofs.Math.ListN.{length-set}
 use Rattle.std.specs.List.{slice_set}
-use Rattle.resident_table.specs.Probing.{used, slot_at, nil, IsTable, IsClosedUp}
+use Rattle.resident_table.specs.Inside.{used, slot_at, no_slot, IsTable, IsClosedUp}
 use Rattle.resident_table.proofs.SlotLaws.{puts, read}
 use Rattle.resident_table.proofs.ClosingLaws.{closing_start, step_left, step_moved, step_end, not_all_met}
 use Rattle.resident_table.proofs.probe.close_up.Goals as goal
@@ -60,10 +60,10 @@ returns-then-slot-eq0-clause-closed c =
     let at : c.args.at < n = let b = c.requires.within in omega arith in
     let next = c.turn-place.ensures.within in
     let slot : c.index-slot.result.now ≡ slot_at c.loop-step.slots.items c.turn-place.result = read c.loop-step.slots.items c.turn-place.result c.index-slot.result.now (omega arith) c.index-slot.ensures in
-    subst (λ (m : ℕ). IsClosedUp f (slot_at (slice_set c.loop-step.slots.items c.loop-step.hole nil)) m (used f m) c.args.at) (sym size)
+    subst (λ (m : ℕ). IsClosedUp f (slot_at (slice_set c.loop-step.slots.items c.loop-step.hole no_slot)) m (used f m) c.args.at) (sym size)
     (step_end f (slot_at c.loop-step.slots.items) n (used f n) c.args.at c.loop-step.hole c.loop-step.gap c.loop-step._step c.turn-place.result 0
-    c.index-slot.result.now inv.closing at within low high c.loop-step-test.true c.turn-place.ensures.place slot (slot_at (slice_set c.loop-step.slots.items c.loop-step.hole nil)) c.if-slot-eq0.true
-    (puts c.loop-step.slots.items n c.loop-step.hole nil (omega arith)))
+    c.index-slot.result.now inv.closing at within low high c.loop-step-test.true c.turn-place.ensures.place slot (slot_at (slice_set c.loop-step.slots.items c.loop-step.hole no_slot)) c.if-slot-eq0.true
+    (puts c.loop-step.slots.items n c.loop-step.hole no_slot (omega arith)))
 
 pub unreachable-requires : goal.unreachable-requires
 unreachable-requires c =

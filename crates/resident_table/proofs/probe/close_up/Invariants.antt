@@ -1,6 +1,6 @@
 use Rattle.std.proofs.Common.{◌≡◌, ◌≤◌, ◌<◌, length}
-use Rattle.resident_table.specs.Probing.{used, slot_at}
-use Rattle.resident_table.proofs.ClosingLaws.{Closing}
+use Rattle.resident_table.specs.Inside.{used, slot_at}
+use Rattle.resident_table.proofs.ClosingLaws.{IsClosing}
 use Rattle.resident_table.proofs.probe.close_up.Given as goal
 
 abbrev pub invariant-loop-step : goal.invariant-loop-step
@@ -11,5 +11,5 @@ invariant-loop-step l =
       high : l.gap ≤ l._step;
       within : l.hole < l.size;
       same : length l.slots.items ≡ l.size;
-      closing : Closing f (slot_at l.slots.items) l.size (used f l.size) l.fn.at l.hole l.gap l._step;
+      closing : IsClosing f (slot_at l.slots.items) l.size (used f l.size) l.fn.at l.hole l.gap l._step;
     }

@@ -4,7 +4,7 @@ use Rattle.std.proofs.lemmas.List.Sums.{sum_by-set}
 use Rattle.std.specs.List.{slice_set, CopiedTo, SameBelow, SameFrom}
 use Rattle.core_segment.specs.declared.segment.Span.{Span}
 use Rattle.core_segment.specs.Chunks.{Chunk}
-use Rattle.core_segment.specs.Spans.{no_span, IsLaid, IsGap, IsFirst}
+use Rattle.core_segment.specs.Inside.{no_span, IsLaid, IsGap, IsFirst}
 use Rattle.core_segment.specs.Segment.{chunks_of, chunk_at, size_of, free_of, largest_of, work_of, IsMove}
 use Rattle.core_segment.proofs.SpanLaws.{laid-move, laid-there, at-span, chunk_in}
 use Rattle.core_segment.proofs.GapLaws.{lens, free-gaps, one-gap, more-gaps, end-gap, no-gap}

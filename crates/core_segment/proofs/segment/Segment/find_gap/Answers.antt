@@ -1,7 +1,7 @@
 use Rattle.std.proofs.Common.{◌≡◌, ◌+◌, ◌-◌, ◌<◌, ◌≤◌, length, get_or, arith, sym, ◌∙◌, subst}
 use Rattle.std.proofs.lemmas.List.{get_or_default}
 use Rattle.core_segment.specs.declared.segment.Span.{Span}
-use Rattle.core_segment.specs.Spans.{no_span, end_of}
+use Rattle.core_segment.specs.Inside.{no_span, end_of}
 use Rattle.core_segment.specs.Segment.{largest_of}
 use Rattle.core_segment.proofs.GapLaws.{IsPassed, passed-none, passed-more, passed-all}
 use Rattle.core_segment.proofs.segment.Segment.find_gap.Goals as goal

@@ -3,7 +3,7 @@ use Rattle.std.proofs.lemmas.List.{get_or_default}
 use Rattle.std.proofs.lemmas.List.Edits.{length-remove}
 use Rattle.std.proofs.lemmas.List.Sums.{sum_by-remove}
 use Rattle.core_segment.specs.declared.segment.Span.{Span}
-use Rattle.core_segment.specs.Spans.{no_span, IsLaid}
+use Rattle.core_segment.specs.Inside.{no_span, IsLaid}
 use Rattle.core_segment.specs.Segment.{chunks_of, chunk_at, size_of, free_of}
 use Rattle.core_segment.proofs.SpanLaws.{laid-remove}
 use Rattle.core_segment.proofs.GapLaws.{lens}

@@ -2,7 +2,7 @@ use Rattle.std.proofs.Common.{ℕ, ◌≡◌, ◌≢◌, ◌+◌, ◌-◌, ◌/�
 use Rattle.std.proofs.lemmas.List.{get_or_default}
 use Rattle.std.proofs.lemmas.Bool.{cases_eq, cases_lt}
 use Rattle.core_segment.specs.declared.segment.Span.{Span}
-use Rattle.core_segment.specs.Spans.{no_span, IsLaid}
+use Rattle.core_segment.specs.Inside.{no_span, IsLaid}
 use Rattle.core_segment.specs.Segment.{chunks_of, chunk_at}
 use Rattle.core_segment.proofs.SpanLaws.{laid-lower, IsFound}
 use Rattle.core_segment.proofs.ChunkLaws.{owned-there}

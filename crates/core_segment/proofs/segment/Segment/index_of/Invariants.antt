@@ -1,5 +1,5 @@
 use Rattle.std.proofs.Common.{ℕ, ◌-◌, ◌<◌, ◌≤◌, length, slice_index_or}
-use Rattle.core_segment.specs.Spans.{no_span}
+use Rattle.core_segment.specs.Inside.{no_span}
 use Rattle.core_segment.proofs.segment.Segment.index_of.Given as goal
 
 abbrev pub invariant-loop-low : goal.invariant-loop-low

@@ -1,6 +1,6 @@
 use Rattle.std.proofs.Common.{ℕ, ◌≡◌, List, [], length, ap, arith, refl, ◌∙◌}
 use Rattle.core_segment.specs.declared.segment.Span.{Span}
-use Rattle.core_segment.specs.Spans.{largest_gap}
+use Rattle.core_segment.specs.Inside.{largest_gap}
 use Rattle.core_segment.specs.Segment.{chunks_of, chunk_at, size_of, free_of, largest_of}
 use Rattle.core_segment.proofs.ChunkLaws.{chunks}
 use Rattle.core_segment.proofs.segment.Segment.new.Goals as goal

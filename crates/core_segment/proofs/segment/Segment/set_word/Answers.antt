@@ -1,6 +1,6 @@
 use Rattle.std.proofs.Common.{◌+◌, ap, arith, refl}
 use Rattle.std.proofs.Math.ListN.{length-set}
-use Rattle.core_segment.specs.Spans.{largest_gap}
+use Rattle.core_segment.specs.Inside.{largest_gap}
 use Rattle.core_segment.specs.Segment.{chunks_of, chunk_at, size_of, free_of, largest_of}
 use Rattle.core_segment.proofs.ChunkLaws.{set-chunks, word-there}
 use Rattle.core_segment.proofs.segment.Segment.set_word.Goals as goal

@@ -4,7 +4,7 @@ use Rattle.std.proofs.lemmas.List.Sums.{sum_by-insert}
 use Rattle.std.specs.List.{insert, slice_range}
 use Rattle.core_segment.specs.declared.segment.Span.{Span}
 use Rattle.core_segment.specs.Chunks.{Chunk}
-use Rattle.core_segment.specs.Spans.{IsLaid, IsGap}
+use Rattle.core_segment.specs.Inside.{IsLaid, IsGap}
 use Rattle.core_segment.specs.Segment.{chunks_of, chunk_at, size_of, free_of, largest_of, IsTaken}
 use Rattle.core_segment.proofs.SpanLaws.{laid-insert}
 use Rattle.core_segment.proofs.GapLaws.{lens, gap-le, gap-free, room-more}

@@ -2,7 +2,7 @@ use Rattle.std.proofs.Common.{ℕ, ◌≡◌, ◌+◌, get_or, Some, ap, arith, 
 use Rattle.std.proofs.lemmas.Option.{slice_get-get_or}
 use Rattle.std.proofs.lemmas.List.{get_or_default}
 use Rattle.core_segment.specs.Chunks.{Chunk}
-use Rattle.core_segment.specs.Spans.{end_of}
+use Rattle.core_segment.specs.Inside.{end_of}
 use Rattle.core_segment.specs.Segment.{chunks_of, chunk_at}
 use Rattle.core_segment.proofs.ChunkLaws.{chunks, word-there}
 use Rattle.core_segment.proofs.WordLaws.{range-at}

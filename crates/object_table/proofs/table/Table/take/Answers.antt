@@ -3,7 +3,7 @@ use Rattle.std.proofs.Math.ListN.{length-set}
 use Rattle.std.specs.List.{slice_set}
 use Rattle.object_table.specs.declared.entry.Entry.{Entry}
 use Rattle.object_table.specs.Entries.{put, is_free, free_entry, leaf_entry}
-use Rattle.object_table.specs.Vacant.{IsVacant}
+use Rattle.object_table.specs.Inside.{IsVacant}
 use Rattle.object_table.specs.Table.{entry_at, entries_of, free_of}
 use Rattle.object_table.proofs.ShortLaws.{short-of, at_short-index, at_short-set}
 use Rattle.object_table.proofs.VacantLaws.{vacant-take, vacant-top}

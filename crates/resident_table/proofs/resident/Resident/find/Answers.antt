@@ -1,6 +1,6 @@
 use Rattle.std.proofs.Common.{ℕ, ◌≢◌, length, Some, subst, sym, ap, ◌∙◌, arith}
 use Rattle.resident_table.specs.declared.probe.Slot.{Slot}
-use Rattle.resident_table.specs.Probing.{slot_at, Ends}
+use Rattle.resident_table.specs.Inside.{slot_at, Ends}
 use Rattle.resident_table.specs.Resident.{short_of}
 use Rattle.resident_table.proofs.SlotLaws.{read, ends-empty, ends-held}
 use Rattle.resident_table.proofs.resident.Resident.find.Goals as goal

@@ -3,7 +3,7 @@ use Rattle.std.proofs.Math.ListN.{length-set}
 use Rattle.std.specs.List.{slice_set}
 use Rattle.object_table.specs.Entries.{put}
 use Rattle.resident_table.specs.declared.probe.Slot.{Slot}
-use Rattle.resident_table.specs.Probing.{slot_at, IsTable}
+use Rattle.resident_table.specs.Inside.{slot_at, IsTable}
 use Rattle.resident_table.specs.Resident.{short_of, held_of, room_of}
 use Rattle.resident_table.proofs.ProbeLaws.{put_table}
 use Rattle.resident_table.proofs.SlotLaws.{puts, short-put, ends-vacant}

@@ -1,5 +1,5 @@
 use Rattle.std.proofs.Common.{◌+◌, ◌*◌, length, refl, arith}
-use Rattle.resident_table.specs.Probing.{slot_at}
+use Rattle.resident_table.specs.Inside.{slot_at}
 use Rattle.resident_table.specs.Resident.{short_of, held_of, room_of}
 use Rattle.resident_table.proofs.ProbeLaws.{empty_table}
 use Rattle.resident_table.proofs.SlotLaws.{slots-none, short-none}

@@ -1,5 +1,5 @@
 use Rattle.std.proofs.Common.{ℕ, ◌≢◌, length, refl, subst, sym, ◌∙◌, arith}
-use Rattle.resident_table.specs.Probing.{slot_at, used, Ends}
+use Rattle.resident_table.specs.Inside.{slot_at, used, Ends}
 use Rattle.resident_table.specs.Resident.{short_of, held_of, room_of}
 use Rattle.resident_table.proofs.ClosingLaws.{used_some}
 use Rattle.resident_table.proofs.SlotLaws.{short-closed, ends-there}

@@ -1,6 +1,6 @@
 use Rattle.std.proofs.Common.{ℕ, ◌≡◌, ◌<◌, length, sym, ap, ◌∙◌, subst, arith, inl, inr, ⊎_elim}
 use Rattle.resident_table.specs.declared.probe.Slot.{Slot}
-use Rattle.resident_table.specs.Probing.{slot_at, used, turned, home_of, IsPassed, Ends}
+use Rattle.resident_table.specs.Inside.{slot_at, used, turned, home_of, IsPassed, Ends}
 use Rattle.resident_table.proofs.ProbeLaws.{passed_none, passed_more, not_all_passed}
 use Rattle.resident_table.proofs.SlotLaws.{read}
 use Rattle.resident_table.proofs.resident.Resident.seek.Goals as goal

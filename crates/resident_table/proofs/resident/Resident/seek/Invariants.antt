@@ -1,4 +1,4 @@
-use Rattle.resident_table.specs.Probing.{IsPassed, slot_at}
+use Rattle.resident_table.specs.Inside.{IsPassed, slot_at}
 use Rattle.resident_table.proofs.resident.Resident.seek.Given as goal
 
 abbrev pub invariant-loop-step : goal.invariant-loop-step

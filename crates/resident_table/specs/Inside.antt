@@ -3,12 +3,12 @@ use Rattle.std.specs.Prelude.{◌≡◌, ◌≢◌, ℕ, zero, suc, ◌+◌, ◌
 use Rattle.resident_table.specs.declared.probe.Slot.{Slot}
 
 -- an empty slot
-abbrev pub nil : Slot
-nil = record { name = 0; short = 0 }
+abbrev pub no_slot : Slot
+no_slot = record { name = 0; short = 0 }
 
 -- the slots of a list
 abbrev pub slot_at : List Slot → ℕ → Slot
-slot_at slots i = slice_index_or slots i nil
+slot_at slots i = slice_index_or slots i no_slot
 
 -- the short word of a name among the first n slots
 unfoldable pub looked_up : (ℕ → Slot) → ℕ → ℕ → Option ℕ
@@ -32,7 +32,8 @@ turned home d n = if nat_lt (home + d) n then home + d else home + d - n
 pub record IsTable (f : ℕ → Slot) (n count : ℕ) : Type 0 where
   pub count_is : used f n ≡ count
   pub distinct : (i j : ℕ) → i < n → j < n → (f i).name ≢ 0 → (f i).name ≡ (f j).name → i ≡ j
-  pub reached : (name d e : ℕ) → name ≢ 0 → d < n → (f (turned (home_of name n) d n)).name ≡ name → e < d → (f (turned (home_of name n) e n)).name ≢ 0
+  pub reached : (name d e : ℕ) → name ≢ 0 → d < n → (f (turned (home_of name n) d n)).name ≡ name → e < d
+      → (f (turned (home_of name n) e n)).name ≢ 0
 
 -- this many steps of the search for a name met used slots of other names
 pub record IsPassed (f : ℕ → Slot) (n name steps : ℕ) : Type 0 where
@@ -53,7 +54,7 @@ apart a b n = if nat_le a b then b - a else b + n - a
 
 -- the slots with this one emptied
 unfoldable pub without : (ℕ → Slot) → ℕ → ℕ → Slot
-without f hole i = if i == hole then nil else f i
+without f hole i = if i == hole then no_slot else f i
 
 -- g is f with this slot put there
 pub record Puts (f g : ℕ → Slot) (n at : ℕ) (slot : Slot) : Type 0 where
