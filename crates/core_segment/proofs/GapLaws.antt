@@ -1,0 +1,188 @@
+-- Free words between chunks.
+use Rattle.std.proofs.Common.{zero, suc, ◌≡◌, ◌≢◌, ℕ, ◌+◌, ◌-◌, ◌*◌, ◌/◌, ◌<◌, ◌≤◌, max, List, [], ◌∷◌, length, get_or, drop, sum_by, refl, sym, ◌∙◌, ap, subst, arith, ⊎_elim, drop-cons, add-one}
+use Rattle.std.proofs.lemmas.Bool.{cases_eq, cases_lt}
+use Rattle.std.proofs.lemmas.List.Sums.{sum_by-cons}
+use Rattle.core_segment.specs.declared.segment.Span.{Span}
+use Rattle.core_segment.specs.Inside.{no_span, end_of, IsLaid, IsGap, IsFirst, largest_gap, all_gaps}
+
+abbrev pub lens : List Span → ℕ
+lens spans = sum_by (λ (s : Span). s.len) spans
+
+lens-cons : (s : Span) (ss : List Span) → lens (s ∷ ss) ≡ s.len + lens ss
+lens-cons s ss = sum_by-cons (λ (x : Span). x.len) s ss
+
+laid-tail : (s : Span) (ss : List Span) (size : ℕ) → IsLaid (s ∷ ss) size → IsLaid ss size
+laid-tail s ss size laid = record {
+  sized = λ k h. laid.sized (suc k) (omega arith);
+  owned = λ k h. laid.owned (suc k) (omega arith);
+  within = λ k h. laid.within (suc k) (omega arith);
+  apart = λ j k h l. laid.apart (suc j) (suc k) (omega arith) (omega arith);
+}
+
+-- the free words and those of the chunks are all words
+pub gaps-sum : (spans : List Span) (size from : ℕ) → IsLaid spans size → from ≤ size → ((k : ℕ) → k < length spans → from ≤ (get_or spans k no_span).place)
+    → all_gaps from spans size + lens spans ≡ size - from
+gaps-sum [] size from laid low below = omega arith
+gaps-sum (s ∷ ss) size from laid low below =
+    let first : from ≤ s.place = below 0 (omega arith) in
+    let within : s.place + s.len ≤ size = laid.within 0 (omega arith) in
+    let rest = gaps-sum ss size (end_of s) (laid-tail s ss size laid) within (λ k h. laid.apart 0 (suc k) (omega arith) (omega arith)) in
+    omega (arith, lens-cons s ss)
+
+-- chunks have four words or more
+pub spans-few : (spans : List Span) → ((k : ℕ) → k < length spans → 4 ≤ (get_or spans k no_span).len) → 4 * length spans ≤ lens spans
+spans-few [] sized = omega arith
+spans-few (s ∷ ss) sized =
+    let first : 4 ≤ s.len = sized 0 (omega arith) in
+    let rest = spans-few ss (λ k h. sized (suc k) (omega arith)) in
+    omega (arith, lens-cons s ss)
+
+pub largest-le : (spans : List Span) (size from : ℕ) → largest_gap from spans size ≤ all_gaps from spans size
+largest-le [] size from = omega arith
+largest-le (s ∷ ss) size from = let rest = largest-le ss size (end_of s) in omega arith
+
+pub gaps-none : (spans : List Span) (size from : ℕ) → largest_gap from spans size ≡ 0 → all_gaps from spans size ≡ 0
+gaps-none [] size from e = e
+gaps-none (s ∷ ss) size from e = let rest = gaps-none ss size (end_of s) (omega arith) in omega arith
+
+-- a gap is no larger than the largest
+pub gap-le : (spans : List Span) (size words index place from : ℕ) → IsGap spans size words index place → from ≤ place → words ≤ largest_gap from spans size
+gap-le [] size words index place from gap low = let within = gap.within in omega arith
+gap-le (s ∷ ss) size words zero place from gap low = let first : place + words ≤ s.place = gap.behind 0 (omega arith) (omega arith) in omega arith
+gap-le (s ∷ ss) size words (suc index) place from gap low =
+    let first : s.place + s.len ≤ place = gap.before 0 (omega arith) in
+    let rest = gap-le ss size words index place (end_of s) (record {
+      among = let h = gap.among in omega arith;
+      before = λ k h. gap.before (suc k) (omega arith);
+      behind = λ k h l. gap.behind (suc k) (omega arith) (omega arith);
+      within = gap.within;
+    }) first in
+    omega arith
+
+-- ---- the search for a gap
+
+drop-at : (spans : List Span) (k : ℕ) → k < length spans → drop k spans ≡ get_or spans k no_span ∷ drop (k + 1) spans
+drop-at spans k low = drop-cons spans k no_span low ∙ ap (λ (n : ℕ). get_or spans k no_span ∷ drop n spans) (sym (add-one k))
+
+-- the gaps from a place before a chunk
+pub largest-at : (spans : List Span) (size k place : ℕ) → k < length spans → largest_gap place (drop k spans) size
+    ≡ max ((get_or spans k no_span).place - place) (largest_gap (end_of (get_or spans k no_span)) (drop (k + 1) spans) size)
+largest-at spans size k place low = ap (λ (l : List Span). largest_gap place l size) (drop-at spans k low)
+
+pub gaps-at : (spans : List Span) (size k place : ℕ) → k < length spans → all_gaps place (drop k spans) size
+    ≡ ((get_or spans k no_span).place - place) + all_gaps (end_of (get_or spans k no_span)) (drop (k + 1) spans) size
+gaps-at spans size k place low = ap (λ (l : List Span). all_gaps place l size) (drop-at spans k low)
+
+pub drop-end : (spans : List Span) → drop (length spans) spans ≡ []
+drop-end [] = refl
+drop-end (s ∷ ss) = drop-end ss
+
+pub first-more : (spans : List Span) (size k place : ℕ) → k < length spans → (get_or spans k no_span).place - place ≡ 0 → IsFirst spans size k place
+    → IsFirst spans size (k + 1) (end_of (get_or spans k no_span))
+first-more spans size k place low none first = record {
+  largest = let a = first.largest in let b = largest-at spans size k place low in omega arith;
+  gaps = let a = first.gaps in let b = gaps-at spans size k place low in omega arith;
+}
+
+-- ---- one gap or several
+
+-- the first gap has all free words, and so is the largest
+pub one-gap : (spans : List Span) (size k place free : ℕ) → k < length spans → IsFirst spans size k place → (get_or spans k no_span).place - place ≡ free
+    → all_gaps 0 spans size ≡ free → largest_gap 0 spans size ≡ free
+one-gap spans size k place free low first all sum =
+    let a = first.largest in let b = largest-at spans size k place low in
+    let c = first.gaps in let d = gaps-at spans size k place low in
+    let e = largest-le (drop (k + 1) spans) size (end_of (get_or spans k no_span)) in
+    omega arith
+
+pub more-gaps : (spans : List Span) (size k place free : ℕ) → k < length spans → IsFirst spans size k place → (get_or spans k no_span).place - place ≢ free
+    → 1 ≤ (get_or spans k no_span).place - place → all_gaps 0 spans size ≡ free → largest_gap 0 spans size < free
+more-gaps spans size k place free low first part some sum =
+    let a = first.largest in let b = largest-at spans size k place low in
+    let c = first.gaps in let d = gaps-at spans size k place low in
+    let e = largest-le (drop (k + 1) spans) size (end_of (get_or spans k no_span)) in
+    omega arith
+
+-- no gap before the end
+pub end-gap : (spans : List Span) (size place free : ℕ) → IsFirst spans size (length spans) place → all_gaps 0 spans size ≡ free → largest_gap 0 spans size ≡ free
+end-gap spans size place free first sum =
+    first.largest ∙ ap (λ (l : List Span). largest_gap place l size) (drop-end spans)
+    ∙ sym (ap (λ (l : List Span). all_gaps place l size) (drop-end spans)) ∙ sym first.gaps ∙ sum
+
+pub no-gap : (spans : List Span) (size free : ℕ) → largest_gap 0 spans size < 1 → all_gaps 0 spans size ≡ free → largest_gap 0 spans size ≡ free
+no-gap spans size free none sum = let a = gaps-none spans size 0 (omega arith) in omega arith
+
+-- ---- what the search has passed
+
+-- no gap of so many words lies before this place, which is the end of the chunk before this index, or 0
+pub record IsPassed (spans : List Span) (size words index place : ℕ) : Type 0 where
+  pub before : (k : ℕ) → k < index → end_of (get_or spans k no_span) ≤ place
+  pub behind : (k : ℕ) → index ≤ k → k < length spans → place ≤ (get_or spans k no_span).place
+  pub within : place ≤ size
+  pub less : largest_gap place (drop index spans) size < words → largest_gap 0 spans size < words
+  pub first : words ≡ 1 → IsFirst spans size index place
+
+pub passed-none : (spans : List Span) (size words : ℕ) → IsPassed spans size words 0 0
+passed-none spans size words = record {
+  before = λ k h. absurd (omega arith);
+  behind = λ k h l. omega arith;
+  within = omega arith;
+  less = λ h. h;
+  first = λ e. record { largest = refl; gaps = refl };
+}
+
+pub passed-more : (spans : List Span) (size words index place : ℕ) → IsLaid spans size → IsPassed spans size words index place → index < length spans
+    → (get_or spans index no_span).place - place < words → IsPassed spans size words (index + 1) (end_of (get_or spans index no_span))
+passed-more spans size words index place laid passed low small = record {
+  before = λ k h. ⊎_elim
+      (λ (b : k < index). let a = passed.before k b in let c = passed.behind index (omega arith) low in omega arith)
+      (λ (b : index ≤ k). let e : k ≡ index = omega arith in subst (λ (z : ℕ). end_of (get_or spans z no_span) ≤ end_of (get_or spans index no_span)) (sym e) (omega arith))
+      (cases_lt k index);
+  behind = λ k h l. laid.apart index k (omega arith) l;
+  within = laid.within index low;
+  less = λ h. passed.less (let a = largest-at spans size index place low in omega arith);
+  first = λ e. first-more spans size index place low (omega arith) (passed.first e);
+}
+
+pub passed-gap : (spans : List Span) (size words index place : ℕ) → IsLaid spans size → IsPassed spans size words index place → index < length spans
+    → words ≤ (get_or spans index no_span).place - place → 1 ≤ words → IsGap spans size words index place
+passed-gap spans size words index place laid passed low large some = record {
+  among = omega arith;
+  before = passed.before;
+  behind = λ k h l. ⊎_elim
+      (λ (e : k ≡ index). subst (λ (z : ℕ). place + words ≤ (get_or spans z no_span).place) (sym e) (omega arith))
+      (λ (e : k ≢ index). let a = laid.apart index k (omega arith) l in omega arith)
+      (cases_eq k index);
+  within = let a = laid.within index low in omega arith;
+}
+
+pub passed-end : (spans : List Span) (size words index place : ℕ) → IsPassed spans size words index place → index ≡ length spans
+    → place + words ≤ size → IsGap spans size words index place
+passed-end spans size words index place passed e large = record {
+  among = omega arith;
+  before = passed.before;
+  behind = λ k h l. absurd (omega arith);
+  within = large;
+}
+
+pub passed-all : (spans : List Span) (size words index place : ℕ) → IsPassed spans size words index place → index ≡ length spans → size - place < words
+    → largest_gap 0 spans size < words
+passed-all spans size words index place passed e small =
+    passed.less (subst (λ (l : List Span). largest_gap place l size < words) (sym (ap (λ (k : ℕ). drop k spans) e ∙ drop-end spans)) small)
+
+-- the free words are those in gaps
+pub free-gaps : (spans : List Span) (size free : ℕ) → IsLaid spans size → free + lens spans ≡ size → all_gaps 0 spans size ≡ free
+free-gaps spans size free laid all = let a = gaps-sum spans size 0 laid (omega arith) (λ k h. omega arith) in omega arith
+
+-- a gap has no more words than are free
+pub gap-free : (spans : List Span) (size free words index place : ℕ) → IsLaid spans size → free + lens spans ≡ size → IsGap spans size words index place
+    → words ≤ free
+gap-free spans size free words index place laid all gap =
+    let a = free-gaps spans size free laid all in
+    let b = gap-le spans size words index place 0 gap (omega arith) in
+    let c = largest-le spans size 0 in
+    omega arith
+
+-- where four words are free, one more chunk has room
+pub room-more : (spans : List Span) (size free : ℕ) → IsLaid spans size → free + lens spans ≡ size → 4 ≤ free → length spans < size / 4
+room-more spans size free laid all some = let a = spans-few spans laid.sized in omega arith

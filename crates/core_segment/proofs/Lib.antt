@@ -1,0 +1,5 @@
+pub mod ChunkLaws
+pub mod GapLaws
+pub mod KeptLaws
+pub mod SpanLaws
+pub mod WordLaws

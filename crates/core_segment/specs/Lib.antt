@@ -1,0 +1,4 @@
+pub mod Chunks
+pub mod Segment
+pub mod Inside
+pub mod tests

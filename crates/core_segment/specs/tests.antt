@@ -1,0 +1,2 @@
+-- What tests alone cite.
+pub mod Kept

@@ -1,0 +1,24 @@
+//! The core's segment: a region of 16-bit words, parts of which are given out as chunks.
+//!
+//! A segment stands for a function from places to used chunks, `chunk_at`, each with an owner and words. `take`, `give` and `set_word`
+//! change one chunk, and `compact_step` moves one down, with its words; each is one equation of whole functions. `take` answers None
+//! exactly where no free chunk has so many words, and once `compact_step` answered None all free words are one chunk.
+//!
+//! ```text
+//! let mut segment = Segment::new(alloc, 4096)?;
+//! if let Some(at) = segment.take(4 + 6, owner) {      // four words of a chunk are the segment's own
+//!     segment.set_word(at, 5, 0xffff);
+//! }
+//! ```
+//!
+//! Read `specs/Chunks.antt` first, then `specs/Segment.antt`. `laws` says that chunks never overlap. An owner is a number to the segment,
+//! and what a word means it doesn't know.
+#![tactic(auto)]
+
+pub mod laws;
+mod segment;
+
+pub use segment::{Addr, Moved, Segment};
+
+#[cfg(test)]
+mod tests;

@@ -1,0 +1,2 @@
+pub mod ShortLaws
+pub mod VacantLaws

@@ -1,0 +1,4 @@
+pub mod Entries
+pub mod Flags
+pub mod Table
+pub mod Inside

@@ -1,0 +1,27 @@
+//! The table of a core's entries. A short name, an even word above 0, names an entry: what a core knows of one object.
+//!
+//! A table stands for a function from short words to entries, `entry_at`, and each call that changes it is one equation of whole
+//! functions: `set`, `add_ref` and `drop_ref` change one entry that is in use, `take` makes a free entry a leaf, and `give` frees one.
+//! How many entries are free is always known, and each call takes constant time.
+//!
+//! ```text
+//! let mut table = Table::new(alloc, 512)?;
+//! if let Some(s) = table.take(Name::NIL) {    // of the short names 2 to 1024
+//!     table.add_ref(s);
+//! }
+//! ```
+//!
+//! Read `specs/Entries.antt` first, then `specs/Table.antt`. The table doesn't know which short name a name has, nor where a body lies,
+//! and it counts no references by itself.
+#![tactic(auto)]
+
+mod entry;
+mod flags;
+mod table;
+
+pub use entry::{Entry, EntryState, Short};
+pub use flags::EntryFlags;
+pub use table::Table;
+
+#[cfg(test)]
+mod tests;
