@@ -1,5 +1,5 @@
 mod ListLaws
-mod OneReading
+pub mod OneReading
 mod PieceLaws
 mod ReadLaws
 mod TextLaws
