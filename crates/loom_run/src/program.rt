@@ -104,7 +104,11 @@ fn write_display<H: Host>(host: &mut H, name: &str, picture: &[u8]) -> Result<()
 }
 
 // Puts what the machine said to Transcript, unless memory was refused in a cycle. The error is the answer.
-fn say<H: Host>(host: &mut H, memory: &PlainMemory, run: &Result<Finished, Halted>) -> Result<(), Status>
+fn say<H: Host>(
+    host: &mut H,
+    memory: &PlainMemory,
+    run: &Result<Finished, Halted>,
+) -> Result<(), Status>
     ensures put { IsTrue (H.tells Role.Transcript) → OnOk result (WasSaid (is_spoken_by run.now) (plain_told memory.now).transcript
         (H.roles host.old Role.Transcript) (H.roles host.new Role.Transcript)) }
     ensures fault { IfErr result (λ status. status ≡ Status.WriteFault Role.Transcript (H.faults host.new Role.Transcript)) }

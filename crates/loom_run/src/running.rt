@@ -90,7 +90,12 @@ fn is_quit(step: Step) -> bool
 
 /// Runs so many bytecodes under an event list, or until one ends the machine (interpret, chapter 28). The memory settles after each.
 /// `cpu.ran` says how many were run, where it stops too. Quit comes exactly where the last bytecode ended the machine.
-pub fn run<M: ObjectMemory>(m: &mut M, cpu: &mut Cpu, events: &EventList, steps: u32) -> Result<Step, Stop>
+pub fn run<M: ObjectMemory>(
+    m: &mut M,
+    cpu: &mut Cpu,
+    events: &EventList,
+    steps: u32,
+) -> Result<Step, Stop>
     requires sound { M.sound m.old }
     requires ready { IsReady (M.told m.old) }
     requires rest { HasRest (M.told m.old) }
@@ -145,7 +150,12 @@ pub struct Halted {
 }
 
 /// Starts, runs so many bytecodes, and parks. `cpu.ran` says how many were run.
-fn go_through<M: ObjectMemory>(m: &mut M, cpu: &mut Cpu, events: &EventList, steps: u32) -> Result<Step, Stop>
+fn go_through<M: ObjectMemory>(
+    m: &mut M,
+    cpu: &mut Cpu,
+    events: &EventList,
+    steps: u32,
+) -> Result<Step, Stop>
     requires sound { M.sound m.old }
     requires ready { IsReady (M.told m.old) }
     ensures ends { IsTrue (M.told m.old).tells → (h : Heap) → Begins h (M.told m.old) → GoesAs (M.told m.new) cpu.new result (ending events.now steps h) }
@@ -183,7 +193,12 @@ fn draw<M: ObjectMemory>(alloc: Global, m: &mut M, cpu: &Cpu) -> Result<Octets, 
 }
 
 /// Starts, runs so many bytecodes under an event list, parks, and draws the display.
-pub fn whole_run<M: ObjectMemory>(alloc: Global, m: &mut M, events: &EventList, steps: u32) -> Result<Finished, Halted>
+pub fn whole_run<M: ObjectMemory>(
+    alloc: Global,
+    m: &mut M,
+    events: &EventList,
+    steps: u32,
+) -> Result<Finished, Halted>
     requires sound { M.sound m.old }
     requires ready { IsReady (M.told m.old) }
     ensures ends { IsTrue (M.told m.old).tells → (h : Heap) → Begins h (M.told m.old) → EndsAs (M.told m.new) result (ending events.now steps h) }

@@ -92,15 +92,57 @@ fn runs_are_refused(rt: HostRuntime) -> Result<(), Fail> {
     let cut = "run cut events saved display 0";
     let rows = [
         (cut, none, bad, "image: rule 0 at 0\n", None),
-        ("run no events saved display 0", none, unread, "read fault: Image\n", None),
-        ("run base no saved display 0", none, unread_events, "read fault: Events\n", None),
-        ("run base base saved display 0", none, bad_events, "events: line 1\n", None),
+        (
+            "run no events saved display 0",
+            none,
+            unread,
+            "read fault: Image\n",
+            None,
+        ),
+        (
+            "run base no saved display 0",
+            none,
+            unread_events,
+            "read fault: Events\n",
+            None,
+        ),
+        (
+            "run base base saved display 0",
+            none,
+            bad_events,
+            "events: line 1\n",
+            None,
+        ),
         (whole, (Image, 3), unread, "read fault: Image\n", None),
-        (whole, (Events, 1), unread_events, "read fault: Events\n", None),
-        (whole, (Events, 2), unread_events, "read fault: Events\n", None),
+        (
+            whole,
+            (Events, 1),
+            unread_events,
+            "read fault: Events\n",
+            None,
+        ),
+        (
+            whole,
+            (Events, 2),
+            unread_events,
+            "read fault: Events\n",
+            None,
+        ),
         (whole, (Saved, 1), unsaved, "write fault: Saved\n", None),
-        (whole, (Saved, 3), unsaved, "write fault: Saved\n", Some(100)),
-        (whole, (Display, 1), undrawn, "write fault: Display\n", Some(652)),
+        (
+            whole,
+            (Saved, 3),
+            unsaved,
+            "write fault: Saved\n",
+            Some(100),
+        ),
+        (
+            whole,
+            (Display, 1),
+            undrawn,
+            "write fault: Display\n",
+            Some(652),
+        ),
         (whole, (Notes, 1), unsaid, "", Some(652)),
         (cut, (Notes, 1), bad, "", None),
     ];
@@ -116,7 +158,11 @@ fn runs_are_refused(rt: HostRuntime) -> Result<(), Fail> {
         assert_eq!(rt; host.notes(), notes.as_bytes());
         let want = saved.and_then(|n: usize| image.bytes().get(..n));
         assert_eq!(rt; host.file("saved"), want, "at {words}");
-        assert_eq!(rt; host.file("display").is_some(), status == unsaid, "at {words}");
+        assert_eq!(rt;
+            host.file("display").is_some(),
+            status == unsaid,
+            "at {words}"
+        );
     }
     Ok(())
 }
@@ -135,7 +181,11 @@ fn words_and_pictures_fail(rt: HostRuntime) -> Result<(), Fail> {
         host.add_file("hello", image.bytes())?;
         host.add_file("events", b"")?;
         host.fail(role, nth)?;
-        let status = ask(rt.alloc(), &mut host, "run hello events saved display 10000")?;
+        let status = ask(
+            rt.alloc(),
+            &mut host,
+            "run hello events saved display 10000",
+        )?;
         let fault = match status {
             Status::WriteFault { role, .. } => Some(role),
             _ => None,
