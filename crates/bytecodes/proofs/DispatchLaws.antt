@@ -1,5 +1,5 @@
 -- Which range of the table has a byte.
-use Rattle.std.proofs.Common.{◌≡◌, ℕ, ◌-◌, ◌^◌, ◌<◌, ◌≤◌, ◌&&◌, nat_lt, nat_le, true, length, Result, Ok, Err, sym, ◌∙◌, ap, subst, arith}
+use Rattle.std.proofs.Common.{◌≡◌, ℕ, List, Option, ◌-◌, ◌^◌, ◌<◌, ◌≤◌, ◌&&◌, nat_lt, nat_le, true, length, Result, Ok, Err, sym, ◌∙◌, ap, subst, arith}
 use Rattle.std.proofs.lemmas.Bool.Decides.{nat_tests}
 use borrow.Author.Tests.{ltb-true}
 use Rattle.std.specs.List.{slice_index_or}
@@ -7,41 +7,42 @@ use Rattle.std.specs.Result.{IsErrAnd}
 use Rattle.std.proofs.lemmas.Result.{err_from_is_err_and}
 use Rattle.object_memory.specs.Told.{Told}
 use Rattle.blue_model.specs.declared.cpu.Cpu.{Cpu}
+use Rattle.blue_model.specs.declared.event.Line.{Line}
 use Rattle.blue_model.specs.declared.step.Step.{Step}
 use Rattle.blue_model.specs.Machine.{Rule}
 use Rattle.blue_model.specs.Primitives.{then_next}
 use Rattle.blue_model.specs.Bytecodes.{Range, bytecodes, bytecode}
 use Rattle.blue_model.proofs.RangeLaws.{bytecode_by}
 use Rattle.contexts.specs.declared.stop.Stop.{Stop}
-use Rattle.contexts.specs.Serves.{Serves}
+use Rattle.contexts.specs.Serves.{ServesAs, Serves}
 use Rattle.contexts.proofs.ServesLaws.{serves_then, serves_stop}
 use Rattle.contexts.proofs.Steps.{done_serves}
 use Rattle.bytecodes.specs.Steps.{next_by}
 
-within : (i : ℕ) → nat_lt i 45 ≡ true → i < length bytecodes
+within : (events : List Line) (i : ℕ) → nat_lt i 45 ≡ true → i < length (bytecodes events)
 unfolding bytecodes
-within i e = ltb-true i 45 e
+within events i e = ltb-true i 45 e
 
 inside : (low high byte : ℕ) → low ≤ byte → byte ≤ high → (nat_le low byte && nat_le byte high) ≡ true
 inside low high byte above below = grind (arith, nat_tests)
 
 -- What serves the rule of a range serves the bytecode that is in the range, which stands at this place of the table.
-pub dispatched : {old new : Told} {cpu now : Cpu} {answer : Result Step Stop} (byte i : ℕ) (r : Range) → byte < 2 ^ 8 → nat_lt i 45 ≡ true → slice_index_or bytecodes i r ≡ r → r.first ≤ byte → byte ≤ r.last → Serves old cpu new now (r.rule (byte - r.first)) answer → Serves old cpu new now (bytecode byte) answer
-dispatched {old} {new} {cpu} {now} {answer} byte i r low place at above below s =
-    subst (λ (rule : Rule Step). Serves old cpu new now rule answer) (sym (bytecode_by byte i r low (within i place) at (inside r.first r.last byte above below))) s
+pub dispatched : {w : Option Step} {old new : Told} {cpu now : Cpu} {answer : Result Step Stop} (events : List Line) (byte i : ℕ) (r : Range) → byte < 2 ^ 8 → nat_lt i 45 ≡ true → slice_index_or (bytecodes events) i r ≡ r → r.first ≤ byte → byte ≤ r.last → ServesAs w old cpu new now (r.rule (byte - r.first)) answer → ServesAs w old cpu new now (bytecode events byte) answer
+dispatched {w} {old} {new} {cpu} {now} {answer} events byte i r low place at above below s =
+    subst (λ (rule : Rule Step). ServesAs w old cpu new now rule answer) (sym (bytecode_by events byte i r low (within events i place) at (inside r.first r.last byte above below))) s
 
 -- the first range begins at 0
 pub from_zero : {old new : Told} {cpu now : Cpu} {answer : Result (Unit {0}) Stop} (rule : ℕ → Rule (Unit {0})) (byte : ℕ) → Serves old cpu new now (rule byte) answer → Serves old cpu new now (rule (byte - 0)) answer
 from_zero {old} {new} {cpu} {now} {answer} rule byte s = subst (λ n. Serves old cpu new now (rule n) answer) (omega arith) s
 
 -- a call after which the next bytecode follows
-pub next_serves : {old new : Told} {cpu now : Cpu} {p : Rule (Unit {0})} (r : Result (Unit {0}) Stop) → Serves old cpu new now p r → Serves old cpu new now (then_next p) (next_by r)
+pub next_serves : {w : Option Step} {old new : Told} {cpu now : Cpu} {p : Rule (Unit {0})} (r : Result (Unit {0}) Stop) → Serves old cpu new now p r → ServesAs w old cpu new now (then_next p) (next_by r)
 unfolding then_next
 next_serves (Ok tt) s = serves_then _ s (done_serves s.ready)
 next_serves (Err e) s = serves_stop _ s
 
 -- the exit of its `?`
-pub next_stops : {old new : Told} {cpu now : Cpu} {rule : Rule Step} {e : Stop} (r : Result Step Stop) → IsErrAnd r (λ y. y ≡ e) → Serves old cpu new now rule (next_by (Err e)) → Serves old cpu new now rule r
-next_stops {old} {new} {cpu} {now} {rule} {e} r is s =
+pub next_stops : {w : Option Step} {old new : Told} {cpu now : Cpu} {rule : Rule Step} {e : Stop} (r : Result Step Stop) → IsErrAnd r (λ y. y ≡ e) → ServesAs w old cpu new now rule (next_by (Err e)) → ServesAs w old cpu new now rule r
+next_stops {w} {old} {new} {cpu} {now} {rule} {e} r is s =
     let q = err_from_is_err_and r is in
-    subst (λ (x : Result Step Stop). Serves old cpu new now rule x) (sym (q.1 ∙ ap (λ y. Err y) q.2)) s
+    subst (λ (x : Result Step Stop). ServesAs w old cpu new now rule x) (sym (q.1 ∙ ap (λ y. Err y) q.2)) s

@@ -1,21 +1,26 @@
 -- Which table has a primitive, and what becomes of a try.
-use Rattle.std.proofs.Common.{◌≡◌, ℕ, ◌<◌, ◌≤◌, ◌==◌, ◌&&◌, ◌||◌, nat_le, Bool, true, false, List, [], ◌∷◌, ◌++◌, Result, refl, sym, ◌∙◌, ap, subst, arith}
+use Rattle.std.proofs.Common.{◌≡◌, ℕ, ◌<◌, ◌≤◌, ◌==◌, nat_le, Bool, true, false, List, [], ◌∷◌, ◌++◌, Result, refl, sym, ◌∙◌, ap, subst, arith}
 use Rattle.std.proofs.lemmas.Bool.Decides.{nat_tests}
 use Rattle.std.proofs.lemmas.Grind.{common_steps}
 use Rattle.std.specs.List.{list_all}
 use Rattle.long_names.proofs.ThinLemmas.{both}
 use Rattle.object_memory.specs.Told.{Told}
 use Rattle.blue_model.specs.declared.answer.Answer.{Answer}
+use Rattle.blue_model.specs.declared.answer.Answer.TheVariants.{Done}
 use Rattle.blue_model.specs.declared.cpu.Cpu.{Cpu}
+use Rattle.blue_model.specs.declared.event.Line.{Line}
 use Rattle.blue_model.specs.Machine.{Rule, pick, unbuilt}
 use Rattle.blue_model.specs.Trials.{Primitive, with_arguments, primitive_in}
 use Rattle.blue_model.specs.Arithmetic.{integer_primitives}
 use Rattle.blue_model.specs.Storage.{object_primitives}
-use Rattle.blue_model.specs.Primitives.{is_unbuilt, is_control, is_process, primitive}
+use Rattle.blue_model.specs.Primitives.{is_unbuilt, is_control, is_process, is_device, has_failed, primitive}
 use Rattle.blue_model.specs.Control.{control_primitive}
 use Rattle.blue_model.specs.Processes.{process_primitives}
+use Rattle.blue_model.specs.Devices.{device_primitives}
+use Rattle.blue_model.specs.Sends.{is_execute}
 use Rattle.contexts.specs.declared.stop.Stop.{Stop}
-use Rattle.contexts.specs.Serves.{Serves}
+use Rattle.contexts.specs.Serves.{Serves, Speaks}
+use Rattle.contexts.proofs.ServesLaws.{speaks_quiet}
 use Rattle.contexts.proofs.Steps.{pick_true, pick_false}
 
 -- ---- rows that a table hasn't
@@ -64,22 +69,39 @@ integers_below = refl
 
 -- ---- tries of what is built
 
-try_first : {old new : Told} {cpu now : Cpu} {answer : Result Answer Stop} (index : ℕ) → is_unbuilt index ≡ false → is_control index ≡ false → is_process index ≡ false → Serves old cpu new now (primitive_in (integer_primitives ++ object_primitives) index) answer → Serves old cpu new now (primitive index) answer
+try_first : {old new : Told} {cpu now : Cpu} {answer : Result Answer Stop} (events : List Line) (index : ℕ) → is_unbuilt index ≡ false → is_control index ≡ false → is_process index ≡ false → is_device index ≡ false → Serves old cpu new now (primitive_in (integer_primitives ++ object_primitives) index) answer → Speaks Done old cpu new now (primitive events index) answer
 unfolding primitive
-try_first {old} {new} {cpu} {now} {answer} index built control process s = pick_false _ unbuilt _ built (pick_false _ (control_primitive index) _ control (pick_false _ (primitive_in process_primitives index) _ process s))
+try_first events index built control process device s =
+    speaks_quiet (pick_false _ unbuilt _ built (pick_false _ (control_primitive index) _ control (pick_false _ (primitive_in process_primitives index) _ process
+    (pick_false _ (primitive_in (device_primitives events) index) _ device s))))
 
-pub try_integer : {old new : Told} {cpu now : Cpu} {answer : Result Answer Stop} (index : ℕ) → is_unbuilt index ≡ false → is_control index ≡ false → is_process index ≡ false → index < 60 → Serves old cpu new now (primitive_in integer_primitives index) answer → Serves old cpu new now (primitive index) answer
-try_integer {old} {new} {cpu} {now} {answer} index built control process low s =
-    try_first index built control process (subst (λ (rule : Rule Answer). Serves old cpu new now rule answer) (sym (first_rows integer_primitives object_primitives index (none_above object_primitives 60 index objects_above low))) s)
+pub try_integer : {old new : Told} {cpu now : Cpu} {answer : Result Answer Stop} (events : List Line) (index : ℕ) → is_unbuilt index ≡ false → is_control index ≡ false → is_process index ≡ false → is_device index ≡ false → index < 60 → Serves old cpu new now (primitive_in integer_primitives index) answer → Speaks Done old cpu new now (primitive events index) answer
+try_integer {old} {new} {cpu} {now} {answer} events index built control process device low s =
+    try_first events index built control process device (subst (λ (rule : Rule Answer). Serves old cpu new now rule answer) (sym (first_rows integer_primitives object_primitives index (none_above object_primitives 60 index objects_above low))) s)
 
-pub try_object : {old new : Told} {cpu now : Cpu} {answer : Result Answer Stop} (index : ℕ) → is_unbuilt index ≡ false → is_control index ≡ false → is_process index ≡ false → 60 ≤ index → Serves old cpu new now (primitive_in object_primitives index) answer → Serves old cpu new now (primitive index) answer
-try_object {old} {new} {cpu} {now} {answer} index built control process high s =
-    try_first index built control process (subst (λ (rule : Rule Answer). Serves old cpu new now rule answer) (sym (last_rows integer_primitives object_primitives 59 index integers_below (omega arith))) s)
+pub try_object : {old new : Told} {cpu now : Cpu} {answer : Result Answer Stop} (events : List Line) (index : ℕ) → is_unbuilt index ≡ false → is_control index ≡ false → is_process index ≡ false → is_device index ≡ false → 60 ≤ index → Serves old cpu new now (primitive_in object_primitives index) answer → Speaks Done old cpu new now (primitive events index) answer
+try_object {old} {new} {cpu} {now} {answer} events index built control process device high s =
+    try_first events index built control process device (subst (λ (rule : Rule Answer). Serves old cpu new now rule answer) (sym (last_rows integer_primitives object_primitives 59 index integers_below (omega arith))) s)
 
-pub try_control : {old new : Told} {cpu now : Cpu} {answer : Result Answer Stop} (index : ℕ) → is_unbuilt index ≡ false → is_control index ≡ true → Serves old cpu new now (control_primitive index) answer → Serves old cpu new now (primitive index) answer
+pub try_control : {old new : Told} {cpu now : Cpu} {answer : Result Answer Stop} (events : List Line) (index : ℕ) → is_unbuilt index ≡ false → is_control index ≡ true → Serves old cpu new now (control_primitive index) answer → Speaks Done old cpu new now (primitive events index) answer
 unfolding primitive
-try_control {old} {new} {cpu} {now} {answer} index built control s = pick_false _ unbuilt _ built (pick_true _ (control_primitive index) _ control s)
+try_control events index built control s = speaks_quiet (pick_false _ unbuilt _ built (pick_true _ (control_primitive index) _ control s))
 
-pub try_process : {old new : Told} {cpu now : Cpu} {answer : Result Answer Stop} (index : ℕ) → is_unbuilt index ≡ false → is_control index ≡ false → is_process index ≡ true → Serves old cpu new now (primitive_in process_primitives index) answer → Serves old cpu new now (primitive index) answer
+pub try_process : {old new : Told} {cpu now : Cpu} {answer : Result Answer Stop} (events : List Line) (index : ℕ) → is_unbuilt index ≡ false → is_control index ≡ false → is_process index ≡ true → Serves old cpu new now (primitive_in process_primitives index) answer → Speaks Done old cpu new now (primitive events index) answer
 unfolding primitive
-try_process {old} {new} {cpu} {now} {answer} index built control process s = pick_false _ unbuilt _ built (pick_false _ (control_primitive index) _ control (pick_true _ (primitive_in process_primitives index) _ process s))
+try_process events index built control process s =
+    speaks_quiet (pick_false _ unbuilt _ built (pick_false _ (control_primitive index) _ control (pick_true _ (primitive_in process_primitives index) _ process s)))
+
+pub try_device : {old new : Told} {cpu now : Cpu} {answer : Result Answer Stop} (events : List Line) (index : ℕ) → is_unbuilt index ≡ false → is_control index ≡ false → is_process index ≡ false → is_device index ≡ true → Speaks Done old cpu new now (primitive_in (device_primitives events) index) answer → Speaks Done old cpu new now (primitive events index) answer
+unfolding primitive
+try_device events index built control process device s =
+    pick_false _ unbuilt _ built (pick_false _ (control_primitive index) _ control (pick_false _ (primitive_in process_primitives index) _ process
+    (pick_true _ (primitive_in (device_primitives events) index) _ device s)))
+
+-- ---- answers after which nothing has been said
+
+pub not_failed : (a : Answer) → has_failed a ≡ true → a ≡ Done → ⊥
+not_failed a failed done = let no : ◌≡◌ {A = Bool} true false = sym failed ∙ ap has_failed done in absurd (cc)
+
+pub not_executed : (a : Answer) → is_execute a ≡ true → a ≡ Done → ⊥
+not_executed a execute done = let no : ◌≡◌ {A = Bool} true false = sym execute ∙ ap is_execute done in absurd (cc)

@@ -4,7 +4,7 @@ use Rattle.blue_model.specs.declared.answer.Answer.{Answer}
 use Rattle.blue_model.specs.declared.answer.Answer.TheVariants.{Done}
 use Rattle.blue_model.specs.declared.step.Step.{Step}
 use Rattle.blue_model.specs.declared.step.Step.TheVariants.{Next}
-use Rattle.blue_model.specs.Machine.{Rule, ◌>>=◌, ◌>>◌, done}
+use Rattle.blue_model.specs.Machine.{Rule, ◌>>◌, done}
 use Rattle.blue_model.specs.Messages.{activate}
 
 abbrev pub next_by : {E : Type 0} → Result (Unit {0}) E → Result Step E

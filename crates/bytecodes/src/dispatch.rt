@@ -1,9 +1,11 @@
 // The table of bytecodes, and one step of the machine.
-ghost use Rattle.std.specs.Prelude.{◌≡◌, ◌≤◌, Ok, OnOk};
+ghost use Rattle.std.specs.Prelude.{◌≡◌, ◌≤◌, List, Ok, OnOk};
 ghost use Rattle.object_memory.specs.Told.{IsReady};
+ghost use Rattle.blue_model.specs.declared.event.Line.{Line};
+ghost use Rattle.blue_model.specs.declared.step.Step.TheVariants.{Next};
 ghost use Rattle.blue_model.specs.Bytecodes.{bytecode as bytecode_rule};
 ghost use Rattle.blue_model.specs.Cycle.{step as step_rule, is_message};
-ghost use Rattle.contexts.specs.Serves.{Serves, StaysSound, HasRest};
+ghost use Rattle.contexts.specs.Serves.{Serves, Speaks, StaysSound, HasRest};
 ghost use Rattle.blue_model.specs.declared.cpu.Cpu.{Cpu as Numbers};
 ghost use Rattle.blue_model.specs.Machine.{clear as clear_rule};
 ghost use Rattle.bytecodes.specs.Steps.{next_by};
@@ -21,6 +23,7 @@ use crate::stacks::{
 use crate::variables::Variable;
 use blue_model::Step;
 use contexts::{Cause, Cpu, Stop, clear, fetch, pop};
+use event_file::EventList;
 use long_names::Name;
 use object_memory::ObjectMemory;
 
@@ -29,7 +32,7 @@ pub(crate) fn push_bytecode<M: ObjectMemory>(m: &mut M, cpu: &mut Cpu, byte: u8)
     requires sound { M.sound m.old }
     requires ready { IsReady (M.told m.old) }
     requires to { byte ≤ 119 }
-    ensures serves { Serves (M.told m.old) cpu.old (M.told m.new) cpu.new (bytecode_rule byte) (next_by result) }
+    ensures serves { (events : List Line) → Serves (M.told m.old) cpu.old (M.told m.new) cpu.new (bytecode_rule events byte) (next_by result) }
     ensures ready { OnOk result (IsReady (M.told m.new)) }
     ensures sound { StaysSound result (M.sound m.new) }
     ensures lender { M.lender m.new ≡ M.lender m.old }
@@ -54,25 +57,26 @@ pub(crate) fn push_bytecode<M: ObjectMemory>(m: &mut M, cpu: &mut Cpu, byte: u8)
 pub(crate) fn return_bytecode<M: ObjectMemory>(
     m: &mut M,
     cpu: &mut Cpu,
+    events: &EventList,
     byte: u8,
 ) -> Result<Step, Stop>
     requires sound { M.sound m.old }
     requires ready { IsReady (M.told m.old) }
     requires from { 120 ≤ byte }
     requires to { byte ≤ 125 }
-    ensures serves { Serves (M.told m.old) cpu.old (M.told m.new) cpu.new (bytecode_rule byte) result }
+    ensures serves { Speaks Next (M.told m.old) cpu.old (M.told m.new) cpu.new (bytecode_rule events.now byte) result }
     ensures ready { OnOk result (IsReady (M.told m.new)) }
     ensures sound { StaysSound result (M.sound m.new) }
     ensures lender { M.lender m.new ≡ M.lender m.old }
     ensures outside { M.outside m.new ≡ M.outside m.old }
 {
     match byte {
-        120 => return_receiver(m, cpu),
-        121 => return_known(m, cpu, Name::TRUE),
-        122 => return_known(m, cpu, Name::FALSE),
-        123 => return_known(m, cpu, Name::NIL),
-        124 => return_top(m, cpu),
-        _ => return_from_block(m, cpu),
+        120 => return_receiver(m, cpu, events),
+        121 => return_known(m, cpu, events, Name::TRUE),
+        122 => return_known(m, cpu, events, Name::FALSE),
+        123 => return_known(m, cpu, events, Name::NIL),
+        124 => return_top(m, cpu, events),
+        _ => return_from_block(m, cpu, events),
     }
 }
 
@@ -86,7 +90,7 @@ pub(crate) fn extended_bytecode<M: ObjectMemory>(
     requires ready { IsReady (M.told m.old) }
     requires from { 126 ≤ byte }
     requires to { byte ≤ 130 }
-    ensures serves { Serves (M.told m.old) cpu.old (M.told m.new) cpu.new (bytecode_rule byte) (next_by result) }
+    ensures serves { (events : List Line) → Serves (M.told m.old) cpu.old (M.told m.new) cpu.new (bytecode_rule events byte) (next_by result) }
     ensures ready { OnOk result (IsReady (M.told m.new)) }
     ensures sound { StaysSound result (M.sound m.new) }
     ensures lender { M.lender m.new ≡ M.lender m.old }
@@ -104,23 +108,24 @@ pub(crate) fn extended_bytecode<M: ObjectMemory>(
 pub(crate) fn extended_send_bytecode<M: ObjectMemory>(
     m: &mut M,
     cpu: &mut Cpu,
+    events: &EventList,
     byte: u8,
 ) -> Result<Step, Stop>
     requires sound { M.sound m.old }
     requires ready { IsReady (M.told m.old) }
     requires from { 131 ≤ byte }
     requires to { byte ≤ 134 }
-    ensures serves { Serves (M.told m.old) cpu.old (M.told m.new) cpu.new (bytecode_rule byte) result }
+    ensures serves { Speaks Next (M.told m.old) cpu.old (M.told m.new) cpu.new (bytecode_rule events.now byte) result }
     ensures ready { OnOk result (IsReady (M.told m.new)) }
     ensures sound { StaysSound result (M.sound m.new) }
     ensures lender { M.lender m.new ≡ M.lender m.old }
     ensures outside { M.outside m.new ≡ M.outside m.old }
 {
     match byte {
-        131 => single_extended_send(m, cpu),
-        132 => double_extended_send(m, cpu),
-        133 => single_extended_super(m, cpu),
-        _ => double_extended_super(m, cpu),
+        131 => single_extended_send(m, cpu, events),
+        132 => double_extended_send(m, cpu, events),
+        133 => single_extended_super(m, cpu, events),
+        _ => double_extended_super(m, cpu, events),
     }
 }
 
@@ -134,7 +139,7 @@ pub(crate) fn stack_bytecode<M: ObjectMemory>(
     requires ready { IsReady (M.told m.old) }
     requires from { 135 ≤ byte }
     requires to { byte ≤ 143 }
-    ensures serves { Serves (M.told m.old) cpu.old (M.told m.new) cpu.new (bytecode_rule byte) (next_by result) }
+    ensures serves { (events : List Line) → Serves (M.told m.old) cpu.old (M.told m.new) cpu.new (bytecode_rule events byte) (next_by result) }
     ensures ready { OnOk result (IsReady (M.told m.new)) }
     ensures sound { StaysSound result (M.sound m.new) }
     ensures lender { M.lender m.new ≡ M.lender m.old }
@@ -152,13 +157,14 @@ pub(crate) fn stack_bytecode<M: ObjectMemory>(
 pub(crate) fn jump_bytecode<M: ObjectMemory>(
     m: &mut M,
     cpu: &mut Cpu,
+    events: &EventList,
     byte: u8,
 ) -> Result<Step, Stop>
     requires sound { M.sound m.old }
     requires ready { IsReady (M.told m.old) }
     requires from { 144 ≤ byte }
     requires to { byte ≤ 175 }
-    ensures serves { Serves (M.told m.old) cpu.old (M.told m.new) cpu.new (bytecode_rule byte) result }
+    ensures serves { Speaks Next (M.told m.old) cpu.old (M.told m.new) cpu.new (bytecode_rule events.now byte) result }
     ensures ready { OnOk result (IsReady (M.told m.new)) }
     ensures sound { StaysSound result (M.sound m.new) }
     ensures lender { M.lender m.new ≡ M.lender m.old }
@@ -169,13 +175,34 @@ pub(crate) fn jump_bytecode<M: ObjectMemory>(
             short_jump(m, cpu, u32::from(byte - 144) + 1)?;
             Ok(Step::Next)
         }
-        152..=159 => jump_on(m, cpu, Name::FALSE, Name::TRUE, u32::from(byte - 152) + 1),
+        152..=159 => jump_on(
+            m,
+            cpu,
+            events,
+            Name::FALSE,
+            Name::TRUE,
+            u32::from(byte - 152) + 1,
+        ),
         160..=167 => {
             long_jump(m, cpu, u32::from(byte - 160))?;
             Ok(Step::Next)
         }
-        168..=171 => long_jump_on(m, cpu, Name::TRUE, Name::FALSE, u32::from(byte - 168)),
-        _ => long_jump_on(m, cpu, Name::FALSE, Name::TRUE, u32::from(byte - 172)),
+        168..=171 => long_jump_on(
+            m,
+            cpu,
+            events,
+            Name::TRUE,
+            Name::FALSE,
+            u32::from(byte - 168),
+        ),
+        _ => long_jump_on(
+            m,
+            cpu,
+            events,
+            Name::FALSE,
+            Name::TRUE,
+            u32::from(byte - 172),
+        ),
     }
 }
 
@@ -183,37 +210,43 @@ pub(crate) fn jump_bytecode<M: ObjectMemory>(
 pub(crate) fn send_bytecode<M: ObjectMemory>(
     m: &mut M,
     cpu: &mut Cpu,
+    events: &EventList,
     byte: u8,
 ) -> Result<Step, Stop>
     requires sound { M.sound m.old }
     requires ready { IsReady (M.told m.old) }
     requires from { 176 ≤ byte }
-    ensures serves { Serves (M.told m.old) cpu.old (M.told m.new) cpu.new (bytecode_rule byte) result }
+    ensures serves { Speaks Next (M.told m.old) cpu.old (M.told m.new) cpu.new (bytecode_rule events.now byte) result }
     ensures ready { OnOk result (IsReady (M.told m.new)) }
     ensures sound { StaysSound result (M.sound m.new) }
     ensures lender { M.lender m.new ≡ M.lender m.old }
     ensures outside { M.outside m.new ≡ M.outside m.old }
 {
     match byte {
-        176..=191 => arithmetic_send(m, cpu, u32::from(byte - 176)),
-        192..=197 => special_send(m, cpu, 16 + u32::from(byte - 192)),
-        198 => tried_for(m, cpu, 110, 1, 22),
-        199 => tried_for(m, cpu, 111, 0, 23),
-        200 => context_send(m, cpu),
-        201 => block_send(m, cpu, 0, 25),
-        202 => block_send(m, cpu, 1, 26),
-        203..=207 => special_send(m, cpu, 27 + u32::from(byte - 203)),
-        208..=223 => send_literal(m, cpu, u32::from(byte - 208), 0),
-        224..=239 => send_literal(m, cpu, u32::from(byte - 224), 1),
-        _ => send_literal(m, cpu, u32::from(byte - 240), 2),
+        176..=191 => arithmetic_send(m, cpu, events, u32::from(byte - 176)),
+        192..=197 => special_send(m, cpu, events, 16 + u32::from(byte - 192)),
+        198 => tried_for(m, cpu, events, 110, 1, 22),
+        199 => tried_for(m, cpu, events, 111, 0, 23),
+        200 => context_send(m, cpu, events),
+        201 => block_send(m, cpu, events, 0, 25),
+        202 => block_send(m, cpu, events, 1, 26),
+        203..=207 => special_send(m, cpu, events, 27 + u32::from(byte - 203)),
+        208..=223 => send_literal(m, cpu, events, u32::from(byte - 208), 0),
+        224..=239 => send_literal(m, cpu, events, u32::from(byte - 224), 1),
+        _ => send_literal(m, cpu, events, u32::from(byte - 240), 2),
     }
 }
 
 /// Does what a byte says (dispatchOnThisBytecode, chapter 28).
-pub(crate) fn bytecode<M: ObjectMemory>(m: &mut M, cpu: &mut Cpu, byte: u8) -> Result<Step, Stop>
+pub(crate) fn bytecode<M: ObjectMemory>(
+    m: &mut M,
+    cpu: &mut Cpu,
+    events: &EventList,
+    byte: u8,
+) -> Result<Step, Stop>
     requires sound { M.sound m.old }
     requires ready { IsReady (M.told m.old) }
-    ensures serves { Serves (M.told m.old) cpu.old (M.told m.new) cpu.new (bytecode_rule byte) result }
+    ensures serves { Speaks Next (M.told m.old) cpu.old (M.told m.new) cpu.new (bytecode_rule events.now byte) result }
     ensures ready { OnOk result (IsReady (M.told m.new)) }
     ensures sound { StaysSound result (M.sound m.new) }
     ensures lender { M.lender m.new ≡ M.lender m.old }
@@ -224,18 +257,18 @@ pub(crate) fn bytecode<M: ObjectMemory>(m: &mut M, cpu: &mut Cpu, byte: u8) -> R
             push_bytecode(m, cpu, byte)?;
             Ok(Step::Next)
         }
-        120..=125 => return_bytecode(m, cpu, byte),
+        120..=125 => return_bytecode(m, cpu, events, byte),
         126..=130 => {
             extended_bytecode(m, cpu, byte)?;
             Ok(Step::Next)
         }
-        131..=134 => extended_send_bytecode(m, cpu, byte),
+        131..=134 => extended_send_bytecode(m, cpu, events, byte),
         135..=143 => {
             stack_bytecode(m, cpu, byte)?;
             Ok(Step::Next)
         }
-        144..=175 => jump_bytecode(m, cpu, byte),
-        _ => send_bytecode(m, cpu, byte),
+        144..=175 => jump_bytecode(m, cpu, events, byte),
+        _ => send_bytecode(m, cpu, events, byte),
     }
 }
 
@@ -254,11 +287,11 @@ fn rest<M: ObjectMemory>(m: &mut M)
     clear(m, 10, 24);
 }
 
-/// Fetches a bytecode and does it (interpret, chapter 28). It isn't counted here.
-pub fn step<M: ObjectMemory>(m: &mut M, cpu: &mut Cpu) -> Result<Step, Stop>
+/// Fetches a bytecode and does it (interpret, chapter 28). Input comes from the event list. The bytecode isn't counted here.
+pub fn step<M: ObjectMemory>(m: &mut M, cpu: &mut Cpu, events: &EventList) -> Result<Step, Stop>
     requires sound { M.sound m.old }
     requires ready { IsReady (M.told m.old) }
-    ensures serves { Serves (M.told m.old) cpu.old (M.told m.new) cpu.new step_rule result }
+    ensures serves { Speaks Next (M.told m.old) cpu.old (M.told m.new) cpu.new (step_rule events.now) result }
     ensures rest { OnOk result (HasRest (M.told m.new)) }
     ensures ready { OnOk result (IsReady (M.told m.new)) }
     ensures sound { StaysSound result (M.sound m.new) }
@@ -266,7 +299,7 @@ pub fn step<M: ObjectMemory>(m: &mut M, cpu: &mut Cpu) -> Result<Step, Stop>
     ensures outside { M.outside m.new ≡ M.outside m.old }
 {
     let byte = fetch(m, cpu)?;
-    let step = bytecode(m, cpu, byte)?;
+    let step = bytecode(m, cpu, events, byte)?;
     rest(m);
     Ok(step)
 }

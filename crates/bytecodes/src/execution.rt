@@ -3,16 +3,19 @@ ghost use Rattle.std.specs.Prelude.{◌≡◌, ◌<◌, ◌==◌, ◌||◌, ◌&
 ghost use Rattle.long_names.specs.Words.{IsSmallInteger};
 ghost use Rattle.long_names.specs.State.{NEW_METHOD};
 ghost use Rattle.object_memory.specs.Told.{IsReady};
+ghost use Rattle.blue_model.specs.declared.answer.Answer.TheVariants.{Done};
+ghost use Rattle.blue_model.specs.declared.step.Step.TheVariants.{Next};
 ghost use Rattle.blue_model.specs.Messages.{primitive_of};
 ghost use Rattle.blue_model.specs.Primitives.{is_perform as is_perform_rule};
 ghost use Rattle.blue_model.specs.Sends as model;
 ghost use Rattle.bytecodes.specs.Steps.{activation};
-ghost use Rattle.contexts.specs.Serves.{Serves, StaysSound};
+ghost use Rattle.contexts.specs.Serves.{Serves, Speaks, StaysSound};
 
 use crate::tries::{has_failed, is_execute, is_perform, step_of, try_primitive};
 use blue_model::Step;
 use contexts::parts::{extension, field, header};
 use contexts::{Answer, Cpu, Stop, put_stack, stack};
+use event_file::EventList;
 use object_memory::{ObjectMemory, Reg};
 use send_lookup::activate;
 use send_lookup::header::{flag, temporaries};
@@ -69,11 +72,12 @@ fn activated<M: ObjectMemory>(m: &mut M, cpu: &mut Cpu) -> Result<Answer, Stop>
 fn execute_extended<M: ObjectMemory>(
     m: &mut M,
     cpu: &mut Cpu,
+    events: &EventList,
     performed: bool,
 ) -> Result<Answer, Stop>
     requires sound { M.sound m.old }
     requires ready { IsReady (M.told m.old) }
-    ensures serves { Serves (M.told m.old) cpu.old (M.told m.new) cpu.new (model.execute_extended performed ((M.told m.old).regs NEW_METHOD)) result }
+    ensures serves { Speaks Done (M.told m.old) cpu.old (M.told m.new) cpu.new (model.execute_extended events.now performed ((M.told m.old).regs NEW_METHOD)) result }
     ensures ready { OnOk result (IsReady (M.told m.new)) }
     ensures sound { StaysSound result (M.sound m.new) }
     ensures lender { M.lender m.new ≡ M.lender m.old }
@@ -84,7 +88,7 @@ fn execute_extended<M: ObjectMemory>(
     if is_none(index, performed) {
         return activated(m, cpu);
     }
-    let answer = try_primitive(m, cpu, index)?;
+    let answer = try_primitive(m, cpu, events, index)?;
     if has_failed(answer) {
         return activated(m, cpu);
     }
@@ -96,11 +100,12 @@ fn execute_extended<M: ObjectMemory>(
 fn execute_method<M: ObjectMemory>(
     m: &mut M,
     cpu: &mut Cpu,
+    events: &EventList,
     performed: bool,
 ) -> Result<Answer, Stop>
     requires sound { M.sound m.old }
     requires ready { IsReady (M.told m.old) }
-    ensures serves { Serves (M.told m.old) cpu.old (M.told m.new) cpu.new (model.execute_method performed) result }
+    ensures serves { Speaks Done (M.told m.old) cpu.old (M.told m.new) cpu.new (model.execute_method events.now performed) result }
     ensures ready { OnOk result (IsReady (M.told m.new)) }
     ensures sound { StaysSound result (M.sound m.new) }
     ensures lender { M.lender m.new ≡ M.lender m.old }
@@ -113,24 +118,28 @@ fn execute_method<M: ObjectMemory>(
             answer_field(m, cpu, temporaries(header))?;
             Ok(Answer::Done)
         }
-        7 => execute_extended(m, cpu, performed),
+        7 => execute_extended(m, cpu, events, performed),
         _ => activated(m, cpu),
     }
 }
 
 /// Executes the method in register 5, and the one that it performs (executeNewMethod).
-pub(crate) fn execute<M: ObjectMemory>(m: &mut M, cpu: &mut Cpu) -> Result<Step, Stop>
+pub(crate) fn execute<M: ObjectMemory>(
+    m: &mut M,
+    cpu: &mut Cpu,
+    events: &EventList,
+) -> Result<Step, Stop>
     requires sound { M.sound m.old }
     requires ready { IsReady (M.told m.old) }
-    ensures serves { Serves (M.told m.old) cpu.old (M.told m.new) cpu.new model.execute result }
+    ensures serves { Speaks Next (M.told m.old) cpu.old (M.told m.new) cpu.new (model.execute events.now) result }
     ensures ready { OnOk result (IsReady (M.told m.new)) }
     ensures sound { StaysSound result (M.sound m.new) }
     ensures lender { M.lender m.new ≡ M.lender m.old }
     ensures outside { M.outside m.new ≡ M.outside m.old }
 {
-    let answer = execute_method(m, cpu, false)?;
+    let answer = execute_method(m, cpu, events, false)?;
     if is_execute(answer) {
-        let last = execute_method(m, cpu, true)?;
+        let last = execute_method(m, cpu, events, true)?;
         return Ok(step_of(last));
     }
     Ok(step_of(answer))

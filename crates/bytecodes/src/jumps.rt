@@ -1,13 +1,15 @@
 // Jumps (chapter 28, jump bytecodes).
 ghost use Rattle.std.specs.Prelude.{◌≡◌, ◌<◌, ◌-ℤ◌, ◌+◌, ◌*◌, pos, OnOk};
 ghost use Rattle.object_memory.specs.Told.{IsReady};
+ghost use Rattle.blue_model.specs.declared.step.Step.TheVariants.{Next};
 ghost use Rattle.blue_model.specs.Bytecodes as model;
 ghost use Rattle.blue_model.specs.Contexts.{jump as jump_rule};
-ghost use Rattle.contexts.specs.Serves.{Serves, StaysSound};
+ghost use Rattle.contexts.specs.Serves.{Serves, Speaks, StaysSound};
 
 use crate::sends::must_be_boolean;
 use blue_model::Step;
 use contexts::{Cpu, Stop, fetch, jump, pop_top};
+use event_file::EventList;
 use long_names::Name;
 use object_memory::{ObjectMemory, Reg};
 
@@ -16,6 +18,7 @@ use object_memory::{ObjectMemory, Reg};
 pub(crate) fn jump_where<M: ObjectMemory>(
     m: &mut M,
     cpu: &mut Cpu,
+    events: &EventList,
     taken: Name,
     passed: Name,
     distance: u32,
@@ -23,7 +26,7 @@ pub(crate) fn jump_where<M: ObjectMemory>(
     requires sound { M.sound m.old }
     requires ready { IsReady (M.told m.old) }
     requires distance { distance < 1024 }
-    ensures serves { Serves (M.told m.old) cpu.old (M.told m.new) cpu.new (model.jump_where taken passed (pos distance) ((M.told m.old).regs 10)) result }
+    ensures serves { Speaks Next (M.told m.old) cpu.old (M.told m.new) cpu.new (model.jump_where events.now taken passed (pos distance) ((M.told m.old).regs 10)) result }
     ensures ready { OnOk result (IsReady (M.told m.new)) }
     ensures sound { StaysSound result (M.sound m.new) }
     ensures lender { M.lender m.new ≡ M.lender m.old }
@@ -36,13 +39,14 @@ pub(crate) fn jump_where<M: ObjectMemory>(
     if m.is(Reg::SCRATCH_0, passed) {
         return Ok(Step::Next);
     }
-    must_be_boolean(m, cpu)
+    must_be_boolean(m, cpu, events)
 }
 
 /// Pops the top, and jumps so far where it is the first of two objects (jumpIf:).
 pub(crate) fn jump_on<M: ObjectMemory>(
     m: &mut M,
     cpu: &mut Cpu,
+    events: &EventList,
     taken: Name,
     passed: Name,
     distance: u32,
@@ -50,14 +54,14 @@ pub(crate) fn jump_on<M: ObjectMemory>(
     requires sound { M.sound m.old }
     requires ready { IsReady (M.told m.old) }
     requires distance { distance < 1024 }
-    ensures serves { Serves (M.told m.old) cpu.old (M.told m.new) cpu.new (model.jump_on taken passed (pos distance)) result }
+    ensures serves { Speaks Next (M.told m.old) cpu.old (M.told m.new) cpu.new (model.jump_on events.now taken passed (pos distance)) result }
     ensures ready { OnOk result (IsReady (M.told m.new)) }
     ensures sound { StaysSound result (M.sound m.new) }
     ensures lender { M.lender m.new ≡ M.lender m.old }
     ensures outside { M.outside m.new ≡ M.outside m.old }
 {
     pop_top(m, cpu, Reg::SCRATCH_0)?;
-    jump_where(m, cpu, taken, passed, distance)
+    jump_where(m, cpu, events, taken, passed, distance)
 }
 
 /// Jumps so far ahead.
@@ -100,6 +104,7 @@ pub(crate) fn long_jump<M: ObjectMemory>(m: &mut M, cpu: &mut Cpu, i: u32) -> Re
 pub(crate) fn long_jump_on<M: ObjectMemory>(
     m: &mut M,
     cpu: &mut Cpu,
+    events: &EventList,
     taken: Name,
     passed: Name,
     i: u32,
@@ -107,12 +112,12 @@ pub(crate) fn long_jump_on<M: ObjectMemory>(
     requires sound { M.sound m.old }
     requires ready { IsReady (M.told m.old) }
     requires number { i < 4 }
-    ensures serves { Serves (M.told m.old) cpu.old (M.told m.new) cpu.new (model.long_jump_on taken passed i) result }
+    ensures serves { Speaks Next (M.told m.old) cpu.old (M.told m.new) cpu.new (model.long_jump_on events.now taken passed i) result }
     ensures ready { OnOk result (IsReady (M.told m.new)) }
     ensures sound { StaysSound result (M.sound m.new) }
     ensures lender { M.lender m.new ≡ M.lender m.old }
     ensures outside { M.outside m.new ≡ M.outside m.old }
 {
     let byte = fetch(m, cpu)?;
-    jump_on(m, cpu, taken, passed, 256 * i + u32::from(byte))
+    jump_on(m, cpu, events, taken, passed, 256 * i + u32::from(byte))
 }

@@ -2,17 +2,19 @@
 ghost use Rattle.std.specs.Prelude.{◌≡◌, ◌<◌, true, OnOk};
 ghost use Rattle.long_names.specs.Names.{is_known};
 ghost use Rattle.object_memory.specs.Told.{IsReady};
+ghost use Rattle.blue_model.specs.declared.step.Step.TheVariants.{Next};
 ghost use Rattle.blue_model.specs.Bytecodes as model;
 ghost use Rattle.blue_model.specs.Contexts.{back_with, pop_top as pop_rule};
 ghost use Rattle.blue_model.specs.Sends.{return_to};
 ghost use Rattle.blue_model.specs.Machine.{register, known as known_rule};
 ghost use Rattle.long_names.specs.State.{RECEIVER};
-ghost use Rattle.contexts.specs.Serves.{Serves, StaysSound};
+ghost use Rattle.contexts.specs.Serves.{Serves, Speaks, StaysSound};
 
 use crate::sends::cannot_return;
 use blue_model::Step;
 use contexts::parts::{field, known};
 use contexts::{Cpu, Stop, back, pop_top, push};
+use event_file::EventList;
 use long_names::Name;
 use object_memory::{ObjectMemory, Reg};
 
@@ -33,92 +35,113 @@ pub(crate) fn back_with<M: ObjectMemory>(m: &mut M, cpu: &mut Cpu) -> Result<(),
 
 /// Returns a value to a context (returnValue:to:): the value in SCRATCH_0, the context in SCRATCH_1. Where that is nil or has ended,
 /// cannotReturn: is sent.
-pub(crate) fn return_to<M: ObjectMemory>(m: &mut M, cpu: &mut Cpu) -> Result<Step, Stop>
+pub(crate) fn return_to<M: ObjectMemory>(
+    m: &mut M,
+    cpu: &mut Cpu,
+    events: &EventList,
+) -> Result<Step, Stop>
     requires sound { M.sound m.old }
     requires ready { IsReady (M.told m.old) }
-    ensures serves { Serves (M.told m.old) cpu.old (M.told m.new) cpu.new (return_to ((M.told m.old).regs 11) ((M.told m.old).regs 10)) result }
+    ensures serves { Speaks Next (M.told m.old) cpu.old (M.told m.new) cpu.new (return_to events.now ((M.told m.old).regs 11) ((M.told m.old).regs 10)) result }
     ensures ready { OnOk result (IsReady (M.told m.new)) }
     ensures sound { StaysSound result (M.sound m.new) }
     ensures lender { M.lender m.new ≡ M.lender m.old }
     ensures outside { M.outside m.new ≡ M.outside m.old }
 {
     if m.is(Reg::SCRATCH_1, Name::NIL) {
-        return cannot_return(m, cpu);
+        return cannot_return(m, cpu, events);
     }
     field(m, Reg::SCRATCH_2, Reg::SCRATCH_1, 0, 1)?;
     if m.is(Reg::SCRATCH_2, Name::NIL) {
-        return cannot_return(m, cpu);
+        return cannot_return(m, cpu, events);
     }
     back_with(m, cpu)?;
     Ok(Step::Next)
 }
 
 /// Returns the value in SCRATCH_0 to the sender of the home.
-pub(crate) fn return_home<M: ObjectMemory>(m: &mut M, cpu: &mut Cpu) -> Result<Step, Stop>
+pub(crate) fn return_home<M: ObjectMemory>(
+    m: &mut M,
+    cpu: &mut Cpu,
+    events: &EventList,
+) -> Result<Step, Stop>
     requires sound { M.sound m.old }
     requires ready { IsReady (M.told m.old) }
-    ensures serves { Serves (M.told m.old) cpu.old (M.told m.new) cpu.new (model.return_home ((M.told m.old).regs 10)) result }
+    ensures serves { Speaks Next (M.told m.old) cpu.old (M.told m.new) cpu.new (model.return_home events.now ((M.told m.old).regs 10)) result }
     ensures ready { OnOk result (IsReady (M.told m.new)) }
     ensures sound { StaysSound result (M.sound m.new) }
     ensures lender { M.lender m.new ≡ M.lender m.old }
     ensures outside { M.outside m.new ≡ M.outside m.old }
 {
     field(m, Reg::SCRATCH_1, Reg::HOME, 0, 0)?;
-    return_to(m, cpu)
+    return_to(m, cpu, events)
 }
 
 /// Returns the receiver.
-pub(crate) fn return_receiver<M: ObjectMemory>(m: &mut M, cpu: &mut Cpu) -> Result<Step, Stop>
+pub(crate) fn return_receiver<M: ObjectMemory>(
+    m: &mut M,
+    cpu: &mut Cpu,
+    events: &EventList,
+) -> Result<Step, Stop>
     requires sound { M.sound m.old }
     requires ready { IsReady (M.told m.old) }
-    ensures serves { Serves (M.told m.old) cpu.old (M.told m.new) cpu.new (model.return_of (register RECEIVER)) result }
+    ensures serves { Speaks Next (M.told m.old) cpu.old (M.told m.new) cpu.new (model.return_of events.now (register RECEIVER)) result }
     ensures ready { OnOk result (IsReady (M.told m.new)) }
     ensures sound { StaysSound result (M.sound m.new) }
     ensures lender { M.lender m.new ≡ M.lender m.old }
     ensures outside { M.outside m.new ≡ M.outside m.old }
 {
     m.copy(Reg::SCRATCH_0, Reg::RECEIVER);
-    return_home(m, cpu)
+    return_home(m, cpu, events)
 }
 
 /// Returns a known object.
 pub(crate) fn return_known<M: ObjectMemory>(
     m: &mut M,
     cpu: &mut Cpu,
+    events: &EventList,
     name: Name,
 ) -> Result<Step, Stop>
     requires sound { M.sound m.old }
     requires ready { IsReady (M.told m.old) }
     requires name { is_known name ≡ true }
-    ensures serves { Serves (M.told m.old) cpu.old (M.told m.new) cpu.new (model.return_of (known_rule name)) result }
+    ensures serves { Speaks Next (M.told m.old) cpu.old (M.told m.new) cpu.new (model.return_of events.now (known_rule name)) result }
     ensures ready { OnOk result (IsReady (M.told m.new)) }
     ensures sound { StaysSound result (M.sound m.new) }
     ensures lender { M.lender m.new ≡ M.lender m.old }
     ensures outside { M.outside m.new ≡ M.outside m.old }
 {
     known(m, Reg::SCRATCH_0, name)?;
-    return_home(m, cpu)
+    return_home(m, cpu, events)
 }
 
 /// Returns the top.
-pub(crate) fn return_top<M: ObjectMemory>(m: &mut M, cpu: &mut Cpu) -> Result<Step, Stop>
+pub(crate) fn return_top<M: ObjectMemory>(
+    m: &mut M,
+    cpu: &mut Cpu,
+    events: &EventList,
+) -> Result<Step, Stop>
     requires sound { M.sound m.old }
     requires ready { IsReady (M.told m.old) }
-    ensures serves { Serves (M.told m.old) cpu.old (M.told m.new) cpu.new (model.return_of pop_rule) result }
+    ensures serves { Speaks Next (M.told m.old) cpu.old (M.told m.new) cpu.new (model.return_of events.now pop_rule) result }
     ensures ready { OnOk result (IsReady (M.told m.new)) }
     ensures sound { StaysSound result (M.sound m.new) }
     ensures lender { M.lender m.new ≡ M.lender m.old }
     ensures outside { M.outside m.new ≡ M.outside m.old }
 {
     pop_top(m, cpu, Reg::SCRATCH_0)?;
-    return_home(m, cpu)
+    return_home(m, cpu, events)
 }
 
 /// Returns the top to the caller of the active context.
-pub(crate) fn return_from_block<M: ObjectMemory>(m: &mut M, cpu: &mut Cpu) -> Result<Step, Stop>
+pub(crate) fn return_from_block<M: ObjectMemory>(
+    m: &mut M,
+    cpu: &mut Cpu,
+    events: &EventList,
+) -> Result<Step, Stop>
     requires sound { M.sound m.old }
     requires ready { IsReady (M.told m.old) }
-    ensures serves { Serves (M.told m.old) cpu.old (M.told m.new) cpu.new (model.return_from_block) result }
+    ensures serves { Speaks Next (M.told m.old) cpu.old (M.told m.new) cpu.new (model.return_from_block events.now) result }
     ensures ready { OnOk result (IsReady (M.told m.new)) }
     ensures sound { StaysSound result (M.sound m.new) }
     ensures lender { M.lender m.new ≡ M.lender m.old }
@@ -126,5 +149,5 @@ pub(crate) fn return_from_block<M: ObjectMemory>(m: &mut M, cpu: &mut Cpu) -> Re
 {
     pop_top(m, cpu, Reg::SCRATCH_0)?;
     field(m, Reg::SCRATCH_1, Reg::ACTIVE_CONTEXT, 0, 0)?;
-    return_to(m, cpu)
+    return_to(m, cpu, events)
 }

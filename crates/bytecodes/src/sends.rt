@@ -1,9 +1,10 @@
 // Sends (chapter 28, send bytecodes).
 ghost use Rattle.std.specs.Prelude.{◌≡◌, ◌<◌, ◌≤◌, OnOk};
 ghost use Rattle.object_memory.specs.Told.{IsReady};
+ghost use Rattle.blue_model.specs.declared.step.Step.TheVariants.{Next};
 ghost use Rattle.blue_model.specs.Sends as model;
 ghost use Rattle.blue_model.specs.Bytecodes as table;
-ghost use Rattle.contexts.specs.Serves.{Serves, StaysSound};
+ghost use Rattle.contexts.specs.Serves.{Serves, Speaks, StaysSound};
 ghost use Rattle.std.specs.List.{slice_index_or};
 
 use crate::execution::execute;
@@ -12,15 +13,21 @@ use crate::variables::literal_constant;
 use blue_model::Step;
 use contexts::parts::{class_of, field, known, last_literal, number};
 use contexts::{Cause, Cpu, Stop, fetch, push, set_arguments, stack};
+use event_file::EventList;
 use long_names::Name;
 use object_memory::{ObjectMemory, Reg};
 use send_lookup::find_or_tell;
 
 /// Sends the selector in SCRATCH_0 with n arguments, looked up from the class in SCRATCH_1 on.
-fn send_from<M: ObjectMemory>(m: &mut M, cpu: &mut Cpu, n: u8) -> Result<Step, Stop>
+fn send_from<M: ObjectMemory>(
+    m: &mut M,
+    cpu: &mut Cpu,
+    events: &EventList,
+    n: u8,
+) -> Result<Step, Stop>
     requires sound { M.sound m.old }
     requires ready { IsReady (M.told m.old) }
-    ensures serves { Serves (M.told m.old) cpu.old (M.told m.new) cpu.new (model.send_from ((M.told m.old).regs 11) ((M.told m.old).regs 10) n) result }
+    ensures serves { Speaks Next (M.told m.old) cpu.old (M.told m.new) cpu.new (model.send_from events.now ((M.told m.old).regs 11) ((M.told m.old).regs 10) n) result }
     ensures ready { OnOk result (IsReady (M.told m.new)) }
     ensures sound { StaysSound result (M.sound m.new) }
     ensures lender { M.lender m.new ≡ M.lender m.old }
@@ -29,14 +36,19 @@ fn send_from<M: ObjectMemory>(m: &mut M, cpu: &mut Cpu, n: u8) -> Result<Step, S
     m.copy(Reg::SELECTOR, Reg::SCRATCH_0);
     set_arguments(cpu, n);
     find_or_tell(m, cpu, Reg::SCRATCH_1)?;
-    execute(m, cpu)
+    execute(m, cpu, events)
 }
 
 /// Sends the selector in SCRATCH_0 with n arguments (sendSelector:argumentCount:).
-pub(crate) fn send<M: ObjectMemory>(m: &mut M, cpu: &mut Cpu, n: u8) -> Result<Step, Stop>
+pub(crate) fn send<M: ObjectMemory>(
+    m: &mut M,
+    cpu: &mut Cpu,
+    events: &EventList,
+    n: u8,
+) -> Result<Step, Stop>
     requires sound { M.sound m.old }
     requires ready { IsReady (M.told m.old) }
-    ensures serves { Serves (M.told m.old) cpu.old (M.told m.new) cpu.new (model.send ((M.told m.old).regs 10) n) result }
+    ensures serves { Speaks Next (M.told m.old) cpu.old (M.told m.new) cpu.new (model.send events.now ((M.told m.old).regs 10) n) result }
     ensures ready { OnOk result (IsReady (M.told m.new)) }
     ensures sound { StaysSound result (M.sound m.new) }
     ensures lender { M.lender m.new ≡ M.lender m.old }
@@ -44,14 +56,19 @@ pub(crate) fn send<M: ObjectMemory>(m: &mut M, cpu: &mut Cpu, n: u8) -> Result<S
 {
     stack(m, cpu, Reg::SCRATCH_1, u32::from(n))?;
     class_of(m, Reg::SCRATCH_1, Reg::SCRATCH_1)?;
-    send_from(m, cpu, n)
+    send_from(m, cpu, events, n)
 }
 
 /// Sends the selector in SCRATCH_0 with n arguments to super: the lookup starts above the class that the method stands in.
-pub(crate) fn send_super<M: ObjectMemory>(m: &mut M, cpu: &mut Cpu, n: u8) -> Result<Step, Stop>
+pub(crate) fn send_super<M: ObjectMemory>(
+    m: &mut M,
+    cpu: &mut Cpu,
+    events: &EventList,
+    n: u8,
+) -> Result<Step, Stop>
     requires sound { M.sound m.old }
     requires ready { IsReady (M.told m.old) }
-    ensures serves { Serves (M.told m.old) cpu.old (M.told m.new) cpu.new (model.send_super ((M.told m.old).regs 10) n) result }
+    ensures serves { Speaks Next (M.told m.old) cpu.old (M.told m.new) cpu.new (model.send_super events.now ((M.told m.old).regs 10) n) result }
     ensures ready { OnOk result (IsReady (M.told m.new)) }
     ensures sound { StaysSound result (M.sound m.new) }
     ensures lender { M.lender m.new ≡ M.lender m.old }
@@ -61,7 +78,7 @@ pub(crate) fn send_super<M: ObjectMemory>(m: &mut M, cpu: &mut Cpu, n: u8) -> Re
     last_literal(m, Reg::SCRATCH_1, Reg::METHOD)?;
     field(m, Reg::SCRATCH_1, Reg::SCRATCH_1, 2, 1)?;
     field(m, Reg::SCRATCH_1, Reg::SCRATCH_1, 0, 0)?;
-    send_from(m, cpu, n)
+    send_from(m, cpu, events, n)
 }
 
 /// A number of arguments, where it is one.
@@ -72,11 +89,16 @@ fn argument_count(number: i16) -> Option<u8>
 }
 
 /// Sends special selector s with as many arguments as the array of special selectors says.
-pub(crate) fn special_send<M: ObjectMemory>(m: &mut M, cpu: &mut Cpu, s: u32) -> Result<Step, Stop>
+pub(crate) fn special_send<M: ObjectMemory>(
+    m: &mut M,
+    cpu: &mut Cpu,
+    events: &EventList,
+    s: u32,
+) -> Result<Step, Stop>
     requires sound { M.sound m.old }
     requires ready { IsReady (M.told m.old) }
     requires number { s < 32 }
-    ensures serves { Serves (M.told m.old) cpu.old (M.told m.new) cpu.new (model.special_send s) result }
+    ensures serves { Speaks Next (M.told m.old) cpu.old (M.told m.new) cpu.new (model.special_send events.now s) result }
     ensures ready { OnOk result (IsReady (M.told m.new)) }
     ensures sound { StaysSound result (M.sound m.new) }
     ensures lender { M.lender m.new ≡ M.lender m.old }
@@ -88,14 +110,18 @@ pub(crate) fn special_send<M: ObjectMemory>(m: &mut M, cpu: &mut Cpu, s: u32) ->
     let Some(n) = argument_count(count) else {
         return Err(Stop::Stuck(Cause::Shape));
     };
-    send(m, cpu, n)
+    send(m, cpu, events, n)
 }
 
 /// Sends cannotReturn: to the active context, with the value in SCRATCH_0.
-pub(crate) fn cannot_return<M: ObjectMemory>(m: &mut M, cpu: &mut Cpu) -> Result<Step, Stop>
+pub(crate) fn cannot_return<M: ObjectMemory>(
+    m: &mut M,
+    cpu: &mut Cpu,
+    events: &EventList,
+) -> Result<Step, Stop>
     requires sound { M.sound m.old }
     requires ready { IsReady (M.told m.old) }
-    ensures serves { Serves (M.told m.old) cpu.old (M.told m.new) cpu.new (model.cannot_return ((M.told m.old).regs 10)) result }
+    ensures serves { Speaks Next (M.told m.old) cpu.old (M.told m.new) cpu.new (model.cannot_return events.now ((M.told m.old).regs 10)) result }
     ensures ready { OnOk result (IsReady (M.told m.new)) }
     ensures sound { StaysSound result (M.sound m.new) }
     ensures lender { M.lender m.new ≡ M.lender m.old }
@@ -104,14 +130,18 @@ pub(crate) fn cannot_return<M: ObjectMemory>(m: &mut M, cpu: &mut Cpu) -> Result
     push(m, cpu, Reg::ACTIVE_CONTEXT)?;
     push(m, cpu, Reg::SCRATCH_0)?;
     known(m, Reg::SCRATCH_0, Name::CANNOT_RETURN)?;
-    send(m, cpu, 1)
+    send(m, cpu, events, 1)
 }
 
 /// Sends mustBeBoolean to the value in SCRATCH_0.
-pub(crate) fn must_be_boolean<M: ObjectMemory>(m: &mut M, cpu: &mut Cpu) -> Result<Step, Stop>
+pub(crate) fn must_be_boolean<M: ObjectMemory>(
+    m: &mut M,
+    cpu: &mut Cpu,
+    events: &EventList,
+) -> Result<Step, Stop>
     requires sound { M.sound m.old }
     requires ready { IsReady (M.told m.old) }
-    ensures serves { Serves (M.told m.old) cpu.old (M.told m.new) cpu.new (model.must_be_boolean ((M.told m.old).regs 10)) result }
+    ensures serves { Speaks Next (M.told m.old) cpu.old (M.told m.new) cpu.new (model.must_be_boolean events.now ((M.told m.old).regs 10)) result }
     ensures ready { OnOk result (IsReady (M.told m.new)) }
     ensures sound { StaysSound result (M.sound m.new) }
     ensures lender { M.lender m.new ≡ M.lender m.old }
@@ -119,68 +149,78 @@ pub(crate) fn must_be_boolean<M: ObjectMemory>(m: &mut M, cpu: &mut Cpu) -> Resu
 {
     push(m, cpu, Reg::SCRATCH_0)?;
     known(m, Reg::SCRATCH_0, Name::MUST_BE_BOOLEAN)?;
-    send(m, cpu, 0)
+    send(m, cpu, events, 0)
 }
 
 /// Sends literal i with n arguments.
 pub(crate) fn send_literal<M: ObjectMemory>(
     m: &mut M,
     cpu: &mut Cpu,
+    events: &EventList,
     i: u32,
     n: u8,
 ) -> Result<Step, Stop>
     requires sound { M.sound m.old }
     requires ready { IsReady (M.told m.old) }
     requires number { i < 256 }
-    ensures serves { Serves (M.told m.old) cpu.old (M.told m.new) cpu.new (table.send_literal i n) result }
+    ensures serves { Speaks Next (M.told m.old) cpu.old (M.told m.new) cpu.new (table.send_literal events.now i n) result }
     ensures ready { OnOk result (IsReady (M.told m.new)) }
     ensures sound { StaysSound result (M.sound m.new) }
     ensures lender { M.lender m.new ≡ M.lender m.old }
     ensures outside { M.outside m.new ≡ M.outside m.old }
 {
     literal_constant(m, Reg::SCRATCH_0, i)?;
-    send(m, cpu, n)
+    send(m, cpu, events, n)
 }
 
 /// Sends literal i with n arguments to super.
 pub(crate) fn send_literal_super<M: ObjectMemory>(
     m: &mut M,
     cpu: &mut Cpu,
+    events: &EventList,
     i: u32,
     n: u8,
 ) -> Result<Step, Stop>
     requires sound { M.sound m.old }
     requires ready { IsReady (M.told m.old) }
     requires number { i < 256 }
-    ensures serves { Serves (M.told m.old) cpu.old (M.told m.new) cpu.new (table.send_literal_super i n) result }
+    ensures serves { Speaks Next (M.told m.old) cpu.old (M.told m.new) cpu.new (table.send_literal_super events.now i n) result }
     ensures ready { OnOk result (IsReady (M.told m.new)) }
     ensures sound { StaysSound result (M.sound m.new) }
     ensures lender { M.lender m.new ≡ M.lender m.old }
     ensures outside { M.outside m.new ≡ M.outside m.old }
 {
     literal_constant(m, Reg::SCRATCH_0, i)?;
-    send_super(m, cpu, n)
+    send_super(m, cpu, events, n)
 }
 
 /// Sends a literal: its number and that of the arguments stand in the next byte.
-pub(crate) fn single_extended_send<M: ObjectMemory>(m: &mut M, cpu: &mut Cpu) -> Result<Step, Stop>
+pub(crate) fn single_extended_send<M: ObjectMemory>(
+    m: &mut M,
+    cpu: &mut Cpu,
+    events: &EventList,
+) -> Result<Step, Stop>
     requires sound { M.sound m.old }
     requires ready { IsReady (M.told m.old) }
-    ensures serves { Serves (M.told m.old) cpu.old (M.told m.new) cpu.new (table.single_extended table.send_literal) result }
+    ensures serves { Speaks Next (M.told m.old) cpu.old (M.told m.new) cpu.new (table.single_extended (table.send_literal events.now)) result }
     ensures ready { OnOk result (IsReady (M.told m.new)) }
     ensures sound { StaysSound result (M.sound m.new) }
     ensures lender { M.lender m.new ≡ M.lender m.old }
     ensures outside { M.outside m.new ≡ M.outside m.old }
 {
     let byte = fetch(m, cpu)?;
-    send_literal(m, cpu, u32::from(byte % 32), byte / 32)
+    send_literal(m, cpu, events, u32::from(byte % 32), byte / 32)
 }
 
 /// Sends a literal: the number of arguments stands in the next byte, that of the literal in the byte after it.
-pub(crate) fn double_extended_send<M: ObjectMemory>(m: &mut M, cpu: &mut Cpu) -> Result<Step, Stop>
+pub(crate) fn double_extended_send<M: ObjectMemory>(
+    m: &mut M,
+    cpu: &mut Cpu,
+    events: &EventList,
+) -> Result<Step, Stop>
     requires sound { M.sound m.old }
     requires ready { IsReady (M.told m.old) }
-    ensures serves { Serves (M.told m.old) cpu.old (M.told m.new) cpu.new (table.double_extended table.send_literal) result }
+    ensures serves { Speaks Next (M.told m.old) cpu.old (M.told m.new) cpu.new (table.double_extended (table.send_literal events.now)) result }
     ensures ready { OnOk result (IsReady (M.told m.new)) }
     ensures sound { StaysSound result (M.sound m.new) }
     ensures lender { M.lender m.new ≡ M.lender m.old }
@@ -188,28 +228,36 @@ pub(crate) fn double_extended_send<M: ObjectMemory>(m: &mut M, cpu: &mut Cpu) ->
 {
     let n = fetch(m, cpu)?;
     let i = fetch(m, cpu)?;
-    send_literal(m, cpu, u32::from(i), n)
+    send_literal(m, cpu, events, u32::from(i), n)
 }
 
 /// Sends a literal to super: its number and that of the arguments stand in the next byte.
-pub(crate) fn single_extended_super<M: ObjectMemory>(m: &mut M, cpu: &mut Cpu) -> Result<Step, Stop>
+pub(crate) fn single_extended_super<M: ObjectMemory>(
+    m: &mut M,
+    cpu: &mut Cpu,
+    events: &EventList,
+) -> Result<Step, Stop>
     requires sound { M.sound m.old }
     requires ready { IsReady (M.told m.old) }
-    ensures serves { Serves (M.told m.old) cpu.old (M.told m.new) cpu.new (table.single_extended table.send_literal_super) result }
+    ensures serves { Speaks Next (M.told m.old) cpu.old (M.told m.new) cpu.new (table.single_extended (table.send_literal_super events.now)) result }
     ensures ready { OnOk result (IsReady (M.told m.new)) }
     ensures sound { StaysSound result (M.sound m.new) }
     ensures lender { M.lender m.new ≡ M.lender m.old }
     ensures outside { M.outside m.new ≡ M.outside m.old }
 {
     let byte = fetch(m, cpu)?;
-    send_literal_super(m, cpu, u32::from(byte % 32), byte / 32)
+    send_literal_super(m, cpu, events, u32::from(byte % 32), byte / 32)
 }
 
 /// Sends a literal to super: the number of arguments stands in the next byte, that of the literal in the byte after it.
-pub(crate) fn double_extended_super<M: ObjectMemory>(m: &mut M, cpu: &mut Cpu) -> Result<Step, Stop>
+pub(crate) fn double_extended_super<M: ObjectMemory>(
+    m: &mut M,
+    cpu: &mut Cpu,
+    events: &EventList,
+) -> Result<Step, Stop>
     requires sound { M.sound m.old }
     requires ready { IsReady (M.told m.old) }
-    ensures serves { Serves (M.told m.old) cpu.old (M.told m.new) cpu.new (table.double_extended table.send_literal_super) result }
+    ensures serves { Speaks Next (M.told m.old) cpu.old (M.told m.new) cpu.new (table.double_extended (table.send_literal_super events.now)) result }
     ensures ready { OnOk result (IsReady (M.told m.new)) }
     ensures sound { StaysSound result (M.sound m.new) }
     ensures lender { M.lender m.new ≡ M.lender m.old }
@@ -217,13 +265,14 @@ pub(crate) fn double_extended_super<M: ObjectMemory>(m: &mut M, cpu: &mut Cpu) -
 {
     let n = fetch(m, cpu)?;
     let i = fetch(m, cpu)?;
-    send_literal_super(m, cpu, u32::from(i), n)
+    send_literal_super(m, cpu, events, u32::from(i), n)
 }
 
 /// Tries a primitive for a message of n arguments, and sends special selector s where it fails.
 pub(crate) fn tried_for<M: ObjectMemory>(
     m: &mut M,
     cpu: &mut Cpu,
+    events: &EventList,
     index: u8,
     n: u8,
     s: u32,
@@ -231,16 +280,16 @@ pub(crate) fn tried_for<M: ObjectMemory>(
     requires sound { M.sound m.old }
     requires ready { IsReady (M.told m.old) }
     requires number { s < 32 }
-    ensures serves { Serves (M.told m.old) cpu.old (M.told m.new) cpu.new (table.tried_for index n s) result }
+    ensures serves { Speaks Next (M.told m.old) cpu.old (M.told m.new) cpu.new (table.tried_for events.now index n s) result }
     ensures ready { OnOk result (IsReady (M.told m.new)) }
     ensures sound { StaysSound result (M.sound m.new) }
     ensures lender { M.lender m.new ≡ M.lender m.old }
     ensures outside { M.outside m.new ≡ M.outside m.old }
 {
     set_arguments(cpu, n);
-    let answer = try_primitive(m, cpu, index)?;
+    let answer = try_primitive(m, cpu, events, index)?;
     if has_failed(answer) {
-        return special_send(m, cpu, s);
+        return special_send(m, cpu, events, s);
     }
     Ok(step_of(answer))
 }
@@ -260,12 +309,13 @@ fn arithmetic_primitive(s: u32) -> u8
 pub(crate) fn arithmetic_send<M: ObjectMemory>(
     m: &mut M,
     cpu: &mut Cpu,
+    events: &EventList,
     s: u32,
 ) -> Result<Step, Stop>
     requires sound { M.sound m.old }
     requires ready { IsReady (M.told m.old) }
     requires number { s < 16 }
-    ensures serves { Serves (M.told m.old) cpu.old (M.told m.new) cpu.new (table.arithmetic_send s) result }
+    ensures serves { Speaks Next (M.told m.old) cpu.old (M.told m.new) cpu.new (table.arithmetic_send events.now s) result }
     ensures ready { OnOk result (IsReady (M.told m.new)) }
     ensures sound { StaysSound result (M.sound m.new) }
     ensures lender { M.lender m.new ≡ M.lender m.old }
@@ -273,16 +323,20 @@ pub(crate) fn arithmetic_send<M: ObjectMemory>(
 {
     stack(m, cpu, Reg::SCRATCH_0, 1)?;
     if m.as_int(Reg::SCRATCH_0).is_some() {
-        return tried_for(m, cpu, arithmetic_primitive(s), 1, s);
+        return tried_for(m, cpu, events, arithmetic_primitive(s), 1, s);
     }
-    special_send(m, cpu, s)
+    special_send(m, cpu, events, s)
 }
 
 /// Sends blockCopy:. To a context its primitive is tried first.
-pub(crate) fn context_send<M: ObjectMemory>(m: &mut M, cpu: &mut Cpu) -> Result<Step, Stop>
+pub(crate) fn context_send<M: ObjectMemory>(
+    m: &mut M,
+    cpu: &mut Cpu,
+    events: &EventList,
+) -> Result<Step, Stop>
     requires sound { M.sound m.old }
     requires ready { IsReady (M.told m.old) }
-    ensures serves { Serves (M.told m.old) cpu.old (M.told m.new) cpu.new (table.block_send 80 1 table.is_context_class 24) result }
+    ensures serves { Speaks Next (M.told m.old) cpu.old (M.told m.new) cpu.new (table.block_send events.now 80 1 table.is_context_class 24) result }
     ensures ready { OnOk result (IsReady (M.told m.new)) }
     ensures sound { StaysSound result (M.sound m.new) }
     ensures lender { M.lender m.new ≡ M.lender m.old }
@@ -291,22 +345,23 @@ pub(crate) fn context_send<M: ObjectMemory>(m: &mut M, cpu: &mut Cpu) -> Result<
     stack(m, cpu, Reg::SCRATCH_0, 1)?;
     class_of(m, Reg::SCRATCH_0, Reg::SCRATCH_0)?;
     if m.is(Reg::SCRATCH_0, Name::METHOD_CONTEXT) || m.is(Reg::SCRATCH_0, Name::BLOCK_CONTEXT) {
-        return tried_for(m, cpu, 80, 1, 24);
+        return tried_for(m, cpu, events, 80, 1, 24);
     }
-    special_send(m, cpu, 24)
+    special_send(m, cpu, events, 24)
 }
 
 /// Sends value or value:, with n arguments, which is special selector s. To a block its primitive is tried first.
 pub(crate) fn block_send<M: ObjectMemory>(
     m: &mut M,
     cpu: &mut Cpu,
+    events: &EventList,
     n: u8,
     s: u32,
 ) -> Result<Step, Stop>
     requires sound { M.sound m.old }
     requires ready { IsReady (M.told m.old) }
     requires number { s < 32 }
-    ensures serves { Serves (M.told m.old) cpu.old (M.told m.new) cpu.new (table.block_send 81 n table.is_block_class s) result }
+    ensures serves { Speaks Next (M.told m.old) cpu.old (M.told m.new) cpu.new (table.block_send events.now 81 n table.is_block_class s) result }
     ensures ready { OnOk result (IsReady (M.told m.new)) }
     ensures sound { StaysSound result (M.sound m.new) }
     ensures lender { M.lender m.new ≡ M.lender m.old }
@@ -315,7 +370,7 @@ pub(crate) fn block_send<M: ObjectMemory>(
     stack(m, cpu, Reg::SCRATCH_0, u32::from(n))?;
     class_of(m, Reg::SCRATCH_0, Reg::SCRATCH_0)?;
     if m.is(Reg::SCRATCH_0, Name::BLOCK_CONTEXT) {
-        return tried_for(m, cpu, 81, n, s);
+        return tried_for(m, cpu, events, 81, n, s);
     }
-    special_send(m, cpu, s)
+    special_send(m, cpu, events, s)
 }

@@ -6,6 +6,7 @@ use crate::{Step, step};
 use bounded_memory::BoundedMemory;
 use contexts::parts::field;
 use contexts::{Cause, Cpu, Stop, start};
+use event_file::EventList;
 use long_names::Name;
 use object_memory::{MemFault, Need, ObjectMemory, Reg};
 use sample_images::{Header, METHOD, NEXT, add_method, base, memory, name};
@@ -19,7 +20,7 @@ use std::test::Fail;
 const POINTERS: [(i32, i32); 4] = [(3, 6), (4, 5), (2, 5), (3, 6)];
 
 /// Starts, and goes once round the method and a step further, with true as receiver.
-fn walk<M: ObjectMemory>(rt: &impl Abort, m: &mut M) -> Result<(), Stop>
+fn walk<M: ObjectMemory>(rt: &impl Abort, m: &mut M, events: &EventList) -> Result<(), Stop>
     requires sound { M.sound m.old }
     requires ready { IsReady (M.told m.old) }
     ensures ready { OnOk result (IsReady (M.told m.new)) }
@@ -30,7 +31,7 @@ fn walk<M: ObjectMemory>(rt: &impl Abort, m: &mut M) -> Result<(), Stop>
     assert_eq!(rt; (cpu.ip, cpu.sp), (2, 5));
     m.known(Reg::RECEIVER, Name::TRUE)?;
     for (i, pointers) in POINTERS.iter().enumerate() {
-        assert_eq!(rt; step(m, &mut cpu)?, Step::Next, "step {i}");
+        assert_eq!(rt; step(m, &mut cpu, events)?, Step::Next, "step {i}");
         assert_eq!(rt; (cpu.ip, cpu.sp), *pointers, "step {i}");
         assert_eq!(rt; m.as_int(Reg::SCRATCH_0), Some(0), "step {i}");
     }
@@ -42,7 +43,7 @@ fn walk<M: ObjectMemory>(rt: &impl Abort, m: &mut M) -> Result<(), Stop>
 #[test]
 fn each_step(rt: HostRuntime) -> Result<(), Fail> {
     let mut m = memory(rt.alloc(), &base(rt.alloc())?, NEXT)?;
-    walk(&rt, &mut m)?;
+    walk(&rt, &mut m, &EventList::new(rt.alloc()))?;
     Ok(())
 }
 
@@ -51,19 +52,19 @@ fn each_step(rt: HostRuntime) -> Result<(), Fail> {
 fn in_the_smallest_core(rt: HostRuntime) -> Result<(), Fail> {
     let plain = memory(rt.alloc(), &base(rt.alloc())?, NEXT)?;
     let mut m = BoundedMemory::new(plain, 29, 73, 26, 26);
-    walk(&rt, &mut m)?;
+    walk(&rt, &mut m, &EventList::new(rt.alloc()))?;
     Ok(())
 }
 
 /// Goes on until a step stops, for at most four steps.
-fn go<M: ObjectMemory>(m: &mut M, cpu: &mut Cpu) -> Result<(), Stop>
+fn go<M: ObjectMemory>(m: &mut M, cpu: &mut Cpu, events: &EventList) -> Result<(), Stop>
     requires sound { M.sound m.old }
     requires ready { IsReady (M.told m.old) }
     ensures ready { OnOk result (IsReady (M.told m.new)) }
     ensures sound { OnOk result (M.sound m.new) }
 {
     for _turn in 0..4 {
-        step(m, cpu)?;
+        step(m, cpu, events)?;
     }
     Ok(())
 }
@@ -79,6 +80,7 @@ fn each_stop(rt: HostRuntime) -> Result<(), Fail> {
         ([118, 119, 176], 5, Stop::Stuck(Cause::Pointer)),
         ([137, 117, 200], 5, Stop::Stuck(Cause::Pointer)),
     ];
+    let events = EventList::new(rt.alloc());
     for (code, ip, stop) in rows {
         let mut builder = base(rt.alloc())?;
         add_method(
@@ -92,7 +94,7 @@ fn each_stop(rt: HostRuntime) -> Result<(), Fail> {
         let mut m = memory(rt.alloc(), &builder, NEXT)?;
         let mut cpu = Cpu::at_rest();
         start(&mut m, &mut cpu)?;
-        assert_eq!(rt; go(&mut m, &mut cpu), Err(stop));
+        assert_eq!(rt; go(&mut m, &mut cpu, &events), Err(stop));
         assert_eq!(rt; cpu.ip, ip);
     }
     Ok(())
@@ -106,6 +108,7 @@ fn each_refusal(rt: HostRuntime) -> Result<(), Fail> {
         words: 35,
         entries: 73,
     };
+    let events = EventList::new(rt.alloc());
     for (register, ip) in [(Reg::METHOD, 2), (Reg::ACTIVE_CONTEXT, 3)] {
         let plain = memory(rt.alloc(), &base(rt.alloc())?, NEXT)?;
         let mut m = BoundedMemory::new(plain, 29, 73, 26, 26);
@@ -113,7 +116,7 @@ fn each_refusal(rt: HostRuntime) -> Result<(), Fail> {
         start(&mut m, &mut cpu)?;
         m.known(register, Name::SCHEDULER_ASSOCIATION)?;
         let refused = Err(Stop::Mem(MemFault::CoreFull(need)));
-        assert_eq!(rt; step(&mut m, &mut cpu), refused);
+        assert_eq!(rt; step(&mut m, &mut cpu, &events), refused);
         assert_eq!(rt; cpu.ip, ip);
     }
     Ok(())

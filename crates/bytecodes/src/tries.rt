@@ -1,19 +1,21 @@
 // Tries of primitives (chapter 29, dispatchPrimitives).
 ghost use Rattle.std.specs.Prelude.{◌≡◌, OnOk};
 ghost use Rattle.object_memory.specs.Told.{IsReady};
+ghost use Rattle.blue_model.specs.declared.answer.Answer.TheVariants.{Done};
 ghost use Rattle.blue_model.specs.Primitives as model;
 ghost use Rattle.blue_model.specs.Sends.{is_execute as is_execute_rule};
-ghost use Rattle.contexts.specs.Serves.{Serves, StaysSound};
+ghost use Rattle.contexts.specs.Serves.{Serves, Speaks, StaysSound};
 
 use blue_model::Step;
 use contexts::{Answer, Cpu, Stop};
+use event_file::EventList;
 use object_memory::ObjectMemory;
 
 /// Whether the primitive of this index isn't built yet.
 fn is_unbuilt(index: u8) -> bool
     ensures { result ≡ model.is_unbuilt index }
 {
-    matches!(index, 93 | 95 | 96 | 99 | 100 | 102 | 128)
+    index == 96
 }
 
 /// Whether the primitive is one of blocks, performs, the cache and the end of the run.
@@ -28,6 +30,13 @@ fn is_process(index: u8) -> bool
     ensures { result ≡ model.is_process index }
 {
     matches!(index, 85..=88)
+}
+
+/// Whether the primitive is one of input, the clock, the display and the transcript.
+fn is_device(index: u8) -> bool
+    ensures { result ≡ model.is_device index }
+{
+    matches!(index, 93..=102 | 128)
 }
 
 /// Whether the primitive is one of the two performs.
@@ -67,15 +76,16 @@ pub(crate) fn step_of(answer: Answer) -> Step
     }
 }
 
-/// Tries the primitive of this index. The message has as many arguments as `cpu.args` says.
+/// Tries the primitive of this index. The message has as many arguments as `cpu.args` says, and input comes from the event list.
 pub(crate) fn try_primitive<M: ObjectMemory>(
     m: &mut M,
     cpu: &mut Cpu,
+    events: &EventList,
     index: u8,
 ) -> Result<Answer, Stop>
     requires sound { M.sound m.old }
     requires ready { IsReady (M.told m.old) }
-    ensures serves { Serves (M.told m.old) cpu.old (M.told m.new) cpu.new (model.primitive index) result }
+    ensures serves { Speaks Done (M.told m.old) cpu.old (M.told m.new) cpu.new (model.primitive events.now index) result }
     ensures ready { OnOk result (IsReady (M.told m.new)) }
     ensures sound { StaysSound result (M.sound m.new) }
     ensures lender { M.lender m.new ≡ M.lender m.old }
@@ -89,6 +99,9 @@ pub(crate) fn try_primitive<M: ObjectMemory>(
     }
     if is_process(index) {
         return process_sched::run(m, cpu, index);
+    }
+    if is_device(index) {
+        return devices::run(m, cpu, events, index);
     }
     if index < 60 {
         prims_integer::run(m, cpu, index)

@@ -30,21 +30,21 @@ use Rattle.contexts.proofs.StoreLaws.{thinned_here}
 -- ---- what follows a call that may have said something
 
 -- A call that answered something else said nothing,
-pub speaks_not : {A : Type 0} {b : A} {old new : Told} {cpu now : Cpu} {rule : Rule A} {a : A} → (a ≡ b → ⊥) → Speaks b old cpu new now rule (Ok a) → Serves old cpu new now rule (Ok a)
-speaks_not {A} {b} {old} {new} {cpu} {now} {rule} {a} other s = record { later = s.later; ready = s.ready; reason = tt; counts = s.counts; silent = silent s.silent; model = s.model }
+pub speaks_not : {A : Type 0} {b : A} {old new : Told} {cpu now : Cpu} {rule : Rule A} {a : A} → Speaks b old cpu new now rule (Ok a) → (a ≡ b → ⊥) → Serves old cpu new now rule (Ok a)
+speaks_not {A} {b} {old} {new} {cpu} {now} {rule} {a} s other = record { later = s.later; ready = s.ready; reason = tt; counts = s.counts; silent = silent s.silent; model = s.model }
   where
     silent : Says (Some b) old new (Ok a) → SaidNothing old new
     silent (inl e) = absurd (other e)
     silent (inr h) = h
 
 -- so that the rest may say something.
-pub speaks_failed : {A B : Type 0} {b : A} {w : Option B} {old mid new : Told} {cpu between now : Cpu} {p : Rule A} (k : A → Rule B) {a : A} {answer : Result B Stop} → (a ≡ b → ⊥) → Speaks b old cpu mid between p (Ok a) → ServesAs w mid between new now (k a) answer → ServesAs w old cpu new now (p >>= k) answer
-speaks_failed k other f s = serves_then k (speaks_not other f) s
+pub speaks_failed : {A B : Type 0} {b : A} {w : Option B} {old mid new : Told} {cpu between now : Cpu} {p : Rule A} (k : A → Rule B) {a : A} {answer : Result B Stop} → Speaks b old cpu mid between p (Ok a) → (a ≡ b → ⊥) → ServesAs w mid between new now (k a) answer → ServesAs w old cpu new now (p >>= k) answer
+speaks_failed k f other s = serves_then k (speaks_not f other) s
 
 -- A call that may have said something, and a rest that says nothing, and answers c where the call had said something.
-pub speaks_then : {A B : Type 0} {b : A} {c : B} {old mid new : Told} {cpu between now : Cpu} {p : Rule A} (k : A → Rule B) {a : A} {d : B} → (a ≡ b → d ≡ c) → Speaks b old cpu mid between p (Ok a) → Serves mid between new now (k a) (Ok d) → Speaks c old cpu new now (p >>= k) (Ok d)
+pub speaks_then : {A B : Type 0} {b : A} {c : B} {old mid new : Told} {cpu between now : Cpu} {p : Rule A} (k : A → Rule B) {a : A} {d : B} → Speaks b old cpu mid between p (Ok a) → Serves mid between new now (k a) (Ok d) → (a ≡ b → d ≡ c) → Speaks c old cpu new now (p >>= k) (Ok d)
 unfolding ◌>>=◌
-speaks_then {A} {B} {b} {c} {old} {mid} {new} {cpu} {between} {now} {p} k {a} {d} answers f s = record {
+speaks_then {A} {B} {b} {c} {old} {mid} {new} {cpu} {between} {now} {p} k {a} {d} f s answers = record {
   later = IsLater-trans old mid new f.later s.later;
   ready = s.ready;
   reason = tt;
@@ -140,9 +140,9 @@ gives_said b c new now o k (Stuck d) rest h = Gives-stop (Some c) new now o k (S
 gives_said b c new now o k NotBuilt rest h = Gives-stop (Some c) new now o k NotBuilt h
 
 -- A call that stopped, maybe while it said something: the rest, after what it answers then, goes on to c and says nothing.
-pub speaks_stop : {A B : Type 0} {b : A} {c : B} {old new : Told} {cpu now : Cpu} {p : Rule A} (k : A → Rule B) {e : Stop} → GoesOn c (k b) → Speaks b old cpu new now p (Err e) → Speaks c old cpu new now (p >>= k) (Err e)
+pub speaks_stop : {A B : Type 0} {b : A} {c : B} {old new : Told} {cpu now : Cpu} {p : Rule A} (k : A → Rule B) {e : Stop} → Speaks b old cpu new now p (Err e) → GoesOn c (k b) → Speaks c old cpu new now (p >>= k) (Err e)
 unfolding ◌>>=◌
-speaks_stop {A} {B} {b} {c} {old} {new} {cpu} {now} {p} k {e} rest f = record {
+speaks_stop {A} {B} {b} {c} {old} {new} {cpu} {now} {p} k {e} f rest = record {
   later = f.later;
   ready = tt;
   reason = reason_other A B old new e f.reason;
@@ -152,10 +152,10 @@ speaks_stop {A} {B} {b} {c} {old} {new} {cpu} {now} {p} k {e} rest f = record {
 }
 
 -- the exit of its `?`
-pub speaks_exit : {A B : Type 0} {b : A} {c : B} {old new : Told} {cpu now : Cpu} {p : Rule A} (k : A → Rule B) {e : Stop} (r : Result B Stop) → GoesOn c (k b) → Speaks b old cpu new now p (Err e) → IsErrAnd r (λ y. y ≡ e) → Speaks c old cpu new now (p >>= k) r
-speaks_exit {A} {B} {b} {c} {old} {new} {cpu} {now} {p} k {e} r rest s is =
+pub speaks_exit : {A B : Type 0} {b : A} {c : B} {old new : Told} {cpu now : Cpu} {p : Rule A} (k : A → Rule B) {e : Stop} (r : Result B Stop) → Speaks b old cpu new now p (Err e) → GoesOn c (k b) → IsErrAnd r (λ y. y ≡ e) → Speaks c old cpu new now (p >>= k) r
+speaks_exit {A} {B} {b} {c} {old} {new} {cpu} {now} {p} k {e} r s rest is =
     let q = err_from_is_err_and r is in
-    subst (λ x. Speaks c old cpu new now (p >>= k) x) (sym (q.1 ∙ ap (λ y. Err y) q.2)) (speaks_stop k rest s)
+    subst (λ x. Speaks c old cpu new now (p >>= k) x) (sym (q.1 ∙ ap (λ y. Err y) q.2)) (speaks_stop k s rest)
 
 -- ---- the access that says
 

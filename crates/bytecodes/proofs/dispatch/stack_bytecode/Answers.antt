@@ -9,16 +9,16 @@ use Rattle.bytecodes.proofs.dispatch.stack_bytecode.Goals as goal
 
 pub returns-in-135-clause-serves : goal.returns-in-135-clause-serves
 unfolding bytecodes
-returns-in-135-clause-serves g c = dispatched c.args.byte 25 (next_only 135 (pop 1)) (omega arith) refl refl (omega arith) (omega arith) (next_serves _ (c.pop.ensures.serves _ c.requires.ready))
+returns-in-135-clause-serves g c = λ events. dispatched events c.args.byte 25 (next_only 135 (pop 1)) (omega arith) refl refl (omega arith) (omega arith) (next_serves _ (c.pop.ensures.serves _ c.requires.ready))
 
 pub returns-in-136-clause-serves : goal.returns-in-136-clause-serves
 unfolding bytecodes
-returns-in-136-clause-serves g c = dispatched c.args.byte 26 (next_only 136 duplicate_top) (omega arith) refl refl (omega arith) (omega arith) (next_serves _ c.duplicate_top.ensures.serves)
+returns-in-136-clause-serves g c = λ events. dispatched events c.args.byte 26 (next_only 136 duplicate_top) (omega arith) refl refl (omega arith) (omega arith) (next_serves _ c.duplicate_top.ensures.serves)
 
 pub returns-in-137-clause-serves : goal.returns-in-137-clause-serves
 unfolding bytecodes
-returns-in-137-clause-serves g c = dispatched c.args.byte 27 (next_only 137 push_active_context) (omega arith) refl refl (omega arith) (omega arith) (next_serves _ c.push_active_context.ensures.serves)
+returns-in-137-clause-serves g c = λ events. dispatched events c.args.byte 27 (next_only 137 push_active_context) (omega arith) refl refl (omega arith) (omega arith) (next_serves _ c.push_active_context.ensures.serves)
 
 pub returns-in_default-clause-serves : goal.returns-in_default-clause-serves
 unfolding bytecodes
-returns-in_default-clause-serves g c = dispatched c.args.byte 28 (next_from_to 138 143 (λ i. halt Unused)) (omega arith) refl refl (omega arith) (omega arith) (next_serves _ halt_serves)
+returns-in_default-clause-serves g c = λ events. dispatched events c.args.byte 28 (next_from_to 138 143 (λ i. halt Unused)) (omega arith) refl refl (omega arith) (omega arith) (next_serves _ halt_serves)

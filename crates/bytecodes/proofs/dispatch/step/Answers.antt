@@ -1,6 +1,7 @@
-use Rattle.blue_model.specs.Cycle.{step}
+use Rattle.blue_model.specs.Cycle.{is_message, step}
 use Rattle.contexts.proofs.ServesLaws.{serves_then, serves_exit}
 use Rattle.contexts.proofs.Steps.{done_serves}
+use Rattle.contexts.proofs.SpeaksLaws.{speaks_then, speaks_exit, goes_done, goes_clear, goes_then}
 use Rattle.bytecodes.proofs.dispatch.step.Goals as goal
 
 pub returns-in_err-byte-clause-serves : goal.returns-in_err-byte-clause-serves
@@ -9,9 +10,9 @@ returns-in_err-byte-clause-serves g c = serves_exit _ _ c.in_err-byte.ensures.se
 
 pub returns-in_err-step-clause-serves : goal.returns-in_err-step-clause-serves
 unfolding step
-returns-in_err-step-clause-serves g c = serves_then _ c.in_ok-byte.ensures.serves (serves_exit _ _ c.in_err-step.ensures.serves c.from_residual-in_err-step.ensures.1)
+returns-in_err-step-clause-serves g c = serves_then _ c.in_ok-byte.ensures.serves (speaks_exit _ _ c.in_err-step.ensures.serves (goes_then _ (goes_clear is_message) goes_done) c.from_residual-in_err-step.ensures.1)
 
 pub returns-clause-serves : goal.returns-clause-serves
 unfolding step
 returns-clause-serves g c =
-    serves_then _ c.in_ok-byte.ensures.serves (serves_then _ c.in_ok-step.ensures.serves (serves_then _ (c.rest.ensures.serves _) (done_serves c.rest.ensures.ready)))
+    serves_then _ c.in_ok-byte.ensures.serves (speaks_then _ c.in_ok-step.ensures.serves (serves_then _ (c.rest.ensures.serves _) (done_serves c.rest.ensures.ready)) (λ e. e))

@@ -1,26 +1,32 @@
-use Rattle.std.proofs.Common.{sym, ◌∙◌}
+use Rattle.std.proofs.Common.{refl, sym, ◌∙◌, ap}
+use Rattle.blue_model.specs.Primitives.{step_of}
 use Rattle.blue_model.specs.Sends.{execute}
-use Rattle.contexts.proofs.ServesLaws.{serves_then, serves_exit}
 use Rattle.contexts.proofs.Steps.{pick_true, pick_false, done_same}
+use Rattle.contexts.proofs.SpeaksLaws.{speaks_failed, speaks_then, speaks_exit, goes_done, goes_false}
+use Rattle.bytecodes.proofs.TryLaws.{not_executed}
 use Rattle.bytecodes.proofs.execution.execute.Goals as goal
 
 pub returns-in_err-answer-clause-serves : goal.returns-in_err-answer-clause-serves
 unfolding execute
-returns-in_err-answer-clause-serves g c = serves_exit _ _ c.in_err-answer.ensures.serves c.from_residual.ensures.1
+returns-in_err-answer-clause-serves g c = speaks_exit _ _ c.in_err-answer.ensures.serves (goes_false _ _ _ refl goes_done) c.from_residual.ensures.1
 
 pub returns-in_err-last-clause-serves : goal.returns-in_err-last-clause-serves
 unfolding execute
 returns-in_err-last-clause-serves g c =
-    serves_then _ c.in_ok-answer.ensures.serves (pick_true _ _ _ (sym c.is_execute.ensures ∙ c.if-is_execute.true)
-    (serves_exit _ _ c.in_err-last.ensures.serves c.from_residual-in_err-last.ensures.1))
+    let found = sym c.is_execute.ensures ∙ c.if-is_execute.true in
+    speaks_failed _ c.in_ok-answer.ensures.serves (not_executed _ found)
+    (pick_true _ _ _ found (speaks_exit _ _ c.in_err-last.ensures.serves goes_done c.from_residual-in_err-last.ensures.1))
 
 pub returns-then-is_execute-clause-serves : goal.returns-then-is_execute-clause-serves
 unfolding execute
 returns-then-is_execute-clause-serves g c =
-    serves_then _ c.in_ok-answer.ensures.serves (pick_true _ _ _ (sym c.is_execute.ensures ∙ c.if-is_execute.true)
-    (serves_then _ c.in_ok-last.ensures.serves (done_same c.step_of.ensures c.in_ok-last.ensures.ready)))
+    let found = sym c.is_execute.ensures ∙ c.if-is_execute.true in
+    let last = done_same c.step_of.ensures c.in_ok-last.ensures.ready in
+    speaks_failed _ c.in_ok-answer.ensures.serves (not_executed _ found)
+    (pick_true _ _ _ found (speaks_then _ c.in_ok-last.ensures.serves last (λ e. c.step_of.ensures ∙ ap step_of e)))
 
 pub returns-clause-serves : goal.returns-clause-serves
 unfolding execute
 returns-clause-serves g c =
-    serves_then _ c.in_ok-answer.ensures.serves (pick_false _ _ _ (sym c.is_execute.ensures ∙ c.if-is_execute.false) (done_same c.step_of-2.ensures c.in_ok-answer.ensures.ready))
+    let last = done_same c.step_of-2.ensures c.in_ok-answer.ensures.ready in
+    speaks_then _ c.in_ok-answer.ensures.serves (pick_false _ _ _ (sym c.is_execute.ensures ∙ c.if-is_execute.false) last) (λ e. c.step_of-2.ensures ∙ ap step_of e)

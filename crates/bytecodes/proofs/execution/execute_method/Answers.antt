@@ -2,7 +2,7 @@ use Rattle.std.proofs.Common.{refl, arith}
 use Rattle.object_memory.proofs.ShapeLaws.{small_number}
 use Rattle.bytecodes.proofs.SendLaws.{equal, unequal}
 use Rattle.blue_model.specs.Sends.{execute_method}
-use Rattle.contexts.proofs.ServesLaws.{serves_then, serves_exit}
+use Rattle.contexts.proofs.ServesLaws.{speaks_quiet, serves_then, serves_exit}
 use Rattle.contexts.proofs.Steps.{register_then, pick_true, pick_false, done_serves}
 use Rattle.bytecodes.proofs.execution.execute_method.Goals as goal
 
@@ -48,4 +48,4 @@ returns-in_default-clause-serves g c =
     let z = small_number _ c.in_ok-header.ensures.range in
     let flag = rw z at c.flag.ensures.flag in
     register_then _ _ refl (serves_then _ (c.in_ok-header.ensures.serves _)
-    (pick_false _ _ _ (unequal _ _ 5 flag (λ e. absurd (omega arith))) (pick_false _ _ _ (unequal _ _ 6 flag (λ e. absurd (omega arith))) (pick_false _ _ _ (unequal _ _ 7 flag (λ e. absurd (omega arith))) c.activated.ensures.serves))))
+    (pick_false _ _ _ (unequal _ _ 5 flag (λ e. absurd (omega arith))) (pick_false _ _ _ (unequal _ _ 6 flag (λ e. absurd (omega arith))) (pick_false _ _ _ (unequal _ _ 7 flag (λ e. absurd (omega arith))) (speaks_quiet c.activated.ensures.serves)))))

@@ -18,10 +18,10 @@ pub returns-then-is-clause-serves : goal.returns-then-is-clause-serves
 unfolding block_send
 returns-then-is-clause-serves g c =
     serves_then _ (rw c.from.ensures at c.in_ok-stack.ensures.serves) (serves_then _ (c.in_ok-class_of.ensures.serves _)
-    (pick_true _ (tried_for 81 c.args.n c.args.s) (special_send c.args.s) (is_block ((g.M.ObjectMemory.told c.class_of.new.m).regs 10) ∙ sym c.if-is.ensures) c.tried_for.ensures.serves))
+    (pick_true _ (tried_for c.args.events.now 81 c.args.n c.args.s) (special_send c.args.events.now c.args.s) (is_block ((g.M.ObjectMemory.told c.class_of.new.m).regs 10) ∙ sym c.if-is.ensures) c.tried_for.ensures.serves))
 
 pub returns-clause-serves : goal.returns-clause-serves
 unfolding block_send
 returns-clause-serves g c =
     serves_then _ (rw c.from.ensures at c.in_ok-stack.ensures.serves) (serves_then _ (c.in_ok-class_of.ensures.serves _)
-    (pick_false _ (tried_for 81 c.args.n c.args.s) (special_send c.args.s) (is_block ((g.M.ObjectMemory.told c.class_of.new.m).regs 10) ∙ sym c.if-is.ensures) c.special_send.ensures.serves))
+    (pick_false _ (tried_for c.args.events.now 81 c.args.n c.args.s) (special_send c.args.events.now c.args.s) (is_block ((g.M.ObjectMemory.told c.class_of.new.m).regs 10) ∙ sym c.if-is.ensures) c.special_send.ensures.serves))

@@ -19,10 +19,10 @@ pub returns-then-is-clause-serves : goal.returns-then-is-clause-serves
 unfolding block_send
 returns-then-is-clause-serves g c =
     serves_then _ c.in_ok-stack.ensures.serves (serves_then _ (c.in_ok-class_of.ensures.serves _)
-    (pick_true _ (tried_for 80 1 24) (special_send 24) (either ((g.M.ObjectMemory.told c.class_of.new.m).regs 10) (elim c.then-is.branch [ then-is-via-then-is w ↦ inl (sym w.if-is.ensures) | then-is-via-else-is+then-is-2 w ↦ inr (sym w.if-is-2.ensures) ])) c.tried_for.ensures.serves))
+    (pick_true _ (tried_for c.args.events.now 80 1 24) (special_send c.args.events.now 24) (either ((g.M.ObjectMemory.told c.class_of.new.m).regs 10) (elim c.then-is.branch [ then-is-via-then-is w ↦ inl (sym w.if-is.ensures) | then-is-via-else-is+then-is-2 w ↦ inr (sym w.if-is-2.ensures) ])) c.tried_for.ensures.serves))
 
 pub returns-clause-serves : goal.returns-clause-serves
 unfolding block_send
 returns-clause-serves g c =
     serves_then _ c.in_ok-stack.ensures.serves (serves_then _ (c.in_ok-class_of.ensures.serves _)
-    (pick_false _ (tried_for 80 1 24) (special_send 24) (neither ((g.M.ObjectMemory.told c.class_of.new.m).regs 10) (sym c.is.ensures ∙ c.if-is.false) (sym c.if-is-2.ensures)) c.special_send.ensures.serves))
+    (pick_false _ (tried_for c.args.events.now 80 1 24) (special_send c.args.events.now 24) (neither ((g.M.ObjectMemory.told c.class_of.new.m).regs 10) (sym c.is.ensures ∙ c.if-is.false) (sym c.if-is-2.ensures)) c.special_send.ensures.serves))

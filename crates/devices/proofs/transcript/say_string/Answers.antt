@@ -37,7 +37,7 @@ returns-in_err-say-clause-speaks g c =
     serves_then _ c.in_ok-stack.ensures.serves
     (found_then _ refl (found_one _ _ c.if-not-branch.false (c.in_ok-is_string.ensures.serves _))
     (serves_then _ (c.in_ok-pop.ensures.serves _ c.in_ok-is_string.ensures.ready)
-    (speaks_exit _ _ goes_done (rw string at c.in_err-say.ensures.speaks c.pop.new.cpu) c.from_residual-in_err-say.ensures.1)))
+    (speaks_exit _ _ (rw string at c.in_err-say.ensures.speaks c.pop.new.cpu) goes_done c.from_residual-in_err-say.ensures.1)))
 
 pub returns-clause-speaks : goal.returns-clause-speaks
 unfolding say_string
@@ -46,4 +46,4 @@ returns-clause-speaks g c =
     serves_then _ c.in_ok-stack.ensures.serves
     (found_then _ refl (found_one _ _ c.if-not-branch.false (c.in_ok-is_string.ensures.serves _))
     (serves_then _ (c.in_ok-pop.ensures.serves _ c.in_ok-is_string.ensures.ready)
-    (speaks_then _ (λ e. refl) (rw string at c.in_ok-say.ensures.speaks c.pop.new.cpu) (done_serves c.in_ok-say.ensures.ready))))
+    (speaks_then _ (rw string at c.in_ok-say.ensures.speaks c.pop.new.cpu) (done_serves c.in_ok-say.ensures.ready) (λ e. refl))))
