@@ -13,7 +13,7 @@ use Rattle.long_names.specs.Access as access
 use Rattle.object_memory.specs.Told.{Told}
 use Rattle.object_memory.specs.Shape.{HasPartAt, IsPartAt, shape_of}
 use Rattle.blue_model.specs.Devices.{four_bytes, tick_of}
-use Rattle.devices.specs.Found.{found_tick}
+use Rattle.devices.specs.Inside.{found_tick}
 
 -- an object without a tick
 lacks_tick : (o : Object) → found_tick (shape_of o.body) ≡ false → tick_of o ≡ None

@@ -15,7 +15,7 @@ use Rattle.contexts.specs.declared.stop.Stop.TheVariants.{Mem}
 use Rattle.contexts.specs.Serves.{Allows, IsCaused, Serves}
 use Rattle.contexts.proofs.CacheLaws.{sound_follows}
 use Rattle.contexts.proofs.Steps.{IsQuiet, done_serves, read_last, pick_true, pick_false}
-use Rattle.devices.specs.Found.{is_first, due_at}
+use Rattle.devices.specs.Inside.{is_first, due_at}
 
 -- ---- what changes nothing of the machine
 

@@ -20,7 +20,7 @@ use Rattle.blue_model.specs.Trials.{peek}
 use Rattle.contexts.specs.declared.stop.Stop.{Stop}
 use Rattle.contexts.specs.Serves.{Serves, with_found}
 use Rattle.contexts.proofs.Steps.{done_serves}
-use Rattle.devices.specs.Found.{HasRows, found_in, extent_in, extent_found, form_found}
+use Rattle.devices.specs.Inside.{HasRows, found_in, extent_in, extent_found, form_found}
 
 -- ---- how many words there are
 

@@ -32,8 +32,8 @@ use Rattle.contexts.proofs.Steps.{done_serves, read_first, given_then, given_stu
 use Rattle.contexts.proofs.ReadLaws.{quiet, read_serves}
 use Rattle.devices.specs.declared.fault.PictureFault.{PictureFault}
 use Rattle.devices.specs.declared.fault.PictureFault.TheVariants as fault
-use Rattle.devices.specs.Found.{form_in, HasRows}
-use Rattle.devices.specs.Pictures.{DrawnBy, ReadsRow, words_told, row_at, HasWords, bits_found, front_found, extent_of_form, IsShown, HasRow}
+use Rattle.devices.specs.Inside.{form_in, HasRows, ReadsRow, words_told, row_at, HasWords, bits_found}
+use Rattle.devices.specs.Pictures.{DrawnBy, front_found, extent_of_form, IsShown, HasRow}
 
 -- ---- the words of a row
 

@@ -15,7 +15,7 @@ use Rattle.contexts.proofs.PartLaws.{text_none}
 use Rattle.contexts.proofs.PeekLaws.{peek_serves, first_refused}
 use Rattle.object_memory.specs.declared.fault.MemFault.{MemFault}
 use Rattle.contexts.specs.declared.stop.Stop.TheVariants.{Mem}
-use Rattle.devices.specs.Found.{text_in}
+use Rattle.devices.specs.Inside.{text_in}
 
 -- the text is there, and is that of the object before
 text_there : (t : Told) (r : ℕ) (answer : Bool) → IsTestAt t r text_of (λ bytes. Unit {0}) answer → answer ≡ true → IsTrue t.tells → part_at t.heap (t.regs r) text_of ≡ Some (text_in t r)

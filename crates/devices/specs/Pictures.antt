@@ -1,15 +1,10 @@
 -- What drawing the display comes to.
-use Rattle.std.specs.Prelude.{◌<◌, ◌≤◌, ◌+◌, ◌*◌, ℕ, List, [], length, take, drop, Option, Some, None, unwrap_or, Result, Ok, Err}
-use Rattle.long_names.specs.Objects.{words_of}
-use Rattle.long_names.specs.State.{part_at}
+use Rattle.std.specs.Prelude.{◌<◌, ℕ, List, take, Option, Some, None, Result, Ok, Err}
 use Rattle.object_memory.specs.Told.{Told}
-use Rattle.object_memory.specs.Shape.{HasPartAt, Looks}
 use Rattle.object_memory.specs.Contract.{IsLater}
-use Rattle.blue_model.specs.declared.cause.Cause.TheVariants.{Shape}
 use Rattle.blue_model.specs.declared.cpu.Cpu.{Cpu}
-use Rattle.blue_model.specs.Machine.{Machine, Outcome, Go, Halt, Spent, Unbuilt, Rule, ◌>>=◌, done, part}
-use Rattle.blue_model.specs.BitBlt.{words_in}
-use Rattle.blue_model.specs.Forms.{Form, row_words}
+use Rattle.blue_model.specs.Machine.{Machine, Outcome, Go, Halt, Spent, Unbuilt, Rule, ◌>>=◌, done}
+use Rattle.blue_model.specs.Forms.{Form}
 use Rattle.blue_model.specs.Devices.{display_form, picture}
 use Rattle.contexts.specs.declared.stop.Stop.{Stop}
 use Rattle.contexts.specs.Serves as serves
@@ -57,28 +52,3 @@ abbrev pub DrawsSound : {A : Type 0} → Result A PictureFault → Type 0 → Ty
 DrawsSound (Ok bytes) P = P
 DrawsSound (Err (fault.Stop stop)) P = serves.StaysSound {A = List ℕ} (Err stop) P
 DrawsSound (Err fault.Memory) P = P
-
--- ---- rows
-
--- the words of the object of words that a register names
-abbrev pub words_told : Told → ℕ → List ℕ
-words_told t r = unwrap_or (part_at t.heap (t.regs r) words_of) []
-
--- the words of a row
-abbrev pub row_at : ℕ → List ℕ → ℕ → List ℕ
-row_at width words y = take (row_words width) (drop (row_words width * y) words)
-
--- the words in SCRATCH_1 have this row
-abbrev pub HasWords : Told → ℕ → ℕ → Type 0
-HasWords t width y = HasPartAt t 11 words_of (λ words. row_words width * y + row_words width ≤ length words)
-
--- the bits that a row was taken of
-abbrev pub bits_found : Result ℕ Stop → List ℕ → Result (List ℕ) Stop
-bits_found (Ok n) words = Ok words
-bits_found (Err e) words = Err e
-
--- a row was read, or the stop is that of a look at the bits
-abbrev pub ReadsRow : Told → Told → Result (Unit {0}) PictureFault → Type 0
-ReadsRow old new (Ok u) = Looks [] old new
-ReadsRow old new (Err (fault.Stop stop)) = (cpu : Cpu) → Serves old cpu new cpu (part Shape words_in (old.regs 11)) (Err stop)
-ReadsRow old new (Err fault.Memory) = IsLater old new × SaidNothing old new

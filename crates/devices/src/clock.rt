@@ -7,7 +7,7 @@ ghost use Rattle.blue_model.specs.declared.cpu.Cpu.{Cpu as Numbers};
 ghost use Rattle.blue_model.specs.Trials.{peek};
 ghost use Rattle.blue_model.specs.Devices as model;
 ghost use Rattle.contexts.specs.Serves.{Serves, StaysSound};
-ghost use Rattle.devices.specs.Found.{found_tick};
+ghost use Rattle.devices.specs.Inside.{found_tick};
 
 use crate::input::{put_semaphore, semaphore_or_nil};
 use contexts::data::store_byte;

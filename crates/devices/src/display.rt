@@ -12,7 +12,7 @@ ghost use Rattle.blue_model.specs.Trials.{peek};
 ghost use Rattle.blue_model.specs.Devices as devices;
 ghost use Rattle.blue_model.specs.Forms as model;
 ghost use Rattle.contexts.specs.Serves.{Serves, StaysSound};
-ghost use Rattle.devices.specs.Found.{IsSmall, HasRows, found_in, extent_in, extent_found, form_in, form_found};
+ghost use Rattle.devices.specs.Inside.{IsSmall, HasRows, found_in, extent_in, extent_found, form_in, form_found};
 
 use contexts::peeks::peek_field;
 use contexts::{Answer, Cpu, Stop, stack};

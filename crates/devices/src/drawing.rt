@@ -9,8 +9,8 @@ ghost use Rattle.blue_model.specs.BitBlt.{words_in};
 ghost use Rattle.blue_model.specs.Forms as forms;
 ghost use Rattle.blue_model.specs.Devices as model;
 ghost use Rattle.contexts.specs.Serves.{Serves, StaysSound, with_value};
-ghost use Rattle.devices.specs.Found.{IsSmall, HasRows, form_found};
-ghost use Rattle.devices.specs.Pictures.{display_extent, IsShown, front_found, DrawnBy, DrawsSound, words_told, row_at, HasWords, bits_found, ReadsRow};
+ghost use Rattle.devices.specs.Inside.{IsSmall, HasRows, form_found, words_told, row_at, HasWords, bits_found, ReadsRow};
+ghost use Rattle.devices.specs.Pictures.{display_extent, IsShown, front_found, DrawnBy, DrawsSound};
 
 use crate::PictureFault;
 use crate::display::form_of;
@@ -170,7 +170,7 @@ fn append_row<M: ObjectMemory>(
     Ok(())
 }
 
-/// The picture of the display, a portable bitmap: nothing where no form is the display. It takes no more memory than the picture has.
+/// The picture of the display, a portable bitmap: nothing where no form is the display. It takes memory for the picture, and none besides.
 pub fn picture<M: ObjectMemory>(alloc: Global, m: &mut M, cpu: &Cpu) -> Result<Octets, PictureFault>
     requires sound { M.sound m.old }
     requires ready { IsReady (M.told m.old) }

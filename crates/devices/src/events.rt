@@ -4,7 +4,7 @@ ghost use Rattle.object_memory.specs.Told.{IsReady};
 ghost use Rattle.blue_model.specs.declared.cpu.Cpu.{Cpu as Numbers};
 ghost use Rattle.blue_model.specs.Devices as model;
 ghost use Rattle.contexts.specs.Serves.{Serves, StaysSound};
-ghost use Rattle.devices.specs.Found.{due_at};
+ghost use Rattle.devices.specs.Inside.{due_at};
 
 use crate::input::raised;
 use contexts::{Cpu, Stop};

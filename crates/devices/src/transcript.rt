@@ -6,7 +6,7 @@ ghost use Rattle.blue_model.specs.declared.answer.Answer.{Answer as Outcome};
 ghost use Rattle.blue_model.specs.declared.cpu.Cpu.{Cpu as Numbers};
 ghost use Rattle.blue_model.specs.Devices as model;
 ghost use Rattle.contexts.specs.Serves.{Serves, Speaks, StaysSound, with_found};
-ghost use Rattle.devices.specs.Found.{text_in};
+ghost use Rattle.devices.specs.Inside.{text_in};
 
 use contexts::data::say;
 use contexts::parts::class_of;

@@ -4,7 +4,7 @@ use Rattle.contexts.proofs.ServesLaws.{serves_then, serves_exit}
 use Rattle.contexts.proofs.Steps.{numbers_then, set_numbers_at, done_serves}
 use Rattle.contexts.proofs.RegisterLaws.{put_serves_at}
 use Rattle.contexts.proofs.TrialLaws.{found_then, none_found, finding_exit}
-use Rattle.devices.specs.Found.{form_in}
+use Rattle.devices.specs.Inside.{form_in}
 use Rattle.devices.proofs.display.be_display.Goals as goal
 
 pub returns-in_err-stack-clause-serves : goal.returns-in_err-stack-clause-serves

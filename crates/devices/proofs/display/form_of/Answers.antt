@@ -3,7 +3,7 @@ use Rattle.object_memory.proofs.LooksLaws.{Looks-trans}
 use Rattle.blue_model.specs.Forms.{form_of, form_where, form_by, has_rows}
 use Rattle.contexts.proofs.ServesLaws.{serves_then, serves_stop}
 use Rattle.contexts.proofs.Steps.{done_same}
-use Rattle.devices.specs.Found.{found_in, extent_in}
+use Rattle.devices.specs.Inside.{found_in, extent_in}
 use Rattle.devices.proofs.FormLaws.{found_as, exits_form, rows_there, still_words}
 use Rattle.devices.proofs.display.form_of.Goals as goal
 

@@ -1,6 +1,6 @@
 use Rattle.std.proofs.Common.{List, ℕ, ◌∙◌, ap}
 use Rattle.blue_model.specs.Forms.{row_bytes}
-use Rattle.devices.specs.Pictures.{words_told}
+use Rattle.devices.specs.Inside.{words_told}
 use Rattle.devices.proofs.PictureLaws.{exits_bits, row_is}
 use Rattle.devices.proofs.drawing.draw_row.Goals as goal
 

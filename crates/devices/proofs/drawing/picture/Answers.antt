@@ -3,7 +3,7 @@ use Rattle.std.specs.List.{concat, range_with_len}
 use Rattle.object_memory.proofs.LooksLaws.{Looks-trans}
 use Rattle.blue_model.specs.Forms.{row_bytes}
 use Rattle.devices.specs.declared.fault.PictureFault.TheVariants as fault
-use Rattle.devices.specs.Pictures.{words_told}
+use Rattle.devices.specs.Inside.{words_told}
 use Rattle.devices.proofs.PictureLaws.{exits_drawn, form_fails, row_fails, drawn, drawn_none, row_there, rows_more, words_stay}
 use Rattle.devices.proofs.drawing.picture.Goals as goal
 

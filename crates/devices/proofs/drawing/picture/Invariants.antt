@@ -3,7 +3,7 @@ use Rattle.std.specs.List.{concat, range_with_len}
 use Rattle.object_memory.specs.Told.{IsReady}
 use Rattle.object_memory.specs.Shape.{Looks}
 use Rattle.blue_model.specs.Forms.{row_bytes}
-use Rattle.devices.specs.Pictures.{words_told}
+use Rattle.devices.specs.Inside.{words_told}
 use Rattle.devices.proofs.drawing.picture.Given as goal
 
 abbrev pub invariant-rows : goal.invariant-rows

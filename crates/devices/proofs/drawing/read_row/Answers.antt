@@ -8,7 +8,7 @@ use Rattle.blue_model.specs.declared.cause.Cause.TheVariants.{Shape}
 use Rattle.blue_model.specs.BitBlt.{words_in}
 use Rattle.blue_model.specs.Forms.{row_words}
 use Rattle.contexts.proofs.ReadLaws.{read_serves, part_refused, exits_with}
-use Rattle.devices.specs.Pictures.{words_told}
+use Rattle.devices.specs.Inside.{words_told}
 use Rattle.devices.proofs.PictureLaws.{words_found, words_read}
 use Rattle.devices.proofs.drawing.read_row.Goals as goal
 

@@ -1,12 +1,21 @@
--- What calls found, as the rules of the model say it.
-use Rattle.std.specs.Prelude.{◌==◌, ℕ, Bool, true, false, nat_le, ◌<◌, ◌≤◌, ◌*◌, length, List, [], ◌∷◌, drop, Option, Some, None, unwrap_or, Result, Ok, Err}
+-- What calls found, as the rules of the model say it, and rows that are read.
+use Rattle.std.specs.Prelude.{◌==◌, ◌+◌, ℕ, Bool, true, false, nat_le, ◌<◌, ◌≤◌, ◌*◌, length, List, [], ◌∷◌, take, drop, Option, Some, None, unwrap_or, Result, Ok, Err}
 use Rattle.long_names.specs.declared.value.Value.{Value}
 use Rattle.long_names.specs.declared.object.Kind.{Kind}
 use Rattle.long_names.specs.declared.object.Kind.TheVariants as kind
 use Rattle.long_names.specs.Objects.{text_of, words_of}
 use Rattle.long_names.specs.State.{part_at}
 use Rattle.object_memory.specs.Told.{Told}
-use Rattle.object_memory.specs.Shape.{HasPartAt}
+use Rattle.object_memory.specs.Shape.{HasPartAt, Looks}
+use Rattle.object_memory.specs.Contract.{IsLater}
+use Rattle.blue_model.specs.declared.cause.Cause.TheVariants.{Shape}
+use Rattle.blue_model.specs.declared.cpu.Cpu.{Cpu}
+use Rattle.blue_model.specs.Machine.{part}
+use Rattle.blue_model.specs.BitBlt.{words_in}
+use Rattle.blue_model.specs.Forms.{row_words}
+use Rattle.contexts.specs.Serves.{Serves, SaidNothing}
+use Rattle.devices.specs.declared.fault.PictureFault.{PictureFault}
+use Rattle.devices.specs.declared.fault.PictureFault.TheVariants as fault
 use Rattle.blue_model.specs.Forms as model
 use Rattle.contexts.specs.declared.stop.Stop.{Stop}
 use Rattle.blue_model.specs.declared.event.Line.{Line}
@@ -64,3 +73,28 @@ IsSmall e = (e.0 < 16384) × (e.1 < 16384)
 -- the words in a register have all rows
 abbrev pub HasRows : Told → ℕ → ℕ × ℕ → Type 0
 HasRows t r e = HasPartAt t r words_of (λ words. model.row_words e.0 * e.1 ≤ length words)
+
+-- ---- rows
+
+-- the words of the object of words that a register names
+abbrev pub words_told : Told → ℕ → List ℕ
+words_told t r = unwrap_or (part_at t.heap (t.regs r) words_of) []
+
+-- the words of a row
+abbrev pub row_at : ℕ → List ℕ → ℕ → List ℕ
+row_at width words y = take (row_words width) (drop (row_words width * y) words)
+
+-- the words in SCRATCH_1 have this row
+abbrev pub HasWords : Told → ℕ → ℕ → Type 0
+HasWords t width y = HasPartAt t 11 words_of (λ words. row_words width * y + row_words width ≤ length words)
+
+-- the bits that a row was taken of
+abbrev pub bits_found : Result ℕ Stop → List ℕ → Result (List ℕ) Stop
+bits_found (Ok n) words = Ok words
+bits_found (Err e) words = Err e
+
+-- a row was read, or the stop is that of a look at the bits
+abbrev pub ReadsRow : Told → Told → Result (Unit {0}) PictureFault → Type 0
+ReadsRow old new (Ok u) = Looks [] old new
+ReadsRow old new (Err (fault.Stop stop)) = (cpu : Cpu) → Serves old cpu new cpu (part Shape words_in (old.regs 11)) (Err stop)
+ReadsRow old new (Err fault.Memory) = IsLater old new × SaidNothing old new
