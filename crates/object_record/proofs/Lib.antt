@@ -7,3 +7,4 @@ pub mod Calls
 pub mod Judging
 pub mod Blanks
 pub mod Records
+pub mod ObjectLaws

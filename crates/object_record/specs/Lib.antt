@@ -3,3 +3,4 @@ pub mod Buffer
 pub mod Inside
 pub mod Filling
 pub mod Lending
+pub mod Objects

@@ -4,6 +4,8 @@ ghost use Rattle.long_names.specs.declared.object.Rec.{Rec};
 ghost use Rattle.long_names.specs.Objects.{IsRecord};
 ghost use Rattle.long_names.specs.Record.{record_text};
 ghost use Rattle.object_record.specs.Raw.{RawRecord, IsRawRecord, raw_text, raw_record};
+ghost use Rattle.long_names.specs.declared.object.Object.{Object};
+ghost use Rattle.object_record.specs.Objects.{object_in};
 ghost use Rattle.object_record.specs.Buffer.{BUFFER, raw_of, HasRecord};
 ghost use Rattle.object_record.specs.Filling.{filled_with};
 
@@ -26,4 +28,9 @@ pub fn longest_raw_record()
 /// A buffer whose bytes were all filled is what they were filled with.
 pub fn filled_whole()
     ensures { (old filling : List ℕ) → length filling ≡ BUFFER → filled_with old filling ≡ filling }
+{}
+
+/// The record of an object, raw, is that object.
+pub fn record_is_its_object()
+    ensures { (r : Rec) → IsRecord r → object_in (raw_record r) ≡ record { class = r.class; body = r.body } }
 {}

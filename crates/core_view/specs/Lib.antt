@@ -1,0 +1,6 @@
+pub mod Core
+pub mod Words
+pub mod Held
+pub mod Counts
+pub mod Kept
+pub mod Steps

@@ -1,0 +1,12 @@
+pub mod StepLaws
+pub mod WordLaws
+pub mod RecordLaws
+pub mod FillLaws
+pub mod TranslateLaws
+pub mod ValueLaws
+pub mod OpenLaws
+pub mod MergeLaws
+pub mod CopyLaws
+pub mod FieldLaws
+pub mod LeavingLaws
+mod Examples

@@ -1,0 +1,43 @@
+-- The parts as a core after a step.
+use Rattle.std.proofs.Common.{◌≡◌, ℕ, ◌+◌, ◌≤◌, Bool, true, false, cond, refl, sym, ◌∙◌, ap, arith}
+use Rattle.object_table.specs.declared.entry.Entry.{Entry}
+use Rattle.object_table.specs.Entries.{is_free, is_used}
+use Rattle.object_table.specs.Table.{entry_at, bound_of}
+use Rattle.core_view.specs.Core.{Core, with_leaf}
+use Rattle.core_view.specs.Counts.{uses}
+use Rattle.core_view.specs.Kept.{IsCore}
+use Rattle.core_view.specs.Steps.{IsSpare}
+use Rattle.core_view.proofs.Leaves.{leaf-outside}
+use Rattle.core_view.proofs.Steps.{Stays-refl, RefStep-refl, leaf-stays, leaf-step, leaf-used, leaf-grew, leaf-changes}
+use Rattle.core_segment.specs.Segment.{chunk_at}
+use Rattle.resident_table.specs.Resident.{short_of}
+use Rattle.leaf_lambda.specs.declared.parts.Parts.{Parts}
+use Rattle.leaf_lambda.specs.Parts.{core_of, IsLeafStep}
+
+pub core-is : (p : Parts) (c : Core) → entry_at p.names.table ≡ c.entries → short_of p.names.resident ≡ c.find → chunk_at p.segment ≡ c.chunks → bound_of p.names.table ≡ c.bound → core_of p ≡ c
+unfolding core_of
+core-is p c entries find chunks bound = λ i. record { entries = entries i; find = find i; chunks = chunks i; bound = bound i }
+
+pub more-uses : (c : Core) (s : ℕ) → IsCore c → uses c s ≤ (c.entries s).refs + 1
+more-uses c s core = let m = core.counted s in omega arith
+
+pub free-unused : (e : Entry) → is_free e ≡ true → is_used e.state ≡ false
+free-unused e h = go (is_used e.state) refl
+  where
+    go : (b : Bool) → is_used e.state ≡ b → is_used e.state ≡ false
+    go false f = f
+    go true f = let h' : false ≡ true = sym (ap (λ b. cond b false true) f) ∙ h in cc
+
+-- a leaf came, or nothing
+pub leaf-comes : (c : Core) (s n : ℕ) → IsCore c → IsSpare c s n → IsLeafStep c (with_leaf c s n)
+leaf-comes c s n core spare = record {
+  stays = leaf-stays c s n core spare;
+  step = leaf-step c s n spare;
+  same_outside = λ t. leaf-outside c s n t core spare;
+  used = leaf-used c s n spare;
+  grew = λ m e. leaf-grew c s n m e spare.absent;
+  changes = leaf-changes c s n core spare;
+}
+
+pub none-comes : (c : Core) → IsLeafStep c c
+none-comes c = record { stays = Stays-refl c; step = RefStep-refl c; same_outside = λ t. refl; used = λ q on. refl; grew = λ m e. e; changes = λ m. refl }

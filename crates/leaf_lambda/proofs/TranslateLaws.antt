@@ -1,0 +1,187 @@
+-- Laws of resolving: what a name that is looked up, a reference and a word leave as it was.
+use Rattle.std.proofs.Common.{◌≡◌, ◌≢◌, ℕ, pos, ◌+◌, ◌-◌, ◌≤◌, Bool, true, false, cond, List, refl, sym, ◌∙◌, ap, subst, arith, Option, Some, None}
+use Rattle.std.proofs.lemmas.Grind.{common_steps}
+use Rattle.std.proofs.lemmas.Option.{get_or_from_slice_get}
+use Rattle.std.specs.List.{slice_get, slice_set}
+use Rattle.long_names.specs.declared.value.Value.{Value}
+use Rattle.long_names.specs.declared.value.Value.TheVariants.{Int, Ref}
+use Rattle.object_table.specs.declared.entry.Entry.{Entry}
+use Rattle.object_table.specs.Entries.{put, is_short, is_used, place_of, with_refs}
+use Rattle.core_segment.specs.Chunks.{Chunk}
+use Rattle.core_view.specs.Core.{Core}
+use Rattle.core_view.specs.Words.{meant, pointers, spot}
+use Rattle.core_view.specs.Held.{Disk, fields_there}
+use Rattle.core_view.specs.Counts.{names, outside, one, IsLight, change_of}
+use Rattle.core_view.specs.Kept.{IsCore, IsBacked, Keeps, Stays}
+use Rattle.core_view.specs.Steps.{IsAt, IsRefStep, IsAbout, with_refs_of, with_field_word}
+use Rattle.core_view.proofs.Core.{apart}
+use Rattle.core_view.proofs.Lists.{put-there, pointers-set}
+use Rattle.core_view.proofs.Steps.{Keeps-trans, Stays-trans, Stays-refl, RefStep-refl, RefStep-trans, ref-about, About-trans, About-refl, outside-more, refs-entry, entry-changes}
+use Rattle.core_view.proofs.Words.{word-keeps, word-outside, meant-lambda, one-zero, set-same}
+use Rattle.leaf_lambda.specs.Parts.{core_of, spare_of, IsLeafStep, IsHolding, IsDropping, IsWithin, IsSparing, RESERVE}
+use Rattle.leaf_lambda.specs.Records.{MayBeLambda}
+use Rattle.leaf_lambda.specs.declared.parts.Parts.{Parts}
+use Rattle.leaf_lambda.proofs.FillLaws.{written-words}
+
+-- ---- holding
+
+-- a number needs no entry
+pub none-held : (c : Core) (w : ℕ) → ((t : ℕ) → one t w ≡ 0) → IsHolding w c c
+none-held c w none = record {
+  stays = Stays-refl c;
+  step = RefStep-refl c;
+  one_more = λ t. let no = none t in omega arith;
+  live = λ t on. (on, refl);
+  grew = λ m e. e;
+  changes = λ m. refl;
+}
+
+-- a leaf came, or nothing, and its name is held once more
+pub leaf-held-on : (a b d : Core) (s : ℕ) → IsLeafStep a b → Stays b d → IsRefStep b d → ((t : ℕ) → outside d t ≡ outside b t + one t s) → d ≡ with_refs_of b s ((b.entries s).refs + 1) → IsHolding s a d
+leaf-held-on a b d s leaf stays step out is = record {
+  stays = Stays-trans a b d leaf.stays stays;
+  step = RefStep-trans a b d leaf.step step;
+  one_more = λ t. let first = leaf.same_outside t in let then = out t in omega arith;
+  live = λ t on.
+      let same : d.entries t ≡ with_refs (a.entries t) (put b.entries s (with_refs (b.entries s) ((b.entries s).refs + 1)) t).refs =
+      ap (λ (x : Core). x.entries t) is ∙ refs-entry b s ((b.entries s).refs + 1) t ∙ ap (λ (e : Entry). with_refs e (put b.entries s (with_refs (b.entries s) ((b.entries s).refs + 1)) t).refs) (leaf.used t on) in
+      (ap (λ (e : Entry). is_used e.state) same ∙ on, ap (λ (e : Entry). e.name) same);
+  grew = λ m e. leaf.grew m (ap (λ (x : Core). x.find m) (sym is) ∙ e);
+  changes = λ m. ap (λ (x : Core). change_of x m) is ∙ entry-changes b s (with_refs (b.entries s) ((b.entries s).refs + 1)) refl m ∙ leaf.changes m;
+}
+
+-- what is no short name names nothing
+pub one-none : (t w : ℕ) → is_short w ≡ false → one t w ≡ 0
+one-none t w not = go (names t w) refl
+  where
+    go : (b : Bool) → names t w ≡ b → one t w ≡ 0
+    go false e = ap (λ b. cond b 1 0) e
+    go true e = let same : w ≡ t = grind (arith, common_steps) in let is : is_short t ≡ true = grind (arith, common_steps) in let no : is_short t ≡ false = ap (λ (z : ℕ). is_short z) (sym same) ∙ not in absurd (cc)
+
+pub none-dropped : (c : Core) (w : ℕ) → ((t : ℕ) → one t w ≡ 0) → IsDropping w c c
+none-dropped c w none = record {
+  stays = Stays-refl c;
+  step = RefStep-refl c;
+  one_less = λ t. let no = none t in omega arith;
+  live = λ t on. (on, refl);
+  grew = λ m e. e;
+  changes = λ m. refl;
+}
+
+pub let-dropped : (c d : Core) (s : ℕ) → Stays c d → IsRefStep c d → ((t : ℕ) → outside d t + one t s ≡ outside c t) → d ≡ with_refs_of c s ((c.entries s).refs - 1) → IsDropping s c d
+let-dropped c d s stays step out is = record {
+  stays = stays;
+  step = step;
+  one_less = out;
+  live = λ t on.
+      let same : d.entries t ≡ with_refs (c.entries t) (put c.entries s (with_refs (c.entries s) ((c.entries s).refs - 1)) t).refs = ap (λ (x : Core). x.entries t) is ∙ refs-entry c s ((c.entries s).refs - 1) t in
+      (ap (λ (e : Entry). is_used e.state) same ∙ on, ap (λ (e : Entry). e.name) same);
+  grew = λ m e. ap (λ (x : Core). x.find m) (sym is) ∙ e;
+  changes = λ m. ap (λ (x : Core). change_of x m) is ∙ entry-changes c s (with_refs (c.entries s) ((c.entries s).refs - 1)) refl m;
+}
+
+pub may-be : (find : ℕ → Option ℕ) (free n : ℕ) (v : Value) → v ≡ Ref n → (find n ≡ None) × (free ≤ RESERVE) → MayBeLambda find free (Some v)
+may-be find free n v e h = subst (λ (v : Value). MayBeLambda find free (Some v)) (sym e) h
+
+-- what may be a lambda may be one later
+pub MayBe-later : (find now : ℕ → Option ℕ) (free left : ℕ) (o : Option Value) → (free ≤ RESERVE → now ≡ find) → left ≤ free → MayBeLambda find free o → MayBeLambda now left o
+MayBe-later find now free left None few less h = h
+MayBe-later find now free left (Some (Int z)) few less h = h
+MayBe-later find now free left (Some (Ref n)) few less h = (ap (λ f. f n) (few h.1) ∙ h.0, let low : free ≤ RESERVE = h.1 in omega arith)
+
+-- ---- sparing
+
+pub Sparing-refl : (p : Parts) → IsSparing p p
+Sparing-refl p = record { few = λ low. refl; less = omega arith; least = omega arith }
+
+-- the names stay, and so does the number of free entries
+pub Sparing-same : (p q r : Parts) → IsSparing p q → (core_of r).find ≡ (core_of q).find → spare_of r ≡ spare_of q → IsSparing p r
+Sparing-same p q r x find spare = record { few = λ low. find ∙ x.few low; less = let a = x.less in omega arith; least = let a = x.least in omega arith }
+
+pub Sparing-trans : (p q r : Parts) → IsSparing p q → IsSparing q r → IsSparing p r
+Sparing-trans p q r x y = record {
+  few = λ low. y.few (let less = x.less in omega arith) ∙ x.few low;
+  less = let a = x.less in let b = y.less in omega arith;
+  least = let a = x.least in let b = y.least in omega arith;
+}
+
+-- ---- within
+
+pub Within-refl : (s : ℕ) (c : Core) → IsWithin s c c
+Within-refl s c = record { same_outside = λ t. refl; live = λ t on. (on, refl); about = About-refl s c; grew = λ m e. e; changes = λ m. refl }
+
+pub Within-trans : (s : ℕ) (a b c : Core) → IsWithin s a b → IsWithin s b c → IsWithin s a c
+Within-trans s a b c x y = record {
+  same_outside = λ t. y.same_outside t ∙ x.same_outside t;
+  live = λ t on. let first = x.live t on in let then = y.live t first.0 in (then.0, then.1 ∙ first.1);
+  about = About-trans s a b c x.about y.about;
+  grew = λ m e. x.grew m (y.grew m e);
+  changes = λ m. y.changes m ∙ x.changes m;
+}
+
+pub Light-later : (s : ℕ) (a b : Core) → IsWithin s a b → IsLight a → IsLight b
+Light-later s a b x light t = let some = light t in let same = x.same_outside t in omega arith
+
+-- ---- resolving
+
+pub at-later : (a b : Core) (s p i w : ℕ) → IsRefStep a b → IsAt a s p i w → IsAt b s p i w
+at-later a b s p i w step at = record {
+  place = ap (λ (e : Entry). place_of e.state) (step.bodies s p at.place) ∙ at.place;
+  word = ap (λ (e : Entry). slice_get (pointers e.kind (b.chunks p).words) i) (step.bodies s p at.place) ∙ ap (λ (f : ℕ → Chunk). slice_get (pointers (a.entries s).kind (f p).words) i) step.chunks ∙ at.word;
+}
+
+pub resolve-keeps : (a b d : Core) (disk : Disk) (s p i w : ℕ) (v : Value) → IsCore b → IsHolding w a b → IsAt a s p i 0 → w ≢ 0
+    → ((old : List Value) (k : ℕ) → meant b.entries old k w ≡ v) → d ≡ with_field_word b s p i w → IsBacked a disk → slice_get (fields_there (disk (a.entries s).name)) i ≡ Some v → Keeps disk a d
+resolve-keeps a b d disk s p i w v core hold at some means e backed there =
+    let first = hold.stays disk backed in
+    let now = at-later a b s p i 0 hold.step at in
+    let name : (b.entries s).name ≡ (a.entries s).name = ap (λ (x : Entry). x.name) (hold.step.bodies s p at.place) in
+    let there' : slice_get (fields_there (disk (b.entries s).name)) i ≡ Some v = ap (λ (n : ℕ). slice_get (fields_there (disk n)) i) name ∙ there in
+    let was : meant b.entries (fields_there (disk (b.entries s).name)) i 0 ≡ v = meant-lambda b.entries (fields_there (disk (b.entries s).name)) i ∙ get_or_from_slice_get (fields_there (disk (b.entries s).name)) i v (Int (pos 0)) there' in
+    subst (λ (x : Core). Keeps disk a x) (sym e)
+    (Keeps-trans disk a b (with_field_word b s p i w) first (word-keeps b disk s p i w 0 core first.backed now (λ f. some) (means (fields_there (disk (b.entries s).name)) i ∙ sym was)))
+
+-- one word of the body of s is written
+pub word-about : (c : Core) (s p i w : ℕ) → IsCore c → place_of (c.entries s).state ≡ Some p → IsAbout s c (with_field_word c s p i w)
+word-about c s p i w core at = record {
+  bound = refl;
+  chunks = λ q r away there. put-there c.chunks p (record { owner = (c.chunks p).owner; words = slice_set (c.chunks p).words (spot (c.entries s).kind i) w }) r (apart c core s q p r at there away);
+  bodies = λ q r away there. refl;
+  leaves = λ q away e. e;
+}
+
+pub resolve-within : (a b d : Core) (s p i w : ℕ) → IsCore b → IsHolding w a b → IsAt a s p i 0 → (is_short w ≡ true → 1 ≤ outside b w) → d ≡ with_field_word b s p i w → IsWithin s a d
+resolve-within a b d s p i w core hold at held_ e = subst (λ (x : Core). IsWithin s a x) (sym e) (record {
+  same_outside = λ t.
+      let first = hold.one_more t in
+      let more = word-outside b s p i w 0 t core (at-later a b s p i 0 hold.step at) (λ is. outside-more b w core (held_ is)) in
+      let none = one-zero t in
+      omega arith;
+  live = hold.live;
+  about = About-trans s a b (with_field_word b s p i w) (ref-about s a b hold.step) (word-about b s p i w core (at-later a b s p i 0 hold.step at).place);
+  grew = hold.grew;
+  changes = hold.changes;
+})
+
+-- nothing was written
+pub unresolved-within : (a b : Core) (s : ℕ) → IsHolding 0 a b → IsWithin s a b
+unresolved-within a b s hold = record {
+  same_outside = λ t. let first = hold.one_more t in let none = one-zero t in omega arith;
+  live = hold.live;
+  about = ref-about s a b hold.step;
+  grew = hold.grew;
+  changes = hold.changes;
+}
+
+pub resolve-fields : (a b d : Core) (s p i w : ℕ) → IsRefStep a b → IsAt a s p i 0 → d ≡ with_field_word b s p i w → pointers (a.entries s).kind (d.chunks p).words ≡ slice_set (pointers (a.entries s).kind (a.chunks p).words) i w
+resolve-fields a b d s p i w step at e =
+    let kind_ : (b.entries s).kind ≡ (a.entries s).kind = ap (λ (x : Entry). x.kind) (step.bodies s p at.place) in
+    ap (λ (x : Core). pointers (a.entries s).kind (x.chunks p).words) e
+    ∙ ap (λ ws. pointers (a.entries s).kind ws) (written-words b.chunks p (spot (b.entries s).kind i) w)
+    ∙ ap (λ k. pointers (a.entries s).kind (slice_set (b.chunks p).words (spot k i) w)) kind_
+    ∙ ap (λ (f : ℕ → Chunk). pointers (a.entries s).kind (slice_set (f p).words (spot (a.entries s).kind i) w)) step.chunks
+    ∙ pointers-set (a.entries s).kind (a.chunks p).words i w 0 at.word
+
+pub unresolved-fields : (a b : Core) (s p i : ℕ) → IsRefStep a b → IsAt a s p i 0 → pointers (a.entries s).kind (b.chunks p).words ≡ slice_set (pointers (a.entries s).kind (a.chunks p).words) i 0
+unresolved-fields a b s p i step at =
+    ap (λ (f : ℕ → Chunk). pointers (a.entries s).kind (f p).words) step.chunks ∙ sym (set-same (pointers (a.entries s).kind (a.chunks p).words) i 0 at.word)

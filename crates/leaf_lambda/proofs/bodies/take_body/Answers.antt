@@ -1,0 +1,35 @@
+use Rattle.std.proofs.Common.{ℕ, ◌≡◌, ◌<◌, true, sym, ap, ◌∙◌, subst, arith, refl}
+use Rattle.std.proofs.lemmas.Grind.{common_steps}
+use Rattle.object_record.specs.Buffer.{raw_of}
+use Rattle.object_table.specs.Entries.{is_short}
+use Rattle.core_view.specs.Core.{Core, with_chunk_at}
+use Rattle.core_view.specs.Steps.{IsMove}
+use Rattle.core_view.proofs.Lists.{put-here}
+use Rattle.core_view.proofs.Moves.{free-loose, chunk-move, move-core}
+use Rattle.leaf_lambda.specs.Parts.{core_of}
+use Rattle.leaf_lambda.specs.Records.{unresolved}
+use Rattle.leaf_lambda.proofs.StepLaws.{core-is}
+use Rattle.leaf_lambda.proofs.bodies.take_body.Goals as goal
+
+above : (s : ℕ) → is_short s ≡ true → 0 < s
+above s is = grind (arith, common_steps)
+
+pub take_filled-requires-clause-owned : goal.take_filled-requires-clause-owned
+take_filled-requires-clause-owned c = above c.args.s.0 (c.requires.parts.core.short c.args.s.0 c.requires.used)
+
+taken : (c : goal.After-take_filled) → core_of (record { segment = c.take_filled.new.g; names = c.args.p.now.names }) ≡ with_chunk_at (core_of c.args.p.now) c.take_filled.result.place (record { owner = c.args.s.0; words = unresolved (raw_of c.args.buf.now).body })
+unfolding core_of
+taken c = core-is _ (with_chunk_at (core_of c.args.p.now) c.take_filled.result.place (record { owner = c.args.s.0; words = unresolved (raw_of c.args.buf.now).body })) refl refl c.take_filled.ensures.chunk refl
+
+moved : (c : goal.After-take_filled) → IsMove (core_of c.args.p.now) (with_chunk_at (core_of c.args.p.now) c.take_filled.result.place (record { owner = c.args.s.0; words = unresolved (raw_of c.args.buf.now).body }))
+unfolding core_of
+moved c = chunk-move (core_of c.args.p.now) c.take_filled.result.place (record { owner = c.args.s.0; words = unresolved (raw_of c.args.buf.now).body }) (free-loose (core_of c.args.p.now) c.take_filled.result.place c.requires.parts.core c.take_filled.ensures.vacant)
+
+pub returns-clause-moves : goal.returns-clause-moves
+returns-clause-moves c = subst (λ (d : Core). IsMove (core_of c.args.p.now) d) (sym (taken c)) (moved c)
+
+pub returns-clause-parts : goal.returns-clause-parts
+returns-clause-parts c = record { core = move-core (core_of c.args.p.now) _ c.requires.parts.core (returns-clause-moves c); room = c.requires.parts.room }
+
+pub returns-clause-chunk : goal.returns-clause-chunk
+returns-clause-chunk c = ap (λ (d : Core). d.chunks c.take_filled.result.place) (taken c) ∙ put-here (core_of c.args.p.now).chunks c.take_filled.result.place (record { owner = c.args.s.0; words = unresolved (raw_of c.args.buf.now).body })

@@ -1,0 +1,25 @@
+use Rattle.std.proofs.Common.{ℕ, ◌≡◌, length, ap, ◌∙◌, arith}
+use Rattle.object_record.specs.Buffer.{raw_of}
+use Rattle.core_segment.specs.Chunks.{Chunk, with_chunk}
+use Rattle.core_view.proofs.Lists.{put-here}
+use Rattle.core_segment.specs.Segment.{chunk_at}
+use Rattle.leaf_lambda.specs.Records.{unresolved}
+use Rattle.leaf_lambda.proofs.FillLaws.{put-twice}
+use Rattle.leaf_lambda.proofs.bodies.take_filled.Goals as goal
+
+pub fill-requires-clause-long : goal.fill-requires-clause-long
+fill-requires-clause-long c =
+    let size = c.in-Some.ensures.taken.size in
+    let here : chunk_at c.take.new.self c.in-Some.at.place ≡ record { owner = c.args.owner; words = c.in-Some.ensures.taken.text } = ap (λ (f : ℕ → Chunk). f c.in-Some.at.place) c.in-Some.ensures.taken.chunks ∙ put-here (chunk_at c.args.g.now) c.in-Some.at.place (record { owner = c.args.owner; words = c.in-Some.ensures.taken.text }) in
+    ap (λ (x : Chunk). length x.words) here ∙ omega arith
+
+pub returns-clause-vacant : goal.returns-clause-vacant
+returns-clause-vacant c = c.in-Some.ensures.taken.vacant
+
+pub returns-clause-chunk : goal.returns-clause-chunk
+returns-clause-chunk c =
+    let here : chunk_at c.take.new.self c.in-Some.at.place ≡ record { owner = c.args.owner; words = c.in-Some.ensures.taken.text } = ap (λ (f : ℕ → Chunk). f c.in-Some.at.place) c.in-Some.ensures.taken.chunks ∙ put-here (chunk_at c.args.g.now) c.in-Some.at.place (record { owner = c.args.owner; words = c.in-Some.ensures.taken.text }) in
+    c.fill.ensures
+    ∙ ap (λ (x : Chunk). with_chunk (chunk_at c.take.new.self) c.in-Some.at.place (record { owner = x.owner; words = unresolved (raw_of c.args.buf.now).body })) here
+    ∙ ap (λ (f : ℕ → Chunk). with_chunk f c.in-Some.at.place (record { owner = c.args.owner; words = unresolved (raw_of c.args.buf.now).body })) c.in-Some.ensures.taken.chunks
+    ∙ put-twice (chunk_at c.args.g.now) c.in-Some.at.place (record { owner = c.args.owner; words = c.in-Some.ensures.taken.text }) (record { owner = c.args.owner; words = unresolved (raw_of c.args.buf.now).body })

@@ -1,0 +1,58 @@
+use Rattle.std.proofs.Common.{◌≡◌, ℕ, sym, ◌∙◌, ap, subst, arith}
+use Rattle.std.specs.List.{slice_set}
+use Rattle.object_table.specs.Entries.{with_refs}
+use Rattle.object_record.specs.Objects.{value_in}
+use Rattle.core_view.specs.Core.{Core}
+use Rattle.core_view.specs.Words.{pointers}
+use Rattle.core_view.proofs.Lists.{one-here}
+use Rattle.leaf_lambda.specs.Parts.{core_of, IsHolding}
+use Rattle.object_table.specs.Table.{free_of}
+use Rattle.resident_table.specs.declared.Parts2.{Parts2}
+use Rattle.leaf_lambda.proofs.TranslateLaws.{Sparing-same, at-later, resolve-keeps, resolve-within, resolve-fields, unresolved-within, unresolved-fields}
+use Rattle.leaf_lambda.proofs.translate.resolve_field.Goals as goal
+
+pub store_word-requires-clause-there : goal.store_word-requires-clause-there
+store_word-requires-clause-there c = (0, at-later (core_of c.args.p.now) (core_of c.short_for-w.new.p) c.args.s.0 c.args.at.place c.args.i 0 c.short_for-w.ensures.held.step c.requires.there)
+
+pub store_word-requires-clause-held : goal.store_word-requires-clause-held
+store_word-requires-clause-held c = λ is. let out = c.short_for-w.ensures.held.one_more c.short_for-w.result in let here = one-here c.short_for-w.result is in omega arith
+
+pub returns-then-w-ne0-clause-keeps : goal.returns-then-w-ne0-clause-keeps
+returns-then-w-ne0-clause-keeps c = λ disk backed there.
+    resolve-keeps (core_of c.args.p.now) (core_of c.short_for-w.new.p) (core_of c.store_word.new.p) disk c.args.s.0 c.args.at.place c.args.i c.short_for-w.result (value_in c.args.long)
+    c.short_for-w.ensures.parts.core c.short_for-w.ensures.held c.requires.there c.if-w-ne0.true (c.short_for-w.ensures.means c.if-w-ne0.true) c.store_word.ensures.core backed there
+
+pub returns-then-w-ne0-clause-within : goal.returns-then-w-ne0-clause-within
+returns-then-w-ne0-clause-within c =
+    resolve-within (core_of c.args.p.now) (core_of c.short_for-w.new.p) (core_of c.store_word.new.p) c.args.s.0 c.args.at.place c.args.i c.short_for-w.result
+    c.short_for-w.ensures.parts.core c.short_for-w.ensures.held c.requires.there
+    (λ is. let out = c.short_for-w.ensures.held.one_more c.short_for-w.result in let here = one-here c.short_for-w.result is in omega arith) c.store_word.ensures.core
+
+pub returns-then-w-ne0-clause-entry : goal.returns-then-w-ne0-clause-entry
+returns-then-w-ne0-clause-entry c = subst (λ (d : Core). d.entries c.args.s.0 ≡ with_refs ((core_of c.args.p.now).entries c.args.s.0) (d.entries c.args.s.0).refs) (sym c.store_word.ensures.core) (c.short_for-w.ensures.held.step.bodies c.args.s.0 c.args.at.place c.requires.there.place)
+
+pub returns-then-w-ne0-clause-fields : goal.returns-then-w-ne0-clause-fields
+returns-then-w-ne0-clause-fields c = resolve-fields (core_of c.args.p.now) (core_of c.short_for-w.new.p) (core_of c.store_word.new.p) c.args.s.0 c.args.at.place c.args.i c.short_for-w.result c.short_for-w.ensures.held.step c.requires.there c.store_word.ensures.core
+
+pub returns-then-w-ne0-clause-lambda : goal.returns-then-w-ne0-clause-lambda
+returns-then-w-ne0-clause-lambda c = λ zero_. absurd (c.if-w-ne0.true zero_)
+
+pub returns-then-w-ne0-clause-sparing : goal.returns-then-w-ne0-clause-sparing
+returns-then-w-ne0-clause-sparing c = Sparing-same c.args.p.now c.short_for-w.new.p c.store_word.new.p c.short_for-w.ensures.sparing (ap (λ (d : Core). d.find) c.store_word.ensures.core) (ap (λ (n : Parts2). free_of n.table) c.store_word.ensures.same_names)
+
+nothing : (c : goal.Else-w-ne0) → IsHolding 0 (core_of c.args.p.now) (core_of c.short_for-w.new.p)
+nothing c = subst (λ (w : ℕ). IsHolding w (core_of c.args.p.now) (core_of c.short_for-w.new.p)) c.if-w-ne0.false c.short_for-w.ensures.held
+
+pub returns-else-w-ne0-clause-keeps : goal.returns-else-w-ne0-clause-keeps
+returns-else-w-ne0-clause-keeps c = λ disk backed there. c.short_for-w.ensures.held.stays disk backed
+
+pub returns-else-w-ne0-clause-within : goal.returns-else-w-ne0-clause-within
+returns-else-w-ne0-clause-within c = unresolved-within (core_of c.args.p.now) (core_of c.short_for-w.new.p) c.args.s.0 (nothing c)
+
+pub returns-else-w-ne0-clause-entry : goal.returns-else-w-ne0-clause-entry
+returns-else-w-ne0-clause-entry c = c.short_for-w.ensures.held.step.bodies c.args.s.0 c.args.at.place c.requires.there.place
+
+pub returns-else-w-ne0-clause-fields : goal.returns-else-w-ne0-clause-fields
+returns-else-w-ne0-clause-fields c =
+    unresolved-fields (core_of c.args.p.now) (core_of c.short_for-w.new.p) c.args.s.0 c.args.at.place c.args.i c.short_for-w.ensures.held.step c.requires.there
+    ∙ ap (λ (w : ℕ). slice_set (pointers ((core_of c.args.p.now).entries c.args.s.0).kind ((core_of c.args.p.now).chunks c.args.at.place).words) c.args.i w) (sym c.if-w-ne0.false)

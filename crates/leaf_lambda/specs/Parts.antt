@@ -1,0 +1,85 @@
+-- The parts of a core as one core, and what they keep.
+use Rattle.std.specs.Prelude.{◌≡◌, ℕ, ◌+◌, ◌≤◌, true, Option, Some, None, min}
+use Rattle.object_table.specs.Entries.{is_used}
+use Rattle.object_table.specs.Table.{entry_at, bound_of, free_of}
+use Rattle.core_view.specs.Core.{Core}
+use Rattle.core_view.specs.Counts.{outside, one, change_of}
+use Rattle.core_view.specs.Kept.{IsCore, Stays}
+use Rattle.core_view.specs.Steps.{IsRefStep, IsAbout}
+use Rattle.core_segment.specs.Segment.{chunk_at}
+use Rattle.resident_table.specs.Resident.{short_of, held_of, room_of}
+use Rattle.leaf_lambda.specs.declared.parts.Parts.{Parts}
+
+-- the core that the parts are
+unfoldable pub core_of : Parts → Core
+core_of p = record {
+  entries = entry_at p.names.table;
+  find = short_of p.names.resident;
+  chunks = chunk_at p.segment;
+  bound = bound_of p.names.table;
+}
+
+-- how many entries are free
+abbrev pub spare_of : Parts → ℕ
+spare_of p = free_of p.names.table
+
+-- What the parts keep at each moment: their core's invariant, and room for the names of all free entries.
+pub record IsParts (p : Parts) : Type 0 where
+  pub core : IsCore (core_of p)
+  pub room : held_of p.names.resident + free_of p.names.table ≤ room_of p.names.resident
+
+-- ---- what a step leaves
+
+-- at most a leaf came to which nothing refers
+pub record IsLeafStep (old new : Core) : Type 0 where
+  pub stays : Stays old new
+  pub step : IsRefStep old new
+  pub same_outside : (t : ℕ) → outside new t ≡ outside old t
+  pub used : (q : ℕ) → is_used (old.entries q).state ≡ true → new.entries q ≡ old.entries q
+  pub grew : (m : ℕ) → new.find m ≡ None → old.find m ≡ None
+  pub changes : (m : ℕ) → change_of new m ≡ change_of old m
+
+-- at most a leaf came, and there is one reference more to what this word names
+pub record IsHolding (w : ℕ) (old new : Core) : Type 0 where
+  pub stays : Stays old new
+  pub step : IsRefStep old new
+  pub one_more : (t : ℕ) → outside new t ≡ outside old t + one t w
+  pub live : (t : ℕ) → is_used (old.entries t).state ≡ true
+      → (is_used (new.entries t).state ≡ true) × ((new.entries t).name ≡ (old.entries t).name)
+  pub grew : (m : ℕ) → new.find m ≡ None → old.find m ≡ None
+  pub changes : (m : ℕ) → change_of new m ≡ change_of old m
+
+-- there is one reference less to what this word names
+pub record IsDropping (w : ℕ) (old new : Core) : Type 0 where
+  pub stays : Stays old new
+  pub step : IsRefStep old new
+  pub one_less : (t : ℕ) → outside new t + one t w ≡ outside old t
+  pub live : (t : ℕ) → is_used (old.entries t).state ≡ true
+      → (is_used (new.entries t).state ≡ true) × ((new.entries t).name ≡ (old.entries t).name)
+  pub grew : (m : ℕ) → new.find m ≡ None → old.find m ≡ None
+  pub changes : (m : ℕ) → change_of new m ≡ change_of old m
+
+-- what a call on s leaves as it was: references from outside, the names of entries in use, all bodies but that of s, and each change of
+-- a count; no name loses its entry
+pub record IsWithin (s : ℕ) (old new : Core) : Type 0 where
+  pub same_outside : (t : ℕ) → outside new t ≡ outside old t
+  pub live : (t : ℕ) → is_used (old.entries t).state ≡ true
+      → (is_used (new.entries t).state ≡ true) × ((new.entries t).name ≡ (old.entries t).name)
+  pub about : IsAbout s old new
+  pub grew : (m : ℕ) → new.find m ≡ None → old.find m ≡ None
+  pub changes : (m : ℕ) → change_of new m ≡ change_of old m
+
+-- how many entries stay free while fields take entries
+abbrev pub RESERVE : ℕ
+RESERVE = 128
+
+-- fields take entries only while more than the reserve are free
+pub record IsSparing (old new : Parts) : Type 0 where
+  pub few : spare_of old ≤ RESERVE → (core_of new).find ≡ (core_of old).find
+  pub less : spare_of new ≤ spare_of old
+  pub least : min (spare_of old) RESERVE ≤ spare_of new
+
+-- how many entries the name of an object costs
+abbrev pub leaves_for : Option ℕ → ℕ
+leaves_for None = 1
+leaves_for (Some s) = 0

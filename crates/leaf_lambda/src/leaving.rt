@@ -1,0 +1,133 @@
+// Bodies that go: an object is evicted once it is just as its record.
+ghost use Rattle.std.specs.Prelude.{◌≡◌, ◌<◌, ℕ, Some, None, false, length, replicate, slice_set};
+ghost use Rattle.object_table.specs.Entries.{place_of, with_refs};
+ghost use Rattle.core_view.specs.Core.{with_entry};
+ghost use Rattle.core_view.specs.Words.{pointers};
+ghost use Rattle.core_view.specs.Held.{Disk as Store, disk_with};
+ghost use Rattle.core_view.specs.Counts.{outside};
+ghost use Rattle.core_view.specs.Kept.{IsBacked, Keeps, KeepsOver, Stays};
+ghost use Rattle.core_view.specs.Steps.{IsAt, IsLoose, IsMove, written, closed};
+ghost use Rattle.leaf_lambda.specs.Parts.{core_of, spare_of, IsParts, IsWithin};
+
+use crate::fields::drop_word;
+use crate::merge::literals_of;
+use crate::parts::Parts;
+use crate::steps::{field_word, let_go, place_of_body, store_word};
+use core_segment::Addr;
+use long_names::Kind;
+use object_table::{EntryState, Short};
+
+/// Notes that the object of a body was written as its record, as `merge_out` makes it.
+pub fn set_written(p: &mut Parts, s: Short)
+    requires parts { IsParts p.old }
+    requires body { (at : ℕ) × (place_of ((core_of p.old).entries s.0).state ≡ Some at) }
+    ensures parts { IsParts p.new }
+    ensures core { core_of p.new ≡ with_entry (core_of p.old) s.0 (written ((core_of p.old).entries s.0)) }
+    ensures keeps { (disk : Store) (at : ℕ) → IsBacked (core_of p.old) disk → place_of ((core_of p.old).entries s.0).state ≡ Some at
+        → KeepsOver (core_of p.old) disk (core_of p.new) (disk_with (core_of p.old) disk s.0 at) }
+    ensures within { IsWithin s.0 (core_of p.old) (core_of p.new) }
+    ensures spare { spare_of p.new ≡ spare_of p.old }
+    ensures segment { p.new.segment ≡ p.old.segment }
+{
+    let mut e = p.names.table.entry(s);
+    e.flags.changed = false;
+    e.flags.fresh = false;
+    p.names.table.set(s, e);
+}
+
+// Puts a lambda in the place of a field's word, and lets the word go.
+fn unresolve_field(p: &mut Parts, s: Short, at: Addr, i: u32)
+    requires parts { IsParts p.old }
+    requires there { (w : ℕ) × IsAt (core_of p.old) s.0 at.place i w }
+    ensures parts { IsParts p.new }
+    ensures keeps { (disk : Store) → IsBacked (core_of p.old) disk → ((core_of p.old).entries s.0).flags.fresh ≡ false
+        → ((core_of p.old).entries s.0).flags.changed ≡ false → Keeps disk (core_of p.old) (core_of p.new) }
+    ensures within { IsWithin s.0 (core_of p.old) (core_of p.new) }
+    ensures entry { (core_of p.new).entries s.0 ≡ with_refs ((core_of p.old).entries s.0) ((core_of p.new).entries s.0).refs }
+    ensures fields { let k = ((core_of p.old).entries s.0).kind in
+        pointers k ((core_of p.new).chunks at.place).words ≡ slice_set (pointers k ((core_of p.old).chunks at.place).words) i 0 }
+    ensures spare { spare_of p.new ≡ spare_of p.old }
+{
+    let w = field_word(p, s, at, i);
+    store_word(p, s, at, i, 0);
+    drop_word(p, w);
+}
+
+// Puts lambdas in the places of all fields' words.
+fn unresolve_fields(p: &mut Parts, s: Short, at: Addr, count: u32)
+    requires parts { IsParts p.old }
+    requires place { place_of ((core_of p.old).entries s.0).state ≡ Some at.place }
+    requires clean { (((core_of p.old).entries s.0).flags.fresh ≡ false) × (((core_of p.old).entries s.0).flags.changed ≡ false) }
+    requires count { count ≡ length (pointers ((core_of p.old).entries s.0).kind ((core_of p.old).chunks at.place).words) }
+    ensures parts { IsParts p.new }
+    ensures stays { Stays (core_of p.old) (core_of p.new) }
+    ensures within { IsWithin s.0 (core_of p.old) (core_of p.new) }
+    ensures entry { (core_of p.new).entries s.0 ≡ with_refs ((core_of p.old).entries s.0) ((core_of p.new).entries s.0).refs }
+    ensures fields { pointers ((core_of p.old).entries s.0).kind ((core_of p.new).chunks at.place).words ≡ replicate count 0 }
+    ensures spare { spare_of p.new ≡ spare_of p.old }
+{
+    for i in 0..count {
+        unresolve_field(p, s, at, i);
+    }
+}
+
+// Takes the body from an entry. What its class and fields name is held from outside then.
+fn close_body(p: &mut Parts, s: Short, at: Addr)
+    requires parts { IsParts p.old }
+    requires place { place_of ((core_of p.old).entries s.0).state ≡ Some at.place }
+    ensures parts { IsParts p.new }
+    ensures core { core_of p.new ≡ with_entry (core_of p.old) s.0 (closed ((core_of p.old).entries s.0)) }
+    ensures spare { spare_of p.new ≡ spare_of p.old }
+{
+    let mut e = p.names.table.entry(s);
+    e.state = EntryState::Leaf;
+    p.names.table.set(s, e);
+}
+
+// Frees a chunk where no body lies.
+fn give_chunk(p: &mut Parts, at: Addr)
+    requires parts { IsParts p.old }
+    requires loose { IsLoose (core_of p.old) at.place }
+    requires owned { 0 < ((core_of p.old).chunks at.place).owner }
+    ensures parts { IsParts p.new }
+    ensures moves { IsMove (core_of p.old) (core_of p.new) }
+    ensures same_names { p.new.names ≡ p.old.names }
+{
+    p.segment.give(at);
+}
+
+// How many fields a body has.
+pub(crate) fn field_total(p: &Parts, s: Short, at: Addr) -> u32
+    requires parts { IsParts p.now }
+    requires place { place_of ((core_of p.now).entries s.0).state ≡ Some at.place }
+    ensures { result ≡ length (pointers ((core_of p.now).entries s.0).kind ((core_of p.now).chunks at.place).words) }
+{
+    let e = p.names.table.entry(s);
+    match e.kind {
+        Kind::Pointers => e.len,
+        Kind::Method => literals_of(p, at, e.kind),
+        Kind::Words => 0,
+        Kind::Bytes => 0,
+    }
+}
+
+/// Evicts an object that is just as its record: its body goes, and what its class and fields named has a reference less for each. Its
+/// entry is a leaf then, and entries to which nothing refers stay leaves.
+pub fn drop_body(p: &mut Parts, s: Short)
+    requires parts { IsParts p.old }
+    requires body { (at : ℕ) × (place_of ((core_of p.old).entries s.0).state ≡ Some at) }
+    requires clean { (((core_of p.old).entries s.0).flags.fresh ≡ false) × (((core_of p.old).entries s.0).flags.changed ≡ false) }
+    ensures parts { IsParts p.new }
+    ensures stays { Stays (core_of p.old) (core_of p.new) }
+    ensures within { IsWithin s.0 (core_of p.old) (core_of p.new) }
+    ensures gone { place_of ((core_of p.new).entries s.0).state ≡ None }
+    ensures spare { spare_of p.new ≡ spare_of p.old }
+{
+    let at = place_of_body(p, s);
+    let count = field_total(p, s, at);
+    unresolve_fields(p, s, at, count);
+    let class = p.names.table.entry(s).class;
+    close_body(p, s, at);
+    give_chunk(p, at);
+    let_go(p, class);
+}

@@ -1,0 +1,32 @@
+//! An object's fields in a core: brought in from a record (`translate_in`), made a record again (`merge_out`), and resolved one by one
+//! (`resolve`). A field is a short word: a number, the short name of an entry, or 0, a lambda, which means that field of the record.
+//!
+//! Each call keeps `IsParts`, and leaves the held heap (`held` of core_view) as it was over every disk that has the record: the clause
+//! `keeps`. Which fields may be lambdas says `MayBeLambda`, what stays beside the object's body says `IsWithin`. Only `put_field` changes
+//! what is held, at one field. An object without a record (fresh) has no lambda, and `merge_out` makes its record from nothing.
+//!
+//!     translate_in(&mut parts, leaf, &mut record);
+//!     put_field(&mut parts, leaf, place_of_body(&parts, leaf), 3, word);
+//!     merge_out(&mut parts, leaf, &mut record);   // and once it is written: set_written, drop_body
+//!
+//! Read `specs/Parts.antt` first, then `Records.antt`. `turn` follows one fault, one store and one eviction by these promises alone. The
+//! crate reads and writes no disk, changes no count of an object, and frees no entry by itself: those are its callers' to do.
+#![tactic(auto)]
+
+pub mod bodies;
+pub mod fields;
+pub mod laws;
+pub mod leaving;
+pub mod merge;
+pub mod numbers;
+pub mod parts;
+pub mod steps;
+pub mod translate;
+mod turn;
+
+pub use merge::merge_out;
+pub use parts::Parts;
+pub use translate::{RESERVE, resolve, translate_in};
+
+#[cfg(test)]
+mod tests;
