@@ -132,7 +132,8 @@ fn the_last_element_of_a_large_array(rt: HostRuntime) -> Result<(), Fail> {
     let image = b.finish(rt.alloc(), 131_148)?;
     let mut host = MemoryHost::new(rt.alloc(), 65_536)?;
     host.add_file("image", image.bytes())?;
-    let status = ask(rt.alloc(), &mut host, "run image saved 3")?;
+    host.add_file("events", b"")?;
+    let status = ask(rt.alloc(), &mut host, "run image events saved display 3")?;
     assert_eq!(rt; status, Status::Done { ran: 3 });
     let stack = [Value::Int(7), object(76)];
     add_context(rt.alloc(), &mut b, (12, 1), stack)?;
