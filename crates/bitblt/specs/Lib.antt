@@ -1,0 +1,3 @@
+pub mod Transfers
+pub mod Clip
+pub mod Blits
