@@ -6,3 +6,7 @@ mod ChangeLaws
 mod BlitLaws
 mod RunReads
 mod RowSteps
+mod PeekPairs
+mod AskedLaws
+mod AskedSteps
+mod FormLaws

@@ -1,3 +1,5 @@
 pub mod Transfers
 pub mod Clip
 pub mod Blits
+pub mod Asking
+pub mod Shapes

@@ -134,6 +134,65 @@ POINT_SIZE = 2
 abbrev pub CHARACTER_VALUE_INDEX : ℕ
 CHARACTER_VALUE_INDEX = 0
 
+-- ---- forms and BitBlts
+
+abbrev pub BITS_INDEX : ℕ
+BITS_INDEX = 0
+
+abbrev pub WIDTH_INDEX : ℕ
+WIDTH_INDEX = 1
+
+abbrev pub HEIGHT_INDEX : ℕ
+HEIGHT_INDEX = 2
+
+abbrev pub FORM_SIZE : ℕ
+FORM_SIZE = 3
+
+abbrev pub DEST_FORM_INDEX : ℕ
+DEST_FORM_INDEX = 0
+
+abbrev pub SOURCE_FORM_INDEX : ℕ
+SOURCE_FORM_INDEX = 1
+
+abbrev pub HALFTONE_FORM_INDEX : ℕ
+HALFTONE_FORM_INDEX = 2
+
+abbrev pub COMBINATION_RULE_INDEX : ℕ
+COMBINATION_RULE_INDEX = 3
+
+abbrev pub DEST_X_INDEX : ℕ
+DEST_X_INDEX = 4
+
+abbrev pub DEST_Y_INDEX : ℕ
+DEST_Y_INDEX = 5
+
+abbrev pub BLIT_WIDTH_INDEX : ℕ
+BLIT_WIDTH_INDEX = 6
+
+abbrev pub BLIT_HEIGHT_INDEX : ℕ
+BLIT_HEIGHT_INDEX = 7
+
+abbrev pub SOURCE_X_INDEX : ℕ
+SOURCE_X_INDEX = 8
+
+abbrev pub SOURCE_Y_INDEX : ℕ
+SOURCE_Y_INDEX = 9
+
+abbrev pub CLIP_X_INDEX : ℕ
+CLIP_X_INDEX = 10
+
+abbrev pub CLIP_Y_INDEX : ℕ
+CLIP_Y_INDEX = 11
+
+abbrev pub CLIP_WIDTH_INDEX : ℕ
+CLIP_WIDTH_INDEX = 12
+
+abbrev pub CLIP_HEIGHT_INDEX : ℕ
+CLIP_HEIGHT_INDEX = 13
+
+abbrev pub BITBLT_SIZE : ℕ
+BITBLT_SIZE = 14
+
 -- ---- messages
 
 abbrev pub MESSAGE_SELECTOR_INDEX : ℕ

@@ -13,6 +13,8 @@ pub mod Messages
 pub mod Processes
 pub mod Queues
 pub mod Control
+pub mod Forms
+pub mod BitBlt
 pub mod Primitives
 pub mod Sends
 pub mod Bytecodes
