@@ -9,7 +9,7 @@ use Rattle.object_memory.specs.Told.{Told, IsReady}
 use borrow.Author.Tests.{le-leb}
 use Rattle.std.proofs.lemmas.Grind.{common_steps}
 use Rattle.object_memory.specs.Shape.{IsPartAt, is_among, Looks}
-use Rattle.object_memory.proofs.LooksLaws.{Looks-weaker, not_among, neither}
+use Rattle.object_memory.proofs.LooksLaws.{Looks-refl, Looks-weaker, not_among, neither}
 use Rattle.object_memory.specs.Shape as shape
 use Rattle.blue_model.specs.declared.cpu.Cpu.{Cpu}
 use Rattle.blue_model.specs.Machine.{Rule, ◌>>=◌, done, pick}
@@ -114,6 +114,10 @@ bits_apart bits low = not_among 12 bits (λ e. (let no : 13 ≤ 12 = subst (λ n
 
 pub wider : (bits : ℕ) (a b : Told) → Looks (bits ∷ []) a b → Looks (bits ∷ 12 ∷ []) a b
 wider bits a b x = Looks-weaker (bits ∷ []) (bits ∷ 12 ∷ []) a b (λ r e. (let parts = neither (eqb r bits) (eqb r 12 || false) e in ap (λ b. b || false) parts.0)) x
+
+-- nothing was read
+pub looks_any : (xs : List ℕ) (t : Told) → Looks xs t t
+looks_any xs t = Looks-weaker [] xs t t (λ r e. refl) (Looks-refl t)
 
 -- ---- a form, or nil
 

@@ -10,3 +10,8 @@ mod PeekPairs
 mod AskedLaws
 mod AskedSteps
 mod FormLaws
+mod CopiedLaws
+mod CopyLaws
+mod CopySteps
+mod TrialSteps
+mod TableLaws

@@ -41,7 +41,7 @@ pixel-word stride words k j pos h =
     ap (bit words) place ∙ bit-word words k j h
 
 -- none below a number, and tests that agree there
-none_below : (n : ℕ) (f : ℕ → Bool) → ((j : ℕ) → j < n → f j ≡ false) → any_below n f ≡ false
+pub none_below : (n : ℕ) (f : ℕ → Bool) → ((j : ℕ) → j < n → f j ≡ false) → any_below n f ≡ false
 none_below zero f h = refl
 none_below (suc n) f h = ap (λ b. b || any_below n f) (h n (omega arith)) ∙ none_below n f (λ j l. h j (omega arith))
 

@@ -1,5 +1,5 @@
 -- Runs of words that were read and written.
-use Rattle.std.proofs.Common.{◌≡◌, ℕ, ◌+◌, ◌*◌, ◌-◌, ◌<◌, ◌≤◌, Bool, true, false, ◌&&◌, eqb, cond, List, [], ◌∷◌, ◌++◌, length, take, drop, get_or, Option, Some, None, Result, Ok, Err, OnOk, IsTrue, ◌⊎◌, inl, inr, refl, sym, ◌∙◌, ap, subst, arith}
+use Rattle.std.proofs.Common.{◌≡◌, ℕ, ◌+◌, ◌*◌, ◌-◌, ◌<◌, ◌≤◌, Bool, true, false, ◌&&◌, eqb, cond, List, [], ◌∷◌, ◌++◌, length, take, drop, get_or, Option, Some, None, Result, Ok, Err, OnOk, IsTrue, is_some, ◌⊎◌, inl, inr, refl, sym, ◌∙◌, ap, subst, arith}
 use Rattle.std.proofs.lemmas.Grind.{common_steps}
 use Rattle.blue_model.specs.Storage.{is_same}
 use Rattle.std.proofs.lemmas.List.{get_or-take, get_or-drop}
@@ -27,6 +27,8 @@ use Rattle.contexts.specs.declared.stop.Stop.{Stop}
 use Rattle.contexts.specs.declared.stop.Stop.TheVariants.{Mem}
 use Rattle.blue_model.specs.BitBlt.{put_words}
 use Rattle.contexts.proofs.ServesLaws.{serves_then}
+use Rattle.bitblt.specs.declared.forms.Extent.{Extent}
+use Rattle.bitblt.specs.Shapes.{OptionalRoom}
 use Rattle.bitblt.proofs.BlitLaws.{words_served}
 use Rattle.contexts.specs.Serves.{Serves}
 use Rattle.contexts.proofs.Steps.{done_serves}
@@ -50,16 +52,16 @@ run_read t r at n out e k low = run_of (part_at t.heap (t.regs r) words_of) at n
 -- ---- the source
 
 -- a read of it was refused,
-pub source_refused : {Z : Type 0} {old new : Told} {cpu : Cpu} {e : MemFault} (has : Bool) (at n : ℕ) → has ≡ true → IsReady old → IsRef (old.regs SOURCE_BITS) → Called {A = Z} old new (Does (ReadWords SOURCE_BITS at n)) (Err e) → Serves old cpu new cpu (look_at_source has (old.regs SOURCE_BITS)) (Err (Mem e))
+pub source_refused : {Z : Type 0} {old new : Told} {cpu : Cpu} {e : MemFault} (has : Bool) (r at n : ℕ) → has ≡ true → IsReady old → IsRef (old.regs r) → Called {A = Z} old new (Does (ReadWords r at n)) (Err e) → Serves old cpu new cpu (look_at_source has (old.regs r)) (Err (Mem e))
 unfolding look_at_source pick
-source_refused {Z} {old} true at n is ready named x = let a = ReadWords SOURCE_BITS at n in look_refused (old.regs SOURCE_BITS) a (λ o. done tt) (reached_making a SOURCE_BITS refl) (reached_saying a SOURCE_BITS refl) (reached_need old a SOURCE_BITS refl) ready (λ told. names_object old SOURCE_BITS ready told named) x
-source_refused false at n is ready named x = let no : ◌≡◌ {A = Bool} false true = is in absurd (cc)
+source_refused {Z} {old} true r at n is ready named x = let a = ReadWords r at n in look_refused (old.regs r) a (λ o. done tt) (reached_making a r refl) (reached_saying a r refl) (reached_need old a r refl) ready (λ told. names_object old r ready told named) x
+source_refused false r at n is ready named x = let no : ◌≡◌ {A = Bool} false true = is in absurd (cc)
 
 -- it was read,
-pub source_read : {old new : Told} {cpu : Cpu} (has : Bool) → has ≡ true → IsReady old → IsReady new → IsRef (old.regs SOURCE_BITS) → Looks [] old new → Serves old cpu new cpu (look_at_source has (old.regs SOURCE_BITS)) (Ok tt)
+pub source_read : {old new : Told} {cpu : Cpu} (has : Bool) (r : ℕ) → has ≡ true → IsReady old → IsReady new → IsRef (old.regs r) → Looks [] old new → Serves old cpu new cpu (look_at_source has (old.regs r)) (Ok tt)
 unfolding look_at_source pick part given
-source_read {old} true is before ready named looks = read_serves [] Shape (λ o. Some tt) SOURCE_BITS tt refl before ready looks (λ told. (let it = (any_there old SOURCE_BITS (λ b. tt) before named).there told in it.1))
-source_read false is before ready named looks = let no : ◌≡◌ {A = Bool} false true = is in absurd (cc)
+source_read {old} true r is before ready named looks = read_serves [] Shape (λ o. Some tt) r tt refl before ready looks (λ told. (let it = (any_there old r (λ b. tt) before named).there told in it.1))
+source_read false r is before ready named looks = let no : ◌≡◌ {A = Bool} false true = is in absurd (cc)
 
 -- and there is none.
 pub source_none : {t : Told} {cpu : Cpu} (has : Bool) (s : Value) → has ≡ false → IsReady t → Serves t cpu t cpu (look_at_source has s) (Ok tt)
@@ -204,3 +206,8 @@ written_here t old mid new first second ready looks same w = record {
 pub written_later : (r : Result (Unit {0}) Stop) (t : Transfer) (old mid new : Told) (first second : List ℕ) → IsReady mid → Looks [] old mid → (IsTrue old.tells → first ≡ second) → OnOk r (IsWritten t mid new first) → OnOk r (IsWritten t old new second)
 written_later (Ok u) t old mid new first second ready looks same w = written_here t old mid new first second ready looks same w
 written_later (Err e) t old mid new first second ready looks same w = tt
+
+-- the bits that a register names, where there is a form
+pub optional_named : (t : Told) (r : ℕ) (halftone : Bool) (x : Option Extent) → is_some x ≡ true → OptionalRoom t r halftone x → IsRef (t.regs r)
+optional_named t r halftone None e h = let never : ◌≡◌ {A = Bool} false true = e in absurd (cc)
+optional_named t r halftone (Some x) e h = h.name

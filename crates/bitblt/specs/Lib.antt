@@ -3,3 +3,5 @@ pub mod Clip
 pub mod Blits
 pub mod Asking
 pub mod Shapes
+pub mod Plans
+pub mod Table

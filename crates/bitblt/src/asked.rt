@@ -60,7 +60,7 @@ fn rule_number(z: i16) -> Option<u8>
 }
 
 /// What the BitBlt asks for. None where a field holds no number, or the rule is none.
-pub fn read_asked<M: ObjectMemory>(m: &mut M) -> Result<Option<Asked>, Stop>
+pub(crate) fn read_asked<M: ObjectMemory>(m: &mut M) -> Result<Option<Asked>, Stop>
     requires sound { M.sound m.old }
     requires ready { IsReady (M.told m.old) }
     ensures serves { (cpu : Numbers) → Serves (M.told m.old) cpu (M.told m.new) cpu (peek model.asked_of ((M.told m.old).regs 10)) (asked_found result) }

@@ -97,7 +97,7 @@ fn span_of(r: Range, start: i32) -> Option<Span>
 }
 
 /// Cuts a rectangle's places by the clip rectangle, the destination and the source.
-pub fn clip_axis(
+pub(crate) fn clip_axis(
     at: i16,
     extent: i16,
     clip_at: i16,

@@ -1,14 +1,13 @@
-//! BitBlt by words.
+//! BitBlt over any object memory.
 #![tactic(auto)]
 
 mod asked;
 mod clip;
+mod copy;
 mod forms;
 mod rows;
+mod table;
 mod transfer;
 
-pub use asked::{Asked, Place, read_asked};
-pub use clip::{Span, clip_axis};
-pub use forms::{Extent, read_form, row_words};
-pub use rows::blend_rows;
-pub use transfer::Transfer;
+pub use contexts::{Answer, Cpu, Stop};
+pub use table::run;

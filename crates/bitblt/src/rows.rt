@@ -132,7 +132,7 @@ fn reads_before(t: &Transfer, y: usize) -> bool
 /// Changes all rows. Source, destination and halftone are those before the call, also where the source is the destination's object
 /// in any place and of any width: the rows that read words before those they write go first, from the last one up, and then the
 /// others, from the first one down. So no row reads a word that was written.
-pub fn blend_rows<M: ObjectMemory>(m: &mut M, t: &Transfer, halftone: &[u16]) -> Result<(), Stop>
+pub(crate) fn blend_rows<M: ObjectMemory>(m: &mut M, t: &Transfer, halftone: &[u16]) -> Result<(), Stop>
     requires sound { M.sound m.old }
     requires ready { IsReady (M.told m.old) }
     requires fits { Fits t.now }
