@@ -1,5 +1,5 @@
 -- What a rule comes to where it goes through, and the fields of a heap after a store.
-use Rattle.std.proofs.Common.{◌≡◌, zero, suc, ℕ, ℤ, ◌+◌, ◌==◌, Bool, true, false, List, [], ◌∷◌, ◌++◌, length, slice_get, slice_set, Option, Some, None, refl, sym, ◌∙◌, ap, subst, if◌then◌else◌, nat_le, ne_eqb, eq-eqb, eqb-true, nat_lt}
+use Rattle.std.proofs.Common.{◌≡◌, zero, suc, ℕ, ℤ, ◌==◌, Bool, true, false, List, [], ◌∷◌, ◌++◌, length, slice_get, slice_set, Option, Some, None, refl, sym, ◌∙◌, ap, subst, if◌then◌else◌, nat_le, ne_eqb, eq-eqb, eqb-true, nat_lt}
 use Rattle.std.specs.Option.{option_and_then, option_map_or}
 use Rattle.long_names.specs.declared.value.Value.{Value}
 use Rattle.long_names.specs.declared.value.Value.TheVariants.{Int, Ref}
@@ -13,7 +13,7 @@ use Rattle.long_names.specs.Access.{with_body}
 use Rattle.blue_model.specs.declared.cause.Cause.{Cause}
 use Rattle.blue_model.specs.declared.cause.Cause.TheVariants.{Shape}
 use Rattle.blue_model.specs.declared.cpu.Cpu.{Cpu}
-use Rattle.blue_model.specs.Machine.{Machine, LogRow, Outcome, Go, Halt, Spent, Unbuilt, Rule, after, then_do, ◌>>=◌, ◌>>◌, done, halt, given, pick, rows_at, is_there, stored, store, part, known, numbers, set_numbers, register, put_register, placed, MACHINE_REGISTERS}
+use Rattle.blue_model.specs.Machine.{Machine, LogRow, Outcome, Go, Halt, Spent, Unbuilt, Rule, after, then_do, ◌>>=◌, done, halt, given, pick, rows_at, is_there, stored, store, part, known, numbers, set_numbers, register, put_register, placed, MACHINE_REGISTERS}
 use Rattle.blue_model.specs.Parts.{at_least, shaped, size, field, number}
 use Rattle.blue_model.specs.Contexts.{store_field}
 use Rattle.blue_model.specs.ClassList.{part_in}

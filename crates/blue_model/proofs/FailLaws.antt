@@ -1,4 +1,8 @@
 -- A primitive that fails has changed nothing.
+use Rattle.blue_model.specs.Forms.{Form, Extent, count_of, form_where, form_of}
+use Rattle.blue_model.specs.BitBlt.{form_or_nil, copy_bits}
+use Rattle.blue_model.specs.Devices.{semaphore_or_nil, set_input, input_semaphore, take_word, input_word, tick_words, set_timer, signal_at_tick, show_form, be_display, string_text, say_string, device_primitives}
+use Rattle.blue_model.specs.declared.event.Line.{Line}
 use Rattle.std.proofs.Common.{◌≡◌, ℕ, ℤ, Bool, true, false, List, [], ◌∷◌, ◌++◌, Option, Some, None, refl, sym, ◌∙◌, ap, subst}
 use Rattle.long_names.specs.declared.value.Value.{Value}
 use Rattle.long_names.specs.declared.value.Value.TheVariants.{Int, Ref}
@@ -10,17 +14,17 @@ use Rattle.blue_model.specs.declared.cause.Cause.{Cause}
 use Rattle.blue_model.specs.declared.cause.Cause.TheVariants.{Shape}
 use Rattle.blue_model.specs.declared.spot.Spot.{Spot}
 use Rattle.blue_model.specs.declared.spot.Spot.TheVariants.{Field, Word, Byte}
-use Rattle.blue_model.specs.Machine.{Machine, LogRow, Outcome, Go, Halt, Spent, Unbuilt, Rule, after, then_do, ◌>>=◌, done, halt, unbuilt, given, pick, register, numbers, row_of, rows_at, look, part, known, classed, class_of, store, store_word, store_byte, make}
-use Rattle.blue_model.specs.Contexts.{stack, store_field, scheduler, active_process}
+use Rattle.blue_model.specs.Machine.{Machine, LogRow, Outcome, Go, Halt, Spent, Unbuilt, Rule, after, then_do, ◌>>=◌, done, halt, unbuilt, given, pick, register, numbers, row_of, look, part, known, classed, class_of}
+use Rattle.blue_model.specs.Contexts.{stack, scheduler, active_process}
 use Rattle.blue_model.specs.Lookup.{lookup}
 use Rattle.blue_model.specs.Messages.{arguments_of}
 use Rattle.blue_model.specs.Processes.{process_lists, current_process, primitive_signal, primitive_wait, has_list, primitive_resume, primitive_suspend, process_primitives}
 use Rattle.blue_model.specs.Control.{block_copy, pointer_for, block_start, enter_block, value, array_length, value_with_arguments, taking, method_for, execute_found, perform_with, perform, has_room, perform_with_arguments, flush_cache, quit, control_primitives, control_primitive}
-use Rattle.blue_model.specs.Trials.{failed, where_some, where_true, ◌>>?◌, peek, answer, boolean, Primitive, with_arguments, primitive_in}
+use Rattle.blue_model.specs.Trials.{failed, where_some, where_true, ◌>>?◌, peek, answer, Primitive, with_arguments, primitive_in}
 use Rattle.blue_model.specs.Arithmetic.{of_numbers, arithmetic, comparison, point, integer_primitives}
 use Rattle.blue_model.specs.Elements.{index_argument, specification_of, fixed_of, spot_at, element_of, variable_of, put_element, character_of, byte_of_character}
 use Rattle.blue_model.specs.Storage.{at, at_put, size_of, string_at, string_at_put, streamed_by, streamed, of_stream, next_spot, streamed_element, next, put_streamed, next_put, at_end, method_object, object_at_index, object_at_put, new, new_with_size, new_method, instance_variable_at, instance_variable_at_put, hash, equivalent, class, object_primitives}
-use Rattle.blue_model.specs.Primitives.{is_unbuilt, primitive}
+use Rattle.blue_model.specs.Primitives.{primitive}
 use Rattle.blue_model.proofs.ClassLaws.{Answers, answers_then, answers_done, answers_halt, answers_look, lookup_takes}
 
 -- ---- rules that only look, whatever they answer
@@ -450,6 +454,67 @@ clean-primitive_suspend {m} =
     clean_then _ (looks-stack 0) (λ process. clean_then _ looks-current_process (λ current. clean_where_true _ _
     (clean_end _ _ (λ nil. never_then _ _ (λ a. never_then _ _ (λ b. never_done))))))
 
+-- ---- devices and blits
+
+looks-semaphore_or_nil : {m : Machine} (v : Value) → Looks m (semaphore_or_nil v)
+unfolding semaphore_or_nil
+looks-semaphore_or_nil {m} v = search looking depth 12
+
+looks-count_of : {m : Machine} (bits : Option Value) → Looks m (count_of bits)
+looks-count_of None = looks_done None
+looks-count_of (Some bits) = looks_peek _ bits
+
+looks-form_where : {m : Machine} (enough : Extent → ℕ → Bool) (v : Value) → Looks m (form_where enough v)
+unfolding form_where
+looks-form_where {m} enough v = looks_then _ (looks_peek _ v) (λ bits. looks_then _ (looks-count_of bits) (λ count. looks_then _ (looks_peek _ v) (λ extent. looks_done _)))
+
+looks-form_of : {m : Machine} (v : Value) → Looks m (form_of v)
+unfolding form_of
+looks-form_of {m} v = looks-form_where _ v
+
+looks-form_or_nil : {m : Machine} (shape : Value → Rule (Option Form)) (v : Value) → Looks m (shape v) → Looks m (form_or_nil shape v)
+unfolding form_or_nil
+looks-form_or_nil {m} shape v f = looks_pick _ _ _ (looks_done _) (looks_then _ f (λ o. looks_done _))
+
+looks-string_text : {m : Machine} (v : Value) → Looks m (string_text v)
+unfolding string_text
+looks-string_text {m} v = search looking depth 12
+
+clean-input_semaphore : {m : Machine} → FailsClean m input_semaphore
+unfolding input_semaphore set_input
+clean-input_semaphore {m} = clean_then _ (looks-stack 0) (λ v. clean_try _ (looks-semaphore_or_nil v) (λ there. clean_end _ _ (λ a. never_then _ _ (λ cpu. never_then _ _ (λ b. never_then _ _ (λ d. never_done))))))
+
+never-take_word : (word : ℕ) → NeverFails (take_word word)
+unfolding take_word
+never-take_word word = never_then _ _ (λ v. never_then _ _ (λ cpu. never_then _ _ (λ b. never-answer 0 v)))
+
+clean-input_word : {m : Machine} (events : List Line) → FailsClean m (input_word events)
+unfolding input_word
+clean-input_word {m} events = clean_then _ looks_numbers (λ cpu. clean_where_some _ _ (λ word. clean_never (never-take_word word)))
+
+clean-tick_words : {m : Machine} → FailsClean m tick_words
+unfolding tick_words
+clean-tick_words {m} = clean_then _ (looks-stack 0) (λ v. clean_try _ (looks_peek _ v) (λ old. clean_end _ _ (λ cpu. never_then _ _ (λ a. never_then _ _ (λ b. never_done)))))
+
+clean-signal_at_tick : {m : Machine} → FailsClean m signal_at_tick
+unfolding signal_at_tick set_timer
+clean-signal_at_tick {m} = clean_then _ (looks-stack 1) (λ v. clean_then _ (looks-stack 0) (λ bytes. clean_try _ (looks-semaphore_or_nil v) (λ there. clean_try _ (looks_peek _ bytes) (λ tick. clean_end _ _ (λ a. never_then _ _ (λ cpu. never_then _ _ (λ b. never_then _ _ (λ d. never_done))))))))
+
+clean-be_display : {m : Machine} → FailsClean m be_display
+unfolding be_display show_form
+clean-be_display {m} = clean_then _ (looks-stack 0) (λ form. clean_try _ (looks-form_of form) (λ shape. clean_end _ _ (λ a. never_then _ _ (λ cpu. never_then _ _ (λ b. never_done)))))
+
+clean-say_string : {m : Machine} → FailsClean m say_string
+unfolding say_string
+clean-say_string {m} = clean_then _ (looks-stack 0) (λ v. clean_try _ (looks-string_text v) (λ bytes. clean_end _ _ (λ a. never_then _ _ (λ b. never_done))))
+
+clean-copy_bits : {m : Machine} → FailsClean m copy_bits
+unfolding copy_bits
+clean-copy_bits {m} = clean_then _ (looks-stack 0) (λ blit. clean_try _ (looks_peek _ blit) (λ q. clean_try _ (looks_peek _ blit) (λ dest_form. clean_try _ (looks-form_of dest_form) (λ dest.
+    clean_try _ (looks_peek _ blit) (λ source_form. clean_try _ (looks-form_or_nil _ source_form (looks-form_of source_form)) (λ source.
+    clean_try _ (looks_peek _ blit) (λ tone_form. clean_try _ (looks-form_or_nil _ tone_form (looks-form_where _ tone_form)) (λ tone.
+    clean_end _ _ (λ a. never_done)))))))))
+
 -- ---- the table
 
 AreClean : Machine → List Primitive → Type 0
@@ -481,6 +546,13 @@ processes_clean : (m : Machine) → AreClean m process_primitives
 unfolding AreClean process_primitives
 processes_clean m = (clean-primitive_signal, (clean-primitive_wait, (clean-primitive_resume, (clean-primitive_suspend, tt))))
 
-pub failed_changes_nothing : (index : ℕ) (m s : Machine) (log : List LogRow) → primitive index m ≡ Go Failed s log → s ≡ m
+devices_clean : (m : Machine) (events : List Line) → AreClean m (device_primitives events)
+unfolding AreClean device_primitives
+devices_clean m events = (clean-input_semaphore, (clean-input_word events, (clean-tick_words, (clean-signal_at_tick, (clean-be_display, (clean-say_string, tt))))))
+
+pub copy_bits_changes_nothing : (m s : Machine) (log : List LogRow) → copy_bits m ≡ Go Failed s log → s ≡ m
+copy_bits_changes_nothing m s log e = clean-copy_bits.clean s log e
+
+pub failed_changes_nothing : (events : List Line) (index : ℕ) (m s : Machine) (log : List LogRow) → primitive events index m ≡ Go Failed s log → s ≡ m
 unfolding primitive
-failed_changes_nothing index m s log e = let clean : FailsClean m (primitive index) = clean_pick _ _ _ clean_unbuilt (clean_pick _ _ _ (clean-control_primitive index) (clean_pick _ _ _ (clean-primitive_in _ index (processes_clean m)) (clean-primitive_in _ index (primitives_clean m)))) in clean.clean s log e
+failed_changes_nothing events index m s log e = let clean : FailsClean m (primitive events index) = clean_pick _ _ _ clean_unbuilt (clean_pick _ _ _ (clean-control_primitive index) (clean_pick _ _ _ (clean-primitive_in _ index (processes_clean m)) (clean_pick _ _ _ (clean-primitive_in _ index (devices_clean m events)) (clean-primitive_in _ index (primitives_clean m))))) in clean.clean s log e

@@ -1,4 +1,5 @@
 -- The law of thinning, for each combinator.
+use Rattle.blue_model.specs.BitBlt.{put_words}
 use Rattle.std.proofs.Common.{◌≡◌, ℕ, ℤ, pos, ◌+◌, ◌-◌, ◌≤◌, zero, suc, Bool, true, false, cond, nat_lt, nat_le, eqb, ◌&&◌, List, [], ◌∷◌, ◌++◌, length, Option, Some, None, is_some, refl, sym, ◌∙◌, ap, ap₂, subst, arith}
 use Rattle.std.specs.List.{slice_get}
 use Rattle.std.specs.Option.{option_map_or, option_and_then}
@@ -345,8 +346,8 @@ law_store {w} v i x k l = record {
     )
 
 -- a change of a body that leaves its fields
-law_changed : {w : Lost} (v : Value) (change : Body → Body) (test : Body → Option ℕ) → ((b : Body) → fields_of (change b) ≡ fields_of b) → IsKept w v → Lawful w IsPlain (λ m. changed m v change (is_some (part_at m.heap v test)))
-law_changed {w} v change test fields k = record {
+law_changed : {w : Lost} {A : Type 0} (v : Value) (change : Body → Body) (test : Body → Option A) → ((b : Body) → fields_of (change b) ≡ fields_of b) → IsKept w v → Lawful w IsPlain (λ m. changed m v change (is_some (part_at m.heap v test)))
+law_changed {w} {A} v change test fields k = record {
   agrees = λ m s h.
       let parts : is_some (part_at s.heap v test) ≡ is_some (part_at m.heap v test) = ap (λ z. is_some (option_and_then (λ (o : Object). test o.body) z)) (object_alike w m s h v k) in
       subst (λ b. Agrees w IsPlain (changed m v change b) (changed s v change (is_some (part_at s.heap v test)))) parts (step m s h (is_some (part_at s.heap v test)));
@@ -383,6 +384,10 @@ law_store_word v i word k = law_changed v (λ b. with_words b i (word ∷ [])) (
 pub law_store_byte : {w : Lost} (v : Value) (i byte : ℕ) → IsKept w v → Lawful w IsPlain (store_byte v i byte)
 unfolding store_byte
 law_store_byte v i byte k = law_changed v (λ b. with_bytes b i (byte ∷ [])) (λ b. option_and_then (λ (bytes : List ℕ). slice_get bytes i) (bytes_of b)) (λ b. fields-with_bytes b i (byte ∷ [])) k
+
+pub law_put_words : {w : Lost} (v : Value) (words : List ℕ) → IsKept w v → Lawful w IsPlain (put_words v words)
+unfolding put_words
+law_put_words v words k = law_changed v (λ b. with_words b 0 words) words_of (λ b. fields-with_words b 0 words) k
 
 -- ---- makings
 

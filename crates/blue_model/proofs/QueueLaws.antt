@@ -1,5 +1,5 @@
 -- A list of processes is a queue: a process is added at its end, and taken from its front.
-use Rattle.std.proofs.Common.{◌≡◌, ℕ, ◌+◌, ◌≤◌, ◌==◌, Bool, true, false, List, [], ◌∷◌, ◌++◌, Option, Some, refl, sym, ◌∙◌, ap, subst, arith, ne_eqb, eq-eqb, eqb-true}
+use Rattle.std.proofs.Common.{◌≡◌, ℕ, ◌≤◌, ◌==◌, Bool, true, false, List, [], ◌∷◌, ◌++◌, Option, Some, refl, sym, ◌∙◌, ap, subst, arith, ne_eqb, eq-eqb, eqb-true}
 use Rattle.long_names.specs.declared.value.Value.{Value}
 use Rattle.long_names.specs.declared.value.Value.TheVariants.{Ref}
 use Rattle.long_names.specs.Names.{NIL}
@@ -10,7 +10,7 @@ use Rattle.blue_model.specs.Contexts.{store_field}
 use Rattle.blue_model.specs.Processes.{add, link_behind, take, empty_list, shorten}
 use Rattle.blue_model.specs.Queues.{field_at, times_in, IsAmong, IsNotAmong, AllDifferent, first_of, last_of, HoldsLast, AreLinked, HasLinks, IsQueue, AreApart}
 use Rattle.blue_model.proofs.ComesLaws.{Comes, comes_then, comes_done, comes_store_field, known_then, pick_true_then, pick_false_then, field_then, store_then, wrote, written-apart, written-here, written-other, written-beside, field_kept}
-use Rattle.blue_model.proofs.NamesLaws.{same, same-apart, same-most, same-no, times-none, times-cons, names, not_first, first_differs, among_differs, different_rest, last_among, last_added}
+use Rattle.blue_model.proofs.NamesLaws.{same-apart, same-most, same-no, times-none, times-cons, names, not_first, first_differs, among_differs, different_rest, last_among, last_added}
 
 -- ---- what is left alone
 

@@ -1,4 +1,5 @@
 -- Each byte is in one range of the table, and does what that range says.
+use Rattle.blue_model.specs.declared.event.Line.{Line}
 use Rattle.std.proofs.Common.{◌≡◌, ℕ, zero, suc, ◌+◌, ◌-◌, ◌^◌, ◌<◌, ◌≤◌, Bool, true, false, eqb, cond, ◌&&◌, List, [], ◌∷◌, length, refl, sym, ap, ◌∙◌, subst, arith}
 use Rattle.std.proofs.lemmas.Grind.{common_steps}
 use Rattle.std.specs.List.{slice_index_or, count_by}
@@ -8,14 +9,14 @@ use Rattle.blue_model.specs.Machine.{pick}
 use Rattle.blue_model.specs.Bytecodes.{Range, bytecodes, has_byte, ruled, bytecode}
 
 -- each byte below n is in one range
-ones_below : ℕ → Bool
+ones_below : List Line → ℕ → Bool
 unfolding bytecodes
-ones_below zero = true
-ones_below (suc n) = eqb (count_by (has_byte n) bytecodes) 1 && ones_below n
+ones_below events zero = true
+ones_below events (suc n) = eqb (count_by (has_byte n) (bytecodes events)) 1 && ones_below events n
 
-all_bytes : ones_below 256 ≡ true
+all_bytes : (events : List Line) → ones_below events 256 ≡ true
 unfolding ones_below bytecodes
-all_bytes = refl
+all_bytes events = refl
 
 named : (x y : ℕ) → eqb x y ≡ true → x ≡ y
 named x y f = grind (arith, common_steps)
@@ -23,16 +24,16 @@ named x y f = grind (arith, common_steps)
 other : (x y : ℕ) → eqb x y ≡ false → x < suc y → x < y
 other x y f g = grind (arith, common_steps)
 
-below : (n byte : ℕ) → ones_below n ≡ true → byte < n → count_by (has_byte byte) bytecodes ≡ 1
+below : (events : List Line) (n byte : ℕ) → ones_below events n ≡ true → byte < n → count_by (has_byte byte) (bytecodes events) ≡ 1
 unfolding ones_below
-below zero byte e low = absurd (omega arith)
-below (suc n) byte e low = go (eqb byte n) refl (below n byte parts.1)
+below events zero byte e low = absurd (omega arith)
+below events (suc n) byte e low = go (eqb byte n) refl (below events n byte parts.1)
   where
-    parts : (eqb (count_by (has_byte n) bytecodes) 1 ≡ true) × (ones_below n ≡ true)
-    parts = both (eqb (count_by (has_byte n) bytecodes) 1) (ones_below n) e
+    parts : (eqb (count_by (has_byte n) (bytecodes events)) 1 ≡ true) × (ones_below events n ≡ true)
+    parts = both (eqb (count_by (has_byte n) (bytecodes events)) 1) (ones_below events n) e
 
-    go : (b : Bool) → eqb byte n ≡ b → (byte < n → count_by (has_byte byte) bytecodes ≡ 1) → count_by (has_byte byte) bytecodes ≡ 1
-    go true f next = subst (λ k. count_by (has_byte k) bytecodes ≡ 1) (sym (named byte n f)) (named (count_by (has_byte n) bytecodes) 1 parts.0)
+    go : (b : Bool) → eqb byte n ≡ b → (byte < n → count_by (has_byte byte) (bytecodes events) ≡ 1) → count_by (has_byte byte) (bytecodes events) ≡ 1
+    go true f next = subst (λ k. count_by (has_byte k) (bytecodes events) ≡ 1) (sym (named byte n f)) (named (count_by (has_byte n) (bytecodes events)) 1 parts.0)
     go false f next = next (other byte n f low)
 
 -- a row that has the byte counts
@@ -77,10 +78,10 @@ ruled_by byte (q ∷ rs) (suc i) r one low e f = go (has_byte byte q) refl (λ r
         let rest : count_by (has_byte byte) rs ≡ 1 = omega arith in
         ap (λ b. pick b (q.rule (byte - q.first)) (ruled rs byte)) g ∙ next rest
 
-pub one_range : (byte : ℕ) → byte < 2 ^ 8 → count_by (has_byte byte) bytecodes ≡ 1
-one_range byte low = below 256 byte all_bytes low
+pub one_range : (events : List Line) (byte : ℕ) → byte < 2 ^ 8 → count_by (has_byte byte) (bytecodes events) ≡ 1
+one_range events byte low = below events 256 byte (all_bytes events) low
 
 -- the rule of a byte, by the place of its range in the table
-pub bytecode_by : (byte i : ℕ) (r : Range) → byte < 2 ^ 8 → i < length bytecodes → slice_index_or bytecodes i r ≡ r → has_byte byte r ≡ true → bytecode byte ≡ r.rule (byte - r.first)
+pub bytecode_by : (events : List Line) (byte i : ℕ) (r : Range) → byte < 2 ^ 8 → i < length (bytecodes events) → slice_index_or (bytecodes events) i r ≡ r → has_byte byte r ≡ true → bytecode events byte ≡ r.rule (byte - r.first)
 unfolding bytecode
-bytecode_by byte i r low within e f = ruled_by byte bytecodes i r (below 256 byte all_bytes low) within e f
+bytecode_by events byte i r low within e f = ruled_by byte (bytecodes events) i r (below events 256 byte (all_bytes events) low) within e f

@@ -1,6 +1,6 @@
 -- Nobody above the current process waits: what signal, wait, resume and a suspension leave of the queues of processes.
 use Rattle.std.proofs.Common.{◌≡◌, inl, inr, zero, suc, ℕ, ℤ, pos, negsuc, ◌+◌, ◌≤◌, ◌<◌, ◌≤ℤ◌, ◌==◌, nat_lt, Bool, true, false, List, [], ◌∷◌, ◌++◌, map, length, Option, Some, None, slice_get, refl, sym, ◌∙◌, ap, subst, arith, ne_eqb, append_assoc, append-nil, T, not, le→leb, ltb-true, if◌then◌else◌}
-use Rattle.std.specs.Int.Signed.{lt_z, lt_z_yes, lt_z_no, ≤ℤ_refl, ◌<ℤ◌, <ℤ-≤ℤ_trans, clash_ℤ}
+use Rattle.std.specs.Int.Signed.{lt_z, lt_z_yes, lt_z_no, ≤ℤ_refl, <ℤ-≤ℤ_trans, clash_ℤ}
 use Rattle.long_names.specs.declared.value.Value.{Value}
 use Rattle.long_names.specs.declared.value.Value.TheVariants.{Int, Ref}
 use Rattle.long_names.specs.Names.{NIL, SCHEDULER_ASSOCIATION}
@@ -8,7 +8,7 @@ use Rattle.long_names.specs.Heap.{Heap}
 use Rattle.long_names.specs.State.{NEW_PROCESS, set_register}
 use Rattle.blue_model.specs.declared.cause.Cause.TheVariants.{Shape, NoProcess}
 use Rattle.blue_model.specs.Indexes.{VALUE_INDEX, ASSOCIATION_SIZE, PROCESS_LISTS_INDEX, ACTIVE_PROCESS_INDEX, SCHEDULER_SIZE, FIRST_LINK_INDEX, LAST_LINK_INDEX, EXCESS_SIGNALS_INDEX, PRIORITY_INDEX}
-use Rattle.blue_model.specs.Machine.{Machine, LogRow, Go, Rule, ◌>>=◌, ◌>>◌, pick, part, numbers, set_numbers}
+use Rattle.blue_model.specs.Machine.{Machine, LogRow, Go, Rule, ◌>>=◌, pick, part, numbers, set_numbers}
 use Rattle.blue_model.specs.Parts.{field, is_nil}
 use Rattle.blue_model.specs.Contexts.{scheduler, active_process}
 use Rattle.blue_model.specs.Processes.{add, take, process_lists, list_index, sleep, wake_among, wake, current_process, transfer, resume, suspend_active, add_signal, signal, sleep_at, wait}

@@ -1,5 +1,5 @@
 -- The worked heap has its schedule, and nobody above its current process waits.
-use Rattle.std.proofs.Common.{inl, inr, ℕ, ℤ, pos, ◌≤◌, ◌≤ℤ◌, List, [], ◌∷◌, refl, subst, arith}
+use Rattle.std.proofs.Common.{inl, inr, ℕ, ℤ, pos, ◌≤ℤ◌, List, [], ◌∷◌, refl, subst, arith}
 use Rattle.long_names.specs.Names.{NIL, SCHEDULER_ASSOCIATION}
 use Rattle.blue_model.specs.Machine.{at_rest}
 use Rattle.blue_model.specs.Queues.{field_at, times_in, IsAmong, IsNotAmong, AllDifferent, IsQueue, processes_on, objects_of, HasPriority, HasSchedule, NobodyAbove}

@@ -9,6 +9,8 @@ use Rattle.long_names.specs.declared.object.Object.{Object}
 use Rattle.long_names.specs.Names.{NIL, SCHEDULER_ASSOCIATION, ARRAY, METHOD_CONTEXT, COMPILED_METHOD, is_known}
 use Rattle.long_names.specs.Heap.{Heap}
 use Rattle.blue_model.specs.Contexts.{stated}
+use Rattle.blue_model.specs.Forms.{Form}
+use Rattle.blue_model.specs.BitBlt.{Asked}
 use Rattle.blue_model.specs.Cycle.{Ending, Parked, Stuck}
 
 abbrev pub nil : Value
@@ -54,8 +56,8 @@ base_code = 112 ∷ 135 ∷ 163 ∷ 252 ∷ []
 
 -- what a whole run leaves of the context
 abbrev pub context_in : Ending → Option Object
-context_in (Parked end m) = m.heap.at CONTEXT
-context_in (Stuck why ran) = None
+context_in (Parked end m picture) = m.heap.at CONTEXT
+context_in (Stuck why ran said) = None
 
 -- ---- arithmetic
 
@@ -65,3 +67,23 @@ minus n = neg_ℤ (pos n)
 -- the SmallInteger that an operation gives, if it gives one
 abbrev pub small_result : (ℤ → ℤ → Option ℤ) → ℤ → ℤ → Option ℤ
 small_result f a b = option_and_then stated (f a b)
+
+-- ---- a small form
+
+-- 17 by 3 pixels, two words a row
+abbrev pub small_form : Form
+small_form = record { bits = Ref 72; width = 17; height = 3 }
+
+abbrev pub small_words : List ℕ
+small_words = 32769 ∷ 32768 ∷ 8192 ∷ 0 ∷ 1 ∷ 32768 ∷ []
+
+-- over itself, one to the right and one down, but for the two columns at the right
+abbrev pub one_right_and_down : Asked
+one_right_and_down = record { rule = 3; dest_x = pos 1; dest_y = pos 1; width = pos 17; height = pos 3; source_x = pos 0; source_y = pos 0; clip_x = pos 0; clip_y = pos 0; clip_width = pos 15; clip_height = pos 3 }
+
+abbrev pub moved_words : List ℕ
+moved_words = 32769 ∷ 32768 ∷ 16384 ∷ 0 ∷ 4097 ∷ 32768 ∷ []
+
+-- in a portable bitmap: three bytes a row
+abbrev pub moved_picture : List ℕ
+moved_picture = 128 ∷ 1 ∷ 128 ∷ 64 ∷ 0 ∷ 0 ∷ 16 ∷ 1 ∷ 128 ∷ []

@@ -1,12 +1,11 @@
 -- BitBlt (chapter 18, and primitiveCopyBits of chapter 29), pixel by pixel: all pixels of source, halftone and destination are those
 -- before the call, also where they share bits.
-use Rattle.std.specs.Prelude.{ℕ, ℤ, pos, negsuc, ◌+ℤ◌, ◌-ℤ◌, ◌+◌, ◌-◌, ◌*◌, ◌/◌, ◌%◌, ◌&&◌, Bool, true, false, nat_lt, nat_le, min, max, List, [], ◌∷◌, length, map, replicate, slice_index, Option, Some, None, is_some, int_le, int_lt, if◌then◌else◌}
+use Rattle.std.specs.Prelude.{ℕ, ℤ, pos, negsuc, ◌+ℤ◌, ◌-ℤ◌, ◌+◌, ◌-◌, ◌*◌, ◌/◌, ◌%◌, ◌&&◌, Bool, true, nat_lt, nat_le, min, max, List, [], ◌∷◌, length, map, replicate, slice_index, Option, Some, None, is_some, int_le, int_lt, if◌then◌else◌}
 use Rattle.std.specs.Option.{option_and_then}
 use Rattle.std.specs.List.{range_with_len}
 use Rattle.long_names.specs.declared.value.Value.{Value}
-use Rattle.long_names.specs.declared.object.Body.{Body}
 use Rattle.long_names.specs.declared.object.Object.{Object}
-use Rattle.long_names.specs.Objects.{words_of, with_words, int_of}
+use Rattle.long_names.specs.Objects.{words_of, with_words}
 use Rattle.long_names.specs.Kept.{any_below}
 use Rattle.long_names.specs.State.{part_at}
 use Rattle.blue_model.specs.declared.answer.Answer.{Answer}
@@ -17,7 +16,7 @@ use Rattle.blue_model.specs.Machine.{Rule, ◌>>=◌, ◌>>◌, done, pick, chan
 use Rattle.blue_model.specs.Parts.{is_nil, field, number}
 use Rattle.blue_model.specs.Contexts.{stack}
 use Rattle.blue_model.specs.Trials.{◌>>?◌, peek}
-use Rattle.blue_model.specs.Forms.{Form, Extent, row_words, pixel, bit, left_bit, number_of, form_of, form_where}
+use Rattle.blue_model.specs.Forms.{Form, Extent, row_words, pixel, left_bit, number_of, form_of, form_where}
 
 -- ---- the rules
 
@@ -190,6 +189,6 @@ unfoldable pub copy_bits : Rule Answer
 copy_bits = do
   blit ← stack 0
   peek asked_of blit >>? λ q. peek (field BITBLT_SIZE DEST_FORM_INDEX) blit >>? λ dest_form. form_of dest_form >>? λ dest.
-    peek (field BITBLT_SIZE SOURCE_FORM_INDEX) blit >>? λ source_form. form_or_nil form_of source_form >>? λ source.
-    peek (field BITBLT_SIZE HALFTONE_FORM_INDEX) blit >>? λ tone_form. form_or_nil (form_where has_sixteen) tone_form >>? λ tone.
-    copy q dest source tone >> done Done
+      peek (field BITBLT_SIZE SOURCE_FORM_INDEX) blit >>? λ source_form. form_or_nil form_of source_form >>? λ source.
+      peek (field BITBLT_SIZE HALFTONE_FORM_INDEX) blit >>? λ tone_form. form_or_nil (form_where has_sixteen) tone_form >>? λ tone.
+      copy q dest source tone >> done Done

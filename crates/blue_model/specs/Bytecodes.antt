@@ -7,6 +7,7 @@ use Rattle.long_names.specs.Names.{NIL, FALSE, TRUE, METHOD_CONTEXT, BLOCK_CONTE
 use Rattle.long_names.specs.Objects.{int_of, is_ref}
 use Rattle.long_names.specs.State.{ACTIVE_CONTEXT, HOME, METHOD, RECEIVER}
 use Rattle.blue_model.specs.declared.cause.Cause.TheVariants.{Unused, Stack, Shape}
+use Rattle.blue_model.specs.declared.event.Line.{Line}
 use Rattle.blue_model.specs.declared.step.Step.{Step}
 use Rattle.blue_model.specs.declared.step.Step.TheVariants.{Next}
 use Rattle.blue_model.specs.Indexes.{VALUE_INDEX, ASSOCIATION_SIZE, SENDER_INDEX, TEMP_FRAME_START}
@@ -126,56 +127,56 @@ extended_store_and_pop = do
 -- ---- returns
 
 -- sender (chapter 28): of the home
-unfoldable pub return_home : Value → Rule Step
-return_home v = do
+unfoldable pub return_home : List Line → Value → Rule Step
+return_home events v = do
   home ← register HOME
   sender ← part Shape (field 0 SENDER_INDEX) home
-  return_to sender v
+  return_to events sender v
 
-unfoldable pub return_of : Rule Value → Rule Step
-return_of p = p >>= return_home
+unfoldable pub return_of : List Line → Rule Value → Rule Step
+return_of events p = p >>= return_home events
 
 -- caller (chapter 28): of the active context
-unfoldable pub return_from_block : Rule Step
-return_from_block = do
+unfoldable pub return_from_block : List Line → Rule Step
+return_from_block events = do
   v ← pop_top
   active ← register ACTIVE_CONTEXT
   caller ← part Shape (field 0 SENDER_INDEX) active
-  return_to caller v
+  return_to events caller v
 
 -- ---- jumps
 
 -- what a conditional jump does with the value that it popped. mustBeBoolean is sent to one that is neither
-unfoldable pub jump_where : ℕ → ℕ → ℤ → Value → Rule Step
-jump_where taken passed distance v = pick (is_ref taken v) (then_next (jump distance)) (pick (is_ref passed v) (done Next) (must_be_boolean v))
+unfoldable pub jump_where : List Line → ℕ → ℕ → ℤ → Value → Rule Step
+jump_where events taken passed distance v = pick (is_ref taken v) (then_next (jump distance)) (pick (is_ref passed v) (done Next) (must_be_boolean events v))
 
 -- jumpIf: (chapter 28)
-unfoldable pub jump_on : ℕ → ℕ → ℤ → Rule Step
-jump_on taken passed distance = do
+unfoldable pub jump_on : List Line → ℕ → ℕ → ℤ → Rule Step
+jump_on events taken passed distance = do
   v ← pop_top
-  jump_where taken passed distance v
+  jump_where events taken passed distance v
 
 unfoldable pub long_jump : ℕ → Rule (Unit {0})
 long_jump i = do
   n ← fetch
   jump (pos (256 * i + n) -ℤ pos 1024)
 
-unfoldable pub long_jump_on : ℕ → ℕ → ℕ → Rule Step
-long_jump_on taken passed i = do
+unfoldable pub long_jump_on : List Line → ℕ → ℕ → ℕ → Rule Step
+long_jump_on events taken passed i = do
   n ← fetch
-  jump_on taken passed (pos (256 * i + n))
+  jump_on events taken passed (pos (256 * i + n))
 
 -- ---- sends
 
-unfoldable pub send_literal : ℕ → ℕ → Rule Step
-send_literal i n = do
+unfoldable pub send_literal : List Line → ℕ → ℕ → Rule Step
+send_literal events i n = do
   selector ← literal_constant i
-  send selector n
+  send events selector n
 
-unfoldable pub send_literal_super : ℕ → ℕ → Rule Step
-send_literal_super i n = do
+unfoldable pub send_literal_super : List Line → ℕ → ℕ → Rule Step
+send_literal_super events i n = do
   selector ← literal_constant i
-  send_super selector n
+  send_super events selector n
 
 -- literal and number of arguments in one byte
 unfoldable pub single_extended : (ℕ → ℕ → Rule Step) → Rule Step
@@ -193,20 +194,20 @@ double_extended p = do
 -- ---- special sends. Where the receiver is as it has to be, a primitive is tried at once, and the message is sent where it fails
 
 -- the primitive for a message of so many arguments
-unfoldable pub tried_for : ℕ → ℕ → ℕ → Rule Step
-tried_for index n s = do
+unfoldable pub tried_for : List Line → ℕ → ℕ → ℕ → Rule Step
+tried_for events index n s = do
   set_arguments n
-  tried index (special_send s)
+  tried events index (special_send events s)
 
 -- + - < > <= >= = ~= * / \\ @ bitShift: // bitAnd: bitOr:
 abbrev pub arithmetic_primitives : List ℕ
 arithmetic_primitives = 1 ∷ 2 ∷ 3 ∷ 4 ∷ 5 ∷ 6 ∷ 7 ∷ 8 ∷ 9 ∷ 10 ∷ 11 ∷ 18 ∷ 17 ∷ 12 ∷ 14 ∷ 15 ∷ []
 
 -- of two numbers
-unfoldable pub arithmetic_send : ℕ → Rule Step
-arithmetic_send s = do
+unfoldable pub arithmetic_send : List Line → ℕ → Rule Step
+arithmetic_send events s = do
   receiver ← stack 1
-  pick (is_some (int_of receiver)) (tried_for (slice_index_or arithmetic_primitives s 0) 1 s) (special_send s)
+  pick (is_some (int_of receiver)) (tried_for events (slice_index_or arithmetic_primitives s 0) 1 s) (special_send events s)
 
 abbrev pub is_among : (ℕ → Bool) → Value → Bool
 is_among classes (Int z) = false
@@ -219,11 +220,11 @@ abbrev pub is_block_class : ℕ → Bool
 is_block_class n = n == BLOCK_CONTEXT
 
 -- of a receiver of these classes
-unfoldable pub block_send : ℕ → ℕ → (ℕ → Bool) → ℕ → Rule Step
-block_send index n classes s = do
+unfoldable pub block_send : List Line → ℕ → ℕ → (ℕ → Bool) → ℕ → Rule Step
+block_send events index n classes s = do
   receiver ← stack n
   class ← class_of receiver
-  pick (is_among classes class) (tried_for index n s) (special_send s)
+  pick (is_among classes class) (tried_for events index n s) (special_send events s)
 
 -- ---- the table
 
@@ -246,8 +247,8 @@ next_from_to first last rule = record { first = first; last = last; rule = λ i.
 abbrev pub next_only : ℕ → Rule (Unit {0}) → Range
 next_only byte rule = record { first = byte; last = byte; rule = λ i. then_next rule }
 
-unfoldable pub bytecodes : List Range
-bytecodes =
+unfoldable pub bytecodes : List Line → List Range
+bytecodes events =
     next_from_to 0 15 (λ i. push_of (receiver_variable i))
     ∷ next_from_to 16 31 (λ i. push_of (temporary i))
     ∷ next_from_to 32 63 (λ i. push_of (literal_constant i))
@@ -259,40 +260,40 @@ bytecodes =
     ∷ next_only 114 (push_known FALSE)
     ∷ next_only 115 (push_known NIL)
     ∷ next_from_to 116 119 push_number
-    ∷ only 120 (return_of (register RECEIVER))
-    ∷ only 121 (return_of (known TRUE))
-    ∷ only 122 (return_of (known FALSE))
-    ∷ only 123 (return_of (known NIL))
-    ∷ only 124 (return_of pop_top)
-    ∷ only 125 return_from_block
+    ∷ only 120 (return_of events (register RECEIVER))
+    ∷ only 121 (return_of events (known TRUE))
+    ∷ only 122 (return_of events (known FALSE))
+    ∷ only 123 (return_of events (known NIL))
+    ∷ only 124 (return_of events pop_top)
+    ∷ only 125 (return_from_block events)
     ∷ next_from_to 126 127 (λ i. halt Unused)
     ∷ next_only 128 extended_push
     ∷ next_only 129 extended_store
     ∷ next_only 130 extended_store_and_pop
-    ∷ only 131 (single_extended send_literal)
-    ∷ only 132 (double_extended send_literal)
-    ∷ only 133 (single_extended send_literal_super)
-    ∷ only 134 (double_extended send_literal_super)
+    ∷ only 131 (single_extended (send_literal events))
+    ∷ only 132 (double_extended (send_literal events))
+    ∷ only 133 (single_extended (send_literal_super events))
+    ∷ only 134 (double_extended (send_literal_super events))
     ∷ next_only 135 (pop 1)
     ∷ next_only 136 duplicate_top
     ∷ next_only 137 push_active_context
     ∷ next_from_to 138 143 (λ i. halt Unused)
     ∷ next_from_to 144 151 (λ i. jump (pos (i + 1)))
-    ∷ from_to 152 159 (λ i. jump_on FALSE TRUE (pos (i + 1)))
+    ∷ from_to 152 159 (λ i. jump_on events FALSE TRUE (pos (i + 1)))
     ∷ next_from_to 160 167 long_jump
-    ∷ from_to 168 171 (long_jump_on TRUE FALSE)
-    ∷ from_to 172 175 (long_jump_on FALSE TRUE)
-    ∷ from_to 176 191 arithmetic_send
-    ∷ from_to 192 197 (λ i. special_send (16 + i))
-    ∷ only 198 (tried_for 110 1 22)
-    ∷ only 199 (tried_for 111 0 23)
-    ∷ only 200 (block_send 80 1 is_context_class 24)
-    ∷ only 201 (block_send 81 0 is_block_class 25)
-    ∷ only 202 (block_send 81 1 is_block_class 26)
-    ∷ from_to 203 207 (λ i. special_send (27 + i))
-    ∷ from_to 208 223 (λ i. send_literal i 0)
-    ∷ from_to 224 239 (λ i. send_literal i 1)
-    ∷ from_to 240 255 (λ i. send_literal i 2)
+    ∷ from_to 168 171 (long_jump_on events TRUE FALSE)
+    ∷ from_to 172 175 (long_jump_on events FALSE TRUE)
+    ∷ from_to 176 191 (arithmetic_send events)
+    ∷ from_to 192 197 (λ i. special_send events (16 + i))
+    ∷ only 198 (tried_for events 110 1 22)
+    ∷ only 199 (tried_for events 111 0 23)
+    ∷ only 200 (block_send events 80 1 is_context_class 24)
+    ∷ only 201 (block_send events 81 0 is_block_class 25)
+    ∷ only 202 (block_send events 81 1 is_block_class 26)
+    ∷ from_to 203 207 (λ i. special_send events (27 + i))
+    ∷ from_to 208 223 (λ i. send_literal events i 0)
+    ∷ from_to 224 239 (λ i. send_literal events i 1)
+    ∷ from_to 240 255 (λ i. send_literal events i 2)
     ∷ []
 
 -- the range has the byte
@@ -305,5 +306,5 @@ ruled [] byte = unbuilt
 ruled (r ∷ rs) byte = pick (has_byte byte r) (r.rule (byte - r.first)) (ruled rs byte)
 
 -- dispatchOnThisBytecode (chapter 28)
-unfoldable pub bytecode : ℕ → Rule Step
-bytecode byte = ruled bytecodes byte
+unfoldable pub bytecode : List Line → ℕ → Rule Step
+bytecode events byte = ruled (bytecodes events) byte

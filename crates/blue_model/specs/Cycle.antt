@@ -1,12 +1,14 @@
 -- The cycle (chapter 28, interpret), whole runs, and what is left of a heap.
-use Rattle.std.specs.Prelude.{zero, suc, ℕ, ◌+◌, ◌==◌, ◌||◌, Bool, List}
+use Rattle.std.specs.Prelude.{zero, suc, ℕ, ◌+◌, ◌==◌, ◌||◌, Bool, List, []}
 use Rattle.long_names.specs.Heap.{Heap}
 use Rattle.long_names.specs.State.{SELECTOR, NEW_METHOD}
 use Rattle.blue_model.specs.declared.cause.Cause.{Cause}
+use Rattle.blue_model.specs.declared.event.Line.{Line}
 use Rattle.blue_model.specs.declared.step.Step.{Step}
 use Rattle.blue_model.specs.declared.step.Step.TheVariants.{Next, Quit}
 use Rattle.blue_model.specs.Machine.{Machine, LogRow, Outcome, Go, Halt, Spent, Unbuilt, Rule, ◌>>=◌, ◌>>◌, done, clear, numbers, set_numbers, at_rest}
 use Rattle.blue_model.specs.Contexts.{fetch, start, park}
+use Rattle.blue_model.specs.Devices.{due, picture}
 use Rattle.blue_model.specs.Processes.{check_switch}
 use Rattle.blue_model.specs.Bytecodes.{bytecode}
 
@@ -21,23 +23,24 @@ abbrev pub is_message : ℕ → Bool
 is_message r = (r == SELECTOR) || (r == NEW_METHOD)
 
 -- one bytecode; no message is left in its registers
-unfoldable pub step : Rule Step
-step = do
+unfoldable pub step : List Line → Rule Step
+step events = do
   byte ← fetch
-  end ← bytecode byte
+  end ← bytecode events byte
   clear is_message
   done end
 
--- a process switch that waits comes before the bytecode
-unfoldable pub turn : Rule Step
-turn = do
+-- the lines that are due, the timer and a process switch that waits come before the bytecode
+unfoldable pub turn : List Line → Rule Step
+turn events = do
+  due events
   check_switch
-  step
+  step events
 
-unfoldable pub cycle : Rule Step
-cycle = do
+unfoldable pub cycle : List Line → Rule Step
+cycle events = do
   before ← numbers
-  end ← turn
+  end ← turn events
   count_bytecode before.ran
   done end
 
@@ -62,38 +65,44 @@ run_of m (Spent log) = Stopped m BySpentNames log
 run_of m (Unbuilt log) = Stopped m ByUnbuilt log
 
 -- one cycle more, where it hasn't ended or stopped
-abbrev pub one_more : Run → Run
-one_more (Ran Next m) = run_of m (cycle m)
-one_more (Ran Quit m) = Ran Quit m
-one_more (Stopped m why log) = Stopped m why log
+abbrev pub one_more : List Line → Run → Run
+one_more events (Ran Next m) = run_of m (cycle events m)
+one_more events (Ran Quit m) = Ran Quit m
+one_more events (Stopped m why log) = Stopped m why log
 
-unfoldable pub run : ℕ → Machine → Run
-run zero m = Ran Next m
-run (suc n) m = one_more (run n m)
+unfoldable pub run : List Line → ℕ → Machine → Run
+run events zero m = Ran Next m
+run events (suc n) m = one_more events (run events n m)
 
 -- ---- a whole run
 
--- the parked machine, and whether it ended itself; or why and after how many bytecodes it stopped
+-- the parked machine, whether it ended itself, and its picture; or why it stopped, after how many bytecodes, and what they had said
 pub data Ending : Type 0 where
-  Parked : (end : Step) → (machine : Machine) → Ending
-  Stuck : (why : Stopping) → (ran : ℕ) → Ending
+  Parked : (end : Step) → (machine : Machine) → (picture : List ℕ) → Ending
+  Stuck : (why : Stopping) → (ran : ℕ) → (said : List ℕ) → Ending
 
-abbrev pub parked : Step → Machine → Outcome (Unit {0}) → Ending
-parked end m (Go a next log) = Parked end next
-parked end m (Halt c log) = Stuck (ByCause c) m.cpu.ran
-parked end m (Spent log) = Stuck BySpentNames m.cpu.ran
-parked end m (Unbuilt log) = Stuck ByUnbuilt m.cpu.ran
+-- park, and the picture of the display then
+unfoldable pub park_and_draw : Rule (List ℕ)
+park_and_draw = do
+  park
+  picture
+
+abbrev pub parked : Step → Machine → Outcome (List ℕ) → Ending
+parked end m (Go bytes next log) = Parked end next bytes
+parked end m (Halt c log) = Stuck (ByCause c) m.cpu.ran m.transcript
+parked end m (Spent log) = Stuck BySpentNames m.cpu.ran m.transcript
+parked end m (Unbuilt log) = Stuck ByUnbuilt m.cpu.ran m.transcript
 
 abbrev pub ended : Run → Ending
-ended (Ran end m) = parked end m (park m)
-ended (Stopped m why log) = Stuck why m.cpu.ran
+ended (Ran end m) = parked end m (park_and_draw m)
+ended (Stopped m why log) = Stuck why m.cpu.ran m.transcript
 
-abbrev pub run_from : ℕ → Outcome (Unit {0}) → Ending
-run_from steps (Go a m log) = ended (run steps m)
-run_from steps (Halt c log) = Stuck (ByCause c) 0
-run_from steps (Spent log) = Stuck BySpentNames 0
-run_from steps (Unbuilt log) = Stuck ByUnbuilt 0
+abbrev pub run_from : List Line → ℕ → Outcome (Unit {0}) → Ending
+run_from events steps (Go a m log) = ended (run events steps m)
+run_from events steps (Halt c log) = Stuck (ByCause c) 0 []
+run_from events steps (Spent log) = Stuck BySpentNames 0 []
+run_from events steps (Unbuilt log) = Stuck ByUnbuilt 0 []
 
--- What becomes of a heap: the start, at most so many bytecodes, and park.
-unfoldable pub ending : ℕ → Heap → Ending
-ending steps h = run_from steps (start (at_rest h))
+-- What becomes of a heap under an event list: the start, at most so many bytecodes, and park, with the picture.
+unfoldable pub ending : List Line → ℕ → Heap → Ending
+ending events steps h = run_from events steps (start (at_rest h))

@@ -1,5 +1,5 @@
 -- Forms (chapter 18): pictures whose pixels are the bits of words, row by row, the highest bit of a word leftmost.
-use Rattle.std.specs.Prelude.{zero, suc, ℕ, ℤ, pos, negsuc, ◌+◌, ◌-◌, ◌*◌, ◌/◌, ◌%◌, Bool, nat_lt, nat_le, List, [], ◌∷◌, ◌++◌, length, map, codes, decimal, slice_get, slice_index, Option, Some, None, if◌then◌else◌}
+use Rattle.std.specs.Prelude.{zero, suc, ℕ, ℤ, pos, negsuc, ◌+◌, ◌-◌, ◌*◌, ◌/◌, ◌%◌, Bool, nat_lt, nat_le, List, ◌++◌, length, map, codes, decimal, slice_index, Option, Some, None, if◌then◌else◌}
 use Rattle.std.specs.Option.{option_and_then}
 use Rattle.std.specs.List.{concat, range_with_len}
 use Rattle.std.specs.Int.{bit_at}
@@ -105,5 +105,8 @@ row_bytes width words y = map (row_byte width words y) (range_with_len 0 ((width
 unfoldable pub picture_head : ℕ → ℕ → List ℕ
 picture_head width height = codes "P4\n" ++ decimal width ++ codes " " ++ decimal height ++ codes "\n"
 
+abbrev pub picture_rows : Form → List ℕ → List ℕ
+picture_rows f words = concat (map (row_bytes f.width words) (range_with_len 0 f.height))
+
 unfoldable pub picture_text : Form → List ℕ → List ℕ
-picture_text f words = picture_head f.width f.height ++ concat (map (row_bytes f.width words) (range_with_len 0 f.height))
+picture_text f words = picture_head f.width f.height ++ picture_rows f words

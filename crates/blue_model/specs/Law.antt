@@ -7,6 +7,7 @@ use Rattle.long_names.specs.Names.{is_known}
 use Rattle.long_names.specs.Objects.{Making, field_of}
 use Rattle.long_names.specs.Heap.{IsBounded}
 use Rattle.long_names.specs.Thin.{IsWhole, IsThinning}
+use Rattle.blue_model.specs.declared.event.Line.{Line}
 use Rattle.blue_model.specs.declared.step.Step.TheVariants.{Next, Quit}
 use Rattle.blue_model.specs.Machine.{Machine, LogRow, Outcome, Go, Halt, Spent, Unbuilt, Rule, is_there, make}
 use Rattle.blue_model.specs.Cycle.{Run, Ran, Stopped, run, Ending, Parked, Stuck}
@@ -47,15 +48,15 @@ RunsAgree (Stopped m why log) (Stopped s reason rows) = (why ≡ reason) × (log
 RunsAgree _ _ = ⊥
 
 -- k cycles more, where it hasn't ended or stopped
-abbrev pub go_on : ℕ → Run → Run
-go_on k (Ran Next m) = run k m
-go_on k (Ran Quit m) = Ran Quit m
-go_on k (Stopped m why log) = Stopped m why log
+abbrev pub go_on : List Line → ℕ → Run → Run
+go_on events k (Ran Next m) = run events k m
+go_on events k (Ran Quit m) = Ran Quit m
+go_on events k (Stopped m why log) = Stopped m why log
 
 -- and two whole runs
 abbrev pub EndingsAgree : Ending → Ending → Type 0
-EndingsAgree (Parked end m) (Parked last s) = (end ≡ last) × IsThinned m s
-EndingsAgree (Stuck why ran) (Stuck reason counted) = (why ≡ reason) × (ran ≡ counted)
+EndingsAgree (Parked end m picture) (Parked last s drawn) = (end ≡ last) × (picture ≡ drawn) × IsThinned m s
+EndingsAgree (Stuck why ran said) (Stuck reason counted spoken) = (why ≡ reason) × (ran ≡ counted) × (said ≡ spoken)
 EndingsAgree _ _ = ⊥
 
 -- ---- values that rules write down

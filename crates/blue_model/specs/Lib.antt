@@ -15,6 +15,7 @@ pub mod Queues
 pub mod Control
 pub mod Forms
 pub mod BitBlt
+pub mod Devices
 pub mod Primitives
 pub mod Sends
 pub mod Bytecodes

@@ -5,16 +5,18 @@ use Rattle.blue_model.specs.declared.answer.Answer.{Answer}
 use Rattle.blue_model.specs.declared.answer.Answer.TheVariants.{Done, Failed, Execute, Quit}
 use Rattle.blue_model.specs.declared.step.Step.{Step}
 use Rattle.blue_model.specs.declared.step.Step.TheVariants as step
+use Rattle.blue_model.specs.declared.event.Line.{Line}
 use Rattle.blue_model.specs.Machine.{Rule, ◌>>=◌, ◌>>◌, done, unbuilt, pick}
-use Rattle.blue_model.specs.Trials.{Primitive, primitive_in}
+use Rattle.blue_model.specs.Trials.{primitive_in}
 use Rattle.blue_model.specs.Arithmetic.{integer_primitives}
 use Rattle.blue_model.specs.Storage.{object_primitives}
 use Rattle.blue_model.specs.Control.{control_primitive}
 use Rattle.blue_model.specs.Processes.{process_primitives}
+use Rattle.blue_model.specs.Devices.{device_primitives}
 
 -- those that the table has and that aren't built yet
 abbrev pub unbuilt_primitives : List ℕ
-unbuilt_primitives = 93 ∷ 95 ∷ 96 ∷ 99 ∷ 100 ∷ 102 ∷ 128 ∷ []
+unbuilt_primitives = 96 ∷ []
 
 abbrev pub is_unbuilt : ℕ → Bool
 is_unbuilt index = list_any (λ n. n == index) unbuilt_primitives
@@ -27,13 +29,18 @@ is_control index = (nat_le 80 index && nat_le index 84) || (index == 89) || (ind
 abbrev pub is_process : ℕ → Bool
 is_process index = nat_le 85 index && nat_le index 88
 
--- dispatchPrimitives. A primitive that isn't in the table fails
-unfoldable pub primitive : ℕ → Rule Answer
-primitive index =
+-- input, the clock, the display and the transcript
+abbrev pub is_device : ℕ → Bool
+is_device index = (nat_le 93 index && nat_le index 102) || (index == 128)
+
+-- dispatchPrimitives, with the event list that input comes from. A primitive that isn't in the table fails
+unfoldable pub primitive : List Line → ℕ → Rule Answer
+primitive events index =
     pick (is_unbuilt index) unbuilt
     (pick (is_control index) (control_primitive index)
     (pick (is_process index) (primitive_in process_primitives index)
-    (primitive_in (integer_primitives ++ object_primitives) index)))
+    (pick (is_device index) (primitive_in (device_primitives events) index)
+    (primitive_in (integer_primitives ++ object_primitives) index))))
 
 abbrev pub is_perform : ℕ → Bool
 is_perform index = (index == 83) || (index == 84)
@@ -57,5 +64,5 @@ unfoldable pub then_next : Rule (Unit {0}) → Rule Step
 then_next p = p >> done step.Next
 
 -- the primitive, and where it fails the rest
-unfoldable pub tried : ℕ → Rule Step → Rule Step
-tried index rest = primitive index >>= λ answer. pick (has_failed answer) rest (done (step_of answer))
+unfoldable pub tried : List Line → ℕ → Rule Step → Rule Step
+tried events index rest = primitive events index >>= λ answer. pick (has_failed answer) rest (done (step_of answer))

@@ -1,5 +1,5 @@
 -- Processes and semaphores (chapter 29, process-oriented control primitives). A list of processes links them by their first fields.
-use Rattle.std.specs.Prelude.{zero, suc, ℕ, ℤ, pos, negsuc, ◌+ℤ◌, ◌-ℤ◌, ◌-◌, ◌&&◌, nat_lt, nat_le, Bool, true, false, is_some, List, [], ◌∷◌, Option, Some, None, if◌then◌else◌}
+use Rattle.std.specs.Prelude.{zero, suc, ℕ, ℤ, pos, negsuc, ◌+ℤ◌, ◌-ℤ◌, nat_lt, Bool, true, false, is_some, List, [], ◌∷◌, Option, Some, None, if◌then◌else◌}
 use Rattle.std.specs.Int.Signed.{lt_z}
 use Rattle.long_names.specs.declared.value.Value.{Value}
 use Rattle.long_names.specs.declared.value.Value.TheVariants.{Int}
@@ -13,7 +13,7 @@ use Rattle.blue_model.specs.Machine.{Rule, ◌>>=◌, ◌>>◌, done, halt, give
 use Rattle.blue_model.specs.Parts.{is_nil, size, field, number}
 use Rattle.blue_model.specs.Contexts.{store_field, stack, enter, scheduler, active_process}
 use Rattle.blue_model.specs.Messages.{put_stack}
-use Rattle.blue_model.specs.Trials.{where_some, where_true, ◌>>?◌, peek, Primitive}
+use Rattle.blue_model.specs.Trials.{where_true, ◌>>?◌, peek, Primitive}
 use Rattle.blue_model.specs.Storage.{is_same, row}
 
 -- ---- lists of processes

@@ -17,7 +17,12 @@ ghost use Rattle.blue_model.specs.declared.answer.Answer.TheVariants.{Failed};
 ghost use Rattle.blue_model.specs.Primitives.{primitive};
 ghost use Rattle.blue_model.specs.Bytecodes.{Range, bytecodes, has_byte, bytecode};
 ghost use Rattle.blue_model.specs.declared.step.Step.TheVariants.{Next, Quit};
-ghost use Rattle.blue_model.specs.Cycle.{step, cycle, run, Ran, ending, Stuck, ByCause};
+ghost use Rattle.blue_model.specs.Cycle.{step, cycle, run, Ran, ending, park_and_draw, Stuck, ByCause};
+ghost use Rattle.blue_model.specs.declared.event.Line.{Line};
+ghost use Rattle.blue_model.specs.BitBlt.{copy_bits, copied_words, black};
+ghost use Rattle.blue_model.specs.Devices.{due, display_row, picture, take_lines, take_all, lines_at, AreRising};
+ghost use Rattle.blue_model.specs.Forms.{picture_rows};
+ghost use Rattle.blue_model.specs.Base.{one_right_and_down, small_form, small_words, moved_words, moved_picture};
 ghost use Rattle.blue_model.specs.Law.{IsWholeMachine, IsThinned, RespectsThinning, RunsAgree, EndingsAgree, AllThere, go_on};
 ghost use Rattle.blue_model.specs.Worked.{worked_heap, worked_schedule, current_after, field_after, GATE, RUNNER, LOW_SECOND, MIDDLE, HIGH, NEWCOMER};
 ghost use Rattle.blue_model.specs.Base.{nil, heap_of, base_code, context_at, context_in, minus, small_result};
@@ -25,11 +30,31 @@ ghost use Rattle.blue_model.specs.Base.{nil, heap_of, base_code, context_at, con
 /// A cycle over a thinning answers, stops and logs as over the heap, and leaves a thinning of what it leaves of the heap. So do its
 /// bytecode alone, the start and park. A machine whose heap is whole is a thinning of itself.
 pub fn a_cycle_respects_thinning()
-    ensures cycle { RespectsThinning cycle }
-    ensures step { RespectsThinning step }
+    ensures cycle { (events : List Line) → RespectsThinning (cycle events) }
+    ensures step { (events : List Line) → RespectsThinning (step events) }
     ensures start { RespectsThinning start }
     ensures park { RespectsThinning park }
+    ensures draw { RespectsThinning park_and_draw }
+    ensures picture { RespectsThinning picture }
     ensures whole { (m : Machine) → IsWholeMachine m → IsThinned m m }
+{}
+
+/// So do BitBlt and the rules that come before a bytecode.
+pub fn devices_respect_thinning()
+    ensures blit { RespectsThinning copy_bits }
+    ensures due { (events : List Line) → RespectsThinning (due events) }
+    ensures row { (y : ℕ) → RespectsThinning (display_row y) }
+{}
+
+/// Of an event list whose counts never fall, the lines that are taken at a count are those that have it, in their order.
+pub fn a_count_takes_its_lines()
+    ensures { (count : ℕ) (lines : List Line) → AreRising count lines → take_lines count lines ≡ take_all (lines_at count lines) }
+{}
+
+/// A form of 17 by 3 pixels that is copied onto itself, one pixel to the right and one down, and clipped at its right; and its picture.
+pub fn worked_pictures()
+    ensures copied { copied_words one_right_and_down small_form (Some small_form) small_words small_words black ≡ moved_words }
+    ensures drawn { picture_rows small_form moved_words ≡ moved_picture }
 {}
 
 /// So does the lookup from the class in a register.
@@ -45,7 +70,8 @@ pub fn a_lookup_takes_the_first_class()
 
 /// A primitive that fails has changed nothing, and made nothing.
 pub fn a_failed_primitive_changes_nothing()
-    ensures { (index : ℕ) (m s : Machine) (log : List LogRow) → primitive index m ≡ Go Failed s log → s ≡ m }
+    ensures table { (events : List Line) (index : ℕ) (m s : Machine) (log : List LogRow) → primitive events index m ≡ Go Failed s log → s ≡ m }
+    ensures blit { (m s : Machine) (log : List LogRow) → copy_bits m ≡ Go Failed s log → s ≡ m }
 {}
 
 /// A list of processes is a queue: a process is added behind the others, and the one that is taken is the first. A list of other
@@ -84,25 +110,25 @@ pub fn worked_schedule_is_one()
 
 /// A run of j + k cycles is a run of j and then, where that didn't end or stop, a run of k.
 pub fn runs_add_up()
-    ensures { (j k : ℕ) (m : Machine) → run (j + k) m ≡ go_on k (run j m) }
+    ensures { (events : List Line) (j k : ℕ) (m : Machine) → run events (j + k) m ≡ go_on events k (run events j m) }
 {}
 
 /// A run of k cycles that goes through ran k bytecodes more, and one that the machine ended no more than that.
 pub fn runs_count_bytecodes()
-    ensures through { (k : ℕ) (m n : Machine) → run k m ≡ Ran Next n → n.cpu.ran ≡ m.cpu.ran + k }
-    ensures ended { (k : ℕ) (m n : Machine) → run k m ≡ Ran Quit n → n.cpu.ran ≤ m.cpu.ran + k }
+    ensures through { (events : List Line) (k : ℕ) (m n : Machine) → run events k m ≡ Ran Next n → n.cpu.ran ≡ m.cpu.ran + k }
+    ensures ended { (events : List Line) (k : ℕ) (m n : Machine) → run events k m ≡ Ran Quit n → n.cpu.ran ≤ m.cpu.ran + k }
 {}
 
 /// A run of k cycles over a thinning runs as over the heap, or stops for the same reason with the same log, and is over a thinning
 /// again.
 pub fn a_run_respects_thinning()
-    ensures { (k : ℕ) (m s : Machine) → IsThinned m s → RunsAgree (run k m) (run k s) }
+    ensures { (events : List Line) (k : ℕ) (m s : Machine) → IsThinned m s → RunsAgree (run events k m) (run events k s) }
 {}
 
 /// A whole run over a thinning is parked over a thinning of what is parked over the heap, or is stuck for the same reason after as
 /// many bytecodes.
 pub fn a_whole_run_respects_thinning()
-    ensures { (steps : ℕ) (h s : Heap) → IsThinned (at_rest h) (at_rest s) → EndingsAgree (ending steps h) (ending steps s) }
+    ensures { (events : List Line) (steps : ℕ) (h s : Heap) → IsThinned (at_rest h) (at_rest s) → EndingsAgree (ending events steps h) (ending events steps s) }
 {}
 
 /// The tests of the rules that write a value down never say no over a whole heap.
@@ -112,8 +138,8 @@ pub fn tests_never_say_no()
 
 /// Each byte is in one range of the table, and does what that range says.
 pub fn each_byte_has_one_range()
-    ensures one { (byte : ℕ) → byte < 2 ^ 8 → count_by (has_byte byte) bytecodes ≡ 1 }
-    ensures rule { (byte : ℕ) (r : Range) → byte < 2 ^ 8 → Contains bytecodes r → has_byte byte r ≡ true → bytecode byte ≡ r.rule (byte - r.first) }
+    ensures one { (events : List Line) (byte : ℕ) → byte < 2 ^ 8 → count_by (has_byte byte) (bytecodes events) ≡ 1 }
+    ensures rule { (events : List Line) (byte : ℕ) (r : Range) → byte < 2 ^ 8 → Contains (bytecodes events) r → has_byte byte r ≡ true → bytecode events byte ≡ r.rule (byte - r.first) }
 {}
 
 /// What // leaves is what \\ answers. It is 0 or has the sign of the divisor, and is less than it in size.
@@ -143,19 +169,19 @@ pub fn worked_heaps_are_whole()
 
 /// A context whose method pushes the receiver, pops it and jumps back, after 0 to 4 bytecodes.
 pub fn base_image()
-    ensures none { context_in (ending 0 (heap_of base_code)) ≡ context_at 3 0 nil }
-    ensures one { context_in (ending 1 (heap_of base_code)) ≡ context_at 4 1 nil }
-    ensures two { context_in (ending 2 (heap_of base_code)) ≡ context_at 5 0 nil }
-    ensures three { context_in (ending 3 (heap_of base_code)) ≡ context_at 3 0 nil }
-    ensures four { context_in (ending 4 (heap_of base_code)) ≡ context_at 4 1 nil }
+    ensures none { context_in (ending [] 0 (heap_of base_code)) ≡ context_at 3 0 nil }
+    ensures one { context_in (ending [] 1 (heap_of base_code)) ≡ context_at 4 1 nil }
+    ensures two { context_in (ending [] 2 (heap_of base_code)) ≡ context_at 5 0 nil }
+    ensures three { context_in (ending [] 3 (heap_of base_code)) ≡ context_at 3 0 nil }
+    ensures four { context_in (ending [] 4 (heap_of base_code)) ≡ context_at 4 1 nil }
 {}
 
 /// Codes that stop at their first bytecode, and one that stops at its second.
 pub fn stuck_codes()
-    ensures unused { ending 5 (heap_of (126 ∷ [])) ≡ Stuck (ByCause Unused) 0 }
-    ensures empty_stack { ending 5 (heap_of (135 ∷ [])) ≡ Stuck (ByCause Stack) 0 }
-    ensures over_the_end { ending 5 (heap_of (151 ∷ [])) ≡ Stuck (ByCause Pointer) 0 }
-    ensures no_code { ending 5 (heap_of []) ≡ Stuck (ByCause Pointer) 0 }
-    ensures no_field { ending 5 (heap_of (117 ∷ 0 ∷ [])) ≡ Stuck (ByCause Shape) 1 }
-    ensures no_receiver { ending 5 (heap_of (176 ∷ [])) ≡ Stuck (ByCause Stack) 0 }
+    ensures unused { ending [] 5 (heap_of (126 ∷ [])) ≡ Stuck (ByCause Unused) 0 [] }
+    ensures empty_stack { ending [] 5 (heap_of (135 ∷ [])) ≡ Stuck (ByCause Stack) 0 [] }
+    ensures over_the_end { ending [] 5 (heap_of (151 ∷ [])) ≡ Stuck (ByCause Pointer) 0 [] }
+    ensures no_code { ending [] 5 (heap_of []) ≡ Stuck (ByCause Pointer) 0 [] }
+    ensures no_field { ending [] 5 (heap_of (117 ∷ 0 ∷ [])) ≡ Stuck (ByCause Shape) 1 [] }
+    ensures no_receiver { ending [] 5 (heap_of (176 ∷ [])) ≡ Stuck (ByCause Stack) 0 [] }
 {}

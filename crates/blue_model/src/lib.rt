@@ -17,6 +17,7 @@
 mod answer;
 mod cause;
 mod cpu;
+mod event;
 pub mod laws;
 mod spot;
 mod step;
@@ -24,5 +25,6 @@ mod step;
 pub use answer::Answer;
 pub use cause::Cause;
 pub use cpu::Cpu;
+pub use event::{Event, Line};
 pub use spot::Spot;
 pub use step::Step;

@@ -9,6 +9,7 @@ pub mod PeekLaws
 pub mod ReadLaws
 pub mod RegisterLaws
 pub mod ServesLaws
+pub mod SpeaksLaws
 pub mod Steps
 pub mod StoreLaws
 pub mod TrialLaws

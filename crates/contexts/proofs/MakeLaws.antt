@@ -119,7 +119,7 @@ make_refused {Z} {old} {new} {cpu} {f} to class what ready x = record {
         let past = cause.1 told in
         let same = st.heap.next in
         absurd (omega arith)
-    allows told m st b (Said count) low cause left = tt
+    allows told m st b (Said count) low cause left = absurd cause.2
     allows told m st b Memory low cause left = tt
 
     go : (told : IsTrue old.tells) (m : Machine) → Stands old cpu m → (b : Bool) → nat_lt m.heap.next LAST_NAME ≡ b → Gives new cpu (Err (Mem f)) (made m (object_made (old.regs class) what) b)

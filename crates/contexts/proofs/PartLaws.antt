@@ -9,7 +9,7 @@ use Rattle.long_names.specs.declared.value.Value.TheVariants.{Int, Ref}
 use Rattle.long_names.specs.declared.object.Body.{Body}
 use Rattle.long_names.specs.declared.object.Body.TheVariants.{Pointers, Words, Bytes, Method}
 use Rattle.long_names.specs.declared.object.Object.{Object}
-use Rattle.long_names.specs.Objects.{int_of, field_of, pointers_of, literals_of, header_of, bytes_of}
+use Rattle.long_names.specs.Objects.{int_of, field_of, pointers_of, literals_of, header_of, bytes_of, text_of}
 use Rattle.long_names.specs.Heap.{Heap}
 use Rattle.long_names.specs.State.{object_at, part_at, HasPart}
 use Rattle.object_memory.specs.Told.{Told}
@@ -128,6 +128,14 @@ lacking {A} {X} h v i list g none past lack = go (object_at h v) refl
 -- a test that wasn't passed
 not_passed : {A : Type 0} {t : Told} {r : ℕ} {f : Body → Option A} {P : A → Type 0} {answer : Bool} → IsTestAt t r f P answer → answer ≡ false → IsTrue t.tells → HasPart t.heap (t.regs r) f P → ⊥
 not_passed {A} {t} {r} {f} {P} {answer} test is told has = let yes = (test.there told).1 has in let no : ◌≡◌ {A = Bool} true false = sym yes ∙ is in absurd (cc)
+
+-- an object that was tested to be none of bytes
+pub text_none : {t : Told} {r : ℕ} {answer : Bool} → IsTestAt t r text_of (λ bytes. Unit {0}) answer → answer ≡ false → IsTrue t.tells → part_at t.heap (t.regs r) text_of ≡ None
+text_none {t} {r} {answer} test is told = go (part_at t.heap (t.regs r) text_of) refl
+  where
+    go : (x : Option (List ℕ)) → part_at t.heap (t.regs r) text_of ≡ x → part_at t.heap (t.regs r) text_of ≡ None
+    go None e = e
+    go (Some bytes) e = absurd (not_passed test is told (bytes, e, tt))
 
 -- an element of a list that was tested to have it,
 pub element_there : {t : Told} {r : ℕ} (list : Body → Option (List ℕ)) (i : ℕ) → HasPartAt t r list (λ xs. i + 1 ≤ length xs) → IsTrue t.tells → (x : ℕ) × (part_at t.heap (t.regs r) (λ b. option_and_then (λ (xs : List ℕ). slice_get xs i) (list b)) ≡ Some x)

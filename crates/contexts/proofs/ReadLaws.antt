@@ -31,7 +31,7 @@ use Rattle.blue_model.specs.declared.cpu.Cpu.{Cpu}
 use Rattle.blue_model.specs.Machine.{Machine, MACHINE_REGISTERS, LogRow, Outcome, Go, Halt, Rule, row_of, rows_at, looked, log_of, then_do, ◌>>=◌, done, halt, given, look, part, known}
 use Rattle.contexts.specs.declared.stop.Stop.{Stop}
 use Rattle.contexts.specs.declared.stop.Stop.TheVariants.{Stuck, Mem}
-use Rattle.contexts.specs.Serves.{Stands, HasNeed, IsLogged, Allows, Gives, WasFull, IsCaused, IsRefused, Serves, with_value}
+use Rattle.contexts.specs.Serves.{Stands, HasNeed, IsLogged, Allows, Gives, GivesAs, WasFull, IsCaused, IsRefused, ServesAs, Serves, with_value}
 use Rattle.contexts.proofs.CacheLaws.{sound_looked}
 use Rattle.contexts.proofs.ServesLaws.{IsCounted-refl, Gives-after, serves_stop}
 use Rattle.contexts.proofs.Steps.{IsQuiet, quiet_looked, read_first, read_last, stuck_last}
@@ -99,9 +99,9 @@ part_stuck {A} {t} {cpu} f r ready e = record {
 }
 
 -- a part that is there, whose value the rest of the rule doesn't use
-pub part_first : {A B : Type 0} {t new : Told} {cpu now : Cpu} {rest : Rule B} {answer : Result B Stop} (c : Cause) (f : Object → Option A) (r : ℕ) → (IsTrue t.tells → (a : A) × (option_and_then f (object_at t.heap (t.regs r)) ≡ Some a)) → Serves t cpu new now rest answer → Serves t cpu new now (part c f (t.regs r) >>= (λ _. rest)) answer
+pub part_first : {A B : Type 0} {w : Option B} {t new : Told} {cpu now : Cpu} {rest : Rule B} {answer : Result B Stop} (c : Cause) (f : Object → Option A) (r : ℕ) → (IsTrue t.tells → (a : A) × (option_and_then f (object_at t.heap (t.regs r)) ≡ Some a)) → ServesAs w t cpu new now rest answer → ServesAs w t cpu new now (part c f (t.regs r) >>= (λ _. rest)) answer
 unfolding ◌>>=◌
-part_first {A} {B} {t} {new} {cpu} {now} {rest} {answer} c f r there s = record {
+part_first {A} {B} {w} {t} {new} {cpu} {now} {rest} {answer} c f r there s = record {
   later = s.later;
   ready = s.ready;
   reason = s.reason;
@@ -109,8 +109,8 @@ part_first {A} {B} {t} {new} {cpu} {now} {rest} {answer} c f r there s = record 
   silent = s.silent;
   model = λ told m st.
       let it = there told in
-      let P : Outcome A → Type 0 = λ o. Gives new now answer (then_do o (λ _. rest)) in
-      subst P (sym (goes_here c f t cpu m (t.regs r) it.0 st it.1)) (Gives-after new now (rows_at m (t.regs r) ++ []) (rest m) answer (s.model told m st));
+      let P : Outcome A → Type 0 = λ o. GivesAs w new now answer (then_do o (λ _. rest)) in
+      subst P (sym (goes_here c f t cpu m (t.regs r) it.0 st it.1)) (Gives-after w new now (rows_at m (t.regs r) ++ []) (rest m) answer (s.model told m st));
 }
 
 -- a part of a part is taken out in two steps
@@ -130,14 +130,14 @@ part_by {A} {B} c f g v m = go v (object_at m.heap v)
     go v None = refl
     go v (Some o) = taken (rows_at m v) o (f o) (rows_end v)
 
-pub part_steps : {A B : Type 0} {old new : Told} {cpu now : Cpu} {answer : Result B Stop} (c : Cause) (f : Object → Option A) (g : A → Option B) (v : Value) → Serves old cpu new now (part c f v >>= (λ x. given c (g x))) answer → Serves old cpu new now (part c (λ o. option_and_then g (f o)) v) answer
-part_steps {A} {B} {old} {new} {cpu} {now} {answer} c f g v s = record {
+pub part_steps : {A B : Type 0} {w : Option B} {old new : Told} {cpu now : Cpu} {answer : Result B Stop} (c : Cause) (f : Object → Option A) (g : A → Option B) (v : Value) → ServesAs w old cpu new now (part c f v >>= (λ x. given c (g x))) answer → ServesAs w old cpu new now (part c (λ o. option_and_then g (f o)) v) answer
+part_steps {A} {B} {w} {old} {new} {cpu} {now} {answer} c f g v s = record {
   later = s.later;
   ready = s.ready;
   reason = s.reason;
   counts = s.counts;
   silent = s.silent;
-  model = λ told m st. subst (Gives new now answer) (sym (part_by c f g v m)) (s.model told m st);
+  model = λ told m st. subst (GivesAs w new now answer) (sym (part_by c f g v m)) (s.model told m st);
 }
 
 -- ---- a part, with reads around it
@@ -216,14 +216,14 @@ refused_silent old new (Say of) f silent says speaks = absurd (silent tt)
 refused_silent old new _ f silent says speaks = says speaks
 
 -- An outcome that has the row of an access which makes nothing allows its faults.
-pub allows_row : {A : Type 0} (old new : Told) (a : Access) (f : MemFault) (o : Outcome A) → IsTrue old.tells → (IsMaking (Does a) → ⊥) → IsLogged (need_of_access old a) (log_of o) → HasCause old new (Does a) f → Allows new f o
-allows_row old new a (CoreFull need) o told makes row cause = subst (λ n. IsLogged n (log_of o)) (sym (cause.1 told)) row
-allows_row old new a (WorkFull live room) o told makes row cause = absurd (makes cause.2)
-allows_row old new a (WorkFault count) o told makes row cause = tt
-allows_row old new a (Damaged place name) o told makes row cause = cause told
-allows_row old new a NamesSpent o told makes row cause = absurd (makes cause.0)
-allows_row old new a (Said count) o told makes row cause = tt
-allows_row old new a Memory o told makes row cause = tt
+pub allows_row : {A : Type 0} (old new : Told) (a : Access) (f : MemFault) (o : Outcome A) → IsTrue old.tells → (IsMaking (Does a) → ⊥) → (IsSaying (Does a) → ⊥) → IsLogged (need_of_access old a) (log_of o) → HasCause old new (Does a) f → Allows new f o
+allows_row old new a (CoreFull need) o told makes says row cause = subst (λ n. IsLogged n (log_of o)) (sym (cause.1 told)) row
+allows_row old new a (WorkFull live room) o told makes says row cause = absurd (makes cause.2)
+allows_row old new a (WorkFault count) o told makes says row cause = tt
+allows_row old new a (Damaged place name) o told makes says row cause = cause told
+allows_row old new a NamesSpent o told makes says row cause = absurd (makes cause.0)
+allows_row old new a (Said count) o told makes says row cause = absurd (says cause.2)
+allows_row old new a Memory o told makes says row cause = tt
 
 log_looked : (m : Machine) (v : Value) (x : Option Object) → log_of (looked m v x) ≡ rows_at m v
 log_looked m v None = refl
@@ -254,7 +254,7 @@ row_refused {A} {B} {old} {new} {cpu} {rule} {f} v a rows makes says need ready 
   silent = refused_silent old new a f says x.err.transcript;
   model = λ told m st.
       let row = subst (λ n. IsLogged n (rows_at m v)) (sym need) (logged_here old cpu m v (ready.whole told) (there told) st) in
-      allows_row old new a f (rule m) told makes (rows m (need_of_access old a) row) x.err.cause;
+      allows_row old new a f (rule m) told makes says (rows m (need_of_access old a) row) x.err.cause;
 }
 
 -- The rule looks at it.

@@ -1,5 +1,5 @@
 -- Laws of serving: two calls in a row serve two rules in a row, and a call that stopped serves whatever was to follow.
-use Rattle.std.proofs.Common.{◌≡◌, ℕ, ◌+◌, ◌≤◌, List, [], ◌∷◌, ◌++◌, Option, Some, None, Result, Ok, Err, OnOk, inl, inr, refl, sym, ◌∙◌, ap, subst, arith}
+use Rattle.std.proofs.Common.{◌≡◌, ℕ, ◌+◌, ◌≤◌, List, [], ◌∷◌, ◌++◌, append-nil, Option, Some, None, Result, Ok, Err, OnOk, inl, inr, refl, sym, ◌∙◌, ap, subst, arith}
 use Rattle.std.specs.Result.{IsErrAnd}
 use Rattle.std.proofs.lemmas.Result.{err_from_is_err_and}
 use Rattle.long_names.specs.Counting.{Rose}
@@ -13,7 +13,7 @@ use Rattle.blue_model.specs.declared.cpu.Cpu.{Cpu}
 use Rattle.blue_model.specs.Machine.{Machine, LogRow, Outcome, Go, Halt, Spent, Unbuilt, Rule, log_of, after, then_do, ◌>>=◌}
 use Rattle.contexts.specs.declared.stop.Stop.{Stop}
 use Rattle.contexts.specs.declared.stop.Stop.TheVariants.{Stuck, Mem, NotBuilt}
-use Rattle.contexts.specs.Serves.{Stands, IsLogged, HasMaking, IsGo, Allows, Gives, WasFull, IsCounted, IsCaused, HasReason, Serves}
+use Rattle.contexts.specs.Serves.{Stands, IsLogged, HasMaking, IsGo, MaySay, Allows, AllowsAs, Gives, GivesAs, WasFull, IsCounted, IsCaused, HasReason, SaidNothing, Says, ServesAs, Serves}
 
 -- ---- counts
 
@@ -69,6 +69,41 @@ HasReason-earlier a b c (Err (Stuck d)) l n q = tt
 HasReason-earlier a b c (Err NotBuilt) l n q = tt
 HasReason-earlier a b c (Err (Mem f)) l n q = record { rose = Rose-earlier a.refusals b.refusals c.refusals l.refusals q.rose; last = q.last; cause = IsCaused-earlier a b c f l n q.cause }
 
+-- ---- what was said
+
+-- nothing, twice
+pub said_nothing : (a b c : Told) → IsLater a b → SaidNothing a b → SaidNothing b c → SaidNothing a c
+said_nothing a b c l p q = λ speaks. q (l.speaks ∙ speaks) ∙ p speaks
+
+-- nothing before
+pub says_later : {A : Type 0} (w : Option A) (a b c : Told) (r : Result A Stop) → IsLater a b → SaidNothing a b → Says w b c r → Says w a c r
+says_later None a b c r l p q = said_nothing a b c l p q
+says_later (Some x) a b c (Ok y) l p (inl e) = inl e
+says_later (Some x) a b c (Ok y) l p (inr q) = inr (said_nothing a b c l p q)
+says_later (Some x) a b c (Err (Stuck d)) l p q = said_nothing a b c l p q
+says_later (Some x) a b c (Err NotBuilt) l p q = said_nothing a b c l p q
+says_later (Some x) a b c (Err (Mem (Said count))) l p q = λ speaks. (let it = q (l.speaks ∙ speaks) in (it.0, it.1 ∙ ap (λ (t : List ℕ). t ++ it.0) (p speaks)))
+says_later (Some x) a b c (Err (Mem (CoreFull need))) l p q = said_nothing a b c l p q
+says_later (Some x) a b c (Err (Mem (WorkFull live room))) l p q = said_nothing a b c l p q
+says_later (Some x) a b c (Err (Mem (WorkFault count))) l p q = said_nothing a b c l p q
+says_later (Some x) a b c (Err (Mem (Damaged place name))) l p q = said_nothing a b c l p q
+says_later (Some x) a b c (Err (Mem NamesSpent)) l p q = said_nothing a b c l p q
+says_later (Some x) a b c (Err (Mem Memory)) l p q = said_nothing a b c l p q
+
+-- what may say something may say nothing
+pub says_quietly : {A : Type 0} (w : Option A) (old new : Told) (r : Result A Stop) → SaidNothing old new → Says w old new r
+says_quietly None old new r h = h
+says_quietly (Some x) old new (Ok y) h = inr h
+says_quietly (Some x) old new (Err (Stuck c)) h = h
+says_quietly (Some x) old new (Err NotBuilt) h = h
+says_quietly (Some x) old new (Err (Mem (Said count))) h = λ speaks. ([], h speaks ∙ sym (append-nil old.transcript))
+says_quietly (Some x) old new (Err (Mem (CoreFull need))) h = h
+says_quietly (Some x) old new (Err (Mem (WorkFull live room))) h = h
+says_quietly (Some x) old new (Err (Mem (WorkFault count))) h = h
+says_quietly (Some x) old new (Err (Mem (Damaged place name))) h = h
+says_quietly (Some x) old new (Err (Mem NamesSpent)) h = h
+says_quietly (Some x) old new (Err (Mem Memory)) h = h
+
 -- ---- logs
 
 IsLogged-after : (need : Need) (xs ys : List LogRow) → IsLogged need ys → IsLogged need (xs ++ ys)
@@ -103,38 +138,62 @@ go_after rows a P (Halt c log) h = h
 go_after rows a P (Spent log) h = h
 go_after rows a P (Unbuilt log) h = h
 
-allows_after : {A : Type 0} (t : Told) (rows : List LogRow) (f : MemFault) (o : Outcome A) → Allows t f o → Allows t f (after rows o)
-allows_after t rows (CoreFull need) o h = subst (IsLogged need) (sym (log_after rows o)) (IsLogged-after need rows (log_of o) h)
-allows_after t rows (WorkFull live room) o h = subst (HasMaking t.heap.next) (sym (log_after rows o)) (HasMaking-after t.heap.next rows (log_of o) h)
-allows_after t rows (WorkFault count) o h = tt
-allows_after t rows (Damaged place name) o h = absurd h
-allows_after t rows NamesSpent (Go a m log) h = absurd h
-allows_after t rows NamesSpent (Halt c log) h = absurd h
-allows_after t rows NamesSpent (Spent log) h = tt
-allows_after t rows NamesSpent (Unbuilt log) h = absurd h
-allows_after t rows (Said count) o h = tt
-allows_after t rows Memory o h = tt
+says_after : {A : Type 0} (w : Option A) (t : Told) (rows : List LogRow) (o : Outcome A) → MaySay w t o → MaySay w t (after rows o)
+says_after None t rows o h = h
+says_after (Some b) t rows (Go a m log) h = h
+says_after (Some b) t rows (Halt c log) h = h
+says_after (Some b) t rows (Spent log) h = h
+says_after (Some b) t rows (Unbuilt log) h = h
 
-pub Gives-after : {A : Type 0} (t : Told) (cpu : Cpu) (rows : List LogRow) (o : Outcome A) (r : Result A Stop) → Gives t cpu r o → Gives t cpu r (after rows o)
-Gives-after t cpu rows o (Ok a) h = go_after rows a (Stands t cpu) o h
-Gives-after t cpu rows o (Err (Mem f)) h = allows_after t rows f o h
-Gives-after t cpu rows (Go a m log) (Err (Stuck d)) h = absurd h
-Gives-after t cpu rows (Halt c log) (Err (Stuck d)) h = h
-Gives-after t cpu rows (Spent log) (Err (Stuck d)) h = absurd h
-Gives-after t cpu rows (Unbuilt log) (Err (Stuck d)) h = absurd h
-Gives-after t cpu rows (Go a m log) (Err NotBuilt) h = absurd h
-Gives-after t cpu rows (Halt c log) (Err NotBuilt) h = absurd h
-Gives-after t cpu rows (Spent log) (Err NotBuilt) h = absurd h
-Gives-after t cpu rows (Unbuilt log) (Err NotBuilt) h = h
+allows_after : {A : Type 0} (w : Option A) (t : Told) (rows : List LogRow) (f : MemFault) (o : Outcome A) → AllowsAs w t f o → AllowsAs w t f (after rows o)
+allows_after w t rows (CoreFull need) o h = subst (IsLogged need) (sym (log_after rows o)) (IsLogged-after need rows (log_of o) h)
+allows_after w t rows (WorkFull live room) o h = subst (HasMaking t.heap.next) (sym (log_after rows o)) (HasMaking-after t.heap.next rows (log_of o) h)
+allows_after w t rows (WorkFault count) o h = tt
+allows_after w t rows (Damaged place name) o h = absurd h
+allows_after w t rows NamesSpent (Go a m log) h = absurd h
+allows_after w t rows NamesSpent (Halt c log) h = absurd h
+allows_after w t rows NamesSpent (Spent log) h = tt
+allows_after w t rows NamesSpent (Unbuilt log) h = absurd h
+allows_after w t rows (Said count) o h = says_after w t rows o h
+allows_after w t rows Memory o h = tt
+
+pub Gives-after : {A : Type 0} (w : Option A) (t : Told) (cpu : Cpu) (rows : List LogRow) (o : Outcome A) (r : Result A Stop) → GivesAs w t cpu r o → GivesAs w t cpu r (after rows o)
+Gives-after w t cpu rows o (Ok a) h = go_after rows a (Stands t cpu) o h
+Gives-after w t cpu rows o (Err (Mem f)) h = allows_after w t rows f o h
+Gives-after w t cpu rows (Go a m log) (Err (Stuck d)) h = absurd h
+Gives-after w t cpu rows (Halt c log) (Err (Stuck d)) h = h
+Gives-after w t cpu rows (Spent log) (Err (Stuck d)) h = absurd h
+Gives-after w t cpu rows (Unbuilt log) (Err (Stuck d)) h = absurd h
+Gives-after w t cpu rows (Go a m log) (Err NotBuilt) h = absurd h
+Gives-after w t cpu rows (Halt c log) (Err NotBuilt) h = absurd h
+Gives-after w t cpu rows (Spent log) (Err NotBuilt) h = absurd h
+Gives-after w t cpu rows (Unbuilt log) (Err NotBuilt) h = h
+
+-- ---- a rule that may say something, and says nothing
+
+allows_quietly : {A : Type 0} (w : Option A) (t : Told) (f : MemFault) (o : Outcome A) → Allows t f o → AllowsAs w t f o
+allows_quietly w t (CoreFull need) o h = h
+allows_quietly w t (WorkFull live room) o h = h
+allows_quietly w t (WorkFault count) o h = tt
+allows_quietly w t (Damaged place name) o h = absurd h
+allows_quietly w t NamesSpent o h = h
+allows_quietly w t (Said count) o h = absurd h
+allows_quietly w t Memory o h = tt
+
+gives_quietly : {A : Type 0} (w : Option A) (t : Told) (cpu : Cpu) (r : Result A Stop) (o : Outcome A) → Gives t cpu r o → GivesAs w t cpu r o
+gives_quietly w t cpu (Ok a) o h = h
+gives_quietly w t cpu (Err (Stuck c)) o h = h
+gives_quietly w t cpu (Err NotBuilt) o h = h
+gives_quietly w t cpu (Err (Mem f)) o h = allows_quietly w t f o h
 
 -- ---- a rule after another
 
 -- one that went on, and another
-pub Gives-then : {A B : Type 0} (mid new : Told) (cpu now : Cpu) (o : Outcome A) (k : A → Rule B) (a : A) (r : Result B Stop) → Gives mid cpu (Ok a) o → ((m : Machine) → Stands mid cpu m → Gives new now r (k a m)) → Gives new now r (then_do o k)
-Gives-then mid new cpu now (Go b m log) k a r h next = Gives-after new now log (k b m) r (subst (λ x. Gives new now r (k x m)) (sym h.0) (next m h.1))
-Gives-then mid new cpu now (Halt c log) k a r h next = absurd h
-Gives-then mid new cpu now (Spent log) k a r h next = absurd h
-Gives-then mid new cpu now (Unbuilt log) k a r h next = absurd h
+pub Gives-then : {A B : Type 0} (w : Option B) (mid new : Told) (cpu now : Cpu) (o : Outcome A) (k : A → Rule B) (a : A) (r : Result B Stop) → Gives mid cpu (Ok a) o → ((m : Machine) → Stands mid cpu m → GivesAs w new now r (k a m)) → GivesAs w new now r (then_do o k)
+Gives-then w mid new cpu now (Go b m log) k a r h next = Gives-after w new now log (k b m) r (subst (λ x. GivesAs w new now r (k x m)) (sym h.0) (next m h.1))
+Gives-then w mid new cpu now (Halt c log) k a r h next = absurd h
+Gives-then w mid new cpu now (Spent log) k a r h next = absurd h
+Gives-then w mid new cpu now (Unbuilt log) k a r h next = absurd h
 
 logged_then : {A B : Type 0} (need : Need) (o : Outcome A) (k : A → Rule B) → IsLogged need (log_of o) → IsLogged need (log_of (then_do o k))
 logged_then need (Go b m log) k h = subst (IsLogged need) (sym (log_after log (k b m))) (IsLogged-before need log (log_of (k b m)) h)
@@ -148,69 +207,81 @@ making_then n (Halt c log) k h = h
 making_then n (Spent log) k h = h
 making_then n (Unbuilt log) k h = h
 
-allows_then : {A B : Type 0} (new : Told) (o : Outcome A) (k : A → Rule B) (f : MemFault) → Allows new f o → Allows new f (then_do o k)
-allows_then new o k (CoreFull need) h = logged_then need o k h
-allows_then new o k (WorkFull live room) h = making_then new.heap.next o k h
-allows_then new o k (WorkFault count) h = tt
-allows_then new o k (Damaged place name) h = absurd h
-allows_then new (Go b m log) k NamesSpent h = absurd h
-allows_then new (Halt c log) k NamesSpent h = absurd h
-allows_then new (Spent log) k NamesSpent h = tt
-allows_then new (Unbuilt log) k NamesSpent h = absurd h
-allows_then new o k (Said count) h = tt
-allows_then new o k Memory h = tt
+allows_then : {A B : Type 0} (w : Option B) (new : Told) (o : Outcome A) (k : A → Rule B) (f : MemFault) → Allows new f o → AllowsAs w new f (then_do o k)
+allows_then w new o k (CoreFull need) h = logged_then need o k h
+allows_then w new o k (WorkFull live room) h = making_then new.heap.next o k h
+allows_then w new o k (WorkFault count) h = tt
+allows_then w new o k (Damaged place name) h = absurd h
+allows_then w new (Go b m log) k NamesSpent h = absurd h
+allows_then w new (Halt c log) k NamesSpent h = absurd h
+allows_then w new (Spent log) k NamesSpent h = tt
+allows_then w new (Unbuilt log) k NamesSpent h = absurd h
+allows_then w new o k (Said count) h = absurd h
+allows_then w new o k Memory h = tt
 
 -- one at which it stopped
-pub Gives-stop : {A B : Type 0} (new : Told) (now : Cpu) (o : Outcome A) (k : A → Rule B) (e : Stop) → Gives new now (Err e) o → Gives {A = B} new now (Err e) (then_do o k)
-Gives-stop new now o k (Mem f) h = allows_then new o k f h
-Gives-stop new now (Go b m log) k (Stuck c) h = absurd h
-Gives-stop new now (Halt d log) k (Stuck c) h = h
-Gives-stop new now (Spent log) k (Stuck c) h = absurd h
-Gives-stop new now (Unbuilt log) k (Stuck c) h = absurd h
-Gives-stop new now (Go b m log) k NotBuilt h = absurd h
-Gives-stop new now (Halt d log) k NotBuilt h = absurd h
-Gives-stop new now (Spent log) k NotBuilt h = absurd h
-Gives-stop new now (Unbuilt log) k NotBuilt h = h
+pub Gives-stop : {A B : Type 0} (w : Option B) (new : Told) (now : Cpu) (o : Outcome A) (k : A → Rule B) (e : Stop) → Gives new now (Err e) o → GivesAs w new now (Err e) (then_do o k)
+Gives-stop w new now o k (Mem f) h = allows_then w new o k f h
+Gives-stop w new now (Go b m log) k (Stuck c) h = absurd h
+Gives-stop w new now (Halt d log) k (Stuck c) h = h
+Gives-stop w new now (Spent log) k (Stuck c) h = absurd h
+Gives-stop w new now (Unbuilt log) k (Stuck c) h = absurd h
+Gives-stop w new now (Go b m log) k NotBuilt h = absurd h
+Gives-stop w new now (Halt d log) k NotBuilt h = absurd h
+Gives-stop w new now (Spent log) k NotBuilt h = absurd h
+Gives-stop w new now (Unbuilt log) k NotBuilt h = h
 
 -- ---- the laws
 
+-- what says nothing serves a rule that may say something, too
+pub speaks_quiet : {A : Type 0} {w : Option A} {old new : Told} {cpu now : Cpu} {rule : Rule A} {answer : Result A Stop} → Serves old cpu new now rule answer → ServesAs w old cpu new now rule answer
+speaks_quiet {A} {w} {old} {new} {cpu} {now} {rule} {answer} s = record {
+  later = s.later;
+  ready = s.ready;
+  reason = s.reason;
+  counts = s.counts;
+  silent = says_quietly w old new answer s.silent;
+  model = λ told m st. gives_quietly w new now answer (rule m) (s.model told m st);
+}
+
 -- two calls in a row serve the two rules in a row
-pub serves_then : {A B : Type 0} {old mid new : Told} {cpu between now : Cpu} {p : Rule A} (k : A → Rule B) {a : A} {answer : Result B Stop} → Serves old cpu mid between p (Ok a) → Serves mid between new now (k a) answer → Serves old cpu new now (p >>= k) answer
+pub serves_then : {A B : Type 0} {w : Option B} {old mid new : Told} {cpu between now : Cpu} {p : Rule A} (k : A → Rule B) {a : A} {answer : Result B Stop} → Serves old cpu mid between p (Ok a) → ServesAs w mid between new now (k a) answer → ServesAs w old cpu new now (p >>= k) answer
 unfolding ◌>>=◌
-serves_then {A} {B} {old} {mid} {new} {cpu} {between} {now} {p} k {a} {answer} f s = record {
+serves_then {A} {B} {w} {old} {mid} {new} {cpu} {between} {now} {p} k {a} {answer} f s = record {
   later = IsLater-trans old mid new f.later s.later;
   ready = s.ready;
   reason = HasReason-earlier old mid new answer f.later f.counts s.reason;
   counts = counts_trans old mid new answer f.later f.counts s.counts;
-  silent = λ speaks. s.silent (f.later.speaks ∙ speaks) ∙ f.silent speaks;
-  model = λ told m st. Gives-then mid new between now (p m) k a answer (f.model told m st) (λ n sn. s.model (f.later.tells ∙ told) n sn);
+  silent = says_later w old mid new answer f.later f.silent s.silent;
+  model = λ told m st. Gives-then w mid new between now (p m) k a answer (f.model told m st) (λ n sn. s.model (f.later.tells ∙ told) n sn);
 }
+
+-- the reason of a stop names no rule
+pub reason_other : (A B : Type 0) (old new : Told) (e : Stop) → HasReason {A = A} old new (Err e) → HasReason {A = B} old new (Err e)
+reason_other A B old new (Stuck c) h = tt
+reason_other A B old new NotBuilt h = tt
+reason_other A B old new (Mem f) h = h
 
 -- a call that stopped serves whatever was to follow
-pub serves_stop : {A B : Type 0} {old new : Told} {cpu now : Cpu} {p : Rule A} (k : A → Rule B) {e : Stop} → Serves old cpu new now p (Err e) → Serves {A = B} old cpu new now (p >>= k) (Err e)
+pub serves_stop : {A B : Type 0} {w : Option B} {old new : Told} {cpu now : Cpu} {p : Rule A} (k : A → Rule B) {e : Stop} → Serves old cpu new now p (Err e) → ServesAs w old cpu new now (p >>= k) (Err e)
 unfolding ◌>>=◌
-serves_stop {A} {B} {old} {new} {cpu} {now} {p} k {e} f = record {
+serves_stop {A} {B} {w} {old} {new} {cpu} {now} {p} k {e} f = record {
   later = f.later;
   ready = tt;
-  reason = reason e f.reason;
+  reason = reason_other A B old new e f.reason;
   counts = tt;
-  silent = f.silent;
-  model = λ told m st. Gives-stop new now (p m) k e (f.model told m st);
+  silent = says_quietly w old new (Err e) f.silent;
+  model = λ told m st. Gives-stop w new now (p m) k e (f.model told m st);
 }
-  where
-    reason : (e : Stop) → HasReason {A = A} old new (Err e) → HasReason {A = B} old new (Err e)
-    reason (Stuck c) h = tt
-    reason NotBuilt h = tt
-    reason (Mem f) h = h
 
 -- the exit of a `?`
-pub serves_exit : {A B : Type 0} {old new : Told} {cpu now : Cpu} {p : Rule A} (k : A → Rule B) {e : Stop} (r : Result B Stop) → Serves old cpu new now p (Err e) → IsErrAnd r (λ y. y ≡ e) → Serves old cpu new now (p >>= k) r
-serves_exit {A} {B} {old} {new} {cpu} {now} {p} k {e} r s is =
+pub serves_exit : {A B : Type 0} {w : Option B} {old new : Told} {cpu now : Cpu} {p : Rule A} (k : A → Rule B) {e : Stop} (r : Result B Stop) → Serves old cpu new now p (Err e) → IsErrAnd r (λ y. y ≡ e) → ServesAs w old cpu new now (p >>= k) r
+serves_exit {A} {B} {w} {old} {new} {cpu} {now} {p} k {e} r s is =
     let q = err_from_is_err_and r is in
-    subst (λ x. Serves {A = B} old cpu new now (p >>= k) x) (sym (q.1 ∙ ap (λ y. Err y) q.2)) (serves_stop k s)
+    subst (λ x. ServesAs w old cpu new now (p >>= k) x) (sym (q.1 ∙ ap (λ y. Err y) q.2)) (serves_stop k s)
 
 -- the exit of a `?`, for a whole rule
-pub exits : {A : Type 0} {old new : Told} {cpu now : Cpu} {rule : Rule A} {e : Stop} (r : Result A Stop) → IsErrAnd r (λ y. y ≡ e) → Serves old cpu new now rule (Err e) → Serves old cpu new now rule r
-exits {A} {old} {new} {cpu} {now} {rule} {e} r is s =
+pub exits : {A : Type 0} {w : Option A} {old new : Told} {cpu now : Cpu} {rule : Rule A} {e : Stop} (r : Result A Stop) → IsErrAnd r (λ y. y ≡ e) → ServesAs w old cpu new now rule (Err e) → ServesAs w old cpu new now rule r
+exits {A} {w} {old} {new} {cpu} {now} {rule} {e} r is s =
     let q = err_from_is_err_and r is in
-    subst (λ x. Serves {A = A} old cpu new now rule x) (sym (q.1 ∙ ap (λ y. Err y) q.2)) s
+    subst (λ x. ServesAs w old cpu new now rule x) (sym (q.1 ∙ ap (λ y. Err y) q.2)) s

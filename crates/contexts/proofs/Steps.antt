@@ -18,38 +18,38 @@ use Rattle.blue_model.specs.Machine.{Machine, MACHINE_REGISTERS, Outcome, Go, Ha
 use Rattle.contexts.specs.declared.stop.Stop.{Stop}
 use Rattle.contexts.specs.declared.stop.Stop.TheVariants.{Stuck, NotBuilt}
 use Rattle.contexts.specs.Cache.{IsSound}
-use Rattle.contexts.specs.Serves.{Stands, IsGo, Gives, IsCounted, Serves}
-use Rattle.contexts.proofs.ServesLaws.{IsCounted-refl, IsCounted-trans, counts_trans, HasReason-earlier, Gives-after, serves_then, serves_stop, serves_exit}
+use Rattle.contexts.specs.Serves.{Stands, IsGo, Gives, GivesAs, IsCounted, ServesAs, Serves}
+use Rattle.contexts.proofs.ServesLaws.{IsCounted-refl, IsCounted-trans, counts_trans, HasReason-earlier, says_later, says_quietly, Gives-after, serves_then, serves_stop, serves_exit}
 
 -- ---- ends of a rule
 
-pub done_serves : {A : Type 0} {t : Told} {cpu : Cpu} {a : A} → IsReady t → Serves t cpu t cpu (done a) (Ok a)
+pub done_serves : {A : Type 0} {w : Option A} {t : Told} {cpu : Cpu} {a : A} → IsReady t → ServesAs w t cpu t cpu (done a) (Ok a)
 unfolding done
-done_serves {A} {t} {cpu} {a} r = record { later = IsLater-refl t; ready = r; reason = tt; counts = (0, IsCounted-refl t); silent = λ speaks. refl; model = λ told m st. (refl, st) }
+done_serves {A} {w} {t} {cpu} {a} r = record { later = IsLater-refl t; ready = r; reason = tt; counts = (0, IsCounted-refl t); silent = says_quietly w t t (Ok a) (λ speaks. refl); model = λ told m st. (refl, st) }
 
 -- a register that was carried over later calls has the value
-pub done_same : {A : Type 0} {t : Told} {cpu : Cpu} {a b : A} → b ≡ a → IsReady t → Serves t cpu t cpu (done a) (Ok b)
-done_same {A} {t} {cpu} {a} {b} e ready = subst (λ x. Serves t cpu t cpu (done a) (Ok x)) (sym e) (done_serves ready)
+pub done_same : {A : Type 0} {w : Option A} {t : Told} {cpu : Cpu} {a b : A} → b ≡ a → IsReady t → ServesAs w t cpu t cpu (done a) (Ok b)
+done_same {A} {w} {t} {cpu} {a} {b} e ready = subst (λ x. ServesAs w t cpu t cpu (done a) (Ok x)) (sym e) (done_serves ready)
 
-pub halt_serves : {A : Type 0} {t : Told} {cpu : Cpu} {c : Cause} → Serves {A = A} t cpu t cpu (halt c) (Err (Stuck c))
+pub halt_serves : {A : Type 0} {w : Option A} {t : Told} {cpu : Cpu} {c : Cause} → ServesAs w t cpu t cpu (halt c) (Err (Stuck c))
 unfolding halt
-halt_serves {A} {t} {cpu} {c} = record { later = IsLater-refl t; ready = tt; reason = tt; counts = tt; silent = λ speaks. refl; model = λ told m st. refl }
+halt_serves {A} {w} {t} {cpu} {c} = record { later = IsLater-refl t; ready = tt; reason = tt; counts = tt; silent = says_quietly w t t (Err (Stuck c)) (λ speaks. refl); model = λ told m st. refl }
 
-pub unbuilt_serves : {A : Type 0} {t : Told} {cpu : Cpu} → Serves {A = A} t cpu t cpu unbuilt (Err NotBuilt)
+pub unbuilt_serves : {A : Type 0} {w : Option A} {t : Told} {cpu : Cpu} → ServesAs w t cpu t cpu unbuilt (Err NotBuilt)
 unfolding unbuilt
-unbuilt_serves {A} {t} {cpu} = record { later = IsLater-refl t; ready = tt; reason = tt; counts = tt; silent = λ speaks. refl; model = λ told m st. tt }
+unbuilt_serves {A} {w} {t} {cpu} = record { later = IsLater-refl t; ready = tt; reason = tt; counts = tt; silent = says_quietly w t t (Err NotBuilt) (λ speaks. refl); model = λ told m st. tt }
 
 -- ---- registers and numbers
 
-pub register_then : {B : Type 0} {t new : Told} {cpu now : Cpu} (r : ℕ) (k : Value → Rule B) {answer : Result B Stop} → nat_lt r MACHINE_REGISTERS ≡ true → Serves t cpu new now (k (t.regs r)) answer → Serves t cpu new now (register r >>= k) answer
+pub register_then : {B : Type 0} {w : Option B} {t new : Told} {cpu now : Cpu} (r : ℕ) (k : Value → Rule B) {answer : Result B Stop} → nat_lt r MACHINE_REGISTERS ≡ true → ServesAs w t cpu new now (k (t.regs r)) answer → ServesAs w t cpu new now (register r >>= k) answer
 unfolding register ◌>>=◌
-register_then {B} {t} {new} {cpu} {now} r k {answer} low s = record {
+register_then {B} {w} {t} {new} {cpu} {now} r k {answer} low s = record {
   later = s.later;
   ready = s.ready;
   reason = s.reason;
   counts = s.counts;
   silent = s.silent;
-  model = λ told m st. Gives-after new now [] (k (m.regs r) m) answer (subst (λ v. Gives new now answer (k v m)) (sym (st.regs r (ltb-true r MACHINE_REGISTERS low))) (s.model told m st));
+  model = λ told m st. Gives-after w new now [] (k (m.regs r) m) answer (subst (λ v. GivesAs w new now answer (k v m)) (sym (st.regs r (ltb-true r MACHINE_REGISTERS low))) (s.model told m st));
 }
 
 -- Registers that a memory cleared. Its own are as it left them.
@@ -77,92 +77,92 @@ clear_serves {old} {new} {cpu} among ready e cleared = subst (λ (t : Told). Ser
       );
     }
 
-pub numbers_then : {B : Type 0} {t new : Told} {cpu now : Cpu} (k : Cpu → Rule B) {answer : Result B Stop} → Serves t cpu new now (k cpu) answer → Serves t cpu new now (numbers >>= k) answer
+pub numbers_then : {B : Type 0} {w : Option B} {t new : Told} {cpu now : Cpu} (k : Cpu → Rule B) {answer : Result B Stop} → ServesAs w t cpu new now (k cpu) answer → ServesAs w t cpu new now (numbers >>= k) answer
 unfolding numbers ◌>>=◌
-numbers_then {B} {t} {new} {cpu} {now} k {answer} s = record {
+numbers_then {B} {w} {t} {new} {cpu} {now} k {answer} s = record {
   later = s.later;
   ready = s.ready;
   reason = s.reason;
   counts = s.counts;
   silent = s.silent;
-  model = λ told m st. Gives-after new now [] (k m.cpu m) answer (subst (λ n. Gives new now answer (k n m)) (sym st.numbers) (s.model told m st));
+  model = λ told m st. Gives-after w new now [] (k m.cpu m) answer (subst (λ n. GivesAs w new now answer (k n m)) (sym st.numbers) (s.model told m st));
 }
 
-pub set_numbers_serves : {t : Told} {cpu now : Cpu} → IsReady t → Serves t cpu t now (set_numbers now) (Ok tt)
+pub set_numbers_serves : {w : Option (Unit {0})} {t : Told} {cpu now : Cpu} → IsReady t → ServesAs w t cpu t now (set_numbers now) (Ok tt)
 unfolding set_numbers
-set_numbers_serves {t} {cpu} {now} r = record {
+set_numbers_serves {w} {t} {cpu} {now} r = record {
   later = IsLater-refl t;
   ready = r;
   reason = tt;
   counts = (0, IsCounted-refl t);
-  silent = λ speaks. refl;
+  silent = says_quietly w t t (Ok tt) (λ speaks. refl);
   model = λ told m st. (refl, record { heap = st.heap; regs = st.regs; slots = st.slots; numbers = refl; transcript = st.transcript; cache = st.cache });
 }
 
-pub set_numbers_at : {t : Told} {cpu now : Cpu} (next : Cpu) → now ≡ next → IsReady t → Serves t cpu t now (set_numbers next) (Ok tt)
-set_numbers_at {t} {cpu} {now} next e ready = subst (λ n. Serves t cpu t now (set_numbers n) (Ok tt)) e (set_numbers_serves ready)
+pub set_numbers_at : {w : Option (Unit {0})} {t : Told} {cpu now : Cpu} (next : Cpu) → now ≡ next → IsReady t → ServesAs w t cpu t now (set_numbers next) (Ok tt)
+set_numbers_at {w} {t} {cpu} {now} next e ready = subst (λ n. ServesAs w t cpu t now (set_numbers n) (Ok tt)) e (set_numbers_serves ready)
 
 -- ---- values that there may be
 
-pub given_then : {A B : Type 0} {t new : Told} {cpu now : Cpu} (c : Cause) (o : Option A) (k : A → Rule B) (a : A) {answer : Result B Stop} → (IsTrue t.tells → o ≡ Some a) → Serves t cpu new now (k a) answer → Serves t cpu new now (given c o >>= k) answer
+pub given_then : {A B : Type 0} {w : Option B} {t new : Told} {cpu now : Cpu} (c : Cause) (o : Option A) (k : A → Rule B) (a : A) {answer : Result B Stop} → (IsTrue t.tells → o ≡ Some a) → ServesAs w t cpu new now (k a) answer → ServesAs w t cpu new now (given c o >>= k) answer
 unfolding given done ◌>>=◌
-given_then {A} {B} {t} {new} {cpu} {now} c o k a {answer} e s = record {
+given_then {A} {B} {w} {t} {new} {cpu} {now} c o k a {answer} e s = record {
   later = s.later;
   ready = s.ready;
   reason = s.reason;
   counts = s.counts;
   silent = s.silent;
-  model = λ told m st. (let P : Option A → Type 0 = λ x. Gives new now answer (then_do (given c x m) k) in subst P (sym (e told)) (Gives-after new now [] (k a m) answer (s.model told m st)));
+  model = λ told m st. (let P : Option A → Type 0 = λ x. GivesAs w new now answer (then_do (given c x m) k) in subst P (sym (e told)) (Gives-after w new now [] (k a m) answer (s.model told m st)));
 }
 
-pub given_stuck : {A B : Type 0} {t : Told} {cpu now : Cpu} {c : Cause} (o : Option A) (k : A → Rule B) → (IsTrue t.tells → o ≡ None) → Serves t cpu t now (given c o >>= k) (Err (Stuck c))
+pub given_stuck : {A B : Type 0} {w : Option B} {t : Told} {cpu now : Cpu} {c : Cause} (o : Option A) (k : A → Rule B) → (IsTrue t.tells → o ≡ None) → ServesAs w t cpu t now (given c o >>= k) (Err (Stuck c))
 unfolding given halt ◌>>=◌
-given_stuck {A} {B} {t} {cpu} {now} {c} o k e = record {
+given_stuck {A} {B} {w} {t} {cpu} {now} {c} o k e = record {
   later = IsLater-refl t;
   ready = tt;
   reason = tt;
   counts = tt;
-  silent = λ speaks. refl;
+  silent = says_quietly w t t (Err (Stuck c)) (λ speaks. refl);
   model = λ told m st. (let P : Option A → Type 0 = λ x. Gives {A = B} t now (Err (Stuck c)) (then_do (given c x m) k) in subst P (sym (e told)) refl);
 }
 
-pub given_serves : {A : Type 0} {t : Told} {cpu : Cpu} (c : Cause) (o : Option A) (a : A) → IsReady t → (IsTrue t.tells → o ≡ Some a) → Serves t cpu t cpu (given c o) (Ok a)
+pub given_serves : {A : Type 0} {w : Option A} {t : Told} {cpu : Cpu} (c : Cause) (o : Option A) (a : A) → IsReady t → (IsTrue t.tells → o ≡ Some a) → ServesAs w t cpu t cpu (given c o) (Ok a)
 unfolding given done
-given_serves {A} {t} {cpu} c o a ready e = record {
+given_serves {A} {w} {t} {cpu} c o a ready e = record {
   later = IsLater-refl t;
   ready = ready;
   reason = tt;
   counts = (0, IsCounted-refl t);
-  silent = λ speaks. refl;
+  silent = says_quietly w t t (Ok a) (λ speaks. refl);
   model = λ told m st. (let P : Option A → Type 0 = λ x. Gives t cpu (Ok a) (given c x m) in subst P (sym (e told)) (refl, st));
 }
 
-pub given_ends : {A : Type 0} {t : Told} {cpu : Cpu} (c : Cause) (o : Option A) → (IsTrue t.tells → o ≡ None) → Serves t cpu t cpu (given c o) (Err (Stuck c))
+pub given_ends : {A : Type 0} {w : Option A} {t : Told} {cpu : Cpu} (c : Cause) (o : Option A) → (IsTrue t.tells → o ≡ None) → ServesAs w t cpu t cpu (given c o) (Err (Stuck c))
 unfolding given halt
-given_ends {A} {t} {cpu} c o e = record {
+given_ends {A} {w} {t} {cpu} c o e = record {
   later = IsLater-refl t;
   ready = tt;
   reason = tt;
   counts = tt;
-  silent = λ speaks. refl;
+  silent = says_quietly w t t (Err (Stuck c)) (λ speaks. refl);
   model = λ told m st. (let P : Option A → Type 0 = λ x. Gives {A = A} t cpu (Err (Stuck c)) (given c x m) in subst P (sym (e told)) refl);
 }
 
 -- ---- choices
 
-pub pick_true : {A : Type 0} {t new : Told} {cpu now : Cpu} (b : Bool) (p q : Rule A) {answer : Result A Stop} → b ≡ true → Serves t cpu new now p answer → Serves t cpu new now (pick b p q) answer
+pub pick_true : {A : Type 0} {w : Option A} {t new : Told} {cpu now : Cpu} (b : Bool) (p q : Rule A) {answer : Result A Stop} → b ≡ true → ServesAs w t cpu new now p answer → ServesAs w t cpu new now (pick b p q) answer
 unfolding pick
-pick_true {A} {t} {new} {cpu} {now} b p q {answer} e s = subst (λ x. Serves t cpu new now (pick x p q) answer) (sym e) s
+pick_true {A} {w} {t} {new} {cpu} {now} b p q {answer} e s = subst (λ x. ServesAs w t cpu new now (pick x p q) answer) (sym e) s
 
-pub pick_false : {A : Type 0} {t new : Told} {cpu now : Cpu} (b : Bool) (p q : Rule A) {answer : Result A Stop} → b ≡ false → Serves t cpu new now q answer → Serves t cpu new now (pick b p q) answer
+pub pick_false : {A : Type 0} {w : Option A} {t new : Told} {cpu now : Cpu} (b : Bool) (p q : Rule A) {answer : Result A Stop} → b ≡ false → ServesAs w t cpu new now q answer → ServesAs w t cpu new now (pick b p q) answer
 unfolding pick
-pick_false {A} {t} {new} {cpu} {now} b p q {answer} e s = subst (λ x. Serves t cpu new now (pick x p q) answer) (sym e) s
+pick_false {A} {w} {t} {new} {cpu} {now} b p q {answer} e s = subst (λ x. ServesAs w t cpu new now (pick x p q) answer) (sym e) s
 
 -- The same for `search`, which follows an arm that has calls in it only where the arm's premise stands under the test.
-pub pick_by_true : {A : Type 0} {t new : Told} {cpu now : Cpu} (b : Bool) (p q : Rule A) {answer : Result A Stop} → b ≡ true → (b ≡ true → Serves t cpu new now p answer) → Serves t cpu new now (pick b p q) answer
+pub pick_by_true : {A : Type 0} {w : Option A} {t new : Told} {cpu now : Cpu} (b : Bool) (p q : Rule A) {answer : Result A Stop} → b ≡ true → (b ≡ true → ServesAs w t cpu new now p answer) → ServesAs w t cpu new now (pick b p q) answer
 pick_by_true b p q e s = pick_true b p q e (s e)
 
-pub pick_by_false : {A : Type 0} {t new : Told} {cpu now : Cpu} (b : Bool) (p q : Rule A) {answer : Result A Stop} → b ≡ false → (b ≡ false → Serves t cpu new now q answer) → Serves t cpu new now (pick b p q) answer
+pub pick_by_false : {A : Type 0} {w : Option A} {t new : Told} {cpu now : Cpu} (b : Bool) (p q : Rule A) {answer : Result A Stop} → b ≡ false → (b ≡ false → ServesAs w t cpu new now q answer) → ServesAs w t cpu new now (pick b p q) answer
 pick_by_false b p q e s = pick_false b p q e (s e)
 
 -- the laws by which a rule is followed
@@ -269,13 +269,13 @@ pub stands_looked : (xs : List ℕ) (old new : Told) (cpu : Cpu) (m : Machine) �
 stands_looked xs old new cpu m above before ready x stays told st = stands_quietly old new cpu m before (quiet_looked xs old new above ready x stays) told st
 
 -- reads that were answered may be left out before what serves a rule,
-pub read_first : {B : Type 0} {old mid new : Told} {cpu now : Cpu} {rule : Rule B} {answer : Result B Stop} → IsReady old → IsQuiet old mid → Serves mid cpu new now rule answer → Serves old cpu new now rule answer
-read_first {B} {old} {mid} {new} {cpu} {now} {rule} {answer} ready q s = record {
+pub read_first : {B : Type 0} {w : Option B} {old mid new : Told} {cpu now : Cpu} {rule : Rule B} {answer : Result B Stop} → IsReady old → IsQuiet old mid → ServesAs w mid cpu new now rule answer → ServesAs w old cpu new now rule answer
+read_first {B} {w} {old} {mid} {new} {cpu} {now} {rule} {answer} ready q s = record {
   later = IsLater-trans old mid new q.later s.later;
   ready = s.ready;
   reason = HasReason-earlier old mid new answer q.later (0, q.counts) s.reason;
   counts = counts_trans old mid new answer q.later (0, q.counts) s.counts;
-  silent = λ speaks. s.silent (q.later.speaks ∙ speaks) ∙ q.silent speaks;
+  silent = says_later w old mid new answer q.later q.silent s.silent;
   model = λ told m st. s.model (q.later.tells ∙ told) m (stands_quietly old mid cpu m ready q told st);
 }
 

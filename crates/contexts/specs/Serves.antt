@@ -1,5 +1,5 @@
 -- When what a memory did serves a rule of the model: read this first.
-use Rattle.std.specs.Prelude.{◌≡◌, ℕ, ◌+◌, ◌*◌, ◌<◌, ◌≤◌, ◌⊎◌, pos, Bool, true, false, List, [], ◌∷◌, Option, Some, None, Result, Ok, Err, IsTrue, OnOk}
+use Rattle.std.specs.Prelude.{◌≡◌, ℕ, ◌+◌, ◌*◌, ◌<◌, ◌≤◌, ◌⊎◌, pos, Bool, true, false, List, [], ◌∷◌, ◌++◌, Option, Some, None, Result, Ok, Err, IsTrue, OnOk}
 use Rattle.long_names.specs.Counting.{Rose}
 use Rattle.long_names.specs.Need.{Fits}
 use Rattle.long_names.specs.State.{REGISTERS, RECEIVER}
@@ -66,24 +66,43 @@ IsStop (Stuck c) (Halt d log) = d ≡ c
 IsStop NotBuilt (Unbuilt log) = Unit {0}
 IsStop _ _ = ⊥
 
+-- The rule had said what it says, and went on with this answer: of what it has said by then, the memory has said the first part.
+abbrev pub WasSaying : {A : Type 0} → A → Told → Outcome A → Type 0
+WasSaying b new (Go a m log) = (a ≡ b) × (IsTrue new.speaks → (rest : List ℕ) × (m.transcript ≡ new.transcript ++ rest))
+WasSaying b new (Halt c log) = ⊥
+WasSaying b new (Spent log) = ⊥
+WasSaying b new (Unbuilt log) = ⊥
+
+-- only where a rule may say something can a memory refuse to say it
+abbrev pub MaySay : {A : Type 0} → Option A → Told → Outcome A → Type 0
+MaySay None new o = ⊥
+MaySay (Some b) new o = WasSaying b new o
+
 -- The rule allows a fault, after which this is told: a need that doesn't fit is that of a row of its log, room is missing for an
 -- object that it makes, and names are spent where it says so. Faults of the outside and want of memory may come anywhere. A memory
--- that tells its heap is never damaged.
+-- that tells its heap is never damaged. The first argument is None for a rule that says nothing, and Some b for one that may say
+-- something as the last thing that it does, and answers b then.
+abbrev pub AllowsAs : {A : Type 0} → Option A → Told → MemFault → Outcome A → Type 0
+AllowsAs w new (CoreFull need) o = IsLogged need (log_of o)
+AllowsAs w new (WorkFull live room) o = HasMaking new.heap.next (log_of o)
+AllowsAs w new (WorkFault count) o = Unit {0}
+AllowsAs w new (Damaged place name) o = ⊥
+AllowsAs w new NamesSpent o = IsSpent o
+AllowsAs w new (Said count) o = MaySay w new o
+AllowsAs w new Memory o = Unit {0}
+
 abbrev pub Allows : {A : Type 0} → Told → MemFault → Outcome A → Type 0
-Allows new (CoreFull need) o = IsLogged need (log_of o)
-Allows new (WorkFull live room) o = HasMaking new.heap.next (log_of o)
-Allows new (WorkFault count) o = Unit {0}
-Allows new (Damaged place name) o = ⊥
-Allows new NamesSpent o = IsSpent o
-Allows new (Said count) o = Unit {0}
-Allows new Memory o = Unit {0}
+Allows new f o = AllowsAs None new f o
 
 -- the answer is the rule's, and what is told now stands for its machine; or it is the rule's stop, or a fault that it allows
+abbrev pub GivesAs : {A : Type 0} → Option A → Told → Cpu → Result A Stop → Outcome A → Type 0
+GivesAs w new now (Ok a) o = IsGo a (Stands new now) o
+GivesAs w new now (Err (Stuck c)) o = IsStop (Stuck c) o
+GivesAs w new now (Err NotBuilt) o = IsStop NotBuilt o
+GivesAs w new now (Err (Mem f)) o = AllowsAs w new f o
+
 abbrev pub Gives : {A : Type 0} → Told → Cpu → Result A Stop → Outcome A → Type 0
-Gives new now (Ok a) o = IsGo a (Stands new now) o
-Gives new now (Err (Stuck c)) o = IsStop (Stuck c) o
-Gives new now (Err NotBuilt) o = IsStop NotBuilt o
-Gives new now (Err (Mem f)) o = Allows new f o
+Gives new now answer o = GivesAs None new now answer o
 
 -- ---- why a memory refused, as far as no row is named
 
@@ -118,18 +137,46 @@ HasReason old new (Err (Stuck c)) = Unit {0}
 HasReason old new (Err NotBuilt) = Unit {0}
 HasReason old new (Err (Mem f)) = IsRefused old new f
 
+-- ---- what was said
+
+-- the transcript is as before, as far as it is told
+abbrev pub SaidNothing : Told → Told → Type 0
+SaidNothing old new = IsTrue old.speaks → new.transcript ≡ old.transcript
+
+-- what a call said that may say something, and answers b after that
+abbrev pub SaysLast : {A : Type 0} → A → Told → Told → Result A Stop → Type 0
+SaysLast b old new (Ok a) = (a ≡ b) ⊎ SaidNothing old new
+SaysLast b old new (Err (Stuck c)) = SaidNothing old new
+SaysLast b old new (Err NotBuilt) = SaidNothing old new
+SaysLast b old new (Err (Mem (Said count))) = IsTrue old.speaks → (z : List ℕ) × (new.transcript ≡ old.transcript ++ z)
+SaysLast b old new (Err (Mem f)) = SaidNothing old new
+
+-- what a call said, which says nothing, or may say something and answers this then
+abbrev pub Says : {A : Type 0} → Option A → Told → Told → Result A Stop → Type 0
+Says None old new answer = SaidNothing old new
+Says (Some b) old new answer = SaysLast b old new answer
+
 -- ---- serving
 
--- What was done from old to new, with this answer, serves a rule that says nothing: for each machine that the memory stood for, the
--- answer is the rule's, and the memory stands for the rule's next machine. No access was made whose row isn't in the log, since it
--- might have been refused. A memory that tells no heap serves every rule as far as its own counts and causes go.
-pub record Serves {A : Type 0} (old : Told) (cpu : Cpu) (new : Told) (now : Cpu) (rule : Rule A) (answer : Result A Stop) : Type 0 where
+-- What was done from old to new, with this answer, serves a rule: for each machine that the memory stood for, the answer is the
+-- rule's, and the memory stands for the rule's next machine. No access was made whose row isn't in the log, since it might have been
+-- refused. A memory that tells no heap serves every rule as far as its own counts and causes go. The first argument is None for what
+-- says nothing, and Some b for what may say something as the last thing that it does, and answers b then.
+pub record ServesAs {A : Type 0} (w : Option A) (old : Told) (cpu : Cpu) (new : Told) (now : Cpu) (rule : Rule A) (answer : Result A Stop) : Type 0 where
   pub later : IsLater old new
   pub ready : OnOk answer (IsReady new)
   pub reason : HasReason old new answer
   pub counts : OnOk answer ((makings : ℕ) × IsCounted makings old new)
-  pub silent : IsTrue old.speaks → new.transcript ≡ old.transcript
-  pub model : IsTrue old.tells → (m : Machine) → Stands old cpu m → Gives new now answer (rule m)
+  pub silent : Says w old new answer
+  pub model : IsTrue old.tells → (m : Machine) → Stands old cpu m → GivesAs w new now answer (rule m)
+
+-- it serves a rule that says nothing
+abbrev pub Serves : {A : Type 0} → Told → Cpu → Told → Cpu → Rule A → Result A Stop → Type 0
+Serves old cpu new now rule answer = ServesAs None old cpu new now rule answer
+
+-- it serves a rule that may say something as the last thing that it does, and answers b then
+abbrev pub Speaks : {A : Type 0} → A → Told → Cpu → Told → Cpu → Rule A → Result A Stop → Type 0
+Speaks b old cpu new now rule answer = ServesAs (Some b) old cpu new now rule answer
 
 -- the answer of a call, with what it left in a register as its value
 abbrev pub with_value : {A E : Type 0} → Result (Unit {0}) E → A → Result A E

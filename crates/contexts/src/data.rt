@@ -1,4 +1,4 @@
-// Words and bytes of objects (chapter 30, fetchWord:ofObject:, fetchByte:ofObject: and their stores).
+// Words and bytes of objects (chapter 30, fetchWord:ofObject:, fetchByte:ofObject: and their stores), and bytes that are said.
 ghost use Rattle.std.specs.Prelude.{◌≡◌, [], OnOk};
 ghost use Rattle.object_memory.specs.Told.{IsReady};
 ghost use Rattle.object_memory.specs.Shape.{Looks};
@@ -6,7 +6,7 @@ ghost use Rattle.blue_model.specs.declared.cause.Cause.TheVariants.{Shape};
 ghost use Rattle.blue_model.specs.declared.cpu.Cpu.{Cpu};
 ghost use Rattle.blue_model.specs.Machine as model;
 ghost use Rattle.blue_model.specs.Elements.{word_at, byte_of_object};
-ghost use Rattle.contexts.specs.Serves.{Serves, StaysSound};
+ghost use Rattle.contexts.specs.Serves.{Serves, Speaks, StaysSound};
 
 use crate::stop::Stop;
 use blue_model::Cause;
@@ -81,5 +81,23 @@ pub fn store_byte<M: ObjectMemory>(m: &mut M, of: Reg, i: u32, byte: u8) -> Resu
         return Err(Stop::Stuck(Cause::Shape));
     }
     m.set_byte(of, i, byte)?;
+    Ok(())
+}
+
+/// The bytes of the object of bytes that a register names join the transcript.
+pub fn say<M: ObjectMemory>(m: &mut M, of: Reg) -> Result<(), Stop>
+    requires sound { M.sound m.old }
+    requires ready { IsReady (M.told m.old) }
+    ensures speaks { (cpu : Cpu) → Speaks tt (M.told m.old) cpu (M.told m.new) cpu (model.say ((M.told m.old).regs of)) result }
+    ensures regs { OnOk result ((M.told m.new).regs ≡ (M.told m.old).regs) }
+    ensures ready { OnOk result (IsReady (M.told m.new)) }
+    ensures sound { StaysSound result (M.sound m.new) }
+    ensures lender { M.lender m.new ≡ M.lender m.old }
+    ensures outside { M.outside m.new ≡ M.outside m.old }
+{
+    if !shape::is_text(m, of)? {
+        return Err(Stop::Stuck(Cause::Shape));
+    }
+    m.say(of)?;
     Ok(())
 }

@@ -5,7 +5,7 @@ ghost use Rattle.contexts.specs.declared.stop.Stop.TheVariants.{Mem};
 use blue_model::Cause;
 use object_memory::MemFault;
 
-/// Why a call stopped. After each of them the transcript is as before the call.
+/// Why a call stopped. The transcript is as before the call. Only where a memory refused to say something, a first part of it has joined.
 #[derive(Clone, Copy, Debug, PartialEq, Eq)]
 pub enum Stop {
     /// The machine is stuck.

@@ -20,7 +20,8 @@ use Rattle.blue_model.specs.Parts.{size, home_by, home_in, home_of}
 use Rattle.blue_model.specs.Trials.{peek}
 use Rattle.contexts.specs.declared.stop.Stop.{Stop}
 use Rattle.contexts.specs.declared.stop.Stop.TheVariants.{Stuck, Mem, NotBuilt}
-use Rattle.contexts.specs.Serves.{IsGo, Allows, Gives, HasReason, Serves}
+use Rattle.contexts.specs.Serves.{IsGo, Allows, Gives, Serves}
+use Rattle.contexts.proofs.ServesLaws.{reason_other}
 
 -- ---- in one machine
 
@@ -50,7 +51,7 @@ stop_other {A} {B} new now (Mem f) a b m log h = allowed f h
     allowed (WorkFault count) h = tt
     allowed (Damaged place name) h = absurd h
     allowed NamesSpent h = absurd h
-    allowed (Said count) h = tt
+    allowed (Said count) h = absurd h
     allowed Memory h = tt
 
 halt_other : (A B : Type 0) (new : Told) (now : Cpu) (e : Stop) (c : Cause) (log : List LogRow) → Gives {A = A} new now (Err e) (Halt c log) → Gives {A = B} new now (Err e) (Halt c log)
@@ -64,7 +65,7 @@ halt_other A B new now (Mem f) c log h = allowed f h
     allowed (WorkFault count) h = tt
     allowed (Damaged place name) h = absurd h
     allowed NamesSpent h = absurd h
-    allowed (Said count) h = tt
+    allowed (Said count) h = absurd h
     allowed Memory h = tt
 
 gives_unread : {A B : Type 0} (f : Object → Option A) (g : Object → Option B) (new : Told) (now : Cpu) (e : Stop) (v : Value) (m : Machine) → Gives {A = Option B} new now (Err e) (peek g v m) → Gives {A = Option A} new now (Err e) (peek f v m)
@@ -99,11 +100,6 @@ goes_lacking {A} {B} f g lacks P (Ref n) m q = go (m.heap.at n) q
     go (Some o) q = (lacks o q.0, q.1)
 
 -- ---- calls
-
-reason_other : (A B : Type 0) (old new : Told) (e : Stop) → HasReason {A = A} old new (Err e) → HasReason {A = B} old new (Err e)
-reason_other A B old new (Stuck c) h = tt
-reason_other A B old new NotBuilt h = tt
-reason_other A B old new (Mem f) h = h
 
 -- The part was there,
 pub wanted_found : {A : Type 0} {old new : Told} {cpu now : Cpu} (f : Object → Option A) (v : Value) (a : A) → Serves old cpu new now (part Shape f v) (Ok a) → Serves old cpu new now (peek f v) (Ok (Some a))

@@ -59,7 +59,7 @@ allows_within t NamesSpent (Spent xs) (Go b n ys) w h = absurd w
 allows_within t NamesSpent (Spent xs) (Halt d ys) w h = absurd w
 allows_within t NamesSpent (Spent xs) (Unbuilt ys) w h = absurd w
 allows_within t NamesSpent (Unbuilt xs) p w h = absurd h
-allows_within t (Said count) o p w h = tt
+allows_within t (Said count) o p w h = absurd h
 allows_within t Memory o p w h = tt
 
 gives_within : {A : Type 0} (t : Told) (now : Cpu) (r : Result A Stop) (o p : Outcome A) → IsWithin o p → Gives t now r o → Gives t now r p

@@ -163,7 +163,7 @@ fn make_large<M: ObjectMemory>(m: &mut M, n: u32) -> Result<(), Stop>
 }
 
 /// A number as an answer, in SCRATCH_2 (positive16BitIntegerFor:): a SmallInteger, or a new LargePositiveInteger of two bytes.
-pub(crate) fn number_object<M: ObjectMemory>(m: &mut M, n: u32) -> Result<(), Stop>
+pub fn number_object<M: ObjectMemory>(m: &mut M, n: u32) -> Result<(), Stop>
     requires sound { M.sound m.old }
     requires ready { IsReady (M.told m.old) }
     ensures serves { (cpu : Cpu) → Serves (M.told m.old) cpu (M.told m.new) cpu (model.number_object n) (with_value result ((M.told m.new).regs 12)) }

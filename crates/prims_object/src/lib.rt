@@ -22,4 +22,5 @@ mod streams;
 mod table;
 
 pub use contexts::{Answer, Cpu, Stop};
+pub use indexes::number_object;
 pub use table::run;

@@ -18,21 +18,21 @@ use Rattle.blue_model.specs.Contexts.{need_method}
 use Rattle.blue_model.specs.Lookup.{method_at}
 use Rattle.contexts.specs.declared.stop.Stop.{Stop}
 use Rattle.contexts.specs.declared.stop.Stop.TheVariants.{Stuck}
-use Rattle.contexts.specs.Serves.{Gives, Serves}
+use Rattle.contexts.specs.Serves.{Gives, GivesAs, ServesAs, Serves}
 use Rattle.contexts.proofs.ServesLaws.{Gives-after, serves_then, serves_stop}
 use Rattle.contexts.proofs.Steps.{done_serves}
 use Rattle.contexts.proofs.ReadLaws.{names_object}
 
 -- ---- rules that come to the same
 
-pub serves_same : {A : Type 0} {old new : Told} {cpu now : Cpu} {p q : Rule A} {answer : Result A Stop} → ((m : Machine) → q m ≡ p m) → Serves old cpu new now p answer → Serves old cpu new now q answer
-serves_same {A} {old} {new} {cpu} {now} {p} {q} {answer} same s = record {
+pub serves_same : {A : Type 0} {w : Option A} {old new : Told} {cpu now : Cpu} {p q : Rule A} {answer : Result A Stop} → ((m : Machine) → q m ≡ p m) → ServesAs w old cpu new now p answer → ServesAs w old cpu new now q answer
+serves_same {A} {w} {old} {new} {cpu} {now} {p} {q} {answer} same s = record {
   later = s.later;
   ready = s.ready;
   reason = s.reason;
   counts = s.counts;
   silent = s.silent;
-  model = λ told m st. subst (Gives new now answer) (sym (same m)) (s.model told m st);
+  model = λ told m st. subst (GivesAs w new now answer) (sym (same m)) (s.model told m st);
 }
 
 -- ---- a look whose object the rest of the rule doesn't use
@@ -41,9 +41,9 @@ looks_at : (m : Machine) (v : Value) (o : Object) → object_at m.heap v ≡ Som
 unfolding look
 looks_at m v o at = ap (looked m v) at
 
-pub look_first : {B : Type 0} {t new : Told} {cpu now : Cpu} {rest : Rule B} {answer : Result B Stop} (r : ℕ) (v : Value) → t.regs r ≡ v → IsReady t → IsRef (t.regs r) → Serves t cpu new now rest answer → Serves t cpu new now (look v >>= (λ _. rest)) answer
+pub look_first : {B : Type 0} {w : Option B} {t new : Told} {cpu now : Cpu} {rest : Rule B} {answer : Result B Stop} (r : ℕ) (v : Value) → t.regs r ≡ v → IsReady t → IsRef (t.regs r) → ServesAs w t cpu new now rest answer → ServesAs w t cpu new now (look v >>= (λ _. rest)) answer
 unfolding ◌>>=◌
-look_first {B} {t} {new} {cpu} {now} {rest} {answer} r v is ready ref s = record {
+look_first {B} {w} {t} {new} {cpu} {now} {rest} {answer} r v is ready ref s = record {
   later = s.later;
   ready = s.ready;
   reason = s.reason;
@@ -53,8 +53,8 @@ look_first {B} {t} {new} {cpu} {now} {rest} {answer} r v is ready ref s = record
       let named = names_object t r ready told ref in
       let it = has t.heap named.0 named.2 in
       let at : object_at m.heap v ≡ Some it.0 = ap (object_at m.heap) (sym is ∙ named.1) ∙ st.heap.same named.0 it.0 it.1 in
-      let P : Outcome Object → Type 0 = λ o. Gives new now answer (then_do o (λ _. rest)) in
-      subst P (sym (looks_at m v it.0 at)) (Gives-after new now (rows_at m v) (rest m) answer (s.model told m st));
+      let P : Outcome Object → Type 0 = λ o. GivesAs w new now answer (then_do o (λ _. rest)) in
+      subst P (sym (looks_at m v it.0 at)) (Gives-after w new now (rows_at m v) (rest m) answer (s.model told m st));
 }
 
 -- a number names no object

@@ -1,0 +1,5 @@
+mod ClockLaws
+mod DueLaws
+mod FormLaws
+mod InputLaws
+mod TextLaws

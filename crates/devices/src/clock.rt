@@ -1,0 +1,138 @@
+// The clock (chapter 29): the primitives 99 and 100. A tick is the number of the bytecodes that were run. The object of bytes is in
+// SCRATCH_0, the semaphore in SCRATCH_1.
+ghost use Rattle.std.specs.Prelude.{◌≡◌, [], OnOk, Some};
+ghost use Rattle.object_memory.specs.Told.{IsReady};
+ghost use Rattle.object_memory.specs.Shape.{Looks};
+ghost use Rattle.blue_model.specs.declared.cpu.Cpu.{Cpu as Numbers};
+ghost use Rattle.blue_model.specs.Trials.{peek};
+ghost use Rattle.blue_model.specs.Devices as model;
+ghost use Rattle.contexts.specs.Serves.{Serves, StaysSound};
+ghost use Rattle.devices.specs.Found.{found_tick};
+
+use crate::input::{put_semaphore, semaphore_or_nil};
+use contexts::data::store_byte;
+use contexts::{Answer, Cpu, Stop, pop, stack};
+use long_names::Kind;
+use object_memory::{ObjectMemory, Reg, shape};
+
+/// Whether an object of this kind and length has a tick: at least four bytes.
+fn has_tick(found: Option<(Kind, u32)>) -> bool
+    ensures { result ≡ found_tick found }
+{
+    match found {
+        Some((Kind::Bytes, len)) => 4 <= len,
+        _ => false,
+    }
+}
+
+/// The tick of four bytes, the lowest first.
+fn tick_from(bytes: [u8; 4]) -> u32
+    ensures { Some result ≡ model.four_bytes bytes }
+{
+    let [a, b, c, d] = bytes;
+    u32::from(a) + 256 * u32::from(b) + 65_536 * u32::from(c) + 16_777_216 * u32::from(d)
+}
+
+/// The tick that the first four bytes are, lowest first, of the object of bytes that a register names. None of anything else.
+fn tick_of<M: ObjectMemory>(m: &mut M, of: Reg) -> Result<Option<u32>, Stop>
+    requires sound { M.sound m.old }
+    requires ready { IsReady (M.told m.old) }
+    ensures serves { (cpu : Numbers) → Serves (M.told m.old) cpu (M.told m.new) cpu (peek model.tick_of ((M.told m.old).regs of)) result }
+    ensures looks { OnOk result (Looks [] (M.told m.old) (M.told m.new)) }
+    ensures ready { OnOk result (IsReady (M.told m.new)) }
+    ensures sound { StaysSound result (M.sound m.new) }
+    ensures lender { M.lender m.new ≡ M.lender m.old }
+    ensures outside { M.outside m.new ≡ M.outside m.old }
+{
+    let found = shape::shape(m, of)?;
+    if !has_tick(found) {
+        return Ok(None);
+    }
+    let mut bytes = [0; 4];
+    m.read_bytes(of, 0, &mut bytes)?;
+    Ok(Some(tick_from(bytes)))
+}
+
+/// A tick becomes the first four bytes, lowest first, of the object that a register names.
+fn put_tick<M: ObjectMemory>(m: &mut M, of: Reg, tick: u32) -> Result<(), Stop>
+    requires sound { M.sound m.old }
+    requires ready { IsReady (M.told m.old) }
+    ensures serves { (cpu : Numbers) → Serves (M.told m.old) cpu (M.told m.new) cpu (model.put_tick ((M.told m.old).regs of) tick) result }
+    ensures ready { OnOk result (IsReady (M.told m.new)) }
+    ensures sound { StaysSound result (M.sound m.new) }
+    ensures lender { M.lender m.new ≡ M.lender m.old }
+    ensures outside { M.outside m.new ≡ M.outside m.old }
+{
+    store_byte(m, of, 0, (tick % 256) as u8)?;
+    store_byte(m, of, 1, (tick / 256 % 256) as u8)?;
+    store_byte(m, of, 2, (tick / 65_536 % 256) as u8)?;
+    store_byte(m, of, 3, (tick / 16_777_216 % 256) as u8)
+}
+
+/// Stores the number of bytecodes that were run before this one into the argument (primitiveTimeWordsInto).
+pub(crate) fn tick_words<M: ObjectMemory>(m: &mut M, cpu: &mut Cpu) -> Result<Answer, Stop>
+    requires sound { M.sound m.old }
+    requires ready { IsReady (M.told m.old) }
+    ensures serves { Serves (M.told m.old) cpu.old (M.told m.new) cpu.new model.tick_words result }
+    ensures ready { OnOk result (IsReady (M.told m.new)) }
+    ensures sound { StaysSound result (M.sound m.new) }
+    ensures lender { M.lender m.new ≡ M.lender m.old }
+    ensures outside { M.outside m.new ≡ M.outside m.old }
+{
+    stack(m, cpu, Reg::SCRATCH_0, 0)?;
+    let Some(_) = tick_of(m, Reg::SCRATCH_0)? else {
+        return Ok(Answer::Failed);
+    };
+    put_tick(m, Reg::SCRATCH_0, cpu.ran)?;
+    pop(cpu, 1)?;
+    Ok(Answer::Done)
+}
+
+/// The tick of the timer, where there is a semaphore for it.
+fn timer_at(there: bool, tick: u32) -> Option<u32>
+    ensures { result ≡ model.timer_at there tick }
+{
+    if there { Some(tick) } else { None }
+}
+
+/// The timer signals the semaphore in SCRATCH_1 at this tick, or is cleared.
+fn set_timer<M: ObjectMemory>(
+    m: &mut M,
+    cpu: &mut Cpu,
+    there: bool,
+    tick: u32,
+) -> Result<Answer, Stop>
+    requires sound { M.sound m.old }
+    requires ready { IsReady (M.told m.old) }
+    ensures serves { Serves (M.told m.old) cpu.old (M.told m.new) cpu.new (model.set_timer ((M.told m.old).regs 11) there tick) result }
+    ensures ready { OnOk result (IsReady (M.told m.new)) }
+    ensures sound { StaysSound result (M.sound m.new) }
+    ensures lender { M.lender m.new ≡ M.lender m.old }
+    ensures outside { M.outside m.new ≡ M.outside m.old }
+{
+    put_semaphore(m, Reg::TIMER_SEMAPHORE, Reg::SCRATCH_1, there);
+    cpu.timer = timer_at(there, tick);
+    pop(cpu, 2)?;
+    Ok(Answer::Done)
+}
+
+/// Sets the timer to a tick, or clears it where the semaphore is nil (primitiveSignalAtTick).
+pub(crate) fn signal_at_tick<M: ObjectMemory>(m: &mut M, cpu: &mut Cpu) -> Result<Answer, Stop>
+    requires sound { M.sound m.old }
+    requires ready { IsReady (M.told m.old) }
+    ensures serves { Serves (M.told m.old) cpu.old (M.told m.new) cpu.new model.signal_at_tick result }
+    ensures ready { OnOk result (IsReady (M.told m.new)) }
+    ensures sound { StaysSound result (M.sound m.new) }
+    ensures lender { M.lender m.new ≡ M.lender m.old }
+    ensures outside { M.outside m.new ≡ M.outside m.old }
+{
+    stack(m, cpu, Reg::SCRATCH_1, 1)?;
+    stack(m, cpu, Reg::SCRATCH_0, 0)?;
+    let Some(there) = semaphore_or_nil(m, Reg::SCRATCH_1)? else {
+        return Ok(Answer::Failed);
+    };
+    let Some(tick) = tick_of(m, Reg::SCRATCH_0)? else {
+        return Ok(Answer::Failed);
+    };
+    set_timer(m, cpu, there, tick)
+}

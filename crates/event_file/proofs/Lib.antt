@@ -1,0 +1,5 @@
+mod ListLaws
+mod OneReading
+mod PieceLaws
+mod ReadLaws
+mod TextLaws

@@ -1,0 +1,19 @@
+//! What follows from the grammar: a text is read in one way.
+ghost use Rattle.std.specs.Prelude.{◌≡◌, ℕ, List};
+ghost use Rattle.blue_model.specs.declared.event.Line.{Line};
+ghost use Rattle.event_file.specs.Text.{AreRight, IsBadAt, events_text};
+
+/// A text is that of one list of lines at most.
+pub fn a_text_has_one_list()
+    ensures { (a b : List Line) → AreRight a → AreRight b → events_text a ≡ events_text b → a ≡ b }
+{}
+
+/// A text has one first bad line at most.
+pub fn a_text_has_one_bad_line()
+    ensures { (j k : ℕ) (text : List ℕ) → IsBadAt j text → IsBadAt k text → j ≡ k }
+{}
+
+/// The text of right lines has no bad line.
+pub fn a_right_text_has_no_bad_line()
+    ensures { (lines : List Line) (k : ℕ) → AreRight lines → IsBadAt k (events_text lines) → ⊥ }
+{}
