@@ -1,7 +1,7 @@
 -- A primitive that fails has changed nothing.
 use Rattle.blue_model.specs.Forms.{Form, Extent, count_of, form_where, form_of}
 use Rattle.blue_model.specs.BitBlt.{form_or_nil, copy_bits}
-use Rattle.blue_model.specs.Devices.{semaphore_or_nil, set_input, input_semaphore, take_word, input_word, tick_words, set_timer, signal_at_tick, show_form, be_display, string_text, say_string, device_primitives}
+use Rattle.blue_model.specs.Devices.{semaphore_or_nil, set_input, input_semaphore, take_word, input_word, tick_words, set_timer, signal_at_tick, show_form, be_display, string_text, say_string, device_primitives, display_form, display_row, picture_of, picture}
 use Rattle.blue_model.specs.declared.event.Line.{Line}
 use Rattle.std.proofs.Common.{◌≡◌, ℕ, ℤ, Bool, true, false, List, [], ◌∷◌, ◌++◌, Option, Some, None, refl, sym, ◌∙◌, ap, subst}
 use Rattle.long_names.specs.declared.value.Value.{Value}
@@ -479,6 +479,32 @@ looks-form_or_nil {m} shape v f = looks_pick _ _ _ (looks_done _) (looks_then _ 
 looks-string_text : {m : Machine} (v : Value) → Looks m (string_text v)
 unfolding string_text
 looks-string_text {m} v = search looking depth 12
+
+looks-display_form : {m : Machine} → Looks m display_form
+unfolding display_form
+looks-display_form {m} = looks_then _ looks_numbers (λ cpu. looks_then _ (looks_register _) (λ form. looks_pick _ _ _ (looks-form_of form) (looks_done None)))
+
+looks-display_row : {m : Machine} (y : ℕ) → Looks m (display_row y)
+unfolding display_row
+looks-display_row {m} y = looks_then _ looks-display_form (λ shape. looks_then _ (looks_given _ shape) (λ form. looks_then _ (looks_part _ _ form.bits) (λ words. looks_done _)))
+
+looks-picture_of : {m : Machine} (form : Option Form) → Looks m (picture_of form)
+looks-picture_of None = looks_done []
+looks-picture_of (Some form) = looks_then _ (looks_part _ _ form.bits) (λ words. looks_done _)
+
+looks-picture : {m : Machine} → Looks m picture
+unfolding picture
+looks-picture {m} = looks_then _ looks-display_form looks-picture_of
+
+-- what is drawn changes nothing
+pub form_leaves : (m s : Machine) (form : Option Form) (log : List LogRow) → display_form m ≡ Go form s log → s ≡ m
+form_leaves m s form log e = (looks-display_form.looks.told form s log e).0
+
+pub row_leaves : (y : ℕ) (m s : Machine) (bytes : List ℕ) (log : List LogRow) → display_row y m ≡ Go bytes s log → s ≡ m
+row_leaves y m s bytes log e = ((looks-display_row y).looks.told bytes s log e).0
+
+pub picture_leaves : (m s : Machine) (bytes : List ℕ) (log : List LogRow) → picture m ≡ Go bytes s log → s ≡ m
+picture_leaves m s bytes log e = (looks-picture.looks.told bytes s log e).0
 
 clean-input_semaphore : {m : Machine} → FailsClean m input_semaphore
 unfolding input_semaphore set_input

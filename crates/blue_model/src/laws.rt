@@ -46,6 +46,12 @@ pub fn devices_respect_thinning()
     ensures row { (y : ℕ) → RespectsThinning (display_row y) }
 {}
 
+/// Drawing the display, or a row of it, changes nothing.
+pub fn a_picture_changes_nothing()
+    ensures row { (y : ℕ) (m s : Machine) (bytes : List ℕ) (log : List LogRow) → display_row y m ≡ Go bytes s log → s ≡ m }
+    ensures whole { (m s : Machine) (bytes : List ℕ) (log : List LogRow) → picture m ≡ Go bytes s log → s ≡ m }
+{}
+
 /// Of an event list whose counts never fall, the lines that are taken at a count are those that have it, in their order.
 pub fn a_count_takes_its_lines()
     ensures { (count : ℕ) (lines : List Line) → AreRising count lines → take_lines count lines ≡ take_all (lines_at count lines) }
