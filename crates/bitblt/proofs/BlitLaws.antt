@@ -119,7 +119,7 @@ fault_within new now (Mem (WorkFull live room)) a b m n xs ys rows h = rows.maki
 fault_within new now (Mem (WorkFault count)) a b m n xs ys rows h = tt
 fault_within new now (Mem (Damaged place name)) a b m n xs ys rows h = h
 fault_within new now (Mem NamesSpent) a b m n xs ys rows h = absurd h
-fault_within new now (Mem (Said count)) a b m n xs ys rows h = tt
+fault_within new now (Mem (Said count)) a b m n xs ys rows h = absurd h
 fault_within new now (Mem Memory) a b m n xs ys rows h = tt
 
 -- ---- where the bits are there

@@ -67,7 +67,7 @@ peek_fault {A} {B} {old} {new} {cpu} {e} f k r ready s = record {
     fault_to (Mem (WorkFault count)) a b m rows h = tt
     fault_to (Mem (Damaged place name)) a b m rows h = h
     fault_to (Mem NamesSpent) a b m rows h = absurd h
-    fault_to (Mem (Said count)) a b m rows h = tt
+    fault_to (Mem (Said count)) a b m rows h = absurd h
     fault_to (Mem Memory) a b m rows h = tt
 
 -- the same, after reads
