@@ -141,8 +141,7 @@ shared_written t old new at run words ready x rooms told is = go t.has_source
 
     by_name : (b : Bool) → is_same (old.regs DEST_BITS) (old.regs SOURCE_BITS) ≡ b → IsShared b (Some (words_at old.heap (old.regs SOURCE_BITS))) (dest_words old) (Some (words_at new.heap (new.regs SOURCE_BITS))) words
     by_name true e =
-        let same : old.regs DEST_BITS ≡ old.regs SOURCE_BITS = same_values (old.regs DEST_BITS) (old.regs SOURCE_BITS) rooms.dest.name e in
-        (
+        let same : old.regs DEST_BITS ≡ old.regs SOURCE_BITS = same_values (old.regs DEST_BITS) (old.regs SOURCE_BITS) rooms.dest.name e in (
           ap (λ (v : Value). Some (words_at old.heap v)) (sym same),
           ap (λ (g : ℕ → Value). Some (words_at new.heap (g SOURCE_BITS))) regs ∙ ap (λ (v : Value). Some (words_at new.heap v)) (sym same) ∙ sym (ap (λ (g : ℕ → Value). Some (words_at new.heap (g DEST_BITS))) regs) ∙ ap (λ (l : List ℕ). Some l) is,
         )

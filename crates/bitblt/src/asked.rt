@@ -56,7 +56,11 @@ fn rule_number(z: i16) -> Option<u8>
     ensures number { result ≡ model.rule_number z }
     ensures range { IfSome result (λ rule. rule < 16) }
 {
-    if 0 <= z && z < 16 { Some(z as u8) } else { None }
+    if 0 <= z && z < 16 {
+        Some(z as u8)
+    } else {
+        None
+    }
 }
 
 /// What the BitBlt asks for. None where a field holds no number, or the rule is none.

@@ -110,7 +110,11 @@ fn plan(q: &Asked, dest: Extent, source: Option<Extent>, x: Span, y: Span) -> Tr
 }
 
 /// Reads the first 16 words of the halftone, if there is a halftone. Without one they stay.
-fn read_halftone<M: ObjectMemory>(m: &mut M, halftone: Option<Extent>, out: &mut [u16]) -> Result<(), Stop>
+fn read_halftone<M: ObjectMemory>(
+    m: &mut M,
+    halftone: Option<Extent>,
+    out: &mut [u16],
+) -> Result<(), Stop>
     requires sound { M.sound m.old }
     requires ready { IsReady (M.told m.old) }
     requires room { OptionalRoom (M.told m.old) 15 true halftone }

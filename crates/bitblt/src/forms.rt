@@ -77,7 +77,11 @@ fn least_words(halftone: bool, extent: Extent) -> u32
 }
 
 /// Loads the bits of the form into a register. None where it has no form's shape, or where a halftone has fewer than 16 words.
-pub(crate) fn read_form<M: ObjectMemory>(m: &mut M, bits: Reg, halftone: bool) -> Result<Option<Extent>, Stop>
+pub(crate) fn read_form<M: ObjectMemory>(
+    m: &mut M,
+    bits: Reg,
+    halftone: bool,
+) -> Result<Option<Extent>, Stop>
     requires sound { M.sound m.old }
     requires ready { IsReady (M.told m.old) }
     requires bits { 13 ≤ bits }
@@ -106,7 +110,11 @@ pub(crate) fn read_form<M: ObjectMemory>(m: &mut M, bits: Reg, halftone: bool) -
 }
 
 /// The same, where nil stands for no form.
-pub(crate) fn read_optional_form<M: ObjectMemory>(m: &mut M, bits: Reg, halftone: bool) -> Result<Option<Option<Extent>>, Stop>
+pub(crate) fn read_optional_form<M: ObjectMemory>(
+    m: &mut M,
+    bits: Reg,
+    halftone: bool,
+) -> Result<Option<Option<Extent>>, Stop>
     requires sound { M.sound m.old }
     requires ready { IsReady (M.told m.old) }
     requires bits { 13 ≤ bits }

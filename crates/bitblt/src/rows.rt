@@ -22,7 +22,12 @@ const BUFFER_WORDS: usize = 1027;
 const RUN_WORDS: usize = 1024;
 
 /// Reads the source's words for a row, from the second place on. Without a source all bits are 1.
-fn read_source<M: ObjectMemory>(m: &mut M, t: &Transfer, y: usize, out: &mut [u16]) -> Result<(), Stop>
+fn read_source<M: ObjectMemory>(
+    m: &mut M,
+    t: &Transfer,
+    y: usize,
+    out: &mut [u16],
+) -> Result<(), Stop>
     requires sound { M.sound m.old }
     requires ready { IsReady (M.told m.old) }
     requires fits { Fits t.now }
@@ -93,7 +98,12 @@ fn blend_run<M: ObjectMemory>(
 }
 
 /// Changes a row.
-fn blend_one<M: ObjectMemory>(m: &mut M, t: &Transfer, halftone: &[u16], y: usize) -> Result<(), Stop>
+fn blend_one<M: ObjectMemory>(
+    m: &mut M,
+    t: &Transfer,
+    halftone: &[u16],
+    y: usize,
+) -> Result<(), Stop>
     requires sound { M.sound m.old }
     requires ready { IsReady (M.told m.old) }
     requires fits { Fits t.now }
@@ -123,7 +133,8 @@ fn reads_before(t: &Transfer, y: usize) -> bool
     ensures { result ≡ transfers.reads_before t.now y }
 {
     if t.has_source {
-        t.source_stride * (y - t.top + t.source_top) + t.source_left / 16 < t.stride * y + t.left / 16
+        t.source_stride * (y - t.top + t.source_top) + t.source_left / 16
+            < t.stride * y + t.left / 16
     } else {
         false
     }
@@ -132,7 +143,11 @@ fn reads_before(t: &Transfer, y: usize) -> bool
 /// Changes all rows. Source, destination and halftone are those before the call, also where the source is the destination's object
 /// in any place and of any width: the rows that read words before those they write go first, from the last one up, and then the
 /// others, from the first one down. So no row reads a word that was written.
-pub(crate) fn blend_rows<M: ObjectMemory>(m: &mut M, t: &Transfer, halftone: &[u16]) -> Result<(), Stop>
+pub(crate) fn blend_rows<M: ObjectMemory>(
+    m: &mut M,
+    t: &Transfer,
+    halftone: &[u16],
+) -> Result<(), Stop>
     requires sound { M.sound m.old }
     requires ready { IsReady (M.told m.old) }
     requires fits { Fits t.now }

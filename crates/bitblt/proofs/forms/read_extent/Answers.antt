@@ -52,4 +52,3 @@ returns-clause-serves g c = λ cpu.
 
 pub returns-clause-looks : goal.returns-clause-looks
 returns-clause-looks g c = looks_again 12 _ _ _ c.in_ok-x.ensures.ready c.in_ok-x.ensures.looks c.in_ok-y.ensures.looks
-

@@ -24,7 +24,7 @@ loop-y-init g c =
     let all : c.loop-i.i ≡ t.bottom - t.top = omega arith in
     record {
       partly = partly_same t c.args.halftone.now (g.M.ObjectMemory.told c.args.m.now) (g.M.ObjectMemory.told c.loop-i.m) (done_up t c.loop-i.i) (done_down t t.top) c.loop-i.invariant.partly
-        (λ r. down-none t r c.requires.fits.rows ∙ ap (λ i. done_up t i r) (sym all));
+          (λ r. down-none t r c.requires.fits.rows ∙ ap (λ i. done_up t i r) (sym all));
       sound = c.loop-i.invariant.sound;
       lender = c.loop-i.invariant.lender;
       outside = c.loop-i.invariant.outside;
@@ -55,8 +55,8 @@ loop-i-preserved g c =
           rw w.m-is
           record {
             partly = partly_row t c.args.halftone.now old now _ (done_up t c.loop-i.i) (done_up t (c.loop-i.i + 1)) y c.requires.ready c.requires.rooms c.requires.fits c.loop-i.invariant.partly
-              (omega arith) (omega arith) (up-order t c.loop-i.i more) (up-fresh t c.loop-i.i more) (up-set t c.loop-i.i more first) (λ r ne. up-others t c.loop-i.i r more ne)
-              done.ready done.serves done.written;
+                (omega arith) (omega arith) (up-order t c.loop-i.i more) (up-fresh t c.loop-i.i more) (up-set t c.loop-i.i more first) (λ r ne. up-others t c.loop-i.i r more ne)
+                done.ready done.serves done.written;
             sound = done.sound;
             lender = done.lender ∙ c.loop-i.invariant.lender;
             outside = done.outside ∙ c.loop-i.invariant.outside;
@@ -85,8 +85,8 @@ loop-y-preserved g c =
           rw w.m-is
           record {
             partly = partly_row t c.args.halftone.now old now _ (done_down t y) (done_down t (y + 1)) y c.requires.ready c.requires.rooms c.requires.fits c.loop-y.invariant.partly
-              (omega arith) (omega arith) (down-order t y later) (down-fresh t y later) (down-set t y (omega arith)) (λ r ne. down-others t y r ne)
-              done.ready done.serves done.written;
+                (omega arith) (omega arith) (down-order t y later) (down-fresh t y later) (down-set t y (omega arith)) (λ r ne. down-others t y r ne)
+                done.ready done.serves done.written;
             sound = done.sound;
             lender = done.lender ∙ c.loop-y.invariant.lender;
             outside = done.outside ∙ c.loop-y.invariant.outside;

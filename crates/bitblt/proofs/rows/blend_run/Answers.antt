@@ -43,7 +43,6 @@ returns-in_err-write_words-clause-serves g c = λ cpu.
     (change_later words_of (λ b. with_words b 0 _) 13 c.requires.ready read.ready looks
     (change_refused words_of (λ b. with_words b 0 _) 13 (WriteWords 13 _ _) refl read.ready rooms.dest.name c.in_err-write_words.ensures.access.called))
 
-
 pub returns-clause-serves : goal.returns-clause-serves
 returns-clause-serves g c = λ cpu.
     let t = c.args.t.now in
