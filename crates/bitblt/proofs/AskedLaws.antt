@@ -1,5 +1,5 @@
 -- The numbers of a BitBlt, in steps.
-use Rattle.std.proofs.Common.{◌≡◌, ℕ, ℤ, ◌+◌, Option, Some, None, refl, sym, ◌∙◌, ap}
+use Rattle.std.proofs.Common.{◌≡◌, ℕ, ℤ, ◌+◌, Option, Some, None, refl, ◌∙◌, ap}
 use Rattle.std.specs.Option.{option_and_then}
 use Rattle.long_names.specs.declared.object.Object.{Object}
 use Rattle.blue_model.specs.Parts.{number}

@@ -1,5 +1,5 @@
 -- The numbers of a BitBlt, as calls find them one after the other.
-use Rattle.std.proofs.Common.{◌≡◌, ℕ, ℤ, ◌+◌, List, [], ◌∷◌, Option, Some, None, Result, Ok, Err, refl, sym, ◌∙◌, ap, subst}
+use Rattle.std.proofs.Common.{◌≡◌, ℕ, ℤ, [], ◌∷◌, Option, Some, None, Ok, Err, refl, sym, ◌∙◌, ap, subst}
 use Rattle.std.specs.Option.{option_and_then, option_map}
 use Rattle.long_names.specs.declared.object.Object.{Object}
 use Rattle.object_memory.specs.Told.{Told, IsReady}
@@ -8,7 +8,6 @@ use Rattle.blue_model.specs.declared.cpu.Cpu.{Cpu}
 use Rattle.blue_model.specs.Parts.{number}
 use Rattle.blue_model.specs.Trials.{peek}
 use Rattle.blue_model.specs.BitBlt.{rule_number, asked_of}
-use Rattle.blue_model.specs.BitBlt as model
 use Rattle.contexts.specs.declared.stop.Stop.{Stop}
 use Rattle.contexts.specs.Serves.{Serves}
 use Rattle.contexts.proofs.ReadLaws.{looks_again}

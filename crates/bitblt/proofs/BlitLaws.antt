@@ -1,22 +1,20 @@
 -- Rules of a blit: words that are put one after the other, and calls that stopped on the way.
-use Rattle.std.proofs.Common.{◌≡◌, ℕ, ◌+◌, ◌≤◌, Bool, true, false, List, [], ◌∷◌, ◌++◌, length, Option, Some, None, Result, Ok, Err, IsTrue, is_some, ◌⊎◌, inl, inr, refl, sym, ◌∙◌, ap, subst, arith}
+use Rattle.std.proofs.Common.{◌≡◌, ℕ, Bool, true, false, List, [], ◌∷◌, ◌++◌, length, Option, Some, None, Result, Ok, Err, IsTrue, is_some, ◌⊎◌, inl, inr, refl, sym, ◌∙◌, ap, subst, arith}
 use Rattle.std.specs.Option.{option_and_then, option_map_or}
 use Rattle.long_names.specs.declared.value.Value.{Value}
-use Rattle.long_names.specs.declared.value.Value.TheVariants.{Int, Ref}
 use Rattle.long_names.specs.declared.object.Body.{Body}
 use Rattle.long_names.specs.declared.object.Object.{Object}
 use Rattle.long_names.specs.Objects.{words_of, put_run, with_words}
 use Rattle.long_names.specs.Heap.{Heap}
-use Rattle.long_names.specs.State.{IsRef, object_at, part_at}
+use Rattle.long_names.specs.State.{object_at, part_at}
 use Rattle.long_names.specs.Access.{with_body}
 use Rattle.object_memory.specs.declared.fault.Need.{Need}
-use Rattle.object_memory.specs.declared.fault.MemFault.{MemFault}
 use Rattle.object_memory.specs.declared.fault.MemFault.TheVariants.{CoreFull, WorkFull, WorkFault, Damaged, NamesSpent, Said, Memory}
 use Rattle.object_memory.specs.Told.{Told, IsReady}
 use Rattle.object_memory.proofs.LaterLaws.{IsLater-refl}
-use Rattle.long_names.proofs.AccessLaws.{object-same, part-same}
+use Rattle.long_names.proofs.AccessLaws.{part-same}
 use Rattle.blue_model.specs.declared.cpu.Cpu.{Cpu}
-use Rattle.blue_model.specs.Machine.{Machine, LogRow, Outcome, Go, Halt, Spent, Unbuilt, Rule, rows_at, looked, after, then_do, ◌>>=◌, ◌>>◌, done, pick, look, changed}
+use Rattle.blue_model.specs.Machine.{Machine, LogRow, Outcome, Go, Rule, rows_at, looked, after, then_do, ◌>>=◌, ◌>>◌, done, pick, look, changed}
 use Rattle.blue_model.specs.BitBlt.{put_words}
 use Rattle.contexts.specs.declared.stop.Stop.{Stop}
 use Rattle.contexts.specs.declared.stop.Stop.TheVariants.{Stuck, Mem, NotBuilt}
@@ -28,7 +26,7 @@ use Rattle.object_memory.specs.Contract.{Does, Called}
 use Rattle.object_memory.proofs.LeftLaws.{heap_over}
 use Rattle.long_names.specs.Access.{WriteWords}
 use Rattle.bitblt.specs.declared.transfer.Transfer.{Transfer}
-use Rattle.bitblt.specs.Blits.{DEST_BITS, SOURCE_BITS, words_at, dest_words, HasRooms, look_at_source, blit_words}
+use Rattle.bitblt.specs.Blits.{DEST_BITS, SOURCE_BITS, dest_words, HasRooms, look_at_source, blit_words}
 use Rattle.bitblt.proofs.ChangeLaws.{HasWords, put_machine, put_again, put_same, run_put, rows_put, words_put, still_there, next_same}
 
 -- ---- logs

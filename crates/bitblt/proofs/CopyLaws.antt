@@ -1,27 +1,21 @@
 -- A copy as a rule of the model: where nothing changes, where the rows were blended, and where a call stopped.
-use Rattle.std.proofs.Common.{◌≡◌, ℕ, ◌≤◌, Bool, true, false, cond, List, [], ◌∷◌, ◌++◌, length, Option, Some, None, Result, Ok, Err, IsTrue, is_some, refl, sym, ◌∙◌, ap, subst}
-use Rattle.std.specs.Prelude.{option_map}
-use Rattle.std.specs.Option.{option_and_then, option_map_or}
+use Rattle.std.proofs.Common.{◌≡◌, ℕ, Bool, true, false, List, [], ◌++◌, Option, Some, None, Result, Ok, Err, IsTrue, is_some, refl, sym, ◌∙◌, ap, subst}
 use Rattle.long_names.specs.declared.value.Value.{Value}
 use Rattle.long_names.specs.declared.object.Object.{Object}
 use Rattle.long_names.specs.Objects.{words_of}
 use Rattle.long_names.specs.Heap.{Heap}
-use Rattle.long_names.specs.State.{object_at, part_at}
-use Rattle.long_names.proofs.AccessLaws.{part-same}
+use Rattle.long_names.specs.State.{object_at}
 use Rattle.object_memory.specs.Told.{Told, IsReady}
-use Rattle.object_memory.specs.Shape.{HasPartAt, Looks}
 use Rattle.object_memory.proofs.LaterLaws.{IsLater-refl}
-use Rattle.object_memory.proofs.LooksLaws.{part_looked, regs_looked}
 use Rattle.blue_model.specs.declared.cause.Cause.TheVariants.{Shape}
 use Rattle.blue_model.specs.declared.cpu.Cpu.{Cpu}
-use Rattle.blue_model.specs.Machine.{Machine, LogRow, Outcome, Go, Rule, rows_at, looked, after, then_do, ◌>>=◌, done, given, pick, look, part}
+use Rattle.blue_model.specs.Machine.{Machine, LogRow, Outcome, Go, rows_at, looked, after, then_do, ◌>>=◌, done, given, pick, look, part}
 use Rattle.blue_model.specs.Forms.{Form}
 use Rattle.blue_model.specs.BitBlt.{Asked, words_in, words_or, black, copied_words, put_words, copy}
 use Rattle.contexts.specs.declared.stop.Stop.{Stop}
 use Rattle.contexts.specs.Serves.{Stands, Gives, Serves}
 use Rattle.contexts.proofs.ServesLaws.{IsCounted-refl}
-use Rattle.contexts.proofs.StoreLaws.{thinned_here}
-use Rattle.bitblt.specs.Blits.{words_at, look_at_source, blit_words}
+use Rattle.bitblt.specs.Blits.{look_at_source, blit_words}
 use Rattle.bitblt.proofs.ChangeLaws.{HasWords, put_machine, put_same, words_inside}
 use Rattle.bitblt.proofs.BlitLaws.{HasRows, rows_same, rows_none, rows_both, rows_first, rows_second, by_model, fault_within, HasBits, source_rows, blit_goes, put_goes}
 

@@ -1,10 +1,9 @@
 -- A copy over a memory, from the forms in registers.
-use Rattle.std.proofs.Common.{◌≡◌, ℕ, ◌+◌, ◌*◌, ◌-◌, ◌<◌, ◌≤◌, Bool, true, false, cond, get_or, List, [], length, Option, Some, None, Result, Ok, Err, IsTrue, is_some, refl, sym, ◌∙◌, ap, ap₂, subst, subst₂, arith}
+use Rattle.std.proofs.Common.{◌≡◌, ℕ, ◌+◌, ◌*◌, ◌-◌, ◌<◌, ◌≤◌, Bool, true, false, cond, get_or, List, [], length, Option, Some, None, Result, Ok, Err, IsTrue, is_some, refl, sym, ◌∙◌, ap, subst₂, arith}
 use Rattle.std.specs.Prelude.{option_map}
 use Rattle.std.specs.Option.{option_map_or}
 use Rattle.long_names.specs.declared.value.Value.{Value}
 use Rattle.long_names.specs.Objects.{words_of}
-use Rattle.long_names.specs.State.{part_at}
 use Rattle.long_names.proofs.AccessLaws.{part-same}
 use Rattle.object_memory.specs.Told.{Told, IsReady}
 use Rattle.object_memory.specs.Shape.{HasPartAt, Looks}
@@ -28,7 +27,7 @@ use Rattle.bitblt.specs.Plans.{HALFTONE_BITS, is_column, is_row, tone_words, IsP
 use Rattle.bitblt.proofs.ChangeLaws.{HasWords}
 use Rattle.bitblt.proofs.RunReads.{weaker, dest_looked, source_looked}
 use Rattle.bitblt.proofs.CopiedLaws.{words-asked, no_columns, no_rows}
-use Rattle.bitblt.proofs.CopyLaws.{WordsOr, HasForms, AreForms, bits_of, copy_nothing, copy_blended, copy_stopped, copy_unread}
+use Rattle.bitblt.proofs.CopyLaws.{WordsOr, AreForms, bits_of, copy_nothing, copy_blended, copy_stopped, copy_unread}
 
 -- the source's words, if there is a source
 abbrev pub from_words : Option Extent → Told → List ℕ

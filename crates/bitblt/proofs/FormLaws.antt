@@ -1,10 +1,10 @@
 -- Forms, as calls find them.
-use Rattle.std.proofs.Common.{◌≡◌, ℕ, ℤ, ◌+◌, ◌*◌, ◌≤◌, ◌<◌, ◌||◌, eqb, nat_le, Bool, true, false, cond, List, [], ◌∷◌, length, Option, Some, None, Result, Ok, Err, IsTrue, refl, sym, ◌∙◌, ap, subst, arith}
+use Rattle.std.proofs.Common.{◌≡◌, ℕ, ℤ, ◌≤◌, ◌<◌, ◌||◌, eqb, nat_le, Bool, true, false, cond, List, [], ◌∷◌, length, Option, Some, None, Ok, Err, IsTrue, refl, sym, ◌∙◌, ap, subst, arith}
 use Rattle.std.specs.Option.{option_and_then, option_map}
 use Rattle.long_names.specs.declared.value.Value.{Value}
 use Rattle.long_names.specs.declared.object.Object.{Object}
 use Rattle.long_names.specs.Objects.{words_of}
-use Rattle.long_names.specs.State.{object_at, part_at}
+use Rattle.long_names.specs.State.{object_at}
 use Rattle.object_memory.specs.Told.{Told, IsReady}
 use borrow.Author.Tests.{le-leb}
 use Rattle.std.proofs.lemmas.Grind.{common_steps}

@@ -1,15 +1,13 @@
 -- Rows in an order in which none reads words that were written, also where source and destination are one object.
-use Rattle.std.proofs.Common.{◌≡◌, ◌≢◌, ℕ, zero, suc, ◌+◌, ◌-◌, ◌*◌, ◌/◌, ◌%◌, ◌<◌, ◌≤◌, min, List, get_or, length, refl, sym, ap, subst, ◌∙◌, arith, ⊎_elim, ◌⊎◌, inl, inr, ◌||◌, cond, Bool, true, false, ◌&&◌, ltb, Option, Some, None}
+use Rattle.std.proofs.Common.{◌≡◌, ◌≢◌, ℕ, zero, suc, ◌+◌, ◌-◌, ◌*◌, ◌/◌, ◌%◌, ◌<◌, ◌≤◌, List, get_or, length, refl, sym, ap, subst, ◌∙◌, arith, ⊎_elim, ◌⊎◌, ◌||◌, cond, Bool, true, false, ◌&&◌, ltb, Option, Some}
 use Rattle.std.specs.Prelude.{is_some}
 use Rattle.std.proofs.lemmas.Bool.{cases_lt, cases_eq, ltb-true, ltb-false}
 use Rattle.std.proofs.lemmas.Nat.{div-mul-add, mod-mul-add}
 use Rattle.std.proofs.lemmas.List.FromFn.{fill_by_all}
 use Rattle.std.proofs.Math.Nat.{mul-le-mul_left}
 use Rattle.blue_model.specs.Forms.{left_bit, bit, number_of}
-use Rattle.blue_model.specs.BitBlt.{rule_bit}
 use Rattle.bit_rows.specs.Rows.{within}
 use Rattle.bit_rows.proofs.RowLemmas.{within-inside, within-below, within-above, bit-word, bit-at}
-use Rattle.bit_rows.proofs.NumberLemmas.{word-from_bits}
 use Rattle.bitblt.specs.declared.transfer.Transfer.{Transfer}
 use Rattle.blue_model.specs.BitBlt.{halftone_pixel}
 use Rattle.long_names.specs.Kept.{any_below}

@@ -1,11 +1,11 @@
 -- Several parts of one object that are looked for one after the other.
-use Rattle.std.proofs.Common.{◌≡◌, ℕ, ◌≤◌, nat_le, true, false, List, [], ◌∷◌, ◌++◌, Option, Some, None, Result, Ok, Err, IsTrue, refl, sym, ◌∙◌, ap, subst}
+use Rattle.std.proofs.Common.{◌≡◌, ℕ, nat_le, true, false, List, [], ◌++◌, Option, Some, None, Result, Ok, Err, IsTrue, refl, sym, ◌∙◌, ap, subst}
 use Rattle.std.specs.Option.{option_and_then}
 use Rattle.std.specs.List.{list_all}
 use Rattle.long_names.specs.declared.value.Value.{Value}
 use Rattle.long_names.specs.declared.value.Value.TheVariants.{Int, Ref}
 use Rattle.long_names.specs.declared.object.Object.{Object}
-use Rattle.long_names.specs.Heap.{Heap, Has}
+use Rattle.long_names.specs.Heap.{Heap}
 use Rattle.long_names.specs.State.{object_at}
 use Rattle.long_names.proofs.ThinLemmas.{has}
 use Rattle.object_memory.specs.Told.{Told, IsReady}
@@ -18,7 +18,7 @@ use Rattle.contexts.specs.declared.stop.Stop.TheVariants.{Stuck, Mem, NotBuilt}
 use Rattle.object_memory.specs.declared.fault.MemFault.TheVariants.{CoreFull, WorkFull, WorkFault, Damaged, NamesSpent, Said, Memory}
 use Rattle.contexts.specs.Serves.{Stands, Gives, HasReason, Serves}
 use Rattle.contexts.proofs.ServesLaws.{serves_then}
-use Rattle.contexts.proofs.Steps.{IsQuiet, done_serves, read_first}
+use Rattle.contexts.proofs.Steps.{done_serves, read_first}
 use Rattle.contexts.proofs.ReadLaws.{quiet}
 use Rattle.std.specs.Prelude.{IfSome}
 use Rattle.std.specs.Result.{IsErrAnd}

@@ -1,5 +1,5 @@
 -- Rows one after the other: what stands after each, and where a call stopped.
-use Rattle.std.proofs.Common.{◌≡◌, ◌≢◌, ℕ, ◌+◌, ◌*◌, ◌<◌, ◌≤◌, Bool, true, false, ◌&&◌, cond, List, length, Option, Some, None, Result, Ok, Err, IsTrue, is_some, inl, inr, ◌⊎◌, refl, sym, ◌∙◌, ap, subst, arith}
+use Rattle.std.proofs.Common.{◌≡◌, ◌≢◌, ℕ, ◌+◌, ◌<◌, ◌≤◌, Bool, true, false, ◌&&◌, cond, List, length, Option, Some, None, Result, Ok, Err, IsTrue, is_some, refl, sym, ◌∙◌, ap, subst}
 use Rattle.long_names.specs.declared.value.Value.{Value}
 use Rattle.object_memory.specs.Told.{Told, IsReady}
 use Rattle.blue_model.specs.declared.cpu.Cpu.{Cpu}
@@ -10,7 +10,7 @@ use Rattle.bit_rows.specs.Rows.{within}
 use Rattle.contexts.specs.declared.stop.Stop.{Stop}
 use Rattle.contexts.specs.Serves.{Serves}
 use Rattle.bitblt.specs.declared.transfer.Transfer.{Transfer}
-use Rattle.bitblt.specs.Transfers.{Fits, row_words, words_after, run_start, run_length, AreDone, IsShared}
+use Rattle.bitblt.specs.Transfers.{Fits, row_words, words_after, run_start, run_length, IsShared}
 use Rattle.bitblt.specs.Blits.{DEST_BITS, SOURCE_BITS, words_at, dest_words, source_words, shares, HasRooms, blit_words, IsWritten, IsPartly}
 use Rattle.bitblt.proofs.Runs.{row_words-length, tall-dest}
 use Rattle.bitblt.proofs.Overlap.{InOrder, row-done, none-done, start-done, all-done}

@@ -1,5 +1,5 @@
 -- Runs of words that were read and written.
-use Rattle.std.proofs.Common.{◌≡◌, ℕ, ◌+◌, ◌*◌, ◌-◌, ◌<◌, ◌≤◌, Bool, true, false, ◌&&◌, eqb, cond, List, [], ◌∷◌, ◌++◌, length, take, drop, get_or, Option, Some, None, Result, Ok, Err, OnOk, IsTrue, is_some, ◌⊎◌, inl, inr, refl, sym, ◌∙◌, ap, subst, arith}
+use Rattle.std.proofs.Common.{◌≡◌, ℕ, ◌+◌, ◌*◌, ◌-◌, ◌<◌, ◌≤◌, Bool, true, false, ◌&&◌, eqb, cond, List, [], length, take, drop, get_or, Option, Some, None, Result, Ok, Err, OnOk, IsTrue, is_some, refl, sym, ◌∙◌, ap, subst, arith}
 use Rattle.std.proofs.lemmas.Grind.{common_steps}
 use Rattle.blue_model.specs.Storage.{is_same}
 use Rattle.std.proofs.lemmas.List.{get_or-take, get_or-drop}
@@ -10,9 +10,8 @@ use Rattle.long_names.specs.declared.object.Body.{Body}
 use Rattle.long_names.specs.declared.object.Body.TheVariants.{Pointers, Words, Bytes, Method}
 use Rattle.long_names.specs.declared.object.Object.{Object}
 use Rattle.long_names.specs.Objects.{words_of, put_run, with_words}
-use Rattle.long_names.specs.Heap.{Heap}
 use Rattle.long_names.specs.State.{IsRef, object_at, part_at}
-use Rattle.long_names.specs.Access.{Access, ReadWords, WriteWords, OfRun, Answer, answered, answer_of}
+use Rattle.long_names.specs.Access.{ReadWords, WriteWords, OfRun, Answer, answered, answer_of}
 use Rattle.object_memory.specs.declared.fault.MemFault.{MemFault}
 use Rattle.object_memory.specs.Told.{Told, IsReady}
 use Rattle.object_memory.specs.Contract.{Does, MayDo, Called}
@@ -34,7 +33,7 @@ use Rattle.contexts.specs.Serves.{Serves}
 use Rattle.contexts.proofs.Steps.{done_serves}
 use Rattle.contexts.proofs.ReadLaws.{reached_making, reached_saying, reached_need, look_refused, names_object, read_serves}
 use Rattle.bitblt.specs.declared.transfer.Transfer.{Transfer}
-use Rattle.bitblt.specs.Transfers.{Fits, HasSource, IsShared, run_start, run_length, row_words}
+use Rattle.bitblt.specs.Transfers.{IsShared, row_words}
 use Rattle.bitblt.specs.Blits.{DEST_BITS, SOURCE_BITS, words_at, dest_words, source_words, shares, HasRooms, look_at_source, blit_words, IsWritten}
 
 -- ---- what was read

@@ -1,8 +1,7 @@
 -- The primitive in steps: what has come so far, and what is left of the rule.
-use Rattle.std.proofs.Common.{◌≡◌, ℕ, ◌≤◌, Bool, false, List, length, Option, Some, None, Result, Ok, Err, refl, sym, ◌∙◌, subst, subst₂}
+use Rattle.std.proofs.Common.{◌≡◌, ℕ, ◌≤◌, Bool, false, List, length, Option, Some, None, Result, Ok, Err, subst, subst₂}
 use Rattle.std.specs.Result.{IsErrAnd}
 use Rattle.long_names.specs.declared.value.Value.{Value}
-use Rattle.long_names.specs.declared.object.Object.{Object}
 use Rattle.long_names.specs.Objects.{words_of}
 use Rattle.object_memory.specs.Told.{Told, IsReady}
 use Rattle.object_memory.specs.Shape.{Looks, is_among}
@@ -12,7 +11,7 @@ use Rattle.bitblt.specs.Shapes.{form_by, optional_by, least_words, OptionalRoom}
 use Rattle.blue_model.specs.declared.answer.Answer.{Answer}
 use Rattle.blue_model.specs.declared.answer.Answer.TheVariants.{Done, Failed}
 use Rattle.blue_model.specs.declared.cpu.Cpu.{Cpu}
-use Rattle.blue_model.specs.Machine.{Rule, ◌>>=◌, ◌>>◌, done}
+use Rattle.blue_model.specs.Machine.{Rule, ◌>>◌, done}
 use Rattle.blue_model.specs.Parts.{field}
 use Rattle.blue_model.specs.Contexts.{stack}
 use Rattle.blue_model.specs.Trials.{◌>>?◌, peek}
@@ -20,7 +19,7 @@ use Rattle.blue_model.specs.Forms.{Form, form_of, form_where}
 use Rattle.blue_model.specs.BitBlt.{Asked, asked_of, has_sixteen, form_or_nil, copy, copy_bits}
 use Rattle.contexts.specs.declared.stop.Stop.{Stop}
 use Rattle.contexts.specs.Serves.{Serves}
-use Rattle.contexts.proofs.ServesLaws.{serves_then, serves_stop, serves_exit}
+use Rattle.contexts.proofs.ServesLaws.{serves_then, serves_exit}
 use Rattle.contexts.proofs.Steps.{done_serves}
 use Rattle.contexts.proofs.TrialLaws.{found_then, none_found, finding_exit}
 

@@ -1,6 +1,6 @@
 -- What a BitBlt asks for, as the code reads it.
 use Rattle.std.specs.Prelude.{ℕ, ℤ, ◌+◌, Option, Some, None, Result, Ok, Err}
-use Rattle.std.specs.Option.{option_and_then, option_map}
+use Rattle.std.specs.Option.{option_map}
 use Rattle.long_names.specs.declared.object.Object.{Object}
 use Rattle.blue_model.specs.BitBlt.{blit_number}
 use Rattle.blue_model.specs.BitBlt as model

@@ -1,5 +1,5 @@
 -- Blits over a memory: what they read and write, as rules of the model.
-use Rattle.std.specs.Prelude.{◌≡◌, ℕ, ◌+◌, ◌-◌, ◌*◌, ◌≤◌, ◌&&◌, Bool, true, false, List, [], length, Option, Some, None, Ok, IsTrue, if◌then◌else◌}
+use Rattle.std.specs.Prelude.{◌≡◌, ℕ, ◌+◌, ◌-◌, ◌*◌, ◌≤◌, ◌&&◌, Bool, true, List, [], length, Option, Some, None, Ok, IsTrue, if◌then◌else◌}
 use Rattle.std.specs.Option.{option_map_or}
 use Rattle.long_names.specs.declared.value.Value.{Value}
 use Rattle.long_names.specs.Objects.{words_of}

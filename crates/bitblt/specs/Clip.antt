@@ -1,5 +1,5 @@
 -- Places on one axis: those of a rectangle, of the clipping rectangle, of the destination and of the source.
-use Rattle.std.specs.Prelude.{ℕ, ℤ, pos, Bool, true, false, ◌≡◌, ◌<◌, ◌≤◌, ◌+◌, ◌-◌, ◌+ℤ◌, ◌-ℤ◌, ◌&&◌, Option, Some, None, int_lt, int_le}
+use Rattle.std.specs.Prelude.{ℕ, ℤ, pos, Bool, false, ◌≡◌, ◌<◌, ◌≤◌, ◌+◌, ◌-◌, ◌+ℤ◌, ◌-ℤ◌, ◌&&◌, Option, Some, None, int_lt, int_le}
 use Rattle.bit_rows.specs.Rows.{within}
 use Rattle.bitblt.specs.declared.clip.Range.{Range}
 use Rattle.bitblt.specs.declared.clip.Span.{Span}

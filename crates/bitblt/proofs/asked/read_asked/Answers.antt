@@ -1,4 +1,3 @@
-use Rattle.std.proofs.Common.{[], ◌∷◌, refl}
 use Rattle.long_names.specs.Words.{IsSmallInteger}
 use Rattle.object_memory.proofs.ShapeLaws.{small_number}
 use Rattle.blue_model.specs.Parts.{number}
@@ -6,7 +5,7 @@ use Rattle.contexts.proofs.ReadLaws.{looks_again}
 use Rattle.blue_model.specs.BitBlt.{asked_of}
 use Rattle.bitblt.proofs.PeekPairs.{peek_fault, exits_by, of_some}
 use Rattle.bitblt.proofs.AskedLaws.{lacks_rule, lacks_dest, lacks_extent, lacks_source_place, lacks_clip, lacks_all}
-use Rattle.bitblt.proofs.AskedSteps.{HasFound, found_rule, no_rule, no_number, found_place, no_place, stopped_place, found_all}
+use Rattle.bitblt.proofs.AskedSteps.{found_rule, no_rule, no_number, found_place, no_place, stopped_place, found_all}
 use Rattle.bitblt.proofs.asked.read_asked.Goals as goal
 
 pub returns-in_err-z-clause-serves : goal.returns-in_err-z-clause-serves

@@ -1,4 +1,4 @@
-use Rattle.std.proofs.Common.{◌≡◌, ℤ, ◌+◌, Option, Some, None, Ok, [], ◌∷◌, refl, sym, ◌∙◌, ap, subst}
+use Rattle.std.proofs.Common.{ℤ, ◌+◌, Option, Some, Ok, [], ◌∷◌, refl, sym, ◌∙◌, ap, subst}
 use mir.Val.{to_z, of_z}
 use Rattle.std.specs.Int.{w16}
 use Rattle.long_names.specs.Words.{IsSmallInteger}

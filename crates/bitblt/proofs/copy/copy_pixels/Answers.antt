@@ -1,4 +1,3 @@
-use Rattle.std.proofs.Common.{[], refl, sym, ◌∙◌}
 use Rattle.contexts.proofs.ServesLaws.{exits}
 use Rattle.bitblt.proofs.RunReads.{rooms_looked}
 use Rattle.bitblt.proofs.CopySteps.{plan_rooms, copy_end, copy_no_columns, copy_no_rows, copy_tone_stopped}

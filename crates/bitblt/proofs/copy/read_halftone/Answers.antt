@@ -1,4 +1,4 @@
-use Rattle.std.proofs.Common.{true, [], refl, sym, ◌∙◌}
+use Rattle.std.proofs.Common.{true, refl, sym, ◌∙◌}
 use Rattle.long_names.specs.Access.{ReadWords}
 use Rattle.object_memory.proofs.LooksLaws.{Looks-access}
 use Rattle.contexts.proofs.ServesLaws.{exits}

@@ -1,4 +1,4 @@
-use Rattle.std.proofs.Common.{◌≡◌, Option, Some, None, Ok, [], ◌∷◌, refl, sym, ◌∙◌, ap, subst}
+use Rattle.std.proofs.Common.{Option, Some, Ok, [], ◌∷◌, refl, ◌∙◌, ap, subst}
 use Rattle.std.specs.Option.{option_and_then}
 use Rattle.long_names.specs.Words.{IsSmallInteger}
 use Rattle.object_memory.proofs.ShapeLaws.{small_number}

@@ -1,11 +1,10 @@
-use Rattle.std.proofs.Common.{ℕ, ◌≡◌, ◌<◌, ◌≤◌, nat_le, Option, Some, None, Ok, [], ◌∷◌, length, is_some, refl, sym, ◌∙◌, ap, subst, arith, true, false}
+use Rattle.std.proofs.Common.{ℕ, ◌≡◌, ◌<◌, ◌≤◌, Option, Some, Ok, [], ◌∷◌, refl, sym, ◌∙◌, ap, subst, arith}
 use Rattle.std.specs.Option.{option_map}
 use Rattle.bitblt.specs.declared.forms.Extent.{Extent}
 use Rattle.long_names.specs.Objects.{words_of}
 use Rattle.object_memory.specs.Shape.{Looks}
 use Rattle.object_memory.proofs.LooksLaws.{Looks-read, Looks-trans, has_looked}
 use Rattle.object_memory.proofs.ShapeLaws.{has_sized}
-use Rattle.blue_model.specs.Parts.{field}
 use Rattle.blue_model.specs.Trials.{peek}
 use Rattle.blue_model.specs.Forms.{word_count, extent_of, form_where}
 use Rattle.blue_model.specs.Forms as model

@@ -1,14 +1,11 @@
-use Rattle.std.proofs.Common.{◌≡◌, Option, Some, None, Ok, [], ◌∷◌, refl, sym, ◌∙◌, ap, subst, true, false}
+use Rattle.std.proofs.Common.{Option, Ok, sym, ◌∙◌, subst}
 use Rattle.std.specs.Option.{option_map}
-use Rattle.object_memory.specs.Shape.{Looks}
-use Rattle.object_memory.proofs.LooksLaws.{Looks-refl}
 use Rattle.blue_model.specs.Forms.{form_where}
-use Rattle.blue_model.specs.Forms as model
 use Rattle.blue_model.specs.BitBlt.{some_form, form_or_nil}
 use Rattle.contexts.specs.Serves.{Serves}
 use Rattle.bitblt.specs.declared.forms.Extent.{Extent}
 use Rattle.bitblt.specs.Shapes.{enough, form_by}
-use Rattle.bitblt.proofs.PeekPairs.{exits_by, of_some}
+use Rattle.bitblt.proofs.PeekPairs.{exits_by}
 use Rattle.bitblt.proofs.FormLaws.{nil_serves, found_serves, found_stopped, looks_any}
 use Rattle.bitblt.proofs.forms.read_optional_form.Goals as goal
 

@@ -1,6 +1,4 @@
-use Rattle.std.proofs.Common.{◌≡◌, ℕ, ◌+◌, ◌-◌, ◌*◌, ◌/◌, List, Option, [], refl, sym, ap, ◌∙◌}
-use Rattle.object_memory.specs.Shape.{Looks}
-use Rattle.blue_model.specs.BitBlt.{put_words}
+use Rattle.std.proofs.Common.{ℕ, List, Option, refl, sym, ap, ◌∙◌}
 use Rattle.contexts.proofs.ServesLaws.{serves_exit}
 use Rattle.bitblt.specs.Transfers.{source_pixel, row_words}
 use Rattle.bitblt.specs.Blits.{dest_words, source_words, blit_words}

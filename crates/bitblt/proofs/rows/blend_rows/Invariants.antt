@@ -1,4 +1,4 @@
-use Rattle.std.proofs.Common.{◌≡◌, ℕ}
+use Rattle.std.proofs.Common.{◌≡◌}
 use Rattle.bitblt.specs.Transfers.{done_up, done_down}
 use Rattle.bitblt.specs.Blits.{IsPartly}
 use Rattle.bitblt.proofs.rows.blend_rows.Given as goal

@@ -1,4 +1,4 @@
-use Rattle.std.proofs.Common.{rules, ◌≡◌, ℕ, ◌+◌, ◌-◌, ◌*◌, ◌/◌, ◌^◌, ◌<◌, ◌≤◌, List, [], length, refl, ap, sym, ◌∙◌, arith, get_or, IsTrue}
+use Rattle.std.proofs.Common.{rules, ◌≡◌, ◌+◌, ◌*◌, ◌^◌, ◌<◌, ◌≤◌, [], length, refl, arith, IsTrue}
 use Rattle.std.proofs.lemmas.List.Elements.{All-from_get_or}
 use Rattle.long_names.specs.Objects.{words_of, put_run, with_words}
 use Rattle.long_names.specs.Access.{ReadWords, WriteWords}

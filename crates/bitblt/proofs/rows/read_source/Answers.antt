@@ -1,10 +1,10 @@
-use Rattle.std.proofs.Common.{rules, ◌≡◌, ℕ, ◌+◌, ◌-◌, ◌*◌, ◌/◌, ◌<◌, ◌≤◌, List, [], Option, Some, None, length, replicate, refl, ap, sym, ◌∙◌, arith, cond}
+use Rattle.std.proofs.Common.{rules, ◌≡◌, ℕ, ◌+◌, ◌-◌, ◌*◌, ◌/◌, ◌<◌, ◌≤◌, List, Some, None, length, replicate, refl, ap, sym, ◌∙◌, arith, cond}
 use Rattle.blue_model.specs.Forms.{bit}
 use Rattle.long_names.specs.Access.{ReadWords}
 use Rattle.object_memory.proofs.LooksLaws.{Looks-access}
 use Rattle.contexts.proofs.ServesLaws.{exits}
-use Rattle.bitblt.specs.Transfers.{HasSource, source_pixel, skip_of}
-use Rattle.bitblt.specs.Blits.{words_at, source_words}
+use Rattle.bitblt.specs.Transfers.{source_pixel, skip_of}
+use Rattle.bitblt.specs.Blits.{words_at}
 use Rattle.bitblt.proofs.Runs.{buffer-bit, bit-all_ones}
 use Rattle.bitblt.proofs.RunReads.{source_refused, source_read, source_none, run_read}
 use Rattle.bitblt.proofs.rows.read_source.Goals as goal

@@ -1,6 +1,5 @@
-use Rattle.std.proofs.Common.{refl, arith}
-use Rattle.bitblt.specs.Transfers.{HasSource, reads_before}
-use Rattle.bitblt.proofs.Runs.{tall-source}
+use Rattle.std.proofs.Common.{refl}
+use Rattle.bitblt.specs.Transfers.{reads_before}
 use Rattle.bitblt.proofs.rows.reads_before.Goals as goal
 
 pub returns-then-t : goal.returns-then-t

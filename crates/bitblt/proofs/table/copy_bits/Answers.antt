@@ -1,9 +1,9 @@
-use Rattle.std.proofs.Common.{◌≡◌, ℕ, Option, Some, None, Ok, [], ◌∷◌, refl, sym, ◌∙◌, ap, false, true}
+use Rattle.std.proofs.Common.{◌≡◌, [], ◌∷◌, refl, ◌∙◌, ap, false, true}
 use Rattle.std.specs.Option.{option_map}
 use Rattle.long_names.specs.Objects.{words_of}
 use Rattle.object_memory.proofs.LooksLaws.{has_looked}
 use Rattle.blue_model.specs.declared.answer.Answer.TheVariants.{Done}
-use Rattle.blue_model.specs.Machine.{◌>>=◌, ◌>>◌, done}
+use Rattle.blue_model.specs.Machine.{◌>>◌, done}
 use Rattle.blue_model.specs.Parts.{field}
 use Rattle.blue_model.specs.Trials.{◌>>?◌, peek}
 use Rattle.blue_model.specs.Forms.{form_of, form_where}
