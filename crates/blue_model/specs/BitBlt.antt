@@ -6,6 +6,7 @@ use Rattle.std.specs.List.{range_with_len}
 use Rattle.long_names.specs.declared.value.Value.{Value}
 use Rattle.long_names.specs.declared.object.Object.{Object}
 use Rattle.long_names.specs.Objects.{words_of, with_words}
+use Rattle.long_names.specs.Kept.{any_below}
 use Rattle.long_names.specs.State.{part_at}
 use Rattle.blue_model.specs.declared.answer.Answer.{Answer}
 use Rattle.blue_model.specs.declared.answer.Answer.TheVariants.{Done}
@@ -113,9 +114,20 @@ copied_pixel q dest source words from tone x y =
 abbrev pub copied_bit : Asked → Form → Option Form → List ℕ → List ℕ → List ℕ → ℕ → ℕ
 copied_bit q dest source words from tone n = copied_pixel q dest source words from tone (n % (16 * row_words dest.width)) (n / (16 * row_words dest.width))
 
+-- bit n of the destination's words is a pixel that is changed
+abbrev pub is_changed_bit : Asked → Form → Option Form → ℕ → Bool
+is_changed_bit q dest source n = is_changed_column q dest source (n % (16 * row_words dest.width)) && is_changed_row q dest source (n / (16 * row_words dest.width))
+
+-- word k after the call; one that has no changed pixel stays
+abbrev pub copied_word : Asked → Form → Option Form → List ℕ → List ℕ → List ℕ → ℕ → ℕ
+copied_word q dest source words from tone k =
+    if any_below 16 (λ j. is_changed_bit q dest source (16 * k + j))
+    then number_of (λ j. copied_bit q dest source words from tone (16 * k + j)) 16
+    else slice_index words k
+
 -- the destination's words after the call
 unfoldable pub copied_words : Asked → Form → Option Form → List ℕ → List ℕ → List ℕ → List ℕ
-copied_words q dest source words from tone = map (λ k. number_of (λ j. copied_bit q dest source words from tone (16 * k + j)) 16) (range_with_len 0 (length words))
+copied_words q dest source words from tone = map (copied_word q dest source words from tone) (range_with_len 0 (length words))
 
 -- ---- the primitive
 

@@ -1,0 +1,89 @@
+-- Bits of words that are made of others by and, or, xor, not and a shift.
+use Rattle.std.proofs.Common.{◌≡◌, ℕ, ◌+◌, ◌-◌, ◌*◌, ◌/◌, ◌%◌, ◌^◌, ◌<◌, ◌≤◌, min, max, [], ◌∷◌, refl, sym, ap, ◌∙◌, arith, ⊎_elim, cond, ltb}
+use Rattle.std.specs.Int.{bit_at, w16}
+use Rattle.std.specs.Int.RustNames.{bit_or, bit_xor, bit_and}
+use Rattle.std.proofs.lemmas.Nat.{shr-shr, or_shifted, and_mask}
+use Rattle.std.proofs.lemmas.Bool.{cases_lt}
+use Rattle.std.proofs.lemmas.Nat.Bits.{bit_at_and, bit_at_or, bit_at_xor, bit_at_not, bit_at_ones, bit_at-zero, bit_at-lt, bit_at_cat_low, bit_at_cat_high}
+use Rattle.blue_model.specs.Forms.{left_bit, bit}
+
+pub left_bit-and : (a b j : ℕ) → left_bit (bit_and a b) j ≡ min (left_bit a j) (left_bit b j)
+unfolding left_bit
+left_bit-and a b j = bit_at_and a b (15 - j)
+
+pub left_bit-or : (a b j : ℕ) → left_bit (bit_or a b) j ≡ max (left_bit a j) (left_bit b j)
+unfolding left_bit
+left_bit-or a b j = bit_at_or a b (15 - j)
+
+pub left_bit-xor : (a b j : ℕ) → left_bit (bit_xor a b) j ≡ (left_bit a j + left_bit b j) % 2
+unfolding left_bit
+left_bit-xor a b j = bit_at_xor a b (15 - j)
+
+pub left_bit-not : (n j : ℕ) → n < 65536 → left_bit (65535 - n) j ≡ 1 - left_bit n j
+unfolding left_bit
+left_bit-not n j h = bit_at_not w16 n (15 - j) h (omega arith)
+
+pub left_bit-zero : (j : ℕ) → left_bit 0 j ≡ 0
+unfolding left_bit
+left_bit-zero j = bit_at-zero (15 - j)
+
+pub left_bit-ones : (j : ℕ) → left_bit 65535 j ≡ 1
+unfolding left_bit
+left_bit-ones j = bit_at_ones 16 (15 - j) (omega arith)
+
+pub left_bit-lt : (n j : ℕ) → left_bit n j < 2
+unfolding left_bit
+left_bit-lt n j = bit_at-lt n (15 - j)
+
+-- the low bits of a number are those of its remainder
+bit_at-mod : (n b : ℕ) → b < 16 → bit_at (n % 65536) b ≡ bit_at n b
+bit_at-mod n b h =
+    let split : n ≡ n / 65536 * 65536 + n % 65536 = omega arith in
+    sym (ap (λ m. bit_at m b) split ∙ bit_at_cat_low (n / 65536) 16 (n % 65536) b h)
+
+-- bit n of two words
+pub bit-first : (a b n : ℕ) → n < 16 → bit (a ∷ b ∷ []) n ≡ left_bit a n
+unfolding bit
+bit-first a b n h =
+    let q : n / 16 ≡ 0 = omega arith in
+    let r : n % 16 ≡ n = omega arith in
+    rw (q, r) refl
+
+pub bit-second : (a b n : ℕ) → 16 ≤ n → n < 32 → bit (a ∷ b ∷ []) n ≡ left_bit b (n - 16)
+unfolding bit
+bit-second a b n h l =
+    let q : n / 16 ≡ 1 = omega arith in
+    let r : n % 16 ≡ n - 16 = omega arith in
+    rw (q, r) refl
+
+-- the word that a shift cuts out of two side by side
+pub left_bit-cut : (a b t j : ℕ) → b < 65536 → t < 16 → j < 16 → left_bit ((a * 65536 + b) / 2 ^ (16 - t) % 65536) j ≡ bit (a ∷ b ∷ []) (t + j)
+unfolding left_bit
+left_bit-cut a b t j fits ht hj =
+    bit_at-mod ((a * 65536 + b) / 2 ^ (16 - t)) (15 - j) (omega arith)
+    ∙ ap (λ q. q % 2) (shr-shr (a * 65536 + b) (16 - t) (15 - j))
+    ∙ ⊎_elim
+    (λ (low : t + j < 16).
+    bit_at_cat_high a 16 b (16 - t + (15 - j)) fits (omega arith)
+    ∙ ap (bit_at a) (let e : 16 - t + (15 - j) - 16 ≡ 15 - (t + j) = omega arith in e)
+    ∙ sym (bit-first a b (t + j) low))
+    (λ (high : 16 ≤ t + j).
+    bit_at_cat_low a 16 b (16 - t + (15 - j)) (omega arith)
+    ∙ ap (bit_at b) (let e : 16 - t + (15 - j) ≡ 15 - (t + j - 16) = omega arith in e)
+    ∙ sym (bit-second a b (t + j) high (omega arith)))
+    (cases_lt (t + j) 16)
+
+-- the cut as the code computes it
+pub cut_word : (a b t : ℕ) → a < 65536 → b < 65536 → bit_and (bit_or (a * 65536 % 4294967296) b / 2 ^ (16 - t)) 65535 ≡ (a * 65536 + b) / 2 ^ (16 - t) % 65536
+cut_word a b t ha hb =
+    and_mask (bit_or (a * 65536 % 4294967296) b / 2 ^ (16 - t)) 16
+    ∙ ap (λ m. m / 2 ^ (16 - t) % 65536)
+    (ap (λ m. bit_or m b) (let e : a * 65536 % 4294967296 ≡ a * 65536 = omega arith in e) ∙ or_shifted a 16 b hb)
+
+-- a mask chooses, where it is 0 or 1
+pub chosen : (m n o : ℕ) → m < 2 → n < 2 → o < 2 → max (min n m) (min o (1 - m)) ≡ cond (ltb 0 m) n o
+chosen m n o hm hn ho =
+    ⊎_elim
+    (λ (z : m < 1). let e : m ≡ 0 = omega arith in rw e (omega arith))
+    (λ (z : 1 ≤ m). let e : m ≡ 1 = omega arith in rw e (omega arith))
+    (cases_lt m 1)

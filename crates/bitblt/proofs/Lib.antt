@@ -1,0 +1,17 @@
+mod Clips
+mod Runs
+mod Overlap
+mod Order
+mod ChangeLaws
+mod BlitLaws
+mod RunReads
+mod RowSteps
+mod PeekPairs
+mod AskedLaws
+mod AskedSteps
+mod FormLaws
+mod CopiedLaws
+mod CopyLaws
+mod CopySteps
+mod TrialSteps
+mod TableLaws

@@ -1,0 +1,47 @@
+use Rattle.std.proofs.Common.{rules, ◌≡◌, ℕ, ◌+◌, ◌-◌, ◌*◌, ◌/◌, ◌<◌, ◌≤◌, List, Some, None, length, replicate, refl, ap, sym, ◌∙◌, arith, cond}
+use Rattle.blue_model.specs.Forms.{bit}
+use Rattle.long_names.specs.Access.{ReadWords}
+use Rattle.object_memory.proofs.LooksLaws.{Looks-access}
+use Rattle.contexts.proofs.ServesLaws.{exits}
+use Rattle.bitblt.specs.Transfers.{source_pixel, skip_of}
+use Rattle.bitblt.specs.Blits.{words_at}
+use Rattle.bitblt.proofs.Runs.{buffer-bit, bit-all_ones}
+use Rattle.bitblt.proofs.RunReads.{source_refused, source_read, source_none, run_read}
+use Rattle.bitblt.proofs.rows.read_source.Goals as goal
+
+pub returns-in_err-read_words-clause-serves : goal.returns-in_err-read_words-clause-serves
+returns-in_err-read_words-clause-serves g c = λ cpu. exits _ c.from_residual.ensures.1 (source_refused c.args.t.now.has_source 14 _ _ c.if-t.true c.requires.ready (c.requires.rooms.source c.if-t.true).name c.in_err-read_words.ensures.access.called)
+
+pub returns-in_ok-read_words-clause-serves : goal.returns-in_ok-read_words-clause-serves
+returns-in_ok-read_words-clause-serves g c = λ cpu. source_read c.args.t.now.has_source 14 c.if-t.true c.requires.ready c.in_ok-read_words.ensures.ready (c.requires.rooms.source c.if-t.true).name (Looks-access _ _ (ReadWords 14 _ _) refl c.in_ok-read_words.ensures.access.called)
+
+pub returns-in_ok-read_words-clause-pixels : goal.returns-in_ok-read_words-clause-pixels
+unfolding source_pixel
+returns-in_ok-read_words-clause-pixels g c told x hl hr =
+    let t = c.args.t.now in
+    let m = g.M.ObjectMemory.told c.args.m.now in
+    let words = words_at m.heap (m.regs 14) in
+    let rows = t.source_stride * (c.args.y - t.top + t.source_top) in
+    let len : length c.read_words.new.out ≡ (t.source_left + (t.right - 1 - t.left)) / 16 - t.source_left / 16 + 1 = search rules in
+    let has : 1 ≤ length c.args.out.now = omega arith in
+    let place : 16 * rows + (x - t.left + t.source_left) ≡ 16 * t.source_stride * (c.args.y - t.top + t.source_top) + (x - t.left + t.source_left) = omega arith in
+    buffer-bit c.args.out.now c.read_words.new.out words (1 + ((t.source_left + (t.right - 1 - t.left)) / 16 - t.source_left / 16 + 1) - 1) rows t.left t.right t.source_left x
+    has len (λ i h. run_read m 14 _ _ c.read_words.new.out (c.in_ok-read_words.ensures.access.answer told) i (search rules)) hl hr
+    ∙ ap (bit words) place
+    ∙ sym (ap (λ b. source_pixel t (cond b (Some words) None) x c.args.y) c.if-t.true)
+
+pub returns-else-t-clause-serves : goal.returns-else-t-clause-serves
+returns-else-t-clause-serves g c = λ cpu. source_none c.args.t.now.has_source _ c.if-t.false c.requires.ready
+
+pub returns-else-t-clause-pixels : goal.returns-else-t-clause-pixels
+unfolding source_pixel
+returns-else-t-clause-pixels g c told x hl hr =
+    let t = c.args.t.now in
+    let m = g.M.ObjectMemory.told c.args.m.now in
+    let n = skip_of t + (x - 16 * (t.left / 16)) in
+    let all : c.fill.new.self ≡ replicate (length c.args.out.now) 65535 = c.fill.ensures.after (λ y e. search rules) in
+    let room : length c.args.out.now ≡ 1027 = c.requires.room in
+    let short : n < 16 * length c.args.out.now = omega (arith, room, c.requires.fits.wide, c.requires.fits.narrow) in
+    ap (λ (ws : List ℕ). bit ws n) all
+    ∙ bit-all_ones (length c.args.out.now) n short
+    ∙ sym (ap (λ b. source_pixel t (cond b (Some (words_at m.heap (m.regs 14))) None) x c.args.y) c.if-t.false)

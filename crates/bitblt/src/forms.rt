@@ -1,0 +1,137 @@
+// Forms (chapter 18): bits, width and height. A form is in SCRATCH_1, numbers are read into SCRATCH_2.
+ghost use Rattle.std.specs.Prelude.{◌≡◌, ◌≤◌, ◌<◌, [], ◌∷◌, length, OnOk, IfOk, IfSome};
+ghost use Rattle.long_names.specs.Objects.{words_of};
+ghost use Rattle.object_memory.specs.Told.{IsReady};
+ghost use Rattle.object_memory.specs.Shape.{Looks, HasPartAt};
+ghost use Rattle.blue_model.specs.declared.cpu.Cpu.{Cpu as Numbers};
+ghost use Rattle.blue_model.specs.Trials.{peek};
+ghost use Rattle.blue_model.specs.Forms as model;
+ghost use Rattle.blue_model.specs.BitBlt.{form_or_nil};
+ghost use Rattle.contexts.specs.Serves.{Serves, StaysSound};
+ghost use Rattle.bitblt.specs.Shapes.{IsExtent, extents_found, enough, forms_found, optional_found, OptionalRoom};
+ghost use Rattle.bitblt.specs.Shapes as shapes;
+
+use contexts::Stop;
+use contexts::peeks::{peek_field, peek_number};
+use long_names::Name;
+use object_memory::{ObjectMemory, Reg, shape};
+
+/// How many columns and rows a form has.
+#[derive(Clone, Copy)]
+pub struct Extent {
+    pub width: u16,
+    pub height: u16,
+}
+
+/// A number of columns or rows, which is 1 or more.
+fn positive(z: i16) -> Option<u16>
+    ensures { result ≡ model.positive z }
+{
+    if z > 0 { Some(z as u16) } else { None }
+}
+
+/// The width and the height of the form. None where one of them is no number of 1 or more.
+fn read_extent<M: ObjectMemory>(m: &mut M) -> Result<Option<Extent>, Stop>
+    requires sound { M.sound m.old }
+    requires ready { IsReady (M.told m.old) }
+    ensures serves { (cpu : Numbers) → Serves (M.told m.old) cpu (M.told m.new) cpu (peek model.extent_of ((M.told m.old).regs 11)) (extents_found result) }
+    ensures looks { OnOk result (Looks (12 ∷ []) (M.told m.old) (M.told m.new)) }
+    ensures extent { IfOk result (λ found. IfSome found IsExtent) }
+    ensures ready { OnOk result (IsReady (M.told m.new)) }
+    ensures sound { StaysSound result (M.sound m.new) }
+    ensures lender { M.lender m.new ≡ M.lender m.old }
+    ensures outside { M.outside m.new ≡ M.outside m.old }
+{
+    let Some(x) = peek_number(m, Reg::SCRATCH_2, Reg::SCRATCH_1, 3, 1)? else {
+        return Ok(None);
+    };
+    let Some(y) = peek_number(m, Reg::SCRATCH_2, Reg::SCRATCH_1, 3, 2)? else {
+        return Ok(None);
+    };
+    let Some(width) = positive(x) else {
+        return Ok(None);
+    };
+    let Some(height) = positive(y) else {
+        return Ok(None);
+    };
+    Ok(Some(Extent { width, height }))
+}
+
+/// So many words are a row of a form of this width.
+pub(crate) fn row_words(width: u16) -> u32
+    ensures { result ≡ model.row_words width }
+{
+    (width as u32 + 15) / 16
+}
+
+/// So many words are enough: 16 for a halftone, and all rows for another form.
+fn least_words(halftone: bool, extent: Extent) -> u32
+    requires { IsExtent extent }
+    ensures { result ≡ shapes.least_words halftone extent }
+{
+    if halftone {
+        16
+    } else {
+        row_words(extent.width) * extent.height as u32
+    }
+}
+
+/// Loads the bits of the form into a register. None where it has no form's shape, or where a halftone has fewer than 16 words.
+pub(crate) fn read_form<M: ObjectMemory>(
+    m: &mut M,
+    bits: Reg,
+    halftone: bool,
+) -> Result<Option<Extent>, Stop>
+    requires sound { M.sound m.old }
+    requires ready { IsReady (M.told m.old) }
+    requires bits { 13 ≤ bits }
+    ensures serves { (cpu : Numbers) → Serves (M.told m.old) cpu (M.told m.new) cpu (model.form_where (enough halftone) ((M.told m.old).regs 11)) (forms_found result ((M.told m.new).regs bits)) }
+    ensures looks { OnOk result (Looks (bits ∷ 12 ∷ []) (M.told m.old) (M.told m.new)) }
+    ensures room { IfOk result (λ found. IfSome found (λ e. HasPartAt (M.told m.new) bits words_of (λ words. shapes.least_words halftone e ≤ length words))) }
+    ensures extent { IfOk result (λ found. IfSome found (λ e. IsExtent e × (shapes.least_words halftone e < 65536))) }
+    ensures ready { OnOk result (IsReady (M.told m.new)) }
+    ensures sound { StaysSound result (M.sound m.new) }
+    ensures lender { M.lender m.new ≡ M.lender m.old }
+    ensures outside { M.outside m.new ≡ M.outside m.old }
+{
+    if !peek_field(m, bits, Reg::SCRATCH_1, 3, 0)? {
+        return Ok(None);
+    }
+    let Some(count) = shape::words(m, bits)? else {
+        return Ok(None);
+    };
+    let Some(extent) = read_extent(m)? else {
+        return Ok(None);
+    };
+    if count < least_words(halftone, extent) {
+        return Ok(None);
+    }
+    Ok(Some(extent))
+}
+
+/// The same, where nil stands for no form.
+pub(crate) fn read_optional_form<M: ObjectMemory>(
+    m: &mut M,
+    bits: Reg,
+    halftone: bool,
+) -> Result<Option<Option<Extent>>, Stop>
+    requires sound { M.sound m.old }
+    requires ready { IsReady (M.told m.old) }
+    requires bits { 13 ≤ bits }
+    ensures serves { (cpu : Numbers) → Serves (M.told m.old) cpu (M.told m.new) cpu (form_or_nil (model.form_where (enough halftone)) ((M.told m.old).regs 11)) (optional_found result ((M.told m.new).regs bits)) }
+    ensures looks { OnOk result (Looks (bits ∷ 12 ∷ []) (M.told m.old) (M.told m.new)) }
+    ensures room { IfOk result (λ found. IfSome found (OptionalRoom (M.told m.new) bits halftone)) }
+    ensures extent { IfOk result (λ found. IfSome found (λ x. IfSome x (λ e. IsExtent e × (shapes.least_words halftone e < 65536)))) }
+    ensures ready { OnOk result (IsReady (M.told m.new)) }
+    ensures sound { StaysSound result (M.sound m.new) }
+    ensures lender { M.lender m.new ≡ M.lender m.old }
+    ensures outside { M.outside m.new ≡ M.outside m.old }
+{
+    if m.is(Reg::SCRATCH_1, Name::NIL) {
+        return Ok(Some(None));
+    }
+    let Some(extent) = read_form(m, bits, halftone)? else {
+        return Ok(None);
+    };
+    Ok(Some(Some(extent)))
+}

@@ -1,0 +1,175 @@
+// The rows of a transfer, each read whole before it is written. The destination's bits are in SCRATCH_3, the source's in SCRATCH_4.
+ghost use Rattle.std.specs.Prelude.{◌≡◌, ◌+◌, ◌-◌, ◌*◌, ◌/◌, ◌<◌, ◌≤◌, ℕ, [], List, length, slice_index, IsTrue, OnOk};
+ghost use Rattle.object_memory.specs.Told.{IsReady};
+ghost use Rattle.object_memory.specs.Shape.{Looks};
+ghost use Rattle.blue_model.specs.declared.cpu.Cpu.{Cpu as Numbers};
+ghost use Rattle.blue_model.specs.Forms.{bit};
+ghost use Rattle.blue_model.specs.BitBlt.{put_words};
+ghost use Rattle.contexts.specs.Serves.{Serves, StaysSound};
+ghost use Rattle.bitblt.specs.Transfers.{Fits, source_pixel, skip_of, run_length, row_words, words_after};
+ghost use Rattle.bitblt.specs.Transfers as transfers;
+ghost use Rattle.bitblt.specs.Blits.{dest_words, source_words, HasRooms, look_at_source, blit_words, IsWritten};
+
+use crate::transfer::Transfer;
+use bit_rows::blend_row;
+use contexts::Stop;
+use object_memory::{ObjectMemory, Reg};
+
+/// The most words of a row of the source, with a free word before them and one behind.
+const BUFFER_WORDS: usize = 1027;
+
+/// The most words of a row of the destination.
+const RUN_WORDS: usize = 1024;
+
+/// Reads the source's words for a row, from the second place on. Without a source all bits are 1.
+fn read_source<M: ObjectMemory>(
+    m: &mut M,
+    t: &Transfer,
+    y: usize,
+    out: &mut [u16],
+) -> Result<(), Stop>
+    requires sound { M.sound m.old }
+    requires ready { IsReady (M.told m.old) }
+    requires fits { Fits t.now }
+    requires rooms { HasRooms t.now (M.told m.old) }
+    requires row { t.now.top ≤ y }
+    requires below { y < t.now.bottom }
+    requires room { length out.old ≡ 1027 }
+    ensures serves { (cpu : Numbers) → Serves (M.told m.old) cpu (M.told m.new) cpu (look_at_source t.now.has_source ((M.told m.old).regs 14)) result }
+    ensures looks { OnOk result (Looks [] (M.told m.old) (M.told m.new)) }
+    ensures pixels { OnOk result (IsTrue (M.told m.old).tells → (x : ℕ) → t.now.left ≤ x → x < t.now.right → bit out.new (skip_of t.now + (x - 16 * (t.now.left / 16))) ≡ source_pixel t.now (source_words t.now.has_source (M.told m.old)) x y) }
+    ensures ready { OnOk result (IsReady (M.told m.new)) }
+    ensures sound { StaysSound result (M.sound m.new) }
+    ensures lender { M.lender m.new ≡ M.lender m.old }
+    ensures outside { M.outside m.new ≡ M.outside m.old }
+{
+    if t.has_source {
+        let first = t.source_left / 16;
+        let count = (t.source_left + (t.right - 1 - t.left)) / 16 - first + 1;
+        let at = t.source_stride * (y - t.top + t.source_top) + first;
+        m.read_words(Reg::SCRATCH_4, at as u32, &mut out[1..1 + count])?;
+    } else {
+        out.fill(0xFFFF);
+    }
+    Ok(())
+}
+
+/// Changes the run of a row, whose source words are in a buffer.
+fn blend_run<M: ObjectMemory>(
+    m: &mut M,
+    t: &Transfer,
+    halftone: &[u16],
+    source: &[u16],
+    y: usize,
+    run: &mut [u16],
+) -> Result<(), Stop>
+    requires sound { M.sound m.old }
+    requires ready { IsReady (M.told m.old) }
+    requires fits { Fits t.now }
+    requires rooms { HasRooms t.now (M.told m.old) }
+    requires row { t.now.top ≤ y }
+    requires below { y < t.now.bottom }
+    requires halftone { length halftone.now ≡ 16 }
+    requires room { length source.now ≡ 1027 }
+    requires run { length run.old ≡ run_length t.now }
+    requires pixels { IsTrue (M.told m.old).tells → (x : ℕ) → t.now.left ≤ x → x < t.now.right → bit source.now (skip_of t.now + (x - 16 * (t.now.left / 16))) ≡ source_pixel t.now (source_words t.now.has_source (M.told m.old)) x y }
+    ensures serves { (cpu : Numbers) → Serves (M.told m.old) cpu (M.told m.new) cpu (put_words ((M.told m.old).regs 13) (row_words t.now (source_words t.now.has_source (M.told m.old)) halftone.now (dest_words (M.told m.old)) y)) result }
+    ensures written { OnOk result (IsWritten t.now (M.told m.old) (M.told m.new) (row_words t.now (source_words t.now.has_source (M.told m.old)) halftone.now (dest_words (M.told m.old)) y)) }
+    ensures ready { OnOk result (IsReady (M.told m.new)) }
+    ensures sound { StaysSound result (M.sound m.new) }
+    ensures lender { M.lender m.new ≡ M.lender m.old }
+    ensures outside { M.outside m.new ≡ M.outside m.old }
+{
+    let first = t.left / 16;
+    let at = (t.stride * y + first) as u32;
+    let skip = 16 + t.source_left % 16 - t.left % 16;
+    m.read_words(Reg::SCRATCH_3, at, run)?;
+    blend_row(
+        run,
+        source,
+        skip,
+        t.left - 16 * first,
+        t.right - 16 * first,
+        halftone[y % 16],
+        t.rule,
+    );
+    m.write_words(Reg::SCRATCH_3, at, run)?;
+    Ok(())
+}
+
+/// Changes a row.
+fn blend_one<M: ObjectMemory>(
+    m: &mut M,
+    t: &Transfer,
+    halftone: &[u16],
+    y: usize,
+) -> Result<(), Stop>
+    requires sound { M.sound m.old }
+    requires ready { IsReady (M.told m.old) }
+    requires fits { Fits t.now }
+    requires rooms { HasRooms t.now (M.told m.old) }
+    requires row { t.now.top ≤ y }
+    requires below { y < t.now.bottom }
+    requires halftone { length halftone.now ≡ 16 }
+    ensures serves { (cpu : Numbers) → Serves (M.told m.old) cpu (M.told m.new) cpu (blit_words t.now.has_source ((M.told m.old).regs 14) ((M.told m.old).regs 13) (row_words t.now (source_words t.now.has_source (M.told m.old)) halftone.now (dest_words (M.told m.old)) y)) result }
+    ensures written { OnOk result (IsWritten t.now (M.told m.old) (M.told m.new) (row_words t.now (source_words t.now.has_source (M.told m.old)) halftone.now (dest_words (M.told m.old)) y)) }
+    ensures ready { OnOk result (IsReady (M.told m.new)) }
+    ensures sound { StaysSound result (M.sound m.new) }
+    ensures lender { M.lender m.new ≡ M.lender m.old }
+    ensures outside { M.outside m.new ≡ M.outside m.old }
+{
+    let mut source = [0u16; BUFFER_WORDS];
+    read_source(m, t, y, &mut source)?;
+    let mut run = [0u16; RUN_WORDS];
+    let count = (t.right - 1) / 16 - t.left / 16 + 1;
+    blend_run(m, t, halftone, &source, y, &mut run[..count])
+}
+
+/// Whether the words that the row reads begin before those that it writes.
+fn reads_before(t: &Transfer, y: usize) -> bool
+    requires fits { Fits t.now }
+    requires row { t.now.top ≤ y }
+    requires below { y < t.now.bottom }
+    ensures { result ≡ transfers.reads_before t.now y }
+{
+    if t.has_source {
+        t.source_stride * (y - t.top + t.source_top) + t.source_left / 16
+            < t.stride * y + t.left / 16
+    } else {
+        false
+    }
+}
+
+/// Changes all rows. Source, destination and halftone are those before the call, also where the source is the destination's object
+/// in any place and of any width: the rows that read words before those they write go first, from the last one up, and then the
+/// others, from the first one down. So no row reads a word that was written.
+pub(crate) fn blend_rows<M: ObjectMemory>(
+    m: &mut M,
+    t: &Transfer,
+    halftone: &[u16],
+) -> Result<(), Stop>
+    requires sound { M.sound m.old }
+    requires ready { IsReady (M.told m.old) }
+    requires fits { Fits t.now }
+    requires rooms { HasRooms t.now (M.told m.old) }
+    requires halftone { length halftone.now ≡ 16 }
+    ensures serves { (cpu : Numbers) → Serves (M.told m.old) cpu (M.told m.new) cpu (blit_words t.now.has_source ((M.told m.old).regs 14) ((M.told m.old).regs 13) (words_after t.now (source_words t.now.has_source (M.told m.old)) halftone.now (dest_words (M.told m.old)))) result }
+    ensures regs { OnOk result ((M.told m.new).regs ≡ (M.told m.old).regs) }
+    ensures ready { OnOk result (IsReady (M.told m.new)) }
+    ensures sound { StaysSound result (M.sound m.new) }
+    ensures lender { M.lender m.new ≡ M.lender m.old }
+    ensures outside { M.outside m.new ≡ M.outside m.old }
+{
+    for i in 0..t.bottom - t.top {
+        let y = t.bottom - 1 - i;
+        if reads_before(t, y) {
+            blend_one(m, t, halftone, y)?;
+        }
+    }
+    for y in t.top..t.bottom {
+        if !reads_before(t, y) {
+            blend_one(m, t, halftone, y)?;
+        }
+    }
+    Ok(())
+}

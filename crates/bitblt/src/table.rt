@@ -1,0 +1,69 @@
+// Primitive 96 (chapter 29). The BitBlt is in SCRATCH_0, a form in SCRATCH_1, and the bits of destination, source and halftone in
+// SCRATCH_3 to SCRATCH_5.
+ghost use Rattle.std.specs.Prelude.{◌≡◌, OnOk};
+ghost use Rattle.object_memory.specs.Told.{IsReady};
+ghost use Rattle.blue_model.specs.Trials.{primitive_in};
+ghost use Rattle.blue_model.specs.BitBlt as model;
+ghost use Rattle.contexts.specs.Serves.{Serves, StaysSound};
+ghost use Rattle.bitblt.specs.Table.{blit_primitives};
+
+use crate::asked::read_asked;
+use crate::copy::copy_pixels;
+use crate::forms::{read_form, read_optional_form};
+use contexts::peeks::peek_field;
+use contexts::{Answer, Cpu, Stop, stack};
+use object_memory::{ObjectMemory, Reg};
+
+/// Copies the pixels that the receiver, a BitBlt, asks for (primitiveCopyBits). It fails where the receiver or one of its forms hasn't its
+/// shape; the receiver, which is the answer, stays on the stack.
+fn copy_bits<M: ObjectMemory>(m: &mut M, cpu: &mut Cpu) -> Result<Answer, Stop>
+    requires sound { M.sound m.old }
+    requires ready { IsReady (M.told m.old) }
+    ensures serves { Serves (M.told m.old) cpu.old (M.told m.new) cpu.new model.copy_bits result }
+    ensures ready { OnOk result (IsReady (M.told m.new)) }
+    ensures sound { StaysSound result (M.sound m.new) }
+    ensures lender { M.lender m.new ≡ M.lender m.old }
+    ensures outside { M.outside m.new ≡ M.outside m.old }
+{
+    stack(m, cpu, Reg::SCRATCH_0, 0)?;
+    let Some(q) = read_asked(m)? else {
+        return Ok(Answer::Failed);
+    };
+    if !peek_field(m, Reg::SCRATCH_1, Reg::SCRATCH_0, 14, 0)? {
+        return Ok(Answer::Failed);
+    }
+    let Some(dest) = read_form(m, Reg::SCRATCH_3, false)? else {
+        return Ok(Answer::Failed);
+    };
+    if !peek_field(m, Reg::SCRATCH_1, Reg::SCRATCH_0, 14, 1)? {
+        return Ok(Answer::Failed);
+    }
+    let Some(source) = read_optional_form(m, Reg::SCRATCH_4, false)? else {
+        return Ok(Answer::Failed);
+    };
+    if !peek_field(m, Reg::SCRATCH_1, Reg::SCRATCH_0, 14, 2)? {
+        return Ok(Answer::Failed);
+    }
+    let Some(halftone) = read_optional_form(m, Reg::SCRATCH_5, true)? else {
+        return Ok(Answer::Failed);
+    };
+    copy_pixels(m, &q, dest, source, halftone)?;
+    Ok(Answer::Done)
+}
+
+/// Does a primitive by its index (dispatchPrimitives). It fails where the message has another number of arguments, where its conditions
+/// aren't met, and where the index isn't 96. Then nothing has changed.
+pub fn run<M: ObjectMemory>(m: &mut M, cpu: &mut Cpu, index: u8) -> Result<Answer, Stop>
+    requires sound { M.sound m.old }
+    requires ready { IsReady (M.told m.old) }
+    ensures serves { Serves (M.told m.old) cpu.old (M.told m.new) cpu.new (primitive_in blit_primitives index) result }
+    ensures ready { OnOk result (IsReady (M.told m.new)) }
+    ensures sound { StaysSound result (M.sound m.new) }
+    ensures lender { M.lender m.new ≡ M.lender m.old }
+    ensures outside { M.outside m.new ≡ M.outside m.old }
+{
+    match (index, cpu.args) {
+        (96, 0) => copy_bits(m, cpu),
+        _ => Ok(Answer::Failed),
+    }
+}
