@@ -13,7 +13,7 @@ use Rattle.contexts.specs.Serves.{Serves}
 use Rattle.contexts.proofs.ReadLaws.{looks_again}
 use Rattle.bitblt.specs.declared.asked.Place.{Place}
 use Rattle.bitblt.specs.Asking.{both, place_at, numbers_of}
-use Rattle.bitblt.proofs.PeekPairs.{later_fault, peek_join, peek_none, peek_made}
+use Rattle.contexts.proofs.PeekPairs.{later_fault, peek_join, peek_none, peek_made}
 use Rattle.bitblt.proofs.AskedLaws.{rule_of, rule_makes, Steps, with_all, made_of, made_by, asked_makes}
 
 -- calls found this in the BitBlt

@@ -17,9 +17,9 @@ use Rattle.blue_model.specs.declared.cpu.Cpu.{Cpu}
 use Rattle.blue_model.specs.Machine.{Machine, LogRow, Outcome, Go, Rule, rows_at, looked, after, then_do, ◌>>=◌, ◌>>◌, done, pick, look, changed}
 use Rattle.blue_model.specs.BitBlt.{put_words}
 use Rattle.contexts.specs.declared.stop.Stop.{Stop}
-use Rattle.contexts.specs.declared.stop.Stop.TheVariants.{Stuck, Mem, NotBuilt}
+use Rattle.contexts.specs.declared.stop.Stop.TheVariants.{Stuck, Mem}
 use Rattle.contexts.specs.Serves.{Stands, IsLogged, HasMaking, Gives, Serves}
-use Rattle.contexts.proofs.ServesLaws.{IsCounted-refl, serves_then}
+use Rattle.contexts.proofs.ServesLaws.{IsCounted-refl, serves_then, by_model}
 use Rattle.contexts.proofs.StoreLaws.{thinned_here, change_where}
 use Rattle.contexts.proofs.CacheLaws.{sound_follows}
 use Rattle.object_memory.specs.Contract.{Does, Called}
@@ -97,21 +97,9 @@ rows_second xs ys zs a = record { needs = λ need h. needs_second need ys zs (a.
 
 -- ---- what serves one rule serves another
 
--- that comes to the same where the first comes to this answer
-pub by_model : {A : Type 0} {old new : Told} {cpu now : Cpu} {r : Result A Stop} (p q : Rule A) → ((m : Machine) → IsTrue old.tells → Stands old cpu m → Gives new now r (p m) → Gives new now r (q m)) → Serves old cpu new now p r → Serves old cpu new now q r
-by_model {A} {old} {new} {cpu} {now} {r} p q step s = record {
-  later = s.later;
-  ready = s.ready;
-  reason = s.reason;
-  counts = s.counts;
-  silent = s.silent;
-  model = λ told m st. step m told st (s.model told m st);
-}
-
 -- a fault at a rule that goes on, whose rows are those of another
 pub fault_within : {A : Type 0} (new : Told) (now : Cpu) (e : Stop) (a b : A) (m n : Machine) (xs ys : List LogRow) → HasRows xs ys → Gives {A = A} new now (Err e) (Go a m xs) → Gives {A = A} new now (Err e) (Go b n ys)
 fault_within new now (Stuck c) a b m n xs ys rows h = absurd h
-fault_within new now NotBuilt a b m n xs ys rows h = absurd h
 fault_within new now (Mem (CoreFull need)) a b m n xs ys rows h = rows.needs need h
 fault_within new now (Mem (WorkFull live room)) a b m n xs ys rows h = rows.makings new.heap.next h
 fault_within new now (Mem (WorkFault count)) a b m n xs ys rows h = tt

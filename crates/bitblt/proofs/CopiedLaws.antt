@@ -11,11 +11,12 @@ use Rattle.blue_model.specs.BitBlt.{rule_bit, place, halftone_pixel, is_changed_
 use Rattle.blue_model.specs.BitBlt as model
 use Rattle.bit_rows.specs.Rows.{within}
 use Rattle.bitblt.specs.declared.transfer.Transfer.{Transfer}
-use Rattle.bitblt.specs.declared.forms.Extent.{Extent}
+use Rattle.forms.specs.declared.form.Extent.{Extent}
 use Rattle.bitblt.specs.declared.asked.Asked.{Asked}
 use Rattle.bitblt.specs.Transfers.{pixel_in, source_pixel, is_changed, is_changed_bit, pixel_after, bit_after, word_after, words_after}
 use Rattle.bitblt.specs.Asking.{asked_by}
-use Rattle.bitblt.specs.Shapes.{form_by, optional_by}
+use Rattle.forms.specs.Shapes.{form_by}
+use Rattle.bitblt.specs.Shapes.{optional_by}
 use Rattle.bitblt.specs.Plans.{is_column, is_row, IsPlanOf}
 use Rattle.bitblt.proofs.Runs.{same_change, within-true}
 use Rattle.bitblt.proofs.Clips.{both-same}

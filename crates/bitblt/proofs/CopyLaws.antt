@@ -14,10 +14,10 @@ use Rattle.blue_model.specs.Forms.{Form}
 use Rattle.blue_model.specs.BitBlt.{Asked, words_in, words_or, black, copied_words, put_words, copy}
 use Rattle.contexts.specs.declared.stop.Stop.{Stop}
 use Rattle.contexts.specs.Serves.{Stands, Gives, Serves}
-use Rattle.contexts.proofs.ServesLaws.{IsCounted-refl}
+use Rattle.contexts.proofs.ServesLaws.{IsCounted-refl, by_model}
 use Rattle.bitblt.specs.Blits.{look_at_source, blit_words}
 use Rattle.bitblt.proofs.ChangeLaws.{HasWords, put_machine, put_same, words_inside}
-use Rattle.bitblt.proofs.BlitLaws.{HasRows, rows_same, rows_none, rows_both, rows_first, rows_second, by_model, fault_within, HasBits, source_rows, blit_goes, put_goes}
+use Rattle.bitblt.proofs.BlitLaws.{HasRows, rows_same, rows_none, rows_both, rows_first, rows_second, fault_within, HasBits, source_rows, blit_goes, put_goes}
 
 -- ---- what the rule comes to
 

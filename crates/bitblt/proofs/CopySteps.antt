@@ -17,12 +17,13 @@ use Rattle.contexts.proofs.Steps.{read_first}
 use Rattle.contexts.proofs.ReadLaws.{quiet}
 use Rattle.contexts.proofs.StoreLaws.{thinned_here}
 use Rattle.bitblt.specs.declared.transfer.Transfer.{Transfer}
-use Rattle.bitblt.specs.declared.forms.Extent.{Extent}
+use Rattle.forms.specs.declared.form.Extent.{Extent}
 use Rattle.bitblt.specs.declared.asked.Asked.{Asked}
 use Rattle.bitblt.specs.Transfers.{words_after}
 use Rattle.bitblt.specs.Blits.{DEST_BITS, SOURCE_BITS, words_at, dest_words, source_words, HasRooms, look_at_source, blit_words}
 use Rattle.bitblt.specs.Asking.{asked_by}
-use Rattle.bitblt.specs.Shapes.{form_by, optional_by, least_words, OptionalRoom}
+use Rattle.forms.specs.Shapes.{form_by, least_words}
+use Rattle.bitblt.specs.Shapes.{optional_by, OptionalRoom}
 use Rattle.bitblt.specs.Plans.{HALFTONE_BITS, is_column, is_row, tone_words, IsPlanOf}
 use Rattle.bitblt.proofs.ChangeLaws.{HasWords}
 use Rattle.bitblt.proofs.RunReads.{weaker, dest_looked, source_looked}

@@ -6,7 +6,6 @@ mod ChangeLaws
 mod BlitLaws
 mod RunReads
 mod RowSteps
-mod PeekPairs
 mod AskedLaws
 mod AskedSteps
 mod FormLaws
@@ -14,4 +13,3 @@ mod CopiedLaws
 mod CopyLaws
 mod CopySteps
 mod TrialSteps
-mod TableLaws

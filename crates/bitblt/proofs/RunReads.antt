@@ -26,7 +26,7 @@ use Rattle.contexts.specs.declared.stop.Stop.{Stop}
 use Rattle.contexts.specs.declared.stop.Stop.TheVariants.{Mem}
 use Rattle.blue_model.specs.BitBlt.{put_words}
 use Rattle.contexts.proofs.ServesLaws.{serves_then}
-use Rattle.bitblt.specs.declared.forms.Extent.{Extent}
+use Rattle.forms.specs.declared.form.Extent.{Extent}
 use Rattle.bitblt.specs.Shapes.{OptionalRoom}
 use Rattle.bitblt.proofs.BlitLaws.{words_served}
 use Rattle.contexts.specs.Serves.{Serves}

@@ -6,8 +6,9 @@ use Rattle.long_names.specs.Objects.{words_of}
 use Rattle.object_memory.specs.Told.{Told, IsReady}
 use Rattle.object_memory.specs.Shape.{Looks, is_among}
 use Rattle.object_memory.proofs.LooksLaws.{has_looked}
-use Rattle.bitblt.specs.declared.forms.Extent.{Extent}
-use Rattle.bitblt.specs.Shapes.{form_by, optional_by, least_words, OptionalRoom}
+use Rattle.forms.specs.declared.form.Extent.{Extent}
+use Rattle.forms.specs.Shapes.{form_by, least_words}
+use Rattle.bitblt.specs.Shapes.{optional_by, OptionalRoom}
 use Rattle.blue_model.specs.declared.answer.Answer.{Answer}
 use Rattle.blue_model.specs.declared.answer.Answer.TheVariants.{Done, Failed}
 use Rattle.blue_model.specs.declared.cpu.Cpu.{Cpu}

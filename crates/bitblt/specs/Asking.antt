@@ -1,10 +1,10 @@
 -- What a BitBlt asks for, as the code reads it.
-use Rattle.std.specs.Prelude.{ℕ, ℤ, ◌+◌, Option, Some, None, Result, Ok, Err}
-use Rattle.std.specs.Option.{option_map}
+use Rattle.std.specs.Prelude.{ℕ, ℤ, ◌+◌, Option, Some, None, Result}
 use Rattle.long_names.specs.declared.object.Object.{Object}
 use Rattle.blue_model.specs.BitBlt.{blit_number}
 use Rattle.blue_model.specs.BitBlt as model
 use Rattle.contexts.specs.declared.stop.Stop.{Stop}
+use Rattle.contexts.specs.Serves.{found_by}
 use Rattle.bitblt.specs.declared.asked.Place.{Place}
 use Rattle.bitblt.specs.declared.asked.Asked.{Asked}
 
@@ -20,10 +20,6 @@ place_at i o = both (blit_number i o) (blit_number (i + 1) o)
 
 abbrev pub numbers_of : Place → ℤ × ℤ
 numbers_of p = (p.x, p.y)
-
-abbrev pub found_by : {A B : Type 0} → (A → B) → Result (Option A) Stop → Result (Option B) Stop
-found_by f (Ok found) = Ok (option_map f found)
-found_by f (Err e) = Err e
 
 abbrev pub places_found : Result (Option Place) Stop → Result (Option (ℤ × ℤ)) Stop
 places_found r = found_by numbers_of r

@@ -4,4 +4,3 @@ pub mod Blits
 pub mod Asking
 pub mod Shapes
 pub mod Plans
-pub mod Table

@@ -5,7 +5,7 @@ use Rattle.blue_model.specs.Forms.{row_words}
 use Rattle.blue_model.specs.BitBlt.{is_changed_place, black}
 use Rattle.bit_rows.specs.Rows.{within}
 use Rattle.bitblt.specs.declared.transfer.Transfer.{Transfer}
-use Rattle.bitblt.specs.declared.forms.Extent.{Extent}
+use Rattle.forms.specs.declared.form.Extent.{Extent}
 use Rattle.bitblt.specs.declared.asked.Asked.{Asked}
 use Rattle.bitblt.specs.Blits.{words_at}
 

@@ -1,36 +1,14 @@
--- Forms, as the code reads them.
-use Rattle.std.specs.Prelude.{ℕ, ◌*◌, ◌≤◌, ◌<◌, Bool, true, false, length, Option, Some, None, Result}
+-- A form, or nil for none, as the code reads it.
+use Rattle.std.specs.Prelude.{ℕ, ◌≤◌, Bool, length, Option, Some, None, Result}
 use Rattle.long_names.specs.declared.value.Value.{Value}
 use Rattle.long_names.specs.Objects.{words_of}
 use Rattle.object_memory.specs.Told.{Told}
 use Rattle.object_memory.specs.Shape.{HasPartAt}
-use Rattle.blue_model.specs.Forms.{row_words, has_rows}
 use Rattle.blue_model.specs.Forms as model
-use Rattle.blue_model.specs.BitBlt.{has_sixteen}
 use Rattle.contexts.specs.declared.stop.Stop.{Stop}
-use Rattle.bitblt.specs.Asking.{found_by}
-use Rattle.bitblt.specs.declared.forms.Extent.{Extent}
-
--- numbers that a SmallInteger can say, 1 or more
-pub record IsExtent (e : Extent) : Type 0 where
-  pub wide : 0 < e.width
-  pub narrow : e.width < 16384
-  pub tall : 0 < e.height
-  pub low : e.height < 16384
-
--- the model's records of the same numbers
-abbrev pub extent_by : Extent → model.Extent
-extent_by e = record { width = e.width; height = e.height }
-
-abbrev pub form_by : Value → Extent → model.Form
-form_by bits e = record { bits = bits; width = e.width; height = e.height }
-
-abbrev pub extents_found : Result (Option Extent) Stop → Result (Option model.Extent) Stop
-extents_found r = found_by extent_by r
-
--- what was found, with the bits in a register
-abbrev pub forms_found : Result (Option Extent) Stop → Value → Result (Option model.Form) Stop
-forms_found r bits = found_by (form_by bits) r
+use Rattle.contexts.specs.Serves.{found_by}
+use Rattle.forms.specs.declared.form.Extent.{Extent}
+use Rattle.forms.specs.Shapes.{form_by, least_words}
 
 abbrev pub optional_by : Value → Option Extent → Option model.Form
 optional_by bits None = None
@@ -39,15 +17,6 @@ optional_by bits (Some e) = Some (form_by bits e)
 -- a form, or none for nil
 abbrev pub optional_found : Result (Option (Option Extent)) Stop → Value → Result (Option (Option model.Form)) Stop
 optional_found r bits = found_by (optional_by bits) r
-
--- so many words are enough for a halftone, and for another form
-abbrev pub enough : Bool → model.Extent → ℕ → Bool
-enough true = has_sixteen
-enough false = has_rows
-
-abbrev pub least_words : Bool → Extent → ℕ
-least_words true e = 16
-least_words false e = row_words e.width * e.height
 
 -- the bits in a register have enough words, where there is a form
 abbrev pub OptionalRoom : Told → ℕ → Bool → Option Extent → Type 0

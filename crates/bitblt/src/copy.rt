@@ -8,19 +8,20 @@ ghost use Rattle.blue_model.specs.Forms as forms;
 ghost use Rattle.bitblt.specs.Blits.{look_at_source};
 ghost use Rattle.blue_model.specs.BitBlt as model;
 ghost use Rattle.contexts.specs.Serves.{Serves, StaysSound};
-ghost use Rattle.bitblt.specs.declared.forms.Extent.{Extent};
+ghost use Rattle.forms.specs.declared.form.Extent.{Extent};
 ghost use Rattle.bitblt.specs.Clip.{IsClipped, IsSpan};
 ghost use Rattle.bitblt.specs.Asking.{asked_by};
-ghost use Rattle.bitblt.specs.Shapes.{IsExtent, form_by, optional_by, least_words, OptionalRoom};
+ghost use Rattle.forms.specs.Shapes.{IsExtent, form_by, least_words};
+ghost use Rattle.bitblt.specs.Shapes.{optional_by, OptionalRoom};
 ghost use Rattle.bitblt.specs.Transfers.{Fits};
 ghost use Rattle.bitblt.specs.Plans.{widths, heights, is_column, is_row, tone_words, IsPlanOf};
 
 use crate::asked::Asked;
 use crate::clip::{Span, clip_axis};
-use crate::forms::{Extent, row_words};
 use crate::rows::blend_rows;
 use crate::transfer::Transfer;
 use contexts::Stop;
+use forms::{Extent, row_words};
 use object_memory::{ObjectMemory, Reg};
 
 /// The source's width, if there is a source.

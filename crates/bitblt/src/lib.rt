@@ -15,7 +15,7 @@
 mod asked;
 mod clip;
 mod copy;
-mod forms;
+mod optional;
 mod rows;
 mod table;
 mod transfer;

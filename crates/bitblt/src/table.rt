@@ -4,14 +4,15 @@ ghost use Rattle.std.specs.Prelude.{◌≡◌, OnOk};
 ghost use Rattle.object_memory.specs.Told.{IsReady};
 ghost use Rattle.blue_model.specs.Trials.{primitive_in};
 ghost use Rattle.blue_model.specs.BitBlt as model;
+ghost use Rattle.blue_model.specs.BitBlt.{blit_primitives};
 ghost use Rattle.contexts.specs.Serves.{Serves, StaysSound};
-ghost use Rattle.bitblt.specs.Table.{blit_primitives};
 
 use crate::asked::read_asked;
 use crate::copy::copy_pixels;
-use crate::forms::{read_form, read_optional_form};
+use crate::optional::read_optional_form;
 use contexts::peeks::peek_field;
 use contexts::{Answer, Cpu, Stop, stack};
+use forms::read_form;
 use object_memory::{ObjectMemory, Reg};
 
 /// Copies the pixels that the receiver, a BitBlt, asks for (primitiveCopyBits). It fails where the receiver or one of its forms hasn't its

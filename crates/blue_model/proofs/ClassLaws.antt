@@ -8,7 +8,7 @@ use Rattle.long_names.specs.State.{object_at, name_at}
 use Rattle.blue_model.specs.declared.cause.Cause.{Cause}
 use Rattle.blue_model.specs.declared.cause.Cause.TheVariants.{Shape, Chain}
 use Rattle.blue_model.specs.Indexes.{SUPERCLASS_INDEX, METHOD_DICTIONARY_INDEX, CLASS_SIZE, METHOD_ARRAY_INDEX, SELECTOR_START, DICTIONARY_SIZE, LONGEST_CHAIN}
-use Rattle.blue_model.specs.Machine.{Machine, LogRow, Outcome, Go, Halt, Spent, Unbuilt, Rule, after, then_do, ◌>>=◌, done, halt, given, pick, rows_at, looked, look, part}
+use Rattle.blue_model.specs.Machine.{Machine, LogRow, Outcome, Go, Halt, Spent, Rule, after, then_do, ◌>>=◌, done, halt, given, pick, rows_at, looked, look, part}
 use Rattle.blue_model.specs.Parts.{is_nil, shaped, size, field, code_of}
 use Rattle.blue_model.specs.Lookup.{raised, place_in, first_slot, turned, turned_back, slot_in, slot_of, method_at, find_in, found_or, find_from, lookup}
 use Rattle.blue_model.specs.ClassList.{part_in, classes_from, class_list, before_nil, slots_from, first_place, dictionary_of, selectors_of, place_of, method_of, taken_or, taken}
@@ -34,10 +34,8 @@ answers_then {m} {A} {B} {Q} {R} {p} k first f = record { told = λ b s log e. g
             (sym left ∙ both.0, subst R same both.1)
         next (Halt c lines) h i = let no : ◌≡◌ {A = Outcome B} (Halt c (rows ++ lines)) (Go b s log) = i in absurd (cc)
         next (Spent lines) h i = let no : ◌≡◌ {A = Outcome B} (Spent (rows ++ lines)) (Go b s log) = i in absurd (cc)
-        next (Unbuilt lines) h i = let no : ◌≡◌ {A = Outcome B} (Unbuilt (rows ++ lines)) (Go b s log) = i in absurd (cc)
     go (Halt c rows) e b s log g = let no : ◌≡◌ {A = Outcome B} (Halt c rows) (Go b s log) = g in absurd (cc)
     go (Spent rows) e b s log g = let no : ◌≡◌ {A = Outcome B} (Spent rows) (Go b s log) = g in absurd (cc)
-    go (Unbuilt rows) e b s log g = let no : ◌≡◌ {A = Outcome B} (Unbuilt rows) (Go b s log) = g in absurd (cc)
 
 pub answers_done : {m : Machine} {A : Type 0} {Q : A → Type 0} (a : A) → Q a → Answers m Q (done a)
 unfolding done

@@ -13,7 +13,7 @@ use Rattle.long_names.specs.Access.{with_body}
 use Rattle.blue_model.specs.declared.cause.Cause.{Cause}
 use Rattle.blue_model.specs.declared.cause.Cause.TheVariants.{Shape}
 use Rattle.blue_model.specs.declared.cpu.Cpu.{Cpu}
-use Rattle.blue_model.specs.Machine.{Machine, LogRow, Outcome, Go, Halt, Spent, Unbuilt, Rule, after, then_do, ◌>>=◌, done, halt, given, pick, rows_at, is_there, stored, store, part, known, numbers, set_numbers, register, put_register, placed, MACHINE_REGISTERS}
+use Rattle.blue_model.specs.Machine.{Machine, LogRow, Outcome, Go, Halt, Spent, Rule, after, then_do, ◌>>=◌, done, halt, given, pick, rows_at, is_there, stored, store, part, known, numbers, set_numbers, register, put_register, placed, MACHINE_REGISTERS}
 use Rattle.blue_model.specs.Parts.{at_least, shaped, size, field, number}
 use Rattle.blue_model.specs.Contexts.{store_field}
 use Rattle.blue_model.specs.ClassList.{part_in}
@@ -40,10 +40,8 @@ comes_then {m} {A} {B} {Q} {R} {p} k first f = record { to = λ b s log e. go (p
             subst (λ x. R b x) left (subst (λ x. R x t) same ((f a n (first.to a n rows e)).to c t lines h))
         next (Halt c lines) h i = let no : ◌≡◌ {A = Outcome B} (Halt c (rows ++ lines)) (Go b s log) = i in absurd (cc)
         next (Spent lines) h i = let no : ◌≡◌ {A = Outcome B} (Spent (rows ++ lines)) (Go b s log) = i in absurd (cc)
-        next (Unbuilt lines) h i = let no : ◌≡◌ {A = Outcome B} (Unbuilt (rows ++ lines)) (Go b s log) = i in absurd (cc)
     go (Halt c rows) e b s log g = let no : ◌≡◌ {A = Outcome B} (Halt c rows) (Go b s log) = g in absurd (cc)
     go (Spent rows) e b s log g = let no : ◌≡◌ {A = Outcome B} (Spent rows) (Go b s log) = g in absurd (cc)
-    go (Unbuilt rows) e b s log g = let no : ◌≡◌ {A = Outcome B} (Unbuilt rows) (Go b s log) = g in absurd (cc)
 
 pub comes_done : {m : Machine} {A : Type 0} {Q : A → Machine → Type 0} (a : A) → Q a m → Comes m (done a) Q
 unfolding done

@@ -3,7 +3,7 @@ use Rattle.blue_model.specs.declared.event.Line.{Line}
 use Rattle.std.proofs.Common.{zero, suc, ◌≡◌, ℕ, ◌+◌, ◌≤◌, [], refl, sym, ◌∙◌, ap, arith, List}
 use Rattle.blue_model.specs.declared.step.Step.{Step}
 use Rattle.blue_model.specs.declared.step.Step.TheVariants.{Next, Quit}
-use Rattle.blue_model.specs.Machine.{Machine, Outcome, Go, Halt, Spent, Unbuilt, after, then_do, ◌>>=◌, done, numbers, set_numbers}
+use Rattle.blue_model.specs.Machine.{Machine, Outcome, Go, Halt, Spent, after, then_do, ◌>>=◌, done, numbers, set_numbers}
 use Rattle.blue_model.specs.Cycle.{count_bytecode, cycle, turn, Run, Ran, Stopped, run_of, one_more, run}
 
 inside : (end last : Step) (m n : Machine) → Ran end m ≡ Ran last n → m ≡ n
@@ -17,7 +17,6 @@ cycle_counts events end m n e = go (turn events m) e
     go (Go last j rows) f = let next : Machine = record j { cpu = record j.cpu { ran = m.cpu.ran + 1 } } in sym (ap (λ (x : Machine). x.cpu.ran) (inside last end next n f))
     go (Halt c rows) f = absurd (cc)
     go (Spent rows) f = absurd (cc)
-    go (Unbuilt rows) f = absurd (cc)
 
 pub runs_count : (events : List Line) (k : ℕ) (m n : Machine) → run events k m ≡ Ran Next n → n.cpu.ran ≡ m.cpu.ran + k
 unfolding run

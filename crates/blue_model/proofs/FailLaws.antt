@@ -1,6 +1,6 @@
 -- A primitive that fails has changed nothing.
 use Rattle.blue_model.specs.Forms.{Form, Extent, count_of, form_where, form_of}
-use Rattle.blue_model.specs.BitBlt.{form_or_nil, copy_bits}
+use Rattle.blue_model.specs.BitBlt.{form_or_nil, copy_bits, blit_primitives}
 use Rattle.blue_model.specs.Devices.{semaphore_or_nil, set_input, input_semaphore, take_word, input_word, tick_words, set_timer, signal_at_tick, show_form, be_display, string_text, say_string, device_primitives, display_form, display_row, picture_of, picture}
 use Rattle.blue_model.specs.declared.event.Line.{Line}
 use Rattle.std.proofs.Common.{◌≡◌, ℕ, ℤ, Bool, true, false, List, [], ◌∷◌, ◌++◌, Option, Some, None, refl, sym, ◌∙◌, ap, subst}
@@ -14,7 +14,7 @@ use Rattle.blue_model.specs.declared.cause.Cause.{Cause}
 use Rattle.blue_model.specs.declared.cause.Cause.TheVariants.{Shape}
 use Rattle.blue_model.specs.declared.spot.Spot.{Spot}
 use Rattle.blue_model.specs.declared.spot.Spot.TheVariants.{Field, Word, Byte}
-use Rattle.blue_model.specs.Machine.{Machine, LogRow, Outcome, Go, Halt, Spent, Unbuilt, Rule, after, then_do, ◌>>=◌, done, halt, unbuilt, given, pick, register, numbers, row_of, look, part, known, classed, class_of}
+use Rattle.blue_model.specs.Machine.{Machine, LogRow, Outcome, Go, Halt, Spent, Rule, after, then_do, ◌>>=◌, done, halt, given, pick, register, numbers, row_of, look, part, known, classed, class_of}
 use Rattle.blue_model.specs.Contexts.{stack, scheduler, active_process}
 use Rattle.blue_model.specs.Lookup.{lookup}
 use Rattle.blue_model.specs.Messages.{arguments_of}
@@ -144,10 +144,8 @@ never_then {A} p k f = record { never = λ m s log e. go (p m) s log e }
         next (Go b t lines) h i = let same : b ≡ Failed = cc in (f a).never n t lines (h ∙ ap (λ x. Go x t lines) same)
         next (Halt c lines) h i = let no : ◌≡◌ {A = Outcome Answer} (Halt c (rows ++ lines)) (Go Failed s log) = i in absurd (cc)
         next (Spent lines) h i = let no : ◌≡◌ {A = Outcome Answer} (Spent (rows ++ lines)) (Go Failed s log) = i in absurd (cc)
-        next (Unbuilt lines) h i = let no : ◌≡◌ {A = Outcome Answer} (Unbuilt (rows ++ lines)) (Go Failed s log) = i in absurd (cc)
     go (Halt c rows) s log e = let no : ◌≡◌ {A = Outcome Answer} (Halt c rows) (Go Failed s log) = e in absurd (cc)
     go (Spent rows) s log e = let no : ◌≡◌ {A = Outcome Answer} (Spent rows) (Go Failed s log) = e in absurd (cc)
-    go (Unbuilt rows) s log e = let no : ◌≡◌ {A = Outcome Answer} (Unbuilt rows) (Go Failed s log) = e in absurd (cc)
 
 never_done : NeverFails (done Done)
 unfolding done
@@ -177,10 +175,6 @@ clean_failed : {m : Machine} → FailsClean m failed
 unfolding failed done
 clean_failed {m} = record { clean = λ s log e. let same : m ≡ s = cc in sym same }
 
-clean_unbuilt : {m : Machine} → FailsClean m unbuilt
-unfolding unbuilt
-clean_unbuilt {m} = record { clean = λ s log e. let no : ◌≡◌ {A = Outcome Answer} (Unbuilt []) (Go Failed s log) = e in absurd (cc) }
-
 clean_then : {m : Machine} {A : Type 0} {p : Rule A} (k : A → Rule Answer) → Looks m p → ((a : A) → FailsClean m (k a)) → FailsClean m (p >>= k)
 unfolding ◌>>=◌
 clean_then {m} {A} {p} k first f = record { clean = λ s log e. go (p m) refl s log e }
@@ -195,10 +189,8 @@ clean_then {m} {A} {p} k first f = record { clean = λ s log e. go (p m) refl s 
             sym left ∙ (f a).clean t lines (h ∙ ap (λ x. Go x t lines) same)
         next (Halt c lines) h i = let no : ◌≡◌ {A = Outcome Answer} (Halt c (rows ++ lines)) (Go Failed s log) = i in absurd (cc)
         next (Spent lines) h i = let no : ◌≡◌ {A = Outcome Answer} (Spent (rows ++ lines)) (Go Failed s log) = i in absurd (cc)
-        next (Unbuilt lines) h i = let no : ◌≡◌ {A = Outcome Answer} (Unbuilt (rows ++ lines)) (Go Failed s log) = i in absurd (cc)
     go (Halt c rows) e s log g = let no : ◌≡◌ {A = Outcome Answer} (Halt c rows) (Go Failed s log) = g in absurd (cc)
     go (Spent rows) e s log g = let no : ◌≡◌ {A = Outcome Answer} (Spent rows) (Go Failed s log) = g in absurd (cc)
-    go (Unbuilt rows) e s log g = let no : ◌≡◌ {A = Outcome Answer} (Unbuilt rows) (Go Failed s log) = g in absurd (cc)
 
 clean_pick : {m : Machine} (b : Bool) (p q : Rule Answer) → FailsClean m p → FailsClean m q → FailsClean m (pick b p q)
 unfolding pick
@@ -572,6 +564,10 @@ processes_clean : (m : Machine) → AreClean m process_primitives
 unfolding AreClean process_primitives
 processes_clean m = (clean-primitive_signal, (clean-primitive_wait, (clean-primitive_resume, (clean-primitive_suspend, tt))))
 
+blits_clean : (m : Machine) → AreClean m blit_primitives
+unfolding AreClean blit_primitives
+blits_clean m = (clean-copy_bits, tt)
+
 devices_clean : (m : Machine) (events : List Line) → AreClean m (device_primitives events)
 unfolding AreClean device_primitives
 devices_clean m events = (clean-input_semaphore, (clean-input_word events, (clean-tick_words, (clean-signal_at_tick, (clean-be_display, (clean-say_string, tt))))))
@@ -581,4 +577,4 @@ copy_bits_changes_nothing m s log e = clean-copy_bits.clean s log e
 
 pub failed_changes_nothing : (events : List Line) (index : ℕ) (m s : Machine) (log : List LogRow) → primitive events index m ≡ Go Failed s log → s ≡ m
 unfolding primitive
-failed_changes_nothing events index m s log e = let clean : FailsClean m (primitive events index) = clean_pick _ _ _ clean_unbuilt (clean_pick _ _ _ (clean-control_primitive index) (clean_pick _ _ _ (clean-primitive_in _ index (processes_clean m)) (clean_pick _ _ _ (clean-primitive_in _ index (devices_clean m events)) (clean-primitive_in _ index (primitives_clean m))))) in clean.clean s log e
+failed_changes_nothing events index m s log e = let clean : FailsClean m (primitive events index) = clean_pick _ _ _ (clean-control_primitive index) (clean_pick _ _ _ (clean-primitive_in _ index (processes_clean m)) (clean_pick _ _ _ (clean-primitive_in _ index (blits_clean m)) (clean_pick _ _ _ (clean-primitive_in _ index (devices_clean m events)) (clean-primitive_in _ index (primitives_clean m))))) in clean.clean s log e

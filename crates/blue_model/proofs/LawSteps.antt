@@ -21,7 +21,7 @@ use Rattle.long_names.proofs.AccessLaws.{words_of_row-same, entries_of_row-same,
 use Rattle.blue_model.specs.declared.cause.Cause.{Cause}
 use Rattle.blue_model.specs.declared.cpu.Cpu.{Cpu}
 use Rattle.blue_model.specs.Indexes.{METHOD_INDEX, HOME_INDEX}
-use Rattle.blue_model.specs.Machine.{Machine, MACHINE_REGISTERS, LogRow, logged, row_of, making_row, Outcome, Go, Halt, Spent, Unbuilt, Rule, after, then_do, ◌>>=◌, done, halt, unbuilt, given, pick, is_there, register, placed, put_register, clear, numbers, set_numbers, rows_at, looked, look, part, known, classed, class_of, stored, store, changed, store_word, store_byte, object_made, added, made, make, unpinned, unpin_all, with_pin, pinned, pin, spoken, say, times, each}
+use Rattle.blue_model.specs.Machine.{Machine, MACHINE_REGISTERS, LogRow, logged, row_of, making_row, Outcome, Go, Halt, Spent, Rule, after, then_do, ◌>>=◌, done, halt, given, pick, is_there, register, placed, put_register, clear, numbers, set_numbers, rows_at, looked, look, part, known, classed, class_of, stored, store, changed, store_word, store_byte, object_made, added, made, make, unpinned, unpin_all, with_pin, pinned, pin, spoken, say, times, each}
 use Rattle.blue_model.specs.declared.answer.Answer.{Answer}
 use Rattle.blue_model.specs.Parts.{at_least, shaped, field, home_by, home_in, home_of, literal}
 use Rattle.blue_model.specs.Messages.{last_literal}
@@ -85,14 +85,12 @@ Agrees-after : {A : Type 0} (w : Lost) (K : A → Type 0) (rows lines : List Log
 Agrees-after w K rows lines (Go x m log) (Go y s los) e h = (h.0, ap₂ (λ p q. p ++ q) e h.1, h.2, h.3)
 Agrees-after w K rows lines (Halt c log) (Halt d los) e h = (h.0, ap₂ (λ p q. p ++ q) e h.1)
 Agrees-after w K rows lines (Spent log) (Spent los) e h = ap₂ (λ p q. p ++ q) e h
-Agrees-after w K rows lines (Unbuilt log) (Unbuilt los) e h = ap₂ (λ p q. p ++ q) e h
 Agrees-after w K rows lines _ _ e h = absurd h
 
 Agrees-then : {A B : Type 0} (w : Lost) (K : A → Type 0) (Q : B → Type 0) (a b : Outcome A) (k : A → Rule B) → Agrees w K a b → ((x : A) → K x → Lawful w Q (k x)) → Agrees w Q (then_do a k) (then_do b k)
 Agrees-then w K Q (Go x m log) (Go y s los) k h f = Agrees-after w Q log los (k x m) (k y s) h.1 (subst (λ z. Agrees w Q (k x m) (k z s)) h.0 ((f x h.2).agrees m s h.3))
 Agrees-then w K Q (Halt c log) (Halt d los) k h f = h
 Agrees-then w K Q (Spent log) (Spent los) k h f = h
-Agrees-then w K Q (Unbuilt log) (Unbuilt los) k h f = h
 Agrees-then w K Q _ _ k h f = absurd h
 
 pub law_then : {w : Lost} {A B : Type 0} {K : A → Type 0} {Q : B → Type 0} {p : Rule A} (k : A → Rule B) → Lawful w K p → ((a : A) → K a → Lawful w Q (k a)) → Lawful w Q (p >>= k)
@@ -111,10 +109,6 @@ law_done {w} {A} {K} a k = record { agrees = λ m s h. (refl, refl, k, h) }
 pub law_halt : {w : Lost} {A : Type 0} {K : A → Type 0} (c : Cause) → Lawful w K (halt c)
 unfolding halt
 law_halt {w} {A} {K} c = record { agrees = λ m s h. (refl, refl) }
-
-pub law_unbuilt : {w : Lost} {A : Type 0} {K : A → Type 0} → Lawful w K unbuilt
-unfolding unbuilt
-law_unbuilt {w} {A} {K} = record { agrees = λ m s h. refl }
 
 pub law_given : {w : Lost} {A : Type 0} (K : A → Type 0) (c : Cause) (o : Option A) → ((a : A) → o ≡ Some a → K a) → Lawful w K (given c o)
 unfolding given
@@ -652,7 +646,6 @@ respects {A} {K} {p} f = record { agree = λ m s h. weaken (world m s h) (p m) (
     weaken w (Go x m log) (Go y s los) h = (h.0, h.1, h.3.thinned)
     weaken w (Halt c log) (Halt d los) h = h
     weaken w (Spent log) (Spent los) h = h
-    weaken w (Unbuilt log) (Unbuilt los) h = h
     weaken w _ _ h = absurd h
 
 -- ---- the forms that a search uses
@@ -723,6 +716,6 @@ unfolding each
 law_each {w} p zero f = law_done tt (record {})
 law_each {w} p (suc n) f = then_plain (λ _. p n) (law_each {w = w} p n f) (λ _. f n)
 
-pub ruleset lawful = (then_value, then_maybe, then_held, then_plain, law_pick, done_none, done_some, done_plain, law_done, law_halt, law_unbuilt, law_register, law_numbers, law_set_numbers, law_clear, law_put_register, within_field, within_literal, within_last_literal, within_home_of, law_look, law_known, law_class_of, law_part_value, law_part, law_given_plain, law_store, law_store_word, law_store_byte, law_make, law_unpin_all, law_pin, law_say, law_times, law_each, kept_int, kept_known)
+pub ruleset lawful = (then_value, then_maybe, then_held, then_plain, law_pick, done_none, done_some, done_plain, law_done, law_halt, law_register, law_numbers, law_set_numbers, law_clear, law_put_register, within_field, within_literal, within_last_literal, within_home_of, law_look, law_known, law_class_of, law_part_value, law_part, law_given_plain, law_store, law_store_word, law_store_byte, law_make, law_unpin_all, law_pin, law_say, law_times, law_each, kept_int, kept_known)
 
 pub ruleset trying = (try_value, try_plain, law_where_true, law_where_some, law_failed, law_peek_value, law_peek)

@@ -4,7 +4,7 @@ use Rattle.std.proofs.Common.{◌≡◌, ℕ, zero, suc, refl, sym, ap, List}
 use Rattle.long_names.specs.Heap.{Heap}
 use Rattle.blue_model.specs.declared.step.Step.{Step}
 use Rattle.blue_model.specs.declared.step.Step.TheVariants.{Next, Quit}
-use Rattle.blue_model.specs.Machine.{Machine, Outcome, Go, Halt, Spent, Unbuilt, at_rest}
+use Rattle.blue_model.specs.Machine.{Machine, Outcome, Go, Halt, Spent, at_rest}
 use Rattle.blue_model.specs.Contexts.{start}
 use Rattle.blue_model.specs.Cycle.{Run, Ran, Stopped, ByCause, run_of, one_more, run, parked, ended, run_from, ending, cycle, park_and_draw}
 use Rattle.blue_model.specs.Law.{IsThinned, Agree, RespectsThinning, RunsAgree, EndingsAgree}
@@ -16,7 +16,6 @@ run_of-agree : (m s : Machine) (o p : Outcome Step) → IsThinned m s → Agree 
 run_of-agree m s (Go a next log) (Go b then rows) t h = (h.0, h.2)
 run_of-agree m s (Halt c log) (Halt d rows) t h = (ap (λ e. ByCause e) h.0, h.1, t)
 run_of-agree m s (Spent log) (Spent rows) t h = (refl, h, t)
-run_of-agree m s (Unbuilt log) (Unbuilt rows) t h = (refl, h, t)
 run_of-agree m s _ _ t h = absurd h
 
 one_more-agree : (events : List Line) (a b : Run) → RespectsThinning (cycle events) → RunsAgree a b → RunsAgree (one_more events a) (one_more events b)
@@ -47,7 +46,6 @@ parked-agree : (end last : Step) (m s : Machine) (o p : Outcome (List ℕ)) → 
 parked-agree end last m s (Go a next log) (Go b then rows) e t h = (e, h.0, h.2)
 parked-agree end last m s (Halt c log) (Halt d rows) e t h = (ap (λ e. ByCause e) h.0, ran_same m s t, said_same m s t)
 parked-agree end last m s (Spent log) (Spent rows) e t h = (refl, ran_same m s t, said_same m s t)
-parked-agree end last m s (Unbuilt log) (Unbuilt rows) e t h = (refl, ran_same m s t, said_same m s t)
 parked-agree end last m s _ _ e t h = absurd h
 
 ended-agree : (a b : Run) → RespectsThinning park_and_draw → RunsAgree a b → EndingsAgree (ended a) (ended b)
@@ -59,7 +57,6 @@ run_from-agree : (events : List Line) (k : ℕ) (o p : Outcome (Unit {0})) → A
 run_from-agree events k (Go a m log) (Go b s rows) h = ended-agree (run events k m) (run events k s) (respects (λ w. law-park_and_draw {w = w})) (runs-agree events k m s h.2)
 run_from-agree events k (Halt c log) (Halt d rows) h = (ap (λ e. ByCause e) h.0, refl, refl)
 run_from-agree events k (Spent log) (Spent rows) h = (refl, refl, refl)
-run_from-agree events k (Unbuilt log) (Unbuilt rows) h = (refl, refl, refl)
 run_from-agree events k _ _ h = absurd h
 
 pub endings-agree : (events : List Line) (k : ℕ) (h s : Heap) → IsThinned (at_rest h) (at_rest s) → EndingsAgree (ending events k h) (ending events k s)

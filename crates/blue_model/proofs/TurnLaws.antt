@@ -1,7 +1,8 @@
 -- The law of thinning, for the table of primitives, sends, the table of bytecodes and the cycle.
 use Rattle.blue_model.specs.declared.event.Line.{Line}
+use Rattle.blue_model.specs.BitBlt.{blit_primitives}
 use Rattle.blue_model.specs.Devices.{device_primitives}
-use Rattle.blue_model.proofs.DeviceLaws.{law-input_semaphore, law-input_word, law-tick_words, law-signal_at_tick, law-be_display, law-say_string, law-due, law-picture}
+use Rattle.blue_model.proofs.DeviceLaws.{law-copy_bits, law-input_semaphore, law-input_word, law-tick_words, law-signal_at_tick, law-be_display, law-say_string, law-due, law-picture}
 use Rattle.std.proofs.Common.{◌≡◌, ℕ, ℤ, ◌-◌, Bool, true, List, [], ◌∷◌, ◌++◌}
 use Rattle.long_names.specs.declared.value.Value.{Value}
 use Rattle.long_names.specs.Names.{is_known}
@@ -20,7 +21,7 @@ use Rattle.blue_model.specs.Arithmetic.{integer_primitives}
 use Rattle.blue_model.specs.Storage.{class, object_primitives}
 use Rattle.blue_model.specs.Primitives.{primitive, then_next, tried}
 use Rattle.blue_model.proofs.RuleLaws.{law-activate, law-arithmetic, law-at, law-at_end, law-at_put, law-back_with, law-block_copy, law-check_switch, law-class, law-comparison, law-equivalent, law-fetch, law-find_or_tell, law-flush_cache, law-hash, law-instance_variable_at, law-instance_variable_at_put, law-jump, law-new, law-new_method, law-new_with_size, law-next, law-next_put, law-object_at_index, law-object_at_put, law-park, law-perform, law-perform_with_arguments, law-point, law-pop, law-pop_top, law-primitive_resume, law-primitive_signal, law-primitive_suspend, law-primitive_wait, law-push, law-put_stack, law-quit, law-set_arguments, law-size_of, law-stack, law-store_field, law-string_at, law-string_at_put, law-value, law-value_with_arguments}
-use Rattle.blue_model.proofs.LawSteps.{lawful, then_plain, law_pick, law_numbers, law_unbuilt, law_failed, law_part, law_where_true, done_plain}
+use Rattle.blue_model.proofs.LawSteps.{lawful, then_plain, law_pick, law_halt, law_numbers, law_failed, law_part, law_where_true, done_plain}
 
 -- ---- the table of primitives
 
@@ -54,13 +55,17 @@ processes_lawful : (w : Lost) → ArePrimitivesLawful w process_primitives
 unfolding ArePrimitivesLawful process_primitives
 processes_lawful w = (law-primitive_signal, (law-primitive_wait, (law-primitive_resume, (law-primitive_suspend, tt))))
 
+blits_lawful : (w : Lost) → ArePrimitivesLawful w blit_primitives
+unfolding ArePrimitivesLawful blit_primitives
+blits_lawful w = (law-copy_bits, tt)
+
 devices_lawful : (w : Lost) (events : List Line) → ArePrimitivesLawful w (device_primitives events)
 unfolding ArePrimitivesLawful device_primitives
 devices_lawful w events = (law-input_semaphore, (law-input_word events, (law-tick_words, (law-signal_at_tick, (law-be_display, (law-say_string, tt))))))
 
 pub law-primitive : {w : Lost} (events : List Line) (index : ℕ) → Lawful w IsPlain (primitive events index)
 unfolding primitive
-law-primitive {w} events index = law_pick _ _ _ law_unbuilt (law_pick _ _ _ (law-control_primitive index) (law_pick _ _ _ (law-primitive_in _ index (processes_lawful w)) (law_pick _ _ _ (law-primitive_in _ index (devices_lawful w events)) (law-primitive_in _ index (primitives_lawful w)))))
+law-primitive {w} events index = law_pick _ _ _ (law-control_primitive index) (law_pick _ _ _ (law-primitive_in _ index (processes_lawful w)) (law_pick _ _ _ (law-primitive_in _ index (blits_lawful w)) (law_pick _ _ _ (law-primitive_in _ index (devices_lawful w events)) (law-primitive_in _ index (primitives_lawful w)))))
 
 pub law-then_next : {w : Lost} (p : Rule (Unit {0})) → Lawful w IsPlain p → Lawful w IsPlain (then_next p)
 unfolding then_next
@@ -260,7 +265,7 @@ law-block_send {w} events index n classes s = search (lawful, law-stack, law-tri
 -- ---- the table
 
 pub law-ruled : {w : Lost} (ranges : List Range) (byte : ℕ) → AreLawful w ranges → Lawful w IsPlain (ruled ranges byte)
-law-ruled {w} [] byte f = law_unbuilt
+law-ruled {w} [] byte f = law_halt _
 law-ruled {w} (r ∷ rs) byte f = law_pick (has_byte byte r) (r.rule (byte - r.first)) (ruled rs byte) (f.0 (byte - r.first)) (law-ruled rs byte f.1)
 
 ruleset pushing = (law-push_of, law-push_known, law-push_number, law-push_receiver, law-push_active_context, law-duplicate_top, law-extended_push, law-receiver_variable, law-temporary, law-literal_constant, law-literal_variable)

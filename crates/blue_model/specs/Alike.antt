@@ -5,7 +5,7 @@ use Rattle.long_names.specs.declared.value.Value.TheVariants.{Ref}
 use Rattle.long_names.specs.declared.object.Object.{Object}
 use Rattle.long_names.specs.Names.{is_known}
 use Rattle.long_names.specs.Objects.{holds}
-use Rattle.blue_model.specs.Machine.{Machine, Outcome, Go, Halt, Spent, Unbuilt, Rule}
+use Rattle.blue_model.specs.Machine.{Machine, Outcome, Go, Halt, Spent, Rule}
 use Rattle.blue_model.specs.Bytecodes.{Range}
 use Rattle.blue_model.specs.Law.{IsThinned}
 
@@ -49,7 +49,6 @@ abbrev pub Agrees : {A : Type 0} → Lost → (A → Type 0) → Outcome A → O
 Agrees w K (Go a m log) (Go b s rows) = (a ≡ b) × (log ≡ rows) × K a × IsAlike w m s
 Agrees w K (Halt c log) (Halt d rows) = (c ≡ d) × (log ≡ rows)
 Agrees w K (Spent log) (Spent rows) = log ≡ rows
-Agrees w K (Unbuilt log) (Unbuilt rows) = log ≡ rows
 Agrees w K _ _ = ⊥
 
 -- the rule goes one way in a heap and in a thinner one, and answers as K says

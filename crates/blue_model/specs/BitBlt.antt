@@ -15,7 +15,8 @@ use Rattle.blue_model.specs.Indexes.{BITBLT_SIZE, DEST_FORM_INDEX, SOURCE_FORM_I
 use Rattle.blue_model.specs.Machine.{Rule, ◌>>=◌, ◌>>◌, done, pick, changed, part}
 use Rattle.blue_model.specs.Parts.{is_nil, field, number}
 use Rattle.blue_model.specs.Contexts.{stack}
-use Rattle.blue_model.specs.Trials.{◌>>?◌, peek}
+use Rattle.blue_model.specs.Trials.{Primitive, ◌>>?◌, peek}
+use Rattle.blue_model.specs.Storage.{row}
 use Rattle.blue_model.specs.Forms.{Form, Extent, row_words, pixel, left_bit, number_of, form_of, form_where}
 
 -- ---- the rules
@@ -192,3 +193,6 @@ copy_bits = do
       peek (field BITBLT_SIZE SOURCE_FORM_INDEX) blit >>? λ source_form. form_or_nil form_of source_form >>? λ source.
       peek (field BITBLT_SIZE HALFTONE_FORM_INDEX) blit >>? λ tone_form. form_or_nil (form_where has_sixteen) tone_form >>? λ tone.
       copy q dest source tone >> done Done
+
+unfoldable pub blit_primitives : List Primitive
+blit_primitives = row 96 0 copy_bits ∷ []

@@ -11,7 +11,7 @@ use Rattle.blue_model.specs.declared.event.Line.{Line}
 use Rattle.blue_model.specs.declared.step.Step.{Step}
 use Rattle.blue_model.specs.declared.step.Step.TheVariants.{Next}
 use Rattle.blue_model.specs.Indexes.{VALUE_INDEX, ASSOCIATION_SIZE, SENDER_INDEX, TEMP_FRAME_START}
-use Rattle.blue_model.specs.Machine.{Rule, ◌>>=◌, ◌>>◌, done, halt, unbuilt, given, pick, register, part, known, class_of}
+use Rattle.blue_model.specs.Machine.{Rule, ◌>>=◌, ◌>>◌, done, halt, given, pick, register, part, known, class_of}
 use Rattle.blue_model.specs.Parts.{size, field, literal}
 use Rattle.blue_model.specs.Contexts.{store_field, push, stack, pop, pop_top, fetch, jump}
 use Rattle.blue_model.specs.Messages.{set_arguments}
@@ -302,7 +302,7 @@ has_byte byte r = nat_le r.first byte && nat_le byte r.last
 
 -- what the first range says that has the byte; bytes have 8 bits, and each of them is in one range
 abbrev pub ruled : List Range → ℕ → Rule Step
-ruled [] byte = unbuilt
+ruled [] byte = halt Unused
 ruled (r ∷ rs) byte = pick (has_byte byte r) (r.rule (byte - r.first)) (ruled rs byte)
 
 -- dispatchOnThisBytecode (chapter 28)

@@ -6,7 +6,7 @@ use Rattle.blue_model.specs.declared.cause.Cause.{Cause}
 use Rattle.blue_model.specs.declared.event.Line.{Line}
 use Rattle.blue_model.specs.declared.step.Step.{Step}
 use Rattle.blue_model.specs.declared.step.Step.TheVariants.{Next, Quit}
-use Rattle.blue_model.specs.Machine.{Machine, LogRow, Outcome, Go, Halt, Spent, Unbuilt, Rule, ◌>>=◌, ◌>>◌, done, clear, numbers, set_numbers, at_rest}
+use Rattle.blue_model.specs.Machine.{Machine, LogRow, Outcome, Go, Halt, Spent, Rule, ◌>>=◌, ◌>>◌, done, clear, numbers, set_numbers, at_rest}
 use Rattle.blue_model.specs.Contexts.{fetch, start, park}
 use Rattle.blue_model.specs.Devices.{due, picture}
 use Rattle.blue_model.specs.Processes.{check_switch}
@@ -50,7 +50,6 @@ cycle events = do
 pub data Stopping : Type 0 where
   ByCause : (cause : Cause) → Stopping
   BySpentNames : Stopping
-  ByUnbuilt : Stopping
 
 -- the machine after so many bytecodes, all of them run, or up to the one that ended the machine, and how the last one ended; or the last
 -- machine before the bytecode that stopped, with its log
@@ -62,7 +61,6 @@ abbrev pub run_of : Machine → Outcome Step → Run
 run_of m (Go end next log) = Ran end next
 run_of m (Halt c log) = Stopped m (ByCause c) log
 run_of m (Spent log) = Stopped m BySpentNames log
-run_of m (Unbuilt log) = Stopped m ByUnbuilt log
 
 -- one cycle more, where it hasn't ended or stopped
 abbrev pub one_more : List Line → Run → Run
@@ -91,7 +89,6 @@ abbrev pub parked : Step → Machine → Outcome (List ℕ) → Ending
 parked end m (Go bytes next log) = Parked end next bytes
 parked end m (Halt c log) = Stuck (ByCause c) m.cpu.ran m.transcript
 parked end m (Spent log) = Stuck BySpentNames m.cpu.ran m.transcript
-parked end m (Unbuilt log) = Stuck ByUnbuilt m.cpu.ran m.transcript
 
 abbrev pub ended : Run → Ending
 ended (Ran end m) = parked end m (park_and_draw m)
@@ -101,7 +98,6 @@ abbrev pub run_from : List Line → ℕ → Outcome (Unit {0}) → Ending
 run_from events steps (Go a m log) = ended (run events steps m)
 run_from events steps (Halt c log) = Stuck (ByCause c) 0 []
 run_from events steps (Spent log) = Stuck BySpentNames 0 []
-run_from events steps (Unbuilt log) = Stuck ByUnbuilt 0 []
 
 -- What becomes of a heap under an event list: the start, at most so many bytecodes, and park, with the picture.
 unfoldable pub ending : List Line → ℕ → Heap → Ending

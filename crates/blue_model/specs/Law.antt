@@ -9,7 +9,7 @@ use Rattle.long_names.specs.Heap.{IsBounded}
 use Rattle.long_names.specs.Thin.{IsWhole, IsThinning}
 use Rattle.blue_model.specs.declared.event.Line.{Line}
 use Rattle.blue_model.specs.declared.step.Step.TheVariants.{Next, Quit}
-use Rattle.blue_model.specs.Machine.{Machine, LogRow, Outcome, Go, Halt, Spent, Unbuilt, Rule, is_there, make}
+use Rattle.blue_model.specs.Machine.{Machine, LogRow, Outcome, Go, Halt, Spent, Rule, is_there, make}
 use Rattle.blue_model.specs.Cycle.{Run, Ran, Stopped, run, Ending, Parked, Stuck}
 
 -- ---- one rule
@@ -32,7 +32,6 @@ abbrev pub Agree : {A : Type 0} → Outcome A → Outcome A → Type 0
 Agree (Go a m log) (Go b s rows) = (a ≡ b) × (log ≡ rows) × IsThinned m s
 Agree (Halt c log) (Halt d rows) = (c ≡ d) × (log ≡ rows)
 Agree (Spent log) (Spent rows) = log ≡ rows
-Agree (Unbuilt log) (Unbuilt rows) = log ≡ rows
 Agree _ _ = ⊥
 
 -- The law of a rule. Where both machines are one it says that the rule leaves a whole heap whole.

@@ -59,13 +59,11 @@ making_row m o = logged (add_object m.heap o) (record { object = m.heap.next; sl
 
 -- ---- rules
 
--- What a rule comes to, with its log: an answer and the next machine; a cause; no name left for an object; or a bytecode that isn't
--- built yet.
+-- What a rule comes to, with its log: an answer and the next machine; a cause; or no name left for an object.
 pub data Outcome (A : Type 0) : Type 0 where
   Go : (answer : A) → (machine : Machine) → (log : List LogRow) → Outcome A
   Halt : (cause : Cause) → (log : List LogRow) → Outcome A
   Spent : (log : List LogRow) → Outcome A
-  Unbuilt : (log : List LogRow) → Outcome A
 
 abbrev pub Rule : Type 0 → Type 0
 Rule A = Machine → Outcome A
@@ -74,20 +72,17 @@ abbrev pub log_of : {A : Type 0} → Outcome A → List LogRow
 log_of (Go a m log) = log
 log_of (Halt c log) = log
 log_of (Spent log) = log
-log_of (Unbuilt log) = log
 
 -- with rows that came before
 abbrev pub after : {A : Type 0} → List LogRow → Outcome A → Outcome A
 after rows (Go a m log) = Go a m (rows ++ log)
 after rows (Halt c log) = Halt c (rows ++ log)
 after rows (Spent log) = Spent (rows ++ log)
-after rows (Unbuilt log) = Unbuilt (rows ++ log)
 
 abbrev pub then_do : {A B : Type 0} → Outcome A → (A → Rule B) → Outcome B
 then_do (Go a m log) k = after log (k a m)
 then_do (Halt c log) k = Halt c log
 then_do (Spent log) k = Spent log
-then_do (Unbuilt log) k = Unbuilt log
 
 infixl 20 ◌>>=◌
 infixl 20 ◌>>◌
@@ -103,9 +98,6 @@ done a m = Go a m []
 
 unfoldable pub halt : {A : Type 0} → Cause → Rule A
 halt c m = Halt c []
-
-unfoldable pub unbuilt : {A : Type 0} → Rule A
-unbuilt m = Unbuilt []
 
 -- the value, or the cause where there is none
 unfoldable pub given : {A : Type 0} → Cause → Option A → Rule A

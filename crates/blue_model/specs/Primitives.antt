@@ -1,25 +1,18 @@
 -- The table of primitives (chapter 29), and their tries.
-use Rattle.std.specs.Prelude.{ℕ, ◌==◌, ◌||◌, ◌&&◌, Bool, true, false, nat_le, List, [], ◌∷◌, ◌++◌}
-use Rattle.std.specs.List.{list_any}
+use Rattle.std.specs.Prelude.{ℕ, ◌==◌, ◌||◌, ◌&&◌, Bool, true, false, nat_le, List, ◌++◌}
 use Rattle.blue_model.specs.declared.answer.Answer.{Answer}
 use Rattle.blue_model.specs.declared.answer.Answer.TheVariants.{Done, Failed, Execute, Quit}
 use Rattle.blue_model.specs.declared.step.Step.{Step}
 use Rattle.blue_model.specs.declared.step.Step.TheVariants as step
 use Rattle.blue_model.specs.declared.event.Line.{Line}
-use Rattle.blue_model.specs.Machine.{Rule, ◌>>=◌, ◌>>◌, done, unbuilt, pick}
+use Rattle.blue_model.specs.Machine.{Rule, ◌>>=◌, ◌>>◌, done, pick}
 use Rattle.blue_model.specs.Trials.{primitive_in}
 use Rattle.blue_model.specs.Arithmetic.{integer_primitives}
 use Rattle.blue_model.specs.Storage.{object_primitives}
 use Rattle.blue_model.specs.Control.{control_primitive}
 use Rattle.blue_model.specs.Processes.{process_primitives}
+use Rattle.blue_model.specs.BitBlt.{blit_primitives}
 use Rattle.blue_model.specs.Devices.{device_primitives}
-
--- those that the table has and that aren't built yet
-abbrev pub unbuilt_primitives : List ℕ
-unbuilt_primitives = 96 ∷ []
-
-abbrev pub is_unbuilt : ℕ → Bool
-is_unbuilt index = list_any (λ n. n == index) unbuilt_primitives
 
 -- blocks, performs, the method cache and the end of the run
 abbrev pub is_control : ℕ → Bool
@@ -29,6 +22,10 @@ is_control index = (nat_le 80 index && nat_le index 84) || (index == 89) || (ind
 abbrev pub is_process : ℕ → Bool
 is_process index = nat_le 85 index && nat_le index 88
 
+-- BitBlt
+abbrev pub is_blit : ℕ → Bool
+is_blit index = index == 96
+
 -- input, the clock, the display and the transcript
 abbrev pub is_device : ℕ → Bool
 is_device index = (nat_le 93 index && nat_le index 102) || (index == 128)
@@ -36,9 +33,9 @@ is_device index = (nat_le 93 index && nat_le index 102) || (index == 128)
 -- dispatchPrimitives, with the event list that input comes from. A primitive that isn't in the table fails
 unfoldable pub primitive : List Line → ℕ → Rule Answer
 primitive events index =
-    pick (is_unbuilt index) unbuilt
-    (pick (is_control index) (control_primitive index)
+    pick (is_control index) (control_primitive index)
     (pick (is_process index) (primitive_in process_primitives index)
+    (pick (is_blit index) (primitive_in blit_primitives index)
     (pick (is_device index) (primitive_in (device_primitives events) index)
     (primitive_in (integer_primitives ++ object_primitives) index))))
 

@@ -5,7 +5,7 @@ use Rattle.long_names.specs.declared.value.Value.TheVariants.{Int, Ref}
 use Rattle.long_names.specs.declared.object.Object.{Object}
 use Rattle.long_names.specs.Names.{SCHEDULER_ASSOCIATION, is_known}
 use Rattle.long_names.specs.Heap.{Heap}
-use Rattle.blue_model.specs.Machine.{Machine, Outcome, Go, Halt, Spent, Unbuilt, Rule, at_rest}
+use Rattle.blue_model.specs.Machine.{Machine, Outcome, Go, Halt, Spent, Rule, at_rest}
 use Rattle.blue_model.specs.Queues.{field_at, Queue, Schedule, current_in}
 use Rattle.blue_model.specs.Base.{nil, array, SCHEDULER}
 
@@ -89,7 +89,6 @@ abbrev pub left_by : {A : Type 0} → (Machine → Option A) → Outcome (Unit {
 left_by f (Go a m log) = f m
 left_by f (Halt c log) = None
 left_by f (Spent log) = None
-left_by f (Unbuilt log) = None
 
 -- the current process
 abbrev pub current_after : Rule (Unit {0}) → Option Value

@@ -9,9 +9,9 @@
 //!     let number = cause.number();                       // 1 to 7, of a run that is stuck
 //!
 //! Read `Machine` first, of the files of `specs/`, then `Contexts`, `Lookup`, `Messages`, `Sends`, `Bytecodes` and `Cycle`; primitives
-//! are in `Arithmetic`, `Storage`, `Control` and `Processes`, and `Queues` reads process lists as lists. `Law` says what the laws of
-//! thinning promise, `Alike` how they are proved of rules, and `Base` has heaps as worked values. The crate runs nothing. Input and
-//! output aren't there yet: such a primitive comes to `Unbuilt`.
+//! are in `Arithmetic`, `Storage`, `Control`, `Processes`, `BitBlt` and `Devices`, and `Queues` reads process lists as lists. `Law` says
+//! what the laws of thinning promise, `Alike` how they are proved of rules, and `Base` has heaps as worked values. The crate runs
+//! nothing.
 #![tactic(auto)]
 
 mod answer;

@@ -9,13 +9,14 @@ use Rattle.blue_model.specs.declared.answer.Answer.{Answer}
 use Rattle.blue_model.specs.declared.answer.Answer.TheVariants.{Done}
 use Rattle.blue_model.specs.declared.cpu.Cpu.{Cpu}
 use Rattle.blue_model.specs.declared.event.Line.{Line}
-use Rattle.blue_model.specs.Machine.{Rule, pick, unbuilt}
+use Rattle.blue_model.specs.Machine.{Rule, pick}
 use Rattle.blue_model.specs.Trials.{Primitive, with_arguments, primitive_in}
 use Rattle.blue_model.specs.Arithmetic.{integer_primitives}
 use Rattle.blue_model.specs.Storage.{object_primitives}
-use Rattle.blue_model.specs.Primitives.{is_unbuilt, is_control, is_process, is_device, has_failed, primitive}
+use Rattle.blue_model.specs.Primitives.{is_control, is_process, is_blit, is_device, has_failed, primitive}
 use Rattle.blue_model.specs.Control.{control_primitive}
 use Rattle.blue_model.specs.Processes.{process_primitives}
+use Rattle.blue_model.specs.BitBlt.{blit_primitives}
 use Rattle.blue_model.specs.Devices.{device_primitives}
 use Rattle.blue_model.specs.Sends.{is_execute}
 use Rattle.contexts.specs.declared.stop.Stop.{Stop}
@@ -67,36 +68,42 @@ integers_below : list_all (below 59) integer_primitives ≡ true
 unfolding below integer_primitives
 integers_below = refl
 
--- ---- tries of what is built
+-- ---- tries
 
-try_first : {old new : Told} {cpu now : Cpu} {answer : Result Answer Stop} (events : List Line) (index : ℕ) → is_unbuilt index ≡ false → is_control index ≡ false → is_process index ≡ false → is_device index ≡ false → Serves old cpu new now (primitive_in (integer_primitives ++ object_primitives) index) answer → Speaks Done old cpu new now (primitive events index) answer
+try_first : {old new : Told} {cpu now : Cpu} {answer : Result Answer Stop} (events : List Line) (index : ℕ) → is_control index ≡ false → is_process index ≡ false → is_blit index ≡ false → is_device index ≡ false → Serves old cpu new now (primitive_in (integer_primitives ++ object_primitives) index) answer → Speaks Done old cpu new now (primitive events index) answer
 unfolding primitive
-try_first events index built control process device s =
-    speaks_quiet (pick_false _ unbuilt _ built (pick_false _ (control_primitive index) _ control (pick_false _ (primitive_in process_primitives index) _ process
-    (pick_false _ (primitive_in (device_primitives events) index) _ device s))))
+try_first events index control process blit device s =
+    speaks_quiet (pick_false _ (control_primitive index) _ control (pick_false _ (primitive_in process_primitives index) _ process
+    (pick_false _ (primitive_in blit_primitives index) _ blit (pick_false _ (primitive_in (device_primitives events) index) _ device s))))
 
-pub try_integer : {old new : Told} {cpu now : Cpu} {answer : Result Answer Stop} (events : List Line) (index : ℕ) → is_unbuilt index ≡ false → is_control index ≡ false → is_process index ≡ false → is_device index ≡ false → index < 60 → Serves old cpu new now (primitive_in integer_primitives index) answer → Speaks Done old cpu new now (primitive events index) answer
-try_integer {old} {new} {cpu} {now} {answer} events index built control process device low s =
-    try_first events index built control process device (subst (λ (rule : Rule Answer). Serves old cpu new now rule answer) (sym (first_rows integer_primitives object_primitives index (none_above object_primitives 60 index objects_above low))) s)
+pub try_integer : {old new : Told} {cpu now : Cpu} {answer : Result Answer Stop} (events : List Line) (index : ℕ) → is_control index ≡ false → is_process index ≡ false → is_blit index ≡ false → is_device index ≡ false → index < 60 → Serves old cpu new now (primitive_in integer_primitives index) answer → Speaks Done old cpu new now (primitive events index) answer
+try_integer {old} {new} {cpu} {now} {answer} events index control process blit device low s =
+    try_first events index control process blit device (subst (λ (rule : Rule Answer). Serves old cpu new now rule answer) (sym (first_rows integer_primitives object_primitives index (none_above object_primitives 60 index objects_above low))) s)
 
-pub try_object : {old new : Told} {cpu now : Cpu} {answer : Result Answer Stop} (events : List Line) (index : ℕ) → is_unbuilt index ≡ false → is_control index ≡ false → is_process index ≡ false → is_device index ≡ false → 60 ≤ index → Serves old cpu new now (primitive_in object_primitives index) answer → Speaks Done old cpu new now (primitive events index) answer
-try_object {old} {new} {cpu} {now} {answer} events index built control process device high s =
-    try_first events index built control process device (subst (λ (rule : Rule Answer). Serves old cpu new now rule answer) (sym (last_rows integer_primitives object_primitives 59 index integers_below (omega arith))) s)
+pub try_object : {old new : Told} {cpu now : Cpu} {answer : Result Answer Stop} (events : List Line) (index : ℕ) → is_control index ≡ false → is_process index ≡ false → is_blit index ≡ false → is_device index ≡ false → 60 ≤ index → Serves old cpu new now (primitive_in object_primitives index) answer → Speaks Done old cpu new now (primitive events index) answer
+try_object {old} {new} {cpu} {now} {answer} events index control process blit device high s =
+    try_first events index control process blit device (subst (λ (rule : Rule Answer). Serves old cpu new now rule answer) (sym (last_rows integer_primitives object_primitives 59 index integers_below (omega arith))) s)
 
-pub try_control : {old new : Told} {cpu now : Cpu} {answer : Result Answer Stop} (events : List Line) (index : ℕ) → is_unbuilt index ≡ false → is_control index ≡ true → Serves old cpu new now (control_primitive index) answer → Speaks Done old cpu new now (primitive events index) answer
+pub try_control : {old new : Told} {cpu now : Cpu} {answer : Result Answer Stop} (events : List Line) (index : ℕ) → is_control index ≡ true → Serves old cpu new now (control_primitive index) answer → Speaks Done old cpu new now (primitive events index) answer
 unfolding primitive
-try_control events index built control s = speaks_quiet (pick_false _ unbuilt _ built (pick_true _ (control_primitive index) _ control s))
+try_control events index control s = speaks_quiet (pick_true _ (control_primitive index) _ control s)
 
-pub try_process : {old new : Told} {cpu now : Cpu} {answer : Result Answer Stop} (events : List Line) (index : ℕ) → is_unbuilt index ≡ false → is_control index ≡ false → is_process index ≡ true → Serves old cpu new now (primitive_in process_primitives index) answer → Speaks Done old cpu new now (primitive events index) answer
+pub try_process : {old new : Told} {cpu now : Cpu} {answer : Result Answer Stop} (events : List Line) (index : ℕ) → is_control index ≡ false → is_process index ≡ true → Serves old cpu new now (primitive_in process_primitives index) answer → Speaks Done old cpu new now (primitive events index) answer
 unfolding primitive
-try_process events index built control process s =
-    speaks_quiet (pick_false _ unbuilt _ built (pick_false _ (control_primitive index) _ control (pick_true _ (primitive_in process_primitives index) _ process s)))
+try_process events index control process s =
+    speaks_quiet (pick_false _ (control_primitive index) _ control (pick_true _ (primitive_in process_primitives index) _ process s))
 
-pub try_device : {old new : Told} {cpu now : Cpu} {answer : Result Answer Stop} (events : List Line) (index : ℕ) → is_unbuilt index ≡ false → is_control index ≡ false → is_process index ≡ false → is_device index ≡ true → Speaks Done old cpu new now (primitive_in (device_primitives events) index) answer → Speaks Done old cpu new now (primitive events index) answer
+pub try_blit : {old new : Told} {cpu now : Cpu} {answer : Result Answer Stop} (events : List Line) (index : ℕ) → is_control index ≡ false → is_process index ≡ false → is_blit index ≡ true → Serves old cpu new now (primitive_in blit_primitives index) answer → Speaks Done old cpu new now (primitive events index) answer
 unfolding primitive
-try_device events index built control process device s =
-    pick_false _ unbuilt _ built (pick_false _ (control_primitive index) _ control (pick_false _ (primitive_in process_primitives index) _ process
-    (pick_true _ (primitive_in (device_primitives events) index) _ device s)))
+try_blit events index control process blit s =
+    speaks_quiet (pick_false _ (control_primitive index) _ control (pick_false _ (primitive_in process_primitives index) _ process
+    (pick_true _ (primitive_in blit_primitives index) _ blit s)))
+
+pub try_device : {old new : Told} {cpu now : Cpu} {answer : Result Answer Stop} (events : List Line) (index : ℕ) → is_control index ≡ false → is_process index ≡ false → is_blit index ≡ false → is_device index ≡ true → Speaks Done old cpu new now (primitive_in (device_primitives events) index) answer → Speaks Done old cpu new now (primitive events index) answer
+unfolding primitive
+try_device events index control process blit device s =
+    pick_false _ (control_primitive index) _ control (pick_false _ (primitive_in process_primitives index) _ process
+    (pick_false _ (primitive_in blit_primitives index) _ blit (pick_true _ (primitive_in (device_primitives events) index) _ device s)))
 
 -- ---- answers after which nothing has been said
 

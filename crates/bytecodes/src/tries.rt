@@ -11,13 +11,6 @@ use contexts::{Answer, Cpu, Stop};
 use event_file::EventList;
 use object_memory::ObjectMemory;
 
-/// Whether the primitive of this index isn't built yet.
-fn is_unbuilt(index: u8) -> bool
-    ensures { result ≡ model.is_unbuilt index }
-{
-    index == 96
-}
-
 /// Whether the primitive is one of blocks, performs, the cache and the end of the run.
 fn is_control(index: u8) -> bool
     ensures { result ≡ model.is_control index }
@@ -30,6 +23,13 @@ fn is_process(index: u8) -> bool
     ensures { result ≡ model.is_process index }
 {
     matches!(index, 85..=88)
+}
+
+/// Whether the primitive is BitBlt's.
+fn is_blit(index: u8) -> bool
+    ensures { result ≡ model.is_blit index }
+{
+    index == 96
 }
 
 /// Whether the primitive is one of input, the clock, the display and the transcript.
@@ -91,14 +91,14 @@ pub(crate) fn try_primitive<M: ObjectMemory>(
     ensures lender { M.lender m.new ≡ M.lender m.old }
     ensures outside { M.outside m.new ≡ M.outside m.old }
 {
-    if is_unbuilt(index) {
-        return Err(Stop::NotBuilt);
-    }
     if is_control(index) {
         return prims_control::run(m, cpu, index);
     }
     if is_process(index) {
         return process_sched::run(m, cpu, index);
+    }
+    if is_blit(index) {
+        return bitblt::run(m, cpu, index);
     }
     if is_device(index) {
         return devices::run(m, cpu, events, index);

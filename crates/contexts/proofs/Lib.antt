@@ -6,10 +6,12 @@ pub mod LookupLaws
 pub mod MakeLaws
 pub mod PartLaws
 pub mod PeekLaws
+pub mod PeekPairs
 pub mod ReadLaws
 pub mod RegisterLaws
 pub mod ServesLaws
 pub mod SpeaksLaws
 pub mod Steps
 pub mod StoreLaws
+pub mod TableLaws
 pub mod TrialLaws

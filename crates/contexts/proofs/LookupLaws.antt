@@ -5,7 +5,7 @@ use Rattle.long_names.specs.declared.value.Value.TheVariants.{Int, Ref}
 use Rattle.long_names.specs.declared.object.Object.{Object}
 use Rattle.blue_model.specs.declared.cause.Cause.{Cause}
 use Rattle.blue_model.specs.Indexes.{LONGEST_CHAIN}
-use Rattle.blue_model.specs.Machine.{Machine, LogRow, Outcome, Go, Halt, Spent, Unbuilt, Rule, log_of, after, then_do, ◌>>=◌, done, halt, unbuilt, given, pick, looked, look, part}
+use Rattle.blue_model.specs.Machine.{Machine, LogRow, Outcome, Go, Halt, Spent, Rule, log_of, after, then_do, ◌>>=◌, done, halt, given, pick, looked, look, part}
 use Rattle.blue_model.specs.Lookup.{method_at, find_in, found_or, find_from, lookup}
 use Rattle.contexts.specs.Cache.{IsRead}
 
@@ -15,7 +15,6 @@ use Rattle.contexts.specs.Cache.{IsRead}
 abbrev pub SameLook : {A : Type 0} → Machine → Machine → Outcome A → Outcome A → Type 0
 SameLook m s (Go a x log) (Go b y rows) = (a ≡ b) × (x ≡ m) × (y ≡ s) × ((n : ℕ) → IsRead n rows → IsRead n log)
 SameLook m s (Halt c log) (Halt d rows) = (c ≡ d) × ((n : ℕ) → IsRead n rows → IsRead n log)
-SameLook m s (Unbuilt log) (Unbuilt rows) = (n : ℕ) → IsRead n rows → IsRead n log
 SameLook m s _ _ = ⊥
 
 -- The rule changes nothing, and does the same over a heap that has the same objects wherever it looks.
@@ -46,27 +45,23 @@ read_first : {A : Type 0} (log : List LogRow) (o : Outcome A) (n : ℕ) → IsRe
 read_first log (Go b y rows) n h = IsRead-before n log rows h
 read_first log (Halt c rows) n h = IsRead-before n log rows h
 read_first log (Spent rows) n h = IsRead-before n log rows h
-read_first log (Unbuilt rows) n h = IsRead-before n log rows h
 
 -- and so is what was read after it
 read_last : {A : Type 0} (log : List LogRow) (o : Outcome A) (n : ℕ) → IsRead n (log_of o) → IsRead n (log_of (after log o))
 read_last log (Go b y rows) n h = IsRead-after n log rows h
 read_last log (Halt c rows) n h = IsRead-after n log rows h
 read_last log (Spent rows) n h = IsRead-after n log rows h
-read_last log (Unbuilt rows) n h = IsRead-after n log rows h
 
 read_then : {A B : Type 0} (o : Outcome A) (k : A → Rule B) (n : ℕ) → IsRead n (log_of o) → IsRead n (log_of (then_do o k))
 read_then (Go a x log) k n h = read_first log (k a x) n h
 read_then (Halt c log) k n h = h
 read_then (Spent log) k n h = h
-read_then (Unbuilt log) k n h = h
 
 -- ---- the combinators
 
 SameLook-after : {A : Type 0} (m s : Machine) (xs ys : List LogRow) (a b : Outcome A) → ((n : ℕ) → IsRead n ys → IsRead n xs) → SameLook m s a b → SameLook m s (after xs a) (after ys b)
 SameLook-after m s xs ys (Go a x log) (Go b y rows) f h = (h.0, h.1, h.2, read_both xs ys log rows f h.3)
 SameLook-after m s xs ys (Halt c log) (Halt d rows) f h = (h.0, read_both xs ys log rows f h.1)
-SameLook-after m s xs ys (Unbuilt log) (Unbuilt rows) f h = read_both xs ys log rows f h
 SameLook-after m s xs ys _ _ f h = absurd h
 
 SameLook-then : {A B : Type 0} (m s : Machine) (a b : Outcome A) (k : A → Rule B) → SameLook m s a b → ((x : A) → OnlyLooks (k x)) → ((n : ℕ) → IsRead n (log_of (then_do a k)) → s.heap.at n ≡ m.heap.at n) → SameLook m s (then_do a k) (then_do b k)
@@ -77,7 +72,6 @@ SameLook-then {A} {B} m s (Go a x log) (Go b y rows) k h f same =
     let third : SameLook m s (k a x) (k b y) = subst (λ (z : A). SameLook m s (k a x) (k z y)) h.0 second in
     SameLook-after m s log rows (k a x) (k b y) h.3 third
 SameLook-then m s (Halt c log) (Halt d rows) k h f same = h
-SameLook-then m s (Unbuilt log) (Unbuilt rows) k h f same = h
 SameLook-then m s _ _ k h f same = absurd h
 
 pub looks_then : {A B : Type 0} {p : Rule A} (k : A → Rule B) → OnlyLooks p → ((a : A) → OnlyLooks (k a)) → OnlyLooks (p >>= k)
@@ -91,10 +85,6 @@ looks_done a = record { looks = λ m s same. (refl, refl, refl, λ n r. r) }
 pub looks_halt : {A : Type 0} (c : Cause) → OnlyLooks {A = A} (halt c)
 unfolding halt
 looks_halt c = record { looks = λ m s same. (refl, λ n r. r) }
-
-pub looks_unbuilt : {A : Type 0} → OnlyLooks {A = A} unbuilt
-unfolding unbuilt
-looks_unbuilt = record { looks = λ m s same. λ n r. r }
 
 pub looks_given : {A : Type 0} (c : Cause) (o : Option A) → OnlyLooks (given c o)
 unfolding given
@@ -123,7 +113,7 @@ pub looks_part : {A : Type 0} (c : Cause) (f : Object → Option A) (v : Value) 
 unfolding part
 looks_part c f v = looks_then _ (looks_look v) (λ o. looks_given c (f o))
 
-ruleset looking = (looks_then, looks_done, looks_halt, looks_unbuilt, looks_given, looks_pick, looks_look, looks_part)
+ruleset looking = (looks_then, looks_done, looks_halt, looks_given, looks_pick, looks_look, looks_part)
 
 -- ---- the lookup
 

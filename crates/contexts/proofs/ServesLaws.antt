@@ -1,5 +1,5 @@
 -- Laws of serving: two calls in a row serve two rules in a row, and a call that stopped serves whatever was to follow.
-use Rattle.std.proofs.Common.{◌≡◌, ℕ, ◌+◌, ◌≤◌, List, [], ◌∷◌, ◌++◌, append-nil, Option, Some, None, Result, Ok, Err, OnOk, inl, inr, refl, sym, ◌∙◌, ap, subst, arith}
+use Rattle.std.proofs.Common.{◌≡◌, ℕ, ◌+◌, ◌≤◌, List, [], ◌∷◌, ◌++◌, append-nil, Option, Some, None, Result, Ok, Err, OnOk, IsTrue, inl, inr, refl, sym, ◌∙◌, ap, subst, arith}
 use Rattle.std.specs.Result.{IsErrAnd}
 use Rattle.std.proofs.lemmas.Result.{err_from_is_err_and}
 use Rattle.long_names.specs.Counting.{Rose}
@@ -10,9 +10,9 @@ use Rattle.object_memory.specs.Told.{Told, Bounds}
 use Rattle.object_memory.specs.Contract.{ForBounds, SameBounds, IsLater, Raised, work_faults, said_faults}
 use Rattle.object_memory.proofs.LaterLaws.{IsLater-trans, Raised-refl, Raised-then}
 use Rattle.blue_model.specs.declared.cpu.Cpu.{Cpu}
-use Rattle.blue_model.specs.Machine.{Machine, LogRow, Outcome, Go, Halt, Spent, Unbuilt, Rule, log_of, after, then_do, ◌>>=◌}
+use Rattle.blue_model.specs.Machine.{Machine, LogRow, Outcome, Go, Halt, Spent, Rule, log_of, after, then_do, ◌>>=◌}
 use Rattle.contexts.specs.declared.stop.Stop.{Stop}
-use Rattle.contexts.specs.declared.stop.Stop.TheVariants.{Stuck, Mem, NotBuilt}
+use Rattle.contexts.specs.declared.stop.Stop.TheVariants.{Stuck, Mem}
 use Rattle.contexts.specs.Serves.{Stands, IsLogged, HasMaking, IsGo, MaySay, Allows, AllowsAs, Gives, GivesAs, WasFull, IsCounted, IsCaused, HasReason, SaidNothing, Says, ServesAs, Serves}
 
 -- ---- counts
@@ -66,7 +66,6 @@ IsCaused-earlier a b c Memory l n q = q
 pub HasReason-earlier : {A : Type 0} (a b c : Told) (r : Result A Stop) → IsLater a b → HasCounted a b → HasReason b c r → HasReason a c r
 HasReason-earlier a b c (Ok x) l n q = tt
 HasReason-earlier a b c (Err (Stuck d)) l n q = tt
-HasReason-earlier a b c (Err NotBuilt) l n q = tt
 HasReason-earlier a b c (Err (Mem f)) l n q = record { rose = Rose-earlier a.refusals b.refusals c.refusals l.refusals q.rose; last = q.last; cause = IsCaused-earlier a b c f l n q.cause }
 
 -- ---- what was said
@@ -81,7 +80,6 @@ says_later None a b c r l p q = said_nothing a b c l p q
 says_later (Some x) a b c (Ok y) l p (inl e) = inl e
 says_later (Some x) a b c (Ok y) l p (inr q) = inr (said_nothing a b c l p q)
 says_later (Some x) a b c (Err (Stuck d)) l p q = said_nothing a b c l p q
-says_later (Some x) a b c (Err NotBuilt) l p q = said_nothing a b c l p q
 says_later (Some x) a b c (Err (Mem (Said count))) l p q = λ speaks. (let it = q (l.speaks ∙ speaks) in (it.0, it.1 ∙ ap (λ (t : List ℕ). t ++ it.0) (p speaks)))
 says_later (Some x) a b c (Err (Mem (CoreFull need))) l p q = said_nothing a b c l p q
 says_later (Some x) a b c (Err (Mem (WorkFull live room))) l p q = said_nothing a b c l p q
@@ -95,7 +93,6 @@ pub says_quietly : {A : Type 0} (w : Option A) (old new : Told) (r : Result A St
 says_quietly None old new r h = h
 says_quietly (Some x) old new (Ok y) h = inr h
 says_quietly (Some x) old new (Err (Stuck c)) h = h
-says_quietly (Some x) old new (Err NotBuilt) h = h
 says_quietly (Some x) old new (Err (Mem (Said count))) h = λ speaks. ([], h speaks ∙ sym (append-nil old.transcript))
 says_quietly (Some x) old new (Err (Mem (CoreFull need))) h = h
 says_quietly (Some x) old new (Err (Mem (WorkFull live room))) h = h
@@ -128,7 +125,6 @@ log_after : {A : Type 0} (rows : List LogRow) (o : Outcome A) → log_of (after 
 log_after rows (Go a m log) = refl
 log_after rows (Halt c log) = refl
 log_after rows (Spent log) = refl
-log_after rows (Unbuilt log) = refl
 
 -- ---- rows that came before change no answer
 
@@ -136,14 +132,12 @@ go_after : {A : Type 0} (rows : List LogRow) (a : A) (P : Machine → Type 0) (o
 go_after rows a P (Go b m log) h = h
 go_after rows a P (Halt c log) h = h
 go_after rows a P (Spent log) h = h
-go_after rows a P (Unbuilt log) h = h
 
 says_after : {A : Type 0} (w : Option A) (t : Told) (rows : List LogRow) (o : Outcome A) → MaySay w t o → MaySay w t (after rows o)
 says_after None t rows o h = h
 says_after (Some b) t rows (Go a m log) h = h
 says_after (Some b) t rows (Halt c log) h = h
 says_after (Some b) t rows (Spent log) h = h
-says_after (Some b) t rows (Unbuilt log) h = h
 
 allows_after : {A : Type 0} (w : Option A) (t : Told) (rows : List LogRow) (f : MemFault) (o : Outcome A) → AllowsAs w t f o → AllowsAs w t f (after rows o)
 allows_after w t rows (CoreFull need) o h = subst (IsLogged need) (sym (log_after rows o)) (IsLogged-after need rows (log_of o) h)
@@ -153,7 +147,6 @@ allows_after w t rows (Damaged place name) o h = absurd h
 allows_after w t rows NamesSpent (Go a m log) h = absurd h
 allows_after w t rows NamesSpent (Halt c log) h = absurd h
 allows_after w t rows NamesSpent (Spent log) h = tt
-allows_after w t rows NamesSpent (Unbuilt log) h = absurd h
 allows_after w t rows (Said count) o h = says_after w t rows o h
 allows_after w t rows Memory o h = tt
 
@@ -163,11 +156,6 @@ Gives-after w t cpu rows o (Err (Mem f)) h = allows_after w t rows f o h
 Gives-after w t cpu rows (Go a m log) (Err (Stuck d)) h = absurd h
 Gives-after w t cpu rows (Halt c log) (Err (Stuck d)) h = h
 Gives-after w t cpu rows (Spent log) (Err (Stuck d)) h = absurd h
-Gives-after w t cpu rows (Unbuilt log) (Err (Stuck d)) h = absurd h
-Gives-after w t cpu rows (Go a m log) (Err NotBuilt) h = absurd h
-Gives-after w t cpu rows (Halt c log) (Err NotBuilt) h = absurd h
-Gives-after w t cpu rows (Spent log) (Err NotBuilt) h = absurd h
-Gives-after w t cpu rows (Unbuilt log) (Err NotBuilt) h = h
 
 -- ---- a rule that may say something, and says nothing
 
@@ -183,7 +171,6 @@ allows_quietly w t Memory o h = tt
 gives_quietly : {A : Type 0} (w : Option A) (t : Told) (cpu : Cpu) (r : Result A Stop) (o : Outcome A) → Gives t cpu r o → GivesAs w t cpu r o
 gives_quietly w t cpu (Ok a) o h = h
 gives_quietly w t cpu (Err (Stuck c)) o h = h
-gives_quietly w t cpu (Err NotBuilt) o h = h
 gives_quietly w t cpu (Err (Mem f)) o h = allows_quietly w t f o h
 
 -- ---- a rule after another
@@ -193,19 +180,16 @@ pub Gives-then : {A B : Type 0} (w : Option B) (mid new : Told) (cpu now : Cpu) 
 Gives-then w mid new cpu now (Go b m log) k a r h next = Gives-after w new now log (k b m) r (subst (λ x. GivesAs w new now r (k x m)) (sym h.0) (next m h.1))
 Gives-then w mid new cpu now (Halt c log) k a r h next = absurd h
 Gives-then w mid new cpu now (Spent log) k a r h next = absurd h
-Gives-then w mid new cpu now (Unbuilt log) k a r h next = absurd h
 
 logged_then : {A B : Type 0} (need : Need) (o : Outcome A) (k : A → Rule B) → IsLogged need (log_of o) → IsLogged need (log_of (then_do o k))
 logged_then need (Go b m log) k h = subst (IsLogged need) (sym (log_after log (k b m))) (IsLogged-before need log (log_of (k b m)) h)
 logged_then need (Halt c log) k h = h
 logged_then need (Spent log) k h = h
-logged_then need (Unbuilt log) k h = h
 
 making_then : {A B : Type 0} (n : ℕ) (o : Outcome A) (k : A → Rule B) → HasMaking n (log_of o) → HasMaking n (log_of (then_do o k))
 making_then n (Go b m log) k h = subst (HasMaking n) (sym (log_after log (k b m))) (HasMaking-before n log (log_of (k b m)) h)
 making_then n (Halt c log) k h = h
 making_then n (Spent log) k h = h
-making_then n (Unbuilt log) k h = h
 
 allows_then : {A B : Type 0} (w : Option B) (new : Told) (o : Outcome A) (k : A → Rule B) (f : MemFault) → Allows new f o → AllowsAs w new f (then_do o k)
 allows_then w new o k (CoreFull need) h = logged_then need o k h
@@ -215,7 +199,6 @@ allows_then w new o k (Damaged place name) h = absurd h
 allows_then w new (Go b m log) k NamesSpent h = absurd h
 allows_then w new (Halt c log) k NamesSpent h = absurd h
 allows_then w new (Spent log) k NamesSpent h = tt
-allows_then w new (Unbuilt log) k NamesSpent h = absurd h
 allows_then w new o k (Said count) h = absurd h
 allows_then w new o k Memory h = tt
 
@@ -225,11 +208,6 @@ Gives-stop w new now o k (Mem f) h = allows_then w new o k f h
 Gives-stop w new now (Go b m log) k (Stuck c) h = absurd h
 Gives-stop w new now (Halt d log) k (Stuck c) h = h
 Gives-stop w new now (Spent log) k (Stuck c) h = absurd h
-Gives-stop w new now (Unbuilt log) k (Stuck c) h = absurd h
-Gives-stop w new now (Go b m log) k NotBuilt h = absurd h
-Gives-stop w new now (Halt d log) k NotBuilt h = absurd h
-Gives-stop w new now (Spent log) k NotBuilt h = absurd h
-Gives-stop w new now (Unbuilt log) k NotBuilt h = h
 
 -- ---- the laws
 
@@ -259,7 +237,6 @@ serves_then {A} {B} {w} {old} {mid} {new} {cpu} {between} {now} {p} k {a} {answe
 -- the reason of a stop names no rule
 pub reason_other : (A B : Type 0) (old new : Told) (e : Stop) → HasReason {A = A} old new (Err e) → HasReason {A = B} old new (Err e)
 reason_other A B old new (Stuck c) h = tt
-reason_other A B old new NotBuilt h = tt
 reason_other A B old new (Mem f) h = h
 
 -- a call that stopped serves whatever was to follow
@@ -285,3 +262,14 @@ pub exits : {A : Type 0} {w : Option A} {old new : Told} {cpu now : Cpu} {rule :
 exits {A} {w} {old} {new} {cpu} {now} {rule} {e} r is s =
     let q = err_from_is_err_and r is in
     subst (λ x. ServesAs w old cpu new now rule x) (sym (q.1 ∙ ap (λ y. Err y) q.2)) s
+
+-- a rule that comes to the same, machine by machine
+pub by_model : {A : Type 0} {old new : Told} {cpu now : Cpu} {r : Result A Stop} (p q : Rule A) → ((m : Machine) → IsTrue old.tells → Stands old cpu m → Gives new now r (p m) → Gives new now r (q m)) → Serves old cpu new now p r → Serves old cpu new now q r
+by_model {A} {old} {new} {cpu} {now} {r} p q step s = record {
+  later = s.later;
+  ready = s.ready;
+  reason = s.reason;
+  counts = s.counts;
+  silent = s.silent;
+  model = λ told m st. step m told st (s.model told m st);
+}

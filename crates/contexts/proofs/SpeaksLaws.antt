@@ -17,9 +17,9 @@ use Rattle.object_memory.proofs.LaterLaws.{IsLater-refl, IsLater-trans}
 use Rattle.object_memory.proofs.LeftLaws.{heap_over}
 use Rattle.blue_model.specs.declared.cause.Cause.TheVariants.{Shape}
 use Rattle.blue_model.specs.declared.cpu.Cpu.{Cpu}
-use Rattle.blue_model.specs.Machine.{Machine, LogRow, Outcome, Go, Halt, Spent, Unbuilt, Rule, rows_at, log_of, after, then_do, ◌>>=◌, done, pick, clear, numbers, set_numbers, spoken, say}
+use Rattle.blue_model.specs.Machine.{Machine, LogRow, Outcome, Go, Halt, Spent, Rule, rows_at, log_of, after, then_do, ◌>>=◌, done, pick, clear, numbers, set_numbers, spoken, say}
 use Rattle.contexts.specs.declared.stop.Stop.{Stop}
-use Rattle.contexts.specs.declared.stop.Stop.TheVariants.{Stuck, Mem, NotBuilt}
+use Rattle.contexts.specs.declared.stop.Stop.TheVariants.{Stuck, Mem}
 use Rattle.contexts.specs.Serves.{Stands, IsLogged, IsGo, WasSaying, AllowsAs, Gives, GivesAs, SaidNothing, Says, SaysLast, ServesAs, Serves, Speaks}
 use Rattle.contexts.proofs.CacheLaws.{sound_follows}
 use Rattle.contexts.proofs.ServesLaws.{counts_trans, said_nothing, reason_other, Gives-then, Gives-stop, serves_then, speaks_quiet}
@@ -77,13 +77,11 @@ goes_then {A} {B} {p} k {a} {c} first rest = record { leaves = λ m. go m (p m) 
     onward m n log (Go d s rows) e g = (g.0, g.1 ∙ e)
     onward m n log (Halt d rows) e g = g
     onward m n log (Spent rows) e g = g
-    onward m n log (Unbuilt rows) e g = g
 
     go : (m : Machine) (o : Outcome A) → IsGo a (λ n. n.transcript ≡ m.transcript) o → IsGo c (λ s. s.transcript ≡ m.transcript) (then_do o k)
     go m (Go b n log) g = onward m n log (k b n) g.1 (subst (λ x. IsGo c (λ s. s.transcript ≡ n.transcript) (k x n)) (sym g.0) (rest.leaves n))
     go m (Halt d log) g = absurd g
     go m (Spent log) g = absurd g
-    go m (Unbuilt log) g = absurd g
 
 pub goes_false : {A : Type 0} (b : Bool) (p q : Rule A) {c : A} → b ≡ false → GoesOn c q → GoesOn c (pick b p q)
 unfolding pick
@@ -97,7 +95,6 @@ goes_numbers {A} k {c} rest = record { leaves = λ m. go m (k m.cpu m) ((rest m.
     go m (Go d n rows) g = g
     go m (Halt d rows) g = g
     go m (Spent rows) g = g
-    go m (Unbuilt rows) g = g
 
 pub goes_set_numbers : (cpu : Cpu) → GoesOn (tt {0}) (set_numbers cpu)
 unfolding set_numbers
@@ -106,7 +103,6 @@ goes_set_numbers cpu = record { leaves = λ m. (refl, refl) }
 -- what was said before a stop
 says_other : {A B : Type 0} (b : A) (c : B) (old new : Told) (e : Stop) → Says (Some b) old new (Err e) → Says (Some c) old new (Err e)
 says_other b c old new (Stuck d) h = h
-says_other b c old new NotBuilt h = h
 says_other b c old new (Mem (CoreFull need)) h = h
 says_other b c old new (Mem (WorkFull live room)) h = h
 says_other b c old new (Mem (WorkFault count)) h = h
@@ -123,10 +119,8 @@ said_then {A} {B} b c new (Go a m log) k rest h = onward (k a m) (subst (λ x. I
     onward (Go d s rows) g = (g.0, λ speaks. (let it = h.1 speaks in (it.0, g.1 ∙ it.1)))
     onward (Halt d rows) g = absurd g
     onward (Spent rows) g = absurd g
-    onward (Unbuilt rows) g = absurd g
 said_then b c new (Halt d log) k rest h = absurd h
 said_then b c new (Spent log) k rest h = absurd h
-said_then b c new (Unbuilt log) k rest h = absurd h
 
 gives_said : {A B : Type 0} (b : A) (c : B) (new : Told) (now : Cpu) (o : Outcome A) (k : A → Rule B) (e : Stop) → GoesOn c (k b) → GivesAs (Some b) new now (Err e) o → GivesAs (Some c) new now (Err e) (then_do o k)
 gives_said b c new now o k (Mem (Said count)) rest h = said_then b c new o k rest h
@@ -137,7 +131,6 @@ gives_said b c new now o k (Mem (Damaged place name)) rest h = absurd h
 gives_said b c new now o k (Mem NamesSpent) rest h = Gives-stop (Some c) new now o k (Mem NamesSpent) h
 gives_said b c new now o k (Mem Memory) rest h = tt
 gives_said b c new now o k (Stuck d) rest h = Gives-stop (Some c) new now o k (Stuck d) h
-gives_said b c new now o k NotBuilt rest h = Gives-stop (Some c) new now o k NotBuilt h
 
 -- A call that stopped, maybe while it said something: the rest, after what it answers then, goes on to c and says nothing.
 pub speaks_stop : {A B : Type 0} {b : A} {c : B} {old new : Told} {cpu now : Cpu} {p : Rule A} (k : A → Rule B) {e : Stop} → Speaks b old cpu new now p (Err e) → GoesOn c (k b) → Speaks c old cpu new now (p >>= k) (Err e)

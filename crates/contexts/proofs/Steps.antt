@@ -14,9 +14,9 @@ use Rattle.object_memory.proofs.LaterLaws.{SameBounds-refl, IsLater-refl, IsLate
 use Rattle.object_memory.proofs.LooksLaws.{below_among}
 use Rattle.blue_model.specs.declared.cause.Cause.{Cause}
 use Rattle.blue_model.specs.declared.cpu.Cpu.{Cpu}
-use Rattle.blue_model.specs.Machine.{Machine, MACHINE_REGISTERS, Outcome, Go, Halt, Spent, Unbuilt, Rule, then_do, ◌>>=◌, done, halt, unbuilt, given, pick, register, clear, numbers, set_numbers, times, each}
+use Rattle.blue_model.specs.Machine.{Machine, MACHINE_REGISTERS, Outcome, Go, Halt, Spent, Rule, then_do, ◌>>=◌, done, halt, given, pick, register, clear, numbers, set_numbers, times, each}
 use Rattle.contexts.specs.declared.stop.Stop.{Stop}
-use Rattle.contexts.specs.declared.stop.Stop.TheVariants.{Stuck, NotBuilt}
+use Rattle.contexts.specs.declared.stop.Stop.TheVariants.{Stuck}
 use Rattle.contexts.specs.Cache.{IsSound}
 use Rattle.contexts.specs.Serves.{Stands, IsGo, Gives, GivesAs, IsCounted, ServesAs, Serves}
 use Rattle.contexts.proofs.ServesLaws.{IsCounted-refl, IsCounted-trans, counts_trans, HasReason-earlier, says_later, says_quietly, Gives-after, serves_then, serves_stop, serves_exit}
@@ -34,10 +34,6 @@ done_same {A} {w} {t} {cpu} {a} {b} e ready = subst (λ x. ServesAs w t cpu t cp
 pub halt_serves : {A : Type 0} {w : Option A} {t : Told} {cpu : Cpu} {c : Cause} → ServesAs w t cpu t cpu (halt c) (Err (Stuck c))
 unfolding halt
 halt_serves {A} {w} {t} {cpu} {c} = record { later = IsLater-refl t; ready = tt; reason = tt; counts = tt; silent = says_quietly w t t (Err (Stuck c)) (λ speaks. refl); model = λ told m st. refl }
-
-pub unbuilt_serves : {A : Type 0} {w : Option A} {t : Told} {cpu : Cpu} → ServesAs w t cpu t cpu unbuilt (Err NotBuilt)
-unfolding unbuilt
-unbuilt_serves {A} {w} {t} {cpu} = record { later = IsLater-refl t; ready = tt; reason = tt; counts = tt; silent = says_quietly w t t (Err NotBuilt) (λ speaks. refl); model = λ told m st. tt }
 
 -- ---- registers and numbers
 
@@ -166,7 +162,7 @@ pub pick_by_false : {A : Type 0} {w : Option A} {t new : Told} {cpu now : Cpu} (
 pick_by_false b p q e s = pick_false b p q e (s e)
 
 -- the laws by which a rule is followed
-pub ruleset serving = (register_then, numbers_then, serves_then, serves_stop, serves_exit, pick_true, pick_false, pick_by_true, pick_by_false, set_numbers_at, done_serves, halt_serves, unbuilt_serves)
+pub ruleset serving = (register_then, numbers_then, serves_then, serves_stop, serves_exit, pick_true, pick_false, pick_by_true, pick_by_false, set_numbers_at, done_serves, halt_serves)
 
 -- ---- loops
 
@@ -294,22 +290,10 @@ read_last {B} {old} {mid} {new} {cpu} {now} {rule} {a} s q = record {
     step (Go b m log) told g = (g.0, stands_quietly mid new now m s.ready q told g.1)
     step (Halt c log) told g = g
     step (Spent log) told g = g
-    step (Unbuilt log) told g = g
 
 -- also where it was stuck,
 pub stuck_last : {B : Type 0} {old mid new : Told} {cpu now : Cpu} {rule : Rule B} {c : Cause} → Serves old cpu mid now rule (Err (Stuck c)) → IsQuiet mid new → Serves old cpu new now rule (Err (Stuck c))
 stuck_last {B} {old} {mid} {new} {cpu} {now} {rule} {c} s q = record {
-  later = IsLater-trans old mid new s.later q.later;
-  ready = tt;
-  reason = tt;
-  counts = tt;
-  silent = λ speaks. q.silent (s.later.speaks ∙ speaks) ∙ s.silent speaks;
-  model = s.model;
-}
-
--- or came to what isn't built yet.
-pub unbuilt_last : {B : Type 0} {old mid new : Told} {cpu now : Cpu} {rule : Rule B} → Serves old cpu mid now rule (Err NotBuilt) → IsQuiet mid new → Serves old cpu new now rule (Err NotBuilt)
-unbuilt_last {B} {old} {mid} {new} {cpu} {now} {rule} s q = record {
   later = IsLater-trans old mid new s.later q.later;
   ready = tt;
   reason = tt;

@@ -4,7 +4,7 @@ use Rattle.long_names.specs.declared.value.Value.{Value}
 use Rattle.long_names.specs.declared.value.Value.TheVariants.{Ref}
 use Rattle.long_names.specs.Heap.{Heap}
 use Rattle.object_memory.specs.Told.{Cache}
-use Rattle.blue_model.specs.Machine.{Machine, LogRow, Outcome, Go, Halt, Spent, Unbuilt}
+use Rattle.blue_model.specs.Machine.{Machine, LogRow, Outcome, Go, Halt, Spent}
 use Rattle.blue_model.specs.Lookup.{lookup}
 
 -- the log has a row of this object
@@ -18,7 +18,6 @@ Finds marks method (Go None m log) = ⊥
 Finds marks method (Go (Some v) m log) = (v ≡ Ref method) × ((n : ℕ) → IsRead n log → marks n ≡ true)
 Finds marks method (Halt c log) = ⊥
 Finds marks method (Spent log) = ⊥
-Finds marks method (Unbuilt log) = ⊥
 
 -- the lookup of a selector from a class in this heap finds the method; class, selector and method are marked, too
 pub record IsLookup (h : Heap) (marks : ℕ → Bool) (class selector method : ℕ) : Type 0 where

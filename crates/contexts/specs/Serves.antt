@@ -1,5 +1,6 @@
 -- When what a memory did serves a rule of the model: read this first.
 use Rattle.std.specs.Prelude.{◌≡◌, ℕ, ◌+◌, ◌*◌, ◌<◌, ◌≤◌, ◌⊎◌, pos, Bool, true, false, List, [], ◌∷◌, ◌++◌, Option, Some, None, Result, Ok, Err, IsTrue, OnOk}
+use Rattle.std.specs.Option.{option_map}
 use Rattle.long_names.specs.Counting.{Rose}
 use Rattle.long_names.specs.Need.{Fits}
 use Rattle.long_names.specs.State.{REGISTERS, RECEIVER}
@@ -12,10 +13,10 @@ use Rattle.object_memory.specs.Told.{Told, Bounds, IsReady}
 use Rattle.object_memory.specs.Contract.{ForBounds, NoBounds, IsLater, Raised, work_faults, said_faults, LeavesAll}
 use Rattle.blue_model.specs.declared.cpu.Cpu.{Cpu}
 use Rattle.blue_model.specs.Cycle.{is_message}
-use Rattle.blue_model.specs.Machine.{Machine, MACHINE_REGISTERS, LogRow, Outcome, Go, Halt, Spent, Unbuilt, Rule, log_of}
+use Rattle.blue_model.specs.Machine.{Machine, MACHINE_REGISTERS, LogRow, Outcome, Go, Halt, Spent, Rule, log_of}
 use Rattle.contexts.specs.Cache.{IsSound}
 use Rattle.contexts.specs.declared.stop.Stop.{Stop}
-use Rattle.contexts.specs.declared.stop.Stop.TheVariants.{Stuck, Mem, NotBuilt}
+use Rattle.contexts.specs.declared.stop.Stop.TheVariants.{Stuck, Mem}
 
 -- ---- the machine that a memory stands for
 
@@ -52,18 +53,15 @@ abbrev pub IsGo : {A : Type 0} → A → (Machine → Type 0) → Outcome A → 
 IsGo a P (Go b m log) = (b ≡ a) × P m
 IsGo a P (Halt c log) = ⊥
 IsGo a P (Spent log) = ⊥
-IsGo a P (Unbuilt log) = ⊥
 
 abbrev pub IsSpent : {A : Type 0} → Outcome A → Type 0
 IsSpent (Go a m log) = ⊥
 IsSpent (Halt c log) = ⊥
 IsSpent (Spent log) = Unit {0}
-IsSpent (Unbuilt log) = ⊥
 
 -- the rule came to a stop that no memory has a part in
 abbrev pub IsStop : {A : Type 0} → Stop → Outcome A → Type 0
 IsStop (Stuck c) (Halt d log) = d ≡ c
-IsStop NotBuilt (Unbuilt log) = Unit {0}
 IsStop _ _ = ⊥
 
 -- The rule had said what it says, and went on with this answer: of what it has said by then, the memory has said the first part.
@@ -71,7 +69,6 @@ abbrev pub WasSaying : {A : Type 0} → A → Told → Outcome A → Type 0
 WasSaying b new (Go a m log) = (a ≡ b) × (IsTrue new.speaks → (rest : List ℕ) × (m.transcript ≡ new.transcript ++ rest))
 WasSaying b new (Halt c log) = ⊥
 WasSaying b new (Spent log) = ⊥
-WasSaying b new (Unbuilt log) = ⊥
 
 -- only where a rule may say something can a memory refuse to say it
 abbrev pub MaySay : {A : Type 0} → Option A → Told → Outcome A → Type 0
@@ -98,7 +95,6 @@ Allows new f o = AllowsAs None new f o
 abbrev pub GivesAs : {A : Type 0} → Option A → Told → Cpu → Result A Stop → Outcome A → Type 0
 GivesAs w new now (Ok a) o = IsGo a (Stands new now) o
 GivesAs w new now (Err (Stuck c)) o = IsStop (Stuck c) o
-GivesAs w new now (Err NotBuilt) o = IsStop NotBuilt o
 GivesAs w new now (Err (Mem f)) o = AllowsAs w new f o
 
 abbrev pub Gives : {A : Type 0} → Told → Cpu → Result A Stop → Outcome A → Type 0
@@ -134,7 +130,6 @@ pub record IsRefused (old new : Told) (f : MemFault) : Type 0 where
 abbrev pub HasReason : {A : Type 0} → Told → Told → Result A Stop → Type 0
 HasReason old new (Ok a) = Unit {0}
 HasReason old new (Err (Stuck c)) = Unit {0}
-HasReason old new (Err NotBuilt) = Unit {0}
 HasReason old new (Err (Mem f)) = IsRefused old new f
 
 -- ---- what was said
@@ -147,7 +142,6 @@ SaidNothing old new = IsTrue old.speaks → new.transcript ≡ old.transcript
 abbrev pub SaysLast : {A : Type 0} → A → Told → Told → Result A Stop → Type 0
 SaysLast b old new (Ok a) = (a ≡ b) ⊎ SaidNothing old new
 SaysLast b old new (Err (Stuck c)) = SaidNothing old new
-SaysLast b old new (Err NotBuilt) = SaidNothing old new
 SaysLast b old new (Err (Mem (Said count))) = IsTrue old.speaks → (z : List ℕ) × (new.transcript ≡ old.transcript ++ z)
 SaysLast b old new (Err (Mem f)) = SaidNothing old new
 
@@ -189,11 +183,15 @@ with_found (Ok true) a = Ok (Some a)
 with_found (Ok false) a = Ok None
 with_found (Err e) a = Err e
 
+-- the answer of a call that tells what it found, in the words of the model
+abbrev pub found_by : {A B : Type 0} → (A → B) → Result (Option A) Stop → Result (Option B) Stop
+found_by f (Ok found) = Ok (option_map f found)
+found_by f (Err e) = Err e
+
 -- sound after every answer but a fault that leaves nothing known
 abbrev pub StaysSound : {A : Type 0} → Result A Stop → Type 0 → Type 0
 StaysSound (Ok a) P = P
 StaysSound (Err (Stuck c)) P = P
-StaysSound (Err NotBuilt) P = P
 StaysSound (Err (Mem f)) P = LeavesAll f P
 
 -- ---- registers

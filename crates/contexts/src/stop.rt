@@ -12,8 +12,6 @@ pub enum Stop {
     Stuck(Cause),
     /// The memory refused an access.
     Mem(MemFault),
-    /// What comes next isn't built yet.
-    NotBuilt,
 }
 
 impl From<MemFault> for Stop {

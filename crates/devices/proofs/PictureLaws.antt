@@ -20,7 +20,7 @@ use Rattle.long_names.specs.Access.{answered, answer_of, ReadWords}
 use Rattle.long_names.specs.Access as access
 use Rattle.blue_model.specs.declared.cause.Cause.TheVariants.{Shape}
 use Rattle.blue_model.specs.declared.cpu.Cpu.{Cpu}
-use Rattle.blue_model.specs.Machine.{Outcome, Go, Halt, Spent, Unbuilt, Rule, done, part}
+use Rattle.blue_model.specs.Machine.{Outcome, Go, Halt, Spent, Rule, done, part}
 use Rattle.blue_model.specs.BitBlt.{words_in}
 use Rattle.blue_model.specs.Forms.{Form, row_words, bit, left_bit, pixel, padded_pixel, number_of, row_byte, row_bytes, picture_head, picture_text}
 use Rattle.blue_model.specs.Devices.{display_form, display_row, picture_of, picture}
@@ -83,19 +83,19 @@ unfolding words_in
 words_found has told = words_are has told
 
 -- what is read of them
-pub words_read : {t : Told} {P : List ℕ → Type 0} (at n : ℕ) (out : List ℕ) → HasPartAt t 11 words_of P → IsTrue t.tells → answer_of t.heap t.regs (ReadWords 11 at n) ≡ Some (access.OfRun out) → out ≡ take n (drop at (words_told t 11))
+pub words_read : {t : Told} {P : List ℕ → Type 0} (at n : ℕ) (out : List ℕ) → HasPartAt t 13 words_of P → IsTrue t.tells → answer_of t.heap t.regs (ReadWords 13 at n) ≡ Some (access.OfRun out) → out ≡ take n (drop at (words_told t 13))
 words_read {t} at n out has told answer =
     let read = sym (ap (answered (λ words. access.OfRun (take n (drop at words)))) (words_are has told)) ∙ answer in
     cc
 
 -- and stay after reads
-pub words_stay : (t u : Told) → IsReady u → Looks [] t u → IsTrue t.tells → words_told u 11 ≡ words_told t 11
-words_stay t u ready looks told = ap (λ x. unwrap_or x []) (part_looked [] t u 11 words_of ready looks refl told)
+pub words_stay : (t u : Told) → IsReady u → Looks [] t u → IsTrue t.tells → words_told u 13 ≡ words_told t 13
+words_stay t u ready looks told = ap (λ x. unwrap_or x []) (part_looked [] t u 13 words_of ready looks refl told)
 
 -- a row of those that are there
-pub row_there : (t u : Told) (width height y : ℕ) → IsReady u → Looks [] t u → HasRows t 11 (width, height) → y < height → HasWords u width y
+pub row_there : (t u : Told) (width height y : ℕ) → IsReady u → Looks [] t u → HasRows t 13 (width, height) → y < height → HasWords u width y
 row_there t u width height y ready looks rows low =
-    let all = has_looked [] t u 11 words_of (λ words. row_words width * height ≤ length words) ready looks refl rows in
+    let all = has_looked [] t u 13 words_of (λ words. row_words width * height ≤ length words) ready looks refl rows in
     let below : row_words width * y + row_words width ≤ row_words width * height = let scaled = mul-le-mul_left (row_words width) low in grind arith in
     record { name = all.name; there = λ told. (let it = all.there told in (it.0, it.1, (let enough = it.2 in omega arith))) }
 
@@ -119,16 +119,16 @@ done_told {A} {t} {cpu} a b ready same =
     let s : Serves t cpu t cpu (done a) (Ok a) = done_serves ready in
     record { later = s.later; ready = ready; reason = tt; counts = s.counts; silent = s.silent; model = λ told m st. (same told, st) }
 
-module _ {t u : Told} {cpu : Cpu} (width height : ℕ) (form : Serves t cpu u cpu display_form (Ok (form_in (Some (width, height)) (u.regs 11)))) (ready : IsReady u) where
-  pub drawn : (w : Told) (text : List ℕ) → IsReady w → Looks [] u w → HasRows u 11 (width, height) → (IsTrue u.tells → text ≡ picture_head width height ++ concat (map (row_bytes width (words_told u 11)) (range_with_len 0 height))) → Serves t cpu w cpu picture (Ok text)
+module _ {t u : Told} {cpu : Cpu} (width height : ℕ) (form : Serves t cpu u cpu display_form (Ok (form_in (Some (width, height)) (u.regs 13)))) (ready : IsReady u) where
+  pub drawn : (w : Told) (text : List ℕ) → IsReady w → Looks [] u w → HasRows u 13 (width, height) → (IsTrue u.tells → text ≡ picture_head width height ++ concat (map (row_bytes width (words_told u 13)) (range_with_len 0 height))) → Serves t cpu w cpu picture (Ok text)
   unfolding picture picture_text
   drawn w text later looks rows is =
-      serves_then picture_of form (serves_then _ (read_serves [] Shape words_in 11 (words_told u 11) refl ready later looks (words_found rows)) (done_told _ text later (λ told. sym (is (sym looks.later.tells ∙ told)))))
+      serves_then picture_of form (serves_then _ (read_serves [] Shape words_in 13 (words_told u 13) refl ready later looks (words_found rows)) (done_told _ text later (λ told. sym (is (sym looks.later.tells ∙ told)))))
 
-  drawn_stop : (v w : Told) (stop : Stop) → IsReady v → Looks [] u v → ((cpu : Cpu) → Serves v cpu w cpu (part Shape words_in (v.regs 11)) (Err stop)) → Serves t cpu w cpu picture (Err stop)
+  drawn_stop : (v w : Told) (stop : Stop) → IsReady v → Looks [] u v → ((cpu : Cpu) → Serves v cpu w cpu (part Shape words_in (v.regs 13)) (Err stop)) → Serves t cpu w cpu picture (Err stop)
   unfolding picture
   drawn_stop v w stop later looks s =
-      serves_then picture_of form (serves_stop _ (read_first ready (quiet [] u v refl ready later looks) (subst (λ (x : Value). Serves v cpu w cpu (part Shape words_in x) (Err stop)) (looks.regs 11 refl) (s cpu))))
+      serves_then picture_of form (serves_stop _ (read_first ready (quiet [] u v refl ready later looks) (subst (λ (x : Value). Serves v cpu w cpu (part Shape words_in x) (Err stop)) (looks.regs 13 refl) (s cpu))))
 
   drawn_not : (v w : Told) → Looks [] u v → IsLater v w → SaidNothing v w → IsLater t w × SaidNothing t w
   drawn_not v w looks later silent =
@@ -201,10 +201,9 @@ row_missing {t} {u} {cpu} y width height bits form shown past = record {
     never (Go None m log) low goes = low
     never (Halt c log) low goes = low
     never (Spent log) low goes = low
-    never (Unbuilt log) low goes = low
 
 -- and it is drawn, or its bits can't be read
-pub row_drawn : {t u w : Told} {cpu : Cpu} (r : Result ℕ Stop) (out : List ℕ) (y width height : ℕ) → Serves t cpu u cpu display_form (Ok (form_in (Some (width, height)) (u.regs 11))) → Serves u cpu w cpu (part Shape words_in (u.regs 11)) (bits_found r (words_told u 11)) → (IsTrue u.tells → IfOk r (λ n. take n out ≡ row_bytes width (words_told u 11) y)) → Serves t cpu w cpu (display_row y) (front_found r out)
+pub row_drawn : {t u w : Told} {cpu : Cpu} (r : Result ℕ Stop) (out : List ℕ) (y width height : ℕ) → Serves t cpu u cpu display_form (Ok (form_in (Some (width, height)) (u.regs 13))) → Serves u cpu w cpu (part Shape words_in (u.regs 13)) (bits_found r (words_told u 13)) → (IsTrue u.tells → IfOk r (λ n. take n out ≡ row_bytes width (words_told u 13) y)) → Serves t cpu w cpu (display_row y) (front_found r out)
 unfolding display_row
 row_drawn (Ok n) out y width height form s is = serves_then _ form (given_then Shape (Some _) _ _ (λ told. refl) (serves_then _ s (done_told _ (take n out) s.ready (λ told. sym (is (sym s.later.tells ∙ told))))))
 row_drawn (Err e) out y width height form s is = serves_then _ form (given_then Shape (Some _) _ _ (λ told. refl) (serves_stop _ s))

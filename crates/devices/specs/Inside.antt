@@ -1,5 +1,5 @@
 -- What calls found, as the rules of the model say it, and rows that are read.
-use Rattle.std.specs.Prelude.{◌==◌, ◌+◌, ℕ, Bool, true, false, nat_le, ◌<◌, ◌≤◌, ◌*◌, length, List, [], ◌∷◌, take, drop, Option, Some, None, unwrap_or, Result, Ok, Err}
+use Rattle.std.specs.Prelude.{◌==◌, ◌+◌, ℕ, Bool, false, nat_le, ◌<◌, ◌≤◌, ◌*◌, length, List, [], ◌∷◌, take, drop, Option, Some, None, unwrap_or, Result, Ok, Err}
 use Rattle.long_names.specs.declared.value.Value.{Value}
 use Rattle.long_names.specs.declared.object.Kind.{Kind}
 use Rattle.long_names.specs.declared.object.Kind.TheVariants as kind
@@ -43,20 +43,6 @@ due_at events place count = is_first count (drop place events)
 
 -- ---- forms
 
--- a value that a register has where something was found
-abbrev pub found_in : Bool → Value → Option Value
-found_in true v = Some v
-found_in false v = None
-
--- columns and rows, as the model has them
-abbrev pub extent_in : Option (ℕ × ℕ) → Option model.Extent
-extent_in None = None
-extent_in (Some e) = Some (record { width = e.0; height = e.1 })
-
-abbrev pub extent_found : Result (Option (ℕ × ℕ)) Stop → Result (Option model.Extent) Stop
-extent_found (Ok e) = Ok (extent_in e)
-extent_found (Err stop) = Err stop
-
 -- a form of so many columns and rows, with these bits
 abbrev pub form_in : Option (ℕ × ℕ) → Value → Option model.Form
 form_in None bits = None
@@ -84,9 +70,9 @@ words_told t r = unwrap_or (part_at t.heap (t.regs r) words_of) []
 abbrev pub row_at : ℕ → List ℕ → ℕ → List ℕ
 row_at width words y = take (row_words width) (drop (row_words width * y) words)
 
--- the words in SCRATCH_1 have this row
+-- the words in SCRATCH_3 have this row
 abbrev pub HasWords : Told → ℕ → ℕ → Type 0
-HasWords t width y = HasPartAt t 11 words_of (λ words. row_words width * y + row_words width ≤ length words)
+HasWords t width y = HasPartAt t 13 words_of (λ words. row_words width * y + row_words width ≤ length words)
 
 -- the bits that a row was taken of
 abbrev pub bits_found : Result ℕ Stop → List ℕ → Result (List ℕ) Stop
@@ -96,5 +82,5 @@ bits_found (Err e) words = Err e
 -- a row was read, or the stop is that of a look at the bits
 abbrev pub ReadsRow : Told → Told → Result (Unit {0}) PictureFault → Type 0
 ReadsRow old new (Ok u) = Looks [] old new
-ReadsRow old new (Err (fault.Stop stop)) = (cpu : Cpu) → Serves old cpu new cpu (part Shape words_in (old.regs 11)) (Err stop)
+ReadsRow old new (Err (fault.Stop stop)) = (cpu : Cpu) → Serves old cpu new cpu (part Shape words_in (old.regs 13)) (Err stop)
 ReadsRow old new (Err fault.Memory) = IsLater old new × SaidNothing old new

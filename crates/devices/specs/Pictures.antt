@@ -3,7 +3,7 @@ use Rattle.std.specs.Prelude.{◌<◌, ℕ, List, take, Option, Some, None, Resu
 use Rattle.object_memory.specs.Told.{Told}
 use Rattle.object_memory.specs.Contract.{IsLater}
 use Rattle.blue_model.specs.declared.cpu.Cpu.{Cpu}
-use Rattle.blue_model.specs.Machine.{Machine, Outcome, Go, Halt, Spent, Unbuilt, Rule, ◌>>=◌, done}
+use Rattle.blue_model.specs.Machine.{Machine, Outcome, Go, Halt, Spent, Rule, ◌>>=◌, done}
 use Rattle.blue_model.specs.Forms.{Form}
 use Rattle.blue_model.specs.Devices.{display_form, picture}
 use Rattle.contexts.specs.declared.stop.Stop.{Stop}
@@ -28,7 +28,6 @@ HasRow y (Go (Some form) m log) = y < form.height
 HasRow y (Go None m log) = ⊥
 HasRow y (Halt c log) = ⊥
 HasRow y (Spent log) = ⊥
-HasRow y (Unbuilt log) = ⊥
 
 -- The display of each machine that the memory stands for has a form's shape, and this row.
 abbrev pub IsShown : Told → Cpu → ℕ → Type 0

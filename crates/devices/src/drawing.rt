@@ -1,4 +1,4 @@
-// The picture of the display: its rows as bytes, and the whole as a portable bitmap. The bits of the form are in SCRATCH_1.
+// The picture of the display: its rows as bytes, and the whole as a portable bitmap. The bits of the form are in SCRATCH_3.
 ghost use Rattle.std.specs.Prelude.{◌≡◌, ◌<◌, ◌≤◌, ◌++◌, ◌∷◌, [], IsTrue, OnOk, IfOk, IfSome, length, take};
 ghost use Rattle.object_memory.specs.Told.{IsReady};
 ghost use Rattle.object_memory.specs.Shape.{Looks};
@@ -26,12 +26,12 @@ const MOST_WORDS: usize = 1_024;
 
 const MOST_BYTES: usize = 2_048;
 
-/// How many columns and rows the form has that is the display, where it still has a form's shape. Its bits are loaded into SCRATCH_1.
+/// How many columns and rows the form has that is the display, where it still has a form's shape. Its bits are loaded into SCRATCH_3.
 fn display_form<M: ObjectMemory>(m: &mut M, cpu: &Cpu) -> Result<Option<(u32, u32)>, Stop>
     requires sound { M.sound m.old }
     requires ready { IsReady (M.told m.old) }
-    ensures serves { Serves (M.told m.old) cpu.now (M.told m.new) cpu.now model.display_form (form_found result ((M.told m.new).regs 11)) }
-    ensures rows { IfOk result (λ found. IfSome found (HasRows (M.told m.new) 11)) }
+    ensures serves { Serves (M.told m.old) cpu.now (M.told m.new) cpu.now model.display_form (form_found result ((M.told m.new).regs 13)) }
+    ensures rows { IfOk result (λ found. IfSome found (HasRows (M.told m.new) 13)) }
     ensures small { IfOk result (λ found. IfSome found IsSmall) }
     ensures ready { OnOk result (IsReady (M.told m.new)) }
     ensures sound { StaysSound result (M.sound m.new) }
@@ -41,7 +41,7 @@ fn display_form<M: ObjectMemory>(m: &mut M, cpu: &Cpu) -> Result<Option<(u32, u3
     if !cpu.display {
         return Ok(None);
     }
-    m.copy(Reg::SCRATCH_0, Reg::DISPLAY);
+    m.copy(Reg::SCRATCH_1, Reg::DISPLAY);
     form_of(m)
 }
 
@@ -68,8 +68,8 @@ fn read_row<M: ObjectMemory>(m: &mut M, width: u32, y: u32, words: &mut [u16]) -
     requires words { length words.old ≡ forms.row_words width }
     requires width { width < 16384 }
     requires height { y < 16384 }
-    ensures serves { (cpu : Numbers) → Serves (M.told m.old) cpu (M.told m.new) cpu (part Shape words_in ((M.told m.old).regs 11)) (with_value result (words_told (M.told m.old) 11)) }
-    ensures words { IsTrue (M.told m.old).tells → OnOk result (words.new ≡ row_at width (words_told (M.told m.old) 11) y) }
+    ensures serves { (cpu : Numbers) → Serves (M.told m.old) cpu (M.told m.new) cpu (part Shape words_in ((M.told m.old).regs 13)) (with_value result (words_told (M.told m.old) 13)) }
+    ensures words { IsTrue (M.told m.old).tells → OnOk result (words.new ≡ row_at width (words_told (M.told m.old) 13) y) }
     ensures length { length words.new ≡ length words.old }
     ensures looks { OnOk result (Looks [] (M.told m.old) (M.told m.new)) }
     ensures ready { OnOk result (IsReady (M.told m.new)) }
@@ -77,7 +77,7 @@ fn read_row<M: ObjectMemory>(m: &mut M, width: u32, y: u32, words: &mut [u16]) -
     ensures lender { M.lender m.new ≡ M.lender m.old }
     ensures outside { M.outside m.new ≡ M.outside m.old }
 {
-    m.read_words(Reg::SCRATCH_1, width.div_ceil(16) * y, words)?;
+    m.read_words(Reg::SCRATCH_3, width.div_ceil(16) * y, words)?;
     Ok(())
 }
 
@@ -89,8 +89,8 @@ fn draw_row<M: ObjectMemory>(m: &mut M, width: u32, y: u32, out: &mut [u8]) -> R
     requires width { width < 16384 }
     requires height { y < 16384 }
     requires room { 2048 ≤ length out.old }
-    ensures serves { (cpu : Numbers) → Serves (M.told m.old) cpu (M.told m.new) cpu (part Shape words_in ((M.told m.old).regs 11)) (bits_found result (words_told (M.told m.old) 11)) }
-    ensures bytes { IsTrue (M.told m.old).tells → IfOk result (λ n. take n out.new ≡ forms.row_bytes width (words_told (M.told m.old) 11) y) }
+    ensures serves { (cpu : Numbers) → Serves (M.told m.old) cpu (M.told m.new) cpu (part Shape words_in ((M.told m.old).regs 13)) (bits_found result (words_told (M.told m.old) 13)) }
+    ensures bytes { IsTrue (M.told m.old).tells → IfOk result (λ n. take n out.new ≡ forms.row_bytes width (words_told (M.told m.old) 13) y) }
     ensures few { IfOk result (λ n. n ≤ 2048) }
     ensures length { length out.new ≡ length out.old }
     ensures looks { OnOk result (Looks [] (M.told m.old) (M.told m.new)) }
@@ -158,7 +158,7 @@ fn append_row<M: ObjectMemory>(
     requires width { width < 16384 }
     requires height { y < 16384 }
     ensures reads { ReadsRow (M.told m.old) (M.told m.new) result }
-    ensures text { IsTrue (M.told m.old).tells → OnOk result (text.new ≡ text.old ++ forms.row_bytes width (words_told (M.told m.old) 11) y) }
+    ensures text { IsTrue (M.told m.old).tells → OnOk result (text.new ≡ text.old ++ forms.row_bytes width (words_told (M.told m.old) 13) y) }
     ensures ready { OnOk result (IsReady (M.told m.new)) }
     ensures sound { DrawsSound result (M.sound m.new) }
     ensures lender { M.lender m.new ≡ M.lender m.old }

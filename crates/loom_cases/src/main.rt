@@ -72,6 +72,7 @@ const FILES: [&str; 54] = [
     "clocks.cases",
     "displays.cases",
     "transcripts.cases",
+    "blits.cases",
     "purges.cases",
     "kept.cases",
     "image_rules.cases",
@@ -80,7 +81,6 @@ const FILES: [&str; 54] = [
     "bytes_2_more.cases",
     "bytes_128_more.cases",
     "cuts.cases",
-    "not_built.cases",
     "wrong.cases",
 ];
 

@@ -11,7 +11,7 @@ mod compare;
 
 use crate::compare::difference;
 use image_builder::Builder;
-use sample_images::{HELLO_NEXT, NEXT, base, hello};
+use sample_images::{BLIT_NEXT, HELLO_NEXT, NEXT, base, blit, hello};
 use std::path::Path;
 use std::rt::Files;
 use std::{env, fs, io};
@@ -20,7 +20,8 @@ fn main(rt: HostRuntime) -> io::Result<()> {
     let word = env::args(&rt)?.nth(1).unwrap_or(String::new(rt.alloc()));
     let folder = Path::new(word.as_str());
     report(&rt, folder, "base.loom", &base(rt.alloc())?, NEXT)?;
-    report(&rt, folder, "hello.loom", &hello(rt.alloc())?, HELLO_NEXT)
+    report(&rt, folder, "hello.loom", &hello(rt.alloc())?, HELLO_NEXT)?;
+    report(&rt, folder, "blit.loom", &blit(rt.alloc())?, BLIT_NEXT)
 }
 
 // Prints how the image of a builder stands to the file of this name.

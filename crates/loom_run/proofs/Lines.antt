@@ -9,7 +9,7 @@ use Rattle.loom_run.specs.Top.{HasRun, Noted, NotedBy}
 use Rattle.long_names.specs.Counting.{Rose}
 use Rattle.loom_run.specs.Parts.{IsOfRun, IsTold, unsaid}
 use Rattle.loom_run.specs.declared.status.Status.{Status}
-use Rattle.loom_run.specs.declared.status.Status.TheVariants.{Done, Quit, Usage, ImageBad, EventsBad, Stuck, NamesSpent, ReadFault, WriteFault, OutOfMemory, NotBuilt}
+use Rattle.loom_run.specs.declared.status.Status.TheVariants.{Done, Quit, Usage, ImageBad, EventsBad, Stuck, NamesSpent, ReadFault, WriteFault, OutOfMemory}
 
 -- a whole line, and a cut one
 noted-whole : (line : List ℕ) (before now : Meanings) → now.roles Notes ≡ puts line (before.roles Notes) → Noted line before now
@@ -50,7 +50,6 @@ noted-told (WriteFault Display count) result steps before now of_run run told p 
 noted-told (WriteFault Transcript count) result steps before now of_run run told p = let own = noted-own _ _ _ _ refl told p in rw own.0 own.1
 noted-told (WriteFault Notes count) result steps before now of_run run told p = absurd (of_run refl)
 noted-told OutOfMemory result steps before now of_run run told p = let own = noted-own _ _ _ _ refl told p in rw own.0 own.1
-noted-told (NotBuilt ran) result steps before now of_run run told p = let own = noted-own _ _ _ _ refl told p in rw own.0 own.1
 
 -- what a run promises of Notes, where it answered this status before its line
 pub noted-run : {told : Bool} (status result : Status) (steps : ℕ) (before mid now : Meanings) → IsOfRun status → HasRun status steps → IsLeft Notes before mid → IsTold told status result mid now → IsTrue told → NotedBy result steps before now

@@ -1,6 +1,6 @@
 -- What the parts of a run answer, put together.
 use Rattle.std.specs.Prelude.{◌≢◌}
-use Rattle.std.proofs.Common.{◌≡◌, ℕ, Bool, true, false, List, [], ◌∷◌, Option, None, Result, Ok, Err, IsTrue, inl, inr, ◌⊎◌, refl, sym, ◌∙◌, ap, subst}
+use Rattle.std.proofs.Common.{◌≡◌, ℕ, Bool, true, false, List, [], ◌∷◌, None, Result, Ok, Err, IsTrue, inl, inr, refl, sym, ◌∙◌, ap, subst}
 use Rattle.std.specs.Prelude.{IfErr}
 use Rattle.std.specs.Result.{IsErrAnd}
 use Rattle.std.proofs.lemmas.Result.{err_from_is_err_and}
@@ -11,7 +11,6 @@ use Rattle.blue_model.specs.declared.step.Step.{Step}
 use Rattle.blue_model.specs.declared.step.Step.TheVariants.{Next, Quit}
 use Rattle.loom_run.specs.Meanings.{Meanings, LeavesBut}
 use Rattle.object_memory.specs.Told.{Told}
-use Rattle.contexts.specs.declared.stop.Stop.{Stop}
 use Rattle.loom_run.specs.declared.running.Finished.{Finished}
 use Rattle.loom_run.specs.declared.running.Halted.{Halted}
 use Rattle.loom_run.specs.declared.running.Reason.{Reason}
@@ -19,11 +18,11 @@ use Rattle.loom_run.specs.declared.running.Reason.TheVariants.{ByStop, NoMemory}
 use Rattle.loom_run.specs.declared.status.Status.{Status}
 use Rattle.event_file.specs.Text.{IsBadAt}
 use Rattle.event_file.proofs.OneReading.{none-bad}
-use Rattle.blue_model.specs.Cycle.{Ending, Stopping, ByCause, BySpentNames, ByUnbuilt, Parked, Stuck, ending}
+use Rattle.blue_model.specs.Cycle.{Ending, Stopping, ByCause, BySpentNames, Parked, Stuck, ending}
 use Rattle.loom_run.specs.Status.{usage_of}
 use Rattle.loom_run.specs.Top.{SaysRun, SavesRun, DrawsRun, RunsBy, SaysAllOrNothing, bytes_of, IsCaused, IsParked, JudgesImage, JudgesEvents, JudgesRun, IsOfMachine, RunOf, CanBeDone, IsDone}
 use Rattle.loom_run.specs.declared.status.Status.TheVariants as answer
-use Rattle.loom_run.specs.declared.status.Status.TheVariants.{Done, Usage, ImageBad, EventsBad, NamesSpent, ReadFault, WriteFault, OutOfMemory, NotBuilt}
+use Rattle.loom_run.specs.declared.status.Status.TheVariants.{Done, Usage, ImageBad, EventsBad, NamesSpent, ReadFault, WriteFault, OutOfMemory}
 use Rattle.loom_run.specs.Run.{HaltsAs, EndsAs, IsParkedBy, IsStuckBy, said_in}
 use Rattle.loom_run.specs.Parts.{StopsBy, SaysStopped, IsTold, unsaid, WasSaid, is_own_reason, is_spoken_by}
 
@@ -58,7 +57,6 @@ says_all (NamesSpent ran) e old new other is = is
 says_all (ReadFault role count) e old new other is = is
 says_all (WriteFault role count) e old new other is = absurd (other role count refl)
 says_all OutOfMemory e old new other is = inr is
-says_all (NotBuilt ran) e old new other is = is
 
 -- what was said where the run ended before its end
 pub says_stopped : (status : Status) (why : Reason) (ran : ℕ) (told : Told) (e : Ending) (old new : RoleState) → HaltsAs why ran told e → IsTrue told.speaks → ((role : Role) (count : ℕ) → status ≡ WriteFault role count → ⊥) → (is_own_reason why ≡ false → status ≡ OutOfMemory) → WasSaid (is_own_reason why) told.transcript old new → SaysStopped status e old new
@@ -96,8 +94,6 @@ done_by image events steps before now (answer.Stuck cause_number ran) usage caus
     let r = run tt in absurd (not_stuck (ByCause r.run.0) ran (ending r.lines steps r.heap) (can.runs r.heap r.lines r.is r.text r.list) r.run.1)
 done_by image events steps before now (answer.NamesSpent ran) usage cause of_image of_events run can =
     let r = run tt in absurd (not_stuck BySpentNames ran (ending r.lines steps r.heap) (can.runs r.heap r.lines r.is r.text r.list) r.run)
-done_by image events steps before now (answer.NotBuilt ran) usage cause of_image of_events run can =
-    let r = run tt in absurd (not_stuck ByUnbuilt ran (ending r.lines steps r.heap) (can.runs r.heap r.lines r.is r.text r.list) r.run)
 
 -- ---- once the last line was put
 
@@ -116,7 +112,6 @@ runs_unsaid (answer.NamesSpent ran) count run r = r
 runs_unsaid (answer.ReadFault role faults) count run r = r
 runs_unsaid (answer.WriteFault role faults) count run r = r
 runs_unsaid answer.OutOfMemory count run r = r
-runs_unsaid (answer.NotBuilt ran) count run r = r
 
 machine_unsaid : (status : Status) (count : ℕ) → IsOfMachine (unsaid status count) → IsOfMachine status
 machine_unsaid (answer.Done ran) count m = tt
@@ -129,7 +124,6 @@ machine_unsaid (answer.NamesSpent ran) count m = m
 machine_unsaid (answer.ReadFault role faults) count m = m
 machine_unsaid (answer.WriteFault role faults) count m = m
 machine_unsaid answer.OutOfMemory count m = m
-machine_unsaid (answer.NotBuilt ran) count m = m
 
 memory_unsaid : (status : Status) (count : ℕ) → unsaid status count ≡ answer.OutOfMemory → status ≡ answer.OutOfMemory
 memory_unsaid (answer.Done ran) count e = absurd (cc)
@@ -142,7 +136,6 @@ memory_unsaid (answer.NamesSpent ran) count e = e
 memory_unsaid (answer.ReadFault role faults) count e = e
 memory_unsaid (answer.WriteFault role faults) count e = e
 memory_unsaid answer.OutOfMemory count e = e
-memory_unsaid (answer.NotBuilt ran) count e = e
 
 -- the line leaves the other roles
 left : (role : Role) (mid now : Meanings) → role ≢ Notes → LeavesBut (Notes ∷ []) mid now → now.roles role ≡ mid.roles role

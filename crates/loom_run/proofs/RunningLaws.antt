@@ -6,7 +6,6 @@ use Rattle.std.specs.Result.{IsErrAnd}
 use Rattle.std.proofs.lemmas.Result.{err_from_is_err_and}
 use Rattle.long_names.specs.Counting.{Rose}
 use Rattle.long_names.specs.Heap.{Heap}
-use Rattle.long_names.specs.Thin.{IsThinner}
 use Rattle.long_names.proofs.ThinLemmas.{IsThinner-trans}
 use Rattle.object_memory.specs.Told.{Told, Bounds, IsReady}
 use Rattle.object_memory.specs.Contract.{Settles, IsLater, SameBounds, Settled, Called, HasCause, work_faults, said_faults}
@@ -16,19 +15,19 @@ use Rattle.blue_model.specs.declared.cpu.Cpu.{Cpu}
 use Rattle.blue_model.specs.declared.step.Step.{Step}
 use Rattle.blue_model.specs.declared.step.Step.TheVariants.{Next, Quit}
 use Rattle.blue_model.specs.declared.event.Line.{Line}
-use Rattle.blue_model.specs.Machine.{Machine, LogRow, Outcome, Go, Halt, Spent, Unbuilt, Rule, log_of, after, then_do, at_rest, ◌>>=◌, done, clear, set_numbers}
+use Rattle.blue_model.specs.Machine.{Machine, LogRow, Outcome, Go, Halt, Spent, Rule, log_of, after, then_do, at_rest, ◌>>=◌, done, clear, set_numbers}
 use Rattle.blue_model.specs.Devices.{picture}
 use Rattle.blue_model.proofs.FailLaws.{picture_leaves}
 use Rattle.blue_model.specs.Contexts.{start, park}
-use Rattle.blue_model.specs.Cycle.{Run, Ran, Stopped, Stopping, ByCause, BySpentNames, ByUnbuilt, Ending, run_of, one_more, run, ended, parked, run_from, ending, cycle, park_and_draw, count_bytecode}
+use Rattle.blue_model.specs.Cycle.{Ran, Stopped, Stopping, ByCause, BySpentNames, Ending, run_of, one_more, run, ended, parked, run_from, ending, cycle, park_and_draw, count_bytecode}
 use Rattle.blue_model.specs.Cycle as model
 use Rattle.contexts.specs.declared.stop.Stop.{Stop}
-use Rattle.contexts.specs.declared.stop.Stop.TheVariants.{Stuck, Mem, NotBuilt}
+use Rattle.contexts.specs.declared.stop.Stop.TheVariants.{Stuck, Mem}
 use Rattle.contexts.specs.Serves.{HasRest, Stands, IsGo, Gives, GivesAs, IsCaused, HasReason, SaidNothing, SaysLast, Serves, ServesAs, Speaks}
 use Rattle.contexts.proofs.SpeaksLaws.{GoesOn, goes_done, goes_then, goes_numbers, goes_set_numbers}
 use Rattle.contexts.proofs.ServesLaws.{Gives-after, serves_stop, says_quietly}
 use Rattle.contexts.proofs.CacheLaws.{sound_follows}
-use Rattle.loom_run.specs.Run.{Reaches, StopsIn, IsWorkFault, StopsAfter, RunsAs, HasFault, FaultsBy, Begins, OnParked, HasSaid, IsStuckBy, StopsAs, SaysAs, Awaits, GoesThrough, GoesAs, DrawsAs, HaltsAs, is_own, said_in, is_quit}
+use Rattle.loom_run.specs.Run.{Reaches, StopsIn, IsWorkFault, StopsAfter, RunsAs, HasFault, FaultsBy, Begins, HasSaid, IsStuckBy, StopsAs, SaysAs, Awaits, GoesThrough, GoesAs, DrawsAs, HaltsAs, said_in, is_quit}
 use Rattle.loom_run.specs.declared.running.Reason.{Reason}
 use Rattle.loom_run.specs.declared.running.Reason.TheVariants.{ByStop, NoMemory}
 use Rattle.loom_run.specs.declared.running.Finished.{Finished}
@@ -38,7 +37,6 @@ use Rattle.loom_run.specs.declared.running.Finished.{Finished}
 -- what stopped says nothing of the numbers
 pub stop_numbers : {A : Type 0} {w : Option A} {old new : Told} {cpu now other : Cpu} {rule : Rule A} (e : Stop) → ServesAs w old cpu new now rule (Err e) → ServesAs w old cpu new other rule (Err e)
 stop_numbers (Stuck c) s = record { later = s.later; ready = s.ready; reason = s.reason; counts = s.counts; silent = s.silent; model = s.model }
-stop_numbers NotBuilt s = record { later = s.later; ready = s.ready; reason = s.reason; counts = s.counts; silent = s.silent; model = s.model }
 stop_numbers (Mem f) s = record { later = s.later; ready = s.ready; reason = s.reason; counts = s.counts; silent = s.silent; model = s.model }
 
 -- the cause of a refusal without the makings before it
@@ -53,7 +51,6 @@ caused old new Memory h = h
 
 pub faulted : (A : Type 0) (old new : Told) (e : Stop) → HasReason {A = A} old new (Err e) → FaultsBy old new e
 faulted A old new (Stuck c) h = tt
-faulted A old new NotBuilt h = tt
 faulted A old new (Mem f) h = record { rose = h.rose; last = h.last; cause = caused old new f h.cause }
 
 rose_earlier : (a b c : ℕ) → a ≤ b → Rose b c → Rose a c
@@ -82,7 +79,6 @@ fault_earlier a b c Memory l h = h
 
 pub faults_earlier : (a b c : Told) (e : Stop) → IsLater a b → FaultsBy b c e → FaultsBy a c e
 faults_earlier a b c (Stuck d) l h = tt
-faults_earlier a b c NotBuilt l h = tt
 faults_earlier a b c (Mem f) l h = record { rose = rose_earlier a.refusals b.refusals c.refusals l.refusals h.rose; last = h.last; cause = fault_earlier a b c f l h.cause }
 
 -- ---- settling
@@ -139,7 +135,6 @@ reaches_more events mid new between now end k m told x s = go (cycle events x.ma
     go (Go a n log) e g = record { machine = n; ran = ap (λ i. run events i m) (sym (next k)) ∙ ap (one_more events) x.ran ∙ ap (run_of x.machine) e ∙ ap (λ s. Ran s n) g.0; stands = g.1 }
     go (Halt c log) e g = absurd g
     go (Spent log) e g = absurd g
-    go (Unbuilt log) e g = absurd g
 
 -- that a bytecode is counted changes neither its answer nor what was said
 pub counts_on : (before : ℕ) → GoesOn Next (count_bytecode before >>= λ _. done Next)
@@ -174,7 +169,6 @@ has_ended Next e = absurd (cc)
 -- what was said when a call stopped that may say something
 has_said : (e : Stop) (mid new : Told) (before : List ℕ) → IsTrue mid.speaks → mid.transcript ≡ before → SaysLast Next mid new (Err e) → HasSaid e before new.transcript
 has_said (Stuck c) mid new before spoke was s = s spoke ∙ was
-has_said NotBuilt mid new before spoke was s = s spoke ∙ was
 has_said (Mem (Said count)) mid new before spoke was s = let joined = s spoke in (joined.0, joined.1 ∙ ap (λ (t : List ℕ). t ++ joined.0) was)
 has_said (Mem (CoreFull need)) mid new before spoke was s = s spoke ∙ was
 has_said (Mem (WorkFull live room)) mid new before spoke was s = s spoke ∙ was
@@ -223,7 +217,6 @@ abbrev stopping_of : {A : Type 0} → Outcome A → Option Stopping
 stopping_of (Go a m log) = None
 stopping_of (Halt c log) = Some (ByCause c)
 stopping_of (Spent log) = Some BySpentNames
-stopping_of (Unbuilt log) = Some ByUnbuilt
 
 -- A stop of the machine's own is the reason why its run ended, and all was said that the run says. Of another fault nothing is asked.
 abbrev pub IsHalt : Stop → ℕ → Told → Ending → Type 0
@@ -241,19 +234,11 @@ halts w (Halt d log) new now (Stuck c) ran end said g f s =
     )
 halts w (Go a n log) new now (Stuck c) ran end said g f s = absurd g
 halts w (Spent log) new now (Stuck c) ran end said g f s = absurd g
-halts w (Unbuilt log) new now (Stuck c) ran end said g f s = absurd g
-halts w (Unbuilt log) new now NotBuilt ran end said g f s =
-    let is : end ≡ model.Stuck ByUnbuilt ran said = f ByUnbuilt refl in
-    (subst (IsStuckBy ByUnbuilt ran) (sym is) (refl, refl), λ own speaks. s speaks ∙ sym (ap said_in is))
-halts w (Go a n log) new now NotBuilt ran end said g f s = absurd g
-halts w (Halt d log) new now NotBuilt ran end said g f s = absurd g
-halts w (Spent log) new now NotBuilt ran end said g f s = absurd g
 halts w (Spent log) new now (Mem NamesSpent) ran end said g f s =
     let is : end ≡ model.Stuck BySpentNames ran said = f BySpentNames refl in
     (subst (IsStuckBy BySpentNames ran) (sym is) (refl, refl), λ own speaks. s speaks ∙ sym (ap said_in is))
 halts w (Go a n log) new now (Mem NamesSpent) ran end said g f s = absurd g
 halts w (Halt d log) new now (Mem NamesSpent) ran end said g f s = absurd g
-halts w (Unbuilt log) new now (Mem NamesSpent) ran end said g f s = absurd g
 halts w o new now (Mem (CoreFull need)) ran end said g f s = (tt, λ own. never own)
 halts w o new now (Mem (WorkFull live room)) ran end said g f s = (tt, λ own. never own)
 halts w o new now (Mem (WorkFault count)) ran end said g f s = (tt, λ own. never own)
@@ -277,19 +262,16 @@ stopped_by : (n : Machine) (o : Outcome Step) (why : Stopping) → stopping_of o
 stopped_by n (Go a m log) why e = absurd (cc)
 stopped_by n (Halt c log) why e = let same : ByCause c ≡ why = cc in ap (λ x. Stopped n x log) same
 stopped_by n (Spent log) why e = let same : BySpentNames ≡ why = cc in ap (λ x. Stopped n x log) same
-stopped_by n (Unbuilt log) why e = let same : ByUnbuilt ≡ why = cc in ap (λ x. Stopped n x log) same
 
 parked_by : (end : Step) (m : Machine) (o : Outcome (List ℕ)) (why : Stopping) → stopping_of o ≡ Some why → parked end m o ≡ model.Stuck why m.cpu.ran m.transcript
 parked_by end m (Go a n log) why e = absurd (cc)
 parked_by end m (Halt c log) why e = let same : ByCause c ≡ why = cc in ap (λ x. model.Stuck x m.cpu.ran m.transcript) same
 parked_by end m (Spent log) why e = let same : BySpentNames ≡ why = cc in ap (λ x. model.Stuck x m.cpu.ran m.transcript) same
-parked_by end m (Unbuilt log) why e = let same : ByUnbuilt ≡ why = cc in ap (λ x. model.Stuck x m.cpu.ran m.transcript) same
 
 started_by : (events : List Line) (steps : ℕ) (o : Outcome (Unit {0})) (why : Stopping) → stopping_of o ≡ Some why → run_from events steps o ≡ model.Stuck why 0 []
 started_by events steps (Go a n log) why e = absurd (cc)
 started_by events steps (Halt c log) why e = let same : ByCause c ≡ why = cc in ap (λ x. model.Stuck x 0 []) same
 started_by events steps (Spent log) why e = let same : BySpentNames ≡ why = cc in ap (λ x. model.Stuck x 0 []) same
-started_by events steps (Unbuilt log) why e = let same : ByUnbuilt ≡ why = cc in ap (λ x. model.Stuck x 0 []) same
 
 -- a stop in a cycle
 pub run_stops : (events : List Line) (new : Told) (now : Cpu) (e : Stop) (steps : ℕ) (m : Machine) → StopsIn events new now e steps m → IsHalt e now.ran new (ended (run events steps m))
@@ -303,7 +285,6 @@ unsettled_stops events new now e steps m x = go e x.fault
   where
     go : (e : Stop) → IsWorkFault e → StopsAs e now.ran (ended (run events steps m)) × SaysAs e new (ended (run events steps m))
     go (Stuck c) h = absurd h
-    go NotBuilt h = absurd h
     go (Mem (WorkFault count)) h = (tt, λ own. never own)
     go (Mem (CoreFull need)) h = absurd h
     go (Mem (WorkFull live room)) h = absurd h
@@ -380,7 +361,6 @@ goes_run events steps h a mid new cpu between now e told b s runs = go (start (a
     go (Go u m log) g = either m (runs m g.1)
     go (Halt c log) g = absurd g
     go (Spent log) g = absurd g
-    go (Unbuilt log) g = absurd g
 
 -- a stop in parking or in drawing
 draw_stops : (end : Step) (last : Machine) (o : Outcome (List ℕ)) (new : Told) (now : Cpu) (e : Stop) → Gives {A = List ℕ} new now (Err e) o → last.cpu.ran ≡ now.ran → (IsTrue new.speaks → HasSaid e last.transcript new.transcript) → IsHalt e now.ran new (parked end last o)
@@ -400,7 +380,6 @@ goes_park events end steps h a mid far new cpu between then now e told b s runs 
     go (Go u m log) g = at m (runs m g.1)
     go (Halt c log) g = absurd g
     go (Spent log) g = absurd g
-    go (Unbuilt log) g = absurd g
 
 pub goes_through : (events : List Line) (end : Step) (steps : ℕ) (h : Heap) (a mid far new : Told) (cpu between then now : Cpu) → IsTrue a.tells → Begins h a → Serves a cpu mid between start (Ok tt) → ((m : Machine) → Stands mid between m → Reaches events far then end steps m) → IsTrue far.tells → Serves far then new now park (Ok tt) → now ≡ then → Awaits new now end (ending events steps h)
 unfolding ending park_and_draw ◌>>=◌
@@ -418,7 +397,6 @@ goes_through events end steps h a mid far new cpu between then now told b s runs
     }
     stands m (Halt c log) g st = absurd g
     stands m (Spent log) g st = absurd g
-    stands m (Unbuilt log) g st = absurd g
 
     at : (m : Machine) → Reaches events far then end steps m → Awaits new now end (ended (run events steps m))
     at m x = subst (λ r. Awaits new now end (ended r)) (sym x.ran) (stands x.machine (park x.machine) (p.model tells x.machine x.stands) x.stands)
@@ -427,7 +405,6 @@ goes_through events end steps h a mid far new cpu between then now told b s runs
     go (Go u m log) g = at m (runs m g.1)
     go (Halt c log) g = absurd g
     go (Spent log) g = absurd g
-    go (Unbuilt log) g = absurd g
 
 pub goes_exit : (new : Told) (now : Cpu) (e : Stop) (r : Result Step Stop) (ending : Ending) → IsErrAnd r (λ y. y ≡ e) → IsHalt e now.ran new ending → GoesAs new now r ending
 goes_exit new now e r ending is h =
@@ -443,7 +420,6 @@ draws_through mid new now end ending finished tells x s last ran = subst (GoesTh
     go (Go bytes n rows) g = record { parked = (sym last, ap (λ (c : Cpu). c.ran) g.1.numbers ∙ sym ran); heap = g.1.heap; drawn = sym g.0; said = λ speaks. g.1.transcript speaks }
     go (Halt c rows) g = absurd g
     go (Spent rows) g = absurd g
-    go (Unbuilt rows) g = absurd g
 
 pub draws_stop : (mid new : Told) (now : Cpu) (end : Step) (ending : Ending) (e : Stop) → IsTrue mid.tells → Awaits mid now end ending → Serves {A = List ℕ} mid now new now picture (Err e) → StopsAs e now.ran ending × SaysAs e new ending
 draws_stop mid new now end ending e tells x s =
@@ -462,7 +438,6 @@ draws_nothing mid new now end ending tells x later silent speaks =
     go (Go bytes n rows) e told last = told ∙ ap (λ (m : Machine). m.transcript) (sym (picture_leaves x.machine n bytes rows e))
     go (Halt c rows) e told last = last
     go (Spent rows) e told last = last
-    go (Unbuilt rows) e told last = last
 
 pub draw_halts : (mid new : Told) (now : Cpu) (end : Step) (ending : Ending) (why : Reason) → IsTrue mid.tells → Awaits mid now end ending → DrawsAs mid now new (Err why) → HaltsAs why now.ran new ending
 draw_halts mid new now end ending (ByStop stop) tells x s = draws_stop mid new now end ending stop tells x s

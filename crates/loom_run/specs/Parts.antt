@@ -17,7 +17,7 @@ use Rattle.loom_run.specs.declared.running.Halted.{Halted}
 use Rattle.loom_run.specs.declared.running.Reason.{Reason}
 use Rattle.loom_run.specs.declared.running.Reason.TheVariants.{ByStop, NoMemory}
 use Rattle.loom_run.specs.declared.status.Status.{Status}
-use Rattle.loom_run.specs.declared.status.Status.TheVariants.{Done, Quit, Usage, ImageBad, EventsBad, Stuck, NamesSpent, ReadFault, WriteFault, OutOfMemory, NotBuilt}
+use Rattle.loom_run.specs.declared.status.Status.TheVariants.{Done, Quit, Usage, ImageBad, EventsBad, Stuck, NamesSpent, ReadFault, WriteFault, OutOfMemory}
 
 -- the answer of a run that went through
 abbrev pub IsFinished : Status → Type 0
@@ -29,7 +29,6 @@ IsFinished _ = ⊥
 abbrev pub IsStopped : Status → Type 0
 IsStopped (Stuck cause ran) = Unit {0}
 IsStopped (NamesSpent ran) = Unit {0}
-IsStopped (NotBuilt ran) = Unit {0}
 IsStopped OutOfMemory = Unit {0}
 IsStopped (WriteFault Transcript count) = Unit {0}
 IsStopped _ = ⊥

@@ -16,7 +16,7 @@ pub record Promise (tells : Role → Bool) (before now : Meanings) (words : List
   -- Usage comes exactly where a word is bad, missing or extra, and names the first such word. `right_words` says which words
   -- are right: `run IMAGE EVENTS SAVED DISPLAY STEPS`.
   pub usage : usage_of result ≡ bad_word words
-  -- Done says that as many bytecodes were run as the words ask for, and Quit, Stuck, NamesSpent and NotBuilt that no more were.
+  -- Done says that as many bytecodes were run as the words ask for, and Quit, Stuck and NamesSpent that no more were.
   pub ran : HasRun result (steps_of words)
   -- A fault is answered only where it rose in this run, for a role that the run uses so, and with its count.
   pub cause : IsCaused result before.faults now.faults

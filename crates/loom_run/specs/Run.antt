@@ -14,10 +14,10 @@ use Rattle.blue_model.specs.declared.step.Step.TheVariants.{Next, Quit}
 use Rattle.blue_model.specs.declared.event.Line.{Line}
 use Rattle.blue_model.specs.Machine.{Machine, LogRow, after}
 use Rattle.blue_model.specs.Devices.{picture}
-use Rattle.blue_model.specs.Cycle.{Ran, Stopping, ByCause, BySpentNames, ByUnbuilt, Ending, cycle, parked}
+use Rattle.blue_model.specs.Cycle.{Ran, Stopping, ByCause, BySpentNames, Ending, cycle, parked}
 use Rattle.blue_model.specs.Cycle as model
 use Rattle.contexts.specs.declared.stop.Stop.{Stop}
-use Rattle.contexts.specs.declared.stop.Stop.TheVariants.{Stuck, Mem, NotBuilt}
+use Rattle.contexts.specs.declared.stop.Stop.TheVariants.{Stuck, Mem}
 use Rattle.contexts.specs.Serves.{Stands, GivesAs, Serves, SaidNothing}
 use Rattle.contexts.specs.Serves as serves
 use Rattle.loom_run.specs.declared.running.Finished.{Finished}
@@ -100,7 +100,6 @@ pub record IsFaulted (old new : Told) (f : MemFault) : Type 0 where
 abbrev pub FaultsBy : Told → Told → Stop → Type 0
 FaultsBy old new (Mem f) = IsFaulted old new f
 FaultsBy old new (Stuck cause) = Unit {0}
-FaultsBy old new NotBuilt = Unit {0}
 
 -- ---- whole runs
 
@@ -145,13 +144,11 @@ FaultsAs Memory ran ending = Unit {0}
 -- the stop is the one that ended the model's run, after so many bytecodes
 abbrev pub StopsAs : Stop → ℕ → Ending → Type 0
 StopsAs (Stuck cause) ran ending = IsStuckBy (ByCause cause) ran ending
-StopsAs NotBuilt ran ending = IsStuckBy ByUnbuilt ran ending
 StopsAs (Mem fault) ran ending = FaultsAs fault ran ending
 
 -- the stop is one of the machine, and no fault of a memory beside spent names
 abbrev pub is_own : Stop → Bool
 is_own (Stuck cause) = true
-is_own NotBuilt = true
 is_own (Mem NamesSpent) = true
 is_own (Mem _) = false
 

@@ -3,7 +3,7 @@ use Rattle.std.specs.Prelude.{ℕ, List, ◌++◌, codes, decimal, Option, Some,
 use Rattle.loom_outside.specs.declared.outside.Role.{Role}
 use Rattle.loom_outside.specs.declared.outside.Role.TheVariants.{Image, Events, Work, Saved, Display, Transcript, Notes}
 use Rattle.loom_run.specs.declared.status.Status.{Status}
-use Rattle.loom_run.specs.declared.status.Status.TheVariants.{Done, Quit, Usage, ImageBad, EventsBad, Stuck, NamesSpent, ReadFault, WriteFault, OutOfMemory, NotBuilt}
+use Rattle.loom_run.specs.declared.status.Status.TheVariants.{Done, Quit, Usage, ImageBad, EventsBad, Stuck, NamesSpent, ReadFault, WriteFault, OutOfMemory}
 
 -- what a role is called
 abbrev pub role_text : Role → List ℕ
@@ -27,7 +27,6 @@ text_of (NamesSpent ran) = codes "names spent after " ++ decimal ran
 text_of (ReadFault role count) = codes "read fault: " ++ role_text role
 text_of (WriteFault role count) = codes "write fault: " ++ role_text role
 text_of OutOfMemory = codes "out of memory"
-text_of (NotBuilt ran) = codes "not built after " ++ decimal ran
 
 -- the last line on Notes
 abbrev pub line_of : Status → List ℕ
@@ -45,7 +44,6 @@ code_of (NamesSpent ran) = 7
 code_of (ReadFault role count) = 9
 code_of (WriteFault role count) = 11
 code_of OutOfMemory = 12
-code_of (NotBuilt ran) = 14
 
 -- the word that a status finds fault with
 abbrev pub usage_of : Status → Option ℕ

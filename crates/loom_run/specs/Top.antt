@@ -12,15 +12,14 @@ use Rattle.blue_model.specs.declared.cause.Cause.{Cause}
 use Rattle.blue_model.specs.declared.event.Line.{Line}
 use Rattle.blue_model.specs.declared.step.Step.TheVariants as step
 use Rattle.blue_model.specs.Cause.{cause_number}
-use Rattle.blue_model.specs.Cycle.{ByCause, BySpentNames, ByUnbuilt, Ending, ending}
-use Rattle.blue_model.specs.Cycle as model
+use Rattle.blue_model.specs.Cycle.{ByCause, BySpentNames, Ending, ending}
 use Rattle.loom_run.specs.Meanings.{Meanings}
 use Rattle.event_file.specs.Text.{AreRight, events_text, IsBadAt}
 use Rattle.loom_run.specs.Run.{OnParked, OnDrawn, IsParkedBy, IsStuckBy, said_in}
 use Rattle.loom_run.specs.Saved.{saved_text}
 use Rattle.loom_run.specs.Status.{line_of}
 use Rattle.loom_run.specs.declared.status.Status.{Status}
-use Rattle.loom_run.specs.declared.status.Status.TheVariants.{Done, Quit, Usage, ImageBad, EventsBad, Stuck, NamesSpent, ReadFault, WriteFault, OutOfMemory, NotBuilt}
+use Rattle.loom_run.specs.declared.status.Status.TheVariants.{Done, Quit, Usage, ImageBad, EventsBad, Stuck, NamesSpent, ReadFault, WriteFault, OutOfMemory}
 
 -- ---- faults
 
@@ -51,7 +50,6 @@ HasRun (Done ran) steps = ran ≡ steps
 HasRun (Quit ran) steps = ran ≤ steps
 HasRun (Stuck cause ran) steps = ran ≤ steps
 HasRun (NamesSpent ran) steps = ran ≤ steps
-HasRun (NotBuilt ran) steps = ran ≤ steps
 HasRun _ steps = Unit {0}
 
 -- ---- how far a run came. The order is: words, Image, Events, the run, Transcript, Saved, Display, Notes
@@ -156,7 +154,6 @@ JudgesEvents _ events = (lines : List Line) × AreEvents events lines
 abbrev pub JudgesRun : Status → Ending → Type 0
 JudgesRun (Stuck cause ran) run = IsStuck cause ran run
 JudgesRun (NamesSpent ran) run = IsStuckBy BySpentNames ran run
-JudgesRun (NotBuilt ran) run = IsStuckBy ByUnbuilt ran run
 JudgesRun (Done ran) run = IsParkedBy step.Next ran run
 JudgesRun (Quit ran) run = IsParkedBy step.Quit ran run
 JudgesRun (WriteFault Transcript count) run = Unit {0}
@@ -169,7 +166,6 @@ IsOfMachine (Done ran) = Unit {0}
 IsOfMachine (Quit ran) = Unit {0}
 IsOfMachine (Stuck cause ran) = Unit {0}
 IsOfMachine (NamesSpent ran) = Unit {0}
-IsOfMachine (NotBuilt ran) = Unit {0}
 IsOfMachine (WriteFault role count) = Unit {0}
 IsOfMachine _ = ⊥
 
@@ -241,7 +237,7 @@ DrawsRun _ run text old new = Unit {0}
 
 pub record RunsBy (tells : Role → Bool) (before now : Meanings) (saved display : List ℕ) (status : Status) (run : Ending) : Type 0 where
   -- Done comes only where the machine goes through all bytecodes, Quit only where its primitive ended the last of that many, and a fault
-  -- in saving or drawing only after one of these. Stuck, NamesSpent and NotBuilt come only where it stops so after that many, Stuck
+  -- in saving or drawing only after one of these. Stuck and NamesSpent come only where it stops so after that many, Stuck
   -- with its cause.
   pub judged : JudgesRun status run
   -- What the machine said goes to Transcript after the run, also after one that stopped: all of it, or a prefix where Transcript failed.

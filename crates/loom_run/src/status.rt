@@ -41,8 +41,6 @@ pub enum Status {
     WriteFault { role: Role, count: u64 },
     /// There was no memory.
     OutOfMemory,
-    /// After so many bytecodes the machine came to one that isn't built.
-    NotBuilt { ran: u32 },
 }
 
 impl Status {
@@ -60,7 +58,6 @@ impl Status {
             Status::ReadFault { .. } => 9,
             Status::WriteFault { .. } => 11,
             Status::OutOfMemory => 12,
-            Status::NotBuilt { .. } => 14,
         }
     }
 
@@ -92,7 +89,6 @@ impl Status {
             Status::ReadFault { role, .. } => named("read fault: ", role),
             Status::WriteFault { role, .. } => named("write fault: ", role),
             Status::OutOfMemory => begun("out of memory"),
-            Status::NotBuilt { ran } => numbered("not built after ", ran as u64),
         }
     }
 }
@@ -124,7 +120,6 @@ pub(crate) fn status_of(halted: &Halted) -> Status
             cause: cause.number(),
             ran,
         },
-        Reason::ByStop(Stop::NotBuilt) => Status::NotBuilt { ran },
         Reason::ByStop(Stop::Mem(MemFault::NamesSpent)) => Status::NamesSpent { ran },
         Reason::ByStop(Stop::Mem(_)) | Reason::NoMemory => Status::OutOfMemory,
     }

@@ -19,7 +19,7 @@ use Rattle.blue_model.specs.Machine.{Machine, LogRow, Go, Halt, rows_at, looked,
 use Rattle.blue_model.specs.Parts.{size, home_by, home_in, home_of}
 use Rattle.blue_model.specs.Trials.{peek}
 use Rattle.contexts.specs.declared.stop.Stop.{Stop}
-use Rattle.contexts.specs.declared.stop.Stop.TheVariants.{Stuck, Mem, NotBuilt}
+use Rattle.contexts.specs.declared.stop.Stop.TheVariants.{Stuck, Mem}
 use Rattle.contexts.specs.Serves.{IsGo, Allows, Gives, Serves}
 use Rattle.contexts.proofs.ServesLaws.{reason_other}
 
@@ -42,7 +42,6 @@ goes_found {A} f a P (Ref n) m h = go (m.heap.at n) h
 -- a stop is one with any answer
 stop_other : {A B : Type 0} (new : Told) (now : Cpu) (e : Stop) (a : A) (b : B) (m : Machine) (log : List LogRow) → Gives {A = A} new now (Err e) (Go a m log) → Gives {A = B} new now (Err e) (Go b m log)
 stop_other {A} {B} new now (Stuck c) a b m log h = absurd h
-stop_other {A} {B} new now NotBuilt a b m log h = absurd h
 stop_other {A} {B} new now (Mem f) a b m log h = allowed f h
   where
     allowed : (f : MemFault) → Allows {A = A} new f (Go a m log) → Allows {A = B} new f (Go b m log)
@@ -56,7 +55,6 @@ stop_other {A} {B} new now (Mem f) a b m log h = allowed f h
 
 halt_other : (A B : Type 0) (new : Told) (now : Cpu) (e : Stop) (c : Cause) (log : List LogRow) → Gives {A = A} new now (Err e) (Halt c log) → Gives {A = B} new now (Err e) (Halt c log)
 halt_other A B new now (Stuck d) c log h = h
-halt_other A B new now NotBuilt c log h = absurd h
 halt_other A B new now (Mem f) c log h = allowed f h
   where
     allowed : (f : MemFault) → Allows {A = A} new f (Halt c log) → Allows {A = B} new f (Halt c log)

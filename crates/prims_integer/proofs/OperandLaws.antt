@@ -8,7 +8,7 @@ use Rattle.object_memory.specs.Told.{Told}
 use Rattle.blue_model.specs.declared.answer.Answer.{Answer}
 use Rattle.blue_model.specs.declared.answer.Answer.TheVariants.{Failed}
 use Rattle.blue_model.specs.declared.cpu.Cpu.{Cpu}
-use Rattle.blue_model.specs.Machine.{Machine, LogRow, Outcome, Go, Halt, Spent, Unbuilt, Rule, after, then_do, ◌>>=◌, done}
+use Rattle.blue_model.specs.Machine.{Machine, LogRow, Outcome, Go, Halt, Spent, Rule, after, then_do, ◌>>=◌, done}
 use Rattle.blue_model.specs.Contexts.{stack}
 use Rattle.blue_model.specs.Trials.{where_some, ◌>>?◌}
 use Rattle.blue_model.specs.Arithmetic.{of_numbers}
@@ -21,7 +21,6 @@ after_twice : {A : Type 0} (xs ys : List LogRow) (o : Outcome A) → after xs (a
 after_twice xs ys (Go a m log) = simp append_assoc
 after_twice xs ys (Halt c log) = simp append_assoc
 after_twice xs ys (Spent log) = simp append_assoc
-after_twice xs ys (Unbuilt log) = simp append_assoc
 
 of_both : (p : ℤ → ℤ → Rule Answer) (a b : Option ℤ) → where_some (both a b) (λ (ab : ℤ × ℤ). p ab.0 ab.1) ≡ where_some a (λ x. where_some b (λ y. p x y))
 unfolding where_some
@@ -34,14 +33,12 @@ unfolding done
 with_argument p r rows (Go x m log) = after_twice rows log _ ∙ ap (λ (q : Rule Answer). after (rows ++ (log ++ [])) (q m)) (sym (of_both p (int_of r) (int_of x)))
 with_argument p r rows (Halt c log) = refl
 with_argument p r rows (Spent log) = refl
-with_argument p r rows (Unbuilt log) = refl
 
 with_receiver : (p : ℤ → ℤ → Rule Answer) (o : Outcome Value) → then_do o (λ r. stack 0 >>= (λ x. where_some (int_of r) (λ a. where_some (int_of x) (λ b. p a b)))) ≡ then_do (then_do o (λ r. stack 0 >>= (λ x. done (both (int_of r) (int_of x))))) (λ o. where_some o (λ (ab : ℤ × ℤ). p ab.0 ab.1))
 unfolding ◌>>=◌
 with_receiver p (Go r m log) = with_argument p r log (stack 0 m)
 with_receiver p (Halt c log) = refl
 with_receiver p (Spent log) = refl
-with_receiver p (Unbuilt log) = refl
 
 -- A rule of two numbers reads them, and goes on where both are there.
 by_both : (p : ℤ → ℤ → Rule Answer) (m : Machine) → of_numbers p m ≡ (two_numbers >>? (λ (ab : ℤ × ℤ). p ab.0 ab.1)) m

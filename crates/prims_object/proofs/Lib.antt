@@ -3,7 +3,6 @@ pub mod InstanceLaws
 pub mod LeadLaws
 pub mod NaturalLaws
 pub mod NumberLaws
-pub mod TableLaws
 pub mod TestLaws
 pub mod TextLaws
 pub mod ValueLaws

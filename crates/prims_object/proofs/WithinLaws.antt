@@ -10,10 +10,10 @@ use Rattle.object_memory.specs.Told.{Told}
 use Rattle.blue_model.specs.declared.cpu.Cpu.{Cpu}
 use Rattle.blue_model.specs.declared.cause.Cause.{Cause}
 use Rattle.blue_model.specs.declared.cause.Cause.TheVariants.{Shape}
-use Rattle.blue_model.specs.Machine.{Machine, LogRow, Outcome, Go, Halt, Spent, Unbuilt, Rule, log_of, row_of, looked, classed, then_do, ◌>>=◌, done, given, look, part, class_of}
+use Rattle.blue_model.specs.Machine.{Machine, LogRow, Outcome, Go, Halt, Spent, Rule, log_of, row_of, looked, classed, then_do, ◌>>=◌, done, given, look, part, class_of}
 use Rattle.blue_model.specs.Trials.{peek}
 use Rattle.contexts.specs.declared.stop.Stop.{Stop}
-use Rattle.contexts.specs.declared.stop.Stop.TheVariants.{Stuck, Mem, NotBuilt}
+use Rattle.contexts.specs.declared.stop.Stop.TheVariants.{Stuck, Mem}
 use Rattle.contexts.specs.Serves.{Stands, HasNeed, IsLogged, HasMaking, Allows, Gives, Serves}
 
 -- each row of a log is in another
@@ -26,26 +26,18 @@ abbrev pub IsWithin : {A : Type 0} → Outcome A → Outcome A → Type 0
 IsWithin (Go a m xs) (Go b n ys) = (a ≡ b) × (m ≡ n) × HasRows xs ys
 IsWithin (Halt c xs) (Halt d ys) = (c ≡ d) × HasRows xs ys
 IsWithin (Spent xs) (Spent ys) = HasRows xs ys
-IsWithin (Unbuilt xs) (Unbuilt ys) = HasRows xs ys
 IsWithin _ _ = ⊥
 
 rows_within : {A : Type 0} (o p : Outcome A) → IsWithin o p → HasRows (log_of o) (log_of p)
 rows_within (Go a m xs) (Go b n ys) w = w.2
 rows_within (Halt c xs) (Halt d ys) w = w.1
 rows_within (Spent xs) (Spent ys) w = w
-rows_within (Unbuilt xs) (Unbuilt ys) w = w
 rows_within (Go a m xs) (Halt d ys) w = absurd w
 rows_within (Go a m xs) (Spent ys) w = absurd w
-rows_within (Go a m xs) (Unbuilt ys) w = absurd w
 rows_within (Halt c xs) (Go b n ys) w = absurd w
 rows_within (Halt c xs) (Spent ys) w = absurd w
-rows_within (Halt c xs) (Unbuilt ys) w = absurd w
 rows_within (Spent xs) (Go b n ys) w = absurd w
 rows_within (Spent xs) (Halt d ys) w = absurd w
-rows_within (Spent xs) (Unbuilt ys) w = absurd w
-rows_within (Unbuilt xs) (Go b n ys) w = absurd w
-rows_within (Unbuilt xs) (Halt d ys) w = absurd w
-rows_within (Unbuilt xs) (Spent ys) w = absurd w
 
 allows_within : {A : Type 0} (t : Told) (f : MemFault) (o p : Outcome A) → IsWithin o p → Allows t f o → Allows t f p
 allows_within t (CoreFull need) o p w h = (rows_within o p w).needs need h
@@ -57,8 +49,6 @@ allows_within t NamesSpent (Halt c xs) p w h = absurd h
 allows_within t NamesSpent (Spent xs) (Spent ys) w h = tt
 allows_within t NamesSpent (Spent xs) (Go b n ys) w h = absurd w
 allows_within t NamesSpent (Spent xs) (Halt d ys) w h = absurd w
-allows_within t NamesSpent (Spent xs) (Unbuilt ys) w h = absurd w
-allows_within t NamesSpent (Unbuilt xs) p w h = absurd h
 allows_within t (Said count) o p w h = absurd h
 allows_within t Memory o p w h = tt
 
@@ -66,24 +56,13 @@ gives_within : {A : Type 0} (t : Told) (now : Cpu) (r : Result A Stop) (o p : Ou
 gives_within t now (Ok x) (Go a m xs) (Go b n ys) w h = (sym w.0 ∙ h.0, subst (Stands t now) w.1 h.1)
 gives_within t now (Ok x) (Go a m xs) (Halt d ys) w h = absurd w
 gives_within t now (Ok x) (Go a m xs) (Spent ys) w h = absurd w
-gives_within t now (Ok x) (Go a m xs) (Unbuilt ys) w h = absurd w
 gives_within t now (Ok x) (Halt c xs) p w h = absurd h
 gives_within t now (Ok x) (Spent xs) p w h = absurd h
-gives_within t now (Ok x) (Unbuilt xs) p w h = absurd h
 gives_within t now (Err (Stuck c)) (Halt d xs) (Halt e ys) w h = sym w.0 ∙ h
 gives_within t now (Err (Stuck c)) (Halt d xs) (Go b n ys) w h = absurd w
 gives_within t now (Err (Stuck c)) (Halt d xs) (Spent ys) w h = absurd w
-gives_within t now (Err (Stuck c)) (Halt d xs) (Unbuilt ys) w h = absurd w
 gives_within t now (Err (Stuck c)) (Go a m xs) p w h = absurd h
 gives_within t now (Err (Stuck c)) (Spent xs) p w h = absurd h
-gives_within t now (Err (Stuck c)) (Unbuilt xs) p w h = absurd h
-gives_within t now (Err NotBuilt) (Unbuilt xs) (Unbuilt ys) w h = tt
-gives_within t now (Err NotBuilt) (Unbuilt xs) (Go b n ys) w h = absurd w
-gives_within t now (Err NotBuilt) (Unbuilt xs) (Halt d ys) w h = absurd w
-gives_within t now (Err NotBuilt) (Unbuilt xs) (Spent ys) w h = absurd w
-gives_within t now (Err NotBuilt) (Go a m xs) p w h = absurd h
-gives_within t now (Err NotBuilt) (Halt d xs) p w h = absurd h
-gives_within t now (Err NotBuilt) (Spent xs) p w h = absurd h
 gives_within t now (Err (Mem f)) o p w h = allows_within t f o p w h
 
 pub serves_within : {A : Type 0} {old new : Told} {cpu now : Cpu} {p q : Rule A} {answer : Result A Stop} → ((m : Machine) → IsWithin (q m) (p m)) → Serves old cpu new now q answer → Serves old cpu new now p answer

@@ -1,4 +1,3 @@
 pub mod RegisterLaws
-pub mod TableLaws
 pub mod ValueLaws
 pub mod WakeLaws

@@ -12,7 +12,7 @@ use Rattle.object_memory.proofs.LaterLaws.{IsLater-refl}
 use Rattle.object_memory.proofs.LooksLaws.{neither, below_among, Looks-weaker, Looks-trans}
 use Rattle.blue_model.specs.declared.cause.Cause.TheVariants.{Shape}
 use Rattle.blue_model.specs.declared.cpu.Cpu.{Cpu}
-use Rattle.blue_model.specs.Machine.{Machine, Outcome, Go, Halt, Spent, Unbuilt, Rule, rows_at, looked, then_do, ◌>>=◌, done, look, part}
+use Rattle.blue_model.specs.Machine.{Machine, Outcome, Go, Halt, Spent, Rule, rows_at, looked, then_do, ◌>>=◌, done, look, part}
 use Rattle.blue_model.specs.Parts.{Code, field, code_of}
 use Rattle.blue_model.specs.Contexts.{need_method}
 use Rattle.blue_model.specs.Lookup.{method_at}
@@ -89,7 +89,6 @@ method_then method m = go (part Shape code_of method m)
     go (Go a n log) = ap (Go (Some method) n) (sym (append-nil (log ++ [])))
     go (Halt c log) = refl
     go (Spent log) = refl
-    go (Unbuilt log) = refl
 
 pub method_answered : {old new : Told} {cpu : Cpu} (method v : Value) → method ≡ v → IsReady new → Serves old cpu new cpu (need_method method) (Ok (tt {0})) → Serves old cpu new cpu (part Shape code_of method >>= (λ _. done (Some method))) (Ok (Some v))
 method_answered {old} {new} {cpu} method v e ready s = subst (λ w. Serves old cpu new cpu (part Shape code_of method >>= (λ _. done (Some method))) (Ok (Some w))) e (serves_same (method_then method) (serves_then (λ _. done (Some method)) s (done_serves ready)))

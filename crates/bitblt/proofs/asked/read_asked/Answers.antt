@@ -3,7 +3,7 @@ use Rattle.object_memory.proofs.ShapeLaws.{small_number}
 use Rattle.blue_model.specs.Parts.{number}
 use Rattle.contexts.proofs.ReadLaws.{looks_again}
 use Rattle.blue_model.specs.BitBlt.{asked_of}
-use Rattle.bitblt.proofs.PeekPairs.{peek_fault, exits_by, of_some}
+use Rattle.contexts.proofs.PeekPairs.{peek_fault, exits_by, of_some}
 use Rattle.bitblt.proofs.AskedLaws.{lacks_rule, lacks_dest, lacks_extent, lacks_source_place, lacks_clip, lacks_all}
 use Rattle.bitblt.proofs.AskedSteps.{found_rule, no_rule, no_number, found_place, no_place, stopped_place, found_all}
 use Rattle.bitblt.proofs.asked.read_asked.Goals as goal

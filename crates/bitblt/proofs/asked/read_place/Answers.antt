@@ -8,7 +8,7 @@ use Rattle.blue_model.specs.Trials.{peek}
 use Rattle.contexts.specs.Serves.{Serves}
 use Rattle.contexts.proofs.ReadLaws.{looks_again}
 use Rattle.bitblt.specs.Asking.{both, place_at}
-use Rattle.bitblt.proofs.PeekPairs.{peek_fault, later_fault, peek_join, peek_none, exits_by, of_some}
+use Rattle.contexts.proofs.PeekPairs.{peek_fault, later_fault, peek_join, peek_none, exits_by, of_some}
 use Rattle.bitblt.proofs.AskedLaws.{place_makes, place_lacks}
 use Rattle.bitblt.proofs.asked.read_place.Goals as goal
 

@@ -10,8 +10,9 @@ use Rattle.blue_model.specs.Forms.{form_of, form_where}
 use Rattle.blue_model.specs.BitBlt.{has_sixteen, form_or_nil, copy}
 use Rattle.contexts.proofs.PeekLaws.{found_one, found_none}
 use Rattle.bitblt.specs.Asking.{asked_by}
-use Rattle.bitblt.specs.Shapes.{form_by, optional_by, OptionalRoom}
-use Rattle.bitblt.proofs.PeekPairs.{of_some}
+use Rattle.forms.specs.Shapes.{form_by}
+use Rattle.bitblt.specs.Shapes.{optional_by, OptionalRoom}
+use Rattle.contexts.proofs.PeekPairs.{of_some}
 use Rattle.bitblt.proofs.TrialSteps.{after_source, after_dest, after_asked, come_first, never_came, come_some, come_none, come_stop, come_copy, come_copy_stop, at_value, at_bits, optional_looked}
 use Rattle.bitblt.proofs.table.copy_bits.Goals as goal
 

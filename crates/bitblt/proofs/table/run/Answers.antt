@@ -1,9 +1,8 @@
 use Rattle.std.proofs.Common.{refl}
 use Rattle.blue_model.specs.Machine.{pick}
 use Rattle.blue_model.specs.Storage.{row}
-use Rattle.blue_model.specs.BitBlt.{copy_bits}
-use Rattle.bitblt.specs.Table.{blit_primitives}
-use Rattle.bitblt.proofs.TableLaws.{row_serves, row_fails, none_serves}
+use Rattle.blue_model.specs.BitBlt.{copy_bits, blit_primitives}
+use Rattle.contexts.proofs.TableLaws.{row_serves, row_fails, none_serves}
 use Rattle.bitblt.proofs.table.run.Goals as goal
 
 pub returns-in-96-eq0-clause-serves : goal.returns-in-96-eq0-clause-serves

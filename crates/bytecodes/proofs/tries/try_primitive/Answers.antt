@@ -1,33 +1,30 @@
 use Rattle.std.proofs.Common.{sym, ◌∙◌}
-use Rattle.blue_model.specs.Machine.{unbuilt}
-use Rattle.blue_model.specs.Primitives.{primitive}
-use Rattle.contexts.proofs.Steps.{pick_true, unbuilt_serves}
-use Rattle.bytecodes.proofs.TryLaws.{try_integer, try_object, try_control, try_process, try_device}
+use Rattle.bytecodes.proofs.TryLaws.{try_integer, try_object, try_control, try_process, try_blit, try_device}
 use Rattle.bytecodes.proofs.tries.try_primitive.Goals as goal
 
-pub returns-then-is_unbuilt-clause-serves : goal.returns-then-is_unbuilt-clause-serves
-unfolding primitive
-returns-then-is_unbuilt-clause-serves g c = pick_true _ unbuilt _ (sym c.is_unbuilt.ensures ∙ c.if-is_unbuilt.true) unbuilt_serves
-
 pub returns-then-is_control-clause-serves : goal.returns-then-is_control-clause-serves
-returns-then-is_control-clause-serves g c = try_control _ c.args.index (sym c.is_unbuilt.ensures ∙ c.if-is_unbuilt.false) (sym c.is_control.ensures ∙ c.if-is_control.true) c.run.ensures.serves
+returns-then-is_control-clause-serves g c = try_control _ c.args.index (sym c.is_control.ensures ∙ c.if-is_control.true) c.run.ensures.serves
 
 pub returns-then-is_process-clause-serves : goal.returns-then-is_process-clause-serves
 returns-then-is_process-clause-serves g c =
-    try_process _ c.args.index (sym c.is_unbuilt.ensures ∙ c.if-is_unbuilt.false) (sym c.is_control.ensures ∙ c.if-is_control.false)
-    (sym c.is_process.ensures ∙ c.if-is_process.true) c.run-then-is_process.ensures.serves
+    try_process _ c.args.index (sym c.is_control.ensures ∙ c.if-is_control.false) (sym c.is_process.ensures ∙ c.if-is_process.true) c.run-then-is_process.ensures.serves
+
+pub returns-then-is_blit-clause-serves : goal.returns-then-is_blit-clause-serves
+returns-then-is_blit-clause-serves g c =
+    try_blit _ c.args.index (sym c.is_control.ensures ∙ c.if-is_control.false) (sym c.is_process.ensures ∙ c.if-is_process.false)
+    (sym c.is_blit.ensures ∙ c.if-is_blit.true) c.run-then-is_blit.ensures.serves
 
 pub returns-then-is_device-clause-serves : goal.returns-then-is_device-clause-serves
 returns-then-is_device-clause-serves g c =
-    try_device _ c.args.index (sym c.is_unbuilt.ensures ∙ c.if-is_unbuilt.false) (sym c.is_control.ensures ∙ c.if-is_control.false)
-    (sym c.is_process.ensures ∙ c.if-is_process.false) (sym c.is_device.ensures ∙ c.if-is_device.true) c.run-then-is_device.ensures.speaks
+    try_device _ c.args.index (sym c.is_control.ensures ∙ c.if-is_control.false) (sym c.is_process.ensures ∙ c.if-is_process.false)
+    (sym c.is_blit.ensures ∙ c.if-is_blit.false) (sym c.is_device.ensures ∙ c.if-is_device.true) c.run-then-is_device.ensures.speaks
 
 pub returns-then-index-lt60-clause-serves : goal.returns-then-index-lt60-clause-serves
 returns-then-index-lt60-clause-serves g c =
-    try_integer _ c.args.index (sym c.is_unbuilt.ensures ∙ c.if-is_unbuilt.false) (sym c.is_control.ensures ∙ c.if-is_control.false)
-    (sym c.is_process.ensures ∙ c.if-is_process.false) (sym c.is_device.ensures ∙ c.if-is_device.false) c.if-index-lt60.true c.run-then-index-lt60.ensures.serves
+    try_integer _ c.args.index (sym c.is_control.ensures ∙ c.if-is_control.false) (sym c.is_process.ensures ∙ c.if-is_process.false)
+    (sym c.is_blit.ensures ∙ c.if-is_blit.false) (sym c.is_device.ensures ∙ c.if-is_device.false) c.if-index-lt60.true c.run-then-index-lt60.ensures.serves
 
 pub returns-else-index-lt60-clause-serves : goal.returns-else-index-lt60-clause-serves
 returns-else-index-lt60-clause-serves g c =
-    try_object _ c.args.index (sym c.is_unbuilt.ensures ∙ c.if-is_unbuilt.false) (sym c.is_control.ensures ∙ c.if-is_control.false)
-    (sym c.is_process.ensures ∙ c.if-is_process.false) (sym c.is_device.ensures ∙ c.if-is_device.false) c.if-index-lt60.false c.run-else-index-lt60.ensures.serves
+    try_object _ c.args.index (sym c.is_control.ensures ∙ c.if-is_control.false) (sym c.is_process.ensures ∙ c.if-is_process.false)
+    (sym c.is_blit.ensures ∙ c.if-is_blit.false) (sym c.is_device.ensures ∙ c.if-is_device.false) c.if-index-lt60.false c.run-else-index-lt60.ensures.serves

@@ -21,15 +21,15 @@ pub returns-in_default-clause-serves : goal.returns-in_default-clause-serves
 unfolding be_display
 returns-in_default-clause-serves g c =
     serves_then _ c.in_ok-stack.ensures.serves
-    (none_found _ (ap (λ x. form_in x ((g.M.ObjectMemory.told c.form_of.new.m).regs 11)) c.in_default.is) (c.in_ok-form_of.ensures.serves _))
+    (none_found _ (ap (λ x. form_in x ((g.M.ObjectMemory.told c.form_of.new.m).regs 13)) c.in_default.is) (c.in_ok-form_of.ensures.serves _))
 
 pub returns-clause-serves : goal.returns-clause-serves
 unfolding be_display show_form
 returns-clause-serves g c =
-    let form = c.in_ok-form_of.ensures.looks.regs 10 refl in
+    let form = c.in_ok-form_of.ensures.looks.regs 11 refl in
     let before = c.in_ok-form_of.ensures.ready in
     let ready = c.copy.ensures.ready before in
     serves_then _ c.in_ok-stack.ensures.serves
-    (found_then _ (ap (λ x. form_in x ((g.M.ObjectMemory.told c.form_of.new.m).regs 11)) c.in-Some.is) (c.in_ok-form_of.ensures.serves _)
-    (serves_then _ (put_serves_at 9 10 _ refl form before ready c.copy.ensures.told)
+    (found_then _ (ap (λ x. form_in x ((g.M.ObjectMemory.told c.form_of.new.m).regs 13)) c.in-Some.is) (c.in_ok-form_of.ensures.serves _)
+    (serves_then _ (put_serves_at 9 11 _ refl form before ready c.copy.ensures.told)
     (numbers_then _ (serves_then _ (set_numbers_at _ refl ready) (done_serves ready)))))

@@ -13,6 +13,6 @@ pub returns-clause-serves : goal.returns-clause-serves
 unfolding display_form
 returns-clause-serves g c =
     let before = c.copy.ensures.ready c.requires.ready in
-    let form = put_value _ _ 10 _ c.copy.ensures.told in
+    let form = put_value _ _ 11 _ c.copy.ensures.told in
     numbers_then _ (register_then 9 _ refl (pick_true _ _ _ c.if-not-cpu.false
-    (read_first c.requires.ready (copy_quiet _ _ 10 9 (omega arith) c.requires.ready before c.copy.ensures.told) (rw form at c.form_of.ensures.serves c.args.cpu.now))))
+    (read_first c.requires.ready (copy_quiet _ _ 11 9 (omega arith) c.requires.ready before c.copy.ensures.told) (rw form at c.form_of.ensures.serves c.args.cpu.now))))

@@ -11,4 +11,4 @@ pub returns-clause-bytes : goal.returns-clause-bytes
 returns-clause-bytes g c = λ told.
     c.row_bytes.ensures.bytes
     ∙ ap (λ (words : List ℕ). row_bytes c.args.width words 0) (c.in_ok-read_row.ensures.words told)
-    ∙ row_is (words_told (g.M.ObjectMemory.told c.args.m.now) 11) c.args.width c.args.y
+    ∙ row_is (words_told (g.M.ObjectMemory.told c.args.m.now) 13) c.args.width c.args.y

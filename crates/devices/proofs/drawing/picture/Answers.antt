@@ -36,7 +36,7 @@ rows-preserved g c =
     record {
       text = λ told.
           row.text (here.looks.later.tells ∙ told)
-          ∙ rows_more width y (words_told u 11) c.in_ok-text.text c.rows.text (row_bytes width (words_told v 11) y) (here.text told) (ap (λ (words : List ℕ). row_bytes width words y) (words_stay u v here.ready here.looks told));
+          ∙ rows_more width y (words_told u 13) c.in_ok-text.text c.rows.text (row_bytes width (words_told v 13) y) (here.text told) (ap (λ (words : List ℕ). row_bytes width words y) (words_stay u v here.ready here.looks told));
       looks = Looks-trans [] [] u v w here.ready here.looks row.reads;
       ready = row.ready;
       sound = row.sound;
@@ -52,4 +52,4 @@ returns-clause-drawn g c =
     let past = c.rows-test.false in
     let all : c.rows.y ≡ c.in-Some.height = omega arith in
     drawn c.in-Some.width c.in-Some.height (rw c.in-Some.is at c.in_ok-width.ensures.serves) c.in_ok-width.ensures.ready _ c.rows.text here.ready here.looks (rw c.in-Some.is at c.in_ok-width.ensures.rows)
-    (λ told. here.text told ∙ ap₂ (λ (front : List ℕ) (n : ℕ). front ++ concat (map (row_bytes c.in-Some.width (words_told u 11)) (range_with_len 0 n))) c.in_ok-text.ensures all)
+    (λ told. here.text told ∙ ap₂ (λ (front : List ℕ) (n : ℕ). front ++ concat (map (row_bytes c.in-Some.width (words_told u 13)) (range_with_len 0 n))) c.in_ok-text.ensures all)

@@ -10,7 +10,7 @@ abbrev pub invariant-rows : goal.invariant-rows
 invariant-rows g l =
     let told = g.M.ObjectMemory.told in
     record {
-      text : IsTrue ((told l.initial.m).tells) → l.text ≡ l.initial.text ++ concat (map (row_bytes l.width (words_told (told l.initial.m) 11)) (range_with_len 0 l.y));
+      text : IsTrue ((told l.initial.m).tells) → l.text ≡ l.initial.text ++ concat (map (row_bytes l.width (words_told (told l.initial.m) 13)) (range_with_len 0 l.y));
       looks : Looks [] (told l.initial.m) (told l.m);
       ready : IsReady (told l.m);
       sound : g.M.ObjectMemory.sound l.m;

@@ -4,7 +4,7 @@ use Rattle.blue_model.specs.Storage.{row}
 use Rattle.blue_model.specs.Devices.{device_primitives}
 use Rattle.blue_model.specs.Devices as model
 use Rattle.contexts.proofs.ServesLaws.{speaks_quiet}
-use Rattle.process_sched.proofs.TableLaws.{row_serves, row_fails, none_serves}
+use Rattle.contexts.proofs.TableLaws.{row_serves, row_fails, none_serves}
 use Rattle.devices.proofs.table.run.Goals as goal
 
 pub returns-in-93-eq1-clause-speaks : goal.returns-in-93-eq1-clause-speaks

@@ -1,5 +1,5 @@
 -- The line is that of the run's own answer.
-use Rattle.std.proofs.Common.{arith, rules, refl}
+use Rattle.std.proofs.Common.{arith, rules}
 use Rattle.loom_outside.specs.declared.outside.Role.TheVariants.{Notes}
 use Rattle.loom_run.specs.Meanings.{meanings}
 use Rattle.loom_run.proofs.Lines.{noted-run}

@@ -2,7 +2,7 @@ use Rattle.std.proofs.Common.{refl}
 use Rattle.blue_model.specs.Machine.{pick}
 use Rattle.blue_model.specs.Storage.{object_primitives, row}
 use Rattle.blue_model.specs.Storage as model
-use Rattle.prims_object.proofs.TableLaws.{row_serves, row_fails, none_serves}
+use Rattle.contexts.proofs.TableLaws.{row_serves, row_fails, none_serves}
 use Rattle.prims_object.proofs.table.run.Goals as goal
 
 pub returns-in-60-eq1-clause-serves : goal.returns-in-60-eq1-clause-serves

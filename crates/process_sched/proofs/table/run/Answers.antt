@@ -3,7 +3,7 @@ use Rattle.blue_model.specs.Machine.{pick}
 use Rattle.blue_model.specs.Storage.{row}
 use Rattle.blue_model.specs.Processes.{process_primitives}
 use Rattle.blue_model.specs.Processes as model
-use Rattle.process_sched.proofs.TableLaws.{row_serves, row_fails, none_serves}
+use Rattle.contexts.proofs.TableLaws.{row_serves, row_fails, none_serves}
 use Rattle.process_sched.proofs.table.run.Goals as goal
 
 pub returns-in-85-eq0-clause-serves : goal.returns-in-85-eq0-clause-serves

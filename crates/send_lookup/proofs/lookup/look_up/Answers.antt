@@ -1,4 +1,4 @@
-use Rattle.std.proofs.Common.{◌≡◌, ℕ, List, [], ◌∷◌, refl, ◌∙◌, arith}
+use Rattle.std.proofs.Common.{[], ◌∷◌, refl, ◌∙◌, arith}
 use Rattle.object_memory.proofs.LooksLaws.{Looks-put, put_value, below_among}
 use Rattle.contexts.proofs.Steps.{read_first}
 use Rattle.contexts.proofs.RegisterLaws.{copy_quiet}

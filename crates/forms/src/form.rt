@@ -1,4 +1,4 @@
-// Forms (chapter 18): bits, width and height. A form is in SCRATCH_1, numbers are read into SCRATCH_2.
+// The shape of a form: a form is in SCRATCH_1, numbers are read into SCRATCH_2.
 ghost use Rattle.std.specs.Prelude.{◌≡◌, ◌≤◌, ◌<◌, [], ◌∷◌, length, OnOk, IfOk, IfSome};
 ghost use Rattle.long_names.specs.Objects.{words_of};
 ghost use Rattle.object_memory.specs.Told.{IsReady};
@@ -6,14 +6,12 @@ ghost use Rattle.object_memory.specs.Shape.{Looks, HasPartAt};
 ghost use Rattle.blue_model.specs.declared.cpu.Cpu.{Cpu as Numbers};
 ghost use Rattle.blue_model.specs.Trials.{peek};
 ghost use Rattle.blue_model.specs.Forms as model;
-ghost use Rattle.blue_model.specs.BitBlt.{form_or_nil};
 ghost use Rattle.contexts.specs.Serves.{Serves, StaysSound};
-ghost use Rattle.bitblt.specs.Shapes.{IsExtent, extents_found, enough, forms_found, optional_found, OptionalRoom};
-ghost use Rattle.bitblt.specs.Shapes as shapes;
+ghost use Rattle.forms.specs.Shapes.{IsExtent, extents_found, enough, forms_found};
+ghost use Rattle.forms.specs.Shapes as shapes;
 
 use contexts::Stop;
 use contexts::peeks::{peek_field, peek_number};
-use long_names::Name;
 use object_memory::{ObjectMemory, Reg, shape};
 
 /// How many columns and rows a form has.
@@ -58,7 +56,7 @@ fn read_extent<M: ObjectMemory>(m: &mut M) -> Result<Option<Extent>, Stop>
 }
 
 /// So many words are a row of a form of this width.
-pub(crate) fn row_words(width: u16) -> u32
+pub fn row_words(width: u16) -> u32
     ensures { result ≡ model.row_words width }
 {
     (width as u32 + 15) / 16
@@ -77,7 +75,7 @@ fn least_words(halftone: bool, extent: Extent) -> u32
 }
 
 /// Loads the bits of the form into a register. None where it has no form's shape, or where a halftone has fewer than 16 words.
-pub(crate) fn read_form<M: ObjectMemory>(
+pub fn read_form<M: ObjectMemory>(
     m: &mut M,
     bits: Reg,
     halftone: bool,
@@ -107,31 +105,4 @@ pub(crate) fn read_form<M: ObjectMemory>(
         return Ok(None);
     }
     Ok(Some(extent))
-}
-
-/// The same, where nil stands for no form.
-pub(crate) fn read_optional_form<M: ObjectMemory>(
-    m: &mut M,
-    bits: Reg,
-    halftone: bool,
-) -> Result<Option<Option<Extent>>, Stop>
-    requires sound { M.sound m.old }
-    requires ready { IsReady (M.told m.old) }
-    requires bits { 13 ≤ bits }
-    ensures serves { (cpu : Numbers) → Serves (M.told m.old) cpu (M.told m.new) cpu (form_or_nil (model.form_where (enough halftone)) ((M.told m.old).regs 11)) (optional_found result ((M.told m.new).regs bits)) }
-    ensures looks { OnOk result (Looks (bits ∷ 12 ∷ []) (M.told m.old) (M.told m.new)) }
-    ensures room { IfOk result (λ found. IfSome found (OptionalRoom (M.told m.new) bits halftone)) }
-    ensures extent { IfOk result (λ found. IfSome found (λ x. IfSome x (λ e. IsExtent e × (shapes.least_words halftone e < 65536)))) }
-    ensures ready { OnOk result (IsReady (M.told m.new)) }
-    ensures sound { StaysSound result (M.sound m.new) }
-    ensures lender { M.lender m.new ≡ M.lender m.old }
-    ensures outside { M.outside m.new ≡ M.outside m.old }
-{
-    if m.is(Reg::SCRATCH_1, Name::NIL) {
-        return Ok(Some(None));
-    }
-    let Some(extent) = read_form(m, bits, halftone)? else {
-        return Ok(None);
-    };
-    Ok(Some(Some(extent)))
 }

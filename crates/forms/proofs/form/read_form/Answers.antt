@@ -1,6 +1,6 @@
 use Rattle.std.proofs.Common.{ℕ, ◌≡◌, ◌<◌, ◌≤◌, Option, Some, Ok, [], ◌∷◌, refl, sym, ◌∙◌, ap, subst, arith}
 use Rattle.std.specs.Option.{option_map}
-use Rattle.bitblt.specs.declared.forms.Extent.{Extent}
+use Rattle.forms.specs.declared.form.Extent.{Extent}
 use Rattle.long_names.specs.Objects.{words_of}
 use Rattle.object_memory.specs.Shape.{Looks}
 use Rattle.object_memory.proofs.LooksLaws.{Looks-read, Looks-trans, has_looked}
@@ -10,10 +10,10 @@ use Rattle.blue_model.specs.Forms.{word_count, extent_of, form_where}
 use Rattle.blue_model.specs.Forms as model
 use Rattle.contexts.specs.Serves.{Serves}
 use Rattle.contexts.proofs.PeekLaws.{peek_serves, first_refused, found_one, found_none}
-use Rattle.bitblt.specs.Shapes.{extent_by, form_by, enough, least_words}
-use Rattle.bitblt.proofs.PeekPairs.{exits_by}
-use Rattle.bitblt.proofs.FormLaws.{form_serves, no_bits, no_words, bits_stopped, words_stopped, extent_stopped, count_is, formed_some, formed_none, form_apart, bits_apart, wider}
-use Rattle.bitblt.proofs.forms.read_form.Goals as goal
+use Rattle.forms.specs.Shapes.{extent_by, form_by, enough, least_words}
+use Rattle.contexts.proofs.PeekPairs.{exits_by}
+use Rattle.forms.proofs.FormLaws.{form_serves, no_bits, no_words, bits_stopped, words_stopped, extent_stopped, count_is, formed_some, formed_none, form_apart, bits_apart, wider}
+use Rattle.forms.proofs.form.read_form.Goals as goal
 
 pub returns-in_err-peek_field-clause-serves : goal.returns-in_err-peek_field-clause-serves
 returns-in_err-peek_field-clause-serves g c = λ cpu. exits_by _ _ c.from_residual.ensures.1 (bits_stopped (enough c.args.halftone) _ (c.in_err-peek_field.ensures.serves cpu))

@@ -3,11 +3,11 @@ use Rattle.std.specs.Option.{option_map}
 use Rattle.blue_model.specs.Forms.{form_where}
 use Rattle.blue_model.specs.BitBlt.{some_form, form_or_nil}
 use Rattle.contexts.specs.Serves.{Serves}
-use Rattle.bitblt.specs.declared.forms.Extent.{Extent}
-use Rattle.bitblt.specs.Shapes.{enough, form_by}
-use Rattle.bitblt.proofs.PeekPairs.{exits_by}
+use Rattle.forms.specs.declared.form.Extent.{Extent}
+use Rattle.forms.specs.Shapes.{enough, form_by}
+use Rattle.contexts.proofs.PeekPairs.{exits_by}
 use Rattle.bitblt.proofs.FormLaws.{nil_serves, found_serves, found_stopped, looks_any}
-use Rattle.bitblt.proofs.forms.read_optional_form.Goals as goal
+use Rattle.bitblt.proofs.optional.read_optional_form.Goals as goal
 
 pub returns-then-is-clause-serves : goal.returns-then-is-clause-serves
 returns-then-is-clause-serves g c = λ cpu. nil_serves (form_where (enough c.args.halftone)) _ (sym c.is.ensures ∙ c.if-is.true) c.requires.ready

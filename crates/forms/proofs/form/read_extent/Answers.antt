@@ -8,9 +8,9 @@ use Rattle.blue_model.specs.Forms.{extent_of, positive}
 use Rattle.blue_model.specs.Forms as model
 use Rattle.contexts.specs.Serves.{Serves}
 use Rattle.contexts.proofs.ReadLaws.{looks_again}
-use Rattle.bitblt.proofs.PeekPairs.{peek_fault, later_fault, peek_join, peek_none, exits_by, of_some}
-use Rattle.bitblt.proofs.FormLaws.{extent_makes, extent_lacks, no_height, by_number}
-use Rattle.bitblt.proofs.forms.read_extent.Goals as goal
+use Rattle.contexts.proofs.PeekPairs.{peek_fault, later_fault, peek_join, peek_none, exits_by, of_some}
+use Rattle.forms.proofs.FormLaws.{extent_makes, extent_lacks, no_height, by_number}
+use Rattle.forms.proofs.form.read_extent.Goals as goal
 
 pub returns-in_err-x-clause-serves : goal.returns-in_err-x-clause-serves
 returns-in_err-x-clause-serves g c = λ cpu. exits_by _ _ c.from_residual.ensures.1 (peek_fault (number 3 1) extent_of 11 c.requires.ready (c.in_err-x.ensures.serves cpu))

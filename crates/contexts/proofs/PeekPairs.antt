@@ -14,17 +14,15 @@ use Rattle.blue_model.specs.declared.cpu.Cpu.{Cpu}
 use Rattle.blue_model.specs.Machine.{Machine, MACHINE_REGISTERS, LogRow, Outcome, Go, Rule, rows_at, looked, after, then_do, ◌>>=◌, done, look}
 use Rattle.blue_model.specs.Trials.{peek}
 use Rattle.contexts.specs.declared.stop.Stop.{Stop}
-use Rattle.contexts.specs.declared.stop.Stop.TheVariants.{Stuck, Mem, NotBuilt}
+use Rattle.contexts.specs.declared.stop.Stop.TheVariants.{Stuck, Mem}
 use Rattle.object_memory.specs.declared.fault.MemFault.TheVariants.{CoreFull, WorkFull, WorkFault, Damaged, NamesSpent, Said, Memory}
-use Rattle.contexts.specs.Serves.{Stands, Gives, HasReason, Serves}
-use Rattle.contexts.proofs.ServesLaws.{serves_then}
+use Rattle.contexts.specs.Serves.{Stands, Gives, HasReason, Serves, found_by}
+use Rattle.contexts.proofs.ServesLaws.{serves_then, by_model}
 use Rattle.contexts.proofs.Steps.{done_serves, read_first}
 use Rattle.contexts.proofs.ReadLaws.{quiet}
 use Rattle.std.specs.Prelude.{IfSome}
 use Rattle.std.specs.Result.{IsErrAnd}
 use Rattle.std.proofs.lemmas.Result.{err_from_is_err_and}
-use Rattle.bitblt.specs.Asking.{found_by}
-use Rattle.bitblt.proofs.BlitLaws.{by_model}
 
 -- what a value names is there
 abbrev pub IsThere : Heap → Value → Type 0
@@ -56,12 +54,10 @@ peek_fault {A} {B} {old} {new} {cpu} {e} f k r ready s = record {
   where
     reason : (e : Stop) → HasReason {A = Option A} old new (Err e) → HasReason {A = Option B} old new (Err e)
     reason (Stuck c) h = tt
-    reason NotBuilt h = tt
     reason (Mem f) h = h
 
     fault_to : (e : Stop) (a : Option A) (b : Option B) (m : Machine) (rows : List LogRow) → Gives {A = Option A} new cpu (Err e) (Go a m rows) → Gives {A = Option B} new cpu (Err e) (Go b m rows)
     fault_to (Stuck c) a b m rows h = absurd h
-    fault_to NotBuilt a b m rows h = absurd h
     fault_to (Mem (CoreFull need)) a b m rows h = h
     fault_to (Mem (WorkFull live room)) a b m rows h = h
     fault_to (Mem (WorkFault count)) a b m rows h = tt
