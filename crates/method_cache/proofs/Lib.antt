@@ -1,0 +1,2 @@
+mod CacheLaws
+mod CallLaws

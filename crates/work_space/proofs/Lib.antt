@@ -1,0 +1,5 @@
+pub mod BlockLaws
+pub mod CountLaws
+mod Examples
+pub mod FreeLaws
+pub mod SpaceLaws

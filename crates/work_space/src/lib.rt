@@ -1,0 +1,27 @@
+//! Blocks in the work file: a block of class c has 32 * 2^c bytes, for c from 0 to 14.
+//!
+//! Blocks are laid one behind the other from a place on. A block that is given back is linked through Work itself into the list of its
+//! class, and taken again before a new one is laid. So `take` and `give` touch one link each, and take no memory.
+//!
+//! ```text
+//! let mut space = Space::new(49_152);             // what Work holds before this place is the caller's
+//! let place = space.take(&mut host, 2)?;          // 128 bytes from `place` on
+//! host.write_at(place, &record)?;
+//! space.give(&mut host, place, 2)?;
+//! ```
+//!
+//! Which blocks are out is for the caller to know. What holds of them, `IsSpace`, speaks of a space, of what Work contains, and of the
+//! blocks, so each call says what it makes of it where the host tells Work: the clauses `takes` and `gives`. The laws say what a caller
+//! may write. Read `specs/Blocks.antt` first, then `specs/Space.antt`, then `specs/Calls.antt`. The crate doesn't know what is in a block.
+#![tactic(auto)]
+
+mod class;
+pub mod laws;
+mod link;
+mod space;
+
+pub use class::{block_bytes, class_of};
+pub use space::Space;
+
+#[cfg(test)]
+mod tests;
