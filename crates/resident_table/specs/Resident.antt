@@ -1,11 +1,12 @@
 -- What a resident table stands for: a map from names to short words.
 use Rattle.std.specs.Prelude.{ℕ, ◌==◌, Option, None, length, if◌then◌else◌}
+use Rattle.probing.specs.Table.{looked_up}
 use Rattle.resident_table.specs.declared.resident.Resident.{Resident}
-use Rattle.resident_table.specs.Inside.{slot_at, looked_up}
+use Rattle.resident_table.specs.Inside.{name_at, short_at}
 
 -- the short word of a name
 unfoldable pub short_of : Resident → ℕ → Option ℕ
-short_of r name = if name == 0 then None else looked_up (slot_at r.slots.items) (length r.slots.items) name
+short_of r name = if name == 0 then None else looked_up (name_at r.slots.items) (short_at r.slots.items) (length r.slots.items) name
 
 -- how many names have one
 unfoldable pub held_of : Resident → ℕ

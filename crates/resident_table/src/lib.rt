@@ -11,7 +11,7 @@
 //! }
 //! ```
 //!
-//! Read `specs/Resident.antt` first; `specs/Inside.antt` has how names are found. The table doesn't know what a short name means: that an
+//! Read `specs/Resident.antt` first; `probing` has how names are found. The table doesn't know what a short name means: that an
 //! entry and its name belong together is for the layers above `Parts2` to keep.
 #![tactic(auto)]
 

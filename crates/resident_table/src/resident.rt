@@ -1,10 +1,12 @@
 // The resident table: names and their short names in slots, found by linear probing from a name's home.
 ghost use Rattle.std.specs.Prelude.{◌≡◌, ◌+◌, ◌*◌, ◌≤◌, length};
-ghost use Rattle.resident_table.specs.Inside.{slot_at, IsTable};
+ghost use Rattle.probing.specs.Table.{IsTable};
+ghost use Rattle.resident_table.specs.Inside.{name_at};
 
-use crate::probe::{Slot, close_up, turn};
+use crate::probe::{Slot, close_up};
 use long_names::Name;
 use object_table::Short;
+use probing::turn;
 use std::alloc::{AllocError, Global};
 
 /// A map from names to short names, with room for as many as it was made for.
@@ -17,14 +19,14 @@ pub struct Resident {
     ghost size: { length slots.items ≡ 2 * room + 2 },
     ghost small: { length slots.items ≤ 131072 },
     ghost few: { held ≤ room },
-    ghost table: { IsTable (slot_at slots.items) (length slots.items) held },
+    ghost table: { IsTable (name_at slots.items) (length slots.items) held },
 }
 
 impl Resident {
     ghost use Rattle.std.specs.Prelude.{◌≡◌, ◌≢◌, ◌+◌, ◌-◌, ◌<◌, ℕ, IfOk, IfSome, IfNone, Some, None, IsSome, length, option_map};
     ghost use Rattle.object_table.specs.declared.entry.Short.{Short};
     ghost use Rattle.object_table.specs.Entries.{put};
-    ghost use Rattle.resident_table.specs.Inside.{Ends, slot_at};
+    ghost use Rattle.resident_table.specs.Inside.{Ends, name_at};
     ghost use Rattle.resident_table.specs.Resident.{short_of, held_of, room_of};
 
     /// An empty table with room for so many names.
@@ -44,12 +46,12 @@ impl Resident {
     fn seek(&self, name: u32) -> usize
         requires { 0 < name }
         ensures within { result < length self.now.slots.items }
-        ensures ends { Ends (slot_at self.now.slots.items) (length self.now.slots.items) name result }
+        ensures ends { Ends (name_at self.now.slots.items) (length self.now.slots.items) name result }
     {
-        let slots = self.slots.len();
-        let home = name as usize / 2 % slots;
+        let slots = self.slots.len() as u32;
+        let home = name / 2 % slots;
         for step in 0..slots {
-            let at = turn(home, step, slots);
+            let at = turn(home, step, slots) as usize;
             let slot = self.slots[at];
             if slot.name == 0 || slot.name == name {
                 return at;

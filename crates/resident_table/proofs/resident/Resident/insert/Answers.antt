@@ -2,11 +2,12 @@ use Rattle.std.proofs.Common.{ℕ, ◌≢◌, ◌+◌, length, Some, refl, subst
 use Rattle.std.proofs.Math.ListN.{length-set}
 use Rattle.std.specs.List.{slice_set}
 use Rattle.object_table.specs.Entries.{put}
+use Rattle.probing.specs.Table.{IsTable}
+use Rattle.probing.proofs.TableLaws.{put_table}
 use Rattle.resident_table.specs.declared.probe.Slot.{Slot}
-use Rattle.resident_table.specs.Inside.{slot_at, IsTable}
+use Rattle.resident_table.specs.Inside.{name_at}
 use Rattle.resident_table.specs.Resident.{short_of, held_of, room_of}
-use Rattle.resident_table.proofs.ProbeLaws.{put_table}
-use Rattle.resident_table.proofs.SlotLaws.{puts, short-put, ends-vacant}
+use Rattle.resident_table.proofs.SlotLaws.{puts-name, short-put, ends-vacant}
 use Rattle.resident_table.proofs.resident.Resident.insert.Goals as goal
 
 pub overflow_add-self : goal.overflow_add-self
@@ -27,9 +28,9 @@ invariant_of-self c =
       size = size ∙ r.size;
       small = let small = r.small in omega arith;
       few = let room = c.requires.room in omega arith;
-      table = subst (λ (n : ℕ). IsTable (slot_at (slice_set slots c.seek-at.result slot)) n (r.held + 1)) (sym size)
-          (put_table (slot_at slots) (slot_at (slice_set slots c.seek-at.result slot)) (length slots) r.held c.seek-at.result slot r.table named
-          c.seek-at.ensures.within v (puts slots (length slots) c.seek-at.result slot c.seek-at.ensures.within));
+      table = subst (λ (n : ℕ). IsTable (name_at (slice_set slots c.seek-at.result slot)) n (r.held + 1)) (sym size)
+          (put_table (name_at slots) (name_at (slice_set slots c.seek-at.result slot)) (length slots) r.held c.seek-at.result name r.table named
+          c.seek-at.ensures.within v (puts-name slots (length slots) c.seek-at.result slot c.seek-at.ensures.within));
     }
 
 pub returns-clause-find : goal.returns-clause-find

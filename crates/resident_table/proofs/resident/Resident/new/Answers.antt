@@ -1,7 +1,7 @@
 use Rattle.std.proofs.Common.{◌+◌, ◌*◌, length, refl, arith}
-use Rattle.resident_table.specs.Inside.{slot_at}
+use Rattle.probing.proofs.TableLaws.{empty_table}
+use Rattle.resident_table.specs.Inside.{name_at}
 use Rattle.resident_table.specs.Resident.{short_of, held_of, room_of}
-use Rattle.resident_table.proofs.ProbeLaws.{empty_table}
 use Rattle.resident_table.proofs.SlotLaws.{slots-none, short-none}
 use Rattle.resident_table.proofs.resident.Resident.new.Goals as goal
 
@@ -13,7 +13,7 @@ invariant_of-result c =
       size = omega (arith, c.in_ok-vec.ensures.len, c.in_ok-vec.field-0.ok.0);
       small = let fits = c.ranges.entries.fits in omega (arith, c.in_ok-vec.ensures.len, c.in_ok-vec.field-0.ok.0);
       few = omega arith;
-      table = empty_table (slot_at slots) (length slots) none;
+      table = empty_table (name_at slots) (length slots) none;
     }
 
 pub returns-clause-none : goal.returns-clause-none

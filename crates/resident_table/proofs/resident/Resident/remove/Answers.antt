@@ -1,7 +1,8 @@
 use Rattle.std.proofs.Common.{ℕ, ◌≢◌, length, refl, subst, sym, ◌∙◌, arith}
-use Rattle.resident_table.specs.Inside.{slot_at, used, Ends}
+use Rattle.probing.specs.Table.{used}
+use Rattle.probing.proofs.ClosingLaws.{used_some}
+use Rattle.resident_table.specs.Inside.{name_at, Ends}
 use Rattle.resident_table.specs.Resident.{short_of, held_of, room_of}
-use Rattle.resident_table.proofs.ClosingLaws.{used_some}
 use Rattle.resident_table.proofs.SlotLaws.{short-closed, ends-there}
 use Rattle.resident_table.proofs.resident.Resident.remove.Goals as goal
 
@@ -13,7 +14,7 @@ unfolding short_of
 close_up-requires-clause-named c =
     let r = c.args.self.now in
     let named : c.args.name ≢ 0 = let up = c.get.ensures.name.above in omega arith in
-    let ends = subst (λ (n : ℕ). Ends (slot_at r.slots.items) (length r.slots.items) n c.seek-at.result) c.get.ensures.value c.seek-at.ensures.ends in
+    let ends = subst (λ (n : ℕ). Ends (name_at r.slots.items) (length r.slots.items) n c.seek-at.result) c.get.ensures.value c.seek-at.ensures.ends in
     let is = ends-there r.slots.items r.held c.args.name c.seek-at.result r.table named ends c.requires.there in
     λ e. named (sym is ∙ e)
 
@@ -22,9 +23,9 @@ unfolding short_of
 overflow_sub-self c =
     let r = c.args.self.now in
     let named : c.args.name ≢ 0 = let up = c.get.ensures.name.above in omega arith in
-    let ends = subst (λ (n : ℕ). Ends (slot_at r.slots.items) (length r.slots.items) n c.seek-at.result) c.get.ensures.value c.seek-at.ensures.ends in
+    let ends = subst (λ (n : ℕ). Ends (name_at r.slots.items) (length r.slots.items) n c.seek-at.result) c.get.ensures.value c.seek-at.ensures.ends in
     let is = ends-there r.slots.items r.held c.args.name c.seek-at.result r.table named ends c.requires.there in
-    let one = used_some (slot_at r.slots.items) (length r.slots.items) c.seek-at.result c.seek-at.ensures.within (λ e. named (sym is ∙ e)) in
+    let one = used_some (name_at r.slots.items) (length r.slots.items) c.seek-at.result c.seek-at.ensures.within (λ e. named (sym is ∙ e)) in
     let count = r.table.count_is in
     omega arith
 
@@ -33,9 +34,9 @@ unfolding short_of
 returns-clause-find c =
     let r = c.args.self.now in
     let named : c.args.name ≢ 0 = let up = c.get.ensures.name.above in omega arith in
-    let ends = subst (λ (n : ℕ). Ends (slot_at r.slots.items) (length r.slots.items) n c.seek-at.result) c.get.ensures.value c.seek-at.ensures.ends in
+    let ends = subst (λ (n : ℕ). Ends (name_at r.slots.items) (length r.slots.items) n c.seek-at.result) c.get.ensures.value c.seek-at.ensures.ends in
     let is = ends-there r.slots.items r.held c.args.name c.seek-at.result r.table named ends c.requires.there in
-    short-closed r.slots.items c.close_up.new.slots.items (used (slot_at r.slots.items) (length r.slots.items)) c.seek-at.result c.args.name
+    short-closed r.slots.items c.close_up.new.slots.items (used (name_at r.slots.items) (length r.slots.items)) c.seek-at.result c.args.name
     c.close_up.ensures.closed c.close_up.ensures.size is named
 
 pub returns-clause-held : goal.returns-clause-held
@@ -43,9 +44,9 @@ unfolding short_of held_of
 returns-clause-held c =
     let r = c.args.self.now in
     let named : c.args.name ≢ 0 = let up = c.get.ensures.name.above in omega arith in
-    let ends = subst (λ (n : ℕ). Ends (slot_at r.slots.items) (length r.slots.items) n c.seek-at.result) c.get.ensures.value c.seek-at.ensures.ends in
+    let ends = subst (λ (n : ℕ). Ends (name_at r.slots.items) (length r.slots.items) n c.seek-at.result) c.get.ensures.value c.seek-at.ensures.ends in
     let is = ends-there r.slots.items r.held c.args.name c.seek-at.result r.table named ends c.requires.there in
-    let one = used_some (slot_at r.slots.items) (length r.slots.items) c.seek-at.result c.seek-at.ensures.within (λ e. named (sym is ∙ e)) in
+    let one = used_some (name_at r.slots.items) (length r.slots.items) c.seek-at.result c.seek-at.ensures.within (λ e. named (sym is ∙ e)) in
     let count = r.table.count_is in
     omega arith
 

@@ -1,0 +1,3 @@
+pub mod ClosingLaws
+pub mod MapLaws
+pub mod TableLaws

@@ -1,0 +1,7 @@
+mod CauseLaws
+mod ChangeLaws
+pub mod ContentsLaws
+pub mod EntryLaws
+mod HostLaws
+mod SlotLaws
+mod UnderWay

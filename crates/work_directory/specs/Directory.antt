@@ -1,0 +1,71 @@
+-- What a directory in Work stands for: a map from names to entries.
+use Rattle.std.specs.Prelude.{◌≡◌, ℕ, ◌*◌, List, Option, None, IsSome, IsTrue}
+use Rattle.std.specs.FinMap as map
+use Rattle.loom_outside.specs.declared.outside.Host.{Ghosts}
+use Rattle.loom_outside.specs.declared.outside.Role.TheVariants.{Work}
+use Rattle.probing.specs.Table.{map_of, IsTable}
+use Rattle.work_directory.specs.declared.slot.Slot.{Slot}
+use Rattle.work_directory.specs.declared.directory.Directory.{Directory}
+use Rattle.work_directory.specs.Slots.{slot_at, used_slot, AreSpelled}
+use Rattle.work_directory.specs.Table.{Entries, name_at, entry_at}
+use Rattle.work_directory.specs.Work.{SameFrom, work_of}
+
+-- how many names it has room for, and how many it holds
+unfoldable pub room_of : Directory → ℕ
+room_of d = d.room
+
+unfoldable pub held_of : Directory → ℕ
+held_of d = d.held
+
+-- how many slots it has
+abbrev pub slots_of : Directory → ℕ
+slots_of d = 2 * room_of d
+
+-- the place behind its last slot
+abbrev pub end_of : Directory → ℕ
+end_of d = 24 * slots_of d
+
+-- the entries that it has in these contents of Work
+unfoldable pub entries_of : Directory → List ℕ → Entries
+entries_of d work = map_of (name_at work) (entry_at work) (slots_of d)
+
+-- slot i in these contents, where it isn't empty
+unfoldable pub shown_at : List ℕ → ℕ → Option Slot
+shown_at work i = used_slot (slot_at work i)
+
+-- these contents of Work hold the directory
+pub record IsIn (d : Directory) (work : List ℕ) : Type 0 where
+  -- each slot is spelled as one
+  pub spelled : AreSpelled work (slots_of d)
+  -- a search finds what there is, and so many slots are used as the directory counts
+  pub table : IsTable (name_at work) (slots_of d) (held_of d)
+  -- it has as many entries
+  pub held : map.len (entries_of d work) ≡ held_of d
+
+-- the new contents hold the directory with these entries, and behind it all is as it was
+pub record IsChanged (d : Directory) (entries : Entries) (old new : List ℕ) : Type 0 where
+  pub is_in : IsIn d new
+  pub entries_are : entries_of d new ≡ entries
+  pub behind : SameFrom (end_of d) old new
+
+-- ---- in Work of a host, where it tells Work
+
+-- Work holds the directory
+abbrev pub Stands : {H : Type 0} → Ghosts H → H → Directory → Type 0
+Stands host now d = IsTrue (host.tells Work) → IsIn d (work_of host now)
+
+-- the entries that it has there
+abbrev pub entries_in : {H : Type 0} → Ghosts H → H → Directory → Entries
+entries_in host now d = entries_of d (work_of host now)
+
+-- a name is held
+abbrev pub Holds : {H : Type 0} → Ghosts H → H → Directory → ℕ → Type 0
+Holds host now d name = IsTrue (host.tells Work) → IsSome (map.get (entries_in host now d) name)
+
+-- a name isn't held
+abbrev pub Lacks : {H : Type 0} → Ghosts H → H → Directory → ℕ → Type 0
+Lacks host now d name = IsTrue (host.tells Work) → map.get (entries_in host now d) name ≡ None
+
+-- Work holds the directory with these entries after a call, and behind it what it held before
+abbrev pub Becomes : {H : Type 0} → Ghosts H → H → H → Directory → Entries → Type 0
+Becomes host old new d entries = IsTrue (host.tells Work) → IsChanged d entries (work_of host old) (work_of host new)

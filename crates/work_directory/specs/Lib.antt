@@ -1,0 +1,5 @@
+pub mod Directory
+pub mod Inside
+pub mod Slots
+pub mod Table
+pub mod Work

@@ -1,0 +1,235 @@
+// A map from names to counts and places. What stands in Work behind its slots stays as it is.
+ghost use Rattle.std.specs.Prelude.{◌<◌, ◌≤◌};
+
+use crate::slot::{Slot, clear, damaged, look, place_of, put};
+use long_names::Name;
+use loom_outside::{DiskFault, Host};
+use probing::{distance, turn};
+
+/// The directory of the work file: the counts and places of the objects on disk. It has twice as many slots of 24 bytes as it has room
+/// for names, from the first byte of Work on. A name is looked for from its index on, slot by slot and around the end, up to an empty
+/// slot; where one is removed, those behind it that a search would miss move up.
+///
+/// Each call answers Work where a call of the host failed. It answers Damaged where a slot that it read is none, where it met no empty
+/// slot, or where a name isn't there that is to be, or is there that isn't to be; a host that tells Work shows none of these. After
+/// either, the directory is as it was, but what its slots in Work hold isn't known any more, unless the call only reads.
+#[derive(Drop)]
+pub struct Directory {
+    room: u32,
+    held: u32,
+    ghost some: { 0 < room },
+    ghost most: { room ≤ 1048576 },
+    ghost fits: { held ≤ room },
+}
+
+// Where the search for a name ended: at its slot, or at an empty one.
+#[derive(Clone, Copy)]
+enum Found {
+    Held { at: u32, slot: Slot },
+    Vacant { at: u32 },
+}
+
+impl Directory {
+    ghost use Rattle.std.specs.Prelude.{◌≡◌, ◌≢◌, ◌+◌, [], IsTrue, IfSome, IfOk, IfErr, OnOk, OnErr, Err, option_map};
+    ghost use Rattle.std.specs.FinMap as map;
+    ghost use Rattle.loom_outside.specs.declared.outside.DiskFault.TheVariants.{Full};
+    ghost use Rattle.loom_outside.specs.declared.outside.Role.{Role};
+    ghost use Rattle.work_directory.specs.Directory.{room_of, held_of, slots_of, end_of, entries_of, shown_at, IsIn, Stands, entries_in, Holds, Lacks, Becomes};
+    ghost use Rattle.work_directory.specs.Inside.{IsOfName, AnswersSearch, Closes};
+    ghost use Rattle.work_directory.specs.Slots.{slot_at};
+    ghost use Rattle.work_directory.specs.Table.{entry_of};
+    ghost use Rattle.work_directory.specs.Work.{work_of, IsWorkOnly, IsWorkRead, IsCause, IsSlotCause};
+
+    /// An empty directory with room for so many names, over an empty file.
+    pub fn new(room: u32) -> Directory
+        requires some { 0 < room }
+        requires most { room ≤ 1048576 }
+        ensures room { room_of result ≡ room }
+        ensures held { held_of result ≡ 0 }
+        ensures stands { IsIn result [] }
+        ensures none { entries_of result [] ≡ map.empty }
+    {
+        Directory { room, held: 0 }
+    }
+
+    /// How many names are held.
+    #[tactic(auto, unfolding(crate::specs::Directory::room_of, crate::specs::Directory::held_of))]
+    pub fn len(&self) -> u32
+        ensures value { result ≡ held_of self.now }
+        ensures most { result ≤ room_of self.now }
+    {
+        self.held
+    }
+
+    /// How many names it has room for.
+    #[tactic(auto, unfolding(crate::specs::Directory::room_of))]
+    pub fn room(&self) -> u32
+        ensures value { result ≡ room_of self.now }
+        ensures some { 0 < result }
+        ensures most { result ≤ 1048576 }
+    {
+        self.room
+    }
+
+    /// How many slots it has: twice its room.
+    #[tactic(auto, unfolding(crate::specs::Directory::room_of))]
+    pub fn slots(&self) -> u32
+        ensures value { result ≡ slots_of self.now }
+        ensures some { 1 < result }
+        ensures most { result ≤ 2097152 }
+    {
+        2 * self.room
+    }
+
+    /// The byte of Work behind its last slot: 48 times its room.
+    pub fn end(&self) -> u64
+        ensures value { result ≡ end_of self.now }
+        ensures most { result ≤ 50331648 }
+    {
+        place_of(self.slots())
+    }
+
+    // Searches for a name.
+    fn seek<H: Host>(&self, host: &mut H, name: Name) -> Result<Found, DiskFault>
+        requires stands { Stands H.Host host.old self.now }
+        ensures name { IfOk result (IsOfName (slots_of self.now) name) }
+        ensures found { IfOk result (λ found. IsTrue (H.tells Role.Work) → AnswersSearch (work_of H.Host host.old) (slots_of self.now) name found) }
+        ensures read { IsWorkRead H.Host host.old host.new }
+        ensures cause { IfErr result (IsCause H.Host host.old host.new (end_of self.now) name) }
+    {
+        let slots = self.slots();
+        let home = name.index() % slots;
+        for step in 0..slots {
+            let at = turn(home, step, slots);
+            let Some(slot) = look(host, at, Some(name))? else {
+                return Ok(Found::Vacant { at });
+            };
+            if slot.name == name {
+                return Ok(Found::Held { at, slot });
+            }
+        }
+        Err(damaged(turn(home, slots - 1, slots), name))
+    }
+
+    /// The slot of a name: None exactly where it isn't held.
+    pub fn find<H: Host>(&self, host: &mut H, name: Name) -> Result<Option<Slot>, DiskFault>
+        requires stands { Stands H.Host host.old self.now }
+        ensures found { IfOk result (λ slot. IsTrue (H.tells Role.Work) → option_map entry_of slot ≡ map.get (entries_in H.Host host.old self.now) name) }
+        ensures name { IfOk result (λ slot. IfSome slot (λ s. s.name ≡ name)) }
+        ensures read { IsWorkRead H.Host host.old host.new }
+        ensures cause { IfErr result (IsCause H.Host host.old host.new (end_of self.now) name) }
+    {
+        match self.seek(host, name)? {
+            Found::Held { slot, .. } => Ok(Some(slot)),
+            Found::Vacant { .. } => Ok(None),
+        }
+    }
+
+    /// What stands in slot `i`, None where it is empty. Damage is told about the word in place of its name.
+    pub fn slot<H: Host>(&self, host: &mut H, i: u32) -> Result<Option<Slot>, DiskFault>
+        requires within { i < slots_of self.now }
+        requires stands { Stands H.Host host.old self.now }
+        ensures shown { IfOk result (λ slot. IsTrue (H.tells Role.Work) → slot ≡ shown_at (work_of H.Host host.old) i) }
+        ensures read { IsWorkRead H.Host host.old host.new }
+        ensures cause { IfErr result (IsSlotCause H.Host host.old host.new i) }
+    {
+        look(host, i, None)
+    }
+
+    /// Adds a name that isn't held. Full exactly where as many are held as there is room for; nothing is done then.
+    #[tactic(auto, unfolding(crate::specs::Directory::room_of, crate::specs::Directory::held_of))]
+    pub fn add<H: Host>(&mut self, host: &mut H, slot: Slot) -> Result<(), DiskFault>
+        requires stands { Stands H.Host host.old self.old }
+        requires absent { Lacks H.Host host.old self.old slot.name }
+        ensures added { OnOk result (Becomes H.Host host.old host.new self.new (map.insert (entries_in H.Host host.old self.old) slot.name (entry_of slot))) }
+        ensures held { OnOk result (held_of self.new ≡ held_of self.old + 1) }
+        ensures still { OnErr result (self.new ≡ self.old) }
+        ensures room { room_of self.new ≡ room_of self.old }
+        ensures full { held_of self.old ≡ room_of self.old → (result ≡ Err (Full (held_of self.old) (room_of self.old))) × (host.new ≡ host.old) }
+        ensures work { IsWorkOnly H.Host host.old host.new }
+        ensures cause { held_of self.old ≢ room_of self.old → IfErr result (IsCause H.Host host.old host.new (end_of self.old) slot.name) }
+    {
+        if self.held == self.room {
+            return Err(DiskFault::Full {
+                held: self.held,
+                room: self.room,
+            });
+        }
+        let at = match self.seek(host, slot.name)? {
+            Found::Held { at, .. } => return Err(damaged(at, slot.name)),
+            Found::Vacant { at } => at,
+        };
+        put(host, at, &slot)?;
+        self.held += 1;
+        Ok(())
+    }
+
+    /// Sets the count and the place of a name that is held.
+    #[tactic(auto, unfolding(crate::specs::Directory::room_of, crate::specs::Directory::held_of))]
+    pub fn set<H: Host>(&mut self, host: &mut H, slot: Slot) -> Result<(), DiskFault>
+        requires stands { Stands H.Host host.old self.old }
+        requires there { Holds H.Host host.old self.old slot.name }
+        ensures set { OnOk result (Becomes H.Host host.old host.new self.new (map.insert (entries_in H.Host host.old self.old) slot.name (entry_of slot))) }
+        ensures still { self.new ≡ self.old }
+        ensures work { IsWorkOnly H.Host host.old host.new }
+        ensures cause { IfErr result (IsCause H.Host host.old host.new (end_of self.old) slot.name) }
+    {
+        match self.seek(host, slot.name)? {
+            Found::Held { at, .. } => put(host, at, &slot),
+            Found::Vacant { at } => Err(damaged(at, slot.name)),
+        }
+    }
+
+    /// Removes a name that is held.
+    #[tactic(auto, unfolding(crate::specs::Directory::room_of, crate::specs::Directory::held_of))]
+    pub fn remove<H: Host>(&mut self, host: &mut H, name: Name) -> Result<(), DiskFault>
+        requires stands { Stands H.Host host.old self.old }
+        requires there { Holds H.Host host.old self.old name }
+        ensures removed { OnOk result (Becomes H.Host host.old host.new self.new (map.remove (entries_in H.Host host.old self.old) name)) }
+        ensures held { OnOk result (held_of self.new + 1 ≡ held_of self.old) }
+        ensures still { OnErr result (self.new ≡ self.old) }
+        ensures room { room_of self.new ≡ room_of self.old }
+        ensures work { IsWorkOnly H.Host host.old host.new }
+        ensures cause { IfErr result (IsCause H.Host host.old host.new (end_of self.old) name) }
+    {
+        let at = match self.seek(host, name)? {
+            Found::Held { at, .. } => at,
+            Found::Vacant { at } => return Err(damaged(at, name)),
+        };
+        if self.held == 0 {
+            return Err(damaged(at, name));
+        }
+        self.close_up(host, at, name)?;
+        self.held -= 1;
+        Ok(())
+    }
+
+    // Takes out the slot `at` of a name: later ones move up over it, until the hole needs no filling.
+    fn close_up<H: Host>(&self, host: &mut H, at: u32, name: Name) -> Result<(), DiskFault>
+        requires within { at < slots_of self.now }
+        requires stands { Stands H.Host host.old self.now }
+        requires used { IsTrue (H.tells Role.Work) → (slot_at (work_of H.Host host.old) at).name ≢ 0 }
+        ensures closed { OnOk result (IsTrue (H.tells Role.Work) → Closes (work_of H.Host host.old) (work_of H.Host host.new) (slots_of self.now) (held_of self.now) at) }
+        ensures work { IsWorkOnly H.Host host.old host.new }
+        ensures cause { IfErr result (IsCause H.Host host.old host.new (end_of self.now) name) }
+    {
+        let slots = self.slots();
+        let mut hole = at;
+        let mut gap = 1;
+        for _step in 1..slots {
+            let place = turn(hole, gap, slots);
+            let Some(slot) = look(host, place, Some(name))? else {
+                return clear(host, hole);
+            };
+            let home = slot.name.index() % slots;
+            if distance(home, place, slots) < gap {
+                gap += 1;
+            } else {
+                put(host, hole, &slot)?;
+                hole = place;
+                gap = 1;
+            }
+        }
+        Err(damaged(turn(at, slots - 1, slots), name))
+    }
+}

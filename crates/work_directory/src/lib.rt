@@ -1,0 +1,25 @@
+//! The directory of the work file: the count and the place of each object on disk, by its name.
+//!
+//! A directory stands for a map from names to entries in the contents of Work, `entries_of`. `find` answers the map's entry, and None
+//! exactly where there is none; `add`, `set` and `remove` are one equation of whole maps each (`Becomes`). `add` answers Full exactly
+//! where as many names are held as there is room for. What stands in Work behind the slots stays, and no call takes memory.
+//!
+//! ```text
+//! let mut directory = Directory::new(room);
+//! directory.add(host, Slot { name, count: 1, place: directory.end() })?;
+//! let slot = directory.find(host, name)?;
+//! ```
+//!
+//! Read `specs/Directory.antt` first, then `specs/Work.antt` for what a call leaves of the host and why it fails; `specs/Slots.antt`
+//! has the bytes, and `probing` how a name is found. The crate doesn't know what stands at a place: that is for the layers above.
+#![tactic(auto)]
+
+mod directory;
+pub mod laws;
+mod slot;
+
+pub use directory::Directory;
+pub use slot::Slot;
+
+#[cfg(test)]
+mod tests;
