@@ -1,0 +1,11 @@
+mod WindowLaws
+mod RecordLaws
+mod ClassLaws
+mod FaultLaws
+mod TouchLaws
+mod StoredLaws
+mod DiskLaws
+mod FoundLaws
+mod PutLaws
+mod KeyLaws
+mod NamesLaws

@@ -1,0 +1,30 @@
+//! Objects in the work file: a finite map from names to records with counts, and a list of pending names.
+//!
+//! The directory stands first in Work and has each object's count and place. Behind it lie blocks: each record stands in one of the
+//! smallest class that holds it. Where a record has its count, Work has the link of the pending list, the next pending name, so that a
+//! record may move. Each call costs what the record has, and none but `names` takes memory.
+//!
+//! ```text
+//! let mut disk = DiskObjects::begin(&mut host, room);
+//! disk.put(&buf, 1)?;                            // the record that `buf` has, under its name
+//! let held = disk.get(name, &mut buf)?;
+//! let _host = disk.into_host();
+//! ```
+//!
+//! `IsDisk rest work objects queue` says which objects and pending names stand in what Work contains. Each call says what it makes of
+//! them where the host tells Work, for whatever they are: `put` inserts, `remove` removes, `take_pending` takes the first. A host that
+//! doesn't tell Work is tested, and answered by Damaged. Read `specs/Disk.antt` first, then `specs/Calls.antt`.
+#![tactic(auto)]
+
+pub mod laws;
+mod names;
+mod objects;
+mod record;
+mod rest;
+
+pub use names::NamesFault;
+pub use objects::DiskObjects;
+pub use rest::DiskRest;
+
+#[cfg(test)]
+mod tests;

@@ -1,0 +1,265 @@
+// A disk: what stands in Work of a host stands for a map of objects and a list of pending names.
+ghost use Rattle.std.specs.Prelude.{◌≡◌, ◌≢◌, ◌<◌, ◌≤◌, ◌^◌, ℕ, List, [], ◌∷◌, length, min, Option, None, Some, IsOk, IsTrue, IfOk, IfErr, IsErr, OnOk, OnErr, option_map};
+ghost use Rattle.std.specs.FinMap as map;
+ghost use Rattle.loom_outside.specs.declared.outside.Role.{Role};
+ghost use Rattle.loom_outside.specs.Outside.{Attached, CanAttach, CanRead, CanWrite, HasCause, IsFresh, PutPrefix, SameBut, Took, TookSome, puts};
+ghost use Rattle.object_record.specs.Buffer.{HasRecord, raw_of};
+ghost use Rattle.work_directory.specs.Work.{IsWorkOnly, IsWorkRead, work_of};
+
+use crate::names::NamesFault;
+use crate::rest::DiskRest;
+use long_names::{Name, NameList};
+use loom_outside::{DiskFault, Failed, Host, Role, read_full, write_full};
+use object_record::RecordBuf;
+use std::alloc::Global;
+
+/// Objects in the work file of a host, which it holds until it is taken apart: a finite map from names to records with counts, and a
+/// list of pending names. After a fault nothing is known of the objects any more.
+#[derive(Drop)]
+pub struct DiskObjects<'h, H: Host> {
+    pub(crate) host: &'h mut H,
+    rest: DiskRest,
+}
+
+impl<'h, H: Host> DiskObjects<'h, H> {
+    ghost use Rattle.disk_objects.specs.Calls.{Stands, StandsWith, IsIdle, CanChange, IsFault, IsGot, IsNamesFault, IsPutFault, TookFirst, changed_by};
+    ghost use Rattle.disk_objects.specs.Disk.{DiskObject, IsDisk, Objects, disk_first, disk_held, disk_room, link_to, object_of};
+
+    /// A disk without objects, with room for so many, over Work that is attached and empty.
+    pub fn begin(host: &'h mut H, room: u32) -> DiskObjects<'h, H>
+        requires some { 0 < room }
+        requires most { room ≤ 1048576 }
+        requires empty { IsTrue (H.tells Role.Work) → work_of H.Host host.old ≡ [] }
+        ensures disk { IsTrue (H.tells Role.Work) → IsDisk result.rest (work_of H.Host result.host.now) map.empty [] }
+        ensures room { disk_room result.rest ≡ room }
+        ensures host { result.host.ghost_name ≡ host.entry.ghost_name }
+        ensures now { result.host.now ≡ host.old }
+    {
+        DiskObjects {
+            host,
+            rest: DiskRest::new(room),
+        }
+    }
+
+    /// Hands the host back, and what is known of the disk beside it.
+    pub fn apart(self) -> (&'h mut H, DiskRest)
+        ensures host { result.0.ghost_name ≡ self.entry.host.ghost_name }
+        ensures now { result.0.now ≡ self.entry.host.now }
+        ensures rest { result.1 ≡ self.entry.rest }
+    {
+        (self.host, self.rest)
+    }
+
+    /// Hands the host back and lets the disk go.
+    pub fn into_host(self) -> &'h mut H
+        ensures host { result.ghost_name ≡ self.entry.host.ghost_name }
+        ensures now { result.now ≡ self.entry.host.now }
+    {
+        self.host
+    }
+
+    /// Joins a host to what was known of its disk. Work of this host has to hold what it held when they were taken apart.
+    pub fn again(host: &'h mut H, rest: DiskRest) -> DiskObjects<'h, H>
+        ensures host { result.host.ghost_name ≡ host.entry.ghost_name }
+        ensures now { result.host.now ≡ host.old }
+        ensures rest { result.rest ≡ rest }
+    {
+        DiskObjects { host, rest }
+    }
+
+    /// For how many objects there is room, as it was given at the beginning.
+    pub fn room(&self) -> u32
+        ensures { result ≡ disk_room self.now.rest }
+    {
+        self.rest.room()
+    }
+
+    /// How many objects there are.
+    pub fn len(&self) -> u32
+        ensures objects { IsTrue (H.tells Role.Work) → (objects : Objects) (queue : List ℕ) →
+            IsDisk self.now.rest (work_of H.Host self.now.host.now) objects queue → result ≡ map.len objects }
+        ensures value { result ≡ disk_held self.now.rest }
+        ensures most { result ≤ disk_room self.now.rest }
+    {
+        self.rest.len()
+    }
+
+    /// Puts the record of a name into the buffer: false exactly where the name isn't held. The record's count is any number. After
+    /// false or a fault the buffer may hold anything.
+    pub fn get(&mut self, name: Name, buf: &mut RecordBuf) -> Result<bool, DiskFault>
+        requires stands { Stands H.Host self.old.host.now self.old.rest }
+        ensures got { IsTrue (H.tells Role.Work) → (objects : Objects) (queue : List ℕ) →
+            IsDisk self.old.rest (work_of H.Host self.old.host.now) objects queue → IfOk result (IsGot buf.new (map.get objects name)) }
+        ensures record { IfOk result (λ held. IsTrue held → HasRecord buf.new × ((raw_of buf.new).name ≡ name)) }
+        ensures rest { self.new.rest ≡ self.old.rest }
+        ensures read { IsWorkRead H.Host self.old.host.now self.new.host.now }
+        ensures same_host { self.new.host.ghost_name ≡ self.old.host.ghost_name }
+        ensures fault { IfErr result (IsFault (H.tells Role.Work) (H.faults self.old.host.now Role.Work) (H.faults self.new.host.now Role.Work) name) }
+    {
+        self.rest.get(self.host, name, buf)
+    }
+
+    /// Puts the buffer's record with a count, in place of what its name has. Full exactly where the name isn't held and as many are as
+    /// there is room for; nothing changes then.
+    pub fn put(&mut self, buf: &RecordBuf, count: u64) -> Result<(), DiskFault>
+        requires record { HasRecord buf.now }
+        requires stands { Stands H.Host self.old.host.now self.old.rest }
+        ensures put { IsTrue (H.tells Role.Work) → (objects : Objects) (queue : List ℕ) →
+            IsDisk self.old.rest (work_of H.Host self.old.host.now) objects queue →
+            OnOk result (IsDisk self.new.rest (work_of H.Host self.new.host.now) (map.insert objects (raw_of buf.now).name (object_of (raw_of buf.now) count)) queue) }
+        ensures full { IsTrue (H.tells Role.Work) → (objects : Objects) (queue : List ℕ) →
+            IsDisk self.old.rest (work_of H.Host self.old.host.now) objects queue →
+            disk_held self.old.rest ≡ disk_room self.old.rest → map.get objects (raw_of buf.now).name ≡ None → IsErr result }
+        ensures room { disk_room self.new.rest ≡ disk_room self.old.rest }
+        ensures work { IsWorkOnly H.Host self.old.host.now self.new.host.now }
+        ensures same_host { self.new.host.ghost_name ≡ self.old.host.ghost_name }
+        ensures fault { IfErr result (IsPutFault H.Host self.old.host.now self.new.host.now self.old.rest self.new.rest (raw_of buf.now).name) }
+    {
+        self.rest.put(self.host, buf, count)
+    }
+
+    /// The count of a name: None exactly where it isn't held.
+    pub fn count(&mut self, name: Name) -> Result<Option<u64>, DiskFault>
+        requires stands { Stands H.Host self.old.host.now self.old.rest }
+        ensures count { IsTrue (H.tells Role.Work) → (objects : Objects) (queue : List ℕ) →
+            IsDisk self.old.rest (work_of H.Host self.old.host.now) objects queue →
+            IfOk result (λ count. count ≡ option_map (λ (o : DiskObject). o.count) (map.get objects name)) }
+        ensures rest { self.new.rest ≡ self.old.rest }
+        ensures read { IsWorkRead H.Host self.old.host.now self.new.host.now }
+        ensures same_host { self.new.host.ghost_name ≡ self.old.host.ghost_name }
+        ensures fault { IfErr result (IsFault (H.tells Role.Work) (H.faults self.old.host.now Role.Work) (H.faults self.new.host.now Role.Work) name) }
+    {
+        self.rest.count(self.host, name)
+    }
+
+    /// Changes the count of a name that is held, and answers it. The new count has to be from 0 to the greatest u64.
+    pub fn add_count(&mut self, name: Name, change: i64) -> Result<u64, DiskFault>
+        requires stands { StandsWith H.Host self.old.host.now self.old.rest (CanChange name change) }
+        ensures counted { IsTrue (H.tells Role.Work) → (objects : Objects) (queue : List ℕ) →
+            IsDisk self.old.rest (work_of H.Host self.old.host.now) objects queue → (o : DiskObject) → map.get objects name ≡ Some o →
+            IfOk result (λ count. (count ≡ changed_by o.count change)
+            × IsDisk self.new.rest (work_of H.Host self.new.host.now) (map.insert objects name (record { raw = o.raw; count = count })) queue) }
+        ensures room { disk_room self.new.rest ≡ disk_room self.old.rest }
+        ensures work { IsWorkOnly H.Host self.old.host.now self.new.host.now }
+        ensures same_host { self.new.host.ghost_name ≡ self.old.host.ghost_name }
+        ensures fault { IfErr result (IsFault (H.tells Role.Work) (H.faults self.old.host.now Role.Work) (H.faults self.new.host.now Role.Work) name) }
+    {
+        self.rest.add_count(self.host, name, change)
+    }
+
+    /// Removes a name that is held and not pending.
+    pub fn remove(&mut self, name: Name) -> Result<(), DiskFault>
+        requires stands { StandsWith H.Host self.old.host.now self.old.rest (IsIdle name) }
+        ensures removed { IsTrue (H.tells Role.Work) → (objects : Objects) (queue : List ℕ) →
+            IsDisk self.old.rest (work_of H.Host self.old.host.now) objects queue → IsIdle name objects queue →
+            OnOk result (IsDisk self.new.rest (work_of H.Host self.new.host.now) (map.remove objects name) queue) }
+        ensures room { disk_room self.new.rest ≡ disk_room self.old.rest }
+        ensures work { IsWorkOnly H.Host self.old.host.now self.new.host.now }
+        ensures same_host { self.new.host.ghost_name ≡ self.old.host.ghost_name }
+        ensures fault { IfErr result (IsFault (H.tells Role.Work) (H.faults self.old.host.now Role.Work) (H.faults self.new.host.now Role.Work) name) }
+    {
+        self.rest.remove(self.host, name)
+    }
+
+    /// Makes a name that is held and not pending the first pending one.
+    pub fn put_pending(&mut self, name: Name) -> Result<(), DiskFault>
+        requires stands { StandsWith H.Host self.old.host.now self.old.rest (IsIdle name) }
+        ensures queued { IsTrue (H.tells Role.Work) → (objects : Objects) (queue : List ℕ) →
+            IsDisk self.old.rest (work_of H.Host self.old.host.now) objects queue → IsIdle name objects queue →
+            OnOk result (IsDisk self.new.rest (work_of H.Host self.new.host.now) objects (name ∷ queue)) }
+        ensures room { disk_room self.new.rest ≡ disk_room self.old.rest }
+        ensures work { IsWorkOnly H.Host self.old.host.now self.new.host.now }
+        ensures same_host { self.new.host.ghost_name ≡ self.old.host.ghost_name }
+        ensures fault { IfErr result (IsFault (H.tells Role.Work) (H.faults self.old.host.now Role.Work) (H.faults self.new.host.now Role.Work) name) }
+    {
+        self.rest.put_pending(self.host, name)
+    }
+
+    /// Takes the first pending name, which stays held: None exactly where none is pending.
+    pub fn take_pending(&mut self) -> Result<Option<Name>, DiskFault>
+        requires stands { Stands H.Host self.old.host.now self.old.rest }
+        ensures took { IsTrue (H.tells Role.Work) → (objects : Objects) (queue : List ℕ) →
+            IsDisk self.old.rest (work_of H.Host self.old.host.now) objects queue →
+            IfOk result (TookFirst queue (IsDisk self.new.rest (work_of H.Host self.new.host.now) objects)) }
+        ensures first { IfOk result (λ name. name ≡ disk_first self.old.rest) }
+        ensures room { disk_room self.new.rest ≡ disk_room self.old.rest }
+        ensures read { IsWorkRead H.Host self.old.host.now self.new.host.now }
+        ensures same_host { self.new.host.ghost_name ≡ self.old.host.ghost_name }
+        ensures fault { IfErr result (IsFault (H.tells Role.Work) (H.faults self.old.host.now Role.Work) (H.faults self.new.host.now Role.Work) (link_to (disk_first self.old.rest))) }
+    {
+        self.rest.take_pending(self.host)
+    }
+
+    /// The names of all objects, rising.
+    pub fn names(&mut self, alloc: Global) -> Result<NameList, NamesFault>
+        requires stands { Stands H.Host self.old.host.now self.old.rest }
+        ensures names { IsTrue (H.tells Role.Work) → (objects : Objects) (queue : List ℕ) →
+            IsDisk self.old.rest (work_of H.Host self.old.host.now) objects queue → IfOk result (λ names. names ≡ map.keys objects) }
+        ensures rest { self.new.rest ≡ self.old.rest }
+        ensures read { IsWorkRead H.Host self.old.host.now self.new.host.now }
+        ensures same_host { self.new.host.ghost_name ≡ self.old.host.ghost_name }
+        ensures fault { IfErr result (IsNamesFault (H.tells Role.Work) (H.faults self.old.host.now Role.Work) (H.faults self.new.host.now Role.Work)) }
+    {
+        self.rest.names(self.host, alloc)
+    }
+
+    /// `attach` of the host, for a role that isn't Work. The objects stay.
+    pub fn attach(&mut self, role: Role, name: &str) -> Result<(), Failed>
+        requires can { CanAttach role }
+        requires other { role ≢ Role.Work }
+        ensures attached { IsTrue (H.tells role) → Attached name.now result (H.roles self.old.host.now role) (H.roles self.new.host.now role) }
+        ensures fresh { IsTrue (H.tells role) → OnOk result (IsFresh (H.roles self.new.host.now role)) }
+        ensures others { SameBut role (H.roles self.old.host.now) (H.roles self.new.host.now) }
+        ensures work { H.roles self.new.host.now Role.Work ≡ H.roles self.old.host.now Role.Work }
+        ensures other_faults { SameBut role (H.faults self.old.host.now) (H.faults self.new.host.now) }
+        ensures writes { H.writes self.new.host.now ≡ H.writes self.old.host.now }
+        ensures cause { HasCause (H.faults self.old.host.now role) (H.faults self.new.host.now role) result }
+        ensures rest { self.new.rest ≡ self.old.rest }
+        ensures same_host { self.new.host.ghost_name ≡ self.old.host.ghost_name }
+    {
+        self.host.attach(role, name)
+    }
+
+    /// `read_full` of the host: fills the buffer, or less exactly where the end came, and says how many bytes it took.
+    pub fn read_from(&mut self, role: Role, buf: &mut [u8]) -> Result<usize, Failed>
+        requires { CanRead role }
+        ensures bound { IfOk result (λ n. n ≤ length buf.old) }
+        ensures took { IsTrue (H.tells role) → IfOk result (λ n. Took n buf.new (H.roles self.old.host.now role) (H.roles self.new.host.now role)) }
+        ensures full { IsTrue (H.tells role) → IfOk result (λ n. n ≡ min (length buf.old) (length (H.roles self.old.host.now role).left)) }
+        ensures failed { IsTrue (H.tells role) → OnErr result (TookSome (length buf.old) (H.roles self.old.host.now role) (H.roles self.new.host.now role)) }
+        ensures empty { length buf.old ≡ 0 → (self.new.host.now ≡ self.old.host.now) × IfOk result (λ n. n ≡ 0) × IsOk result }
+        ensures others { SameBut role (H.roles self.old.host.now) (H.roles self.new.host.now) }
+        ensures work { H.roles self.new.host.now Role.Work ≡ H.roles self.old.host.now Role.Work }
+        ensures other_faults { SameBut role (H.faults self.old.host.now) (H.faults self.new.host.now) }
+        ensures writes { H.writes self.new.host.now ≡ H.writes self.old.host.now }
+        ensures cause { HasCause (H.faults self.old.host.now role) (H.faults self.new.host.now role) result }
+        ensures rest { self.new.rest ≡ self.old.rest }
+        ensures same_host { self.new.host.ghost_name ≡ self.old.host.ghost_name }
+    {
+        read_full(self.host, role, buf)
+    }
+
+    /// `write_full` of the host: puts the whole piece. Where that failed, some of its first bytes may have been put.
+    pub fn write_to(&mut self, role: Role, buf: &[u8]) -> Result<(), Failed>
+        requires { CanWrite role }
+        ensures put { IsTrue (H.tells role) → OnOk result (H.roles self.new.host.now role ≡ puts buf.now (H.roles self.old.host.now role)) }
+        ensures failed { IsTrue (H.tells role) → OnErr result (PutPrefix buf.now (H.roles self.old.host.now role) (H.roles self.new.host.now role)) }
+        ensures empty { length buf.now ≡ 0 → (self.new.host.now ≡ self.old.host.now) × IsOk result }
+        ensures others { SameBut role (H.roles self.old.host.now) (H.roles self.new.host.now) }
+        ensures work { H.roles self.new.host.now Role.Work ≡ H.roles self.old.host.now Role.Work }
+        ensures other_faults { SameBut role (H.faults self.old.host.now) (H.faults self.new.host.now) }
+        ensures writes { H.writes self.new.host.now ≡ H.writes self.old.host.now }
+        ensures cause { HasCause (H.faults self.old.host.now role) (H.faults self.new.host.now role) result }
+        ensures rest { self.new.rest ≡ self.old.rest }
+        ensures same_host { self.new.host.ghost_name ≡ self.old.host.ghost_name }
+    {
+        write_full(self.host, role, buf)
+    }
+
+    /// How often calls on this role failed, up to the greatest u64.
+    pub fn fault_count(&self, role: Role) -> u64
+        ensures { result ≡ H.faults self.now.host.now role }
+    {
+        self.host.fault_count(role)
+    }
+}

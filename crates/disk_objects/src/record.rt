@@ -1,0 +1,279 @@
+// Records in Work. A record's eight count bytes are the link of the pending names there.
+ghost use Rattle.std.specs.Prelude.{◌≡◌, ◌≢◌, ◌<◌, ◌≤◌, ◌^◌, ◌+◌, ◌++◌, ℕ, List, length, take, drop, slice_index, IsTrue, IfOk, IfErr, OnOk, MatchResult, Option};
+ghost use Rattle.byteorder.specs.Endian.{big_number};
+ghost use Rattle.long_names.specs.Names.{IsLongName};
+ghost use Rattle.loom_outside.specs.Bytes.{window};
+ghost use Rattle.loom_outside.specs.declared.outside.DiskFault.TheVariants.{Damaged};
+ghost use Rattle.object_record.specs.Buffer.{BUFFER, HasRecord, long_at, raw_of, word_at};
+ghost use Rattle.object_record.specs.Inside.{end_stated};
+ghost use Rattle.object_record.specs.Raw.{IsRawRecord, RawRecord};
+ghost use Rattle.work_directory.specs.Work.{IsWorkOnly, IsWorkRead, work_of};
+ghost use Rattle.work_space.specs.Blocks.{AreFew, link_at};
+ghost use Rattle.work_space.specs.Calls.{IsWorkFault};
+ghost use Rattle.work_space.specs.Space.{IsSpace, from_of};
+ghost use Rattle.disk_objects.specs.Disk.{IsClass, IsLaid, link_to, record_size, with_count};
+ghost use Rattle.disk_objects.specs.Inside.{IsHead, IsHeadFault, IsLinkFault, IsRecordFault, IsRecordSize, IsSizedHead, IsStoreFault, Stores, Touches, Writes, size_stated_in};
+
+use byteorder::{BigEndian, ByteOrder};
+use long_names::{Kind, Name};
+use loom_outside::{DiskFault, Host, Role};
+use object_record::RecordBuf;
+use work_space::{Space, class_of};
+
+// How many bytes the longest record has.
+const LONGEST: u64 = 262_160;
+
+// How many of the first bytes of a record say how long it is. The smallest block has them.
+const HEAD: usize = 28;
+
+// Where a record has its count, and here the link.
+const LINK_AT: u64 = 8;
+
+// The place behind which no record begins.
+pub(crate) const LAST_PLACE: u64 = 1 << 62;
+
+/// What the first bytes of a record say.
+#[derive(Clone, Copy)]
+pub(crate) struct Head {
+    pub(crate) link: u64,
+    pub(crate) size: u64,
+    // the class of its block
+    pub(crate) class: u8,
+}
+
+// The fault of a call on Work that has just failed.
+pub(crate) fn failed<H: Host>(host: &H) -> DiskFault
+    ensures { result ≡ DiskFault.Work (H.faults host.now Role.Work) }
+{
+    DiskFault::Work {
+        count: host.fault_count(Role::Work),
+    }
+}
+
+fn word_at(bytes: &[u8], at: usize) -> u16
+    requires { at + 2 ≤ length bytes.now }
+    ensures { result ≡ word_at bytes.now at }
+{
+    u16::from_be_bytes([bytes[at], bytes[at + 1]])
+}
+
+fn long_at(bytes: &[u8], at: usize) -> u32
+    requires { at + 4 ≤ length bytes.now }
+    ensures { result ≡ long_at bytes.now at }
+{
+    u32::from_be_bytes([bytes[at], bytes[at + 1], bytes[at + 2], bytes[at + 3]])
+}
+
+// How many bytes a record has before its zeros, by its first bytes.
+fn end_of(bytes: &[u8]) -> u64
+    requires { length bytes.now ≡ 28 }
+    ensures end { result ≡ end_stated bytes.now }
+    ensures most { result < 2 ^ 35 }
+{
+    let size = u64::from(word_at(bytes, 18));
+    match word_at(bytes, 16) {
+        0 => 20 + 4 * size,
+        1 => 20 + 2 * size,
+        2 => 20 + size,
+        _ => 28 + 4 * u64::from(long_at(bytes, 20)) + size,
+    }
+}
+
+// How many bytes a record has, by its first bytes.
+fn size_of(bytes: &[u8]) -> u64
+    requires { length bytes.now ≡ 28 }
+    ensures { result ≡ size_stated_in bytes.now }
+{
+    let end = end_of(bytes);
+    end + (4 - end % 4) % 4
+}
+
+// What the first bytes of the record at a place say. Damage is told about a name.
+fn parse(bytes: &[u8], place: u64, name: Name) -> Result<Head, DiskFault>
+    requires { length bytes.now ≡ 28 }
+    ensures link { IfOk result (λ head. head.link ≡ big_number 8 (take 8 (drop 8 bytes.now))) }
+    ensures size { IfOk result (λ head. head.size ≡ size_stated_in bytes.now) }
+    ensures sized { IfOk result IsSizedHead }
+    ensures fault { IfErr result (λ fault. (fault ≡ Damaged place name) × (262160 < size_stated_in bytes.now)) }
+{
+    let size = size_of(bytes);
+    if size > LONGEST {
+        return Err(DiskFault::Damaged {
+            place,
+            name: name.get(),
+        });
+    }
+    Ok(Head {
+        link: BigEndian::read_u64(&bytes[8..16]),
+        size,
+        class: class_of(size).unwrap(),
+    })
+}
+
+// Reads the first bytes of the record at a place. Damage is told about a name.
+pub(crate) fn read_head<H: Host>(host: &mut H, place: u64, name: Name) -> Result<Head, DiskFault>
+    ensures head { IsTrue (H.tells Role.Work) → IfOk result (IsHead (work_of H.Host host.old) place) }
+    ensures sized { IfOk result IsSizedHead }
+    ensures read { IsWorkRead H.Host host.old host.new }
+    ensures fault { IfErr result (IsHeadFault (work_of H.Host host.old) (H.tells Role.Work) (H.faults host.old Role.Work) (H.faults host.new Role.Work) place name) }
+{
+    let mut bytes = [0; HEAD];
+    match host.read_at(place, &mut bytes) {
+        Ok(()) => parse(&bytes, place, name),
+        Err(_) => Err(failed(host)),
+    }
+}
+
+// Reads so many bytes at a place to the front of a piece.
+fn fill<H: Host>(host: &mut H, place: u64, size: usize, bytes: &mut [u8]) -> Result<(), DiskFault>
+    requires { size ≤ length bytes.old }
+    ensures bytes { IsTrue (H.tells Role.Work) → OnOk result (bytes.new ≡ window (work_of H.Host host.old) place size ++ drop size bytes.old) }
+    ensures fits { (k : ℕ) → slice_index bytes.new k < 256 }
+    ensures len { length bytes.new ≡ length bytes.old }
+    ensures read { IsWorkRead H.Host host.old host.new }
+    ensures fault { IfErr result (IsWorkFault (H.faults host.old Role.Work) (H.faults host.new Role.Work)) }
+{
+    match host.read_at(place, &mut bytes[..size]) {
+        Ok(()) => Ok(()),
+        Err(_) => Err(failed(host)),
+    }
+}
+
+// Reads the record of a name, of so many bytes, into a buffer. A record of as many zeros is made there first, so that the buffer is
+// known to have the bytes.
+pub(crate) fn read_record<H: Host>(
+    host: &mut H,
+    place: u64,
+    size: u64,
+    name: Name,
+    buf: &mut RecordBuf,
+) -> Result<(), DiskFault>
+    requires size { IsRecordSize size }
+    ensures record { OnOk result (HasRecord buf.new × ((raw_of buf.new).name ≡ name)) }
+    ensures told { IsTrue (H.tells Role.Work) → (raw : RawRecord) (link : ℕ) → IsRawRecord raw → raw.name ≡ name → size ≡ record_size raw →
+        IsLaid (work_of H.Host host.old) place raw link →
+        MatchResult result (λ _. with_count (raw_of buf.new) 0 ≡ with_count raw 0) (IsWorkFault (H.faults host.old Role.Work) (H.faults host.new Role.Work)) }
+    ensures read { IsWorkRead H.Host host.old host.new }
+    ensures fault { IfErr result (IsRecordFault (H.faults host.old Role.Work) (H.faults host.new Role.Work) name) }
+{
+    buf.blank(name, Name::NIL, Kind::Pointers, (size as u32 - 20) / 4, 0);
+    fill(host, place, size as usize, buf.space())?;
+    if !buf.is_record(name) {
+        return Err(DiskFault::Damaged {
+            place,
+            name: name.get(),
+        });
+    }
+    Ok(())
+}
+
+// The name that a link is to, None for 0. Damage is told about a name.
+fn parse_link(link: u64, place: u64, name: Name) -> Result<Option<Name>, DiskFault>
+    ensures link { IfOk result (λ next. link ≡ link_to next) }
+    ensures fault { IfErr result (λ fault. (fault ≡ Damaged place name) × (link ≢ 0) × (IsLongName link → ⊥)) }
+{
+    if link == 0 {
+        return Ok(None);
+    }
+    if link <= u64::from(u32::MAX) {
+        if let Some(next) = Name::new(link as u32) {
+            return Ok(Some(next));
+        }
+    }
+    Err(DiskFault::Damaged {
+        place,
+        name: name.get(),
+    })
+}
+
+// Reads the link of the record at a place. Damage is told about a name.
+pub(crate) fn read_link<H: Host>(
+    host: &mut H,
+    place: u64,
+    name: Name,
+) -> Result<Option<Name>, DiskFault>
+    requires { place ≤ 2 ^ 62 }
+    ensures link { IsTrue (H.tells Role.Work) → IfOk result (λ next. link_at (work_of H.Host host.old) (place + 8) ≡ link_to next) }
+    ensures read { IsWorkRead H.Host host.old host.new }
+    ensures fault { IfErr result (IsLinkFault (link_at (work_of H.Host host.old) (place + 8)) (H.tells Role.Work) (H.faults host.old Role.Work) (H.faults host.new Role.Work) name) }
+{
+    let mut bytes = [0; 8];
+    match host.read_at(place + LINK_AT, &mut bytes) {
+        Ok(()) => parse_link(BigEndian::read_u64(&bytes), place, name),
+        Err(_) => Err(failed(host)),
+    }
+}
+
+// Writes the link of the record at a place.
+pub(crate) fn write_link<H: Host>(host: &mut H, place: u64, link: u64) -> Result<(), DiskFault>
+    requires { place ≤ 2 ^ 62 }
+    ensures link { IsTrue (H.tells Role.Work) → OnOk result (link_at (work_of H.Host host.new) (place + 8) ≡ link) }
+    ensures touches { IsTrue (H.tells Role.Work) → OnOk result (Touches (work_of H.Host host.old) (work_of H.Host host.new) (place + 8) 8) }
+    ensures work { IsWorkOnly H.Host host.old host.new }
+    ensures fault { IfErr result (IsWorkFault (H.faults host.old Role.Work) (H.faults host.new Role.Work)) }
+{
+    let mut bytes = [0; 8];
+    BigEndian::write_u64(&mut bytes, link);
+    write(host, place + LINK_AT, &bytes)
+}
+
+fn write<H: Host>(host: &mut H, place: u64, bytes: &[u8]) -> Result<(), DiskFault>
+    ensures here { IsTrue (H.tells Role.Work) → OnOk result (window (work_of H.Host host.new) place (length bytes.now) ≡ bytes.now) }
+    ensures touches { IsTrue (H.tells Role.Work) → OnOk result (Touches (work_of H.Host host.old) (work_of H.Host host.new) place (length bytes.now)) }
+    ensures work { IsWorkOnly H.Host host.old host.new }
+    ensures fault { IfErr result (IsWorkFault (H.faults host.old Role.Work) (H.faults host.new Role.Work)) }
+{
+    match host.write_at(place, bytes) {
+        Ok(()) => Ok(()),
+        Err(_) => Err(failed(host)),
+    }
+}
+
+// Writes the buffer's record to a place, and this link where a record has its count.
+pub(crate) fn write_record<H: Host>(
+    host: &mut H,
+    place: u64,
+    buf: &RecordBuf,
+    link: u64,
+) -> Result<(), DiskFault>
+    requires record { HasRecord buf.now }
+    requires place { place ≤ 2 ^ 62 }
+    ensures writes { IsTrue (H.tells Role.Work) → OnOk result (Writes (work_of H.Host host.old) (work_of H.Host host.new) place (raw_of buf.now) link) }
+    ensures work { IsWorkOnly H.Host host.old host.new }
+    ensures fault { IfErr result (IsWorkFault (H.faults host.old Role.Work) (H.faults host.new Role.Work)) }
+{
+    write(host, place, buf.bytes())?;
+    write_link(host, place, link)
+}
+
+// The class of the block that the buffer's record wants.
+pub(crate) fn class_for(buf: &RecordBuf) -> u8
+    requires { HasRecord buf.now }
+    ensures { IsClass result (record_size (raw_of buf.now)) }
+{
+    class_of(buf.bytes().len() as u64).unwrap()
+}
+
+// Takes a block for the buffer's record, writes it there with this link, and answers the place.
+pub(crate) fn store<H: Host>(
+    space: &mut Space,
+    host: &mut H,
+    buf: &RecordBuf,
+    link: u64,
+) -> Result<u64, DiskFault>
+    requires { HasRecord buf.now }
+    ensures stores { IsTrue (H.tells Role.Work) → (laid : List ℕ) (out : ℕ → Option ℕ) → IsSpace space.old (work_of H.Host host.old) laid out →
+        IfOk result (Stores space.old space.new (work_of H.Host host.old) (work_of H.Host host.new) laid out (raw_of buf.now) link) }
+    ensures sound { IsTrue (H.tells Role.Work) → (laid : List ℕ) (out : ℕ → Option ℕ) → IsSpace space.old (work_of H.Host host.old) laid out →
+        AreFew laid → from_of space.old < 2 ^ 61 → IfErr result (IsWorkFault (H.faults host.old Role.Work) (H.faults host.new Role.Work)) }
+    ensures from { from_of space.new ≡ from_of space.old }
+    ensures work { IsWorkOnly H.Host host.old host.new }
+    ensures fault { IfErr result (IsStoreFault (H.faults host.old Role.Work) (H.faults host.new Role.Work)) }
+{
+    let place = space.take(host, class_for(buf))?;
+    if place > LAST_PLACE {
+        return Err(DiskFault::Damaged { place, name: 0 });
+    }
+    write_record(host, place, buf, link)?;
+    Ok(place)
+}
