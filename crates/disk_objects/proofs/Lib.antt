@@ -1,7 +1,6 @@
 mod WindowLaws
 mod RecordLaws
 mod ClassLaws
-mod FaultLaws
 mod TouchLaws
 mod StoredLaws
 mod DiskLaws

@@ -1,5 +1,5 @@
 -- What stands in a row after a call, and what is found then.
-use Rattle.std.proofs.Common.{◌≡◌, ◌≢◌, ℕ, ◌<◌, ◌==◌, ◌&&◌, ◌⊎◌, inl, inr, eqb, cond, Bool, true, false, List, [], ◌∷◌, replicate, length, get_or, set, Option, Some, None, refl, sym, ◌∙◌, ap, subst}
+use Rattle.std.proofs.Common.{◌≡◌, ◌≢◌, ℕ, ◌<◌, ◌==◌, ◌&&◌, ◌⊎◌, inl, inr, cond, Bool, true, false, List, replicate, length, get_or, set, Option, Some, None, refl, sym, ◌∙◌, ap}
 use Rattle.std.specs.Prelude.{unwrap_or}
 use Rattle.std.specs.List.{slice_get}
 use Rattle.std.proofs.lemmas.Bool.{eq-eqb, eqb-true, eqb-false}

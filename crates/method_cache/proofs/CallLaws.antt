@@ -1,9 +1,9 @@
 -- What a cache is after calls.
 use Rattle.std.proofs.Common.{◌≡◌, ℕ, ◌==◌, ◌&&◌, ◌⊎◌, inl, inr, cond, Bool, true, false, List, [], ◌∷◌, Option, Some, None, refl, sym, ◌∙◌, ap}
-use Rattle.std.proofs.lemmas.Bool.{eqb-true, eqb-false}
+use Rattle.std.proofs.lemmas.Bool.{eqb-true}
 use Rattle.method_cache.specs.declared.cache.Cache.{Cache}
 use Rattle.method_cache.specs.Found.{found, IsPut}
-use Rattle.method_cache.specs.Calls.{Call, Put, Clear, IsEmpty, Comes, last_put}
+use Rattle.method_cache.specs.Calls.{Call, Put, Clear, Comes, last_put}
 use Rattle.method_cache.proofs.CacheLaws.{and_true, both_same}
 
 nothing : {A : Type 0} {m : ℕ} {o : Option ℕ} → o ≡ None → o ≡ Some m → A

@@ -1,4 +1,4 @@
-//! A method cache of 256 rows (chapter 30 of the Blue Book): which method was found for a class and a selector.
+//! A method cache of 256 rows (chapter 28 of the Blue Book): which method was found for a class and a selector.
 //!
 //! A cache stands for a function from pairs to methods, `found`. `find` answers it, `put` gives the method of one pair, and `clear` takes
 //! all away. Each pair has one row that it may stand in, by the numbers of both, so a pair that is put takes the place of another in its

@@ -1,7 +1,7 @@
-mod CauseLaws
+pub mod CauseLaws
 mod ChangeLaws
 pub mod ContentsLaws
 pub mod EntryLaws
-mod HostLaws
+pub mod HostLaws
 mod SlotLaws
 mod UnderWay

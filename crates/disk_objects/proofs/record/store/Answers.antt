@@ -4,7 +4,7 @@ use Rattle.loom_outside.specs.declared.outside.Role.TheVariants.{Work}
 use Rattle.object_record.specs.Buffer.{raw_of}
 use Rattle.work_directory.specs.Work.{work_of}
 use Rattle.work_space.specs.Calls.{IsWorkFault}
-use Rattle.disk_objects.proofs.FaultLaws.{exits}
+use Rattle.work_directory.proofs.CauseLaws.{exits}
 use Rattle.disk_objects.proofs.TouchLaws.{place-low, stored-in}
 use Rattle.disk_objects.proofs.record.store.Goals as goal
 

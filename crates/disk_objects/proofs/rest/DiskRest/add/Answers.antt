@@ -7,7 +7,7 @@ use Rattle.work_directory.specs.Directory.{entries_of}
 use Rattle.work_directory.specs.Table.{Entries}
 use Rattle.work_directory.specs.Work.{work_of}
 use Rattle.disk_objects.specs.Inside.{IsStepFault}
-use Rattle.disk_objects.proofs.FaultLaws.{exits}
+use Rattle.work_directory.proofs.CauseLaws.{exits}
 use Rattle.disk_objects.proofs.FoundLaws.{disk-few, disk-from}
 use Rattle.disk_objects.proofs.DiskLaws.{changed-named}
 use Rattle.disk_objects.proofs.PutLaws.{store-added, put-added, store-sound}

@@ -7,7 +7,7 @@ use Rattle.work_directory.specs.Table.{entry_of}
 use Rattle.work_space.proofs.BlockLaws.{some-inside}
 use Rattle.disk_objects.specs.Calls.{changed_by}
 use Rattle.disk_objects.specs.Disk.{DiskObject}
-use Rattle.disk_objects.proofs.FaultLaws.{work-same}
+use Rattle.work_directory.proofs.HostLaws.{work-same}
 use Rattle.disk_objects.proofs.DiskLaws.{disk-recounted, changed-from}
 use Rattle.disk_objects.proofs.FoundLaws.{stored-there}
 use Rattle.disk_objects.proofs.rest.DiskRest.add_count.Goals as goal

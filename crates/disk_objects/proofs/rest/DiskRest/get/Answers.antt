@@ -3,7 +3,8 @@ use Rattle.loom_outside.specs.declared.outside.Role.TheVariants.{Work}
 use Rattle.work_directory.specs.Work.{work_of}
 use Rattle.disk_objects.specs.Calls.{IsFault}
 use Rattle.disk_objects.specs.Disk.{IsLaid}
-use Rattle.disk_objects.proofs.FaultLaws.{exits, work-same}
+use Rattle.work_directory.proofs.HostLaws.{work-same}
+use Rattle.work_directory.proofs.CauseLaws.{exits}
 use Rattle.disk_objects.proofs.FoundLaws.{record-sound, stored-there, size-there, got-there}
 use Rattle.disk_objects.proofs.rest.DiskRest.get.Goals as goal
 

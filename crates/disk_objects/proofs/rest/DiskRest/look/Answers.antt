@@ -5,7 +5,8 @@ use Rattle.work_directory.specs.Work.{work_of}
 use Rattle.work_directory.specs.Table.{entry_of}
 use Rattle.disk_objects.specs.Calls.{IsFault}
 use Rattle.disk_objects.specs.Inside.{size_stated_in}
-use Rattle.disk_objects.proofs.FaultLaws.{exits, work-same}
+use Rattle.work_directory.proofs.HostLaws.{work-same}
+use Rattle.work_directory.proofs.CauseLaws.{exits}
 use Rattle.disk_objects.proofs.FoundLaws.{head-sound, size-low}
 use Rattle.disk_objects.proofs.rest.DiskRest.look.Goals as goal
 

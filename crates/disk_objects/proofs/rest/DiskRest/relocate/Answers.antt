@@ -5,7 +5,7 @@ use Rattle.object_record.specs.Buffer.{raw_of}
 use Rattle.work_directory.specs.Directory.{room_of, entries_of}
 use Rattle.work_directory.specs.Work.{work_of}
 use Rattle.disk_objects.specs.Inside.{IsStepFault}
-use Rattle.disk_objects.proofs.FaultLaws.{exits}
+use Rattle.work_directory.proofs.CauseLaws.{exits}
 use Rattle.disk_objects.proofs.FoundLaws.{disk-few, disk-from}
 use Rattle.disk_objects.proofs.DiskLaws.{changed-named, open-given}
 use Rattle.disk_objects.proofs.PutLaws.{relocated-entries, put-moved, store-sound, some-there}

@@ -6,7 +6,8 @@ use Rattle.work_directory.specs.Table.{entry_of}
 use Rattle.work_space.specs.Blocks.{link_at}
 use Rattle.disk_objects.specs.Calls.{IsFault}
 use Rattle.disk_objects.specs.Disk.{link_to}
-use Rattle.disk_objects.proofs.FaultLaws.{exits, work-same}
+use Rattle.work_directory.proofs.HostLaws.{work-same}
+use Rattle.work_directory.proofs.CauseLaws.{exits}
 use Rattle.disk_objects.proofs.FoundLaws.{disk-taken, disk-none, missing-fault, first-held, held-there, some-entry, link-sound, link-there, front-link, entry-name}
 use Rattle.disk_objects.proofs.rest.DiskRest.take_pending.Goals as goal
 

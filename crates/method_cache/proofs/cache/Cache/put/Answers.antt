@@ -1,4 +1,4 @@
-use Rattle.std.proofs.Common.{◌≡◌, ◌<◌, ℕ, Some, length, slice_set, subst, sym, arith}
+use Rattle.std.proofs.Common.{Some, slice_set, subst, sym, arith}
 use Rattle.method_cache.specs.declared.cache.Row.{Row}
 use Rattle.method_cache.specs.Found.{found, place_of, method_in, IsPut}
 use Rattle.method_cache.proofs.CacheLaws.{put_in, row_at}
