@@ -1,6 +1,7 @@
 -- Names (the object pointers of the Blue Book's chapter 30, with 32 bits), the objects that every image has, and the bits of words.
 use Rattle.std.specs.Prelude.{◌≡◌, ℕ, ◌+◌, ◌-◌, ◌/◌, ◌%◌, ◌^◌, ◌<◌, ◌==◌, Bool, List, [], ◌∷◌}
 use Rattle.std.specs.List.{list_any}
+pub use Rattle.long_names.specs.declared.limits.TheConstants.{LAST_NAME}
 
 -- a name is an even long word above 0
 pub record IsName (word : ℕ) : Type 0 where
@@ -10,10 +11,6 @@ pub record IsName (word : ℕ) : Type 0 where
 -- a name of 32 bits
 abbrev pub IsLongName : ℕ → Type 0
 IsLongName n = IsName n × (n < 2 ^ 32)
-
--- No object is made with the next name here or above.
-abbrev pub LAST_NAME : ℕ
-LAST_NAME = 4294967294
 
 -- ---- the known objects (chapter 27, guaranteed pointers)
 

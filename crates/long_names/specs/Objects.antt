@@ -11,6 +11,7 @@ use Rattle.long_names.specs.declared.object.Body.{Body}
 use Rattle.long_names.specs.declared.object.Body.TheVariants.{Pointers, Words, Bytes, Method}
 use Rattle.long_names.specs.declared.object.Object.{Object}
 use Rattle.long_names.specs.declared.object.Rec.{Rec}
+pub use Rattle.long_names.specs.declared.limits.TheConstants.{MOST_CODE}
 
 -- ---- values
 
@@ -52,10 +53,6 @@ fields_of (Bytes bytes) = []
 fields_of (Method header literals code) = literals
 
 -- ---- what an object may be
-
--- the most code bytes of a method
-abbrev pub MOST_CODE : ℕ
-MOST_CODE = 16000
 
 -- an object of pointers has at most 65,535 values, one of words or bytes as many; a method has as many literals as its header says, and at most 16,000 bytes of code
 abbrev pub HasSize : Body → Type 0

@@ -12,11 +12,13 @@
 #![tactic(auto)]
 
 pub mod laws;
+mod limits;
 mod lists;
 mod name;
 mod object;
 mod value;
 
+pub use limits::{LAST_NAME, LONGEST_RECORD, MOST_CODE, MOST_FIELDS, MOST_LITERALS};
 pub use lists::{NameList, Octets, RecList, Values, Words16};
 pub use name::{Name, bits};
 pub use object::{Body, Kind, Object, Rec, literal_count};

@@ -1,0 +1,16 @@
+// The limits of names, objects and records: each stands here once, and definitions and clauses cite it.
+
+/// No object is made with the next name here or above.
+pub const LAST_NAME: u32 = 4_294_967_294;
+
+/// The most values of an object of pointers, words of one of words, and bytes of one of bytes.
+pub const MOST_FIELDS: u32 = 65_535;
+
+/// The most code bytes of a method.
+pub const MOST_CODE: u32 = 16_000;
+
+/// The most literals of a method, which its header counts with six bits.
+pub const MOST_LITERALS: u32 = 63;
+
+/// The most bytes that a record of an object takes in an image or in the work file.
+pub const LONGEST_RECORD: u32 = 262_160;
