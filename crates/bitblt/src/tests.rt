@@ -1,6 +1,7 @@
 // The primitive over a memory that is one map: a form of 17 by 3, and a BitBlt that copies it onto itself.
 ghost use Rattle.std.specs.Prelude.{OnOk};
 ghost use Rattle.object_memory.specs.Told.{IsReady};
+ghost use Rattle.object_memory.specs.Calls.{IsFit};
 
 use crate::{Answer, Cpu, Stop, run};
 use contexts::data::word;
@@ -70,23 +71,22 @@ fn each_word<M: ObjectMemory>(
     answer: Answer,
     words: [u16; 6],
 ) -> Result<(), Stop>
-    requires sound { M.sound m.old }
-    requires ready { IsReady (M.told m.old) }
+    requires fit { IsFit M.ObjectMemory m.old }
     ensures ready { OnOk result (IsReady (M.told m.new)) }
     ensures sound { OnOk result (M.sound m.new) }
 {
     let mut cpu = Cpu::at_rest();
     start(m, &mut cpu)?;
     set_arguments(&mut cpu, 0);
-    known(m, Reg::SCRATCH_0, Name::TRUE)?;
-    field(m, Reg::SCRATCH_1, Reg::SCRATCH_0, 0, 0)?;
-    push(m, &mut cpu, Reg::SCRATCH_1)?;
+    known(m, Reg::R10, Name::TRUE)?;
+    field(m, Reg::R11, Reg::R10, 0, 0)?;
+    push(m, &mut cpu, Reg::R11)?;
     assert_eq!(rt; run(m, &mut cpu, 97)?, Answer::Failed);
     assert_eq!(rt; run(m, &mut cpu, 96)?, answer);
-    known(m, Reg::SCRATCH_0, Name::TRUE)?;
-    field(m, Reg::SCRATCH_3, Reg::SCRATCH_0, 0, 1)?;
+    known(m, Reg::R10, Name::TRUE)?;
+    field(m, Reg::R13, Reg::R10, 0, 1)?;
     for i in 0..6 {
-        let word = word(m, Reg::SCRATCH_3, i)?;
+        let word = word(m, Reg::R13, i)?;
         assert_eq!(rt; word, words[i as usize]);
     }
     Ok(())

@@ -1,6 +1,7 @@
 // Steps over a memory that is one map, with what they come to, and refused by one with bounds.
 ghost use Rattle.std.specs.Prelude.{OnOk};
 ghost use Rattle.object_memory.specs.Told.{IsReady};
+ghost use Rattle.object_memory.specs.Calls.{IsFit};
 
 use crate::{Step, step};
 use bounded_memory::BoundedMemory;
@@ -21,8 +22,7 @@ const POINTERS: [(i32, i32); 4] = [(3, 6), (4, 5), (2, 5), (3, 6)];
 
 /// Starts, and goes once round the method and a step further, with true as receiver.
 fn walk<M: ObjectMemory>(rt: &impl Abort, m: &mut M, events: &EventList) -> Result<(), Stop>
-    requires sound { M.sound m.old }
-    requires ready { IsReady (M.told m.old) }
+    requires fit { IsFit M.ObjectMemory m.old }
     ensures ready { OnOk result (IsReady (M.told m.new)) }
     ensures sound { OnOk result (M.sound m.new) }
 {
@@ -33,10 +33,10 @@ fn walk<M: ObjectMemory>(rt: &impl Abort, m: &mut M, events: &EventList) -> Resu
     for (i, pointers) in POINTERS.iter().enumerate() {
         assert_eq!(rt; step(m, &mut cpu, events)?, Step::Next, "step {i}");
         assert_eq!(rt; (cpu.ip, cpu.sp), *pointers, "step {i}");
-        assert_eq!(rt; m.as_int(Reg::SCRATCH_0), Some(0), "step {i}");
+        assert_eq!(rt; m.as_int(Reg::R10), Some(0), "step {i}");
     }
-    field(m, Reg::SCRATCH_0, Reg::ACTIVE_CONTEXT, 0, 6)?;
-    assert!(rt; m.is(Reg::SCRATCH_0, Name::TRUE));
+    field(m, Reg::R10, Reg::ACTIVE_CONTEXT, 0, 6)?;
+    assert!(rt; m.is(Reg::R10, Name::TRUE));
     Ok(())
 }
 
@@ -58,8 +58,7 @@ fn in_the_smallest_core(rt: HostRuntime) -> Result<(), Fail> {
 
 /// Goes on until a step stops, for at most four steps.
 fn go<M: ObjectMemory>(m: &mut M, cpu: &mut Cpu, events: &EventList) -> Result<(), Stop>
-    requires sound { M.sound m.old }
-    requires ready { IsReady (M.told m.old) }
+    requires fit { IsFit M.ObjectMemory m.old }
     ensures ready { OnOk result (IsReady (M.told m.new)) }
     ensures sound { OnOk result (M.sound m.new) }
 {

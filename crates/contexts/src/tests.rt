@@ -1,6 +1,7 @@
 // Each call over a memory that is one map, with what it answers, and refused by one with bounds.
 ghost use Rattle.std.specs.Prelude.{OnOk};
 ghost use Rattle.object_memory.specs.Told.{IsReady};
+ghost use Rattle.object_memory.specs.Calls.{IsFit};
 
 mod calls;
 
@@ -138,8 +139,7 @@ fn walk<M: ObjectMemory>(
     cpu: &mut Cpu,
     rows: &[Row],
 ) -> Result<(), Stop>
-    requires sound { M.sound m.old }
-    requires ready { IsReady (M.told m.old) }
+    requires fit { IsFit M.ObjectMemory m.old }
     ensures ready { OnOk result (IsReady (M.told m.new)) }
     ensures sound { OnOk result (M.sound m.new) }
 {

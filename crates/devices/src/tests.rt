@@ -2,6 +2,7 @@
 ghost use Rattle.std.specs.Prelude.{IfOk};
 ghost use Rattle.object_memory.specs.Plain.{plain_told};
 ghost use Rattle.object_memory.specs.Told.{IsReady};
+ghost use Rattle.object_memory.specs.Calls.{IsFit};
 
 use crate::{PictureFault, due, picture, picture_size, run};
 use contexts::parts::known;
@@ -43,15 +44,14 @@ fn drawn<M: ObjectMemory>(
     m: &mut M,
     events: &EventList,
 ) -> Result<Octets, PictureFault>
-    requires sound { M.sound m.old }
-    requires ready { IsReady (M.told m.old) }
+    requires fit { IsFit M.ObjectMemory m.old }
 {
     let mut cpu = Cpu::at_rest();
     start(m, &mut cpu)?;
     assert_eq!(rt; picture_size(m, &cpu)?, None);
     set_arguments(&mut cpu, 0);
-    known(m, Reg::SCRATCH_0, Name::CHARACTER_TABLE)?;
-    push(m, &mut cpu, Reg::SCRATCH_0)?;
+    known(m, Reg::R10, Name::CHARACTER_TABLE)?;
+    push(m, &mut cpu, Reg::R10)?;
     assert_eq!(rt; run(m, &mut cpu, events, 102)?, Answer::Done);
     assert_eq!(rt; picture_size(m, &cpu)?, Some((5, 2)));
     picture(alloc, m, &cpu)
@@ -77,8 +77,7 @@ fn two_words(alloc: Global) -> Result<EventList, AllocError> {
 
 /// Both words join the queue after three bytecodes, and are taken out in order.
 fn taken<M: ObjectMemory>(rt: &impl Abort, m: &mut M, events: &EventList) -> Result<(), Stop>
-    requires sound { M.sound m.old }
-    requires ready { IsReady (M.told m.old) }
+    requires fit { IsFit M.ObjectMemory m.old }
 {
     let mut cpu = Cpu::at_rest();
     start(m, &mut cpu)?;
@@ -88,12 +87,12 @@ fn taken<M: ObjectMemory>(rt: &impl Abort, m: &mut M, events: &EventList) -> Res
     due(m, &mut cpu, events)?;
     assert_eq!(rt; cpu.words_in, 2);
     set_arguments(&mut cpu, 0);
-    push(m, &mut cpu, Reg::SCRATCH_0)?;
+    push(m, &mut cpu, Reg::R10)?;
     for word in [7, 9] {
         assert_eq!(rt; run(m, &mut cpu, events, 95)?, Answer::Done);
-        pop_top(m, &mut cpu, Reg::SCRATCH_0)?;
-        assert_eq!(rt; m.as_int(Reg::SCRATCH_0), Some(word));
-        push(m, &mut cpu, Reg::SCRATCH_0)?;
+        pop_top(m, &mut cpu, Reg::R10)?;
+        assert_eq!(rt; m.as_int(Reg::R10), Some(word));
+        push(m, &mut cpu, Reg::R10)?;
     }
     assert_eq!(rt; run(m, &mut cpu, events, 95)?, Answer::Failed);
     Ok(())

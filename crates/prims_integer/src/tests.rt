@@ -1,6 +1,7 @@
 // The primitives over a memory that is one map.
 ghost use Rattle.std.specs.Prelude.{OnOk};
 ghost use Rattle.object_memory.specs.Told.{IsReady};
+ghost use Rattle.object_memory.specs.Calls.{IsFit};
 
 use crate::numbers::small;
 use crate::run;
@@ -64,17 +65,16 @@ fn push_number<M: ObjectMemory>(
     cpu: &mut Cpu,
     number: i32,
 ) -> Result<(), Stop>
-    requires sound { M.sound m.old }
-    requires ready { IsReady (M.told m.old) }
+    requires fit { IsFit M.ObjectMemory m.old }
     ensures ready { OnOk result (IsReady (M.told m.new)) }
     ensures sound { OnOk result (M.sound m.new) }
 {
     let number = small(number).expect(rt, "a SmallInteger");
-    m.int(Reg::SCRATCH_0, number);
-    push(m, cpu, Reg::SCRATCH_0)
+    m.int(Reg::R10, number);
+    push(m, cpu, Reg::R10)
 }
 
-/// Runs a primitive on two numbers, for a message of so many arguments. What it answers is in SCRATCH_0.
+/// Runs a primitive on two numbers, for a message of so many arguments. What it answers is in R10.
 fn try_numbers<M: ObjectMemory>(
     rt: &impl Abort,
     m: &mut M,
@@ -83,8 +83,7 @@ fn try_numbers<M: ObjectMemory>(
     a: i32,
     b: i32,
 ) -> Result<Answer, Stop>
-    requires sound { M.sound m.old }
-    requires ready { IsReady (M.told m.old) }
+    requires fit { IsFit M.ObjectMemory m.old }
     ensures ready { OnOk result (IsReady (M.told m.new)) }
     ensures sound { OnOk result (M.sound m.new) }
 {
@@ -96,22 +95,21 @@ fn try_numbers<M: ObjectMemory>(
     let answer = run(m, &mut cpu, index)?;
     let left = if answer == Answer::Done { 6 } else { 7 };
     assert_eq!(rt; cpu.sp, left, "primitive {index}");
-    pop_top(m, &mut cpu, Reg::SCRATCH_0)?;
+    pop_top(m, &mut cpu, Reg::R10)?;
     Ok(answer)
 }
 
 fn each_row<M: ObjectMemory>(rt: &impl Abort, m: &mut M) -> Result<(), Stop>
-    requires sound { M.sound m.old }
-    requires ready { IsReady (M.told m.old) }
+    requires fit { IsFit M.ObjectMemory m.old }
     ensures ready { OnOk result (IsReady (M.told m.new)) }
     ensures sound { OnOk result (M.sound m.new) }
 {
     for (index, a, b, shown) in ROWS {
         let answer = try_numbers(rt, m, 1, index, a, b)?;
         let holds = match shown {
-            Shown::Number(number) => m.as_int(Reg::SCRATCH_0) == Some(number),
-            Shown::True => m.is(Reg::SCRATCH_0, Name::TRUE),
-            Shown::False => m.is(Reg::SCRATCH_0, Name::FALSE),
+            Shown::Number(number) => m.as_int(Reg::R10) == Some(number),
+            Shown::True => m.is(Reg::R10, Name::TRUE),
+            Shown::False => m.is(Reg::R10, Name::FALSE),
             Shown::Failed => answer == Answer::Failed,
         };
         assert!(rt; holds, "primitive {index} of {a} and {b}");
@@ -120,23 +118,21 @@ fn each_row<M: ObjectMemory>(rt: &impl Abort, m: &mut M) -> Result<(), Stop>
 }
 
 fn each_point<M: ObjectMemory>(rt: &impl Abort, m: &mut M) -> Result<(), Stop>
-    requires sound { M.sound m.old }
-    requires ready { IsReady (M.told m.old) }
+    requires fit { IsFit M.ObjectMemory m.old }
     ensures ready { OnOk result (IsReady (M.told m.new)) }
     ensures sound { OnOk result (M.sound m.new) }
 {
     assert_eq!(rt; try_numbers(rt, m, 1, 18, 3, -4)?, Answer::Done);
-    field(m, Reg::SCRATCH_1, Reg::SCRATCH_0, 2, 0)?;
-    field(m, Reg::SCRATCH_2, Reg::SCRATCH_0, 2, 1)?;
-    assert_eq!(rt; m.as_int(Reg::SCRATCH_1), Some(3));
-    assert_eq!(rt; m.as_int(Reg::SCRATCH_2), Some(-4));
+    field(m, Reg::R11, Reg::R10, 2, 0)?;
+    field(m, Reg::R12, Reg::R10, 2, 1)?;
+    assert_eq!(rt; m.as_int(Reg::R11), Some(3));
+    assert_eq!(rt; m.as_int(Reg::R12), Some(-4));
     Ok(())
 }
 
 /// Each fails where the receiver is no number, and where the message has two arguments.
 fn each_other<M: ObjectMemory>(rt: &impl Abort, m: &mut M) -> Result<(), Stop>
-    requires sound { M.sound m.old }
-    requires ready { IsReady (M.told m.old) }
+    requires fit { IsFit M.ObjectMemory m.old }
     ensures ready { OnOk result (IsReady (M.told m.new)) }
     ensures sound { OnOk result (M.sound m.new) }
 {
@@ -149,8 +145,8 @@ fn each_other<M: ObjectMemory>(rt: &impl Abort, m: &mut M) -> Result<(), Stop>
         let mut cpu = Cpu::at_rest();
         start(m, &mut cpu)?;
         set_arguments(&mut cpu, 1);
-        known(m, Reg::SCRATCH_0, Name::TRUE)?;
-        push(m, &mut cpu, Reg::SCRATCH_0)?;
+        known(m, Reg::R10, Name::TRUE)?;
+        push(m, &mut cpu, Reg::R10)?;
         push_number(rt, m, &mut cpu, 1)?;
         assert_eq!(rt;
             run(m, &mut cpu, index)?,

@@ -1,6 +1,7 @@
 // Lookups, messages and activations over a memory that is one map, and refused by one with bounds.
 ghost use Rattle.std.specs.Prelude.{OnOk};
 ghost use Rattle.object_memory.specs.Told.{IsReady};
+ghost use Rattle.object_memory.specs.Calls.{IsFit};
 
 mod classes;
 
@@ -16,10 +17,10 @@ use std::process::Abort;
 use std::test::Fail;
 
 /// The class from which a lookup starts.
-const CLASS: Reg = Reg::SCRATCH_4;
+const CLASS: Reg = Reg::R14;
 
 /// What is loaded to be compared.
-const TO: Reg = Reg::SCRATCH_0;
+const TO: Reg = Reg::R10;
 
 /// What a register holds: a number, or an object by the index of its name, which is half of it.
 #[derive(Clone, Copy, Debug, PartialEq, Eq)]
@@ -39,8 +40,7 @@ fn held<M: ObjectMemory>(m: &M, r: Reg) -> Content
 
 /// Loads a known object. Another name is Shape.
 fn load<M: ObjectMemory>(m: &mut M, name: Name) -> Result<(), Stop>
-    requires sound { M.sound m.old }
-    requires ready { IsReady (M.told m.old) }
+    requires fit { IsFit M.ObjectMemory m.old }
     ensures ready { OnOk result (IsReady (M.told m.new)) }
     ensures sound { OnOk result (M.sound m.new) }
 {
@@ -57,8 +57,7 @@ fn prepare<M: ObjectMemory>(
     class: Name,
     selector: Name,
 ) -> Result<(), Stop>
-    requires sound { M.sound m.old }
-    requires ready { IsReady (M.told m.old) }
+    requires fit { IsFit M.ObjectMemory m.old }
     ensures ready { OnOk result (IsReady (M.told m.new)) }
     ensures sound { OnOk result (M.sound m.new) }
 {
@@ -72,8 +71,7 @@ fn prepare<M: ObjectMemory>(
 
 /// Looks the selector up, for a message of two arguments.
 fn tell<M: ObjectMemory>(m: &mut M, cpu: &mut Cpu, class: Name, selector: Name) -> Result<(), Stop>
-    requires sound { M.sound m.old }
-    requires ready { IsReady (M.told m.old) }
+    requires fit { IsFit M.ObjectMemory m.old }
     ensures ready { OnOk result (IsReady (M.told m.new)) }
     ensures sound { OnOk result (M.sound m.new) }
 {
@@ -84,8 +82,7 @@ fn tell<M: ObjectMemory>(m: &mut M, cpu: &mut Cpu, class: Name, selector: Name) 
 
 /// Activates Point's method for the selector with so many arguments.
 fn send<M: ObjectMemory>(m: &mut M, cpu: &mut Cpu, selector: Name, n: u8) -> Result<(), Stop>
-    requires sound { M.sound m.old }
-    requires ready { IsReady (M.told m.old) }
+    requires fit { IsFit M.ObjectMemory m.old }
     ensures ready { OnOk result (IsReady (M.told m.new)) }
     ensures sound { OnOk result (M.sound m.new) }
 {
@@ -104,8 +101,7 @@ fn compare<M: ObjectMemory>(
     of: Reg,
     fields: &[(u32, Content)],
 ) -> Result<(), Stop>
-    requires sound { M.sound m.old }
-    requires ready { IsReady (M.told m.old) }
+    requires fit { IsFit M.ObjectMemory m.old }
     ensures ready { OnOk result (IsReady (M.told m.new)) }
     ensures sound { OnOk result (M.sound m.new) }
 {
@@ -173,8 +169,7 @@ fn a_message_that_is_understood(rt: HostRuntime) -> Result<(), Fail> {
 
 /// Sends what only doesNotUnderstand: answers: a message of the selector and of the arguments false and Array takes their place.
 fn walk<M: ObjectMemory>(rt: &impl Abort, m: &mut M) -> Result<(), Stop>
-    requires sound { M.sound m.old }
-    requires ready { IsReady (M.told m.old) }
+    requires fit { IsFit M.ObjectMemory m.old }
     ensures ready { OnOk result (IsReady (M.told m.new)) }
     ensures sound { OnOk result (M.sound m.new) }
 {
@@ -183,17 +178,17 @@ fn walk<M: ObjectMemory>(rt: &impl Abort, m: &mut M) -> Result<(), Stop>
     assert_eq!(rt; held(m, Reg::SELECTOR), Content::Object(21));
     assert_eq!(rt; held(m, Reg::NEW_METHOD), Content::Object(32));
     assert_eq!(rt; (cpu.args, cpu.sp), (1, 18));
-    stack(m, &cpu, Reg::SCRATCH_1, 1)?;
-    assert_eq!(rt; held(m, Reg::SCRATCH_1), Content::Object(3));
-    stack(m, &cpu, Reg::SCRATCH_1, 0)?;
-    assert_eq!(rt; size(m, Reg::SCRATCH_1, 0)?, 2);
-    compare(rt, m, Reg::SCRATCH_1, &[(0, Content::Object(20))])?;
-    field(m, Reg::SCRATCH_2, Reg::SCRATCH_1, 0, 1)?;
-    assert_eq!(rt; size(m, Reg::SCRATCH_2, 0)?, 2);
+    stack(m, &cpu, Reg::R11, 1)?;
+    assert_eq!(rt; held(m, Reg::R11), Content::Object(3));
+    stack(m, &cpu, Reg::R11, 0)?;
+    assert_eq!(rt; size(m, Reg::R11, 0)?, 2);
+    compare(rt, m, Reg::R11, &[(0, Content::Object(20))])?;
+    field(m, Reg::R12, Reg::R11, 0, 1)?;
+    assert_eq!(rt; size(m, Reg::R12, 0)?, 2);
     compare(
         rt,
         m,
-        Reg::SCRATCH_2,
+        Reg::R12,
         &[(0, Content::Object(2)), (1, Content::Object(8))],
     )
 }
@@ -273,8 +268,7 @@ const ACTIVATIONS: [Activation; 3] = [
 
 /// Activates, and compares the new context and its sender.
 fn enter<M: ObjectMemory>(rt: &impl Abort, m: &mut M, row: &Activation) -> Result<(), Stop>
-    requires sound { M.sound m.old }
-    requires ready { IsReady (M.told m.old) }
+    requires fit { IsFit M.ObjectMemory m.old }
     ensures ready { OnOk result (IsReady (M.told m.new)) }
     ensures sound { OnOk result (M.sound m.new) }
 {
@@ -283,11 +277,11 @@ fn enter<M: ObjectMemory>(rt: &impl Abort, m: &mut M, row: &Activation) -> Resul
     assert_eq!(rt; (cpu.ip, cpu.sp), row.pointers);
     assert_eq!(rt; size(m, Reg::ACTIVE_CONTEXT, 0)?, row.size);
     compare(rt, m, Reg::ACTIVE_CONTEXT, &row.fields)?;
-    field(m, Reg::SCRATCH_1, Reg::ACTIVE_CONTEXT, 0, 0)?;
+    field(m, Reg::R11, Reg::ACTIVE_CONTEXT, 0, 0)?;
     compare(
         rt,
         m,
-        Reg::SCRATCH_1,
+        Reg::R11,
         &[(1, Content::Int(3)), (2, Content::Int(row.left))],
     )
 }

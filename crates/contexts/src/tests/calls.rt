@@ -1,6 +1,7 @@
 // Calls of this crate as data.
 ghost use Rattle.std.specs.Prelude.{OnOk};
 ghost use Rattle.object_memory.specs.Told.{IsReady};
+ghost use Rattle.object_memory.specs.Calls.{IsFit};
 
 use crate::parts::{field, home, known, literal, need_method, number, size, store_field};
 use crate::{Cpu, Stop, back, clear, enter, fetch, jump, park, pop, pop_top, push, stack, start};
@@ -8,10 +9,10 @@ use long_names::Name;
 use object_memory::{ObjectMemory, Reg, shape};
 
 /// Where calls load.
-pub(super) const TO: Reg = Reg::SCRATCH_1;
+pub(super) const TO: Reg = Reg::R11;
 
 /// What is made, and the context that is entered, gone back to, or asked for its home.
-pub(super) const MADE: Reg = Reg::SCRATCH_2;
+pub(super) const MADE: Reg = Reg::R12;
 
 /// A call. What it loads is in `TO` then, and what it stores is there before.
 #[derive(Clone, Copy)]
@@ -83,8 +84,7 @@ fn held<M: ObjectMemory>(m: &M, r: Reg) -> Answer
 }
 
 fn make_load<M: ObjectMemory>(m: &mut M, cpu: &mut Cpu, load: Load) -> Result<(), Stop>
-    requires sound { M.sound m.old }
-    requires ready { IsReady (M.told m.old) }
+    requires fit { IsFit M.ObjectMemory m.old }
     ensures ready { OnOk result (IsReady (M.told m.new)) }
     ensures sound { OnOk result (M.sound m.new) }
 {
@@ -100,8 +100,7 @@ fn make_load<M: ObjectMemory>(m: &mut M, cpu: &mut Cpu, load: Load) -> Result<()
 }
 
 fn make_change<M: ObjectMemory>(m: &mut M, cpu: &mut Cpu, call: Change) -> Result<(), Stop>
-    requires sound { M.sound m.old }
-    requires ready { IsReady (M.told m.old) }
+    requires fit { IsFit M.ObjectMemory m.old }
     ensures ready { OnOk result (IsReady (M.told m.new)) }
     ensures sound { OnOk result (M.sound m.new) }
 {
@@ -126,8 +125,7 @@ fn make_change<M: ObjectMemory>(m: &mut M, cpu: &mut Cpu, call: Change) -> Resul
 }
 
 fn make_below<M: ObjectMemory>(m: &mut M, call: Below) -> Result<(), Stop>
-    requires sound { M.sound m.old }
-    requires ready { IsReady (M.told m.old) }
+    requires fit { IsFit M.ObjectMemory m.old }
     ensures ready { OnOk result (IsReady (M.told m.new)) }
     ensures sound { OnOk result (M.sound m.new) }
 {
@@ -152,8 +150,7 @@ pub(super) fn make_call<M: ObjectMemory>(
     cpu: &mut Cpu,
     call: Call,
 ) -> Result<Answer, Stop>
-    requires sound { M.sound m.old }
-    requires ready { IsReady (M.told m.old) }
+    requires fit { IsFit M.ObjectMemory m.old }
     ensures ready { OnOk result (IsReady (M.told m.new)) }
     ensures sound { OnOk result (M.sound m.new) }
 {
