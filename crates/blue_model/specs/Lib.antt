@@ -19,6 +19,7 @@ pub mod Primitives
 pub mod Sends
 pub mod Bytecodes
 pub mod Cycle
+pub mod Endings
 pub mod Law
 pub mod Alike
 pub mod Base
