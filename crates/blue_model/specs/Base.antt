@@ -38,8 +38,8 @@ context_at ip depth top = Some (record { class = METHOD_CONTEXT; body = Pointers
 
 -- A scheduler with one process, whose context runs this code on nil. Field 1 of a context whose method has no literals is 3 before
 -- the first byte.
-abbrev pub heap_of : List ℕ → Heap
-heap_of code = record {
+abbrev pub heap_running : List ℕ → Heap
+heap_running code = record {
   at = λ n.
       if n == SCHEDULER_ASSOCIATION then array (nil ∷ Ref SCHEDULER ∷ []) else (
       if n == SCHEDULER then array (nil ∷ Ref PROCESS ∷ []) else (

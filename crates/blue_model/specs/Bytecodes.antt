@@ -10,7 +10,7 @@ use Rattle.blue_model.specs.declared.cause.Cause.TheVariants.{Unused, Stack, Sha
 use Rattle.blue_model.specs.declared.event.Line.{Line}
 use Rattle.blue_model.specs.declared.step.Step.{Step}
 use Rattle.blue_model.specs.declared.step.Step.TheVariants.{Next}
-use Rattle.blue_model.specs.Indexes.{VALUE_INDEX, ASSOCIATION_SIZE, SENDER_INDEX, TEMP_FRAME_START}
+use Rattle.blue_model.specs.declared.indexes.TheConstants.{VALUE_INDEX, ASSOCIATION_SIZE, SENDER_INDEX, TEMP_FRAME_START}
 use Rattle.blue_model.specs.Machine.{Rule, ◌>>=◌, ◌>>◌, done, halt, given, pick, register, part, known, class_of}
 use Rattle.blue_model.specs.Parts.{size, field, literal}
 use Rattle.blue_model.specs.Contexts.{store_field, push, stack, pop, pop_top, fetch, jump}
@@ -247,53 +247,54 @@ next_from_to first last rule = record { first = first; last = last; rule = λ i.
 abbrev pub next_only : ℕ → Rule (Unit {0}) → Range
 next_only byte rule = record { first = byte; last = byte; rule = λ i. then_next rule }
 
+-- beside each range stands its row of the Blue Book
 unfoldable pub bytecodes : List Line → List Range
 bytecodes events =
-    next_from_to 0 15 (λ i. push_of (receiver_variable i))
-    ∷ next_from_to 16 31 (λ i. push_of (temporary i))
-    ∷ next_from_to 32 63 (λ i. push_of (literal_constant i))
-    ∷ next_from_to 64 95 (λ i. push_of (literal_variable i))
-    ∷ next_from_to 96 103 (λ i. store_and_pop (store_receiver_variable i))
-    ∷ next_from_to 104 111 (λ i. store_and_pop (store_temporary i))
-    ∷ next_only 112 push_receiver
-    ∷ next_only 113 (push_known TRUE)
-    ∷ next_only 114 (push_known FALSE)
-    ∷ next_only 115 (push_known NIL)
-    ∷ next_from_to 116 119 push_number
-    ∷ only 120 (return_of events (register RECEIVER))
-    ∷ only 121 (return_of events (known TRUE))
-    ∷ only 122 (return_of events (known FALSE))
-    ∷ only 123 (return_of events (known NIL))
-    ∷ only 124 (return_of events pop_top)
-    ∷ only 125 (return_from_block events)
-    ∷ next_from_to 126 127 (λ i. halt Unused)
-    ∷ next_only 128 extended_push
-    ∷ next_only 129 extended_store
-    ∷ next_only 130 extended_store_and_pop
-    ∷ only 131 (single_extended (send_literal events))
-    ∷ only 132 (double_extended (send_literal events))
-    ∷ only 133 (single_extended (send_literal_super events))
-    ∷ only 134 (double_extended (send_literal_super events))
-    ∷ next_only 135 (pop 1)
-    ∷ next_only 136 duplicate_top
-    ∷ next_only 137 push_active_context
-    ∷ next_from_to 138 143 (λ i. halt Unused)
-    ∷ next_from_to 144 151 (λ i. jump (pos (i + 1)))
-    ∷ from_to 152 159 (λ i. jump_on events FALSE TRUE (pos (i + 1)))
-    ∷ next_from_to 160 167 long_jump
-    ∷ from_to 168 171 (long_jump_on events TRUE FALSE)
-    ∷ from_to 172 175 (long_jump_on events FALSE TRUE)
-    ∷ from_to 176 191 (arithmetic_send events)
-    ∷ from_to 192 197 (λ i. special_send events (16 + i))
-    ∷ only 198 (tried_for events 110 1 22)
-    ∷ only 199 (tried_for events 111 0 23)
-    ∷ only 200 (block_send events 80 1 is_context_class 24)
-    ∷ only 201 (block_send events 81 0 is_block_class 25)
-    ∷ only 202 (block_send events 81 1 is_block_class 26)
-    ∷ from_to 203 207 (λ i. special_send events (27 + i))
-    ∷ from_to 208 223 (λ i. send_literal events i 0)
-    ∷ from_to 224 239 (λ i. send_literal events i 1)
-    ∷ from_to 240 255 (λ i. send_literal events i 2)
+    next_from_to 0 15 (λ i. push_of (receiver_variable i))  -- pushReceiverVariableBytecode
+    ∷ next_from_to 16 31 (λ i. push_of (temporary i))  -- pushTemporaryVariableBytecode
+    ∷ next_from_to 32 63 (λ i. push_of (literal_constant i))  -- pushLiteralConstantBytecode
+    ∷ next_from_to 64 95 (λ i. push_of (literal_variable i))  -- pushLiteralVariableBytecode
+    ∷ next_from_to 96 103 (λ i. store_and_pop (store_receiver_variable i))  -- storeAndPopReceiverVariableBytecode
+    ∷ next_from_to 104 111 (λ i. store_and_pop (store_temporary i))  -- storeAndPopTemporaryVariableBytecode
+    ∷ next_only 112 push_receiver  -- pushReceiverBytecode
+    ∷ next_only 113 (push_known TRUE)  -- pushConstantBytecode: true
+    ∷ next_only 114 (push_known FALSE)  -- pushConstantBytecode: false
+    ∷ next_only 115 (push_known NIL)  -- pushConstantBytecode: nil
+    ∷ next_from_to 116 119 push_number  -- pushConstantBytecode: -1, 0, 1, 2
+    ∷ only 120 (return_of events (register RECEIVER))  -- returnBytecode: the receiver
+    ∷ only 121 (return_of events (known TRUE))  -- returnBytecode: true
+    ∷ only 122 (return_of events (known FALSE))  -- returnBytecode: false
+    ∷ only 123 (return_of events (known NIL))  -- returnBytecode: nil
+    ∷ only 124 (return_of events pop_top)  -- returnBytecode: the top, from the home
+    ∷ only 125 (return_from_block events)  -- returnBytecode: the top, from the block
+    ∷ next_from_to 126 127 (λ i. halt Unused)  -- unused
+    ∷ next_only 128 extended_push  -- extendedPushBytecode
+    ∷ next_only 129 extended_store  -- extendedStoreBytecode
+    ∷ next_only 130 extended_store_and_pop  -- extendedStoreAndPopBytecode
+    ∷ only 131 (single_extended (send_literal events))  -- singleExtendedSendBytecode
+    ∷ only 132 (double_extended (send_literal events))  -- doubleExtendedSendBytecode
+    ∷ only 133 (single_extended (send_literal_super events))  -- singleExtendedSuperBytecode
+    ∷ only 134 (double_extended (send_literal_super events))  -- doubleExtendedSuperBytecode
+    ∷ next_only 135 (pop 1)  -- popStackBytecode
+    ∷ next_only 136 duplicate_top  -- duplicateTopBytecode
+    ∷ next_only 137 push_active_context  -- pushActiveContextBytecode
+    ∷ next_from_to 138 143 (λ i. halt Unused)  -- unused
+    ∷ next_from_to 144 151 (λ i. jump (pos (i + 1)))  -- shortUnconditionalJump
+    ∷ from_to 152 159 (λ i. jump_on events FALSE TRUE (pos (i + 1)))  -- shortConditionalJump: where false
+    ∷ next_from_to 160 167 long_jump  -- longUnconditionalJump
+    ∷ from_to 168 171 (long_jump_on events TRUE FALSE)  -- longConditionalJump: where true
+    ∷ from_to 172 175 (long_jump_on events FALSE TRUE)  -- longConditionalJump: where false
+    ∷ from_to 176 191 (arithmetic_send events)  -- arithmeticSelectorPrimitive
+    ∷ from_to 192 197 (λ i. special_send events (16 + i))  -- sendSpecialSelectorBytecode: at: at:put: size next nextPut: atEnd
+    ∷ only 198 (tried_for events 110 1 22)  -- commonSelectorPrimitive: ==
+    ∷ only 199 (tried_for events 111 0 23)  -- commonSelectorPrimitive: class
+    ∷ only 200 (block_send events 80 1 is_context_class 24)  -- commonSelectorPrimitive: blockCopy:
+    ∷ only 201 (block_send events 81 0 is_block_class 25)  -- commonSelectorPrimitive: value
+    ∷ only 202 (block_send events 81 1 is_block_class 26)  -- commonSelectorPrimitive: value:
+    ∷ from_to 203 207 (λ i. special_send events (27 + i))  -- sendSpecialSelectorBytecode: do: new new: x y
+    ∷ from_to 208 223 (λ i. send_literal events i 0)  -- sendLiteralSelectorBytecode: without arguments
+    ∷ from_to 224 239 (λ i. send_literal events i 1)  -- sendLiteralSelectorBytecode: with one
+    ∷ from_to 240 255 (λ i. send_literal events i 2)  -- sendLiteralSelectorBytecode: with two
     ∷ []
 
 -- the range has the byte

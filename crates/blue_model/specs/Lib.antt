@@ -1,4 +1,3 @@
-pub mod Indexes
 pub mod Cause
 pub mod Machine
 pub mod Parts
@@ -20,6 +19,7 @@ pub mod Primitives
 pub mod Sends
 pub mod Bytecodes
 pub mod Cycle
+pub mod Endings
 pub mod Law
 pub mod Alike
 pub mod Base

@@ -5,7 +5,8 @@ ghost use Rattle.long_names.specs.declared.value.Value.TheVariants.{Ref};
 ghost use Rattle.long_names.specs.Names.{NIL, SCHEDULER_ASSOCIATION};
 ghost use Rattle.long_names.specs.Heap.{Heap};
 ghost use Rattle.blue_model.specs.declared.cause.Cause.TheVariants.{Pointer, Unused, Stack, Shape};
-ghost use Rattle.blue_model.specs.Indexes.{NEXT_LINK_INDEX, LONGEST_CHAIN};
+ghost use Rattle.blue_model.specs.declared.indexes.TheConstants.{NEXT_LINK_INDEX};
+ghost use Rattle.blue_model.specs.declared.limits.TheConstants.{LONGEST_CHAIN};
 ghost use Rattle.blue_model.specs.Machine.{Machine, LogRow, Go, at_rest};
 ghost use Rattle.blue_model.specs.Contexts.{start, park};
 ghost use Rattle.blue_model.specs.Arithmetic.{sum, divided, exact_quotient, rounded_down, quotient_down, remainder_down, quotient_to_zero, bits_and, shifted};
@@ -25,7 +26,7 @@ ghost use Rattle.blue_model.specs.Forms.{picture_rows};
 ghost use Rattle.blue_model.specs.Base.{one_right_and_down, small_form, small_words, moved_words, moved_picture};
 ghost use Rattle.blue_model.specs.Law.{IsWholeMachine, IsThinned, RespectsThinning, RunsAgree, EndingsAgree, AllThere, go_on};
 ghost use Rattle.blue_model.specs.Worked.{worked_heap, worked_schedule, current_after, field_after, GATE, RUNNER, LOW_SECOND, MIDDLE, HIGH, NEWCOMER};
-ghost use Rattle.blue_model.specs.Base.{nil, heap_of, base_code, context_at, context_in, minus, small_result};
+ghost use Rattle.blue_model.specs.Base.{nil, heap_running, base_code, context_at, context_in, minus, small_result};
 
 /// A cycle over a thinning answers, stops and logs as over the heap, and leaves a thinning of what it leaves of the heap. So do its
 /// bytecode alone, the start and park. A machine whose heap is whole is a thinning of itself.
@@ -170,24 +171,24 @@ pub fn worked_arithmetic()
 
 /// The heaps of the worked values below are whole: their laws speak of something.
 pub fn worked_heaps_are_whole()
-    ensures { (code : List ℕ) → IsWholeMachine (at_rest (heap_of code)) }
+    ensures { (code : List ℕ) → IsWholeMachine (at_rest (heap_running code)) }
 {}
 
 /// A context whose method pushes the receiver, pops it and jumps back, after 0 to 4 bytecodes.
 pub fn base_image()
-    ensures none { context_in (ending [] 0 (heap_of base_code)) ≡ context_at 3 0 nil }
-    ensures one { context_in (ending [] 1 (heap_of base_code)) ≡ context_at 4 1 nil }
-    ensures two { context_in (ending [] 2 (heap_of base_code)) ≡ context_at 5 0 nil }
-    ensures three { context_in (ending [] 3 (heap_of base_code)) ≡ context_at 3 0 nil }
-    ensures four { context_in (ending [] 4 (heap_of base_code)) ≡ context_at 4 1 nil }
+    ensures none { context_in (ending [] 0 (heap_running base_code)) ≡ context_at 3 0 nil }
+    ensures one { context_in (ending [] 1 (heap_running base_code)) ≡ context_at 4 1 nil }
+    ensures two { context_in (ending [] 2 (heap_running base_code)) ≡ context_at 5 0 nil }
+    ensures three { context_in (ending [] 3 (heap_running base_code)) ≡ context_at 3 0 nil }
+    ensures four { context_in (ending [] 4 (heap_running base_code)) ≡ context_at 4 1 nil }
 {}
 
 /// Codes that stop at their first bytecode, and one that stops at its second.
 pub fn stuck_codes()
-    ensures unused { ending [] 5 (heap_of (126 ∷ [])) ≡ Stuck (ByCause Unused) 0 [] }
-    ensures empty_stack { ending [] 5 (heap_of (135 ∷ [])) ≡ Stuck (ByCause Stack) 0 [] }
-    ensures over_the_end { ending [] 5 (heap_of (151 ∷ [])) ≡ Stuck (ByCause Pointer) 0 [] }
-    ensures no_code { ending [] 5 (heap_of []) ≡ Stuck (ByCause Pointer) 0 [] }
-    ensures no_field { ending [] 5 (heap_of (117 ∷ 0 ∷ [])) ≡ Stuck (ByCause Shape) 1 [] }
-    ensures no_receiver { ending [] 5 (heap_of (176 ∷ [])) ≡ Stuck (ByCause Stack) 0 [] }
+    ensures unused { ending [] 5 (heap_running (126 ∷ [])) ≡ Stuck (ByCause Unused) 0 [] }
+    ensures empty_stack { ending [] 5 (heap_running (135 ∷ [])) ≡ Stuck (ByCause Stack) 0 [] }
+    ensures over_the_end { ending [] 5 (heap_running (151 ∷ [])) ≡ Stuck (ByCause Pointer) 0 [] }
+    ensures no_code { ending [] 5 (heap_running []) ≡ Stuck (ByCause Pointer) 0 [] }
+    ensures no_field { ending [] 5 (heap_running (117 ∷ 0 ∷ [])) ≡ Stuck (ByCause Shape) 1 [] }
+    ensures no_receiver { ending [] 5 (heap_running (176 ∷ [])) ≡ Stuck (ByCause Stack) 0 [] }
 {}

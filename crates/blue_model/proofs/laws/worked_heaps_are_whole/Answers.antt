@@ -10,7 +10,7 @@ use Rattle.long_names.specs.Objects.{is_ref, holds, fields_of}
 use Rattle.long_names.specs.Heap.{Heap, Has}
 use Rattle.long_names.proofs.ThinLemmas.{both, or_cases, holds-cases}
 use Rattle.blue_model.specs.Machine.{is_there}
-use Rattle.blue_model.specs.Base.{heap_of, array, SCHEDULER, PROCESS, CODE, CONTEXT}
+use Rattle.blue_model.specs.Base.{heap_running, array, SCHEDULER, PROCESS, CODE, CONTEXT}
 use Rattle.blue_model.proofs.laws.worked_heaps_are_whole.Goals as goal
 
 named : (x y : ℕ) → eqb x y ≡ true → x ≡ y
@@ -22,7 +22,7 @@ some_of : (b : Bool) (x y : Option Object) → is_some x ≡ true → is_some y 
 some_of true x y e f = e
 some_of false x y e f = f
 
-known_there : (code : List ℕ) (n : ℕ) → is_known n ≡ true → Has (heap_of code) n
+known_there : (code : List ℕ) (n : ℕ) → is_known n ≡ true → Has (heap_running code) n
 known_there code n e =
     some_of (eqb n SCHEDULER_ASSOCIATION) _ _ refl (some_of (eqb n SCHEDULER) _ _ refl (some_of (eqb n PROCESS) _ _ refl (some_of (eqb n CODE) _ _ refl (some_of (eqb n CONTEXT) _ _ refl
     (ap (λ b. is_some (cond b (array []) None)) e)))))
@@ -35,7 +35,7 @@ below_all n (k ∷ names) e f =
     let parts = both (nat_lt k 68) (list_all (λ k. nat_lt k 68) names) e in
     elim (or_cases (eqb n k) (list_any (λ k. eqb n k) names) f) [ inl is ↦ subst (λ x. x < 68) (sym (named n k is)) (ltb-true k 68 parts.0) | inr rest ↦ below_all n names parts.1 rest ]
 
-below_next : (code : List ℕ) (n : ℕ) → Has (heap_of code) n → n < 68
+below_next : (code : List ℕ) (n : ℕ) → Has (heap_running code) n → n < 68
 below_next code n there = one (eqb n SCHEDULER_ASSOCIATION) SCHEDULER_ASSOCIATION _ _ refl refl (one (eqb n SCHEDULER) SCHEDULER _ _ refl refl (one (eqb n PROCESS) PROCESS _ _ refl refl (one (eqb n CODE) CODE _ _ refl refl (one (eqb n CONTEXT) CONTEXT _ _ refl refl (last (is_known n) refl))))) there
   where
     one : (b : Bool) (k : ℕ) (x y : Option Object) → eqb n k ≡ b → nat_lt k 68 ≡ true → (is_some y ≡ true → n < 68) → is_some (cond b x y) ≡ true → n < 68
@@ -63,15 +63,15 @@ all_there h o p k class fields e held =
     let same : o ≡ p = cc in
     elim (holds-cases o k (subst (λ x. holds x k ≡ true) (sym same) held)) [ inl is ↦ subst (λ x. Has h x) is class | inr f ↦ value_there h k (fields_of o.body) fields f ]
 
-closed_there : (code : List ℕ) (n : ℕ) (p : Object) (k : ℕ) → (heap_of code).at n ≡ Some p → holds p k ≡ true → Has (heap_of code) k
+closed_there : (code : List ℕ) (n : ℕ) (p : Object) (k : ℕ) → (heap_running code).at n ≡ Some p → holds p k ≡ true → Has (heap_running code) k
 closed_there code n p k e held = one (eqb n SCHEDULER_ASSOCIATION) _ _ refl refl (one (eqb n SCHEDULER) _ _ refl refl (one (eqb n PROCESS) _ _ refl refl (one (eqb n CODE) _ _ refl refl (one (eqb n CONTEXT) _ _ refl refl (last (is_known n)))))) e
   where
-    one : (b : Bool) (o : Object) (y : Option Object) → Has (heap_of code) o.class → list_all (is_there (heap_of code)) (fields_of o.body) ≡ true → (y ≡ Some p → Has (heap_of code) k) → cond b (Some o) y ≡ Some p → Has (heap_of code) k
-    one true o y class fields next f = all_there (heap_of code) o p k class fields f held
+    one : (b : Bool) (o : Object) (y : Option Object) → Has (heap_running code) o.class → list_all (is_there (heap_running code)) (fields_of o.body) ≡ true → (y ≡ Some p → Has (heap_running code) k) → cond b (Some o) y ≡ Some p → Has (heap_running code) k
+    one true o y class fields next f = all_there (heap_running code) o p k class fields f held
     one false o y class fields next f = next f
 
-    last : (b : Bool) → cond b (array []) None ≡ Some p → Has (heap_of code) k
-    last true f = all_there (heap_of code) _ p k refl refl f held
+    last : (b : Bool) → cond b (array []) None ≡ Some p → Has (heap_running code) k
+    last true f = all_there (heap_running code) _ p k refl refl f held
     last false f = let no : ◌≡◌ {A = Option Object} None (Some p) = f in absurd (cc)
 
 pub returns : goal.returns
