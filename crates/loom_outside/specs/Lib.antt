@@ -1,5 +1,6 @@
 pub mod Bytes
 pub mod Files
+pub mod Lying
 pub mod Marks
 pub mod Memory
 pub mod Outside
