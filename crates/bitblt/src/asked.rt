@@ -10,6 +10,7 @@ ghost use Rattle.bitblt.specs.Asking.{place_at, places_found, asked_found};
 ghost use Rattle.object_memory.specs.Calls.{IsFit};
 ghost use Rattle.contexts.specs.Calls.{StaysFit};
 
+use blue_model::indexes::{BITBLT_SIZE, COMBINATION_RULE_INDEX};
 use contexts::Stop;
 use contexts::peeks::peek_number;
 use object_memory::{ObjectMemory, Reg};
@@ -40,10 +41,10 @@ fn read_place<M: ObjectMemory>(m: &mut M, i: u32) -> Result<Option<Place>, Stop>
     ensures looks { OnOk result (Looks (12 ∷ []) (M.told m.old) (M.told m.new)) }
     ensures fit { StaysFit M.ObjectMemory m.old m.new result }
 {
-    let Some(x) = peek_number(m, Reg::R12, Reg::R10, 14, i)? else {
+    let Some(x) = peek_number(m, Reg::R12, Reg::R10, BITBLT_SIZE, i)? else {
         return Ok(None);
     };
-    let Some(y) = peek_number(m, Reg::R12, Reg::R10, 14, i + 1)? else {
+    let Some(y) = peek_number(m, Reg::R12, Reg::R10, BITBLT_SIZE, i + 1)? else {
         return Ok(None);
     };
     Ok(Some(Place { x, y }))
@@ -69,7 +70,7 @@ pub(crate) fn read_asked<M: ObjectMemory>(m: &mut M) -> Result<Option<Asked>, St
     ensures rule { IfOk result (λ asked. IfSome asked (λ q. q.rule < 16)) }
     ensures fit { StaysFit M.ObjectMemory m.old m.new result }
 {
-    let Some(z) = peek_number(m, Reg::R12, Reg::R10, 14, 3)? else {
+    let Some(z) = peek_number(m, Reg::R12, Reg::R10, BITBLT_SIZE, COMBINATION_RULE_INDEX)? else {
         return Ok(None);
     };
     let Some(rule) = rule_number(z) else {

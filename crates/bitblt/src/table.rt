@@ -12,6 +12,7 @@ ghost use Rattle.contexts.specs.Calls.{StaysFit};
 use crate::asked::read_asked;
 use crate::copy::copy_pixels;
 use crate::optional::read_optional_form;
+use blue_model::indexes::{BITBLT_SIZE, DEST_FORM_INDEX, HALFTONE_FORM_INDEX, SOURCE_FORM_INDEX};
 use contexts::peeks::peek_field;
 use contexts::{Answer, Cpu, Stop, stack};
 use forms::read_form;
@@ -28,19 +29,19 @@ fn copy_bits<M: ObjectMemory>(m: &mut M, cpu: &mut Cpu) -> Result<Answer, Stop>
     let Some(q) = read_asked(m)? else {
         return Ok(Answer::Failed);
     };
-    if !peek_field(m, Reg::R11, Reg::R10, 14, 0)? {
+    if !peek_field(m, Reg::R11, Reg::R10, BITBLT_SIZE, DEST_FORM_INDEX)? {
         return Ok(Answer::Failed);
     }
     let Some(dest) = read_form(m, Reg::R13, false)? else {
         return Ok(Answer::Failed);
     };
-    if !peek_field(m, Reg::R11, Reg::R10, 14, 1)? {
+    if !peek_field(m, Reg::R11, Reg::R10, BITBLT_SIZE, SOURCE_FORM_INDEX)? {
         return Ok(Answer::Failed);
     }
     let Some(source) = read_optional_form(m, Reg::R14, false)? else {
         return Ok(Answer::Failed);
     };
-    if !peek_field(m, Reg::R11, Reg::R10, 14, 2)? {
+    if !peek_field(m, Reg::R11, Reg::R10, BITBLT_SIZE, HALFTONE_FORM_INDEX)? {
         return Ok(Answer::Failed);
     }
     let Some(halftone) = read_optional_form(m, Reg::R15, true)? else {

@@ -14,6 +14,7 @@ ghost use Rattle.contexts.specs.Calls.{StaysFit};
 
 use crate::sends::cannot_return;
 use blue_model::Step;
+use blue_model::indexes::{CALLER_INDEX, INSTRUCTION_POINTER_INDEX, SENDER_INDEX};
 use contexts::parts::{field, known};
 use contexts::{Cpu, Stop, back, pop_top, push};
 use event_file::EventList;
@@ -45,7 +46,7 @@ pub(crate) fn return_to<M: ObjectMemory>(
     if m.is(Reg::R11, Name::NIL) {
         return cannot_return(m, cpu, events);
     }
-    field(m, Reg::R12, Reg::R11, 0, 1)?;
+    field(m, Reg::R12, Reg::R11, 0, INSTRUCTION_POINTER_INDEX)?;
     if m.is(Reg::R12, Name::NIL) {
         return cannot_return(m, cpu, events);
     }
@@ -63,7 +64,7 @@ pub(crate) fn return_home<M: ObjectMemory>(
     ensures serves { Speaks Next (M.told m.old) cpu.old (M.told m.new) cpu.new (model.return_home events.now ((M.told m.old).regs 10)) result }
     ensures fit { StaysFit M.ObjectMemory m.old m.new result }
 {
-    field(m, Reg::R11, Reg::HOME, 0, 0)?;
+    field(m, Reg::R11, Reg::HOME, 0, SENDER_INDEX)?;
     return_to(m, cpu, events)
 }
 
@@ -122,6 +123,6 @@ pub(crate) fn return_from_block<M: ObjectMemory>(
     ensures fit { StaysFit M.ObjectMemory m.old m.new result }
 {
     pop_top(m, cpu, Reg::R10)?;
-    field(m, Reg::R11, Reg::ACTIVE_CONTEXT, 0, 0)?;
+    field(m, Reg::R11, Reg::ACTIVE_CONTEXT, 0, CALLER_INDEX)?;
     return_to(m, cpu, events)
 }

@@ -13,6 +13,7 @@ use crate::execution::execute;
 use crate::tries::{has_failed, step_of, try_primitive};
 use crate::variables::literal_constant;
 use blue_model::Step;
+use blue_model::indexes::{ASSOCIATION_SIZE, SUPERCLASS_INDEX, VALUE_INDEX};
 use contexts::parts::{class_of, field, known, last_literal, number};
 use contexts::{Cause, Cpu, Stop, fetch, push, set_arguments, stack};
 use event_file::EventList;
@@ -66,8 +67,8 @@ pub(crate) fn send_super<M: ObjectMemory>(
 {
     stack(m, cpu, Reg::R11, u32::from(n))?;
     last_literal(m, Reg::R11, Reg::METHOD)?;
-    field(m, Reg::R11, Reg::R11, 2, 1)?;
-    field(m, Reg::R11, Reg::R11, 0, 0)?;
+    field(m, Reg::R11, Reg::R11, ASSOCIATION_SIZE, VALUE_INDEX)?;
+    field(m, Reg::R11, Reg::R11, 0, SUPERCLASS_INDEX)?;
     send_from(m, cpu, events, n)
 }
 

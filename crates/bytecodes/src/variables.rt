@@ -10,6 +10,7 @@ ghost use Rattle.bytecodes.specs.Variables.{loads, stores, kind_of};
 ghost use Rattle.object_memory.specs.Calls.{IsFit};
 ghost use Rattle.contexts.specs.Calls.{StaysFit};
 
+use blue_model::indexes::{ASSOCIATION_SIZE, VALUE_INDEX};
 use contexts::parts::{field, literal, size, store_field};
 use contexts::{Cause, Stop};
 use object_memory::{ObjectMemory, Reg};
@@ -100,7 +101,7 @@ pub(crate) fn literal_variable<M: ObjectMemory>(m: &mut M, to: Reg, i: u32) -> R
     ensures fit { StaysFit M.ObjectMemory m.old m.new result }
 {
     literal_constant(m, to, i)?;
-    field(m, to, to, 2, 1)?;
+    field(m, to, to, ASSOCIATION_SIZE, VALUE_INDEX)?;
     Ok(())
 }
 
@@ -167,7 +168,7 @@ pub(crate) fn store_literal_variable<M: ObjectMemory>(
     ensures fit { StaysFit M.ObjectMemory m.old m.new result }
 {
     literal_constant(m, Reg::R11, i)?;
-    store_field(m, Reg::R11, 1, from)?;
+    store_field(m, Reg::R11, VALUE_INDEX, from)?;
     Ok(())
 }
 

@@ -14,6 +14,11 @@ use crate::numbers::{stated_depth, stated_ip, take_stated};
 use crate::parts::{field, home, known, need_method, number, store_field};
 use crate::registers::{clear, pin, put_context, unpin_all};
 use crate::stop::Stop;
+use blue_model::indexes::{
+    ACTIVE_PROCESS_INDEX, ASSOCIATION_SIZE, INSTRUCTION_POINTER_INDEX, METHOD_INDEX, PROCESS_SIZE,
+    RECEIVER_INDEX, SCHEDULER_SIZE, SENDER_INDEX, STACK_POINTER_INDEX, SUSPENDED_CONTEXT_INDEX,
+    TEMP_FRAME_START, VALUE_INDEX,
+};
 use blue_model::{Cause, Cpu};
 use long_names::Name;
 use object_memory::{ObjectMemory, Reg};
@@ -36,10 +41,10 @@ fn load_home<M: ObjectMemory>(
     ensures fit { StaysFit M.ObjectMemory m.old m.new result }
 {
     pin(m, 1, Reg::R21)?;
-    field(m, Reg::R22, Reg::R21, 6, 3)?;
+    field(m, Reg::R22, Reg::R21, TEMP_FRAME_START, METHOD_INDEX)?;
     pin(m, 2, Reg::R22)?;
     need_method(m, Reg::R22)?;
-    field(m, Reg::R23, Reg::R21, 6, 5)?;
+    field(m, Reg::R23, Reg::R21, TEMP_FRAME_START, RECEIVER_INDEX)?;
     if !take_stated(cpu, ip, depth) {
         return Err(Stop::Stuck(Cause::Stack));
     }
@@ -59,8 +64,14 @@ fn load<M: ObjectMemory>(m: &mut M, cpu: &mut Cpu, context: Reg) -> Result<(), S
 {
     unpin_all(m);
     pin(m, 0, context)?;
-    let ip = number(m, Reg::R20, context, 6, 1)?;
-    let depth = number(m, Reg::R20, context, 6, 2)?;
+    let ip = number(
+        m,
+        Reg::R20,
+        context,
+        TEMP_FRAME_START,
+        INSTRUCTION_POINTER_INDEX,
+    )?;
+    let depth = number(m, Reg::R20, context, TEMP_FRAME_START, STACK_POINTER_INDEX)?;
     home(m, Reg::R21, context)?;
     load_home(m, cpu, context, &ip, &depth)?;
     Ok(())
@@ -80,9 +91,9 @@ fn store_registers<M: ObjectMemory>(m: &mut M, cpu: &Cpu) -> Result<(), Stop>
         return Err(Stop::Stuck(Cause::Stack));
     };
     m.int(Reg::R20, ip);
-    store_field(m, Reg::ACTIVE_CONTEXT, 1, Reg::R20)?;
+    store_field(m, Reg::ACTIVE_CONTEXT, INSTRUCTION_POINTER_INDEX, Reg::R20)?;
     m.int(Reg::R20, depth);
-    store_field(m, Reg::ACTIVE_CONTEXT, 2, Reg::R20)?;
+    store_field(m, Reg::ACTIVE_CONTEXT, STACK_POINTER_INDEX, Reg::R20)?;
     Ok(())
 }
 
@@ -107,8 +118,8 @@ fn nil_context<M: ObjectMemory>(m: &mut M) -> Result<(), Stop>
     ensures fit { StaysFit M.ObjectMemory m.old m.new result }
 {
     known(m, Reg::R20, Name::NIL)?;
-    store_field(m, Reg::ACTIVE_CONTEXT, 0, Reg::R20)?;
-    store_field(m, Reg::ACTIVE_CONTEXT, 1, Reg::R20)?;
+    store_field(m, Reg::ACTIVE_CONTEXT, SENDER_INDEX, Reg::R20)?;
+    store_field(m, Reg::ACTIVE_CONTEXT, INSTRUCTION_POINTER_INDEX, Reg::R20)?;
     Ok(())
 }
 
@@ -134,7 +145,7 @@ pub fn scheduler<M: ObjectMemory>(m: &mut M, to: Reg) -> Result<(), Stop>
     ensures fit { StaysFit M.ObjectMemory m.old m.new result }
 {
     known(m, to, Name::SCHEDULER_ASSOCIATION)?;
-    field(m, to, to, 2, 1)?;
+    field(m, to, to, ASSOCIATION_SIZE, VALUE_INDEX)?;
     Ok(())
 }
 
@@ -147,7 +158,7 @@ pub fn active_process<M: ObjectMemory>(m: &mut M, to: Reg) -> Result<(), Stop>
     ensures fit { StaysFit M.ObjectMemory m.old m.new result }
 {
     scheduler(m, to)?;
-    field(m, to, to, 2, 1)?;
+    field(m, to, to, SCHEDULER_SIZE, ACTIVE_PROCESS_INDEX)?;
     Ok(())
 }
 
@@ -163,7 +174,7 @@ pub fn start<M: ObjectMemory>(m: &mut M, cpu: &mut Cpu) -> Result<(), Stop>
     clear(m, 0, 24);
     *cpu = Cpu::at_rest();
     active_process(m, Reg::R10)?;
-    field(m, Reg::R10, Reg::R10, 4, 1)?;
+    field(m, Reg::R10, Reg::R10, PROCESS_SIZE, SUSPENDED_CONTEXT_INDEX)?;
     load(m, cpu, Reg::R10)?;
     clear(m, 10, 24);
     Ok(())
@@ -176,7 +187,7 @@ fn park_new<M: ObjectMemory>(m: &mut M, cpu: &Cpu) -> Result<(), Stop>
     ensures fit { StaysFit M.ObjectMemory m.old m.new result }
 {
     if cpu.waiting {
-        store_field(m, Reg::R11, 1, Reg::NEW_PROCESS)?;
+        store_field(m, Reg::R11, ACTIVE_PROCESS_INDEX, Reg::NEW_PROCESS)?;
     }
     Ok(())
 }
@@ -191,8 +202,8 @@ pub fn park<M: ObjectMemory>(m: &mut M, cpu: &mut Cpu) -> Result<(), Stop>
 {
     store_registers(m, cpu)?;
     scheduler(m, Reg::R11)?;
-    field(m, Reg::R10, Reg::R11, 2, 1)?;
-    store_field(m, Reg::R10, 1, Reg::ACTIVE_CONTEXT)?;
+    field(m, Reg::R10, Reg::R11, SCHEDULER_SIZE, ACTIVE_PROCESS_INDEX)?;
+    store_field(m, Reg::R10, SUSPENDED_CONTEXT_INDEX, Reg::ACTIVE_CONTEXT)?;
     park_new(m, cpu)?;
     Ok(())
 }

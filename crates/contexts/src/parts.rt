@@ -20,6 +20,7 @@ ghost use Rattle.contexts.specs.Calls.{StaysFit};
 
 use crate::stop::Stop;
 use blue_model::Cause;
+use blue_model::indexes::{HOME_INDEX, METHOD_INDEX, TEMP_FRAME_START};
 use long_names::Name;
 use object_memory::{ObjectMemory, Reg, shape};
 
@@ -196,12 +197,12 @@ pub fn home<M: ObjectMemory>(m: &mut M, to: Reg, context: Reg) -> Result<(), Sto
     let Some(len) = shape::fields(m, context)? else {
         return Err(Stop::Stuck(Cause::Shape));
     };
-    if len < 6 {
+    if len < TEMP_FRAME_START {
         return Err(Stop::Stuck(Cause::Shape));
     }
-    m.field(to, context, 3)?;
+    m.field(to, context, METHOD_INDEX)?;
     if m.as_int(to).is_some() {
-        m.field(to, context, 5)?;
+        m.field(to, context, HOME_INDEX)?;
     } else {
         m.copy(to, context);
     }

@@ -10,6 +10,7 @@ ghost use Rattle.contexts.specs.Serves.{Serves, StaysSound};
 ghost use Rattle.object_memory.specs.Calls.{IsFit};
 ghost use Rattle.contexts.specs.Calls.{StaysFit};
 
+use blue_model::indexes::SEMAPHORE_SIZE;
 use contexts::peeks::peek_size;
 use contexts::{Answer, Cpu, Stop, answer, pop, stack};
 use event_file::EventList;
@@ -41,7 +42,7 @@ pub(crate) fn semaphore_or_nil<M: ObjectMemory>(m: &mut M, of: Reg) -> Result<Op
     if m.is(of, Name::NIL) {
         return Ok(Some(false));
     }
-    let size = peek_size(m, of, 3)?;
+    let size = peek_size(m, of, SEMAPHORE_SIZE)?;
     Ok(there_by(size))
 }
 

@@ -12,6 +12,7 @@ ghost use Rattle.forms.specs.Shapes as shapes;
 ghost use Rattle.object_memory.specs.Calls.{IsFit};
 ghost use Rattle.contexts.specs.Calls.{StaysFit};
 
+use blue_model::indexes::{BITS_INDEX, FORM_SIZE, HEIGHT_INDEX, WIDTH_INDEX};
 use contexts::Stop;
 use contexts::peeks::{peek_field, peek_number};
 use object_memory::{ObjectMemory, Reg, shape};
@@ -38,10 +39,10 @@ fn read_extent<M: ObjectMemory>(m: &mut M) -> Result<Option<Extent>, Stop>
     ensures extent { IfOk result (λ found. IfSome found IsExtent) }
     ensures fit { StaysFit M.ObjectMemory m.old m.new result }
 {
-    let Some(x) = peek_number(m, Reg::R12, Reg::R11, 3, 1)? else {
+    let Some(x) = peek_number(m, Reg::R12, Reg::R11, FORM_SIZE, WIDTH_INDEX)? else {
         return Ok(None);
     };
-    let Some(y) = peek_number(m, Reg::R12, Reg::R11, 3, 2)? else {
+    let Some(y) = peek_number(m, Reg::R12, Reg::R11, FORM_SIZE, HEIGHT_INDEX)? else {
         return Ok(None);
     };
     let Some(width) = positive(x) else {
@@ -86,7 +87,7 @@ pub fn read_form<M: ObjectMemory>(
     ensures extent { IfOk result (λ found. IfSome found (λ e. IsExtent e × (shapes.least_words halftone e < 65536))) }
     ensures fit { StaysFit M.ObjectMemory m.old m.new result }
 {
-    if !peek_field(m, bits, Reg::R11, 3, 0)? {
+    if !peek_field(m, bits, Reg::R11, FORM_SIZE, BITS_INDEX)? {
         return Ok(None);
     }
     let Some(count) = shape::words(m, bits)? else {

@@ -9,6 +9,10 @@ ghost use Rattle.contexts.specs.Calls.{StaysFit};
 
 use crate::numbers::{block_pointer, natural};
 use crate::parts::{peek_home, store_number};
+use blue_model::indexes::{
+    BLOCK_ARGUMENT_COUNT_INDEX, HOME_INDEX, INITIAL_IP_INDEX, INSTRUCTION_POINTER_INDEX,
+    STACK_POINTER_INDEX, TEMP_FRAME_START,
+};
 use contexts::parts::{known, make_pointers, store_field};
 use contexts::peeks::peek_size;
 use contexts::{Answer, Cause, Cpu, Stop, answer, stack};
@@ -29,11 +33,11 @@ fn make_block<M: ObjectMemory>(m: &mut M, cpu: &Cpu, len: u32, n: u32) -> Result
     let Some(ip) = block_pointer(cpu) else {
         return Err(Stop::Stuck(Cause::Pointer));
     };
-    store_number(m, Reg::R13, 1, ip)?;
-    store_number(m, Reg::R13, 2, 0)?;
-    store_number(m, Reg::R13, 3, n as i16)?;
-    store_number(m, Reg::R13, 4, ip)?;
-    store_field(m, Reg::R13, 5, Reg::R12)?;
+    store_number(m, Reg::R13, INSTRUCTION_POINTER_INDEX, ip)?;
+    store_number(m, Reg::R13, STACK_POINTER_INDEX, 0)?;
+    store_number(m, Reg::R13, BLOCK_ARGUMENT_COUNT_INDEX, n as i16)?;
+    store_number(m, Reg::R13, INITIAL_IP_INDEX, ip)?;
+    store_field(m, Reg::R13, HOME_INDEX, Reg::R12)?;
     Ok(())
 }
 
@@ -61,7 +65,7 @@ pub(crate) fn block_copy<M: ObjectMemory>(m: &mut M, cpu: &mut Cpu) -> Result<An
     let Some(n) = argument_number(m) else {
         return Ok(Answer::Failed);
     };
-    let Some(len) = peek_size(m, Reg::R12, 6)? else {
+    let Some(len) = peek_size(m, Reg::R12, TEMP_FRAME_START)? else {
         return Ok(Answer::Failed);
     };
     make_block(m, cpu, len, n)?;

@@ -14,6 +14,7 @@ ghost use Rattle.contexts.specs.Serves.{Serves, StaysSound, with_found};
 ghost use Rattle.object_memory.specs.Calls.{IsFit};
 ghost use Rattle.contexts.specs.Calls.{StaysFit};
 
+use blue_model::indexes::TEMP_FRAME_START;
 use contexts::Stop;
 use contexts::parts::{class_of, home, store_field};
 use contexts::peeks::peek_size;
@@ -27,7 +28,7 @@ pub(crate) fn peek_home<M: ObjectMemory>(m: &mut M) -> Result<bool, Stop>
     ensures looks { OnOk result (Looks (12 ∷ []) (M.told m.old) (M.told m.new)) }
     ensures fit { StaysFit M.ObjectMemory m.old m.new result }
 {
-    let Some(_) = peek_size(m, Reg::R10, 6)? else {
+    let Some(_) = peek_size(m, Reg::R10, TEMP_FRAME_START)? else {
         return Ok(false);
     };
     home(m, Reg::R12, Reg::R10)?;

@@ -12,6 +12,9 @@ ghost use Rattle.contexts.specs.Calls.{StaysFit};
 
 use crate::numbers::states;
 use crate::parts::{array_length, store_number};
+use blue_model::indexes::{
+    BLOCK_ARGUMENT_COUNT_INDEX, CALLER_INDEX, INITIAL_IP_INDEX, TEMP_FRAME_START,
+};
 use contexts::parts::{class_of, field, store_field};
 use contexts::peeks::peek_number;
 use contexts::{Answer, Cpu, Stop, enter, pop, stack};
@@ -28,11 +31,23 @@ fn pointer_for<M: ObjectMemory>(m: &mut M, n: u32) -> Result<Option<i16>, Stop>
     ensures few { IfOk result (λ found. IsSome found → n < 16384) }
     ensures fit { StaysFit M.ObjectMemory m.old m.new result }
 {
-    let count = peek_number(m, Reg::R19, Reg::R10, 6 + n, 3)?;
+    let count = peek_number(
+        m,
+        Reg::R19,
+        Reg::R10,
+        TEMP_FRAME_START + n,
+        BLOCK_ARGUMENT_COUNT_INDEX,
+    )?;
     if !states(n, count) {
         return Ok(None);
     }
-    peek_number(m, Reg::R19, Reg::R10, 6 + n, 4)
+    peek_number(
+        m,
+        Reg::R19,
+        Reg::R10,
+        TEMP_FRAME_START + n,
+        INITIAL_IP_INDEX,
+    )
 }
 
 /// The same of a block. None where there is no block in R10.
@@ -62,7 +77,7 @@ fn enter_block<M: ObjectMemory>(m: &mut M, cpu: &mut Cpu, n: u32, ip: i16) -> Re
 {
     store_number(m, Reg::R10, 1, ip)?;
     store_number(m, Reg::R10, 2, n as i16)?;
-    store_field(m, Reg::R10, 0, Reg::ACTIVE_CONTEXT)?;
+    store_field(m, Reg::R10, CALLER_INDEX, Reg::ACTIVE_CONTEXT)?;
     enter(m, cpu, Reg::R10)?;
     Ok(Answer::Done)
 }
@@ -77,7 +92,7 @@ fn pass_argument<M: ObjectMemory>(m: &mut M, cpu: &Cpu, n: u32, k: u32) -> Resul
     ensures fit { StaysFit M.ObjectMemory m.old m.new result }
 {
     stack(m, cpu, Reg::R19, n - 1 - k)?;
-    store_field(m, Reg::R10, 6 + k, Reg::R19)?;
+    store_field(m, Reg::R10, TEMP_FRAME_START + k, Reg::R19)?;
     Ok(())
 }
 
@@ -120,7 +135,7 @@ fn pass_element<M: ObjectMemory>(m: &mut M, k: u32) -> Result<(), Stop>
     ensures fit { StaysFit M.ObjectMemory m.old m.new result }
 {
     field(m, Reg::R19, Reg::R12, 0, k)?;
-    store_field(m, Reg::R10, 6 + k, Reg::R19)?;
+    store_field(m, Reg::R10, TEMP_FRAME_START + k, Reg::R19)?;
     Ok(())
 }
 

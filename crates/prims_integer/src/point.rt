@@ -8,6 +8,7 @@ ghost use Rattle.contexts.specs.Serves.{Serves, StaysSound, with_value};
 ghost use Rattle.object_memory.specs.Calls.{IsFit};
 ghost use Rattle.contexts.specs.Calls.{StaysFit};
 
+use blue_model::indexes::{X_INDEX, Y_INDEX};
 use contexts::Stop;
 use contexts::parts::{known, make_pointers, store_field};
 use long_names::Name;
@@ -24,8 +25,8 @@ pub(crate) fn make_point<M: ObjectMemory>(m: &mut M, x: i16, y: i16) -> Result<(
     known(m, Reg::R10, Name::POINT)?;
     make_pointers(m, Reg::R11, Reg::R10, 2)?;
     m.int(Reg::R10, x);
-    store_field(m, Reg::R11, 0, Reg::R10)?;
+    store_field(m, Reg::R11, X_INDEX, Reg::R10)?;
     m.int(Reg::R10, y);
-    store_field(m, Reg::R11, 1, Reg::R10)?;
+    store_field(m, Reg::R11, Y_INDEX, Reg::R10)?;
     Ok(())
 }

@@ -18,6 +18,7 @@ use crate::elements::store_element;
 use crate::extents::text_length;
 use crate::indexes::byte_by;
 use blue_model::Spot;
+use blue_model::indexes::CHARACTER_VALUE_INDEX;
 use contexts::Stop;
 use contexts::data::byte;
 use contexts::parts::{class_of, known};
@@ -80,7 +81,7 @@ fn byte_of_character<M: ObjectMemory>(m: &mut M, of: Reg) -> Result<Option<u8>, 
     if !m.is(Reg::R19, Name::CHARACTER) {
         return Ok(None);
     }
-    let number = peek_number(m, Reg::R19, of, 0, 0)?;
+    let number = peek_number(m, Reg::R19, of, 0, CHARACTER_VALUE_INDEX)?;
     Ok(byte_by(number))
 }
 

@@ -14,10 +14,8 @@ use crate::indexes::natural_argument;
 use contexts::parts::{make_method, store_value};
 use contexts::peeks::{peek_header, peek_literal};
 use contexts::{Answer, Cpu, Stop, answer, stack};
+use long_names::MOST_CODE;
 use object_memory::{ObjectMemory, Reg, shape};
-
-/// The most bytes of code that a method has.
-const MOST_CODE_BYTES: i16 = 16_000;
 
 /// Answers part n of the method: 1 is its header, which is given, and from 2 on are its literals.
 fn method_object<M: ObjectMemory>(
@@ -92,7 +90,7 @@ fn code_size(number: Option<i16>) -> Option<u32>
     ensures few { IfSome result (λ n. n ≤ MOST_CODE) }
 {
     let number = number?;
-    if number < 0 || number > MOST_CODE_BYTES {
+    if number < 0 || number > MOST_CODE as i16 {
         return None;
     }
     Some(number as u32)

@@ -10,6 +10,7 @@ ghost use Rattle.contexts.specs.Serves.{Serves, StaysSound};
 ghost use Rattle.object_memory.specs.Calls.{IsFit};
 ghost use Rattle.contexts.specs.Calls.{StaysFit};
 
+use blue_model::indexes::{CLASS_SIZE, INSTANCE_SPECIFICATION_INDEX};
 use contexts::Stop;
 use contexts::parts::class_of;
 use contexts::peeks::peek_number;
@@ -69,7 +70,7 @@ pub(crate) fn specification_of<M: ObjectMemory>(m: &mut M, class: Reg) -> Result
     if !shape::is_name(m, class) {
         return Ok(None);
     }
-    peek_number(m, Reg::R19, class, 3, 2)
+    peek_number(m, Reg::R19, class, CLASS_SIZE, INSTANCE_SPECIFICATION_INDEX)
 }
 
 /// How many fixed fields the object has that a register names (fixedFieldsOf:). None where it holds a number, or where the class says

@@ -21,17 +21,15 @@ use crate::elements::{element_at, element_of, store_element};
 use crate::extents::{length, peek_array, peek_text};
 use crate::indexes::natural;
 use blue_model::Spot;
+use blue_model::indexes::{
+    STREAM_ARRAY_INDEX, STREAM_INDEX_INDEX, STREAM_READ_LIMIT_INDEX, STREAM_SIZE,
+    STREAM_WRITE_LIMIT_INDEX,
+};
 use contexts::parts::{class_of, store_field};
 use contexts::peeks::{peek_field, peek_number};
 use contexts::{Answer, Cpu, Stop, answer, boolean, stack};
 use long_names::Name;
 use object_memory::{ObjectMemory, Reg};
-
-/// The field of a stream that has the limit of what is read.
-const READ_LIMIT: u32 = 2;
-
-/// The field of a stream that has the limit of what is written.
-const WRITE_LIMIT: u32 = 3;
 
 /// What a stream has beside its array.
 #[derive(Clone, Copy)]
@@ -108,16 +106,16 @@ fn open<M: ObjectMemory>(m: &mut M, limit: u32) -> Result<Option<Stream>, Stop>
     ensures limit { IfOk result (λ found. IfSome found (λ stream. IsSmallInteger stream.limit)) }
     ensures fit { StaysFit M.ObjectMemory m.old m.new result }
 {
-    if !peek_field(m, Reg::R13, Reg::R10, 4, 0)? {
+    if !peek_field(m, Reg::R13, Reg::R10, STREAM_SIZE, STREAM_ARRAY_INDEX)? {
         return Ok(None);
     }
     let Some(text) = streamed(m)? else {
         return Ok(None);
     };
-    let Some(number) = peek_number(m, Reg::R19, Reg::R10, 4, 1)? else {
+    let Some(number) = peek_number(m, Reg::R19, Reg::R10, STREAM_SIZE, STREAM_INDEX_INDEX)? else {
         return Ok(None);
     };
-    let Some(limit) = peek_number(m, Reg::R19, Reg::R10, 4, limit)? else {
+    let Some(limit) = peek_number(m, Reg::R19, Reg::R10, STREAM_SIZE, limit)? else {
         return Ok(None);
     };
     let Some(index) = natural(i32::from(number)) else {
@@ -158,7 +156,7 @@ fn advance<M: ObjectMemory>(m: &mut M, index: u32) -> Result<(), Stop>
     ensures fit { StaysFit M.ObjectMemory m.old m.new result }
 {
     m.int(Reg::R19, (index + 1) as i16);
-    store_field(m, Reg::R10, 1, Reg::R19)
+    store_field(m, Reg::R10, STREAM_INDEX_INDEX, Reg::R19)
 }
 
 /// Loads what stands there in the array in R13 into R12: of text, the character of a byte. False where there is no such
@@ -200,7 +198,7 @@ pub(crate) fn next<M: ObjectMemory>(m: &mut M, cpu: &mut Cpu) -> Result<Answer, 
     ensures fit { StaysFit M.ObjectMemory m.old m.new result }
 {
     stack(m, cpu, Reg::R10, 0)?;
-    let Some(stream) = open(m, READ_LIMIT)? else {
+    let Some(stream) = open(m, STREAM_READ_LIMIT_INDEX)? else {
         return Ok(Answer::Failed);
     };
     let Some(spot) = next_spot(m, &stream)? else {
@@ -221,7 +219,7 @@ pub(crate) fn next_put<M: ObjectMemory>(m: &mut M, cpu: &mut Cpu) -> Result<Answ
 {
     stack(m, cpu, Reg::R10, 1)?;
     stack(m, cpu, Reg::R12, 0)?;
-    let Some(stream) = open(m, WRITE_LIMIT)? else {
+    let Some(stream) = open(m, STREAM_WRITE_LIMIT_INDEX)? else {
         return Ok(Answer::Failed);
     };
     let Some(spot) = next_spot(m, &stream)? else {
@@ -241,7 +239,7 @@ pub(crate) fn at_end<M: ObjectMemory>(m: &mut M, cpu: &mut Cpu) -> Result<Answer
     ensures fit { StaysFit M.ObjectMemory m.old m.new result }
 {
     stack(m, cpu, Reg::R10, 0)?;
-    let Some(stream) = open(m, READ_LIMIT)? else {
+    let Some(stream) = open(m, STREAM_READ_LIMIT_INDEX)? else {
         return Ok(Answer::Failed);
     };
     let Some(len) = length(m, Reg::R13)? else {

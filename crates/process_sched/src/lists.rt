@@ -13,6 +13,7 @@ ghost use Rattle.contexts.specs.Serves.{Serves, StaysSound, with_value};
 ghost use Rattle.object_memory.specs.Calls.{IsFit};
 ghost use Rattle.contexts.specs.Calls.{StaysFit};
 
+use blue_model::indexes::{FIRST_LINK_INDEX, LAST_LINK_INDEX, MY_LIST_INDEX, NEXT_LINK_INDEX};
 use contexts::Stop;
 use contexts::parts::{field, known, store_field};
 use long_names::Name;
@@ -27,8 +28,8 @@ fn link_behind<M: ObjectMemory>(m: &mut M) -> Result<(), Stop>
     ensures other { OnOk result ((M.told m.new).regs 17 ≡ (M.told m.old).regs 17) }
     ensures fit { StaysFit M.ObjectMemory m.old m.new result }
 {
-    field(m, Reg::R13, Reg::R11, 0, 1)?;
-    store_field(m, Reg::R13, 0, Reg::R10)?;
+    field(m, Reg::R13, Reg::R11, 0, LAST_LINK_INDEX)?;
+    store_field(m, Reg::R13, NEXT_LINK_INDEX, Reg::R10)?;
     Ok(())
 }
 
@@ -42,7 +43,7 @@ fn link<M: ObjectMemory>(m: &mut M) -> Result<(), Stop>
     ensures fit { StaysFit M.ObjectMemory m.old m.new result }
 {
     if m.is(Reg::R12, Name::NIL) {
-        store_field(m, Reg::R11, 0, Reg::R10)?;
+        store_field(m, Reg::R11, FIRST_LINK_INDEX, Reg::R10)?;
         return Ok(());
     }
     link_behind(m)
@@ -55,10 +56,10 @@ pub(crate) fn add<M: ObjectMemory>(m: &mut M) -> Result<(), Stop>
     ensures other { OnOk result ((M.told m.new).regs 17 ≡ (M.told m.old).regs 17) }
     ensures fit { StaysFit M.ObjectMemory m.old m.new result }
 {
-    field(m, Reg::R12, Reg::R11, 0, 0)?;
+    field(m, Reg::R12, Reg::R11, 0, FIRST_LINK_INDEX)?;
     link(m)?;
-    store_field(m, Reg::R11, 1, Reg::R10)?;
-    store_field(m, Reg::R10, 3, Reg::R11)?;
+    store_field(m, Reg::R11, LAST_LINK_INDEX, Reg::R10)?;
+    store_field(m, Reg::R10, MY_LIST_INDEX, Reg::R11)?;
     Ok(())
 }
 
@@ -70,8 +71,8 @@ fn empty_list<M: ObjectMemory>(m: &mut M) -> Result<(), Stop>
     ensures fit { StaysFit M.ObjectMemory m.old m.new result }
 {
     known(m, Reg::R14, Name::NIL)?;
-    store_field(m, Reg::R11, 0, Reg::R14)?;
-    store_field(m, Reg::R11, 1, Reg::R14)?;
+    store_field(m, Reg::R11, FIRST_LINK_INDEX, Reg::R14)?;
+    store_field(m, Reg::R11, LAST_LINK_INDEX, Reg::R14)?;
     Ok(())
 }
 
@@ -82,8 +83,8 @@ fn shorten<M: ObjectMemory>(m: &mut M) -> Result<(), Stop>
     ensures first { OnOk result ((M.told m.new).regs 17 ≡ (M.told m.old).regs 17) }
     ensures fit { StaysFit M.ObjectMemory m.old m.new result }
 {
-    field(m, Reg::R13, Reg::R17, 0, 0)?;
-    store_field(m, Reg::R11, 0, Reg::R13)?;
+    field(m, Reg::R13, Reg::R17, 0, NEXT_LINK_INDEX)?;
+    store_field(m, Reg::R11, FIRST_LINK_INDEX, Reg::R13)?;
     Ok(())
 }
 
@@ -107,10 +108,10 @@ pub(crate) fn take<M: ObjectMemory>(m: &mut M) -> Result<(), Stop>
     ensures serves { (cpu : Cpu) → Serves (M.told m.old) cpu (M.told m.new) cpu (model.take ((M.told m.old).regs 11)) (with_value result ((M.told m.new).regs 17)) }
     ensures fit { StaysFit M.ObjectMemory m.old m.new result }
 {
-    field(m, Reg::R17, Reg::R11, 0, 0)?;
-    field(m, Reg::R13, Reg::R11, 0, 1)?;
+    field(m, Reg::R17, Reg::R11, 0, FIRST_LINK_INDEX)?;
+    field(m, Reg::R13, Reg::R11, 0, LAST_LINK_INDEX)?;
     unlink(m)?;
     known(m, Reg::R14, Name::NIL)?;
-    store_field(m, Reg::R17, 0, Reg::R14)?;
+    store_field(m, Reg::R17, NEXT_LINK_INDEX, Reg::R14)?;
     Ok(())
 }

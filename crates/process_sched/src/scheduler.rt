@@ -11,6 +11,7 @@ ghost use Rattle.object_memory.specs.Calls.{IsFit};
 ghost use Rattle.contexts.specs.Calls.{StaysFit};
 
 use crate::lists::{add, take};
+use blue_model::indexes::{FIRST_LINK_INDEX, PRIORITY_INDEX, PROCESS_LISTS_INDEX};
 use contexts::parts::{field, number, size};
 use contexts::{Cause, Stop, scheduler};
 use long_names::Name;
@@ -24,7 +25,7 @@ fn process_lists<M: ObjectMemory>(m: &mut M) -> Result<(), Stop>
     ensures fit { StaysFit M.ObjectMemory m.old m.new result }
 {
     scheduler(m, Reg::R15)?;
-    field(m, Reg::R15, Reg::R15, 0, 0)?;
+    field(m, Reg::R15, Reg::R15, 0, PROCESS_LISTS_INDEX)?;
     Ok(())
 }
 
@@ -48,7 +49,7 @@ pub(crate) fn sleep<M: ObjectMemory>(m: &mut M) -> Result<(), Stop>
     ensures other { OnOk result ((M.told m.new).regs 17 ≡ (M.told m.old).regs 17) }
     ensures fit { StaysFit M.ObjectMemory m.old m.new result }
 {
-    let priority = number(m, Reg::R16, Reg::R10, 0, 2)?;
+    let priority = number(m, Reg::R16, Reg::R10, 0, PRIORITY_INDEX)?;
     process_lists(m)?;
     let count = size(m, Reg::R15, 0)?;
     let Some(i) = list_index(priority, count) else {
@@ -66,7 +67,7 @@ fn wake_among<M: ObjectMemory>(m: &mut M, count: u32) -> Result<(), Stop>
 {
     for turn in 0..count {
         field(m, Reg::R11, Reg::R15, 0, count - 1 - turn)?;
-        field(m, Reg::R12, Reg::R11, 0, 0)?;
+        field(m, Reg::R12, Reg::R11, 0, FIRST_LINK_INDEX)?;
         if !m.is(Reg::R12, Name::NIL) {
             return take(m);
         }

@@ -11,6 +11,7 @@ ghost use Rattle.contexts.specs.Calls.{StaysFit};
 
 use crate::lists::{add, take};
 use crate::switches::{current_process, resume, suspend_active};
+use blue_model::indexes::{EXCESS_SIGNALS_INDEX, FIRST_LINK_INDEX};
 use contexts::parts::{field, number, store_field};
 use contexts::{Cpu, Stop};
 use long_names::Name;
@@ -31,9 +32,9 @@ fn add_signal<M: ObjectMemory>(m: &mut M) -> Result<(), Stop>
     ensures serves { (cpu : Numbers) → Serves (M.told m.old) cpu (M.told m.new) cpu (model.add_signal ((M.told m.old).regs 11)) result }
     ensures fit { StaysFit M.ObjectMemory m.old m.new result }
 {
-    let excess = number(m, Reg::R16, Reg::R11, 0, 2)?;
+    let excess = number(m, Reg::R16, Reg::R11, 0, EXCESS_SIGNALS_INDEX)?;
     m.int(Reg::R16, one_more(excess));
-    store_field(m, Reg::R11, 2, Reg::R16)
+    store_field(m, Reg::R11, EXCESS_SIGNALS_INDEX, Reg::R16)
 }
 
 /// Signals the semaphore in a register (synchronousSignal:): the first process that waits there is resumed, and where none waits, the
@@ -44,7 +45,7 @@ pub fn signal<M: ObjectMemory>(m: &mut M, cpu: &mut Cpu, semaphore: Reg) -> Resu
     ensures fit { StaysFit M.ObjectMemory m.old m.new result }
 {
     m.copy(Reg::R11, semaphore);
-    field(m, Reg::R12, Reg::R11, 0, 0)?;
+    field(m, Reg::R12, Reg::R11, 0, FIRST_LINK_INDEX)?;
     if m.is(Reg::R12, Name::NIL) {
         return add_signal(m);
     }
@@ -76,10 +77,10 @@ pub(crate) fn wait<M: ObjectMemory>(m: &mut M, cpu: &mut Cpu) -> Result<(), Stop
     ensures serves { Serves (M.told m.old) cpu.old (M.told m.new) cpu.new (model.wait ((M.told m.old).regs 11)) result }
     ensures fit { StaysFit M.ObjectMemory m.old m.new result }
 {
-    let excess = number(m, Reg::R16, Reg::R11, 0, 2)?;
+    let excess = number(m, Reg::R16, Reg::R11, 0, EXCESS_SIGNALS_INDEX)?;
     if has_signal(excess) {
         m.int(Reg::R16, excess - 1);
-        return store_field(m, Reg::R11, 2, Reg::R16);
+        return store_field(m, Reg::R11, EXCESS_SIGNALS_INDEX, Reg::R16);
     }
     sleep_at(m, cpu)
 }

@@ -12,6 +12,9 @@ ghost use Rattle.object_memory.specs.Calls.{IsFit};
 ghost use Rattle.contexts.specs.Calls.{StaysFit};
 
 use crate::scheduler::{sleep, wake};
+use blue_model::indexes::{
+    ACTIVE_PROCESS_INDEX, PRIORITY_INDEX, SCHEDULER_SIZE, SUSPENDED_CONTEXT_INDEX,
+};
 use contexts::parts::{field, number, store_field};
 use contexts::{Cpu, Stop, active_process, enter, scheduler};
 use object_memory::{ObjectMemory, Reg};
@@ -48,9 +51,9 @@ pub(crate) fn resume<M: ObjectMemory>(m: &mut M, cpu: &mut Cpu) -> Result<(), St
     ensures serves { Serves (M.told m.old) cpu.old (M.told m.new) cpu.new (model.resume ((M.told m.old).regs 17)) result }
     ensures fit { StaysFit M.ObjectMemory m.old m.new result }
 {
-    let priority = number(m, Reg::R16, Reg::R17, 0, 2)?;
+    let priority = number(m, Reg::R16, Reg::R17, 0, PRIORITY_INDEX)?;
     current_process(m, cpu)?;
-    let own = number(m, Reg::R16, Reg::R10, 0, 2)?;
+    let own = number(m, Reg::R16, Reg::R10, 0, PRIORITY_INDEX)?;
     if own < priority {
         sleep(m)?;
         transfer(m, cpu);
@@ -81,10 +84,10 @@ pub fn switch<M: ObjectMemory>(m: &mut M, cpu: &mut Cpu) -> Result<(), Stop>
     ensures fit { StaysFit M.ObjectMemory m.old m.new result }
 {
     scheduler(m, Reg::R11)?;
-    field(m, Reg::R10, Reg::R11, 2, 1)?;
-    store_field(m, Reg::R10, 1, Reg::ACTIVE_CONTEXT)?;
-    store_field(m, Reg::R11, 1, Reg::NEW_PROCESS)?;
-    field(m, Reg::R12, Reg::NEW_PROCESS, 0, 1)?;
+    field(m, Reg::R10, Reg::R11, SCHEDULER_SIZE, ACTIVE_PROCESS_INDEX)?;
+    store_field(m, Reg::R10, SUSPENDED_CONTEXT_INDEX, Reg::ACTIVE_CONTEXT)?;
+    store_field(m, Reg::R11, ACTIVE_PROCESS_INDEX, Reg::NEW_PROCESS)?;
+    field(m, Reg::R12, Reg::NEW_PROCESS, 0, SUSPENDED_CONTEXT_INDEX)?;
     m.int(Reg::NEW_PROCESS, 0);
     cpu.waiting = false;
     enter(m, cpu, Reg::R12)

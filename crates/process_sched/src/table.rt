@@ -11,6 +11,7 @@ ghost use Rattle.contexts.specs.Calls.{StaysFit};
 use crate::scheduler::has_list;
 use crate::semaphores::{signal, wait};
 use crate::switches::{current_process, resume, suspend_active};
+use blue_model::indexes::{EXCESS_SIGNALS_INDEX, PRIORITY_INDEX, PROCESS_SIZE, SEMAPHORE_SIZE};
 use contexts::parts::known;
 use contexts::peeks::peek_number;
 use contexts::{Answer, Cpu, Stop, put_stack, stack};
@@ -24,7 +25,7 @@ fn primitive_signal<M: ObjectMemory>(m: &mut M, cpu: &mut Cpu) -> Result<Answer,
     ensures fit { StaysFit M.ObjectMemory m.old m.new result }
 {
     stack(m, cpu, Reg::R11, 0)?;
-    let Some(_) = peek_number(m, Reg::R16, Reg::R11, 3, 2)? else {
+    let Some(_) = peek_number(m, Reg::R16, Reg::R11, SEMAPHORE_SIZE, EXCESS_SIGNALS_INDEX)? else {
         return Ok(Answer::Failed);
     };
     signal(m, cpu, Reg::R11)?;
@@ -38,7 +39,7 @@ fn primitive_wait<M: ObjectMemory>(m: &mut M, cpu: &mut Cpu) -> Result<Answer, S
     ensures fit { StaysFit M.ObjectMemory m.old m.new result }
 {
     stack(m, cpu, Reg::R11, 0)?;
-    let Some(_) = peek_number(m, Reg::R16, Reg::R11, 3, 2)? else {
+    let Some(_) = peek_number(m, Reg::R16, Reg::R11, SEMAPHORE_SIZE, EXCESS_SIGNALS_INDEX)? else {
         return Ok(Answer::Failed);
     };
     wait(m, cpu)?;
@@ -52,7 +53,7 @@ fn primitive_resume<M: ObjectMemory>(m: &mut M, cpu: &mut Cpu) -> Result<Answer,
     ensures fit { StaysFit M.ObjectMemory m.old m.new result }
 {
     stack(m, cpu, Reg::R17, 0)?;
-    let Some(priority) = peek_number(m, Reg::R16, Reg::R17, 4, 2)? else {
+    let Some(priority) = peek_number(m, Reg::R16, Reg::R17, PROCESS_SIZE, PRIORITY_INDEX)? else {
         return Ok(Answer::Failed);
     };
     if !has_list(m, priority)? {

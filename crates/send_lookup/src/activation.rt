@@ -11,6 +11,9 @@ ghost use Rattle.object_memory.specs.Calls.{IsFit};
 ghost use Rattle.contexts.specs.Calls.{StaysFit};
 
 use crate::header::{context_size, first_pointer, temporaries};
+use blue_model::indexes::{
+    EMPTY_STACK, INSTRUCTION_POINTER_INDEX, METHOD_INDEX, SENDER_INDEX, STACK_POINTER_INDEX,
+};
 use contexts::parts::{header, known, make_pointers, store_field};
 use contexts::{Cause, Cpu, Stop, enter, pop, stack};
 use long_names::Name;
@@ -26,11 +29,11 @@ fn pass<M: ObjectMemory>(m: &mut M, cpu: &Cpu, n: u32, len: u32, k: u32) -> Resu
     ensures regs { OnOk result ((r : ℕ) → (r ≡ 15 → ⊥) → (M.told m.new).regs r ≡ (M.told m.old).regs r) }
     ensures fit { StaysFit M.ObjectMemory m.old m.new result }
 {
-    if 5 + k >= len {
+    if EMPTY_STACK + k >= len {
         return Err(Stop::Stuck(Cause::Stack));
     }
     stack(m, cpu, Reg::R15, n - k)?;
-    store_field(m, Reg::R16, 5 + k, Reg::R15)?;
+    store_field(m, Reg::R16, EMPTY_STACK + k, Reg::R15)?;
     Ok(())
 }
 
@@ -56,12 +59,12 @@ fn fill_context<M: ObjectMemory>(m: &mut M, header: i16) -> Result<(), Stop>
     ensures regs { OnOk result ((r : ℕ) → (r ≡ 15 → ⊥) → (M.told m.new).regs r ≡ (M.told m.old).regs r) }
     ensures fit { StaysFit M.ObjectMemory m.old m.new result }
 {
-    store_field(m, Reg::R16, 0, Reg::ACTIVE_CONTEXT)?;
+    store_field(m, Reg::R16, SENDER_INDEX, Reg::ACTIVE_CONTEXT)?;
     m.int(Reg::R15, first_pointer(header));
-    store_field(m, Reg::R16, 1, Reg::R15)?;
+    store_field(m, Reg::R16, INSTRUCTION_POINTER_INDEX, Reg::R15)?;
     m.int(Reg::R15, temporaries(header) as i16);
-    store_field(m, Reg::R16, 2, Reg::R15)?;
-    store_field(m, Reg::R16, 3, Reg::NEW_METHOD)?;
+    store_field(m, Reg::R16, STACK_POINTER_INDEX, Reg::R15)?;
+    store_field(m, Reg::R16, METHOD_INDEX, Reg::NEW_METHOD)?;
     Ok(())
 }
 

@@ -9,6 +9,9 @@ ghost use Rattle.object_memory.specs.Calls.{IsFit};
 ghost use Rattle.contexts.specs.Calls.{StaysFit};
 
 use crate::slots::find_slot;
+use blue_model::indexes::{
+    CLASS_SIZE, DICTIONARY_SIZE, METHOD_ARRAY_INDEX, METHOD_DICTIONARY_INDEX,
+};
 use contexts::parts::{field, need_method, size};
 use contexts::{Cause, Stop};
 use object_memory::{ObjectMemory, Reg, shape};
@@ -23,7 +26,7 @@ fn method_at<M: ObjectMemory>(m: &mut M, slot: Option<u32>) -> Result<bool, Stop
     let Some(slot) = slot else {
         return Ok(false);
     };
-    field(m, Reg::R22, Reg::R21, 3, 1)?;
+    field(m, Reg::R22, Reg::R21, DICTIONARY_SIZE, METHOD_ARRAY_INDEX)?;
     field(m, Reg::R22, Reg::R22, 0, slot)?;
     need_method(m, Reg::R22)?;
     Ok(true)
@@ -36,8 +39,8 @@ pub(crate) fn find_in<M: ObjectMemory>(m: &mut M) -> Result<bool, Stop>
     ensures looks { OnOk result (Looks (21 ∷ 22 ∷ []) (M.told m.old) (M.told m.new)) }
     ensures fit { StaysFit M.ObjectMemory m.old m.new result }
 {
-    field(m, Reg::R21, Reg::R20, 3, 1)?;
-    let fields = size(m, Reg::R21, 3)?;
+    field(m, Reg::R21, Reg::R20, CLASS_SIZE, METHOD_DICTIONARY_INDEX)?;
+    let fields = size(m, Reg::R21, DICTIONARY_SIZE)?;
     if !shape::is_name(m, Reg::R23) {
         return Err(Stop::Stuck(Cause::Shape));
     }

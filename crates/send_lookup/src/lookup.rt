@@ -10,13 +10,12 @@ ghost use Rattle.object_memory.specs.Calls.{IsFit};
 ghost use Rattle.contexts.specs.Calls.{StaysFit};
 
 use crate::classes::find_in;
+use blue_model::indexes::{CLASS_SIZE, SUPERCLASS_INDEX};
+use blue_model::limits::LONGEST_CHAIN;
 use contexts::parts::field;
 use contexts::{Cause, Stop};
 use long_names::Name;
 use object_memory::{ObjectMemory, Reg};
-
-/// The most classes that a lookup visits.
-const LONGEST_CHAIN: u32 = 1024;
 
 /// Looks the selector in R23 up from the class in R20 on, and loads the method into R22. False where the chain ends
 /// before.
@@ -33,7 +32,7 @@ fn go_up<M: ObjectMemory>(m: &mut M) -> Result<bool, Stop>
         if find_in(m)? {
             return Ok(true);
         }
-        field(m, Reg::R20, Reg::R20, 3, 0)?;
+        field(m, Reg::R20, Reg::R20, CLASS_SIZE, SUPERCLASS_INDEX)?;
     }
     if !m.is(Reg::R20, Name::NIL) {
         return Err(Stop::Stuck(Cause::Chain));

@@ -10,6 +10,7 @@ ghost use Rattle.object_memory.specs.Calls.{IsFit};
 ghost use Rattle.contexts.specs.Calls.{StaysFit};
 
 use crate::lookup::find;
+use blue_model::indexes::{MESSAGE_ARGUMENTS_INDEX, MESSAGE_SELECTOR_INDEX};
 use contexts::parts::{known, make_pointers, store_field};
 use contexts::{Cause, Cpu, Stop, pop, push, set_arguments, stack};
 use long_names::Name;
@@ -68,8 +69,8 @@ fn make_message<M: ObjectMemory>(m: &mut M) -> Result<(), Stop>
 {
     known(m, Reg::R15, Name::MESSAGE)?;
     make_pointers(m, Reg::R17, Reg::R15, 2)?;
-    store_field(m, Reg::R17, 0, Reg::SELECTOR)?;
-    store_field(m, Reg::R17, 1, Reg::R16)?;
+    store_field(m, Reg::R17, MESSAGE_SELECTOR_INDEX, Reg::SELECTOR)?;
+    store_field(m, Reg::R17, MESSAGE_ARGUMENTS_INDEX, Reg::R16)?;
     Ok(())
 }
 

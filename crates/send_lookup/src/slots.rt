@@ -12,6 +12,7 @@ ghost use Rattle.contexts.specs.Serves.{Serves, StaysSound};
 ghost use Rattle.object_memory.specs.Calls.{IsFit};
 ghost use Rattle.contexts.specs.Calls.{StaysFit};
 
+use blue_model::indexes::SELECTOR_START;
 use contexts::Stop;
 use long_names::Name;
 use object_memory::{ObjectMemory, Reg};
@@ -40,11 +41,11 @@ pub(crate) fn find_slot<M: ObjectMemory>(m: &mut M, fields: u32) -> Result<Optio
     ensures looks { OnOk result (Looks (22 ∷ []) (M.told m.old) (M.told m.new)) }
     ensures fit { StaysFit M.ObjectMemory m.old m.new result }
 {
-    let slots = fields - 2;
+    let slots = fields - SELECTOR_START;
     let first = m.hash(Reg::R23) & (slots - 1);
     for place in 0..slots {
         let slot = slot_at(first, slots, place);
-        m.field(Reg::R22, Reg::R21, 2 + slot)?;
+        m.field(Reg::R22, Reg::R21, SELECTOR_START + slot)?;
         if m.is(Reg::R22, Name::NIL) {
             return Ok(None);
         }
