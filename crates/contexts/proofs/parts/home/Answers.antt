@@ -36,14 +36,14 @@ returns-in_default-clause-serves g c = λ cpu.
     let found = c.in_ok-len.ensures in
     read_stuck [] (home_of _) c.args.context refl c.requires.fit.ready found.fit.ready (Looks-read _ _ c.args.context found.read) (home_none _ found.fields.before c.in_default.is)
 
-pub returns-then-len-lt6-clause-serves : goal.returns-then-len-lt6-clause-serves
-returns-then-len-lt6-clause-serves g c = λ cpu.
+pub returns-then-len-lt-TEMP_FRAME_START-clause-serves : goal.returns-then-len-lt-TEMP_FRAME_START-clause-serves
+returns-then-len-lt-TEMP_FRAME_START-clause-serves g c = λ cpu.
     let found = c.in_ok-len.ensures in
-    read_stuck [] (home_of _) c.args.context refl c.requires.fit.ready found.fit.ready (Looks-read _ _ c.args.context found.read) (home_few _ c.in-Some.len found.fields.before c.in-Some.is c.if-len-lt6.true)
+    read_stuck [] (home_of _) c.args.context refl c.requires.fit.ready found.fit.ready (Looks-read _ _ c.args.context found.read) (home_few _ c.in-Some.len found.fields.before c.in-Some.is c.if-len-lt-TEMP_FRAME_START.true)
 
 pub field-requires-clause-may : goal.field-requires-clause-may
 field-requires-clause-may g c =
-    let within : 3 < c.in-Some.len = omega (arith, c.if-len-lt6.false) in
+    let within : 3 < c.in-Some.len = omega (arith, c.if-len-lt-TEMP_FRAME_START.false) in
     may_field _ c.args.to c.args.context 3 (has_sized _ c.args.context pointers_of (λ n. 3 < n) _ c.in-Some.len c.in_ok-len.ensures.fields.after c.in-Some.is within)
 
 pub returns-in_err-field-clause-serves : goal.returns-in_err-field-clause-serves
@@ -56,7 +56,7 @@ field-requires-then-is_some-clause-may g c =
     let before = (goal.at.field-requires-then-is_some-clause-may g c).In_ok-field in
     let t = g.M.ObjectMemory.told c.args.m.now in
     let w = g.M.ObjectMemory.told c.field.new.self in
-    let within : 5 < c.in-Some.len = omega (arith, c.if-len-lt6.false) in
+    let within : 5 < c.in-Some.len = omega (arith, c.if-len-lt-TEMP_FRAME_START.false) in
     may_field w c.args.to c.args.context 5 (has_looked (c.args.to ∷ []) t w c.args.context pointers_of (λ xs. 5 < length xs) c.in_ok-field.ensures.fit.ready (read_first g before) (apart g before)
     (has_sized t c.args.context pointers_of (λ n. 5 < n) _ c.in-Some.len c.in_ok-len.ensures.fields.before c.in-Some.is within))
 
@@ -92,7 +92,7 @@ returns-in_ok-field-2-clause-serves g c = λ cpu.
     let again = c.in_ok-field-2.ensures in
     let first = Looks-read t u of found.read in
     let looks = read_first g before in
-    let low : 6 ≤ c.in-Some.len = omega (arith, c.if-len-lt6.false) in
+    let low : 6 ≤ c.in-Some.len = omega (arith, c.if-len-lt-TEMP_FRAME_START.false) in
     let block : is_some (int_of (w.regs to)) ≡ true = ap is_some (sym c.as_int.ensures.number) ∙ sym c.if-is_some.ensures in
     read_serves (to ∷ []) Shape (home_of (t.regs of)) of (x.regs to) (scratch to c.requires.scratch) c.requires.fit.ready again.fit.ready (returns-in_ok-field-2-clause-looks g c)
     (λ told. home_is (t.regs of) c.in-Some.len found.fields.before c.in-Some.is low told
@@ -120,7 +120,7 @@ returns-else-is_some-clause-serves g c = λ cpu.
     let load = c.in_ok-field.ensures in
     let first = Looks-read t u of found.read in
     let looks = read_first g before in
-    let low : 6 ≤ c.in-Some.len = omega (arith, c.if-len-lt6.false) in
+    let low : 6 ≤ c.in-Some.len = omega (arith, c.if-len-lt-TEMP_FRAME_START.false) in
     let method : is_some (int_of (w.regs to)) ≡ false = ap is_some (sym c.as_int.ensures.number) ∙ sym c.if-is_some.ensures in
     let copied : y.regs to ≡ t.regs of = put_value w y to (w.regs of) c.copy.ensures.told ∙ looks.regs of (apart g before) in
     read_serves (to ∷ []) Shape (home_of (t.regs of)) of (y.regs to) (scratch to c.requires.scratch) c.requires.fit.ready (c.copy.ensures.fit.ready load.fit.ready) (returns-else-is_some-clause-looks g c)
