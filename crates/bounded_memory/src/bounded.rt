@@ -383,6 +383,12 @@ impl ObjectMemory for BoundedMemory {
         self.made(result)
     }
 
+    fn swap(&mut self, a: Reg, b: Reg) -> Result<(), MemFault> {
+        self.fits(a)?;
+        self.fits(b)?;
+        self.memory.swap(a, b)
+    }
+
     fn pin(&mut self, slot: u8, r: Reg) -> Result<(), MemFault> {
         let pin = self.fits(r)?;
         self.memory.pin(slot, r)?;
@@ -442,7 +448,10 @@ impl ObjectMemory for BoundedMemory {
 
     fn settle(&mut self) -> Result<(), MemFault> {
         self.memory.settle()?;
-        self.limits.settle();
+        let Ok(objects) = self.memory.kept_count() else {
+            return Err(self.work_fault());
+        };
+        self.limits.settle(objects);
         Ok(())
     }
 

@@ -66,9 +66,7 @@ impl Registers {
         ensures few { OnOk result ((q : ℕ) → count_in counts.new q ≤ 24) }
     {
         for i in 0..24 {
-            if let Value::Ref(name) = self.values[i] {
-                counts.add(name)?;
-            }
+            counts.add_some(self.values[i].name())?;
         }
         Ok(())
     }

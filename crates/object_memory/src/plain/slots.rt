@@ -38,9 +38,7 @@ impl Slots {
         ensures few { OnOk result ((q : ℕ) → count_in counts.new q ≤ 27) }
     {
         for i in 0..3 {
-            if let Some(name) = self.names[i] {
-                counts.add(name)?;
-            }
+            counts.add_some(self.names[i])?;
         }
         Ok(())
     }
