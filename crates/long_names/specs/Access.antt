@@ -10,7 +10,7 @@ use Rattle.long_names.specs.Names.{is_known}
 use Rattle.long_names.specs.Objects.{kind_of, len_of, header_of, field_of, words_of, bytes_of, text_of, with_field, with_words, with_bytes, Making, body_made, CanMake}
 use Rattle.long_names.specs.Heap.{Heap, Has, put_object, add_object, swap_objects}
 use Rattle.long_names.specs.Kept.{any_below, holds_at}
-use Rattle.long_names.specs.State.{State, set_register, set_slot, name_at, IsRef, class_at, part_at, HasPart}
+use Rattle.long_names.specs.State.{State, SLOTS, set_register, set_slot, name_at, IsRef, class_at, part_at, HasPart}
 
 -- The calls that read or write an object, make one, pin one, mark one, let two change places, or make a register name a known one.
 -- Registers and slots go by their numbers.
@@ -114,7 +114,7 @@ HasNames regs a = NamesRef regs (target_of a)
 
 -- no slot has this name
 abbrev pub IsUnpinned : (ℕ → Option ℕ) → ℕ → Type 0
-IsUnpinned slots n = (i : ℕ) → slots i ≡ Some n → ⊥
+IsUnpinned slots n = (i : ℕ) → i < SLOTS → slots i ≡ Some n → ⊥
 
 -- What it asks of slots, which are always known too: of two objects that change places none is pinned.
 abbrev pub HasSlots : (ℕ → Value) → (ℕ → Option ℕ) → Access → Type 0

@@ -11,8 +11,8 @@ use Rattle.long_names.specs.Names.{SMALL_INTEGER, is_known}
 use Rattle.long_names.specs.Objects.{kind_of, len_of, field_of, header_of, pointers_of, literals_of, words_of, bytes_of, text_of, holds, Making, CanMake}
 use Rattle.long_names.specs.Kept.{holds_at}
 use Rattle.long_names.specs.Thin.{IsWhole}
-use Rattle.long_names.specs.State.{IsRef, object_at, class_at}
-use Rattle.long_names.specs.Access.{Known, Class, KindOf, Length, Header, Field, SetField, Word, SetWord, Byte, SetByte, ReadWords, WriteWords, ReadBytes, Make, Pin, Mark, Say, is_held}
+use Rattle.long_names.specs.State.{IsRef, name_at, object_at, class_at}
+use Rattle.long_names.specs.Access.{Known, Class, KindOf, Length, Header, Field, SetField, Word, SetWord, Byte, SetByte, ReadWords, WriteWords, ReadBytes, Make, Pin, Mark, Say, Swap, IsUnpinned, is_held}
 use Rattle.long_names.proofs.ThinLemmas.{has, or_first, or_second}
 use Rattle.long_names.proofs.KeptLaws.{any_below-from, holding}
 use Rattle.object_memory.specs.Told.{Told, IsReady}
@@ -41,6 +41,10 @@ may_pin t slot of ready ref = record { heap = (any_there t of kind_of ready ref)
 
 pub may_mark : (t : Told) (of : ℕ) → IsReady t → IsRef (t.regs of) → MayDo t (Mark of)
 may_mark t of ready ref = record { heap = (any_there t of kind_of ready ref).there; names = ref; slots = tt; ranges = tt }
+
+-- two objects that no slot names
+pub may_swap : (t : Told) (a b : ℕ) → IsReady t → IsRef (t.regs a) → IsRef (t.regs b) → IsUnpinned t.slots (name_at (t.regs a)) → IsUnpinned t.slots (name_at (t.regs b)) → MayDo t (Swap a b)
+may_swap t a b ready first second one two = record { heap = λ told. ((any_there t a kind_of ready first).there told, (any_there t b kind_of ready second).there told); names = (first, second); slots = (one, two); ranges = tt }
 
 has_class : (t : Told) (r : ℕ) (v : Value) → t.regs r ≡ v → IsWhole t.heap t.regs t.slots → (class : ℕ) × (class_at t.heap v ≡ Some class)
 has_class t r (Int z) is whole = (SMALL_INTEGER, refl)
