@@ -2,7 +2,7 @@
 use Rattle.std.proofs.Common.{◌≡◌, ℕ, ◌<◌, ◌≤◌, true, Option, Some, None, Result, Ok, Err, IsTrue, inl, inr, refl, sym, subst, subst₂, add-zero, arith}
 use Rattle.std.specs.Result.{OnOk, is_ok}
 use Rattle.long_names.specs.Counting.{counted}
-use Rattle.long_names.specs.Names.{LAST_NAME}
+use Rattle.long_names.specs.declared.limits.TheConstants.{LAST_NAME}
 use Rattle.long_names.specs.Access.{Access, Make, Say, Answer, Nothing}
 use Rattle.long_names.specs.Objects.{Making}
 use Rattle.long_names.proofs.ThinLemmas.{IsThinner-refl}
@@ -10,9 +10,9 @@ use Rattle.object_memory.specs.declared.fault.Need.{Need}
 use Rattle.object_memory.specs.declared.fault.MemFault.{MemFault}
 use Rattle.object_memory.specs.declared.fault.MemFault.TheVariants.{CoreFull, WorkFull, WorkFault, Damaged, NamesSpent, Said, Memory}
 use Rattle.object_memory.specs.Told.{Told, Bounds, IsReady}
-use Rattle.object_memory.specs.Contract.{Call, Does, Settles, Thins, MayDo, SameBounds, Raised, makes, Lives, IsLater, Brings, SaysBy, SaysRefused, CacheAfter, Counts, Follows, Called, LeavesAll, ForBounds, IsMaking, TakesMemory, HasCause, HasCore, Accessed, need_of_access}
+use Rattle.object_memory.specs.Contract.{Call, Does, Settles, Thins, MayDo, SameBounds, Raised, makes, Lives, IsLater, Brings, SaysBy, SaysRefused, CacheAfter, Counts, Follows, Called, LeavesAll, ForBounds, IsMaking, TakesMemory, HasCause, HasCore, BaseAfter, CountsKept, IsNeedOf, Accessed, need_of_access}
 use Rattle.object_memory.specs.Plain.{refused}
-use Rattle.object_memory.proofs.PlainLaws.{kept_cache}
+use Rattle.object_memory.proofs.PlainLaws.{kept_cache, leaves}
 use Rattle.bounded_memory.specs.Bounded.{over, faulted, need_at, IsFull, CannotMake}
 
 -- ---- what is told with bounds
@@ -24,7 +24,7 @@ pub ready-under : (t u : Told) (n : ℕ) (l : Option MemFault) (b : Bounds) → 
 ready-under t u n l b e ready = (let r : IsReady (over t n l b) = subst (λ (w : Told). IsReady w) (sym e) ready in record { whole = r.whole; marked = r.marked; cached = r.cached })
 
 pub may-under : (t u : Told) (n : ℕ) (l : Option MemFault) (b : Bounds) (a : Access) → over t n l b ≡ u → MayDo u a → MayDo t a
-may-under t u n l b a e may = (let m : MayDo (over t n l b) a = subst (λ (w : Told). MayDo w a) (sym e) may in record { heap = m.heap; names = m.names; ranges = m.ranges })
+may-under t u n l b a e may = (let m : MayDo (over t n l b) a = subst (λ (w : Told). MayDo w a) (sym e) may in record { heap = m.heap; names = m.names; slots = m.slots; ranges = m.ranges })
 
 pub ready-answered : {A : Type 0} (t : Told) (n : ℕ) (l : Option MemFault) (b : Bounds) (r : Result A MemFault) → OnOk r (IsReady t) → OnOk r (IsReady (over t n l b))
 ready-answered t n l b (Ok x) ready = ready-over t n l b ready
@@ -50,6 +50,7 @@ answered-over {A} p q n l b d a spell x same raised core access =
           heap = f.heap;
           cache = f.cache;
           counts = raised;
+          base = tt;
           refusals = refl;
           last = refl;
         };
@@ -90,15 +91,6 @@ forwarded {A} p q n l b a spell (Err f) bare told quiet none core access = absur
 
 -- ---- an access that is refused
 
-pub leaves : (f : MemFault) (P : Type 0) → P → LeavesAll f P
-leaves (CoreFull need) P p = p
-leaves (WorkFull live room) P p = p
-leaves (WorkFault count) P p = tt
-leaves (Damaged place name) P p = tt
-leaves NamesSpent P p = p
-leaves (Said count) P p = p
-leaves Memory P p = p
-
 -- all else is as it was
 pub refused-access : {A : Type 0} (t : Told) (b : Bounds) (a : Access) (spell : A → Answer) (f : MemFault) → t.bounds ≡ Some b → IsReady t → t.refusals ≤ counted t.refusals → HasCause t (refused t f) (Does a) f → (IsMaking (Does a) → LAST_NAME ≤ t.heap.next → f ≡ NamesSpent) → SaysRefused (Does a) t (refused t f) f → Accessed {A = A} t (refused t f) a spell (Err f)
 refused-access {A} t b a spell f bound ready later cause spent says = record {
@@ -121,7 +113,7 @@ refused-access {A} t b a spell f bound ready later cause spent says = record {
 }
 
 -- for want of room in the core
-pub core-full : {A : Type 0} (t : Told) (b : Bounds) (a : Access) (of : ℕ) (spell : A → Answer) (f : MemFault) → t.bounds ≡ Some b → makes a ≡ 0 → need_at t of ≡ need_of_access t a → ((need : Need) → SaysRefused (Does a) t (refused t (CoreFull need)) (CoreFull need)) → IsReady t → t.refusals ≤ counted t.refusals → IsFull t (need_at t of) f → Accessed {A = A} t (refused t f) a spell (Err f)
+pub core-full : {A : Type 0} (t : Told) (b : Bounds) (a : Access) (of : ℕ) (spell : A → Answer) (f : MemFault) → t.bounds ≡ Some b → makes a ≡ 0 → IsNeedOf t a (need_at t of) → ((need : Need) → SaysRefused (Does a) t (refused t (CoreFull need)) (CoreFull need)) → IsReady t → t.refusals ≤ counted t.refusals → IsFull t (need_at t of) f → Accessed {A = A} t (refused t f) a spell (Err f)
 core-full {A} t b a of spell f bound none need says ready later full = subst (λ g. Accessed {A = A} t (refused t g) a spell (Err g)) (sym full.0)
     (refused-access t b a spell (CoreFull (need_at t of)) bound ready later (full.1, λ _. need) (λ make past. absurd (omega arith)) (says (need_at t of)))
 
@@ -166,8 +158,8 @@ work-faulted {A} p q n l b a spell f g e is rose risen named = subst₂ (λ (q :
 
 -- ---- the calls that are no accesses
 
-pub follows-over : (p q : Told) (n : ℕ) (l : Option MemFault) (b d : Bounds) (call : Call) → Brings call (over p n l b) (over q n l d) → SaysBy call (over p n l b) (over q n l d) → CacheAfter (over p n l b) (over q n l d) call → Counts call (Some b) (Some d) → Follows p q call → Follows (over p n l b) (over q n l d) call
-follows-over p q n l b d call brings says cache counts f = record {
+pub follows-over : (p q : Told) (n : ℕ) (l : Option MemFault) (b d : Bounds) (call : Call) → Brings call (over p n l b) (over q n l d) → SaysBy call (over p n l b) (over q n l d) → CacheAfter (over p n l b) (over q n l d) call → Counts call (Some b) (Some d) → BaseAfter call (over q n l d) → Follows p q call → Follows (over p n l b) (over q n l d) call
+follows-over p q n l b d call brings says cache counts base f = record {
   regs = f.regs;
   brings = brings;
   slots = f.slots;
@@ -175,6 +167,7 @@ follows-over p q n l b d call brings says cache counts f = record {
   heap = f.heap;
   cache = cache;
   counts = counts;
+  base = base;
   refusals = refl;
   last = refl;
 }
@@ -182,15 +175,32 @@ follows-over p q n l b d call brings says cache counts f = record {
 pub later-over : (p q : Told) (n : ℕ) (l : Option MemFault) (b d : Bounds) → SameBounds (Some b) (Some d) → IsLater p q → IsLater (over p n l b) (over q n l d)
 later-over p q n l b d same later = record { tells = later.tells; speaks = later.speaks; bounds = same; refusals = omega arith }
 
-pub settles-over : (p q : Told) (n : ℕ) (l : Option MemFault) (b d : Bounds) (x : Unit {0}) → SameBounds (Some b) (Some d) → d.made ≡ 0 → Called p q Settles (Ok x) → Called (over p n l b) (over q n l d) Settles (Ok x)
-settles-over p q n l b d x same none called = record {
+pub settles-over : (p q : Told) (n : ℕ) (l : Option MemFault) (b d : Bounds) (x : Unit {0}) → SameBounds (Some b) (Some d) → d.made ≡ 0 → CountsKept (over q n l d) d.base → Called p q Settles (Ok x) → Called (over p n l b) (over q n l d) Settles (Ok x)
+settles-over p q n l b d x same none base called = record {
   later = later-over p q n l b d same called.later;
-  ok = follows-over p q n l b d Settles tt called.ok.transcript called.ok.cache none called.ok;
+  ok = follows-over p q n l b d Settles tt called.ok.transcript called.ok.cache none base called.ok;
   err = tt;
 }
 
+-- and the settling, which wants memory to count what is kept
+pub settling-faulted : (p : Told) (n : ℕ) (l : Option MemFault) (b : Bounds) (f : MemFault) → f ≡ WorkFault (counted b.work_faults) → n ≤ counted n → b.work_faults ≤ counted b.work_faults → Called {A = Unit {0}} (over p n l b) (faulted p n b) Settles (Err f)
+settling-faulted p n l b f is rose risen = subst (λ (f : MemFault). Called {A = Unit {0}} (over p n l b) (faulted p n b) Settles (Err f)) (sym is)
+    record {
+      later = record { tells = refl; speaks = refl; bounds = (refl, refl, refl, risen, omega arith); refusals = rose };
+      ok = tt;
+      err = record {
+        rose = omega arith;
+        last = refl;
+        cause = (refl, omega arith);
+        spent = λ make told past. absurd make;
+        counts = tt;
+        transcript = λ told. refl;
+        left = tt;
+      };
+    }
+
 pub thins-follow : (p q : Told) (n : ℕ) (l : Option MemFault) (b : Bounds) → Follows p q Thins → Follows (over p n l b) (over q n l b) Thins
-thins-follow p q n l b f = follows-over p q n l b b Thins tt f.transcript f.cache (raised-none b) f
+thins-follow p q n l b f = follows-over p q n l b b Thins tt f.transcript f.cache (raised-none b) tt f
 
 pub thins-over : (p q : Told) (n : ℕ) (l : Option MemFault) (b : Bounds) (r : Result (Unit {0}) MemFault) → is_ok r ≡ true → Called p q Thins r → Called (over p n l b) (over q n l b) Thins r
 thins-over p q n l b (Ok x) ok called = record {

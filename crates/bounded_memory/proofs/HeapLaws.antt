@@ -11,10 +11,10 @@ use Rattle.long_names.specs.declared.object.Object.{Object}
 use Rattle.long_names.specs.Objects.{fields_of, body_words, words_of, bytes_of, put_run, with_field, with_words, with_bytes}
 use Rattle.long_names.specs.Heap.{Heap, Has, put_object, add_object}
 use Rattle.long_names.specs.Need.{words_at, entries_at}
-use Rattle.long_names.specs.State.{part_at}
-use Rattle.long_names.specs.Access.{Access, Make, SetField, SetWord, SetByte, WriteWords, CanDo, with_body, heap_after}
+use Rattle.long_names.specs.State.{name_at, part_at}
+use Rattle.long_names.specs.Access.{Access, Make, SetField, SetWord, SetByte, WriteWords, Swap, CanDo, HasSlots, with_body, with_swapped, heap_after}
 use Rattle.long_names.specs.Thin.{IsThinner, IsWhole}
-use Rattle.long_names.proofs.ThinLemmas.{same-there}
+use Rattle.long_names.proofs.ThinLemmas.{same-there, swapped_apart}
 use Rattle.long_names.proofs.AccessLaws.{words_at-same, entries_at-same}
 use Rattle.object_memory.specs.Told.{Told, IsReady}
 use Rattle.bounded_memory.specs.declared.pins.Pin.{Pin}
@@ -88,13 +88,29 @@ part-there h v f n o x e at is =
     let named : part_at h (Ref n) f ≡ Some x = subst (λ v. part_at h v f ≡ Some x) e is in
     subst (λ y. option_and_then (λ (o : Object). f o.body) y ≡ Some x) at named
 
-pub size-after : (h : Heap) (regs : ℕ → Value) (slots : ℕ → Option ℕ) (a : Access) (k : ℕ) → IsWhole h regs slots → CanDo h regs a → Has h k → SameSize (heap_after h regs a) h k
-size-after h regs slots (SetField of i from) k whole can there = size-body h (regs of) _ k (λ n o e at. same-field o.body i (regs from))
-size-after h regs slots (SetWord of i word) k whole can there = size-body h (regs of) _ k (λ n o e at. same-words o.body i (word ∷ []) can.0 (part-there h (regs of) words_of n o can.0 e at can.1) (let low = can.2 in omega arith))
-size-after h regs slots (SetByte of i byte) k whole can there = size-body h (regs of) _ k (λ n o e at. same-bytes o.body i (byte ∷ []) can.0 (part-there h (regs of) bytes_of n o can.0 e at can.1) (let low = can.2 in omega arith))
-size-after h regs slots (WriteWords of at run) k whole can there = size-body h (regs of) _ k (λ n o e is. same-words o.body at run can.0 (part-there h (regs of) words_of n o can.0 e is can.1) can.2)
-size-after h regs slots (Make to class what) k whole can there = size-add h _ k (whole.below k there)
-size-after h regs slots _ k whole can there = record { words = refl; entries = refl }
+-- the access changes the place of no object of this name
+abbrev pub StaysAt : (ℕ → Value) → Access → ℕ → Type 0
+StaysAt regs (Swap p q) k = (k ≡ name_at (regs p) → ⊥) × (k ≡ name_at (regs q) → ⊥)
+StaysAt regs _ k = Unit {0}
+
+-- a pinned object stays in its place
+pub pinned-stays : (regs : ℕ → Value) (slots : ℕ → Option ℕ) (a : Access) (i k : ℕ) → HasSlots regs slots a → slots i ≡ Some k → StaysAt regs a k
+pinned-stays regs slots (Swap p q) i k free e = (λ is. free.0 i (e ∙ ap (λ n. Some n) is), λ is. free.1 i (e ∙ ap (λ n. Some n) is))
+pinned-stays regs slots _ i k free e = tt
+
+size-swapped : (h : Heap) (v w : Value) (k : ℕ) → (k ≡ name_at v → ⊥) → (k ≡ name_at w → ⊥) → SameSize (with_swapped h v w) h k
+size-swapped h (Int z) w k one two = record { words = refl; entries = refl }
+size-swapped h (Ref n) (Int z) k one two = record { words = refl; entries = refl }
+size-swapped h (Ref n) (Ref m) k one two = size-at (with_swapped h (Ref n) (Ref m)) h k (swapped_apart h n m k one two)
+
+pub size-after : (h : Heap) (regs : ℕ → Value) (slots : ℕ → Option ℕ) (a : Access) (k : ℕ) → IsWhole h regs slots → CanDo h regs a → StaysAt regs a k → Has h k → SameSize (heap_after h regs a) h k
+size-after h regs slots (SetField of i from) k whole can stays there = size-body h (regs of) _ k (λ n o e at. same-field o.body i (regs from))
+size-after h regs slots (SetWord of i word) k whole can stays there = size-body h (regs of) _ k (λ n o e at. same-words o.body i (word ∷ []) can.0 (part-there h (regs of) words_of n o can.0 e at can.1) (let low = can.2 in omega arith))
+size-after h regs slots (SetByte of i byte) k whole can stays there = size-body h (regs of) _ k (λ n o e at. same-bytes o.body i (byte ∷ []) can.0 (part-there h (regs of) bytes_of n o can.0 e at can.1) (let low = can.2 in omega arith))
+size-after h regs slots (WriteWords of at run) k whole can stays there = size-body h (regs of) _ k (λ n o e is. same-words o.body at run can.0 (part-there h (regs of) words_of n o can.0 e is can.1) can.2)
+size-after h regs slots (Make to class what) k whole can stays there = size-add h _ k (whole.below k there)
+size-after h regs slots (Swap p q) k whole can stays there = size-swapped h (regs p) (regs q) k stays.0 stays.1
+size-after h regs slots _ k whole can stays there = record { words = refl; entries = refl }
 
 -- ---- the pinned objects
 
@@ -105,16 +121,16 @@ pinned-same h s (Some n) None same is = is
 pinned-same h s (Some n) (Some p) same is = (let size = same n refl in (is.0, is.1 ∙ sym size.words, is.2 ∙ sym size.entries))
 
 -- in the heap after an access, or a thinner one, each name that both have has its size
-pub size-later : (h s : Heap) (regs : ℕ → Value) (slots : ℕ → Option ℕ) (a : Access) (k : ℕ) → IsWhole h regs slots → CanDo h regs a → IsThinner (heap_after h regs a) s → Has h k → Has s k → SameSize s h k
-size-later h s regs slots a k whole can thinner there here =
-    let after = size-after h regs slots a k whole can there in
+pub size-later : (h s : Heap) (regs : ℕ → Value) (slots : ℕ → Option ℕ) (a : Access) (k : ℕ) → IsWhole h regs slots → CanDo h regs a → StaysAt regs a k → IsThinner (heap_after h regs a) s → Has h k → Has s k → SameSize s h k
+size-later h s regs slots a k whole can stays thinner there here =
+    let after = size-after h regs slots a k whole can stays there in
     let thin = size-at (heap_after h regs a) s k (same-there (heap_after h regs a) s k thinner here) in
     record { words = sym thin.words ∙ after.words; entries = sym thin.entries ∙ after.entries }
 
 -- what an access leaves, whose slots are as before
-pub pinned-after : (p q : Told) (a : Access) (pins : Pins) → IsReady p → IsReady q → IsTrue p.tells → IsTrue q.tells → CanDo p.heap p.regs a → q.slots ≡ p.slots → IsThinner (heap_after p.heap p.regs a) q.heap → ArePinned p pins → ArePinned q pins
-pinned-after p q a pins ready later told told' can slots thinner are i =
+pub pinned-after : (p q : Told) (a : Access) (pins : Pins) → IsReady p → IsReady q → IsTrue p.tells → IsTrue q.tells → CanDo p.heap p.regs a → HasSlots p.regs p.slots a → q.slots ≡ p.slots → IsThinner (heap_after p.heap p.regs a) q.heap → ArePinned p pins → ArePinned q pins
+pinned-after p q a pins ready later told told' can free slots thinner are i =
     subst (λ (s : ℕ → Option ℕ). IsPinnedAs q.heap (s i) (pin_at pins i)) (sym slots)
     (pinned-same p.heap q.heap (p.slots i) (pin_at pins i)
-    (λ k e. size-later p.heap q.heap p.regs p.slots a k (ready.whole told) can thinner ((ready.whole told).pinned i k e) ((later.whole told').pinned i k (ap (λ (s : ℕ → Option ℕ). s i) slots ∙ e)))
+    (λ k e. size-later p.heap q.heap p.regs p.slots a k (ready.whole told) can (pinned-stays p.regs p.slots a i k free e) thinner ((ready.whole told).pinned i k e) ((later.whole told').pinned i k (ap (λ (s : ℕ → Option ℕ). s i) slots ∙ e)))
     (are i))

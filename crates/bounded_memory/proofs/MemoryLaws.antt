@@ -3,7 +3,7 @@ use Rattle.std.proofs.Common.{◌≡◌, ℕ, ◌+◌, ◌<◌, ◌≤◌, ◌==
 use Rattle.std.proofs.lemmas.Grind.{common_steps}
 use Rattle.std.specs.Result.{OnOk, OnErr, IfErr, IsOk, IsErr, IsErrAnd}
 use Rattle.long_names.specs.Counting.{counted}
-use Rattle.long_names.specs.Names.{LAST_NAME}
+use Rattle.long_names.specs.declared.limits.TheConstants.{LAST_NAME}
 use Rattle.long_names.specs.declared.value.Value.{Value}
 use Rattle.long_names.specs.declared.value.Value.TheVariants.{Int, Ref}
 use Rattle.long_names.specs.declared.object.Object.{Object}
@@ -20,7 +20,7 @@ use Rattle.object_memory.specs.declared.fault.MemFault.{MemFault}
 use Rattle.object_memory.specs.declared.fault.MemFault.TheVariants.{CoreFull, WorkFault}
 use Rattle.object_memory.specs.declared.plain.PlainMemory.{PlainMemory}
 use Rattle.object_memory.specs.Told.{Told, Bounds, IsReady}
-use Rattle.object_memory.specs.Contract.{Does, MayDo, SameBounds, Raised, makes, SaysRefused, TakesMemory, IfBounds, LeavesAll, HasCore, Accessed, KeepsSound, need_of_access}
+use Rattle.object_memory.specs.Contract.{Does, MayDo, SameBounds, Raised, makes, SaysRefused, TakesMemory, IfBounds, LeavesAll, HasCore, Accessed, KeepsSound, IsNeedOf, need_of_access}
 use Rattle.object_memory.specs.Plain.{plain_told, refused}
 use Rattle.bounded_memory.specs.declared.bounded.BoundedMemory.{BoundedMemory}
 use Rattle.bounded_memory.specs.Limits.{bounds_of}
@@ -33,14 +33,15 @@ use Rattle.bounded_memory.proofs.SizeLaws.{words-at}
 use Rattle.bounded_memory.proofs.BoundedLaws.{err-is, need-with}
 use Rattle.bounded_memory.proofs.HeapLaws.{pinned-after, pinned-same, size-add, size-later}
 use Rattle.bounded_memory.proofs.RowLaws.{answered-with, ready-without, ready-with, ready-kept, with-path}
-use Rattle.bounded_memory.proofs.CallLaws.{ready-under, may-under, same-bounds, raised-same, ready-over, ready-answered, answered-over, never-refused, core-full, making-refused, work-faulted, leaves}
+use Rattle.object_memory.proofs.PlainLaws.{leaves}
+use Rattle.bounded_memory.proofs.CallLaws.{ready-under, may-under, same-bounds, raised-same, ready-over, ready-answered, answered-over, never-refused, core-full, making-refused, work-faulted}
 
 -- the memory below may be asked what the whole one may, while both tell the same
 pub ready-below : (o m : BoundedMemory) → bounded_told m ≡ bounded_told o → IsReady (bounded_told o) → IsReady (plain_told m.memory)
 ready-below o m e ready = ready-without (plain_told m.memory) m.row (λ a b c. refl) (ready-under (row_told m) (bounded_told o) m.refusals m.last (bounds_of m.limits) e ready)
 
 pub may-below : (o m : BoundedMemory) (a : Access) → bounded_told m ≡ bounded_told o → MayDo (bounded_told o) a → MayDo (plain_told m.memory) a
-may-below o m a e may = (let below = may-under (row_told m) (bounded_told o) m.refusals m.last (bounds_of m.limits) a e may in record { heap = below.heap; names = below.names; ranges = below.ranges })
+may-below o m a e may = (let below = may-under (row_told m) (bounded_told o) m.refusals m.last (bounds_of m.limits) a e may in record { heap = below.heap; names = below.names; slots = below.slots; ranges = below.ranges })
 
 -- and is as ready after it
 pub ready-after : {A : Type 0} (o m : BoundedMemory) (n : PlainMemory) (a : Access) (spell : A → Answer) (r : Result A MemFault) → bounded_told m ≡ bounded_told o → IsReady (bounded_told o) → Accessed (plain_told m.memory) (plain_told n) a spell r → OnOk r (IsReady (plain_told n)) → OnOk r (IsReady (bounded_told (record m { memory = n })))
@@ -62,10 +63,16 @@ path-begun o d n same lost e =
     ∙ ap (λ (t : Told). record t { cache = record t.cache { path = true } }) same
 
 -- an access to the object of a register for which the core has no room
-pub not-fitting : {A : Type 0} (m n : BoundedMemory) (a : Access) (of : ℕ) (spell : A → Answer) (r : Result A MemFault) (f : MemFault) → IsErrAnd r (λ g. g ≡ f) → makes a ≡ 0 → need_at (bounded_told m) of ≡ need_of_access (bounded_told m) a → ((need : Need) → SaysRefused (Does a) (bounded_told m) (refused (bounded_told m) (CoreFull need)) (CoreFull need)) → IsReady (bounded_told m) → bounded_told n ≡ refused (bounded_told m) f → m.refusals ≤ n.refusals → IsFull (bounded_told m) (need_at (bounded_told m) of) f → Accessed (bounded_told m) (bounded_told n) a spell r
+pub not-fitting : {A : Type 0} (m n : BoundedMemory) (a : Access) (of : ℕ) (spell : A → Answer) (r : Result A MemFault) (f : MemFault) → IsErrAnd r (λ g. g ≡ f) → makes a ≡ 0 → IsNeedOf (bounded_told m) a (need_at (bounded_told m) of) → ((need : Need) → SaysRefused (Does a) (bounded_told m) (refused (bounded_told m) (CoreFull need)) (CoreFull need)) → IsReady (bounded_told m) → bounded_told n ≡ refused (bounded_told m) f → m.refusals ≤ n.refusals → IsFull (bounded_told m) (need_at (bounded_told m) of) f → Accessed (bounded_told m) (bounded_told n) a spell r
 not-fitting {A} m n a of spell r f is none need says ready e later full =
     subst₂ (λ (u : Told) (r : Result A MemFault). Accessed (bounded_told m) u a spell r) (sym e) (sym (err-is r f is))
     (core-full (bounded_told m) (bounds_of m.limits) a of spell f refl none need says ready (subst (λ (u : Told). m.refusals ≤ u.refusals) e later) full)
+
+-- and one where the core had room for another object of it
+pub not-fitting-both : {A : Type 0} (o m n : BoundedMemory) (a : Access) (of : ℕ) (spell : A → Answer) (r : Result A MemFault) (f : MemFault) → IsErrAnd r (λ g. g ≡ f) → makes a ≡ 0 → ((t : Told) → IsNeedOf t a (need_at t of)) → ((t : Told) (need : Need) → SaysRefused (Does a) t (refused t (CoreFull need)) (CoreFull need)) → bounded_told m ≡ bounded_told o → IsReady (bounded_told o) → bounded_told n ≡ refused (bounded_told m) f → m.refusals ≤ n.refusals → IsFull (bounded_told m) (need_at (bounded_told m) of) f → Accessed (bounded_told o) (bounded_told n) a spell r
+not-fitting-both {A} o m n a of spell r f is none need says same ready e later full =
+    subst (λ (t : Told). Accessed t (bounded_told n) a spell r) same
+    (not-fitting m n a of spell r f is none (need (bounded_told m)) (says (bounded_told m)) (subst (λ (t : Told). IsReady t) (sym same) ready) e later full)
 
 -- an access that is forwarded, where the core has room
 forwarded-row : {A : Type 0} (m : BoundedMemory) (n : PlainMemory) (a : Access) (spell : A → Answer) (r : Result A MemFault) → (TakesMemory (Does a) → ⊥) → makes a ≡ 0 → HasCore (bounded_told m) a (bounds_of m.limits) → Accessed (plain_told m.memory) (plain_told n) a spell r → Accessed (bounded_told m) (bounded_told (record m { memory = n })) a spell r
@@ -85,7 +92,7 @@ pub answered-sound : {A : Type 0} (o m : BoundedMemory) (n : PlainMemory) (a : A
 answered-sound {A} o m n a spell x same e ready may sound access later =
     let p = plain_told m.memory in
     let f = access.called.ok in
-    record { pinned = pinned-after p (plain_told n) a m.pins (ready-below o m e ready) later refl refl ((may-below o m a e may).heap refl) (f.slots ∙ same p.regs p.slots) (f.heap refl) sound.pinned }
+    record { pinned = pinned-after p (plain_told n) a m.pins (ready-below o m e ready) later refl refl ((may-below o m a e may).heap refl) (may-below o m a e may).slots (f.slots ∙ same p.regs p.slots) (f.heap refl) sound.pinned }
 
 pub stays-sound : {A : Type 0} (o m : BoundedMemory) (n : PlainMemory) (a : Access) (spell : A → Answer) (r : Result A MemFault) → (TakesMemory (Does a) → ⊥) → makes a ≡ 0 → ((regs : ℕ → Value) (slots : ℕ → Option ℕ) → slots_after regs slots a ≡ slots) → bounded_told m ≡ bounded_told o → IsReady (bounded_told o) → MayDo (bounded_told o) a → IsSound m → Accessed (plain_told m.memory) (plain_told n) a spell r → OnOk r (IsReady (plain_told n)) → KeepsSound r (IsSound (record m { memory = n }))
 stays-sound {A} o m n a spell (Ok x) quiet none same e ready may sound access later = answered-sound o m n a spell x same e ready may sound access later
@@ -101,9 +108,10 @@ pub sound-still : (m : BoundedMemory) (n : PlainMemory) (t : Told) → plain_tol
 sound-still m n t e heap slots sound =
     record { pinned = λ i. subst₂ (λ (h : Heap) (s : ℕ → Option ℕ). IsPinnedAs h (s i) (pin_at m.pins i)) (sym heap ∙ sym (ap (λ (t : Told). t.heap) e)) (sym slots ∙ sym (ap (λ (t : Told). t.slots) e)) (sound.pinned i) }
 
-pub keeps : {A : Type 0} (r : Result A MemFault) (P : Type 0) → P → KeepsSound r P
-keeps (Ok x) P p = p
-keeps (Err f) P p = leaves f P p
+-- what always holds, holds after an answer
+pub if_answered : {A : Type 0} (r : Result A MemFault) {P : Type 0} → P → OnOk r P
+if_answered (Ok x) p = p
+if_answered (Err f) p = tt
 
 -- ---- slots
 
@@ -125,7 +133,7 @@ pin-sound o m n pins slot r pin x e ready may sound access later pinned set =
     let are = set-pins p.heap p.slots m.pins pins slot (Some (name_at (p.regs r))) (Some pin) set kept sound.pinned in
     record {
       pinned = λ i. pinned-same p.heap q.heap (q.slots i) (pin_at pins i)
-          (λ k is. (let here = (later.whole refl).pinned i k is in let it = has q.heap k here in size-later p.heap q.heap p.regs p.slots (accesses.Pin slot r) k whole ((may-below o m (accesses.Pin slot r) e may).heap refl) thinner (ap is_some (thinner.same k it.0 it.1)) here))
+          (λ k is. (let here = (later.whole refl).pinned i k is in let it = has q.heap k here in size-later p.heap q.heap p.regs p.slots (accesses.Pin slot r) k whole ((may-below o m (accesses.Pin slot r) e may).heap refl) tt thinner (ap is_some (thinner.same k it.0 it.1)) here))
           (subst (λ (s : ℕ → Option ℕ). IsPinnedAs p.heap (s i) (pin_at pins i)) (sym f.slots) (are i));
     }
 
@@ -204,7 +212,7 @@ makes-sound-one : (m : BoundedMemory) (n : PlainMemory) (k : BoundedMemory) (to 
 makes-sound-one m n k to class what (Ok x) (Ok y) ready sound access later ok err =
     let p = plain_told m.memory in
     let f = access.called.ok in
-    let pinned = pinned-after p (plain_told n) (Make to class what) m.pins (ready-below m m refl ready) later refl refl tt f.slots (f.heap refl) sound.pinned in
+    let pinned = pinned-after p (plain_told n) (Make to class what) m.pins (ready-below m m refl ready) later refl refl tt tt f.slots (f.heap refl) sound.pinned in
     subst (λ (k : BoundedMemory). IsSound k) (sym ok.1) (record { pinned = pinned })
 makes-sound-one m n k to class what (Err g) (Ok y) ready sound access later ok err = absurd (cc (ok.0))
 makes-sound-one m n k to class what r (Err f) ready sound access later ok err = subst (λ f. LeavesAll f (IsSound k)) (sym err.1) tt

@@ -59,7 +59,7 @@ marked-rows c row None a b m e = e
 marked-rows c row (Some n) a b m e = e
 
 -- a row that stays as it was leaves with the path
-pub leaves-with : (touched marked : Option ℕ) (c d : Cache) (row : Option CachedRow) → LeavesCache touched marked c (with_mark c marked) d → LeavesCache touched marked (cache_with c row) (with_mark (cache_with c row) marked) (cache_with d row)
+pub leaves-with : (touched : ℕ → Bool) (marked : Option ℕ) (c d : Cache) (row : Option CachedRow) → LeavesCache touched marked c (with_mark c marked) d → LeavesCache touched marked (cache_with c row) (with_mark (cache_with c row) marked) (cache_with d row)
 leaves-with touched marked c d row (inl kept) = inl record {
   marks = kept.marks ∙ marked-marks c row marked;
   path = kept.path ∙ marked-path c marked ∙ sym (marked-with c row marked);
@@ -93,6 +93,7 @@ answered-with {A} p q row a spell x access =
           heap = f.heap;
           cache = leaves-with (touched_by p.regs a) (marked_by p.regs a) p.cache q.cache row f.cache;
           counts = f.counts;
+          base = tt;
           refusals = f.refusals;
           last = f.last;
         };
@@ -114,7 +115,7 @@ mark-stays c (Some n) m is = (subst (λ b. ((m == n) || b) ≡ true) (sym is) (o
     or-true false = refl
 
 -- the row's method stays marked while the path is whole
-pub cached-with : (touched marked : Option ℕ) (c d : Cache) (row : Option CachedRow) → LeavesCache touched marked c (with_mark c marked) d → ((a b m : ℕ) → (cache_with c row).rows a b m ≡ true → c.marks m ≡ true) → (a b m : ℕ) → (cache_with d row).rows a b m ≡ true → d.marks m ≡ true
+pub cached-with : (touched : ℕ → Bool) (marked : Option ℕ) (c d : Cache) (row : Option CachedRow) → LeavesCache touched marked c (with_mark c marked) d → ((a b m : ℕ) → (cache_with c row).rows a b m ≡ true → c.marks m ≡ true) → (a b m : ℕ) → (cache_with d row).rows a b m ≡ true → d.marks m ≡ true
 cached-with touched marked c d row (inl kept) cached a b m is = ap (λ f. f m) kept.marks ∙ mark-stays c marked m (cached a b m (subst (λ p. (p && is_row row a b m) ≡ true) (kept.path ∙ marked-path c marked) is))
 cached-with touched marked c d row (inr emptied) cached a b m is = absurd (let whole = path-of d.path (is_row row a b m) is in let none = emptied.path in cc)
 

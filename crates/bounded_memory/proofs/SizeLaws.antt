@@ -49,10 +49,10 @@ pub part : {A : Type 0} (t : Told) (of : ℕ) (f : Body → Option A) (o : Objec
 part t of f o e = ap (option_and_then (λ (o : Object). f o.body)) e
 
 pub may-kind : (t : Told) (of : ℕ) → IsReady t → IsTrue t.tells → IsRef (t.regs of) → MayDo t (KindOf of)
-may-kind t of ready told is = (let it = named t of ready told is in record { heap = λ _. (kind_of it.object.body, part t of (λ b. Some (kind_of b)) it.object it.there, tt); names = is; ranges = tt })
+may-kind t of ready told is = (let it = named t of ready told is in record { heap = λ _. (kind_of it.object.body, part t of (λ b. Some (kind_of b)) it.object it.there, tt); names = is; slots = tt; ranges = tt })
 
 pub may-len : (t : Told) (of : ℕ) → IsReady t → IsTrue t.tells → IsRef (t.regs of) → MayDo t (Length of)
-may-len t of ready told is = (let it = named t of ready told is in record { heap = λ _. (len_of it.object.body, part t of (λ b. Some (len_of b)) it.object it.there, tt); names = is; ranges = tt })
+may-len t of ready told is = (let it = named t of ready told is in record { heap = λ _. (len_of it.object.body, part t of (λ b. Some (len_of b)) it.object it.there, tt); names = is; slots = tt; ranges = tt })
 
 -- ---- by kind, length and literals
 
@@ -98,7 +98,7 @@ pub len-is : (a b : ℕ) (x : Option ℕ) → x ≡ Some a → option_and_then (
 len-is a b x e f = cc (ap (option_and_then (λ n. Some (OfNumber n))) e)
 
 pub may-header : (t : Told) (of : ℕ) (o : Object) → object_at t.heap (t.regs of) ≡ Some o → IsRef (t.regs of) → kind_of o.body ≡ kind.Method → MayDo t (Header of)
-may-header t of o there is method = record { heap = λ _. go o.body refl; names = is; ranges = tt }
+may-header t of o there is method = record { heap = λ _. go o.body refl; names = is; slots = tt; ranges = tt }
   where
     go : (b : Body) → o.body ≡ b → (z : _) × (part_at t.heap (t.regs of) header_of ≡ Some z) × Unit {0}
     go (Pointers values) e = absurd (cc (sym method ∙ ap kind_of e))

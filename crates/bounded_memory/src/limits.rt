@@ -49,11 +49,12 @@ impl Limits {
         self.made += 1;
     }
 
-    /// Counts anew from here.
-    pub(crate) fn settle(&mut self)
-        ensures { bounds_of self.new ≡ record (bounds_of self.old) { base = Some (self.old.base + self.old.made); made = 0 } }
+    /// Counts anew from here, where so many objects live.
+    pub(crate) fn settle(&mut self, objects: u32)
+        requires { objects < 4294967295 }
+        ensures { bounds_of self.new ≡ record (bounds_of self.old) { base = Some objects; made = 0 } }
     {
-        self.base += self.made;
+        self.base = objects;
         self.made = 0;
     }
 

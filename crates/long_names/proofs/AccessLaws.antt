@@ -10,11 +10,11 @@ use Rattle.long_names.specs.Words.{literal_count}
 use Rattle.long_names.specs.Objects.{holds, fields_of, body_words, field_of, with_field, with_words, with_bytes, Making, OfPointers, OfWords, OfBytes, OfMethod, body_made}
 use Rattle.long_names.specs.Heap.{Heap, Has, IsBounded, put_object, add_object}
 use Rattle.long_names.specs.Kept.{holds_at}
-use Rattle.long_names.specs.Access.{is_held, Access, Known, Class, KindOf, Length, Header, Field, SetField, Word, SetWord, Byte, SetByte, ReadWords, WriteWords, ReadBytes, Make, Pin, Mark, Say, made_by, CanDo, object_of, brought, regs_after, slots_after, with_body, with_made, heap_after, said_by, answered, answer_of}
+use Rattle.long_names.specs.Access.{is_held, Access, Known, Class, KindOf, Length, Header, Field, SetField, Word, SetWord, Byte, SetByte, ReadWords, WriteWords, ReadBytes, Make, Pin, Mark, Say, Swap, made_by, CanDo, object_of, other_object_of, brought, regs_after, slots_after, with_body, with_made, with_swapped, heap_after, said_by, answered, answer_of}
 use Rattle.long_names.specs.State.{State, set_register, set_slot, object_at, name_at, part_at, class_at, HasPart}
 use Rattle.long_names.specs.Need.{Row, words_at, entries_at, is_pinned, added, words_of_row, entries_of_row}
 use Rattle.long_names.specs.Thin.{IsThinner, IsWhole, IsThinning, IsThinned, Agrees}
-use Rattle.long_names.proofs.ThinLemmas.{below, IsThinning-refl, IsThinning-trans, IsWhole-bounded, same-there, IsThinner-put_object, IsThinner-add_object, IsBounded-put_object, IsBounded-add_object, has_put, has_here, IsWhole-add_object, IsWhole-set, IsWhole-pin, holds-class, holds-field, holds-filled, holds-plain, fields-with_words, fields-with_bytes, IsWhole-with_field, IsWhole-same_fields}
+use Rattle.long_names.proofs.ThinLemmas.{below, IsThinning-refl, IsThinning-trans, IsWhole-bounded, same-there, IsThinner-put_object, IsThinner-add_object, IsThinner-swap_objects, IsBounded-put_object, IsBounded-add_object, IsBounded-swap_objects, has_put, has_here, IsWhole-add_object, IsWhole-swap_objects, IsWhole-set, IsWhole-pin, holds-class, holds-field, holds-filled, holds-plain, fields-with_words, fields-with_bytes, IsWhole-with_field, IsWhole-same_fields}
 use Rattle.long_names.proofs.KeptLaws.{any_below-at, any_below-from, holder, holding}
 
 -- ---- a heap and a whole thinning of it, with registers
@@ -82,6 +82,7 @@ can-same h s regs slots t b (Make to class what) can = can
 can-same h s regs slots t b (Pin slot of) can = part-can h s regs slots t of _ _ can
 can-same h s regs slots t b (Mark of) can = part-can h s regs slots t of _ _ can
 can-same h s regs slots t b (Say of) can = part-can h s regs slots t of _ _ can
+can-same h s regs slots t b (Swap p q) can = (part-can h s regs slots t p _ _ can.0, part-can h s regs slots t q _ _ can.1)
 
 -- ---- what it answers, brings and says
 
@@ -110,6 +111,10 @@ said-same h s regs slots t _ = refl
 pub object_of-same : (h s : Heap) (regs : ℕ → Value) → IsThinner h s → (a : Access) → object_of h regs a ≡ object_of s regs a
 object_of-same h s regs t (Make to class what) = sym t.next
 object_of-same h s regs t _ = refl
+
+pub other_object_of-same : (h s : Heap) (regs : ℕ → Value) → IsThinner h s → (a : Access) → other_object_of h regs a ≡ other_object_of s regs a
+other_object_of-same h s regs t (Make to class what) = sym t.next
+other_object_of-same h s regs t _ = refl
 
 pub words_at-same : (h s : Heap) (n : ℕ) → h.at n ≡ s.at n → words_at h n ≡ words_at s n
 words_at-same h s n e = ap (λ x. option_map_or (λ (o : Object). 4 + body_words o.body) x 0) e
@@ -169,19 +174,42 @@ object-there s regs slots w (Make to class what) can = has_here s (record { clas
 object-there s regs slots w (Pin slot of) can = named-there s regs slots w of
 object-there s regs slots w (Mark of) can = named-there s regs slots w of
 object-there s regs slots w (Say of) can = named-there s regs slots w of
+object-there s regs slots w (Swap p q) can = named-there s regs slots w p
+
+-- and so is that of its other row
+pub other_object-there : (s : Heap) (regs : ℕ → Value) (slots : ℕ → Option ℕ) → IsWhole s regs slots → (a : Access) → CanDo s regs a → Has (with_made s (made_by regs a)) (other_object_of s regs a)
+other_object-there s regs slots w (Swap p q) can = named-there s regs slots w q
+other_object-there s regs slots w (Known to name) can = object-there s regs slots w (Known to name) can
+other_object-there s regs slots w (Make to class what) can = object-there s regs slots w (Make to class what) can
+other_object-there s regs slots w a can = object-there s regs slots w a can
+
+-- a row has the same words in both, whose object the heap and the thinning name alike, and which is there
+words-alike : (h s : Heap) (regs : ℕ → Value) (slots : ℕ → Option ℕ) → IsThinning h s regs slots → (a : Access) (n k : ℕ) → n ≡ k → Has (with_made s (made_by regs a)) k → words_of_row (with_made h (made_by regs a)) (record { object = n; slots = slots }) ≡ words_of_row (with_made s (made_by regs a)) (record { object = k; slots = slots })
+words-alike h s regs slots t a n k e there =
+    ap (λ n. words_of_row (with_made h (made_by regs a)) (record { object = n; slots = slots })) e
+    ∙ words_of_row-same (with_made h (made_by regs a)) (with_made s (made_by regs a)) (record { object = k; slots = slots })
+    (same-there (with_made h (made_by regs a)) (with_made s (made_by regs a)) k (thinner-made h s (made_by regs a) t.thinner) there)
+    (λ i k e. same-there (with_made h (made_by regs a)) (with_made s (made_by regs a)) k (thinner-made h s (made_by regs a) t.thinner) (there-made s (made_by regs a) k (t.whole.pinned i k e)))
+
+-- and the same entries
+entries-alike : (h s : Heap) (regs : ℕ → Value) (slots : ℕ → Option ℕ) → IsThinning h s regs slots → (a : Access) (n k : ℕ) → n ≡ k → entries_of_row (with_made h (made_by regs a)) (record { object = n; slots = slots }) ≡ entries_of_row (with_made s (made_by regs a)) (record { object = k; slots = slots })
+entries-alike h s regs slots t a n k e =
+    ap (λ n. entries_of_row (with_made h (made_by regs a)) (record { object = n; slots = slots })) e
+    ∙ entries_of_row-same (with_made h (made_by regs a)) (with_made s (made_by regs a)) (record { object = k; slots = slots })
+    (λ i k e. same-there (with_made h (made_by regs a)) (with_made s (made_by regs a)) k (thinner-made h s (made_by regs a) t.thinner) (there-made s (made_by regs a) k (t.whole.pinned i k e)))
 
 pub words-same : (h s : Heap) (regs : ℕ → Value) (slots : ℕ → Option ℕ) → IsThinning h s regs slots → (a : Access) → CanDo s regs a → words_of_row (with_made h (made_by regs a)) (record { object = object_of h regs a; slots = slots }) ≡ words_of_row (with_made s (made_by regs a)) (record { object = object_of s regs a; slots = slots })
-words-same h s regs slots t a can =
-    ap (λ n. words_of_row (with_made h (made_by regs a)) (record { object = n; slots = slots })) (object_of-same h s regs t.thinner a)
-    ∙ words_of_row-same (with_made h (made_by regs a)) (with_made s (made_by regs a)) (record { object = object_of s regs a; slots = slots })
-    (same-there (with_made h (made_by regs a)) (with_made s (made_by regs a)) (object_of s regs a) (thinner-made h s (made_by regs a) t.thinner) (object-there s regs slots t.whole a can))
-    (λ i k e. same-there (with_made h (made_by regs a)) (with_made s (made_by regs a)) k (thinner-made h s (made_by regs a) t.thinner) (there-made s (made_by regs a) k (t.whole.pinned i k e)))
+words-same h s regs slots t a can = words-alike h s regs slots t a (object_of h regs a) (object_of s regs a) (object_of-same h s regs t.thinner a) (object-there s regs slots t.whole a can)
 
 pub entries-same : (h s : Heap) (regs : ℕ → Value) (slots : ℕ → Option ℕ) → IsThinning h s regs slots → (a : Access) → entries_of_row (with_made h (made_by regs a)) (record { object = object_of h regs a; slots = slots }) ≡ entries_of_row (with_made s (made_by regs a)) (record { object = object_of s regs a; slots = slots })
-entries-same h s regs slots t a =
-    ap (λ n. entries_of_row (with_made h (made_by regs a)) (record { object = n; slots = slots })) (object_of-same h s regs t.thinner a)
-    ∙ entries_of_row-same (with_made h (made_by regs a)) (with_made s (made_by regs a)) (record { object = object_of s regs a; slots = slots })
-    (λ i k e. same-there (with_made h (made_by regs a)) (with_made s (made_by regs a)) k (thinner-made h s (made_by regs a) t.thinner) (there-made s (made_by regs a) k (t.whole.pinned i k e)))
+entries-same h s regs slots t a = entries-alike h s regs slots t a (object_of h regs a) (object_of s regs a) (object_of-same h s regs t.thinner a)
+
+-- and its other row
+pub other_words-same : (h s : Heap) (regs : ℕ → Value) (slots : ℕ → Option ℕ) → IsThinning h s regs slots → (a : Access) → CanDo s regs a → words_of_row (with_made h (made_by regs a)) (record { object = other_object_of h regs a; slots = slots }) ≡ words_of_row (with_made s (made_by regs a)) (record { object = other_object_of s regs a; slots = slots })
+other_words-same h s regs slots t a can = words-alike h s regs slots t a (other_object_of h regs a) (other_object_of s regs a) (other_object_of-same h s regs t.thinner a) (other_object-there s regs slots t.whole a can)
+
+pub other_entries-same : (h s : Heap) (regs : ℕ → Value) (slots : ℕ → Option ℕ) → IsThinning h s regs slots → (a : Access) → entries_of_row (with_made h (made_by regs a)) (record { object = other_object_of h regs a; slots = slots }) ≡ entries_of_row (with_made s (made_by regs a)) (record { object = other_object_of s regs a; slots = slots })
+other_entries-same h s regs slots t a = entries-alike h s regs slots t a (other_object_of h regs a) (other_object_of s regs a) (other_object_of-same h s regs t.thinner a)
 
 -- ---- what it leaves
 
@@ -216,12 +244,29 @@ IsWhole-with_body s regs slots (Ref n) change w each = go (s.at n) refl
     go None e = w
     go (Some o) e = each n o e
 
+-- two objects that change places in both
+IsThinner-with_swapped : (h s : Heap) (v w : Value) → IsThinner h s → object_at h v ≡ object_at s v → object_at h w ≡ object_at s w → IsThinner (with_swapped h v w) (with_swapped s v w)
+IsThinner-with_swapped h s (Int z) w t e f = t
+IsThinner-with_swapped h s (Ref n) (Int z) t e f = t
+IsThinner-with_swapped h s (Ref n) (Ref k) t e f = IsThinner-swap_objects h s n k t e f
+
+IsBounded-with_swapped : (h : Heap) (v w : Value) → IsBounded h → IsBounded (with_swapped h v w)
+IsBounded-with_swapped h (Int z) w b = b
+IsBounded-with_swapped h (Ref n) (Int z) b = b
+IsBounded-with_swapped h (Ref n) (Ref k) b = IsBounded-swap_objects h n k b
+
+IsWhole-with_swapped : (s : Heap) (regs : ℕ → Value) (slots : ℕ → Option ℕ) (v w : Value) → IsWhole s regs slots → IsWhole (with_swapped s v w) regs slots
+IsWhole-with_swapped s regs slots (Int z) w whole = whole
+IsWhole-with_swapped s regs slots (Ref n) (Int z) whole = whole
+IsWhole-with_swapped s regs slots (Ref n) (Ref k) whole = IsWhole-swap_objects s regs slots n k whole
+
 pub heap-thinner : (h s : Heap) (regs : ℕ → Value) (slots : ℕ → Option ℕ) → IsThinning h s regs slots → (a : Access) → IsThinner (heap_after h regs a) (heap_after s regs a)
 heap-thinner h s regs slots t (SetField of i from) = IsThinner-with_body h s (regs of) _ t.thinner (object-same h s regs slots t of)
 heap-thinner h s regs slots t (SetWord of i word) = IsThinner-with_body h s (regs of) _ t.thinner (object-same h s regs slots t of)
 heap-thinner h s regs slots t (SetByte of i byte) = IsThinner-with_body h s (regs of) _ t.thinner (object-same h s regs slots t of)
 heap-thinner h s regs slots t (WriteWords of at run) = IsThinner-with_body h s (regs of) _ t.thinner (object-same h s regs slots t of)
 heap-thinner h s regs slots t (Make to class what) = IsThinner-add_object h s (record { class = name_at (regs class); body = body_made what }) t.thinner
+heap-thinner h s regs slots t (Swap p q) = IsThinner-with_swapped h s (regs p) (regs q) t.thinner (object-same h s regs slots t p) (object-same h s regs slots t q)
 heap-thinner h s regs slots t _ = t.thinner
 
 pub heap-bounded : (h : Heap) (regs : ℕ → Value) (a : Access) → IsBounded h → IsBounded (heap_after h regs a)
@@ -230,6 +275,7 @@ heap-bounded h regs (SetWord of i word) b = IsBounded-with_body h (regs of) _ b
 heap-bounded h regs (SetByte of i byte) b = IsBounded-with_body h (regs of) _ b
 heap-bounded h regs (WriteWords of at run) b = IsBounded-with_body h (regs of) _ b
 heap-bounded h regs (Make to class what) b = IsBounded-add_object h (record { class = name_at (regs class); body = body_made what }) b
+heap-bounded h regs (Swap p q) b = IsBounded-with_swapped h (regs p) (regs q) b
 heap-bounded h regs _ b = b
 
 -- a new object holds its class, and nil where it has fields
@@ -252,6 +298,7 @@ whole-heap s regs slots w (SetWord of i word) = IsWhole-with_body s regs slots (
 whole-heap s regs slots w (SetByte of i byte) = IsWhole-with_body s regs slots (regs of) (λ b. with_bytes b i (byte ∷ [])) w (λ n o e. IsWhole-same_fields s regs slots n o (with_bytes o.body i (byte ∷ [])) w e (fields-with_bytes o.body i (byte ∷ [])))
 whole-heap s regs slots w (WriteWords of at run) = IsWhole-with_body s regs slots (regs of) (λ b. with_words b at run) w (λ n o e. IsWhole-same_fields s regs slots n o (with_words o.body at run) w e (fields-with_words o.body at run))
 whole-heap s regs slots w (Make to class what) = IsWhole-add_object s regs slots (record { class = name_at (regs class); body = body_made what }) w (made-there s regs slots w (name_at (regs class)) what (named-there s regs slots w class))
+whole-heap s regs slots w (Swap p q) = IsWhole-with_swapped s regs slots (regs p) (regs q) w
 whole-heap s regs slots w _ = w
 
 -- what it brings is there
@@ -304,6 +351,7 @@ whole-after s regs slots w (SetField of i from) can = whole-heap s regs slots w 
 whole-after s regs slots w (SetWord of i word) can = whole-heap s regs slots w (SetWord of i word)
 whole-after s regs slots w (SetByte of i byte) can = whole-heap s regs slots w (SetByte of i byte)
 whole-after s regs slots w (WriteWords of at run) can = whole-heap s regs slots w (WriteWords of at run)
+whole-after s regs slots w (Swap p q) can = whole-heap s regs slots w (Swap p q)
 whole-after s regs slots w _ can = w
 
 -- ---- the law
@@ -321,6 +369,9 @@ agrees-over h s regs slots transcript a t b can = record {
   object = object_of-same h s regs t.thinner a;
   words = words-same h s regs slots t a can;
   entries = entries-same h s regs slots t a;
+  other_object = other_object_of-same h s regs t.thinner a;
+  other_words = other_words-same h s regs slots t a can;
+  other_entries = other_entries-same h s regs slots t a;
   answer = answer-same h s regs slots t a;
   value = brought-same h s regs slots t a;
   bytes = said-same h s regs slots t a;

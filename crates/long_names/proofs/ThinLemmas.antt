@@ -1,8 +1,9 @@
 -- Laws of thinning: a thinning of a thinning, and what puts, makings, loads and freeing leave.
-use Rattle.std.proofs.Common.{zero, suc, ◌≡◌, ℕ, ◌+◌, ◌<◌, ◌≤◌, nat_lt, Bool, true, false, ◌||◌, ◌&&◌, cond, eqb, List, [], ◌∷◌, Option, Some, None, is_some, refl, sym, ◌∙◌, ap, subst, arith, inl, inr, ◌⊎◌, replicate}
+use Rattle.std.proofs.Common.{zero, suc, ◌≡◌, ℕ, ◌+◌, ◌<◌, ◌≤◌, nat_lt, Bool, true, false, ◌||◌, ◌&&◌, cond, eqb, List, [], ◌∷◌, Option, Some, None, is_some, refl, sym, ◌∙◌, ap, ap₂, subst, subst₂, arith, inl, inr, ◌⊎◌, replicate}
 use Rattle.std.proofs.lemmas.Grind.{common_steps}
 use Rattle.std.specs.List.{slice_get, slice_set, list_any}
 use borrow.Author.Tests.{ltb-true, ltb-false}
+use mathlib.Core.Path.{fun_ext}
 use Rattle.long_names.specs.declared.value.Value.{Value}
 use Rattle.long_names.specs.declared.value.Value.TheVariants.{Int, Ref}
 use Rattle.long_names.specs.declared.object.Body.{Body}
@@ -10,7 +11,8 @@ use Rattle.long_names.specs.declared.object.Body.TheVariants.{Pointers, Words, B
 use Rattle.long_names.specs.declared.object.Object.{Object}
 use Rattle.long_names.specs.Names.{is_known}
 use Rattle.long_names.specs.Objects.{holds, is_ref, fields_of, field_of, with_field, with_words, with_bytes}
-use Rattle.long_names.specs.Heap.{Heap, Has, IsBounded, put_object, add_object, without}
+use Rattle.long_names.specs.Heap.{Heap, Has, IsBounded, put_object, add_object, swap_objects, without}
+use Rattle.std.specs.Option.{option_map_or}
 use Rattle.long_names.specs.Thin.{IsLostCycle, IsThinner, IsClosed, IsWhole, IsThinning}
 
 -- the object that a heap has
@@ -165,6 +167,61 @@ IsThinner-add_object h s o t =
     subst (λ (k : ℕ). IsThinner (add_object h o) (record { at = λ q. cond (eqb q k) (Some o) (s.at q); next = s.next + 2 })) (sym t.next)
     (IsThinner-put_at h s h.next o (h.next + 2) (s.next + 2) (ap (λ (k : ℕ). k + 2) t.next) t)
 
+-- the objects of two names in each other's place, where a heap has these
+abbrev pub swap_at : Heap → ℕ → ℕ → Option Object → Option Object → Heap
+swap_at h n k x y = option_map_or (λ (o : Object). option_map_or (λ (p : Object). put_object (put_object h n p) k o) y h) x h
+
+-- what a swap has under each name, where both names have objects
+pub swapped_at : (h : Heap) (n k q : ℕ) (o p : Object) → h.at n ≡ Some o → h.at k ≡ Some p → (swap_objects h n k).at q ≡ cond (eqb q k) (Some o) (cond (eqb q n) (Some p) (h.at q))
+swapped_at h n k q o p e f = ap₂ (λ x y. (swap_at h n k x y).at q) e f
+
+-- the object of the other name,
+pub swapped_first : (h : Heap) (n k : ℕ) (o p : Object) → h.at n ≡ Some o → h.at k ≡ Some p → (swap_objects h n k).at n ≡ Some p
+swapped_first h n k o p e f = swapped_at h n k n o p e f ∙ go (eqb n k) refl
+  where
+    here : eqb n n ≡ true
+    here = grind (arith, common_steps)
+
+    go : (b : Bool) → eqb n k ≡ b → cond (eqb n k) (Some o) (cond (eqb n n) (Some p) (h.at n)) ≡ Some p
+    go true is = let same : n ≡ k = grind (arith, common_steps, is) in ap (λ b. cond b (Some o) (cond (eqb n n) (Some p) (h.at n))) is ∙ sym e ∙ ap h.at same ∙ f
+    go false is = ap₂ (λ b c. cond b (Some o) (cond c (Some p) (h.at n))) is here
+
+pub swapped_second : (h : Heap) (n k : ℕ) (o p : Object) → h.at n ≡ Some o → h.at k ≡ Some p → (swap_objects h n k).at k ≡ Some o
+swapped_second h n k o p e f = swapped_at h n k k o p e f ∙ (let here : eqb k k ≡ true = grind (arith, common_steps) in ap (λ b. cond b (Some o) (cond (eqb k n) (Some p) (h.at k))) here)
+
+-- and of any third name its own
+pub swapped_apart : (h : Heap) (n k q : ℕ) → (q ≡ n → ⊥) → (q ≡ k → ⊥) → (swap_objects h n k).at q ≡ h.at q
+swapped_apart h n k q one two = go (h.at n) (h.at k)
+  where
+    apart : (m : ℕ) → (q ≡ m → ⊥) → (b : Bool) → eqb q m ≡ b → eqb q m ≡ false
+    apart m other true e = let same : q ≡ m = grind (arith, common_steps, e) in absurd (other same)
+    apart m other false e = e
+
+    go : (x y : Option Object) → (swap_at h n k x y).at q ≡ h.at q
+    go None y = refl
+    go (Some o) None = refl
+    go (Some o) (Some p) = ap₂ (λ b c. cond b (Some o) (cond c (Some p) (h.at q))) (apart k two (eqb q k) refl) (apart n one (eqb q n) refl)
+
+-- a name's object put in its own place
+pub swapped_same : (h : Heap) (n : ℕ) → swap_objects h n n ≡ h
+swapped_same h n = go (h.at n) refl
+  where
+    at : (o : Object) → h.at n ≡ Some o → (q : ℕ) (b : Bool) → eqb q n ≡ b → cond b (Some o) (cond b (Some o) (h.at q)) ≡ h.at q
+    at o e q true is = let same : q ≡ n = grind (arith, common_steps, is) in sym (ap h.at same ∙ e)
+    at o e q false is = refl
+
+    go : (x : Option Object) → h.at n ≡ x → swap_at h n n x x ≡ h
+    go None e = refl
+    go (Some o) e = ap (λ (f : ℕ → Option Object). let x : Heap = record { at = f; next = h.next } in x) (fun_ext (λ q. at o e q (eqb q n) refl))
+
+pub IsThinner-swap_objects : (h s : Heap) (n k : ℕ) → IsThinner h s → h.at n ≡ s.at n → h.at k ≡ s.at k → IsThinner (swap_objects h n k) (swap_objects s n k)
+IsThinner-swap_objects h s n k t e f = subst₂ (λ x y. IsThinner (swap_at h n k (h.at n) (h.at k)) (swap_at s n k x y)) e f (go (h.at n) (h.at k))
+  where
+    go : (x y : Option Object) → IsThinner (swap_at h n k x y) (swap_at s n k x y)
+    go None y = t
+    go (Some o) None = t
+    go (Some o) (Some p) = IsThinner-put_object (put_object h n p) (put_object s n p) k o (IsThinner-put_object h s n p t)
+
 -- ---- bounded and whole heaps
 
 pub below : (h : Heap) (k : ℕ) (o : Object) → IsBounded h → h.at k ≡ Some o → k < h.next
@@ -205,6 +262,14 @@ has_put s n o next k h = go (eqb k n) refl
     go true e = ap (λ b. is_some (cond b (Some o) (s.at k))) e
     go false e = ap (λ b. is_some (cond b (Some o) (s.at k))) e ∙ h
 
+pub IsBounded-swap_objects : (h : Heap) (n k : ℕ) → IsBounded h → IsBounded (swap_objects h n k)
+IsBounded-swap_objects h n k b = go (h.at n) (h.at k) refl refl
+  where
+    go : (x y : Option Object) → h.at n ≡ x → h.at k ≡ y → IsBounded (swap_at h n k x y)
+    go None y e f = b
+    go (Some o) None e f = b
+    go (Some o) (Some p) e f = IsBounded-put_object (put_object h n p) k o (IsBounded-put_object h n p b (ap is_some e)) (has_put h n p h.next k (ap is_some f))
+
 -- a making has its object
 pub has_here : (s : Heap) (o : Object) → Has (add_object s o) s.next
 has_here s o = let e : eqb s.next s.next ≡ true = grind (arith, common_steps) in ap (λ b. is_some (cond b (Some o) (s.at s.next))) e
@@ -243,6 +308,17 @@ IsWhole-put_object s regs slots n o w there own = let low = w.below n there in I
 
 pub IsWhole-add_object : (s : Heap) (regs : ℕ → Value) (slots : ℕ → Option ℕ) (o : Object) → IsWhole s regs slots → ((k : ℕ) → holds o k ≡ true → Has s k) → IsWhole (add_object s o) regs slots
 IsWhole-add_object s regs slots o w own = IsWhole-put_at s regs slots s.next o (s.next + 2) w (omega arith) (omega arith) own
+
+-- two objects in each other's place hold what they held
+pub IsWhole-swap_objects : (s : Heap) (regs : ℕ → Value) (slots : ℕ → Option ℕ) (n k : ℕ) → IsWhole s regs slots → IsWhole (swap_objects s n k) regs slots
+IsWhole-swap_objects s regs slots n k w = go (s.at n) (s.at k) refl refl
+  where
+    go : (x y : Option Object) → s.at n ≡ x → s.at k ≡ y → IsWhole (swap_at s n k x y) regs slots
+    go None y e f = w
+    go (Some o) None e f = w
+    go (Some o) (Some p) e f =
+        let first = IsWhole-put_object s regs slots n p w (ap is_some e) (λ q held. w.closed k p q f held) in
+        IsWhole-put_object (put_object s n p) regs slots k o first (has_put s n p s.next k (ap is_some f)) (λ q held. has_put s n p s.next q (w.closed n o q e held))
 
 -- other registers, which hold only names of objects
 pub IsWhole-regs : (s : Heap) (regs now : ℕ → Value) (slots : ℕ → Option ℕ) → IsWhole s regs slots → ((r n : ℕ) → now r ≡ Ref n → Has s n) → IsWhole s now slots

@@ -8,12 +8,12 @@ use Rattle.long_names.specs.declared.object.Body.{Body}
 use Rattle.long_names.specs.declared.object.Object.{Object}
 use Rattle.long_names.specs.Names.{is_known}
 use Rattle.long_names.specs.Objects.{kind_of, len_of, header_of, field_of, words_of, bytes_of, text_of, with_field, with_words, with_bytes, Making, body_made, CanMake}
-use Rattle.long_names.specs.Heap.{Heap, Has, put_object, add_object}
+use Rattle.long_names.specs.Heap.{Heap, Has, put_object, add_object, swap_objects}
 use Rattle.long_names.specs.Kept.{any_below, holds_at}
-use Rattle.long_names.specs.State.{State, set_register, set_slot, name_at, IsRef, class_at, part_at, HasPart}
+use Rattle.long_names.specs.State.{State, SLOTS, set_register, set_slot, name_at, IsRef, class_at, part_at, HasPart}
 
--- The calls that read or write an object, make one, pin one, mark one, or make a register name a known one. Registers and slots go
--- by their numbers.
+-- The calls that read or write an object, make one, pin one, mark one, let two change places, or make a register name a known one.
+-- Registers and slots go by their numbers.
 pub data Access : Type 0 where
   Known : (to : ℕ) → (name : ℕ) → Access
   Class : (to : ℕ) → (of : ℕ) → Access
@@ -33,8 +33,9 @@ pub data Access : Type 0 where
   Pin : (slot : ℕ) → (of : ℕ) → Access
   Mark : (of : ℕ) → Access
   Say : (of : ℕ) → Access
+  Swap : (a : ℕ) → (b : ℕ) → Access
 
--- the register whose object it is, if it is the object of a register
+-- the register whose object it is, if it is the object of one register
 abbrev pub target_of : Access → Option ℕ
 target_of (Known to name) = None
 target_of (Class to of) = Some of
@@ -54,6 +55,7 @@ target_of (Make to class what) = None
 target_of (Pin slot of) = Some of
 target_of (Mark of) = Some of
 target_of (Say of) = Some of
+target_of (Swap a b) = None
 
 -- the register that it fills, if it fills one
 abbrev pub filled_by : Access → Option ℕ
@@ -100,13 +102,24 @@ CanDo h regs (Make to class what) = Unit {0}
 CanDo h regs (Pin slot of) = HasPart h (regs of) (λ b. Some (kind_of b)) (λ k. Unit {0})
 CanDo h regs (Mark of) = HasPart h (regs of) (λ b. Some (kind_of b)) (λ k. Unit {0})
 CanDo h regs (Say of) = HasPart h (regs of) text_of (λ bytes. Unit {0})
+CanDo h regs (Swap a b) = HasPart h (regs a) (λ b. Some (kind_of b)) (λ k. Unit {0}) × HasPart h (regs b) (λ b. Some (kind_of b)) (λ k. Unit {0})
 
 -- What it asks of registers, which are always known: that of its object, or of the class of what is made, holds a name. The class of
 -- a number may be asked.
 abbrev pub HasNames : (ℕ → Value) → Access → Type 0
 HasNames regs (Class to of) = Unit {0}
 HasNames regs (Make to class what) = IsRef (regs class)
+HasNames regs (Swap a b) = IsRef (regs a) × IsRef (regs b)
 HasNames regs a = NamesRef regs (target_of a)
+
+-- no slot has this name
+abbrev pub IsUnpinned : (ℕ → Option ℕ) → ℕ → Type 0
+IsUnpinned slots n = (i : ℕ) → i < SLOTS → slots i ≡ Some n → ⊥
+
+-- What it asks of slots, which are always known too: of two objects that change places none is pinned.
+abbrev pub HasSlots : (ℕ → Value) → (ℕ → Option ℕ) → Access → Type 0
+HasSlots regs slots (Swap a b) = IsUnpinned slots (name_at (regs a)) × IsUnpinned slots (name_at (regs b))
+HasSlots regs slots _ = Unit {0}
 
 -- And of numbers: sizes are those of an object, words have 16 bits and bytes 8.
 abbrev pub HasRanges : Access → Type 0
@@ -118,10 +131,16 @@ HasRanges _ = Unit {0}
 
 -- ---- what it does
 
--- the object of its row: for the class of a SmallInteger the class, for a making the object made
+-- the object of its row: for the class of a SmallInteger the class, for a making the object made, for a swap the first object
 abbrev pub object_of : Heap → (ℕ → Value) → Access → ℕ
 object_of h regs (Known to name) = name
+object_of h regs (Swap a b) = name_at (regs a)
 object_of h regs a = option_map_or (λ of. name_at (regs of)) (target_of a) h.next
+
+-- The object of its other row. A swap has a row for each of its two objects; any other access has one row.
+abbrev pub other_object_of : Heap → (ℕ → Value) → Access → ℕ
+other_object_of h regs (Swap a b) = name_at (regs b)
+other_object_of h regs a = object_of h regs a
 
 -- the value that it brings into a register, where it brings one
 abbrev pub brought : Heap → (ℕ → Value) → Access → Option Value
@@ -148,12 +167,18 @@ with_body h (Ref n) change = option_map_or (λ (o : Object). put_object h n (rec
 abbrev pub with_made : Heap → Option Object → Heap
 with_made h x = option_map_or (λ (o : Object). add_object h o) x h
 
--- the heap after it stored or made something
+-- the heap once the objects that two values name have changed places
+abbrev pub with_swapped : Heap → Value → Value → Heap
+with_swapped h (Ref n) (Ref k) = swap_objects h n k
+with_swapped h _ _ = h
+
+-- the heap after it stored or made something, or let two objects change places
 abbrev pub heap_after : Heap → (ℕ → Value) → Access → Heap
 heap_after h regs (SetField of i from) = with_body h (regs of) (λ b. with_field b i (regs from))
 heap_after h regs (SetWord of i word) = with_body h (regs of) (λ b. with_words b i (word ∷ []))
 heap_after h regs (SetByte of i byte) = with_body h (regs of) (λ b. with_bytes b i (byte ∷ []))
 heap_after h regs (WriteWords of at run) = with_body h (regs of) (λ b. with_words b at run)
+heap_after h regs (Swap a b) = with_swapped h (regs a) (regs b)
 heap_after h regs a = with_made h (made_by regs a)
 
 -- the bytes that join the transcript

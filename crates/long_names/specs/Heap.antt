@@ -22,6 +22,10 @@ Has h n = is_some (h.at n) ≡ true
 abbrev pub put_object : Heap → ℕ → Object → Heap
 put_object h n o = record { at = λ q. if q == n then Some o else h.at q; next = h.next }
 
+-- with the objects of two names in each other's place (swapPointersOf:and:), where it has both; one name twice changes nothing
+abbrev pub swap_objects : Heap → ℕ → ℕ → Heap
+swap_objects h n k = option_map_or (λ (o : Object). option_map_or (λ (p : Object). put_object (put_object h n p) k o) (h.at k) h) (h.at n) h
+
 -- with a new object, at the next name
 abbrev pub add_object : Heap → Object → Heap
 add_object h o = record { at = λ q. if q == h.next then Some o else h.at q; next = h.next + 2 }

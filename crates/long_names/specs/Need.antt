@@ -7,7 +7,7 @@ use Rattle.long_names.specs.declared.object.Object.{Object}
 use Rattle.long_names.specs.Objects.{body_words, fields_of, body_made}
 use Rattle.long_names.specs.Heap.{Heap}
 use Rattle.long_names.specs.State.{State}
-use Rattle.long_names.specs.Access.{Access, Make, Mark, target_of, made_by, with_made, object_of}
+use Rattle.long_names.specs.Access.{Access, Make, Mark, target_of, made_by, with_made, object_of, other_object_of}
 
 -- an object, with the objects that are pinned at that moment
 pub record Row : Type 0 where
@@ -53,6 +53,10 @@ entries_of_row h r =
 abbrev pub row_of : State → Access → Row
 row_of s a = record { object = object_of s.heap s.regs a; slots = s.slots }
 
+-- Its other row, where it has two: that of the other object of a swap.
+abbrev pub other_row_of : State → Access → Row
+other_row_of s a = record { object = other_object_of s.heap s.regs a; slots = s.slots }
+
 -- the heap that has the objects of the row: where an object is made, with this object
 abbrev pub heap_of_row : State → Access → Heap
 heap_of_row s a = with_made s.heap (made_by s.regs a)
@@ -70,7 +74,7 @@ words_named h (Int z) = 0
 words_named h (Ref n) = words_at h n
 
 -- The words that an access needs for its own object, which has to be in the core. A name is made known or marked without its object,
--- and the class of a number is known.
+-- two objects change places with none of them left there, and the class of a number is known.
 abbrev pub words_alone : Heap → (ℕ → Value) → Access → ℕ
 words_alone h regs (Make to class what) = 4 + body_words (body_made what)
 words_alone h regs (Mark of) = 0

@@ -8,8 +8,8 @@ use Rattle.long_names.specs.Objects.{holds}
 use Rattle.long_names.specs.Heap.{Heap, Has, IsBounded}
 use Rattle.long_names.specs.Kept.{holds_at}
 use Rattle.long_names.specs.State.{State}
-use Rattle.long_names.specs.Access.{Access, CanDo, object_of, brought, said_by, answer_of, after}
-use Rattle.long_names.specs.Need.{row_of, heap_of_row, words_of_row, entries_of_row}
+use Rattle.long_names.specs.Access.{Access, CanDo, object_of, other_object_of, brought, said_by, answer_of, after}
+use Rattle.long_names.specs.Need.{row_of, other_row_of, heap_of_row, words_of_row, entries_of_row}
 
 -- some name of the set has an object in h that holds n
 pub record IsHeldFrom (h : Heap) (set : ℕ → Bool) (n : ℕ) : Type 0 where
@@ -71,13 +71,16 @@ pub record IsThinned (full thin : State) : Type 0 where
 -- ---- an access to a heap and to a thinning of it
 
 -- Full can do the access too, with the same row, need, answer, value brought and bytes said, and what is left of thin is full's over
--- a thinning again.
+-- a thinning again. A swap has two rows.
 pub record Agrees (full thin : State) (a : Access) : Type 0 where
   pub can : CanDo full.heap full.regs a
   pub thinned : IsThinned (after full a) (after thin a)
   pub object : object_of full.heap full.regs a ≡ object_of thin.heap thin.regs a
   pub words : words_of_row (heap_of_row full a) (row_of full a) ≡ words_of_row (heap_of_row thin a) (row_of thin a)
   pub entries : entries_of_row (heap_of_row full a) (row_of full a) ≡ entries_of_row (heap_of_row thin a) (row_of thin a)
+  pub other_object : other_object_of full.heap full.regs a ≡ other_object_of thin.heap thin.regs a
+  pub other_words : words_of_row (heap_of_row full a) (other_row_of full a) ≡ words_of_row (heap_of_row thin a) (other_row_of thin a)
+  pub other_entries : entries_of_row (heap_of_row full a) (other_row_of full a) ≡ entries_of_row (heap_of_row thin a) (other_row_of thin a)
   pub answer : answer_of full.heap full.regs a ≡ answer_of thin.heap thin.regs a
   pub value : brought full.heap full.regs a ≡ brought thin.heap thin.regs a
   pub bytes : said_by full.heap full.regs a ≡ said_by thin.heap thin.regs a

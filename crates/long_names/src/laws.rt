@@ -3,7 +3,7 @@ ghost use Rattle.std.specs.Prelude.{◌≡◌, ℕ, Bool, true, List, Option, So
 ghost use Rattle.long_names.specs.declared.value.Value.{Value};
 ghost use Rattle.long_names.specs.declared.object.Object.{Object};
 ghost use Rattle.long_names.specs.Names.{is_known};
-ghost use Rattle.long_names.specs.Heap.{Heap, Has, IsBounded};
+ghost use Rattle.long_names.specs.Heap.{Heap, Has, IsBounded, swap_objects};
 ghost use Rattle.long_names.specs.Kept.{kept, no_roots};
 ghost use Rattle.long_names.specs.Access.{Access, CanDo};
 ghost use Rattle.long_names.specs.State.{State};
@@ -42,4 +42,12 @@ pub fn known_stay()
     ensures roots { (h : Heap) (root : ℕ → Bool) (n : ℕ) → root n ≡ true → Has h n → Has (kept h root) n }
     ensures of_the_heap { (h : Heap) (root : ℕ → Bool) (n : ℕ) (o : Object) → (kept h root).at n ≡ Some o → h.at n ≡ Some o }
     ensures closed { (h : Heap) (root : ℕ → Bool) → IsBounded h → IsClosed h → IsClosed (kept h root) }
+{}
+
+/// Two objects change places under their names, with class and body; every other name keeps its own, and one name twice changes nothing.
+pub fn a_swap_exchanges()
+    ensures first { (h : Heap) (n k : ℕ) (o p : Object) → h.at n ≡ Some o → h.at k ≡ Some p → (swap_objects h n k).at n ≡ Some p }
+    ensures second { (h : Heap) (n k : ℕ) (o p : Object) → h.at n ≡ Some o → h.at k ≡ Some p → (swap_objects h n k).at k ≡ Some o }
+    ensures others { (h : Heap) (n k q : ℕ) → (q ≡ n → ⊥) → (q ≡ k → ⊥) → (swap_objects h n k).at q ≡ h.at q }
+    ensures same { (h : Heap) (n : ℕ) → swap_objects h n n ≡ h }
 {}

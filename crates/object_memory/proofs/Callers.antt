@@ -11,8 +11,8 @@ use Rattle.long_names.specs.Names.{SMALL_INTEGER, is_known}
 use Rattle.long_names.specs.Objects.{kind_of, len_of, field_of, header_of, pointers_of, literals_of, words_of, bytes_of, text_of, holds, Making, CanMake}
 use Rattle.long_names.specs.Kept.{holds_at}
 use Rattle.long_names.specs.Thin.{IsWhole}
-use Rattle.long_names.specs.State.{IsRef, object_at, class_at}
-use Rattle.long_names.specs.Access.{Known, Class, KindOf, Length, Header, Field, SetField, Word, SetWord, Byte, SetByte, ReadWords, WriteWords, ReadBytes, Make, Pin, Mark, Say, is_held}
+use Rattle.long_names.specs.State.{IsRef, name_at, object_at, class_at}
+use Rattle.long_names.specs.Access.{Known, Class, KindOf, Length, Header, Field, SetField, Word, SetWord, Byte, SetByte, ReadWords, WriteWords, ReadBytes, Make, Pin, Mark, Say, Swap, IsUnpinned, is_held}
 use Rattle.long_names.proofs.ThinLemmas.{has, or_first, or_second}
 use Rattle.long_names.proofs.KeptLaws.{any_below-from, holding}
 use Rattle.object_memory.specs.Told.{Told, IsReady}
@@ -31,27 +31,31 @@ pub any_there : {A : Type 0} (t : Told) (r : ℕ) (f : Body → A) → IsReady t
 any_there t r f ready ref = record { name = ref; there = λ told. (let found = named t r (t.regs r) refl (ready.whole told) ref in (f found.0.body, ap (option_and_then (λ (o : Object). Some (f o.body))) found.1, tt)) }
 
 pub may_kind : (t : Told) (of : ℕ) → IsReady t → IsRef (t.regs of) → MayDo t (KindOf of)
-may_kind t of ready ref = record { heap = (any_there t of kind_of ready ref).there; names = ref; ranges = tt }
+may_kind t of ready ref = record { heap = (any_there t of kind_of ready ref).there; names = ref; slots = tt; ranges = tt }
 
 pub may_length : (t : Told) (of : ℕ) → IsReady t → IsRef (t.regs of) → MayDo t (Length of)
-may_length t of ready ref = record { heap = (any_there t of len_of ready ref).there; names = ref; ranges = tt }
+may_length t of ready ref = record { heap = (any_there t of len_of ready ref).there; names = ref; slots = tt; ranges = tt }
 
 pub may_pin : (t : Told) (slot of : ℕ) → IsReady t → IsRef (t.regs of) → MayDo t (Pin slot of)
-may_pin t slot of ready ref = record { heap = (any_there t of kind_of ready ref).there; names = ref; ranges = tt }
+may_pin t slot of ready ref = record { heap = (any_there t of kind_of ready ref).there; names = ref; slots = tt; ranges = tt }
 
 pub may_mark : (t : Told) (of : ℕ) → IsReady t → IsRef (t.regs of) → MayDo t (Mark of)
-may_mark t of ready ref = record { heap = (any_there t of kind_of ready ref).there; names = ref; ranges = tt }
+may_mark t of ready ref = record { heap = (any_there t of kind_of ready ref).there; names = ref; slots = tt; ranges = tt }
+
+-- two objects that no slot names
+pub may_swap : (t : Told) (a b : ℕ) → IsReady t → IsRef (t.regs a) → IsRef (t.regs b) → IsUnpinned t.slots (name_at (t.regs a)) → IsUnpinned t.slots (name_at (t.regs b)) → MayDo t (Swap a b)
+may_swap t a b ready first second one two = record { heap = λ told. ((any_there t a kind_of ready first).there told, (any_there t b kind_of ready second).there told); names = (first, second); slots = (one, two); ranges = tt }
 
 has_class : (t : Told) (r : ℕ) (v : Value) → t.regs r ≡ v → IsWhole t.heap t.regs t.slots → (class : ℕ) × (class_at t.heap v ≡ Some class)
 has_class t r (Int z) is whole = (SMALL_INTEGER, refl)
 has_class t r (Ref n) is whole = let found = has t.heap n (whole.rooted r n is) in (found.0.class, ap (option_and_then (λ (o : Object). Some o.class)) found.1)
 
 pub may_class : (t : Told) (to of : ℕ) → IsReady t → MayDo t (Class to of)
-may_class t to of ready = record { heap = λ told. has_class t of (t.regs of) refl (ready.whole told); names = tt; ranges = tt }
+may_class t to of ready = record { heap = λ told. has_class t of (t.regs of) refl (ready.whole told); names = tt; slots = tt; ranges = tt }
 
 -- a known object's name,
 pub may_known : (t : Told) (to name : ℕ) → IsReady t → is_known name ≡ true → MayDo t (Known to name)
-may_known t to name ready known = record { heap = λ told. ((ready.whole told).known name known, or_first (is_known name) (is_held t.heap name) known); names = tt; ranges = tt }
+may_known t to name ready known = record { heap = λ told. ((ready.whole told).known name known, or_first (is_known name) (is_held t.heap name) known); names = tt; slots = tt; ranges = tt }
 
 -- and one that an object holds
 pub may_known_held : (t : Told) (to name by : ℕ) (o : Object) → IsReady t → (IsTrue t.tells → t.heap.at by ≡ Some o) → holds o name ≡ true → MayDo t (Known to name)
@@ -61,11 +65,12 @@ may_known_held t to name by o ready at held = record {
       let here = at told in
       (whole.closed by o name here held, or_second (is_known name) (is_held t.heap name) (any_below-from t.heap.next (λ k. holds_at t.heap k name) by (whole.below by (ap is_some here)) (holding t.heap by name o here held)));
   names = tt;
+  slots = tt;
   ranges = tt;
 }
 
 pub may_make : (t : Told) (to class : ℕ) (what : Making) → IsRef (t.regs class) → CanMake what → MayDo t (Make to class what)
-may_make t to class what ref can = record { heap = λ told. tt; names = ref; ranges = can }
+may_make t to class what ref can = record { heap = λ told. tt; names = ref; slots = tt; ranges = can }
 
 -- ---- parts
 
@@ -105,20 +110,20 @@ literal_there t of i known = has_other t of literals_of (λ xs. i < length xs) (
 -- ---- accesses to parts
 
 pub may_field : (t : Told) (to of i : ℕ) → HasPartAt t of pointers_of (λ xs. i < length xs) → MayDo t (Field to of i)
-may_field t to of i known = record { heap = (field_there t of i known).there; names = known.name; ranges = tt }
+may_field t to of i known = record { heap = (field_there t of i known).there; names = known.name; slots = tt; ranges = tt }
 
 pub may_store : (t : Told) (of i from : ℕ) → HasPartAt t of pointers_of (λ xs. i < length xs) → MayDo t (SetField of i from)
-may_store t of i from known = record { heap = (field_there t of i known).there; names = known.name; ranges = tt }
+may_store t of i from known = record { heap = (field_there t of i known).there; names = known.name; slots = tt; ranges = tt }
 
 pub may_literal : (t : Told) (to of i : ℕ) → HasPartAt t of literals_of (λ xs. i < length xs) → MayDo t (Field to of i)
-may_literal t to of i known = record { heap = (literal_there t of i known).there; names = known.name; ranges = tt }
+may_literal t to of i known = record { heap = (literal_there t of i known).there; names = known.name; slots = tt; ranges = tt }
 
 pub may_store_literal : (t : Told) (of i from : ℕ) → HasPartAt t of literals_of (λ xs. i < length xs) → MayDo t (SetField of i from)
-may_store_literal t of i from known = record { heap = (literal_there t of i known).there; names = known.name; ranges = tt }
+may_store_literal t of i from known = record { heap = (literal_there t of i known).there; names = known.name; slots = tt; ranges = tt }
 
 -- of a method, whose literals were found
 pub may_header : (t : Told) (of : ℕ) (P : List Value → Type 0) → HasPartAt t of literals_of P → MayDo t (Header of)
-may_header t of P known = record { heap = (has_other t of literals_of P header_of (λ z. Unit {0}) each known).there; names = known.name; ranges = tt }
+may_header t of P known = record { heap = (has_other t of literals_of P header_of (λ z. Unit {0}) each known).there; names = known.name; slots = tt; ranges = tt }
   where
     each : (b : Body) (xs : List Value) → literals_of b ≡ Some xs → P xs → (z : ℤ) × (header_of b ≡ Some z) × Unit {0}
     each (Pointers values) xs e p = let no : ◌≡◌ {A = Option (List Value)} None (Some xs) = e in absurd (cc)
@@ -127,25 +132,25 @@ may_header t of P known = record { heap = (has_other t of literals_of P header_o
     each (Method header literals code) xs e p = (header, refl, tt)
 
 pub may_word : (t : Told) (of i : ℕ) → HasPartAt t of words_of (λ xs. i < length xs) → MayDo t (Word of i)
-may_word t of i known = record { heap = known.there; names = known.name; ranges = tt }
+may_word t of i known = record { heap = known.there; names = known.name; slots = tt; ranges = tt }
 
 pub may_set_word : (t : Told) (of i word : ℕ) → HasPartAt t of words_of (λ xs. i < length xs) → word < 2 ^ 16 → MayDo t (SetWord of i word)
-may_set_word t of i word known fits = record { heap = known.there; names = known.name; ranges = fits }
+may_set_word t of i word known fits = record { heap = known.there; names = known.name; slots = tt; ranges = fits }
 
 pub may_words : (t : Told) (of at count : ℕ) → HasPartAt t of words_of (λ xs. at + count ≤ length xs) → MayDo t (ReadWords of at count)
-may_words t of at count known = record { heap = known.there; names = known.name; ranges = tt }
+may_words t of at count known = record { heap = known.there; names = known.name; slots = tt; ranges = tt }
 
 pub may_set_words : (t : Told) (of at : ℕ) (run : List ℕ) → HasPartAt t of words_of (λ xs. at + length run ≤ length xs) → All (λ w. w < 2 ^ 16) run → MayDo t (WriteWords of at run)
-may_set_words t of at run known fits = record { heap = known.there; names = known.name; ranges = fits }
+may_set_words t of at run known fits = record { heap = known.there; names = known.name; slots = tt; ranges = fits }
 
 pub may_byte : (t : Told) (of i : ℕ) → HasPartAt t of bytes_of (λ xs. i < length xs) → MayDo t (Byte of i)
-may_byte t of i known = record { heap = known.there; names = known.name; ranges = tt }
+may_byte t of i known = record { heap = known.there; names = known.name; slots = tt; ranges = tt }
 
 pub may_set_byte : (t : Told) (of i byte : ℕ) → HasPartAt t of bytes_of (λ xs. i < length xs) → byte < 2 ^ 8 → MayDo t (SetByte of i byte)
-may_set_byte t of i byte known fits = record { heap = known.there; names = known.name; ranges = fits }
+may_set_byte t of i byte known fits = record { heap = known.there; names = known.name; slots = tt; ranges = fits }
 
 pub may_bytes : (t : Told) (of at count : ℕ) → HasPartAt t of bytes_of (λ xs. at + count ≤ length xs) → MayDo t (ReadBytes of at count)
-may_bytes t of at count known = record { heap = known.there; names = known.name; ranges = tt }
+may_bytes t of at count known = record { heap = known.there; names = known.name; slots = tt; ranges = tt }
 
 pub may_say : (t : Told) (of : ℕ) → HasPartAt t of text_of (λ xs. Unit {0}) → MayDo t (Say of)
-may_say t of known = record { heap = known.there; names = known.name; ranges = tt }
+may_say t of known = record { heap = known.there; names = known.name; slots = tt; ranges = tt }

@@ -1,5 +1,5 @@
 -- Laws of counting down the words of an object, and of the list of dead names.
-use Rattle.std.proofs.Common.{◌≡◌, ◌≢◌, ℕ, ℤ, ◌+◌, ◌*◌, ◌<◌, ◌≤◌, Bool, true, false, not, ◌&&◌, cond, eqb, List, [], ◌∷◌, ◌++◌, length, take, Option, Some, None, is_some, refl, sym, ◌∙◌, ap, ap₂, subst, arith, inl, inr, ⊎_elim, length-append, take_all}
+use Rattle.std.proofs.Common.{zero, suc, ◌≡◌, ◌≢◌, ℕ, ℤ, ◌+◌, ◌*◌, ◌<◌, ◌≤◌, nat_lt, Bool, true, false, not, ◌&&◌, ◌||◌, cond, eqb, List, [], ◌∷◌, ◌++◌, length, take, Option, Some, None, is_some, refl, sym, ◌∙◌, ap, ap₂, subst, arith, inl, inr, ⊎_elim, length-append, take_all}
 use Rattle.std.proofs.lemmas.Grind.{common_steps}
 use Rattle.std.proofs.lemmas.Bool.{cases_eq}
 use Rattle.std.proofs.lemmas.List.Elements.{All-push, All-pop, All-weaker, Contains-push, Contains-push_cases, Contains-append_left, filter_passes}
@@ -17,7 +17,7 @@ use Rattle.long_names.specs.declared.object.Object.{Object}
 use Rattle.long_names.specs.Names.{is_known}
 use Rattle.long_names.specs.Objects.{holdings, is_ref, fields_of, IsObject}
 use Rattle.long_names.specs.Heap.{Heap, Has, IsBounded, object_count, count_of, without}
-use Rattle.long_names.specs.Kept.{kept, no_roots}
+use Rattle.long_names.specs.Kept.{kept}
 use Rattle.long_names.proofs.ThinLemmas.{has}
 use Rattle.object_memory.specs.declared.plain.counts.Counts.{Counts}
 use Rattle.object_memory.specs.declared.plain.objects.Objects.{Objects}
@@ -25,7 +25,8 @@ use Rattle.object_memory.specs.Counts.{count_in}
 use Rattle.object_memory.specs.Plain.{heap_of}
 use Rattle.object_memory.specs.Worklist.{IsDead, Lists, IsFreeing, CountsDown}
 use Rattle.object_memory.proofs.WordLaws.{count_by-more, fields-few}
-use Rattle.long_names.proofs.FreeLaws.{without-here, without-part, without-none, count-without, object_count-without, kept-free, kept-counted}
+use Rattle.long_names.proofs.KeptLaws.{fixed-same, kept-same, left-by_count}
+use Rattle.long_names.proofs.FreeLaws.{without-here, without-part, without-none, count-without, object_count-without, kept-without}
 
 -- some words after others
 down-then : (f g : ℕ → ℕ) (i j : ℕ) (a b c : Counts) (xs ys zs : List ℕ) → CountsDown f i a xs b ys → CountsDown g j b ys c zs → CountsDown (λ q. f q + g q) (i + j) a xs c zs
@@ -124,8 +125,8 @@ tested-dead : (known : Bool) (count : ℕ) → (count ≡ 0) × (known ≡ false
 tested-dead known count dead = ap₂ (λ b n. not b && eqb n 0) dead.1 dead.0
 
 -- the names of a map that pass it are those to begin with
-pub freeing-start : (m : Objects) (counts : Counts) (dead : List ℕ) → ((q : ℕ) → count_in counts q ≡ count_of (heap_of m) q) → dead ≡ filter (is_dead counts) (keys m.objects) → IsFreeing (heap_of m) counts dead
-freeing-start m counts dead exact is = record {
+pub freeing-start : (out : ℕ → ℕ) (m : Objects) (counts : Counts) (dead : List ℕ) → ((q : ℕ) → count_in counts q ≡ out q + count_of (heap_of m) q) → dead ≡ filter (is_dead counts) (keys m.objects) → IsFreeing out (heap_of m) counts dead
+freeing-start out m counts dead exact is = record {
   exact = exact;
   sound = subst (λ ks. All (IsDead counts) ks) (sym is) (All-weaker (λ q. is_dead counts q ≡ true) (IsDead counts) (λ q e. dead-tested (is_known q) (count_in counts q) e) (filter (is_dead counts) (keys m.objects)) (filter_passes (is_dead counts) (keys m.objects)));
   complete = λ q there now. subst (λ ks. Contains ks q) (sym is) (Contains-filter (is_dead counts) q (keys m.objects) (tested-dead (is_known q) (count_in counts q) now) (key q (get nat_cmp m.objects q) refl there));
@@ -136,43 +137,66 @@ freeing-start m counts dead exact is = record {
     key q (Some o) e there = (btree_map_contains_key_iff nat_cmp_total exact_unsigned m.objects q).0 (subst IsSome (sym e) refl)
 
 -- the name that was taken off the list
-pub freeing-dead : (h : Heap) (counts : Counts) (was rest : List ℕ) (name : ℕ) → IsFreeing h counts was → was ≡ rest ++ name ∷ [] → IsDead counts name
-freeing-dead h counts was rest name f is = (All-pop (IsDead counts) was rest (Some name) is f.sound).1
+pub freeing-dead : (out : ℕ → ℕ) (h : Heap) (counts : Counts) (was rest : List ℕ) (name : ℕ) → IsFreeing out h counts was → was ≡ rest ++ name ∷ [] → IsDead counts name
+freeing-dead out h counts was rest name f is = (All-pop (IsDead counts) was rest (Some name) is f.sound).1
 
 -- what is left of the list has the dead names of what is left of the heap
-freeing-rest : (h : Heap) (counts : Counts) (was rest : List ℕ) (name q : ℕ) → IsFreeing h counts was → was ≡ rest ++ name ∷ [] → Has (without h name) q → Lists counts rest q
-freeing-rest h counts was rest name q f is there now =
+freeing-rest : (out : ℕ → ℕ) (h : Heap) (counts : Counts) (was rest : List ℕ) (name q : ℕ) → IsFreeing out h counts was → was ≡ rest ++ name ∷ [] → Has (without h name) q → Lists counts rest q
+freeing-rest out h counts was rest name q f is there now =
     let had = has (without h name) q there in
     let listed = f.complete q (ap is_some ((without-part h name).same q had.0 had.1)) now in
     elim (Contains-push_cases rest name q (subst (λ ks. Contains ks q) is listed)) [ inl rest ↦ rest | inr same ↦ absurd (let gone = without-here h name in let left : (without h name).at name ≡ Some had.0 = subst (λ k. (without h name).at k ≡ Some had.0) (sym same) had.1 in cc) ]
 
 -- without its object, and with its words counted down
-pub freeing-freed : (h : Heap) (a b : Counts) (was rest is : List ℕ) (name i : ℕ) (o : Object) → IsBounded h → IsFreeing h a was → was ≡ rest ++ name ∷ [] → h.at name ≡ Some o → CountsDown (holdings o) i a rest b is → IsFreeing (without h name) b is
-freeing-freed h a b was rest is name i o bounded f e there down = record {
+pub freeing-freed : (out : ℕ → ℕ) (h : Heap) (a b : Counts) (was rest is : List ℕ) (name i : ℕ) (o : Object) → IsBounded h → IsFreeing out h a was → was ≡ rest ++ name ∷ [] → h.at name ≡ Some o → CountsDown (holdings o) i a rest b is → IsFreeing out (without h name) b is
+freeing-freed out h a b was rest is name i o bounded f e there down = record {
   exact = λ q. let now = down.fewer q in let before = f.exact q in let left = count-without h name o q bounded there in omega arith;
   sound = down.sound (All-pop (IsDead a) was rest (Some name) e f.sound).0;
-  complete = λ q left. down.complete q (freeing-rest h a was rest name q f e left);
+  complete = λ q left. down.complete q (freeing-rest out h a was rest name q f e left);
 }
 
 -- a name without an object is passed over
-pub freeing-passed : (h : Heap) (counts : Counts) (was rest : List ℕ) (name : ℕ) → IsFreeing h counts was → was ≡ rest ++ name ∷ [] → h.at name ≡ None → IsFreeing (without h name) counts rest
-freeing-passed h counts was rest name f e none = record {
-  exact = λ q. f.exact q ∙ ap (λ g. count_of g q) (sym (without-none h name none));
+pub freeing-passed : (out : ℕ → ℕ) (h : Heap) (counts : Counts) (was rest : List ℕ) (name : ℕ) → IsFreeing out h counts was → was ≡ rest ++ name ∷ [] → h.at name ≡ None → IsFreeing out (without h name) counts rest
+freeing-passed out h counts was rest name f e none = record {
+  exact = λ q. f.exact q ∙ ap (λ g. out q + count_of g q) (sym (without-none h name none));
   sound = (All-pop (IsDead counts) was rest (Some name) e f.sound).0;
-  complete = λ q left. freeing-rest h counts was rest name q f e left;
+  complete = λ q left. freeing-rest out h counts was rest name q f e left;
 }
 
 -- the words that an object has are counted
-pub freeing-counted : (h : Heap) (counts : Counts) (was : List ℕ) (name : ℕ) (o : Object) → IsBounded h → IsFreeing h counts was → h.at name ≡ Some o → (q : ℕ) → holdings o q ≤ count_in counts q
-freeing-counted h counts was name o bounded f there q = let before = f.exact q in let left = count-without h name o q bounded there in omega arith
+pub freeing-counted : (out : ℕ → ℕ) (h : Heap) (counts : Counts) (was : List ℕ) (name : ℕ) (o : Object) → IsBounded h → IsFreeing out h counts was → h.at name ≡ Some o → (q : ℕ) → holdings o q ≤ count_in counts q
+freeing-counted out h counts was name o bounded f there q = let before = f.exact q in let left = count-without h name o q bounded there in omega arith
+
+-- names that words outside hold are roots
+abbrev pub roots_by : (ℕ → ℕ) → ℕ → Bool
+roots_by out q = nat_lt 0 (out q)
 
 -- what is kept is kept
-pub freeing-kept : (h : Heap) (counts : Counts) (was : List ℕ) (name : ℕ) → IsBounded h → IsFreeing h counts was → IsDead counts name → kept (without h name) no_roots ≡ kept h no_roots
-freeing-kept h counts was name bounded f dead = kept-free h name bounded (sym (f.exact name) ∙ dead.0) dead.1
+pub freeing-kept : (out : ℕ → ℕ) (h : Heap) (counts : Counts) (was : List ℕ) (name : ℕ) → IsBounded h → IsFreeing out h counts was → IsDead counts name → kept (without h name) (roots_by out) ≡ kept h (roots_by out)
+freeing-kept out h counts was name bounded f dead =
+    let exact = f.exact name in
+    let none = dead.0 in
+    let outside : out name ≡ 0 = omega arith in
+    let inside : count_of h name ≡ 0 = omega arith in
+    kept-without h (roots_by out) name bounded (left-by_count h (roots_by out) name ∙ ap₂ (λ x k. x || (nat_lt 0 k || nat_lt 0 (count_of h name))) dead.1 outside ∙ ap (nat_lt 0) inside)
 
 -- at the end all that is left is kept
-pub freeing-end : (h : Heap) (counts : Counts) (dead : List ℕ) → IsFreeing h counts dead → length dead ≡ 0 → kept h no_roots ≡ h
-freeing-end h counts dead f none = kept-counted h (λ q there uncounted unknown. let place = f.complete q there (f.exact q ∙ uncounted, unknown) in let low = place.1 in omega arith)
+pub freeing-end : (out : ℕ → ℕ) (h : Heap) (counts : Counts) (dead : List ℕ) → IsFreeing out h counts dead → length dead ≡ 0 → kept h (roots_by out) ≡ h
+freeing-end out h counts dead f none = kept-same h (roots_by out) (fixed-same h (roots_by out) (record { fixed = λ q there. left-by_count h (roots_by out) q ∙ go q there (is_known q) refl (out q) refl (count_of h q) refl }))
+  where
+    go : (q : ℕ) → Has h q → (x : Bool) → is_known q ≡ x → (i : ℕ) → out q ≡ i → (k : ℕ) → count_of h q ≡ k → (is_known q || (nat_lt 0 (out q) || nat_lt 0 (count_of h q))) ≡ true
+    go q there true e i f' k g = ap (λ x. x || (nat_lt 0 (out q) || nat_lt 0 (count_of h q))) e
+    go q there false e zero f' zero g =
+        let exact = f.exact q in
+        let place = f.complete q there ((let uncounted : count_in counts q ≡ 0 = omega arith in uncounted), e) in
+        let low = place.1 in
+        absurd (omega arith)
+    go q there false e (suc i) f' k g =
+        let some : nat_lt 0 (suc i) ≡ true = grind (arith, common_steps) in
+        ap₂ (λ x n. x || (nat_lt 0 n || nat_lt 0 (count_of h q))) e f' ∙ ap (λ b. b || nat_lt 0 (count_of h q)) some
+    go q there false e zero f' (suc k) g =
+        let some : nat_lt 0 (suc k) ≡ true = grind (arith, common_steps) in
+        ap₂ (λ x n. x || (nat_lt 0 n || nat_lt 0 (count_of h q))) e f' ∙ ap (nat_lt 0) g ∙ some
 
 -- a turn takes an object away, or shortens the list
 pub freeing-smaller : (h : Heap) (name before after : ℕ) → IsBounded h → after ≤ before + cond (is_some (h.at name)) 65536 0 → 65537 * object_count (without h name) + after < 65537 * object_count h + (before + 1)

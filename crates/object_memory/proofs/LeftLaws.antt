@@ -14,7 +14,7 @@ use Rattle.long_names.specs.declared.object.Kind.TheVariants as kind
 use Rattle.long_names.specs.Objects.{kind_of, len_of, fields_of, field_of, pointers_of, literals_of, words_of, bytes_of, put_run, with_field, with_words, with_bytes}
 use Rattle.long_names.specs.Heap.{Heap, put_object}
 use Rattle.long_names.specs.State.{IsRef, name_at, set_register, object_at, part_at}
-use Rattle.long_names.specs.Access.{Access, SetField, SetWord, SetByte, WriteWords, Pin, CanDo, target_of, filled_by, heap_after, with_body, brought}
+use Rattle.long_names.specs.Access.{Access, SetField, SetWord, SetByte, WriteWords, Pin, Swap, CanDo, target_of, filled_by, heap_after, with_body, brought}
 use Rattle.long_names.specs.Thin.{IsThinner, IsThinning}
 use Rattle.long_names.proofs.ThinLemmas.{has, IsThinner-trans}
 use Rattle.long_names.proofs.AccessLaws.{part-same, heap-thinner, whole-heap}
@@ -108,6 +108,7 @@ stored_heap h regs (SetField r i from) of s e = ap (λ q. with_body h (regs q) (
 stored_heap h regs (SetWord r i word) of s e = ap (λ q. with_body h (regs q) (λ b. with_words b i (word ∷ []))) (inside e)
 stored_heap h regs (SetByte r i byte) of s e = ap (λ q. with_body h (regs q) (λ b. with_bytes b i (byte ∷ []))) (inside e)
 stored_heap h regs (WriteWords r at run) of s e = ap (λ q. with_body h (regs q) (λ b. with_words b at run)) (inside e)
+stored_heap h regs (Swap p q) of s e = let no : ◌≡◌ {A = Option ℕ} None (Some of) = e in absurd (cc)
 stored_heap h regs _ of s e = let no : ◌≡◌ {A = Bool} false true = s in absurd (cc)
 
 -- the parts after any access, whose heap is thinner than what it makes
@@ -122,6 +123,7 @@ stored_regs old new (SetField r i from) s x = x.ok.regs
 stored_regs old new (SetWord r i word) s x = x.ok.regs
 stored_regs old new (SetByte r i byte) s x = x.ok.regs
 stored_regs old new (WriteWords r at run) s x = x.ok.regs
+stored_regs old new (Swap p q) s x = x.ok.regs
 stored_regs old new _ s x = let no : ◌≡◌ {A = Bool} false true = s in absurd (cc)
 
 part_stored : {A Z : Type 0} {z : Z} (old new : Told) (a : Access) (of r : ℕ) (f : Body → Option A) → stores a ≡ true → target_of a ≡ Some of → IsReady new → Called old new (Does a) (Ok z) → IsTrue old.tells → part_at new.heap (new.regs r) f ≡ part_at (with_body old.heap (old.regs of) (change_of old.regs a)) (old.regs r) f
@@ -225,6 +227,7 @@ sizes_changed h regs (SetField r i from) of s e can o at = sizes-with_field o.bo
 sizes_changed h regs (SetWord r i word) of s e can o at = sizes-with_words o.body i (word ∷ []) can.0 (of_object h (regs r) words_of can.0 o can.1 (ap (λ q. object_at h (regs q)) (inside e) ∙ at)) (let low = can.2 in omega arith)
 sizes_changed h regs (SetByte r i byte) of s e can o at = sizes-with_bytes o.body i (byte ∷ []) can.0 (of_object h (regs r) bytes_of can.0 o can.1 (ap (λ q. object_at h (regs q)) (inside e) ∙ at)) (let low = can.2 in omega arith)
 sizes_changed h regs (WriteWords r at run) of s e can o is = sizes-with_words o.body at run can.0 (of_object h (regs r) words_of can.0 o can.1 (ap (λ q. object_at h (regs q)) (inside e) ∙ is)) can.2
+sizes_changed h regs (Swap p q) of s e can o at = let no : ◌≡◌ {A = Option ℕ} None (Some of) = e in absurd (cc)
 sizes_changed h regs _ of s e can o at = let no : ◌≡◌ {A = Bool} false true = s in absurd (cc)
 
 -- so a part that these tell stays in every object,

@@ -11,12 +11,12 @@ use Rattle.long_names.specs.declared.object.Body.{Body}
 use Rattle.long_names.specs.declared.object.Object.{Object}
 use Rattle.long_names.specs.Heap.{Heap}
 use Rattle.long_names.specs.State.{IsRef, set_register, object_at, part_at, HasPart}
-use Rattle.long_names.specs.Access.{Access, Known, Class, KindOf, Field, SetField, SetWord, SetByte, WriteWords, Make, Pin, Mark, Say, filled_by}
+use Rattle.long_names.specs.Access.{Access, Known, Class, KindOf, Field, SetField, SetWord, SetByte, WriteWords, Make, Pin, Mark, Say, Swap, filled_by}
 use Rattle.long_names.specs.Thin.{IsThinning}
 use Rattle.long_names.proofs.ThinLemmas.{both, IsThinner-refl, IsThinner-trans}
 use Rattle.long_names.proofs.AccessLaws.{object-same}
 use Rattle.object_memory.specs.Told.{Told, IsReady}
-use Rattle.object_memory.specs.Contract.{Does, Called}
+use Rattle.object_memory.specs.Contract.{Does, Called, no_names}
 use Rattle.object_memory.proofs.LaterLaws.{SameBounds-refl, IsLater-refl, IsLater-trans, Raised-refl, Raised-then, LeavesCache-refl, store_then}
 use Rattle.object_memory.specs.Shape.{HasPartAt, IsPartAt, IsTestAt, is_among, Looks, ReadsObject}
 
@@ -32,6 +32,7 @@ only_looks (Make to class what) = false
 only_looks (Pin slot of) = false
 only_looks (Mark of) = false
 only_looks (Say of) = false
+only_looks (Swap a b) = false
 only_looks _ = true
 
 -- the registers that it fills
@@ -92,7 +93,7 @@ Looks-trans xs ys a b c ready x y = record {
   slots = y.slots ∙ x.slots;
   transcript = λ speaks. y.transcript (x.later.speaks ∙ speaks) ∙ x.transcript speaks;
   heap = λ told. (let now = x.later.tells ∙ told in IsThinner-trans a.heap b.heap c.heap (x.heap told) (y.heap now) (ready.whole now).closed);
-  cache = store_then None a.cache b.cache c.cache x.cache y.cache;
+  cache = store_then no_names a.cache b.cache c.cache x.cache y.cache;
   counts = Raised-then 0 0 a.bounds b.bounds c.bounds x.counts y.counts;
   refusals = y.refusals ∙ x.refusals;
   last = y.last ∙ x.last;
@@ -115,6 +116,7 @@ Looks-access old new (Make to class what) e f = let no : ◌≡◌ {A = Bool} fa
 Looks-access old new (Pin slot of) e f = let no : ◌≡◌ {A = Bool} false true = e in cc
 Looks-access old new (Mark of) e f = let no : ◌≡◌ {A = Bool} false true = e in cc
 Looks-access old new (Say of) e f = let no : ◌≡◌ {A = Bool} false true = e in cc
+Looks-access old new (Swap a b) e f = let no : ◌≡◌ {A = Bool} false true = e in cc
 Looks-access old new _ e f = record { later = f.later; regs = λ r e. ap (λ (g : ℕ → Value). g r) f.ok.regs; slots = f.ok.slots; transcript = f.ok.transcript; heap = f.ok.heap; cache = f.ok.cache; counts = f.ok.counts; refusals = f.ok.refusals; last = f.ok.last }
 
 -- calls that asked what an object is, and were answered

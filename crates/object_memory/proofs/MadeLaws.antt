@@ -12,7 +12,7 @@ use Rattle.long_names.specs.Names.{NIL}
 use Rattle.long_names.specs.Objects.{pointers_of, words_of, bytes_of, Making, OfPointers, OfWords, OfBytes, body_made}
 use Rattle.long_names.specs.Heap.{add_object}
 use Rattle.long_names.specs.State.{IsRef, name_at, part_at}
-use Rattle.long_names.specs.Access.{Access, SetField, SetWord, SetByte, WriteWords, Make, heap_after}
+use Rattle.long_names.specs.Access.{Access, SetField, SetWord, SetByte, WriteWords, Make, Swap, heap_after}
 use Rattle.long_names.proofs.ThinLemmas.{has}
 use Rattle.object_memory.specs.Told.{Told, IsReady}
 use Rattle.object_memory.specs.Contract.{Does, Called, MayDo, stores}
@@ -84,6 +84,7 @@ part_left {A} old new (SetField of i from) r f s apart before ready x told = let
 part_left {A} old new (SetWord of i word) r f s apart before ready x told = let no : ◌≡◌ {A = Bool} true false = s in cc
 part_left {A} old new (SetByte of i byte) r f s apart before ready x told = let no : ◌≡◌ {A = Bool} true false = s in cc
 part_left {A} old new (WriteWords of at run) r f s apart before ready x told = let no : ◌≡◌ {A = Bool} true false = s in cc
+part_left {A} old new (Swap p q) r f s apart before ready x told = let no : ◌≡◌ {A = Bool} true false = s in cc
 part_left {A} old new a r f s apart before ready x told = part_after old new a r f ready x told ∙ ap (λ (v : Value). part_at old.heap v f) (regs_left old new a r x apart)
 
 pub has_left : {A Z : Type 0} {z : Z} (old new : Told) (a : Access) (r : ℕ) (f : Body → Option A) (P : A → Type 0) → stores a ≡ false → is_among (registers_of a) r ≡ false → IsReady old → IsReady new → Called old new (Does a) (Ok z) → HasPartAt old r f P → HasPartAt new r f P

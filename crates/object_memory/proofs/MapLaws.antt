@@ -1,5 +1,5 @@
 -- Maps of objects, and what changes in them.
-use Rattle.std.proofs.Common.{◌≡◌, ◌≢◌, ℕ, ◌+◌, ◌<◌, ◌≤◌, ◌%◌, Bool, true, false, cond, eqb, ◌^◌, List, ◌++◌, length, Option, Some, None, is_some, Result, Ok, Err, OnOk, OnErr, refl, sym, ◌∙◌, ap, subst, arith, ◌⊎◌, inl, inr, ⊎_elim, Bor, get_or, take, drop, length-append, length-take, length-drop}
+use Rattle.std.proofs.Common.{zero, suc, ap₂, ◌∷◌, [], ◌≡◌, ◌≢◌, ℕ, ◌+◌, ◌<◌, ◌≤◌, ◌%◌, Bool, true, false, cond, eqb, ◌^◌, List, ◌++◌, length, Option, Some, None, is_some, Result, Ok, Err, OnOk, OnErr, refl, sym, ◌∙◌, ap, subst, arith, ◌⊎◌, inl, inr, ⊎_elim, Bor, get_or, take, drop, length-append, length-take, length-drop}
 use Rattle.std.proofs.lemmas.Grind.{common_steps}
 use Rattle.std.proofs.lemmas.Bool.{cases_eq}
 use Rattle.std.proofs.lemmas.List.{get_or_default}
@@ -14,7 +14,8 @@ use Rattle.std.specs.Map.{lookup, keys_of, count_at}
 use Rattle.std.specs.BTreeMap.{BTreeMap, is_at, get, IsOrdered, IsUnchanged, Updates, WritesThrough}
 use Rattle.long_names.specs.Words.{IsValue}
 use Rattle.long_names.specs.Objects.{IsBody, HasRange, with_field, with_words, with_bytes, words_of, bytes_of, put_run, IsObject}
-use Rattle.long_names.specs.Heap.{Heap, IsBounded, put_object}
+use Rattle.long_names.specs.Heap.{Heap, IsBounded, put_object, swap_objects, objects_below, object_count}
+use Rattle.long_names.proofs.ThinLemmas.{swap_at}
 use Rattle.long_names.specs.Access.{with_body}
 use Rattle.long_names.specs.declared.value.Value.{Value}
 use Rattle.long_names.specs.declared.value.Value.TheVariants.{Ref}
@@ -25,7 +26,7 @@ use Rattle.object_memory.specs.declared.plain.objects.Objects.{Objects}
 use Rattle.object_memory.specs.Plain.{heap_of}
 use Rattle.object_memory.specs.Stored.{IsStored}
 use Rattle.long_names.specs.Names.{IsLongName}
-use Rattle.object_memory.proofs.Entries.{entries, entries-found, map-rises, map-below}
+use Rattle.object_memory.proofs.Entries.{entries, entries_below, entry_at, entries-found, length-le, map-rises, map-below}
 use Rattle.long_names.proofs.FreeLaws.{without-part}
 
 -- the entries of a map's heap are the map's
@@ -198,3 +199,38 @@ small-insert (Err e) m n name count ok err small fits q =
     let is = ap (λ es. unwrap_or (lookup (is_at (nat_cmp q)) es) 0) err in
     let old = small q in
     omega arith
+
+-- ---- two objects in each other's place
+
+-- two objects that were put one after the other, with a blank in the first's place meanwhile
+pub exchanged : (h : Heap) (a b : ℕ) (blank o p : Object) → a ≢ b → h.at a ≡ Some o → (put_object h a blank).at b ≡ Some p → put_object (put_object (put_object h a blank) b o) a p ≡ swap_objects h a b
+exchanged h a b blank o p apart e f =
+    ap (λ (g : ℕ → Option Object). let x : Heap = record { at = g; next = h.next } in x) (fun_ext (λ q. at q (eqb q a) (eqb q b) refl refl))
+    ∙ ap₂ (λ x y. swap_at h a b x y) (sym e) (sym there)
+  where
+    there : h.at b ≡ Some p
+    there = let other : eqb b a ≡ false = grind (arith, common_steps) in sym (ap (λ x. cond x (Some blank) (h.at b)) other) ∙ f
+
+    at : (q : ℕ) (x y : Bool) → eqb q a ≡ x → eqb q b ≡ y → cond x (Some p) (cond y (Some o) (cond x (Some blank) (h.at q))) ≡ cond y (Some o) (cond x (Some p) (h.at q))
+    at q true true i j = let one : q ≡ a = grind (arith, common_steps, i) in let two : q ≡ b = grind (arith, common_steps, j) in absurd (apart (sym one ∙ two))
+    at q true false i j = refl
+    at q false y i j = refl
+
+-- ---- how many objects
+
+entries-counted : (h : Heap) (n : ℕ) → length (entries_below h.at n) ≡ objects_below h n
+entries-counted h zero = refl
+entries-counted h (suc n) = length-append (entries_below h.at n) (entry_at h.at n) ∙ ap₂ (λ i k. i + k) (entries-counted h n) (one (h.at n))
+  where
+    one : (x : Option Object) → length (option_map_or (λ o. let e : ℕ × Object = (n, o) in e ∷ []) x []) ≡ cond (is_some x) 1 0
+    one None = refl
+    one (Some o) = refl
+
+-- a map has as many entries as its heap has objects,
+pub map-counted : (m : Objects) → length m.objects.entries ≡ object_count (heap_of m)
+unfolding object_count
+map-counted m = ap length (sym (heap-entries m)) ∙ entries-counted (heap_of m) m.next
+
+-- at most as many as there are names
+pub map-few : (m : Objects) → length m.objects.entries ≤ m.next
+map-few m = length-le m.next 0 m.objects.entries (map-rises m.objects m.stored.ordered) (map-below m.objects m.next m.stored.ordered m.stored.below)

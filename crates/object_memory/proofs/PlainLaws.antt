@@ -8,17 +8,18 @@ use Rattle.long_names.specs.declared.value.Value.{Value}
 use Rattle.long_names.specs.declared.value.Value.TheVariants.{Int, Ref}
 use Rattle.long_names.specs.declared.object.Body.{Body}
 use Rattle.long_names.specs.declared.object.Object.{Object}
-use Rattle.long_names.specs.Objects.{name_of, int_of, Making, body_made}
+use Rattle.long_names.specs.Objects.{name_of, int_of, is_ref, Making, body_made}
 use Rattle.long_names.specs.Heap.{Heap, Has, put_object}
-use Rattle.long_names.specs.Access.{Access, Known, Class, KindOf, Length, Header, Field, SetField, Word, SetWord, Byte, SetByte, ReadWords, WriteWords, ReadBytes, Make, Pin, Mark, Say, Answer, Nothing, CanDo, with_body, heap_after, regs_after, slots_after, brought, answer_of}
+use Rattle.long_names.specs.Access.{Access, Known, Class, KindOf, Length, Header, Field, SetField, Word, SetWord, Byte, SetByte, ReadWords, WriteWords, ReadBytes, Make, Pin, Mark, Say, Swap, Answer, Nothing, CanDo, with_body, with_swapped, heap_after, regs_after, slots_after, brought, answer_of}
 use Rattle.long_names.specs.declared.limits.TheConstants.{LAST_NAME}
 use Rattle.long_names.specs.State.{IsRef, name_at, set_register, set_slot, class_at}
-use Rattle.long_names.proofs.ThinLemmas.{IsThinner-refl, IsWhole-set, IsWhole-pin, has_put}
+use Rattle.long_names.proofs.ThinLemmas.{IsThinner-refl, IsWhole-set, IsWhole-pin, has_put, swap_at}
 use Rattle.long_names.proofs.AccessLaws.{regs_of, whole-after}
 use Rattle.object_memory.specs.declared.fault.MemFault.{MemFault}
 use Rattle.object_memory.specs.declared.fault.MemFault.TheVariants.{CoreFull, WorkFull, WorkFault, Damaged, NamesSpent, Said, Memory}
 use Rattle.object_memory.specs.Told.{Told, Cache, Bounds, IsReady}
-use Rattle.object_memory.specs.Contract.{Does, SameBounds, Raised, makes, came, CacheAfter, SaysBy, SaysRefused, Counts, NoBounds, IsMaking, TakesMemory, IfBounds, HasCore, Accessed, LeavesCache, with_mark, KeepsSound, LeavesAll}
+use Rattle.object_memory.specs.Contract.{Does, SameBounds, Raised, makes, came, CacheAfter, SaysBy, SaysRefused, Counts, NoBounds, IsMaking, TakesMemory, IfBounds, HasCore, Accessed, LeavesCache, no_names, with_mark, KeepsSound, LeavesAll}
+use Rattle.object_memory.proofs.LaterLaws.{store_both}
 use Rattle.object_memory.specs.Plain.{refused, made}
 
 SameBounds-none : (b : Option Bounds) → b ≡ None → SameBounds b b
@@ -42,7 +43,7 @@ keeps (Ok x) P p = p
 keeps (Err f) P p = leaves f P p
 
 -- all marks and rows stay
-pub kept_cache : (c : Cache) → LeavesCache None None c c c
+pub kept_cache : (c : Cache) → LeavesCache no_names None c c c
 kept_cache c = inl record { marks = refl; path = refl; rows = λ a b d e. e; untouched = λ n e. (cc) }
 
 -- what is told after an access, with this transcript and cache
@@ -86,6 +87,7 @@ came-is h regs (ReadBytes of at count) can = refl
 came-is h regs (Pin slot of) can = refl
 came-is h regs (Mark of) can = refl
 came-is h regs (Say of) can = refl
+came-is h regs (Swap p q) can = refl
 
 has-body : (h : Heap) (v : Value) (change : Body → Body) (n : ℕ) → Has h n → Has (with_body h v change) n
 has-body h (Int z) change n there = there
@@ -95,6 +97,16 @@ has-body h (Ref k) change n there = go (h.at k)
     go None = there
     go (Some o) = has_put h k (record { class = o.class; body = change o.body }) h.next n there
 
+has-swapped : (h : Heap) (v w : Value) (n : ℕ) → Has h n → Has (with_swapped h v w) n
+has-swapped h (Int z) w n there = there
+has-swapped h (Ref j) (Int z) n there = there
+has-swapped h (Ref j) (Ref k) n there = go (h.at j) (h.at k)
+  where
+    go : (x y : Option Object) → Has (swap_at h j k x y) n
+    go None y = there
+    go (Some o) None = there
+    go (Some o) (Some p) = has_put (put_object h j p) k o h.next n (has_put h j p h.next n there)
+
 -- no access takes an object away
 has-after : (h : Heap) (regs : ℕ → Value) (a : Access) (n : ℕ) → Has h n → Has (heap_after h regs a) n
 has-after h regs (SetField of i from) n there = has-body h (regs of) _ n there
@@ -102,6 +114,7 @@ has-after h regs (SetWord of i word) n there = has-body h (regs of) _ n there
 has-after h regs (SetByte of i byte) n there = has-body h (regs of) _ n there
 has-after h regs (WriteWords of at run) n there = has-body h (regs of) _ n there
 has-after h regs (Make to class what) n there = has_put h h.next _ (h.next + 2) n there
+has-after h regs (Swap p q) n there = has-swapped h (regs p) (regs q) n there
 has-after h regs _ n there = there
 
 Counts-none : (a : Access) (b : Option Bounds) → b ≡ None → Counts (Does a) b b
@@ -122,6 +135,7 @@ answered {A} t a x c spell r bare told can cache says answer named =
           heap = λ _. IsThinner-refl (heap_after t.heap t.regs a);
           cache = cache;
           counts = Counts-none a t.bounds bare;
+          base = tt;
           refusals = refl;
           last = refl;
         };
@@ -210,8 +224,12 @@ pub makes-none : (h : Heap) → 1 ≤ 0 → h.next < LAST_NAME
 makes-none h low = absurd (omega arith)
 
 -- marks and rows after a store into the object that a value names
-pub touched-is : (v : Value) (n : ℕ) (before after : Cache) → v ≡ Ref n → LeavesCache (Some n) None before before after → LeavesCache (name_of v) None before before after
-touched-is v n before after e leaves = subst (λ x. LeavesCache (name_of x) None before before after) (sym e) leaves
+pub touched-is : (v : Value) (n : ℕ) (before after : Cache) → v ≡ Ref n → LeavesCache (λ k. is_ref k (Ref n)) None before before after → LeavesCache (λ k. is_ref k v) None before before after
+touched-is v n before after e leaves = subst (λ x. LeavesCache (λ k. is_ref k x) None before before after) (sym e) leaves
+
+-- and into the objects of two
+pub touched-both : (v w : Value) (n k : ℕ) (before between after : Cache) → v ≡ Ref n → w ≡ Ref k → LeavesCache (λ q. is_ref q (Ref n)) None before before between → LeavesCache (λ q. is_ref q (Ref k)) None between between after → LeavesCache (λ q. is_ref q v || is_ref q w) None before before after
+touched-both v w n k before between after e f first second = store_both (λ q. is_ref q v) (λ q. is_ref q w) before between after (touched-is v n before between e first) (touched-is w k between after f second)
 
 -- what a making leaves, whose body is this one where there was memory for it
 pub made-is : (t u : Told) (to class : ℕ) (body : Result Body AllocError) (b : Body) (r : Result (Unit {0}) MemFault) → OnOk r (IsOkAnd body (λ x. u ≡ made t to (record { class = class; body = x }))) → IfOk body (λ x. x ≡ b) → OnOk r (u ≡ made t to (record { class = class; body = b }))
@@ -247,8 +265,8 @@ marked-there t r n k ready told e is = go (eqb k n) refl is
     go false f is = ready.marked told k is
 
 -- marks and rows after a mark
-pub marks-are : (t : Told) (v : Value) (n : ℕ) (now : Cache) → v ≡ Ref n → now ≡ with_mark t.cache (Some n) → LeavesCache None (name_of v) t.cache (with_mark t.cache (name_of v)) now
-marks-are t v n now e is = subst₂ (λ w k. LeavesCache None (name_of w) t.cache (with_mark t.cache (name_of w)) k) (sym e) (sym is) (inl record { marks = refl; path = refl; rows = λ a b d e. e; untouched = λ k e. (cc) })
+pub marks-are : (t : Told) (v : Value) (n : ℕ) (now : Cache) → v ≡ Ref n → now ≡ with_mark t.cache (Some n) → LeavesCache no_names (name_of v) t.cache (with_mark t.cache (name_of v)) now
+marks-are t v n now e is = subst₂ (λ w k. LeavesCache no_names (name_of w) t.cache (with_mark t.cache (name_of w)) k) (sym e) (sym is) (inl record { marks = refl; path = refl; rows = λ a b d e. e; untouched = λ k e. (cc) })
 
 -- the name is marked
 pub mark-here : (c : Cache) (v : Value) (n : ℕ) (now : Cache) → v ≡ Ref n → now ≡ with_mark c (Some n) → now.marks (name_at v) ≡ true

@@ -11,17 +11,17 @@ use Rattle.long_names.specs.Objects.{is_ref, kind_of}
 use Rattle.long_names.specs.Heap.{Heap, Has, object_count}
 use Rattle.long_names.specs.Kept.{any_below, kept}
 use Rattle.long_names.specs.State.{IsRef, REGISTERS, SLOTS}
-use Rattle.long_names.specs.Access.{Access, KindOf, Length, Header, Word, Byte, ReadWords, ReadBytes, Say, CanDo, object_of, OfKind, made_by, with_made, said_by}
+use Rattle.long_names.specs.Access.{Access, KindOf, Length, Header, Word, Byte, ReadWords, ReadBytes, Say, Swap, CanDo, object_of, other_object_of, OfKind, made_by, with_made, said_by}
 use Rattle.long_names.specs.Need.{words_of_row, entries_of_row, is_pinned, words_named}
 use Rattle.long_names.specs.Thin.{IsThinning}
 use Rattle.long_names.proofs.ThinLemmas.{IsThinner-trans, IsWhole-bounded, or_cases}
 use Rattle.long_names.proofs.KeptLaws.{any_below-at, kept-thinning}
-use Rattle.long_names.proofs.AccessLaws.{object_of-same, words-same, entries-same, said-same}
+use Rattle.long_names.proofs.AccessLaws.{object_of-same, words-same, entries-same, other_object_of-same, other_words-same, other_entries-same, said-same}
 use Rattle.object_memory.specs.declared.fault.Need.{Need}
 use Rattle.object_memory.specs.declared.fault.MemFault.{MemFault}
 use Rattle.object_memory.specs.declared.fault.MemFault.TheVariants.{CoreFull, WorkFull, WorkFault, Damaged, NamesSpent, Said, Memory}
 use Rattle.object_memory.specs.Told.{Told, Bounds, IsReady, is_root}
-use Rattle.object_memory.specs.Contract.{Does, ForBounds, SameBounds, Raised, Lives, HasCause, IsMaking, IsSaying, TakesMemory, work_faults, said_faults, need_of_access, SaysRefused, LeavesAll, IsLeft, Refuses, Follows, Called, Accessed, IfBounds, HasCore}
+use Rattle.object_memory.specs.Contract.{Does, ForBounds, SameBounds, Raised, Lives, HasCause, IsMaking, IsSaying, TakesMemory, work_faults, said_faults, need_of_access, need_of_other, IsNeedOf, no_names, SaysRefused, LeavesAll, IsLeft, Refuses, Follows, Called, Accessed, IfBounds, HasCore}
 use Rattle.object_memory.specs.Shape.{Looks, ReadsObject}
 use Rattle.object_memory.proofs.Callers.{any_there}
 use Rattle.object_memory.proofs.LaterLaws.{IsLater-refl, IsLater-trans, Raised-then, store_then}
@@ -60,6 +60,23 @@ need_after a b x ready l told can =
     let thin = thin_after a b ready l told in
     let same : need_at a.heap b.regs b.slots x ≡ need_at b.heap b.regs b.slots x = needs_same _ _ _ _ _ _ (object_of-same a.heap b.heap b.regs (l.heap told) x) (words-same a.heap b.heap b.regs b.slots thin x can) (entries-same a.heap b.heap b.regs b.slots thin x) in
     sym same ∙ ap (λ (regs : ℕ → Value). need_at a.heap regs b.slots x) (regs_looked a b l) ∙ ap (λ (slots : ℕ → Option ℕ). need_at a.heap a.regs slots x) l.slots
+
+-- the need of its other row
+other_at : Heap → (ℕ → Value) → (ℕ → Option ℕ) → Access → Need
+other_at h regs slots x = record { object = other_object_of h regs x; words = words_of_row (with_made h (made_by regs x)) (record { object = other_object_of h regs x; slots = slots }); entries = entries_of_row (with_made h (made_by regs x)) (record { object = other_object_of h regs x; slots = slots }) }
+
+other_after : (a b : Told) (x : Access) → IsReady b → Looks [] a b → IsTrue a.tells → CanDo b.heap b.regs x → need_of_other b x ≡ need_of_other a x
+unfolding need_of other_at
+other_after a b x ready l told can =
+    let thin = thin_after a b ready l told in
+    let same : other_at a.heap b.regs b.slots x ≡ other_at b.heap b.regs b.slots x = needs_same _ _ _ _ _ _ (other_object_of-same a.heap b.heap b.regs (l.heap told) x) (other_words-same a.heap b.heap b.regs b.slots thin x can) (other_entries-same a.heap b.heap b.regs b.slots thin x) in
+    sym same ∙ ap (λ (regs : ℕ → Value). other_at a.heap regs b.slots x) (regs_looked a b l) ∙ ap (λ (slots : ℕ → Option ℕ). other_at a.heap a.regs slots x) l.slots
+
+-- the need of one of its rows is as before the reads
+is_need_after : (a b : Told) (x : Access) (need : Need) → IsReady b → Looks [] a b → IsTrue a.tells → CanDo b.heap b.regs x → IsNeedOf b x need → IsNeedOf a x need
+is_need_after a b (Swap p q) need ready l told can (inl e) = inl (e ∙ need_after a b (Swap p q) ready l told can)
+is_need_after a b (Swap p q) need ready l told can (inr e) = inr (e ∙ other_after a b (Swap p q) ready l told can)
+is_need_after a b x need ready l told can e = e ∙ need_after a b x ready l told can
 
 -- roots, by registers and slots
 abbrev pub root_of : (ℕ → Value) → (ℕ → Option ℕ) → ℕ → Bool
@@ -109,7 +126,7 @@ said_up (Some x) None same = absurd same
 said_up (Some x) (Some y) same = same.4
 
 cause_after : (a b c : Told) (x : Access) (f : MemFault) → IsReady a → IsReady b → (IsTrue b.tells → CanDo b.heap b.regs x) → Looks [] a b → HasCause b c (Does x) f → HasCause a c (Does x) f
-cause_after a b c x (CoreFull need) before ready can l cause = (cause.0, λ told. (let now = l.later.tells ∙ told in cause.1 now ∙ need_after a b x ready l told (can now)))
+cause_after a b c x (CoreFull need) before ready can l cause = (cause.0, λ told. (let now = l.later.tells ∙ told in is_need_after a b x need ready l told (can now) (cause.1 now)))
 cause_after a b c x (WorkFull live room) before ready can l cause = (cause.0, lives_after a b live before ready l a.bounds b.bounds l.counts cause.1, cause.2)
 cause_after a b c x (WorkFault count) before ready can l cause = (cause.0, rose_after work_faults work_up a.bounds b.bounds c.bounds l.later.bounds cause.1)
 cause_after a b c x (Damaged place name) before ready can l cause = λ told. cause (l.later.tells ∙ told)
@@ -156,7 +173,7 @@ left_after a b c ready l left = record {
   slots = left.slots ∙ l.slots;
   heap = λ told. (let now = l.later.tells ∙ told in IsThinner-trans a.heap b.heap c.heap (l.heap told) (left.heap now) (ready.whole now).closed);
   ready = left.ready;
-  cache = store_then None a.cache b.cache c.cache l.cache left.cache;
+  cache = store_then no_names a.cache b.cache c.cache l.cache left.cache;
 }
 
 -- ---- the laws
@@ -175,11 +192,11 @@ refused_after a b c x f before ready can l r = record {
 
 -- What only reads the object of a register is answered as a call that asks for its kind,
 pub answered_as_kind : (old new : Told) (of : ℕ) → Looks [] old new → Follows old new (Does (KindOf of))
-answered_as_kind old new of l = record { regs = regs_looked old new l; brings = λ told. refl; slots = l.slots; transcript = l.transcript; heap = l.heap; cache = l.cache; counts = l.counts; refusals = l.refusals; last = l.last }
+answered_as_kind old new of l = record { regs = regs_looked old new l; brings = λ told. refl; slots = l.slots; transcript = l.transcript; heap = l.heap; cache = l.cache; counts = l.counts; base = tt; refusals = l.refusals; last = l.last }
 
 -- the cause of a read, whose need is that of asking for the kind
-cause_as_kind : (old new : Told) (a : Access) (of : ℕ) (f : MemFault) → need_of_access old a ≡ need_of_access old (KindOf of) → (IsMaking (Does a) → ⊥) → (IsSaying (Does a) → ⊥) → (TakesMemory (Does a) → ⊥) → HasCause old new (Does a) f → HasCause old new (Does (KindOf of)) f
-cause_as_kind old new a of (CoreFull need) same making saying takes cause = (cause.0, λ told. cause.1 told ∙ same)
+cause_as_kind : (old new : Told) (a : Access) (of : ℕ) (f : MemFault) → ((need : Need) → IsNeedOf old a need → need ≡ need_of_access old (KindOf of)) → (IsMaking (Does a) → ⊥) → (IsSaying (Does a) → ⊥) → (TakesMemory (Does a) → ⊥) → HasCause old new (Does a) f → HasCause old new (Does (KindOf of)) f
+cause_as_kind old new a of (CoreFull need) same making saying takes cause = (cause.0, λ told. same need (cause.1 told))
 cause_as_kind old new a of (WorkFull live room) same making saying takes cause = absurd (making cause.2)
 cause_as_kind old new a of (WorkFault count) same making saying takes cause = cause
 cause_as_kind old new a of (Damaged place name) same making saying takes cause = cause
@@ -194,13 +211,13 @@ none : 1 ≤ 0 → ⊥
 none low = absurd (omega arith)
 
 pub refused_as_kind : (old new : Told) (a : Access) (of : ℕ) (f : MemFault) → only_reads a ≡ Some of → Refuses old new (Does a) f → Refuses old new (Does (KindOf of)) f
-refused_as_kind old new (KindOf r) of f e x = subst (λ q. Refuses old new (Does (KindOf q)) f) (inside e) (record { rose = x.rose; last = x.last; cause = cause_as_kind old new (KindOf r) r f refl none (λ s. s) (λ s. s) x.cause; spent = x.spent; counts = x.counts; transcript = x.transcript; left = x.left })
-refused_as_kind old new (Length r) of f e x = subst (λ q. Refuses old new (Does (KindOf q)) f) (inside e) (record { rose = x.rose; last = x.last; cause = cause_as_kind old new (Length r) r f refl none (λ s. s) (λ s. s) x.cause; spent = x.spent; counts = x.counts; transcript = x.transcript; left = x.left })
-refused_as_kind old new (Header r) of f e x = subst (λ q. Refuses old new (Does (KindOf q)) f) (inside e) (record { rose = x.rose; last = x.last; cause = cause_as_kind old new (Header r) r f refl none (λ s. s) (λ s. s) x.cause; spent = x.spent; counts = x.counts; transcript = x.transcript; left = x.left })
-refused_as_kind old new (Word r i) of f e x = subst (λ q. Refuses old new (Does (KindOf q)) f) (inside e) (record { rose = x.rose; last = x.last; cause = cause_as_kind old new (Word r i) r f refl none (λ s. s) (λ s. s) x.cause; spent = x.spent; counts = x.counts; transcript = x.transcript; left = x.left })
-refused_as_kind old new (Byte r i) of f e x = subst (λ q. Refuses old new (Does (KindOf q)) f) (inside e) (record { rose = x.rose; last = x.last; cause = cause_as_kind old new (Byte r i) r f refl none (λ s. s) (λ s. s) x.cause; spent = x.spent; counts = x.counts; transcript = x.transcript; left = x.left })
-refused_as_kind old new (ReadWords r at count) of f e x = subst (λ q. Refuses old new (Does (KindOf q)) f) (inside e) (record { rose = x.rose; last = x.last; cause = cause_as_kind old new (ReadWords r at count) r f refl none (λ s. s) (λ s. s) x.cause; spent = x.spent; counts = x.counts; transcript = x.transcript; left = x.left })
-refused_as_kind old new (ReadBytes r at count) of f e x = subst (λ q. Refuses old new (Does (KindOf q)) f) (inside e) (record { rose = x.rose; last = x.last; cause = cause_as_kind old new (ReadBytes r at count) r f refl none (λ s. s) (λ s. s) x.cause; spent = x.spent; counts = x.counts; transcript = x.transcript; left = x.left })
+refused_as_kind old new (KindOf r) of f e x = subst (λ q. Refuses old new (Does (KindOf q)) f) (inside e) (record { rose = x.rose; last = x.last; cause = cause_as_kind old new (KindOf r) r f (λ need e. e) none (λ s. s) (λ s. s) x.cause; spent = x.spent; counts = x.counts; transcript = x.transcript; left = x.left })
+refused_as_kind old new (Length r) of f e x = subst (λ q. Refuses old new (Does (KindOf q)) f) (inside e) (record { rose = x.rose; last = x.last; cause = cause_as_kind old new (Length r) r f (λ need e. e) none (λ s. s) (λ s. s) x.cause; spent = x.spent; counts = x.counts; transcript = x.transcript; left = x.left })
+refused_as_kind old new (Header r) of f e x = subst (λ q. Refuses old new (Does (KindOf q)) f) (inside e) (record { rose = x.rose; last = x.last; cause = cause_as_kind old new (Header r) r f (λ need e. e) none (λ s. s) (λ s. s) x.cause; spent = x.spent; counts = x.counts; transcript = x.transcript; left = x.left })
+refused_as_kind old new (Word r i) of f e x = subst (λ q. Refuses old new (Does (KindOf q)) f) (inside e) (record { rose = x.rose; last = x.last; cause = cause_as_kind old new (Word r i) r f (λ need e. e) none (λ s. s) (λ s. s) x.cause; spent = x.spent; counts = x.counts; transcript = x.transcript; left = x.left })
+refused_as_kind old new (Byte r i) of f e x = subst (λ q. Refuses old new (Does (KindOf q)) f) (inside e) (record { rose = x.rose; last = x.last; cause = cause_as_kind old new (Byte r i) r f (λ need e. e) none (λ s. s) (λ s. s) x.cause; spent = x.spent; counts = x.counts; transcript = x.transcript; left = x.left })
+refused_as_kind old new (ReadWords r at count) of f e x = subst (λ q. Refuses old new (Does (KindOf q)) f) (inside e) (record { rose = x.rose; last = x.last; cause = cause_as_kind old new (ReadWords r at count) r f (λ need e. e) none (λ s. s) (λ s. s) x.cause; spent = x.spent; counts = x.counts; transcript = x.transcript; left = x.left })
+refused_as_kind old new (ReadBytes r at count) of f e x = subst (λ q. Refuses old new (Does (KindOf q)) f) (inside e) (record { rose = x.rose; last = x.last; cause = cause_as_kind old new (ReadBytes r at count) r f (λ need e. e) none (λ s. s) (λ s. s) x.cause; spent = x.spent; counts = x.counts; transcript = x.transcript; left = x.left })
 refused_as_kind old new _ of f e x = let no : ◌≡◌ {A = Option ℕ} None (Some of) = e in cc
 
 -- a read that was answered

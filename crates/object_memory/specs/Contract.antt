@@ -5,12 +5,12 @@ use Rattle.long_names.specs.declared.value.Value.{Value}
 use Rattle.long_names.specs.declared.value.Value.TheVariants.{Int, Ref}
 use Rattle.long_names.specs.declared.limits.TheConstants.{LAST_NAME}
 use Rattle.long_names.specs.Counting.{Rose}
-use Rattle.long_names.specs.Objects.{name_of}
+use Rattle.long_names.specs.Objects.{name_of, is_ref}
 use Rattle.long_names.specs.Heap.{Heap, object_count}
 use Rattle.long_names.specs.Kept.{kept}
 use Rattle.long_names.specs.State.{set_register}
-use Rattle.long_names.specs.Access.{Access, SetField, SetWord, SetByte, WriteWords, Make, Mark, Say, Answer, CanDo, HasNames, HasRanges, target_of, filled_by, heap_after, regs_after, slots_after, brought, said_by, answer_of}
-use Rattle.long_names.specs.Need.{Fits, row_of, heap_of_row, words_alone}
+use Rattle.long_names.specs.Access.{Access, SetField, SetWord, SetByte, WriteWords, Make, Mark, Say, Swap, Answer, CanDo, HasNames, HasSlots, HasRanges, target_of, filled_by, heap_after, regs_after, slots_after, brought, said_by, answer_of}
+use Rattle.long_names.specs.Need.{Fits, row_of, other_row_of, heap_of_row, words_alone}
 use Rattle.long_names.specs.Thin.{IsThinner}
 use Rattle.object_memory.specs.Told.{Told, Bounds, Cache, IsReady, state_of, need_of, is_root}
 use Rattle.object_memory.specs.declared.fault.Need.{Need}
@@ -24,10 +24,11 @@ pub data Call : Type 0 where
   Settles : Call
   Thins : Call
 
--- what the caller owes: names in registers and ranges of numbers always, what the heap has only where it is told
+-- what the caller owes: names in registers, slots and ranges of numbers always, what the heap has only where it is told
 pub record MayDo (t : Told) (a : Access) : Type 0 where
   pub heap : IsTrue t.tells → CanDo t.heap t.regs a
   pub names : HasNames t.regs a
+  pub slots : HasSlots t.regs t.slots a
   pub ranges : HasRanges a
 
 -- ---- bounds
@@ -77,6 +78,18 @@ Settled None (Some c) = ⊥
 Settled (Some b) None = ⊥
 Settled (Some b) (Some c) = c.made ≡ 0
 
+-- How many objects the settling found: none is said, or, where the heap is told, so many are kept with the registers and slots as
+-- roots.
+abbrev pub CountsKept : Told → Option ℕ → Type 0
+CountsKept t None = Unit {0}
+CountsKept t (Some base) = IsTrue t.tells → base ≡ object_count (kept t.heap (is_root t))
+
+-- base after a call that was answered, of which the settling alone says something
+abbrev pub BaseAfter : Call → Told → Type 0
+BaseAfter (Does a) new = Unit {0}
+BaseAfter Settles new = IfBounds new.bounds (λ b. CountsKept new b.base)
+BaseAfter Thins new = Unit {0}
+
 -- how many objects an access makes
 abbrev pub makes : Access → ℕ
 makes (Make to class what) = 1
@@ -96,12 +109,16 @@ CountsRefused Thins old new = Raised 0 old new
 
 -- ---- the cache
 
+-- no name at all
+abbrev pub no_names : ℕ → Bool
+no_names n = false
+
 -- marks stay, rows only leave, and no marked object was stored into
-pub record IsKeptCache (touched : Option ℕ) (before made after : Cache) : Type 0 where
+pub record IsKeptCache (touched : ℕ → Bool) (before made after : Cache) : Type 0 where
   pub marks : after.marks ≡ made.marks
   pub path : after.path ≡ made.path
   pub rows : (c s m : ℕ) → after.rows c s m ≡ true → made.rows c s m ≡ true
-  pub untouched : (n : ℕ) → touched ≡ Some n → before.marks n ≡ false
+  pub untouched : (n : ℕ) → touched n ≡ true → before.marks n ≡ false
 
 -- no row and no mark from before is left, of which there was one
 pub record IsEmptied (marked : Option ℕ) (before after : Cache) : Type 0 where
@@ -113,24 +130,30 @@ pub record IsEmptied (marked : Option ℕ) (before after : Cache) : Type 0 where
 
 -- A call that takes a mark away, that stores into an object marked before it, or after which the heap lacks such an object, leaves no
 -- row and no mark from before it.
-abbrev pub LeavesCache : Option ℕ → Option ℕ → Cache → Cache → Cache → Type 0
+abbrev pub LeavesCache : (ℕ → Bool) → Option ℕ → Cache → Cache → Cache → Type 0
 LeavesCache touched marked before made after = IsKeptCache touched before made after ⊎ IsEmptied marked before after
 
 abbrev pub with_mark : Cache → Option ℕ → Cache
 with_mark c None = c
 with_mark c (Some n) = record c { marks = λ k. (k == n) || c.marks k }
 
--- whether it stores into its object
+-- whether it stores into an object
 abbrev pub stores : Access → Bool
 stores (SetField of i from) = true
 stores (SetWord of i word) = true
 stores (SetByte of i byte) = true
 stores (WriteWords of at run) = true
+stores (Swap a b) = true
 stores _ = false
 
--- the name that it stores into, and the name that it marks
-abbrev pub touched_by : (ℕ → Value) → Access → Option ℕ
-touched_by regs a = if stores a then option_and_then (λ of. name_of (regs of)) (target_of a) else None
+-- the names that it stores into, of a swap both, and the name that it marks
+abbrev pub touched_by : (ℕ → Value) → Access → ℕ → Bool
+touched_by regs (SetField of i from) n = is_ref n (regs of)
+touched_by regs (SetWord of i word) n = is_ref n (regs of)
+touched_by regs (SetByte of i byte) n = is_ref n (regs of)
+touched_by regs (WriteWords of at run) n = is_ref n (regs of)
+touched_by regs (Swap a b) n = is_ref n (regs a) || is_ref n (regs b)
+touched_by regs _ n = false
 
 abbrev pub marked_by : (ℕ → Value) → Access → Option ℕ
 marked_by regs (Mark of) = name_of (regs of)
@@ -138,8 +161,8 @@ marked_by regs _ = None
 
 abbrev pub CacheAfter : Told → Told → Call → Type 0
 CacheAfter old new (Does a) = LeavesCache (touched_by old.regs a) (marked_by old.regs a) old.cache (with_mark old.cache (marked_by old.regs a)) new.cache
-CacheAfter old new Settles = LeavesCache None None old.cache old.cache new.cache
-CacheAfter old new Thins = LeavesCache None None old.cache old.cache new.cache
+CacheAfter old new Settles = LeavesCache no_names None old.cache old.cache new.cache
+CacheAfter old new Thins = LeavesCache no_names None old.cache old.cache new.cache
 
 -- ---- a call that is answered
 
@@ -184,6 +207,7 @@ pub record Follows (old new : Told) (call : Call) : Type 0 where
   pub heap : IsTrue old.tells → IsThinner (heap_by call old.heap old.regs) new.heap
   pub cache : CacheAfter old new call
   pub counts : Counts call old.bounds new.bounds
+  pub base : BaseAfter call new
   pub refusals : new.refusals ≡ old.refusals
   pub last : new.last ≡ old.last
 
@@ -200,6 +224,15 @@ said_faults (Some b) = b.said_faults
 -- the need of the row of an access
 abbrev pub need_of_access : Told → Access → Need
 need_of_access t a = need_of (heap_of_row (state_of t) a) (row_of (state_of t) a)
+
+-- and of the other row of a swap
+abbrev pub need_of_other : Told → Access → Need
+need_of_other t a = need_of (heap_of_row (state_of t) a) (other_row_of (state_of t) a)
+
+-- the need of one of its rows: of a swap this or that, of any other access the one that it has
+abbrev pub IsNeedOf : Told → Access → Need → Type 0
+IsNeedOf t (Swap a b) need = (need ≡ need_of_access t (Swap a b)) ⊎ (need ≡ need_of_other t (Swap a b))
+IsNeedOf t a need = need ≡ need_of_access t a
 
 abbrev pub IsMaking : Call → Type 0
 IsMaking (Does a) = 1 ≤ makes a
@@ -222,7 +255,7 @@ IsSaying Settles = ⊥
 IsSaying Thins = ⊥
 
 abbrev pub HasNeed : Told → Call → Need → Type 0
-HasNeed t (Does a) need = IsTrue t.tells → need ≡ need_of_access t a
+HasNeed t (Does a) need = IsTrue t.tells → IsNeedOf t a need
 HasNeed t Settles need = ⊥
 HasNeed t Thins need = ⊥
 
@@ -248,7 +281,7 @@ pub record IsLeft (old new : Told) : Type 0 where
   pub slots : new.slots ≡ old.slots
   pub heap : IsTrue old.tells → IsThinner old.heap new.heap
   pub ready : IsReady new
-  pub cache : LeavesCache None None old.cache old.cache new.cache
+  pub cache : LeavesCache no_names None old.cache old.cache new.cache
 
 -- after WorkFault and Damaged nothing more is known
 abbrev pub LeavesAll : MemFault → Type 0 → Type 0

@@ -10,7 +10,7 @@ use Rattle.long_names.specs.Thin.{IsThinner}
 use Rattle.long_names.specs.State.{IsRef, part_at, HasPart}
 use Rattle.long_names.specs.Access.{KindOf}
 use Rattle.object_memory.specs.Told.{Told}
-use Rattle.object_memory.specs.Contract.{Does, IsLater, LeavesCache, Raised, Called, IfBounds, HasCore}
+use Rattle.object_memory.specs.Contract.{Does, IsLater, LeavesCache, no_names, Raised, Called, IfBounds, HasCore}
 use Rattle.object_memory.specs.declared.fault.MemFault.{MemFault}
 
 -- ---- parts of a body
@@ -93,7 +93,7 @@ pub record Looks (filled : List ℕ) (old new : Told) : Type 0 where
   pub slots : new.slots ≡ old.slots
   pub transcript : IsTrue old.speaks → new.transcript ≡ old.transcript
   pub heap : IsTrue old.tells → IsThinner old.heap new.heap
-  pub cache : LeavesCache None None old.cache old.cache new.cache
+  pub cache : LeavesCache no_names None old.cache old.cache new.cache
   pub counts : Raised 0 old.bounds new.bounds
   pub refusals : new.refusals ≡ old.refusals
   pub last : new.last ≡ old.last

@@ -14,9 +14,9 @@ IsDead counts q = (count_in counts q ≡ 0) × (is_known q ≡ false)
 abbrev pub Lists : Counts → List ℕ → ℕ → Type 0
 Lists counts dead q = IsDead counts q → Contains dead q
 
--- the counts are those of the heap, the names on the list are dead, and each dead name of an object is on it
-pub record IsFreeing (heap : Heap) (counts : Counts) (dead : List ℕ) : Type 0 where
-  pub exact : (q : ℕ) → count_in counts q ≡ count_of heap q
+-- The counts are those of the words outside and of the heap, the names on the list are dead, and each dead name of an object is on it.
+pub record IsFreeing (outside : ℕ → ℕ) (heap : Heap) (counts : Counts) (dead : List ℕ) : Type 0 where
+  pub exact : (q : ℕ) → count_in counts q ≡ outside q + count_of heap q
   pub sound : All (IsDead counts) dead
   pub complete : (q : ℕ) → Has heap q → Lists counts dead q
 

@@ -12,7 +12,7 @@ pub trait ObjectMemory {
     ghost use Rattle.long_names.specs.Names.{SMALL_INTEGER};
     ghost use Rattle.long_names.specs.Words.{IsSmallInteger, literal_count};
     ghost use Rattle.long_names.specs.Objects.{is_ref, int_of, fields_of, OfPointers, OfWords, OfBytes, OfMethod};
-    ghost use Rattle.long_names.specs.Access.{Known, Class, KindOf, Length, Header, Field, SetField, Word, SetWord, Byte, SetByte, ReadWords, WriteWords, ReadBytes, Make, Pin, Mark, Say, Nothing, OfKind, OfNumber, OfSigned, OfRun};
+    ghost use Rattle.long_names.specs.Access.{Known, Class, KindOf, Length, Header, Field, SetField, Word, SetWord, Byte, SetByte, ReadWords, WriteWords, ReadBytes, Make, Pin, Mark, Say, Swap, Nothing, OfKind, OfNumber, OfSigned, OfRun};
     ghost use Rattle.long_names.specs.State.{set_register, set_slot, name_at, part_at, IsRef};
     ghost use Rattle.long_names.specs.declared.value.Value.TheVariants.{Int, Ref};
     ghost use Rattle.object_memory.specs.Told.{Told};
@@ -203,6 +203,14 @@ pub trait ObjectMemory {
         requires may { MayDo (told self.old) (Make to class (OfMethod header code)) }
         ensures access { Accessed (told self.old) (told self.new) (Make to class (OfMethod header code)) (λ _. Nothing) result }
         ensures name { OnOk result (IsRef ((told self.new).regs to)) }
+        ensures fit { StaysCallable sound told lender outside self.old self.new result };
+
+    /// The objects that two registers name change places under their names, with class and body (swapPointersOf:and:). Of one name
+    /// nothing changes. Neither is pinned.
+    fn swap(&mut self, a: Reg, b: Reg) -> Result<(), MemFault>
+        requires fit { MayCall sound told self.old }
+        requires may { MayDo (told self.old) (Swap a b) }
+        ensures access { Accessed (told self.old) (told self.new) (Swap a b) (λ _. Nothing) result }
         ensures fit { StaysCallable sound told lender outside self.old self.new result };
 
     /// The object in the register stays in the core until the slot is emptied or filled again.

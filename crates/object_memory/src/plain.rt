@@ -3,14 +3,14 @@ ghost use Rattle.std.specs.Prelude.{◌≡◌, ◌+◌, ◌<◌, ◌≤◌, ◌%
 ghost use Rattle.long_names.specs.Objects.{name_of, fields_of, IsBody, HasRange, IsObject, IsRecord, OfPointers, OfWords, OfBytes, OfMethod};
 ghost use Rattle.long_names.specs.Access.{KindOf, Length, Header, Make, Mark, Say, Nothing, OfKind, OfNumber, OfSigned};
 ghost use Rattle.long_names.specs.Words.{IsSmallInteger, literal_count};
-ghost use Rattle.long_names.specs.Heap.{Has, add_object};
+ghost use Rattle.long_names.specs.Heap.{Has, add_object, object_count};
 ghost use Rattle.long_names.specs.Kept.{kept, no_roots};
 ghost use Rattle.long_names.specs.Names.{IsLongName};
 ghost use Rattle.long_names.specs.declared.limits.TheConstants.{LAST_NAME};
 ghost use Rattle.long_names.specs.State.{object_at, class_at, part_at, name_at, set_register, IsRef};
 ghost use Rattle.long_names.specs.declared.value.Value.TheVariants.{Ref};
 ghost use Rattle.long_names.specs.declared.object.Object.{Object};
-ghost use Rattle.object_memory.specs.Told.{IsReady};
+ghost use Rattle.object_memory.specs.Told.{IsReady, is_root};
 ghost use Rattle.object_memory.specs.Contract.{MayDo, Accessed, Called, Follows, IsLater, Settles, Thins};
 ghost use Rattle.object_memory.specs.Records.{AreWhole, heap_of_recs, recs_of};
 ghost use Rattle.object_memory.specs.Plain.{plain_told, fresh, refused, made, IsPlainFit, StaysPlainFit};
@@ -25,6 +25,7 @@ mod slots;
 
 use crate::fault::MemFault;
 use crate::memory::ObjectMemory;
+use crate::plain::counts::Counts;
 use crate::plain::kept::{into_recs, keep};
 use crate::plain::marks::Marks;
 use crate::plain::objects::Objects;
@@ -110,8 +111,21 @@ impl PlainMemory {
         ensures records { IfOk result (All IsRecord) }
     {
         let mut heap = self.objects.copied()?;
-        let counts = keep(alloc, &mut heap)?;
+        let counts = keep(alloc, &mut heap, Counts::new(alloc))?;
         into_recs(alloc, heap, &counts)
+    }
+
+    /// How many objects are kept with the registers and slots as roots.
+    pub fn kept_count(&self) -> Result<u32, AllocError>
+        ensures kept { IfOk result (λ n. n ≡ object_count (kept (plain_told self.now).heap (is_root (plain_told self.now)))) }
+        ensures below { IfOk result (λ n. n < 4294967295) }
+    {
+        let mut roots = Counts::new(self.alloc);
+        self.registers.count(&mut roots)?;
+        self.slots.count(&mut roots)?;
+        let mut heap = self.objects.copied()?;
+        keep(self.alloc, &mut heap, roots)?;
+        Ok(heap.count())
     }
 
     /// The object that a register names.
@@ -372,6 +386,15 @@ impl ObjectMemory for PlainMemory {
     {
         let body = Body::new_method(self.alloc, header, code as usize);
         self.make(to, class, body)
+    }
+
+    fn swap(&mut self, a: Reg, b: Reg) -> Result<(), MemFault> {
+        let first = self.registers.name(a);
+        let second = self.registers.name(b);
+        self.objects.swap(self.alloc, first, second);
+        self.marks.touch(first);
+        self.marks.touch(second);
+        Ok(())
     }
 
     fn pin(&mut self, slot: u8, r: Reg) -> Result<(), MemFault> {

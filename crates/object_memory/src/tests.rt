@@ -138,6 +138,27 @@ const PATHS: [(Call, Answer); 14] = [
     (Call::Between(Between::Compact), Answer::Done),
 ];
 
+// Two objects change places, with class and body: an Array whose field 1 names a String, and that String. The field then names the
+// Array itself. One name twice changes nothing.
+const SWAPS: [(Call, Answer); 16] = [
+    (Call::Known(A, Name::STRING), Answer::Done),
+    (Call::NewBytes(B, A, 0), Answer::Done),
+    (Call::Known(C, Name::ARRAY), Answer::Done),
+    (Call::NewPointers(D, C, 2), Answer::Done),
+    (Call::SetField(D, 1, B), Answer::Done),
+    (Call::Pin(1, B), Answer::Done),
+    (Call::Swap(B, D), Answer::Done),
+    (Call::Shape(B), Answer::Shape(Kind::Pointers, 2)),
+    (Call::Shape(D), Answer::Shape(Kind::Bytes, 0)),
+    (Call::Class(A, D), Answer::Done),
+    (Call::Is(A, Name::STRING), Answer::Yes(true)),
+    (Call::Swap(B, B), Answer::Done),
+    (Call::Field(A, B, 1), Answer::Done),
+    (Call::Same(A, B), Answer::Yes(true)),
+    (Call::Int(A, 1), Answer::Done),
+    (Call::Swap(A, B), Answer::Not),
+];
+
 // Two objects that name each other and no more, and one that nothing holds.
 const CYCLE: [(Call, Answer); 6] = [
     (Call::Known(A, Name::ARRAY), Answer::Done),
@@ -204,7 +225,8 @@ fn each_call(rt: HostRuntime) -> Result<(), Fail> {
     make_calls(&rt, &mut m, &WORDS)?;
     make_calls(&rt, &mut m, &BYTES)?;
     make_calls(&rt, &mut m, &PATHS)?;
-    assert_eq!(rt; m.next(), 76);
+    make_calls(&rt, &mut m, &SWAPS)?;
+    assert_eq!(rt; m.next(), 80);
     assert_eq!(rt; m.transcript(), b"hi".as_slice());
     Ok(())
 }

@@ -3,6 +3,7 @@ ghost use Rattle.std.specs.Prelude.{◌≡◌, ◌+◌, ◌<◌, ◌^◌, ◌==�
 ghost use Rattle.std.specs.Ordering.{nat_cmp};
 ghost use Rattle.std.specs.BTreeMap.{get};
 ghost use Rattle.std.specs.Map.{count_at};
+ghost use Rattle.long_names.specs.Need.{is_pinned};
 
 use long_names::Name;
 use std::alloc::{AllocError, Global};
@@ -45,6 +46,17 @@ impl Counts {
         ensures { OnOk result ((q : ℕ) → count_in self.new q ≡ count_in self.old q + (if name == q then 1 else 0)) }
     {
         self.put(name, self.of(name) + 1)
+    }
+
+    /// One more for this name, if there is one.
+    pub(crate) fn add_some(&mut self, name: Option<Name>) -> Result<(), AllocError>
+        requires { (q : ℕ) → count_in self.old q + 1 < 2 ^ 64 }
+        ensures { OnOk result ((q : ℕ) → count_in self.new q ≡ count_in self.old q + (if is_pinned q name then 1 else 0)) }
+    {
+        match name {
+            Some(name) => self.add(name),
+            None => Ok(()),
+        }
     }
 
     /// One less for this name. Gives its count then.

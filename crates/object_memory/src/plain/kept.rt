@@ -1,8 +1,8 @@
 // Kept objects: what reference counting leaves in the end (chapter 30 of the Blue Book).
-ghost use Rattle.std.specs.Prelude.{◌≡◌, ◌+◌, ◌<◌, ◌≤◌, ◌^◌, ◌==◌, if◌then◌else◌, ℕ, [], ◌∷◌, ◌++◌, All, OnOk, IfOk, is_some, count_by, length};
+ghost use Rattle.std.specs.Prelude.{◌≡◌, ◌+◌, ◌<◌, ◌≤◌, ◌^◌, ◌==◌, if◌then◌else◌, ℕ, [], ◌∷◌, ◌++◌, nat_lt, All, OnOk, IfOk, is_some, count_by, length};
 ghost use Rattle.long_names.specs.Objects.{is_ref, holdings, IsObject, IsRecord};
 ghost use Rattle.long_names.specs.Heap.{count_of, without};
-ghost use Rattle.long_names.specs.Kept.{kept, no_roots};
+ghost use Rattle.long_names.specs.Kept.{kept};
 ghost use Rattle.object_memory.specs.Counts.{count_in};
 ghost use Rattle.object_memory.specs.Plain.{heap_of};
 ghost use Rattle.object_memory.specs.Records.{recs_of};
@@ -40,21 +40,20 @@ fn count_object(counts: &mut Counts, object: &Object) -> Result<(), AllocError>
     }
 }
 
-/// How many words of the heap hold each name.
-fn count_words(alloc: Global, heap: &Objects) -> Result<Counts, AllocError>
-    ensures { IfOk result (λ counts. (q : ℕ) → count_in counts q ≡ count_of (heap_of heap.now) q) }
+/// Counts the words of all objects.
+fn count_words(counts: &mut Counts, heap: &Objects) -> Result<(), AllocError>
+    requires { (q : ℕ) → count_in counts.old q < 65536 }
+    ensures { OnOk result ((q : ℕ) → count_in counts.new q ≡ count_in counts.old q + count_of (heap_of heap.now) q) }
 {
-    let mut counts = Counts::new(alloc);
     for (_, object) in &heap.objects {
-        count_object(&mut counts, object)?;
+        count_object(counts, object)?;
     }
-    Ok(counts)
+    Ok(())
 }
 
-/// The names of the objects that aren't known and that no word of the heap holds.
+/// The names of the objects that aren't known and that no word holds.
 fn dead_names(alloc: Global, heap: &Objects, counts: &Counts) -> Result<Vec<Name>, AllocError>
-    requires { (q : ℕ) → count_in counts.now q ≡ count_of (heap_of heap.now) q }
-    ensures { IfOk result (λ dead. IsFreeing (heap_of heap.now) counts.now dead.items) }
+    ensures { IfOk result (λ dead. (outside : ℕ → ℕ) → ((q : ℕ) → count_in counts.now q ≡ outside q + count_of (heap_of heap.now) q) → IsFreeing outside (heap_of heap.now) counts.now dead.items) }
 {
     heap.objects
         .keys()
@@ -119,8 +118,9 @@ fn free(
     dead: &mut Vec<Name>,
     name: Name,
 ) -> Result<(), AllocError>
-    requires freeing { IsFreeing (heap_of heap.old) counts.old (dead.old.items ++ name ∷ []) }
-    ensures freeing { OnOk result (IsFreeing (heap_of heap.new) counts.new dead.new.items) }
+    requires freeing { (outside : ℕ → ℕ) × IsFreeing outside (heap_of heap.old) counts.old (dead.old.items ++ name ∷ []) }
+    ensures freeing { OnOk result
+        ((outside : ℕ → ℕ) → IsFreeing outside (heap_of heap.old) counts.old (dead.old.items ++ name ∷ []) → IsFreeing outside (heap_of heap.new) counts.new dead.new.items) }
     ensures heap { OnOk result (heap_of heap.new ≡ without (heap_of heap.old) name) }
     ensures short { OnOk result
         (length dead.new.items ≤ length dead.old.items + (if is_some ((heap_of heap.old).at name) then 65536 else 0)) }
@@ -131,13 +131,19 @@ fn free(
     count_down_object(counts, dead, &object)
 }
 
-/// Takes away each object that isn't known and that no word holds, until only kept ones are left, and gives their counts. Each word is
-/// counted once, and counted down at most once. A cycle that nothing else holds is kept.
-pub(crate) fn keep(alloc: Global, heap: &mut Objects) -> Result<Counts, AllocError>
-    ensures kept { OnOk result (heap_of heap.new ≡ kept (heap_of heap.old) no_roots) }
-    ensures counts { IfOk result (λ counts. (q : ℕ) → count_in counts q ≡ count_of (heap_of heap.new) q) }
+/// Takes away each object that isn't known and that no word holds, until only kept ones are left, and gives their counts. The counts
+/// that it is given are of words outside the heap: the names that they hold are roots. Each word is counted once, and counted down at
+/// most once. A cycle that nothing else holds is kept.
+pub(crate) fn keep(
+    alloc: Global,
+    heap: &mut Objects,
+    mut counts: Counts,
+) -> Result<Counts, AllocError>
+    requires { (q : ℕ) → count_in counts q < 65536 }
+    ensures kept { OnOk result (heap_of heap.new ≡ kept (heap_of heap.old) (λ q. nat_lt 0 (count_in counts q))) }
+    ensures counts { IfOk result (λ now. (q : ℕ) → count_in now q ≡ count_in counts q + count_of (heap_of heap.new) q) }
 {
-    let mut counts = count_words(alloc, heap)?;
+    count_words(&mut counts, heap)?;
     let mut dead = dead_names(alloc, heap, &counts)?;
     while let Some(name) = dead.pop() {
         free(heap, &mut counts, &mut dead, name)?;

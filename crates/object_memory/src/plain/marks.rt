@@ -1,5 +1,5 @@
 // Marks of a lookup path.
-ghost use Rattle.std.specs.Prelude.{◌≡◌, ℕ, true, false, OnOk, OnErr, Some, None};
+ghost use Rattle.std.specs.Prelude.{◌≡◌, ◌==◌, ℕ, true, false, OnOk, OnErr, Some, None};
 ghost use Rattle.object_memory.specs.Contract.{LeavesCache, with_mark};
 ghost use Rattle.object_memory.specs.Plain.{cache_of};
 
@@ -42,7 +42,7 @@ impl Marks {
 
     /// The object of this name was stored into: where it is marked, all marks go, and the path is not whole any more.
     pub(crate) fn touch(&mut self, name: Name)
-        ensures leaves { LeavesCache (Some name) None (cache_of self.old) (cache_of self.old) (cache_of self.new) }
+        ensures leaves { LeavesCache (λ n. name == n) None (cache_of self.old) (cache_of self.old) (cache_of self.new) }
         ensures fewer { (n : ℕ) → (cache_of self.new).marks n ≡ true → (cache_of self.old).marks n ≡ true }
     {
         if self.names.contains(&name) {

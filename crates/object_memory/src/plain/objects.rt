@@ -1,9 +1,9 @@
 // The objects of a heap under their names.
-ghost use Rattle.std.specs.Prelude.{◌≡◌, ◌+◌, ◌%◌, ◌<◌, ◌≤◌, ℕ, IfSome, IfOk, OnOk, OnErr, length, []};
+ghost use Rattle.std.specs.Prelude.{◌≡◌, ◌+◌, ◌%◌, ◌<◌, ◌≤◌, ℕ, IfSome, IfOk, OnOk, OnErr, Some, length, []};
 ghost use Rattle.std.specs.Option.{option_copied};
 ghost use Rattle.long_names.specs.Words.{IsValue};
 ghost use Rattle.long_names.specs.Objects.{IsBody, HasRange, with_field, with_words, with_bytes, field_of, words_of, bytes_of, IsObject};
-ghost use Rattle.long_names.specs.Heap.{put_object, add_object};
+ghost use Rattle.long_names.specs.Heap.{Has, put_object, add_object, swap_objects, object_count};
 ghost use Rattle.long_names.specs.declared.value.Value.TheVariants.{Ref};
 ghost use Rattle.long_names.specs.Access.{with_body};
 ghost use Rattle.long_names.specs.Names.{IsLongName};
@@ -11,9 +11,10 @@ ghost use Rattle.long_names.specs.declared.limits.TheConstants.{LAST_NAME};
 ghost use Rattle.long_names.specs.State.{HasPart};
 ghost use Rattle.object_memory.specs.Stored.{IsStored, IsStored-prop};
 
-use long_names::{Name, Object, RecList, Value};
+use long_names::{Body, Name, Object, Octets, RecList, Value};
 use std::alloc::{AllocError, Global};
 use std::collections::BTreeMap;
+use std::mem;
 
 /// The objects of a heap under their names, and the next name, which is above them all.
 #[derive(Drop)]
@@ -144,6 +145,46 @@ impl Objects {
         if let Some(object) = self.objects.get_mut(&name) {
             object.body.put_bytes(at, run);
         }
+    }
+
+    /// Puts an object in the place of the one that this name has, and gives that one.
+    fn replace(&mut self, name: Name, object: Object) -> Object
+        requires there { Has (heap_of self.old) name }
+        requires object { IsObject object }
+        ensures was { (heap_of self.old).at name ≡ Some result }
+        ensures object { IsObject result }
+        ensures heap { heap_of self.new ≡ put_object (heap_of self.old) name object }
+    {
+        let Some(place) = self.objects.get_mut(&name) else {
+            unreachable!()
+        };
+        mem::replace(place, object)
+    }
+
+    /// Lets the objects of two names change places. It takes no memory.
+    pub(crate) fn swap(&mut self, alloc: Global, a: Name, b: Name)
+        requires first { Has (heap_of self.old) a }
+        requires second { Has (heap_of self.old) b }
+        ensures { heap_of self.new ≡ swap_objects (heap_of self.old) a b }
+    {
+        if a == b {
+            return;
+        }
+        let blank = Object {
+            class: Name::NIL,
+            body: Body::Bytes(Octets::new(alloc)),
+        };
+        let first = self.replace(a, blank);
+        let second = self.replace(b, first);
+        let _blank = self.replace(a, second);
+    }
+
+    /// How many objects it has.
+    pub(crate) fn count(&self) -> u32
+        ensures value { result ≡ object_count (heap_of self.now) }
+        ensures below { result ≤ (heap_of self.now).next }
+    {
+        self.objects.len() as u32
     }
 
     /// A heap of its own with the same objects.

@@ -1,13 +1,18 @@
 // The registers.
-ghost use Rattle.std.specs.Prelude.{◌≡◌, pos, All};
+ghost use Rattle.std.specs.Prelude.{◌≡◌, ◌≤◌, ℕ, nat_lt, pos, All, OnOk};
+ghost use Rattle.long_names.specs.Objects.{is_ref};
+ghost use Rattle.long_names.specs.Kept.{any_below};
+ghost use Rattle.object_memory.specs.Counts.{count_in};
 ghost use Rattle.long_names.specs.Words.{IsValue};
 ghost use Rattle.long_names.specs.State.{set_register, IsRef};
 ghost use Rattle.long_names.specs.declared.value.Value.TheVariants.{Int, Ref};
 ghost use Rattle.long_names.specs.Names.{IsLongName};
 ghost use Rattle.long_names.specs.ObjectProps.{All-prop, IsValue-prop};
 
+use crate::plain::counts::Counts;
 use crate::reg::Reg;
 use long_names::{Name, Value};
+use std::alloc::AllocError;
 
 /// The values of the 24 registers.
 #[derive(Drop)]
@@ -52,5 +57,17 @@ impl Registers {
         ensures { values_of self.new ≡ set_register (values_of self.old) r value }
     {
         self.values[r.index()] = value;
+    }
+
+    /// Counts the names in them.
+    pub(crate) fn count(&self, counts: &mut Counts) -> Result<(), AllocError>
+        requires { (q : ℕ) → count_in counts.old q ≡ 0 }
+        ensures roots { OnOk result ((q : ℕ) → nat_lt 0 (count_in counts.new q) ≡ any_below 24 (λ r. is_ref q (values_of self.now r))) }
+        ensures few { OnOk result ((q : ℕ) → count_in counts.new q ≤ 24) }
+    {
+        for i in 0..24 {
+            counts.add_some(self.values[i].name())?;
+        }
+        Ok(())
     }
 }

@@ -1,9 +1,14 @@
 // The slots for pinned objects.
-ghost use Rattle.std.specs.Prelude.{◌≡◌, ◌<◌, None};
+ghost use Rattle.std.specs.Prelude.{◌≡◌, ◌<◌, ◌≤◌, ◌||◌, ℕ, nat_lt, None, OnOk};
+ghost use Rattle.long_names.specs.Kept.{any_below};
+ghost use Rattle.long_names.specs.Need.{is_pinned};
+ghost use Rattle.object_memory.specs.Counts.{count_in};
 ghost use Rattle.long_names.specs.State.{set_slot};
 ghost use Rattle.object_memory.specs.Plain.{names_of};
 
+use crate::plain::counts::Counts;
 use long_names::Name;
+use std::alloc::AllocError;
 
 /// The names in the three slots.
 #[derive(Drop)]
@@ -24,5 +29,17 @@ impl Slots {
         ensures { names_of self.new ≡ set_slot (names_of self.old) slot name }
     {
         self.names[slot as usize] = name;
+    }
+
+    /// Counts the names in them, beside those of the registers.
+    pub(crate) fn count(&self, counts: &mut Counts) -> Result<(), AllocError>
+        requires { (q : ℕ) → count_in counts.old q ≤ 24 }
+        ensures roots { OnOk result ((q : ℕ) → nat_lt 0 (count_in counts.new q) ≡ (nat_lt 0 (count_in counts.old q) || any_below 3 (λ i. is_pinned q (names_of self.now i)))) }
+        ensures few { OnOk result ((q : ℕ) → count_in counts.new q ≤ 27) }
+    {
+        for i in 0..3 {
+            counts.add_some(self.names[i])?;
+        }
+        Ok(())
     }
 }

@@ -34,6 +34,7 @@ pub(crate) enum Call {
     NewWords(Reg, Reg, u16),
     NewBytes(Reg, Reg, u16),
     NewMethod(Reg, Reg, i16, u16),
+    Swap(Reg, Reg),
     Pin(u8, Reg),
     Unpin(u8),
     BeginPath,
@@ -261,6 +262,21 @@ fn new_method<M: ObjectMemory>(
     Ok(Answer::Done)
 }
 
+/// Unpins all objects first.
+fn swap<M: ObjectMemory>(m: &mut M, a: Reg, b: Reg) -> Result<Answer, MemFault>
+    requires fit { IsFit M.ObjectMemory m.old }
+    ensures fit { KeepsFit M.ObjectMemory m.old m.new result }
+{
+    m.unpin(0);
+    m.unpin(1);
+    m.unpin(2);
+    if !shape::is_name(m, a) || !shape::is_name(m, b) {
+        return Ok(Answer::Not);
+    }
+    m.swap(a, b)?;
+    Ok(Answer::Done)
+}
+
 fn pin<M: ObjectMemory>(m: &mut M, slot: u8, r: Reg) -> Result<Answer, MemFault>
     requires fit { IsFit M.ObjectMemory m.old }
     ensures fit { KeepsFit M.ObjectMemory m.old m.new result }
@@ -409,6 +425,7 @@ pub(crate) fn make_call<M: ObjectMemory>(m: &mut M, call: &Call) -> Result<Answe
         Call::NewWords(to, class, n) => new_words(m, *to, *class, *n),
         Call::NewBytes(to, class, n) => new_bytes(m, *to, *class, *n),
         Call::NewMethod(to, class, header, code) => new_method(m, *to, *class, *header, *code),
+        Call::Swap(a, b) => swap(m, *a, *b),
         Call::Pin(slot, r) => pin(m, *slot, *r),
         Call::Unpin(slot) => unpin(m, *slot),
         Call::Mark(r) => mark(m, *r),

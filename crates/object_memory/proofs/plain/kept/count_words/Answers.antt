@@ -11,13 +11,13 @@ use Rattle.object_memory.proofs.plain.kept.count_words.Goals as goal
 
 pub loop-object-init : goal.loop-object-init
 loop-object-init c = λ q.
-    let start = c.new-counts.ensures q in
     let same = ap (λ es. sum_by (words_of q) es) c.into_iter-object-iterator.ensures.into_iter_gives.0 in
     omega arith
 
 pub count_object-requires-clause-room : goal.count_object-requires-clause-room
 count_object-requires-clause-room c = λ q.
     let few = words-few c.args.heap.now q in
+    let start = c.requires q in
     let so_far = c.loop-object.invariant q in
     omega arith
 

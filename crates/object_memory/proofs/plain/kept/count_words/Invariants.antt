@@ -6,4 +6,4 @@ use Rattle.object_memory.proofs.plain.kept.count_words.Given as goal
 
 -- what was counted, and what is to come
 abbrev pub invariant-loop-object : goal.invariant-loop-object
-invariant-loop-object l = (q : ℕ) → count_in l.counts q + sum_by (words_of q) l.object-iterator ≡ sum_by (words_of q) l.heap.objects.entries
+invariant-loop-object l = (q : ℕ) → count_in l.counts q + sum_by (words_of q) l.object-iterator ≡ count_in l.fn.counts q + sum_by (words_of q) l.heap.objects.entries

@@ -1,4 +1,6 @@
-use Rattle.std.proofs.Common.{◌≡◌, rules, tests}
+use Rattle.std.proofs.Common.{◌≡◌, ℕ, ◌+◌, rules, tests}
+use Rattle.long_names.specs.Heap.{count_of}
+use Rattle.object_memory.specs.Counts.{count_in}
 use Rattle.std.proofs.lemmas.Iterator.{items_from_collect}
 use Rattle.std.proofs.lemmas.Iterator.Consumers.{YieldsList-from_rest, YieldsList-from_copied, YieldsList-from_filter, YieldsList-at}
 use Rattle.std.proofs.lemmas.Result.{IfOk-weaker}
@@ -16,4 +18,4 @@ returns c =
     let counts = c.args.counts.now in
     let is : IfOk c.collect.result (λ dead. dead.items ≡ filter (is_dead counts) (keys heap.objects)) =
     items_from_collect _ c.collect.ensures.ran (YieldsList-from_filter _ (is_dead counts) (YieldsList-at c.filter.ensures.source (YieldsList-from_copied (YieldsList-at c.copied.ensures.source (YieldsList-from_rest (keys heap.objects) c.keys.ensures.rest)))) c.filter.ensures.closure (λ x b q k. search (rules, tests))) in
-    IfOk-weaker c.collect.result (λ dead. dead.items ≡ filter (is_dead counts) (keys heap.objects)) (λ dead. IsFreeing (heap_of heap) counts dead.items) (λ dead. freeing-start heap counts dead.items c.requires) is
+    IfOk-weaker c.collect.result (λ dead. dead.items ≡ filter (is_dead counts) (keys heap.objects)) (λ dead. (outside : ℕ → ℕ) → ((q : ℕ) → count_in counts q ≡ outside q + count_of (heap_of heap) q) → IsFreeing outside (heap_of heap) counts dead.items) (λ dead e outside exact. freeing-start outside heap counts dead.items exact e) is
