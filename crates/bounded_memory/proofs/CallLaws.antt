@@ -2,7 +2,7 @@
 use Rattle.std.proofs.Common.{◌≡◌, ℕ, ◌<◌, ◌≤◌, true, Option, Some, None, Result, Ok, Err, IsTrue, inl, inr, refl, sym, subst, subst₂, add-zero, arith}
 use Rattle.std.specs.Result.{OnOk, is_ok}
 use Rattle.long_names.specs.Counting.{counted}
-use Rattle.long_names.specs.Names.{LAST_NAME}
+use Rattle.long_names.specs.declared.limits.TheConstants.{LAST_NAME}
 use Rattle.long_names.specs.Access.{Access, Make, Say, Answer, Nothing}
 use Rattle.long_names.specs.Objects.{Making}
 use Rattle.long_names.proofs.ThinLemmas.{IsThinner-refl}
@@ -12,7 +12,7 @@ use Rattle.object_memory.specs.declared.fault.MemFault.TheVariants.{CoreFull, Wo
 use Rattle.object_memory.specs.Told.{Told, Bounds, IsReady}
 use Rattle.object_memory.specs.Contract.{Call, Does, Settles, Thins, MayDo, SameBounds, Raised, makes, Lives, IsLater, Brings, SaysBy, SaysRefused, CacheAfter, Counts, Follows, Called, LeavesAll, ForBounds, IsMaking, TakesMemory, HasCause, HasCore, Accessed, need_of_access}
 use Rattle.object_memory.specs.Plain.{refused}
-use Rattle.object_memory.proofs.PlainLaws.{kept_cache}
+use Rattle.object_memory.proofs.PlainLaws.{kept_cache, leaves}
 use Rattle.bounded_memory.specs.Bounded.{over, faulted, need_at, IsFull, CannotMake}
 
 -- ---- what is told with bounds
@@ -89,15 +89,6 @@ forwarded {A} p q n l b a spell (Ok x) bare told quiet none core access = answer
 forwarded {A} p q n l b a spell (Err f) bare told quiet none core access = absurd (never-refused p q a f bare told quiet none access.called.err.cause)
 
 -- ---- an access that is refused
-
-pub leaves : (f : MemFault) (P : Type 0) → P → LeavesAll f P
-leaves (CoreFull need) P p = p
-leaves (WorkFull live room) P p = p
-leaves (WorkFault count) P p = tt
-leaves (Damaged place name) P p = tt
-leaves NamesSpent P p = p
-leaves (Said count) P p = p
-leaves Memory P p = p
 
 -- all else is as it was
 pub refused-access : {A : Type 0} (t : Told) (b : Bounds) (a : Access) (spell : A → Answer) (f : MemFault) → t.bounds ≡ Some b → IsReady t → t.refusals ≤ counted t.refusals → HasCause t (refused t f) (Does a) f → (IsMaking (Does a) → LAST_NAME ≤ t.heap.next → f ≡ NamesSpent) → SaysRefused (Does a) t (refused t f) f → Accessed {A = A} t (refused t f) a spell (Err f)

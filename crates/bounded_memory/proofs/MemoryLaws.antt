@@ -3,7 +3,7 @@ use Rattle.std.proofs.Common.{◌≡◌, ℕ, ◌+◌, ◌<◌, ◌≤◌, ◌==
 use Rattle.std.proofs.lemmas.Grind.{common_steps}
 use Rattle.std.specs.Result.{OnOk, OnErr, IfErr, IsOk, IsErr, IsErrAnd}
 use Rattle.long_names.specs.Counting.{counted}
-use Rattle.long_names.specs.Names.{LAST_NAME}
+use Rattle.long_names.specs.declared.limits.TheConstants.{LAST_NAME}
 use Rattle.long_names.specs.declared.value.Value.{Value}
 use Rattle.long_names.specs.declared.value.Value.TheVariants.{Int, Ref}
 use Rattle.long_names.specs.declared.object.Object.{Object}
@@ -33,7 +33,8 @@ use Rattle.bounded_memory.proofs.SizeLaws.{words-at}
 use Rattle.bounded_memory.proofs.BoundedLaws.{err-is, need-with}
 use Rattle.bounded_memory.proofs.HeapLaws.{pinned-after, pinned-same, size-add, size-later}
 use Rattle.bounded_memory.proofs.RowLaws.{answered-with, ready-without, ready-with, ready-kept, with-path}
-use Rattle.bounded_memory.proofs.CallLaws.{ready-under, may-under, same-bounds, raised-same, ready-over, ready-answered, answered-over, never-refused, core-full, making-refused, work-faulted, leaves}
+use Rattle.object_memory.proofs.PlainLaws.{leaves}
+use Rattle.bounded_memory.proofs.CallLaws.{ready-under, may-under, same-bounds, raised-same, ready-over, ready-answered, answered-over, never-refused, core-full, making-refused, work-faulted}
 
 -- the memory below may be asked what the whole one may, while both tell the same
 pub ready-below : (o m : BoundedMemory) → bounded_told m ≡ bounded_told o → IsReady (bounded_told o) → IsReady (plain_told m.memory)
@@ -101,9 +102,10 @@ pub sound-still : (m : BoundedMemory) (n : PlainMemory) (t : Told) → plain_tol
 sound-still m n t e heap slots sound =
     record { pinned = λ i. subst₂ (λ (h : Heap) (s : ℕ → Option ℕ). IsPinnedAs h (s i) (pin_at m.pins i)) (sym heap ∙ sym (ap (λ (t : Told). t.heap) e)) (sym slots ∙ sym (ap (λ (t : Told). t.slots) e)) (sound.pinned i) }
 
-pub keeps : {A : Type 0} (r : Result A MemFault) (P : Type 0) → P → KeepsSound r P
-keeps (Ok x) P p = p
-keeps (Err f) P p = leaves f P p
+-- what always holds, holds after an answer
+pub if_answered : {A : Type 0} (r : Result A MemFault) {P : Type 0} → P → OnOk r P
+if_answered (Ok x) p = p
+if_answered (Err f) p = tt
 
 -- ---- slots
 

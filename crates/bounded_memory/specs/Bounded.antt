@@ -1,12 +1,13 @@
 -- What a memory with bounds tells, what it keeps of its own, and why it refuses.
-use Rattle.std.specs.Prelude.{◌≡◌, ℕ, ◌≤◌, ◌<◌, ◌⊎◌, Option, Some, None}
+use Rattle.std.specs.Prelude.{◌≡◌, ℕ, ◌≤◌, ◌<◌, ◌⊎◌, Option, Some, None, Result}
 use Rattle.long_names.specs.Counting.{counted}
-use Rattle.long_names.specs.Names.{LAST_NAME}
+use Rattle.long_names.specs.declared.limits.TheConstants.{LAST_NAME}
 use Rattle.long_names.specs.Heap.{Heap}
 use Rattle.long_names.specs.State.{name_at}
 use Rattle.long_names.specs.Need.{Fits, words_at, entries_at}
 use Rattle.object_memory.specs.Told.{Told, Bounds, need_of}
 use Rattle.object_memory.specs.Contract.{ForBounds, Lives}
+use Rattle.object_memory.specs.Fit.{MayCall, StaysCallable}
 use Rattle.object_memory.specs.Plain.{plain_told}
 use Rattle.object_memory.specs.declared.fault.Need.{Need}
 use Rattle.object_memory.specs.declared.fault.MemFault.{MemFault}
@@ -47,6 +48,14 @@ ArePinned t pins = (i : ℕ) → IsPinnedAs t.heap (t.slots i) (pin_at pins i)
 -- the kept sizes are those of the pinned objects
 pub record IsSound (m : BoundedMemory) : Type 0 where
   pub pinned : ArePinned (bounded_told m) m.pins
+
+-- it may be called
+abbrev pub IsBoundedFit : BoundedMemory → Type 0
+IsBoundedFit m = MayCall IsSound bounded_told m
+
+-- it may be called again; it has no host
+abbrev pub StaysBoundedFit : {A : Type 0} → BoundedMemory → BoundedMemory → Result A MemFault → Type 0
+StaysBoundedFit old new answer = StaysCallable IsSound bounded_told (λ (_ : BoundedMemory). 0) (λ (_ : BoundedMemory). tt {0}) old new answer
 
 -- ---- why it refuses
 

@@ -2,26 +2,23 @@
 ghost use Rattle.std.specs.Prelude.{◌≡◌, ℕ, ◌+◌, ◌<◌, ◌≤◌, OnOk, IfOk, IfErr, IfSome, IfNone, OnErr, IsOk, None, Some, true, false};
 ghost use Rattle.std.specs.Result.{IsErr};
 ghost use Rattle.long_names.specs.Counting.{counted};
-ghost use Rattle.long_names.specs.Names.{LAST_NAME};
+ghost use Rattle.long_names.specs.declared.limits.TheConstants.{LAST_NAME};
 ghost use Rattle.long_names.specs.Need.{words_at, entries_at, words_named};
 ghost use Rattle.long_names.specs.State.{IsRef, name_at};
 ghost use Rattle.object_memory.specs.Told.{IsReady};
 ghost use Rattle.object_memory.specs.Contract.{row_of_values};
-ghost use Rattle.object_memory.specs.Plain.{plain_told, refused};
+ghost use Rattle.object_memory.specs.Plain.{plain_told, refused, IsPlainFit};
 ghost use Rattle.object_memory.specs.declared.fault.MemFault.TheVariants.{WorkFault};
 ghost use Rattle.bounded_memory.specs.Limits.{bounds_of};
 ghost use Rattle.bounded_memory.specs.Pins.{words_with, entries_with};
-ghost use Rattle.bounded_memory.specs.Bounded.{over, faulted, row_told, bounded_told, IsPinnedAs, IsSound, need_at, need_with, FitsCore, IsFull, CannotMake};
+ghost use Rattle.bounded_memory.specs.Bounded.{over, faulted, row_told, bounded_told, IsPinnedAs, IsSound, IsBoundedFit, need_at, need_with, FitsCore, IsFull, CannotMake};
 
 use crate::limits::Limits;
 use crate::pins::{Pin, Pins};
 use crate::row::CachedRow;
 use crate::size::Size;
-use long_names::{Kind, Name, literal_count};
+use long_names::{Kind, LAST_NAME, Name, literal_count};
 use object_memory::{MemFault, Need, ObjectMemory, PlainMemory, Reg};
-
-/// No object is made with this next name, or one above it.
-const LAST_NAME: u32 = 4_294_967_294;
 
 /// A memory with bounds over one that is one map. It refuses whenever it may: each access whose need has no room in the core, and
 /// each making for which there is no room. Want of memory is told as a fault of Work.
@@ -45,7 +42,7 @@ fn name_in(memory: &PlainMemory, r: Reg) -> u32
 
 /// The size of the object that a register names.
 fn size_of(memory: &mut PlainMemory, of: Reg) -> Size
-    requires ready { IsReady (plain_told memory.old) }
+    requires fit { IsPlainFit memory.old }
     requires name { IsRef ((plain_told memory.old).regs of) }
     ensures words { result.words ≡ words_at (plain_told memory.old).heap (name_at ((plain_told memory.old).regs of)) }
     ensures entries { result.entries ≡ entries_at (plain_told memory.old).heap (name_at ((plain_told memory.old).regs of)) }
@@ -177,8 +174,7 @@ impl BoundedMemory {
 
     /// Refuses an access to the object of a register for which the core has no room. Else the object's name and size.
     fn fits(&mut self, of: Reg) -> Result<Pin, MemFault>
-        requires sound { IsSound self.old }
-        requires ready { IsReady (bounded_told self.old) }
+        requires fit { IsBoundedFit self.old }
         requires name { IsRef ((bounded_told self.old).regs of) }
         ensures told { OnOk result (bounded_told self.new ≡ bounded_told self.old) }
         ensures pin { IfOk result (λ pin. IsPinnedAs (bounded_told self.old).heap (Some (name_at ((bounded_told self.old).regs of))) (Some pin)) }

@@ -1,9 +1,8 @@
 // Each cause of a refusal, with its exact numbers, and the row of the cache, over the base image. It has 26 objects.
-ghost use Rattle.std.specs.Prelude.{◌≡◌, OnOk, true};
+ghost use Rattle.std.specs.Prelude.{◌≡◌, true};
 ghost use Rattle.long_names.specs.Names.{is_known};
-ghost use Rattle.object_memory.specs.Told.{IsReady};
-ghost use Rattle.object_memory.specs.Contract.{KeepsSound};
-ghost use Rattle.bounded_memory.specs.Bounded.{bounded_told, IsSound};
+ghost use Rattle.object_memory.specs.Calls.{IsFit, KeepsFit};
+ghost use Rattle.bounded_memory.specs.Bounded.{IsBoundedFit, StaysBoundedFit};
 
 use crate::BoundedMemory;
 use long_names::Name;
@@ -13,13 +12,11 @@ use std::test::Fail;
 
 /// Asks for the kind of a known object.
 fn read(m: &mut BoundedMemory, name: Name) -> Result<(), MemFault>
-    requires sound { IsSound m.old }
-    requires ready { IsReady (bounded_told m.old) }
+    requires fit { IsBoundedFit m.old }
     requires known { is_known name ≡ true }
-    ensures sound { OnOk result (IsSound m.new) }
-    ensures ready { OnOk result (IsReady (bounded_told m.new)) }
+    ensures fit { StaysBoundedFit m.old m.new result }
 {
-    let r = Reg::new(10);
+    let r = Reg::R10;
     m.known(r, name)?;
     m.kind(r)?;
     Ok(())
@@ -27,13 +24,11 @@ fn read(m: &mut BoundedMemory, name: Name) -> Result<(), MemFault>
 
 /// Pins a known object.
 fn pin(m: &mut BoundedMemory, name: Name) -> Result<(), MemFault>
-    requires sound { IsSound m.old }
-    requires ready { IsReady (bounded_told m.old) }
+    requires fit { IsBoundedFit m.old }
     requires known { is_known name ≡ true }
-    ensures sound { OnOk result (IsSound m.new) }
-    ensures ready { OnOk result (IsReady (bounded_told m.new)) }
+    ensures fit { StaysBoundedFit m.old m.new result }
 {
-    let r = Reg::new(10);
+    let r = Reg::R10;
     m.known(r, name)?;
     m.pin(1, r)?;
     Ok(())
@@ -41,12 +36,10 @@ fn pin(m: &mut BoundedMemory, name: Name) -> Result<(), MemFault>
 
 /// Makes an object of 3 words.
 fn make(m: &mut BoundedMemory) -> Result<(), MemFault>
-    requires sound { IsSound m.old }
-    requires ready { IsReady (bounded_told m.old) }
-    ensures sound { OnOk result (IsSound m.new) }
-    ensures ready { OnOk result (IsReady (bounded_told m.new)) }
+    requires fit { IsBoundedFit m.old }
+    ensures fit { StaysBoundedFit m.old m.new result }
 {
-    let (class, new) = (Reg::new(10), Reg::new(11));
+    let (class, new) = (Reg::R10, Reg::R11);
     m.known(class, Name::DISPLAY_BITMAP)?;
     m.new_words(new, class, 3)?;
     Ok(())
@@ -68,8 +61,7 @@ enum Steps {
 }
 
 fn take(m: &mut BoundedMemory, steps: Steps) -> Result<(), MemFault>
-    requires sound { IsSound m.old }
-    requires ready { IsReady (bounded_told m.old) }
+    requires fit { IsBoundedFit m.old }
 {
     match steps {
         Steps::Read => read(m, Name::SCHEDULER_ASSOCIATION),
@@ -169,12 +161,10 @@ fn each_cause(rt: HostRuntime) -> Result<(), Fail> {
 
 /// Marks 8 on a new path, and puts it into the cache as the method of itself.
 fn cache<M: ObjectMemory>(m: &mut M) -> Result<bool, MemFault>
-    requires sound { M.sound m.old }
-    requires ready { IsReady (M.told m.old) }
-    ensures sound { KeepsSound result (M.sound m.new) }
-    ensures ready { OnOk result (IsReady (M.told m.new)) }
+    requires fit { IsFit M.ObjectMemory m.old }
+    ensures fit { KeepsFit M.ObjectMemory m.old m.new result }
 {
-    let r = Reg::SCRATCH_0;
+    let r = Reg::R10;
     m.known(r, Name::SCHEDULER_ASSOCIATION)?;
     m.begin_path();
     if !shape::is_name(m, r) {
@@ -186,12 +176,10 @@ fn cache<M: ObjectMemory>(m: &mut M) -> Result<bool, MemFault>
 
 /// Stores into the same object.
 fn store<M: ObjectMemory>(m: &mut M) -> Result<bool, MemFault>
-    requires sound { M.sound m.old }
-    requires ready { IsReady (M.told m.old) }
-    ensures sound { KeepsSound result (M.sound m.new) }
-    ensures ready { OnOk result (IsReady (M.told m.new)) }
+    requires fit { IsFit M.ObjectMemory m.old }
+    ensures fit { KeepsFit M.ObjectMemory m.old m.new result }
 {
-    let r = Reg::SCRATCH_0;
+    let r = Reg::R10;
     if !shape::has_field(m, r, 0)? {
         return Ok(false);
     }
@@ -204,7 +192,7 @@ fn store<M: ObjectMemory>(m: &mut M) -> Result<bool, MemFault>
 fn one_row(rt: HostRuntime) -> Result<(), Fail> {
     let plain = memory(rt.alloc(), &base(rt.alloc())?, NEXT)?;
     let mut m = BoundedMemory::new(plain, 65_536, 65_536, 26, 26);
-    let (r, to) = (Reg::SCRATCH_0, Reg::SCRATCH_1);
+    let (r, to) = (Reg::R10, Reg::R11);
     m.int(to, 0);
     let put = cache(&mut m)?;
     assert!(rt; put);

@@ -11,14 +11,14 @@ use Rattle.long_names.specs.declared.object.Object.{Object}
 use Rattle.long_names.specs.Objects.{name_of, int_of, Making, body_made}
 use Rattle.long_names.specs.Heap.{Heap, Has, put_object}
 use Rattle.long_names.specs.Access.{Access, Known, Class, KindOf, Length, Header, Field, SetField, Word, SetWord, Byte, SetByte, ReadWords, WriteWords, ReadBytes, Make, Pin, Mark, Say, Answer, Nothing, CanDo, with_body, heap_after, regs_after, slots_after, brought, answer_of}
-use Rattle.long_names.specs.Names.{LAST_NAME}
+use Rattle.long_names.specs.declared.limits.TheConstants.{LAST_NAME}
 use Rattle.long_names.specs.State.{IsRef, name_at, set_register, set_slot, class_at}
 use Rattle.long_names.proofs.ThinLemmas.{IsThinner-refl, IsWhole-set, IsWhole-pin, has_put}
 use Rattle.long_names.proofs.AccessLaws.{regs_of, whole-after}
 use Rattle.object_memory.specs.declared.fault.MemFault.{MemFault}
-use Rattle.object_memory.specs.declared.fault.MemFault.TheVariants.{NamesSpent, Memory}
+use Rattle.object_memory.specs.declared.fault.MemFault.TheVariants.{CoreFull, WorkFull, WorkFault, Damaged, NamesSpent, Said, Memory}
 use Rattle.object_memory.specs.Told.{Told, Cache, Bounds, IsReady}
-use Rattle.object_memory.specs.Contract.{Does, SameBounds, Raised, makes, came, CacheAfter, SaysBy, SaysRefused, Counts, NoBounds, IsMaking, TakesMemory, IfBounds, HasCore, Accessed, LeavesCache, with_mark}
+use Rattle.object_memory.specs.Contract.{Does, SameBounds, Raised, makes, came, CacheAfter, SaysBy, SaysRefused, Counts, NoBounds, IsMaking, TakesMemory, IfBounds, HasCore, Accessed, LeavesCache, with_mark, KeepsSound, LeavesAll}
 use Rattle.object_memory.specs.Plain.{refused, made}
 
 SameBounds-none : (b : Option Bounds) → b ≡ None → SameBounds b b
@@ -26,6 +26,20 @@ SameBounds-none b e = subst (λ x. SameBounds x x) (sym e) tt
 
 Raised-none : (k : ℕ) (b : Option Bounds) → b ≡ None → Raised k b b
 Raised-none k b e = subst (λ x. Raised k x x) (sym e) tt
+
+-- what always holds is left by a refused call, and by any call
+pub leaves : (f : MemFault) (P : Type 0) → P → LeavesAll f P
+leaves (CoreFull need) P p = p
+leaves (WorkFull live room) P p = p
+leaves (WorkFault count) P p = tt
+leaves (Damaged place name) P p = tt
+leaves NamesSpent P p = p
+leaves (Said count) P p = p
+leaves Memory P p = p
+
+pub keeps : {A : Type 0} (r : Result A MemFault) (P : Type 0) → P → KeepsSound r P
+keeps (Ok x) P p = p
+keeps (Err f) P p = leaves f P p
 
 -- all marks and rows stay
 pub kept_cache : (c : Cache) → LeavesCache None None c c c

@@ -5,7 +5,7 @@ use Rattle.std.proofs.lemmas.Grind.{common_steps}
 use Rattle.long_names.specs.declared.value.Value.{Value}
 use Rattle.long_names.specs.declared.value.Value.TheVariants.{Int, Ref}
 use Rattle.long_names.specs.declared.object.Kind.{Kind}
-use Rattle.long_names.specs.Names.{LAST_NAME}
+use Rattle.long_names.specs.declared.limits.TheConstants.{LAST_NAME}
 use Rattle.long_names.specs.Counting.{Rose}
 use Rattle.long_names.specs.Objects.{is_ref, kind_of}
 use Rattle.long_names.specs.Heap.{Heap, Has, object_count}

@@ -1,6 +1,8 @@
 pub mod Base
 pub mod Told
 pub mod Contract
+pub mod Fit
+pub mod Calls
 pub mod Stored
 pub mod Plain
 pub mod Counts

@@ -1,5 +1,5 @@
 -- What a memory that is one map tells.
-use Rattle.std.specs.Prelude.{ℕ, pos, Some, None, true, false, [], Option, slice_index_or}
+use Rattle.std.specs.Prelude.{ℕ, pos, Some, None, true, false, [], Option, Result, slice_index_or}
 use Rattle.std.specs.Ordering.{nat_cmp}
 use Rattle.std.specs.BTreeMap.{get}
 use Rattle.std.specs.BTreeSet.{contains}
@@ -10,6 +10,7 @@ use Rattle.long_names.specs.Counting.{counted}
 use Rattle.long_names.specs.Heap.{Heap, add_object}
 use Rattle.long_names.specs.State.{set_register}
 use Rattle.object_memory.specs.Told.{Told, Cache}
+use Rattle.object_memory.specs.Fit.{MayCall, StaysCallable}
 use Rattle.object_memory.specs.declared.fault.MemFault.{MemFault}
 use Rattle.object_memory.specs.declared.plain.objects.Objects.{Objects}
 use Rattle.object_memory.specs.declared.plain.registers.Registers.{Registers}
@@ -69,3 +70,11 @@ refused t f = record t { refusals = counted t.refusals; last = Some f }
 -- what is told after a making
 abbrev pub made : Told → ℕ → Object → Told
 made t to o = record t { heap = add_object t.heap o; regs = set_register t.regs to (Ref t.heap.next) }
+
+-- it may be called: it keeps nothing of its own
+abbrev pub IsPlainFit : PlainMemory → Type 0
+IsPlainFit m = MayCall (λ (_ : PlainMemory). Unit {0}) plain_told m
+
+-- it may be called again; it has no host
+abbrev pub StaysPlainFit : {A : Type 0} → PlainMemory → PlainMemory → Result A MemFault → Type 0
+StaysPlainFit old new answer = StaysCallable (λ (_ : PlainMemory). Unit {0}) plain_told (λ (_ : PlainMemory). 0) (λ (_ : PlainMemory). tt {0}) old new answer

@@ -1,8 +1,7 @@
 // A caller that is generic in the memory, proved from the clauses of the trait and of `shape` alone.
-ghost use Rattle.std.specs.Prelude.{◌≡◌, ◌<◌, ◌+ℤ◌, pos, false, [], ◌∷◌, IsTrue, OnOk, IfOk, IfErr, IfSome, Some};
+ghost use Rattle.std.specs.Prelude.{◌≡◌, ◌<◌, ◌+ℤ◌, pos, false, [], ◌∷◌, IsTrue, IfOk, IfErr, IfSome, Some};
 ghost use Rattle.long_names.specs.Words.{IsSmallInteger};
-ghost use Rattle.object_memory.specs.Told.{IsReady};
-ghost use Rattle.object_memory.specs.Contract.{KeepsSound};
+ghost use Rattle.object_memory.specs.Calls.{IsFit, KeepsFit};
 ghost use Rattle.object_memory.specs.Shape.{Looks};
 ghost use Rattle.object_memory.specs.tests.Caller.{IsBumped};
 
@@ -25,27 +24,23 @@ fn next_number(number: i16) -> Option<i16>
 /// number, and then it has only read.
 fn bump<M: ObjectMemory>(m: &mut M, of: Reg) -> Result<bool, MemFault>
     requires of { of < 10 }
-    requires sound { M.sound m.old }
-    requires ready { IsReady (M.told m.old) }
+    requires fit { IsFit M.ObjectMemory m.old }
     ensures bumped { IfOk result (λ done. IsTrue done → IsTrue (M.told m.old).tells → IsBumped (M.told m.old) (M.told m.new) of) }
     ensures looked { IfOk result (λ done. done ≡ false → Looks (10 ∷ []) (M.told m.old) (M.told m.new)) }
     ensures last { IfErr result (λ f. (M.told m.new).last ≡ Some f) }
-    ensures ready { OnOk result (IsReady (M.told m.new)) }
-    ensures sound { KeepsSound result (M.sound m.new) }
-    ensures lender { M.lender m.new ≡ M.lender m.old }
-    ensures outside { M.outside m.new ≡ M.outside m.old }
+    ensures fit { KeepsFit M.ObjectMemory m.old m.new result }
 {
     if !shape::has_field(m, of, 1)? {
         return Ok(false);
     }
-    m.field(Reg::SCRATCH_0, of, 1)?;
-    let Some(number) = m.as_int(Reg::SCRATCH_0) else {
+    m.field(Reg::R10, of, 1)?;
+    let Some(number) = m.as_int(Reg::R10) else {
         return Ok(false);
     };
     let Some(next) = next_number(number) else {
         return Ok(false);
     };
-    m.int(Reg::SCRATCH_0, next);
-    m.set_field(of, 1, Reg::SCRATCH_0)?;
+    m.int(Reg::R10, next);
+    m.set_field(of, 1, Reg::R10)?;
     Ok(true)
 }

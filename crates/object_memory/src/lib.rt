@@ -10,7 +10,7 @@
 //! if !shape::has_field(m, of, 1)? {
 //!     return Ok(false);
 //! }
-//! m.field(Reg::SCRATCH_0, of, 1)?;
+//! m.field(Reg::R10, of, 1)?;
 //! ```
 //!
 //! `caller.rt` has it whole. The trait doesn't say which objects stand in a core, nor when one is freed that nothing holds.

@@ -5,14 +5,15 @@ ghost use Rattle.long_names.specs.Access.{KindOf, Length, Header, Make, Mark, Sa
 ghost use Rattle.long_names.specs.Words.{IsSmallInteger, literal_count};
 ghost use Rattle.long_names.specs.Heap.{Has, add_object};
 ghost use Rattle.long_names.specs.Kept.{kept, no_roots};
-ghost use Rattle.long_names.specs.Names.{LAST_NAME, IsLongName};
+ghost use Rattle.long_names.specs.Names.{IsLongName};
+ghost use Rattle.long_names.specs.declared.limits.TheConstants.{LAST_NAME};
 ghost use Rattle.long_names.specs.State.{object_at, class_at, part_at, name_at, set_register, IsRef};
 ghost use Rattle.long_names.specs.declared.value.Value.TheVariants.{Ref};
 ghost use Rattle.long_names.specs.declared.object.Object.{Object};
 ghost use Rattle.object_memory.specs.Told.{IsReady};
 ghost use Rattle.object_memory.specs.Contract.{MayDo, Accessed, Called, Follows, IsLater, Settles, Thins};
 ghost use Rattle.object_memory.specs.Records.{AreWhole, heap_of_recs, recs_of};
-ghost use Rattle.object_memory.specs.Plain.{plain_told, fresh, refused, made};
+ghost use Rattle.object_memory.specs.Plain.{plain_told, fresh, refused, made, IsPlainFit, StaysPlainFit};
 ghost use Rattle.object_memory.specs.declared.fault.MemFault.TheVariants.{NamesSpent, Memory};
 
 mod counts;
@@ -30,11 +31,8 @@ use crate::plain::objects::Objects;
 use crate::plain::registers::Registers;
 use crate::plain::slots::Slots;
 use crate::reg::Reg;
-use long_names::{Body, Kind, Name, Object, Octets, RecList, Value};
+use long_names::{Body, Kind, LAST_NAME, Name, Object, Octets, RecList, Value};
 use std::alloc::{AllocError, Global};
-
-/// No object is made with this next name, or one above it.
-const LAST_NAME: u32 = 4_294_967_294;
 
 /// A memory that is one map of long names. It frees nothing, so its heap is always the one that the calls make.
 #[derive(Drop)]
@@ -234,10 +232,10 @@ impl ObjectMemory for PlainMemory {
     }
 
     fn kind(&mut self, of: Reg) -> Result<Kind, MemFault>
-        requires ready { IsReady (plain_told self.old) }
+        requires fit { IsPlainFit self.old }
         requires may { MayDo (plain_told self.old) (KindOf of) }
         ensures access { Accessed (plain_told self.old) (plain_told self.new) (KindOf of) OfKind result }
-        ensures ready { OnOk result (IsReady (plain_told self.new)) }
+        ensures fit { StaysPlainFit self.old self.new result }
         ensures answered { IsOk result }
         ensures kept { plain_told self.new ≡ plain_told self.old }
     {
@@ -245,11 +243,11 @@ impl ObjectMemory for PlainMemory {
     }
 
     fn len(&mut self, of: Reg) -> Result<u32, MemFault>
-        requires ready { IsReady (plain_told self.old) }
+        requires fit { IsPlainFit self.old }
         requires may { MayDo (plain_told self.old) (Length of) }
         ensures access { Accessed (plain_told self.old) (plain_told self.new) (Length of) OfNumber result }
         ensures bound { IfOk result (λ n. n < 65536) }
-        ensures ready { OnOk result (IsReady (plain_told self.new)) }
+        ensures fit { StaysPlainFit self.old self.new result }
         ensures answered { IsOk result }
         ensures kept { plain_told self.new ≡ plain_told self.old }
     {
@@ -257,12 +255,12 @@ impl ObjectMemory for PlainMemory {
     }
 
     fn header(&mut self, of: Reg) -> Result<i16, MemFault>
-        requires ready { IsReady (plain_told self.old) }
+        requires fit { IsPlainFit self.old }
         requires may { MayDo (plain_told self.old) (Header of) }
         ensures access { Accessed (plain_told self.old) (plain_told self.new) (Header of) OfSigned result }
         ensures range { IfOk result IsSmallInteger }
         ensures literals { IfOk result (λ header. IsTrue (plain_told self.old).tells → part_at (plain_told self.old).heap ((plain_told self.old).regs of) (λ b. Some (length (fields_of b))) ≡ Some (literal_count header)) }
-        ensures ready { OnOk result (IsReady (plain_told self.new)) }
+        ensures fit { StaysPlainFit self.old self.new result }
         ensures answered { IsOk result }
         ensures kept { plain_told self.new ≡ plain_told self.old }
     {
@@ -329,11 +327,11 @@ impl ObjectMemory for PlainMemory {
     }
 
     fn new_pointers(&mut self, to: Reg, class: Reg, n: u32) -> Result<(), MemFault>
-        requires ready { IsReady (plain_told self.old) }
+        requires fit { IsPlainFit self.old }
         requires may { MayDo (plain_told self.old) (Make to class (OfPointers n)) }
         ensures access { Accessed (plain_told self.old) (plain_told self.new) (Make to class (OfPointers n)) (λ _. Nothing) result }
         ensures name { OnOk result (IsRef ((plain_told self.new).regs to)) }
-        ensures ready { OnOk result (IsReady (plain_told self.new)) }
+        ensures fit { StaysPlainFit self.old self.new result }
         ensures kept { IfErr result (λ f. plain_told self.new ≡ refused (plain_told self.old) f) }
     {
         let body = Body::new_pointers(self.alloc, n as usize);
@@ -341,11 +339,11 @@ impl ObjectMemory for PlainMemory {
     }
 
     fn new_words(&mut self, to: Reg, class: Reg, n: u32) -> Result<(), MemFault>
-        requires ready { IsReady (plain_told self.old) }
+        requires fit { IsPlainFit self.old }
         requires may { MayDo (plain_told self.old) (Make to class (OfWords n)) }
         ensures access { Accessed (plain_told self.old) (plain_told self.new) (Make to class (OfWords n)) (λ _. Nothing) result }
         ensures name { OnOk result (IsRef ((plain_told self.new).regs to)) }
-        ensures ready { OnOk result (IsReady (plain_told self.new)) }
+        ensures fit { StaysPlainFit self.old self.new result }
         ensures kept { IfErr result (λ f. plain_told self.new ≡ refused (plain_told self.old) f) }
     {
         let body = Body::new_words(self.alloc, n as usize);
@@ -353,11 +351,11 @@ impl ObjectMemory for PlainMemory {
     }
 
     fn new_bytes(&mut self, to: Reg, class: Reg, n: u32) -> Result<(), MemFault>
-        requires ready { IsReady (plain_told self.old) }
+        requires fit { IsPlainFit self.old }
         requires may { MayDo (plain_told self.old) (Make to class (OfBytes n)) }
         ensures access { Accessed (plain_told self.old) (plain_told self.new) (Make to class (OfBytes n)) (λ _. Nothing) result }
         ensures name { OnOk result (IsRef ((plain_told self.new).regs to)) }
-        ensures ready { OnOk result (IsReady (plain_told self.new)) }
+        ensures fit { StaysPlainFit self.old self.new result }
         ensures kept { IfErr result (λ f. plain_told self.new ≡ refused (plain_told self.old) f) }
     {
         let body = Body::new_bytes(self.alloc, n as usize);
@@ -365,11 +363,11 @@ impl ObjectMemory for PlainMemory {
     }
 
     fn new_method(&mut self, to: Reg, class: Reg, header: i16, code: u32) -> Result<(), MemFault>
-        requires ready { IsReady (plain_told self.old) }
+        requires fit { IsPlainFit self.old }
         requires may { MayDo (plain_told self.old) (Make to class (OfMethod header code)) }
         ensures access { Accessed (plain_told self.old) (plain_told self.new) (Make to class (OfMethod header code)) (λ _. Nothing) result }
         ensures name { OnOk result (IsRef ((plain_told self.new).regs to)) }
-        ensures ready { OnOk result (IsReady (plain_told self.new)) }
+        ensures fit { StaysPlainFit self.old self.new result }
         ensures kept { IfErr result (λ f. plain_told self.new ≡ refused (plain_told self.old) f) }
     {
         let body = Body::new_method(self.alloc, header, code as usize);
@@ -391,11 +389,11 @@ impl ObjectMemory for PlainMemory {
     }
 
     fn mark(&mut self, r: Reg) -> Result<(), MemFault>
-        requires ready { IsReady (plain_told self.old) }
+        requires fit { IsPlainFit self.old }
         requires may { MayDo (plain_told self.old) (Mark r) }
         ensures access { Accessed (plain_told self.old) (plain_told self.new) (Mark r) (λ _. Nothing) result }
         ensures marked { OnOk result ((plain_told self.new).cache.marks (name_at ((plain_told self.old).regs r)) ≡ true) }
-        ensures ready { OnOk result (IsReady (plain_told self.new)) }
+        ensures fit { StaysPlainFit self.old self.new result }
         ensures kept { IfErr result (λ f. plain_told self.new ≡ refused (plain_told self.old) f) }
     {
         let name = self.registers.name(r);
@@ -414,10 +412,10 @@ impl ObjectMemory for PlainMemory {
     }
 
     fn say(&mut self, of: Reg) -> Result<(), MemFault>
-        requires ready { IsReady (plain_told self.old) }
+        requires fit { IsPlainFit self.old }
         requires may { MayDo (plain_told self.old) (Say of) }
         ensures access { Accessed (plain_told self.old) (plain_told self.new) (Say of) (λ _. Nothing) result }
-        ensures ready { OnOk result (IsReady (plain_told self.new)) }
+        ensures fit { StaysPlainFit self.old self.new result }
         ensures kept { IfErr result (λ f. plain_told self.new ≡ refused (plain_told self.old) f) }
     {
         let Some(object) = self.objects.get(self.registers.name(of)) else {
@@ -430,9 +428,9 @@ impl ObjectMemory for PlainMemory {
     }
 
     fn settle(&mut self) -> Result<(), MemFault>
-        requires { IsReady (plain_told self.old) }
+        requires fit { IsPlainFit self.old }
         ensures called { Called (plain_told self.old) (plain_told self.new) Settles result }
-        ensures ready { OnOk result (IsReady (plain_told self.new)) }
+        ensures fit { StaysPlainFit self.old self.new result }
         ensures answered { IsOk result }
         ensures kept { plain_told self.new ≡ plain_told self.old }
     {
@@ -441,9 +439,9 @@ impl ObjectMemory for PlainMemory {
     }
 
     fn purge_all(&mut self) -> Result<(), MemFault>
-        requires { IsReady (plain_told self.old) }
+        requires fit { IsPlainFit self.old }
         ensures called { Called (plain_told self.old) (plain_told self.new) Thins result }
-        ensures ready { OnOk result (IsReady (plain_told self.new)) }
+        ensures fit { StaysPlainFit self.old self.new result }
         ensures answered { IsOk result }
         ensures kept { plain_told self.new ≡ plain_told self.old }
     {
@@ -451,10 +449,10 @@ impl ObjectMemory for PlainMemory {
     }
 
     fn compact(&mut self)
-        requires { IsReady (plain_told self.old) }
+        requires fit { IsPlainFit self.old }
         ensures later { IsLater (plain_told self.old) (plain_told self.new) }
         ensures follows { Follows (plain_told self.old) (plain_told self.new) Thins }
-        ensures ready { IsReady (plain_told self.new) }
+        ensures fit { StaysPlainFit self.old self.new (Ok result) }
         ensures kept { plain_told self.new ≡ plain_told self.old }
     {}
 }

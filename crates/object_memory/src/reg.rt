@@ -22,7 +22,7 @@ impl Model for Reg {
     ghost inverse = { λ n. record { number = n } };
 }
 
-/// The registers of the interpreter (chapter 28 of the Blue Book) and of this profile, and the scratch registers from 10 on.
+/// The registers of the interpreter (chapter 28 of the Blue Book) and of this profile. R10 to R23 are scratch registers.
 impl Reg {
     pub const ACTIVE_CONTEXT: Reg = Reg { number: 0 };
 
@@ -44,33 +44,33 @@ impl Reg {
 
     pub const DISPLAY: Reg = Reg { number: 9 };
 
-    pub const SCRATCH_0: Reg = Reg { number: 10 };
+    pub const R10: Reg = Reg { number: 10 };
 
-    pub const SCRATCH_1: Reg = Reg { number: 11 };
+    pub const R11: Reg = Reg { number: 11 };
 
-    pub const SCRATCH_2: Reg = Reg { number: 12 };
+    pub const R12: Reg = Reg { number: 12 };
 
-    pub const SCRATCH_3: Reg = Reg { number: 13 };
+    pub const R13: Reg = Reg { number: 13 };
 
-    pub const SCRATCH_4: Reg = Reg { number: 14 };
+    pub const R14: Reg = Reg { number: 14 };
 
-    pub const SCRATCH_5: Reg = Reg { number: 15 };
+    pub const R15: Reg = Reg { number: 15 };
 
-    pub const SCRATCH_6: Reg = Reg { number: 16 };
+    pub const R16: Reg = Reg { number: 16 };
 
-    pub const SCRATCH_7: Reg = Reg { number: 17 };
+    pub const R17: Reg = Reg { number: 17 };
 
-    pub const SCRATCH_8: Reg = Reg { number: 18 };
+    pub const R18: Reg = Reg { number: 18 };
 
-    pub const SCRATCH_9: Reg = Reg { number: 19 };
+    pub const R19: Reg = Reg { number: 19 };
 
-    pub const SCRATCH_10: Reg = Reg { number: 20 };
+    pub const R20: Reg = Reg { number: 20 };
 
-    pub const SCRATCH_11: Reg = Reg { number: 21 };
+    pub const R21: Reg = Reg { number: 21 };
 
-    pub const SCRATCH_12: Reg = Reg { number: 22 };
+    pub const R22: Reg = Reg { number: 22 };
 
-    pub const SCRATCH_13: Reg = Reg { number: 23 };
+    pub const R23: Reg = Reg { number: 23 };
 
     /// The registers of the machine, by their numbers: all but the scratch registers.
     pub fn machine() -> [Reg; 10]

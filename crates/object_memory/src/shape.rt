@@ -1,10 +1,9 @@
 // Calls that ask what object a register names. They only read: each is, put together, a call that asks for the kind of that object,
 // answered or refused.
-ghost use Rattle.std.specs.Prelude.{◌≡◌, ◌↔◌, ◌+◌, ◌<◌, ◌≤◌, IsTrue, IsSome, OnOk, IfOk, IfSome, Some, length};
+ghost use Rattle.std.specs.Prelude.{◌≡◌, ◌↔◌, ◌+◌, ◌<◌, ◌≤◌, IsTrue, IsSome, IfOk, IfSome, Some, length};
 ghost use Rattle.long_names.specs.Objects.{kind_of, pointers_of, literals_of, words_of, bytes_of, text_of};
 ghost use Rattle.long_names.specs.State.{IsRef};
-ghost use Rattle.object_memory.specs.Told.{IsReady};
-ghost use Rattle.object_memory.specs.Contract.{KeepsSound};
+ghost use Rattle.object_memory.specs.Calls.{IsFit, KeepsFit};
 ghost use Rattle.object_memory.specs.Shape.{shape_of, fields_by, words_by, bytes_by, field_count, word_count, byte_count, literals_count, FindsPart, TestsPart, ReadsObject};
 
 use crate::fault::MemFault;
@@ -36,15 +35,11 @@ fn fits(at: u32, count: usize, len: u32) -> bool
 
 /// The kind of the object. None exactly for a number.
 pub fn kind_of<M: ObjectMemory>(m: &mut M, of: Reg) -> Result<Option<Kind>, MemFault>
-    requires sound { M.sound m.old }
-    requires ready { IsReady (M.told m.old) }
+    requires fit { IsFit M.ObjectMemory m.old }
     ensures read { ReadsObject (M.told m.old) (M.told m.new) of result }
     ensures named { IfOk result (λ kind. IsSome kind ↔ IsRef ((M.told m.old).regs of)) }
     ensures kind { IfOk result (FindsPart (M.told m.old) (M.told m.new) of (λ b. Some (kind_of b))) }
-    ensures ready { OnOk result (IsReady (M.told m.new)) }
-    ensures sound { KeepsSound result (M.sound m.new) }
-    ensures lender { M.lender m.new ≡ M.lender m.old }
-    ensures outside { M.outside m.new ≡ M.outside m.old }
+    ensures fit { KeepsFit M.ObjectMemory m.old m.new result }
 {
     if !is_name(m, of) {
         return Ok(None);
@@ -55,16 +50,12 @@ pub fn kind_of<M: ObjectMemory>(m: &mut M, of: Reg) -> Result<Option<Kind>, MemF
 
 /// The kind and the length of the object. None exactly for a number.
 pub fn shape<M: ObjectMemory>(m: &mut M, of: Reg) -> Result<Option<(Kind, u32)>, MemFault>
-    requires sound { M.sound m.old }
-    requires ready { IsReady (M.told m.old) }
+    requires fit { IsFit M.ObjectMemory m.old }
     ensures read { ReadsObject (M.told m.old) (M.told m.new) of result }
     ensures named { IfOk result (λ shape. IsSome shape ↔ IsRef ((M.told m.old).regs of)) }
     ensures shape { IfOk result (FindsPart (M.told m.old) (M.told m.new) of shape_of) }
     ensures bound { IfOk result (λ shape. IfSome shape (λ s. s.1 < 65536)) }
-    ensures ready { OnOk result (IsReady (M.told m.new)) }
-    ensures sound { KeepsSound result (M.sound m.new) }
-    ensures lender { M.lender m.new ≡ M.lender m.old }
-    ensures outside { M.outside m.new ≡ M.outside m.old }
+    ensures fit { KeepsFit M.ObjectMemory m.old m.new result }
 {
     let Some(kind) = kind_of(m, of)? else {
         return Ok(None);
@@ -105,15 +96,11 @@ fn bytes_by(kind: Kind, len: u32) -> Option<u32>
 
 /// How many values an object of pointers has. None where the register names no such object.
 pub fn fields<M: ObjectMemory>(m: &mut M, of: Reg) -> Result<Option<u32>, MemFault>
-    requires sound { M.sound m.old }
-    requires ready { IsReady (M.told m.old) }
+    requires fit { IsFit M.ObjectMemory m.old }
     ensures read { ReadsObject (M.told m.old) (M.told m.new) of result }
     ensures fields { IfOk result (FindsPart (M.told m.old) (M.told m.new) of field_count) }
     ensures bound { IfOk result (λ len. IfSome len (λ n. n < 65536)) }
-    ensures ready { OnOk result (IsReady (M.told m.new)) }
-    ensures sound { KeepsSound result (M.sound m.new) }
-    ensures lender { M.lender m.new ≡ M.lender m.old }
-    ensures outside { M.outside m.new ≡ M.outside m.old }
+    ensures fit { KeepsFit M.ObjectMemory m.old m.new result }
 {
     let Some((kind, len)) = shape(m, of)? else {
         return Ok(None);
@@ -123,15 +110,11 @@ pub fn fields<M: ObjectMemory>(m: &mut M, of: Reg) -> Result<Option<u32>, MemFau
 
 /// How many words an object of words has. None where the register names no such object.
 pub fn words<M: ObjectMemory>(m: &mut M, of: Reg) -> Result<Option<u32>, MemFault>
-    requires sound { M.sound m.old }
-    requires ready { IsReady (M.told m.old) }
+    requires fit { IsFit M.ObjectMemory m.old }
     ensures read { ReadsObject (M.told m.old) (M.told m.new) of result }
     ensures words { IfOk result (FindsPart (M.told m.old) (M.told m.new) of word_count) }
     ensures bound { IfOk result (λ len. IfSome len (λ n. n < 65536)) }
-    ensures ready { OnOk result (IsReady (M.told m.new)) }
-    ensures sound { KeepsSound result (M.sound m.new) }
-    ensures lender { M.lender m.new ≡ M.lender m.old }
-    ensures outside { M.outside m.new ≡ M.outside m.old }
+    ensures fit { KeepsFit M.ObjectMemory m.old m.new result }
 {
     let Some((kind, len)) = shape(m, of)? else {
         return Ok(None);
@@ -141,15 +124,11 @@ pub fn words<M: ObjectMemory>(m: &mut M, of: Reg) -> Result<Option<u32>, MemFaul
 
 /// How many bytes an object of bytes or a method's code has. None where the register names no such object.
 pub fn bytes<M: ObjectMemory>(m: &mut M, of: Reg) -> Result<Option<u32>, MemFault>
-    requires sound { M.sound m.old }
-    requires ready { IsReady (M.told m.old) }
+    requires fit { IsFit M.ObjectMemory m.old }
     ensures read { ReadsObject (M.told m.old) (M.told m.new) of result }
     ensures bytes { IfOk result (FindsPart (M.told m.old) (M.told m.new) of byte_count) }
     ensures bound { IfOk result (λ len. IfSome len (λ n. n < 65536)) }
-    ensures ready { OnOk result (IsReady (M.told m.new)) }
-    ensures sound { KeepsSound result (M.sound m.new) }
-    ensures lender { M.lender m.new ≡ M.lender m.old }
-    ensures outside { M.outside m.new ≡ M.outside m.old }
+    ensures fit { KeepsFit M.ObjectMemory m.old m.new result }
 {
     let Some((kind, len)) = shape(m, of)? else {
         return Ok(None);
@@ -159,15 +138,11 @@ pub fn bytes<M: ObjectMemory>(m: &mut M, of: Reg) -> Result<Option<u32>, MemFaul
 
 /// How many literals a method has. None where the register names no method.
 pub fn literals<M: ObjectMemory>(m: &mut M, of: Reg) -> Result<Option<u32>, MemFault>
-    requires sound { M.sound m.old }
-    requires ready { IsReady (M.told m.old) }
+    requires fit { IsFit M.ObjectMemory m.old }
     ensures read { ReadsObject (M.told m.old) (M.told m.new) of result }
     ensures literals { IfOk result (FindsPart (M.told m.old) (M.told m.new) of literals_count) }
     ensures bound { IfOk result (λ len. IfSome len (λ n. n < 64)) }
-    ensures ready { OnOk result (IsReady (M.told m.new)) }
-    ensures sound { KeepsSound result (M.sound m.new) }
-    ensures lender { M.lender m.new ≡ M.lender m.old }
-    ensures outside { M.outside m.new ≡ M.outside m.old }
+    ensures fit { KeepsFit M.ObjectMemory m.old m.new result }
 {
     let kind = kind_of(m, of)?;
     if !is_kind(kind, Kind::Method) {
@@ -179,14 +154,10 @@ pub fn literals<M: ObjectMemory>(m: &mut M, of: Reg) -> Result<Option<u32>, MemF
 
 /// Whether the register names an object of pointers that has a field i.
 pub fn has_field<M: ObjectMemory>(m: &mut M, of: Reg, i: u32) -> Result<bool, MemFault>
-    requires sound { M.sound m.old }
-    requires ready { IsReady (M.told m.old) }
+    requires fit { IsFit M.ObjectMemory m.old }
     ensures read { ReadsObject (M.told m.old) (M.told m.new) of result }
     ensures field { IfOk result (TestsPart (M.told m.old) (M.told m.new) of pointers_of (λ xs. i < length xs)) }
-    ensures ready { OnOk result (IsReady (M.told m.new)) }
-    ensures sound { KeepsSound result (M.sound m.new) }
-    ensures lender { M.lender m.new ≡ M.lender m.old }
-    ensures outside { M.outside m.new ≡ M.outside m.old }
+    ensures fit { KeepsFit M.ObjectMemory m.old m.new result }
 {
     let Some(len) = fields(m, of)? else {
         return Ok(false);
@@ -196,14 +167,10 @@ pub fn has_field<M: ObjectMemory>(m: &mut M, of: Reg, i: u32) -> Result<bool, Me
 
 /// Whether the register names a method that has a literal i.
 pub fn has_literal<M: ObjectMemory>(m: &mut M, of: Reg, i: u32) -> Result<bool, MemFault>
-    requires sound { M.sound m.old }
-    requires ready { IsReady (M.told m.old) }
+    requires fit { IsFit M.ObjectMemory m.old }
     ensures read { ReadsObject (M.told m.old) (M.told m.new) of result }
     ensures literal { IfOk result (TestsPart (M.told m.old) (M.told m.new) of literals_of (λ xs. i < length xs)) }
-    ensures ready { OnOk result (IsReady (M.told m.new)) }
-    ensures sound { KeepsSound result (M.sound m.new) }
-    ensures lender { M.lender m.new ≡ M.lender m.old }
-    ensures outside { M.outside m.new ≡ M.outside m.old }
+    ensures fit { KeepsFit M.ObjectMemory m.old m.new result }
 {
     let Some(len) = literals(m, of)? else {
         return Ok(false);
@@ -218,14 +185,10 @@ pub fn has_words<M: ObjectMemory>(
     at: u32,
     count: usize,
 ) -> Result<bool, MemFault>
-    requires sound { M.sound m.old }
-    requires ready { IsReady (M.told m.old) }
+    requires fit { IsFit M.ObjectMemory m.old }
     ensures read { ReadsObject (M.told m.old) (M.told m.new) of result }
     ensures words { IfOk result (TestsPart (M.told m.old) (M.told m.new) of words_of (λ xs. at + count ≤ length xs)) }
-    ensures ready { OnOk result (IsReady (M.told m.new)) }
-    ensures sound { KeepsSound result (M.sound m.new) }
-    ensures lender { M.lender m.new ≡ M.lender m.old }
-    ensures outside { M.outside m.new ≡ M.outside m.old }
+    ensures fit { KeepsFit M.ObjectMemory m.old m.new result }
 {
     let Some(len) = words(m, of)? else {
         return Ok(false);
@@ -240,14 +203,10 @@ pub fn has_bytes<M: ObjectMemory>(
     at: u32,
     count: usize,
 ) -> Result<bool, MemFault>
-    requires sound { M.sound m.old }
-    requires ready { IsReady (M.told m.old) }
+    requires fit { IsFit M.ObjectMemory m.old }
     ensures read { ReadsObject (M.told m.old) (M.told m.new) of result }
     ensures bytes { IfOk result (TestsPart (M.told m.old) (M.told m.new) of bytes_of (λ xs. at + count ≤ length xs)) }
-    ensures ready { OnOk result (IsReady (M.told m.new)) }
-    ensures sound { KeepsSound result (M.sound m.new) }
-    ensures lender { M.lender m.new ≡ M.lender m.old }
-    ensures outside { M.outside m.new ≡ M.outside m.old }
+    ensures fit { KeepsFit M.ObjectMemory m.old m.new result }
 {
     let Some(len) = bytes(m, of)? else {
         return Ok(false);
@@ -257,14 +216,10 @@ pub fn has_bytes<M: ObjectMemory>(
 
 /// Whether the register names an object of bytes.
 pub fn is_text<M: ObjectMemory>(m: &mut M, of: Reg) -> Result<bool, MemFault>
-    requires sound { M.sound m.old }
-    requires ready { IsReady (M.told m.old) }
+    requires fit { IsFit M.ObjectMemory m.old }
     ensures read { ReadsObject (M.told m.old) (M.told m.new) of result }
     ensures text { IfOk result (TestsPart (M.told m.old) (M.told m.new) of text_of (λ _. Unit {0})) }
-    ensures ready { OnOk result (IsReady (M.told m.new)) }
-    ensures sound { KeepsSound result (M.sound m.new) }
-    ensures lender { M.lender m.new ≡ M.lender m.old }
-    ensures outside { M.outside m.new ≡ M.outside m.old }
+    ensures fit { KeepsFit M.ObjectMemory m.old m.new result }
 {
     let kind = kind_of(m, of)?;
     Ok(is_kind(kind, Kind::Bytes))

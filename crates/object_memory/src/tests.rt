@@ -1,6 +1,4 @@
-ghost use Rattle.std.specs.Prelude.{OnOk};
-ghost use Rattle.object_memory.specs.Told.{IsReady};
-ghost use Rattle.object_memory.specs.Contract.{KeepsSound};
+ghost use Rattle.object_memory.specs.Calls.{IsFit, KeepsFit};
 
 mod base;
 mod steps;
@@ -12,13 +10,13 @@ use std::process::Abort;
 use std::test::Fail;
 use steps::{Answer, Between, Call, make_call};
 
-const A: Reg = Reg::SCRATCH_0;
+const A: Reg = Reg::R10;
 
-const B: Reg = Reg::SCRATCH_1;
+const B: Reg = Reg::R11;
 
-const C: Reg = Reg::SCRATCH_2;
+const C: Reg = Reg::R12;
 
-const D: Reg = Reg::SCRATCH_3;
+const D: Reg = Reg::R13;
 
 // In the tables a row is a call and what it answers.
 
@@ -170,10 +168,8 @@ fn make_calls<M: ObjectMemory>(
     m: &mut M,
     rows: &[(Call, Answer)],
 ) -> Result<(), MemFault>
-    requires sound { M.sound m.old }
-    requires ready { IsReady (M.told m.old) }
-    ensures ready { OnOk result (IsReady (M.told m.new)) }
-    ensures sound { KeepsSound result (M.sound m.new) }
+    requires fit { IsFit M.ObjectMemory m.old }
+    ensures fit { KeepsFit M.ObjectMemory m.old m.new result }
 {
     for (i, (call, wanted)) in rows.iter().enumerate() {
         let found = make_call(m, call)?;
@@ -189,10 +185,8 @@ fn repeat_calls<M: ObjectMemory>(
     rows: &[(Call, Answer)],
     times: u32,
 ) -> Result<(), MemFault>
-    requires sound { M.sound m.old }
-    requires ready { IsReady (M.told m.old) }
-    ensures ready { OnOk result (IsReady (M.told m.new)) }
-    ensures sound { KeepsSound result (M.sound m.new) }
+    requires fit { IsFit M.ObjectMemory m.old }
+    ensures fit { KeepsFit M.ObjectMemory m.old m.new result }
 {
     for _ in 0..times {
         make_calls(rt, m, rows)?;

@@ -6,7 +6,8 @@ ghost use Rattle.long_names.specs.Objects.{IsBody, HasRange, with_field, with_wo
 ghost use Rattle.long_names.specs.Heap.{put_object, add_object};
 ghost use Rattle.long_names.specs.declared.value.Value.TheVariants.{Ref};
 ghost use Rattle.long_names.specs.Access.{with_body};
-ghost use Rattle.long_names.specs.Names.{LAST_NAME, IsLongName};
+ghost use Rattle.long_names.specs.Names.{IsLongName};
+ghost use Rattle.long_names.specs.declared.limits.TheConstants.{LAST_NAME};
 ghost use Rattle.long_names.specs.State.{HasPart};
 ghost use Rattle.object_memory.specs.Stored.{IsStored, IsStored-prop};
 

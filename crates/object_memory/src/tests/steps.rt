@@ -1,8 +1,7 @@
 // Calls of a memory as data. Each is made only where it may be, so that a table may hold any of them.
-ghost use Rattle.std.specs.Prelude.{IsTrue, OnOk};
+ghost use Rattle.std.specs.Prelude.{IsTrue};
 ghost use Rattle.long_names.specs.Words.{IsSmallInteger};
-ghost use Rattle.object_memory.specs.Told.{IsReady};
-ghost use Rattle.object_memory.specs.Contract.{KeepsSound};
+ghost use Rattle.object_memory.specs.Calls.{IsFit, KeepsFit};
 
 use crate::{MemFault, ObjectMemory, Reg, shape};
 use long_names::{Kind, Name};
@@ -74,10 +73,8 @@ fn is_small(v: i16) -> bool
 }
 
 fn known<M: ObjectMemory>(m: &mut M, to: Reg, name: Name) -> Result<Answer, MemFault>
-    requires sound { M.sound m.old }
-    requires ready { IsReady (M.told m.old) }
-    ensures ready { OnOk result (IsReady (M.told m.new)) }
-    ensures sound { KeepsSound result (M.sound m.new) }
+    requires fit { IsFit M.ObjectMemory m.old }
+    ensures fit { KeepsFit M.ObjectMemory m.old m.new result }
 {
     if !name.is_known() {
         return Ok(Answer::Not);
@@ -87,10 +84,8 @@ fn known<M: ObjectMemory>(m: &mut M, to: Reg, name: Name) -> Result<Answer, MemF
 }
 
 fn header<M: ObjectMemory>(m: &mut M, of: Reg) -> Result<Answer, MemFault>
-    requires sound { M.sound m.old }
-    requires ready { IsReady (M.told m.old) }
-    ensures ready { OnOk result (IsReady (M.told m.new)) }
-    ensures sound { KeepsSound result (M.sound m.new) }
+    requires fit { IsFit M.ObjectMemory m.old }
+    ensures fit { KeepsFit M.ObjectMemory m.old m.new result }
 {
     let Some(_) = shape::literals(m, of)? else {
         return Ok(Answer::Not);
@@ -100,10 +95,8 @@ fn header<M: ObjectMemory>(m: &mut M, of: Reg) -> Result<Answer, MemFault>
 }
 
 fn field<M: ObjectMemory>(m: &mut M, to: Reg, of: Reg, i: u32) -> Result<Answer, MemFault>
-    requires sound { M.sound m.old }
-    requires ready { IsReady (M.told m.old) }
-    ensures ready { OnOk result (IsReady (M.told m.new)) }
-    ensures sound { KeepsSound result (M.sound m.new) }
+    requires fit { IsFit M.ObjectMemory m.old }
+    ensures fit { KeepsFit M.ObjectMemory m.old m.new result }
 {
     if !shape::has_field(m, of, i)? {
         return Ok(Answer::Not);
@@ -113,10 +106,8 @@ fn field<M: ObjectMemory>(m: &mut M, to: Reg, of: Reg, i: u32) -> Result<Answer,
 }
 
 fn literal<M: ObjectMemory>(m: &mut M, to: Reg, of: Reg, i: u32) -> Result<Answer, MemFault>
-    requires sound { M.sound m.old }
-    requires ready { IsReady (M.told m.old) }
-    ensures ready { OnOk result (IsReady (M.told m.new)) }
-    ensures sound { KeepsSound result (M.sound m.new) }
+    requires fit { IsFit M.ObjectMemory m.old }
+    ensures fit { KeepsFit M.ObjectMemory m.old m.new result }
 {
     if !shape::has_literal(m, of, i)? {
         return Ok(Answer::Not);
@@ -126,10 +117,8 @@ fn literal<M: ObjectMemory>(m: &mut M, to: Reg, of: Reg, i: u32) -> Result<Answe
 }
 
 fn set_field<M: ObjectMemory>(m: &mut M, of: Reg, i: u32, from: Reg) -> Result<Answer, MemFault>
-    requires sound { M.sound m.old }
-    requires ready { IsReady (M.told m.old) }
-    ensures ready { OnOk result (IsReady (M.told m.new)) }
-    ensures sound { KeepsSound result (M.sound m.new) }
+    requires fit { IsFit M.ObjectMemory m.old }
+    ensures fit { KeepsFit M.ObjectMemory m.old m.new result }
 {
     if !shape::has_field(m, of, i)? {
         return Ok(Answer::Not);
@@ -139,10 +128,8 @@ fn set_field<M: ObjectMemory>(m: &mut M, of: Reg, i: u32, from: Reg) -> Result<A
 }
 
 fn word<M: ObjectMemory>(m: &mut M, of: Reg, i: u32) -> Result<Answer, MemFault>
-    requires sound { M.sound m.old }
-    requires ready { IsReady (M.told m.old) }
-    ensures ready { OnOk result (IsReady (M.told m.new)) }
-    ensures sound { KeepsSound result (M.sound m.new) }
+    requires fit { IsFit M.ObjectMemory m.old }
+    ensures fit { KeepsFit M.ObjectMemory m.old m.new result }
 {
     if !shape::has_words(m, of, i, 1)? {
         return Ok(Answer::Not);
@@ -152,10 +139,8 @@ fn word<M: ObjectMemory>(m: &mut M, of: Reg, i: u32) -> Result<Answer, MemFault>
 }
 
 fn set_word<M: ObjectMemory>(m: &mut M, of: Reg, i: u32, w: u16) -> Result<Answer, MemFault>
-    requires sound { M.sound m.old }
-    requires ready { IsReady (M.told m.old) }
-    ensures ready { OnOk result (IsReady (M.told m.new)) }
-    ensures sound { KeepsSound result (M.sound m.new) }
+    requires fit { IsFit M.ObjectMemory m.old }
+    ensures fit { KeepsFit M.ObjectMemory m.old m.new result }
 {
     if !shape::has_words(m, of, i, 1)? {
         return Ok(Answer::Not);
@@ -165,10 +150,8 @@ fn set_word<M: ObjectMemory>(m: &mut M, of: Reg, i: u32, w: u16) -> Result<Answe
 }
 
 fn byte<M: ObjectMemory>(m: &mut M, of: Reg, i: u32) -> Result<Answer, MemFault>
-    requires sound { M.sound m.old }
-    requires ready { IsReady (M.told m.old) }
-    ensures ready { OnOk result (IsReady (M.told m.new)) }
-    ensures sound { KeepsSound result (M.sound m.new) }
+    requires fit { IsFit M.ObjectMemory m.old }
+    ensures fit { KeepsFit M.ObjectMemory m.old m.new result }
 {
     if !shape::has_bytes(m, of, i, 1)? {
         return Ok(Answer::Not);
@@ -178,10 +161,8 @@ fn byte<M: ObjectMemory>(m: &mut M, of: Reg, i: u32) -> Result<Answer, MemFault>
 }
 
 fn set_byte<M: ObjectMemory>(m: &mut M, of: Reg, i: u32, b: u8) -> Result<Answer, MemFault>
-    requires sound { M.sound m.old }
-    requires ready { IsReady (M.told m.old) }
-    ensures ready { OnOk result (IsReady (M.told m.new)) }
-    ensures sound { KeepsSound result (M.sound m.new) }
+    requires fit { IsFit M.ObjectMemory m.old }
+    ensures fit { KeepsFit M.ObjectMemory m.old m.new result }
 {
     if !shape::has_bytes(m, of, i, 1)? {
         return Ok(Answer::Not);
@@ -191,10 +172,8 @@ fn set_byte<M: ObjectMemory>(m: &mut M, of: Reg, i: u32, b: u8) -> Result<Answer
 }
 
 fn read_words<M: ObjectMemory>(m: &mut M, of: Reg, at: u32, n: usize) -> Result<Answer, MemFault>
-    requires sound { M.sound m.old }
-    requires ready { IsReady (M.told m.old) }
-    ensures ready { OnOk result (IsReady (M.told m.new)) }
-    ensures sound { KeepsSound result (M.sound m.new) }
+    requires fit { IsFit M.ObjectMemory m.old }
+    ensures fit { KeepsFit M.ObjectMemory m.old m.new result }
 {
     if n > 3 || !shape::has_words(m, of, at, n)? {
         return Ok(Answer::Not);
@@ -210,10 +189,8 @@ fn write_words<M: ObjectMemory>(
     at: u32,
     run: &[u16],
 ) -> Result<Answer, MemFault>
-    requires sound { M.sound m.old }
-    requires ready { IsReady (M.told m.old) }
-    ensures ready { OnOk result (IsReady (M.told m.new)) }
-    ensures sound { KeepsSound result (M.sound m.new) }
+    requires fit { IsFit M.ObjectMemory m.old }
+    ensures fit { KeepsFit M.ObjectMemory m.old m.new result }
 {
     if !shape::has_words(m, of, at, run.len())? {
         return Ok(Answer::Not);
@@ -223,10 +200,8 @@ fn write_words<M: ObjectMemory>(
 }
 
 fn read_bytes<M: ObjectMemory>(m: &mut M, of: Reg, at: u32, n: usize) -> Result<Answer, MemFault>
-    requires sound { M.sound m.old }
-    requires ready { IsReady (M.told m.old) }
-    ensures ready { OnOk result (IsReady (M.told m.new)) }
-    ensures sound { KeepsSound result (M.sound m.new) }
+    requires fit { IsFit M.ObjectMemory m.old }
+    ensures fit { KeepsFit M.ObjectMemory m.old m.new result }
 {
     if n > 4 || !shape::has_bytes(m, of, at, n)? {
         return Ok(Answer::Not);
@@ -237,10 +212,8 @@ fn read_bytes<M: ObjectMemory>(m: &mut M, of: Reg, at: u32, n: usize) -> Result<
 }
 
 fn new_pointers<M: ObjectMemory>(m: &mut M, to: Reg, class: Reg, n: u16) -> Result<Answer, MemFault>
-    requires sound { M.sound m.old }
-    requires ready { IsReady (M.told m.old) }
-    ensures ready { OnOk result (IsReady (M.told m.new)) }
-    ensures sound { KeepsSound result (M.sound m.new) }
+    requires fit { IsFit M.ObjectMemory m.old }
+    ensures fit { KeepsFit M.ObjectMemory m.old m.new result }
 {
     if !shape::is_name(m, class) {
         return Ok(Answer::Not);
@@ -250,10 +223,8 @@ fn new_pointers<M: ObjectMemory>(m: &mut M, to: Reg, class: Reg, n: u16) -> Resu
 }
 
 fn new_words<M: ObjectMemory>(m: &mut M, to: Reg, class: Reg, n: u16) -> Result<Answer, MemFault>
-    requires sound { M.sound m.old }
-    requires ready { IsReady (M.told m.old) }
-    ensures ready { OnOk result (IsReady (M.told m.new)) }
-    ensures sound { KeepsSound result (M.sound m.new) }
+    requires fit { IsFit M.ObjectMemory m.old }
+    ensures fit { KeepsFit M.ObjectMemory m.old m.new result }
 {
     if !shape::is_name(m, class) {
         return Ok(Answer::Not);
@@ -263,10 +234,8 @@ fn new_words<M: ObjectMemory>(m: &mut M, to: Reg, class: Reg, n: u16) -> Result<
 }
 
 fn new_bytes<M: ObjectMemory>(m: &mut M, to: Reg, class: Reg, n: u16) -> Result<Answer, MemFault>
-    requires sound { M.sound m.old }
-    requires ready { IsReady (M.told m.old) }
-    ensures ready { OnOk result (IsReady (M.told m.new)) }
-    ensures sound { KeepsSound result (M.sound m.new) }
+    requires fit { IsFit M.ObjectMemory m.old }
+    ensures fit { KeepsFit M.ObjectMemory m.old m.new result }
 {
     if !shape::is_name(m, class) {
         return Ok(Answer::Not);
@@ -282,10 +251,8 @@ fn new_method<M: ObjectMemory>(
     header: i16,
     code: u16,
 ) -> Result<Answer, MemFault>
-    requires sound { M.sound m.old }
-    requires ready { IsReady (M.told m.old) }
-    ensures ready { OnOk result (IsReady (M.told m.new)) }
-    ensures sound { KeepsSound result (M.sound m.new) }
+    requires fit { IsFit M.ObjectMemory m.old }
+    ensures fit { KeepsFit M.ObjectMemory m.old m.new result }
 {
     if !shape::is_name(m, class) || !is_small(header) || code > 16000 {
         return Ok(Answer::Not);
@@ -295,10 +262,8 @@ fn new_method<M: ObjectMemory>(
 }
 
 fn pin<M: ObjectMemory>(m: &mut M, slot: u8, r: Reg) -> Result<Answer, MemFault>
-    requires sound { M.sound m.old }
-    requires ready { IsReady (M.told m.old) }
-    ensures ready { OnOk result (IsReady (M.told m.new)) }
-    ensures sound { KeepsSound result (M.sound m.new) }
+    requires fit { IsFit M.ObjectMemory m.old }
+    ensures fit { KeepsFit M.ObjectMemory m.old m.new result }
 {
     if slot > 2 || !shape::is_name(m, r) {
         return Ok(Answer::Not);
@@ -308,10 +273,8 @@ fn pin<M: ObjectMemory>(m: &mut M, slot: u8, r: Reg) -> Result<Answer, MemFault>
 }
 
 fn unpin<M: ObjectMemory>(m: &mut M, slot: u8) -> Result<Answer, MemFault>
-    requires sound { M.sound m.old }
-    requires ready { IsReady (M.told m.old) }
-    ensures ready { OnOk result (IsReady (M.told m.new)) }
-    ensures sound { KeepsSound result (M.sound m.new) }
+    requires fit { IsFit M.ObjectMemory m.old }
+    ensures fit { KeepsFit M.ObjectMemory m.old m.new result }
 {
     if slot > 2 {
         return Ok(Answer::Not);
@@ -321,10 +284,8 @@ fn unpin<M: ObjectMemory>(m: &mut M, slot: u8) -> Result<Answer, MemFault>
 }
 
 fn mark<M: ObjectMemory>(m: &mut M, r: Reg) -> Result<Answer, MemFault>
-    requires sound { M.sound m.old }
-    requires ready { IsReady (M.told m.old) }
-    ensures ready { OnOk result (IsReady (M.told m.new)) }
-    ensures sound { KeepsSound result (M.sound m.new) }
+    requires fit { IsFit M.ObjectMemory m.old }
+    ensures fit { KeepsFit M.ObjectMemory m.old m.new result }
 {
     if !shape::is_name(m, r) {
         return Ok(Answer::Not);
@@ -334,10 +295,8 @@ fn mark<M: ObjectMemory>(m: &mut M, r: Reg) -> Result<Answer, MemFault>
 }
 
 fn put<M: ObjectMemory>(m: &mut M, r: Reg) -> Result<Answer, MemFault>
-    requires sound { M.sound m.old }
-    requires ready { IsReady (M.told m.old) }
-    ensures ready { OnOk result (IsReady (M.told m.new)) }
-    ensures sound { KeepsSound result (M.sound m.new) }
+    requires fit { IsFit M.ObjectMemory m.old }
+    ensures fit { KeepsFit M.ObjectMemory m.old m.new result }
 {
     if !shape::is_name(m, r) {
         return Ok(Answer::Not);
@@ -347,10 +306,8 @@ fn put<M: ObjectMemory>(m: &mut M, r: Reg) -> Result<Answer, MemFault>
 }
 
 fn say<M: ObjectMemory>(m: &mut M, of: Reg) -> Result<Answer, MemFault>
-    requires sound { M.sound m.old }
-    requires ready { IsReady (M.told m.old) }
-    ensures ready { OnOk result (IsReady (M.told m.new)) }
-    ensures sound { KeepsSound result (M.sound m.new) }
+    requires fit { IsFit M.ObjectMemory m.old }
+    ensures fit { KeepsFit M.ObjectMemory m.old m.new result }
 {
     if !shape::is_text(m, of)? {
         return Ok(Answer::Not);
@@ -360,10 +317,8 @@ fn say<M: ObjectMemory>(m: &mut M, of: Reg) -> Result<Answer, MemFault>
 }
 
 fn int<M: ObjectMemory>(m: &mut M, to: Reg, v: i16) -> Result<Answer, MemFault>
-    requires sound { M.sound m.old }
-    requires ready { IsReady (M.told m.old) }
-    ensures ready { OnOk result (IsReady (M.told m.new)) }
-    ensures sound { KeepsSound result (M.sound m.new) }
+    requires fit { IsFit M.ObjectMemory m.old }
+    ensures fit { KeepsFit M.ObjectMemory m.old m.new result }
 {
     if !is_small(v) {
         return Ok(Answer::Not);
@@ -391,10 +346,8 @@ fn hash<M: ObjectMemory>(m: &M, r: Reg) -> Answer
 }
 
 fn shape_of<M: ObjectMemory>(m: &mut M, of: Reg) -> Result<Answer, MemFault>
-    requires sound { M.sound m.old }
-    requires ready { IsReady (M.told m.old) }
-    ensures ready { OnOk result (IsReady (M.told m.new)) }
-    ensures sound { KeepsSound result (M.sound m.new) }
+    requires fit { IsFit M.ObjectMemory m.old }
+    ensures fit { KeepsFit M.ObjectMemory m.old m.new result }
 {
     match shape::shape(m, of)? {
         Some((kind, len)) => Ok(Answer::Shape(kind, len)),
@@ -403,20 +356,16 @@ fn shape_of<M: ObjectMemory>(m: &mut M, of: Reg) -> Result<Answer, MemFault>
 }
 
 fn class<M: ObjectMemory>(m: &mut M, to: Reg, of: Reg) -> Result<Answer, MemFault>
-    requires sound { M.sound m.old }
-    requires ready { IsReady (M.told m.old) }
-    ensures ready { OnOk result (IsReady (M.told m.new)) }
-    ensures sound { KeepsSound result (M.sound m.new) }
+    requires fit { IsFit M.ObjectMemory m.old }
+    ensures fit { KeepsFit M.ObjectMemory m.old m.new result }
 {
     m.class(to, of)?;
     Ok(Answer::Done)
 }
 
 fn call_between<M: ObjectMemory>(m: &mut M, call: Between) -> Result<Answer, MemFault>
-    requires sound { M.sound m.old }
-    requires ready { IsReady (M.told m.old) }
-    ensures ready { OnOk result (IsReady (M.told m.new)) }
-    ensures sound { KeepsSound result (M.sound m.new) }
+    requires fit { IsFit M.ObjectMemory m.old }
+    ensures fit { KeepsFit M.ObjectMemory m.old m.new result }
 {
     match call {
         Between::Settle => m.settle()?,
@@ -428,10 +377,8 @@ fn call_between<M: ObjectMemory>(m: &mut M, call: Between) -> Result<Answer, Mem
 
 /// Makes the call.
 pub(crate) fn make_call<M: ObjectMemory>(m: &mut M, call: &Call) -> Result<Answer, MemFault>
-    requires sound { M.sound m.old }
-    requires ready { IsReady (M.told m.old) }
-    ensures ready { OnOk result (IsReady (M.told m.new)) }
-    ensures sound { KeepsSound result (M.sound m.new) }
+    requires fit { IsFit M.ObjectMemory m.old }
+    ensures fit { KeepsFit M.ObjectMemory m.old m.new result }
 {
     match call {
         Call::Int(to, v) => int(m, *to, *v),

@@ -6,5 +6,5 @@ use Rattle.bounded_memory.proofs.tests.pin.Goals as goal
 
 pub pin-requires-clause-may : goal.pin-requires-clause-may
 pin-requires-clause-may c =
-    let may = may-kind (bounded_told c.known.new.self) c.new-r.result c.in_ok-known.ensures.ready refl (is-ref _ c.args.name c.in_ok-known.ensures.name) in
+    let may = may-kind (bounded_told c.known.new.self) c.new-r.result c.in_ok-known.ensures.fit.ready refl (is-ref _ c.args.name c.in_ok-known.ensures.name) in
     record { heap = may.heap; names = may.names; ranges = may.ranges }

@@ -22,8 +22,8 @@ set_field-requires-clause-may g c =
     let x = g.M.ObjectMemory.told c.int.new.self in
     let of = c.args.of in
     let load = c.in_ok-field.ensures in
-    let looks = Looks-trans _ _ u w x load.ready (Looks-access u w (Field 10 of 1) refl load.access.called) (Looks-put w x 10 _ c.int.ensures.told) in
-    may_store x of 1 10 (has_looked _ u x of pointers_of (λ xs. 1 < length xs) (c.int.ensures.ready load.ready) looks (below_among 10 (10 ∷ 10 ∷ []) of c.requires.of refl)
+    let looks = Looks-trans _ _ u w x load.fit.ready (Looks-access u w (Field 10 of 1) refl load.access.called) (Looks-put w x 10 _ c.int.ensures.told) in
+    may_store x of 1 10 (has_looked _ u x of pointers_of (λ xs. 1 < length xs) (c.int.ensures.fit.ready load.fit.ready) looks (below_among 10 (10 ∷ 10 ∷ []) of c.requires.of refl)
     (has_passed c.in_ok-has_field.ensures.field.after c.if-not-branch.false))
 
 -- the field was read, and nothing stored
@@ -33,7 +33,7 @@ read_field g c =
     let u = g.M.ObjectMemory.told c.has_field.new.m in
     let w = g.M.ObjectMemory.told c.field.new.self in
     let test = c.in_ok-has_field.ensures in
-    Looks-trans _ _ t u w test.ready (Looks-read t u c.args.of test.read) (Looks-access u w (Field 10 c.args.of 1) refl c.in_ok-field.ensures.access.called)
+    Looks-trans _ _ t u w test.fit.ready (Looks-read t u c.args.of test.read) (Looks-access u w (Field 10 c.args.of 1) refl c.in_ok-field.ensures.access.called)
 
 pub returns-in_default-clause-looked : goal.returns-in_default-clause-looked
 returns-in_default-clause-looked g c = λ none. read_field g (goal.at.returns-in_default-clause-looked g c).In_ok-field
@@ -54,11 +54,11 @@ returns-clause-bumped g c = λ done told.
     let number = c.in-Some.number in
     let next = c.in-Some-next_number.ensures in
     let first = Looks-read t u of test.read in
-    let looks = Looks-trans _ _ t u x test.ready first (Looks-trans _ _ u w x load.ready (Looks-access u w (Field 10 of 1) refl load.access.called) (Looks-put w x 10 _ c.int.ensures.told)) in
+    let looks = Looks-trans _ _ t u x test.fit.ready first (Looks-trans _ _ u w x load.fit.ready (Looks-access u w (Field 10 of 1) refl load.access.called) (Looks-put w x 10 _ c.int.ensures.told)) in
     record {
       number = number;
-      was = sym (part_looked _ t u of (λ b. field_of b 1) test.ready first refl told) ∙ load.access.called.ok.brings (first.later.tells ∙ told) ∙ ap (λ v. Some v) (int_is (w.regs 10) number (sym c.as_int.ensures.number ∙ c.in-Some.is));
+      was = sym (part_looked _ t u of (λ b. field_of b 1) test.fit.ready first refl told) ∙ load.access.called.ok.brings (first.later.tells ∙ told) ∙ ap (λ v. Some v) (int_is (w.regs 10) number (sym c.as_int.ensures.number ∙ c.in-Some.is));
       heap = store_over _ t x y of 1 10 (Int (number +ℤ pos 1)) looks (below_among 10 (10 ∷ 10 ∷ []) of c.requires.of refl)
           (put_value w x 10 (Int (number +ℤ pos 1)) (c.int.ensures.told ∙ ap (λ z. record w { regs = set_register w.regs 10 (Int z) }) (small_number c.in-Some-next_number.next next.range ∙ next.next ∙ ap (λ z. z +ℤ pos 1) (small_number number c.in-Some.ensures.range))))
-          (c.int.ensures.ready load.ready) c.in_ok-set_field.ensures.access.called told;
+          (c.int.ensures.fit.ready load.fit.ready) c.in_ok-set_field.ensures.access.called told;
     }

@@ -7,7 +7,7 @@ use Rattle.object_memory.proofs.ShapeLaws.{finds_part, kind_answer}
 use Rattle.object_memory.proofs.shape.kind_of.Goals as goal
 
 pub kind-requires-clause-may : goal.kind-requires-clause-may
-kind-requires-clause-may g c = may_kind (g.M.ObjectMemory.told c.args.m.now) c.args.of c.requires.ready (c.if-not-is_name.ensures.0 refl)
+kind-requires-clause-may g c = may_kind (g.M.ObjectMemory.told c.args.m.now) c.args.of c.requires.fit.ready (c.if-not-is_name.ensures.0 refl)
 
 pub returns-then-not-is_name-clause-read : goal.returns-then-not-is_name-clause-read
 returns-then-not-is_name-clause-read g c = read_none (g.M.ObjectMemory.told c.args.m.now) c.args.of _ (λ ref. (let no = c.if-not-is_name.ensures.1 ref in cc))
@@ -18,4 +18,4 @@ returns-clause-kind g c =
     let u = g.M.ObjectMemory.told c.kind.new.self in
     let access = c.in_ok-kind.ensures.access in
     let ref = c.if-not-is_name.ensures.0 refl in
-    finds_part t u c.args.of (λ b. Some (kind_of b)) c.in_ok-kind.kind c.in_ok-kind.ensures.ready (Looks-read t u c.args.of (read_first t u c.args.of c.in_ok-kind.kind c.in_ok-kind.kind access)) ref (λ told. kind_answer _ _ (access.answer told))
+    finds_part t u c.args.of (λ b. Some (kind_of b)) c.in_ok-kind.kind c.in_ok-kind.ensures.fit.ready (Looks-read t u c.args.of (read_first t u c.args.of c.in_ok-kind.kind c.in_ok-kind.kind access)) ref (λ told. kind_answer _ _ (access.answer told))

@@ -19,14 +19,14 @@ returns-in_err-header-clause-read g c =
     let u = g.M.ObjectMemory.told c.kind_of.new.m in
     let w = g.M.ObjectMemory.told c.header.new.self in
     let kind = c.in_ok-kind.ensures in
-    read_err t u w c.args.of (Header c.args.of) _ _ c.from_residual-in_err-header.ensures.1 c.requires.ready kind.ready (kind.named.0 (ap is_some (c.if-not-is_kind.ensures.0 refl))) kind.read refl c.in_err-header.ensures.access.called
+    read_err t u w c.args.of (Header c.args.of) _ _ c.from_residual-in_err-header.ensures.1 c.requires.fit.ready kind.fit.ready (kind.named.0 (ap is_some (c.if-not-is_kind.ensures.0 refl))) kind.read refl c.in_err-header.ensures.access.called
 
 pub returns-clause-read : goal.returns-clause-read
 returns-clause-read g c =
     let t = g.M.ObjectMemory.told c.args.m.now in
     let u = g.M.ObjectMemory.told c.kind_of.new.m in
     let w = g.M.ObjectMemory.told c.header.new.self in
-    read_ok t u w c.args.of (Header c.args.of) _ c.in_ok-kind.ensures.ready c.in_ok-kind.ensures.read refl c.in_ok-header.ensures.access.called
+    read_ok t u w c.args.of (Header c.args.of) _ c.in_ok-kind.ensures.fit.ready c.in_ok-kind.ensures.read refl c.in_ok-header.ensures.access.called
 
 pub returns-clause-literals : goal.returns-clause-literals
 returns-clause-literals g c =
@@ -38,9 +38,9 @@ returns-clause-literals g c =
     let header = c.in_ok-header.ensures in
     let method = c.if-not-is_kind.ensures.0 refl in
     let first = Looks-read t u of kind.read in
-    let both = Looks-trans _ _ t u w kind.ready first (Looks-access u w (Header of) refl header.access.called) in
+    let both = Looks-trans _ _ t u w kind.fit.ready first (Looks-access u w (Header of) refl header.access.called) in
     let count : c.literal_count.result ≡ literal_count c.in_ok-header.header = c.literal_count.ensures ∙ ap literal_count (small_number c.in_ok-header.header header.range) in
-    finds_part t w of literals_count c.literal_count.result header.ready both (kind.named.0 (ap is_some method)) (λ told.
+    finds_part t w of literals_count c.literal_count.result header.fit.ready both (kind.named.0 (ap is_some method)) (λ told.
     literals_there t.heap (t.regs of) c.literal_count.result
     (kind.kind.before.there told ∙ method)
-    (sym (part_looked _ t u of (λ b. Some (length (fields_of b))) kind.ready first refl told) ∙ header.literals (first.later.tells ∙ told) ∙ ap (λ n. Some n) (sym count)))
+    (sym (part_looked _ t u of (λ b. Some (length (fields_of b))) kind.fit.ready first refl told) ∙ header.literals (first.later.tells ∙ told) ∙ ap (λ n. Some n) (sym count)))

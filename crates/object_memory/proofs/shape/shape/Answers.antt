@@ -13,7 +13,7 @@ len-requires-clause-may g c =
     let t = g.M.ObjectMemory.told c.args.m.now in
     let u = g.M.ObjectMemory.told c.kind_of.new.m in
     let kind = c.in_ok-kind.ensures in
-    may_length u c.args.of kind.ready (ref_looked _ t u c.args.of (Looks-read t u c.args.of kind.read) refl (kind.named.0 (ap is_some c.in-Some.is)))
+    may_length u c.args.of kind.fit.ready (ref_looked _ t u c.args.of (Looks-read t u c.args.of kind.read) refl (kind.named.0 (ap is_some c.in-Some.is)))
 
 pub returns-in_err-len-clause-read : goal.returns-in_err-len-clause-read
 returns-in_err-len-clause-read g c =
@@ -21,14 +21,14 @@ returns-in_err-len-clause-read g c =
     let u = g.M.ObjectMemory.told c.kind_of.new.m in
     let w = g.M.ObjectMemory.told c.len.new.self in
     let kind = c.in_ok-kind.ensures in
-    read_err t u w c.args.of (Length c.args.of) _ _ c.from_residual-in_err-len.ensures.1 c.requires.ready kind.ready (kind.named.0 (ap is_some c.in-Some.is)) kind.read refl c.in_err-len.ensures.access.called
+    read_err t u w c.args.of (Length c.args.of) _ _ c.from_residual-in_err-len.ensures.1 c.requires.fit.ready kind.fit.ready (kind.named.0 (ap is_some c.in-Some.is)) kind.read refl c.in_err-len.ensures.access.called
 
 pub returns-clause-read : goal.returns-clause-read
 returns-clause-read g c =
     let t = g.M.ObjectMemory.told c.args.m.now in
     let u = g.M.ObjectMemory.told c.kind_of.new.m in
     let w = g.M.ObjectMemory.told c.len.new.self in
-    read_ok t u w c.args.of (Length c.args.of) _ c.in_ok-kind.ensures.ready c.in_ok-kind.ensures.read refl c.in_ok-len.ensures.access.called
+    read_ok t u w c.args.of (Length c.args.of) _ c.in_ok-kind.ensures.fit.ready c.in_ok-kind.ensures.read refl c.in_ok-len.ensures.access.called
 
 pub returns-clause-shape : goal.returns-clause-shape
 returns-clause-shape g c =
@@ -39,8 +39,8 @@ returns-clause-shape g c =
     let kind = c.in_ok-kind.ensures in
     let len = c.in_ok-len.ensures in
     let first = Looks-read t u of kind.read in
-    let both = Looks-trans _ _ t u w kind.ready first (Looks-access u w (Length of) refl len.access.called) in
-    finds_part t w of shape_of (c.in-Some.kind, c.in_ok-len.len) len.ready both (kind.named.0 (ap is_some c.in-Some.is)) (λ told.
+    let both = Looks-trans _ _ t u w kind.fit.ready first (Looks-access u w (Length of) refl len.access.called) in
+    finds_part t w of shape_of (c.in-Some.kind, c.in_ok-len.len) len.fit.ready both (kind.named.0 (ap is_some c.in-Some.is)) (λ told.
     shape_there t.heap (t.regs of) c.in-Some.kind c.in_ok-len.len
     (kind.kind.before.there told ∙ c.in-Some.is)
-    (sym (part_looked _ t u of (λ b. Some (len_of b)) kind.ready first refl told) ∙ number_answer _ _ (len.access.answer (first.later.tells ∙ told))))
+    (sym (part_looked _ t u of (λ b. Some (len_of b)) kind.fit.ready first refl told) ∙ number_answer _ _ (len.access.answer (first.later.tells ∙ told))))

@@ -8,12 +8,13 @@ use Rattle.bounded_memory.proofs.bounded.BoundedMemoryObjectMemory.begin_path.Go
 pub returns-clause-told : goal.returns-clause-told
 returns-clause-told c = path-begun c.args.self.now c.drop_lost_row.new.self c.begin_path.new.self c.drop_lost_row.ensures.told c.drop_lost_row.ensures.lost c.begin_path.ensures.told
 
-pub returns-clause-ready : goal.returns-clause-ready
-returns-clause-ready c = λ ready.
-    subst (λ (t : Told). IsReady t) (sym (path-begun c.args.self.now c.drop_lost_row.new.self c.begin_path.new.self c.drop_lost_row.ensures.told c.drop_lost_row.ensures.lost c.begin_path.ensures.told))
-    (record { whole = ready.whole; marked = ready.marked; cached = ready.cached })
-
-pub returns-clause-sound : goal.returns-clause-sound
-returns-clause-sound c =
-    let sound : IsSound c.drop_lost_row.new.self = subst (λ (m : BoundedMemory). IsSound m) (sym c.drop_lost_row.ensures.row) (record { pinned = c.requires.pinned }) in
-    sound-still c.drop_lost_row.new.self c.begin_path.new.self _ c.begin_path.ensures.told refl refl sound
+pub returns-clause-fit : goal.returns-clause-fit
+returns-clause-fit c = record {
+  sound = (let sound : IsSound c.drop_lost_row.new.self = subst (λ (m : BoundedMemory). IsSound m) (sym c.drop_lost_row.ensures.row) (record { pinned = c.requires.pinned }) in
+      sound-still c.drop_lost_row.new.self c.begin_path.new.self _ c.begin_path.ensures.told refl refl sound);
+  ready = (λ ready.
+      subst (λ (t : Told). IsReady t) (sym (path-begun c.args.self.now c.drop_lost_row.new.self c.begin_path.new.self c.drop_lost_row.ensures.told c.drop_lost_row.ensures.lost c.begin_path.ensures.told))
+      (record { whole = ready.whole; marked = ready.marked; cached = ready.cached }));
+  lender = refl;
+  outside = refl;
+}

@@ -6,10 +6,10 @@ use Rattle.bounded_memory.proofs.bounded.BoundedMemoryObjectMemory.byte.Goals as
 pub returns-in_err-fits-clause-access : goal.returns-in_err-fits-clause-access
 returns-in_err-fits-clause-access c =
     let e = c.in_err-fits.ensures in
-    not-fitting c.args.self.now c.fits.new.self (Byte c.args.of c.args.i) c.args.of OfNumber c.from_residual.result c.in_err-fits.field-0.0 c.from_residual.ensures.1 refl refl (λ need told. refl) c.requires.ready e.refused e.later e.full
+    not-fitting c.args.self.now c.fits.new.self (Byte c.args.of c.args.i) c.args.of OfNumber c.from_residual.result c.in_err-fits.field-0.0 c.from_residual.ensures.1 refl refl (λ need told. refl) c.requires.fit.ready e.refused e.later e.full
 
-pub byte-requires-clause-ready : goal.byte-requires-clause-ready
-byte-requires-clause-ready c = ready-below c.args.self.now c.fits.new.self c.in_ok-fits.ensures.told c.requires.ready
+pub byte-requires-clause-fit : goal.byte-requires-clause-fit
+byte-requires-clause-fit c = record { sound = tt; ready = ready-below c.args.self.now c.fits.new.self c.in_ok-fits.ensures.told c.requires.fit.ready }
 
 pub byte-requires-clause-may : goal.byte-requires-clause-may
 byte-requires-clause-may c = may-below c.args.self.now c.fits.new.self (Byte c.args.of c.args.i) c.in_ok-fits.ensures.told c.requires.may
@@ -17,8 +17,10 @@ byte-requires-clause-may c = may-below c.args.self.now c.fits.new.self (Byte c.a
 pub returns-clause-access : goal.returns-clause-access
 returns-clause-access c = forwards c.args.self.now c.fits.new.self c.byte.new.self (Byte c.args.of c.args.i) OfNumber c.byte.result (λ x. x) refl c.in_ok-fits.ensures.told (λ told. c.in_ok-fits.ensures.core) c.byte.ensures.access
 
-pub returns-clause-sound : goal.returns-clause-sound
-returns-clause-sound c = stays-sound c.args.self.now c.fits.new.self c.byte.new.self (Byte c.args.of c.args.i) OfNumber c.byte.result (λ x. x) refl (λ regs slots. refl) c.in_ok-fits.ensures.told c.requires.ready c.requires.may c.in_ok-fits.ensures.sound c.byte.ensures.access c.byte.ensures.ready
-
-pub returns-clause-ready : goal.returns-clause-ready
-returns-clause-ready c = ready-after c.args.self.now c.fits.new.self c.byte.new.self (Byte c.args.of c.args.i) OfNumber c.byte.result c.in_ok-fits.ensures.told c.requires.ready c.byte.ensures.access c.byte.ensures.ready
+pub returns-clause-fit : goal.returns-clause-fit
+returns-clause-fit c = record {
+  sound = stays-sound c.args.self.now c.fits.new.self c.byte.new.self (Byte c.args.of c.args.i) OfNumber c.byte.result (λ x. x) refl (λ regs slots. refl) c.in_ok-fits.ensures.told c.requires.fit.ready c.requires.may c.in_ok-fits.ensures.sound c.byte.ensures.access c.byte.ensures.fit.ready;
+  ready = ready-after c.args.self.now c.fits.new.self c.byte.new.self (Byte c.args.of c.args.i) OfNumber c.byte.result c.in_ok-fits.ensures.told c.requires.fit.ready c.byte.ensures.access c.byte.ensures.fit.ready;
+  lender = refl;
+  outside = refl;
+}

@@ -1,15 +1,15 @@
 use Rattle.std.proofs.Common.{refl}
 use Rattle.long_names.specs.Access.{KindOf, OfKind}
-use Rattle.bounded_memory.proofs.MemoryLaws.{ready-below, may-below, not-fitting, forwards, stays-sound}
+use Rattle.bounded_memory.proofs.MemoryLaws.{ready-below, may-below, not-fitting, forwards, stays-sound, ready-after}
 use Rattle.bounded_memory.proofs.bounded.BoundedMemoryObjectMemory.kind.Goals as goal
 
 pub returns-in_err-fits-clause-access : goal.returns-in_err-fits-clause-access
 returns-in_err-fits-clause-access c =
     let e = c.in_err-fits.ensures in
-    not-fitting c.args.self.now c.fits.new.self (KindOf c.args.of) c.args.of OfKind c.from_residual.result c.in_err-fits.field-0.0 c.from_residual.ensures.1 refl refl (λ need told. refl) c.requires.ready e.refused e.later e.full
+    not-fitting c.args.self.now c.fits.new.self (KindOf c.args.of) c.args.of OfKind c.from_residual.result c.in_err-fits.field-0.0 c.from_residual.ensures.1 refl refl (λ need told. refl) c.requires.fit.ready e.refused e.later e.full
 
-pub kind-requires-clause-ready : goal.kind-requires-clause-ready
-kind-requires-clause-ready c = ready-below c.args.self.now c.fits.new.self c.in_ok-fits.ensures.told c.requires.ready
+pub kind-requires-clause-fit : goal.kind-requires-clause-fit
+kind-requires-clause-fit c = record { sound = tt; ready = ready-below c.args.self.now c.fits.new.self c.in_ok-fits.ensures.told c.requires.fit.ready }
 
 pub kind-requires-clause-may : goal.kind-requires-clause-may
 kind-requires-clause-may c = may-below c.args.self.now c.fits.new.self (KindOf c.args.of) c.in_ok-fits.ensures.told c.requires.may
@@ -17,5 +17,10 @@ kind-requires-clause-may c = may-below c.args.self.now c.fits.new.self (KindOf c
 pub returns-clause-access : goal.returns-clause-access
 returns-clause-access c = forwards c.args.self.now c.fits.new.self c.kind.new.self (KindOf c.args.of) OfKind c.kind.result (λ x. x) refl c.in_ok-fits.ensures.told (λ told. c.in_ok-fits.ensures.core) c.kind.ensures.access
 
-pub returns-clause-sound : goal.returns-clause-sound
-returns-clause-sound c = stays-sound c.args.self.now c.fits.new.self c.kind.new.self (KindOf c.args.of) OfKind c.kind.result (λ x. x) refl (λ regs slots. refl) c.in_ok-fits.ensures.told c.requires.ready c.requires.may c.in_ok-fits.ensures.sound c.kind.ensures.access c.kind.ensures.ready
+pub returns-clause-fit : goal.returns-clause-fit
+returns-clause-fit c = record {
+  sound = stays-sound c.args.self.now c.fits.new.self c.kind.new.self (KindOf c.args.of) OfKind c.kind.result (λ x. x) refl (λ regs slots. refl) c.in_ok-fits.ensures.told c.requires.fit.ready c.requires.may c.in_ok-fits.ensures.sound c.kind.ensures.access c.kind.ensures.fit.ready;
+  ready = ready-after c.args.self.now c.fits.new.self c.kind.new.self (KindOf c.args.of) OfKind c.kind.result c.in_ok-fits.ensures.told c.requires.fit.ready c.kind.ensures.access c.kind.ensures.fit.ready;
+  lender = refl;
+  outside = refl;
+}

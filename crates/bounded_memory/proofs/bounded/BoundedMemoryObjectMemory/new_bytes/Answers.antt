@@ -1,4 +1,4 @@
-use Rattle.std.proofs.Common.{◌∙◌}
+use Rattle.std.proofs.Common.{refl, ◌∙◌}
 use Rattle.long_names.specs.Objects.{OfBytes}
 use Rattle.bounded_memory.proofs.SizeLaws.{bytes-size}
 use Rattle.bounded_memory.proofs.MemoryLaws.{cannot-make, makes-object, makes-sound, makes-ready}
@@ -7,7 +7,7 @@ use Rattle.bounded_memory.proofs.bounded.BoundedMemoryObjectMemory.new_bytes.Goa
 pub returns-in_err-can_make-clause-access : goal.returns-in_err-can_make-clause-access
 returns-in_err-can_make-clause-access c =
     let e = c.in_err-can_make.ensures in
-    cannot-make c.args.self.now c.can_make.new.self c.args.to c.args.class (OfBytes c.args.n) c.new.result.words c.from_residual.result c.in_err-can_make.field-0.0 c.from_residual.ensures.1 c.requires.ready c.requires.sound (c.new.ensures.words ∙ bytes-size c.args.n) e.refused e.later e.cause
+    cannot-make c.args.self.now c.can_make.new.self c.args.to c.args.class (OfBytes c.args.n) c.new.result.words c.from_residual.result c.in_err-can_make.field-0.0 c.from_residual.ensures.1 c.requires.fit.ready c.requires.fit.sound (c.new.ensures.words ∙ bytes-size c.args.n) e.refused e.later e.cause
 
 pub returns-clause-access : goal.returns-clause-access
 returns-clause-access c =
@@ -15,8 +15,10 @@ returns-clause-access c =
     let f = c.made.ensures in
     makes-object c.args.self.now c.can_make.new.self c.new_bytes-result.new.self c.made.new.self c.args.to c.args.class (OfBytes c.args.n) c.new.result.words c.new_bytes-result.result c.made.result e.kept (c.new.ensures.words ∙ bytes-size c.args.n) e.named e.room c.new_bytes-result.ensures.access c.new_bytes-result.ensures.kept f.ok f.counted f.err f.told f.refusals f.faults
 
-pub returns-clause-sound : goal.returns-clause-sound
-returns-clause-sound c = makes-sound c.args.self.now c.can_make.new.self c.new_bytes-result.new.self c.made.new.self c.args.to c.args.class (OfBytes c.args.n) c.new_bytes-result.result c.made.result c.in_ok-can_make.ensures.kept c.requires.ready c.requires.sound c.new_bytes-result.ensures.access c.new_bytes-result.ensures.ready c.made.ensures.ok c.made.ensures.err
-
-pub returns-clause-ready : goal.returns-clause-ready
-returns-clause-ready c = makes-ready c.args.self.now c.can_make.new.self c.new_bytes-result.new.self c.made.new.self c.args.to c.args.class (OfBytes c.args.n) c.new_bytes-result.result c.made.result c.in_ok-can_make.ensures.kept c.requires.ready c.new_bytes-result.ensures.access c.new_bytes-result.ensures.ready c.made.ensures.ok
+pub returns-clause-fit : goal.returns-clause-fit
+returns-clause-fit c = record {
+  sound = makes-sound c.args.self.now c.can_make.new.self c.new_bytes-result.new.self c.made.new.self c.args.to c.args.class (OfBytes c.args.n) c.new_bytes-result.result c.made.result c.in_ok-can_make.ensures.kept c.requires.fit.ready c.requires.fit.sound c.new_bytes-result.ensures.access c.new_bytes-result.ensures.fit.ready c.made.ensures.ok c.made.ensures.err;
+  ready = makes-ready c.args.self.now c.can_make.new.self c.new_bytes-result.new.self c.made.new.self c.args.to c.args.class (OfBytes c.args.n) c.new_bytes-result.result c.made.result c.in_ok-can_make.ensures.kept c.requires.fit.ready c.new_bytes-result.ensures.access c.new_bytes-result.ensures.fit.ready c.made.ensures.ok;
+  lender = refl;
+  outside = refl;
+}

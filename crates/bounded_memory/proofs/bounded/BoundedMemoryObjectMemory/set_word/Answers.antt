@@ -6,10 +6,10 @@ use Rattle.bounded_memory.proofs.bounded.BoundedMemoryObjectMemory.set_word.Goal
 pub returns-in_err-fits-clause-access : goal.returns-in_err-fits-clause-access
 returns-in_err-fits-clause-access c =
     let e = c.in_err-fits.ensures in
-    not-fitting c.args.self.now c.fits.new.self (SetWord c.args.of c.args.i c.args.w) c.args.of (λ _. Nothing) c.from_residual.result c.in_err-fits.field-0.0 c.from_residual.ensures.1 refl refl (λ need told. refl) c.requires.ready e.refused e.later e.full
+    not-fitting c.args.self.now c.fits.new.self (SetWord c.args.of c.args.i c.args.w) c.args.of (λ _. Nothing) c.from_residual.result c.in_err-fits.field-0.0 c.from_residual.ensures.1 refl refl (λ need told. refl) c.requires.fit.ready e.refused e.later e.full
 
-pub set_word-requires-clause-ready : goal.set_word-requires-clause-ready
-set_word-requires-clause-ready c = ready-below c.args.self.now c.fits.new.self c.in_ok-fits.ensures.told c.requires.ready
+pub set_word-requires-clause-fit : goal.set_word-requires-clause-fit
+set_word-requires-clause-fit c = record { sound = tt; ready = ready-below c.args.self.now c.fits.new.self c.in_ok-fits.ensures.told c.requires.fit.ready }
 
 pub set_word-requires-clause-may : goal.set_word-requires-clause-may
 set_word-requires-clause-may c = may-below c.args.self.now c.fits.new.self (SetWord c.args.of c.args.i c.args.w) c.in_ok-fits.ensures.told c.requires.may
@@ -17,8 +17,10 @@ set_word-requires-clause-may c = may-below c.args.self.now c.fits.new.self (SetW
 pub returns-clause-access : goal.returns-clause-access
 returns-clause-access c = forwards c.args.self.now c.fits.new.self c.set_word.new.self (SetWord c.args.of c.args.i c.args.w) (λ _. Nothing) c.set_word.result (λ x. x) refl c.in_ok-fits.ensures.told (λ told. c.in_ok-fits.ensures.core) c.set_word.ensures.access
 
-pub returns-clause-sound : goal.returns-clause-sound
-returns-clause-sound c = stays-sound c.args.self.now c.fits.new.self c.set_word.new.self (SetWord c.args.of c.args.i c.args.w) (λ _. Nothing) c.set_word.result (λ x. x) refl (λ regs slots. refl) c.in_ok-fits.ensures.told c.requires.ready c.requires.may c.in_ok-fits.ensures.sound c.set_word.ensures.access c.set_word.ensures.ready
-
-pub returns-clause-ready : goal.returns-clause-ready
-returns-clause-ready c = ready-after c.args.self.now c.fits.new.self c.set_word.new.self (SetWord c.args.of c.args.i c.args.w) (λ _. Nothing) c.set_word.result c.in_ok-fits.ensures.told c.requires.ready c.set_word.ensures.access c.set_word.ensures.ready
+pub returns-clause-fit : goal.returns-clause-fit
+returns-clause-fit c = record {
+  sound = stays-sound c.args.self.now c.fits.new.self c.set_word.new.self (SetWord c.args.of c.args.i c.args.w) (λ _. Nothing) c.set_word.result (λ x. x) refl (λ regs slots. refl) c.in_ok-fits.ensures.told c.requires.fit.ready c.requires.may c.in_ok-fits.ensures.sound c.set_word.ensures.access c.set_word.ensures.fit.ready;
+  ready = ready-after c.args.self.now c.fits.new.self c.set_word.new.self (SetWord c.args.of c.args.i c.args.w) (λ _. Nothing) c.set_word.result c.in_ok-fits.ensures.told c.requires.fit.ready c.set_word.ensures.access c.set_word.ensures.fit.ready;
+  lender = refl;
+  outside = refl;
+}

@@ -20,12 +20,16 @@ returns-clause-access c =
 pub returns-clause-name : goal.returns-clause-name
 returns-clause-name c = is-ref _ _ (here _ _ c.args.to _ c.set.ensures)
 
-pub returns-clause-ready : goal.returns-clause-ready
-returns-clause-ready c =
-    let t = plain_told c.args.self.now in
-    let a = Class c.args.to c.args.of in
-    let is = loaded-is t.regs _ c.args.to (brought t.heap t.regs a) (Ref c.class_of-class.result) (ap (option_and_then (λ class. Some (Ref class))) c.class_of-class.ensures.value) c.set.ensures in
-    subst (λ (regs : ℕ → Value). IsReady (record t { regs = regs })) (sym is) (answered-ready t a t.transcript t.cache c.requires.ready refl (c.requires.may.heap refl) (c.requires.ready.marked refl) (λ i j k. refl))
+pub returns-clause-fit : goal.returns-clause-fit
+returns-clause-fit c = record {
+  sound = tt;
+  ready = (let t = plain_told c.args.self.now in
+      let a = Class c.args.to c.args.of in
+      let is = loaded-is t.regs _ c.args.to (brought t.heap t.regs a) (Ref c.class_of-class.result) (ap (option_and_then (λ class. Some (Ref class))) c.class_of-class.ensures.value) c.set.ensures in
+      subst (λ (regs : ℕ → Value). IsReady (record t { regs = regs })) (sym is) (answered-ready t a t.transcript t.cache c.requires.fit.ready refl (c.requires.may.heap refl) (c.requires.fit.ready.marked refl) (λ i j k. refl)));
+  lender = refl;
+  outside = refl;
+}
 
 pub returns-clause-number : goal.returns-clause-number
 returns-clause-number c number = here _ _ c.args.to _ c.set.ensures ∙ ap Ref (class-of-number (plain_told c.args.self.now).heap ((plain_told c.args.self.now).regs c.args.of) c.class_of-class.result c.class_of-class.ensures.value number)

@@ -17,8 +17,12 @@ returns-clause-access c =
 pub returns-clause-name : goal.returns-clause-name
 returns-clause-name c = here _ _ c.args.to _ c.set.ensures
 
-pub returns-clause-ready : goal.returns-clause-ready
-returns-clause-ready c =
-    let t = plain_told c.args.self.now in
-    let a = Known c.args.to c.args.name in
-    subst (λ (regs : ℕ → Value). IsReady (record t { regs = regs })) (sym c.set.ensures) (answered-ready t a t.transcript t.cache c.requires.ready refl (c.requires.may.heap refl) (c.requires.ready.marked refl) (λ i j k. refl))
+pub returns-clause-fit : goal.returns-clause-fit
+returns-clause-fit c = record {
+  sound = tt;
+  ready = (let t = plain_told c.args.self.now in
+      let a = Known c.args.to c.args.name in
+      subst (λ (regs : ℕ → Value). IsReady (record t { regs = regs })) (sym c.set.ensures) (answered-ready t a t.transcript t.cache c.requires.fit.ready refl (c.requires.may.heap refl) (c.requires.fit.ready.marked refl) (λ i j k. refl)));
+  lender = refl;
+  outside = refl;
+}

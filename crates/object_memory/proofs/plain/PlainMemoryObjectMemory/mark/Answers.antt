@@ -20,17 +20,21 @@ returns-in-Ok-clause-marked c =
     let t = plain_told c.args.self.now in
     mark-here t.cache (t.regs c.args.r) c.name-name.result (cache_of c.add.new.self) c.name-name.ensures.value c.in-Ok.ensures.ok
 
-pub returns-in-Ok-clause-ready : goal.returns-in-Ok-clause-ready
-returns-in-Ok-clause-ready c =
-    let t = plain_told c.args.self.now in
-    let k = cache_of c.add.new.self in
-    answered-ready t (Mark c.args.r) t.transcript k c.requires.ready refl (c.requires.may.heap refl)
-    (λ n e. marked-there t c.args.r c.name-name.result n c.requires.ready refl c.name-name.ensures.value (sym (ap (λ (x : Cache). x.marks n) c.in-Ok.ensures.ok) ∙ e))
-    (λ i j k. refl)
+pub returns-in-Ok-clause-fit : goal.returns-in-Ok-clause-fit
+returns-in-Ok-clause-fit c = record {
+  sound = tt;
+  ready = (let t = plain_told c.args.self.now in
+      let k = cache_of c.add.new.self in
+      answered-ready t (Mark c.args.r) t.transcript k c.requires.fit.ready refl (c.requires.may.heap refl)
+      (λ n e. marked-there t c.args.r c.name-name.result n c.requires.fit.ready refl c.name-name.ensures.value (sym (ap (λ (x : Cache). x.marks n) c.in-Ok.ensures.ok) ∙ e))
+      (λ i j k. refl));
+  lender = refl;
+  outside = refl;
+}
 
 pub returns-in-Err-clause-access : goal.returns-in-Err-clause-access
 returns-in-Err-clause-access c =
     let t = plain_told c.args.self.now in
     let is : plain_told c.refuse.new.self ≡ refused t Memory = c.refuse.ensures.refused ∙ ap (λ (k : Cache). refused (record t { cache = k }) Memory) c.in-Err.ensures.err in
     subst₂ (λ (u : Told) (f : MemFault). Accessed {A = Unit {0}} t u (Mark c.args.r) (λ _. Nothing) (Err f)) (sym is) (sym c.refuse.ensures.result)
-    (refuses t (Mark c.args.r) (λ _. Nothing) Memory refl c.requires.ready (subst (λ (u : Told). t.refusals ≤ u.refusals) is c.refuse.ensures.later) (inr (refl, tt, λ low. makes-none t.heap low)) (λ g is told. refl))
+    (refuses t (Mark c.args.r) (λ _. Nothing) Memory refl c.requires.fit.ready (subst (λ (u : Told). t.refusals ≤ u.refusals) is c.refuse.ensures.later) (inr (refl, tt, λ low. makes-none t.heap low)) (λ g is told. refl))

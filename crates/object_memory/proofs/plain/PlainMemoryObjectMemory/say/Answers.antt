@@ -13,4 +13,4 @@ returns-in-Err-clause-access c =
     let t = plain_told c.args.self.now in
     let is : plain_told c.refuse.new.self ≡ refused t Memory = c.refuse.ensures.refused ∙ ap (λ (x : List ℕ). refused (record t { transcript = x }) Memory) c.in-Err.ensures.err in
     subst₂ (λ (u : Told) (f : MemFault). Accessed {A = Unit {0}} t u (Say c.args.of) (λ _. Nothing) (Err f)) (sym is) (sym c.refuse.ensures.result)
-    (refuses t (Say c.args.of) (λ _. Nothing) Memory refl c.requires.ready (subst (λ (u : Told). t.refusals ≤ u.refusals) is c.refuse.ensures.later) (inr (refl, tt, λ low. makes-none t.heap low)) (says-refused t c.args.of))
+    (refuses t (Say c.args.of) (λ _. Nothing) Memory refl c.requires.fit.ready (subst (λ (u : Told). t.refusals ≤ u.refusals) is c.refuse.ensures.later) (inr (refl, tt, λ low. makes-none t.heap low)) (says-refused t c.args.of))

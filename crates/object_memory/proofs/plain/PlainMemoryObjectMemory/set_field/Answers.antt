@@ -21,13 +21,17 @@ returns-clause-access c =
     subst (λ (h : Heap). Accessed t (record t { heap = h; cache = k }) a (λ _. Nothing) (Ok (tt {0}))) (sym is)
     (answered t a t.transcript k (λ _. Nothing) (tt {0}) refl refl (c.requires.may.heap refl) (touched-is (t.regs c.args.of) c.name-name.result t.cache k c.name-name.ensures.value c.touch.ensures.leaves) (λ _. refl) refl (makes-none t.heap))
 
-pub returns-clause-ready : goal.returns-clause-ready
-returns-clause-ready c =
-    let t = plain_told c.args.self.now in
-    let a = SetField c.args.of c.args.i c.args.from in
-    let k = cache_of c.touch.new.self in
-    let is : heap_of c.set_field.new.self ≡ heap_after t.heap t.regs a =
-    (c.set_field.ensures
-    ∙ ap (λ (v : Value). with_body t.heap v (λ b. with_field b c.args.i c.get-value.result)) (sym c.name-name.ensures.value)
-    ∙ ap (λ (v : Value). with_body t.heap (t.regs c.args.of) (λ b. with_field b c.args.i v)) c.get-value.ensures.value) in
-    subst (λ (h : Heap). IsReady (record t { heap = h; cache = k })) (sym is) (answered-ready t a t.transcript k c.requires.ready refl (c.requires.may.heap refl) (λ n e. c.requires.ready.marked refl n (c.touch.ensures.fewer n e)) (λ i j k. refl))
+pub returns-clause-fit : goal.returns-clause-fit
+returns-clause-fit c = record {
+  sound = tt;
+  ready = (let t = plain_told c.args.self.now in
+      let a = SetField c.args.of c.args.i c.args.from in
+      let k = cache_of c.touch.new.self in
+      let is : heap_of c.set_field.new.self ≡ heap_after t.heap t.regs a =
+      (c.set_field.ensures
+      ∙ ap (λ (v : Value). with_body t.heap v (λ b. with_field b c.args.i c.get-value.result)) (sym c.name-name.ensures.value)
+      ∙ ap (λ (v : Value). with_body t.heap (t.regs c.args.of) (λ b. with_field b c.args.i v)) c.get-value.ensures.value) in
+      subst (λ (h : Heap). IsReady (record t { heap = h; cache = k })) (sym is) (answered-ready t a t.transcript k c.requires.fit.ready refl (c.requires.may.heap refl) (λ n e. c.requires.fit.ready.marked refl n (c.touch.ensures.fewer n e)) (λ i j k. refl)));
+  lender = refl;
+  outside = refl;
+}
