@@ -3,7 +3,7 @@ ghost use Rattle.std.specs.Prelude.{◌≡◌, ◌+◌, ◌≤◌, ◌++◌, ℕ
 ghost use Rattle.arrayvec.specs.ArrayString.{array_string_len};
 ghost use Rattle.blue_model.specs.Cycle.{Ending};
 ghost use Rattle.loom_run.specs.Parts.{IsFinished, IsStopped, StopsBy, is_own_reason};
-ghost use Rattle.loom_run.specs.Run.{HasCounted, IsParkedBy};
+ghost use Rattle.blue_model.specs.Endings.{HasCounted, IsParkedBy};
 ghost use Rattle.loom_run.specs.Status.{role_text, text_of, line_of, code_of};
 ghost use Rattle.loom_run.specs.Top.{HasRun, JudgesRun};
 
