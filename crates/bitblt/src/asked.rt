@@ -1,4 +1,4 @@
-// What a BitBlt asks for: the numbers in its fields 3 to 13. The BitBlt is in SCRATCH_0, numbers are read into SCRATCH_2.
+// What a BitBlt asks for: the numbers in its fields 3 to 13. The BitBlt is in R10, numbers are read into R12.
 ghost use Rattle.std.specs.Prelude.{◌≡◌, ◌+◌, [], ◌∷◌, OnOk, IfOk, IfSome, ◌<◌};
 ghost use Rattle.object_memory.specs.Told.{IsReady};
 ghost use Rattle.object_memory.specs.Shape.{Looks};
@@ -7,7 +7,10 @@ ghost use Rattle.blue_model.specs.Trials.{peek};
 ghost use Rattle.blue_model.specs.BitBlt as model;
 ghost use Rattle.contexts.specs.Serves.{Serves, StaysSound};
 ghost use Rattle.bitblt.specs.Asking.{place_at, places_found, asked_found};
+ghost use Rattle.object_memory.specs.Calls.{IsFit};
+ghost use Rattle.contexts.specs.Calls.{StaysFit};
 
+use blue_model::indexes::{BITBLT_SIZE, COMBINATION_RULE_INDEX};
 use contexts::Stop;
 use contexts::peeks::peek_number;
 use object_memory::{ObjectMemory, Reg};
@@ -32,20 +35,16 @@ pub struct Asked {
 
 /// The numbers in a field and in the next one.
 fn read_place<M: ObjectMemory>(m: &mut M, i: u32) -> Result<Option<Place>, Stop>
-    requires sound { M.sound m.old }
-    requires ready { IsReady (M.told m.old) }
+    requires fit { IsFit M.ObjectMemory m.old }
     requires field { i < 13 }
     ensures serves { (cpu : Numbers) → Serves (M.told m.old) cpu (M.told m.new) cpu (peek (place_at i) ((M.told m.old).regs 10)) (places_found result) }
     ensures looks { OnOk result (Looks (12 ∷ []) (M.told m.old) (M.told m.new)) }
-    ensures ready { OnOk result (IsReady (M.told m.new)) }
-    ensures sound { StaysSound result (M.sound m.new) }
-    ensures lender { M.lender m.new ≡ M.lender m.old }
-    ensures outside { M.outside m.new ≡ M.outside m.old }
+    ensures fit { StaysFit M.ObjectMemory m.old m.new result }
 {
-    let Some(x) = peek_number(m, Reg::SCRATCH_2, Reg::SCRATCH_0, 14, i)? else {
+    let Some(x) = peek_number(m, Reg::R12, Reg::R10, BITBLT_SIZE, i)? else {
         return Ok(None);
     };
-    let Some(y) = peek_number(m, Reg::SCRATCH_2, Reg::SCRATCH_0, 14, i + 1)? else {
+    let Some(y) = peek_number(m, Reg::R12, Reg::R10, BITBLT_SIZE, i + 1)? else {
         return Ok(None);
     };
     Ok(Some(Place { x, y }))
@@ -65,17 +64,13 @@ fn rule_number(z: i16) -> Option<u8>
 
 /// What the BitBlt asks for. None where a field holds no number, or the rule is none.
 pub(crate) fn read_asked<M: ObjectMemory>(m: &mut M) -> Result<Option<Asked>, Stop>
-    requires sound { M.sound m.old }
-    requires ready { IsReady (M.told m.old) }
+    requires fit { IsFit M.ObjectMemory m.old }
     ensures serves { (cpu : Numbers) → Serves (M.told m.old) cpu (M.told m.new) cpu (peek model.asked_of ((M.told m.old).regs 10)) (asked_found result) }
     ensures looks { OnOk result (Looks (12 ∷ []) (M.told m.old) (M.told m.new)) }
     ensures rule { IfOk result (λ asked. IfSome asked (λ q. q.rule < 16)) }
-    ensures ready { OnOk result (IsReady (M.told m.new)) }
-    ensures sound { StaysSound result (M.sound m.new) }
-    ensures lender { M.lender m.new ≡ M.lender m.old }
-    ensures outside { M.outside m.new ≡ M.outside m.old }
+    ensures fit { StaysFit M.ObjectMemory m.old m.new result }
 {
-    let Some(z) = peek_number(m, Reg::SCRATCH_2, Reg::SCRATCH_0, 14, 3)? else {
+    let Some(z) = peek_number(m, Reg::R12, Reg::R10, BITBLT_SIZE, COMBINATION_RULE_INDEX)? else {
         return Ok(None);
     };
     let Some(rule) = rule_number(z) else {

@@ -1,4 +1,4 @@
-// A copy as it is asked for. The bits of destination, source and halftone are in SCRATCH_3 to SCRATCH_5.
+// A copy as it is asked for. The bits of destination, source and halftone are in R13 to R15.
 ghost use Rattle.std.specs.Prelude.{◌≡◌, ◌≤◌, ◌<◌, true, false, [], length, IsTrue, OnOk, IfSome, is_some, Some, ℕ, slice_index};
 ghost use Rattle.long_names.specs.Objects.{words_of};
 ghost use Rattle.object_memory.specs.Told.{IsReady};
@@ -15,6 +15,8 @@ ghost use Rattle.forms.specs.Shapes.{IsExtent, form_by, least_words};
 ghost use Rattle.bitblt.specs.Shapes.{optional_by, OptionalRoom};
 ghost use Rattle.bitblt.specs.Transfers.{Fits};
 ghost use Rattle.bitblt.specs.Plans.{widths, heights, is_column, is_row, tone_words, IsPlanOf};
+ghost use Rattle.object_memory.specs.Calls.{IsFit};
+ghost use Rattle.contexts.specs.Calls.{StaysFit};
 
 use crate::asked::Asked;
 use crate::clip::{Span, clip_axis};
@@ -116,21 +118,17 @@ fn read_halftone<M: ObjectMemory>(
     halftone: Option<Extent>,
     out: &mut [u16],
 ) -> Result<(), Stop>
-    requires sound { M.sound m.old }
-    requires ready { IsReady (M.told m.old) }
+    requires fit { IsFit M.ObjectMemory m.old }
     requires room { OptionalRoom (M.told m.old) 15 true halftone }
     requires out { length out.old ≡ 16 }
     requires black { (k : ℕ) → k < 16 → slice_index out.old k ≡ 65535 }
     ensures serves { (cpu : Numbers) → Serves (M.told m.old) cpu (M.told m.new) cpu (look_at_source (is_some halftone) ((M.told m.old).regs 15)) result }
     ensures looks { OnOk result (Looks [] (M.told m.old) (M.told m.new)) }
     ensures words { OnOk result (IsTrue (M.told m.old).tells → (k : ℕ) → k < 16 → slice_index out.new k ≡ slice_index (tone_words halftone (M.told m.old)) k) }
-    ensures ready { OnOk result (IsReady (M.told m.new)) }
-    ensures sound { StaysSound result (M.sound m.new) }
-    ensures lender { M.lender m.new ≡ M.lender m.old }
-    ensures outside { M.outside m.new ≡ M.outside m.old }
+    ensures fit { StaysFit M.ObjectMemory m.old m.new result }
 {
     if halftone.is_some() {
-        m.read_words(Reg::SCRATCH_5, 0, out)?;
+        m.read_words(Reg::R15, 0, out)?;
     }
     Ok(())
 }
@@ -143,8 +141,7 @@ pub(crate) fn copy_pixels<M: ObjectMemory>(
     source: Option<Extent>,
     halftone: Option<Extent>,
 ) -> Result<(), Stop>
-    requires sound { M.sound m.old }
-    requires ready { IsReady (M.told m.old) }
+    requires fit { IsFit M.ObjectMemory m.old }
     requires rule { q.now.rule < 16 }
     requires dest { IsExtent dest × (least_words false dest < 65536) }
     requires source { IfSome source (λ e. IsExtent e × (least_words false e < 65536)) }
@@ -152,10 +149,7 @@ pub(crate) fn copy_pixels<M: ObjectMemory>(
     requires source_room { OptionalRoom (M.told m.old) 14 false source }
     requires halftone_room { OptionalRoom (M.told m.old) 15 true halftone }
     ensures serves { (cpu : Numbers) → Serves (M.told m.old) cpu (M.told m.new) cpu (model.copy (asked_by q.now) (form_by ((M.told m.old).regs 13) dest) (optional_by ((M.told m.old).regs 14) source) (optional_by ((M.told m.old).regs 15) halftone)) result }
-    ensures ready { OnOk result (IsReady (M.told m.new)) }
-    ensures sound { StaysSound result (M.sound m.new) }
-    ensures lender { M.lender m.new ≡ M.lender m.old }
-    ensures outside { M.outside m.new ≡ M.outside m.old }
+    ensures fit { StaysFit M.ObjectMemory m.old m.new result }
 {
     let Some(x) = columns(q, dest, source) else {
         return Ok(());

@@ -22,6 +22,3 @@ mod transfer;
 
 pub use contexts::{Answer, Cpu, Stop};
 pub use table::run;
-
-#[cfg(test)]
-mod tests;

@@ -1,4 +1,4 @@
-// A form, or nil for none. It is in SCRATCH_1, numbers are read into SCRATCH_2.
+// A form, or nil for none. It is in R11, numbers are read into R12.
 ghost use Rattle.std.specs.Prelude.{◌≡◌, ◌≤◌, ◌<◌, [], ◌∷◌, OnOk, IfOk, IfSome};
 ghost use Rattle.object_memory.specs.Told.{IsReady};
 ghost use Rattle.object_memory.specs.Shape.{Looks};
@@ -9,6 +9,8 @@ ghost use Rattle.contexts.specs.Serves.{Serves, StaysSound};
 ghost use Rattle.forms.specs.Shapes.{IsExtent, enough};
 ghost use Rattle.forms.specs.Shapes as shapes;
 ghost use Rattle.bitblt.specs.Shapes.{optional_found, OptionalRoom};
+ghost use Rattle.object_memory.specs.Calls.{IsFit};
+ghost use Rattle.contexts.specs.Calls.{StaysFit};
 
 use contexts::Stop;
 use forms::{Extent, read_form};
@@ -22,19 +24,15 @@ pub(crate) fn read_optional_form<M: ObjectMemory>(
     bits: Reg,
     halftone: bool,
 ) -> Result<Option<Option<Extent>>, Stop>
-    requires sound { M.sound m.old }
-    requires ready { IsReady (M.told m.old) }
+    requires fit { IsFit M.ObjectMemory m.old }
     requires bits { 13 ≤ bits }
     ensures serves { (cpu : Numbers) → Serves (M.told m.old) cpu (M.told m.new) cpu (form_or_nil (model.form_where (enough halftone)) ((M.told m.old).regs 11)) (optional_found result ((M.told m.new).regs bits)) }
     ensures looks { OnOk result (Looks (bits ∷ 12 ∷ []) (M.told m.old) (M.told m.new)) }
     ensures room { IfOk result (λ found. IfSome found (OptionalRoom (M.told m.new) bits halftone)) }
     ensures extent { IfOk result (λ found. IfSome found (λ x. IfSome x (λ e. IsExtent e × (shapes.least_words halftone e < 65536)))) }
-    ensures ready { OnOk result (IsReady (M.told m.new)) }
-    ensures sound { StaysSound result (M.sound m.new) }
-    ensures lender { M.lender m.new ≡ M.lender m.old }
-    ensures outside { M.outside m.new ≡ M.outside m.old }
+    ensures fit { StaysFit M.ObjectMemory m.old m.new result }
 {
-    if m.is(Reg::SCRATCH_1, Name::NIL) {
+    if m.is(Reg::R11, Name::NIL) {
         return Ok(Some(None));
     }
     let Some(extent) = read_form(m, bits, halftone)? else {

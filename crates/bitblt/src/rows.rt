@@ -1,4 +1,4 @@
-// The rows of a transfer, each read whole before it is written. The destination's bits are in SCRATCH_3, the source's in SCRATCH_4.
+// The rows of a transfer, each read whole before it is written. The destination's bits are in R13, the source's in R14.
 ghost use Rattle.std.specs.Prelude.{◌≡◌, ◌+◌, ◌-◌, ◌*◌, ◌/◌, ◌<◌, ◌≤◌, ℕ, [], List, length, slice_index, IsTrue, OnOk};
 ghost use Rattle.object_memory.specs.Told.{IsReady};
 ghost use Rattle.object_memory.specs.Shape.{Looks};
@@ -9,6 +9,8 @@ ghost use Rattle.contexts.specs.Serves.{Serves, StaysSound};
 ghost use Rattle.bitblt.specs.Transfers.{Fits, source_pixel, skip_of, run_length, row_words, words_after};
 ghost use Rattle.bitblt.specs.Transfers as transfers;
 ghost use Rattle.bitblt.specs.Blits.{dest_words, source_words, HasRooms, look_at_source, blit_words, IsWritten};
+ghost use Rattle.object_memory.specs.Calls.{IsFit};
+ghost use Rattle.contexts.specs.Calls.{StaysFit};
 
 use crate::transfer::Transfer;
 use bit_rows::blend_row;
@@ -28,8 +30,7 @@ fn read_source<M: ObjectMemory>(
     y: usize,
     out: &mut [u16],
 ) -> Result<(), Stop>
-    requires sound { M.sound m.old }
-    requires ready { IsReady (M.told m.old) }
+    requires fit { IsFit M.ObjectMemory m.old }
     requires fits { Fits t.now }
     requires rooms { HasRooms t.now (M.told m.old) }
     requires row { t.now.top ≤ y }
@@ -38,16 +39,13 @@ fn read_source<M: ObjectMemory>(
     ensures serves { (cpu : Numbers) → Serves (M.told m.old) cpu (M.told m.new) cpu (look_at_source t.now.has_source ((M.told m.old).regs 14)) result }
     ensures looks { OnOk result (Looks [] (M.told m.old) (M.told m.new)) }
     ensures pixels { OnOk result (IsTrue (M.told m.old).tells → (x : ℕ) → t.now.left ≤ x → x < t.now.right → bit out.new (skip_of t.now + (x - 16 * (t.now.left / 16))) ≡ source_pixel t.now (source_words t.now.has_source (M.told m.old)) x y) }
-    ensures ready { OnOk result (IsReady (M.told m.new)) }
-    ensures sound { StaysSound result (M.sound m.new) }
-    ensures lender { M.lender m.new ≡ M.lender m.old }
-    ensures outside { M.outside m.new ≡ M.outside m.old }
+    ensures fit { StaysFit M.ObjectMemory m.old m.new result }
 {
     if t.has_source {
         let first = t.source_left / 16;
         let count = (t.source_left + (t.right - 1 - t.left)) / 16 - first + 1;
         let at = t.source_stride * (y - t.top + t.source_top) + first;
-        m.read_words(Reg::SCRATCH_4, at as u32, &mut out[1..1 + count])?;
+        m.read_words(Reg::R14, at as u32, &mut out[1..1 + count])?;
     } else {
         out.fill(0xFFFF);
     }
@@ -63,8 +61,7 @@ fn blend_run<M: ObjectMemory>(
     y: usize,
     run: &mut [u16],
 ) -> Result<(), Stop>
-    requires sound { M.sound m.old }
-    requires ready { IsReady (M.told m.old) }
+    requires fit { IsFit M.ObjectMemory m.old }
     requires fits { Fits t.now }
     requires rooms { HasRooms t.now (M.told m.old) }
     requires row { t.now.top ≤ y }
@@ -75,15 +72,12 @@ fn blend_run<M: ObjectMemory>(
     requires pixels { IsTrue (M.told m.old).tells → (x : ℕ) → t.now.left ≤ x → x < t.now.right → bit source.now (skip_of t.now + (x - 16 * (t.now.left / 16))) ≡ source_pixel t.now (source_words t.now.has_source (M.told m.old)) x y }
     ensures serves { (cpu : Numbers) → Serves (M.told m.old) cpu (M.told m.new) cpu (put_words ((M.told m.old).regs 13) (row_words t.now (source_words t.now.has_source (M.told m.old)) halftone.now (dest_words (M.told m.old)) y)) result }
     ensures written { OnOk result (IsWritten t.now (M.told m.old) (M.told m.new) (row_words t.now (source_words t.now.has_source (M.told m.old)) halftone.now (dest_words (M.told m.old)) y)) }
-    ensures ready { OnOk result (IsReady (M.told m.new)) }
-    ensures sound { StaysSound result (M.sound m.new) }
-    ensures lender { M.lender m.new ≡ M.lender m.old }
-    ensures outside { M.outside m.new ≡ M.outside m.old }
+    ensures fit { StaysFit M.ObjectMemory m.old m.new result }
 {
     let first = t.left / 16;
     let at = (t.stride * y + first) as u32;
     let skip = 16 + t.source_left % 16 - t.left % 16;
-    m.read_words(Reg::SCRATCH_3, at, run)?;
+    m.read_words(Reg::R13, at, run)?;
     blend_row(
         run,
         source,
@@ -93,7 +87,7 @@ fn blend_run<M: ObjectMemory>(
         halftone[y % 16],
         t.rule,
     );
-    m.write_words(Reg::SCRATCH_3, at, run)?;
+    m.write_words(Reg::R13, at, run)?;
     Ok(())
 }
 
@@ -104,8 +98,7 @@ fn blend_one<M: ObjectMemory>(
     halftone: &[u16],
     y: usize,
 ) -> Result<(), Stop>
-    requires sound { M.sound m.old }
-    requires ready { IsReady (M.told m.old) }
+    requires fit { IsFit M.ObjectMemory m.old }
     requires fits { Fits t.now }
     requires rooms { HasRooms t.now (M.told m.old) }
     requires row { t.now.top ≤ y }
@@ -113,10 +106,7 @@ fn blend_one<M: ObjectMemory>(
     requires halftone { length halftone.now ≡ 16 }
     ensures serves { (cpu : Numbers) → Serves (M.told m.old) cpu (M.told m.new) cpu (blit_words t.now.has_source ((M.told m.old).regs 14) ((M.told m.old).regs 13) (row_words t.now (source_words t.now.has_source (M.told m.old)) halftone.now (dest_words (M.told m.old)) y)) result }
     ensures written { OnOk result (IsWritten t.now (M.told m.old) (M.told m.new) (row_words t.now (source_words t.now.has_source (M.told m.old)) halftone.now (dest_words (M.told m.old)) y)) }
-    ensures ready { OnOk result (IsReady (M.told m.new)) }
-    ensures sound { StaysSound result (M.sound m.new) }
-    ensures lender { M.lender m.new ≡ M.lender m.old }
-    ensures outside { M.outside m.new ≡ M.outside m.old }
+    ensures fit { StaysFit M.ObjectMemory m.old m.new result }
 {
     let mut source = [0u16; BUFFER_WORDS];
     read_source(m, t, y, &mut source)?;
@@ -148,17 +138,13 @@ pub(crate) fn blend_rows<M: ObjectMemory>(
     t: &Transfer,
     halftone: &[u16],
 ) -> Result<(), Stop>
-    requires sound { M.sound m.old }
-    requires ready { IsReady (M.told m.old) }
+    requires fit { IsFit M.ObjectMemory m.old }
     requires fits { Fits t.now }
     requires rooms { HasRooms t.now (M.told m.old) }
     requires halftone { length halftone.now ≡ 16 }
     ensures serves { (cpu : Numbers) → Serves (M.told m.old) cpu (M.told m.new) cpu (blit_words t.now.has_source ((M.told m.old).regs 14) ((M.told m.old).regs 13) (words_after t.now (source_words t.now.has_source (M.told m.old)) halftone.now (dest_words (M.told m.old)))) result }
     ensures regs { OnOk result ((M.told m.new).regs ≡ (M.told m.old).regs) }
-    ensures ready { OnOk result (IsReady (M.told m.new)) }
-    ensures sound { StaysSound result (M.sound m.new) }
-    ensures lender { M.lender m.new ≡ M.lender m.old }
-    ensures outside { M.outside m.new ≡ M.outside m.old }
+    ensures fit { StaysFit M.ObjectMemory m.old m.new result }
 {
     for i in 0..t.bottom - t.top {
         let y = t.bottom - 1 - i;

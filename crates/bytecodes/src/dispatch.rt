@@ -9,6 +9,8 @@ ghost use Rattle.contexts.specs.Serves.{Serves, Speaks, StaysSound, HasRest};
 ghost use Rattle.blue_model.specs.declared.cpu.Cpu.{Cpu as Numbers};
 ghost use Rattle.blue_model.specs.Machine.{clear as clear_rule};
 ghost use Rattle.bytecodes.specs.Steps.{next_by};
+ghost use Rattle.object_memory.specs.Calls.{IsFit};
+ghost use Rattle.contexts.specs.Calls.{StaysFit};
 
 use crate::jumps::{jump_on, long_jump, long_jump_on, short_jump};
 use crate::returns::{return_from_block, return_known, return_receiver, return_top};
@@ -29,14 +31,10 @@ use object_memory::ObjectMemory;
 
 /// Pushes, and stores that pop: bytecodes 0 to 119.
 pub(crate) fn push_bytecode<M: ObjectMemory>(m: &mut M, cpu: &mut Cpu, byte: u8) -> Result<(), Stop>
-    requires sound { M.sound m.old }
-    requires ready { IsReady (M.told m.old) }
+    requires fit { IsFit M.ObjectMemory m.old }
     requires to { byte ≤ 119 }
     ensures serves { (events : List Line) → Serves (M.told m.old) cpu.old (M.told m.new) cpu.new (bytecode_rule events byte) (next_by result) }
-    ensures ready { OnOk result (IsReady (M.told m.new)) }
-    ensures sound { StaysSound result (M.sound m.new) }
-    ensures lender { M.lender m.new ≡ M.lender m.old }
-    ensures outside { M.outside m.new ≡ M.outside m.old }
+    ensures fit { StaysFit M.ObjectMemory m.old m.new result }
 {
     match byte {
         0..=15 => push_variable(m, cpu, Variable::Receiver, u32::from(byte)),
@@ -60,15 +58,11 @@ pub(crate) fn return_bytecode<M: ObjectMemory>(
     events: &EventList,
     byte: u8,
 ) -> Result<Step, Stop>
-    requires sound { M.sound m.old }
-    requires ready { IsReady (M.told m.old) }
+    requires fit { IsFit M.ObjectMemory m.old }
     requires from { 120 ≤ byte }
     requires to { byte ≤ 125 }
     ensures serves { Speaks Next (M.told m.old) cpu.old (M.told m.new) cpu.new (bytecode_rule events.now byte) result }
-    ensures ready { OnOk result (IsReady (M.told m.new)) }
-    ensures sound { StaysSound result (M.sound m.new) }
-    ensures lender { M.lender m.new ≡ M.lender m.old }
-    ensures outside { M.outside m.new ≡ M.outside m.old }
+    ensures fit { StaysFit M.ObjectMemory m.old m.new result }
 {
     match byte {
         120 => return_receiver(m, cpu, events),
@@ -86,15 +80,11 @@ pub(crate) fn extended_bytecode<M: ObjectMemory>(
     cpu: &mut Cpu,
     byte: u8,
 ) -> Result<(), Stop>
-    requires sound { M.sound m.old }
-    requires ready { IsReady (M.told m.old) }
+    requires fit { IsFit M.ObjectMemory m.old }
     requires from { 126 ≤ byte }
     requires to { byte ≤ 130 }
     ensures serves { (events : List Line) → Serves (M.told m.old) cpu.old (M.told m.new) cpu.new (bytecode_rule events byte) (next_by result) }
-    ensures ready { OnOk result (IsReady (M.told m.new)) }
-    ensures sound { StaysSound result (M.sound m.new) }
-    ensures lender { M.lender m.new ≡ M.lender m.old }
-    ensures outside { M.outside m.new ≡ M.outside m.old }
+    ensures fit { StaysFit M.ObjectMemory m.old m.new result }
 {
     match byte {
         128 => extended_push(m, cpu),
@@ -111,15 +101,11 @@ pub(crate) fn extended_send_bytecode<M: ObjectMemory>(
     events: &EventList,
     byte: u8,
 ) -> Result<Step, Stop>
-    requires sound { M.sound m.old }
-    requires ready { IsReady (M.told m.old) }
+    requires fit { IsFit M.ObjectMemory m.old }
     requires from { 131 ≤ byte }
     requires to { byte ≤ 134 }
     ensures serves { Speaks Next (M.told m.old) cpu.old (M.told m.new) cpu.new (bytecode_rule events.now byte) result }
-    ensures ready { OnOk result (IsReady (M.told m.new)) }
-    ensures sound { StaysSound result (M.sound m.new) }
-    ensures lender { M.lender m.new ≡ M.lender m.old }
-    ensures outside { M.outside m.new ≡ M.outside m.old }
+    ensures fit { StaysFit M.ObjectMemory m.old m.new result }
 {
     match byte {
         131 => single_extended_send(m, cpu, events),
@@ -135,15 +121,11 @@ pub(crate) fn stack_bytecode<M: ObjectMemory>(
     cpu: &mut Cpu,
     byte: u8,
 ) -> Result<(), Stop>
-    requires sound { M.sound m.old }
-    requires ready { IsReady (M.told m.old) }
+    requires fit { IsFit M.ObjectMemory m.old }
     requires from { 135 ≤ byte }
     requires to { byte ≤ 143 }
     ensures serves { (events : List Line) → Serves (M.told m.old) cpu.old (M.told m.new) cpu.new (bytecode_rule events byte) (next_by result) }
-    ensures ready { OnOk result (IsReady (M.told m.new)) }
-    ensures sound { StaysSound result (M.sound m.new) }
-    ensures lender { M.lender m.new ≡ M.lender m.old }
-    ensures outside { M.outside m.new ≡ M.outside m.old }
+    ensures fit { StaysFit M.ObjectMemory m.old m.new result }
 {
     match byte {
         135 => pop(cpu, 1),
@@ -160,15 +142,11 @@ pub(crate) fn jump_bytecode<M: ObjectMemory>(
     events: &EventList,
     byte: u8,
 ) -> Result<Step, Stop>
-    requires sound { M.sound m.old }
-    requires ready { IsReady (M.told m.old) }
+    requires fit { IsFit M.ObjectMemory m.old }
     requires from { 144 ≤ byte }
     requires to { byte ≤ 175 }
     ensures serves { Speaks Next (M.told m.old) cpu.old (M.told m.new) cpu.new (bytecode_rule events.now byte) result }
-    ensures ready { OnOk result (IsReady (M.told m.new)) }
-    ensures sound { StaysSound result (M.sound m.new) }
-    ensures lender { M.lender m.new ≡ M.lender m.old }
-    ensures outside { M.outside m.new ≡ M.outside m.old }
+    ensures fit { StaysFit M.ObjectMemory m.old m.new result }
 {
     match byte {
         144..=151 => {
@@ -213,14 +191,10 @@ pub(crate) fn send_bytecode<M: ObjectMemory>(
     events: &EventList,
     byte: u8,
 ) -> Result<Step, Stop>
-    requires sound { M.sound m.old }
-    requires ready { IsReady (M.told m.old) }
+    requires fit { IsFit M.ObjectMemory m.old }
     requires from { 176 ≤ byte }
     ensures serves { Speaks Next (M.told m.old) cpu.old (M.told m.new) cpu.new (bytecode_rule events.now byte) result }
-    ensures ready { OnOk result (IsReady (M.told m.new)) }
-    ensures sound { StaysSound result (M.sound m.new) }
-    ensures lender { M.lender m.new ≡ M.lender m.old }
-    ensures outside { M.outside m.new ≡ M.outside m.old }
+    ensures fit { StaysFit M.ObjectMemory m.old m.new result }
 {
     match byte {
         176..=191 => arithmetic_send(m, cpu, events, u32::from(byte - 176)),
@@ -244,13 +218,9 @@ pub(crate) fn bytecode<M: ObjectMemory>(
     events: &EventList,
     byte: u8,
 ) -> Result<Step, Stop>
-    requires sound { M.sound m.old }
-    requires ready { IsReady (M.told m.old) }
+    requires fit { IsFit M.ObjectMemory m.old }
     ensures serves { Speaks Next (M.told m.old) cpu.old (M.told m.new) cpu.new (bytecode_rule events.now byte) result }
-    ensures ready { OnOk result (IsReady (M.told m.new)) }
-    ensures sound { StaysSound result (M.sound m.new) }
-    ensures lender { M.lender m.new ≡ M.lender m.old }
-    ensures outside { M.outside m.new ≡ M.outside m.old }
+    ensures fit { StaysFit M.ObjectMemory m.old m.new result }
 {
     match byte {
         0..=119 => {
@@ -274,14 +244,10 @@ pub(crate) fn bytecode<M: ObjectMemory>(
 
 /// No message is left in its registers, and no value in a scratch register.
 fn rest<M: ObjectMemory>(m: &mut M)
-    requires sound { M.sound m.old }
-    requires ready { IsReady (M.told m.old) }
+    requires fit { IsFit M.ObjectMemory m.old }
     ensures serves { (cpu : Numbers) → Serves (M.told m.old) cpu (M.told m.new) cpu (clear_rule is_message) (Ok tt) }
     ensures rest { HasRest (M.told m.new) }
-    ensures ready { IsReady (M.told m.new) }
-    ensures sound { M.sound m.new }
-    ensures lender { M.lender m.new ≡ M.lender m.old }
-    ensures outside { M.outside m.new ≡ M.outside m.old }
+    ensures fit { StaysFit M.ObjectMemory m.old m.new (Ok result) }
 {
     clear(m, 4, 6);
     clear(m, 10, 24);
@@ -289,14 +255,10 @@ fn rest<M: ObjectMemory>(m: &mut M)
 
 /// Fetches a bytecode and does it (interpret, chapter 28). Input comes from the event list. The bytecode isn't counted here.
 pub fn step<M: ObjectMemory>(m: &mut M, cpu: &mut Cpu, events: &EventList) -> Result<Step, Stop>
-    requires sound { M.sound m.old }
-    requires ready { IsReady (M.told m.old) }
+    requires fit { IsFit M.ObjectMemory m.old }
     ensures serves { Speaks Next (M.told m.old) cpu.old (M.told m.new) cpu.new (step_rule events.now) result }
     ensures rest { OnOk result (HasRest (M.told m.new)) }
-    ensures ready { OnOk result (IsReady (M.told m.new)) }
-    ensures sound { StaysSound result (M.sound m.new) }
-    ensures lender { M.lender m.new ≡ M.lender m.old }
-    ensures outside { M.outside m.new ≡ M.outside m.old }
+    ensures fit { StaysFit M.ObjectMemory m.old m.new result }
 {
     let byte = fetch(m, cpu)?;
     let step = bytecode(m, cpu, events, byte)?;

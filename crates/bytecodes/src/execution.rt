@@ -10,6 +10,8 @@ ghost use Rattle.blue_model.specs.Primitives.{is_perform as is_perform_rule};
 ghost use Rattle.blue_model.specs.Sends as model;
 ghost use Rattle.bytecodes.specs.Steps.{activation};
 ghost use Rattle.contexts.specs.Serves.{Serves, Speaks, StaysSound};
+ghost use Rattle.object_memory.specs.Calls.{IsFit};
+ghost use Rattle.contexts.specs.Calls.{StaysFit};
 
 use crate::tries::{has_failed, is_execute, is_perform, step_of, try_primitive};
 use blue_model::Step;
@@ -22,19 +24,15 @@ use send_lookup::header::{flag, temporaries};
 
 /// Replaces the receiver by its field i. Arguments stay where they are.
 fn answer_field<M: ObjectMemory>(m: &mut M, cpu: &mut Cpu, i: u32) -> Result<(), Stop>
-    requires sound { M.sound m.old }
-    requires ready { IsReady (M.told m.old) }
+    requires fit { IsFit M.ObjectMemory m.old }
     requires number { i < 32 }
     ensures serves { Serves (M.told m.old) cpu.old (M.told m.new) cpu.new (model.answer_field i) result }
-    ensures ready { OnOk result (IsReady (M.told m.new)) }
-    ensures sound { StaysSound result (M.sound m.new) }
-    ensures lender { M.lender m.new ≡ M.lender m.old }
-    ensures outside { M.outside m.new ≡ M.outside m.old }
+    ensures fit { StaysFit M.ObjectMemory m.old m.new result }
 {
     let depth = u32::from(cpu.args);
-    stack(m, cpu, Reg::SCRATCH_0, depth)?;
-    field(m, Reg::SCRATCH_0, Reg::SCRATCH_0, 0, i)?;
-    put_stack(m, cpu, depth, Reg::SCRATCH_0)?;
+    stack(m, cpu, Reg::R10, depth)?;
+    field(m, Reg::R10, Reg::R10, 0, i)?;
+    put_stack(m, cpu, depth, Reg::R10)?;
     Ok(())
 }
 
@@ -55,13 +53,9 @@ fn is_none(index: u8, performed: bool) -> bool
 
 /// Activates the method in register 5.
 fn activated<M: ObjectMemory>(m: &mut M, cpu: &mut Cpu) -> Result<Answer, Stop>
-    requires sound { M.sound m.old }
-    requires ready { IsReady (M.told m.old) }
+    requires fit { IsFit M.ObjectMemory m.old }
     ensures serves { Serves (M.told m.old) cpu.old (M.told m.new) cpu.new activation result }
-    ensures ready { OnOk result (IsReady (M.told m.new)) }
-    ensures sound { StaysSound result (M.sound m.new) }
-    ensures lender { M.lender m.new ≡ M.lender m.old }
-    ensures outside { M.outside m.new ≡ M.outside m.old }
+    ensures fit { StaysFit M.ObjectMemory m.old m.new result }
 {
     activate(m, cpu)?;
     Ok(Answer::Done)
@@ -75,15 +69,11 @@ fn execute_extended<M: ObjectMemory>(
     events: &EventList,
     performed: bool,
 ) -> Result<Answer, Stop>
-    requires sound { M.sound m.old }
-    requires ready { IsReady (M.told m.old) }
+    requires fit { IsFit M.ObjectMemory m.old }
     ensures serves { Speaks Done (M.told m.old) cpu.old (M.told m.new) cpu.new (model.execute_extended events.now performed ((M.told m.old).regs NEW_METHOD)) result }
-    ensures ready { OnOk result (IsReady (M.told m.new)) }
-    ensures sound { StaysSound result (M.sound m.new) }
-    ensures lender { M.lender m.new ≡ M.lender m.old }
-    ensures outside { M.outside m.new ≡ M.outside m.old }
+    ensures fit { StaysFit M.ObjectMemory m.old m.new result }
 {
-    let extension = extension(m, Reg::SCRATCH_0, Reg::NEW_METHOD)?;
+    let extension = extension(m, Reg::R10, Reg::NEW_METHOD)?;
     let index = primitive(extension);
     if is_none(index, performed) {
         return activated(m, cpu);
@@ -103,13 +93,9 @@ fn execute_method<M: ObjectMemory>(
     events: &EventList,
     performed: bool,
 ) -> Result<Answer, Stop>
-    requires sound { M.sound m.old }
-    requires ready { IsReady (M.told m.old) }
+    requires fit { IsFit M.ObjectMemory m.old }
     ensures serves { Speaks Done (M.told m.old) cpu.old (M.told m.new) cpu.new (model.execute_method events.now performed) result }
-    ensures ready { OnOk result (IsReady (M.told m.new)) }
-    ensures sound { StaysSound result (M.sound m.new) }
-    ensures lender { M.lender m.new ≡ M.lender m.old }
-    ensures outside { M.outside m.new ≡ M.outside m.old }
+    ensures fit { StaysFit M.ObjectMemory m.old m.new result }
 {
     let header = header(m, Reg::NEW_METHOD)?;
     match flag(header) {
@@ -129,13 +115,9 @@ pub(crate) fn execute<M: ObjectMemory>(
     cpu: &mut Cpu,
     events: &EventList,
 ) -> Result<Step, Stop>
-    requires sound { M.sound m.old }
-    requires ready { IsReady (M.told m.old) }
+    requires fit { IsFit M.ObjectMemory m.old }
     ensures serves { Speaks Next (M.told m.old) cpu.old (M.told m.new) cpu.new (model.execute events.now) result }
-    ensures ready { OnOk result (IsReady (M.told m.new)) }
-    ensures sound { StaysSound result (M.sound m.new) }
-    ensures lender { M.lender m.new ≡ M.lender m.old }
-    ensures outside { M.outside m.new ≡ M.outside m.old }
+    ensures fit { StaysFit M.ObjectMemory m.old m.new result }
 {
     let answer = execute_method(m, cpu, events, false)?;
     if is_execute(answer) {

@@ -5,6 +5,8 @@ ghost use Rattle.blue_model.specs.declared.step.Step.TheVariants.{Next};
 ghost use Rattle.blue_model.specs.Bytecodes as model;
 ghost use Rattle.blue_model.specs.Contexts.{jump as jump_rule};
 ghost use Rattle.contexts.specs.Serves.{Serves, Speaks, StaysSound};
+ghost use Rattle.object_memory.specs.Calls.{IsFit};
+ghost use Rattle.contexts.specs.Calls.{StaysFit};
 
 use crate::sends::must_be_boolean;
 use blue_model::Step;
@@ -13,7 +15,7 @@ use event_file::EventList;
 use long_names::Name;
 use object_memory::{ObjectMemory, Reg};
 
-/// Jumps so far where the value in SCRATCH_0 is the first of two objects, and goes on where it is the second. mustBeBoolean is
+/// Jumps so far where the value in R10 is the first of two objects, and goes on where it is the second. mustBeBoolean is
 /// sent to any other.
 pub(crate) fn jump_where<M: ObjectMemory>(
     m: &mut M,
@@ -23,20 +25,16 @@ pub(crate) fn jump_where<M: ObjectMemory>(
     passed: Name,
     distance: u32,
 ) -> Result<Step, Stop>
-    requires sound { M.sound m.old }
-    requires ready { IsReady (M.told m.old) }
+    requires fit { IsFit M.ObjectMemory m.old }
     requires distance { distance < 1024 }
     ensures serves { Speaks Next (M.told m.old) cpu.old (M.told m.new) cpu.new (model.jump_where events.now taken passed (pos distance) ((M.told m.old).regs 10)) result }
-    ensures ready { OnOk result (IsReady (M.told m.new)) }
-    ensures sound { StaysSound result (M.sound m.new) }
-    ensures lender { M.lender m.new ≡ M.lender m.old }
-    ensures outside { M.outside m.new ≡ M.outside m.old }
+    ensures fit { StaysFit M.ObjectMemory m.old m.new result }
 {
-    if m.is(Reg::SCRATCH_0, taken) {
+    if m.is(Reg::R10, taken) {
         jump(m, cpu, distance as i32)?;
         return Ok(Step::Next);
     }
-    if m.is(Reg::SCRATCH_0, passed) {
+    if m.is(Reg::R10, passed) {
         return Ok(Step::Next);
     }
     must_be_boolean(m, cpu, events)
@@ -51,16 +49,12 @@ pub(crate) fn jump_on<M: ObjectMemory>(
     passed: Name,
     distance: u32,
 ) -> Result<Step, Stop>
-    requires sound { M.sound m.old }
-    requires ready { IsReady (M.told m.old) }
+    requires fit { IsFit M.ObjectMemory m.old }
     requires distance { distance < 1024 }
     ensures serves { Speaks Next (M.told m.old) cpu.old (M.told m.new) cpu.new (model.jump_on events.now taken passed (pos distance)) result }
-    ensures ready { OnOk result (IsReady (M.told m.new)) }
-    ensures sound { StaysSound result (M.sound m.new) }
-    ensures lender { M.lender m.new ≡ M.lender m.old }
-    ensures outside { M.outside m.new ≡ M.outside m.old }
+    ensures fit { StaysFit M.ObjectMemory m.old m.new result }
 {
-    pop_top(m, cpu, Reg::SCRATCH_0)?;
+    pop_top(m, cpu, Reg::R10)?;
     jump_where(m, cpu, events, taken, passed, distance)
 }
 
@@ -70,14 +64,10 @@ pub(crate) fn short_jump<M: ObjectMemory>(
     cpu: &mut Cpu,
     distance: u32,
 ) -> Result<(), Stop>
-    requires sound { M.sound m.old }
-    requires ready { IsReady (M.told m.old) }
+    requires fit { IsFit M.ObjectMemory m.old }
     requires distance { distance < 1024 }
     ensures serves { Serves (M.told m.old) cpu.old (M.told m.new) cpu.new (jump_rule (pos distance)) result }
-    ensures ready { OnOk result (IsReady (M.told m.new)) }
-    ensures sound { StaysSound result (M.sound m.new) }
-    ensures lender { M.lender m.new ≡ M.lender m.old }
-    ensures outside { M.outside m.new ≡ M.outside m.old }
+    ensures fit { StaysFit M.ObjectMemory m.old m.new result }
 {
     jump(m, cpu, distance as i32)?;
     Ok(())
@@ -85,14 +75,10 @@ pub(crate) fn short_jump<M: ObjectMemory>(
 
 /// Jumps by 256 times i - 4, and the next byte.
 pub(crate) fn long_jump<M: ObjectMemory>(m: &mut M, cpu: &mut Cpu, i: u32) -> Result<(), Stop>
-    requires sound { M.sound m.old }
-    requires ready { IsReady (M.told m.old) }
+    requires fit { IsFit M.ObjectMemory m.old }
     requires number { i < 8 }
     ensures serves { Serves (M.told m.old) cpu.old (M.told m.new) cpu.new (model.long_jump i) result }
-    ensures ready { OnOk result (IsReady (M.told m.new)) }
-    ensures sound { StaysSound result (M.sound m.new) }
-    ensures lender { M.lender m.new ≡ M.lender m.old }
-    ensures outside { M.outside m.new ≡ M.outside m.old }
+    ensures fit { StaysFit M.ObjectMemory m.old m.new result }
 {
     let byte = fetch(m, cpu)?;
     let distance = (256 * i + u32::from(byte)) as i32 - 1024;
@@ -109,14 +95,10 @@ pub(crate) fn long_jump_on<M: ObjectMemory>(
     passed: Name,
     i: u32,
 ) -> Result<Step, Stop>
-    requires sound { M.sound m.old }
-    requires ready { IsReady (M.told m.old) }
+    requires fit { IsFit M.ObjectMemory m.old }
     requires number { i < 4 }
     ensures serves { Speaks Next (M.told m.old) cpu.old (M.told m.new) cpu.new (model.long_jump_on events.now taken passed i) result }
-    ensures ready { OnOk result (IsReady (M.told m.new)) }
-    ensures sound { StaysSound result (M.sound m.new) }
-    ensures lender { M.lender m.new ≡ M.lender m.old }
-    ensures outside { M.outside m.new ≡ M.outside m.old }
+    ensures fit { StaysFit M.ObjectMemory m.old m.new result }
 {
     let byte = fetch(m, cpu)?;
     jump_on(m, cpu, events, taken, passed, 256 * i + u32::from(byte))

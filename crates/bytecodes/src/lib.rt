@@ -22,6 +22,3 @@ mod variables;
 
 pub use blue_model::Step;
 pub use dispatch::step;
-
-#[cfg(test)]
-mod tests;

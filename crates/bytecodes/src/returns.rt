@@ -9,9 +9,12 @@ ghost use Rattle.blue_model.specs.Sends.{return_to};
 ghost use Rattle.blue_model.specs.Machine.{register, known as known_rule};
 ghost use Rattle.long_names.specs.State.{RECEIVER};
 ghost use Rattle.contexts.specs.Serves.{Serves, Speaks, StaysSound};
+ghost use Rattle.object_memory.specs.Calls.{IsFit};
+ghost use Rattle.contexts.specs.Calls.{StaysFit};
 
 use crate::sends::cannot_return;
 use blue_model::Step;
+use blue_model::indexes::{CALLER_INDEX, INSTRUCTION_POINTER_INDEX, SENDER_INDEX};
 use contexts::parts::{field, known};
 use contexts::{Cpu, Stop, back, pop_top, push};
 use event_file::EventList;
@@ -20,60 +23,48 @@ use object_memory::{ObjectMemory, Reg};
 
 /// Goes back to a context, and pushes a value there. Both stand in the first scratch registers.
 pub(crate) fn back_with<M: ObjectMemory>(m: &mut M, cpu: &mut Cpu) -> Result<(), Stop>
-    requires sound { M.sound m.old }
-    requires ready { IsReady (M.told m.old) }
+    requires fit { IsFit M.ObjectMemory m.old }
     ensures serves { Serves (M.told m.old) cpu.old (M.told m.new) cpu.new (back_with ((M.told m.old).regs 11) ((M.told m.old).regs 10)) result }
-    ensures ready { OnOk result (IsReady (M.told m.new)) }
-    ensures sound { StaysSound result (M.sound m.new) }
-    ensures lender { M.lender m.new ≡ M.lender m.old }
-    ensures outside { M.outside m.new ≡ M.outside m.old }
+    ensures fit { StaysFit M.ObjectMemory m.old m.new result }
 {
-    back(m, cpu, Reg::SCRATCH_1)?;
-    push(m, cpu, Reg::SCRATCH_0)?;
+    back(m, cpu, Reg::R11)?;
+    push(m, cpu, Reg::R10)?;
     Ok(())
 }
 
-/// Returns a value to a context (returnValue:to:): the value in SCRATCH_0, the context in SCRATCH_1. Where that is nil or has ended,
+/// Returns a value to a context (returnValue:to:): the value in R10, the context in R11. Where that is nil or has ended,
 /// cannotReturn: is sent.
 pub(crate) fn return_to<M: ObjectMemory>(
     m: &mut M,
     cpu: &mut Cpu,
     events: &EventList,
 ) -> Result<Step, Stop>
-    requires sound { M.sound m.old }
-    requires ready { IsReady (M.told m.old) }
+    requires fit { IsFit M.ObjectMemory m.old }
     ensures serves { Speaks Next (M.told m.old) cpu.old (M.told m.new) cpu.new (return_to events.now ((M.told m.old).regs 11) ((M.told m.old).regs 10)) result }
-    ensures ready { OnOk result (IsReady (M.told m.new)) }
-    ensures sound { StaysSound result (M.sound m.new) }
-    ensures lender { M.lender m.new ≡ M.lender m.old }
-    ensures outside { M.outside m.new ≡ M.outside m.old }
+    ensures fit { StaysFit M.ObjectMemory m.old m.new result }
 {
-    if m.is(Reg::SCRATCH_1, Name::NIL) {
+    if m.is(Reg::R11, Name::NIL) {
         return cannot_return(m, cpu, events);
     }
-    field(m, Reg::SCRATCH_2, Reg::SCRATCH_1, 0, 1)?;
-    if m.is(Reg::SCRATCH_2, Name::NIL) {
+    field(m, Reg::R12, Reg::R11, 0, INSTRUCTION_POINTER_INDEX)?;
+    if m.is(Reg::R12, Name::NIL) {
         return cannot_return(m, cpu, events);
     }
     back_with(m, cpu)?;
     Ok(Step::Next)
 }
 
-/// Returns the value in SCRATCH_0 to the sender of the home.
+/// Returns the value in R10 to the sender of the home.
 pub(crate) fn return_home<M: ObjectMemory>(
     m: &mut M,
     cpu: &mut Cpu,
     events: &EventList,
 ) -> Result<Step, Stop>
-    requires sound { M.sound m.old }
-    requires ready { IsReady (M.told m.old) }
+    requires fit { IsFit M.ObjectMemory m.old }
     ensures serves { Speaks Next (M.told m.old) cpu.old (M.told m.new) cpu.new (model.return_home events.now ((M.told m.old).regs 10)) result }
-    ensures ready { OnOk result (IsReady (M.told m.new)) }
-    ensures sound { StaysSound result (M.sound m.new) }
-    ensures lender { M.lender m.new ≡ M.lender m.old }
-    ensures outside { M.outside m.new ≡ M.outside m.old }
+    ensures fit { StaysFit M.ObjectMemory m.old m.new result }
 {
-    field(m, Reg::SCRATCH_1, Reg::HOME, 0, 0)?;
+    field(m, Reg::R11, Reg::HOME, 0, SENDER_INDEX)?;
     return_to(m, cpu, events)
 }
 
@@ -83,15 +74,11 @@ pub(crate) fn return_receiver<M: ObjectMemory>(
     cpu: &mut Cpu,
     events: &EventList,
 ) -> Result<Step, Stop>
-    requires sound { M.sound m.old }
-    requires ready { IsReady (M.told m.old) }
+    requires fit { IsFit M.ObjectMemory m.old }
     ensures serves { Speaks Next (M.told m.old) cpu.old (M.told m.new) cpu.new (model.return_of events.now (register RECEIVER)) result }
-    ensures ready { OnOk result (IsReady (M.told m.new)) }
-    ensures sound { StaysSound result (M.sound m.new) }
-    ensures lender { M.lender m.new ≡ M.lender m.old }
-    ensures outside { M.outside m.new ≡ M.outside m.old }
+    ensures fit { StaysFit M.ObjectMemory m.old m.new result }
 {
-    m.copy(Reg::SCRATCH_0, Reg::RECEIVER);
+    m.copy(Reg::R10, Reg::RECEIVER);
     return_home(m, cpu, events)
 }
 
@@ -102,16 +89,12 @@ pub(crate) fn return_known<M: ObjectMemory>(
     events: &EventList,
     name: Name,
 ) -> Result<Step, Stop>
-    requires sound { M.sound m.old }
-    requires ready { IsReady (M.told m.old) }
+    requires fit { IsFit M.ObjectMemory m.old }
     requires name { is_known name ≡ true }
     ensures serves { Speaks Next (M.told m.old) cpu.old (M.told m.new) cpu.new (model.return_of events.now (known_rule name)) result }
-    ensures ready { OnOk result (IsReady (M.told m.new)) }
-    ensures sound { StaysSound result (M.sound m.new) }
-    ensures lender { M.lender m.new ≡ M.lender m.old }
-    ensures outside { M.outside m.new ≡ M.outside m.old }
+    ensures fit { StaysFit M.ObjectMemory m.old m.new result }
 {
-    known(m, Reg::SCRATCH_0, name)?;
+    known(m, Reg::R10, name)?;
     return_home(m, cpu, events)
 }
 
@@ -121,15 +104,11 @@ pub(crate) fn return_top<M: ObjectMemory>(
     cpu: &mut Cpu,
     events: &EventList,
 ) -> Result<Step, Stop>
-    requires sound { M.sound m.old }
-    requires ready { IsReady (M.told m.old) }
+    requires fit { IsFit M.ObjectMemory m.old }
     ensures serves { Speaks Next (M.told m.old) cpu.old (M.told m.new) cpu.new (model.return_of events.now pop_rule) result }
-    ensures ready { OnOk result (IsReady (M.told m.new)) }
-    ensures sound { StaysSound result (M.sound m.new) }
-    ensures lender { M.lender m.new ≡ M.lender m.old }
-    ensures outside { M.outside m.new ≡ M.outside m.old }
+    ensures fit { StaysFit M.ObjectMemory m.old m.new result }
 {
-    pop_top(m, cpu, Reg::SCRATCH_0)?;
+    pop_top(m, cpu, Reg::R10)?;
     return_home(m, cpu, events)
 }
 
@@ -139,15 +118,11 @@ pub(crate) fn return_from_block<M: ObjectMemory>(
     cpu: &mut Cpu,
     events: &EventList,
 ) -> Result<Step, Stop>
-    requires sound { M.sound m.old }
-    requires ready { IsReady (M.told m.old) }
+    requires fit { IsFit M.ObjectMemory m.old }
     ensures serves { Speaks Next (M.told m.old) cpu.old (M.told m.new) cpu.new (model.return_from_block events.now) result }
-    ensures ready { OnOk result (IsReady (M.told m.new)) }
-    ensures sound { StaysSound result (M.sound m.new) }
-    ensures lender { M.lender m.new ≡ M.lender m.old }
-    ensures outside { M.outside m.new ≡ M.outside m.old }
+    ensures fit { StaysFit M.ObjectMemory m.old m.new result }
 {
-    pop_top(m, cpu, Reg::SCRATCH_0)?;
-    field(m, Reg::SCRATCH_1, Reg::ACTIVE_CONTEXT, 0, 0)?;
+    pop_top(m, cpu, Reg::R10)?;
+    field(m, Reg::R11, Reg::ACTIVE_CONTEXT, 0, CALLER_INDEX)?;
     return_to(m, cpu, events)
 }

@@ -6,11 +6,14 @@ ghost use Rattle.blue_model.specs.Sends as model;
 ghost use Rattle.blue_model.specs.Bytecodes as table;
 ghost use Rattle.contexts.specs.Serves.{Serves, Speaks, StaysSound};
 ghost use Rattle.std.specs.List.{slice_index_or};
+ghost use Rattle.object_memory.specs.Calls.{IsFit};
+ghost use Rattle.contexts.specs.Calls.{StaysFit};
 
 use crate::execution::execute;
 use crate::tries::{has_failed, step_of, try_primitive};
 use crate::variables::literal_constant;
 use blue_model::Step;
+use blue_model::indexes::{ASSOCIATION_SIZE, SUPERCLASS_INDEX, VALUE_INDEX};
 use contexts::parts::{class_of, field, known, last_literal, number};
 use contexts::{Cause, Cpu, Stop, fetch, push, set_arguments, stack};
 use event_file::EventList;
@@ -18,66 +21,54 @@ use long_names::Name;
 use object_memory::{ObjectMemory, Reg};
 use send_lookup::find_or_tell;
 
-/// Sends the selector in SCRATCH_0 with n arguments, looked up from the class in SCRATCH_1 on.
+/// Sends the selector in R10 with n arguments, looked up from the class in R11 on.
 fn send_from<M: ObjectMemory>(
     m: &mut M,
     cpu: &mut Cpu,
     events: &EventList,
     n: u8,
 ) -> Result<Step, Stop>
-    requires sound { M.sound m.old }
-    requires ready { IsReady (M.told m.old) }
+    requires fit { IsFit M.ObjectMemory m.old }
     ensures serves { Speaks Next (M.told m.old) cpu.old (M.told m.new) cpu.new (model.send_from events.now ((M.told m.old).regs 11) ((M.told m.old).regs 10) n) result }
-    ensures ready { OnOk result (IsReady (M.told m.new)) }
-    ensures sound { StaysSound result (M.sound m.new) }
-    ensures lender { M.lender m.new ≡ M.lender m.old }
-    ensures outside { M.outside m.new ≡ M.outside m.old }
+    ensures fit { StaysFit M.ObjectMemory m.old m.new result }
 {
-    m.copy(Reg::SELECTOR, Reg::SCRATCH_0);
+    m.copy(Reg::SELECTOR, Reg::R10);
     set_arguments(cpu, n);
-    find_or_tell(m, cpu, Reg::SCRATCH_1)?;
+    find_or_tell(m, cpu, Reg::R11)?;
     execute(m, cpu, events)
 }
 
-/// Sends the selector in SCRATCH_0 with n arguments (sendSelector:argumentCount:).
+/// Sends the selector in R10 with n arguments (sendSelector:argumentCount:).
 pub(crate) fn send<M: ObjectMemory>(
     m: &mut M,
     cpu: &mut Cpu,
     events: &EventList,
     n: u8,
 ) -> Result<Step, Stop>
-    requires sound { M.sound m.old }
-    requires ready { IsReady (M.told m.old) }
+    requires fit { IsFit M.ObjectMemory m.old }
     ensures serves { Speaks Next (M.told m.old) cpu.old (M.told m.new) cpu.new (model.send events.now ((M.told m.old).regs 10) n) result }
-    ensures ready { OnOk result (IsReady (M.told m.new)) }
-    ensures sound { StaysSound result (M.sound m.new) }
-    ensures lender { M.lender m.new ≡ M.lender m.old }
-    ensures outside { M.outside m.new ≡ M.outside m.old }
+    ensures fit { StaysFit M.ObjectMemory m.old m.new result }
 {
-    stack(m, cpu, Reg::SCRATCH_1, u32::from(n))?;
-    class_of(m, Reg::SCRATCH_1, Reg::SCRATCH_1)?;
+    stack(m, cpu, Reg::R11, u32::from(n))?;
+    class_of(m, Reg::R11, Reg::R11)?;
     send_from(m, cpu, events, n)
 }
 
-/// Sends the selector in SCRATCH_0 with n arguments to super: the lookup starts above the class that the method stands in.
+/// Sends the selector in R10 with n arguments to super: the lookup starts above the class that the method stands in.
 pub(crate) fn send_super<M: ObjectMemory>(
     m: &mut M,
     cpu: &mut Cpu,
     events: &EventList,
     n: u8,
 ) -> Result<Step, Stop>
-    requires sound { M.sound m.old }
-    requires ready { IsReady (M.told m.old) }
+    requires fit { IsFit M.ObjectMemory m.old }
     ensures serves { Speaks Next (M.told m.old) cpu.old (M.told m.new) cpu.new (model.send_super events.now ((M.told m.old).regs 10) n) result }
-    ensures ready { OnOk result (IsReady (M.told m.new)) }
-    ensures sound { StaysSound result (M.sound m.new) }
-    ensures lender { M.lender m.new ≡ M.lender m.old }
-    ensures outside { M.outside m.new ≡ M.outside m.old }
+    ensures fit { StaysFit M.ObjectMemory m.old m.new result }
 {
-    stack(m, cpu, Reg::SCRATCH_1, u32::from(n))?;
-    last_literal(m, Reg::SCRATCH_1, Reg::METHOD)?;
-    field(m, Reg::SCRATCH_1, Reg::SCRATCH_1, 2, 1)?;
-    field(m, Reg::SCRATCH_1, Reg::SCRATCH_1, 0, 0)?;
+    stack(m, cpu, Reg::R11, u32::from(n))?;
+    last_literal(m, Reg::R11, Reg::METHOD)?;
+    field(m, Reg::R11, Reg::R11, ASSOCIATION_SIZE, VALUE_INDEX)?;
+    field(m, Reg::R11, Reg::R11, 0, SUPERCLASS_INDEX)?;
     send_from(m, cpu, events, n)
 }
 
@@ -95,60 +86,48 @@ pub(crate) fn special_send<M: ObjectMemory>(
     events: &EventList,
     s: u32,
 ) -> Result<Step, Stop>
-    requires sound { M.sound m.old }
-    requires ready { IsReady (M.told m.old) }
+    requires fit { IsFit M.ObjectMemory m.old }
     requires number { s < 32 }
     ensures serves { Speaks Next (M.told m.old) cpu.old (M.told m.new) cpu.new (model.special_send events.now s) result }
-    ensures ready { OnOk result (IsReady (M.told m.new)) }
-    ensures sound { StaysSound result (M.sound m.new) }
-    ensures lender { M.lender m.new ≡ M.lender m.old }
-    ensures outside { M.outside m.new ≡ M.outside m.old }
+    ensures fit { StaysFit M.ObjectMemory m.old m.new result }
 {
-    known(m, Reg::SCRATCH_2, Name::SPECIAL_SELECTORS)?;
-    field(m, Reg::SCRATCH_0, Reg::SCRATCH_2, 2 * s + 2, 2 * s)?;
-    let count = number(m, Reg::SCRATCH_1, Reg::SCRATCH_2, 2 * s + 2, 2 * s + 1)?;
+    known(m, Reg::R12, Name::SPECIAL_SELECTORS)?;
+    field(m, Reg::R10, Reg::R12, 2 * s + 2, 2 * s)?;
+    let count = number(m, Reg::R11, Reg::R12, 2 * s + 2, 2 * s + 1)?;
     let Some(n) = argument_count(count) else {
         return Err(Stop::Stuck(Cause::Shape));
     };
     send(m, cpu, events, n)
 }
 
-/// Sends cannotReturn: to the active context, with the value in SCRATCH_0.
+/// Sends cannotReturn: to the active context, with the value in R10.
 pub(crate) fn cannot_return<M: ObjectMemory>(
     m: &mut M,
     cpu: &mut Cpu,
     events: &EventList,
 ) -> Result<Step, Stop>
-    requires sound { M.sound m.old }
-    requires ready { IsReady (M.told m.old) }
+    requires fit { IsFit M.ObjectMemory m.old }
     ensures serves { Speaks Next (M.told m.old) cpu.old (M.told m.new) cpu.new (model.cannot_return events.now ((M.told m.old).regs 10)) result }
-    ensures ready { OnOk result (IsReady (M.told m.new)) }
-    ensures sound { StaysSound result (M.sound m.new) }
-    ensures lender { M.lender m.new ≡ M.lender m.old }
-    ensures outside { M.outside m.new ≡ M.outside m.old }
+    ensures fit { StaysFit M.ObjectMemory m.old m.new result }
 {
     push(m, cpu, Reg::ACTIVE_CONTEXT)?;
-    push(m, cpu, Reg::SCRATCH_0)?;
-    known(m, Reg::SCRATCH_0, Name::CANNOT_RETURN)?;
+    push(m, cpu, Reg::R10)?;
+    known(m, Reg::R10, Name::CANNOT_RETURN)?;
     send(m, cpu, events, 1)
 }
 
-/// Sends mustBeBoolean to the value in SCRATCH_0.
+/// Sends mustBeBoolean to the value in R10.
 pub(crate) fn must_be_boolean<M: ObjectMemory>(
     m: &mut M,
     cpu: &mut Cpu,
     events: &EventList,
 ) -> Result<Step, Stop>
-    requires sound { M.sound m.old }
-    requires ready { IsReady (M.told m.old) }
+    requires fit { IsFit M.ObjectMemory m.old }
     ensures serves { Speaks Next (M.told m.old) cpu.old (M.told m.new) cpu.new (model.must_be_boolean events.now ((M.told m.old).regs 10)) result }
-    ensures ready { OnOk result (IsReady (M.told m.new)) }
-    ensures sound { StaysSound result (M.sound m.new) }
-    ensures lender { M.lender m.new ≡ M.lender m.old }
-    ensures outside { M.outside m.new ≡ M.outside m.old }
+    ensures fit { StaysFit M.ObjectMemory m.old m.new result }
 {
-    push(m, cpu, Reg::SCRATCH_0)?;
-    known(m, Reg::SCRATCH_0, Name::MUST_BE_BOOLEAN)?;
+    push(m, cpu, Reg::R10)?;
+    known(m, Reg::R10, Name::MUST_BE_BOOLEAN)?;
     send(m, cpu, events, 0)
 }
 
@@ -160,16 +139,12 @@ pub(crate) fn send_literal<M: ObjectMemory>(
     i: u32,
     n: u8,
 ) -> Result<Step, Stop>
-    requires sound { M.sound m.old }
-    requires ready { IsReady (M.told m.old) }
+    requires fit { IsFit M.ObjectMemory m.old }
     requires number { i < 256 }
     ensures serves { Speaks Next (M.told m.old) cpu.old (M.told m.new) cpu.new (table.send_literal events.now i n) result }
-    ensures ready { OnOk result (IsReady (M.told m.new)) }
-    ensures sound { StaysSound result (M.sound m.new) }
-    ensures lender { M.lender m.new ≡ M.lender m.old }
-    ensures outside { M.outside m.new ≡ M.outside m.old }
+    ensures fit { StaysFit M.ObjectMemory m.old m.new result }
 {
-    literal_constant(m, Reg::SCRATCH_0, i)?;
+    literal_constant(m, Reg::R10, i)?;
     send(m, cpu, events, n)
 }
 
@@ -181,16 +156,12 @@ pub(crate) fn send_literal_super<M: ObjectMemory>(
     i: u32,
     n: u8,
 ) -> Result<Step, Stop>
-    requires sound { M.sound m.old }
-    requires ready { IsReady (M.told m.old) }
+    requires fit { IsFit M.ObjectMemory m.old }
     requires number { i < 256 }
     ensures serves { Speaks Next (M.told m.old) cpu.old (M.told m.new) cpu.new (table.send_literal_super events.now i n) result }
-    ensures ready { OnOk result (IsReady (M.told m.new)) }
-    ensures sound { StaysSound result (M.sound m.new) }
-    ensures lender { M.lender m.new ≡ M.lender m.old }
-    ensures outside { M.outside m.new ≡ M.outside m.old }
+    ensures fit { StaysFit M.ObjectMemory m.old m.new result }
 {
-    literal_constant(m, Reg::SCRATCH_0, i)?;
+    literal_constant(m, Reg::R10, i)?;
     send_super(m, cpu, events, n)
 }
 
@@ -200,13 +171,9 @@ pub(crate) fn single_extended_send<M: ObjectMemory>(
     cpu: &mut Cpu,
     events: &EventList,
 ) -> Result<Step, Stop>
-    requires sound { M.sound m.old }
-    requires ready { IsReady (M.told m.old) }
+    requires fit { IsFit M.ObjectMemory m.old }
     ensures serves { Speaks Next (M.told m.old) cpu.old (M.told m.new) cpu.new (table.single_extended (table.send_literal events.now)) result }
-    ensures ready { OnOk result (IsReady (M.told m.new)) }
-    ensures sound { StaysSound result (M.sound m.new) }
-    ensures lender { M.lender m.new ≡ M.lender m.old }
-    ensures outside { M.outside m.new ≡ M.outside m.old }
+    ensures fit { StaysFit M.ObjectMemory m.old m.new result }
 {
     let byte = fetch(m, cpu)?;
     send_literal(m, cpu, events, u32::from(byte % 32), byte / 32)
@@ -218,13 +185,9 @@ pub(crate) fn double_extended_send<M: ObjectMemory>(
     cpu: &mut Cpu,
     events: &EventList,
 ) -> Result<Step, Stop>
-    requires sound { M.sound m.old }
-    requires ready { IsReady (M.told m.old) }
+    requires fit { IsFit M.ObjectMemory m.old }
     ensures serves { Speaks Next (M.told m.old) cpu.old (M.told m.new) cpu.new (table.double_extended (table.send_literal events.now)) result }
-    ensures ready { OnOk result (IsReady (M.told m.new)) }
-    ensures sound { StaysSound result (M.sound m.new) }
-    ensures lender { M.lender m.new ≡ M.lender m.old }
-    ensures outside { M.outside m.new ≡ M.outside m.old }
+    ensures fit { StaysFit M.ObjectMemory m.old m.new result }
 {
     let n = fetch(m, cpu)?;
     let i = fetch(m, cpu)?;
@@ -237,13 +200,9 @@ pub(crate) fn single_extended_super<M: ObjectMemory>(
     cpu: &mut Cpu,
     events: &EventList,
 ) -> Result<Step, Stop>
-    requires sound { M.sound m.old }
-    requires ready { IsReady (M.told m.old) }
+    requires fit { IsFit M.ObjectMemory m.old }
     ensures serves { Speaks Next (M.told m.old) cpu.old (M.told m.new) cpu.new (table.single_extended (table.send_literal_super events.now)) result }
-    ensures ready { OnOk result (IsReady (M.told m.new)) }
-    ensures sound { StaysSound result (M.sound m.new) }
-    ensures lender { M.lender m.new ≡ M.lender m.old }
-    ensures outside { M.outside m.new ≡ M.outside m.old }
+    ensures fit { StaysFit M.ObjectMemory m.old m.new result }
 {
     let byte = fetch(m, cpu)?;
     send_literal_super(m, cpu, events, u32::from(byte % 32), byte / 32)
@@ -255,13 +214,9 @@ pub(crate) fn double_extended_super<M: ObjectMemory>(
     cpu: &mut Cpu,
     events: &EventList,
 ) -> Result<Step, Stop>
-    requires sound { M.sound m.old }
-    requires ready { IsReady (M.told m.old) }
+    requires fit { IsFit M.ObjectMemory m.old }
     ensures serves { Speaks Next (M.told m.old) cpu.old (M.told m.new) cpu.new (table.double_extended (table.send_literal_super events.now)) result }
-    ensures ready { OnOk result (IsReady (M.told m.new)) }
-    ensures sound { StaysSound result (M.sound m.new) }
-    ensures lender { M.lender m.new ≡ M.lender m.old }
-    ensures outside { M.outside m.new ≡ M.outside m.old }
+    ensures fit { StaysFit M.ObjectMemory m.old m.new result }
 {
     let n = fetch(m, cpu)?;
     let i = fetch(m, cpu)?;
@@ -277,14 +232,10 @@ pub(crate) fn tried_for<M: ObjectMemory>(
     n: u8,
     s: u32,
 ) -> Result<Step, Stop>
-    requires sound { M.sound m.old }
-    requires ready { IsReady (M.told m.old) }
+    requires fit { IsFit M.ObjectMemory m.old }
     requires number { s < 32 }
     ensures serves { Speaks Next (M.told m.old) cpu.old (M.told m.new) cpu.new (table.tried_for events.now index n s) result }
-    ensures ready { OnOk result (IsReady (M.told m.new)) }
-    ensures sound { StaysSound result (M.sound m.new) }
-    ensures lender { M.lender m.new ≡ M.lender m.old }
-    ensures outside { M.outside m.new ≡ M.outside m.old }
+    ensures fit { StaysFit M.ObjectMemory m.old m.new result }
 {
     set_arguments(cpu, n);
     let answer = try_primitive(m, cpu, events, index)?;
@@ -312,17 +263,13 @@ pub(crate) fn arithmetic_send<M: ObjectMemory>(
     events: &EventList,
     s: u32,
 ) -> Result<Step, Stop>
-    requires sound { M.sound m.old }
-    requires ready { IsReady (M.told m.old) }
+    requires fit { IsFit M.ObjectMemory m.old }
     requires number { s < 16 }
     ensures serves { Speaks Next (M.told m.old) cpu.old (M.told m.new) cpu.new (table.arithmetic_send events.now s) result }
-    ensures ready { OnOk result (IsReady (M.told m.new)) }
-    ensures sound { StaysSound result (M.sound m.new) }
-    ensures lender { M.lender m.new ≡ M.lender m.old }
-    ensures outside { M.outside m.new ≡ M.outside m.old }
+    ensures fit { StaysFit M.ObjectMemory m.old m.new result }
 {
-    stack(m, cpu, Reg::SCRATCH_0, 1)?;
-    if m.as_int(Reg::SCRATCH_0).is_some() {
+    stack(m, cpu, Reg::R10, 1)?;
+    if m.as_int(Reg::R10).is_some() {
         return tried_for(m, cpu, events, arithmetic_primitive(s), 1, s);
     }
     special_send(m, cpu, events, s)
@@ -334,17 +281,13 @@ pub(crate) fn context_send<M: ObjectMemory>(
     cpu: &mut Cpu,
     events: &EventList,
 ) -> Result<Step, Stop>
-    requires sound { M.sound m.old }
-    requires ready { IsReady (M.told m.old) }
+    requires fit { IsFit M.ObjectMemory m.old }
     ensures serves { Speaks Next (M.told m.old) cpu.old (M.told m.new) cpu.new (table.block_send events.now 80 1 table.is_context_class 24) result }
-    ensures ready { OnOk result (IsReady (M.told m.new)) }
-    ensures sound { StaysSound result (M.sound m.new) }
-    ensures lender { M.lender m.new ≡ M.lender m.old }
-    ensures outside { M.outside m.new ≡ M.outside m.old }
+    ensures fit { StaysFit M.ObjectMemory m.old m.new result }
 {
-    stack(m, cpu, Reg::SCRATCH_0, 1)?;
-    class_of(m, Reg::SCRATCH_0, Reg::SCRATCH_0)?;
-    if m.is(Reg::SCRATCH_0, Name::METHOD_CONTEXT) || m.is(Reg::SCRATCH_0, Name::BLOCK_CONTEXT) {
+    stack(m, cpu, Reg::R10, 1)?;
+    class_of(m, Reg::R10, Reg::R10)?;
+    if m.is(Reg::R10, Name::METHOD_CONTEXT) || m.is(Reg::R10, Name::BLOCK_CONTEXT) {
         return tried_for(m, cpu, events, 80, 1, 24);
     }
     special_send(m, cpu, events, 24)
@@ -358,18 +301,14 @@ pub(crate) fn block_send<M: ObjectMemory>(
     n: u8,
     s: u32,
 ) -> Result<Step, Stop>
-    requires sound { M.sound m.old }
-    requires ready { IsReady (M.told m.old) }
+    requires fit { IsFit M.ObjectMemory m.old }
     requires number { s < 32 }
     ensures serves { Speaks Next (M.told m.old) cpu.old (M.told m.new) cpu.new (table.block_send events.now 81 n table.is_block_class s) result }
-    ensures ready { OnOk result (IsReady (M.told m.new)) }
-    ensures sound { StaysSound result (M.sound m.new) }
-    ensures lender { M.lender m.new ≡ M.lender m.old }
-    ensures outside { M.outside m.new ≡ M.outside m.old }
+    ensures fit { StaysFit M.ObjectMemory m.old m.new result }
 {
-    stack(m, cpu, Reg::SCRATCH_0, u32::from(n))?;
-    class_of(m, Reg::SCRATCH_0, Reg::SCRATCH_0)?;
-    if m.is(Reg::SCRATCH_0, Name::BLOCK_CONTEXT) {
+    stack(m, cpu, Reg::R10, u32::from(n))?;
+    class_of(m, Reg::R10, Reg::R10)?;
+    if m.is(Reg::R10, Name::BLOCK_CONTEXT) {
         return tried_for(m, cpu, events, 81, n, s);
     }
     special_send(m, cpu, events, s)

@@ -5,6 +5,8 @@ ghost use Rattle.object_memory.specs.Told.{IsReady};
 ghost use Rattle.blue_model.specs.Bytecodes as model;
 ghost use Rattle.contexts.specs.Serves.{Serves, StaysSound};
 ghost use Rattle.bytecodes.specs.Variables.{loads, stores};
+ghost use Rattle.object_memory.specs.Calls.{IsFit};
+ghost use Rattle.contexts.specs.Calls.{StaysFit};
 
 use crate::variables::{Variable, load_variable, store_variable};
 use contexts::parts::known;
@@ -19,60 +21,44 @@ pub(crate) fn push_variable<M: ObjectMemory>(
     variable: Variable,
     i: u32,
 ) -> Result<(), Stop>
-    requires sound { M.sound m.old }
-    requires ready { IsReady (M.told m.old) }
+    requires fit { IsFit M.ObjectMemory m.old }
     requires number { i < 64 }
     ensures serves { Serves (M.told m.old) cpu.old (M.told m.new) cpu.new (model.push_of (loads variable i)) result }
-    ensures ready { OnOk result (IsReady (M.told m.new)) }
-    ensures sound { StaysSound result (M.sound m.new) }
-    ensures lender { M.lender m.new ≡ M.lender m.old }
-    ensures outside { M.outside m.new ≡ M.outside m.old }
+    ensures fit { StaysFit M.ObjectMemory m.old m.new result }
 {
-    load_variable(m, Reg::SCRATCH_0, variable, i)?;
-    push(m, cpu, Reg::SCRATCH_0)?;
+    load_variable(m, Reg::R10, variable, i)?;
+    push(m, cpu, Reg::R10)?;
     Ok(())
 }
 
 /// Pushes a known object.
 pub(crate) fn push_known<M: ObjectMemory>(m: &mut M, cpu: &mut Cpu, name: Name) -> Result<(), Stop>
-    requires sound { M.sound m.old }
-    requires ready { IsReady (M.told m.old) }
+    requires fit { IsFit M.ObjectMemory m.old }
     requires name { is_known name ≡ true }
     ensures serves { Serves (M.told m.old) cpu.old (M.told m.new) cpu.new (model.push_known name) result }
-    ensures ready { OnOk result (IsReady (M.told m.new)) }
-    ensures sound { StaysSound result (M.sound m.new) }
-    ensures lender { M.lender m.new ≡ M.lender m.old }
-    ensures outside { M.outside m.new ≡ M.outside m.old }
+    ensures fit { StaysFit M.ObjectMemory m.old m.new result }
 {
-    known(m, Reg::SCRATCH_0, name)?;
-    push(m, cpu, Reg::SCRATCH_0)?;
+    known(m, Reg::R10, name)?;
+    push(m, cpu, Reg::R10)?;
     Ok(())
 }
 
 /// Pushes the number i - 1.
 pub(crate) fn push_number<M: ObjectMemory>(m: &mut M, cpu: &mut Cpu, i: u8) -> Result<(), Stop>
-    requires sound { M.sound m.old }
-    requires ready { IsReady (M.told m.old) }
+    requires fit { IsFit M.ObjectMemory m.old }
     ensures serves { Serves (M.told m.old) cpu.old (M.told m.new) cpu.new (model.push_number i) result }
-    ensures ready { OnOk result (IsReady (M.told m.new)) }
-    ensures sound { StaysSound result (M.sound m.new) }
-    ensures lender { M.lender m.new ≡ M.lender m.old }
-    ensures outside { M.outside m.new ≡ M.outside m.old }
+    ensures fit { StaysFit M.ObjectMemory m.old m.new result }
 {
-    m.int(Reg::SCRATCH_0, i16::from(i) - 1);
-    push(m, cpu, Reg::SCRATCH_0)?;
+    m.int(Reg::R10, i16::from(i) - 1);
+    push(m, cpu, Reg::R10)?;
     Ok(())
 }
 
 /// Pushes the receiver.
 pub(crate) fn push_receiver<M: ObjectMemory>(m: &mut M, cpu: &mut Cpu) -> Result<(), Stop>
-    requires sound { M.sound m.old }
-    requires ready { IsReady (M.told m.old) }
+    requires fit { IsFit M.ObjectMemory m.old }
     ensures serves { Serves (M.told m.old) cpu.old (M.told m.new) cpu.new (model.push_receiver) result }
-    ensures ready { OnOk result (IsReady (M.told m.new)) }
-    ensures sound { StaysSound result (M.sound m.new) }
-    ensures lender { M.lender m.new ≡ M.lender m.old }
-    ensures outside { M.outside m.new ≡ M.outside m.old }
+    ensures fit { StaysFit M.ObjectMemory m.old m.new result }
 {
     push(m, cpu, Reg::RECEIVER)?;
     Ok(())
@@ -80,13 +66,9 @@ pub(crate) fn push_receiver<M: ObjectMemory>(m: &mut M, cpu: &mut Cpu) -> Result
 
 /// Pushes the active context.
 pub(crate) fn push_active_context<M: ObjectMemory>(m: &mut M, cpu: &mut Cpu) -> Result<(), Stop>
-    requires sound { M.sound m.old }
-    requires ready { IsReady (M.told m.old) }
+    requires fit { IsFit M.ObjectMemory m.old }
     ensures serves { Serves (M.told m.old) cpu.old (M.told m.new) cpu.new (model.push_active_context) result }
-    ensures ready { OnOk result (IsReady (M.told m.new)) }
-    ensures sound { StaysSound result (M.sound m.new) }
-    ensures lender { M.lender m.new ≡ M.lender m.old }
-    ensures outside { M.outside m.new ≡ M.outside m.old }
+    ensures fit { StaysFit M.ObjectMemory m.old m.new result }
 {
     push(m, cpu, Reg::ACTIVE_CONTEXT)?;
     Ok(())
@@ -94,16 +76,12 @@ pub(crate) fn push_active_context<M: ObjectMemory>(m: &mut M, cpu: &mut Cpu) -> 
 
 /// Pushes the top again.
 pub(crate) fn duplicate_top<M: ObjectMemory>(m: &mut M, cpu: &mut Cpu) -> Result<(), Stop>
-    requires sound { M.sound m.old }
-    requires ready { IsReady (M.told m.old) }
+    requires fit { IsFit M.ObjectMemory m.old }
     ensures serves { Serves (M.told m.old) cpu.old (M.told m.new) cpu.new (model.duplicate_top) result }
-    ensures ready { OnOk result (IsReady (M.told m.new)) }
-    ensures sound { StaysSound result (M.sound m.new) }
-    ensures lender { M.lender m.new ≡ M.lender m.old }
-    ensures outside { M.outside m.new ≡ M.outside m.old }
+    ensures fit { StaysFit M.ObjectMemory m.old m.new result }
 {
-    stack(m, cpu, Reg::SCRATCH_0, 0)?;
-    push(m, cpu, Reg::SCRATCH_0)?;
+    stack(m, cpu, Reg::R10, 0)?;
+    push(m, cpu, Reg::R10)?;
     Ok(())
 }
 
@@ -114,17 +92,13 @@ pub(crate) fn store_top<M: ObjectMemory>(
     variable: Variable,
     i: u32,
 ) -> Result<(), Stop>
-    requires sound { M.sound m.old }
-    requires ready { IsReady (M.told m.old) }
+    requires fit { IsFit M.ObjectMemory m.old }
     requires number { i < 64 }
     ensures serves { Serves (M.told m.old) cpu.old (M.told m.new) cpu.new (model.store_top (stores variable i)) result }
-    ensures ready { OnOk result (IsReady (M.told m.new)) }
-    ensures sound { StaysSound result (M.sound m.new) }
-    ensures lender { M.lender m.new ≡ M.lender m.old }
-    ensures outside { M.outside m.new ≡ M.outside m.old }
+    ensures fit { StaysFit M.ObjectMemory m.old m.new result }
 {
-    stack(m, cpu, Reg::SCRATCH_0, 0)?;
-    store_variable(m, variable, i, Reg::SCRATCH_0)?;
+    stack(m, cpu, Reg::R10, 0)?;
+    store_variable(m, variable, i, Reg::R10)?;
     Ok(())
 }
 
@@ -135,14 +109,10 @@ pub(crate) fn store_and_pop<M: ObjectMemory>(
     variable: Variable,
     i: u32,
 ) -> Result<(), Stop>
-    requires sound { M.sound m.old }
-    requires ready { IsReady (M.told m.old) }
+    requires fit { IsFit M.ObjectMemory m.old }
     requires number { i < 64 }
     ensures serves { Serves (M.told m.old) cpu.old (M.told m.new) cpu.new (model.store_and_pop (stores variable i)) result }
-    ensures ready { OnOk result (IsReady (M.told m.new)) }
-    ensures sound { StaysSound result (M.sound m.new) }
-    ensures lender { M.lender m.new ≡ M.lender m.old }
-    ensures outside { M.outside m.new ≡ M.outside m.old }
+    ensures fit { StaysFit M.ObjectMemory m.old m.new result }
 {
     store_top(m, cpu, variable, i)?;
     pop(cpu, 1)?;
@@ -151,13 +121,9 @@ pub(crate) fn store_and_pop<M: ObjectMemory>(
 
 /// Pushes the variable that the next byte states.
 pub(crate) fn extended_push<M: ObjectMemory>(m: &mut M, cpu: &mut Cpu) -> Result<(), Stop>
-    requires sound { M.sound m.old }
-    requires ready { IsReady (M.told m.old) }
+    requires fit { IsFit M.ObjectMemory m.old }
     ensures serves { Serves (M.told m.old) cpu.old (M.told m.new) cpu.new (model.extended_push) result }
-    ensures ready { OnOk result (IsReady (M.told m.new)) }
-    ensures sound { StaysSound result (M.sound m.new) }
-    ensures lender { M.lender m.new ≡ M.lender m.old }
-    ensures outside { M.outside m.new ≡ M.outside m.old }
+    ensures fit { StaysFit M.ObjectMemory m.old m.new result }
 {
     let byte = fetch(m, cpu)?;
     push_variable(m, cpu, Variable::extended(byte), u32::from(byte % 64))?;
@@ -170,13 +136,9 @@ pub(crate) fn extended_store_of<M: ObjectMemory>(
     cpu: &mut Cpu,
     byte: u8,
 ) -> Result<(), Stop>
-    requires sound { M.sound m.old }
-    requires ready { IsReady (M.told m.old) }
+    requires fit { IsFit M.ObjectMemory m.old }
     ensures serves { Serves (M.told m.old) cpu.old (M.told m.new) cpu.new (model.extended_store_of byte) result }
-    ensures ready { OnOk result (IsReady (M.told m.new)) }
-    ensures sound { StaysSound result (M.sound m.new) }
-    ensures lender { M.lender m.new ≡ M.lender m.old }
-    ensures outside { M.outside m.new ≡ M.outside m.old }
+    ensures fit { StaysFit M.ObjectMemory m.old m.new result }
 {
     match Variable::extended(byte) {
         Variable::Literal => Err(Stop::Stuck(Cause::Unused)),
@@ -186,13 +148,9 @@ pub(crate) fn extended_store_of<M: ObjectMemory>(
 
 /// Stores the top into the variable that the next byte states.
 pub(crate) fn extended_store<M: ObjectMemory>(m: &mut M, cpu: &mut Cpu) -> Result<(), Stop>
-    requires sound { M.sound m.old }
-    requires ready { IsReady (M.told m.old) }
+    requires fit { IsFit M.ObjectMemory m.old }
     ensures serves { Serves (M.told m.old) cpu.old (M.told m.new) cpu.new (model.extended_store) result }
-    ensures ready { OnOk result (IsReady (M.told m.new)) }
-    ensures sound { StaysSound result (M.sound m.new) }
-    ensures lender { M.lender m.new ≡ M.lender m.old }
-    ensures outside { M.outside m.new ≡ M.outside m.old }
+    ensures fit { StaysFit M.ObjectMemory m.old m.new result }
 {
     let byte = fetch(m, cpu)?;
     extended_store_of(m, cpu, byte)?;
@@ -201,13 +159,9 @@ pub(crate) fn extended_store<M: ObjectMemory>(m: &mut M, cpu: &mut Cpu) -> Resul
 
 /// Stores the top into the variable that the next byte states, and pops it.
 pub(crate) fn extended_store_and_pop<M: ObjectMemory>(m: &mut M, cpu: &mut Cpu) -> Result<(), Stop>
-    requires sound { M.sound m.old }
-    requires ready { IsReady (M.told m.old) }
+    requires fit { IsFit M.ObjectMemory m.old }
     ensures serves { Serves (M.told m.old) cpu.old (M.told m.new) cpu.new (model.extended_store_and_pop) result }
-    ensures ready { OnOk result (IsReady (M.told m.new)) }
-    ensures sound { StaysSound result (M.sound m.new) }
-    ensures lender { M.lender m.new ≡ M.lender m.old }
-    ensures outside { M.outside m.new ≡ M.outside m.old }
+    ensures fit { StaysFit M.ObjectMemory m.old m.new result }
 {
     let byte = fetch(m, cpu)?;
     extended_store_of(m, cpu, byte)?;

@@ -5,6 +5,8 @@ ghost use Rattle.blue_model.specs.declared.answer.Answer.TheVariants.{Done};
 ghost use Rattle.blue_model.specs.Primitives as model;
 ghost use Rattle.blue_model.specs.Sends.{is_execute as is_execute_rule};
 ghost use Rattle.contexts.specs.Serves.{Serves, Speaks, StaysSound};
+ghost use Rattle.object_memory.specs.Calls.{IsFit};
+ghost use Rattle.contexts.specs.Calls.{StaysFit};
 
 use blue_model::Step;
 use contexts::{Answer, Cpu, Stop};
@@ -83,13 +85,9 @@ pub(crate) fn try_primitive<M: ObjectMemory>(
     events: &EventList,
     index: u8,
 ) -> Result<Answer, Stop>
-    requires sound { M.sound m.old }
-    requires ready { IsReady (M.told m.old) }
+    requires fit { IsFit M.ObjectMemory m.old }
     ensures serves { Speaks Done (M.told m.old) cpu.old (M.told m.new) cpu.new (model.primitive events.now index) result }
-    ensures ready { OnOk result (IsReady (M.told m.new)) }
-    ensures sound { StaysSound result (M.sound m.new) }
-    ensures lender { M.lender m.new ≡ M.lender m.old }
-    ensures outside { M.outside m.new ≡ M.outside m.old }
+    ensures fit { StaysFit M.ObjectMemory m.old m.new result }
 {
     if is_control(index) {
         return prims_control::run(m, cpu, index);

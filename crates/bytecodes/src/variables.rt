@@ -7,7 +7,10 @@ ghost use Rattle.blue_model.specs.Machine.{MACHINE_REGISTERS};
 ghost use Rattle.blue_model.specs.Bytecodes as model;
 ghost use Rattle.contexts.specs.Serves.{Serves, StaysSound, with_value};
 ghost use Rattle.bytecodes.specs.Variables.{loads, stores, kind_of};
+ghost use Rattle.object_memory.specs.Calls.{IsFit};
+ghost use Rattle.contexts.specs.Calls.{StaysFit};
 
+use blue_model::indexes::{ASSOCIATION_SIZE, VALUE_INDEX};
 use contexts::parts::{field, literal, size, store_field};
 use contexts::{Cause, Stop};
 use object_memory::{ObjectMemory, Reg};
@@ -50,15 +53,11 @@ fn temporary_place(i: u32, len: u32) -> Option<u32>
 
 /// Loads a receiver variable, which a receiver of pointers has.
 pub(crate) fn receiver_variable<M: ObjectMemory>(m: &mut M, to: Reg, i: u32) -> Result<(), Stop>
-    requires sound { M.sound m.old }
-    requires ready { IsReady (M.told m.old) }
+    requires fit { IsFit M.ObjectMemory m.old }
     requires scratch { MACHINE_REGISTERS ≤ to }
     ensures serves { (cpu : Cpu) → Serves (M.told m.old) cpu (M.told m.new) cpu (model.receiver_variable i) (with_value result ((M.told m.new).regs to)) }
     ensures looks { OnOk result (Looks (to ∷ []) (M.told m.old) (M.told m.new)) }
-    ensures ready { OnOk result (IsReady (M.told m.new)) }
-    ensures sound { StaysSound result (M.sound m.new) }
-    ensures lender { M.lender m.new ≡ M.lender m.old }
-    ensures outside { M.outside m.new ≡ M.outside m.old }
+    ensures fit { StaysFit M.ObjectMemory m.old m.new result }
 {
     field(m, to, Reg::RECEIVER, 0, i)?;
     Ok(())
@@ -66,16 +65,12 @@ pub(crate) fn receiver_variable<M: ObjectMemory>(m: &mut M, to: Reg, i: u32) -> 
 
 /// Loads a temporary. Stuck with Stack where the home has no such field.
 pub(crate) fn temporary<M: ObjectMemory>(m: &mut M, to: Reg, i: u32) -> Result<(), Stop>
-    requires sound { M.sound m.old }
-    requires ready { IsReady (M.told m.old) }
+    requires fit { IsFit M.ObjectMemory m.old }
     requires scratch { MACHINE_REGISTERS ≤ to }
     requires number { i < 64 }
     ensures serves { (cpu : Cpu) → Serves (M.told m.old) cpu (M.told m.new) cpu (model.temporary i) (with_value result ((M.told m.new).regs to)) }
     ensures looks { OnOk result (Looks (to ∷ []) (M.told m.old) (M.told m.new)) }
-    ensures ready { OnOk result (IsReady (M.told m.new)) }
-    ensures sound { StaysSound result (M.sound m.new) }
-    ensures lender { M.lender m.new ≡ M.lender m.old }
-    ensures outside { M.outside m.new ≡ M.outside m.old }
+    ensures fit { StaysFit M.ObjectMemory m.old m.new result }
 {
     let len = size(m, Reg::HOME, 0)?;
     let Some(place) = temporary_place(i, len) else {
@@ -87,15 +82,11 @@ pub(crate) fn temporary<M: ObjectMemory>(m: &mut M, to: Reg, i: u32) -> Result<(
 
 /// Loads a literal.
 pub(crate) fn literal_constant<M: ObjectMemory>(m: &mut M, to: Reg, i: u32) -> Result<(), Stop>
-    requires sound { M.sound m.old }
-    requires ready { IsReady (M.told m.old) }
+    requires fit { IsFit M.ObjectMemory m.old }
     requires scratch { MACHINE_REGISTERS ≤ to }
     ensures serves { (cpu : Cpu) → Serves (M.told m.old) cpu (M.told m.new) cpu (model.literal_constant i) (with_value result ((M.told m.new).regs to)) }
     ensures looks { OnOk result (Looks (to ∷ []) (M.told m.old) (M.told m.new)) }
-    ensures ready { OnOk result (IsReady (M.told m.new)) }
-    ensures sound { StaysSound result (M.sound m.new) }
-    ensures lender { M.lender m.new ≡ M.lender m.old }
-    ensures outside { M.outside m.new ≡ M.outside m.old }
+    ensures fit { StaysFit M.ObjectMemory m.old m.new result }
 {
     literal(m, to, Reg::METHOD, i)?;
     Ok(())
@@ -103,18 +94,14 @@ pub(crate) fn literal_constant<M: ObjectMemory>(m: &mut M, to: Reg, i: u32) -> R
 
 /// Loads the value of an association that is a literal.
 pub(crate) fn literal_variable<M: ObjectMemory>(m: &mut M, to: Reg, i: u32) -> Result<(), Stop>
-    requires sound { M.sound m.old }
-    requires ready { IsReady (M.told m.old) }
+    requires fit { IsFit M.ObjectMemory m.old }
     requires scratch { MACHINE_REGISTERS ≤ to }
     ensures serves { (cpu : Cpu) → Serves (M.told m.old) cpu (M.told m.new) cpu (model.literal_variable i) (with_value result ((M.told m.new).regs to)) }
     ensures looks { OnOk result (Looks (to ∷ []) (M.told m.old) (M.told m.new)) }
-    ensures ready { OnOk result (IsReady (M.told m.new)) }
-    ensures sound { StaysSound result (M.sound m.new) }
-    ensures lender { M.lender m.new ≡ M.lender m.old }
-    ensures outside { M.outside m.new ≡ M.outside m.old }
+    ensures fit { StaysFit M.ObjectMemory m.old m.new result }
 {
     literal_constant(m, to, i)?;
-    field(m, to, to, 2, 1)?;
+    field(m, to, to, ASSOCIATION_SIZE, VALUE_INDEX)?;
     Ok(())
 }
 
@@ -125,16 +112,12 @@ pub(crate) fn load_variable<M: ObjectMemory>(
     variable: Variable,
     i: u32,
 ) -> Result<(), Stop>
-    requires sound { M.sound m.old }
-    requires ready { IsReady (M.told m.old) }
+    requires fit { IsFit M.ObjectMemory m.old }
     requires scratch { MACHINE_REGISTERS ≤ to }
     requires number { i < 64 }
     ensures serves { (cpu : Cpu) → Serves (M.told m.old) cpu (M.told m.new) cpu (loads variable i) (with_value result ((M.told m.new).regs to)) }
     ensures looks { OnOk result (Looks (to ∷ []) (M.told m.old) (M.told m.new)) }
-    ensures ready { OnOk result (IsReady (M.told m.new)) }
-    ensures sound { StaysSound result (M.sound m.new) }
-    ensures lender { M.lender m.new ≡ M.lender m.old }
-    ensures outside { M.outside m.new ≡ M.outside m.old }
+    ensures fit { StaysFit M.ObjectMemory m.old m.new result }
 {
     match variable {
         Variable::Receiver => receiver_variable(m, to, i),
@@ -150,13 +133,9 @@ pub(crate) fn store_receiver_variable<M: ObjectMemory>(
     i: u32,
     from: Reg,
 ) -> Result<(), Stop>
-    requires sound { M.sound m.old }
-    requires ready { IsReady (M.told m.old) }
+    requires fit { IsFit M.ObjectMemory m.old }
     ensures serves { (cpu : Cpu) → Serves (M.told m.old) cpu (M.told m.new) cpu (model.store_receiver_variable i ((M.told m.old).regs from)) result }
-    ensures ready { OnOk result (IsReady (M.told m.new)) }
-    ensures sound { StaysSound result (M.sound m.new) }
-    ensures lender { M.lender m.new ≡ M.lender m.old }
-    ensures outside { M.outside m.new ≡ M.outside m.old }
+    ensures fit { StaysFit M.ObjectMemory m.old m.new result }
 {
     store_field(m, Reg::RECEIVER, i, from)?;
     Ok(())
@@ -164,14 +143,10 @@ pub(crate) fn store_receiver_variable<M: ObjectMemory>(
 
 /// Stores into a temporary.
 pub(crate) fn store_temporary<M: ObjectMemory>(m: &mut M, i: u32, from: Reg) -> Result<(), Stop>
-    requires sound { M.sound m.old }
-    requires ready { IsReady (M.told m.old) }
+    requires fit { IsFit M.ObjectMemory m.old }
     requires number { i < 64 }
     ensures serves { (cpu : Cpu) → Serves (M.told m.old) cpu (M.told m.new) cpu (model.store_temporary i ((M.told m.old).regs from)) result }
-    ensures ready { OnOk result (IsReady (M.told m.new)) }
-    ensures sound { StaysSound result (M.sound m.new) }
-    ensures lender { M.lender m.new ≡ M.lender m.old }
-    ensures outside { M.outside m.new ≡ M.outside m.old }
+    ensures fit { StaysFit M.ObjectMemory m.old m.new result }
 {
     let len = size(m, Reg::HOME, 0)?;
     let Some(place) = temporary_place(i, len) else {
@@ -181,23 +156,19 @@ pub(crate) fn store_temporary<M: ObjectMemory>(m: &mut M, i: u32, from: Reg) -> 
     Ok(())
 }
 
-/// Stores into the value of an association that is a literal, which is loaded into SCRATCH_1.
+/// Stores into the value of an association that is a literal, which is loaded into R11.
 pub(crate) fn store_literal_variable<M: ObjectMemory>(
     m: &mut M,
     i: u32,
     from: Reg,
 ) -> Result<(), Stop>
-    requires sound { M.sound m.old }
-    requires ready { IsReady (M.told m.old) }
+    requires fit { IsFit M.ObjectMemory m.old }
     requires from { from ≡ 11 → ⊥ }
     ensures serves { (cpu : Cpu) → Serves (M.told m.old) cpu (M.told m.new) cpu (model.store_literal_variable i ((M.told m.old).regs from)) result }
-    ensures ready { OnOk result (IsReady (M.told m.new)) }
-    ensures sound { StaysSound result (M.sound m.new) }
-    ensures lender { M.lender m.new ≡ M.lender m.old }
-    ensures outside { M.outside m.new ≡ M.outside m.old }
+    ensures fit { StaysFit M.ObjectMemory m.old m.new result }
 {
-    literal_constant(m, Reg::SCRATCH_1, i)?;
-    store_field(m, Reg::SCRATCH_1, 1, from)?;
+    literal_constant(m, Reg::R11, i)?;
+    store_field(m, Reg::R11, VALUE_INDEX, from)?;
     Ok(())
 }
 
@@ -208,15 +179,11 @@ pub(crate) fn store_variable<M: ObjectMemory>(
     i: u32,
     from: Reg,
 ) -> Result<(), Stop>
-    requires sound { M.sound m.old }
-    requires ready { IsReady (M.told m.old) }
+    requires fit { IsFit M.ObjectMemory m.old }
     requires number { i < 64 }
     requires from { from ≡ 11 → ⊥ }
     ensures serves { (cpu : Cpu) → Serves (M.told m.old) cpu (M.told m.new) cpu (stores variable i ((M.told m.old).regs from)) result }
-    ensures ready { OnOk result (IsReady (M.told m.new)) }
-    ensures sound { StaysSound result (M.sound m.new) }
-    ensures lender { M.lender m.new ≡ M.lender m.old }
-    ensures outside { M.outside m.new ≡ M.outside m.old }
+    ensures fit { StaysFit M.ObjectMemory m.old m.new result }
 {
     match variable {
         Variable::Receiver => store_receiver_variable(m, i, from),

@@ -1,3 +1,4 @@
 pub mod Cache
+pub mod Calls
 pub mod Places
 pub mod Serves

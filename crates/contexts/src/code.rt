@@ -6,6 +6,8 @@ ghost use Rattle.blue_model.specs.declared.cpu.Cpu.{Cpu as Numbers};
 ghost use Rattle.blue_model.specs.Contexts as model;
 ghost use Rattle.contexts.specs.Places.{code_place};
 ghost use Rattle.contexts.specs.Serves.{Serves, StaysSound};
+ghost use Rattle.object_memory.specs.Calls.{IsFit};
+ghost use Rattle.contexts.specs.Calls.{StaysFit};
 
 use crate::numbers::{advance, go_to, index_of, place_from, place_here};
 use crate::stop::Stop;
@@ -14,15 +16,11 @@ use object_memory::{ObjectMemory, Reg, shape};
 
 /// The byte of a number of the method that a register names. Stuck with Pointer where the method has none, or there is no number.
 fn byte_of<M: ObjectMemory>(m: &mut M, method: Reg, place: Option<u32>) -> Result<u8, Stop>
-    requires sound { M.sound m.old }
-    requires ready { IsReady (M.told m.old) }
+    requires fit { IsFit M.ObjectMemory m.old }
     ensures serves { (cpu : Numbers) (ip : ℤ) → place ≡ code_place ip → Serves (M.told m.old) cpu (M.told m.new) cpu (model.byte_of ip ((M.told m.old).regs method)) result }
     ensures placed { OnOk result (IsSome place) }
     ensures looks { OnOk result (Looks [] (M.told m.old) (M.told m.new)) }
-    ensures ready { OnOk result (IsReady (M.told m.new)) }
-    ensures sound { StaysSound result (M.sound m.new) }
-    ensures lender { M.lender m.new ≡ M.lender m.old }
-    ensures outside { M.outside m.new ≡ M.outside m.old }
+    ensures fit { StaysFit M.ObjectMemory m.old m.new result }
 {
     let Some(literals) = shape::literals(m, method)? else {
         return Err(Stop::Stuck(Cause::Shape));
@@ -39,14 +37,10 @@ fn byte_of<M: ObjectMemory>(m: &mut M, method: Reg, place: Option<u32>) -> Resul
 
 /// The byte at the instruction pointer, which goes on by 1 (fetchByte, chapter 28). Stuck with Pointer where it is none of the method's.
 pub fn fetch<M: ObjectMemory>(m: &mut M, cpu: &mut Cpu) -> Result<u8, Stop>
-    requires sound { M.sound m.old }
-    requires ready { IsReady (M.told m.old) }
+    requires fit { IsFit M.ObjectMemory m.old }
     ensures serves { Serves (M.told m.old) cpu.old (M.told m.new) cpu.new model.fetch result }
     ensures looks { OnOk result (Looks [] (M.told m.old) (M.told m.new)) }
-    ensures ready { OnOk result (IsReady (M.told m.new)) }
-    ensures sound { StaysSound result (M.sound m.new) }
-    ensures lender { M.lender m.new ≡ M.lender m.old }
-    ensures outside { M.outside m.new ≡ M.outside m.old }
+    ensures fit { StaysFit M.ObjectMemory m.old m.new result }
 {
     let place = place_here(cpu);
     let byte = byte_of(m, Reg::METHOD, place)?;
@@ -57,14 +51,10 @@ pub fn fetch<M: ObjectMemory>(m: &mut M, cpu: &mut Cpu) -> Result<u8, Stop>
 /// Jumps over so many bytes, counted from the byte after the instruction (jump:, chapter 28). Stuck with Pointer where no byte of the
 /// method is there.
 pub fn jump<M: ObjectMemory>(m: &mut M, cpu: &mut Cpu, distance: i32) -> Result<(), Stop>
-    requires sound { M.sound m.old }
-    requires ready { IsReady (M.told m.old) }
+    requires fit { IsFit M.ObjectMemory m.old }
     ensures serves { Serves (M.told m.old) cpu.old (M.told m.new) cpu.new (model.jump distance) result }
     ensures looks { OnOk result (Looks [] (M.told m.old) (M.told m.new)) }
-    ensures ready { OnOk result (IsReady (M.told m.new)) }
-    ensures sound { StaysSound result (M.sound m.new) }
-    ensures lender { M.lender m.new ≡ M.lender m.old }
-    ensures outside { M.outside m.new ≡ M.outside m.old }
+    ensures fit { StaysFit M.ObjectMemory m.old m.new result }
 {
     let place = place_from(cpu, &distance);
     byte_of(m, Reg::METHOD, place)?;

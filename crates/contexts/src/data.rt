@@ -7,6 +7,8 @@ ghost use Rattle.blue_model.specs.declared.cpu.Cpu.{Cpu};
 ghost use Rattle.blue_model.specs.Machine as model;
 ghost use Rattle.blue_model.specs.Elements.{word_at, byte_of_object};
 ghost use Rattle.contexts.specs.Serves.{Serves, Speaks, StaysSound};
+ghost use Rattle.object_memory.specs.Calls.{IsFit};
+ghost use Rattle.contexts.specs.Calls.{StaysFit};
 
 use crate::stop::Stop;
 use blue_model::Cause;
@@ -14,14 +16,10 @@ use object_memory::{ObjectMemory, Reg, shape};
 
 /// Word i of the object of words that a register names.
 pub fn word<M: ObjectMemory>(m: &mut M, of: Reg, i: u32) -> Result<u16, Stop>
-    requires sound { M.sound m.old }
-    requires ready { IsReady (M.told m.old) }
+    requires fit { IsFit M.ObjectMemory m.old }
     ensures serves { (cpu : Cpu) → Serves (M.told m.old) cpu (M.told m.new) cpu (model.part Shape (word_at i) ((M.told m.old).regs of)) result }
     ensures looks { OnOk result (Looks [] (M.told m.old) (M.told m.new)) }
-    ensures ready { OnOk result (IsReady (M.told m.new)) }
-    ensures sound { StaysSound result (M.sound m.new) }
-    ensures lender { M.lender m.new ≡ M.lender m.old }
-    ensures outside { M.outside m.new ≡ M.outside m.old }
+    ensures fit { StaysFit M.ObjectMemory m.old m.new result }
 {
     if !shape::has_words(m, of, i, 1)? {
         return Err(Stop::Stuck(Cause::Shape));
@@ -32,14 +30,10 @@ pub fn word<M: ObjectMemory>(m: &mut M, of: Reg, i: u32) -> Result<u16, Stop>
 
 /// Byte i of the object of bytes that a register names, or of a method's code.
 pub fn byte<M: ObjectMemory>(m: &mut M, of: Reg, i: u32) -> Result<u8, Stop>
-    requires sound { M.sound m.old }
-    requires ready { IsReady (M.told m.old) }
+    requires fit { IsFit M.ObjectMemory m.old }
     ensures serves { (cpu : Cpu) → Serves (M.told m.old) cpu (M.told m.new) cpu (model.part Shape (byte_of_object i) ((M.told m.old).regs of)) result }
     ensures looks { OnOk result (Looks [] (M.told m.old) (M.told m.new)) }
-    ensures ready { OnOk result (IsReady (M.told m.new)) }
-    ensures sound { StaysSound result (M.sound m.new) }
-    ensures lender { M.lender m.new ≡ M.lender m.old }
-    ensures outside { M.outside m.new ≡ M.outside m.old }
+    ensures fit { StaysFit M.ObjectMemory m.old m.new result }
 {
     if !shape::has_bytes(m, of, i, 1)? {
         return Err(Stop::Stuck(Cause::Shape));
@@ -50,14 +44,10 @@ pub fn byte<M: ObjectMemory>(m: &mut M, of: Reg, i: u32) -> Result<u8, Stop>
 
 /// Stores word i of the object of words that a register names.
 pub fn store_word<M: ObjectMemory>(m: &mut M, of: Reg, i: u32, word: u16) -> Result<(), Stop>
-    requires sound { M.sound m.old }
-    requires ready { IsReady (M.told m.old) }
+    requires fit { IsFit M.ObjectMemory m.old }
     ensures serves { (cpu : Cpu) → Serves (M.told m.old) cpu (M.told m.new) cpu (model.store_word ((M.told m.old).regs of) i word) result }
     ensures regs { OnOk result ((M.told m.new).regs ≡ (M.told m.old).regs) }
-    ensures ready { OnOk result (IsReady (M.told m.new)) }
-    ensures sound { StaysSound result (M.sound m.new) }
-    ensures lender { M.lender m.new ≡ M.lender m.old }
-    ensures outside { M.outside m.new ≡ M.outside m.old }
+    ensures fit { StaysFit M.ObjectMemory m.old m.new result }
 {
     if !shape::has_words(m, of, i, 1)? {
         return Err(Stop::Stuck(Cause::Shape));
@@ -68,14 +58,10 @@ pub fn store_word<M: ObjectMemory>(m: &mut M, of: Reg, i: u32, word: u16) -> Res
 
 /// Stores byte i of the object of bytes that a register names, or of a method's code.
 pub fn store_byte<M: ObjectMemory>(m: &mut M, of: Reg, i: u32, byte: u8) -> Result<(), Stop>
-    requires sound { M.sound m.old }
-    requires ready { IsReady (M.told m.old) }
+    requires fit { IsFit M.ObjectMemory m.old }
     ensures serves { (cpu : Cpu) → Serves (M.told m.old) cpu (M.told m.new) cpu (model.store_byte ((M.told m.old).regs of) i byte) result }
     ensures regs { OnOk result ((M.told m.new).regs ≡ (M.told m.old).regs) }
-    ensures ready { OnOk result (IsReady (M.told m.new)) }
-    ensures sound { StaysSound result (M.sound m.new) }
-    ensures lender { M.lender m.new ≡ M.lender m.old }
-    ensures outside { M.outside m.new ≡ M.outside m.old }
+    ensures fit { StaysFit M.ObjectMemory m.old m.new result }
 {
     if !shape::has_bytes(m, of, i, 1)? {
         return Err(Stop::Stuck(Cause::Shape));
@@ -86,14 +72,10 @@ pub fn store_byte<M: ObjectMemory>(m: &mut M, of: Reg, i: u32, byte: u8) -> Resu
 
 /// The bytes of the object of bytes that a register names join the transcript.
 pub fn say<M: ObjectMemory>(m: &mut M, of: Reg) -> Result<(), Stop>
-    requires sound { M.sound m.old }
-    requires ready { IsReady (M.told m.old) }
+    requires fit { IsFit M.ObjectMemory m.old }
     ensures speaks { (cpu : Cpu) → Speaks tt (M.told m.old) cpu (M.told m.new) cpu (model.say ((M.told m.old).regs of)) result }
     ensures regs { OnOk result ((M.told m.new).regs ≡ (M.told m.old).regs) }
-    ensures ready { OnOk result (IsReady (M.told m.new)) }
-    ensures sound { StaysSound result (M.sound m.new) }
-    ensures lender { M.lender m.new ≡ M.lender m.old }
-    ensures outside { M.outside m.new ≡ M.outside m.old }
+    ensures fit { StaysFit M.ObjectMemory m.old m.new result }
 {
     if !shape::is_text(m, of)? {
         return Err(Stop::Stuck(Cause::Shape));

@@ -19,6 +19,3 @@ pub use context::{active_process, back, enter, park, scheduler, start};
 pub use registers::{clear, set_arguments};
 pub use stacks::{pop, pop_top, push, put_stack, stack};
 pub use stop::Stop;
-
-#[cfg(test)]
-mod tests;

@@ -1,19 +1,23 @@
 // The instruction pointer and the stack pointer.
-ghost use Rattle.std.specs.Prelude.{◌≡◌, ◌+ℤ◌, ◌-ℤ◌, ◌<ℤ◌, ◌<◌, ◌≤◌, ◌+◌, pos, Some, None, IfSome, OnSome, MatchBool};
+ghost use Rattle.std.specs.Prelude.{◌≡◌, ◌+ℤ◌, ◌-ℤ◌, ◌<ℤ◌, ◌≤ℤ◌, ◌<◌, ◌≤◌, ◌+◌, pos, Some, None, IfSome, OnSome, MatchBool};
 ghost use Rattle.std.specs.Bool.{OnFalse};
 ghost use Rattle.long_names.specs.Words.{IsSmallInteger};
+ghost use Rattle.blue_model.specs.declared.limits.TheConstants.{FULL_STACK, LAST_BYTE};
+ghost use Rattle.blue_model.specs.declared.indexes.TheConstants.{EMPTY_STACK};
 ghost use Rattle.blue_model.specs.Contexts.{stack_place, lowered, stated, stack_pointer};
 ghost use Rattle.contexts.specs.Places.{code_place, code_index};
 
 use blue_model::Cpu;
+use blue_model::indexes::{EMPTY_STACK, TEMP_FRAME_START};
+use blue_model::limits::{FULL_STACK, LAST_BYTE};
 
 /// The field above the top of the stack, of a context with so many fields, if it is one of the stack.
 pub(crate) fn place_above(cpu: &Cpu, len: u32) -> Option<u32>
     ensures place { result ≡ stack_place (cpu.now.sp +ℤ pos 1) len }
     ensures within { IfSome result (λ place. place < len) }
-    ensures small { OnSome result (cpu.now.sp <ℤ pos 16388) }
+    ensures small { OnSome result (cpu.now.sp <ℤ pos FULL_STACK) }
 {
-    if cpu.sp < 5 || cpu.sp > 16387 {
+    if cpu.sp < EMPTY_STACK as i32 || cpu.sp >= FULL_STACK as i32 {
         return None;
     }
     let place = cpu.sp as u32 + 1;
@@ -25,11 +29,11 @@ pub(crate) fn place_at(cpu: &Cpu, depth: u32, len: u32) -> Option<u32>
     ensures place { result ≡ stack_place (cpu.now.sp -ℤ pos depth) len }
     ensures within { IfSome result (λ place. place < len) }
 {
-    if cpu.sp < 6 || cpu.sp as u32 - 6 < depth {
+    if cpu.sp < TEMP_FRAME_START as i32 || cpu.sp as u32 - TEMP_FRAME_START < depth {
         return None;
     }
     let place = cpu.sp as u32 - depth;
-    if place <= 16388 && place < len {
+    if place <= FULL_STACK && place < len {
         Some(place)
     } else {
         None
@@ -38,7 +42,7 @@ pub(crate) fn place_at(cpu: &Cpu, depth: u32, len: u32) -> Option<u32>
 
 /// One value more is on the stack.
 pub(crate) fn raise(cpu: &mut Cpu)
-    requires { cpu.old.sp <ℤ pos 16388 }
+    requires { cpu.old.sp <ℤ pos FULL_STACK }
     ensures { cpu.new ≡ record cpu.old { sp = cpu.old.sp +ℤ pos 1 } }
 {
     cpu.sp += 1;
@@ -50,7 +54,7 @@ pub(crate) fn lower(cpu: &mut Cpu, count: u32) -> bool
     ensures rest { cpu.new ≡ record cpu.old { sp = cpu.new.sp } }
     ensures unchanged { OnFalse result (cpu.new ≡ cpu.old) }
 {
-    if cpu.sp < 5 || cpu.sp as u32 - 5 < count {
+    if cpu.sp < EMPTY_STACK as i32 || cpu.sp as u32 - EMPTY_STACK < count {
         return false;
     }
     cpu.sp = (cpu.sp as u32 - count) as i32;
@@ -61,7 +65,7 @@ pub(crate) fn lower(cpu: &mut Cpu, count: u32) -> bool
 pub(crate) fn place_here(cpu: &Cpu) -> Option<u32>
     ensures { result ≡ code_place cpu.now.ip }
 {
-    if cpu.ip < 0 || cpu.ip > 16381 {
+    if cpu.ip < 0 || cpu.ip > LAST_BYTE as i32 {
         None
     } else {
         Some(cpu.ip as u32)
@@ -73,7 +77,7 @@ pub(crate) fn place_from(cpu: &Cpu, distance: &i32) -> Option<u32>
     ensures place { result ≡ code_place (cpu.now.ip +ℤ distance.now) }
 {
     let place = i64::from(cpu.ip) + i64::from(*distance);
-    if place < 0 || place > 16381 {
+    if place < 0 || place > i64::from(LAST_BYTE) {
         None
     } else {
         Some(place as u32)
@@ -96,7 +100,7 @@ pub(crate) fn index_of(place: Option<u32>, literals: u32, len: u32) -> Option<u3
 
 /// The instruction pointer goes on by one byte.
 pub(crate) fn advance(cpu: &mut Cpu)
-    requires { cpu.old.ip <ℤ pos 16382 }
+    requires { cpu.old.ip ≤ℤ pos LAST_BYTE }
     ensures { cpu.new ≡ record cpu.old { ip = cpu.old.ip +ℤ pos 1 } }
 {
     cpu.ip += 1;
@@ -104,7 +108,7 @@ pub(crate) fn advance(cpu: &mut Cpu)
 
 /// The instruction pointer goes to the byte of this number.
 pub(crate) fn go_to(cpu: &mut Cpu, place: u32)
-    requires { place < 16382 }
+    requires { place ≤ LAST_BYTE }
     ensures { cpu.new ≡ record cpu.old { ip = pos place } }
 {
     cpu.ip = place as i32;
@@ -119,7 +123,7 @@ pub(crate) fn take_stated(cpu: &mut Cpu, ip: &i16, depth: &i16) -> bool
         return false;
     }
     cpu.ip = i32::from(*ip) - 1;
-    cpu.sp = i32::from(*depth) + 5;
+    cpu.sp = i32::from(*depth) + EMPTY_STACK as i32;
     true
 }
 
@@ -137,12 +141,12 @@ pub(crate) fn stated_ip(cpu: &Cpu) -> Option<i16>
 
 /// The stack pointer as a context states it, if it can be stated.
 pub(crate) fn stated_depth(cpu: &Cpu) -> Option<i16>
-    ensures value { result ≡ stated (cpu.now.sp -ℤ pos 5) }
+    ensures value { result ≡ stated (cpu.now.sp -ℤ pos EMPTY_STACK) }
     ensures range { IfSome result IsSmallInteger }
 {
     if cpu.sp < -16379 || cpu.sp > 16388 {
         None
     } else {
-        Some((cpu.sp - 5) as i16)
+        Some((cpu.sp - EMPTY_STACK as i32) as i16)
     }
 }

@@ -15,25 +15,24 @@ ghost use Rattle.blue_model.specs.Messages.{last_literal, literal_before_last, e
 ghost use Rattle.blue_model.specs.Parts.{size, field, number, heading, literal, home_of};
 ghost use Rattle.blue_model.specs.Contexts.{store_field, need_method};
 ghost use Rattle.contexts.specs.Serves.{Serves, StaysSound, with_value};
+ghost use Rattle.object_memory.specs.Calls.{IsFit};
+ghost use Rattle.contexts.specs.Calls.{StaysFit};
 
 use crate::stop::Stop;
 use blue_model::Cause;
+use blue_model::indexes::{HOME_INDEX, METHOD_INDEX, TEMP_FRAME_START};
 use long_names::Name;
 use object_memory::{ObjectMemory, Reg, shape};
 
 /// How many fields the object of pointers has that a register names. It has at least so many.
 pub fn size<M: ObjectMemory>(m: &mut M, of: Reg, least: u32) -> Result<u32, Stop>
-    requires sound { M.sound m.old }
-    requires ready { IsReady (M.told m.old) }
+    requires fit { IsFit M.ObjectMemory m.old }
     ensures serves { (cpu : Cpu) → Serves (M.told m.old) cpu (M.told m.new) cpu (part Shape (size least) ((M.told m.old).regs of)) result }
     ensures looks { OnOk result (Looks [] (M.told m.old) (M.told m.new)) }
     ensures there { IfOk result (λ len. HasPartAt (M.told m.new) of pointers_of (λ xs. length xs ≡ len)) }
     ensures least { IfOk result (λ len. least ≤ len) }
     ensures bound { IfOk result (λ len. len < 65536) }
-    ensures ready { OnOk result (IsReady (M.told m.new)) }
-    ensures sound { StaysSound result (M.sound m.new) }
-    ensures lender { M.lender m.new ≡ M.lender m.old }
-    ensures outside { M.outside m.new ≡ M.outside m.old }
+    ensures fit { StaysFit M.ObjectMemory m.old m.new result }
 {
     let Some(len) = shape::fields(m, of)? else {
         return Err(Stop::Stuck(Cause::Shape));
@@ -46,15 +45,11 @@ pub fn size<M: ObjectMemory>(m: &mut M, of: Reg, least: u32) -> Result<u32, Stop
 
 /// Loads field i of the object of pointers that a register names. It has at least so many fields.
 pub fn field<M: ObjectMemory>(m: &mut M, to: Reg, of: Reg, least: u32, i: u32) -> Result<(), Stop>
-    requires sound { M.sound m.old }
-    requires ready { IsReady (M.told m.old) }
+    requires fit { IsFit M.ObjectMemory m.old }
     requires scratch { MACHINE_REGISTERS ≤ to }
     ensures serves { (cpu : Cpu) → Serves (M.told m.old) cpu (M.told m.new) cpu (part Shape (field least i) ((M.told m.old).regs of)) (with_value result ((M.told m.new).regs to)) }
     ensures looks { OnOk result (Looks (to ∷ []) (M.told m.old) (M.told m.new)) }
-    ensures ready { OnOk result (IsReady (M.told m.new)) }
-    ensures sound { StaysSound result (M.sound m.new) }
-    ensures lender { M.lender m.new ≡ M.lender m.old }
-    ensures outside { M.outside m.new ≡ M.outside m.old }
+    ensures fit { StaysFit M.ObjectMemory m.old m.new result }
 {
     let Some(len) = shape::fields(m, of)? else {
         return Err(Stop::Stuck(Cause::Shape));
@@ -69,16 +64,12 @@ pub fn field<M: ObjectMemory>(m: &mut M, to: Reg, of: Reg, least: u32, i: u32) -
 /// The number in field i of the object of pointers that a register names. It has at least so many fields. The field is loaded into a
 /// scratch register.
 pub fn number<M: ObjectMemory>(m: &mut M, to: Reg, of: Reg, least: u32, i: u32) -> Result<i16, Stop>
-    requires sound { M.sound m.old }
-    requires ready { IsReady (M.told m.old) }
+    requires fit { IsFit M.ObjectMemory m.old }
     requires scratch { MACHINE_REGISTERS ≤ to }
     ensures serves { (cpu : Cpu) → Serves (M.told m.old) cpu (M.told m.new) cpu (part Shape (number least i) ((M.told m.old).regs of)) result }
     ensures looks { OnOk result (Looks (to ∷ []) (M.told m.old) (M.told m.new)) }
     ensures range { IfOk result IsSmallInteger }
-    ensures ready { OnOk result (IsReady (M.told m.new)) }
-    ensures sound { StaysSound result (M.sound m.new) }
-    ensures lender { M.lender m.new ≡ M.lender m.old }
-    ensures outside { M.outside m.new ≡ M.outside m.old }
+    ensures fit { StaysFit M.ObjectMemory m.old m.new result }
 {
     field(m, to, of, least, i)?;
     let Some(number) = m.as_int(to) else {
@@ -89,15 +80,11 @@ pub fn number<M: ObjectMemory>(m: &mut M, to: Reg, of: Reg, least: u32, i: u32) 
 
 /// Loads literal i of the method that a register names.
 pub fn literal<M: ObjectMemory>(m: &mut M, to: Reg, of: Reg, i: u32) -> Result<(), Stop>
-    requires sound { M.sound m.old }
-    requires ready { IsReady (M.told m.old) }
+    requires fit { IsFit M.ObjectMemory m.old }
     requires scratch { MACHINE_REGISTERS ≤ to }
     ensures serves { (cpu : Cpu) → Serves (M.told m.old) cpu (M.told m.new) cpu (part Shape (literal i) ((M.told m.old).regs of)) (with_value result ((M.told m.new).regs to)) }
     ensures looks { OnOk result (Looks (to ∷ []) (M.told m.old) (M.told m.new)) }
-    ensures ready { OnOk result (IsReady (M.told m.new)) }
-    ensures sound { StaysSound result (M.sound m.new) }
-    ensures lender { M.lender m.new ≡ M.lender m.old }
-    ensures outside { M.outside m.new ≡ M.outside m.old }
+    ensures fit { StaysFit M.ObjectMemory m.old m.new result }
 {
     if !shape::has_literal(m, of, i)? {
         return Err(Stop::Stuck(Cause::Shape));
@@ -108,14 +95,10 @@ pub fn literal<M: ObjectMemory>(m: &mut M, to: Reg, of: Reg, i: u32) -> Result<(
 
 /// Whether a register names a method: it is stuck where it doesn't.
 pub fn need_method<M: ObjectMemory>(m: &mut M, of: Reg) -> Result<(), Stop>
-    requires sound { M.sound m.old }
-    requires ready { IsReady (M.told m.old) }
+    requires fit { IsFit M.ObjectMemory m.old }
     ensures serves { (cpu : Cpu) → Serves (M.told m.old) cpu (M.told m.new) cpu (need_method ((M.told m.old).regs of)) result }
     ensures looks { OnOk result (Looks [] (M.told m.old) (M.told m.new)) }
-    ensures ready { OnOk result (IsReady (M.told m.new)) }
-    ensures sound { StaysSound result (M.sound m.new) }
-    ensures lender { M.lender m.new ≡ M.lender m.old }
-    ensures outside { M.outside m.new ≡ M.outside m.old }
+    ensures fit { StaysFit M.ObjectMemory m.old m.new result }
 {
     if shape::literals(m, of)?.is_none() {
         return Err(Stop::Stuck(Cause::Shape));
@@ -125,15 +108,11 @@ pub fn need_method<M: ObjectMemory>(m: &mut M, of: Reg) -> Result<(), Stop>
 
 /// The header of the method that a register names.
 pub fn header<M: ObjectMemory>(m: &mut M, of: Reg) -> Result<i16, Stop>
-    requires sound { M.sound m.old }
-    requires ready { IsReady (M.told m.old) }
+    requires fit { IsFit M.ObjectMemory m.old }
     ensures serves { (cpu : Cpu) → Serves (M.told m.old) cpu (M.told m.new) cpu (part Shape heading ((M.told m.old).regs of)) result }
     ensures range { IfOk result IsSmallInteger }
     ensures looks { OnOk result (Looks [] (M.told m.old) (M.told m.new)) }
-    ensures ready { OnOk result (IsReady (M.told m.new)) }
-    ensures sound { StaysSound result (M.sound m.new) }
-    ensures lender { M.lender m.new ≡ M.lender m.old }
-    ensures outside { M.outside m.new ≡ M.outside m.old }
+    ensures fit { StaysFit M.ObjectMemory m.old m.new result }
 {
     let Some(_) = shape::literals(m, of)? else {
         return Err(Stop::Stuck(Cause::Shape));
@@ -144,15 +123,11 @@ pub fn header<M: ObjectMemory>(m: &mut M, of: Reg) -> Result<i16, Stop>
 
 /// Loads the class of what a register holds (fetchClassOf:, chapter 30).
 pub fn class_of<M: ObjectMemory>(m: &mut M, to: Reg, of: Reg) -> Result<(), Stop>
-    requires sound { M.sound m.old }
-    requires ready { IsReady (M.told m.old) }
+    requires fit { IsFit M.ObjectMemory m.old }
     requires scratch { MACHINE_REGISTERS ≤ to }
     ensures serves { (cpu : Cpu) → Serves (M.told m.old) cpu (M.told m.new) cpu (class_of ((M.told m.old).regs of)) (with_value result ((M.told m.new).regs to)) }
     ensures looks { OnOk result (Looks (to ∷ []) (M.told m.old) (M.told m.new)) }
-    ensures ready { OnOk result (IsReady (M.told m.new)) }
-    ensures sound { StaysSound result (M.sound m.new) }
-    ensures lender { M.lender m.new ≡ M.lender m.old }
-    ensures outside { M.outside m.new ≡ M.outside m.old }
+    ensures fit { StaysFit M.ObjectMemory m.old m.new result }
 {
     m.class(to, of)?;
     Ok(())
@@ -160,15 +135,11 @@ pub fn class_of<M: ObjectMemory>(m: &mut M, to: Reg, of: Reg) -> Result<(), Stop
 
 /// Loads the last literal of the method that a register names.
 pub fn last_literal<M: ObjectMemory>(m: &mut M, to: Reg, of: Reg) -> Result<(), Stop>
-    requires sound { M.sound m.old }
-    requires ready { IsReady (M.told m.old) }
+    requires fit { IsFit M.ObjectMemory m.old }
     requires scratch { MACHINE_REGISTERS ≤ to }
     ensures serves { (cpu : Cpu) → Serves (M.told m.old) cpu (M.told m.new) cpu (part Shape last_literal ((M.told m.old).regs of)) (with_value result ((M.told m.new).regs to)) }
     ensures looks { OnOk result (Looks (to ∷ []) (M.told m.old) (M.told m.new)) }
-    ensures ready { OnOk result (IsReady (M.told m.new)) }
-    ensures sound { StaysSound result (M.sound m.new) }
-    ensures lender { M.lender m.new ≡ M.lender m.old }
-    ensures outside { M.outside m.new ≡ M.outside m.old }
+    ensures fit { StaysFit M.ObjectMemory m.old m.new result }
 {
     let Some(count) = shape::literals(m, of)? else {
         return Err(Stop::Stuck(Cause::Shape));
@@ -182,15 +153,11 @@ pub fn last_literal<M: ObjectMemory>(m: &mut M, to: Reg, of: Reg) -> Result<(), 
 
 /// Loads the literal before the last of the method that a register names.
 pub fn literal_before_last<M: ObjectMemory>(m: &mut M, to: Reg, of: Reg) -> Result<(), Stop>
-    requires sound { M.sound m.old }
-    requires ready { IsReady (M.told m.old) }
+    requires fit { IsFit M.ObjectMemory m.old }
     requires scratch { MACHINE_REGISTERS ≤ to }
     ensures serves { (cpu : Cpu) → Serves (M.told m.old) cpu (M.told m.new) cpu (part Shape literal_before_last ((M.told m.old).regs of)) (with_value result ((M.told m.new).regs to)) }
     ensures looks { OnOk result (Looks (to ∷ []) (M.told m.old) (M.told m.new)) }
-    ensures ready { OnOk result (IsReady (M.told m.new)) }
-    ensures sound { StaysSound result (M.sound m.new) }
-    ensures lender { M.lender m.new ≡ M.lender m.old }
-    ensures outside { M.outside m.new ≡ M.outside m.old }
+    ensures fit { StaysFit M.ObjectMemory m.old m.new result }
 {
     let Some(count) = shape::literals(m, of)? else {
         return Err(Stop::Stuck(Cause::Shape));
@@ -204,16 +171,12 @@ pub fn literal_before_last<M: ObjectMemory>(m: &mut M, to: Reg, of: Reg) -> Resu
 
 /// The header extension of the method that a register names: the number that is its literal before the last.
 pub fn extension<M: ObjectMemory>(m: &mut M, to: Reg, of: Reg) -> Result<i16, Stop>
-    requires sound { M.sound m.old }
-    requires ready { IsReady (M.told m.old) }
+    requires fit { IsFit M.ObjectMemory m.old }
     requires scratch { MACHINE_REGISTERS ≤ to }
     ensures serves { (cpu : Cpu) → Serves (M.told m.old) cpu (M.told m.new) cpu (part Shape extension ((M.told m.old).regs of)) result }
     ensures looks { OnOk result (Looks (to ∷ []) (M.told m.old) (M.told m.new)) }
     ensures range { IfOk result IsSmallInteger }
-    ensures ready { OnOk result (IsReady (M.told m.new)) }
-    ensures sound { StaysSound result (M.sound m.new) }
-    ensures lender { M.lender m.new ≡ M.lender m.old }
-    ensures outside { M.outside m.new ≡ M.outside m.old }
+    ensures fit { StaysFit M.ObjectMemory m.old m.new result }
 {
     literal_before_last(m, to, of)?;
     let Some(number) = m.as_int(to) else {
@@ -224,26 +187,22 @@ pub fn extension<M: ObjectMemory>(m: &mut M, to: Reg, of: Reg) -> Result<i16, St
 
 /// Loads the home of the context that a register names: of a block, whose field 3 is a number, field 5, and otherwise the context.
 pub fn home<M: ObjectMemory>(m: &mut M, to: Reg, context: Reg) -> Result<(), Stop>
-    requires sound { M.sound m.old }
-    requires ready { IsReady (M.told m.old) }
+    requires fit { IsFit M.ObjectMemory m.old }
     requires scratch { MACHINE_REGISTERS ≤ to }
     requires apart { to ≡ context → ⊥ }
     ensures serves { (cpu : Cpu) → Serves (M.told m.old) cpu (M.told m.new) cpu (part Shape (home_of ((M.told m.old).regs context)) ((M.told m.old).regs context)) (with_value result ((M.told m.new).regs to)) }
     ensures looks { OnOk result (Looks (to ∷ []) (M.told m.old) (M.told m.new)) }
-    ensures ready { OnOk result (IsReady (M.told m.new)) }
-    ensures sound { StaysSound result (M.sound m.new) }
-    ensures lender { M.lender m.new ≡ M.lender m.old }
-    ensures outside { M.outside m.new ≡ M.outside m.old }
+    ensures fit { StaysFit M.ObjectMemory m.old m.new result }
 {
     let Some(len) = shape::fields(m, context)? else {
         return Err(Stop::Stuck(Cause::Shape));
     };
-    if len < 6 {
+    if len < TEMP_FRAME_START {
         return Err(Stop::Stuck(Cause::Shape));
     }
-    m.field(to, context, 3)?;
+    m.field(to, context, METHOD_INDEX)?;
     if m.as_int(to).is_some() {
-        m.field(to, context, 5)?;
+        m.field(to, context, HOME_INDEX)?;
     } else {
         m.copy(to, context);
     }
@@ -252,17 +211,13 @@ pub fn home<M: ObjectMemory>(m: &mut M, to: Reg, context: Reg) -> Result<(), Sto
 
 /// Loads the name of a known object.
 pub fn known<M: ObjectMemory>(m: &mut M, to: Reg, name: Name) -> Result<(), Stop>
-    requires sound { M.sound m.old }
-    requires ready { IsReady (M.told m.old) }
+    requires fit { IsFit M.ObjectMemory m.old }
     requires scratch { MACHINE_REGISTERS ≤ to }
     requires name { is_known name ≡ true }
     ensures serves { (cpu : Cpu) → Serves (M.told m.old) cpu (M.told m.new) cpu (known name) (with_value result ((M.told m.new).regs to)) }
     ensures name { OnOk result ((M.told m.new).regs to ≡ Ref name) }
     ensures looks { OnOk result (Looks (to ∷ []) (M.told m.old) (M.told m.new)) }
-    ensures ready { OnOk result (IsReady (M.told m.new)) }
-    ensures sound { StaysSound result (M.sound m.new) }
-    ensures lender { M.lender m.new ≡ M.lender m.old }
-    ensures outside { M.outside m.new ≡ M.outside m.old }
+    ensures fit { StaysFit M.ObjectMemory m.old m.new result }
 {
     m.known(to, name)?;
     Ok(())
@@ -270,14 +225,10 @@ pub fn known<M: ObjectMemory>(m: &mut M, to: Reg, name: Name) -> Result<(), Stop
 
 /// Stores into field i of the object of pointers that a register names.
 pub fn store_field<M: ObjectMemory>(m: &mut M, of: Reg, i: u32, from: Reg) -> Result<(), Stop>
-    requires sound { M.sound m.old }
-    requires ready { IsReady (M.told m.old) }
+    requires fit { IsFit M.ObjectMemory m.old }
     ensures serves { (cpu : Cpu) → Serves (M.told m.old) cpu (M.told m.new) cpu (store_field ((M.told m.old).regs of) i ((M.told m.old).regs from)) result }
     ensures regs { OnOk result ((M.told m.new).regs ≡ (M.told m.old).regs) }
-    ensures ready { OnOk result (IsReady (M.told m.new)) }
-    ensures sound { StaysSound result (M.sound m.new) }
-    ensures lender { M.lender m.new ≡ M.lender m.old }
-    ensures outside { M.outside m.new ≡ M.outside m.old }
+    ensures fit { StaysFit M.ObjectMemory m.old m.new result }
 {
     if !shape::has_field(m, of, i)? {
         return Err(Stop::Stuck(Cause::Shape));
@@ -288,14 +239,10 @@ pub fn store_field<M: ObjectMemory>(m: &mut M, of: Reg, i: u32, from: Reg) -> Re
 
 /// Stores into value or literal i of the object that a register names.
 pub fn store_value<M: ObjectMemory>(m: &mut M, of: Reg, i: u32, from: Reg) -> Result<(), Stop>
-    requires sound { M.sound m.old }
-    requires ready { IsReady (M.told m.old) }
+    requires fit { IsFit M.ObjectMemory m.old }
     ensures serves { (cpu : Cpu) → Serves (M.told m.old) cpu (M.told m.new) cpu (store ((M.told m.old).regs of) i ((M.told m.old).regs from)) result }
     ensures regs { OnOk result ((M.told m.new).regs ≡ (M.told m.old).regs) }
-    ensures ready { OnOk result (IsReady (M.told m.new)) }
-    ensures sound { StaysSound result (M.sound m.new) }
-    ensures lender { M.lender m.new ≡ M.lender m.old }
-    ensures outside { M.outside m.new ≡ M.outside m.old }
+    ensures fit { StaysFit M.ObjectMemory m.old m.new result }
 {
     if !shape::has_field(m, of, i)? && !shape::has_literal(m, of, i)? {
         return Err(Stop::Stuck(Cause::Shape));
@@ -306,17 +253,13 @@ pub fn store_value<M: ObjectMemory>(m: &mut M, of: Reg, i: u32, from: Reg) -> Re
 
 /// Makes an object of so many nils (instantiateClass:withPointers:, chapter 30). Its class stands in a register.
 pub fn make_pointers<M: ObjectMemory>(m: &mut M, to: Reg, class: Reg, n: u32) -> Result<(), Stop>
-    requires sound { M.sound m.old }
-    requires ready { IsReady (M.told m.old) }
+    requires fit { IsFit M.ObjectMemory m.old }
     requires scratch { MACHINE_REGISTERS ≤ to }
     requires class { IsRef ((M.told m.old).regs class) }
     requires few { n < 65536 }
     ensures serves { (cpu : Cpu) → Serves (M.told m.old) cpu (M.told m.new) cpu (make ((M.told m.old).regs class) (OfPointers n)) (with_value result ((M.told m.new).regs to)) }
     ensures regs { OnOk result ((r : ℕ) → (r ≡ to → ⊥) → (M.told m.new).regs r ≡ (M.told m.old).regs r) }
-    ensures ready { OnOk result (IsReady (M.told m.new)) }
-    ensures sound { StaysSound result (M.sound m.new) }
-    ensures lender { M.lender m.new ≡ M.lender m.old }
-    ensures outside { M.outside m.new ≡ M.outside m.old }
+    ensures fit { StaysFit M.ObjectMemory m.old m.new result }
 {
     m.new_pointers(to, class, n)?;
     Ok(())
@@ -324,17 +267,13 @@ pub fn make_pointers<M: ObjectMemory>(m: &mut M, to: Reg, class: Reg, n: u32) ->
 
 /// Makes an object of so many words that are 0 (instantiateClass:withWords:, chapter 30). Its class stands in a register.
 pub fn make_words<M: ObjectMemory>(m: &mut M, to: Reg, class: Reg, n: u32) -> Result<(), Stop>
-    requires sound { M.sound m.old }
-    requires ready { IsReady (M.told m.old) }
+    requires fit { IsFit M.ObjectMemory m.old }
     requires scratch { MACHINE_REGISTERS ≤ to }
     requires class { IsRef ((M.told m.old).regs class) }
     requires few { n < 65536 }
     ensures serves { (cpu : Cpu) → Serves (M.told m.old) cpu (M.told m.new) cpu (make ((M.told m.old).regs class) (OfWords n)) (with_value result ((M.told m.new).regs to)) }
     ensures regs { OnOk result ((r : ℕ) → (r ≡ to → ⊥) → (M.told m.new).regs r ≡ (M.told m.old).regs r) }
-    ensures ready { OnOk result (IsReady (M.told m.new)) }
-    ensures sound { StaysSound result (M.sound m.new) }
-    ensures lender { M.lender m.new ≡ M.lender m.old }
-    ensures outside { M.outside m.new ≡ M.outside m.old }
+    ensures fit { StaysFit M.ObjectMemory m.old m.new result }
 {
     m.new_words(to, class, n)?;
     Ok(())
@@ -342,17 +281,13 @@ pub fn make_words<M: ObjectMemory>(m: &mut M, to: Reg, class: Reg, n: u32) -> Re
 
 /// Makes an object of so many bytes that are 0 (instantiateClass:withBytes:, chapter 30). Its class stands in a register.
 pub fn make_bytes<M: ObjectMemory>(m: &mut M, to: Reg, class: Reg, n: u32) -> Result<(), Stop>
-    requires sound { M.sound m.old }
-    requires ready { IsReady (M.told m.old) }
+    requires fit { IsFit M.ObjectMemory m.old }
     requires scratch { MACHINE_REGISTERS ≤ to }
     requires class { IsRef ((M.told m.old).regs class) }
     requires few { n < 65536 }
     ensures serves { (cpu : Cpu) → Serves (M.told m.old) cpu (M.told m.new) cpu (make ((M.told m.old).regs class) (OfBytes n)) (with_value result ((M.told m.new).regs to)) }
     ensures regs { OnOk result ((r : ℕ) → (r ≡ to → ⊥) → (M.told m.new).regs r ≡ (M.told m.old).regs r) }
-    ensures ready { OnOk result (IsReady (M.told m.new)) }
-    ensures sound { StaysSound result (M.sound m.new) }
-    ensures lender { M.lender m.new ≡ M.lender m.old }
-    ensures outside { M.outside m.new ≡ M.outside m.old }
+    ensures fit { StaysFit M.ObjectMemory m.old m.new result }
 {
     m.new_bytes(to, class, n)?;
     Ok(())
@@ -367,18 +302,14 @@ pub fn make_method<M: ObjectMemory>(
     header: i16,
     code: u32,
 ) -> Result<(), Stop>
-    requires sound { M.sound m.old }
-    requires ready { IsReady (M.told m.old) }
+    requires fit { IsFit M.ObjectMemory m.old }
     requires scratch { MACHINE_REGISTERS ≤ to }
     requires class { IsRef ((M.told m.old).regs class) }
     requires header { IsSmallInteger header }
     requires few { code ≤ MOST_CODE }
     ensures serves { (cpu : Cpu) → Serves (M.told m.old) cpu (M.told m.new) cpu (make ((M.told m.old).regs class) (OfMethod header code)) (with_value result ((M.told m.new).regs to)) }
     ensures regs { OnOk result ((r : ℕ) → (r ≡ to → ⊥) → (M.told m.new).regs r ≡ (M.told m.old).regs r) }
-    ensures ready { OnOk result (IsReady (M.told m.new)) }
-    ensures sound { StaysSound result (M.sound m.new) }
-    ensures lender { M.lender m.new ≡ M.lender m.old }
-    ensures outside { M.outside m.new ≡ M.outside m.old }
+    ensures fit { StaysFit M.ObjectMemory m.old m.new result }
 {
     m.new_method(to, class, header, code)?;
     Ok(())

@@ -9,6 +9,8 @@ ghost use Rattle.blue_model.specs.Messages.{set_arguments as set_rule};
 ghost use Rattle.contexts.specs.Serves.{Serves, StaysSound};
 ghost use Rattle.std.specs.Prelude.{Ok};
 ghost use Rattle.long_names.specs.State.{RECEIVER};
+ghost use Rattle.object_memory.specs.Calls.{IsFit};
+ghost use Rattle.contexts.specs.Calls.{StaysFit};
 
 use crate::stop::Stop;
 use blue_model::{Cause, Cpu};
@@ -16,15 +18,11 @@ use object_memory::{ObjectMemory, Reg, shape};
 
 /// The registers from one number up to another, without it, hold 0.
 pub fn clear<M: ObjectMemory>(m: &mut M, from: u8, to: u8)
-    requires sound { M.sound m.old }
-    requires ready { IsReady (M.told m.old) }
+    requires fit { IsFit M.ObjectMemory m.old }
     requires few { to ≤ 24 }
     ensures regs { (r : ℕ) → (M.told m.new).regs r ≡ (if nat_le from r && nat_lt r to then Int (pos 0) else (M.told m.old).regs r) }
     ensures rest { M.told m.new ≡ record (M.told m.old) { regs = (M.told m.new).regs } }
-    ensures ready { IsReady (M.told m.new) }
-    ensures sound { M.sound m.new }
-    ensures lender { M.lender m.new ≡ M.lender m.old }
-    ensures outside { M.outside m.new ≡ M.outside m.old }
+    ensures fit { StaysFit M.ObjectMemory m.old m.new (Ok result) }
 {
     for r in from..to {
         m.int(Reg::new(r), 0);
@@ -41,14 +39,10 @@ pub fn set_arguments(cpu: &mut Cpu, n: u8)
 
 /// No object is pinned any more.
 pub(crate) fn unpin_all<M: ObjectMemory>(m: &mut M)
-    requires sound { M.sound m.old }
-    requires ready { IsReady (M.told m.old) }
+    requires fit { IsFit M.ObjectMemory m.old }
     ensures serves { (cpu : Numbers) → Serves (M.told m.old) cpu (M.told m.new) cpu unpin_rule (Ok tt) }
     ensures regs { (M.told m.new).regs ≡ (M.told m.old).regs }
-    ensures ready { IsReady (M.told m.new) }
-    ensures sound { M.sound m.new }
-    ensures lender { M.lender m.new ≡ M.lender m.old }
-    ensures outside { M.outside m.new ≡ M.outside m.old }
+    ensures fit { StaysFit M.ObjectMemory m.old m.new (Ok result) }
 {
     m.unpin(0);
     m.unpin(1);
@@ -57,15 +51,11 @@ pub(crate) fn unpin_all<M: ObjectMemory>(m: &mut M)
 
 /// Pins the object that a register names.
 pub(crate) fn pin<M: ObjectMemory>(m: &mut M, slot: u8, of: Reg) -> Result<(), Stop>
-    requires sound { M.sound m.old }
-    requires ready { IsReady (M.told m.old) }
+    requires fit { IsFit M.ObjectMemory m.old }
     requires slot { slot < 3 }
     ensures serves { (cpu : Numbers) → Serves (M.told m.old) cpu (M.told m.new) cpu (pin_rule slot ((M.told m.old).regs of)) result }
     ensures regs { OnOk result ((M.told m.new).regs ≡ (M.told m.old).regs) }
-    ensures ready { OnOk result (IsReady (M.told m.new)) }
-    ensures sound { StaysSound result (M.sound m.new) }
-    ensures lender { M.lender m.new ≡ M.lender m.old }
-    ensures outside { M.outside m.new ≡ M.outside m.old }
+    ensures fit { StaysFit M.ObjectMemory m.old m.new result }
 {
     if !shape::is_name(m, of) {
         return Err(Stop::Stuck(Cause::Shape));
@@ -76,17 +66,13 @@ pub(crate) fn pin<M: ObjectMemory>(m: &mut M, slot: u8, of: Reg) -> Result<(), S
 
 /// The four registers of the active context hold it, its home, its method and its receiver, which stand in scratch registers.
 pub(crate) fn put_context<M: ObjectMemory>(m: &mut M, context: Reg)
-    requires sound { M.sound m.old }
-    requires ready { IsReady (M.told m.old) }
+    requires fit { IsFit M.ObjectMemory m.old }
     ensures serves { (cpu : Numbers) → Serves (M.told m.old) cpu (M.told m.new) cpu (put_rule ((M.told m.old).regs context) ((M.told m.old).regs 21) ((M.told m.old).regs 22) ((M.told m.old).regs 23)) (Ok tt) }
     ensures others { (r : ℕ) → RECEIVER < r → (M.told m.new).regs r ≡ (M.told m.old).regs r }
-    ensures ready { IsReady (M.told m.new) }
-    ensures sound { M.sound m.new }
-    ensures lender { M.lender m.new ≡ M.lender m.old }
-    ensures outside { M.outside m.new ≡ M.outside m.old }
+    ensures fit { StaysFit M.ObjectMemory m.old m.new (Ok result) }
 {
     m.copy(Reg::ACTIVE_CONTEXT, context);
-    m.copy(Reg::HOME, Reg::SCRATCH_11);
-    m.copy(Reg::METHOD, Reg::SCRATCH_12);
-    m.copy(Reg::RECEIVER, Reg::SCRATCH_13);
+    m.copy(Reg::HOME, Reg::R21);
+    m.copy(Reg::METHOD, Reg::R22);
+    m.copy(Reg::RECEIVER, Reg::R23);
 }

@@ -6,6 +6,8 @@ ghost use Rattle.blue_model.specs.Machine.{MACHINE_REGISTERS};
 ghost use Rattle.blue_model.specs.Contexts as model;
 ghost use Rattle.blue_model.specs.Messages.{put_stack as put_rule};
 ghost use Rattle.contexts.specs.Serves.{Serves, StaysSound, with_value};
+ghost use Rattle.object_memory.specs.Calls.{IsFit};
+ghost use Rattle.contexts.specs.Calls.{StaysFit};
 
 use crate::numbers::{lower, place_above, place_at, raise};
 use crate::parts::{field, size, store_field};
@@ -16,14 +18,10 @@ use object_memory::{ObjectMemory, Reg};
 /// Pushes the value of a register (push:, chapter 28). Stuck with Stack where the field above the top is none of the context's, or the
 /// stack is full.
 pub fn push<M: ObjectMemory>(m: &mut M, cpu: &mut Cpu, from: Reg) -> Result<(), Stop>
-    requires sound { M.sound m.old }
-    requires ready { IsReady (M.told m.old) }
+    requires fit { IsFit M.ObjectMemory m.old }
     ensures serves { Serves (M.told m.old) cpu.old (M.told m.new) cpu.new (model.push ((M.told m.old).regs from)) result }
     ensures regs { OnOk result ((M.told m.new).regs ≡ (M.told m.old).regs) }
-    ensures ready { OnOk result (IsReady (M.told m.new)) }
-    ensures sound { StaysSound result (M.sound m.new) }
-    ensures lender { M.lender m.new ≡ M.lender m.old }
-    ensures outside { M.outside m.new ≡ M.outside m.old }
+    ensures fit { StaysFit M.ObjectMemory m.old m.new result }
 {
     let len = size(m, Reg::ACTIVE_CONTEXT, 0)?;
     let Some(place) = place_above(cpu, len) else {
@@ -37,15 +35,11 @@ pub fn push<M: ObjectMemory>(m: &mut M, cpu: &mut Cpu, from: Reg) -> Result<(), 
 /// Loads the value so much below the top of the stack into a scratch register (stackValue:, chapter 28). The top is at depth 0. Stuck
 /// with Stack where that field is none of the stack.
 pub fn stack<M: ObjectMemory>(m: &mut M, cpu: &Cpu, to: Reg, depth: u32) -> Result<(), Stop>
-    requires sound { M.sound m.old }
-    requires ready { IsReady (M.told m.old) }
+    requires fit { IsFit M.ObjectMemory m.old }
     requires scratch { MACHINE_REGISTERS ≤ to }
     ensures serves { Serves (M.told m.old) cpu.now (M.told m.new) cpu.now (model.stack depth) (with_value result ((M.told m.new).regs to)) }
     ensures looks { OnOk result (Looks (to ∷ []) (M.told m.old) (M.told m.new)) }
-    ensures ready { OnOk result (IsReady (M.told m.new)) }
-    ensures sound { StaysSound result (M.sound m.new) }
-    ensures lender { M.lender m.new ≡ M.lender m.old }
-    ensures outside { M.outside m.new ≡ M.outside m.old }
+    ensures fit { StaysFit M.ObjectMemory m.old m.new result }
 {
     let len = size(m, Reg::ACTIVE_CONTEXT, 0)?;
     let Some(place) = place_at(cpu, depth, len) else {
@@ -57,14 +51,10 @@ pub fn stack<M: ObjectMemory>(m: &mut M, cpu: &Cpu, to: Reg, depth: u32) -> Resu
 
 /// Puts the value of a register so much below the top of the stack. Stuck with Stack where that field is none of the stack.
 pub fn put_stack<M: ObjectMemory>(m: &mut M, cpu: &Cpu, depth: u32, from: Reg) -> Result<(), Stop>
-    requires sound { M.sound m.old }
-    requires ready { IsReady (M.told m.old) }
+    requires fit { IsFit M.ObjectMemory m.old }
     ensures serves { Serves (M.told m.old) cpu.now (M.told m.new) cpu.now (put_rule depth ((M.told m.old).regs from)) result }
     ensures regs { OnOk result ((M.told m.new).regs ≡ (M.told m.old).regs) }
-    ensures ready { OnOk result (IsReady (M.told m.new)) }
-    ensures sound { StaysSound result (M.sound m.new) }
-    ensures lender { M.lender m.new ≡ M.lender m.old }
-    ensures outside { M.outside m.new ≡ M.outside m.old }
+    ensures fit { StaysFit M.ObjectMemory m.old m.new result }
 {
     let len = size(m, Reg::ACTIVE_CONTEXT, 0)?;
     let Some(place) = place_at(cpu, depth, len) else {
@@ -86,15 +76,11 @@ pub fn pop(cpu: &mut Cpu, n: u32) -> Result<(), Stop>
 
 /// Pops the top into a scratch register (popStack, chapter 28).
 pub fn pop_top<M: ObjectMemory>(m: &mut M, cpu: &mut Cpu, to: Reg) -> Result<(), Stop>
-    requires sound { M.sound m.old }
-    requires ready { IsReady (M.told m.old) }
+    requires fit { IsFit M.ObjectMemory m.old }
     requires scratch { MACHINE_REGISTERS ≤ to }
     ensures serves { Serves (M.told m.old) cpu.old (M.told m.new) cpu.new model.pop_top (with_value result ((M.told m.new).regs to)) }
     ensures looks { OnOk result (Looks (to ∷ []) (M.told m.old) (M.told m.new)) }
-    ensures ready { OnOk result (IsReady (M.told m.new)) }
-    ensures sound { StaysSound result (M.sound m.new) }
-    ensures lender { M.lender m.new ≡ M.lender m.old }
-    ensures outside { M.outside m.new ≡ M.outside m.old }
+    ensures fit { StaysFit M.ObjectMemory m.old m.new result }
 {
     stack(m, cpu, to, 0)?;
     pop(cpu, 1)?;

@@ -1,5 +1,5 @@
 // The clock (chapter 29): the primitives 99 and 100. A tick is the number of the bytecodes that were run. The object of bytes is in
-// SCRATCH_0, the semaphore in SCRATCH_1.
+// R10, the semaphore in R11.
 ghost use Rattle.std.specs.Prelude.{◌≡◌, [], OnOk, Some};
 ghost use Rattle.object_memory.specs.Told.{IsReady};
 ghost use Rattle.object_memory.specs.Shape.{Looks};
@@ -8,6 +8,8 @@ ghost use Rattle.blue_model.specs.Trials.{peek};
 ghost use Rattle.blue_model.specs.Devices as model;
 ghost use Rattle.contexts.specs.Serves.{Serves, StaysSound};
 ghost use Rattle.devices.specs.Inside.{found_tick};
+ghost use Rattle.object_memory.specs.Calls.{IsFit};
+ghost use Rattle.contexts.specs.Calls.{StaysFit};
 
 use crate::input::{put_semaphore, semaphore_or_nil};
 use contexts::data::store_byte;
@@ -35,14 +37,10 @@ fn tick_from(bytes: [u8; 4]) -> u32
 
 /// The tick that the first four bytes are, lowest first, of the object of bytes that a register names. None of anything else.
 fn tick_of<M: ObjectMemory>(m: &mut M, of: Reg) -> Result<Option<u32>, Stop>
-    requires sound { M.sound m.old }
-    requires ready { IsReady (M.told m.old) }
+    requires fit { IsFit M.ObjectMemory m.old }
     ensures serves { (cpu : Numbers) → Serves (M.told m.old) cpu (M.told m.new) cpu (peek model.tick_of ((M.told m.old).regs of)) result }
     ensures looks { OnOk result (Looks [] (M.told m.old) (M.told m.new)) }
-    ensures ready { OnOk result (IsReady (M.told m.new)) }
-    ensures sound { StaysSound result (M.sound m.new) }
-    ensures lender { M.lender m.new ≡ M.lender m.old }
-    ensures outside { M.outside m.new ≡ M.outside m.old }
+    ensures fit { StaysFit M.ObjectMemory m.old m.new result }
 {
     let found = shape::shape(m, of)?;
     if !has_tick(found) {
@@ -55,13 +53,9 @@ fn tick_of<M: ObjectMemory>(m: &mut M, of: Reg) -> Result<Option<u32>, Stop>
 
 /// A tick becomes the first four bytes, lowest first, of the object that a register names.
 fn put_tick<M: ObjectMemory>(m: &mut M, of: Reg, tick: u32) -> Result<(), Stop>
-    requires sound { M.sound m.old }
-    requires ready { IsReady (M.told m.old) }
+    requires fit { IsFit M.ObjectMemory m.old }
     ensures serves { (cpu : Numbers) → Serves (M.told m.old) cpu (M.told m.new) cpu (model.put_tick ((M.told m.old).regs of) tick) result }
-    ensures ready { OnOk result (IsReady (M.told m.new)) }
-    ensures sound { StaysSound result (M.sound m.new) }
-    ensures lender { M.lender m.new ≡ M.lender m.old }
-    ensures outside { M.outside m.new ≡ M.outside m.old }
+    ensures fit { StaysFit M.ObjectMemory m.old m.new result }
 {
     store_byte(m, of, 0, (tick % 256) as u8)?;
     store_byte(m, of, 1, (tick / 256 % 256) as u8)?;
@@ -71,19 +65,15 @@ fn put_tick<M: ObjectMemory>(m: &mut M, of: Reg, tick: u32) -> Result<(), Stop>
 
 /// Stores the number of bytecodes that were run before this one into the argument (primitiveTimeWordsInto).
 pub(crate) fn tick_words<M: ObjectMemory>(m: &mut M, cpu: &mut Cpu) -> Result<Answer, Stop>
-    requires sound { M.sound m.old }
-    requires ready { IsReady (M.told m.old) }
+    requires fit { IsFit M.ObjectMemory m.old }
     ensures serves { Serves (M.told m.old) cpu.old (M.told m.new) cpu.new model.tick_words result }
-    ensures ready { OnOk result (IsReady (M.told m.new)) }
-    ensures sound { StaysSound result (M.sound m.new) }
-    ensures lender { M.lender m.new ≡ M.lender m.old }
-    ensures outside { M.outside m.new ≡ M.outside m.old }
+    ensures fit { StaysFit M.ObjectMemory m.old m.new result }
 {
-    stack(m, cpu, Reg::SCRATCH_0, 0)?;
-    let Some(_) = tick_of(m, Reg::SCRATCH_0)? else {
+    stack(m, cpu, Reg::R10, 0)?;
+    let Some(_) = tick_of(m, Reg::R10)? else {
         return Ok(Answer::Failed);
     };
-    put_tick(m, Reg::SCRATCH_0, cpu.ran)?;
+    put_tick(m, Reg::R10, cpu.ran)?;
     pop(cpu, 1)?;
     Ok(Answer::Done)
 }
@@ -95,22 +85,18 @@ fn timer_at(there: bool, tick: u32) -> Option<u32>
     if there { Some(tick) } else { None }
 }
 
-/// The timer signals the semaphore in SCRATCH_1 at this tick, or is cleared.
+/// The timer signals the semaphore in R11 at this tick, or is cleared.
 fn set_timer<M: ObjectMemory>(
     m: &mut M,
     cpu: &mut Cpu,
     there: bool,
     tick: u32,
 ) -> Result<Answer, Stop>
-    requires sound { M.sound m.old }
-    requires ready { IsReady (M.told m.old) }
+    requires fit { IsFit M.ObjectMemory m.old }
     ensures serves { Serves (M.told m.old) cpu.old (M.told m.new) cpu.new (model.set_timer ((M.told m.old).regs 11) there tick) result }
-    ensures ready { OnOk result (IsReady (M.told m.new)) }
-    ensures sound { StaysSound result (M.sound m.new) }
-    ensures lender { M.lender m.new ≡ M.lender m.old }
-    ensures outside { M.outside m.new ≡ M.outside m.old }
+    ensures fit { StaysFit M.ObjectMemory m.old m.new result }
 {
-    put_semaphore(m, Reg::TIMER_SEMAPHORE, Reg::SCRATCH_1, there);
+    put_semaphore(m, Reg::TIMER_SEMAPHORE, Reg::R11, there);
     cpu.timer = timer_at(there, tick);
     pop(cpu, 2)?;
     Ok(Answer::Done)
@@ -118,20 +104,16 @@ fn set_timer<M: ObjectMemory>(
 
 /// Sets the timer to a tick, or clears it where the semaphore is nil (primitiveSignalAtTick).
 pub(crate) fn signal_at_tick<M: ObjectMemory>(m: &mut M, cpu: &mut Cpu) -> Result<Answer, Stop>
-    requires sound { M.sound m.old }
-    requires ready { IsReady (M.told m.old) }
+    requires fit { IsFit M.ObjectMemory m.old }
     ensures serves { Serves (M.told m.old) cpu.old (M.told m.new) cpu.new model.signal_at_tick result }
-    ensures ready { OnOk result (IsReady (M.told m.new)) }
-    ensures sound { StaysSound result (M.sound m.new) }
-    ensures lender { M.lender m.new ≡ M.lender m.old }
-    ensures outside { M.outside m.new ≡ M.outside m.old }
+    ensures fit { StaysFit M.ObjectMemory m.old m.new result }
 {
-    stack(m, cpu, Reg::SCRATCH_1, 1)?;
-    stack(m, cpu, Reg::SCRATCH_0, 0)?;
-    let Some(there) = semaphore_or_nil(m, Reg::SCRATCH_1)? else {
+    stack(m, cpu, Reg::R11, 1)?;
+    stack(m, cpu, Reg::R10, 0)?;
+    let Some(there) = semaphore_or_nil(m, Reg::R11)? else {
         return Ok(Answer::Failed);
     };
-    let Some(tick) = tick_of(m, Reg::SCRATCH_0)? else {
+    let Some(tick) = tick_of(m, Reg::R10)? else {
         return Ok(Answer::Failed);
     };
     set_timer(m, cpu, there, tick)

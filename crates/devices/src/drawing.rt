@@ -1,4 +1,4 @@
-// The picture of the display: its rows as bytes, and the whole as a portable bitmap. The bits of the form are in SCRATCH_3.
+// The picture of the display: its rows as bytes, and the whole as a portable bitmap. The bits of the form are in R13.
 ghost use Rattle.std.specs.Prelude.{◌≡◌, ◌<◌, ◌≤◌, ◌++◌, ◌∷◌, [], IsTrue, OnOk, IfOk, IfSome, length, take};
 ghost use Rattle.object_memory.specs.Told.{IsReady};
 ghost use Rattle.object_memory.specs.Shape.{Looks};
@@ -11,6 +11,8 @@ ghost use Rattle.blue_model.specs.Devices as model;
 ghost use Rattle.contexts.specs.Serves.{Serves, StaysSound, with_value};
 ghost use Rattle.devices.specs.Inside.{IsSmall, HasRows, form_found, words_told, row_at, HasWords, bits_found, ReadsRow};
 ghost use Rattle.devices.specs.Pictures.{display_extent, IsShown, front_found, DrawnBy, DrawsSound};
+ghost use Rattle.object_memory.specs.Calls.{IsFit};
+ghost use Rattle.contexts.specs.Calls.{StaysFit};
 
 use crate::PictureFault;
 use crate::display::form_of;
@@ -26,35 +28,27 @@ const MOST_WORDS: usize = 1_024;
 
 const MOST_BYTES: usize = 2_048;
 
-/// How many columns and rows the form has that is the display, where it still has a form's shape. Its bits are loaded into SCRATCH_3.
+/// How many columns and rows the form has that is the display, where it still has a form's shape. Its bits are loaded into R13.
 fn display_form<M: ObjectMemory>(m: &mut M, cpu: &Cpu) -> Result<Option<(u32, u32)>, Stop>
-    requires sound { M.sound m.old }
-    requires ready { IsReady (M.told m.old) }
+    requires fit { IsFit M.ObjectMemory m.old }
     ensures serves { Serves (M.told m.old) cpu.now (M.told m.new) cpu.now model.display_form (form_found result ((M.told m.new).regs 13)) }
     ensures rows { IfOk result (λ found. IfSome found (HasRows (M.told m.new) 13)) }
     ensures small { IfOk result (λ found. IfSome found IsSmall) }
-    ensures ready { OnOk result (IsReady (M.told m.new)) }
-    ensures sound { StaysSound result (M.sound m.new) }
-    ensures lender { M.lender m.new ≡ M.lender m.old }
-    ensures outside { M.outside m.new ≡ M.outside m.old }
+    ensures fit { StaysFit M.ObjectMemory m.old m.new result }
 {
     if !cpu.display {
         return Ok(None);
     }
-    m.copy(Reg::SCRATCH_1, Reg::DISPLAY);
+    m.copy(Reg::R11, Reg::DISPLAY);
     form_of(m)
 }
 
 /// How many columns and rows the display has. None exactly where no form is the display, or what is no form's shape any more: then its
 /// picture is empty.
 pub fn picture_size<M: ObjectMemory>(m: &mut M, cpu: &Cpu) -> Result<Option<(u32, u32)>, Stop>
-    requires sound { M.sound m.old }
-    requires ready { IsReady (M.told m.old) }
+    requires fit { IsFit M.ObjectMemory m.old }
     ensures serves { Serves (M.told m.old) cpu.now (M.told m.new) cpu.now display_extent result }
-    ensures ready { OnOk result (IsReady (M.told m.new)) }
-    ensures sound { StaysSound result (M.sound m.new) }
-    ensures lender { M.lender m.new ≡ M.lender m.old }
-    ensures outside { M.outside m.new ≡ M.outside m.old }
+    ensures fit { StaysFit M.ObjectMemory m.old m.new result }
 {
     let extent = display_form(m, cpu)?;
     Ok(extent)
@@ -62,8 +56,7 @@ pub fn picture_size<M: ObjectMemory>(m: &mut M, cpu: &Cpu) -> Result<Option<(u32
 
 /// Reads the words of a row.
 fn read_row<M: ObjectMemory>(m: &mut M, width: u32, y: u32, words: &mut [u16]) -> Result<(), Stop>
-    requires sound { M.sound m.old }
-    requires ready { IsReady (M.told m.old) }
+    requires fit { IsFit M.ObjectMemory m.old }
     requires row { HasWords (M.told m.old) width y }
     requires words { length words.old ≡ forms.row_words width }
     requires width { width < 16384 }
@@ -72,19 +65,15 @@ fn read_row<M: ObjectMemory>(m: &mut M, width: u32, y: u32, words: &mut [u16]) -
     ensures words { IsTrue (M.told m.old).tells → OnOk result (words.new ≡ row_at width (words_told (M.told m.old) 13) y) }
     ensures length { length words.new ≡ length words.old }
     ensures looks { OnOk result (Looks [] (M.told m.old) (M.told m.new)) }
-    ensures ready { OnOk result (IsReady (M.told m.new)) }
-    ensures sound { StaysSound result (M.sound m.new) }
-    ensures lender { M.lender m.new ≡ M.lender m.old }
-    ensures outside { M.outside m.new ≡ M.outside m.old }
+    ensures fit { StaysFit M.ObjectMemory m.old m.new result }
 {
-    m.read_words(Reg::SCRATCH_3, width.div_ceil(16) * y, words)?;
+    m.read_words(Reg::R13, width.div_ceil(16) * y, words)?;
     Ok(())
 }
 
 /// Puts the bytes of a row to the front of the buffer, and says how many there are.
 fn draw_row<M: ObjectMemory>(m: &mut M, width: u32, y: u32, out: &mut [u8]) -> Result<u32, Stop>
-    requires sound { M.sound m.old }
-    requires ready { IsReady (M.told m.old) }
+    requires fit { IsFit M.ObjectMemory m.old }
     requires row { HasWords (M.told m.old) width y }
     requires width { width < 16384 }
     requires height { y < 16384 }
@@ -94,10 +83,7 @@ fn draw_row<M: ObjectMemory>(m: &mut M, width: u32, y: u32, out: &mut [u8]) -> R
     ensures few { IfOk result (λ n. n ≤ 2048) }
     ensures length { length out.new ≡ length out.old }
     ensures looks { OnOk result (Looks [] (M.told m.old) (M.told m.new)) }
-    ensures ready { OnOk result (IsReady (M.told m.new)) }
-    ensures sound { StaysSound result (M.sound m.new) }
-    ensures lender { M.lender m.new ≡ M.lender m.old }
-    ensures outside { M.outside m.new ≡ M.outside m.old }
+    ensures fit { StaysFit M.ObjectMemory m.old m.new result }
 {
     let mut words = [0; MOST_WORDS];
     let row = &mut words[..width.div_ceil(16) as usize];
@@ -113,15 +99,11 @@ pub fn picture_row<M: ObjectMemory>(
     y: u32,
     out: &mut [u8],
 ) -> Result<u32, Stop>
-    requires sound { M.sound m.old }
-    requires ready { IsReady (M.told m.old) }
+    requires fit { IsFit M.ObjectMemory m.old }
     requires shown { IsTrue (M.told m.old).tells → IsShown (M.told m.old) cpu.now y }
     requires room { 2048 ≤ length out.old }
     ensures serves { Serves (M.told m.old) cpu.now (M.told m.new) cpu.now (model.display_row y) (front_found result out.new) }
-    ensures ready { OnOk result (IsReady (M.told m.new)) }
-    ensures sound { StaysSound result (M.sound m.new) }
-    ensures lender { M.lender m.new ≡ M.lender m.old }
-    ensures outside { M.outside m.new ≡ M.outside m.old }
+    ensures fit { StaysFit M.ObjectMemory m.old m.new result }
 {
     let Some((width, height)) = display_form(m, cpu)? else {
         return Err(Stop::Stuck(Cause::Shape));
@@ -152,8 +134,7 @@ fn append_row<M: ObjectMemory>(
     width: u32,
     y: u32,
 ) -> Result<(), PictureFault>
-    requires sound { M.sound m.old }
-    requires ready { IsReady (M.told m.old) }
+    requires fit { IsFit M.ObjectMemory m.old }
     requires row { HasWords (M.told m.old) width y }
     requires width { width < 16384 }
     requires height { y < 16384 }
@@ -172,8 +153,7 @@ fn append_row<M: ObjectMemory>(
 
 /// The picture of the display, a portable bitmap: nothing where no form is the display. It takes memory for the picture, and none besides.
 pub fn picture<M: ObjectMemory>(alloc: Global, m: &mut M, cpu: &Cpu) -> Result<Octets, PictureFault>
-    requires sound { M.sound m.old }
-    requires ready { IsReady (M.told m.old) }
+    requires fit { IsFit M.ObjectMemory m.old }
     ensures drawn { DrawnBy (M.told m.old) cpu.now (M.told m.new) result }
     ensures ready { OnOk result (IsReady (M.told m.new)) }
     ensures sound { DrawsSound result (M.sound m.new) }

@@ -5,6 +5,8 @@ ghost use Rattle.blue_model.specs.declared.cpu.Cpu.{Cpu as Numbers};
 ghost use Rattle.blue_model.specs.Devices as model;
 ghost use Rattle.contexts.specs.Serves.{Serves, StaysSound};
 ghost use Rattle.devices.specs.Inside.{due_at};
+ghost use Rattle.object_memory.specs.Calls.{IsFit};
+ghost use Rattle.contexts.specs.Calls.{StaysFit};
 
 use crate::input::raised;
 use contexts::{Cpu, Stop};
@@ -14,13 +16,9 @@ use process_sched::signal;
 
 /// A word joins the queue, and the input semaphore is signaled where there is one.
 fn join_queue<M: ObjectMemory>(m: &mut M, cpu: &mut Cpu) -> Result<(), Stop>
-    requires sound { M.sound m.old }
-    requires ready { IsReady (M.told m.old) }
+    requires fit { IsFit M.ObjectMemory m.old }
     ensures serves { Serves (M.told m.old) cpu.old (M.told m.new) cpu.new model.join_queue result }
-    ensures ready { OnOk result (IsReady (M.told m.new)) }
-    ensures sound { StaysSound result (M.sound m.new) }
-    ensures lender { M.lender m.new ≡ M.lender m.old }
-    ensures outside { M.outside m.new ≡ M.outside m.old }
+    ensures fit { StaysFit M.ObjectMemory m.old m.new result }
 {
     cpu.words_in = raised(cpu.words_in);
     if cpu.input {
@@ -31,13 +29,9 @@ fn join_queue<M: ObjectMemory>(m: &mut M, cpu: &mut Cpu) -> Result<(), Stop>
 
 /// What a line brings.
 fn take_event<M: ObjectMemory>(m: &mut M, cpu: &mut Cpu, event: Event) -> Result<(), Stop>
-    requires sound { M.sound m.old }
-    requires ready { IsReady (M.told m.old) }
+    requires fit { IsFit M.ObjectMemory m.old }
     ensures serves { Serves (M.told m.old) cpu.old (M.told m.new) cpu.new (model.take_event event) result }
-    ensures ready { OnOk result (IsReady (M.told m.new)) }
-    ensures sound { StaysSound result (M.sound m.new) }
-    ensures lender { M.lender m.new ≡ M.lender m.old }
-    ensures outside { M.outside m.new ≡ M.outside m.old }
+    ensures fit { StaysFit M.ObjectMemory m.old m.new result }
 {
     match event {
         Event::Word(_) => join_queue(m, cpu),
@@ -54,13 +48,9 @@ fn take_event<M: ObjectMemory>(m: &mut M, cpu: &mut Cpu, event: Event) -> Result
 
 /// Takes a line.
 fn take_line<M: ObjectMemory>(m: &mut M, cpu: &mut Cpu, line: Line) -> Result<(), Stop>
-    requires sound { M.sound m.old }
-    requires ready { IsReady (M.told m.old) }
+    requires fit { IsFit M.ObjectMemory m.old }
     ensures serves { Serves (M.told m.old) cpu.old (M.told m.new) cpu.new (model.take_line line) result }
-    ensures ready { OnOk result (IsReady (M.told m.new)) }
-    ensures sound { StaysSound result (M.sound m.new) }
-    ensures lender { M.lender m.new ≡ M.lender m.old }
-    ensures outside { M.outside m.new ≡ M.outside m.old }
+    ensures fit { StaysFit M.ObjectMemory m.old m.new result }
 {
     cpu.line = raised(cpu.line);
     take_event(m, cpu, line.event)
@@ -77,13 +67,9 @@ fn is_due(events: &EventList, place: usize, count: u32) -> bool
 
 /// Takes the lines that come at the number of bytecodes that were run.
 fn events_due<M: ObjectMemory>(m: &mut M, cpu: &mut Cpu, events: &EventList) -> Result<(), Stop>
-    requires sound { M.sound m.old }
-    requires ready { IsReady (M.told m.old) }
+    requires fit { IsFit M.ObjectMemory m.old }
     ensures serves { Serves (M.told m.old) cpu.old (M.told m.new) cpu.new (model.events_due events.now) result }
-    ensures ready { OnOk result (IsReady (M.told m.new)) }
-    ensures sound { StaysSound result (M.sound m.new) }
-    ensures lender { M.lender m.new ≡ M.lender m.old }
-    ensures outside { M.outside m.new ≡ M.outside m.old }
+    ensures fit { StaysFit M.ObjectMemory m.old m.new result }
 {
     let count = cpu.ran;
     let mut place = cpu.line as usize;
@@ -96,13 +82,9 @@ fn events_due<M: ObjectMemory>(m: &mut M, cpu: &mut Cpu, events: &EventList) -> 
 
 /// The timer signals its semaphore, and is cleared.
 fn fire<M: ObjectMemory>(m: &mut M, cpu: &mut Cpu) -> Result<(), Stop>
-    requires sound { M.sound m.old }
-    requires ready { IsReady (M.told m.old) }
+    requires fit { IsFit M.ObjectMemory m.old }
     ensures serves { Serves (M.told m.old) cpu.old (M.told m.new) cpu.new model.fire result }
-    ensures ready { OnOk result (IsReady (M.told m.new)) }
-    ensures sound { StaysSound result (M.sound m.new) }
-    ensures lender { M.lender m.new ≡ M.lender m.old }
-    ensures outside { M.outside m.new ≡ M.outside m.old }
+    ensures fit { StaysFit M.ObjectMemory m.old m.new result }
 {
     signal(m, cpu, Reg::TIMER_SEMAPHORE)?;
     m.int(Reg::TIMER_SEMAPHORE, 0);
@@ -118,13 +100,9 @@ fn is_reached(timer: Option<u32>, ran: u32) -> bool
 }
 
 fn check_timer<M: ObjectMemory>(m: &mut M, cpu: &mut Cpu) -> Result<(), Stop>
-    requires sound { M.sound m.old }
-    requires ready { IsReady (M.told m.old) }
+    requires fit { IsFit M.ObjectMemory m.old }
     ensures serves { Serves (M.told m.old) cpu.old (M.told m.new) cpu.new model.check_timer result }
-    ensures ready { OnOk result (IsReady (M.told m.new)) }
-    ensures sound { StaysSound result (M.sound m.new) }
-    ensures lender { M.lender m.new ≡ M.lender m.old }
-    ensures outside { M.outside m.new ≡ M.outside m.old }
+    ensures fit { StaysFit M.ObjectMemory m.old m.new result }
 {
     if is_reached(cpu.timer, cpu.ran) {
         return fire(m, cpu);
@@ -136,13 +114,9 @@ fn check_timer<M: ObjectMemory>(m: &mut M, cpu: &mut Cpu) -> Result<(), Stop>
 /// and signals the input semaphore; at Purge and Compact the memory puts out what it can, or closes its gaps, which changes nothing of
 /// the machine. In constant time where nothing is due.
 pub fn due<M: ObjectMemory>(m: &mut M, cpu: &mut Cpu, events: &EventList) -> Result<(), Stop>
-    requires sound { M.sound m.old }
-    requires ready { IsReady (M.told m.old) }
+    requires fit { IsFit M.ObjectMemory m.old }
     ensures serves { Serves (M.told m.old) cpu.old (M.told m.new) cpu.new (model.due events.now) result }
-    ensures ready { OnOk result (IsReady (M.told m.new)) }
-    ensures sound { StaysSound result (M.sound m.new) }
-    ensures lender { M.lender m.new ≡ M.lender m.old }
-    ensures outside { M.outside m.new ≡ M.outside m.old }
+    ensures fit { StaysFit M.ObjectMemory m.old m.new result }
 {
     events_due(m, cpu, events)?;
     check_timer(m, cpu)

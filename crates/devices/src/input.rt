@@ -1,4 +1,4 @@
-// Input (chapter 29): the primitives 93 and 95. The semaphore is in SCRATCH_1, the number that is the answer in SCRATCH_2.
+// Input (chapter 29): the primitives 93 and 95. The semaphore is in R11, the number that is the answer in R12.
 ghost use Rattle.std.specs.Prelude.{◌≡◌, ◌<◌, Ok, Some, true, [], OnOk};
 ghost use Rattle.std.specs.Option.{option_and_then};
 ghost use Rattle.object_memory.specs.Told.{IsReady};
@@ -7,7 +7,10 @@ ghost use Rattle.blue_model.specs.declared.cpu.Cpu.{Cpu as Numbers};
 ghost use Rattle.blue_model.specs.Machine.{MACHINE_REGISTERS};
 ghost use Rattle.blue_model.specs.Devices as model;
 ghost use Rattle.contexts.specs.Serves.{Serves, StaysSound};
+ghost use Rattle.object_memory.specs.Calls.{IsFit};
+ghost use Rattle.contexts.specs.Calls.{StaysFit};
 
+use blue_model::indexes::SEMAPHORE_SIZE;
 use contexts::peeks::peek_size;
 use contexts::{Answer, Cpu, Stop, answer, pop, stack};
 use event_file::EventList;
@@ -31,32 +34,24 @@ fn there_by(size: Option<u32>) -> Option<bool>
 
 /// Whether the register names a semaphore: false where it is nil, which stands for none. None of anything else.
 pub(crate) fn semaphore_or_nil<M: ObjectMemory>(m: &mut M, of: Reg) -> Result<Option<bool>, Stop>
-    requires sound { M.sound m.old }
-    requires ready { IsReady (M.told m.old) }
+    requires fit { IsFit M.ObjectMemory m.old }
     ensures serves { (cpu : Numbers) → Serves (M.told m.old) cpu (M.told m.new) cpu (model.semaphore_or_nil ((M.told m.old).regs of)) result }
     ensures looks { OnOk result (Looks [] (M.told m.old) (M.told m.new)) }
-    ensures ready { OnOk result (IsReady (M.told m.new)) }
-    ensures sound { StaysSound result (M.sound m.new) }
-    ensures lender { M.lender m.new ≡ M.lender m.old }
-    ensures outside { M.outside m.new ≡ M.outside m.old }
+    ensures fit { StaysFit M.ObjectMemory m.old m.new result }
 {
     if m.is(of, Name::NIL) {
         return Ok(Some(false));
     }
-    let size = peek_size(m, of, 3)?;
+    let size = peek_size(m, of, SEMAPHORE_SIZE)?;
     Ok(there_by(size))
 }
 
 /// A register of the machine takes the semaphore, or the number 0 where there is none.
 pub(crate) fn put_semaphore<M: ObjectMemory>(m: &mut M, to: Reg, from: Reg, there: bool)
-    requires sound { M.sound m.old }
-    requires ready { IsReady (M.told m.old) }
+    requires fit { IsFit M.ObjectMemory m.old }
     requires machine { to < MACHINE_REGISTERS }
     ensures serves { (cpu : Numbers) → Serves (M.told m.old) cpu (M.told m.new) cpu (model.put_semaphore to ((M.told m.old).regs from) there) (Ok tt) }
-    ensures ready { IsReady (M.told m.new) }
-    ensures sound { M.sound m.new }
-    ensures lender { M.lender m.new ≡ M.lender m.old }
-    ensures outside { M.outside m.new ≡ M.outside m.old }
+    ensures fit { StaysFit M.ObjectMemory m.old m.new (Ok result) }
 {
     if there {
         m.copy(to, from);
@@ -67,19 +62,15 @@ pub(crate) fn put_semaphore<M: ObjectMemory>(m: &mut M, to: Reg, from: Reg, ther
 
 /// Words that come signal this semaphore from now on, or none where the argument is nil (primitiveInputSemaphore).
 pub(crate) fn input_semaphore<M: ObjectMemory>(m: &mut M, cpu: &mut Cpu) -> Result<Answer, Stop>
-    requires sound { M.sound m.old }
-    requires ready { IsReady (M.told m.old) }
+    requires fit { IsFit M.ObjectMemory m.old }
     ensures serves { Serves (M.told m.old) cpu.old (M.told m.new) cpu.new model.input_semaphore result }
-    ensures ready { OnOk result (IsReady (M.told m.new)) }
-    ensures sound { StaysSound result (M.sound m.new) }
-    ensures lender { M.lender m.new ≡ M.lender m.old }
-    ensures outside { M.outside m.new ≡ M.outside m.old }
+    ensures fit { StaysFit M.ObjectMemory m.old m.new result }
 {
-    stack(m, cpu, Reg::SCRATCH_1, 0)?;
-    let Some(there) = semaphore_or_nil(m, Reg::SCRATCH_1)? else {
+    stack(m, cpu, Reg::R11, 0)?;
+    let Some(there) = semaphore_or_nil(m, Reg::R11)? else {
         return Ok(Answer::Failed);
     };
-    put_semaphore(m, Reg::INPUT_SEMAPHORE, Reg::SCRATCH_1, there);
+    put_semaphore(m, Reg::INPUT_SEMAPHORE, Reg::R11, there);
     cpu.input = there;
     pop(cpu, 1)?;
     Ok(Answer::Done)
@@ -102,18 +93,14 @@ pub(crate) fn input_word<M: ObjectMemory>(
     cpu: &mut Cpu,
     events: &EventList,
 ) -> Result<Answer, Stop>
-    requires sound { M.sound m.old }
-    requires ready { IsReady (M.told m.old) }
+    requires fit { IsFit M.ObjectMemory m.old }
     ensures serves { Serves (M.told m.old) cpu.old (M.told m.new) cpu.new (model.input_word events.now) result }
-    ensures ready { OnOk result (IsReady (M.told m.new)) }
-    ensures sound { StaysSound result (M.sound m.new) }
-    ensures lender { M.lender m.new ≡ M.lender m.old }
-    ensures outside { M.outside m.new ≡ M.outside m.old }
+    ensures fit { StaysFit M.ObjectMemory m.old m.new result }
 {
     let Some(word) = next_word(events, cpu) else {
         return Ok(Answer::Failed);
     };
     number_object(m, u32::from(word))?;
     cpu.words_out = raised(cpu.words_out);
-    answer(m, cpu, 0, Reg::SCRATCH_2)
+    answer(m, cpu, 0, Reg::R12)
 }

@@ -27,6 +27,3 @@ pub use drawing::{picture, picture_row, picture_size};
 pub use events::due;
 pub use fault::PictureFault;
 pub use table::run;
-
-#[cfg(test)]
-mod tests;

@@ -5,6 +5,8 @@ ghost use Rattle.blue_model.specs.declared.answer.Answer.{Answer as Outcome};
 ghost use Rattle.blue_model.specs.Trials.{primitive_in};
 ghost use Rattle.blue_model.specs.Devices.{device_primitives};
 ghost use Rattle.contexts.specs.Serves.{Speaks, StaysSound};
+ghost use Rattle.object_memory.specs.Calls.{IsFit};
+ghost use Rattle.contexts.specs.Calls.{StaysFit};
 
 use crate::clock::{signal_at_tick, tick_words};
 use crate::display::be_display;
@@ -22,13 +24,9 @@ pub fn run<M: ObjectMemory>(
     events: &EventList,
     index: u8,
 ) -> Result<Answer, Stop>
-    requires sound { M.sound m.old }
-    requires ready { IsReady (M.told m.old) }
+    requires fit { IsFit M.ObjectMemory m.old }
     ensures speaks { Speaks Outcome.Done (M.told m.old) cpu.old (M.told m.new) cpu.new (primitive_in (device_primitives events.now) index) result }
-    ensures ready { OnOk result (IsReady (M.told m.new)) }
-    ensures sound { StaysSound result (M.sound m.new) }
-    ensures lender { M.lender m.new ≡ M.lender m.old }
-    ensures outside { M.outside m.new ≡ M.outside m.old }
+    ensures fit { StaysFit M.ObjectMemory m.old m.new result }
 {
     match (index, cpu.args) {
         (93, 1) => input_semaphore(m, cpu),

@@ -1,4 +1,4 @@
-// The shape of a form: a form is in SCRATCH_1, numbers are read into SCRATCH_2.
+// The shape of a form: a form is in R11, numbers are read into R12.
 ghost use Rattle.std.specs.Prelude.{◌≡◌, ◌≤◌, ◌<◌, [], ◌∷◌, length, OnOk, IfOk, IfSome};
 ghost use Rattle.long_names.specs.Objects.{words_of};
 ghost use Rattle.object_memory.specs.Told.{IsReady};
@@ -9,7 +9,10 @@ ghost use Rattle.blue_model.specs.Forms as model;
 ghost use Rattle.contexts.specs.Serves.{Serves, StaysSound};
 ghost use Rattle.forms.specs.Shapes.{IsExtent, extents_found, enough, forms_found};
 ghost use Rattle.forms.specs.Shapes as shapes;
+ghost use Rattle.object_memory.specs.Calls.{IsFit};
+ghost use Rattle.contexts.specs.Calls.{StaysFit};
 
+use blue_model::indexes::{BITS_INDEX, FORM_SIZE, HEIGHT_INDEX, WIDTH_INDEX};
 use contexts::Stop;
 use contexts::peeks::{peek_field, peek_number};
 use object_memory::{ObjectMemory, Reg, shape};
@@ -30,20 +33,16 @@ fn positive(z: i16) -> Option<u16>
 
 /// The width and the height of the form. None where one of them is no number of 1 or more.
 fn read_extent<M: ObjectMemory>(m: &mut M) -> Result<Option<Extent>, Stop>
-    requires sound { M.sound m.old }
-    requires ready { IsReady (M.told m.old) }
+    requires fit { IsFit M.ObjectMemory m.old }
     ensures serves { (cpu : Numbers) → Serves (M.told m.old) cpu (M.told m.new) cpu (peek model.extent_of ((M.told m.old).regs 11)) (extents_found result) }
     ensures looks { OnOk result (Looks (12 ∷ []) (M.told m.old) (M.told m.new)) }
     ensures extent { IfOk result (λ found. IfSome found IsExtent) }
-    ensures ready { OnOk result (IsReady (M.told m.new)) }
-    ensures sound { StaysSound result (M.sound m.new) }
-    ensures lender { M.lender m.new ≡ M.lender m.old }
-    ensures outside { M.outside m.new ≡ M.outside m.old }
+    ensures fit { StaysFit M.ObjectMemory m.old m.new result }
 {
-    let Some(x) = peek_number(m, Reg::SCRATCH_2, Reg::SCRATCH_1, 3, 1)? else {
+    let Some(x) = peek_number(m, Reg::R12, Reg::R11, FORM_SIZE, WIDTH_INDEX)? else {
         return Ok(None);
     };
-    let Some(y) = peek_number(m, Reg::SCRATCH_2, Reg::SCRATCH_1, 3, 2)? else {
+    let Some(y) = peek_number(m, Reg::R12, Reg::R11, FORM_SIZE, HEIGHT_INDEX)? else {
         return Ok(None);
     };
     let Some(width) = positive(x) else {
@@ -80,19 +79,15 @@ pub fn read_form<M: ObjectMemory>(
     bits: Reg,
     halftone: bool,
 ) -> Result<Option<Extent>, Stop>
-    requires sound { M.sound m.old }
-    requires ready { IsReady (M.told m.old) }
+    requires fit { IsFit M.ObjectMemory m.old }
     requires bits { 13 ≤ bits }
     ensures serves { (cpu : Numbers) → Serves (M.told m.old) cpu (M.told m.new) cpu (model.form_where (enough halftone) ((M.told m.old).regs 11)) (forms_found result ((M.told m.new).regs bits)) }
     ensures looks { OnOk result (Looks (bits ∷ 12 ∷ []) (M.told m.old) (M.told m.new)) }
     ensures room { IfOk result (λ found. IfSome found (λ e. HasPartAt (M.told m.new) bits words_of (λ words. shapes.least_words halftone e ≤ length words))) }
     ensures extent { IfOk result (λ found. IfSome found (λ e. IsExtent e × (shapes.least_words halftone e < 65536))) }
-    ensures ready { OnOk result (IsReady (M.told m.new)) }
-    ensures sound { StaysSound result (M.sound m.new) }
-    ensures lender { M.lender m.new ≡ M.lender m.old }
-    ensures outside { M.outside m.new ≡ M.outside m.old }
+    ensures fit { StaysFit M.ObjectMemory m.old m.new result }
 {
-    if !peek_field(m, bits, Reg::SCRATCH_1, 3, 0)? {
+    if !peek_field(m, bits, Reg::R11, FORM_SIZE, BITS_INDEX)? {
         return Ok(None);
     }
     let Some(count) = shape::words(m, bits)? else {

@@ -4,9 +4,9 @@
 //! bits have the words of all rows; a halftone's have 16 or more. `read_form` says by its clause `serves` that it does what `form_where` of
 //! `blue_model` has for it:
 //!
-//!     let Some(extent) = read_form(m, Reg::SCRATCH_3, false)? else {
-//!         return Ok(Answer::Failed);             // what SCRATCH_1 names is no form
-//!     };                                         // else its bits are in SCRATCH_3, and have row_words(extent.width) words a row
+//!     let Some(extent) = read_form(m, Reg::R13, false)? else {
+//!         return Ok(Answer::Failed);             // what R11 names is no form
+//!     };                                         // else its bits are in R13, and have row_words(extent.width) words a row
 //!
 //! It reads what it needs and changes nothing but two scratch registers.
 #![tactic(auto)]

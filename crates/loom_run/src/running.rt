@@ -10,6 +10,8 @@ ghost use Rattle.blue_model.specs.declared.step.Step.TheVariants as step;
 ghost use Rattle.contexts.specs.Serves.{Serves, Speaks, Stands, HasRest, StaysSound as StopsSound};
 ghost use Rattle.blue_model.specs.Endings.{HasCounted, is_quit as is_quit_step};
 ghost use Rattle.loom_run.specs.Run.{Begins, DrawsAs, EndsAs, FaultsBy, GoesAs, HaltsBy, RunsAs, SoundBy, StaysSound};
+ghost use Rattle.object_memory.specs.Calls.{IsFit};
+ghost use Rattle.contexts.specs.Calls.{StaysFit};
 
 use bytecodes::{Step, step};
 use contexts::{Cpu, Stop, park, start};
@@ -22,13 +24,9 @@ use std::alloc::Global;
 
 /// A process switch, where one waits (checkProcessSwitch, chapter 28).
 fn check_switch<M: ObjectMemory>(m: &mut M, cpu: &mut Cpu) -> Result<(), Stop>
-    requires sound { M.sound m.old }
-    requires ready { IsReady (M.told m.old) }
+    requires fit { IsFit M.ObjectMemory m.old }
     ensures serves { Serves (M.told m.old) cpu.old (M.told m.new) cpu.new check_switch_rule result }
-    ensures ready { OnOk result (IsReady (M.told m.new)) }
-    ensures sound { StopsSound result (M.sound m.new) }
-    ensures lender { M.lender m.new ≡ M.lender m.old }
-    ensures outside { M.outside m.new ≡ M.outside m.old }
+    ensures fit { StaysFit M.ObjectMemory m.old m.new result }
 {
     if cpu.waiting {
         switch(m, cpu)?;
@@ -38,14 +36,10 @@ fn check_switch<M: ObjectMemory>(m: &mut M, cpu: &mut Cpu) -> Result<(), Stop>
 
 /// The lines that are due, the timer, a process switch where one waits, and one bytecode.
 fn turn<M: ObjectMemory>(m: &mut M, cpu: &mut Cpu, events: &EventList) -> Result<Step, Stop>
-    requires sound { M.sound m.old }
-    requires ready { IsReady (M.told m.old) }
+    requires fit { IsFit M.ObjectMemory m.old }
     ensures serves { Speaks step.Next (M.told m.old) cpu.old (M.told m.new) cpu.new (turn_rule events.now) result }
     ensures rest { OnOk result (HasRest (M.told m.new)) }
-    ensures ready { OnOk result (IsReady (M.told m.new)) }
-    ensures sound { StopsSound result (M.sound m.new) }
-    ensures lender { M.lender m.new ≡ M.lender m.old }
-    ensures outside { M.outside m.new ≡ M.outside m.old }
+    ensures fit { StaysFit M.ObjectMemory m.old m.new result }
 {
     due(m, cpu, events)?;
     check_switch(m, cpu)?;
@@ -54,17 +48,13 @@ fn turn<M: ObjectMemory>(m: &mut M, cpu: &mut Cpu, events: &EventList) -> Result
 
 /// One cycle of the machine. Its bytecode is counted unless it stopped.
 fn cycle<M: ObjectMemory>(m: &mut M, cpu: &mut Cpu, events: &EventList) -> Result<Step, Stop>
-    requires sound { M.sound m.old }
-    requires ready { IsReady (M.told m.old) }
+    requires fit { IsFit M.ObjectMemory m.old }
     requires room { cpu.old.ran + 1 < 2 ^ 32 }
     ensures serves { Speaks step.Next (M.told m.old) cpu.old (M.told m.new) cpu.new (cycle_rule events.now) result }
     ensures counted { OnOk result (cpu.new.ran ≡ cpu.old.ran + 1) }
     ensures kept { OnErr result (cpu.new.ran ≡ cpu.old.ran) }
     ensures rest { OnOk result (HasRest (M.told m.new)) }
-    ensures ready { OnOk result (IsReady (M.told m.new)) }
-    ensures sound { StopsSound result (M.sound m.new) }
-    ensures lender { M.lender m.new ≡ M.lender m.old }
-    ensures outside { M.outside m.new ≡ M.outside m.old }
+    ensures fit { StaysFit M.ObjectMemory m.old m.new result }
 {
     let ran = cpu.ran;
     match turn(m, cpu, events) {
@@ -97,8 +87,7 @@ pub fn run<M: ObjectMemory>(
     events: &EventList,
     steps: u32,
 ) -> Result<Step, Stop>
-    requires sound { M.sound m.old }
-    requires ready { IsReady (M.told m.old) }
+    requires fit { IsFit M.ObjectMemory m.old }
     requires rest { HasRest (M.told m.old) }
     requires room { cpu.old.ran + steps < 2 ^ 32 }
     ensures runs { IsTrue (M.told m.old).tells → (machine : Machine) → Stands (M.told m.old) cpu.old machine → RunsAs events.now (M.told m.new) cpu.new steps machine result }
@@ -108,10 +97,7 @@ pub fn run<M: ObjectMemory>(
     ensures settled { OnOk result (0 < steps → Settled (M.told m.old).bounds (M.told m.new).bounds) }
     ensures later { IsLater (M.told m.old) (M.told m.new) }
     ensures rest { OnOk result (HasRest (M.told m.new)) }
-    ensures ready { OnOk result (IsReady (M.told m.new)) }
-    ensures sound { StopsSound result (M.sound m.new) }
-    ensures lender { M.lender m.new ≡ M.lender m.old }
-    ensures outside { M.outside m.new ≡ M.outside m.old }
+    ensures fit { StaysFit M.ObjectMemory m.old m.new result }
 {
     for turn in 0..steps {
         let step = cycle(m, cpu, events)?;
@@ -157,17 +143,13 @@ fn go_through<M: ObjectMemory>(
     events: &EventList,
     steps: u32,
 ) -> Result<Step, Stop>
-    requires sound { M.sound m.old }
-    requires ready { IsReady (M.told m.old) }
+    requires fit { IsFit M.ObjectMemory m.old }
     ensures ends { IsTrue (M.told m.old).tells → (h : Heap) → Begins h (M.told m.old) → GoesAs (M.told m.new) cpu.new result (ending events.now steps h) }
     ensures fault { IfErr result (FaultsBy (M.told m.old) (M.told m.new)) }
     ensures few { cpu.new.ran ≤ steps }
     ensures counted { IfOk result (λ end. HasCounted end cpu.new.ran steps) }
-    ensures ready { OnOk result (IsReady (M.told m.new)) }
     ensures later { IsLater (M.told m.old) (M.told m.new) }
-    ensures sound { StopsSound result (M.sound m.new) }
-    ensures lender { M.lender m.new ≡ M.lender m.old }
-    ensures outside { M.outside m.new ≡ M.outside m.old }
+    ensures fit { StaysFit M.ObjectMemory m.old m.new result }
 {
     start(m, cpu)?;
     let step = run(m, cpu, events, steps)?;
@@ -177,8 +159,7 @@ fn go_through<M: ObjectMemory>(
 
 /// Draws the display of a machine that is parked.
 fn draw<M: ObjectMemory>(alloc: Global, m: &mut M, cpu: &Cpu) -> Result<Octets, Reason>
-    requires sound { M.sound m.old }
-    requires ready { IsReady (M.told m.old) }
+    requires fit { IsFit M.ObjectMemory m.old }
     ensures draws { DrawsAs (M.told m.old) cpu.now (M.told m.new) result }
     ensures ready { OnOk result (IsReady (M.told m.new)) }
     ensures sound { IfErr result (λ why. SoundBy why (M.sound m.new)) }
@@ -200,17 +181,13 @@ pub fn whole_run<M: ObjectMemory>(
     events: &EventList,
     steps: u32,
 ) -> Result<Finished, Halted>
-    requires sound { M.sound m.old }
-    requires ready { IsReady (M.told m.old) }
+    requires fit { IsFit M.ObjectMemory m.old }
     ensures ends { IsTrue (M.told m.old).tells → (h : Heap) → Begins h (M.told m.old) → EndsAs (M.told m.new) result (ending events.now steps h) }
     ensures fault { IfErr result (λ halted. HaltsBy (M.told m.old) (M.told m.new) halted.why) }
     ensures ran { IfErr result (λ halted. halted.ran ≤ steps) }
     ensures counted { IfOk result (λ finished. HasCounted finished.end finished.ran steps) }
-    ensures ready { OnOk result (IsReady (M.told m.new)) }
     ensures later { IsLater (M.told m.old) (M.told m.new) }
-    ensures sound { StaysSound result (M.sound m.new) }
-    ensures lender { M.lender m.new ≡ M.lender m.old }
-    ensures outside { M.outside m.new ≡ M.outside m.old }
+    ensures fit { StaysFit M.ObjectMemory m.old m.new result }
 {
     let mut cpu = Cpu::at_rest();
     let end = match go_through(m, &mut cpu, events, steps) {

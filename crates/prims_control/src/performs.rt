@@ -1,5 +1,5 @@
-// Messages whose selector is on the stack (chapter 29, primitivePerform and primitivePerformWithArgs). The receiver is in SCRATCH_0, the
-// selector in SCRATCH_1, the array in SCRATCH_2, the method that was found in SCRATCH_12.
+// Messages whose selector is on the stack (chapter 29, primitivePerform and primitivePerformWithArgs). The receiver is in R10, the
+// selector in R11, the array in R12, the method that was found in R22.
 ghost use Rattle.std.specs.Prelude.{◌≡◌, ◌<◌, ℕ, [], ◌∷◌, Ok, OnOk, IfOk, IsTrue};
 ghost use Rattle.object_memory.specs.Told.{IsReady};
 ghost use Rattle.object_memory.specs.Shape.{Looks};
@@ -8,6 +8,8 @@ ghost use Rattle.blue_model.specs.Machine.{each};
 ghost use Rattle.blue_model.specs.Messages.{arguments_of as arguments_rule};
 ghost use Rattle.blue_model.specs.Control as model;
 ghost use Rattle.contexts.specs.Serves.{Serves, StaysSound, with_found};
+ghost use Rattle.object_memory.specs.Calls.{IsFit};
+ghost use Rattle.contexts.specs.Calls.{StaysFit};
 
 use crate::numbers::{extension_arguments, fits, flag_arguments};
 use crate::parts::array_length;
@@ -17,40 +19,32 @@ use object_memory::{ObjectMemory, Reg, shape};
 use send_lookup::header::flag;
 use send_lookup::look_up;
 
-/// How many arguments the method in SCRATCH_12 takes (argumentCountOf:, chapter 28).
+/// How many arguments the method in R22 takes (argumentCountOf:, chapter 28).
 fn arguments_of<M: ObjectMemory>(m: &mut M) -> Result<u32, Stop>
-    requires sound { M.sound m.old }
-    requires ready { IsReady (M.told m.old) }
+    requires fit { IsFit M.ObjectMemory m.old }
     ensures serves { (cpu : Numbers) → Serves (M.told m.old) cpu (M.told m.new) cpu (arguments_rule ((M.told m.old).regs 22)) result }
     ensures looks { OnOk result (Looks (19 ∷ []) (M.told m.old) (M.told m.new)) }
-    ensures ready { OnOk result (IsReady (M.told m.new)) }
-    ensures sound { StaysSound result (M.sound m.new) }
-    ensures lender { M.lender m.new ≡ M.lender m.old }
-    ensures outside { M.outside m.new ≡ M.outside m.old }
+    ensures fit { StaysFit M.ObjectMemory m.old m.new result }
 {
-    let header = header(m, Reg::SCRATCH_12)?;
+    let header = header(m, Reg::R22)?;
     if flag(header) == 7 {
-        let extension = extension(m, Reg::SCRATCH_9, Reg::SCRATCH_12)?;
+        let extension = extension(m, Reg::R19, Reg::R22)?;
         return Ok(extension_arguments(extension));
     }
     Ok(flag_arguments(flag(header)))
 }
 
-/// Loads the method for n arguments that the class of the receiver in SCRATCH_0 has for the selector in SCRATCH_1 into SCRATCH_12. False
+/// Loads the method for n arguments that the class of the receiver in R10 has for the selector in R11 into R22. False
 /// where the chain of classes has none, or one for another number of arguments.
 fn method_for<M: ObjectMemory>(m: &mut M, n: u32) -> Result<bool, Stop>
-    requires sound { M.sound m.old }
-    requires ready { IsReady (M.told m.old) }
+    requires fit { IsFit M.ObjectMemory m.old }
     ensures serves { (cpu : Numbers) → Serves (M.told m.old) cpu (M.told m.new) cpu (model.method_for ((M.told m.old).regs 10) ((M.told m.old).regs 11) n) (with_found result ((M.told m.new).regs 22)) }
     ensures regs { OnOk result ((r : ℕ) → r < 19 → (M.told m.new).regs r ≡ (M.told m.old).regs r) }
     ensures few { IfOk result (λ found. IsTrue found → n < 256) }
-    ensures ready { OnOk result (IsReady (M.told m.new)) }
-    ensures sound { StaysSound result (M.sound m.new) }
-    ensures lender { M.lender m.new ≡ M.lender m.old }
-    ensures outside { M.outside m.new ≡ M.outside m.old }
+    ensures fit { StaysFit M.ObjectMemory m.old m.new result }
 {
-    class_of(m, Reg::SCRATCH_9, Reg::SCRATCH_0)?;
-    if !look_up(m, Reg::SCRATCH_1, Reg::SCRATCH_9)? {
+    class_of(m, Reg::R19, Reg::R10)?;
+    if !look_up(m, Reg::R11, Reg::R19)? {
         return Ok(false);
     }
     if n >= 256 {
@@ -60,48 +54,36 @@ fn method_for<M: ObjectMemory>(m: &mut M, n: u32) -> Result<bool, Stop>
     Ok(count == n)
 }
 
-/// The method in SCRATCH_12 is to be executed with n arguments.
+/// The method in R22 is to be executed with n arguments.
 fn execute_found<M: ObjectMemory>(m: &mut M, cpu: &mut Cpu, n: u8) -> Answer
-    requires sound { M.sound m.old }
-    requires ready { IsReady (M.told m.old) }
+    requires fit { IsFit M.ObjectMemory m.old }
     ensures serves { Serves (M.told m.old) cpu.old (M.told m.new) cpu.new (model.execute_found ((M.told m.old).regs 22) n) (Ok result) }
-    ensures ready { IsReady (M.told m.new) }
-    ensures sound { M.sound m.new }
-    ensures lender { M.lender m.new ≡ M.lender m.old }
-    ensures outside { M.outside m.new ≡ M.outside m.old }
+    ensures fit { StaysFit M.ObjectMemory m.old m.new (Ok result) }
 {
-    m.copy(Reg::NEW_METHOD, Reg::SCRATCH_12);
+    m.copy(Reg::NEW_METHOD, Reg::R22);
     set_arguments(cpu, n);
     Answer::Execute
 }
 
 /// Moves argument k of n down by one on the stack.
 fn move_down<M: ObjectMemory>(m: &mut M, cpu: &Cpu, n: u32, k: u32) -> Result<(), Stop>
-    requires sound { M.sound m.old }
-    requires ready { IsReady (M.told m.old) }
+    requires fit { IsFit M.ObjectMemory m.old }
     requires argument { k < n }
     ensures serves { Serves (M.told m.old) cpu.now (M.told m.new) cpu.now (model.move_down n k) result }
     ensures regs { OnOk result ((r : ℕ) → (r ≡ 19 → ⊥) → (M.told m.new).regs r ≡ (M.told m.old).regs r) }
-    ensures ready { OnOk result (IsReady (M.told m.new)) }
-    ensures sound { StaysSound result (M.sound m.new) }
-    ensures lender { M.lender m.new ≡ M.lender m.old }
-    ensures outside { M.outside m.new ≡ M.outside m.old }
+    ensures fit { StaysFit M.ObjectMemory m.old m.new result }
 {
-    stack(m, cpu, Reg::SCRATCH_9, n - 1 - k)?;
-    put_stack(m, cpu, n - k, Reg::SCRATCH_9)?;
+    stack(m, cpu, Reg::R19, n - 1 - k)?;
+    put_stack(m, cpu, n - k, Reg::R19)?;
     Ok(())
 }
 
 /// Moves the n arguments down by one on the stack, over the selector.
 fn move_arguments<M: ObjectMemory>(m: &mut M, cpu: &Cpu, n: u32) -> Result<(), Stop>
-    requires sound { M.sound m.old }
-    requires ready { IsReady (M.told m.old) }
+    requires fit { IsFit M.ObjectMemory m.old }
     ensures serves { Serves (M.told m.old) cpu.now (M.told m.new) cpu.now (each (model.move_down n) n) result }
     ensures regs { OnOk result ((r : ℕ) → (r ≡ 19 → ⊥) → (M.told m.new).regs r ≡ (M.told m.old).regs r) }
-    ensures ready { OnOk result (IsReady (M.told m.new)) }
-    ensures sound { StaysSound result (M.sound m.new) }
-    ensures lender { M.lender m.new ≡ M.lender m.old }
-    ensures outside { M.outside m.new ≡ M.outside m.old }
+    ensures fit { StaysFit M.ObjectMemory m.old m.new result }
 {
     for k in 0..n {
         move_down(m, cpu, n, k)?;
@@ -111,18 +93,14 @@ fn move_arguments<M: ObjectMemory>(m: &mut M, cpu: &Cpu, n: u32) -> Result<(), S
 
 /// Takes the selector out of the stack, under the n other arguments, and has the receiver's method for it executed.
 fn perform_with<M: ObjectMemory>(m: &mut M, cpu: &mut Cpu, n: u8) -> Result<Answer, Stop>
-    requires sound { M.sound m.old }
-    requires ready { IsReady (M.told m.old) }
+    requires fit { IsFit M.ObjectMemory m.old }
     ensures serves { Serves (M.told m.old) cpu.old (M.told m.new) cpu.new (model.perform_with n) result }
-    ensures ready { OnOk result (IsReady (M.told m.new)) }
-    ensures sound { StaysSound result (M.sound m.new) }
-    ensures lender { M.lender m.new ≡ M.lender m.old }
-    ensures outside { M.outside m.new ≡ M.outside m.old }
+    ensures fit { StaysFit M.ObjectMemory m.old m.new result }
 {
     let count = u32::from(n);
-    stack(m, cpu, Reg::SCRATCH_0, count + 1)?;
-    stack(m, cpu, Reg::SCRATCH_1, count)?;
-    if !shape::is_name(m, Reg::SCRATCH_1) {
+    stack(m, cpu, Reg::R10, count + 1)?;
+    stack(m, cpu, Reg::R11, count)?;
+    if !shape::is_name(m, Reg::R11) {
         return Ok(Answer::Failed);
     }
     if !method_for(m, count)? {
@@ -135,13 +113,9 @@ fn perform_with<M: ObjectMemory>(m: &mut M, cpu: &mut Cpu, n: u8) -> Result<Answ
 
 /// Has the method executed that the receiver has for the first argument, with the others as its arguments (primitivePerform).
 pub(crate) fn perform<M: ObjectMemory>(m: &mut M, cpu: &mut Cpu) -> Result<Answer, Stop>
-    requires sound { M.sound m.old }
-    requires ready { IsReady (M.told m.old) }
+    requires fit { IsFit M.ObjectMemory m.old }
     ensures serves { Serves (M.told m.old) cpu.old (M.told m.new) cpu.new model.perform result }
-    ensures ready { OnOk result (IsReady (M.told m.new)) }
-    ensures sound { StaysSound result (M.sound m.new) }
-    ensures lender { M.lender m.new ≡ M.lender m.old }
-    ensures outside { M.outside m.new ≡ M.outside m.old }
+    ensures fit { StaysFit M.ObjectMemory m.old m.new result }
 {
     if cpu.args == 0 {
         return Ok(Answer::Failed);
@@ -151,45 +125,33 @@ pub(crate) fn perform<M: ObjectMemory>(m: &mut M, cpu: &mut Cpu) -> Result<Answe
 
 /// Whether n values fit on the stack in place of the two on top.
 fn has_room<M: ObjectMemory>(m: &mut M, cpu: &Cpu, n: u32) -> Result<bool, Stop>
-    requires sound { M.sound m.old }
-    requires ready { IsReady (M.told m.old) }
+    requires fit { IsFit M.ObjectMemory m.old }
     ensures serves { Serves (M.told m.old) cpu.now (M.told m.new) cpu.now (model.has_room n) result }
     ensures looks { OnOk result (Looks [] (M.told m.old) (M.told m.new)) }
-    ensures ready { OnOk result (IsReady (M.told m.new)) }
-    ensures sound { StaysSound result (M.sound m.new) }
-    ensures lender { M.lender m.new ≡ M.lender m.old }
-    ensures outside { M.outside m.new ≡ M.outside m.old }
+    ensures fit { StaysFit M.ObjectMemory m.old m.new result }
 {
     let len = size(m, Reg::ACTIVE_CONTEXT, 0)?;
     Ok(fits(cpu, n, len))
 }
 
-/// Pushes element k of the array in SCRATCH_2.
+/// Pushes element k of the array in R12.
 fn push_element<M: ObjectMemory>(m: &mut M, cpu: &mut Cpu, k: u32) -> Result<(), Stop>
-    requires sound { M.sound m.old }
-    requires ready { IsReady (M.told m.old) }
+    requires fit { IsFit M.ObjectMemory m.old }
     ensures serves { Serves (M.told m.old) cpu.old (M.told m.new) cpu.new (model.push_element ((M.told m.old).regs 12) k) result }
     ensures regs { OnOk result ((r : ℕ) → (r ≡ 19 → ⊥) → (M.told m.new).regs r ≡ (M.told m.old).regs r) }
-    ensures ready { OnOk result (IsReady (M.told m.new)) }
-    ensures sound { StaysSound result (M.sound m.new) }
-    ensures lender { M.lender m.new ≡ M.lender m.old }
-    ensures outside { M.outside m.new ≡ M.outside m.old }
+    ensures fit { StaysFit M.ObjectMemory m.old m.new result }
 {
-    field(m, Reg::SCRATCH_9, Reg::SCRATCH_2, 0, k)?;
-    push(m, cpu, Reg::SCRATCH_9)?;
+    field(m, Reg::R19, Reg::R12, 0, k)?;
+    push(m, cpu, Reg::R19)?;
     Ok(())
 }
 
-/// Pushes the first n elements of the array in SCRATCH_2.
+/// Pushes the first n elements of the array in R12.
 fn push_elements<M: ObjectMemory>(m: &mut M, cpu: &mut Cpu, n: u32) -> Result<(), Stop>
-    requires sound { M.sound m.old }
-    requires ready { IsReady (M.told m.old) }
+    requires fit { IsFit M.ObjectMemory m.old }
     ensures serves { Serves (M.told m.old) cpu.old (M.told m.new) cpu.new (each (model.push_element ((M.told m.old).regs 12)) n) result }
     ensures regs { OnOk result ((r : ℕ) → (r ≡ 19 → ⊥) → (M.told m.new).regs r ≡ (M.told m.old).regs r) }
-    ensures ready { OnOk result (IsReady (M.told m.new)) }
-    ensures sound { StaysSound result (M.sound m.new) }
-    ensures lender { M.lender m.new ≡ M.lender m.old }
-    ensures outside { M.outside m.new ≡ M.outside m.old }
+    ensures fit { StaysFit M.ObjectMemory m.old m.new result }
 {
     for k in 0..n {
         push_element(m, cpu, k)?;
@@ -203,18 +165,14 @@ pub(crate) fn perform_with_arguments<M: ObjectMemory>(
     m: &mut M,
     cpu: &mut Cpu,
 ) -> Result<Answer, Stop>
-    requires sound { M.sound m.old }
-    requires ready { IsReady (M.told m.old) }
+    requires fit { IsFit M.ObjectMemory m.old }
     ensures serves { Serves (M.told m.old) cpu.old (M.told m.new) cpu.new model.perform_with_arguments result }
-    ensures ready { OnOk result (IsReady (M.told m.new)) }
-    ensures sound { StaysSound result (M.sound m.new) }
-    ensures lender { M.lender m.new ≡ M.lender m.old }
-    ensures outside { M.outside m.new ≡ M.outside m.old }
+    ensures fit { StaysFit M.ObjectMemory m.old m.new result }
 {
-    stack(m, cpu, Reg::SCRATCH_0, 2)?;
-    stack(m, cpu, Reg::SCRATCH_1, 1)?;
-    stack(m, cpu, Reg::SCRATCH_2, 0)?;
-    if !shape::is_name(m, Reg::SCRATCH_1) {
+    stack(m, cpu, Reg::R10, 2)?;
+    stack(m, cpu, Reg::R11, 1)?;
+    stack(m, cpu, Reg::R12, 0)?;
+    if !shape::is_name(m, Reg::R11) {
         return Ok(Answer::Failed);
     }
     let Some(n) = array_length(m)? else {

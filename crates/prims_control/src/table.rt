@@ -3,6 +3,8 @@ ghost use Rattle.std.specs.Prelude.{◌≡◌, OnOk};
 ghost use Rattle.object_memory.specs.Told.{IsReady};
 ghost use Rattle.blue_model.specs.Control.{control_primitive};
 ghost use Rattle.contexts.specs.Serves.{Serves, StaysSound};
+ghost use Rattle.object_memory.specs.Calls.{IsFit};
+ghost use Rattle.contexts.specs.Calls.{StaysFit};
 
 use crate::blocks::block_copy;
 use crate::performs::{perform, perform_with_arguments};
@@ -13,13 +15,9 @@ use object_memory::ObjectMemory;
 /// Does a primitive by its index (dispatchPrimitives, chapter 29). It fails where the message has another number of arguments, where its
 /// conditions aren't met, and where the index is none of this table's. Then nothing has changed.
 pub fn run<M: ObjectMemory>(m: &mut M, cpu: &mut Cpu, index: u8) -> Result<Answer, Stop>
-    requires sound { M.sound m.old }
-    requires ready { IsReady (M.told m.old) }
+    requires fit { IsFit M.ObjectMemory m.old }
     ensures serves { Serves (M.told m.old) cpu.old (M.told m.new) cpu.new (control_primitive index) result }
-    ensures ready { OnOk result (IsReady (M.told m.new)) }
-    ensures sound { StaysSound result (M.sound m.new) }
-    ensures lender { M.lender m.new ≡ M.lender m.old }
-    ensures outside { M.outside m.new ≡ M.outside m.old }
+    ensures fit { StaysFit M.ObjectMemory m.old m.new result }
 {
     match (index, cpu.args) {
         (80, 1) => block_copy(m, cpu),

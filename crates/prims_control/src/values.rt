@@ -1,4 +1,4 @@
-// Blocks that are entered (chapter 29, primitiveValue and primitiveValueWithArgs). The block is in SCRATCH_0, the array in SCRATCH_2.
+// Blocks that are entered (chapter 29, primitiveValue and primitiveValueWithArgs). The block is in R10, the array in R12.
 ghost use Rattle.std.specs.Prelude.{◌≡◌, ◌<◌, ℕ, [], ◌∷◌, OnOk, IfOk, IfSome, IsSome};
 ghost use Rattle.long_names.specs.Words.{IsSmallInteger};
 ghost use Rattle.object_memory.specs.Told.{IsReady};
@@ -7,105 +7,102 @@ ghost use Rattle.blue_model.specs.declared.cpu.Cpu.{Cpu as Numbers};
 ghost use Rattle.blue_model.specs.Machine.{each};
 ghost use Rattle.blue_model.specs.Control as model;
 ghost use Rattle.contexts.specs.Serves.{Serves, StaysSound};
+ghost use Rattle.object_memory.specs.Calls.{IsFit};
+ghost use Rattle.contexts.specs.Calls.{StaysFit};
 
 use crate::numbers::states;
 use crate::parts::{array_length, store_number};
+use blue_model::indexes::{
+    BLOCK_ARGUMENT_COUNT_INDEX, CALLER_INDEX, INITIAL_IP_INDEX, TEMP_FRAME_START,
+};
 use contexts::parts::{class_of, field, store_field};
 use contexts::peeks::peek_number;
 use contexts::{Answer, Cpu, Stop, enter, pop, stack};
 use long_names::Name;
 use object_memory::{ObjectMemory, Reg};
 
-/// The first instruction pointer of what is in SCRATCH_0, where it has room for n arguments and states that it takes as many.
+/// The first instruction pointer of what is in R10, where it has room for n arguments and states that it takes as many.
 fn pointer_for<M: ObjectMemory>(m: &mut M, n: u32) -> Result<Option<i16>, Stop>
-    requires sound { M.sound m.old }
-    requires ready { IsReady (M.told m.old) }
+    requires fit { IsFit M.ObjectMemory m.old }
     requires few { n < 65536 }
     ensures serves { (cpu : Numbers) → Serves (M.told m.old) cpu (M.told m.new) cpu (model.pointer_for ((M.told m.old).regs 10) n) result }
     ensures looks { OnOk result (Looks (19 ∷ []) (M.told m.old) (M.told m.new)) }
     ensures range { IfOk result (λ found. IfSome found IsSmallInteger) }
     ensures few { IfOk result (λ found. IsSome found → n < 16384) }
-    ensures ready { OnOk result (IsReady (M.told m.new)) }
-    ensures sound { StaysSound result (M.sound m.new) }
-    ensures lender { M.lender m.new ≡ M.lender m.old }
-    ensures outside { M.outside m.new ≡ M.outside m.old }
+    ensures fit { StaysFit M.ObjectMemory m.old m.new result }
 {
-    let count = peek_number(m, Reg::SCRATCH_9, Reg::SCRATCH_0, 6 + n, 3)?;
+    let count = peek_number(
+        m,
+        Reg::R19,
+        Reg::R10,
+        TEMP_FRAME_START + n,
+        BLOCK_ARGUMENT_COUNT_INDEX,
+    )?;
     if !states(n, count) {
         return Ok(None);
     }
-    peek_number(m, Reg::SCRATCH_9, Reg::SCRATCH_0, 6 + n, 4)
+    peek_number(
+        m,
+        Reg::R19,
+        Reg::R10,
+        TEMP_FRAME_START + n,
+        INITIAL_IP_INDEX,
+    )
 }
 
-/// The same of a block. None where there is no block in SCRATCH_0.
+/// The same of a block. None where there is no block in R10.
 fn block_start<M: ObjectMemory>(m: &mut M, n: u32) -> Result<Option<i16>, Stop>
-    requires sound { M.sound m.old }
-    requires ready { IsReady (M.told m.old) }
+    requires fit { IsFit M.ObjectMemory m.old }
     requires few { n < 65536 }
     ensures serves { (cpu : Numbers) → Serves (M.told m.old) cpu (M.told m.new) cpu (model.block_start ((M.told m.old).regs 10) n) result }
     ensures looks { OnOk result (Looks (19 ∷ []) (M.told m.old) (M.told m.new)) }
     ensures range { IfOk result (λ found. IfSome found IsSmallInteger) }
     ensures few { IfOk result (λ found. IsSome found → n < 16384) }
-    ensures ready { OnOk result (IsReady (M.told m.new)) }
-    ensures sound { StaysSound result (M.sound m.new) }
-    ensures lender { M.lender m.new ≡ M.lender m.old }
-    ensures outside { M.outside m.new ≡ M.outside m.old }
+    ensures fit { StaysFit M.ObjectMemory m.old m.new result }
 {
-    class_of(m, Reg::SCRATCH_9, Reg::SCRATCH_0)?;
-    if !m.is(Reg::SCRATCH_9, Name::BLOCK_CONTEXT) {
+    class_of(m, Reg::R19, Reg::R10)?;
+    if !m.is(Reg::R19, Name::BLOCK_CONTEXT) {
         return Ok(None);
     }
     pointer_for(m, n)
 }
 
-/// Enters the block in SCRATCH_0 as new, with n values on its stack. The active context becomes its caller.
+/// Enters the block in R10 as new, with n values on its stack. The active context becomes its caller.
 fn enter_block<M: ObjectMemory>(m: &mut M, cpu: &mut Cpu, n: u32, ip: i16) -> Result<Answer, Stop>
-    requires sound { M.sound m.old }
-    requires ready { IsReady (M.told m.old) }
+    requires fit { IsFit M.ObjectMemory m.old }
     requires few { n < 16384 }
     requires range { IsSmallInteger ip }
     ensures serves { Serves (M.told m.old) cpu.old (M.told m.new) cpu.new (model.enter_block ((M.told m.old).regs 10) n ip) result }
-    ensures ready { OnOk result (IsReady (M.told m.new)) }
-    ensures sound { StaysSound result (M.sound m.new) }
-    ensures lender { M.lender m.new ≡ M.lender m.old }
-    ensures outside { M.outside m.new ≡ M.outside m.old }
+    ensures fit { StaysFit M.ObjectMemory m.old m.new result }
 {
-    store_number(m, Reg::SCRATCH_0, 1, ip)?;
-    store_number(m, Reg::SCRATCH_0, 2, n as i16)?;
-    store_field(m, Reg::SCRATCH_0, 0, Reg::ACTIVE_CONTEXT)?;
-    enter(m, cpu, Reg::SCRATCH_0)?;
+    store_number(m, Reg::R10, 1, ip)?;
+    store_number(m, Reg::R10, 2, n as i16)?;
+    store_field(m, Reg::R10, CALLER_INDEX, Reg::ACTIVE_CONTEXT)?;
+    enter(m, cpu, Reg::R10)?;
     Ok(Answer::Done)
 }
 
-/// Copies argument k of n from the stack to the stack of the block in SCRATCH_0.
+/// Copies argument k of n from the stack to the stack of the block in R10.
 fn pass_argument<M: ObjectMemory>(m: &mut M, cpu: &Cpu, n: u32, k: u32) -> Result<(), Stop>
-    requires sound { M.sound m.old }
-    requires ready { IsReady (M.told m.old) }
+    requires fit { IsFit M.ObjectMemory m.old }
     requires argument { k < n }
     requires few { n < 256 }
     ensures serves { Serves (M.told m.old) cpu.now (M.told m.new) cpu.now (model.pass_argument n ((M.told m.old).regs 10) k) result }
     ensures regs { OnOk result ((r : ℕ) → (r ≡ 19 → ⊥) → (M.told m.new).regs r ≡ (M.told m.old).regs r) }
-    ensures ready { OnOk result (IsReady (M.told m.new)) }
-    ensures sound { StaysSound result (M.sound m.new) }
-    ensures lender { M.lender m.new ≡ M.lender m.old }
-    ensures outside { M.outside m.new ≡ M.outside m.old }
+    ensures fit { StaysFit M.ObjectMemory m.old m.new result }
 {
-    stack(m, cpu, Reg::SCRATCH_9, n - 1 - k)?;
-    store_field(m, Reg::SCRATCH_0, 6 + k, Reg::SCRATCH_9)?;
+    stack(m, cpu, Reg::R19, n - 1 - k)?;
+    store_field(m, Reg::R10, TEMP_FRAME_START + k, Reg::R19)?;
     Ok(())
 }
 
-/// Copies the n arguments, in order, to the stack of the block in SCRATCH_0.
+/// Copies the n arguments, in order, to the stack of the block in R10.
 fn pass_arguments<M: ObjectMemory>(m: &mut M, cpu: &Cpu, n: u32) -> Result<(), Stop>
-    requires sound { M.sound m.old }
-    requires ready { IsReady (M.told m.old) }
+    requires fit { IsFit M.ObjectMemory m.old }
     requires few { n < 256 }
     ensures serves { Serves (M.told m.old) cpu.now (M.told m.new) cpu.now (each (model.pass_argument n ((M.told m.old).regs 10)) n) result }
     ensures regs { OnOk result ((r : ℕ) → (r ≡ 19 → ⊥) → (M.told m.new).regs r ≡ (M.told m.old).regs r) }
-    ensures ready { OnOk result (IsReady (M.told m.new)) }
-    ensures sound { StaysSound result (M.sound m.new) }
-    ensures lender { M.lender m.new ≡ M.lender m.old }
-    ensures outside { M.outside m.new ≡ M.outside m.old }
+    ensures fit { StaysFit M.ObjectMemory m.old m.new result }
 {
     for k in 0..n {
         pass_argument(m, cpu, n, k)?;
@@ -115,16 +112,12 @@ fn pass_arguments<M: ObjectMemory>(m: &mut M, cpu: &Cpu, n: u32) -> Result<(), S
 
 /// Enters a block with the arguments of the message (primitiveValue).
 pub(crate) fn value<M: ObjectMemory>(m: &mut M, cpu: &mut Cpu) -> Result<Answer, Stop>
-    requires sound { M.sound m.old }
-    requires ready { IsReady (M.told m.old) }
+    requires fit { IsFit M.ObjectMemory m.old }
     ensures serves { Serves (M.told m.old) cpu.old (M.told m.new) cpu.new model.value result }
-    ensures ready { OnOk result (IsReady (M.told m.new)) }
-    ensures sound { StaysSound result (M.sound m.new) }
-    ensures lender { M.lender m.new ≡ M.lender m.old }
-    ensures outside { M.outside m.new ≡ M.outside m.old }
+    ensures fit { StaysFit M.ObjectMemory m.old m.new result }
 {
     let n = u32::from(cpu.args);
-    stack(m, cpu, Reg::SCRATCH_0, n)?;
+    stack(m, cpu, Reg::R10, n)?;
     let Some(ip) = block_start(m, n)? else {
         return Ok(Answer::Failed);
     };
@@ -133,34 +126,26 @@ pub(crate) fn value<M: ObjectMemory>(m: &mut M, cpu: &mut Cpu) -> Result<Answer,
     enter_block(m, cpu, n, ip)
 }
 
-/// Copies element k of the array in SCRATCH_2 to the stack of the block in SCRATCH_0.
+/// Copies element k of the array in R12 to the stack of the block in R10.
 fn pass_element<M: ObjectMemory>(m: &mut M, k: u32) -> Result<(), Stop>
-    requires sound { M.sound m.old }
-    requires ready { IsReady (M.told m.old) }
+    requires fit { IsFit M.ObjectMemory m.old }
     requires few { k < 65536 }
     ensures serves { (cpu : Numbers) → Serves (M.told m.old) cpu (M.told m.new) cpu (model.pass_element ((M.told m.old).regs 12) ((M.told m.old).regs 10) k) result }
     ensures regs { OnOk result ((r : ℕ) → (r ≡ 19 → ⊥) → (M.told m.new).regs r ≡ (M.told m.old).regs r) }
-    ensures ready { OnOk result (IsReady (M.told m.new)) }
-    ensures sound { StaysSound result (M.sound m.new) }
-    ensures lender { M.lender m.new ≡ M.lender m.old }
-    ensures outside { M.outside m.new ≡ M.outside m.old }
+    ensures fit { StaysFit M.ObjectMemory m.old m.new result }
 {
-    field(m, Reg::SCRATCH_9, Reg::SCRATCH_2, 0, k)?;
-    store_field(m, Reg::SCRATCH_0, 6 + k, Reg::SCRATCH_9)?;
+    field(m, Reg::R19, Reg::R12, 0, k)?;
+    store_field(m, Reg::R10, TEMP_FRAME_START + k, Reg::R19)?;
     Ok(())
 }
 
-/// Copies the first n elements of the array in SCRATCH_2 to the stack of the block in SCRATCH_0.
+/// Copies the first n elements of the array in R12 to the stack of the block in R10.
 fn pass_elements<M: ObjectMemory>(m: &mut M, n: u32) -> Result<(), Stop>
-    requires sound { M.sound m.old }
-    requires ready { IsReady (M.told m.old) }
+    requires fit { IsFit M.ObjectMemory m.old }
     requires few { n < 65536 }
     ensures serves { (cpu : Numbers) → Serves (M.told m.old) cpu (M.told m.new) cpu (each (model.pass_element ((M.told m.old).regs 12) ((M.told m.old).regs 10)) n) result }
     ensures regs { OnOk result ((r : ℕ) → (r ≡ 19 → ⊥) → (M.told m.new).regs r ≡ (M.told m.old).regs r) }
-    ensures ready { OnOk result (IsReady (M.told m.new)) }
-    ensures sound { StaysSound result (M.sound m.new) }
-    ensures lender { M.lender m.new ≡ M.lender m.old }
-    ensures outside { M.outside m.new ≡ M.outside m.old }
+    ensures fit { StaysFit M.ObjectMemory m.old m.new result }
 {
     for k in 0..n {
         pass_element(m, k)?;
@@ -173,16 +158,12 @@ pub(crate) fn value_with_arguments<M: ObjectMemory>(
     m: &mut M,
     cpu: &mut Cpu,
 ) -> Result<Answer, Stop>
-    requires sound { M.sound m.old }
-    requires ready { IsReady (M.told m.old) }
+    requires fit { IsFit M.ObjectMemory m.old }
     ensures serves { Serves (M.told m.old) cpu.old (M.told m.new) cpu.new model.value_with_arguments result }
-    ensures ready { OnOk result (IsReady (M.told m.new)) }
-    ensures sound { StaysSound result (M.sound m.new) }
-    ensures lender { M.lender m.new ≡ M.lender m.old }
-    ensures outside { M.outside m.new ≡ M.outside m.old }
+    ensures fit { StaysFit M.ObjectMemory m.old m.new result }
 {
-    stack(m, cpu, Reg::SCRATCH_0, 1)?;
-    stack(m, cpu, Reg::SCRATCH_2, 0)?;
+    stack(m, cpu, Reg::R10, 1)?;
+    stack(m, cpu, Reg::R12, 0)?;
     let Some(n) = array_length(m)? else {
         return Ok(Answer::Failed);
     };

@@ -8,6 +8,3 @@ mod primitives;
 
 pub use contexts::{Answer, Stop};
 pub use primitives::run;
-
-#[cfg(test)]
-mod tests;

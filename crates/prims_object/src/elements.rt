@@ -1,4 +1,4 @@
-// Elements of objects (chapter 29, subscript:with: and subscript:with:storing:). What is read comes into SCRATCH_2, and SCRATCH_9 is used.
+// Elements of objects (chapter 29, subscript:with: and subscript:with:storing:). What is read comes into R12, and R19 is used.
 ghost use Rattle.std.specs.Prelude.{◌≡◌, ◌<◌, ◌≤◌, ℕ, [], ◌∷◌, OnOk};
 ghost use Rattle.object_memory.specs.Told.{IsReady};
 ghost use Rattle.object_memory.specs.Shape.{Looks};
@@ -8,6 +8,8 @@ ghost use Rattle.blue_model.specs.Machine.{Rule};
 ghost use Rattle.blue_model.specs.Elements as model;
 ghost use Rattle.contexts.specs.Serves.{Serves, StaysSound, with_value, with_found};
 ghost use Rattle.prims_object.specs.Leads.{Leads};
+ghost use Rattle.object_memory.specs.Calls.{IsFit};
+ghost use Rattle.contexts.specs.Calls.{StaysFit};
 
 use crate::extents::spot_of;
 use crate::indexes::{byte_by, natural_argument, number_object, positive};
@@ -25,15 +27,11 @@ pub(crate) fn element_of<M: ObjectMemory>(
     array: Reg,
     i: i32,
 ) -> Result<Option<Spot>, Stop>
-    requires sound { M.sound m.old }
-    requires ready { IsReady (M.told m.old) }
+    requires fit { IsFit M.ObjectMemory m.old }
     requires low { array < 19 }
     ensures serves { (cpu : Cpu) → Serves (M.told m.old) cpu (M.told m.new) cpu (model.element_of ((M.told m.old).regs array) i) result }
     ensures looks { OnOk result (Looks (19 ∷ []) (M.told m.old) (M.told m.new)) }
-    ensures ready { OnOk result (IsReady (M.told m.new)) }
-    ensures sound { StaysSound result (M.sound m.new) }
-    ensures lender { M.lender m.new ≡ M.lender m.old }
-    ensures outside { M.outside m.new ≡ M.outside m.old }
+    ensures fit { StaysFit M.ObjectMemory m.old m.new result }
 {
     let Some(e) = positive(i) else {
         return Ok(None);
@@ -50,14 +48,10 @@ pub(crate) fn variable_of<M: ObjectMemory>(
     receiver: Reg,
     i: i32,
 ) -> Result<Option<Spot>, Stop>
-    requires sound { M.sound m.old }
-    requires ready { IsReady (M.told m.old) }
+    requires fit { IsFit M.ObjectMemory m.old }
     ensures serves { (cpu : Cpu) → Serves (M.told m.old) cpu (M.told m.new) cpu (model.variable_of ((M.told m.old).regs receiver) i) result }
     ensures looks { OnOk result (Looks [] (M.told m.old) (M.told m.new)) }
-    ensures ready { OnOk result (IsReady (M.told m.new)) }
-    ensures sound { StaysSound result (M.sound m.new) }
-    ensures lender { M.lender m.new ≡ M.lender m.old }
-    ensures outside { M.outside m.new ≡ M.outside m.old }
+    ensures fit { StaysFit M.ObjectMemory m.old m.new result }
 {
     let Some(e) = positive(i) else {
         return Ok(None);
@@ -67,14 +61,10 @@ pub(crate) fn variable_of<M: ObjectMemory>(
 
 /// Loads word i of the object of words that a register names, as a number.
 fn word_object<M: ObjectMemory>(m: &mut M, array: Reg, i: u32) -> Result<(), Stop>
-    requires sound { M.sound m.old }
-    requires ready { IsReady (M.told m.old) }
+    requires fit { IsFit M.ObjectMemory m.old }
     ensures serves { (cpu : Cpu) → Serves (M.told m.old) cpu (M.told m.new) cpu (model.element_at ((M.told m.old).regs array) (Spot.Word i)) (with_value result ((M.told m.new).regs 12)) }
     ensures regs { OnOk result ((r : ℕ) → (r ≡ 12 → ⊥) → (r ≡ 19 → ⊥) → (M.told m.new).regs r ≡ (M.told m.old).regs r) }
-    ensures ready { OnOk result (IsReady (M.told m.new)) }
-    ensures sound { StaysSound result (M.sound m.new) }
-    ensures lender { M.lender m.new ≡ M.lender m.old }
-    ensures outside { M.outside m.new ≡ M.outside m.old }
+    ensures fit { StaysFit M.ObjectMemory m.old m.new result }
 {
     let word = word(m, array, i)?;
     number_object(m, u32::from(word))
@@ -82,14 +72,10 @@ fn word_object<M: ObjectMemory>(m: &mut M, array: Reg, i: u32) -> Result<(), Sto
 
 /// Loads byte i of the object of bytes that a register names, or of a method's code, as a number.
 fn byte_object<M: ObjectMemory>(m: &mut M, array: Reg, i: u32) -> Result<(), Stop>
-    requires sound { M.sound m.old }
-    requires ready { IsReady (M.told m.old) }
+    requires fit { IsFit M.ObjectMemory m.old }
     ensures serves { (cpu : Cpu) → Serves (M.told m.old) cpu (M.told m.new) cpu (model.element_at ((M.told m.old).regs array) (Spot.Byte i)) (with_value result ((M.told m.new).regs 12)) }
     ensures regs { OnOk result ((r : ℕ) → (r ≡ 12 → ⊥) → (r ≡ 19 → ⊥) → (M.told m.new).regs r ≡ (M.told m.old).regs r) }
-    ensures ready { OnOk result (IsReady (M.told m.new)) }
-    ensures sound { StaysSound result (M.sound m.new) }
-    ensures lender { M.lender m.new ≡ M.lender m.old }
-    ensures outside { M.outside m.new ≡ M.outside m.old }
+    ensures fit { StaysFit M.ObjectMemory m.old m.new result }
 {
     let byte = byte(m, array, i)?;
     number_object(m, u32::from(byte))
@@ -97,17 +83,13 @@ fn byte_object<M: ObjectMemory>(m: &mut M, array: Reg, i: u32) -> Result<(), Sto
 
 /// Loads what stands there (subscript:with:): a value, or a number.
 pub(crate) fn element_at<M: ObjectMemory>(m: &mut M, array: Reg, spot: Spot) -> Result<(), Stop>
-    requires sound { M.sound m.old }
-    requires ready { IsReady (M.told m.old) }
+    requires fit { IsFit M.ObjectMemory m.old }
     ensures serves { (cpu : Cpu) → Serves (M.told m.old) cpu (M.told m.new) cpu (model.element_at ((M.told m.old).regs array) spot) (with_value result ((M.told m.new).regs 12)) }
     ensures regs { OnOk result ((r : ℕ) → (r ≡ 12 → ⊥) → (r ≡ 19 → ⊥) → (M.told m.new).regs r ≡ (M.told m.old).regs r) }
-    ensures ready { OnOk result (IsReady (M.told m.new)) }
-    ensures sound { StaysSound result (M.sound m.new) }
-    ensures lender { M.lender m.new ≡ M.lender m.old }
-    ensures outside { M.outside m.new ≡ M.outside m.old }
+    ensures fit { StaysFit M.ObjectMemory m.old m.new result }
 {
     match spot {
-        Spot::Field(i) => field(m, Reg::SCRATCH_2, array, 0, i),
+        Spot::Field(i) => field(m, Reg::R12, array, 0, i),
         Spot::Word(i) => word_object(m, array, i),
         Spot::Byte(i) => byte_object(m, array, i),
     }
@@ -115,14 +97,10 @@ pub(crate) fn element_at<M: ObjectMemory>(m: &mut M, array: Reg, spot: Spot) -> 
 
 /// Stores the value of a register into value i.
 fn store_in_field<M: ObjectMemory>(m: &mut M, array: Reg, i: u32, from: Reg) -> Result<bool, Stop>
-    requires sound { M.sound m.old }
-    requires ready { IsReady (M.told m.old) }
+    requires fit { IsFit M.ObjectMemory m.old }
     ensures leads { (cpu : Cpu) → Leads (M.told m.old) cpu (M.told m.new) (model.put_element ((M.told m.old).regs array) (Spot.Field i) ((M.told m.old).regs from)) (λ (_ : Unit {0}) (rest : Rule Answer). rest) (with_found result tt) }
     ensures regs { OnOk result ((r : ℕ) → (r ≡ 19 → ⊥) → (M.told m.new).regs r ≡ (M.told m.old).regs r) }
-    ensures ready { OnOk result (IsReady (M.told m.new)) }
-    ensures sound { StaysSound result (M.sound m.new) }
-    ensures lender { M.lender m.new ≡ M.lender m.old }
-    ensures outside { M.outside m.new ≡ M.outside m.old }
+    ensures fit { StaysFit M.ObjectMemory m.old m.new result }
 {
     store_value(m, array, i, from)?;
     Ok(true)
@@ -130,16 +108,12 @@ fn store_in_field<M: ObjectMemory>(m: &mut M, array: Reg, i: u32, from: Reg) -> 
 
 /// Stores the number that a register holds into word i. False where it is no index argument, or negative.
 fn store_in_word<M: ObjectMemory>(m: &mut M, array: Reg, i: u32, from: Reg) -> Result<bool, Stop>
-    requires sound { M.sound m.old }
-    requires ready { IsReady (M.told m.old) }
+    requires fit { IsFit M.ObjectMemory m.old }
     requires array { array < 19 }
     requires from { from < 19 }
     ensures leads { (cpu : Cpu) → Leads (M.told m.old) cpu (M.told m.new) (model.put_element ((M.told m.old).regs array) (Spot.Word i) ((M.told m.old).regs from)) (λ (_ : Unit {0}) (rest : Rule Answer). rest) (with_found result tt) }
     ensures regs { OnOk result ((r : ℕ) → (r ≡ 19 → ⊥) → (M.told m.new).regs r ≡ (M.told m.old).regs r) }
-    ensures ready { OnOk result (IsReady (M.told m.new)) }
-    ensures sound { StaysSound result (M.sound m.new) }
-    ensures lender { M.lender m.new ≡ M.lender m.old }
-    ensures outside { M.outside m.new ≡ M.outside m.old }
+    ensures fit { StaysFit M.ObjectMemory m.old m.new result }
 {
     let Some(word) = natural_argument(m, from)? else {
         return Ok(false);
@@ -150,14 +124,10 @@ fn store_in_word<M: ObjectMemory>(m: &mut M, array: Reg, i: u32, from: Reg) -> R
 
 /// Stores the number that a register holds into byte i. False where it is no SmallInteger from 0 to 255.
 fn store_in_byte<M: ObjectMemory>(m: &mut M, array: Reg, i: u32, from: Reg) -> Result<bool, Stop>
-    requires sound { M.sound m.old }
-    requires ready { IsReady (M.told m.old) }
+    requires fit { IsFit M.ObjectMemory m.old }
     ensures leads { (cpu : Cpu) → Leads (M.told m.old) cpu (M.told m.new) (model.put_element ((M.told m.old).regs array) (Spot.Byte i) ((M.told m.old).regs from)) (λ (_ : Unit {0}) (rest : Rule Answer). rest) (with_found result tt) }
     ensures regs { OnOk result ((r : ℕ) → (r ≡ 19 → ⊥) → (M.told m.new).regs r ≡ (M.told m.old).regs r) }
-    ensures ready { OnOk result (IsReady (M.told m.new)) }
-    ensures sound { StaysSound result (M.sound m.new) }
-    ensures lender { M.lender m.new ≡ M.lender m.old }
-    ensures outside { M.outside m.new ≡ M.outside m.old }
+    ensures fit { StaysFit M.ObjectMemory m.old m.new result }
 {
     let Some(byte) = byte_by(m.as_int(from)) else {
         return Ok(false);
@@ -174,16 +144,12 @@ pub(crate) fn store_element<M: ObjectMemory>(
     spot: Spot,
     from: Reg,
 ) -> Result<bool, Stop>
-    requires sound { M.sound m.old }
-    requires ready { IsReady (M.told m.old) }
+    requires fit { IsFit M.ObjectMemory m.old }
     requires array { array < 19 }
     requires from { from < 19 }
     ensures leads { (cpu : Cpu) → Leads (M.told m.old) cpu (M.told m.new) (model.put_element ((M.told m.old).regs array) spot ((M.told m.old).regs from)) (λ (_ : Unit {0}) (rest : Rule Answer). rest) (with_found result tt) }
     ensures regs { OnOk result ((r : ℕ) → (r ≡ 19 → ⊥) → (M.told m.new).regs r ≡ (M.told m.old).regs r) }
-    ensures ready { OnOk result (IsReady (M.told m.new)) }
-    ensures sound { StaysSound result (M.sound m.new) }
-    ensures lender { M.lender m.new ≡ M.lender m.old }
-    ensures outside { M.outside m.new ≡ M.outside m.old }
+    ensures fit { StaysFit M.ObjectMemory m.old m.new result }
 {
     match spot {
         Spot::Field(i) => store_in_field(m, array, i, from),

@@ -9,6 +9,8 @@ ghost use Rattle.blue_model.specs.Elements as model;
 ghost use Rattle.blue_model.specs.Storage as storage;
 ghost use Rattle.contexts.specs.Serves.{Serves, StaysSound};
 ghost use Rattle.prims_object.specs.Extents as extents;
+ghost use Rattle.object_memory.specs.Calls.{IsFit};
+ghost use Rattle.contexts.specs.Calls.{StaysFit};
 
 use blue_model::Spot;
 use contexts::Stop;
@@ -94,16 +96,12 @@ fn code_start(literals: Option<u32>) -> u32
 
 /// The elements of the object that a register names. None where it holds a number.
 fn extent_of<M: ObjectMemory>(m: &mut M, of: Reg) -> Result<Option<Extent>, Stop>
-    requires sound { M.sound m.old }
-    requires ready { IsReady (M.told m.old) }
+    requires fit { IsFit M.ObjectMemory m.old }
     ensures serves { (cpu : Cpu) → Serves (M.told m.old) cpu (M.told m.new) cpu (peek extents.extent_of ((M.told m.old).regs of)) result }
     ensures looks { OnOk result (Looks [] (M.told m.old) (M.told m.new)) }
     ensures start { IfOk result (λ found. IfSome found (λ x. x.start < 256)) }
     ensures len { IfOk result (λ found. IfSome found (λ x. x.len < 65536)) }
-    ensures ready { OnOk result (IsReady (M.told m.new)) }
-    ensures sound { StaysSound result (M.sound m.new) }
-    ensures lender { M.lender m.new ≡ M.lender m.old }
-    ensures outside { M.outside m.new ≡ M.outside m.old }
+    ensures fit { StaysFit M.ObjectMemory m.old m.new result }
 {
     let Some((kind, len)) = shape::shape(m, of)? else {
         return Ok(None);
@@ -118,14 +116,10 @@ pub(crate) fn size_behind<M: ObjectMemory>(
     of: Reg,
     fixed: u32,
 ) -> Result<Option<u32>, Stop>
-    requires sound { M.sound m.old }
-    requires ready { IsReady (M.told m.old) }
+    requires fit { IsFit M.ObjectMemory m.old }
     ensures serves { (cpu : Cpu) → Serves (M.told m.old) cpu (M.told m.new) cpu (peek (storage.size_behind fixed) ((M.told m.old).regs of)) result }
     ensures looks { OnOk result (Looks [] (M.told m.old) (M.told m.new)) }
-    ensures ready { OnOk result (IsReady (M.told m.new)) }
-    ensures sound { StaysSound result (M.sound m.new) }
-    ensures lender { M.lender m.new ≡ M.lender m.old }
-    ensures outside { M.outside m.new ≡ M.outside m.old }
+    ensures fit { StaysFit M.ObjectMemory m.old m.new result }
 {
     let Some(extent) = extent_of(m, of)? else {
         return Ok(None);
@@ -135,14 +129,10 @@ pub(crate) fn size_behind<M: ObjectMemory>(
 
 /// How many elements the object that a register names has (lengthOf:). None where it holds a number.
 pub(crate) fn length<M: ObjectMemory>(m: &mut M, of: Reg) -> Result<Option<u32>, Stop>
-    requires sound { M.sound m.old }
-    requires ready { IsReady (M.told m.old) }
+    requires fit { IsFit M.ObjectMemory m.old }
     ensures serves { (cpu : Cpu) → Serves (M.told m.old) cpu (M.told m.new) cpu (peek model.length_of ((M.told m.old).regs of)) result }
     ensures looks { OnOk result (Looks [] (M.told m.old) (M.told m.new)) }
-    ensures ready { OnOk result (IsReady (M.told m.new)) }
-    ensures sound { StaysSound result (M.sound m.new) }
-    ensures lender { M.lender m.new ≡ M.lender m.old }
-    ensures outside { M.outside m.new ≡ M.outside m.old }
+    ensures fit { StaysFit M.ObjectMemory m.old m.new result }
 {
     let Some(extent) = extent_of(m, of)? else {
         return Ok(None);
@@ -152,15 +142,11 @@ pub(crate) fn length<M: ObjectMemory>(m: &mut M, of: Reg) -> Result<Option<u32>,
 
 /// Where element e of the object that a register names stands, where it has it, e from 1 on.
 pub(crate) fn spot_of<M: ObjectMemory>(m: &mut M, of: Reg, e: u32) -> Result<Option<Spot>, Stop>
-    requires sound { M.sound m.old }
-    requires ready { IsReady (M.told m.old) }
+    requires fit { IsFit M.ObjectMemory m.old }
     requires first { 1 ≤ e }
     ensures serves { (cpu : Cpu) → Serves (M.told m.old) cpu (M.told m.new) cpu (peek (model.spot_of e) ((M.told m.old).regs of)) result }
     ensures looks { OnOk result (Looks [] (M.told m.old) (M.told m.new)) }
-    ensures ready { OnOk result (IsReady (M.told m.new)) }
-    ensures sound { StaysSound result (M.sound m.new) }
-    ensures lender { M.lender m.new ≡ M.lender m.old }
-    ensures outside { M.outside m.new ≡ M.outside m.old }
+    ensures fit { StaysFit M.ObjectMemory m.old m.new result }
 {
     let Some(extent) = extent_of(m, of)? else {
         return Ok(None);
@@ -170,14 +156,10 @@ pub(crate) fn spot_of<M: ObjectMemory>(m: &mut M, of: Reg, e: u32) -> Result<Opt
 
 /// How many bytes the object of bytes has that a register names. None where it names another object, or holds a number.
 pub(crate) fn text_length<M: ObjectMemory>(m: &mut M, of: Reg) -> Result<Option<u32>, Stop>
-    requires sound { M.sound m.old }
-    requires ready { IsReady (M.told m.old) }
+    requires fit { IsFit M.ObjectMemory m.old }
     ensures serves { (cpu : Cpu) → Serves (M.told m.old) cpu (M.told m.new) cpu (peek extents.text_length ((M.told m.old).regs of)) result }
     ensures looks { OnOk result (Looks [] (M.told m.old) (M.told m.new)) }
-    ensures ready { OnOk result (IsReady (M.told m.new)) }
-    ensures sound { StaysSound result (M.sound m.new) }
-    ensures lender { M.lender m.new ≡ M.lender m.old }
-    ensures outside { M.outside m.new ≡ M.outside m.old }
+    ensures fit { StaysFit M.ObjectMemory m.old m.new result }
 {
     let Some(extent) = extent_of(m, of)? else {
         return Ok(None);
@@ -187,14 +169,10 @@ pub(crate) fn text_length<M: ObjectMemory>(m: &mut M, of: Reg) -> Result<Option<
 
 /// Whether the object that a register names is text, where it is an object of bytes.
 pub(crate) fn peek_text<M: ObjectMemory>(m: &mut M, of: Reg) -> Result<Option<bool>, Stop>
-    requires sound { M.sound m.old }
-    requires ready { IsReady (M.told m.old) }
+    requires fit { IsFit M.ObjectMemory m.old }
     ensures serves { (cpu : Cpu) → Serves (M.told m.old) cpu (M.told m.new) cpu (peek storage.is_text ((M.told m.old).regs of)) result }
     ensures looks { OnOk result (Looks [] (M.told m.old) (M.told m.new)) }
-    ensures ready { OnOk result (IsReady (M.told m.new)) }
-    ensures sound { StaysSound result (M.sound m.new) }
-    ensures lender { M.lender m.new ≡ M.lender m.old }
-    ensures outside { M.outside m.new ≡ M.outside m.old }
+    ensures fit { StaysFit M.ObjectMemory m.old m.new result }
 {
     let Some(_) = text_length(m, of)? else {
         return Ok(None);
@@ -204,14 +182,10 @@ pub(crate) fn peek_text<M: ObjectMemory>(m: &mut M, of: Reg) -> Result<Option<bo
 
 /// Whether the object that a register names is text, where it is an object of values, which is none.
 pub(crate) fn peek_array<M: ObjectMemory>(m: &mut M, of: Reg) -> Result<Option<bool>, Stop>
-    requires sound { M.sound m.old }
-    requires ready { IsReady (M.told m.old) }
+    requires fit { IsFit M.ObjectMemory m.old }
     ensures serves { (cpu : Cpu) → Serves (M.told m.old) cpu (M.told m.new) cpu (peek storage.is_array ((M.told m.old).regs of)) result }
     ensures looks { OnOk result (Looks [] (M.told m.old) (M.told m.new)) }
-    ensures ready { OnOk result (IsReady (M.told m.new)) }
-    ensures sound { StaysSound result (M.sound m.new) }
-    ensures lender { M.lender m.new ≡ M.lender m.old }
-    ensures outside { M.outside m.new ≡ M.outside m.old }
+    ensures fit { StaysFit M.ObjectMemory m.old m.new result }
 {
     let Some(_) = peek_size(m, of, 0)? else {
         return Ok(None);

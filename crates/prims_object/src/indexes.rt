@@ -1,4 +1,4 @@
-// Index arguments and numbers as answers (chapter 29, positive16BitValueOf: and positive16BitIntegerFor:). SCRATCH_9 is what they read
+// Index arguments and numbers as answers (chapter 29, positive16BitValueOf: and positive16BitIntegerFor:). R19 is what they read
 // into.
 ghost use Rattle.std.specs.Prelude.{◌≡◌, ◌<◌, ◌≤◌, ◌+◌, ◌*◌, ℕ, pos, [], ◌∷◌, OnOk, IfOk, IfSome};
 ghost use Rattle.std.specs.Option.{option_and_then};
@@ -13,6 +13,8 @@ ghost use Rattle.contexts.specs.Serves.{Serves, StaysSound, with_value};
 ghost use Rattle.prims_object.specs.Leads.{Leads};
 ghost use Rattle.prims_object.specs.Numbers as numbers;
 ghost use Rattle.prims_object.specs.Numbers.{IsIndex};
+ghost use Rattle.object_memory.specs.Calls.{IsFit};
+ghost use Rattle.contexts.specs.Calls.{StaysFit};
 
 use crate::extents::text_length;
 use contexts::Stop;
@@ -39,15 +41,11 @@ fn joined(low: u8, high: u8) -> i32
 /// The number that the two bytes are, lowest first, of the object of bytes that a register names. None where it has another number of
 /// bytes.
 fn two_bytes<M: ObjectMemory>(m: &mut M, of: Reg) -> Result<Option<i32>, Stop>
-    requires sound { M.sound m.old }
-    requires ready { IsReady (M.told m.old) }
+    requires fit { IsFit M.ObjectMemory m.old }
     ensures serves { (cpu : Cpu) → Serves (M.told m.old) cpu (M.told m.new) cpu (peek (λ o. option_and_then model.two_bytes (text_of o.body)) ((M.told m.old).regs of)) result }
     ensures looks { OnOk result (Looks [] (M.told m.old) (M.told m.new)) }
     ensures range { IfOk result (λ found. IfSome found IsIndex) }
-    ensures ready { OnOk result (IsReady (M.told m.new)) }
-    ensures sound { StaysSound result (M.sound m.new) }
-    ensures lender { M.lender m.new ≡ M.lender m.old }
-    ensures outside { M.outside m.new ≡ M.outside m.old }
+    ensures fit { StaysFit M.ObjectMemory m.old m.new result }
 {
     if !is_pair(text_length(m, of)?) {
         return Ok(None);
@@ -59,20 +57,16 @@ fn two_bytes<M: ObjectMemory>(m: &mut M, of: Reg) -> Result<Option<i32>, Stop>
 
 /// The number that a LargePositiveInteger of two bytes is. None where the register names another object.
 fn large_number<M: ObjectMemory>(m: &mut M, of: Reg) -> Result<Option<i32>, Stop>
-    requires sound { M.sound m.old }
-    requires ready { IsReady (M.told m.old) }
+    requires fit { IsFit M.ObjectMemory m.old }
     requires low { of < 19 }
     requires named { IsRef ((M.told m.old).regs of) }
     ensures serves { (cpu : Cpu) → Serves (M.told m.old) cpu (M.told m.new) cpu (peek model.large_number ((M.told m.old).regs of)) result }
     ensures looks { OnOk result (Looks (19 ∷ []) (M.told m.old) (M.told m.new)) }
     ensures range { IfOk result (λ found. IfSome found IsIndex) }
-    ensures ready { OnOk result (IsReady (M.told m.new)) }
-    ensures sound { StaysSound result (M.sound m.new) }
-    ensures lender { M.lender m.new ≡ M.lender m.old }
-    ensures outside { M.outside m.new ≡ M.outside m.old }
+    ensures fit { StaysFit M.ObjectMemory m.old m.new result }
 {
-    class_of(m, Reg::SCRATCH_9, of)?;
-    if !m.is(Reg::SCRATCH_9, Name::LARGE_POSITIVE_INTEGER) {
+    class_of(m, Reg::R19, of)?;
+    if !m.is(Reg::R19, Name::LARGE_POSITIVE_INTEGER) {
         return Ok(None);
     }
     two_bytes(m, of)
@@ -81,16 +75,12 @@ fn large_number<M: ObjectMemory>(m: &mut M, of: Reg) -> Result<Option<i32>, Stop
 /// The number of an index argument: a SmallInteger, or a LargePositiveInteger of two bytes (positive16BitValueOf:). None where the
 /// register holds neither.
 pub(crate) fn index_argument<M: ObjectMemory>(m: &mut M, of: Reg) -> Result<Option<i32>, Stop>
-    requires sound { M.sound m.old }
-    requires ready { IsReady (M.told m.old) }
+    requires fit { IsFit M.ObjectMemory m.old }
     requires low { of < 19 }
     ensures serves { (cpu : Cpu) → Serves (M.told m.old) cpu (M.told m.new) cpu (model.index_argument ((M.told m.old).regs of)) result }
     ensures looks { OnOk result (Looks (19 ∷ []) (M.told m.old) (M.told m.new)) }
     ensures range { IfOk result (λ found. IfSome found IsIndex) }
-    ensures ready { OnOk result (IsReady (M.told m.new)) }
-    ensures sound { StaysSound result (M.sound m.new) }
-    ensures lender { M.lender m.new ≡ M.lender m.old }
-    ensures outside { M.outside m.new ≡ M.outside m.old }
+    ensures fit { StaysFit M.ObjectMemory m.old m.new result }
 {
     if let Some(number) = m.as_int(of) {
         return Ok(Some(i32::from(number)));
@@ -127,16 +117,12 @@ pub(crate) fn byte_by(number: Option<i16>) -> Option<u8>
 
 /// The number of an index argument that isn't negative.
 pub(crate) fn natural_argument<M: ObjectMemory>(m: &mut M, of: Reg) -> Result<Option<u32>, Stop>
-    requires sound { M.sound m.old }
-    requires ready { IsReady (M.told m.old) }
+    requires fit { IsFit M.ObjectMemory m.old }
     requires low { of < 19 }
     ensures leads { (cpu : Cpu) → Leads (M.told m.old) cpu (M.told m.new) (λ rest. model.index_argument ((M.told m.old).regs of) >>? λ z. where_some (model.natural z) rest) (λ n rest. rest n) result }
     ensures looks { OnOk result (Looks (19 ∷ []) (M.told m.old) (M.told m.new)) }
     ensures few { IfOk result (λ found. IfSome found (λ n. n < 65536)) }
-    ensures ready { OnOk result (IsReady (M.told m.new)) }
-    ensures sound { StaysSound result (M.sound m.new) }
-    ensures lender { M.lender m.new ≡ M.lender m.old }
-    ensures outside { M.outside m.new ≡ M.outside m.old }
+    ensures fit { StaysFit M.ObjectMemory m.old m.new result }
 {
     let Some(number) = index_argument(m, of)? else {
         return Ok(None);
@@ -144,37 +130,29 @@ pub(crate) fn natural_argument<M: ObjectMemory>(m: &mut M, of: Reg) -> Result<Op
     Ok(natural(number))
 }
 
-/// Makes a LargePositiveInteger of two bytes, the lowest first, in SCRATCH_2.
+/// Makes a LargePositiveInteger of two bytes, the lowest first, in R12.
 fn make_large<M: ObjectMemory>(m: &mut M, n: u32) -> Result<(), Stop>
-    requires sound { M.sound m.old }
-    requires ready { IsReady (M.told m.old) }
+    requires fit { IsFit M.ObjectMemory m.old }
     ensures serves { (cpu : Cpu) → Serves (M.told m.old) cpu (M.told m.new) cpu (model.make_large n) (with_value result ((M.told m.new).regs 12)) }
     ensures regs { OnOk result ((r : ℕ) → (r ≡ 12 → ⊥) → (r ≡ 19 → ⊥) → (M.told m.new).regs r ≡ (M.told m.old).regs r) }
-    ensures ready { OnOk result (IsReady (M.told m.new)) }
-    ensures sound { StaysSound result (M.sound m.new) }
-    ensures lender { M.lender m.new ≡ M.lender m.old }
-    ensures outside { M.outside m.new ≡ M.outside m.old }
+    ensures fit { StaysFit M.ObjectMemory m.old m.new result }
 {
-    known(m, Reg::SCRATCH_9, Name::LARGE_POSITIVE_INTEGER)?;
-    make_bytes(m, Reg::SCRATCH_2, Reg::SCRATCH_9, 2)?;
-    store_byte(m, Reg::SCRATCH_2, 0, (n % 256) as u8)?;
-    store_byte(m, Reg::SCRATCH_2, 1, (n / 256 % 256) as u8)?;
+    known(m, Reg::R19, Name::LARGE_POSITIVE_INTEGER)?;
+    make_bytes(m, Reg::R12, Reg::R19, 2)?;
+    store_byte(m, Reg::R12, 0, (n % 256) as u8)?;
+    store_byte(m, Reg::R12, 1, (n / 256 % 256) as u8)?;
     Ok(())
 }
 
-/// A number as an answer, in SCRATCH_2 (positive16BitIntegerFor:): a SmallInteger, or a new LargePositiveInteger of two bytes.
+/// A number as an answer, in R12 (positive16BitIntegerFor:): a SmallInteger, or a new LargePositiveInteger of two bytes.
 pub fn number_object<M: ObjectMemory>(m: &mut M, n: u32) -> Result<(), Stop>
-    requires sound { M.sound m.old }
-    requires ready { IsReady (M.told m.old) }
+    requires fit { IsFit M.ObjectMemory m.old }
     ensures serves { (cpu : Cpu) → Serves (M.told m.old) cpu (M.told m.new) cpu (model.number_object n) (with_value result ((M.told m.new).regs 12)) }
     ensures regs { OnOk result ((r : ℕ) → (r ≡ 12 → ⊥) → (r ≡ 19 → ⊥) → (M.told m.new).regs r ≡ (M.told m.old).regs r) }
-    ensures ready { OnOk result (IsReady (M.told m.new)) }
-    ensures sound { StaysSound result (M.sound m.new) }
-    ensures lender { M.lender m.new ≡ M.lender m.old }
-    ensures outside { M.outside m.new ≡ M.outside m.old }
+    ensures fit { StaysFit M.ObjectMemory m.old m.new result }
 {
     if n < 16384 {
-        m.int(Reg::SCRATCH_2, n as i16);
+        m.int(Reg::R12, n as i16);
         return Ok(());
     }
     make_large(m, n)

@@ -7,7 +7,10 @@ ghost use Rattle.object_memory.specs.Shape.{Looks};
 ghost use Rattle.blue_model.specs.declared.cpu.Cpu.{Cpu};
 ghost use Rattle.blue_model.specs.Elements as model;
 ghost use Rattle.contexts.specs.Serves.{Serves, StaysSound};
+ghost use Rattle.object_memory.specs.Calls.{IsFit};
+ghost use Rattle.contexts.specs.Calls.{StaysFit};
 
+use blue_model::indexes::{CLASS_SIZE, INSTANCE_SPECIFICATION_INDEX};
 use contexts::Stop;
 use contexts::parts::class_of;
 use contexts::peeks::peek_number;
@@ -55,43 +58,35 @@ pub(crate) fn fixed_fields(specification: i16) -> u32
 }
 
 /// The instance specification of the class that a register names. None where it names nothing of a class's shape, or where no number
-/// is there. SCRATCH_9 is used.
+/// is there. R19 is used.
 pub(crate) fn specification_of<M: ObjectMemory>(m: &mut M, class: Reg) -> Result<Option<i16>, Stop>
-    requires sound { M.sound m.old }
-    requires ready { IsReady (M.told m.old) }
+    requires fit { IsFit M.ObjectMemory m.old }
     ensures serves { (cpu : Cpu) → Serves (M.told m.old) cpu (M.told m.new) cpu (model.specification_of ((M.told m.old).regs class)) result }
     ensures looks { OnOk result (Looks (19 ∷ []) (M.told m.old) (M.told m.new)) }
     ensures range { IfOk result (λ found. IfSome found IsSmallInteger) }
     ensures named { IfOk result (λ found. IsSome found → IsRef ((M.told m.old).regs class)) }
-    ensures ready { OnOk result (IsReady (M.told m.new)) }
-    ensures sound { StaysSound result (M.sound m.new) }
-    ensures lender { M.lender m.new ≡ M.lender m.old }
-    ensures outside { M.outside m.new ≡ M.outside m.old }
+    ensures fit { StaysFit M.ObjectMemory m.old m.new result }
 {
     if !shape::is_name(m, class) {
         return Ok(None);
     }
-    peek_number(m, Reg::SCRATCH_9, class, 3, 2)
+    peek_number(m, Reg::R19, class, CLASS_SIZE, INSTANCE_SPECIFICATION_INDEX)
 }
 
 /// How many fixed fields the object has that a register names (fixedFieldsOf:). None where it holds a number, or where the class says
-/// nothing. SCRATCH_9 is used.
+/// nothing. R19 is used.
 pub(crate) fn fixed_of<M: ObjectMemory>(m: &mut M, of: Reg) -> Result<Option<u32>, Stop>
-    requires sound { M.sound m.old }
-    requires ready { IsReady (M.told m.old) }
+    requires fit { IsFit M.ObjectMemory m.old }
     ensures serves { (cpu : Cpu) → Serves (M.told m.old) cpu (M.told m.new) cpu (model.fixed_of ((M.told m.old).regs of)) result }
     ensures looks { OnOk result (Looks (19 ∷ []) (M.told m.old) (M.told m.new)) }
     ensures few { IfOk result (λ found. IfSome found (λ n. n < 2048)) }
-    ensures ready { OnOk result (IsReady (M.told m.new)) }
-    ensures sound { StaysSound result (M.sound m.new) }
-    ensures lender { M.lender m.new ≡ M.lender m.old }
-    ensures outside { M.outside m.new ≡ M.outside m.old }
+    ensures fit { StaysFit M.ObjectMemory m.old m.new result }
 {
     if !shape::is_name(m, of) {
         return Ok(None);
     }
-    class_of(m, Reg::SCRATCH_9, of)?;
-    let Some(specification) = specification_of(m, Reg::SCRATCH_9)? else {
+    class_of(m, Reg::R19, of)?;
+    let Some(specification) = specification_of(m, Reg::R19)? else {
         return Ok(None);
     };
     Ok(Some(fixed_fields(specification)))

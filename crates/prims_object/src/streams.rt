@@ -1,4 +1,4 @@
-// The stream primitives 65 to 67 (chapter 29). The stream is in SCRATCH_0, the value in SCRATCH_2, the stream's array in SCRATCH_3.
+// The stream primitives 65 to 67 (chapter 29). The stream is in R10, the value in R12, the stream's array in R13.
 ghost use Rattle.std.specs.Prelude.{◌≡◌, ◌<◌, ◌+◌, ℕ, ℤ, pos, nat_lt, [], ◌∷◌, OnOk, IfOk, IfSome, Bool};
 ghost use Rattle.std.specs.Int.Signed.{lt_z};
 ghost use Rattle.long_names.specs.declared.value.Value.{Value};
@@ -13,23 +13,23 @@ ghost use Rattle.contexts.specs.Serves.{Serves, StaysSound, with_found};
 ghost use Rattle.prims_object.specs.Leads.{Leads};
 ghost use Rattle.prims_object.specs.Numbers as numbers;
 ghost use Rattle.prims_object.specs.Numbers.{IsIndex};
+ghost use Rattle.object_memory.specs.Calls.{IsFit};
+ghost use Rattle.contexts.specs.Calls.{StaysFit};
 
 use crate::characters::{character_of, store_character, text_at};
 use crate::elements::{element_at, element_of, store_element};
 use crate::extents::{length, peek_array, peek_text};
 use crate::indexes::natural;
 use blue_model::Spot;
+use blue_model::indexes::{
+    STREAM_ARRAY_INDEX, STREAM_INDEX_INDEX, STREAM_READ_LIMIT_INDEX, STREAM_SIZE,
+    STREAM_WRITE_LIMIT_INDEX,
+};
 use contexts::parts::{class_of, store_field};
 use contexts::peeks::{peek_field, peek_number};
 use contexts::{Answer, Cpu, Stop, answer, boolean, stack};
 use long_names::Name;
 use object_memory::{ObjectMemory, Reg};
-
-/// The field of a stream that has the limit of what is read.
-const READ_LIMIT: u32 = 2;
-
-/// The field of a stream that has the limit of what is written.
-const WRITE_LIMIT: u32 = 3;
 
 /// What a stream has beside its array.
 #[derive(Clone, Copy)]
@@ -79,51 +79,43 @@ impl Stream {
     }
 }
 
-/// Whether the array in SCRATCH_3 is text: a String of bytes is, an Array of values isn't. None of anything else. SCRATCH_9 is used.
+/// Whether the array in R13 is text: a String of bytes is, an Array of values isn't. None of anything else. R19 is used.
 fn streamed<M: ObjectMemory>(m: &mut M) -> Result<Option<bool>, Stop>
-    requires sound { M.sound m.old }
-    requires ready { IsReady (M.told m.old) }
+    requires fit { IsFit M.ObjectMemory m.old }
     ensures serves { (cpu : Numbers) → Serves (M.told m.old) cpu (M.told m.new) cpu (model.streamed ((M.told m.old).regs 13)) result }
     ensures looks { OnOk result (Looks (19 ∷ []) (M.told m.old) (M.told m.new)) }
-    ensures ready { OnOk result (IsReady (M.told m.new)) }
-    ensures sound { StaysSound result (M.sound m.new) }
-    ensures lender { M.lender m.new ≡ M.lender m.old }
-    ensures outside { M.outside m.new ≡ M.outside m.old }
+    ensures fit { StaysFit M.ObjectMemory m.old m.new result }
 {
-    class_of(m, Reg::SCRATCH_9, Reg::SCRATCH_3)?;
-    if m.is(Reg::SCRATCH_9, Name::ARRAY) {
-        return peek_array(m, Reg::SCRATCH_3);
+    class_of(m, Reg::R19, Reg::R13)?;
+    if m.is(Reg::R19, Name::ARRAY) {
+        return peek_array(m, Reg::R13);
     }
-    if m.is(Reg::SCRATCH_9, Name::STRING) {
-        return peek_text(m, Reg::SCRATCH_3);
+    if m.is(Reg::R19, Name::STRING) {
+        return peek_text(m, Reg::R13);
     }
     Ok(None)
 }
 
-/// Loads the array of the stream in SCRATCH_0 into SCRATCH_3, and answers its numbers, with the limit that stands in a field. None where
-/// it is no stream. SCRATCH_9 is used.
+/// Loads the array of the stream in R10 into R13, and answers its numbers, with the limit that stands in a field. None where
+/// it is no stream. R19 is used.
 fn open<M: ObjectMemory>(m: &mut M, limit: u32) -> Result<Option<Stream>, Stop>
-    requires sound { M.sound m.old }
-    requires ready { IsReady (M.told m.old) }
+    requires fit { IsFit M.ObjectMemory m.old }
     ensures leads { (cpu : Numbers) → Leads (M.told m.old) cpu (M.told m.new) (model.of_stream limit ((M.told m.old).regs 10)) (λ stream (rest : Value → Bool → ℕ → ℤ → Rule Answers). rest ((M.told m.new).regs 13) stream.text stream.index stream.limit) result }
     ensures looks { OnOk result (Looks (13 ∷ 19 ∷ []) (M.told m.old) (M.told m.new)) }
     ensures index { IfOk result (λ found. IfSome found (λ stream. stream.index < 16384)) }
     ensures limit { IfOk result (λ found. IfSome found (λ stream. IsSmallInteger stream.limit)) }
-    ensures ready { OnOk result (IsReady (M.told m.new)) }
-    ensures sound { StaysSound result (M.sound m.new) }
-    ensures lender { M.lender m.new ≡ M.lender m.old }
-    ensures outside { M.outside m.new ≡ M.outside m.old }
+    ensures fit { StaysFit M.ObjectMemory m.old m.new result }
 {
-    if !peek_field(m, Reg::SCRATCH_3, Reg::SCRATCH_0, 4, 0)? {
+    if !peek_field(m, Reg::R13, Reg::R10, STREAM_SIZE, STREAM_ARRAY_INDEX)? {
         return Ok(None);
     }
     let Some(text) = streamed(m)? else {
         return Ok(None);
     };
-    let Some(number) = peek_number(m, Reg::SCRATCH_9, Reg::SCRATCH_0, 4, 1)? else {
+    let Some(number) = peek_number(m, Reg::R19, Reg::R10, STREAM_SIZE, STREAM_INDEX_INDEX)? else {
         return Ok(None);
     };
-    let Some(limit) = peek_number(m, Reg::SCRATCH_9, Reg::SCRATCH_0, 4, limit)? else {
+    let Some(limit) = peek_number(m, Reg::R19, Reg::R10, STREAM_SIZE, limit)? else {
         return Ok(None);
     };
     let Some(index) = natural(i32::from(number)) else {
@@ -132,25 +124,21 @@ fn open<M: ObjectMemory>(m: &mut M, limit: u32) -> Result<Option<Stream>, Stop>
     Ok(Some(Stream { text, index, limit }))
 }
 
-/// Where the next element of the array in SCRATCH_3 stands. None where the limit is reached, where the array ends, or where the index
-/// can't grow. SCRATCH_9 is used.
+/// Where the next element of the array in R13 stands. None where the limit is reached, where the array ends, or where the index
+/// can't grow. R19 is used.
 fn next_spot<M: ObjectMemory>(m: &mut M, stream: &Stream) -> Result<Option<Spot>, Stop>
-    requires sound { M.sound m.old }
-    requires ready { IsReady (M.told m.old) }
+    requires fit { IsFit M.ObjectMemory m.old }
     requires index { stream.now.index < 16384 }
     requires limit { IsSmallInteger stream.now.limit }
     ensures leads { (cpu : Numbers) → Leads (M.told m.old) cpu (M.told m.new) (model.next_spot ((M.told m.old).regs 13) stream.now.index stream.now.limit) (λ spot rest. rest spot) result }
     ensures looks { OnOk result (Looks (19 ∷ []) (M.told m.old) (M.told m.new)) }
     ensures grows { IfOk result (λ found. IfSome found (λ spot. stream.now.index + 1 < 16384)) }
-    ensures ready { OnOk result (IsReady (M.told m.new)) }
-    ensures sound { StaysSound result (M.sound m.new) }
-    ensures lender { M.lender m.new ≡ M.lender m.old }
-    ensures outside { M.outside m.new ≡ M.outside m.old }
+    ensures fit { StaysFit M.ObjectMemory m.old m.new result }
 {
     if !stream.is_open() {
         return Ok(None);
     }
-    let Some(spot) = element_of(m, Reg::SCRATCH_3, stream.next())? else {
+    let Some(spot) = element_of(m, Reg::R13, stream.next())? else {
         return Ok(None);
     };
     if !stream.can_grow() {
@@ -159,74 +147,58 @@ fn next_spot<M: ObjectMemory>(m: &mut M, stream: &Stream) -> Result<Option<Spot>
     Ok(Some(spot))
 }
 
-/// The index of the stream in SCRATCH_0 grows by 1. SCRATCH_9 is used.
+/// The index of the stream in R10 grows by 1. R19 is used.
 fn advance<M: ObjectMemory>(m: &mut M, index: u32) -> Result<(), Stop>
-    requires sound { M.sound m.old }
-    requires ready { IsReady (M.told m.old) }
+    requires fit { IsFit M.ObjectMemory m.old }
     requires few { index + 1 < 16384 }
     ensures serves { (cpu : Numbers) → Serves (M.told m.old) cpu (M.told m.new) cpu (model.advance ((M.told m.old).regs 10) index) result }
     ensures regs { OnOk result ((r : ℕ) → (r ≡ 19 → ⊥) → (M.told m.new).regs r ≡ (M.told m.old).regs r) }
-    ensures ready { OnOk result (IsReady (M.told m.new)) }
-    ensures sound { StaysSound result (M.sound m.new) }
-    ensures lender { M.lender m.new ≡ M.lender m.old }
-    ensures outside { M.outside m.new ≡ M.outside m.old }
+    ensures fit { StaysFit M.ObjectMemory m.old m.new result }
 {
-    m.int(Reg::SCRATCH_9, (index + 1) as i16);
-    store_field(m, Reg::SCRATCH_0, 1, Reg::SCRATCH_9)
+    m.int(Reg::R19, (index + 1) as i16);
+    store_field(m, Reg::R10, STREAM_INDEX_INDEX, Reg::R19)
 }
 
-/// Loads what stands there in the array in SCRATCH_3 into SCRATCH_2: of text, the character of a byte. False where there is no such
-/// character. SCRATCH_9 is used.
+/// Loads what stands there in the array in R13 into R12: of text, the character of a byte. False where there is no such
+/// character. R19 is used.
 fn streamed_element<M: ObjectMemory>(m: &mut M, text: bool, spot: Spot) -> Result<bool, Stop>
-    requires sound { M.sound m.old }
-    requires ready { IsReady (M.told m.old) }
+    requires fit { IsFit M.ObjectMemory m.old }
     ensures leads { (cpu : Numbers) → Leads (M.told m.old) cpu (M.told m.new) (model.streamed_element ((M.told m.old).regs 13) text spot) (λ v rest. rest v) (with_found result ((M.told m.new).regs 12)) }
     ensures regs { OnOk result ((r : ℕ) → (r ≡ 12 → ⊥) → (r ≡ 19 → ⊥) → (M.told m.new).regs r ≡ (M.told m.old).regs r) }
-    ensures ready { OnOk result (IsReady (M.told m.new)) }
-    ensures sound { StaysSound result (M.sound m.new) }
-    ensures lender { M.lender m.new ≡ M.lender m.old }
-    ensures outside { M.outside m.new ≡ M.outside m.old }
+    ensures fit { StaysFit M.ObjectMemory m.old m.new result }
 {
     if text {
-        let Some(byte) = text_at(m, Reg::SCRATCH_3, spot)? else {
+        let Some(byte) = text_at(m, Reg::R13, spot)? else {
             return Ok(false);
         };
         return character_of(m, byte);
     }
-    element_at(m, Reg::SCRATCH_3, spot)?;
+    element_at(m, Reg::R13, spot)?;
     Ok(true)
 }
 
-/// Stores the value in SCRATCH_2 there in the array in SCRATCH_3: into text, the byte of a character. False where it doesn't fit.
-/// SCRATCH_8 and SCRATCH_9 are used.
+/// Stores the value in R12 there in the array in R13: into text, the byte of a character. False where it doesn't fit.
+/// R18 and R19 are used.
 fn put_streamed<M: ObjectMemory>(m: &mut M, text: bool, spot: Spot) -> Result<bool, Stop>
-    requires sound { M.sound m.old }
-    requires ready { IsReady (M.told m.old) }
+    requires fit { IsFit M.ObjectMemory m.old }
     ensures leads { (cpu : Numbers) → Leads (M.told m.old) cpu (M.told m.new) (model.put_streamed ((M.told m.old).regs 13) text spot ((M.told m.old).regs 12)) (λ (_ : Unit {0}) (rest : Rule Answers). rest) (with_found result tt) }
     ensures regs { OnOk result ((r : ℕ) → (r ≡ 18 → ⊥) → (r ≡ 19 → ⊥) → (M.told m.new).regs r ≡ (M.told m.old).regs r) }
-    ensures ready { OnOk result (IsReady (M.told m.new)) }
-    ensures sound { StaysSound result (M.sound m.new) }
-    ensures lender { M.lender m.new ≡ M.lender m.old }
-    ensures outside { M.outside m.new ≡ M.outside m.old }
+    ensures fit { StaysFit M.ObjectMemory m.old m.new result }
 {
     if text {
-        return store_character(m, Reg::SCRATCH_3, spot);
+        return store_character(m, Reg::R13, spot);
     }
-    store_element(m, Reg::SCRATCH_3, spot, Reg::SCRATCH_2)
+    store_element(m, Reg::R13, spot, Reg::R12)
 }
 
 /// Answers the next element of a stream (primitiveNext).
 pub(crate) fn next<M: ObjectMemory>(m: &mut M, cpu: &mut Cpu) -> Result<Answer, Stop>
-    requires sound { M.sound m.old }
-    requires ready { IsReady (M.told m.old) }
+    requires fit { IsFit M.ObjectMemory m.old }
     ensures serves { Serves (M.told m.old) cpu.old (M.told m.new) cpu.new model.next result }
-    ensures ready { OnOk result (IsReady (M.told m.new)) }
-    ensures sound { StaysSound result (M.sound m.new) }
-    ensures lender { M.lender m.new ≡ M.lender m.old }
-    ensures outside { M.outside m.new ≡ M.outside m.old }
+    ensures fit { StaysFit M.ObjectMemory m.old m.new result }
 {
-    stack(m, cpu, Reg::SCRATCH_0, 0)?;
-    let Some(stream) = open(m, READ_LIMIT)? else {
+    stack(m, cpu, Reg::R10, 0)?;
+    let Some(stream) = open(m, STREAM_READ_LIMIT_INDEX)? else {
         return Ok(Answer::Failed);
     };
     let Some(spot) = next_spot(m, &stream)? else {
@@ -236,22 +208,18 @@ pub(crate) fn next<M: ObjectMemory>(m: &mut M, cpu: &mut Cpu) -> Result<Answer, 
         return Ok(Answer::Failed);
     }
     advance(m, stream.index)?;
-    answer(m, cpu, 0, Reg::SCRATCH_2)
+    answer(m, cpu, 0, Reg::R12)
 }
 
 /// Stores the next element of a stream, and answers it (primitiveNextPut).
 pub(crate) fn next_put<M: ObjectMemory>(m: &mut M, cpu: &mut Cpu) -> Result<Answer, Stop>
-    requires sound { M.sound m.old }
-    requires ready { IsReady (M.told m.old) }
+    requires fit { IsFit M.ObjectMemory m.old }
     ensures serves { Serves (M.told m.old) cpu.old (M.told m.new) cpu.new model.next_put result }
-    ensures ready { OnOk result (IsReady (M.told m.new)) }
-    ensures sound { StaysSound result (M.sound m.new) }
-    ensures lender { M.lender m.new ≡ M.lender m.old }
-    ensures outside { M.outside m.new ≡ M.outside m.old }
+    ensures fit { StaysFit M.ObjectMemory m.old m.new result }
 {
-    stack(m, cpu, Reg::SCRATCH_0, 1)?;
-    stack(m, cpu, Reg::SCRATCH_2, 0)?;
-    let Some(stream) = open(m, WRITE_LIMIT)? else {
+    stack(m, cpu, Reg::R10, 1)?;
+    stack(m, cpu, Reg::R12, 0)?;
+    let Some(stream) = open(m, STREAM_WRITE_LIMIT_INDEX)? else {
         return Ok(Answer::Failed);
     };
     let Some(spot) = next_spot(m, &stream)? else {
@@ -261,26 +229,22 @@ pub(crate) fn next_put<M: ObjectMemory>(m: &mut M, cpu: &mut Cpu) -> Result<Answ
         return Ok(Answer::Failed);
     }
     advance(m, stream.index)?;
-    answer(m, cpu, 1, Reg::SCRATCH_2)
+    answer(m, cpu, 1, Reg::R12)
 }
 
 /// Answers whether a stream is at its limit, or at the end of its array (primitiveAtEnd).
 pub(crate) fn at_end<M: ObjectMemory>(m: &mut M, cpu: &mut Cpu) -> Result<Answer, Stop>
-    requires sound { M.sound m.old }
-    requires ready { IsReady (M.told m.old) }
+    requires fit { IsFit M.ObjectMemory m.old }
     ensures serves { Serves (M.told m.old) cpu.old (M.told m.new) cpu.new model.at_end result }
-    ensures ready { OnOk result (IsReady (M.told m.new)) }
-    ensures sound { StaysSound result (M.sound m.new) }
-    ensures lender { M.lender m.new ≡ M.lender m.old }
-    ensures outside { M.outside m.new ≡ M.outside m.old }
+    ensures fit { StaysFit M.ObjectMemory m.old m.new result }
 {
-    stack(m, cpu, Reg::SCRATCH_0, 0)?;
-    let Some(stream) = open(m, READ_LIMIT)? else {
+    stack(m, cpu, Reg::R10, 0)?;
+    let Some(stream) = open(m, STREAM_READ_LIMIT_INDEX)? else {
         return Ok(Answer::Failed);
     };
-    let Some(len) = length(m, Reg::SCRATCH_3)? else {
+    let Some(len) = length(m, Reg::R13)? else {
         return Ok(Answer::Failed);
     };
-    boolean(m, Reg::SCRATCH_2, stream.has_ended(len))?;
-    answer(m, cpu, 0, Reg::SCRATCH_2)
+    boolean(m, Reg::R12, stream.has_ended(len))?;
+    answer(m, cpu, 0, Reg::R12)
 }

@@ -4,6 +4,8 @@ ghost use Rattle.object_memory.specs.Told.{IsReady};
 ghost use Rattle.blue_model.specs.Trials.{primitive_in};
 ghost use Rattle.blue_model.specs.Storage.{object_primitives};
 ghost use Rattle.contexts.specs.Serves.{Serves, StaysSound};
+ghost use Rattle.object_memory.specs.Calls.{IsFit};
+ghost use Rattle.contexts.specs.Calls.{StaysFit};
 
 use crate::arrays::{at, at_put, size, string_at, string_at_put};
 use crate::instances::{instance_variable_at, instance_variable_at_put, new, new_with_size};
@@ -16,13 +18,9 @@ use object_memory::ObjectMemory;
 /// Does a primitive by its index (dispatchPrimitives). It fails where the message has another number of arguments, where its conditions
 /// aren't met, and where the index is none of this table's. Then nothing has changed.
 pub fn run<M: ObjectMemory>(m: &mut M, cpu: &mut Cpu, index: u8) -> Result<Answer, Stop>
-    requires sound { M.sound m.old }
-    requires ready { IsReady (M.told m.old) }
+    requires fit { IsFit M.ObjectMemory m.old }
     ensures serves { Serves (M.told m.old) cpu.old (M.told m.new) cpu.new (primitive_in object_primitives index) result }
-    ensures ready { OnOk result (IsReady (M.told m.new)) }
-    ensures sound { StaysSound result (M.sound m.new) }
-    ensures lender { M.lender m.new ≡ M.lender m.old }
-    ensures outside { M.outside m.new ≡ M.outside m.old }
+    ensures fit { StaysFit M.ObjectMemory m.old m.new result }
 {
     match (index, cpu.args) {
         (60, 1) => at(m, cpu),

@@ -2,7 +2,9 @@
 ghost use Rattle.std.specs.Prelude.{◌≡◌, ◌≤◌, ◌<◌};
 ghost use Rattle.long_names.specs.Words.{IsSmallInteger, unsigned_of};
 ghost use Rattle.blue_model.specs.Messages as model;
+ghost use Rattle.blue_model.specs.declared.indexes.TheConstants.{LARGE_CONTEXT_SIZE};
 
+use blue_model::indexes::{LARGE_CONTEXT_SIZE, SMALL_CONTEXT_SIZE};
 use long_names::literal_count;
 
 /// The fifteen bits of a SmallInteger.
@@ -36,9 +38,13 @@ pub fn temporaries(header: i16) -> u32
 pub(crate) fn context_size(header: i16) -> u32
     requires { IsSmallInteger header }
     ensures size { result ≡ model.context_size header }
-    ensures few { result ≤ 38 }
+    ensures few { result ≤ LARGE_CONTEXT_SIZE }
 {
-    if bits(header) / 64 % 2 == 1 { 38 } else { 18 }
+    if bits(header) / 64 % 2 == 1 {
+        LARGE_CONTEXT_SIZE
+    } else {
+        SMALL_CONTEXT_SIZE
+    }
 }
 
 /// The instruction pointer that a method's context states at first.

@@ -13,6 +13,3 @@ pub use activation::activate;
 pub use contexts::{Cause, Stop};
 pub use lookup::{find, look_up};
 pub use message::find_or_tell;
-
-#[cfg(test)]
-mod tests;

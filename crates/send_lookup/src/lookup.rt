@@ -6,58 +6,51 @@ ghost use Rattle.blue_model.specs.declared.cpu.Cpu.{Cpu};
 ghost use Rattle.blue_model.specs.Lookup as model;
 ghost use Rattle.contexts.specs.Serves.{Serves, StaysSound, with_found};
 ghost use Rattle.send_lookup.specs.Found.{KeepsButMethod};
+ghost use Rattle.object_memory.specs.Calls.{IsFit};
+ghost use Rattle.contexts.specs.Calls.{StaysFit};
 
 use crate::classes::find_in;
+use blue_model::indexes::{CLASS_SIZE, SUPERCLASS_INDEX};
+use blue_model::limits::LONGEST_CHAIN;
 use contexts::parts::field;
 use contexts::{Cause, Stop};
 use long_names::Name;
 use object_memory::{ObjectMemory, Reg};
 
-/// The most classes that a lookup visits.
-const LONGEST_CHAIN: u32 = 1024;
-
-/// Looks the selector in SCRATCH_13 up from the class in SCRATCH_10 on, and loads the method into SCRATCH_12. False where the chain ends
+/// Looks the selector in R23 up from the class in R20 on, and loads the method into R22. False where the chain ends
 /// before.
 fn go_up<M: ObjectMemory>(m: &mut M) -> Result<bool, Stop>
-    requires sound { M.sound m.old }
-    requires ready { IsReady (M.told m.old) }
+    requires fit { IsFit M.ObjectMemory m.old }
     ensures serves { (cpu : Cpu) → Serves (M.told m.old) cpu (M.told m.new) cpu (model.lookup ((M.told m.old).regs 23) ((M.told m.old).regs 20)) (with_found result ((M.told m.new).regs 22)) }
     ensures looks { OnOk result (Looks (20 ∷ 21 ∷ 22 ∷ []) (M.told m.old) (M.told m.new)) }
-    ensures ready { OnOk result (IsReady (M.told m.new)) }
-    ensures sound { StaysSound result (M.sound m.new) }
-    ensures lender { M.lender m.new ≡ M.lender m.old }
-    ensures outside { M.outside m.new ≡ M.outside m.old }
+    ensures fit { StaysFit M.ObjectMemory m.old m.new result }
 {
     for _turn in 0..LONGEST_CHAIN {
-        if m.is(Reg::SCRATCH_10, Name::NIL) {
+        if m.is(Reg::R20, Name::NIL) {
             return Ok(false);
         }
         if find_in(m)? {
             return Ok(true);
         }
-        field(m, Reg::SCRATCH_10, Reg::SCRATCH_10, 3, 0)?;
+        field(m, Reg::R20, Reg::R20, CLASS_SIZE, SUPERCLASS_INDEX)?;
     }
-    if !m.is(Reg::SCRATCH_10, Name::NIL) {
+    if !m.is(Reg::R20, Name::NIL) {
         return Err(Stop::Stuck(Cause::Chain));
     }
     Ok(false)
 }
 
 /// Loads the method that the class in a register, or the first class above it that has one, has for the selector in another into
-/// SCRATCH_12. False where the chain ends before. The scratch registers from 20 on are used.
+/// R22. False where the chain ends before. The scratch registers from 20 on are used.
 pub fn look_up<M: ObjectMemory>(m: &mut M, selector: Reg, class: Reg) -> Result<bool, Stop>
-    requires sound { M.sound m.old }
-    requires ready { IsReady (M.told m.old) }
+    requires fit { IsFit M.ObjectMemory m.old }
     requires selector { selector < 20 }
     ensures serves { (cpu : Cpu) → Serves (M.told m.old) cpu (M.told m.new) cpu (model.lookup ((M.told m.old).regs selector) ((M.told m.old).regs class)) (with_found result ((M.told m.new).regs 22)) }
     ensures looks { OnOk result (Looks (20 ∷ 21 ∷ 22 ∷ 23 ∷ []) (M.told m.old) (M.told m.new)) }
-    ensures ready { OnOk result (IsReady (M.told m.new)) }
-    ensures sound { StaysSound result (M.sound m.new) }
-    ensures lender { M.lender m.new ≡ M.lender m.old }
-    ensures outside { M.outside m.new ≡ M.outside m.old }
+    ensures fit { StaysFit M.ObjectMemory m.old m.new result }
 {
-    m.copy(Reg::SCRATCH_10, class);
-    m.copy(Reg::SCRATCH_13, selector);
+    m.copy(Reg::R20, class);
+    m.copy(Reg::R23, selector);
     go_up(m)
 }
 
@@ -66,18 +59,14 @@ pub fn look_up<M: ObjectMemory>(m: &mut M, selector: Reg, class: Reg) -> Result<
 /// method that isn't one are stuck with Shape, and a chain of more than 1,024 classes with Chain. The scratch registers from 20 on are
 /// used.
 pub fn find<M: ObjectMemory>(m: &mut M, class: Reg) -> Result<bool, Stop>
-    requires sound { M.sound m.old }
-    requires ready { IsReady (M.told m.old) }
+    requires fit { IsFit M.ObjectMemory m.old }
     ensures serves { (cpu : Cpu) → Serves (M.told m.old) cpu (M.told m.new) cpu (model.find ((M.told m.old).regs class)) result }
     ensures others { OnOk result (KeepsButMethod 20 (M.told m.old) (M.told m.new)) }
-    ensures ready { OnOk result (IsReady (M.told m.new)) }
-    ensures sound { StaysSound result (M.sound m.new) }
-    ensures lender { M.lender m.new ≡ M.lender m.old }
-    ensures outside { M.outside m.new ≡ M.outside m.old }
+    ensures fit { StaysFit M.ObjectMemory m.old m.new result }
 {
     if !look_up(m, Reg::SELECTOR, class)? {
         return Ok(false);
     }
-    m.copy(Reg::NEW_METHOD, Reg::SCRATCH_12);
+    m.copy(Reg::NEW_METHOD, Reg::R22);
     Ok(true)
 }

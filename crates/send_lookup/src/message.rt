@@ -6,8 +6,11 @@ ghost use Rattle.blue_model.specs.declared.cpu.Cpu.{Cpu as Numbers};
 ghost use Rattle.blue_model.specs.Machine.{each};
 ghost use Rattle.blue_model.specs.Messages as model;
 ghost use Rattle.contexts.specs.Serves.{Serves, StaysSound, with_value};
+ghost use Rattle.object_memory.specs.Calls.{IsFit};
+ghost use Rattle.contexts.specs.Calls.{StaysFit};
 
 use crate::lookup::find;
+use blue_model::indexes::{MESSAGE_ARGUMENTS_INDEX, MESSAGE_SELECTOR_INDEX};
 use contexts::parts::{known, make_pointers, store_field};
 use contexts::{Cause, Cpu, Stop, pop, push, set_arguments, stack};
 use long_names::Name;
@@ -15,35 +18,27 @@ use object_memory::{ObjectMemory, Reg};
 
 // The scratch registers from 15 to 19 are those of this file and of `activation`; what callers keep stands below.
 
-/// Copies argument i of n from the stack into the array in SCRATCH_6.
+/// Copies argument i of n from the stack into the array in R16.
 fn copy_argument<M: ObjectMemory>(m: &mut M, cpu: &Cpu, n: u32, i: u32) -> Result<(), Stop>
-    requires sound { M.sound m.old }
-    requires ready { IsReady (M.told m.old) }
+    requires fit { IsFit M.ObjectMemory m.old }
     requires argument { i < n }
     requires few { n < 256 }
     ensures serves { Serves (M.told m.old) cpu.now (M.told m.new) cpu.now (model.copy_argument n ((M.told m.old).regs 16) i) result }
     ensures regs { OnOk result ((r : ℕ) → (r ≡ 17 → ⊥) → (M.told m.new).regs r ≡ (M.told m.old).regs r) }
-    ensures ready { OnOk result (IsReady (M.told m.new)) }
-    ensures sound { StaysSound result (M.sound m.new) }
-    ensures lender { M.lender m.new ≡ M.lender m.old }
-    ensures outside { M.outside m.new ≡ M.outside m.old }
+    ensures fit { StaysFit M.ObjectMemory m.old m.new result }
 {
-    stack(m, cpu, Reg::SCRATCH_7, n - 1 - i)?;
-    store_field(m, Reg::SCRATCH_6, i, Reg::SCRATCH_7)?;
+    stack(m, cpu, Reg::R17, n - 1 - i)?;
+    store_field(m, Reg::R16, i, Reg::R17)?;
     Ok(())
 }
 
-/// Copies the n arguments, in order, into the array in SCRATCH_6.
+/// Copies the n arguments, in order, into the array in R16.
 fn copy_arguments<M: ObjectMemory>(m: &mut M, cpu: &Cpu, n: u32) -> Result<(), Stop>
-    requires sound { M.sound m.old }
-    requires ready { IsReady (M.told m.old) }
+    requires fit { IsFit M.ObjectMemory m.old }
     requires few { n < 256 }
     ensures serves { Serves (M.told m.old) cpu.now (M.told m.new) cpu.now (each (model.copy_argument n ((M.told m.old).regs 16)) n) result }
     ensures regs { OnOk result ((r : ℕ) → (r ≡ 17 → ⊥) → (M.told m.new).regs r ≡ (M.told m.old).regs r) }
-    ensures ready { OnOk result (IsReady (M.told m.new)) }
-    ensures sound { StaysSound result (M.sound m.new) }
-    ensures lender { M.lender m.new ≡ M.lender m.old }
-    ensures outside { M.outside m.new ≡ M.outside m.old }
+    ensures fit { StaysFit M.ObjectMemory m.old m.new result }
 {
     for i in 0..n {
         copy_argument(m, cpu, n, i)?;
@@ -51,77 +46,61 @@ fn copy_arguments<M: ObjectMemory>(m: &mut M, cpu: &Cpu, n: u32) -> Result<(), S
     Ok(())
 }
 
-/// Makes an array of the n arguments, in SCRATCH_6.
+/// Makes an array of the n arguments, in R16.
 fn make_arguments<M: ObjectMemory>(m: &mut M, cpu: &Cpu, n: u32) -> Result<(), Stop>
-    requires sound { M.sound m.old }
-    requires ready { IsReady (M.told m.old) }
+    requires fit { IsFit M.ObjectMemory m.old }
     requires few { n < 256 }
     ensures serves { Serves (M.told m.old) cpu.now (M.told m.new) cpu.now (model.make_arguments n) (with_value result ((M.told m.new).regs 16)) }
     ensures regs { OnOk result ((r : ℕ) → r < 15 → (M.told m.new).regs r ≡ (M.told m.old).regs r) }
-    ensures ready { OnOk result (IsReady (M.told m.new)) }
-    ensures sound { StaysSound result (M.sound m.new) }
-    ensures lender { M.lender m.new ≡ M.lender m.old }
-    ensures outside { M.outside m.new ≡ M.outside m.old }
+    ensures fit { StaysFit M.ObjectMemory m.old m.new result }
 {
-    known(m, Reg::SCRATCH_5, Name::ARRAY)?;
-    make_pointers(m, Reg::SCRATCH_6, Reg::SCRATCH_5, n)?;
+    known(m, Reg::R15, Name::ARRAY)?;
+    make_pointers(m, Reg::R16, Reg::R15, n)?;
     copy_arguments(m, cpu, n)?;
     Ok(())
 }
 
-/// Makes a message of the selector and the array in SCRATCH_6, in SCRATCH_7.
+/// Makes a message of the selector and the array in R16, in R17.
 fn make_message<M: ObjectMemory>(m: &mut M) -> Result<(), Stop>
-    requires sound { M.sound m.old }
-    requires ready { IsReady (M.told m.old) }
+    requires fit { IsFit M.ObjectMemory m.old }
     ensures serves { (cpu : Numbers) → Serves (M.told m.old) cpu (M.told m.new) cpu (model.make_message ((M.told m.old).regs SELECTOR) ((M.told m.old).regs 16)) (with_value result ((M.told m.new).regs 17)) }
     ensures regs { OnOk result ((r : ℕ) → r < 15 → (M.told m.new).regs r ≡ (M.told m.old).regs r) }
-    ensures ready { OnOk result (IsReady (M.told m.new)) }
-    ensures sound { StaysSound result (M.sound m.new) }
-    ensures lender { M.lender m.new ≡ M.lender m.old }
-    ensures outside { M.outside m.new ≡ M.outside m.old }
+    ensures fit { StaysFit M.ObjectMemory m.old m.new result }
 {
-    known(m, Reg::SCRATCH_5, Name::MESSAGE)?;
-    make_pointers(m, Reg::SCRATCH_7, Reg::SCRATCH_5, 2)?;
-    store_field(m, Reg::SCRATCH_7, 0, Reg::SELECTOR)?;
-    store_field(m, Reg::SCRATCH_7, 1, Reg::SCRATCH_6)?;
+    known(m, Reg::R15, Name::MESSAGE)?;
+    make_pointers(m, Reg::R17, Reg::R15, 2)?;
+    store_field(m, Reg::R17, MESSAGE_SELECTOR_INDEX, Reg::SELECTOR)?;
+    store_field(m, Reg::R17, MESSAGE_ARGUMENTS_INDEX, Reg::R16)?;
     Ok(())
 }
 
 /// A message of the selector and the arguments takes their place on the stack (createActualMessage, chapter 28).
 fn create_message<M: ObjectMemory>(m: &mut M, cpu: &mut Cpu) -> Result<(), Stop>
-    requires sound { M.sound m.old }
-    requires ready { IsReady (M.told m.old) }
+    requires fit { IsFit M.ObjectMemory m.old }
     ensures serves { Serves (M.told m.old) cpu.old (M.told m.new) cpu.new (model.create_message ((M.told m.old).regs SELECTOR) cpu.old.args) result }
     ensures regs { OnOk result ((r : ℕ) → r < 15 → (M.told m.new).regs r ≡ (M.told m.old).regs r) }
-    ensures ready { OnOk result (IsReady (M.told m.new)) }
-    ensures sound { StaysSound result (M.sound m.new) }
-    ensures lender { M.lender m.new ≡ M.lender m.old }
-    ensures outside { M.outside m.new ≡ M.outside m.old }
+    ensures fit { StaysFit M.ObjectMemory m.old m.new result }
 {
     let n = u32::from(cpu.args);
     make_arguments(m, cpu, n)?;
     make_message(m)?;
     pop(cpu, n)?;
-    push(m, cpu, Reg::SCRATCH_7)?;
+    push(m, cpu, Reg::R17)?;
     Ok(())
 }
 
 /// Looks doesNotUnderstand: up from the class in a register, with a message of what was sent as its argument. Stuck with NotUnderstood
 /// where no class of the chain has it.
 fn tell<M: ObjectMemory>(m: &mut M, cpu: &mut Cpu, class: Reg) -> Result<(), Stop>
-    requires sound { M.sound m.old }
-    requires ready { IsReady (M.told m.old) }
+    requires fit { IsFit M.ObjectMemory m.old }
     requires class { class < 15 }
     requires apart { class ≡ SELECTOR → ⊥ }
     ensures serves { Serves (M.told m.old) cpu.old (M.told m.new) cpu.new (model.tell ((M.told m.old).regs class) ((M.told m.old).regs SELECTOR)) result }
-    ensures ready { OnOk result (IsReady (M.told m.new)) }
-    ensures sound { StaysSound result (M.sound m.new) }
-    ensures lender { M.lender m.new ≡ M.lender m.old }
-    ensures outside { M.outside m.new ≡ M.outside m.old }
+    ensures fit { StaysFit M.ObjectMemory m.old m.new result }
 {
     create_message(m, cpu)?;
-    known(m, Reg::SCRATCH_5, Name::DOES_NOT_UNDERSTAND)?;
-    m.copy(Reg::SELECTOR, Reg::SCRATCH_5);
+    known(m, Reg::R15, Name::DOES_NOT_UNDERSTAND)?;
+    m.copy(Reg::SELECTOR, Reg::R15);
     set_arguments(cpu, 1);
     if !find(m, class)? {
         return Err(Stop::Stuck(Cause::NotUnderstood));
@@ -134,16 +113,12 @@ fn tell<M: ObjectMemory>(m: &mut M, cpu: &mut Cpu, class: Reg) -> Result<(), Sto
 /// (findNewMethodInClass:, chapter 28). Stuck with NotUnderstood where no class has that either. The scratch registers from 15 on are
 /// used.
 pub fn find_or_tell<M: ObjectMemory>(m: &mut M, cpu: &mut Cpu, class: Reg) -> Result<(), Stop>
-    requires sound { M.sound m.old }
-    requires ready { IsReady (M.told m.old) }
+    requires fit { IsFit M.ObjectMemory m.old }
     requires class { class < 15 }
     requires apart { class ≡ SELECTOR → ⊥ }
     requires other { class ≡ NEW_METHOD → ⊥ }
     ensures serves { Serves (M.told m.old) cpu.old (M.told m.new) cpu.new (model.find_or_tell ((M.told m.old).regs class)) result }
-    ensures ready { OnOk result (IsReady (M.told m.new)) }
-    ensures sound { StaysSound result (M.sound m.new) }
-    ensures lender { M.lender m.new ≡ M.lender m.old }
-    ensures outside { M.outside m.new ≡ M.outside m.old }
+    ensures fit { StaysFit M.ObjectMemory m.old m.new result }
 {
     if find(m, class)? {
         return Ok(());

@@ -9,7 +9,10 @@ ghost use Rattle.blue_model.specs.declared.cpu.Cpu.{Cpu};
 ghost use Rattle.blue_model.specs.Machine.{part};
 ghost use Rattle.blue_model.specs.Lookup.{slot_of, turned_back};
 ghost use Rattle.contexts.specs.Serves.{Serves, StaysSound};
+ghost use Rattle.object_memory.specs.Calls.{IsFit};
+ghost use Rattle.contexts.specs.Calls.{StaysFit};
 
+use blue_model::indexes::SELECTOR_START;
 use contexts::Stop;
 use long_names::Name;
 use object_memory::{ObjectMemory, Reg};
@@ -26,31 +29,27 @@ fn slot_at(first: u32, slots: u32, place: u32) -> u32
     if slot < slots { slot } else { slot - slots }
 }
 
-/// The slot of the dictionary in SCRATCH_11 that holds the selector in SCRATCH_13 (lookupMethodInDictionary:, chapter 28): the search goes round all
-/// slots from that of the selector's hash on, and ends at nil. The dictionary has so many fields. SCRATCH_12 is used.
+/// The slot of the dictionary in R21 that holds the selector in R23 (lookupMethodInDictionary:, chapter 28): the search goes round all
+/// slots from that of the selector's hash on, and ends at nil. The dictionary has so many fields. R22 is used.
 pub(crate) fn find_slot<M: ObjectMemory>(m: &mut M, fields: u32) -> Result<Option<u32>, Stop>
-    requires sound { M.sound m.old }
-    requires ready { IsReady (M.told m.old) }
+    requires fit { IsFit M.ObjectMemory m.old }
     requires selector { IsRef ((M.told m.old).regs 23) }
     requires some { 3 ≤ fields }
     requires few { fields < 65536 }
     requires there { HasPartAt (M.told m.old) 21 pointers_of (λ xs. length xs ≡ fields) }
     ensures serves { (cpu : Cpu) → Serves (M.told m.old) cpu (M.told m.new) cpu (part Shape (slot_of ((M.told m.old).regs 23)) ((M.told m.old).regs 21)) result }
     ensures looks { OnOk result (Looks (22 ∷ []) (M.told m.old) (M.told m.new)) }
-    ensures ready { OnOk result (IsReady (M.told m.new)) }
-    ensures sound { StaysSound result (M.sound m.new) }
-    ensures lender { M.lender m.new ≡ M.lender m.old }
-    ensures outside { M.outside m.new ≡ M.outside m.old }
+    ensures fit { StaysFit M.ObjectMemory m.old m.new result }
 {
-    let slots = fields - 2;
-    let first = m.hash(Reg::SCRATCH_13) & (slots - 1);
+    let slots = fields - SELECTOR_START;
+    let first = m.hash(Reg::R23) & (slots - 1);
     for place in 0..slots {
         let slot = slot_at(first, slots, place);
-        m.field(Reg::SCRATCH_12, Reg::SCRATCH_11, 2 + slot)?;
-        if m.is(Reg::SCRATCH_12, Name::NIL) {
+        m.field(Reg::R22, Reg::R21, SELECTOR_START + slot)?;
+        if m.is(Reg::R22, Name::NIL) {
             return Ok(None);
         }
-        if m.same(Reg::SCRATCH_12, Reg::SCRATCH_13) {
+        if m.same(Reg::R22, Reg::R23) {
             return Ok(Some(slot));
         }
     }

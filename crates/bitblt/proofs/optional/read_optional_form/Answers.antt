@@ -10,7 +10,7 @@ use Rattle.bitblt.proofs.FormLaws.{nil_serves, found_serves, found_stopped, look
 use Rattle.bitblt.proofs.optional.read_optional_form.Goals as goal
 
 pub returns-then-is-clause-serves : goal.returns-then-is-clause-serves
-returns-then-is-clause-serves g c = λ cpu. nil_serves (form_where (enough c.args.halftone)) _ (sym c.is.ensures ∙ c.if-is.true) c.requires.ready
+returns-then-is-clause-serves g c = λ cpu. nil_serves (form_where (enough c.args.halftone)) _ (sym c.is.ensures ∙ c.if-is.true) c.requires.fit.ready
 
 pub returns-then-is-clause-looks : goal.returns-then-is-clause-looks
 returns-then-is-clause-looks g c = looks_any _ _
@@ -23,11 +23,11 @@ returns-in_default-clause-serves g c = λ cpu.
     let t = g.M.ObjectMemory.told c.args.m.now in
     let b = g.M.ObjectMemory.told c.read_form.new.m in
     subst (λ (x : Option Extent). Serves t cpu b cpu (form_or_nil (form_where (enough c.args.halftone)) (t.regs 11)) (Ok (some_form (option_map (form_by (b.regs c.args.bits)) x)))) c.in_default.is
-    (found_serves (form_where (enough c.args.halftone)) (t.regs 11) (option_map (form_by (b.regs c.args.bits)) c.in_ok-extent.field-0) (sym c.is.ensures ∙ c.if-is.false) c.in_ok-extent.ensures.ready (c.in_ok-extent.ensures.serves cpu))
+    (found_serves (form_where (enough c.args.halftone)) (t.regs 11) (option_map (form_by (b.regs c.args.bits)) c.in_ok-extent.field-0) (sym c.is.ensures ∙ c.if-is.false) c.in_ok-extent.ensures.fit.ready (c.in_ok-extent.ensures.serves cpu))
 
 pub returns-clause-serves : goal.returns-clause-serves
 returns-clause-serves g c = λ cpu.
     let t = g.M.ObjectMemory.told c.args.m.now in
     let b = g.M.ObjectMemory.told c.read_form.new.m in
     subst (λ (x : Option Extent). Serves t cpu b cpu (form_or_nil (form_where (enough c.args.halftone)) (t.regs 11)) (Ok (some_form (option_map (form_by (b.regs c.args.bits)) x)))) c.in-Some.is
-    (found_serves (form_where (enough c.args.halftone)) (t.regs 11) (option_map (form_by (b.regs c.args.bits)) c.in_ok-extent.field-0) (sym c.is.ensures ∙ c.if-is.false) c.in_ok-extent.ensures.ready (c.in_ok-extent.ensures.serves cpu))
+    (found_serves (form_where (enough c.args.halftone)) (t.regs 11) (option_map (form_by (b.regs c.args.bits)) c.in_ok-extent.field-0) (sym c.is.ensures ∙ c.if-is.false) c.in_ok-extent.ensures.fit.ready (c.in_ok-extent.ensures.serves cpu))

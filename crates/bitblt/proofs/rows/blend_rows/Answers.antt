@@ -8,15 +8,15 @@ use Rattle.bitblt.proofs.rows.blend_rows.Goals.{then-reads_before+in_ok-blend_on
 
 pub loop-i-init : goal.loop-i-init
 loop-i-init g c = record {
-  partly = partly_start c.args.t.now c.args.halftone.now (g.M.ObjectMemory.told c.args.m.now) (done_up c.args.t.now 0) c.requires.ready c.requires.rooms (up-none c.args.t.now);
-  sound = c.requires.sound;
+  partly = partly_start c.args.t.now c.args.halftone.now (g.M.ObjectMemory.told c.args.m.now) (done_up c.args.t.now 0) c.requires.fit.ready c.requires.rooms (up-none c.args.t.now);
+  sound = c.requires.fit.sound;
   lender = search rules;
   outside = search rules;
 }
 
 pub returns-in_err-blend_one-clause-serves : goal.returns-in_err-blend_one-clause-serves
 returns-in_err-blend_one-clause-serves g c = λ cpu.
-    exits _ c.from_residual.ensures.1 (partly_stop c.args.t.now c.args.halftone.now (g.M.ObjectMemory.told c.args.m.now) (g.M.ObjectMemory.told c.loop-i.m) _ cpu (done_up c.args.t.now c.loop-i.i) _ _ c.requires.ready c.requires.rooms c.loop-i.invariant.partly (c.in_err-blend_one.ensures.serves cpu))
+    exits _ c.from_residual.ensures.1 (partly_stop c.args.t.now c.args.halftone.now (g.M.ObjectMemory.told c.args.m.now) (g.M.ObjectMemory.told c.loop-i.m) _ cpu (done_up c.args.t.now c.loop-i.i) _ _ c.requires.fit.ready c.requires.rooms c.loop-i.invariant.partly (c.in_err-blend_one.ensures.serves cpu))
 
 pub loop-y-init : goal.loop-y-init
 loop-y-init g c =
@@ -32,13 +32,13 @@ loop-y-init g c =
 
 pub returns-in_err-blend_one-2-clause-serves : goal.returns-in_err-blend_one-2-clause-serves
 returns-in_err-blend_one-2-clause-serves g c = λ cpu.
-    exits _ c.from_residual-in_err-blend_one-2.ensures.1 (partly_stop c.args.t.now c.args.halftone.now (g.M.ObjectMemory.told c.args.m.now) (g.M.ObjectMemory.told c.loop-y.m) _ cpu (done_down c.args.t.now c.loop-y.y) _ _ c.requires.ready c.requires.rooms c.loop-y.invariant.partly (c.in_err-blend_one-2.ensures.serves cpu))
+    exits _ c.from_residual-in_err-blend_one-2.ensures.1 (partly_stop c.args.t.now c.args.halftone.now (g.M.ObjectMemory.told c.args.m.now) (g.M.ObjectMemory.told c.loop-y.m) _ cpu (done_down c.args.t.now c.loop-y.y) _ _ c.requires.fit.ready c.requires.rooms c.loop-y.invariant.partly (c.in_err-blend_one-2.ensures.serves cpu))
 
 pub returns-clause-serves : goal.returns-clause-serves
 returns-clause-serves g c = λ cpu.
     let t = c.args.t.now in
     let end : c.loop-y.y ≡ t.bottom = omega arith in
-    partly_end t c.args.halftone.now (g.M.ObjectMemory.told c.args.m.now) (g.M.ObjectMemory.told c.loop-y.m) cpu (done_down t c.loop-y.y) c.requires.ready c.requires.rooms c.requires.fits c.loop-y.invariant.partly
+    partly_end t c.args.halftone.now (g.M.ObjectMemory.told c.args.m.now) (g.M.ObjectMemory.told c.loop-y.m) cpu (done_down t c.loop-y.y) c.requires.fit.ready c.requires.rooms c.requires.fits c.loop-y.invariant.partly
     (λ r. ap (λ n. done_down t n r) end ∙ down-all t r)
 
 pub loop-i-preserved : goal.loop-i-preserved
@@ -54,12 +54,12 @@ loop-i-preserved g c =
           let done = w.in_ok-blend_one.ensures in
           rw w.m-is
           record {
-            partly = partly_row t c.args.halftone.now old now _ (done_up t c.loop-i.i) (done_up t (c.loop-i.i + 1)) y c.requires.ready c.requires.rooms c.requires.fits c.loop-i.invariant.partly
+            partly = partly_row t c.args.halftone.now old now _ (done_up t c.loop-i.i) (done_up t (c.loop-i.i + 1)) y c.requires.fit.ready c.requires.rooms c.requires.fits c.loop-i.invariant.partly
                 (omega arith) (omega arith) (up-order t c.loop-i.i more) (up-fresh t c.loop-i.i more) (up-set t c.loop-i.i more first) (λ r ne. up-others t c.loop-i.i r more ne)
-                done.ready done.serves done.written;
-            sound = done.sound;
-            lender = done.lender ∙ c.loop-i.invariant.lender;
-            outside = done.outside ∙ c.loop-i.invariant.outside;
+                done.fit.ready done.serves done.written;
+            sound = done.fit.sound;
+            lender = done.fit.lender ∙ c.loop-i.invariant.lender;
+            outside = done.fit.outside ∙ c.loop-i.invariant.outside;
           })
       | else-reads_before w ↦
           (let later : reads_before t y ≡ false = sym c.reads_before.ensures ∙ w.if-reads_before.false in
@@ -84,12 +84,12 @@ loop-y-preserved g c =
           let done = w.in_ok-blend_one-2.ensures in
           rw w.m-is
           record {
-            partly = partly_row t c.args.halftone.now old now _ (done_down t y) (done_down t (y + 1)) y c.requires.ready c.requires.rooms c.requires.fits c.loop-y.invariant.partly
+            partly = partly_row t c.args.halftone.now old now _ (done_down t y) (done_down t (y + 1)) y c.requires.fit.ready c.requires.rooms c.requires.fits c.loop-y.invariant.partly
                 (omega arith) (omega arith) (down-order t y later) (down-fresh t y later) (down-set t y (omega arith)) (λ r ne. down-others t y r ne)
-                done.ready done.serves done.written;
-            sound = done.sound;
-            lender = done.lender ∙ c.loop-y.invariant.lender;
-            outside = done.outside ∙ c.loop-y.invariant.outside;
+                done.fit.ready done.serves done.written;
+            sound = done.fit.sound;
+            lender = done.fit.lender ∙ c.loop-y.invariant.lender;
+            outside = done.fit.outside ∙ c.loop-y.invariant.outside;
           })
       | else-not-reads_before w ↦
           (let first : reads_before t y ≡ true = sym c.reads_before-in-loop-y.ensures ∙ w.if-not-reads_before.false in

@@ -19,14 +19,14 @@ use Rattle.bitblt.proofs.rows.blend_run.Goals as goal
 pub returns-in_err-read_words-clause-serves : goal.returns-in_err-read_words-clause-serves
 unfolding put_words
 returns-in_err-read_words-clause-serves g c = λ cpu.
-    exits _ c.from_residual.ensures.1 (change_refused words_of (λ b. with_words b 0 _) 13 (ReadWords 13 _ _) refl c.requires.ready c.requires.rooms.dest.name c.in_err-read_words.ensures.access.called)
+    exits _ c.from_residual.ensures.1 (change_refused words_of (λ b. with_words b 0 _) 13 (ReadWords 13 _ _) refl c.requires.fit.ready c.requires.rooms.dest.name c.in_err-read_words.ensures.access.called)
 
 pub write_words-requires-clause-may : goal.write_words-requires-clause-may
 write_words-requires-clause-may g c =
     let t = c.args.t.now in
     let read = c.in_ok-read_words.ensures in
     let looks = Looks-access _ _ (ReadWords 13 _ _) refl read.access.called in
-    let rooms = rooms_looked t _ _ read.ready looks c.requires.rooms in
+    let rooms = rooms_looked t _ _ read.fit.ready looks c.requires.rooms in
     let len : length c.blend_row.new.row ≡ run_length t = search rules in
     let low = (tall-dest t c.args.y c.requires.fits.columns c.requires.fits.wide c.requires.below).1 in
     may_set_words _ 13 (run_start t c.args.y) c.blend_row.new.row
@@ -38,10 +38,10 @@ unfolding put_words
 returns-in_err-write_words-clause-serves g c = λ cpu.
     let read = c.in_ok-read_words.ensures in
     let looks = Looks-access _ _ (ReadWords 13 _ _) refl read.access.called in
-    let rooms = rooms_looked c.args.t.now _ _ read.ready looks c.requires.rooms in
+    let rooms = rooms_looked c.args.t.now _ _ read.fit.ready looks c.requires.rooms in
     exits _ c.from_residual-in_err-write_words.ensures.1
-    (change_later words_of (λ b. with_words b 0 _) 13 c.requires.ready read.ready looks
-    (change_refused words_of (λ b. with_words b 0 _) 13 (WriteWords 13 _ _) refl read.ready rooms.dest.name c.in_err-write_words.ensures.access.called))
+    (change_later words_of (λ b. with_words b 0 _) 13 c.requires.fit.ready read.fit.ready looks
+    (change_refused words_of (λ b. with_words b 0 _) 13 (WriteWords 13 _ _) refl read.fit.ready rooms.dest.name c.in_err-write_words.ensures.access.called))
 
 pub returns-clause-serves : goal.returns-clause-serves
 returns-clause-serves g c = λ cpu.
@@ -54,7 +54,7 @@ returns-clause-serves g c = λ cpu.
     let read = c.in_ok-read_words.ensures in
     let wrote = c.in_ok-write_words.ensures in
     let looks : Looks [] m mid = Looks-access m mid (ReadWords 13 _ _) refl read.access.called in
-    let rooms : HasRooms t mid = rooms_looked t m mid read.ready looks c.requires.rooms in
+    let rooms : HasRooms t mid = rooms_looked t m mid read.fit.ready looks c.requires.rooms in
     let len : length run ≡ run_length t = search rules in
     let low = (tall-dest t c.args.y c.requires.fits.columns c.requires.fits.wide c.requires.below).1 in
     let made : IsTrue m.tells → put_run words (run_start t c.args.y) run ≡ row_words t source c.args.halftone.now words c.args.y = λ told.
@@ -63,10 +63,10 @@ returns-clause-serves g c = λ cpu.
     c.requires.fits.columns c.requires.fits.wide c.requires.row c.requires.below (c.requires.pixels told)
     (search rules) (λ i h. run_read m 13 _ _ c.read_words.new.out (read.access.answer told) i (search rules)) (λ n h. c.blend_row.ensures.bits n (search rules)) c.blend_row.ensures.fits) in
     run_serves t.has_source (m.regs 14) (m.regs 13) words run (row_words t source c.args.halftone.now words c.args.y) (run_start t c.args.y)
-    (rooms_there t m cpu c.requires.ready c.requires.rooms)
+    (rooms_there t m cpu c.requires.fit.ready c.requires.rooms)
     (λ told. (made told, row_words-length t source c.args.halftone.now words c.args.y))
-    (change_later words_of (λ b. with_words b (run_start t c.args.y) run) 13 c.requires.ready read.ready looks
-    (written_serves 13 (run_start t c.args.y) run read.ready wrote.ready (λ told. (let it = rooms.dest.there told in (it.0, it.1))) wrote.access.called))
+    (change_later words_of (λ b. with_words b (run_start t c.args.y) run) 13 c.requires.fit.ready read.fit.ready looks
+    (written_serves 13 (run_start t c.args.y) run read.fit.ready wrote.fit.ready (λ told. (let it = rooms.dest.there told in (it.0, it.1))) wrote.access.called))
 
 pub returns-clause-written : goal.returns-clause-written
 returns-clause-written g c =
@@ -80,14 +80,14 @@ returns-clause-written g c =
     let read = c.in_ok-read_words.ensures in
     let wrote = c.in_ok-write_words.ensures in
     let looks : Looks [] m mid = Looks-access m mid (ReadWords 13 _ _) refl read.access.called in
-    let rooms : HasRooms t mid = rooms_looked t m mid read.ready looks c.requires.rooms in
+    let rooms : HasRooms t mid = rooms_looked t m mid read.fit.ready looks c.requires.rooms in
     let len : length run ≡ run_length t = search rules in
     let low = (tall-dest t c.args.y c.requires.fits.columns c.requires.fits.wide c.requires.below).1 in
     let may : MayDo mid (WriteWords 13 (run_start t c.args.y) run) =
     may_set_words mid 13 (run_start t c.args.y) run
     (weaker (λ words. t.stride * t.bottom ≤ length words) (λ words. run_start t c.args.y + length run ≤ length words) (λ words room. omega (arith, len, low, room)) rooms.dest)
     (All-from_get_or (λ w. w < 2 ^ 16) run 0 (λ i l. c.blend_row.ensures.fits i)) in
-    is_written t m mid new (run_start t c.args.y) run (row_words t source c.args.halftone.now words c.args.y) read.ready wrote.ready looks c.requires.rooms may wrote.access.called
+    is_written t m mid new (run_start t c.args.y) run (row_words t source c.args.halftone.now words c.args.y) read.fit.ready wrote.fit.ready looks c.requires.rooms may wrote.access.called
     (λ told.
     run-written t source c.args.halftone.now words run c.args.y len (dest_room t m c.requires.rooms told (run_start t c.args.y + run_length t) low)
     (run-after t source c.args.halftone.now words c.args.source.now c.read_words.new.out run c.args.y

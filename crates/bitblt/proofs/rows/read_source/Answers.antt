@@ -10,10 +10,10 @@ use Rattle.bitblt.proofs.RunReads.{source_refused, source_read, source_none, run
 use Rattle.bitblt.proofs.rows.read_source.Goals as goal
 
 pub returns-in_err-read_words-clause-serves : goal.returns-in_err-read_words-clause-serves
-returns-in_err-read_words-clause-serves g c = λ cpu. exits _ c.from_residual.ensures.1 (source_refused c.args.t.now.has_source 14 _ _ c.if-t.true c.requires.ready (c.requires.rooms.source c.if-t.true).name c.in_err-read_words.ensures.access.called)
+returns-in_err-read_words-clause-serves g c = λ cpu. exits _ c.from_residual.ensures.1 (source_refused c.args.t.now.has_source 14 _ _ c.if-t.true c.requires.fit.ready (c.requires.rooms.source c.if-t.true).name c.in_err-read_words.ensures.access.called)
 
 pub returns-in_ok-read_words-clause-serves : goal.returns-in_ok-read_words-clause-serves
-returns-in_ok-read_words-clause-serves g c = λ cpu. source_read c.args.t.now.has_source 14 c.if-t.true c.requires.ready c.in_ok-read_words.ensures.ready (c.requires.rooms.source c.if-t.true).name (Looks-access _ _ (ReadWords 14 _ _) refl c.in_ok-read_words.ensures.access.called)
+returns-in_ok-read_words-clause-serves g c = λ cpu. source_read c.args.t.now.has_source 14 c.if-t.true c.requires.fit.ready c.in_ok-read_words.ensures.fit.ready (c.requires.rooms.source c.if-t.true).name (Looks-access _ _ (ReadWords 14 _ _) refl c.in_ok-read_words.ensures.access.called)
 
 pub returns-in_ok-read_words-clause-pixels : goal.returns-in_ok-read_words-clause-pixels
 unfolding source_pixel
@@ -31,7 +31,7 @@ returns-in_ok-read_words-clause-pixels g c told x hl hr =
     ∙ sym (ap (λ b. source_pixel t (cond b (Some words) None) x c.args.y) c.if-t.true)
 
 pub returns-else-t-clause-serves : goal.returns-else-t-clause-serves
-returns-else-t-clause-serves g c = λ cpu. source_none c.args.t.now.has_source _ c.if-t.false c.requires.ready
+returns-else-t-clause-serves g c = λ cpu. source_none c.args.t.now.has_source _ c.if-t.false c.requires.fit.ready
 
 pub returns-else-t-clause-pixels : goal.returns-else-t-clause-pixels
 unfolding source_pixel

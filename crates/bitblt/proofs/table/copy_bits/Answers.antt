@@ -376,7 +376,7 @@ returns-clause-serves g c =
     let come8 = come_some (λ tone. copy q dest source tone >> done Done) come7 (ap (option_map (optional_by (t8.regs 15))) c.in-Some-4.is) (c.in_ok-halftone.ensures.serves cpu) in
     let kept_dest : t8.regs 13 ≡ t4.regs 13 = c.in_ok-halftone.ensures.looks.regs 13 refl ∙ c.in_ok-peek_field-3.ensures.looks.regs 13 refl ∙ c.in_ok-source.ensures.looks.regs 13 refl ∙ c.in_ok-peek_field-2.ensures.looks.regs 13 refl in
     let kept_source : t8.regs 14 ≡ t6.regs 14 = c.in_ok-halftone.ensures.looks.regs 14 refl ∙ c.in_ok-peek_field-3.ensures.looks.regs 14 refl in
-    come_copy come8 c.in_ok-copy_pixels.ensures.ready (at_bits q c.in-Some-2.dest c.in-Some-3.source tone kept_dest kept_source (c.in_ok-copy_pixels.ensures.serves cpu))
+    come_copy come8 c.in_ok-copy_pixels.ensures.fit.ready (at_bits q c.in-Some-2.dest c.in-Some-3.source tone kept_dest kept_source (c.in_ok-copy_pixels.ensures.serves cpu))
 
 pub copy_pixels-requires-clause-dest_room : goal.copy_pixels-requires-clause-dest_room
 copy_pixels-requires-clause-dest_room g c =
@@ -385,18 +385,18 @@ copy_pixels-requires-clause-dest_room g c =
     let three = c.in_ok-source.ensures in
     let four = c.in_ok-peek_field-3.ensures in
     let five = c.in_ok-halftone.ensures in
-    has_looked (15 ∷ 12 ∷ []) _ _ 13 words_of _ five.ready five.looks refl
-    (has_looked (11 ∷ []) _ _ 13 words_of _ four.ready four.looks refl
-    (has_looked (14 ∷ 12 ∷ []) _ _ 13 words_of _ three.ready three.looks refl
-    (has_looked (11 ∷ []) _ _ 13 words_of _ two.ready two.looks refl
+    has_looked (15 ∷ 12 ∷ []) _ _ 13 words_of _ five.fit.ready five.looks refl
+    (has_looked (11 ∷ []) _ _ 13 words_of _ four.fit.ready four.looks refl
+    (has_looked (14 ∷ 12 ∷ []) _ _ 13 words_of _ three.fit.ready three.looks refl
+    (has_looked (11 ∷ []) _ _ 13 words_of _ two.fit.ready two.looks refl
     (of_some _ _ _ c.in-Some-2.is one.room))))
 
 pub copy_pixels-requires-clause-source_room : goal.copy_pixels-requires-clause-source_room
 copy_pixels-requires-clause-source_room g c =
     let four = c.in_ok-peek_field-3.ensures in
     let five = c.in_ok-halftone.ensures in
-    optional_looked (15 ∷ 12 ∷ []) _ _ 14 false c.in-Some-3.source five.ready five.looks refl
-    (optional_looked (11 ∷ []) _ _ 14 false c.in-Some-3.source four.ready four.looks refl
+    optional_looked (15 ∷ 12 ∷ []) _ _ 14 false c.in-Some-3.source five.fit.ready five.looks refl
+    (optional_looked (11 ∷ []) _ _ 14 false c.in-Some-3.source four.fit.ready four.looks refl
     (of_some (OptionalRoom (g.M.ObjectMemory.told c.read_optional_form.new.m) 14 false) _ _ c.in-Some-3.is c.in_ok-source.ensures.room))
 
 pub copy_pixels-requires-clause-halftone_room : goal.copy_pixels-requires-clause-halftone_room

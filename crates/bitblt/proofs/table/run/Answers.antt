@@ -11,8 +11,8 @@ returns-in-96-eq0-clause-serves g c = row_serves blit_primitives (row 96 0 copy_
 
 pub returns-in_default-clause-serves : goal.returns-in_default-clause-serves
 unfolding pick blit_primitives
-returns-in_default-clause-serves g c = row_fails blit_primitives (row 96 0 copy_bits) _ 96 c.in_default.is-0 refl c.in_default.is-1.1 c.requires.ready
+returns-in_default-clause-serves g c = row_fails blit_primitives (row 96 0 copy_bits) _ 96 c.in_default.is-0 refl c.in_default.is-1.1 c.requires.fit.ready
 
 pub returns-in_default-2-clause-serves : goal.returns-in_default-2-clause-serves
 unfolding pick blit_primitives
-returns-in_default-2-clause-serves g c = none_serves blit_primitives _ c.requires.ready c.in_default.is-0
+returns-in_default-2-clause-serves g c = none_serves blit_primitives _ c.requires.fit.ready c.in_default.is-0

@@ -7,5 +7,5 @@ use Rattle.bytecodes.proofs.dispatch.rest.Goals as goal
 
 pub returns-clause-serves : goal.returns-clause-serves
 returns-clause-serves g c = λ cpu.
-    read_last (clear_serves is_message c.clear.ensures.ready c.clear.ensures.rest (λ r low. c.clear.ensures.regs r ∙ grind (arith, common_steps)))
-    (clear_quiet _ _ 10 24 (omega arith) c.clear-2.ensures.ready c.clear-2.ensures.rest c.clear-2.ensures.regs)
+    read_last (clear_serves is_message c.clear.ensures.fit.ready c.clear.ensures.rest (λ r low. c.clear.ensures.regs r ∙ grind (arith, common_steps)))
+    (clear_quiet _ _ 10 24 (omega arith) c.clear-2.ensures.fit.ready c.clear-2.ensures.rest c.clear-2.ensures.regs)

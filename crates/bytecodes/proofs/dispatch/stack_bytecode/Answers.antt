@@ -9,7 +9,7 @@ use Rattle.bytecodes.proofs.dispatch.stack_bytecode.Goals as goal
 
 pub returns-in-135-clause-serves : goal.returns-in-135-clause-serves
 unfolding bytecodes
-returns-in-135-clause-serves g c = λ events. dispatched events c.args.byte 25 (next_only 135 (pop 1)) (omega arith) refl refl (omega arith) (omega arith) (next_serves _ (c.pop.ensures.serves _ c.requires.ready))
+returns-in-135-clause-serves g c = λ events. dispatched events c.args.byte 25 (next_only 135 (pop 1)) (omega arith) refl refl (omega arith) (omega arith) (next_serves _ (c.pop.ensures.serves _ c.requires.fit.ready))
 
 pub returns-in-136-clause-serves : goal.returns-in-136-clause-serves
 unfolding bytecodes

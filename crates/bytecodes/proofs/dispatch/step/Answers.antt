@@ -15,4 +15,4 @@ returns-in_err-step-clause-serves g c = serves_then _ c.in_ok-byte.ensures.serve
 pub returns-clause-serves : goal.returns-clause-serves
 unfolding step
 returns-clause-serves g c =
-    serves_then _ c.in_ok-byte.ensures.serves (speaks_then _ c.in_ok-step.ensures.serves (serves_then _ (c.rest.ensures.serves _) (done_serves c.rest.ensures.ready)) (λ e. e))
+    serves_then _ c.in_ok-byte.ensures.serves (speaks_then _ c.in_ok-step.ensures.serves (serves_then _ (c.rest.ensures.serves _) (done_serves c.rest.ensures.fit.ready)) (λ e. e))

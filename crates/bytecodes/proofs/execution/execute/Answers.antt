@@ -21,12 +21,12 @@ pub returns-then-is_execute-clause-serves : goal.returns-then-is_execute-clause-
 unfolding execute
 returns-then-is_execute-clause-serves g c =
     let found = sym c.is_execute.ensures ∙ c.if-is_execute.true in
-    let last = done_same c.step_of.ensures c.in_ok-last.ensures.ready in
+    let last = done_same c.step_of.ensures c.in_ok-last.ensures.fit.ready in
     speaks_failed _ c.in_ok-answer.ensures.serves (not_executed _ found)
     (pick_true _ _ _ found (speaks_then _ c.in_ok-last.ensures.serves last (λ e. c.step_of.ensures ∙ ap step_of e)))
 
 pub returns-clause-serves : goal.returns-clause-serves
 unfolding execute
 returns-clause-serves g c =
-    let last = done_same c.step_of-2.ensures c.in_ok-answer.ensures.ready in
+    let last = done_same c.step_of-2.ensures c.in_ok-answer.ensures.fit.ready in
     speaks_then _ c.in_ok-answer.ensures.serves (pick_false _ _ _ (sym c.is_execute.ensures ∙ c.if-is_execute.false) last) (λ e. c.step_of-2.ensures ∙ ap step_of e)

@@ -40,4 +40,4 @@ returns-clause-serves g c =
     let z = small_number _ c.in_ok-extension.ensures.range in
     let index = rw z at c.primitive-index.ensures in
     serves_then _ (c.in_ok-extension.ensures.serves _) (pick_false _ _ _ (sym (rw index at c.is_none.ensures) ∙ c.if-is_none.false) (speaks_then _ (rw index at c.in_ok-answer.ensures.serves)
-    (pick_false _ _ _ (sym c.has_failed.ensures ∙ c.if-has_failed.false) (done_serves c.in_ok-answer.ensures.ready)) (λ e. e)))
+    (pick_false _ _ _ (sym c.has_failed.ensures ∙ c.if-has_failed.false) (done_serves c.in_ok-answer.ensures.fit.ready)) (λ e. e)))

@@ -16,7 +16,7 @@ returns-in-5-clause-serves g c =
     let z = small_number _ c.in_ok-header.ensures.range in
     let flag = rw z at c.flag.ensures.flag in
     register_then _ _ refl (serves_then _ (c.in_ok-header.ensures.serves _)
-    (pick_true _ _ _ (equal _ _ 5 flag c.in-5.is) (done_serves c.in_ok-header.ensures.ready)))
+    (pick_true _ _ _ (equal _ _ 5 flag c.in-5.is) (done_serves c.in_ok-header.ensures.fit.ready)))
 
 pub returns-in_err-answer_field-in-6-clause-serves : goal.returns-in_err-answer_field-in-6-clause-serves
 unfolding execute_method
@@ -32,7 +32,7 @@ returns-in_ok-answer_field-in-6-clause-serves g c =
     let z = small_number _ c.in_ok-header.ensures.range in
     let flag = rw z at c.flag.ensures.flag in
     register_then _ _ refl (serves_then _ (c.in_ok-header.ensures.serves _)
-    (pick_false _ _ _ (unequal _ _ 5 flag (λ e. absurd (let is = c.in-6.is in omega arith))) (pick_true _ _ _ (equal _ _ 6 flag c.in-6.is) (serves_then _ (rw (rw z at c.temporaries.ensures.temporaries) at c.in_ok-answer_field-in-6.ensures.serves) (done_serves c.in_ok-answer_field-in-6.ensures.ready)))))
+    (pick_false _ _ _ (unequal _ _ 5 flag (λ e. absurd (let is = c.in-6.is in omega arith))) (pick_true _ _ _ (equal _ _ 6 flag c.in-6.is) (serves_then _ (rw (rw z at c.temporaries.ensures.temporaries) at c.in_ok-answer_field-in-6.ensures.serves) (done_serves c.in_ok-answer_field-in-6.ensures.fit.ready)))))
 
 pub returns-in-7-clause-serves : goal.returns-in-7-clause-serves
 unfolding execute_method

@@ -16,11 +16,11 @@ pub returns-then-is-clause-serves : goal.returns-then-is-clause-serves
 unfolding jump_where then_next
 returns-then-is-clause-serves g c =
     let distance = to_z_pos w32 c.args.distance (let low = c.requires.distance in omega arith) in
-    pick_true _ _ _ (sym c.if-is.ensures) (serves_then _ (rw distance at c.in_ok-jump.ensures.serves) (done_serves c.in_ok-jump.ensures.ready))
+    pick_true _ _ _ (sym c.if-is.ensures) (serves_then _ (rw distance at c.in_ok-jump.ensures.serves) (done_serves c.in_ok-jump.ensures.fit.ready))
 
 pub returns-then-is-2-clause-serves : goal.returns-then-is-2-clause-serves
 unfolding jump_where
-returns-then-is-2-clause-serves g c = pick_false _ _ _ (sym c.if-is.ensures) (pick_true _ _ _ (sym c.if-is-2.ensures) (done_serves c.requires.ready))
+returns-then-is-2-clause-serves g c = pick_false _ _ _ (sym c.if-is.ensures) (pick_true _ _ _ (sym c.if-is-2.ensures) (done_serves c.requires.fit.ready))
 
 pub returns-clause-serves : goal.returns-clause-serves
 unfolding jump_where

@@ -33,4 +33,4 @@ returns-clause-serves g c =
     let value = c.in_ok-field.ensures.looks.regs 10 refl in
     let context = c.in_ok-field.ensures.looks.regs 11 refl in
     pick_false _ _ _ (sym c.if-is.ensures) (serves_then _ (c.in_ok-field.ensures.serves _)
-    (pick_false _ _ _ (sym c.if-is-2.ensures) (serves_then _ (rw (value, context) at c.in_ok-back_with.ensures.serves) (done_serves c.in_ok-back_with.ensures.ready))))
+    (pick_false _ _ _ (sym c.if-is-2.ensures) (serves_then _ (rw (value, context) at c.in_ok-back_with.ensures.serves) (done_serves c.in_ok-back_with.ensures.fit.ready))))

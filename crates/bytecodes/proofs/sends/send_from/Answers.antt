@@ -8,17 +8,17 @@ use Rattle.bytecodes.proofs.sends.send_from.Goals as goal
 pub returns-in_err-find_or_tell-clause-serves : goal.returns-in_err-find_or_tell-clause-serves
 unfolding send_from
 returns-in_err-find_or_tell-clause-serves g c =
-    let ready = c.copy.ensures.ready c.requires.ready in
+    let ready = c.copy.ensures.fit.ready c.requires.fit.ready in
     let class = (Looks-put _ _ 4 _ c.copy.ensures.told).regs 11 refl in
-    serves_then _ (put_serves 4 10 refl c.requires.ready ready c.copy.ensures.told)
+    serves_then _ (put_serves 4 10 refl c.requires.fit.ready ready c.copy.ensures.told)
     (serves_then _ (c.set_arguments.ensures.serves _ ready)
     (serves_exit _ _ (rw class at c.in_err-find_or_tell.ensures.serves) c.from_residual.ensures.1))
 
 pub returns-clause-serves : goal.returns-clause-serves
 unfolding send_from
 returns-clause-serves g c =
-    let ready = c.copy.ensures.ready c.requires.ready in
+    let ready = c.copy.ensures.fit.ready c.requires.fit.ready in
     let class = (Looks-put _ _ 4 _ c.copy.ensures.told).regs 11 refl in
-    serves_then _ (put_serves 4 10 refl c.requires.ready ready c.copy.ensures.told)
+    serves_then _ (put_serves 4 10 refl c.requires.fit.ready ready c.copy.ensures.told)
     (serves_then _ (c.set_arguments.ensures.serves _ ready)
     (serves_then _ (rw class at c.in_ok-find_or_tell.ensures.serves) c.execute.ensures.serves))

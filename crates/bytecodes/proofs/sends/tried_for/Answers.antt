@@ -9,17 +9,17 @@ use Rattle.bytecodes.proofs.sends.tried_for.Goals as goal
 
 pub returns-in_err-answer-clause-serves : goal.returns-in_err-answer-clause-serves
 unfolding tried_for tried
-returns-in_err-answer-clause-serves g c = serves_then _ (c.set_arguments.ensures.serves _ c.requires.ready) (speaks_exit _ _ c.in_err-answer.ensures.serves (goes_false _ _ _ refl goes_done) c.from_residual.ensures.1)
+returns-in_err-answer-clause-serves g c = serves_then _ (c.set_arguments.ensures.serves _ c.requires.fit.ready) (speaks_exit _ _ c.in_err-answer.ensures.serves (goes_false _ _ _ refl goes_done) c.from_residual.ensures.1)
 
 pub returns-then-has_failed-clause-serves : goal.returns-then-has_failed-clause-serves
 unfolding tried_for tried
 returns-then-has_failed-clause-serves g c =
     let failed = sym c.has_failed.ensures ∙ c.if-has_failed.true in
-    serves_then _ (c.set_arguments.ensures.serves _ c.requires.ready) (speaks_failed _ c.in_ok-answer.ensures.serves (not_failed _ failed)
+    serves_then _ (c.set_arguments.ensures.serves _ c.requires.fit.ready) (speaks_failed _ c.in_ok-answer.ensures.serves (not_failed _ failed)
     (pick_true _ _ _ failed c.special_send.ensures.serves))
 
 pub returns-clause-serves : goal.returns-clause-serves
 unfolding tried_for tried
 returns-clause-serves g c =
-    serves_then _ (c.set_arguments.ensures.serves _ c.requires.ready) (speaks_then _ c.in_ok-answer.ensures.serves
-    (pick_false _ _ _ (sym c.has_failed.ensures ∙ c.if-has_failed.false) (done_same c.step_of.ensures c.in_ok-answer.ensures.ready)) (λ e. c.step_of.ensures ∙ ap step_of e))
+    serves_then _ (c.set_arguments.ensures.serves _ c.requires.fit.ready) (speaks_then _ c.in_ok-answer.ensures.serves
+    (pick_false _ _ _ (sym c.has_failed.ensures ∙ c.if-has_failed.false) (done_same c.step_of.ensures c.in_ok-answer.ensures.fit.ready)) (λ e. c.step_of.ensures ∙ ap step_of e))

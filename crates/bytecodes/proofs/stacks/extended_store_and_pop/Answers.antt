@@ -13,11 +13,11 @@ returns-in_err-extended_store_of-clause-serves g c = serves_then _ c.in_ok-byte.
 pub returns-in_err-pop-clause-serves : goal.returns-in_err-pop-clause-serves
 unfolding extended_store_and_pop
 returns-in_err-pop-clause-serves g c =
-    let ready = c.in_ok-extended_store_of.ensures.ready in
+    let ready = c.in_ok-extended_store_of.ensures.fit.ready in
     serves_then _ c.in_ok-byte.ensures.serves (serves_then _ c.in_ok-extended_store_of.ensures.serves (exits _ c.from_residual-in_err-pop.ensures.1 (c.in_err-pop.ensures.serves _ ready)))
 
 pub returns-clause-serves : goal.returns-clause-serves
 unfolding extended_store_and_pop
 returns-clause-serves g c =
-    let ready = c.in_ok-extended_store_of.ensures.ready in
+    let ready = c.in_ok-extended_store_of.ensures.fit.ready in
     serves_then _ c.in_ok-byte.ensures.serves (serves_then _ c.in_ok-extended_store_of.ensures.serves (c.in_ok-pop.ensures.serves _ ready))

@@ -12,7 +12,7 @@ unfolding push_number
 returns-in_err-push-clause-serves g c =
     let value = put_value _ _ 10 _ c.int.ensures.told in
     let number = before_kept c.from.result c.args.i c.ranges.i.fits c.from.ensures in
-    read_first c.requires.ready (int_quiet _ _ 10 _ (omega arith) c.requires.ready (c.int.ensures.ready c.requires.ready) c.int.ensures.told)
+    read_first c.requires.fit.ready (int_quiet _ _ 10 _ (omega arith) c.requires.fit.ready (c.int.ensures.fit.ready c.requires.fit.ready) c.int.ensures.told)
     (exits _ c.from_residual.ensures.1 (rw (value, number) at c.in_err-push.ensures.serves))
 
 pub returns-clause-serves : goal.returns-clause-serves
@@ -20,5 +20,5 @@ unfolding push_number
 returns-clause-serves g c =
     let value = put_value _ _ 10 _ c.int.ensures.told in
     let number = before_kept c.from.result c.args.i c.ranges.i.fits c.from.ensures in
-    read_first c.requires.ready (int_quiet _ _ 10 _ (omega arith) c.requires.ready (c.int.ensures.ready c.requires.ready) c.int.ensures.told)
+    read_first c.requires.fit.ready (int_quiet _ _ 10 _ (omega arith) c.requires.fit.ready (c.int.ensures.fit.ready c.requires.fit.ready) c.int.ensures.told)
     (rw (value, number) at c.in_ok-push.ensures.serves)

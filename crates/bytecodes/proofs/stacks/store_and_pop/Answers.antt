@@ -8,8 +8,8 @@ returns-in_err-store_top-clause-serves g c = serves_exit _ _ c.in_err-store_top.
 
 pub returns-in_err-pop-clause-serves : goal.returns-in_err-pop-clause-serves
 unfolding store_and_pop
-returns-in_err-pop-clause-serves g c = serves_then _ c.in_ok-store_top.ensures.serves (exits _ c.from_residual-in_err-pop.ensures.1 (c.in_err-pop.ensures.serves _ c.in_ok-store_top.ensures.ready))
+returns-in_err-pop-clause-serves g c = serves_then _ c.in_ok-store_top.ensures.serves (exits _ c.from_residual-in_err-pop.ensures.1 (c.in_err-pop.ensures.serves _ c.in_ok-store_top.ensures.fit.ready))
 
 pub returns-clause-serves : goal.returns-clause-serves
 unfolding store_and_pop
-returns-clause-serves g c = serves_then _ c.in_ok-store_top.ensures.serves (c.in_ok-pop.ensures.serves _ c.in_ok-store_top.ensures.ready)
+returns-clause-serves g c = serves_then _ c.in_ok-store_top.ensures.serves (c.in_ok-pop.ensures.serves _ c.in_ok-store_top.ensures.fit.ready)

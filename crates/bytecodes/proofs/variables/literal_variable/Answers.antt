@@ -16,4 +16,4 @@ unfolding literal_variable
 returns-clause-serves g c = λ cpu. serves_then _ (c.in_ok-literal_constant.ensures.serves cpu) (c.in_ok-field.ensures.serves cpu)
 
 pub returns-clause-looks : goal.returns-clause-looks
-returns-clause-looks g c = looks_again _ _ _ _ c.in_ok-literal_constant.ensures.ready c.in_ok-literal_constant.ensures.looks c.in_ok-field.ensures.looks
+returns-clause-looks g c = looks_again _ _ _ _ c.in_ok-literal_constant.ensures.fit.ready c.in_ok-literal_constant.ensures.looks c.in_ok-field.ensures.looks

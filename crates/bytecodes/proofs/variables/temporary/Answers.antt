@@ -27,4 +27,4 @@ returns-clause-serves g c = λ cpu.
     register_then _ _ refl (serves_then _ (c.in_ok-len.ensures.serves cpu) (given_then _ _ _ _ (λ told. sym c.in-Some.ensures.place) (rw same at c.in_ok-field.ensures.serves cpu)))
 
 pub returns-clause-looks : goal.returns-clause-looks
-returns-clause-looks g c = Looks-trans [] (c.args.to ∷ []) _ _ _ c.in_ok-len.ensures.ready c.in_ok-len.ensures.looks c.in_ok-field.ensures.looks
+returns-clause-looks g c = Looks-trans [] (c.args.to ∷ []) _ _ _ c.in_ok-len.ensures.fit.ready c.in_ok-len.ensures.looks c.in_ok-field.ensures.looks

@@ -26,12 +26,12 @@ byte_at_index i b = option_and_then (λ (bytes : List ℕ). slice_get bytes i) (
 
 pub returns-in_err-literals-clause-serves : goal.returns-in_err-literals-clause-serves
 unfolding byte_of
-returns-in_err-literals-clause-serves g c = λ cpu ip place. exits _ c.from_residual.ensures.1 (serves_stop (λ code. given Pointer (byte_at ip code)) (read_refused Shape code_of c.args.method c.requires.ready c.in_err-literals.ensures.read))
+returns-in_err-literals-clause-serves g c = λ cpu ip place. exits _ c.from_residual.ensures.1 (serves_stop (λ code. given Pointer (byte_at ip code)) (read_refused Shape code_of c.args.method c.requires.fit.ready c.in_err-literals.ensures.read))
 
 pub returns-in_default-clause-serves : goal.returns-in_default-clause-serves
 returns-in_default-clause-serves g c = λ cpu ip place.
     let found = c.in_ok-literals.ensures in
-    stuck_last (byte_none c.args.method ip c.requires.ready found.literals.before c.in_default.is) (quiet [] _ _ refl c.requires.ready found.ready (Looks-read _ _ c.args.method found.read))
+    stuck_last (byte_none c.args.method ip c.requires.fit.ready found.literals.before c.in_default.is) (quiet [] _ _ refl c.requires.fit.ready found.fit.ready (Looks-read _ _ c.args.method found.read))
 
 pub returns-in_err-len-clause-serves : goal.returns-in_err-len-clause-serves
 unfolding byte_of
@@ -40,8 +40,8 @@ returns-in_err-len-clause-serves g c = λ cpu ip place.
     let w = g.M.ObjectMemory.told c.bytes.new.m in
     let found = c.in_ok-literals.ensures in
     let first = Looks-read _ u c.args.method found.read in
-    let refused : Serves u cpu w cpu (part Shape code_of (u.regs c.args.method)) (Err (Mem c.in_err-len.field-0.0)) = read_refused Shape code_of c.args.method found.ready c.in_err-len.ensures.read in
-    exits _ c.from_residual-in_err-len.ensures.1 (read_first c.requires.ready (quiet [] _ u refl c.requires.ready found.ready first)
+    let refused : Serves u cpu w cpu (part Shape code_of (u.regs c.args.method)) (Err (Mem c.in_err-len.field-0.0)) = read_refused Shape code_of c.args.method found.fit.ready c.in_err-len.ensures.read in
+    exits _ c.from_residual-in_err-len.ensures.1 (read_first c.requires.fit.ready (quiet [] _ u refl c.requires.fit.ready found.fit.ready first)
     (serves_stop (λ code. given Pointer (byte_at ip code)) (rw (first.regs c.args.method refl) at refused)))
 
 pub returns-in_default-index_of-clause-serves : goal.returns-in_default-index_of-clause-serves
@@ -50,9 +50,9 @@ returns-in_default-index_of-clause-serves g c = λ cpu ip place.
     let found = c.in_ok-literals.ensures in
     let bytes = c.in_ok-len.ensures in
     let first = Looks-read _ u c.args.method found.read in
-    let past : Serves u cpu u cpu (byte_of ip (u.regs c.args.method)) (Err (Stuck Pointer)) = byte_past c.args.method ip c.args.place c.in-Some.literals c.in-Some-2.len found.ready found.literals.after c.in-Some.is bytes.bytes.before c.in-Some-2.is place c.in_default-index_of.ensures.index in
-    stuck_last (read_first c.requires.ready (quiet [] _ u refl c.requires.ready found.ready first) (rw (first.regs c.args.method refl) at past))
-    (quiet [] u _ refl found.ready bytes.ready (Looks-read u _ c.args.method bytes.read))
+    let past : Serves u cpu u cpu (byte_of ip (u.regs c.args.method)) (Err (Stuck Pointer)) = byte_past c.args.method ip c.args.place c.in-Some.literals c.in-Some-2.len found.fit.ready found.literals.after c.in-Some.is bytes.bytes.before c.in-Some-2.is place c.in_default-index_of.ensures.index in
+    stuck_last (read_first c.requires.fit.ready (quiet [] _ u refl c.requires.fit.ready found.fit.ready first) (rw (first.regs c.args.method refl) at past))
+    (quiet [] u _ refl found.fit.ready bytes.fit.ready (Looks-read u _ c.args.method bytes.read))
 
 pub byte-requires-clause-may : goal.byte-requires-clause-may
 byte-requires-clause-may g c = may_byte _ c.args.method c.in-Some-index_of.i (has_sized _ c.args.method bytes_of (λ n. c.in-Some-index_of.i < n) _ _ c.in_ok-len.ensures.bytes.after c.in-Some-2.is c.in-Some-index_of.ensures.within)
@@ -62,9 +62,9 @@ unfolding byte_of
 returns-in_err-byte-clause-serves g c = λ cpu ip place.
     let found = c.in_ok-literals.ensures in
     let bytes = c.in_ok-len.ensures in
-    let all = Looks-trans [] [] _ _ _ found.ready (Looks-read _ _ c.args.method found.read) (Looks-read _ _ c.args.method bytes.read) in
+    let all = Looks-trans [] [] _ _ _ found.fit.ready (Looks-read _ _ c.args.method found.read) (Looks-read _ _ c.args.method bytes.read) in
     exits _ c.from_residual-in_err-byte.ensures.1 (serves_stop (λ code. given Pointer (byte_at ip code))
-    (later_refused [] Shape code_of c.args.method (Byte c.args.method c.in-Some-index_of.i) refl refl refl c.requires.ready bytes.ready all (bytes.bytes.after.name (some c.in_ok-len.field-0 c.in-Some-2.len c.in-Some-2.is)) c.in_err-byte.ensures.access.called))
+    (later_refused [] Shape code_of c.args.method (Byte c.args.method c.in-Some-index_of.i) refl refl refl c.requires.fit.ready bytes.fit.ready all (bytes.bytes.after.name (some c.in_ok-len.field-0 c.in-Some-2.len c.in-Some-2.is)) c.in_err-byte.ensures.access.called))
   where
     some : (x : Option ℕ) (n : ℕ) → x ≡ Some n → IsSome x
     some None n e = cc
@@ -81,13 +81,13 @@ returns-clause-serves g c = λ cpu ip place.
     let first = Looks-read t u c.args.method found.read in
     let second = Looks-read u w c.args.method bytes.read in
     let third = Looks-access w _ (Byte c.args.method c.in-Some-index_of.i) refl got.access.called in
-    let answer : IsTrue u.tells → part_at u.heap (u.regs c.args.method) (byte_at_index c.in-Some-index_of.i) ≡ Some c.in_ok-byte.byte = λ told. sym (part_looked [] u w c.args.method (byte_at_index c.in-Some-index_of.i) bytes.ready second refl told) ∙ number_answer _ _ (got.access.answer (second.later.tells ∙ told)) in
-    let serves : Serves u cpu u cpu (byte_of ip (u.regs c.args.method)) (Ok c.in_ok-byte.byte) = byte_serves c.args.method ip c.args.place c.in-Some.literals c.in-Some-2.len c.in-Some-index_of.i c.in_ok-byte.byte found.ready found.literals.after c.in-Some.is place c.in-Some-index_of.ensures.index answer in
-    read_last (read_first c.requires.ready (quiet [] t u refl c.requires.ready found.ready first) (rw (first.regs c.args.method refl) at serves))
-    (quiet [] _ _ refl found.ready got.ready (Looks-trans [] [] u w _ bytes.ready second third))
+    let answer : IsTrue u.tells → part_at u.heap (u.regs c.args.method) (byte_at_index c.in-Some-index_of.i) ≡ Some c.in_ok-byte.byte = λ told. sym (part_looked [] u w c.args.method (byte_at_index c.in-Some-index_of.i) bytes.fit.ready second refl told) ∙ number_answer _ _ (got.access.answer (second.later.tells ∙ told)) in
+    let serves : Serves u cpu u cpu (byte_of ip (u.regs c.args.method)) (Ok c.in_ok-byte.byte) = byte_serves c.args.method ip c.args.place c.in-Some.literals c.in-Some-2.len c.in-Some-index_of.i c.in_ok-byte.byte found.fit.ready found.literals.after c.in-Some.is place c.in-Some-index_of.ensures.index answer in
+    read_last (read_first c.requires.fit.ready (quiet [] t u refl c.requires.fit.ready found.fit.ready first) (rw (first.regs c.args.method refl) at serves))
+    (quiet [] _ _ refl found.fit.ready got.fit.ready (Looks-trans [] [] u w _ bytes.fit.ready second third))
 
 pub returns-clause-looks : goal.returns-clause-looks
 returns-clause-looks g c =
     let found = c.in_ok-literals.ensures in
     let bytes = c.in_ok-len.ensures in
-    Looks-trans [] [] _ _ _ bytes.ready (Looks-trans [] [] _ _ _ found.ready (Looks-read _ _ c.args.method found.read) (Looks-read _ _ c.args.method bytes.read)) (Looks-access _ _ (Byte c.args.method c.in-Some-index_of.i) refl c.in_ok-byte.ensures.access.called)
+    Looks-trans [] [] _ _ _ bytes.fit.ready (Looks-trans [] [] _ _ _ found.fit.ready (Looks-read _ _ c.args.method found.read) (Looks-read _ _ c.args.method bytes.read)) (Looks-access _ _ (Byte c.args.method c.in-Some-index_of.i) refl c.in_ok-byte.ensures.access.called)

@@ -11,5 +11,5 @@ returns-in_err-byte-clause-serves g c = numbers_then _ (register_then _ _ refl (
 pub returns-clause-serves : goal.returns-clause-serves
 unfolding fetch
 returns-clause-serves g c =
-    let ready = c.in_ok-byte.ensures.ready in
+    let ready = c.in_ok-byte.ensures.fit.ready in
     numbers_then _ (register_then _ _ refl (serves_then _ (c.in_ok-byte.ensures.serves _ _ c.place_here-place.ensures) (serves_then _ (set_numbers_at _ c.advance.ensures ready) (done_serves ready))))

@@ -16,4 +16,4 @@ unfolding active_process
 returns-clause-serves g c = λ cpu. search (serving, c.in_ok-scheduler.ensures.serves cpu, c.in_ok-field.ensures.serves cpu)
 
 pub returns-clause-looks : goal.returns-clause-looks
-returns-clause-looks g c = looks_again _ _ _ _ c.in_ok-scheduler.ensures.ready c.in_ok-scheduler.ensures.looks c.in_ok-field.ensures.looks
+returns-clause-looks g c = looks_again _ _ _ _ c.in_ok-scheduler.ensures.fit.ready c.in_ok-scheduler.ensures.looks c.in_ok-field.ensures.looks

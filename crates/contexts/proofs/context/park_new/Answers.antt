@@ -16,4 +16,4 @@ returns-in_ok-store_field-clause-serves g c =
 
 pub returns-else-cpu-clause-serves : goal.returns-else-cpu-clause-serves
 unfolding park_new
-returns-else-cpu-clause-serves g c = numbers_then _ (pick_false _ _ _ c.if-cpu.false (done_serves c.requires.ready))
+returns-else-cpu-clause-serves g c = numbers_then _ (pick_false _ _ _ c.if-cpu.false (done_serves c.requires.fit.ready))

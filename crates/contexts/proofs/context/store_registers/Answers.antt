@@ -23,7 +23,7 @@ returns-in_err-store_field-clause-serves g c =
     let active = ap (λ (t : Told). t.regs 0) c.int.ensures.told in
     let ip = put_value _ _ 20 _ c.int.ensures.told in
     numbers_then _ (register_then _ _ refl (given_then _ _ _ _ (λ told. sym c.in-Some.ensures.value) (given_then _ _ _ _ (λ told. sym c.in-Some-stated_depth.ensures.value)
-    (read_first c.requires.ready (int_quiet _ _ 20 _ (omega arith) c.requires.ready (c.int.ensures.ready c.requires.ready) c.int.ensures.told)
+    (read_first c.requires.fit.ready (int_quiet _ _ 20 _ (omega arith) c.requires.fit.ready (c.int.ensures.fit.ready c.requires.fit.ready) c.int.ensures.told)
     (serves_exit _ _ (rw (active, ip, small_number _ c.in-Some.ensures.range) at c.in_err-store_field.ensures.serves _) c.from_residual.ensures.1)))))
 
 pub returns-in_err-store_field-2-clause-serves : goal.returns-in_err-store_field-2-clause-serves
@@ -33,11 +33,11 @@ returns-in_err-store_field-2-clause-serves g c =
     let ip = put_value _ _ 20 _ c.int.ensures.told in
     let still = ap (λ (t : Told). t.regs 0) c.int-2.ensures.told ∙ ap (λ f. f 0) c.in_ok-store_field.ensures.regs ∙ active in
     let depth = put_value _ _ 20 _ c.int-2.ensures.told in
-    let ready = c.in_ok-store_field.ensures.ready in
+    let ready = c.in_ok-store_field.ensures.fit.ready in
     numbers_then _ (register_then _ _ refl (given_then _ _ _ _ (λ told. sym c.in-Some.ensures.value) (given_then _ _ _ _ (λ told. sym c.in-Some-stated_depth.ensures.value)
-    (read_first c.requires.ready (int_quiet _ _ 20 _ (omega arith) c.requires.ready (c.int.ensures.ready c.requires.ready) c.int.ensures.told)
+    (read_first c.requires.fit.ready (int_quiet _ _ 20 _ (omega arith) c.requires.fit.ready (c.int.ensures.fit.ready c.requires.fit.ready) c.int.ensures.told)
     (serves_then _ (rw (active, ip, small_number _ c.in-Some.ensures.range) at c.in_ok-store_field.ensures.serves _)
-    (read_first ready (int_quiet _ _ 20 _ (omega arith) ready (c.int-2.ensures.ready ready) c.int-2.ensures.told)
+    (read_first ready (int_quiet _ _ 20 _ (omega arith) ready (c.int-2.ensures.fit.ready ready) c.int-2.ensures.told)
     (exits _ c.from_residual-in_err-store_field-2.ensures.1 (rw (still, depth, small_number _ c.in-Some-stated_depth.ensures.range) at c.in_err-store_field-2.ensures.serves _))))))))
 
 pub returns-clause-serves : goal.returns-clause-serves
@@ -47,9 +47,9 @@ returns-clause-serves g c =
     let ip = put_value _ _ 20 _ c.int.ensures.told in
     let still = ap (λ (t : Told). t.regs 0) c.int-2.ensures.told ∙ ap (λ f. f 0) c.in_ok-store_field.ensures.regs ∙ active in
     let depth = put_value _ _ 20 _ c.int-2.ensures.told in
-    let ready = c.in_ok-store_field.ensures.ready in
+    let ready = c.in_ok-store_field.ensures.fit.ready in
     numbers_then _ (register_then _ _ refl (given_then _ _ _ _ (λ told. sym c.in-Some.ensures.value) (given_then _ _ _ _ (λ told. sym c.in-Some-stated_depth.ensures.value)
-    (read_first c.requires.ready (int_quiet _ _ 20 _ (omega arith) c.requires.ready (c.int.ensures.ready c.requires.ready) c.int.ensures.told)
+    (read_first c.requires.fit.ready (int_quiet _ _ 20 _ (omega arith) c.requires.fit.ready (c.int.ensures.fit.ready c.requires.fit.ready) c.int.ensures.told)
     (serves_then _ (rw (active, ip, small_number _ c.in-Some.ensures.range) at c.in_ok-store_field.ensures.serves _)
-    (read_first ready (int_quiet _ _ 20 _ (omega arith) ready (c.int-2.ensures.ready ready) c.int-2.ensures.told)
+    (read_first ready (int_quiet _ _ 20 _ (omega arith) ready (c.int-2.ensures.fit.ready ready) c.int-2.ensures.told)
     (rw (still, depth, small_number _ c.in-Some-stated_depth.ensures.range) at c.in_ok-store_field-2.ensures.serves _)))))))

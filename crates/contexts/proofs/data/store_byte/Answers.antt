@@ -15,22 +15,22 @@ pub returns-in_err-has_bytes-clause-serves : goal.returns-in_err-has_bytes-claus
 unfolding store_byte
 returns-in_err-has_bytes-clause-serves g c = λ cpu.
     let read = c.in_err-has_bytes.ensures.read in
-    exits _ c.from_residual.ensures.1 (change_refused (byte_of c.args.i) (with_byte c.args.i c.args.byte) c.args.of (KindOf c.args.of) refl c.requires.ready read.named read.called)
+    exits _ c.from_residual.ensures.1 (change_refused (byte_of c.args.i) (with_byte c.args.i c.args.byte) c.args.of (KindOf c.args.of) refl c.requires.fit.ready read.named read.called)
 
 pub returns-then-not-branch-clause-serves : goal.returns-then-not-branch-clause-serves
 unfolding store_byte
 returns-then-not-branch-clause-serves g c = λ cpu.
     let test = c.in_ok-has_bytes.ensures in
-    stuck_last (change_stuck (byte_of c.args.i) (with_byte c.args.i c.args.byte) c.args.of c.requires.ready (element_none bytes_of c.args.i (λ xs low. omega arith) test.bytes.before c.if-not-branch.true))
-    (quiet [] _ _ refl c.requires.ready test.ready (Looks-read _ _ c.args.of test.read))
+    stuck_last (change_stuck (byte_of c.args.i) (with_byte c.args.i c.args.byte) c.args.of c.requires.fit.ready (element_none bytes_of c.args.i (λ xs low. omega arith) test.bytes.before c.if-not-branch.true))
+    (quiet [] _ _ refl c.requires.fit.ready test.fit.ready (Looks-read _ _ c.args.of test.read))
 
 pub returns-in_err-set_byte-clause-serves : goal.returns-in_err-set_byte-clause-serves
 unfolding store_byte
 returns-in_err-set_byte-clause-serves g c = λ cpu.
     let test = c.in_ok-has_bytes.ensures in
     exits _ c.from_residual-in_err-set_byte.ensures.1
-    (change_later (byte_of c.args.i) (with_byte c.args.i c.args.byte) c.args.of c.requires.ready test.ready (Looks-read _ _ c.args.of test.read)
-    (change_refused (byte_of c.args.i) (with_byte c.args.i c.args.byte) c.args.of (SetByte c.args.of c.args.i c.args.byte) refl test.ready (test.bytes.after.name c.if-not-branch.false) c.in_err-set_byte.ensures.access.called))
+    (change_later (byte_of c.args.i) (with_byte c.args.i c.args.byte) c.args.of c.requires.fit.ready test.fit.ready (Looks-read _ _ c.args.of test.read)
+    (change_refused (byte_of c.args.i) (with_byte c.args.i c.args.byte) c.args.of (SetByte c.args.of c.args.i c.args.byte) refl test.fit.ready (test.bytes.after.name c.if-not-branch.false) c.in_err-set_byte.ensures.access.called))
 
 pub returns-clause-serves : goal.returns-clause-serves
 unfolding store_byte
@@ -38,5 +38,5 @@ returns-clause-serves g c = λ cpu.
     let test = c.in_ok-has_bytes.ensures in
     let stored = c.in_ok-set_byte.ensures in
     let there = element_there bytes_of c.args.i (has_passed test.bytes.after c.if-not-branch.false) in
-    change_later (byte_of c.args.i) (with_byte c.args.i c.args.byte) c.args.of c.requires.ready test.ready (Looks-read _ _ c.args.of test.read)
-    (byte_serves c.args.of c.args.i c.args.byte test.ready stored.ready there stored.access.called)
+    change_later (byte_of c.args.i) (with_byte c.args.i c.args.byte) c.args.of c.requires.fit.ready test.fit.ready (Looks-read _ _ c.args.of test.read)
+    (byte_serves c.args.of c.args.i c.args.byte test.fit.ready stored.fit.ready there stored.access.called)

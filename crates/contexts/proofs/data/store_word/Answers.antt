@@ -15,22 +15,22 @@ pub returns-in_err-has_words-clause-serves : goal.returns-in_err-has_words-claus
 unfolding store_word
 returns-in_err-has_words-clause-serves g c = λ cpu.
     let read = c.in_err-has_words.ensures.read in
-    exits _ c.from_residual.ensures.1 (change_refused (word_of c.args.i) (with_word c.args.i c.args.word) c.args.of (KindOf c.args.of) refl c.requires.ready read.named read.called)
+    exits _ c.from_residual.ensures.1 (change_refused (word_of c.args.i) (with_word c.args.i c.args.word) c.args.of (KindOf c.args.of) refl c.requires.fit.ready read.named read.called)
 
 pub returns-then-not-branch-clause-serves : goal.returns-then-not-branch-clause-serves
 unfolding store_word
 returns-then-not-branch-clause-serves g c = λ cpu.
     let test = c.in_ok-has_words.ensures in
-    stuck_last (change_stuck (word_of c.args.i) (with_word c.args.i c.args.word) c.args.of c.requires.ready (element_none words_of c.args.i (λ xs low. omega arith) test.words.before c.if-not-branch.true))
-    (quiet [] _ _ refl c.requires.ready test.ready (Looks-read _ _ c.args.of test.read))
+    stuck_last (change_stuck (word_of c.args.i) (with_word c.args.i c.args.word) c.args.of c.requires.fit.ready (element_none words_of c.args.i (λ xs low. omega arith) test.words.before c.if-not-branch.true))
+    (quiet [] _ _ refl c.requires.fit.ready test.fit.ready (Looks-read _ _ c.args.of test.read))
 
 pub returns-in_err-set_word-clause-serves : goal.returns-in_err-set_word-clause-serves
 unfolding store_word
 returns-in_err-set_word-clause-serves g c = λ cpu.
     let test = c.in_ok-has_words.ensures in
     exits _ c.from_residual-in_err-set_word.ensures.1
-    (change_later (word_of c.args.i) (with_word c.args.i c.args.word) c.args.of c.requires.ready test.ready (Looks-read _ _ c.args.of test.read)
-    (change_refused (word_of c.args.i) (with_word c.args.i c.args.word) c.args.of (SetWord c.args.of c.args.i c.args.word) refl test.ready (test.words.after.name c.if-not-branch.false) c.in_err-set_word.ensures.access.called))
+    (change_later (word_of c.args.i) (with_word c.args.i c.args.word) c.args.of c.requires.fit.ready test.fit.ready (Looks-read _ _ c.args.of test.read)
+    (change_refused (word_of c.args.i) (with_word c.args.i c.args.word) c.args.of (SetWord c.args.of c.args.i c.args.word) refl test.fit.ready (test.words.after.name c.if-not-branch.false) c.in_err-set_word.ensures.access.called))
 
 pub returns-clause-serves : goal.returns-clause-serves
 unfolding store_word
@@ -38,5 +38,5 @@ returns-clause-serves g c = λ cpu.
     let test = c.in_ok-has_words.ensures in
     let stored = c.in_ok-set_word.ensures in
     let there = element_there words_of c.args.i (has_passed test.words.after c.if-not-branch.false) in
-    change_later (word_of c.args.i) (with_word c.args.i c.args.word) c.args.of c.requires.ready test.ready (Looks-read _ _ c.args.of test.read)
-    (word_serves c.args.of c.args.i c.args.word test.ready stored.ready there stored.access.called)
+    change_later (word_of c.args.i) (with_word c.args.i c.args.word) c.args.of c.requires.fit.ready test.fit.ready (Looks-read _ _ c.args.of test.read)
+    (word_serves c.args.of c.args.i c.args.word test.fit.ready stored.fit.ready there stored.access.called)

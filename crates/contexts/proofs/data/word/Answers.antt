@@ -12,18 +12,18 @@ use Rattle.contexts.proofs.StoreLaws.{word_of}
 use Rattle.contexts.proofs.data.word.Goals as goal
 
 pub returns-in_err-has_words-clause-serves : goal.returns-in_err-has_words-clause-serves
-returns-in_err-has_words-clause-serves g c = λ cpu. exits _ c.from_residual.ensures.1 (read_refused Shape (word_at c.args.i) c.args.of c.requires.ready c.in_err-has_words.ensures.read)
+returns-in_err-has_words-clause-serves g c = λ cpu. exits _ c.from_residual.ensures.1 (read_refused Shape (word_at c.args.i) c.args.of c.requires.fit.ready c.in_err-has_words.ensures.read)
 
 pub returns-then-not-branch-clause-serves : goal.returns-then-not-branch-clause-serves
 unfolding word_at
 returns-then-not-branch-clause-serves g c = λ cpu.
     let test = c.in_ok-has_words.ensures in
-    read_stuck [] (word_at c.args.i) c.args.of refl c.requires.ready test.ready (Looks-read _ _ c.args.of test.read) (element_none words_of c.args.i (λ xs low. omega arith) test.words.before c.if-not-branch.true)
+    read_stuck [] (word_at c.args.i) c.args.of refl c.requires.fit.ready test.fit.ready (Looks-read _ _ c.args.of test.read) (element_none words_of c.args.i (λ xs low. omega arith) test.words.before c.if-not-branch.true)
 
 pub returns-in_err-word-clause-serves : goal.returns-in_err-word-clause-serves
 returns-in_err-word-clause-serves g c = λ cpu.
     let test = c.in_ok-has_words.ensures in
-    exits _ c.from_residual-in_err-word.ensures.1 (later_refused [] Shape (word_at c.args.i) c.args.of (Word c.args.of c.args.i) refl refl refl c.requires.ready test.ready (Looks-read _ _ c.args.of test.read) (test.words.after.name c.if-not-branch.false) c.in_err-word.ensures.access.called)
+    exits _ c.from_residual-in_err-word.ensures.1 (later_refused [] Shape (word_at c.args.i) c.args.of (Word c.args.of c.args.i) refl refl refl c.requires.fit.ready test.fit.ready (Looks-read _ _ c.args.of test.read) (test.words.after.name c.if-not-branch.false) c.in_err-word.ensures.access.called)
 
 pub returns-clause-serves : goal.returns-clause-serves
 unfolding word_at
@@ -37,10 +37,10 @@ returns-clause-serves g c = λ cpu.
     let got = c.in_ok-word.ensures in
     let first = Looks-read t u of test.read in
     let second = Looks-access u w (Word of i) refl got.access.called in
-    read_serves [] Shape (word_at i) of _ refl c.requires.ready got.ready (Looks-trans [] [] t u w test.ready first second)
-    (λ told. sym (part_looked [] t u of (word_of i) test.ready first refl told) ∙ number_answer _ _ (got.access.answer (first.later.tells ∙ told)))
+    read_serves [] Shape (word_at i) of _ refl c.requires.fit.ready got.fit.ready (Looks-trans [] [] t u w test.fit.ready first second)
+    (λ told. sym (part_looked [] t u of (word_of i) test.fit.ready first refl told) ∙ number_answer _ _ (got.access.answer (first.later.tells ∙ told)))
 
 pub returns-clause-looks : goal.returns-clause-looks
 returns-clause-looks g c =
     let test = c.in_ok-has_words.ensures in
-    Looks-trans [] [] _ _ _ test.ready (Looks-read _ _ c.args.of test.read) (Looks-access _ _ (Word c.args.of c.args.i) refl c.in_ok-word.ensures.access.called)
+    Looks-trans [] [] _ _ _ test.fit.ready (Looks-read _ _ c.args.of test.read) (Looks-access _ _ (Word c.args.of c.args.i) refl c.in_ok-word.ensures.access.called)

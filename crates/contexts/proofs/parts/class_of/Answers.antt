@@ -4,10 +4,10 @@ use Rattle.contexts.proofs.ClassLaws.{class_serves, class_refused}
 use Rattle.contexts.proofs.parts.class_of.Goals as goal
 
 pub class-requires-clause-may : goal.class-requires-clause-may
-class-requires-clause-may g c = may_class _ c.args.to c.args.of c.requires.ready
+class-requires-clause-may g c = may_class _ c.args.to c.args.of c.requires.fit.ready
 
 pub returns-in_err-class-clause-serves : goal.returns-in_err-class-clause-serves
-returns-in_err-class-clause-serves g c = λ cpu. exits_with _ _ c.from_residual.ensures.1 (class_refused c.args.to c.args.of c.requires.ready c.in_err-class.ensures.access.called)
+returns-in_err-class-clause-serves g c = λ cpu. exits_with _ _ c.from_residual.ensures.1 (class_refused c.args.to c.args.of c.requires.fit.ready c.in_err-class.ensures.access.called)
 
 pub returns-clause-serves : goal.returns-clause-serves
-returns-clause-serves g c = λ cpu. class_serves c.args.to c.args.of c.requires.scratch c.requires.ready c.in_ok-class.ensures.ready c.in_ok-class.ensures.access.called
+returns-clause-serves g c = λ cpu. class_serves c.args.to c.args.of c.requires.scratch c.requires.fit.ready c.in_ok-class.ensures.fit.ready c.in_ok-class.ensures.access.called

@@ -12,12 +12,12 @@ use Rattle.contexts.proofs.PartLaws.{heading_is, heading_none}
 use Rattle.contexts.proofs.parts.header.Goals as goal
 
 pub returns-in_err-literals-clause-serves : goal.returns-in_err-literals-clause-serves
-returns-in_err-literals-clause-serves g c = λ cpu. exits _ c.from_residual.ensures.1 (read_refused Shape heading c.args.of c.requires.ready c.in_err-literals.ensures.read)
+returns-in_err-literals-clause-serves g c = λ cpu. exits _ c.from_residual.ensures.1 (read_refused Shape heading c.args.of c.requires.fit.ready c.in_err-literals.ensures.read)
 
 pub returns-in_default-clause-serves : goal.returns-in_default-clause-serves
 returns-in_default-clause-serves g c = λ cpu.
     let found = c.in_ok-literals.ensures in
-    read_stuck [] heading c.args.of refl c.requires.ready found.ready (Looks-read _ _ c.args.of found.read) (heading_none found.literals.before c.in_default.is)
+    read_stuck [] heading c.args.of refl c.requires.fit.ready found.fit.ready (Looks-read _ _ c.args.of found.read) (heading_none found.literals.before c.in_default.is)
 
 pub header-requires-clause-may : goal.header-requires-clause-may
 header-requires-clause-may g c = may_header _ c.args.of _ (has_sized _ c.args.of literals_of (λ n. Unit {0}) _ _ c.in_ok-literals.ensures.literals.after c.in-Some.is tt)
@@ -25,7 +25,7 @@ header-requires-clause-may g c = may_header _ c.args.of _ (has_sized _ c.args.of
 pub returns-in_err-header-clause-serves : goal.returns-in_err-header-clause-serves
 returns-in_err-header-clause-serves g c = λ cpu.
     let found = c.in_ok-literals.ensures in
-    exits _ c.from_residual-in_err-header.ensures.1 (later_refused [] Shape heading c.args.of (Header c.args.of) refl refl refl c.requires.ready found.ready (Looks-read _ _ c.args.of found.read) (found.literals.after.name (ap is_some c.in-Some.is)) c.in_err-header.ensures.access.called)
+    exits _ c.from_residual-in_err-header.ensures.1 (later_refused [] Shape heading c.args.of (Header c.args.of) refl refl refl c.requires.fit.ready found.fit.ready (Looks-read _ _ c.args.of found.read) (found.literals.after.name (ap is_some c.in-Some.is)) c.in_err-header.ensures.access.called)
 
 pub returns-clause-serves : goal.returns-clause-serves
 returns-clause-serves g c = λ cpu.
@@ -37,10 +37,10 @@ returns-clause-serves g c = λ cpu.
     let got = c.in_ok-header.ensures in
     let first = Looks-read t u of found.read in
     let second = Looks-access u w (Header of) refl got.access.called in
-    read_serves [] Shape heading of _ refl c.requires.ready got.ready (Looks-trans [] [] t u w found.ready first second)
-    (λ told. heading_is t of told ∙ sym (part_looked [] t u of header_of found.ready first refl told) ∙ signed_answer _ _ (got.access.answer (first.later.tells ∙ told)) ∙ ap (λ z. Some z) (sym (small_number c.in_ok-header.header got.range)))
+    read_serves [] Shape heading of _ refl c.requires.fit.ready got.fit.ready (Looks-trans [] [] t u w found.fit.ready first second)
+    (λ told. heading_is t of told ∙ sym (part_looked [] t u of header_of found.fit.ready first refl told) ∙ signed_answer _ _ (got.access.answer (first.later.tells ∙ told)) ∙ ap (λ z. Some z) (sym (small_number c.in_ok-header.header got.range)))
 
 pub returns-clause-looks : goal.returns-clause-looks
 returns-clause-looks g c =
     let found = c.in_ok-literals.ensures in
-    Looks-trans [] [] _ _ _ found.ready (Looks-read _ _ c.args.of found.read) (Looks-access _ _ (Header c.args.of) refl c.in_ok-header.ensures.access.called)
+    Looks-trans [] [] _ _ _ found.fit.ready (Looks-read _ _ c.args.of found.read) (Looks-access _ _ (Header c.args.of) refl c.in_ok-header.ensures.access.called)

@@ -22,14 +22,14 @@ returns-in_err-new_method-clause-serves g c = λ cpu.
     let t = g.M.ObjectMemory.told c.args.m.now in
     let u = g.M.ObjectMemory.told c.new_method.new.self in
     let P : ℤ → Type 0 = λ z. Called {A = Unit {0}} t u (Does (Make c.args.to c.args.class (OfMethod z c.args.code))) (Err c.in_err-new_method.field-0.0) in
-    exits_with _ _ c.from_residual.ensures.1 (make_refused c.args.to c.args.class (OfMethod c.args.header c.args.code) c.requires.ready (subst P (small_number c.args.header c.requires.header) c.in_err-new_method.ensures.access.called))
+    exits_with _ _ c.from_residual.ensures.1 (make_refused c.args.to c.args.class (OfMethod c.args.header c.args.code) c.requires.fit.ready (subst P (small_number c.args.header c.requires.header) c.in_err-new_method.ensures.access.called))
 
 pub returns-clause-serves : goal.returns-clause-serves
 returns-clause-serves g c = λ cpu.
     let t = g.M.ObjectMemory.told c.args.m.now in
     let u = g.M.ObjectMemory.told c.new_method.new.self in
     let P : ℤ → Type 0 = λ z. Accessed t u (Make c.args.to c.args.class (OfMethod z c.args.code)) (λ _. Nothing) (Ok c.in_ok-new_method.field-0) in
-    make_serves c.args.to c.args.class (OfMethod c.args.header c.args.code) c.requires.scratch c.requires.ready c.in_ok-new_method.ensures.ready (subst P (small_number c.args.header c.requires.header) c.in_ok-new_method.ensures.access)
+    make_serves c.args.to c.args.class (OfMethod c.args.header c.args.code) c.requires.scratch c.requires.fit.ready c.in_ok-new_method.ensures.fit.ready (subst P (small_number c.args.header c.requires.header) c.in_ok-new_method.ensures.access)
 
 pub returns-clause-regs : goal.returns-clause-regs
 returns-clause-regs g c = λ r apart.

@@ -12,10 +12,10 @@ pub new_words-requires-clause-may : goal.new_words-requires-clause-may
 new_words-requires-clause-may g c = may_make _ c.args.to c.args.class (OfWords c.args.n) c.requires.class c.requires.few
 
 pub returns-in_err-new_words-clause-serves : goal.returns-in_err-new_words-clause-serves
-returns-in_err-new_words-clause-serves g c = λ cpu. exits_with _ _ c.from_residual.ensures.1 (make_refused c.args.to c.args.class (OfWords c.args.n) c.requires.ready c.in_err-new_words.ensures.access.called)
+returns-in_err-new_words-clause-serves g c = λ cpu. exits_with _ _ c.from_residual.ensures.1 (make_refused c.args.to c.args.class (OfWords c.args.n) c.requires.fit.ready c.in_err-new_words.ensures.access.called)
 
 pub returns-clause-serves : goal.returns-clause-serves
-returns-clause-serves g c = λ cpu. make_serves c.args.to c.args.class (OfWords c.args.n) c.requires.scratch c.requires.ready c.in_ok-new_words.ensures.ready c.in_ok-new_words.ensures.access
+returns-clause-serves g c = λ cpu. make_serves c.args.to c.args.class (OfWords c.args.n) c.requires.scratch c.requires.fit.ready c.in_ok-new_words.ensures.fit.ready c.in_ok-new_words.ensures.access
 
 pub returns-clause-regs : goal.returns-clause-regs
 returns-clause-regs g c = λ r apart.

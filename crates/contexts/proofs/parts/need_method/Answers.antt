@@ -20,18 +20,18 @@ present (Some n) e = (n, refl)
 
 pub returns-in_err-literals-clause-serves : goal.returns-in_err-literals-clause-serves
 unfolding need_method
-returns-in_err-literals-clause-serves g c = λ cpu. exits _ c.from_residual.ensures.1 (serves_stop (λ _. done (tt {0})) (read_refused Shape code_of c.args.of c.requires.ready c.in_err-literals.ensures.read))
+returns-in_err-literals-clause-serves g c = λ cpu. exits _ c.from_residual.ensures.1 (serves_stop (λ _. done (tt {0})) (read_refused Shape code_of c.args.of c.requires.fit.ready c.in_err-literals.ensures.read))
 
 pub returns-then-is_none-clause-serves : goal.returns-then-is_none-clause-serves
 unfolding need_method
 returns-then-is_none-clause-serves g c = λ cpu.
     let found = c.in_ok-literals.ensures in
     let none = absent c.in_ok-literals.field-0 (c.is_none.ensures ∙ ap not c.if-is_none.true) in
-    serves_stop (λ _. done (tt {0})) (read_stuck [] code_of c.args.of refl c.requires.ready found.ready (Looks-read _ _ c.args.of found.read) (code_none found.literals.before none))
+    serves_stop (λ _. done (tt {0})) (read_stuck [] code_of c.args.of refl c.requires.fit.ready found.fit.ready (Looks-read _ _ c.args.of found.read) (code_none found.literals.before none))
 
 pub returns-clause-serves : goal.returns-clause-serves
 unfolding need_method
 returns-clause-serves g c = λ cpu.
     let found = c.in_ok-literals.ensures in
     let some = present c.in_ok-literals.field-0 (c.is_none.ensures ∙ ap not c.if-is_none.false) in
-    read_last (part_first Shape code_of c.args.of (λ told. (let code = code_is some.0 found.literals.before some.1 told in (_, code.1))) (done_serves c.requires.ready)) (quiet [] _ _ refl c.requires.ready found.ready (Looks-read _ _ c.args.of found.read))
+    read_last (part_first Shape code_of c.args.of (λ told. (let code = code_is some.0 found.literals.before some.1 told in (_, code.1))) (done_serves c.requires.fit.ready)) (quiet [] _ _ refl c.requires.fit.ready found.fit.ready (Looks-read _ _ c.args.of found.read))

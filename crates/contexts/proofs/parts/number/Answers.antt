@@ -20,4 +20,4 @@ pub returns-clause-serves : goal.returns-clause-serves
 returns-clause-serves g c = λ cpu.
     let w = g.M.ObjectMemory.told c.field.new.m in
     number_by c.args.least c.args.i _ (serves_then (λ x. given Shape (int_of x)) (c.in_ok-field.ensures.serves cpu)
-    (given_serves Shape (int_of (w.regs c.args.to)) _ c.in_ok-field.ensures.ready (λ told. sym c.as_int.ensures.number ∙ c.in-Some.is ∙ ap (λ z. Some z) (sym (small_number c.in-Some.number c.in-Some.ensures.range)))))
+    (given_serves Shape (int_of (w.regs c.args.to)) _ c.in_ok-field.ensures.fit.ready (λ told. sym c.as_int.ensures.number ∙ c.in-Some.is ∙ ap (λ z. Some z) (sym (small_number c.in-Some.number c.in-Some.ensures.range)))))

@@ -14,21 +14,21 @@ use Rattle.contexts.proofs.parts.store_value.Goals.{After-set_field, else-not-br
 use Rattle.contexts.proofs.parts.store_value.Given.{Over}
 
 pub returns-in_err-has_field-clause-serves : goal.returns-in_err-has_field-clause-serves
-returns-in_err-has_field-clause-serves g c = λ cpu. exits _ c.from_residual.ensures.1 (store_unread c.args.of c.args.i c.args.from c.requires.ready c.in_err-has_field.ensures.read)
+returns-in_err-has_field-clause-serves g c = λ cpu. exits _ c.from_residual.ensures.1 (store_unread c.args.of c.args.i c.args.from c.requires.fit.ready c.in_err-has_field.ensures.read)
 
 pub returns-in_err-has_literal-clause-serves : goal.returns-in_err-has_literal-clause-serves
 returns-in_err-has_literal-clause-serves g c = λ cpu.
     let field = c.in_ok-has_field.ensures in
-    exits _ c.from_residual-in_err-has_literal.ensures.1 (store_later c.args.of c.args.i c.args.from c.requires.ready field.ready (Looks-read _ _ c.args.of field.read)
-    (store_unread c.args.of c.args.i c.args.from field.ready c.in_err-has_literal.ensures.read))
+    exits _ c.from_residual-in_err-has_literal.ensures.1 (store_later c.args.of c.args.i c.args.from c.requires.fit.ready field.fit.ready (Looks-read _ _ c.args.of field.read)
+    (store_unread c.args.of c.args.i c.args.from field.fit.ready c.in_err-has_literal.ensures.read))
 
 pub returns-then-not-branch-2-clause-serves : goal.returns-then-not-branch-2-clause-serves
 returns-then-not-branch-2-clause-serves g c = λ cpu.
     let field = c.in_ok-has_field.ensures in
     let literal = c.in_ok-has_literal.ensures in
-    store_later c.args.of c.args.i c.args.from c.requires.ready field.ready (Looks-read _ _ c.args.of field.read)
-    (stuck_last (store_stuck c.args.of c.args.i c.args.from field.ready (value_none c.args.i field.field.after c.if-not-branch.true literal.literal.before c.if-not-branch-2.true))
-    (quiet [] _ _ refl field.ready literal.ready (Looks-read _ _ c.args.of literal.read)))
+    store_later c.args.of c.args.i c.args.from c.requires.fit.ready field.fit.ready (Looks-read _ _ c.args.of field.read)
+    (stuck_last (store_stuck c.args.of c.args.i c.args.from field.fit.ready (value_none c.args.i field.field.after c.if-not-branch.true literal.literal.before c.if-not-branch-2.true))
+    (quiet [] _ _ refl field.fit.ready literal.fit.ready (Looks-read _ _ c.args.of literal.read)))
 
 -- one of the tests was passed
 storable : (g : Over) (c : After-set_field g) → IsStorable (g.M.ObjectMemory.told c.args.m.now) (g.M.ObjectMemory.told c.else-not-branch.m) c.args.of c.args.i c.args.from
@@ -40,13 +40,13 @@ storable g c =
       | else-not-branch-via-then-not-branch+in_ok-has_literal+else-not-branch-2 w ↦
           let literal = w.in_ok-has_literal.ensures in
           subst (λ m. IsStorable t (g.M.ObjectMemory.told m) c.args.of c.args.i c.args.from) (sym w.m-is) record {
-            ready = literal.ready;
-            looks = Looks-trans [] [] t _ _ field.ready first (Looks-read _ _ c.args.of literal.read);
+            ready = literal.fit.ready;
+            looks = Looks-trans [] [] t _ _ field.fit.ready first (Looks-read _ _ c.args.of literal.read);
             may = may_store_literal _ c.args.of c.args.i c.args.from (has_passed literal.literal.after w.if-not-branch-2.false);
           }
       | else-not-branch-via-else-not-branch w ↦
           subst (λ m. IsStorable t (g.M.ObjectMemory.told m) c.args.of c.args.i c.args.from) (sym w.m-is) record {
-            ready = field.ready;
+            ready = field.fit.ready;
             looks = first;
             may = may_store _ c.args.of c.args.i c.args.from (has_passed field.field.after w.if-not-branch.false);
           }
@@ -62,11 +62,11 @@ set_field-requires-clause-may g c =
 pub returns-in_err-set_field-clause-serves : goal.returns-in_err-set_field-clause-serves
 returns-in_err-set_field-clause-serves g c = λ cpu.
     let can = storable g (goal.at.returns-in_err-set_field-clause-serves g c).After-set_field in
-    exits _ c.from_residual-in_err-set_field.ensures.1 (store_later c.args.of c.args.i c.args.from c.requires.ready can.ready can.looks
+    exits _ c.from_residual-in_err-set_field.ensures.1 (store_later c.args.of c.args.i c.args.from c.requires.fit.ready can.ready can.looks
     (store_refused c.args.of c.args.i c.args.from can.ready can.may.names c.in_err-set_field.ensures.access.called))
 
 pub returns-clause-serves : goal.returns-clause-serves
 returns-clause-serves g c = λ cpu.
     let can = storable g (goal.at.returns-clause-serves g c).After-set_field in
-    store_later c.args.of c.args.i c.args.from c.requires.ready can.ready can.looks
-    (store_serves c.args.of c.args.i c.args.from can.ready c.in_ok-set_field.ensures.ready can.may c.in_ok-set_field.ensures.access.called)
+    store_later c.args.of c.args.i c.args.from c.requires.fit.ready can.ready can.looks
+    (store_serves c.args.of c.args.i c.args.from can.ready c.in_ok-set_field.ensures.fit.ready can.may c.in_ok-set_field.ensures.access.called)

@@ -10,12 +10,12 @@ use Rattle.devices.proofs.ClockLaws.{tick_none, tick_there, tick_read}
 use Rattle.devices.proofs.clock.tick_of.Goals as goal
 
 pub returns-in_err-found-clause-serves : goal.returns-in_err-found-clause-serves
-returns-in_err-found-clause-serves g c = λ cpu. exits _ c.from_residual.ensures.1 (first_refused tick_of c.args.of c.requires.ready c.in_err-found.ensures.read)
+returns-in_err-found-clause-serves g c = λ cpu. exits _ c.from_residual.ensures.1 (first_refused tick_of c.args.of c.requires.fit.ready c.in_err-found.ensures.read)
 
 pub returns-then-not-has_tick-clause-serves : goal.returns-then-not-has_tick-clause-serves
 returns-then-not-has_tick-clause-serves g c = λ cpu.
     let found = c.in_ok-found.ensures in
-    peek_serves [] tick_of c.args.of None refl c.requires.ready found.ready (Looks-read _ _ c.args.of found.read) (tick_none found.shape.before (sym c.has_tick.ensures ∙ c.if-not-has_tick.true))
+    peek_serves [] tick_of c.args.of None refl c.requires.fit.ready found.fit.ready (Looks-read _ _ c.args.of found.read) (tick_none found.shape.before (sym c.has_tick.ensures ∙ c.if-not-has_tick.true))
 
 pub read_bytes-requires-clause-may : goal.read_bytes-requires-clause-may
 read_bytes-requires-clause-may g c =
@@ -27,7 +27,7 @@ returns-in_err-read_bytes-clause-serves g c = λ cpu.
     let found = c.in_ok-found.ensures in
     let there = tick_there found.shape.after (sym c.has_tick.ensures ∙ c.if-not-has_tick.false) in
     exits _ c.from_residual-in_err-read_bytes.ensures.1
-    (then_refused [] tick_of c.args.of (ReadBytes c.args.of 0 4) refl refl refl c.requires.ready found.ready (Looks-read _ _ c.args.of found.read) there.name c.in_err-read_bytes.ensures.access.called)
+    (then_refused [] tick_of c.args.of (ReadBytes c.args.of 0 4) refl refl refl c.requires.fit.ready found.fit.ready (Looks-read _ _ c.args.of found.read) there.name c.in_err-read_bytes.ensures.access.called)
 
 pub returns-clause-serves : goal.returns-clause-serves
 returns-clause-serves g c = λ cpu.
@@ -40,13 +40,13 @@ returns-clause-serves g c = λ cpu.
     let is = sym c.has_tick.ensures ∙ c.if-not-has_tick.false in
     let first = Looks-read t u of found.read in
     let second = Looks-access u w (ReadBytes of 0 4) refl read.access.called in
-    peek_serves [] tick_of of (Some c.tick_from.result) refl c.requires.ready read.ready (Looks-trans [] [] t u w found.ready first second)
+    peek_serves [] tick_of of (Some c.tick_from.result) refl c.requires.fit.ready read.fit.ready (Looks-trans [] [] t u w found.fit.ready first second)
     (λ told.
     let now = first.later.tells ∙ told in
-    ap (option_and_then tick_of) (sym (object_looked [] t u of found.ready first refl told))
+    ap (option_and_then tick_of) (sym (object_looked [] t u of found.fit.ready first refl told))
     ∙ tick_read c.read_bytes.new.out c.tick_from.result found.shape.after is now (read.access.answer now) c.tick_from.ensures)
 
 pub returns-clause-looks : goal.returns-clause-looks
 returns-clause-looks g c =
     let found = c.in_ok-found.ensures in
-    Looks-trans [] [] _ _ _ found.ready (Looks-read _ _ c.args.of found.read) (Looks-access _ _ (ReadBytes c.args.of 0 4) refl c.in_ok-read_bytes.ensures.access.called)
+    Looks-trans [] [] _ _ _ found.fit.ready (Looks-read _ _ c.args.of found.read) (Looks-access _ _ (ReadBytes c.args.of 0 4) refl c.in_ok-read_bytes.ensures.access.called)

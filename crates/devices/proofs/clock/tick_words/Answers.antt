@@ -36,13 +36,13 @@ returns-in_err-pop-clause-serves g c =
     serves_then _ c.in_ok-stack.ensures.serves
     (found_then _ c.in-Some.is (c.in_ok-tick_of.ensures.serves _)
     (numbers_then _ (serves_then _ (rw same at c.in_ok-put_tick.ensures.serves c.args.cpu.now)
-    (serves_exit _ _ (c.in_err-pop.ensures.serves _ c.in_ok-put_tick.ensures.ready) c.from_residual-in_err-pop.ensures.1))))
+    (serves_exit _ _ (c.in_err-pop.ensures.serves _ c.in_ok-put_tick.ensures.fit.ready) c.from_residual-in_err-pop.ensures.1))))
 
 pub returns-clause-serves : goal.returns-clause-serves
 unfolding tick_words
 returns-clause-serves g c =
     let same = c.in_ok-tick_of.ensures.looks.regs 10 refl in
-    let ready = c.in_ok-put_tick.ensures.ready in
+    let ready = c.in_ok-put_tick.ensures.fit.ready in
     serves_then _ c.in_ok-stack.ensures.serves
     (found_then _ c.in-Some.is (c.in_ok-tick_of.ensures.serves _)
     (numbers_then _ (serves_then _ (rw same at c.in_ok-put_tick.ensures.serves c.args.cpu.now)

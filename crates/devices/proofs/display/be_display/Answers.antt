@@ -27,8 +27,8 @@ pub returns-clause-serves : goal.returns-clause-serves
 unfolding be_display show_form
 returns-clause-serves g c =
     let form = c.in_ok-form_of.ensures.looks.regs 11 refl in
-    let before = c.in_ok-form_of.ensures.ready in
-    let ready = c.copy.ensures.ready before in
+    let before = c.in_ok-form_of.ensures.fit.ready in
+    let ready = c.copy.ensures.fit.ready before in
     serves_then _ c.in_ok-stack.ensures.serves
     (found_then _ (ap (λ x. form_in x ((g.M.ObjectMemory.told c.form_of.new.m).regs 13)) c.in-Some.is) (c.in_ok-form_of.ensures.serves _)
     (serves_then _ (put_serves_at 9 11 _ refl form before ready c.copy.ensures.told)

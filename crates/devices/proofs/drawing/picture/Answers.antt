@@ -22,7 +22,7 @@ pub returns-in_err-append_row-clause-drawn : goal.returns-in_err-append_row-clau
 returns-in_err-append_row-clause-drawn g c =
     let here = c.rows.invariant in
     exits_drawn _ _ _ c.in_err-append_row.field-0.0 _ c.from_residual-in_err-append_row.ensures.1
-    (row_fails c.in-Some.width c.in-Some.height (rw c.in-Some.is at c.in_ok-width.ensures.serves) c.in_ok-width.ensures.ready _ _ c.in_err-append_row.field-0.0 here.ready here.looks c.in_err-append_row.ensures.reads)
+    (row_fails c.in-Some.width c.in-Some.height (rw c.in-Some.is at c.in_ok-width.ensures.serves) c.in_ok-width.ensures.fit.ready _ _ c.in_err-append_row.field-0.0 here.ready here.looks c.in_err-append_row.ensures.reads)
 
 pub rows-preserved : goal.rows-preserved
 rows-preserved g c =
@@ -38,10 +38,10 @@ rows-preserved g c =
           row.text (here.looks.later.tells ∙ told)
           ∙ rows_more width y (words_told u 13) c.in_ok-text.text c.rows.text (row_bytes width (words_told v 13) y) (here.text told) (ap (λ (words : List ℕ). row_bytes width words y) (words_stay u v here.ready here.looks told));
       looks = Looks-trans [] [] u v w here.ready here.looks row.reads;
-      ready = row.ready;
-      sound = row.sound;
-      lender = row.lender ∙ here.lender;
-      outside = row.outside ∙ here.outside;
+      ready = row.fit.ready;
+      sound = row.fit.sound;
+      lender = row.fit.lender ∙ here.lender;
+      outside = row.fit.outside ∙ here.outside;
     }
 
 pub returns-clause-drawn : goal.returns-clause-drawn
@@ -51,5 +51,5 @@ returns-clause-drawn g c =
     let end = c.rows.auto.y-end in
     let past = c.rows-test.false in
     let all : c.rows.y ≡ c.in-Some.height = omega arith in
-    drawn c.in-Some.width c.in-Some.height (rw c.in-Some.is at c.in_ok-width.ensures.serves) c.in_ok-width.ensures.ready _ c.rows.text here.ready here.looks (rw c.in-Some.is at c.in_ok-width.ensures.rows)
+    drawn c.in-Some.width c.in-Some.height (rw c.in-Some.is at c.in_ok-width.ensures.serves) c.in_ok-width.ensures.fit.ready _ c.rows.text here.ready here.looks (rw c.in-Some.is at c.in_ok-width.ensures.rows)
     (λ told. here.text told ∙ ap₂ (λ (front : List ℕ) (n : ℕ). front ++ concat (map (row_bytes c.in-Some.width (words_told u 13)) (range_with_len 0 n))) c.in_ok-text.ensures all)

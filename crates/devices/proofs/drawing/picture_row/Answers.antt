@@ -18,7 +18,7 @@ returns-then-height-y-clause-serves g c = row_missing c.args.y c.in-Some.width c
 pub draw_row-requires-clause-row : goal.draw_row-requires-clause-row
 draw_row-requires-clause-row g c =
     let u = g.M.ObjectMemory.told c.display_form.new.m in
-    row_there u u c.in-Some.width c.in-Some.height c.args.y c.in_ok-width.ensures.ready (Looks-refl u) (rw c.in-Some.is at c.in_ok-width.ensures.rows) (omega (arith, c.if-height-y.false))
+    row_there u u c.in-Some.width c.in-Some.height c.args.y c.in_ok-width.ensures.fit.ready (Looks-refl u) (rw c.in-Some.is at c.in_ok-width.ensures.rows) (omega (arith, c.if-height-y.false))
 
 pub returns-clause-serves : goal.returns-clause-serves
 returns-clause-serves g c = row_drawn c.draw_row.result c.draw_row.new.out c.args.y c.in-Some.width c.in-Some.height (rw c.in-Some.is at c.in_ok-width.ensures.serves) (c.draw_row.ensures.serves c.args.cpu.now) c.draw_row.ensures.bytes

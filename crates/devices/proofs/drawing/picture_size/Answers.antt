@@ -10,4 +10,4 @@ returns-in_err-extent-clause-serves g c = serves_exit _ _ c.in_err-extent.ensure
 
 pub returns-clause-serves : goal.returns-clause-serves
 unfolding display_extent
-returns-clause-serves g c = serves_then _ c.in_ok-extent.ensures.serves (done_same (extent_back c.in_ok-extent.extent ((g.M.ObjectMemory.told c.display_form.new.m).regs 13)) c.in_ok-extent.ensures.ready)
+returns-clause-serves g c = serves_then _ c.in_ok-extent.ensures.serves (done_same (extent_back c.in_ok-extent.extent ((g.M.ObjectMemory.told c.display_form.new.m).regs 13)) c.in_ok-extent.ensures.fit.ready)

@@ -20,13 +20,13 @@ read_words-requires-clause-may g c =
 
 pub returns-in_err-read_words-clause-serves : goal.returns-in_err-read_words-clause-serves
 returns-in_err-read_words-clause-serves g c = λ cpu.
-    exits_with _ _ c.from_residual.ensures.1 (part_refused Shape words_in 13 (ReadWords 13 _ _) refl c.requires.ready (λ told. c.requires.row.name) c.in_err-read_words.ensures.access.called)
+    exits_with _ _ c.from_residual.ensures.1 (part_refused Shape words_in 13 (ReadWords 13 _ _) refl c.requires.fit.ready (λ told. c.requires.row.name) c.in_err-read_words.ensures.access.called)
 
 pub returns-clause-serves : goal.returns-clause-serves
 returns-clause-serves g c = λ cpu.
     let t = g.M.ObjectMemory.told c.args.m.now in
     let u = g.M.ObjectMemory.told c.read_words.new.self in
-    read_serves [] Shape words_in 13 (words_told t 13) refl c.requires.ready c.in_ok-read_words.ensures.ready (Looks-access t u (ReadWords 13 _ _) refl c.in_ok-read_words.ensures.access.called) (words_found c.requires.row)
+    read_serves [] Shape words_in 13 (words_told t 13) refl c.requires.fit.ready c.in_ok-read_words.ensures.fit.ready (Looks-access t u (ReadWords 13 _ _) refl c.in_ok-read_words.ensures.access.called) (words_found c.requires.row)
 
 pub returns-clause-words : goal.returns-clause-words
 returns-clause-words g c = λ told.

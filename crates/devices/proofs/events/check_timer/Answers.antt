@@ -9,4 +9,4 @@ returns-then-is_reached-clause-serves g c = numbers_then _ (pick_true _ _ _ (sym
 
 pub returns-clause-serves : goal.returns-clause-serves
 unfolding check_timer
-returns-clause-serves g c = numbers_then _ (pick_false _ _ _ (sym c.is_reached.ensures ∙ c.if-is_reached.false) (done_serves c.requires.ready))
+returns-clause-serves g c = numbers_then _ (pick_false _ _ _ (sym c.is_reached.ensures ∙ c.if-is_reached.false) (done_serves c.requires.fit.ready))

@@ -12,10 +12,10 @@ lines-preserved g c =
     let taken = c.in_ok-take_line.ensures in
     record {
       whole = λ new now answer s. here.whole new now answer (lines_more _ _ _ _ c.item.ensures (sym c.is_due.ensures.due ∙ due) (c.is_due.ensures.there due) (serves_then _ taken.serves s));
-      ready = taken.ready;
-      sound = taken.sound;
-      lender = taken.lender ∙ here.lender;
-      outside = taken.outside ∙ here.outside;
+      ready = taken.fit.ready;
+      sound = taken.fit.sound;
+      lender = taken.fit.lender ∙ here.lender;
+      outside = taken.fit.outside ∙ here.outside;
     }
 
 pub returns-in_err-take_line-clause-serves : goal.returns-in_err-take_line-clause-serves

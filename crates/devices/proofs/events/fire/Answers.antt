@@ -12,6 +12,6 @@ returns-in_err-signal-clause-serves g c = register_then 8 _ refl (serves_exit _ 
 pub returns-clause-serves : goal.returns-clause-serves
 unfolding fire
 returns-clause-serves g c =
-    let ready = c.int.ensures.ready c.in_ok-signal.ensures.ready in
+    let ready = c.int.ensures.fit.ready c.in_ok-signal.ensures.fit.ready in
     register_then 8 _ refl (serves_then _ c.in_ok-signal.ensures.serves
     (serves_then _ (number_put 8 (pos 0) refl ready c.int.ensures.told) (numbers_then _ (set_numbers_at _ refl ready))))

@@ -11,7 +11,7 @@ returns-in_err-purge_all-in-Purge-clause-serves g c = rw c.in-Purge.is (exits _ 
 pub returns-in_ok-purge_all-in-Purge-clause-serves : goal.returns-in_ok-purge_all-in-Purge-clause-serves
 returns-in_ok-purge_all-in-Purge-clause-serves g c =
     let purged = c.in_ok-purge_all-in-Purge.ensures in
-    rw c.in-Purge.is (thinned c.requires.ready purged.ready purged.called.later purged.called.ok)
+    rw c.in-Purge.is (thinned c.requires.fit.ready purged.fit.ready purged.called.later purged.called.ok)
 
 pub returns-in-Compact-clause-serves : goal.returns-in-Compact-clause-serves
-returns-in-Compact-clause-serves g c = rw c.in-Compact.is (thinned c.requires.ready c.compact.ensures.ready c.compact.ensures.later c.compact.ensures.follows)
+returns-in-Compact-clause-serves g c = rw c.in-Compact.is (thinned c.requires.fit.ready c.compact.ensures.fit.ready c.compact.ensures.later c.compact.ensures.follows)

@@ -25,7 +25,7 @@ pub returns-in_err-pop-clause-serves : goal.returns-in_err-pop-clause-serves
 unfolding input_semaphore set_input
 returns-in_err-pop-clause-serves g c =
     let same = c.in_ok-there.ensures.looks.regs 11 refl in
-    let ready = c.put_semaphore.ensures.ready in
+    let ready = c.put_semaphore.ensures.fit.ready in
     serves_then _ c.in_ok-stack.ensures.serves
     (found_then _ c.in-Some.is (c.in_ok-there.ensures.serves _)
     (serves_then _ (rw same at c.put_semaphore.ensures.serves c.args.cpu.now)
@@ -36,7 +36,7 @@ pub returns-clause-serves : goal.returns-clause-serves
 unfolding input_semaphore set_input
 returns-clause-serves g c =
     let same = c.in_ok-there.ensures.looks.regs 11 refl in
-    let ready = c.put_semaphore.ensures.ready in
+    let ready = c.put_semaphore.ensures.fit.ready in
     serves_then _ c.in_ok-stack.ensures.serves
     (found_then _ c.in-Some.is (c.in_ok-there.ensures.serves _)
     (serves_then _ (rw same at c.put_semaphore.ensures.serves c.args.cpu.now)

@@ -33,28 +33,28 @@ returns-in-128-eq1-clause-speaks g c = row_serves (device_primitives c.args.even
 
 pub returns-in_default-clause-speaks : goal.returns-in_default-clause-speaks
 unfolding pick device_primitives
-returns-in_default-clause-speaks g c = row_fails (device_primitives c.args.events.now) (row 93 1 model.input_semaphore) _ 93 c.in_default.is-0 refl c.in_default.is-1.1 c.requires.ready
+returns-in_default-clause-speaks g c = row_fails (device_primitives c.args.events.now) (row 93 1 model.input_semaphore) _ 93 c.in_default.is-0 refl c.in_default.is-1.1 c.requires.fit.ready
 
 pub returns-in_default-2-clause-speaks : goal.returns-in_default-2-clause-speaks
 unfolding pick device_primitives
-returns-in_default-2-clause-speaks g c = row_fails (device_primitives c.args.events.now) (row 95 0 (model.input_word c.args.events.now)) _ 95 c.in_default.is-0 refl c.in_default.is-1.1 c.requires.ready
+returns-in_default-2-clause-speaks g c = row_fails (device_primitives c.args.events.now) (row 95 0 (model.input_word c.args.events.now)) _ 95 c.in_default.is-0 refl c.in_default.is-1.1 c.requires.fit.ready
 
 pub returns-in_default-3-clause-speaks : goal.returns-in_default-3-clause-speaks
 unfolding pick device_primitives
-returns-in_default-3-clause-speaks g c = row_fails (device_primitives c.args.events.now) (row 99 1 model.tick_words) _ 99 c.in_default.is-0 refl c.in_default.is-1.1 c.requires.ready
+returns-in_default-3-clause-speaks g c = row_fails (device_primitives c.args.events.now) (row 99 1 model.tick_words) _ 99 c.in_default.is-0 refl c.in_default.is-1.1 c.requires.fit.ready
 
 pub returns-in_default-4-clause-speaks : goal.returns-in_default-4-clause-speaks
 unfolding pick device_primitives
-returns-in_default-4-clause-speaks g c = row_fails (device_primitives c.args.events.now) (row 100 2 model.signal_at_tick) _ 100 c.in_default.is-0 refl c.in_default.is-1.1 c.requires.ready
+returns-in_default-4-clause-speaks g c = row_fails (device_primitives c.args.events.now) (row 100 2 model.signal_at_tick) _ 100 c.in_default.is-0 refl c.in_default.is-1.1 c.requires.fit.ready
 
 pub returns-in_default-5-clause-speaks : goal.returns-in_default-5-clause-speaks
 unfolding pick device_primitives
-returns-in_default-5-clause-speaks g c = row_fails (device_primitives c.args.events.now) (row 102 0 model.be_display) _ 102 c.in_default.is-0 refl c.in_default.is-1.1 c.requires.ready
+returns-in_default-5-clause-speaks g c = row_fails (device_primitives c.args.events.now) (row 102 0 model.be_display) _ 102 c.in_default.is-0 refl c.in_default.is-1.1 c.requires.fit.ready
 
 pub returns-in_default-6-clause-speaks : goal.returns-in_default-6-clause-speaks
 unfolding pick device_primitives
-returns-in_default-6-clause-speaks g c = row_fails (device_primitives c.args.events.now) (row 128 1 model.say_string) _ 128 c.in_default.is-0 refl c.in_default.is-1.1 c.requires.ready
+returns-in_default-6-clause-speaks g c = row_fails (device_primitives c.args.events.now) (row 128 1 model.say_string) _ 128 c.in_default.is-0 refl c.in_default.is-1.1 c.requires.fit.ready
 
 pub returns-in_default-7-clause-speaks : goal.returns-in_default-7-clause-speaks
 unfolding pick device_primitives
-returns-in_default-7-clause-speaks g c = none_serves (device_primitives c.args.events.now) _ c.requires.ready c.in_default.is-0
+returns-in_default-7-clause-speaks g c = none_serves (device_primitives c.args.events.now) _ c.requires.fit.ready c.in_default.is-0

@@ -28,7 +28,7 @@ unfolding say_string
 returns-in_err-pop-clause-speaks g c =
     serves_then _ c.in_ok-stack.ensures.serves
     (found_then _ refl (found_one _ _ c.if-not-branch.false (c.in_ok-is_string.ensures.serves _))
-    (serves_exit _ _ (c.in_err-pop.ensures.serves _ c.in_ok-is_string.ensures.ready) c.from_residual-in_err-pop.ensures.1))
+    (serves_exit _ _ (c.in_err-pop.ensures.serves _ c.in_ok-is_string.ensures.fit.ready) c.from_residual-in_err-pop.ensures.1))
 
 pub returns-in_err-say-clause-speaks : goal.returns-in_err-say-clause-speaks
 unfolding say_string
@@ -36,7 +36,7 @@ returns-in_err-say-clause-speaks g c =
     let string = c.in_ok-is_string.ensures.looks.regs 10 refl in
     serves_then _ c.in_ok-stack.ensures.serves
     (found_then _ refl (found_one _ _ c.if-not-branch.false (c.in_ok-is_string.ensures.serves _))
-    (serves_then _ (c.in_ok-pop.ensures.serves _ c.in_ok-is_string.ensures.ready)
+    (serves_then _ (c.in_ok-pop.ensures.serves _ c.in_ok-is_string.ensures.fit.ready)
     (speaks_exit _ _ (rw string at c.in_err-say.ensures.speaks c.pop.new.cpu) goes_done c.from_residual-in_err-say.ensures.1)))
 
 pub returns-clause-speaks : goal.returns-clause-speaks
@@ -45,5 +45,5 @@ returns-clause-speaks g c =
     let string = c.in_ok-is_string.ensures.looks.regs 10 refl in
     serves_then _ c.in_ok-stack.ensures.serves
     (found_then _ refl (found_one _ _ c.if-not-branch.false (c.in_ok-is_string.ensures.serves _))
-    (serves_then _ (c.in_ok-pop.ensures.serves _ c.in_ok-is_string.ensures.ready)
-    (speaks_then _ (rw string at c.in_ok-say.ensures.speaks c.pop.new.cpu) (done_serves c.in_ok-say.ensures.ready) (λ e. refl))))
+    (serves_then _ (c.in_ok-pop.ensures.serves _ c.in_ok-is_string.ensures.fit.ready)
+    (speaks_then _ (rw string at c.in_ok-say.ensures.speaks c.pop.new.cpu) (done_serves c.in_ok-say.ensures.fit.ready) (λ e. refl))))

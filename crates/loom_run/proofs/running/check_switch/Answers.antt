@@ -13,4 +13,4 @@ returns-in_ok-switch-clause-serves g c = numbers_then _ (pick_true _ _ _ c.if-cp
 
 pub returns-else-cpu-clause-serves : goal.returns-else-cpu-clause-serves
 unfolding check_switch
-returns-else-cpu-clause-serves g c = numbers_then _ (pick_false _ _ _ c.if-cpu.false (done_serves c.requires.ready))
+returns-else-cpu-clause-serves g c = numbers_then _ (pick_false _ _ _ c.if-cpu.false (done_serves c.requires.fit.ready))

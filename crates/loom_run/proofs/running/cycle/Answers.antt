@@ -9,7 +9,7 @@ use Rattle.loom_run.proofs.running.cycle.Goals as goal
 pub returns-in-Ok-clause-serves : goal.returns-in-Ok-clause-serves
 unfolding cycle count_bytecode
 returns-in-Ok-clause-serves g c =
-    let ready = rw c.in-Ok.is at c.turn.ensures.ready in
+    let ready = rw c.in-Ok.is at c.turn.ensures.fit.ready in
     numbers_then _ (speaks_then _ (rw c.in-Ok.is at c.turn.ensures.serves) (serves_then _ (numbers_then _ (set_numbers_at _ refl ready)) (done_serves ready)) (λ e. e))
 
 pub returns-in-Err-clause-serves : goal.returns-in-Err-clause-serves

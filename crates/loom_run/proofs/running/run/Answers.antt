@@ -15,8 +15,8 @@ loop-turn-init g c = record {
   settled = λ some. absurd (omega arith);
   later = IsLater-refl _;
   rest = c.requires.rest;
-  ready = c.requires.ready;
-  sound = c.requires.sound;
+  ready = c.requires.fit.ready;
+  sound = c.requires.fit.sound;
   lender = refl;
   outside = refl;
 }
@@ -56,10 +56,10 @@ pub returns-in_err-step-clause-later : goal.returns-in_err-step-clause-later
 returns-in_err-step-clause-later g c = IsLater-trans _ _ _ c.loop-turn.invariant.later c.in_err-step.ensures.serves.later
 
 pub returns-in_err-step-clause-lender : goal.returns-in_err-step-clause-lender
-returns-in_err-step-clause-lender g c = c.in_err-step.ensures.lender ∙ c.loop-turn.invariant.lender
+returns-in_err-step-clause-lender g c = c.in_err-step.ensures.fit.lender ∙ c.loop-turn.invariant.lender
 
 pub returns-in_err-step-clause-outside : goal.returns-in_err-step-clause-outside
-returns-in_err-step-clause-outside g c = c.in_err-step.ensures.outside ∙ c.loop-turn.invariant.outside
+returns-in_err-step-clause-outside g c = c.in_err-step.ensures.fit.outside ∙ c.loop-turn.invariant.outside
 
 pub returns-in_err-settle-clause-runs : goal.returns-in_err-settle-clause-runs
 returns-in_err-settle-clause-runs g c = λ told m st.
@@ -87,10 +87,10 @@ pub returns-in_err-settle-clause-later : goal.returns-in_err-settle-clause-later
 returns-in_err-settle-clause-later g c = IsLater-trans _ _ _ (IsLater-trans _ _ _ c.loop-turn.invariant.later c.in_ok-step.ensures.serves.later) c.in_err-settle.ensures.called.later
 
 pub returns-in_err-settle-clause-lender : goal.returns-in_err-settle-clause-lender
-returns-in_err-settle-clause-lender g c = c.in_err-settle.ensures.lender ∙ c.in_ok-step.ensures.lender ∙ c.loop-turn.invariant.lender
+returns-in_err-settle-clause-lender g c = c.in_err-settle.ensures.fit.lender ∙ c.in_ok-step.ensures.fit.lender ∙ c.loop-turn.invariant.lender
 
 pub returns-in_err-settle-clause-outside : goal.returns-in_err-settle-clause-outside
-returns-in_err-settle-clause-outside g c = c.in_err-settle.ensures.outside ∙ c.in_ok-step.ensures.outside ∙ c.loop-turn.invariant.outside
+returns-in_err-settle-clause-outside g c = c.in_err-settle.ensures.fit.outside ∙ c.in_ok-step.ensures.fit.outside ∙ c.loop-turn.invariant.outside
 
 pub loop-turn-preserved : goal.loop-turn-preserved
 loop-turn-preserved g c =
@@ -102,15 +102,15 @@ loop-turn-preserved g c =
           let now = here.later.tells ∙ told in
           let on = goes_on _ (sym c.is_quit.ensures ∙ c.if-is_quit.false) in
           let next = reaches_more _ _ _ _ _ Next c.loop-turn.turn m now (here.runs told m st) (rw on at did.serves) in
-          record { machine = next.machine; ran = next.ran; stands = settled_stands _ _ _ next.machine did.ready settled.ready settled.called (did.serves.later.tells ∙ now) next.stands };
+          record { machine = next.machine; ran = next.ran; stands = settled_stands _ _ _ next.machine did.fit.ready settled.fit.ready settled.called (did.serves.later.tells ∙ now) next.stands };
       ran = (let before = here.ran in let counted = did.counted in omega arith);
       settled = λ some. settled_earlier (g.M.ObjectMemory.told c.args.m.now) (g.M.ObjectMemory.told c.cycle.new.m) (g.M.ObjectMemory.told c.settle.new.self) (IsLater-trans _ _ _ here.later did.serves.later) settled.called.ok.counts;
       later = IsLater-trans _ _ _ (IsLater-trans _ _ _ here.later did.serves.later) settled.called.later;
       rest = rest_stays _ _ settled.called.ok.regs did.rest;
-      ready = settled.ready;
-      sound = settled.sound;
-      lender = settled.lender ∙ did.lender ∙ here.lender;
-      outside = settled.outside ∙ did.outside ∙ here.outside;
+      ready = settled.fit.ready;
+      sound = settled.fit.sound;
+      lender = settled.fit.lender ∙ did.fit.lender ∙ here.lender;
+      outside = settled.fit.outside ∙ did.fit.outside ∙ here.outside;
     }
 
 pub returns-clause-runs : goal.returns-clause-runs
@@ -152,7 +152,7 @@ returns-then-is_quit-clause-runs g c = λ told m st.
     let few = c.loop-turn-test.true in
     let ended = has_ended _ (sym c.is_quit.ensures ∙ c.if-is_quit.true) in
     let next = reaches_more _ _ _ _ _ Quit c.loop-turn.turn m now (here.runs told m st) (rw ended at did.serves) in
-    reaches_end _ _ _ (c.loop-turn.turn + 1) c.args.steps m (omega arith) record { machine = next.machine; ran = next.ran; stands = settled_stands _ _ _ next.machine did.ready settled.ready settled.called (did.serves.later.tells ∙ now) next.stands }
+    reaches_end _ _ _ (c.loop-turn.turn + 1) c.args.steps m (omega arith) record { machine = next.machine; ran = next.ran; stands = settled_stands _ _ _ next.machine did.fit.ready settled.fit.ready settled.called (did.serves.later.tells ∙ now) next.stands }
 
 pub returns-then-is_quit-clause-counted : goal.returns-then-is_quit-clause-counted
 returns-then-is_quit-clause-counted g c =
@@ -178,13 +178,13 @@ pub returns-then-is_quit-clause-rest : goal.returns-then-is_quit-clause-rest
 returns-then-is_quit-clause-rest g c = rest_stays _ _ c.in_ok-settle.ensures.called.ok.regs c.in_ok-step.ensures.rest
 
 pub returns-then-is_quit-clause-ready : goal.returns-then-is_quit-clause-ready
-returns-then-is_quit-clause-ready g c = c.in_ok-settle.ensures.ready
+returns-then-is_quit-clause-ready g c = c.in_ok-settle.ensures.fit.ready
 
 pub returns-then-is_quit-clause-sound : goal.returns-then-is_quit-clause-sound
-returns-then-is_quit-clause-sound g c = c.in_ok-settle.ensures.sound
+returns-then-is_quit-clause-sound g c = c.in_ok-settle.ensures.fit.sound
 
 pub returns-then-is_quit-clause-lender : goal.returns-then-is_quit-clause-lender
-returns-then-is_quit-clause-lender g c = c.in_ok-settle.ensures.lender ∙ c.in_ok-step.ensures.lender ∙ c.loop-turn.invariant.lender
+returns-then-is_quit-clause-lender g c = c.in_ok-settle.ensures.fit.lender ∙ c.in_ok-step.ensures.fit.lender ∙ c.loop-turn.invariant.lender
 
 pub returns-then-is_quit-clause-outside : goal.returns-then-is_quit-clause-outside
-returns-then-is_quit-clause-outside g c = c.in_ok-settle.ensures.outside ∙ c.in_ok-step.ensures.outside ∙ c.loop-turn.invariant.outside
+returns-then-is_quit-clause-outside g c = c.in_ok-settle.ensures.fit.outside ∙ c.in_ok-step.ensures.fit.outside ∙ c.loop-turn.invariant.outside

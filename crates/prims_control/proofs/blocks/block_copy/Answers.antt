@@ -37,7 +37,7 @@ returns-in_default-clause-serves g c =
     serves_then _ c.in_ok-stack.ensures.serves
     (serves_then _ c.in_ok-stack-2.ensures.serves
     (found_then _ refl (rw (context, c.if-not-branch.false) at (c.in_ok-peek_home.ensures.serves c.args.cpu.now))
-    (none_fails _ _ c.in_ok-peek_home.ensures.ready (λ told. argument ∙ c.in_default.is))))
+    (none_fails _ _ c.in_ok-peek_home.ensures.fit.ready (λ told. argument ∙ c.in_default.is))))
 
 pub returns-in_err-len-clause-serves : goal.returns-in_err-len-clause-serves
 unfolding block_copy

@@ -122,4 +122,4 @@ returns-clause-serves g c =
     (serves_then _ (stored_as _ _ 2 _ _ b2 refl (c.in_ok-store_number-2.ensures.serves _))
     (serves_then _ (stored_as _ _ 3 _ _ b3 few (c.in_ok-store_number-3.ensures.serves _))
     (serves_then _ (stored_as _ _ 4 _ _ b4 ip (c.in_ok-store_number-4.ensures.serves _))
-    (serves_then _ (rw (b5, home) at c.in_ok-store_field.ensures.serves _) (done_same (ap (λ f. f 13) c.in_ok-store_field.ensures.regs ∙ b5) c.in_ok-store_field.ensures.ready)))))))))
+    (serves_then _ (rw (b5, home) at c.in_ok-store_field.ensures.serves _) (done_same (ap (λ f. f 13) c.in_ok-store_field.ensures.regs ∙ b5) c.in_ok-store_field.ensures.fit.ready)))))))))

@@ -14,7 +14,7 @@ pub returns-then-not-is-clause-serves : goal.returns-then-not-is-clause-serves
 unfolding array_length
 returns-then-not-is-clause-serves g c = λ cpu.
     let class = c.in_ok-class_of.ensures in
-    serves_then _ (class.serves cpu) (pick_false _ _ _ (sym c.is.ensures ∙ c.if-not-is.true) (done_serves class.ready))
+    serves_then _ (class.serves cpu) (pick_false _ _ _ (sym c.is.ensures ∙ c.if-not-is.true) (done_serves class.fit.ready))
 
 pub returns-clause-serves : goal.returns-clause-serves
 unfolding array_length
@@ -26,4 +26,4 @@ returns-clause-serves g c = λ cpu.
 pub returns-clause-looks : goal.returns-clause-looks
 returns-clause-looks g c =
     let class = c.in_ok-class_of.ensures in
-    on_ok c.peek_size.result (λ last. Looks-trans (19 ∷ []) [] _ _ _ class.ready class.looks last) c.peek_size.ensures.looks
+    on_ok c.peek_size.result (λ last. Looks-trans (19 ∷ []) [] _ _ _ class.fit.ready class.looks last) c.peek_size.ensures.looks

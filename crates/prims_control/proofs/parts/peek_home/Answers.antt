@@ -17,12 +17,12 @@ pub returns-in_err-home-clause-serves : goal.returns-in_err-home-clause-serves
 returns-in_err-home-clause-serves g c = λ cpu.
     let same = c.in_ok-peek_size.ensures.looks.regs 10 refl in
     exits_found _ _ c.from_residual-in_err-home.ensures.1 (wanted_stopped (home_of _) (size 6) _ _ (home_there _ _) (rw c.in-Some.is at (c.in_ok-peek_size.ensures.serves cpu))
-    (read_first c.requires.ready (quiet [] _ _ refl c.requires.ready c.in_ok-peek_size.ensures.ready c.in_ok-peek_size.ensures.looks) (rw same at (c.in_err-home.ensures.serves cpu))))
+    (read_first c.requires.fit.ready (quiet [] _ _ refl c.requires.fit.ready c.in_ok-peek_size.ensures.fit.ready c.in_ok-peek_size.ensures.looks) (rw same at (c.in_err-home.ensures.serves cpu))))
 
 pub returns-clause-serves : goal.returns-clause-serves
 returns-clause-serves g c = λ cpu.
     let same = c.in_ok-peek_size.ensures.looks.regs 10 refl in
-    wanted_found (home_of _) _ _ (read_first c.requires.ready (quiet [] _ _ refl c.requires.ready c.in_ok-peek_size.ensures.ready c.in_ok-peek_size.ensures.looks) (rw same at (c.in_ok-home.ensures.serves cpu)))
+    wanted_found (home_of _) _ _ (read_first c.requires.fit.ready (quiet [] _ _ refl c.requires.fit.ready c.in_ok-peek_size.ensures.fit.ready c.in_ok-peek_size.ensures.looks) (rw same at (c.in_ok-home.ensures.serves cpu)))
 
 pub returns-clause-looks : goal.returns-clause-looks
-returns-clause-looks g c = Looks-trans [] (12 ∷ []) _ _ _ c.in_ok-peek_size.ensures.ready c.in_ok-peek_size.ensures.looks c.in_ok-home.ensures.looks
+returns-clause-looks g c = Looks-trans [] (12 ∷ []) _ _ _ c.in_ok-peek_size.ensures.fit.ready c.in_ok-peek_size.ensures.looks c.in_ok-home.ensures.looks

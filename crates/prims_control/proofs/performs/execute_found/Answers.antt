@@ -8,5 +8,5 @@ use Rattle.prims_control.proofs.performs.execute_found.Goals as goal
 pub returns-clause-serves : goal.returns-clause-serves
 unfolding execute_found
 returns-clause-serves g c =
-    let ready = c.copy.ensures.ready c.requires.ready in
-    serves_then _ (put_serves 5 22 refl c.requires.ready ready c.copy.ensures.told) (serves_then _ (c.set_arguments.ensures.serves _ ready) (done_serves ready))
+    let ready = c.copy.ensures.fit.ready c.requires.fit.ready in
+    serves_then _ (put_serves 5 22 refl c.requires.fit.ready ready c.copy.ensures.told) (serves_then _ (c.set_arguments.ensures.serves _ ready) (done_serves ready))

@@ -10,4 +10,4 @@ returns-in_err-len-clause-serves g c = numbers_then _ (register_then _ _ refl (s
 
 pub returns-clause-serves : goal.returns-clause-serves
 unfolding has_room
-returns-clause-serves g c = numbers_then _ (register_then _ _ refl (serves_then _ (c.in_ok-len.ensures.serves _) (done_same c.fits.ensures c.in_ok-len.ensures.ready)))
+returns-clause-serves g c = numbers_then _ (register_then _ _ refl (serves_then _ (c.in_ok-len.ensures.serves _) (done_same c.fits.ensures c.in_ok-len.ensures.fit.ready)))

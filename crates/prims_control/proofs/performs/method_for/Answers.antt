@@ -22,7 +22,7 @@ unfolding method_for taking
 returns-then-not-branch-clause-serves g c = λ cpu.
     let selector = c.in_ok-class_of.ensures.looks.regs 11 refl in
     serves_then _ (c.in_ok-class_of.ensures.serves cpu)
-    (serves_then _ (rw (selector, c.if-not-branch.true) at (c.in_ok-look_up.ensures.serves cpu)) (done_serves c.in_ok-look_up.ensures.ready))
+    (serves_then _ (rw (selector, c.if-not-branch.true) at (c.in_ok-look_up.ensures.serves cpu)) (done_serves c.in_ok-look_up.ensures.fit.ready))
 
 pub returns-in_err-count-clause-serves : goal.returns-in_err-count-clause-serves
 unfolding method_for taking
@@ -38,7 +38,7 @@ returns-clause-serves g c = λ cpu.
     let method = c.in_ok-count.ensures.looks.regs 22 refl in
     serves_then _ (c.in_ok-class_of.ensures.serves cpu)
     (serves_then _ (rw (selector, c.if-not-branch.false) at (c.in_ok-look_up.ensures.serves cpu))
-    (pick_true _ _ _ (lt-ltb _ 256 c.if-n-ge256.false) (serves_then _ (c.in_ok-count.ensures.serves cpu) (taken _ _ _ _ method c.in_ok-count.ensures.ready))))
+    (pick_true _ _ _ (lt-ltb _ 256 c.if-n-ge256.false) (serves_then _ (c.in_ok-count.ensures.serves cpu) (taken _ _ _ _ method c.in_ok-count.ensures.fit.ready))))
 
 pub returns-then-n-ge256-clause-serves : goal.returns-then-n-ge256-clause-serves
 unfolding method_for taking
@@ -46,4 +46,4 @@ returns-then-n-ge256-clause-serves g c = λ cpu.
     let selector = c.in_ok-class_of.ensures.looks.regs 11 refl in
     serves_then _ (c.in_ok-class_of.ensures.serves cpu)
     (serves_then _ (rw (selector, c.if-not-branch.false) at (c.in_ok-look_up.ensures.serves cpu))
-    (pick_false _ _ _ (le-ltb _ 256 c.if-n-ge256.true) (done_serves c.in_ok-look_up.ensures.ready)))
+    (pick_false _ _ _ (le-ltb _ 256 c.if-n-ge256.true) (done_serves c.in_ok-look_up.ensures.fit.ready)))

@@ -6,7 +6,7 @@ use Rattle.prims_control.proofs.performs.perform.Goals as goal
 
 pub returns-then-cpu-eq0-clause-serves : goal.returns-then-cpu-eq0-clause-serves
 unfolding perform
-returns-then-cpu-eq0-clause-serves g c = numbers_then _ (false_fails _ _ c.requires.ready (λ told. is_none _ c.if-cpu-eq0.true))
+returns-then-cpu-eq0-clause-serves g c = numbers_then _ (false_fails _ _ c.requires.fit.ready (λ told. is_none _ c.if-cpu-eq0.true))
 
 pub returns-clause-serves : goal.returns-clause-serves
 unfolding perform

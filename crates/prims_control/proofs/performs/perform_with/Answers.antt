@@ -25,7 +25,7 @@ returns-then-not-is_name-clause-serves g c =
     let count = c.from-count.ensures in
     serves_then _ (rw count at c.in_ok-stack.ensures.serves)
     (serves_then _ (rw count at c.in_ok-stack-2.ensures.serves)
-    (false_fails _ _ c.in_ok-stack-2.ensures.ready (λ told. sym (named _ _ _ refl c.is_name.ensures) ∙ c.if-not-is_name.true)))
+    (false_fails _ _ c.in_ok-stack-2.ensures.fit.ready (λ told. sym (named _ _ _ refl c.is_name.ensures) ∙ c.if-not-is_name.true)))
 
 pub returns-in_err-method_for-clause-serves : goal.returns-in_err-method_for-clause-serves
 unfolding perform_with
@@ -68,7 +68,7 @@ returns-in_err-pop-clause-serves g c =
     (true_then _ _ (λ told. sym (named _ _ _ refl c.is_name.ensures) ∙ c.if-not-is_name.false)
     (found_then _ refl (rw (receiver, count, c.if-not-branch.false) at (c.in_ok-method_for.ensures.serves c.args.cpu.now))
     (serves_then _ (rw count at c.in_ok-move_arguments.ensures.serves)
-    (serves_exit _ _ (c.in_err-pop.ensures.serves _ c.in_ok-move_arguments.ensures.ready) c.from_residual-in_err-pop.ensures.1)))))
+    (serves_exit _ _ (c.in_err-pop.ensures.serves _ c.in_ok-move_arguments.ensures.fit.ready) c.from_residual-in_err-pop.ensures.1)))))
 
 pub returns-clause-serves : goal.returns-clause-serves
 unfolding perform_with
@@ -81,5 +81,5 @@ returns-clause-serves g c =
     (true_then _ _ (λ told. sym (named _ _ _ refl c.is_name.ensures) ∙ c.if-not-is_name.false)
     (found_then _ refl (rw (receiver, count, c.if-not-branch.false) at (c.in_ok-method_for.ensures.serves c.args.cpu.now))
     (serves_then _ (rw count at c.in_ok-move_arguments.ensures.serves)
-    (serves_then _ (c.in_ok-pop.ensures.serves _ c.in_ok-move_arguments.ensures.ready)
+    (serves_then _ (c.in_ok-pop.ensures.serves _ c.in_ok-move_arguments.ensures.fit.ready)
     (rw method at c.execute_found.ensures.serves))))))

@@ -28,7 +28,7 @@ returns-then-not-is_name-clause-serves g c =
     serves_then _ c.in_ok-stack.ensures.serves
     (serves_then _ c.in_ok-stack-2.ensures.serves
     (serves_then _ c.in_ok-stack-3.ensures.serves
-    (false_fails _ _ c.in_ok-stack-3.ensures.ready (λ told. sym (named _ _ _ selector c.is_name.ensures) ∙ c.if-not-is_name.true))))
+    (false_fails _ _ c.in_ok-stack-3.ensures.fit.ready (λ told. sym (named _ _ _ selector c.is_name.ensures) ∙ c.if-not-is_name.true))))
 
 pub returns-in_err-n-clause-serves : goal.returns-in_err-n-clause-serves
 unfolding perform_with_arguments
@@ -103,7 +103,7 @@ returns-then-not-branch-2-clause-serves g c =
     (found_then _ c.in-Some.is (c.in_ok-n.ensures.serves c.args.cpu.now)
     (found_then _ refl (rw (receiver, again, c.if-not-branch.false) at (c.in_ok-method_for.ensures.serves c.args.cpu.now))
     (serves_then _ c.in_ok-has_room.ensures.serves
-    (false_fails _ _ c.in_ok-has_room.ensures.ready (λ told. c.if-not-branch-2.true))))))))
+    (false_fails _ _ c.in_ok-has_room.ensures.fit.ready (λ told. c.if-not-branch-2.true))))))))
 
 pub returns-in_err-pop-clause-serves : goal.returns-in_err-pop-clause-serves
 unfolding perform_with_arguments
@@ -119,7 +119,7 @@ returns-in_err-pop-clause-serves g c =
     (found_then _ refl (rw (receiver, again, c.if-not-branch.false) at (c.in_ok-method_for.ensures.serves c.args.cpu.now))
     (serves_then _ c.in_ok-has_room.ensures.serves
     (true_then _ _ (λ told. c.if-not-branch-2.false)
-    (serves_exit _ _ (c.in_err-pop.ensures.serves _ c.in_ok-has_room.ensures.ready) c.from_residual-in_err-pop.ensures.1))))))))
+    (serves_exit _ _ (c.in_err-pop.ensures.serves _ c.in_ok-has_room.ensures.fit.ready) c.from_residual-in_err-pop.ensures.1))))))))
 
 pub returns-in_err-push_elements-clause-serves : goal.returns-in_err-push_elements-clause-serves
 unfolding perform_with_arguments
@@ -136,7 +136,7 @@ returns-in_err-push_elements-clause-serves g c =
     (found_then _ refl (rw (receiver, again, c.if-not-branch.false) at (c.in_ok-method_for.ensures.serves c.args.cpu.now))
     (serves_then _ c.in_ok-has_room.ensures.serves
     (true_then _ _ (λ told. c.if-not-branch-2.false)
-    (serves_then _ (c.in_ok-pop.ensures.serves _ c.in_ok-has_room.ensures.ready)
+    (serves_then _ (c.in_ok-pop.ensures.serves _ c.in_ok-has_room.ensures.fit.ready)
     (serves_exit _ _ (rw array at c.in_err-push_elements.ensures.serves) c.from_residual-in_err-push_elements.ensures.1)))))))))
 
 pub returns-clause-serves : goal.returns-clause-serves
@@ -155,6 +155,6 @@ returns-clause-serves g c =
     (found_then _ refl (rw (receiver, again, c.if-not-branch.false) at (c.in_ok-method_for.ensures.serves c.args.cpu.now))
     (serves_then _ c.in_ok-has_room.ensures.serves
     (true_then _ _ (λ told. c.if-not-branch-2.false)
-    (serves_then _ (c.in_ok-pop.ensures.serves _ c.in_ok-has_room.ensures.ready)
+    (serves_then _ (c.in_ok-pop.ensures.serves _ c.in_ok-has_room.ensures.fit.ready)
     (serves_then _ (rw array at c.in_ok-push_elements.ensures.serves)
     (rw method at c.execute_found.ensures.serves))))))))))

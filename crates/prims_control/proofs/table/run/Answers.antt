@@ -21,11 +21,11 @@ returns-in-84-eq2-clause-serves g c = row_serves (row 84 2 model.perform_with_ar
 
 pub returns-in-89-eq0-clause-serves : goal.returns-in-89-eq0-clause-serves
 unfolding pick control_primitive control_primitives flush_cache
-returns-in-89-eq0-clause-serves g c = row_serves (row 89 0 model.flush_cache) _ 89 c.in-89-eq0.is-0 refl c.in-89-eq0.is-1 (done_serves c.requires.ready)
+returns-in-89-eq0-clause-serves g c = row_serves (row 89 0 model.flush_cache) _ 89 c.in-89-eq0.is-0 refl c.in-89-eq0.is-1 (done_serves c.requires.fit.ready)
 
 pub returns-in-113-eq0-clause-serves : goal.returns-in-113-eq0-clause-serves
 unfolding pick control_primitive control_primitives quit
-returns-in-113-eq0-clause-serves g c = row_serves (row 113 0 model.quit) _ 113 c.in-113-eq0.is-0 refl c.in-113-eq0.is-1 (done_serves c.requires.ready)
+returns-in-113-eq0-clause-serves g c = row_serves (row 113 0 model.quit) _ 113 c.in-113-eq0.is-0 refl c.in-113-eq0.is-1 (done_serves c.requires.fit.ready)
 
 pub returns-in-81-default-clause-serves : goal.returns-in-81-default-clause-serves
 unfolding pick control_primitive control_primitives
@@ -37,23 +37,23 @@ returns-in-83-default-clause-serves g c = any_serves model.perform _ 83 c.in-83-
 
 pub returns-in_default-clause-serves : goal.returns-in_default-clause-serves
 unfolding pick control_primitive control_primitives
-returns-in_default-clause-serves g c = row_fails (row 80 1 model.block_copy) _ 80 c.in_default.is-0 refl c.in_default.is-1.1 c.requires.ready
+returns-in_default-clause-serves g c = row_fails (row 80 1 model.block_copy) _ 80 c.in_default.is-0 refl c.in_default.is-1.1 c.requires.fit.ready
 
 pub returns-in_default-2-clause-serves : goal.returns-in_default-2-clause-serves
 unfolding pick control_primitive control_primitives
-returns-in_default-2-clause-serves g c = row_fails (row 82 1 model.value_with_arguments) _ 82 c.in_default.is-0 refl c.in_default.is-1.1 c.requires.ready
+returns-in_default-2-clause-serves g c = row_fails (row 82 1 model.value_with_arguments) _ 82 c.in_default.is-0 refl c.in_default.is-1.1 c.requires.fit.ready
 
 pub returns-in_default-3-clause-serves : goal.returns-in_default-3-clause-serves
 unfolding pick control_primitive control_primitives
-returns-in_default-3-clause-serves g c = row_fails (row 84 2 model.perform_with_arguments) _ 84 c.in_default.is-0 refl c.in_default.is-1.1 c.requires.ready
+returns-in_default-3-clause-serves g c = row_fails (row 84 2 model.perform_with_arguments) _ 84 c.in_default.is-0 refl c.in_default.is-1.1 c.requires.fit.ready
 
 pub returns-in_default-4-clause-serves : goal.returns-in_default-4-clause-serves
 unfolding pick control_primitive control_primitives
-returns-in_default-4-clause-serves g c = row_fails (row 89 0 model.flush_cache) _ 89 c.in_default.is-0 refl c.in_default.is-1.1 c.requires.ready
+returns-in_default-4-clause-serves g c = row_fails (row 89 0 model.flush_cache) _ 89 c.in_default.is-0 refl c.in_default.is-1.1 c.requires.fit.ready
 
 pub returns-in_default-5-clause-serves : goal.returns-in_default-5-clause-serves
 unfolding pick control_primitive control_primitives
-returns-in_default-5-clause-serves g c = row_fails (row 113 0 model.quit) _ 113 c.in_default.is-0 refl c.in_default.is-1.1 c.requires.ready
+returns-in_default-5-clause-serves g c = row_fails (row 113 0 model.quit) _ 113 c.in_default.is-0 refl c.in_default.is-1.1 c.requires.fit.ready
 
 pub returns-in_default-6-clause-serves : goal.returns-in_default-6-clause-serves
-returns-in_default-6-clause-serves g c = let no = c.in_default.is-0 in none_serves _ c.requires.ready no.0.0.0.0.0.0.1 no.0.0.0.0.0.1 no.0.0.0.0.1 no.0.0.0.1 no.0.0.1 no.0.1 no.1
+returns-in_default-6-clause-serves g c = let no = c.in_default.is-0 in none_serves _ c.requires.fit.ready no.0.0.0.0.0.0.1 no.0.0.0.0.0.1 no.0.0.0.0.1 no.0.0.0.1 no.0.0.1 no.0.1 no.1

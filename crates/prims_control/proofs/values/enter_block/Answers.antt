@@ -56,4 +56,4 @@ returns-clause-serves g c =
     (serves_then _ (stored_as _ _ 2 _ _ block (count_kept _ c.requires.few) (c.in_ok-store_number-2.ensures.serves _))
     (register_then 0 _ refl
     (serves_then _ (rw still at c.in_ok-store_field.ensures.serves _)
-    (serves_then _ (rw last at c.in_ok-enter.ensures.serves) (done_serves c.in_ok-enter.ensures.ready)))))
+    (serves_then _ (rw last at c.in_ok-enter.ensures.serves) (done_serves c.in_ok-enter.ensures.fit.ready)))))

@@ -6,10 +6,10 @@ use Rattle.prims_control.proofs.values.pass_arguments.Goals as goal
 
 pub loop-k-init : goal.loop-k-init
 loop-k-init g c = record {
-  serves = each_none _ c.requires.ready;
+  serves = each_none _ c.requires.fit.ready;
   regs = λ r off. refl;
-  ready = c.requires.ready;
-  sound = c.requires.sound;
+  ready = c.requires.fit.ready;
+  sound = c.requires.fit.sound;
   lender = refl;
   outside = refl;
 }
@@ -22,10 +22,10 @@ loop-k-preserved g c =
     record {
       serves = each_more _ c.loop-k.k {answer = Ok tt} here.serves (rw (block) at (c.in_ok-pass_argument.ensures.serves));
       regs = λ r off. passed.regs r off ∙ here.regs r off;
-      ready = passed.ready;
-      sound = passed.sound;
-      lender = passed.lender ∙ here.lender;
-      outside = passed.outside ∙ here.outside;
+      ready = passed.fit.ready;
+      sound = passed.fit.sound;
+      lender = passed.fit.lender ∙ here.lender;
+      outside = passed.fit.outside ∙ here.outside;
     }
 
 pub returns-in_err-pass_argument-clause-serves : goal.returns-in_err-pass_argument-clause-serves

@@ -12,7 +12,7 @@ returns-in_err-count-clause-serves g c = λ cpu. serves_exit _ _ (c.in_err-count
 
 pub returns-then-not-states-clause-serves : goal.returns-then-not-states-clause-serves
 unfolding pointer_for
-returns-then-not-states-clause-serves g c = λ cpu. serves_then _ (c.in_ok-count.ensures.serves cpu) (pick_false _ _ _ (sym c.states.ensures.states ∙ c.if-not-states.true) (done_serves c.in_ok-count.ensures.ready))
+returns-then-not-states-clause-serves g c = λ cpu. serves_then _ (c.in_ok-count.ensures.serves cpu) (pick_false _ _ _ (sym c.states.ensures.states ∙ c.if-not-states.true) (done_serves c.in_ok-count.ensures.fit.ready))
 
 pub returns-clause-serves : goal.returns-clause-serves
 unfolding pointer_for
@@ -23,4 +23,4 @@ returns-clause-serves g c = λ cpu.
 pub returns-clause-looks : goal.returns-clause-looks
 returns-clause-looks g c =
     let count = c.in_ok-count.ensures in
-    on_ok c.peek_number-2.result (λ last. looks_again 19 _ _ _ count.ready count.looks last) c.peek_number-2.ensures.looks
+    on_ok c.peek_number-2.result (λ last. looks_again 19 _ _ _ count.fit.ready count.looks last) c.peek_number-2.ensures.looks

@@ -51,7 +51,7 @@ returns-in_err-pop-clause-serves g c =
     (serves_then _ (rw count at c.in_ok-stack.ensures.serves)
     (found_then _ c.in-Some.is (rw count at (c.in_ok-ip.ensures.serves c.args.cpu.now))
     (serves_then _ (rw (block, count) at c.in_ok-pass_arguments.ensures.serves)
-    (serves_exit _ _ (rw count at (c.in_err-pop.ensures.serves _ c.in_ok-pass_arguments.ensures.ready)) c.from_residual-in_err-pop.ensures.1))))
+    (serves_exit _ _ (rw count at (c.in_err-pop.ensures.serves _ c.in_ok-pass_arguments.ensures.fit.ready)) c.from_residual-in_err-pop.ensures.1))))
 
 pub returns-clause-serves : goal.returns-clause-serves
 unfolding value
@@ -64,5 +64,5 @@ returns-clause-serves g c =
     (serves_then _ (rw count at c.in_ok-stack.ensures.serves)
     (found_then _ c.in-Some.is (rw count at (c.in_ok-ip.ensures.serves c.args.cpu.now))
     (serves_then _ (rw (block, count) at c.in_ok-pass_arguments.ensures.serves)
-    (serves_then _ (rw count at (c.in_ok-pop.ensures.serves _ c.in_ok-pass_arguments.ensures.ready))
+    (serves_then _ (rw count at (c.in_ok-pop.ensures.serves _ c.in_ok-pass_arguments.ensures.fit.ready))
     (entered_as _ _ _ _ _ _ still count ip c.enter_block.ensures.serves)))))

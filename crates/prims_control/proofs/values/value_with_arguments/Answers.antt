@@ -70,7 +70,7 @@ returns-in_err-pop-clause-serves g c =
     (found_then _ c.in-Some.is (c.in_ok-n.ensures.serves c.args.cpu.now)
     (found_then _ c.in-Some-2.is (rw block at (c.in_ok-ip.ensures.serves c.args.cpu.now))
     (serves_then _ (rw (array, same) at (c.in_ok-pass_elements.ensures.serves c.args.cpu.now))
-    (serves_exit _ _ (c.in_err-pop.ensures.serves _ c.in_ok-pass_elements.ensures.ready) c.from_residual-in_err-pop.ensures.1)))))
+    (serves_exit _ _ (c.in_err-pop.ensures.serves _ c.in_ok-pass_elements.ensures.fit.ready) c.from_residual-in_err-pop.ensures.1)))))
 
 pub returns-clause-serves : goal.returns-clause-serves
 unfolding value_with_arguments
@@ -85,5 +85,5 @@ returns-clause-serves g c =
     (found_then _ c.in-Some.is (c.in_ok-n.ensures.serves c.args.cpu.now)
     (found_then _ c.in-Some-2.is (rw block at (c.in_ok-ip.ensures.serves c.args.cpu.now))
     (serves_then _ (rw (array, same) at (c.in_ok-pass_elements.ensures.serves c.args.cpu.now))
-    (serves_then _ (c.in_ok-pop.ensures.serves _ c.in_ok-pass_elements.ensures.ready)
+    (serves_then _ (c.in_ok-pop.ensures.serves _ c.in_ok-pass_elements.ensures.fit.ready)
     (entered_as _ _ _ _ _ _ still refl ip c.enter_block.ensures.serves))))))

@@ -21,15 +21,15 @@ unfolding arithmetic
 returns-in_default-result-clause-serves g c =
     let small = both_small _ _ _ c.in-Some.is c.in_ok-a.ensures.range in
     both_then _ _ _ c.in-Some.is c.in_ok-a.ensures.serves
-    (none_fails _ _ c.in_ok-a.ensures.ready (λ told. sym (rw (small_number _ small.0, small_number _ small.1) at c.in_default-result.ensures.result)))
+    (none_fails _ _ c.in_ok-a.ensures.fit.ready (λ told. sym (rw (small_number _ small.0, small_number _ small.1) at c.in_default-result.ensures.result)))
 
 pub returns-clause-serves : goal.returns-clause-serves
 unfolding arithmetic
 returns-clause-serves g c =
     let small = both_small _ _ _ c.in-Some.is c.in_ok-a.ensures.range in
-    let ready = c.in_ok-a.ensures.ready in
+    let ready = c.in_ok-a.ensures.fit.ready in
     let number = put_value _ _ 10 _ c.int.ensures.told in
     both_then _ _ _ c.in-Some.is c.in_ok-a.ensures.serves
     (some_then _ _ _ (λ told. sym (rw (small_number _ small.0, small_number _ small.1) at c.in-Some-result.ensures.result))
-    (read_first ready (int_quiet _ _ 10 _ (omega arith) ready (c.int.ensures.ready ready) c.int.ensures.told)
+    (read_first ready (int_quiet _ _ 10 _ (omega arith) ready (c.int.ensures.fit.ready ready) c.int.ensures.told)
     (rw (number, small_number _ c.in-Some-result.ensures.range) at c.answer.ensures.serves)))

@@ -19,17 +19,17 @@ unfolding two_numbers
 returns-in_default-clause-serves g c =
     let receiver = c.in_ok-stack-2.ensures.looks.regs 10 refl in
     serves_then _ c.in_ok-stack.ensures.serves (serves_then _ c.in_ok-stack-2.ensures.serves
-    (done_same (no_receiver _ _ _ receiver c.in_default.ensures.number) c.in_ok-stack-2.ensures.ready))
+    (done_same (no_receiver _ _ _ receiver c.in_default.ensures.number) c.in_ok-stack-2.ensures.fit.ready))
 
 pub returns-in_default-as_int-clause-serves : goal.returns-in_default-as_int-clause-serves
 unfolding two_numbers
 returns-in_default-as_int-clause-serves g c =
     serves_then _ c.in_ok-stack.ensures.serves (serves_then _ c.in_ok-stack-2.ensures.serves
-    (done_same (no_argument _ _ c.in_default-as_int.ensures.number) c.in_ok-stack-2.ensures.ready))
+    (done_same (no_argument _ _ c.in_default-as_int.ensures.number) c.in_ok-stack-2.ensures.fit.ready))
 
 pub returns-clause-serves : goal.returns-clause-serves
 unfolding two_numbers
 returns-clause-serves g c =
     let receiver = c.in_ok-stack-2.ensures.looks.regs 10 refl in
     serves_then _ c.in_ok-stack.ensures.serves (serves_then _ c.in_ok-stack-2.ensures.serves
-    (done_same (has_both _ _ _ _ _ _ _ receiver c.in-Some.ensures.number c.in-Some-as_int.ensures.number (small_number _ c.in-Some.ensures.range) (small_number _ c.in-Some-as_int.ensures.range)) c.in_ok-stack-2.ensures.ready))
+    (done_same (has_both _ _ _ _ _ _ _ receiver c.in-Some.ensures.number c.in-Some-as_int.ensures.number (small_number _ c.in-Some.ensures.range) (small_number _ c.in-Some-as_int.ensures.range)) c.in_ok-stack-2.ensures.fit.ready))

@@ -13,7 +13,7 @@ returns-in_err-class_of-clause-serves g c = λ cpu. exits _ c.from_residual.ensu
 
 pub returns-then-not-is-clause-serves : goal.returns-then-not-is-clause-serves
 unfolding byte_of_character
-returns-then-not-is-clause-serves g c = λ cpu. serves_then _ (c.in_ok-class_of.ensures.serves cpu) (pick_false _ _ _ (sym c.is.ensures ∙ c.if-not-is.true) (done_serves c.in_ok-class_of.ensures.ready))
+returns-then-not-is-clause-serves g c = λ cpu. serves_then _ (c.in_ok-class_of.ensures.serves cpu) (pick_false _ _ _ (sym c.is.ensures ∙ c.if-not-is.true) (done_serves c.in_ok-class_of.ensures.fit.ready))
 
 pub returns-in_err-number-clause-serves : goal.returns-in_err-number-clause-serves
 unfolding byte_of_character
@@ -25,7 +25,7 @@ pub returns-clause-serves : goal.returns-clause-serves
 unfolding byte_of_character
 returns-clause-serves g c = λ cpu.
     let same = c.in_ok-class_of.ensures.looks.regs c.args.of (below 19 c.args.of c.requires.low) in
-    serves_then _ (c.in_ok-class_of.ensures.serves cpu) (pick_true _ _ _ (sym c.is.ensures ∙ c.if-not-is.false) (by_number _ _ _ c.byte_by.ensures c.in_ok-number.ensures.ready (rw same at c.in_ok-number.ensures.serves cpu)))
+    serves_then _ (c.in_ok-class_of.ensures.serves cpu) (pick_true _ _ _ (sym c.is.ensures ∙ c.if-not-is.false) (by_number _ _ _ c.byte_by.ensures c.in_ok-number.ensures.fit.ready (rw same at c.in_ok-number.ensures.serves cpu)))
 
 pub returns-clause-looks : goal.returns-clause-looks
-returns-clause-looks g c = looks_again 19 _ _ _ c.in_ok-class_of.ensures.ready c.in_ok-class_of.ensures.looks c.in_ok-number.ensures.looks
+returns-clause-looks g c = looks_again 19 _ _ _ c.in_ok-class_of.ensures.fit.ready c.in_ok-class_of.ensures.looks c.in_ok-number.ensures.looks

@@ -17,4 +17,4 @@ returns-clause-serves g c = λ cpu. serves_then _ (rw c.in_ok-known.ensures.name
 pub returns-clause-looks : goal.returns-clause-looks
 returns-clause-looks g c =
     let table = c.in_ok-known.ensures in
-    on_ok c.peek_field.result (λ last. looks_swapped 12 19 _ _ (Looks-trans (19 ∷ []) (12 ∷ []) _ _ _ table.ready table.looks last)) c.peek_field.ensures.looks
+    on_ok c.peek_field.result (λ last. looks_swapped 12 19 _ _ (Looks-trans (19 ∷ []) (12 ∷ []) _ _ _ table.fit.ready table.looks last)) c.peek_field.ensures.looks

@@ -23,7 +23,7 @@ returns-clause-leads g c = λ cpu.
     let put = Looks-put _ _ 18 _ c.int.ensures.told in
     let array = put.regs c.args.array (below 18 c.args.array c.requires.array) ∙ found.looks.regs c.args.array (below 19 c.args.array low) in
     let byte = put_value _ _ 18 _ c.int.ensures.told ∙ ap (λ z. Int z) (byte_kept _ _ c.from.ensures (of_some (λ b. b < 256) _ c.in-Some.is found.few)) in
-    leads_through _ _ _ _ _ (λ rest later now answer next. found_then _ c.in-Some.is (found.serves cpu) (read_first found.ready (int_quiet _ _ 18 _ (omega arith) found.ready (c.int.ensures.ready found.ready) c.int.ensures.told) next))
+    leads_through _ _ _ _ _ (λ rest later now answer next. found_then _ c.in-Some.is (found.serves cpu) (read_first found.fit.ready (int_quiet _ _ 18 _ (omega arith) found.fit.ready (c.int.ensures.fit.ready found.fit.ready) c.int.ensures.told) next))
     (rw (array, byte) at c.store_element.ensures.leads cpu)
 
 pub returns-clause-regs : goal.returns-clause-regs

@@ -10,10 +10,10 @@ pub returns-in_err-len-clause-serves : goal.returns-in_err-len-clause-serves
 returns-in_err-len-clause-serves g c = λ cpu. exits _ c.from_residual.ensures.1 (serves_within (text_within _ _) (serves_stop _ (c.in_err-len.ensures.serves cpu)))
 
 pub returns-in_default-clause-serves : goal.returns-in_default-clause-serves
-returns-in_default-clause-serves g c = λ cpu. serves_within (text_within _ _) (serves_then _ (rw c.in_default.is at (c.in_ok-len.ensures.serves cpu)) (done_serves c.in_ok-len.ensures.ready))
+returns-in_default-clause-serves g c = λ cpu. serves_within (text_within _ _) (serves_then _ (rw c.in_default.is at (c.in_ok-len.ensures.serves cpu)) (done_serves c.in_ok-len.ensures.fit.ready))
 
 pub returns-then-len-i-clause-serves : goal.returns-then-len-i-clause-serves
-returns-then-len-i-clause-serves g c = λ cpu. serves_within (text_within _ _) (serves_then _ (rw c.in-Some.is at (c.in_ok-len.ensures.serves cpu)) (pick_false _ _ _ (past _ _ c.if-len-i.true) (done_serves c.in_ok-len.ensures.ready)))
+returns-then-len-i-clause-serves g c = λ cpu. serves_within (text_within _ _) (serves_then _ (rw c.in-Some.is at (c.in_ok-len.ensures.serves cpu)) (pick_false _ _ _ (past _ _ c.if-len-i.true) (done_serves c.in_ok-len.ensures.fit.ready)))
 
 pub returns-in_err-byte-clause-serves : goal.returns-in_err-byte-clause-serves
 returns-in_err-byte-clause-serves g c = λ cpu.
@@ -25,7 +25,7 @@ pub returns-clause-serves : goal.returns-clause-serves
 returns-clause-serves g c = λ cpu.
     let same = c.in_ok-len.ensures.looks.regs c.args.of refl in
     let low : c.args.i < c.in-Some.len = omega (arith, c.if-len-i.false) in
-    serves_within (text_within _ _) (serves_then _ (rw c.in-Some.is at (c.in_ok-len.ensures.serves cpu)) (pick_true _ _ _ (within _ _ low) (serves_then _ (rw same at c.in_ok-byte.ensures.serves cpu) (done_serves c.in_ok-byte.ensures.ready))))
+    serves_within (text_within _ _) (serves_then _ (rw c.in-Some.is at (c.in_ok-len.ensures.serves cpu)) (pick_true _ _ _ (within _ _ low) (serves_then _ (rw same at c.in_ok-byte.ensures.serves cpu) (done_serves c.in_ok-byte.ensures.fit.ready))))
 
 pub returns-clause-looks : goal.returns-clause-looks
-returns-clause-looks g c = Looks-trans [] [] _ _ _ c.in_ok-len.ensures.ready c.in_ok-len.ensures.looks c.in_ok-byte.ensures.looks
+returns-clause-looks g c = Looks-trans [] [] _ _ _ c.in_ok-len.ensures.fit.ready c.in_ok-len.ensures.looks c.in_ok-byte.ensures.looks

@@ -14,7 +14,7 @@ pub returns-in_default-clause-serves : goal.returns-in_default-clause-serves
 unfolding element_of
 returns-in_default-clause-serves g c = λ cpu.
     let z = ap positive (kept c.args.i c.ranges.i.sfits) in
-    pick_false _ _ _ (not_positive c.args.i (sym z ∙ sym c.positive.ensures.number ∙ c.in_default.is)) (done_serves c.requires.ready)
+    pick_false _ _ _ (not_positive c.args.i (sym z ∙ sym c.positive.ensures.number ∙ c.in_default.is)) (done_serves c.requires.fit.ready)
 
 pub returns-in_err-fixed-clause-serves : goal.returns-in_err-fixed-clause-serves
 unfolding element_of
@@ -28,7 +28,7 @@ unfolding element_of
 returns-in_default-2-clause-serves g c = λ cpu.
     let z = ap positive (kept c.args.i c.ranges.i.sfits) in
     let number = sym z ∙ sym c.positive.ensures.number ∙ c.in-Some.is in
-    pick_true _ _ _ (is_one c.args.i _ number) (serves_then _ (rw c.in_default-2.is at (c.in_ok-fixed.ensures.serves cpu)) (done_serves c.in_ok-fixed.ensures.ready))
+    pick_true _ _ _ (is_one c.args.i _ number) (serves_then _ (rw c.in_default-2.is at (c.in_ok-fixed.ensures.serves cpu)) (done_serves c.in_ok-fixed.ensures.fit.ready))
 
 pub returns-clause-serves : goal.returns-clause-serves
 unfolding element_of
@@ -41,4 +41,4 @@ returns-clause-serves g c = λ cpu.
 pub returns-clause-looks : goal.returns-clause-looks
 returns-clause-looks g c =
     let fixed = c.in_ok-fixed.ensures in
-    on_ok c.spot_of.result (λ last. Looks-trans (19 ∷ []) [] _ _ _ fixed.ready fixed.looks last) c.spot_of.ensures.looks
+    on_ok c.spot_of.result (λ last. Looks-trans (19 ∷ []) [] _ _ _ fixed.fit.ready fixed.looks last) c.spot_of.ensures.looks

@@ -6,7 +6,7 @@ use Rattle.prims_object.proofs.LeadLaws.{found_exit}
 use Rattle.prims_object.proofs.elements.store_in_byte.Goals as goal
 
 pub returns-in_default-clause-leads : goal.returns-in_default-clause-leads
-returns-in_default-clause-leads g c = λ cpu rest. none_fails _ _ c.requires.ready (λ told. ap byte_by (sym c.as_int.ensures.number) ∙ sym c.byte_by.ensures ∙ c.in_default.is)
+returns-in_default-clause-leads g c = λ cpu rest. none_fails _ _ c.requires.fit.ready (λ told. ap byte_by (sym c.as_int.ensures.number) ∙ sym c.byte_by.ensures ∙ c.in_default.is)
 
 pub returns-in_err-store_byte-clause-leads : goal.returns-in_err-store_byte-clause-leads
 returns-in_err-store_byte-clause-leads g c = λ cpu. found_exit _ _ _ c.from_residual.ensures.1 (λ rest. some_then _ _ c.in-Some.byte (λ told. ap byte_by (sym c.as_int.ensures.number) ∙ sym c.byte_by.ensures ∙ c.in-Some.is) (serves_stop _ (c.in_err-store_byte.ensures.serves cpu)))

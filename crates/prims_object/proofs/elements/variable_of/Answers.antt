@@ -9,7 +9,7 @@ pub returns-in_default-clause-serves : goal.returns-in_default-clause-serves
 unfolding variable_of
 returns-in_default-clause-serves g c = λ cpu.
     let z = ap positive (kept c.args.i c.ranges.i.sfits) in
-    spot_nowhere _ _ (element_unfixed c.args.i ∙ sym z ∙ sym c.positive.ensures.number ∙ c.in_default.is) c.requires.ready
+    spot_nowhere _ _ (element_unfixed c.args.i ∙ sym z ∙ sym c.positive.ensures.number ∙ c.in_default.is) c.requires.fit.ready
 
 pub returns-clause-serves : goal.returns-clause-serves
 unfolding variable_of

@@ -9,7 +9,7 @@ pub returns-in_err-extent-clause-serves : goal.returns-in_err-extent-clause-serv
 returns-in_err-extent-clause-serves g c = λ cpu. exits _ c.from_residual.ensures.1 (part_stops extent_of (size_behind c.args.fixed) (behind c.args.fixed) _ (behind_same c.args.fixed) (c.in_err-extent.ensures.serves cpu))
 
 pub returns-in_default-clause-serves : goal.returns-in_default-clause-serves
-returns-in_default-clause-serves g c = λ cpu. part_gives extent_of (size_behind c.args.fixed) (behind c.args.fixed) _ None (behind_same c.args.fixed) c.in_ok-extent.ensures.ready (rw c.in_default.is at (c.in_ok-extent.ensures.serves cpu))
+returns-in_default-clause-serves g c = λ cpu. part_gives extent_of (size_behind c.args.fixed) (behind c.args.fixed) _ None (behind_same c.args.fixed) c.in_ok-extent.ensures.fit.ready (rw c.in_default.is at (c.in_ok-extent.ensures.serves cpu))
 
 pub returns-clause-serves : goal.returns-clause-serves
-returns-clause-serves g c = λ cpu. rw (sym c.behind.ensures.behind) at (part_gives extent_of (size_behind c.args.fixed) (behind c.args.fixed) _ (Some c.in-Some.extent) (behind_same c.args.fixed) c.in_ok-extent.ensures.ready (rw c.in-Some.is at (c.in_ok-extent.ensures.serves cpu)))
+returns-clause-serves g c = λ cpu. rw (sym c.behind.ensures.behind) at (part_gives extent_of (size_behind c.args.fixed) (behind c.args.fixed) _ (Some c.in-Some.extent) (behind_same c.args.fixed) c.in_ok-extent.ensures.fit.ready (rw c.in-Some.is at (c.in_ok-extent.ensures.serves cpu)))

@@ -9,7 +9,7 @@ pub returns-in_err-extent-clause-serves : goal.returns-in_err-extent-clause-serv
 returns-in_err-extent-clause-serves g c = λ cpu. exits _ c.from_residual.ensures.1 (part_stops extent_of (spot_of c.args.e) (spot_by c.args.e) _ (spot_same c.args.e c.requires.first) (c.in_err-extent.ensures.serves cpu))
 
 pub returns-in_default-clause-serves : goal.returns-in_default-clause-serves
-returns-in_default-clause-serves g c = λ cpu. part_gives extent_of (spot_of c.args.e) (spot_by c.args.e) _ None (spot_same c.args.e c.requires.first) c.in_ok-extent.ensures.ready (rw c.in_default.is at (c.in_ok-extent.ensures.serves cpu))
+returns-in_default-clause-serves g c = λ cpu. part_gives extent_of (spot_of c.args.e) (spot_by c.args.e) _ None (spot_same c.args.e c.requires.first) c.in_ok-extent.ensures.fit.ready (rw c.in_default.is at (c.in_ok-extent.ensures.serves cpu))
 
 pub returns-clause-serves : goal.returns-clause-serves
-returns-clause-serves g c = λ cpu. rw (sym c.spot.ensures) at (part_gives extent_of (spot_of c.args.e) (spot_by c.args.e) _ (Some c.in-Some.extent) (spot_same c.args.e c.requires.first) c.in_ok-extent.ensures.ready (rw c.in-Some.is at (c.in_ok-extent.ensures.serves cpu)))
+returns-clause-serves g c = λ cpu. rw (sym c.spot.ensures) at (part_gives extent_of (spot_of c.args.e) (spot_by c.args.e) _ (Some c.in-Some.extent) (spot_same c.args.e c.requires.first) c.in_ok-extent.ensures.fit.ready (rw c.in-Some.is at (c.in_ok-extent.ensures.serves cpu)))

@@ -14,7 +14,7 @@ returns-in_err-class_of-clause-serves g c = λ cpu. exits _ c.from_residual.ensu
 pub returns-then-not-is-clause-serves : goal.returns-then-not-is-clause-serves
 returns-then-not-is-clause-serves g c = λ cpu.
     let class = c.in_ok-class_of.ensures in
-    serves_within (large_within _ c.requires.named) (serves_then _ (class.serves cpu) (pick_false _ _ _ (sym c.is.ensures ∙ c.if-not-is.true) (done_serves class.ready)))
+    serves_within (large_within _ c.requires.named) (serves_then _ (class.serves cpu) (pick_false _ _ _ (sym c.is.ensures ∙ c.if-not-is.true) (done_serves class.fit.ready)))
 
 pub returns-clause-serves : goal.returns-clause-serves
 returns-clause-serves g c = λ cpu.
@@ -25,4 +25,4 @@ returns-clause-serves g c = λ cpu.
 pub returns-clause-looks : goal.returns-clause-looks
 returns-clause-looks g c =
     let class = c.in_ok-class_of.ensures in
-    on_ok c.two_bytes.result (λ last. Looks-trans (19 ∷ []) [] _ _ _ class.ready class.looks last) c.two_bytes.ensures.looks
+    on_ok c.two_bytes.result (λ last. Looks-trans (19 ∷ []) [] _ _ _ class.fit.ready class.looks last) c.two_bytes.ensures.looks

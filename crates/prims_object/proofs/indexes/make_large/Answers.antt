@@ -42,7 +42,7 @@ returns-clause-serves g c = λ cpu.
     (serves_then _ (c.in_ok-make_bytes.ensures.serves cpu)
     (serves_then _ (c.in_ok-store_byte.ensures.serves cpu)
     (serves_then _ (rw first at stored.serves cpu)
-    (done_same (ap (λ f. f 12) stored.regs ∙ first) stored.ready))))
+    (done_same (ap (λ f. f 12) stored.regs ∙ first) stored.fit.ready))))
 
 pub returns-clause-regs : goal.returns-clause-regs
 returns-clause-regs g c = λ r apart other. ap (λ f. f r) c.in_ok-store_byte-2.ensures.regs ∙ ap (λ f. f r) c.in_ok-store_byte.ensures.regs ∙ c.in_ok-make_bytes.ensures.regs r apart ∙ c.in_ok-known.ensures.looks.regs r (not_among 19 r other)

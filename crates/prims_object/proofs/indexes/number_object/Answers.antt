@@ -8,7 +8,7 @@ use Rattle.prims_object.proofs.indexes.number_object.Goals as goal
 
 pub returns-then-n-lt16384-clause-serves : goal.returns-then-n-lt16384-clause-serves
 unfolding number_object
-returns-then-n-lt16384-clause-serves g c = λ cpu. pick_true _ _ _ (is_small _ c.if-n-lt16384.true) (number_serves 12 _ _ (omega arith) (to_z_pos w16 c.args.n (omega (arith, c.if-n-lt16384.true))) c.requires.ready (c.int.ensures.ready c.requires.ready) c.int.ensures.told)
+returns-then-n-lt16384-clause-serves g c = λ cpu. pick_true _ _ _ (is_small _ c.if-n-lt16384.true) (number_serves 12 _ _ (omega arith) (to_z_pos w16 c.args.n (omega (arith, c.if-n-lt16384.true))) c.requires.fit.ready (c.int.ensures.fit.ready c.requires.fit.ready) c.int.ensures.told)
 
 pub returns-clause-serves : goal.returns-clause-serves
 unfolding number_object

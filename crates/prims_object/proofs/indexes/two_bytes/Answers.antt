@@ -13,7 +13,7 @@ returns-in_err-text_length-clause-serves g c = λ cpu. exits _ c.from_residual.e
 pub returns-then-not-is_pair-clause-serves : goal.returns-then-not-is_pair-clause-serves
 returns-then-not-is_pair-clause-serves g c = λ cpu.
     let found = c.in_ok-text_length.ensures in
-    serves_within (two_within _) (serves_then _ (found.serves cpu) (pick_false _ _ _ (sym c.is_pair.ensures ∙ c.if-not-is_pair.true) (done_serves found.ready)))
+    serves_within (two_within _) (serves_then _ (found.serves cpu) (pick_false _ _ _ (sym c.is_pair.ensures ∙ c.if-not-is_pair.true) (done_serves found.fit.ready)))
 
 pub returns-in_err-low-clause-serves : goal.returns-in_err-low-clause-serves
 returns-in_err-low-clause-serves g c = λ cpu.
@@ -40,10 +40,10 @@ returns-clause-serves g c = λ cpu.
     serves_within (two_within _) (serves_then _ (found.serves cpu) (pick_true _ _ _ (sym c.is_pair.ensures ∙ c.if-not-is_pair.false)
     (serves_then _ (rw same at low.serves cpu)
     (serves_then _ (rw (low.looks.regs c.args.of refl ∙ same) at high.serves cpu)
-    (done_as _ _ (ap (λ z. Some z) (sym (index_kept _ c.joined.ensures.range ∙ c.joined.ensures.number))) high.ready)))))
+    (done_as _ _ (ap (λ z. Some z) (sym (index_kept _ c.joined.ensures.range ∙ c.joined.ensures.number))) high.fit.ready)))))
 
 pub returns-clause-looks : goal.returns-clause-looks
 returns-clause-looks g c =
     let found = c.in_ok-text_length.ensures in
     let low = c.in_ok-low.ensures in
-    Looks-trans [] [] _ _ _ found.ready found.looks (Looks-trans [] [] _ _ _ low.ready low.looks c.in_ok-high.ensures.looks)
+    Looks-trans [] [] _ _ _ found.fit.ready found.looks (Looks-trans [] [] _ _ _ low.fit.ready low.looks c.in_ok-high.ensures.looks)

@@ -26,7 +26,7 @@ returns-then-not-is_made_by_new-clause-serves g c =
     let z = small_number _ (of_some IsSmallInteger _ c.in-Some.is c.in_ok-specification.ensures.range) in
     let class = c.in_ok-specification.ensures.looks.regs 10 refl in
     serves_then _ c.in_ok-stack.ensures.serves (found_then _ c.in-Some.is (c.in_ok-specification.ensures.serves _)
-    (false_fails _ _ c.in_ok-specification.ensures.ready (λ told. by_new _ _ _ _ _ _ _ class z c.is_made_by_new.ensures c.if-not-is_made_by_new.true)))
+    (false_fails _ _ c.in_ok-specification.ensures.fit.ready (λ told. by_new _ _ _ _ _ _ _ class z c.is_made_by_new.ensures c.if-not-is_made_by_new.true)))
 
 pub returns-in_err-make_fields-clause-serves : goal.returns-in_err-make_fields-clause-serves
 unfolding new

@@ -39,7 +39,7 @@ returns-then-not-is_made_by_new-clause-serves g c =
     let z = small_number _ (of_some IsSmallInteger _ c.in-Some.is c.in_ok-specification.ensures.range) in
     serves_then _ c.in_ok-stack.ensures.serves (serves_then _ c.in_ok-stack-2.ensures.serves
     (found_then _ c.in-Some.is (rw class at (c.in_ok-specification.ensures.serves c.args.cpu.now))
-    (false_fails _ _ c.in_ok-specification.ensures.ready (λ told. by_new _ _ _ _ _ _ _ still z c.is_made_by_new.ensures c.if-not-is_made_by_new.true))))
+    (false_fails _ _ c.in_ok-specification.ensures.fit.ready (λ told. by_new _ _ _ _ _ _ _ still z c.is_made_by_new.ensures c.if-not-is_made_by_new.true))))
 
 pub returns-in_err-elements-clause-serves : goal.returns-in_err-elements-clause-serves
 unfolding new_with_size
@@ -76,7 +76,7 @@ returns-then-n-ge65536-clause-serves g c =
     (found_then _ c.in-Some.is (rw class at (c.in_ok-specification.ensures.serves c.args.cpu.now))
     (true_then _ _ (λ told. by_new _ _ _ _ _ _ _ still z c.is_made_by_new.ensures c.if-not-is_made_by_new.false)
     (natural_then _ _ _ _ _ argument c.in-Some-2.is (c.in_ok-elements.ensures.leads _)
-    (false_fails _ _ c.in_ok-elements.ensures.ready (λ told. too_many _ _ _ _ z c.fixed_fields.ensures.fixed c.if-n-ge65536.true))))))
+    (false_fails _ _ c.in_ok-elements.ensures.fit.ready (λ told. too_many _ _ _ _ z c.fixed_fields.ensures.fixed c.if-n-ge65536.true))))))
 
 pub returns-in_err-make_sized-clause-serves : goal.returns-in_err-make_sized-clause-serves
 unfolding new_with_size

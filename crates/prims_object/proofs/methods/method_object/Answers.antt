@@ -9,13 +9,13 @@ use Rattle.prims_object.proofs.methods.method_object.Goals as goal
 
 pub returns-then-n-eq1-clause-serves : goal.returns-then-n-eq1-clause-serves
 returns-then-n-eq1-clause-serves g c =
-    let ready = c.requires.ready in
+    let ready = c.requires.fit.ready in
     let value = put_value _ _ 12 _ c.int.ensures.told in
     pick_true _ _ _ (eq-eqb _ 1 c.if-n-eq1.true)
-    (read_first ready (int_quiet _ _ 12 _ (omega arith) ready (c.int.ensures.ready ready) c.int.ensures.told) (rw (value, small_number _ c.requires.header) at c.answer.ensures.serves))
+    (read_first ready (int_quiet _ _ 12 _ (omega arith) ready (c.int.ensures.fit.ready ready) c.int.ensures.told) (rw (value, small_number _ c.requires.header) at c.answer.ensures.serves))
 
 pub returns-then-n-lt2-clause-serves : goal.returns-then-n-lt2-clause-serves
-returns-then-n-lt2-clause-serves g c = pick_false _ _ _ (ne_eqb _ 1 c.if-n-eq1.false) (false_fails _ _ c.requires.ready (λ told. lt-leb 2 _ c.if-n-lt2.true))
+returns-then-n-lt2-clause-serves g c = pick_false _ _ _ (ne_eqb _ 1 c.if-n-eq1.false) (false_fails _ _ c.requires.fit.ready (λ told. lt-leb 2 _ c.if-n-lt2.true))
 
 pub returns-in_err-peek_literal-clause-serves : goal.returns-in_err-peek_literal-clause-serves
 returns-in_err-peek_literal-clause-serves g c =

@@ -26,7 +26,7 @@ unfolding new_method
 returns-in_default-clause-serves g c =
     let code = c.in_ok-stack-3.ensures.looks.regs 11 refl in
     serves_then _ c.in_ok-stack.ensures.serves (serves_then _ c.in_ok-stack-2.ensures.serves (serves_then _ c.in_ok-stack-3.ensures.serves
-    (none_fails _ _ c.in_ok-stack-3.ensures.ready (λ told. coded _ _ _ _ _ code c.as_int.ensures.number c.code_size.ensures.size c.in_default.is))))
+    (none_fails _ _ c.in_ok-stack-3.ensures.fit.ready (λ told. coded _ _ _ _ _ code c.as_int.ensures.number c.code_size.ensures.size c.in_default.is))))
 
 pub returns-in_default-as_int-clause-serves : goal.returns-in_default-as_int-clause-serves
 unfolding new_method
@@ -34,7 +34,7 @@ returns-in_default-as_int-clause-serves g c =
     let code = c.in_ok-stack-3.ensures.looks.regs 11 refl in
     serves_then _ c.in_ok-stack.ensures.serves (serves_then _ c.in_ok-stack-2.ensures.serves (serves_then _ c.in_ok-stack-3.ensures.serves
     (some_then _ _ _ (λ told. coded _ _ _ _ _ code c.as_int.ensures.number c.code_size.ensures.size c.in-Some.is)
-    (none_fails _ _ c.in_ok-stack-3.ensures.ready (λ told. sym c.in_default-as_int.ensures.number)))))
+    (none_fails _ _ c.in_ok-stack-3.ensures.fit.ready (λ told. sym c.in_default-as_int.ensures.number)))))
 
 pub returns-then-not-is_name-clause-serves : goal.returns-then-not-is_name-clause-serves
 unfolding new_method
@@ -44,7 +44,7 @@ returns-then-not-is_name-clause-serves g c =
     serves_then _ c.in_ok-stack.ensures.serves (serves_then _ c.in_ok-stack-2.ensures.serves (serves_then _ c.in_ok-stack-3.ensures.serves
     (some_then _ _ _ (λ told. coded _ _ _ _ _ code c.as_int.ensures.number c.code_size.ensures.size c.in-Some.is)
     (some_then _ _ _ (λ told. sym c.in-Some-as_int.ensures.number)
-    (none_fails _ _ c.in_ok-stack-3.ensures.ready (λ told. unnamed _ _ class (differs _ _ c.is_name.ensures c.if-not-is_name.true)))))))
+    (none_fails _ _ c.in_ok-stack-3.ensures.fit.ready (λ told. unnamed _ _ class (differs _ _ c.is_name.ensures c.if-not-is_name.true)))))))
 
 pub returns-in_err-make_method-clause-serves : goal.returns-in_err-make_method-clause-serves
 unfolding new_method

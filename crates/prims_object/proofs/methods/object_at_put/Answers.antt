@@ -60,7 +60,7 @@ returns-then-n-lt2-clause-serves g c =
     serves_then _ c.in_ok-stack.ensures.serves (serves_then _ c.in_ok-stack-2.ensures.serves (serves_then _ c.in_ok-stack-3.ensures.serves
     (found_then _ c.in-Some.is (rw method at (c.in_ok-peek_header.ensures.serves c.args.cpu.now))
     (natural_then _ _ _ _ _ argument c.in-Some-2.is (c.in_ok-n.ensures.leads _)
-    (false_fails _ _ c.in_ok-n.ensures.ready (λ told. lt-leb 2 _ c.if-n-lt2.true))))))
+    (false_fails _ _ c.in_ok-n.ensures.fit.ready (λ told. lt-leb 2 _ c.if-n-lt2.true))))))
 
 pub returns-in_err-peek_literal-clause-serves : goal.returns-in_err-peek_literal-clause-serves
 unfolding object_at_put

@@ -10,7 +10,7 @@ use Rattle.prims_object.proofs.specifications.fixed_of.Goals as goal
 
 pub returns-then-not-is_name-clause-serves : goal.returns-then-not-is_name-clause-serves
 unfolding fixed_of
-returns-then-not-is_name-clause-serves g c = λ cpu. pick_true _ _ _ (is_number _ (differs _ _ c.is_name.ensures c.if-not-is_name.true)) (done_serves c.requires.ready)
+returns-then-not-is_name-clause-serves g c = λ cpu. pick_true _ _ _ (is_number _ (differs _ _ c.is_name.ensures c.if-not-is_name.true)) (done_serves c.requires.fit.ready)
 
 pub returns-in_err-class_of-clause-serves : goal.returns-in_err-class_of-clause-serves
 unfolding fixed_of
@@ -26,10 +26,10 @@ pub returns-in_default-clause-serves : goal.returns-in_default-clause-serves
 unfolding fixed_of
 returns-in_default-clause-serves g c = λ cpu.
     pick_false _ _ _ (is_name _ (c.is_name.ensures.0 c.if-not-is_name.false)) (serves_then _ (c.in_ok-class_of.ensures.serves cpu)
-    (serves_then _ (rw c.in_default.is at (c.in_ok-specification.ensures.serves cpu)) (done_serves c.in_ok-specification.ensures.ready)))
+    (serves_then _ (rw c.in_default.is at (c.in_ok-specification.ensures.serves cpu)) (done_serves c.in_ok-specification.ensures.fit.ready)))
 
 pub returns-in_default-clause-looks : goal.returns-in_default-clause-looks
-returns-in_default-clause-looks g c = looks_again 19 _ _ _ c.in_ok-class_of.ensures.ready c.in_ok-class_of.ensures.looks c.in_ok-specification.ensures.looks
+returns-in_default-clause-looks g c = looks_again 19 _ _ _ c.in_ok-class_of.ensures.fit.ready c.in_ok-class_of.ensures.looks c.in_ok-specification.ensures.looks
 
 pub returns-clause-serves : goal.returns-clause-serves
 unfolding fixed_of
@@ -37,7 +37,7 @@ returns-clause-serves g c = λ cpu.
     let z = small_number _ (of_some IsSmallInteger _ c.in-Some.is c.in_ok-specification.ensures.range) in
     let fixed = c.fixed_fields.ensures.fixed ∙ ap (λ z. fixed_fields z) z in
     pick_false _ _ _ (is_name _ (c.is_name.ensures.0 c.if-not-is_name.false)) (serves_then _ (c.in_ok-class_of.ensures.serves cpu)
-    (serves_then _ (rw c.in-Some.is at (c.in_ok-specification.ensures.serves cpu)) (done_as _ _ (ap (λ n. Some n) (sym fixed)) c.in_ok-specification.ensures.ready)))
+    (serves_then _ (rw c.in-Some.is at (c.in_ok-specification.ensures.serves cpu)) (done_as _ _ (ap (λ n. Some n) (sym fixed)) c.in_ok-specification.ensures.fit.ready)))
 
 pub returns-clause-looks : goal.returns-clause-looks
-returns-clause-looks g c = looks_again 19 _ _ _ c.in_ok-class_of.ensures.ready c.in_ok-class_of.ensures.looks c.in_ok-specification.ensures.looks
+returns-clause-looks g c = looks_again 19 _ _ _ c.in_ok-class_of.ensures.fit.ready c.in_ok-class_of.ensures.looks c.in_ok-specification.ensures.looks

@@ -12,10 +12,10 @@ use Rattle.prims_object.proofs.streams.advance.Goals as goal
 pub returns-clause-serves : goal.returns-clause-serves
 unfolding advance
 returns-clause-serves g c = λ cpu.
-    let before = c.requires.ready in
+    let before = c.requires.fit.ready in
     let stream = (Looks-put _ _ 19 _ c.int.ensures.told).regs 10 refl in
     let index = put_value _ _ 19 _ c.int.ensures.told ∙ ap (λ z. Int z) (to_z_pos w16 (c.args.index + 1) (omega (arith, c.requires.few))) in
-    read_first before (int_quiet _ _ 19 _ (omega arith) before (c.int.ensures.ready before) c.int.ensures.told) (rw (stream, index) at c.store_field.ensures.serves cpu)
+    read_first before (int_quiet _ _ 19 _ (omega arith) before (c.int.ensures.fit.ready before) c.int.ensures.told) (rw (stream, index) at c.store_field.ensures.serves cpu)
 
 pub returns-clause-regs : goal.returns-clause-regs
 returns-clause-regs g c =

@@ -7,7 +7,7 @@ use Rattle.prims_object.proofs.streams.next_spot.Goals as goal
 
 pub returns-then-not-is_open-clause-leads : goal.returns-then-not-is_open-clause-leads
 unfolding next_spot
-returns-then-not-is_open-clause-leads g c = λ cpu rest. false_fails _ _ c.requires.ready (λ told. sym c.is_open.ensures ∙ c.if-not-is_open.true)
+returns-then-not-is_open-clause-leads g c = λ cpu rest. false_fails _ _ c.requires.fit.ready (λ told. sym c.is_open.ensures ∙ c.if-not-is_open.true)
 
 pub returns-in_err-spot-clause-leads : goal.returns-in_err-spot-clause-leads
 unfolding next_spot
@@ -25,7 +25,7 @@ pub returns-then-not-can_grow-clause-leads : goal.returns-then-not-can_grow-clau
 unfolding next_spot
 returns-then-not-can_grow-clause-leads g c = λ cpu rest.
     let z = index_as _ _ c.next.ensures.next (rw c.next.ensures.next at c.next.ensures.range) in
-    true_then _ _ (λ told. sym c.is_open.ensures ∙ c.if-not-is_open.false) (found_then _ c.in-Some.is (rw z at c.in_ok-spot.ensures.serves cpu) (false_fails _ _ c.in_ok-spot.ensures.ready (λ told. sym c.can_grow.ensures ∙ c.if-not-can_grow.true)))
+    true_then _ _ (λ told. sym c.is_open.ensures ∙ c.if-not-is_open.false) (found_then _ c.in-Some.is (rw z at c.in_ok-spot.ensures.serves cpu) (false_fails _ _ c.in_ok-spot.ensures.fit.ready (λ told. sym c.can_grow.ensures ∙ c.if-not-can_grow.true)))
 
 pub returns-clause-leads : goal.returns-clause-leads
 unfolding next_spot

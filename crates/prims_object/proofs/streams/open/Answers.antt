@@ -31,7 +31,7 @@ unfolding of_stream
 returns-in_default-clause-leads g c = λ cpu rest. found_then _ refl (rw c.if-not-branch.false at c.in_ok-peek_field.ensures.serves cpu) (none_found _ c.in_default.is (c.in_ok-text.ensures.serves cpu))
 
 pub returns-in_default-clause-looks : goal.returns-in_default-clause-looks
-returns-in_default-clause-looks g c = Looks-trans (13 ∷ []) (19 ∷ []) _ _ _ c.in_ok-peek_field.ensures.ready c.in_ok-peek_field.ensures.looks c.in_ok-text.ensures.looks
+returns-in_default-clause-looks g c = Looks-trans (13 ∷ []) (19 ∷ []) _ _ _ c.in_ok-peek_field.ensures.fit.ready c.in_ok-peek_field.ensures.looks c.in_ok-text.ensures.looks
 
 pub returns-in_err-number-clause-leads : goal.returns-in_err-number-clause-leads
 unfolding of_stream
@@ -50,7 +50,7 @@ returns-in_default-2-clause-leads g c = λ cpu rest.
     (none_found _ c.in_default-2.is (rw stream at c.in_ok-number.ensures.serves cpu)))
 
 pub returns-in_default-2-clause-looks : goal.returns-in_default-2-clause-looks
-returns-in_default-2-clause-looks g c = Looks-trans (13 ∷ []) (19 ∷ []) _ _ _ c.in_ok-peek_field.ensures.ready c.in_ok-peek_field.ensures.looks (looks_again 19 _ _ _ c.in_ok-text.ensures.ready c.in_ok-text.ensures.looks c.in_ok-number.ensures.looks)
+returns-in_default-2-clause-looks g c = Looks-trans (13 ∷ []) (19 ∷ []) _ _ _ c.in_ok-peek_field.ensures.fit.ready c.in_ok-peek_field.ensures.looks (looks_again 19 _ _ _ c.in_ok-text.ensures.fit.ready c.in_ok-text.ensures.looks c.in_ok-number.ensures.looks)
 
 pub returns-in_err-limit-clause-leads : goal.returns-in_err-limit-clause-leads
 unfolding of_stream
@@ -73,7 +73,7 @@ returns-in_default-3-clause-leads g c = λ cpu rest.
     (none_found _ c.in_default-3.is (rw again at c.in_ok-limit.ensures.serves cpu))))
 
 pub returns-in_default-3-clause-looks : goal.returns-in_default-3-clause-looks
-returns-in_default-3-clause-looks g c = Looks-trans (13 ∷ []) (19 ∷ []) _ _ _ c.in_ok-peek_field.ensures.ready c.in_ok-peek_field.ensures.looks (looks_again 19 _ _ _ c.in_ok-text.ensures.ready c.in_ok-text.ensures.looks (looks_again 19 _ _ _ c.in_ok-number.ensures.ready c.in_ok-number.ensures.looks c.in_ok-limit.ensures.looks))
+returns-in_default-3-clause-looks g c = Looks-trans (13 ∷ []) (19 ∷ []) _ _ _ c.in_ok-peek_field.ensures.fit.ready c.in_ok-peek_field.ensures.looks (looks_again 19 _ _ _ c.in_ok-text.ensures.fit.ready c.in_ok-text.ensures.looks (looks_again 19 _ _ _ c.in_ok-number.ensures.fit.ready c.in_ok-number.ensures.looks c.in_ok-limit.ensures.looks))
 
 pub returns-in_default-natural-clause-leads : goal.returns-in_default-natural-clause-leads
 unfolding of_stream
@@ -86,10 +86,10 @@ returns-in_default-natural-clause-leads g c = λ cpu rest.
     (found_then _ c.in-Some.is (c.in_ok-text.ensures.serves cpu)
     (found_then _ c.in-Some-2.is (rw stream at c.in_ok-number.ensures.serves cpu)
     (found_then _ c.in-Some-3.is (rw again at c.in_ok-limit.ensures.serves cpu)
-    (none_fails _ _ c.in_ok-limit.ensures.ready (λ told. index ∙ c.in_default-natural.is)))))
+    (none_fails _ _ c.in_ok-limit.ensures.fit.ready (λ told. index ∙ c.in_default-natural.is)))))
 
 pub returns-in_default-natural-clause-looks : goal.returns-in_default-natural-clause-looks
-returns-in_default-natural-clause-looks g c = Looks-trans (13 ∷ []) (19 ∷ []) _ _ _ c.in_ok-peek_field.ensures.ready c.in_ok-peek_field.ensures.looks (looks_again 19 _ _ _ c.in_ok-text.ensures.ready c.in_ok-text.ensures.looks (looks_again 19 _ _ _ c.in_ok-number.ensures.ready c.in_ok-number.ensures.looks c.in_ok-limit.ensures.looks))
+returns-in_default-natural-clause-looks g c = Looks-trans (13 ∷ []) (19 ∷ []) _ _ _ c.in_ok-peek_field.ensures.fit.ready c.in_ok-peek_field.ensures.looks (looks_again 19 _ _ _ c.in_ok-text.ensures.fit.ready c.in_ok-text.ensures.looks (looks_again 19 _ _ _ c.in_ok-number.ensures.fit.ready c.in_ok-number.ensures.looks c.in_ok-limit.ensures.looks))
 
 pub returns-clause-leads : goal.returns-clause-leads
 unfolding of_stream
@@ -107,4 +107,4 @@ returns-clause-leads g c = λ cpu rest later now answer next.
     (some_then _ _ c.in-Some-natural.index (λ told. index ∙ c.in-Some-natural.is) (rw (array, limit) at next)))))
 
 pub returns-clause-looks : goal.returns-clause-looks
-returns-clause-looks g c = Looks-trans (13 ∷ []) (19 ∷ []) _ _ _ c.in_ok-peek_field.ensures.ready c.in_ok-peek_field.ensures.looks (looks_again 19 _ _ _ c.in_ok-text.ensures.ready c.in_ok-text.ensures.looks (looks_again 19 _ _ _ c.in_ok-number.ensures.ready c.in_ok-number.ensures.looks c.in_ok-limit.ensures.looks))
+returns-clause-looks g c = Looks-trans (13 ∷ []) (19 ∷ []) _ _ _ c.in_ok-peek_field.ensures.fit.ready c.in_ok-peek_field.ensures.looks (looks_again 19 _ _ _ c.in_ok-text.ensures.fit.ready c.in_ok-text.ensures.looks (looks_again 19 _ _ _ c.in_ok-number.ensures.fit.ready c.in_ok-number.ensures.looks c.in_ok-limit.ensures.looks))

@@ -19,7 +19,7 @@ returns-then-is-clause-serves g c = λ cpu.
 pub returns-then-is-clause-looks : goal.returns-then-is-clause-looks
 returns-then-is-clause-looks g c =
     let class = c.in_ok-class_of.ensures in
-    on_ok c.peek_array.result (λ last. Looks-trans (19 ∷ []) [] _ _ _ class.ready class.looks last) c.peek_array.ensures.looks
+    on_ok c.peek_array.result (λ last. Looks-trans (19 ∷ []) [] _ _ _ class.fit.ready class.looks last) c.peek_array.ensures.looks
 
 pub returns-then-is-2-clause-serves : goal.returns-then-is-2-clause-serves
 unfolding streamed streamed_by
@@ -30,9 +30,9 @@ returns-then-is-2-clause-serves g c = λ cpu.
 pub returns-then-is-2-clause-looks : goal.returns-then-is-2-clause-looks
 returns-then-is-2-clause-looks g c =
     let class = c.in_ok-class_of.ensures in
-    on_ok c.peek_text.result (λ last. Looks-trans (19 ∷ []) [] _ _ _ class.ready class.looks last) c.peek_text.ensures.looks
+    on_ok c.peek_text.result (λ last. Looks-trans (19 ∷ []) [] _ _ _ class.fit.ready class.looks last) c.peek_text.ensures.looks
 
 pub returns-clause-serves : goal.returns-clause-serves
 unfolding streamed streamed_by
 returns-clause-serves g c = λ cpu.
-    serves_then _ (c.in_ok-class_of.ensures.serves cpu) (pick_false _ _ _ (sym c.is.ensures ∙ c.if-is.false) (pick_false _ _ _ (sym c.is-2.ensures ∙ c.if-is-2.false) (done_serves c.in_ok-class_of.ensures.ready)))
+    serves_then _ (c.in_ok-class_of.ensures.serves cpu) (pick_false _ _ _ (sym c.is.ensures ∙ c.if-is.false) (pick_false _ _ _ (sym c.is-2.ensures ∙ c.if-is-2.false) (done_serves c.in_ok-class_of.ensures.fit.ready)))

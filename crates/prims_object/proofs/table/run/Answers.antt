@@ -79,76 +79,76 @@ returns-in-111-eq0-clause-serves g c = row_serves object_primitives (row 111 0 m
 
 pub returns-in_default-clause-serves : goal.returns-in_default-clause-serves
 unfolding pick object_primitives
-returns-in_default-clause-serves g c = row_fails object_primitives (row 60 1 model.at) _ 60 c.in_default.is-0 refl c.in_default.is-1.1 c.requires.ready
+returns-in_default-clause-serves g c = row_fails object_primitives (row 60 1 model.at) _ 60 c.in_default.is-0 refl c.in_default.is-1.1 c.requires.fit.ready
 
 pub returns-in_default-2-clause-serves : goal.returns-in_default-2-clause-serves
 unfolding pick object_primitives
-returns-in_default-2-clause-serves g c = row_fails object_primitives (row 61 2 model.at_put) _ 61 c.in_default.is-0 refl c.in_default.is-1.1 c.requires.ready
+returns-in_default-2-clause-serves g c = row_fails object_primitives (row 61 2 model.at_put) _ 61 c.in_default.is-0 refl c.in_default.is-1.1 c.requires.fit.ready
 
 pub returns-in_default-3-clause-serves : goal.returns-in_default-3-clause-serves
 unfolding pick object_primitives
-returns-in_default-3-clause-serves g c = row_fails object_primitives (row 62 0 model.size_of) _ 62 c.in_default.is-0 refl c.in_default.is-1.1 c.requires.ready
+returns-in_default-3-clause-serves g c = row_fails object_primitives (row 62 0 model.size_of) _ 62 c.in_default.is-0 refl c.in_default.is-1.1 c.requires.fit.ready
 
 pub returns-in_default-4-clause-serves : goal.returns-in_default-4-clause-serves
 unfolding pick object_primitives
-returns-in_default-4-clause-serves g c = row_fails object_primitives (row 63 1 model.string_at) _ 63 c.in_default.is-0 refl c.in_default.is-1.1 c.requires.ready
+returns-in_default-4-clause-serves g c = row_fails object_primitives (row 63 1 model.string_at) _ 63 c.in_default.is-0 refl c.in_default.is-1.1 c.requires.fit.ready
 
 pub returns-in_default-5-clause-serves : goal.returns-in_default-5-clause-serves
 unfolding pick object_primitives
-returns-in_default-5-clause-serves g c = row_fails object_primitives (row 64 2 model.string_at_put) _ 64 c.in_default.is-0 refl c.in_default.is-1.1 c.requires.ready
+returns-in_default-5-clause-serves g c = row_fails object_primitives (row 64 2 model.string_at_put) _ 64 c.in_default.is-0 refl c.in_default.is-1.1 c.requires.fit.ready
 
 pub returns-in_default-6-clause-serves : goal.returns-in_default-6-clause-serves
 unfolding pick object_primitives
-returns-in_default-6-clause-serves g c = row_fails object_primitives (row 65 0 model.next) _ 65 c.in_default.is-0 refl c.in_default.is-1.1 c.requires.ready
+returns-in_default-6-clause-serves g c = row_fails object_primitives (row 65 0 model.next) _ 65 c.in_default.is-0 refl c.in_default.is-1.1 c.requires.fit.ready
 
 pub returns-in_default-7-clause-serves : goal.returns-in_default-7-clause-serves
 unfolding pick object_primitives
-returns-in_default-7-clause-serves g c = row_fails object_primitives (row 66 1 model.next_put) _ 66 c.in_default.is-0 refl c.in_default.is-1.1 c.requires.ready
+returns-in_default-7-clause-serves g c = row_fails object_primitives (row 66 1 model.next_put) _ 66 c.in_default.is-0 refl c.in_default.is-1.1 c.requires.fit.ready
 
 pub returns-in_default-8-clause-serves : goal.returns-in_default-8-clause-serves
 unfolding pick object_primitives
-returns-in_default-8-clause-serves g c = row_fails object_primitives (row 67 0 model.at_end) _ 67 c.in_default.is-0 refl c.in_default.is-1.1 c.requires.ready
+returns-in_default-8-clause-serves g c = row_fails object_primitives (row 67 0 model.at_end) _ 67 c.in_default.is-0 refl c.in_default.is-1.1 c.requires.fit.ready
 
 pub returns-in_default-9-clause-serves : goal.returns-in_default-9-clause-serves
 unfolding pick object_primitives
-returns-in_default-9-clause-serves g c = row_fails object_primitives (row 68 1 model.object_at_index) _ 68 c.in_default.is-0 refl c.in_default.is-1.1 c.requires.ready
+returns-in_default-9-clause-serves g c = row_fails object_primitives (row 68 1 model.object_at_index) _ 68 c.in_default.is-0 refl c.in_default.is-1.1 c.requires.fit.ready
 
 pub returns-in_default-10-clause-serves : goal.returns-in_default-10-clause-serves
 unfolding pick object_primitives
-returns-in_default-10-clause-serves g c = row_fails object_primitives (row 69 2 model.object_at_put) _ 69 c.in_default.is-0 refl c.in_default.is-1.1 c.requires.ready
+returns-in_default-10-clause-serves g c = row_fails object_primitives (row 69 2 model.object_at_put) _ 69 c.in_default.is-0 refl c.in_default.is-1.1 c.requires.fit.ready
 
 pub returns-in_default-11-clause-serves : goal.returns-in_default-11-clause-serves
 unfolding pick object_primitives
-returns-in_default-11-clause-serves g c = row_fails object_primitives (row 70 0 model.new) _ 70 c.in_default.is-0 refl c.in_default.is-1.1 c.requires.ready
+returns-in_default-11-clause-serves g c = row_fails object_primitives (row 70 0 model.new) _ 70 c.in_default.is-0 refl c.in_default.is-1.1 c.requires.fit.ready
 
 pub returns-in_default-12-clause-serves : goal.returns-in_default-12-clause-serves
 unfolding pick object_primitives
-returns-in_default-12-clause-serves g c = row_fails object_primitives (row 71 1 model.new_with_size) _ 71 c.in_default.is-0 refl c.in_default.is-1.1 c.requires.ready
+returns-in_default-12-clause-serves g c = row_fails object_primitives (row 71 1 model.new_with_size) _ 71 c.in_default.is-0 refl c.in_default.is-1.1 c.requires.fit.ready
 
 pub returns-in_default-13-clause-serves : goal.returns-in_default-13-clause-serves
 unfolding pick object_primitives
-returns-in_default-13-clause-serves g c = row_fails object_primitives (row 73 1 model.instance_variable_at) _ 73 c.in_default.is-0 refl c.in_default.is-1.1 c.requires.ready
+returns-in_default-13-clause-serves g c = row_fails object_primitives (row 73 1 model.instance_variable_at) _ 73 c.in_default.is-0 refl c.in_default.is-1.1 c.requires.fit.ready
 
 pub returns-in_default-14-clause-serves : goal.returns-in_default-14-clause-serves
 unfolding pick object_primitives
-returns-in_default-14-clause-serves g c = row_fails object_primitives (row 74 2 model.instance_variable_at_put) _ 74 c.in_default.is-0 refl c.in_default.is-1.1 c.requires.ready
+returns-in_default-14-clause-serves g c = row_fails object_primitives (row 74 2 model.instance_variable_at_put) _ 74 c.in_default.is-0 refl c.in_default.is-1.1 c.requires.fit.ready
 
 pub returns-in_default-15-clause-serves : goal.returns-in_default-15-clause-serves
 unfolding pick object_primitives
-returns-in_default-15-clause-serves g c = row_fails object_primitives (row 75 0 model.hash) _ 75 c.in_default.is-0 refl c.in_default.is-1.1 c.requires.ready
+returns-in_default-15-clause-serves g c = row_fails object_primitives (row 75 0 model.hash) _ 75 c.in_default.is-0 refl c.in_default.is-1.1 c.requires.fit.ready
 
 pub returns-in_default-16-clause-serves : goal.returns-in_default-16-clause-serves
 unfolding pick object_primitives
-returns-in_default-16-clause-serves g c = row_fails object_primitives (row 79 2 model.new_method) _ 79 c.in_default.is-0 refl c.in_default.is-1.1 c.requires.ready
+returns-in_default-16-clause-serves g c = row_fails object_primitives (row 79 2 model.new_method) _ 79 c.in_default.is-0 refl c.in_default.is-1.1 c.requires.fit.ready
 
 pub returns-in_default-17-clause-serves : goal.returns-in_default-17-clause-serves
 unfolding pick object_primitives
-returns-in_default-17-clause-serves g c = row_fails object_primitives (row 110 1 model.equivalent) _ 110 c.in_default.is-0 refl c.in_default.is-1.1 c.requires.ready
+returns-in_default-17-clause-serves g c = row_fails object_primitives (row 110 1 model.equivalent) _ 110 c.in_default.is-0 refl c.in_default.is-1.1 c.requires.fit.ready
 
 pub returns-in_default-18-clause-serves : goal.returns-in_default-18-clause-serves
 unfolding pick object_primitives
-returns-in_default-18-clause-serves g c = row_fails object_primitives (row 111 0 model.class) _ 111 c.in_default.is-0 refl c.in_default.is-1.1 c.requires.ready
+returns-in_default-18-clause-serves g c = row_fails object_primitives (row 111 0 model.class) _ 111 c.in_default.is-0 refl c.in_default.is-1.1 c.requires.fit.ready
 
 pub returns-in_default-19-clause-serves : goal.returns-in_default-19-clause-serves
 unfolding object_primitives
-returns-in_default-19-clause-serves g c = none_serves object_primitives _ c.requires.ready c.in_default.is-0
+returns-in_default-19-clause-serves g c = none_serves object_primitives _ c.requires.fit.ready c.in_default.is-0

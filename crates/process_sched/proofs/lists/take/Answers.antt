@@ -66,4 +66,4 @@ returns-clause-serves g c = λ cpu.
     (serves_then _ (rw (its, first) at c.in_ok-unlink.ensures.serves cpu)
     (serves_then _ (c.in_ok-known.ensures.serves cpu)
     (serves_then _ (rw taken at c.in_ok-store_field.ensures.serves cpu)
-    (done_same (ap (λ f. f 17) c.in_ok-store_field.ensures.regs ∙ taken) c.in_ok-store_field.ensures.ready)))))
+    (done_same (ap (λ f. f 17) c.in_ok-store_field.ensures.regs ∙ taken) c.in_ok-store_field.ensures.fit.ready)))))

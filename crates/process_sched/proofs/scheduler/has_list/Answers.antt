@@ -20,7 +20,7 @@ pub returns-clause-serves : goal.returns-clause-serves
 unfolding has_list
 returns-clause-serves g c = λ cpu. serves_then _ (c.in_ok-process_lists.ensures.serves cpu)
     (serves_then _ (c.in_ok-count.ensures.serves cpu)
-    (done_same (c.is_some.ensures ∙ ap is_some (sym (list_found _ _ _ _ _ (small_number _ c.requires.range) c.list_index.ensures.index refl))) c.in_ok-count.ensures.ready))
+    (done_same (c.is_some.ensures ∙ ap is_some (sym (list_found _ _ _ _ _ (small_number _ c.requires.range) c.list_index.ensures.index refl))) c.in_ok-count.ensures.fit.ready))
 
 pub returns-clause-looks : goal.returns-clause-looks
-returns-clause-looks g c = Looks-trans (15 ∷ []) [] _ _ _ c.in_ok-process_lists.ensures.ready c.in_ok-process_lists.ensures.looks c.in_ok-count.ensures.looks
+returns-clause-looks g c = Looks-trans (15 ∷ []) [] _ _ _ c.in_ok-process_lists.ensures.fit.ready c.in_ok-process_lists.ensures.looks c.in_ok-count.ensures.looks

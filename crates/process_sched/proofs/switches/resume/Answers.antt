@@ -53,8 +53,8 @@ returns-clause-serves g c =
     let process = c.in_ok-own.ensures.looks.regs 17 refl ∙ c.in_ok-current_process.ensures.looks.regs 17 refl ∙ c.in_ok-priority.ensures.looks.regs 17 refl in
     let test = tested (small_number _ c.in_ok-own.ensures.range) (small_number _ c.in_ok-priority.ensures.range) c.if-own-priority.false in
     let it = put_value _ _ 10 _ c.copy.ensures.told ∙ process in
-    let ready = c.in_ok-own.ensures.ready in
+    let ready = c.in_ok-own.ensures.fit.ready in
     serves_then _ (c.in_ok-priority.ensures.serves _)
     (serves_then _ c.in_ok-current_process.ensures.serves
     (serves_then _ (c.in_ok-own.ensures.serves _)
-    (pick_false _ _ _ test (read_first ready (copy_quiet _ _ 10 17 (omega arith) ready (c.copy.ensures.ready ready) c.copy.ensures.told) (rw it at c.sleep-2.ensures.serves c.args.cpu.now)))))
+    (pick_false _ _ _ test (read_first ready (copy_quiet _ _ 10 17 (omega arith) ready (c.copy.ensures.fit.ready ready) c.copy.ensures.told) (rw it at c.sleep-2.ensures.serves c.args.cpu.now)))))

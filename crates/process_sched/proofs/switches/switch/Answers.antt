@@ -42,7 +42,7 @@ returns-in_err-field-2-clause-serves g c =
 pub returns-clause-serves : goal.returns-clause-serves
 unfolding switch
 returns-clause-serves g c =
-    let ready = c.int.ensures.ready c.in_ok-field-2.ensures.ready in
+    let ready = c.int.ensures.fit.ready c.in_ok-field-2.ensures.fit.ready in
     let context = (Looks-put _ _ 6 _ c.int.ensures.told).regs 12 refl in
     let scheduler = ap (λ f. f 11) c.in_ok-store_field.ensures.regs ∙ c.in_ok-field.ensures.looks.regs 11 refl in
     serves_then _ (c.in_ok-scheduler.ensures.serves _) (serves_then _ (c.in_ok-field.ensures.serves _)

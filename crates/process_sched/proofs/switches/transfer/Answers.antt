@@ -8,5 +8,5 @@ use Rattle.process_sched.proofs.switches.transfer.Goals as goal
 pub returns-clause-serves : goal.returns-clause-serves
 unfolding transfer
 returns-clause-serves g c =
-    let ready = c.copy.ensures.ready c.requires.ready in
-    serves_then _ (put_serves 6 17 refl c.requires.ready ready c.copy.ensures.told) (numbers_then _ (set_numbers_at _ refl ready))
+    let ready = c.copy.ensures.fit.ready c.requires.fit.ready in
+    serves_then _ (put_serves 6 17 refl c.requires.fit.ready ready c.copy.ensures.told) (numbers_then _ (set_numbers_at _ refl ready))

@@ -39,7 +39,7 @@ returns-then-not-branch-clause-serves g c =
     serves_then _ c.in_ok-stack.ensures.serves
     (found_then _ c.in-Some.is (c.in_ok-priority.ensures.serves _)
     (serves_then _ (rw z at c.in_ok-has_list.ensures.serves c.args.cpu.now)
-    (false_fails _ _ c.in_ok-has_list.ensures.ready (λ told. c.if-not-branch.true))))
+    (false_fails _ _ c.in_ok-has_list.ensures.fit.ready (λ told. c.if-not-branch.true))))
 
 pub returns-in_err-resume-clause-serves : goal.returns-in_err-resume-clause-serves
 unfolding primitive_resume
@@ -61,4 +61,4 @@ returns-clause-serves g c =
     (found_then _ c.in-Some.is (c.in_ok-priority.ensures.serves _)
     (serves_then _ (rw z at c.in_ok-has_list.ensures.serves c.args.cpu.now)
     (true_then _ _ (λ told. c.if-not-branch.false)
-    (serves_then _ (rw process at c.in_ok-resume.ensures.serves) (done_serves c.in_ok-resume.ensures.ready)))))
+    (serves_then _ (rw process at c.in_ok-resume.ensures.serves) (done_serves c.in_ok-resume.ensures.fit.ready)))))

@@ -35,4 +35,4 @@ returns-clause-serves g c =
     let semaphore = c.in_ok-peek_number.ensures.looks.regs 11 refl in
     serves_then _ c.in_ok-stack.ensures.serves
     (found_then _ c.in-Some.is (c.in_ok-peek_number.ensures.serves _)
-    (serves_then _ (rw semaphore at c.in_ok-signal.ensures.serves) (done_serves c.in_ok-signal.ensures.ready)))
+    (serves_then _ (rw semaphore at c.in_ok-signal.ensures.serves) (done_serves c.in_ok-signal.ensures.fit.ready)))

@@ -22,7 +22,7 @@ returns-then-not-same-clause-serves g c =
     let same = same_is _ _ _ _ (c.in_ok-current_process.ensures.looks.regs 17 refl) c.same.ensures in
     serves_then _ c.in_ok-stack.ensures.serves
     (serves_then _ c.in_ok-current_process.ensures.serves
-    (false_fails _ _ c.in_ok-current_process.ensures.ready (λ told. sym same ∙ c.if-not-same.true)))
+    (false_fails _ _ c.in_ok-current_process.ensures.fit.ready (λ told. sym same ∙ c.if-not-same.true)))
 
 pub returns-in_err-known-clause-serves : goal.returns-in_err-known-clause-serves
 unfolding primitive_suspend
@@ -63,4 +63,4 @@ returns-clause-serves g c =
     (true_then _ _ (λ told. sym same ∙ c.if-not-same.false)
     (serves_then _ (c.in_ok-known.ensures.serves _)
     (serves_then _ c.in_ok-put_stack.ensures.serves
-    (serves_then _ c.in_ok-suspend_active.ensures.serves (done_serves c.in_ok-suspend_active.ensures.ready))))))
+    (serves_then _ c.in_ok-suspend_active.ensures.serves (done_serves c.in_ok-suspend_active.ensures.fit.ready))))))

@@ -24,20 +24,20 @@ returns-in-88-eq0-clause-serves g c = row_serves process_primitives (row 88 0 mo
 
 pub returns-in_default-clause-serves : goal.returns-in_default-clause-serves
 unfolding pick process_primitives
-returns-in_default-clause-serves g c = row_fails process_primitives (row 85 0 model.primitive_signal) _ 85 c.in_default.is-0 refl c.in_default.is-1.1 c.requires.ready
+returns-in_default-clause-serves g c = row_fails process_primitives (row 85 0 model.primitive_signal) _ 85 c.in_default.is-0 refl c.in_default.is-1.1 c.requires.fit.ready
 
 pub returns-in_default-2-clause-serves : goal.returns-in_default-2-clause-serves
 unfolding pick process_primitives
-returns-in_default-2-clause-serves g c = row_fails process_primitives (row 86 0 model.primitive_wait) _ 86 c.in_default.is-0 refl c.in_default.is-1.1 c.requires.ready
+returns-in_default-2-clause-serves g c = row_fails process_primitives (row 86 0 model.primitive_wait) _ 86 c.in_default.is-0 refl c.in_default.is-1.1 c.requires.fit.ready
 
 pub returns-in_default-3-clause-serves : goal.returns-in_default-3-clause-serves
 unfolding pick process_primitives
-returns-in_default-3-clause-serves g c = row_fails process_primitives (row 87 0 model.primitive_resume) _ 87 c.in_default.is-0 refl c.in_default.is-1.1 c.requires.ready
+returns-in_default-3-clause-serves g c = row_fails process_primitives (row 87 0 model.primitive_resume) _ 87 c.in_default.is-0 refl c.in_default.is-1.1 c.requires.fit.ready
 
 pub returns-in_default-4-clause-serves : goal.returns-in_default-4-clause-serves
 unfolding pick process_primitives
-returns-in_default-4-clause-serves g c = row_fails process_primitives (row 88 0 model.primitive_suspend) _ 88 c.in_default.is-0 refl c.in_default.is-1.1 c.requires.ready
+returns-in_default-4-clause-serves g c = row_fails process_primitives (row 88 0 model.primitive_suspend) _ 88 c.in_default.is-0 refl c.in_default.is-1.1 c.requires.fit.ready
 
 pub returns-in_default-5-clause-serves : goal.returns-in_default-5-clause-serves
 unfolding pick process_primitives
-returns-in_default-5-clause-serves g c = none_serves process_primitives _ c.requires.ready c.in_default.is-0
+returns-in_default-5-clause-serves g c = none_serves process_primitives _ c.requires.fit.ready c.in_default.is-0

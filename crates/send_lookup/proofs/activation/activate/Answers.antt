@@ -24,7 +24,7 @@ returns-in_err-pop-clause-serves g c =
     let header = small_number _ c.in_ok-header.ensures.range in
     numbers_then _ (register_then _ _ refl (serves_then _ (c.in_ok-header.ensures.serves _)
     (serves_then _ (rw (method, header, c.from-n.ensures) at c.in_ok-make_context.ensures.serves)
-    (serves_exit _ _ (rw c.from-n.ensures at c.in_err-pop.ensures.serves _ c.in_ok-make_context.ensures.ready) c.from_residual-in_err-pop.ensures.1))))
+    (serves_exit _ _ (rw c.from-n.ensures at c.in_err-pop.ensures.serves _ c.in_ok-make_context.ensures.fit.ready) c.from_residual-in_err-pop.ensures.1))))
 
 pub returns-in_err-enter-clause-serves : goal.returns-in_err-enter-clause-serves
 unfolding activate
@@ -33,7 +33,7 @@ returns-in_err-enter-clause-serves g c =
     let header = small_number _ c.in_ok-header.ensures.range in
     numbers_then _ (register_then _ _ refl (serves_then _ (c.in_ok-header.ensures.serves _)
     (serves_then _ (rw (method, header, c.from-n.ensures) at c.in_ok-make_context.ensures.serves)
-    (serves_then _ (rw c.from-n.ensures at c.in_ok-pop.ensures.serves _ c.in_ok-make_context.ensures.ready)
+    (serves_then _ (rw c.from-n.ensures at c.in_ok-pop.ensures.serves _ c.in_ok-make_context.ensures.fit.ready)
     (exits _ c.from_residual-in_err-enter.ensures.1 c.in_err-enter.ensures.serves)))))
 
 pub returns-clause-serves : goal.returns-clause-serves
@@ -43,5 +43,5 @@ returns-clause-serves g c =
     let header = small_number _ c.in_ok-header.ensures.range in
     numbers_then _ (register_then _ _ refl (serves_then _ (c.in_ok-header.ensures.serves _)
     (serves_then _ (rw (method, header, c.from-n.ensures) at c.in_ok-make_context.ensures.serves)
-    (serves_then _ (rw c.from-n.ensures at c.in_ok-pop.ensures.serves _ c.in_ok-make_context.ensures.ready)
+    (serves_then _ (rw c.from-n.ensures at c.in_ok-pop.ensures.serves _ c.in_ok-make_context.ensures.fit.ready)
     c.in_ok-enter.ensures.serves))))

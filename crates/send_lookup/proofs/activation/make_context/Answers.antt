@@ -47,4 +47,4 @@ returns-clause-serves g c =
     (serves_then _ (rw size at c.in_ok-make_pointers.ensures.serves _)
     (serves_then _ (rw (method, small_number _ c.requires.header) at c.in_ok-fill_context.ensures.serves _)
     (serves_then _ (rw (context, size) at c.in_ok-pass_all.ensures.serves)
-    (done_same (c.in_ok-pass_all.ensures.regs 16 (λ e. absurd (omega arith)) ∙ context) c.in_ok-pass_all.ensures.ready))))
+    (done_same (c.in_ok-pass_all.ensures.regs 16 (λ e. absurd (omega arith)) ∙ context) c.in_ok-pass_all.ensures.fit.ready))))

@@ -5,10 +5,10 @@ use Rattle.send_lookup.proofs.activation.pass_all.Goals as goal
 
 pub loop-k-init : goal.loop-k-init
 loop-k-init g c = record {
-  passed = each_none _ c.requires.ready;
+  passed = each_none _ c.requires.fit.ready;
   regs = λ r apart. refl;
-  ready = c.requires.ready;
-  sound = c.requires.sound;
+  ready = c.requires.fit.ready;
+  sound = c.requires.fit.sound;
   lender = refl;
   outside = refl;
 }
@@ -27,10 +27,10 @@ loop-k-preserved g c =
     record {
       passed = each_more _ c.loop-k.k here.passed (rw context at passed.serves);
       regs = λ r apart. passed.regs r apart ∙ here.regs r apart;
-      ready = passed.ready;
-      sound = passed.sound;
-      lender = passed.lender ∙ here.lender;
-      outside = passed.outside ∙ here.outside;
+      ready = passed.fit.ready;
+      sound = passed.fit.sound;
+      lender = passed.fit.lender ∙ here.lender;
+      outside = passed.fit.outside ∙ here.outside;
     }
 
 pub returns-clause-serves : goal.returns-clause-serves

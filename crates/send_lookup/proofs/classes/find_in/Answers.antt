@@ -28,7 +28,7 @@ returns-in_err-slot-clause-serves g c = λ cpu.
     let size = c.in_ok-fields.ensures in
     let selector = size.looks.regs 23 refl ∙ load.looks.regs 23 refl in
     let dictionary = size.looks.regs 21 refl in
-    exits_found _ _ c.from_residual-in_err-slot.ensures.1 (serves_then _ (load.serves _) (serves_then _ (size.serves _) (look_first 23 _ selector size.ready (c.is_name.ensures.0 c.if-not-is_name.false)
+    exits_found _ _ c.from_residual-in_err-slot.ensures.1 (serves_then _ (load.serves _) (serves_then _ (size.serves _) (look_first 23 _ selector size.fit.ready (c.is_name.ensures.0 c.if-not-is_name.false)
     (serves_stop _ (rw (selector, dictionary) at c.in_err-slot.ensures.serves _)))))
 
 pub returns-clause-serves : goal.returns-clause-serves
@@ -39,7 +39,7 @@ returns-clause-serves g c = λ cpu.
     let slot = c.in_ok-slot.ensures in
     let selector = size.looks.regs 23 refl ∙ load.looks.regs 23 refl in
     let dictionary = size.looks.regs 21 refl in
-    serves_then _ (load.serves _) (serves_then _ (size.serves _) (look_first 23 _ selector size.ready (c.is_name.ensures.0 c.if-not-is_name.false)
+    serves_then _ (load.serves _) (serves_then _ (size.serves _) (look_first 23 _ selector size.fit.ready (c.is_name.ensures.0 c.if-not-is_name.false)
     (serves_then _ (rw (selector, dictionary) at slot.serves _) (rw (slot.looks.regs 21 refl ∙ dictionary) at c.method_at.ensures.serves _))))
 
 pub returns-clause-looks : goal.returns-clause-looks
@@ -48,6 +48,6 @@ returns-clause-looks g c =
     let size = c.in_ok-fields.ensures in
     let slot = c.in_ok-slot.ensures in
     let all = 21 ∷ 22 ∷ [] in
-    let first = looks_joined all _ _ _ load.ready (looks_first 21 (22 ∷ []) _ _ load.looks) (looks_none all _ _ size.looks) in
-    let second = looks_joined all _ _ _ size.ready first (looks_rest 21 (22 ∷ []) _ _ slot.looks) in
-    on_ok c.method_at.result (λ last. looks_joined all _ _ _ slot.ready second (looks_rest 21 (22 ∷ []) _ _ last)) c.method_at.ensures.looks
+    let first = looks_joined all _ _ _ load.fit.ready (looks_first 21 (22 ∷ []) _ _ load.looks) (looks_none all _ _ size.looks) in
+    let second = looks_joined all _ _ _ size.fit.ready first (looks_rest 21 (22 ∷ []) _ _ slot.looks) in
+    on_ok c.method_at.result (λ last. looks_joined all _ _ _ slot.fit.ready second (looks_rest 21 (22 ∷ []) _ _ last)) c.method_at.ensures.looks

@@ -16,7 +16,7 @@ pub returns-then-not-branch-clause-serves : goal.returns-then-not-branch-clause-
 unfolding find put_found
 returns-then-not-branch-clause-serves g c = λ cpu.
     let found = c.in_ok-look_up.ensures in
-    register_then 4 _ refl (serves_then _ (found_none _ _ c.if-not-branch.true (found.serves cpu)) (done_serves found.ready))
+    register_then 4 _ refl (serves_then _ (found_none _ _ c.if-not-branch.true (found.serves cpu)) (done_serves found.fit.ready))
 
 pub returns-then-not-branch-clause-others : goal.returns-then-not-branch-clause-others
 returns-then-not-branch-clause-others g c = λ r low apart. c.in_ok-look_up.ensures.looks.regs r (low_among r low)
@@ -25,8 +25,8 @@ pub returns-clause-serves : goal.returns-clause-serves
 unfolding find put_found
 returns-clause-serves g c = λ cpu.
     let found = c.in_ok-look_up.ensures in
-    let ready = c.copy.ensures.ready found.ready in
-    register_then 4 _ refl (serves_then _ (found_one _ _ c.if-not-branch.false (found.serves cpu)) (serves_then _ (put_serves 5 22 refl found.ready ready c.copy.ensures.told) (done_serves ready)))
+    let ready = c.copy.ensures.fit.ready found.fit.ready in
+    register_then 4 _ refl (serves_then _ (found_one _ _ c.if-not-branch.false (found.serves cpu)) (serves_then _ (put_serves 5 22 refl found.fit.ready ready c.copy.ensures.told) (done_serves ready)))
 
 pub returns-clause-others : goal.returns-clause-others
 returns-clause-others g c = λ r low apart. (Looks-put _ _ 5 _ c.copy.ensures.told).regs r (not_among 5 r apart) ∙ c.in_ok-look_up.ensures.looks.regs r (low_among r low)

@@ -9,8 +9,8 @@ pub loop-turn-init : goal.loop-turn-init
 loop-turn-init g c = record {
   whole = λ cpu new answer s. s;
   looks = looks_none (20 ∷ 21 ∷ 22 ∷ []) _ _ (Looks-refl _);
-  ready = c.requires.ready;
-  sound = c.requires.sound;
+  ready = c.requires.fit.ready;
+  sound = c.requires.fit.sound;
   lender = refl;
   outside = refl;
 }
@@ -27,11 +27,11 @@ loop-turn-preserved g c =
     let class = found.looks.regs 20 refl in
     record {
       whole = λ cpu new answer s. here.whole cpu new answer (chain_on _ _ _ _ _ more (sym c.is.ensures ∙ c.if-is.false) (found_none _ _ c.if-branch.false (found.serves cpu)) (rw (class) at load.serves cpu) (rw (selector) at s));
-      looks = looks_joined all _ _ _ found.ready (looks_joined all _ _ _ here.ready here.looks (looks_rest 20 (21 ∷ 22 ∷ []) _ _ found.looks)) (looks_first 20 (21 ∷ 22 ∷ []) _ _ load.looks);
-      ready = load.ready;
-      sound = load.sound;
-      lender = load.lender ∙ found.lender ∙ here.lender;
-      outside = load.outside ∙ found.outside ∙ here.outside;
+      looks = looks_joined all _ _ _ found.fit.ready (looks_joined all _ _ _ here.ready here.looks (looks_rest 20 (21 ∷ 22 ∷ []) _ _ found.looks)) (looks_first 20 (21 ∷ 22 ∷ []) _ _ load.looks);
+      ready = load.fit.ready;
+      sound = load.fit.sound;
+      lender = load.fit.lender ∙ found.fit.lender ∙ here.lender;
+      outside = load.fit.outside ∙ found.fit.outside ∙ here.outside;
     }
 
 pub returns-then-is-clause-serves : goal.returns-then-is-clause-serves
@@ -52,7 +52,7 @@ returns-then-branch-clause-serves g c = λ cpu.
     let found = c.in_ok-find_in.ensures in
     let turn = c.loop-turn._turn in
     let more : 1024 - turn ≡ suc (1024 - (turn + 1)) = omega (arith, c.loop-turn-test.true) in
-    here.whole cpu _ _ (chain_found _ _ _ _ _ more (sym c.is.ensures ∙ c.if-is.false) found.ready (found_one _ _ c.if-branch.true (found.serves cpu)))
+    here.whole cpu _ _ (chain_found _ _ _ _ _ more (sym c.is.ensures ∙ c.if-is.false) found.fit.ready (found_one _ _ c.if-branch.true (found.serves cpu)))
 
 pub returns-then-branch-clause-looks : goal.returns-then-branch-clause-looks
 returns-then-branch-clause-looks g c =

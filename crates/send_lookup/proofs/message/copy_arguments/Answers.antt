@@ -6,10 +6,10 @@ use Rattle.send_lookup.proofs.message.copy_arguments.Goals as goal
 
 pub loop-i-init : goal.loop-i-init
 loop-i-init g c = record {
-  serves = each_none _ c.requires.ready;
+  serves = each_none _ c.requires.fit.ready;
   regs = λ r apart. refl;
-  ready = c.requires.ready;
-  sound = c.requires.sound;
+  ready = c.requires.fit.ready;
+  sound = c.requires.fit.sound;
   lender = refl;
   outside = refl;
 }
@@ -22,10 +22,10 @@ loop-i-preserved g c =
     record {
       serves = each_more _ c.loop-i.i here.serves (rw array at copied.serves);
       regs = λ r apart. copied.regs r apart ∙ here.regs r apart;
-      ready = copied.ready;
-      sound = copied.sound;
-      lender = copied.lender ∙ here.lender;
-      outside = copied.outside ∙ here.outside;
+      ready = copied.fit.ready;
+      sound = copied.fit.sound;
+      lender = copied.fit.lender ∙ here.lender;
+      outside = copied.fit.outside ∙ here.outside;
     }
 
 pub returns-in_err-copy_argument-clause-serves : goal.returns-in_err-copy_argument-clause-serves

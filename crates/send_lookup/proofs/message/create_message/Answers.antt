@@ -18,7 +18,7 @@ pub returns-in_err-pop-clause-serves : goal.returns-in_err-pop-clause-serves
 unfolding create_message
 returns-in_err-pop-clause-serves g c =
     let selector = c.in_ok-make_arguments.ensures.regs 4 (omega arith) in
-    let ready = c.in_ok-make_message.ensures.ready in
+    let ready = c.in_ok-make_message.ensures.fit.ready in
     serves_then _ (rw c.from-n.ensures at c.in_ok-make_arguments.ensures.serves)
     (serves_then _ (rw selector at c.in_ok-make_message.ensures.serves _)
     (serves_exit _ _ (rw c.from-n.ensures at c.in_err-pop.ensures.serves _ ready) c.from_residual-in_err-pop.ensures.1))
@@ -27,7 +27,7 @@ pub returns-in_err-push-clause-serves : goal.returns-in_err-push-clause-serves
 unfolding create_message
 returns-in_err-push-clause-serves g c =
     let selector = c.in_ok-make_arguments.ensures.regs 4 (omega arith) in
-    let ready = c.in_ok-make_message.ensures.ready in
+    let ready = c.in_ok-make_message.ensures.fit.ready in
     serves_then _ (rw c.from-n.ensures at c.in_ok-make_arguments.ensures.serves)
     (serves_then _ (rw selector at c.in_ok-make_message.ensures.serves _)
     (serves_then _ (rw c.from-n.ensures at c.in_ok-pop.ensures.serves _ ready)
@@ -37,7 +37,7 @@ pub returns-clause-serves : goal.returns-clause-serves
 unfolding create_message
 returns-clause-serves g c =
     let selector = c.in_ok-make_arguments.ensures.regs 4 (omega arith) in
-    let ready = c.in_ok-make_message.ensures.ready in
+    let ready = c.in_ok-make_message.ensures.fit.ready in
     serves_then _ (rw c.from-n.ensures at c.in_ok-make_arguments.ensures.serves)
     (serves_then _ (rw selector at c.in_ok-make_message.ensures.serves _)
     (serves_then _ (rw c.from-n.ensures at c.in_ok-pop.ensures.serves _ ready)

@@ -11,7 +11,7 @@ returns-in_err-find-clause-serves g c = serves_exit _ _ (c.in_err-find.ensures.s
 pub returns-then-branch-clause-serves : goal.returns-then-branch-clause-serves
 unfolding find_or_tell
 returns-then-branch-clause-serves g c =
-    serves_then _ (c.in_ok-find.ensures.serves _) (register_then 4 _ refl (pick_true _ _ _ c.if-branch.true (done_serves c.in_ok-find.ensures.ready)))
+    serves_then _ (c.in_ok-find.ensures.serves _) (register_then 4 _ refl (pick_true _ _ _ c.if-branch.true (done_serves c.in_ok-find.ensures.fit.ready)))
 
 pub returns-then-is-clause-serves : goal.returns-then-is-clause-serves
 unfolding find_or_tell

@@ -29,4 +29,4 @@ returns-clause-serves g c =
     serves_then _ (c.in_ok-known.ensures.serves _)
     (serves_then _ (c.in_ok-make_pointers.ensures.serves _)
     (serves_then _ copied.serves
-    (done_same (copied.regs 16 (unequal 16 17 refl)) copied.ready)))
+    (done_same (copied.regs 16 (unequal 16 17 refl)) copied.fit.ready)))

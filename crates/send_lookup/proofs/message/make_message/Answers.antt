@@ -47,4 +47,4 @@ returns-clause-serves g c = λ cpu.
     (serves_then _ (c.in_ok-make_pointers.ensures.serves cpu)
     (serves_then _ (rw selector at c.in_ok-store_field.ensures.serves cpu)
     (serves_then _ (rw (c.in_ok-store_field.ensures.regs, array) at stored.serves cpu)
-    (done_same message stored.ready))))
+    (done_same message stored.fit.ready))))

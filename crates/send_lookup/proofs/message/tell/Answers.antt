@@ -21,11 +21,11 @@ pub returns-in_err-find-clause-serves : goal.returns-in_err-find-clause-serves
 unfolding tell
 returns-in_err-find-clause-serves g c =
     let name = c.in_ok-known.ensures in
-    let ready = c.copy.ensures.ready name.ready in
+    let ready = c.copy.ensures.fit.ready name.fit.ready in
     let class = (Looks-put _ _ 4 _ c.copy.ensures.told).regs c.args.class (not_among 4 c.args.class c.requires.apart) ∙ name.looks.regs c.args.class (below 15 c.args.class c.requires.class) ∙ c.in_ok-create_message.ensures.regs c.args.class c.requires.class in
     numbers_then _ (serves_then _ c.in_ok-create_message.ensures.serves
     (serves_then _ (name.serves _)
-    (serves_then _ (put_serves 4 15 refl name.ready ready c.copy.ensures.told)
+    (serves_then _ (put_serves 4 15 refl name.fit.ready ready c.copy.ensures.told)
     (serves_then _ (c.set_arguments.ensures.serves _ ready)
     (serves_exit _ _ (rw class at c.in_err-find.ensures.serves _) c.from_residual-in_err-find.ensures.1)))))
 
@@ -33,11 +33,11 @@ pub returns-then-not-branch-clause-serves : goal.returns-then-not-branch-clause-
 unfolding tell
 returns-then-not-branch-clause-serves g c =
     let name = c.in_ok-known.ensures in
-    let ready = c.copy.ensures.ready name.ready in
+    let ready = c.copy.ensures.fit.ready name.fit.ready in
     let class = (Looks-put _ _ 4 _ c.copy.ensures.told).regs c.args.class (not_among 4 c.args.class c.requires.apart) ∙ name.looks.regs c.args.class (below 15 c.args.class c.requires.class) ∙ c.in_ok-create_message.ensures.regs c.args.class c.requires.class in
     numbers_then _ (serves_then _ c.in_ok-create_message.ensures.serves
     (serves_then _ (name.serves _)
-    (serves_then _ (put_serves 4 15 refl name.ready ready c.copy.ensures.told)
+    (serves_then _ (put_serves 4 15 refl name.fit.ready ready c.copy.ensures.told)
     (serves_then _ (c.set_arguments.ensures.serves _ ready)
     (serves_then _ (rw class at c.in_ok-find.ensures.serves _)
     (pick_false _ _ _ c.if-not-branch.true halt_serves))))))
@@ -46,11 +46,11 @@ pub returns-clause-serves : goal.returns-clause-serves
 unfolding tell
 returns-clause-serves g c =
     let name = c.in_ok-known.ensures in
-    let ready = c.copy.ensures.ready name.ready in
+    let ready = c.copy.ensures.fit.ready name.fit.ready in
     let class = (Looks-put _ _ 4 _ c.copy.ensures.told).regs c.args.class (not_among 4 c.args.class c.requires.apart) ∙ name.looks.regs c.args.class (below 15 c.args.class c.requires.class) ∙ c.in_ok-create_message.ensures.regs c.args.class c.requires.class in
     numbers_then _ (serves_then _ c.in_ok-create_message.ensures.serves
     (serves_then _ (name.serves _)
-    (serves_then _ (put_serves 4 15 refl name.ready ready c.copy.ensures.told)
+    (serves_then _ (put_serves 4 15 refl name.fit.ready ready c.copy.ensures.told)
     (serves_then _ (c.set_arguments.ensures.serves _ ready)
     (serves_then _ (rw class at c.in_ok-find.ensures.serves _)
-    (pick_true _ _ _ c.if-not-branch.false (done_serves c.in_ok-find.ensures.ready)))))))
+    (pick_true _ _ _ c.if-not-branch.false (done_serves c.in_ok-find.ensures.fit.ready)))))))

@@ -26,7 +26,7 @@ field-requires-clause-may g c =
 pub returns-in_err-field-clause-serves : goal.returns-in_err-field-clause-serves
 returns-in_err-field-clause-serves g c = λ cpu.
     let here = c.loop-place.invariant in
-    exits _ c.from_residual.ensures.1 (later_refused (22 ∷ []) Shape (slot_of _) 21 (Field 22 21 (2 + c.slot_at-slot.result)) refl refl refl c.requires.ready here.ready here.looks (ref_looked (22 ∷ []) _ _ 21 here.looks refl c.requires.there.name) c.in_err-field.ensures.access.called)
+    exits _ c.from_residual.ensures.1 (later_refused (22 ∷ []) Shape (slot_of _) 21 (Field 22 21 (2 + c.slot_at-slot.result)) refl refl refl c.requires.fit.ready here.ready here.looks (ref_looked (22 ∷ []) _ _ 21 here.looks refl c.requires.there.name) c.in_err-field.ensures.access.called)
 
 pub returns-then-is-clause-looks : goal.returns-then-is-clause-looks
 returns-then-is-clause-looks g c =
@@ -42,7 +42,7 @@ returns-then-is-clause-serves g c = λ cpu.
     let slots : ℕ = c.args.fields - 2 in
     let slot : ℕ = c.slot_at-slot.result in
     let first : ℕ = bit_and c.hash.result (slots - 1) in
-    read_serves (22 ∷ []) Shape (slot_of (t.regs 23)) 21 None refl c.requires.ready c.in_ok-field.ensures.ready (returns-then-is-clause-looks g c)
+    read_serves (22 ∷ []) Shape (slot_of (t.regs 23)) 21 None refl c.requires.fit.ready c.in_ok-field.ensures.fit.ready (returns-then-is-clause-looks g c)
     (λ told.
     let round = dictionary t.heap (t.regs 21) (t.regs 23) c.args.fields slots first (c.requires.there.there told) c.requires.some refl (ap (λ n. bit_and n (slots - 1)) c.hash.ensures) in
     let held = by_place t.heap (t.regs 21) (w.regs 22) slots first c.loop-place.place slot c.slot_at-slot.ensures.slot (loaded (22 ∷ []) t u w 22 21 (2 + slot) here.ready here.looks refl c.in_ok-field.ensures.access.called told) in
@@ -63,7 +63,7 @@ returns-then-same-clause-serves g c = λ cpu.
     let slot : ℕ = c.slot_at-slot.result in
     let first : ℕ = bit_and c.hash.result (slots - 1) in
     let looks = returns-then-same-clause-looks g c in
-    read_serves (22 ∷ []) Shape (slot_of (t.regs 23)) 21 (Some slot) refl c.requires.ready c.in_ok-field.ensures.ready looks
+    read_serves (22 ∷ []) Shape (slot_of (t.regs 23)) 21 (Some slot) refl c.requires.fit.ready c.in_ok-field.ensures.fit.ready looks
     (λ told.
     let round = dictionary t.heap (t.regs 21) (t.regs 23) c.args.fields slots first (c.requires.there.there told) c.requires.some refl (ap (λ n. bit_and n (slots - 1)) c.hash.ensures) in
     let held = by_place t.heap (t.regs 21) (w.regs 22) slots first c.loop-place.place slot c.slot_at-slot.ensures.slot (loaded (22 ∷ []) t u w 22 21 (2 + slot) here.ready here.looks refl c.in_ok-field.ensures.access.called told) in
@@ -88,10 +88,10 @@ loop-place-preserved g c =
           passed_more t.heap (t.regs 21) (t.regs 23) slots first c.loop-place.place (w.regs 22) (here.passed told) held (sym c.is.ensures ∙ c.if-is.false)
           (not_selector (w.regs 22) (t.regs 23) c.requires.selector (λ e. differs _ _ c.same.ensures c.if-same.false (e ∙ sym same)));
       looks = looks;
-      ready = load.ready;
-      sound = load.sound;
-      lender = load.lender ∙ here.lender;
-      outside = load.outside ∙ here.outside;
+      ready = load.fit.ready;
+      sound = load.fit.sound;
+      lender = load.fit.lender ∙ here.lender;
+      outside = load.fit.outside ∙ here.outside;
     }
 
 pub returns-clause-serves : goal.returns-clause-serves
@@ -101,7 +101,7 @@ returns-clause-serves g c = λ cpu.
     let slots : ℕ = c.args.fields - 2 in
     let first : ℕ = bit_and c.hash.result (slots - 1) in
     let all : c.loop-place.place ≡ slots = omega (arith, c.loop-place-test.false, c.loop-place.auto.place-end, c.requires.some) in
-    read_serves (22 ∷ []) Shape (slot_of (t.regs 23)) 21 None refl c.requires.ready here.ready here.looks
+    read_serves (22 ∷ []) Shape (slot_of (t.regs 23)) 21 None refl c.requires.fit.ready here.ready here.looks
     (λ told.
     let round = dictionary t.heap (t.regs 21) (t.regs 23) c.args.fields slots first (c.requires.there.there told) c.requires.some refl (ap (λ n. bit_and n (slots - 1)) c.hash.ensures) in
     slot_past round (λ i low. here.passed told i (omega (arith, all))))
