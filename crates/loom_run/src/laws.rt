@@ -3,7 +3,7 @@ ghost use Rattle.std.specs.Prelude.{◌↔◌, Bool, List, [], None, ◌≡◌, 
 ghost use Rattle.image_format.specs.Text.{image_text};
 ghost use Rattle.blue_model.specs.Base.{heap_running, base_code};
 ghost use Rattle.blue_model.specs.Cycle.{ending};
-ghost use Rattle.loom_run.specs.Base.{base_bytes, text_of};
+ghost use Rattle.loom_run.specs.Base.{base_bytes, text_of_ending};
 ghost use Rattle.loom_outside.specs.declared.outside.Role.{Role};
 ghost use Rattle.loom_run.specs.declared.status.Status.{Status};
 ghost use Rattle.loom_run.specs.Headline.{HeadlineBy, TellsAll};
@@ -14,7 +14,7 @@ ghost use Rattle.loom_run.specs.Words.{IsRow, bad_word, image_word, events_word,
 /// The base image as bytes, before two bytecodes and after them: its context's instruction pointer is field 1, 3 and then 5.
 pub fn base_text()
     ensures before { image_text (heap_running base_code) ≡ base_bytes 7 }
-    ensures after { text_of (ending [] 2 (heap_running base_code)) ≡ base_bytes 11 }
+    ensures after { text_of_ending (ending [] 2 (heap_running base_code)) ≡ base_bytes 11 }
 {}
 
 /// Words of which none is bad are `run`, the files of the image, the events, the saved image and the picture, which

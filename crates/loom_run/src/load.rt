@@ -10,7 +10,7 @@ ghost use Rattle.image_format.specs.Text.{IsHead, head_text, records_below, imag
 ghost use Rattle.image_format.specs.Valid.{IsImageHeap, IsValid};
 ghost use Rattle.object_memory.specs.Records.{Rise, AreWhole};
 ghost use Rattle.loom_run.specs.Faults.{fault_of};
-ghost use Rattle.loom_run.specs.Image.{AreInOrder, IsComplete, heap_of, recs_text};
+ghost use Rattle.loom_run.specs.Image.{AreInOrder, IsComplete, heap_of_image, recs_text};
 ghost use Rattle.loom_run.specs.Meanings.{meanings, LeavesBut};
 ghost use Rattle.loom_run.specs.Window.{EndsTruly, OnlyRead, unused};
 ghost use Rattle.loom_run.specs.declared.load.LoadFault.TheVariants.{Read, Memory};
@@ -192,7 +192,7 @@ fn read_recs<H: Host>(
 
 /// Reads Image to its end, record by record, and judges it as a whole. What it states is tested before it is believed, so it takes no more memory than the file fills.
 pub(crate) fn load<H: Host>(alloc: Global, host: &mut H) -> Result<Image, LoadFault>
-    ensures heap { IsTrue (H.tells Role.Image) → IfOk result (λ image. IsImageHeap (heap_of image) × ((H.roles host.old Role.Image).left ≡ image_text (heap_of image))) }
+    ensures heap { IsTrue (H.tells Role.Image) → IfOk result (λ image. IsImageHeap (heap_of_image image) × ((H.roles host.old Role.Image).left ≡ image_text (heap_of_image image))) }
     ensures whole { IfOk result (λ image. AreWhole image.recs image.next) }
     ensures end { IsTrue (H.tells Role.Image) → OnOk result ((H.roles host.new Role.Image).left ≡ []) }
     ensures bad { IsTrue (H.tells Role.Image) → result ≡ Err LoadFault.Bad → IsValid (H.roles host.old Role.Image).left → ⊥ }
