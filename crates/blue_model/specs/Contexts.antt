@@ -2,6 +2,7 @@
 use Rattle.std.specs.Prelude.{ℕ, ℤ, pos, negsuc, ◌+ℤ◌, ◌-ℤ◌, ◌+◌, ◌-◌, ◌&&◌, true, nat_lt, nat_le, Option, Some, None, if◌then◌else◌}
 use Rattle.long_names.specs.declared.value.Value.{Value}
 use Rattle.long_names.specs.declared.value.Value.TheVariants.{Int}
+use Rattle.long_names.specs.declared.limits.TheConstants.{SMALL_INTEGERS}
 use Rattle.long_names.specs.Names.{NIL, SCHEDULER_ASSOCIATION}
 use Rattle.long_names.specs.State.{ACTIVE_CONTEXT, HOME, METHOD, RECEIVER, NEW_PROCESS}
 use Rattle.blue_model.specs.declared.cause.Cause.TheVariants.{Pointer, Stack, Shape}
@@ -134,8 +135,8 @@ load context = do
 
 -- a number that a context can state
 abbrev pub stated : ℤ → Option ℤ
-stated (pos n) = if nat_lt n 16384 then Some (pos n) else None
-stated (negsuc n) = if nat_lt n 16384 then Some (negsuc n) else None
+stated (pos n) = if nat_lt n SMALL_INTEGERS then Some (pos n) else None
+stated (negsuc n) = if nat_lt n SMALL_INTEGERS then Some (negsuc n) else None
 
 -- storeContextRegisters (chapter 28). This profile tests that both pointers can be stated, which in a run they always can
 unfoldable pub store_registers : Rule (Unit {0})

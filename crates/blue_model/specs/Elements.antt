@@ -7,6 +7,7 @@ use Rattle.long_names.specs.declared.object.Body.{Body}
 use Rattle.long_names.specs.declared.object.Body.TheVariants.{Pointers, Words, Bytes, Method}
 use Rattle.long_names.specs.declared.object.Object.{Object}
 use Rattle.long_names.specs.Names.{LARGE_POSITIVE_INTEGER, CHARACTER, CHARACTER_TABLE}
+use Rattle.long_names.specs.declared.limits.TheConstants.{SMALL_INTEGERS}
 use Rattle.long_names.specs.Words.{unsigned_of}
 use Rattle.long_names.specs.Objects.{OfBytes, int_of, is_ref, words_of, bytes_of, text_of}
 use Rattle.blue_model.specs.declared.answer.Answer.{Answer}
@@ -62,7 +63,7 @@ make_large n = do
 
 -- a SmallInteger up to 16,383, and otherwise a new LargePositiveInteger of two bytes
 unfoldable pub number_object : ℕ → Rule Value
-number_object n = pick (nat_lt n 16384) (done (Int (pos n))) (make_large n)
+number_object n = pick (nat_lt n SMALL_INTEGERS) (done (Int (pos n))) (make_large n)
 
 -- ---- instance specifications (chapter 27, classes)
 

@@ -1,8 +1,9 @@
 -- Processes and semaphores (chapter 29, process-oriented control primitives). A list of processes links them by their first fields.
-use Rattle.std.specs.Prelude.{zero, suc, ℕ, ℤ, pos, negsuc, ◌+ℤ◌, ◌-ℤ◌, nat_lt, Bool, true, false, is_some, List, [], ◌∷◌, Option, Some, None, if◌then◌else◌}
+use Rattle.std.specs.Prelude.{zero, suc, ℕ, ℤ, pos, negsuc, ◌-◌, ◌+ℤ◌, ◌-ℤ◌, nat_lt, Bool, true, false, is_some, List, [], ◌∷◌, Option, Some, None, if◌then◌else◌}
 use Rattle.std.specs.Int.Signed.{lt_z}
 use Rattle.long_names.specs.declared.value.Value.{Value}
 use Rattle.long_names.specs.declared.value.Value.TheVariants.{Int}
+use Rattle.long_names.specs.declared.limits.TheConstants.{SMALL_INTEGERS}
 use Rattle.long_names.specs.Names.{NIL}
 use Rattle.long_names.specs.State.{ACTIVE_CONTEXT, NEW_PROCESS}
 use Rattle.blue_model.specs.declared.answer.Answer.{Answer}
@@ -147,7 +148,7 @@ suspend_active = do
 
 -- the signals that nobody waited for, and one more: as many as a SmallInteger can say
 abbrev pub one_more : ℤ → ℤ
-one_more excess = if lt_z excess (pos 16383) then excess +ℤ pos 1 else excess
+one_more excess = if lt_z excess (pos (SMALL_INTEGERS - 1)) then excess +ℤ pos 1 else excess
 
 unfoldable pub add_signal : Value → Rule (Unit {0})
 add_signal semaphore = do

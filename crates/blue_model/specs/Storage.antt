@@ -8,7 +8,7 @@ use Rattle.long_names.specs.declared.value.Value.TheVariants.{Int, Ref}
 use Rattle.long_names.specs.declared.object.Object.{Object}
 use Rattle.long_names.specs.Names.{STRING, ARRAY, COMPILED_METHOD}
 use Rattle.long_names.specs.Objects.{Making, OfPointers, OfWords, OfBytes, OfMethod, name_of, int_of, is_ref, pointers_of, text_of}
-use Rattle.long_names.specs.declared.limits.TheConstants.{MOST_CODE}
+use Rattle.long_names.specs.declared.limits.TheConstants.{MOST_CODE, SMALL_INTEGERS}
 use Rattle.blue_model.specs.declared.answer.Answer.{Answer}
 use Rattle.blue_model.specs.declared.spot.Spot.{Spot}
 use Rattle.blue_model.specs.declared.indexes.TheConstants.{STREAM_ARRAY_INDEX, STREAM_INDEX_INDEX, STREAM_READ_LIMIT_INDEX, STREAM_WRITE_LIMIT_INDEX, STREAM_SIZE}
@@ -87,7 +87,7 @@ of_stream limit stream p =
 
 -- the element behind the index, where the limit allows it and the index can grow
 unfoldable pub next_spot : Value → ℕ → ℤ → (Spot → Rule Answer) → Rule Answer
-next_spot array index bound p = where_true (lt_z (pos index) bound) (element_of array (pos (index + 1)) >>? λ spot. where_true (nat_lt (index + 1) 16384) (p spot))
+next_spot array index bound p = where_true (lt_z (pos index) bound) (element_of array (pos (index + 1)) >>? λ spot. where_true (nat_lt (index + 1) SMALL_INTEGERS) (p spot))
 
 unfoldable pub advance : Value → ℕ → Rule (Unit {0})
 advance stream index = store_field stream STREAM_INDEX_INDEX (Int (pos (index + 1)))
@@ -197,7 +197,7 @@ instance_variable_at_put = do
 unfoldable pub hash : Rule Answer
 hash = do
   receiver ← stack 0
-  where_some (name_of receiver) (λ name. answer 0 (Int (pos (name / 2 % 16384))))
+  where_some (name_of receiver) (λ name. answer 0 (Int (pos (name / 2 % SMALL_INTEGERS))))
 
 abbrev pub is_same : Value → Value → Bool
 is_same (Int a) (Int b) = int_eq a b

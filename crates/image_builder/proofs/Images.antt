@@ -26,7 +26,7 @@ use Rattle.image_format.specs.Text.{IsHead, head_text, records_below, image_text
 use Rattle.image_format.specs.Valid.{IsImageHeap}
 use Rattle.object_memory.proofs.Entries.{AreBelow, entries_below, entry_at, entries-found, found, map-rises, map-below, holdings-entries}
 use Rattle.image_builder.specs.Rules.{◌or◌, head_breaks, is_small, is_field, fields_break, body_breaks, record_breaks, is_there, held_breaks, count_breaks, missing, first_of, reading_breaks, whole_breaks, first_broken}
-use Rattle.image_builder.specs.Builder.{heap_of, Tells, IsRefused}
+use Rattle.image_builder.specs.Builder.{built_heap, Tells, IsRefused}
 use Rattle.image_builder.specs.declared.fault.BuildFault.{BuildFault}
 use Rattle.image_builder.specs.declared.fault.BuildFault.TheVariants.{Rule, Memory}
 use Rattle.image_builder.specs.Parts.{IsEntry, words_of, rec_with, texts_with}
@@ -159,24 +159,24 @@ texts-below h (suc n) =
 
 -- the entries of a builder are those of its heap
 pub record AreEntries (b : Builder) (next : ℕ) : Type 0 where
-  pub are : entries_below (heap_of b next).at next ≡ b.objects.entries
+  pub are : entries_below (built_heap b next).at next ≡ b.objects.entries
 
 are-entries : (b : Builder) (next : ℕ) → AreBelow next b.objects.entries → AreEntries b next
 are-entries b next low = record { are = entries-found next 0 b.objects.entries (map-rises b.objects b.kept.ordered) low }
 
-objects-are : (b : Builder) (next : ℕ) → AreEntries b next → object_count (heap_of b next) ≡ length b.objects.entries
+objects-are : (b : Builder) (next : ℕ) → AreEntries b next → object_count (built_heap b next) ≡ length b.objects.entries
 unfolding object_count
-objects-are b next e = objects-below (heap_of b next) next ∙ ap (λ (es : List (ℕ × Object)). length es) e.are
+objects-are b next e = objects-below (built_heap b next) next ∙ ap (λ (es : List (ℕ × Object)). length es) e.are
 
-words-are : (b : Builder) (next : ℕ) → AreEntries b next → (q : ℕ) → count_of (heap_of b next) q ≡ sum_by (words_of q) b.objects.entries
+words-are : (b : Builder) (next : ℕ) → AreEntries b next → (q : ℕ) → count_of (built_heap b next) q ≡ sum_by (words_of q) b.objects.entries
 unfolding count_of
-words-are b next e q = holdings-entries (heap_of b next) q next ∙ ap (λ (es : List (ℕ × Object)). sum_by (words_of q) es) e.are
+words-are b next e q = holdings-entries (built_heap b next) q next ∙ ap (λ (es : List (ℕ × Object)). sum_by (words_of q) es) e.are
 
-pub text-is : (b : Builder) (next : ℕ) → AreEntries b next → image_text (heap_of b next) ≡ head_text (length b.objects.entries) next ++ texts_with (count_of (heap_of b next)) b.objects.entries
+pub text-is : (b : Builder) (next : ℕ) → AreEntries b next → image_text (built_heap b next) ≡ head_text (length b.objects.entries) next ++ texts_with (count_of (built_heap b next)) b.objects.entries
 unfolding image_text
 text-is b next e =
     ap₂ (λ (n : ℕ) (t : List ℕ). head_text n next ++ t) (objects-are b next e)
-    (texts-below (heap_of b next) next ∙ ap (λ (es : List (ℕ × Object)). texts_with (count_of (heap_of b next)) es) e.are)
+    (texts-below (built_heap b next) next ∙ ap (λ (es : List (ℕ × Object)). texts_with (count_of (built_heap b next)) es) e.are)
 
 -- what was read has no break, so all names are below the next one
 pub read-entries : (b : Builder) (next : ℕ) → reading_breaks b.objects.entries next ≡ None → AreEntries b next
@@ -185,7 +185,7 @@ read-entries b next e =
     are-entries b next (entries-below next b.objects.entries (All-weaker (λ (e : ℕ × Object). record_breaks next e.0 e.1 ≡ None) (λ (e : ℕ × Object). e.0 < next) (λ e none. record-below next e.0 e.1 none) b.objects.entries records))
 
 -- counts that were computed are those of the heap
-pub counts-are : (b : Builder) (next : ℕ) (counts : ℕ → ℕ) → AreEntries b next → ((q : ℕ) → counts q ≡ sum_by (words_of q) b.objects.entries) → counts ≡ count_of (heap_of b next)
+pub counts-are : (b : Builder) (next : ℕ) (counts : ℕ → ℕ) → AreEntries b next → ((q : ℕ) → counts q ≡ sum_by (words_of q) b.objects.entries) → counts ≡ count_of (built_heap b next)
 counts-are b next counts e exact = fun_ext (λ q. exact q ∙ sym (words-are b next e q))
 
 -- ---- what is held
@@ -266,7 +266,7 @@ none-missing at (x ∷ xs) h = ap (λ (b : Bool). cond b (missing at xs) (Some (
 
 -- ---- nothing is broken: an image
 
-pub makes-image : (b : Builder) (next : ℕ) → next < 2 ^ 32 → reading_breaks b.objects.entries next ≡ None → whole_breaks b.objects.entries (heap_of b next).at (count_of (heap_of b next)) ≡ None → All IsEntry b.objects.entries → IsImageHeap (heap_of b next)
+pub makes-image : (b : Builder) (next : ℕ) → next < 2 ^ 32 → reading_breaks b.objects.entries next ≡ None → whole_breaks b.objects.entries (built_heap b next).at (count_of (built_heap b next)) ≡ None → All IsEntry b.objects.entries → IsImageHeap (built_heap b next)
 makes-image b next high reading whole are = record {
   head = subst (λ (n : ℕ). IsHead n next) (sym (objects-are b next entries)) (head-is (length es) next high read.0);
   bounded = record { bounded = λ n above. bounded n above (h.at n) refl };
@@ -278,7 +278,7 @@ makes-image b next high reading whole are = record {
 }
   where
     h : Heap
-    h = heap_of b next
+    h = built_heap b next
 
     es : List (ℕ × Object)
     es = b.objects.entries
@@ -302,20 +302,20 @@ makes-image b next high reading whole are = record {
 -- ---- an image: nothing is broken
 
 -- its names are below the next one
-pub image-entries : (b : Builder) (next : ℕ) → IsImageHeap (heap_of b next) → AreEntries b next
-image-entries b next is = are-entries b next (map-below b.objects next b.kept.ordered (λ q x at. below (heap_of b next) q x is.bounded at))
+pub image-entries : (b : Builder) (next : ℕ) → IsImageHeap (built_heap b next) → AreEntries b next
+image-entries b next is = are-entries b next (map-below b.objects next b.kept.ordered (λ q x at. below (built_heap b next) q x is.bounded at))
 
 none-none : {X : Type 0} (a b : Option X) → a ≡ None → b ≡ None → (a or b) ≡ None
 none-none a b e f = ap (λ x. x or b) e ∙ f
 
-pub image-unbroken : (b : Builder) (next : ℕ) → IsImageHeap (heap_of b next) → first_broken b.objects.entries (heap_of b next) ≡ None
+pub image-unbroken : (b : Builder) (next : ℕ) → IsImageHeap (built_heap b next) → first_broken b.objects.entries (built_heap b next) ≡ None
 unfolding first_broken
 image-unbroken b next is =
     none-none _ _ (none-none _ _ (is-head (length es) next (subst (λ (n : ℕ). IsHead n next) (objects-are b next entries) is.head)) (none-first (record_breaks next) es records))
     (none-none _ _ (none-first (held_breaks h.at) es held) (none-none _ _ (none-first (count_breaks (count_of h)) es counted) (none-missing h.at known_names is.known)))
   where
     h : Heap
-    h = heap_of b next
+    h = built_heap b next
 
     es : List (ℕ × Object)
     es = b.objects.entries
@@ -337,18 +337,18 @@ image-unbroken b next is =
 
 -- ---- what is broken first
 
-pub broken-reading : (b : Builder) (next : ℕ) (x : ℕ × ℕ) → Some x ≡ reading_breaks b.objects.entries next → first_broken b.objects.entries (heap_of b next) ≡ Some x
+pub broken-reading : (b : Builder) (next : ℕ) (x : ℕ × ℕ) → Some x ≡ reading_breaks b.objects.entries next → first_broken b.objects.entries (built_heap b next) ≡ Some x
 unfolding first_broken
-broken-reading b next x e = ap (λ (o : Option (ℕ × ℕ)). o or whole_breaks b.objects.entries (heap_of b next).at (count_of (heap_of b next))) (sym e)
+broken-reading b next x e = ap (λ (o : Option (ℕ × ℕ)). o or whole_breaks b.objects.entries (built_heap b next).at (count_of (built_heap b next))) (sym e)
 
-pub broken-whole : (b : Builder) (next : ℕ) (counts : ℕ → ℕ) (x : Option (ℕ × ℕ)) → reading_breaks b.objects.entries next ≡ None → counts ≡ count_of (heap_of b next) → x ≡ whole_breaks b.objects.entries (heap_of b next).at counts → first_broken b.objects.entries (heap_of b next) ≡ x
+pub broken-whole : (b : Builder) (next : ℕ) (counts : ℕ → ℕ) (x : Option (ℕ × ℕ)) → reading_breaks b.objects.entries next ≡ None → counts ≡ count_of (built_heap b next) → x ≡ whole_breaks b.objects.entries (built_heap b next).at counts → first_broken b.objects.entries (built_heap b next) ≡ x
 unfolding first_broken
 broken-whole b next counts x reading same e =
-    ap (λ (o : Option (ℕ × ℕ)). o or whole_breaks b.objects.entries (heap_of b next).at (count_of (heap_of b next))) reading
-    ∙ ap (whole_breaks b.objects.entries (heap_of b next).at) (sym same)
+    ap (λ (o : Option (ℕ × ℕ)). o or whole_breaks b.objects.entries (built_heap b next).at (count_of (built_heap b next))) reading
+    ∙ ap (whole_breaks b.objects.entries (built_heap b next).at) (sym same)
     ∙ sym e
 
-pub not-image : (b : Builder) (next : ℕ) (x : ℕ × ℕ) → first_broken b.objects.entries (heap_of b next) ≡ Some x → IsImageHeap (heap_of b next) → ⊥
+pub not-image : (b : Builder) (next : ℕ) (x : ℕ × ℕ) → first_broken b.objects.entries (built_heap b next) ≡ Some x → IsImageHeap (built_heap b next) → ⊥
 not-image b next x broken is = let no : ◌≡◌ {A = Option (ℕ × ℕ)} None (Some x) = sym (image-unbroken b next is) ∙ broken in absurd (cc)
 
 pub tells-broken : {A : Type 0} (r : Result A BuildFault) (x : Option (ℕ × ℕ)) (rule name : ℕ) → IsErrAnd r (λ e. e ≡ Rule rule name) → x ≡ Some (rule, name) → Tells r x
@@ -357,13 +357,13 @@ tells-broken {A} (Err f) x rule name is e = subst (λ (g : BuildFault). let r : 
 
 -- ---- of the objects of an image
 
-pub image-bodies : (b : Builder) (next : ℕ) → IsImageHeap (heap_of b next) → All (λ (e : ℕ × Object). IsBody e.1.body) b.objects.entries
-image-bodies b next is = All-weaker (λ (e : ℕ × Object). (heap_of b next).at e.0 ≡ Some e.1) (λ (e : ℕ × Object). IsBody e.1.body) (λ e at. (is.objects e.0 e.1 at).body) b.objects.entries (All-found nat_cmp_total b.objects b.kept.ordered)
+pub image-bodies : (b : Builder) (next : ℕ) → IsImageHeap (built_heap b next) → All (λ (e : ℕ × Object). IsBody e.1.body) b.objects.entries
+image-bodies b next is = All-weaker (λ (e : ℕ × Object). (built_heap b next).at e.0 ≡ Some e.1) (λ (e : ℕ × Object). IsBody e.1.body) (λ e at. (is.objects e.0 e.1 at).body) b.objects.entries (All-found nat_cmp_total b.objects b.kept.ordered)
 
-pub image-few : (b : Builder) (next : ℕ) → IsImageHeap (heap_of b next) → length b.objects.entries < 2 ^ 32
+pub image-few : (b : Builder) (next : ℕ) → IsImageHeap (built_heap b next) → length b.objects.entries < 2 ^ 32
 image-few b next is = let same = objects-are b next (image-entries b next is) in let few = is.head.few in omega arith
 
-pub image-text : (b : Builder) (next : ℕ) (counts : ℕ → ℕ) (text : List ℕ) → IsImageHeap (heap_of b next) → ((q : ℕ) → counts q ≡ count_of (heap_of b next) q) → text ≡ head_text (length b.objects.entries) next ++ texts_with counts b.objects.entries → text ≡ image_text (heap_of b next)
+pub image-text : (b : Builder) (next : ℕ) (counts : ℕ → ℕ) (text : List ℕ) → IsImageHeap (built_heap b next) → ((q : ℕ) → counts q ≡ count_of (built_heap b next) q) → text ≡ head_text (length b.objects.entries) next ++ texts_with counts b.objects.entries → text ≡ image_text (built_heap b next)
 image-text b next counts text is exact e =
     e
     ∙ ap (λ (f : ℕ → ℕ). head_text (length b.objects.entries) next ++ texts_with f b.objects.entries) (fun_ext exact)

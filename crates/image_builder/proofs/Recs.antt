@@ -18,7 +18,7 @@ use Rattle.object_memory.specs.declared.plain.objects.Objects.{Objects}
 use Rattle.object_memory.specs.Records.{Rise, object_in, heap_of_recs, recs_of, AreWhole}
 use Rattle.object_memory.proofs.Entries.{Rises, found, map-rises}
 use Rattle.object_memory.proofs.WordLaws.{recs-are}
-use Rattle.image_builder.specs.Builder.{heap_of}
+use Rattle.image_builder.specs.Builder.{built_heap}
 use Rattle.image_builder.specs.Parts.{rec_with}
 use Rattle.image_builder.specs.declared.builder.Builder.{Builder}
 use Rattle.image_builder.proofs.Images.{image-bodies}
@@ -43,30 +43,30 @@ rises-above (e ∷ es) rises above = (let first : 0 < e.0 = All-head (λ (e : �
 -- ---- the records of an image's objects
 
 -- a memory of these objects
-stored : (b : Builder) (next : ℕ) → IsImageHeap (heap_of b next) → Objects
+stored : (b : Builder) (next : ℕ) → IsImageHeap (built_heap b next) → Objects
 stored b next is = record {
   objects = b.objects;
   next = next;
   stored = record {
     object = is.objects;
-    named = λ n o at. let name = is.names n (ap is_some at) in let low = below (heap_of b next) n o is.bounded at in let high = is.head.high in (name, omega arith);
-    below = λ n o at. below (heap_of b next) n o is.bounded at;
+    named = λ n o at. let name = is.names n (ap is_some at) in let low = below (built_heap b next) n o is.bounded at in let high = is.head.high in (name, omega arith);
+    below = λ n o at. below (built_heap b next) n o is.bounded at;
     even = is.head.even;
     fits = is.head.high;
     ordered = b.kept.ordered;
   };
 }
 
-pub image-recs : (b : Builder) (next : ℕ) (counts : ℕ → ℕ) (recs : List Rec) → IsImageHeap (heap_of b next) → ((q : ℕ) → counts q ≡ count_of (heap_of b next) q) → recs ≡ map (rec_with counts) b.objects.entries → recs ≡ recs_of (heap_of b next)
+pub image-recs : (b : Builder) (next : ℕ) (counts : ℕ → ℕ) (recs : List Rec) → IsImageHeap (built_heap b next) → ((q : ℕ) → counts q ≡ count_of (built_heap b next) q) → recs ≡ map (rec_with counts) b.objects.entries → recs ≡ recs_of (built_heap b next)
 unfolding stored
 image-recs b next counts recs is exact e = e ∙ sym (recs-are (stored b next is) counts exact)
 
-pub image-heap : (b : Builder) (next : ℕ) (counts : ℕ → ℕ) (recs : List Rec) → recs ≡ map (rec_with counts) b.objects.entries → heap_of_recs recs next ≡ heap_of b next
+pub image-heap : (b : Builder) (next : ℕ) (counts : ℕ → ℕ) (recs : List Rec) → recs ≡ map (rec_with counts) b.objects.entries → heap_of_recs recs next ≡ built_heap b next
 image-heap b next counts recs e =
     ap (λ (rs : List Rec). heap_of_recs rs next) e
     ∙ ap (λ (f : ℕ → Option Object). let h : Heap = record { at = f; next = next } in h) (fun_ext (found-in counts b.objects.entries))
 
-pub image-whole : (b : Builder) (next : ℕ) (counts : ℕ → ℕ) (recs : List Rec) → IsImageHeap (heap_of b next) → recs ≡ map (rec_with counts) b.objects.entries → AreWhole recs next
+pub image-whole : (b : Builder) (next : ℕ) (counts : ℕ → ℕ) (recs : List Rec) → IsImageHeap (built_heap b next) → recs ≡ map (rec_with counts) b.objects.entries → AreWhole recs next
 image-whole b next counts recs is e = record {
   even = is.head.even;
   rise = subst (λ (rs : List Rec). Rise 0 rs) (sym e) (recs-rise counts 0 es (rises-above es (map-rises b.objects b.kept.ordered) above));
@@ -77,7 +77,7 @@ image-whole b next counts recs is e = record {
 }
   where
     h : Heap
-    h = heap_of b next
+    h = built_heap b next
 
     es : List (ℕ × Object)
     es = b.objects.entries

@@ -17,8 +17,8 @@ abbrev pub object_at : Builder → ℕ → Option Object
 object_at b = λ n. get nat_cmp b.objects n
 
 -- the heap of them, with this next name
-abbrev pub heap_of : Builder → ℕ → Heap
-heap_of b next = record { at = λ n. get nat_cmp b.objects n; next = next }
+abbrev pub built_heap : Builder → ℕ → Heap
+built_heap b next = record { at = λ n. get nat_cmp b.objects n; next = next }
 
 -- a builder answered with the first rule that is broken, or where none is, something else; unless memory ran out
 abbrev pub Tells : {A : Type 0} → Result A BuildFault → Option (ℕ × ℕ) → Type 0

@@ -5,14 +5,14 @@ use Rattle.std.specs.List.{list_all}
 use Rattle.long_names.specs.Names.{is_known, known_names}
 use Rattle.long_names.specs.Words.{literal_count}
 use Rattle.long_names.specs.Objects.{fields_of}
-use Rattle.long_names.specs.declared.limits.TheConstants.{MOST_CODE}
+use Rattle.long_names.specs.declared.limits.TheConstants.{MOST_CODE, SMALL_INTEGERS}
 use Rattle.long_names.specs.Heap.{Heap, count_of}
 use Rattle.long_names.specs.declared.value.Value.{Value}
 use Rattle.long_names.specs.declared.value.Value.TheVariants.{Int, Ref}
 use Rattle.long_names.specs.declared.object.Body.{Body}
 use Rattle.long_names.specs.declared.object.Body.TheVariants.{Pointers, Words, Bytes, Method}
 use Rattle.long_names.specs.declared.object.Object.{Object}
-use Rattle.image_format.specs.Text.{FEWEST_OBJECTS, MOST_OBJECTS, LOWEST_NEXT}
+use Rattle.image_format.specs.declared.head.TheConstants.{FEWEST_OBJECTS, MOST_OBJECTS, LOWEST_NEXT}
 
 -- the first, and where it is none, the other
 infixr 10 ◌or◌
@@ -29,8 +29,8 @@ head_breaks objects next =
 
 -- a SmallInteger is in range
 abbrev pub is_small : ℤ → Bool
-is_small (pos n) = nat_lt n 16384
-is_small (negsuc n) = nat_lt n 16384
+is_small (pos n) = nat_lt n SMALL_INTEGERS
+is_small (negsuc n) = nat_lt n SMALL_INTEGERS
 
 -- a field is a name, or a SmallInteger in range
 abbrev pub is_field : Value → Bool

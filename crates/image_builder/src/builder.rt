@@ -27,7 +27,7 @@ pub struct Builder {
 }
 
 impl Builder {
-    ghost use Rattle.image_builder.specs.Builder.{objects_of, object_at, heap_of, Tells, IsRefused};
+    ghost use Rattle.image_builder.specs.Builder.{objects_of, object_at, built_heap, Tells, IsRefused};
     ghost use Rattle.image_builder.specs.Parts.{IsEntry, found_by, count_in, words_of, rec_with, texts_with};
 
     /// A builder to which nothing was added. It takes no memory.
@@ -175,10 +175,10 @@ impl Builder {
 
     /// Judges the objects as an image with this next name, and counts their words.
     fn judge(&self, alloc: Global, next: u32) -> Result<Counts, BuildFault>
-        ensures image { OnOk result (IsImageHeap (heap_of self.now next)) }
-        ensures counts { IfOk result (λ counts. (q : ℕ) → count_in counts q ≡ count_of (heap_of self.now next) q) }
-        ensures broken { Tells result (first_broken (objects_of self.now) (heap_of self.now next)) }
-        ensures refused { IsRefused result → IsImageHeap (heap_of self.now next) → ⊥ }
+        ensures image { OnOk result (IsImageHeap (built_heap self.now next)) }
+        ensures counts { IfOk result (λ counts. (q : ℕ) → count_in counts q ≡ count_of (built_heap self.now next) q) }
+        ensures broken { Tells result (first_broken (objects_of self.now) (built_heap self.now next)) }
+        ensures refused { IsRefused result → IsImageHeap (built_heap self.now next) → ⊥ }
     {
         self.judge_reading(next)?;
         let counts = self.count_words(alloc)?;
@@ -224,11 +224,11 @@ impl Builder {
     /// `Rule` comes exactly where these objects are no image: it is the first rule that would break in it, as images are read, with the
     /// name of the object that breaks it, of the known object that is missing (rule 12), or 0 where it is the head (rule 3). The builder stays as it is.
     pub fn finish(&self, alloc: Global, next: u32) -> Result<Octets, BuildFault>
-        ensures text { IfOk result (λ bytes. bytes ≡ image_text (heap_of self.now next)) }
-        ensures image { OnOk result (IsImageHeap (heap_of self.now next)) }
+        ensures text { IfOk result (λ bytes. bytes ≡ image_text (built_heap self.now next)) }
+        ensures image { OnOk result (IsImageHeap (built_heap self.now next)) }
         // It is the first rule that is broken, where one is.
-        ensures broken { Tells result (first_broken (objects_of self.now) (heap_of self.now next)) }
-        ensures refused { IsRefused result → IsImageHeap (heap_of self.now next) → ⊥ }
+        ensures broken { Tells result (first_broken (objects_of self.now) (built_heap self.now next)) }
+        ensures refused { IsRefused result → IsImageHeap (built_heap self.now next) → ⊥ }
     {
         let counts = self.judge(alloc, next)?;
         let text = self.text(alloc, next, &counts)?;
@@ -237,12 +237,12 @@ impl Builder {
 
     /// The records of that image, for a memory that is made without a file. It is refused as `finish` is.
     pub fn records(&self, alloc: Global, next: u32) -> Result<RecList, BuildFault>
-        ensures recs { IfOk result (λ recs. recs ≡ recs_of (heap_of self.now next)) }
+        ensures recs { IfOk result (λ recs. recs ≡ recs_of (built_heap self.now next)) }
         ensures whole { IfOk result (λ recs. AreWhole recs next) }
-        ensures heap { IfOk result (λ recs. heap_of_recs recs next ≡ heap_of self.now next) }
-        ensures image { OnOk result (IsImageHeap (heap_of self.now next)) }
-        ensures broken { Tells result (first_broken (objects_of self.now) (heap_of self.now next)) }
-        ensures refused { IsRefused result → IsImageHeap (heap_of self.now next) → ⊥ }
+        ensures heap { IfOk result (λ recs. heap_of_recs recs next ≡ built_heap self.now next) }
+        ensures image { OnOk result (IsImageHeap (built_heap self.now next)) }
+        ensures broken { Tells result (first_broken (objects_of self.now) (built_heap self.now next)) }
+        ensures refused { IsRefused result → IsImageHeap (built_heap self.now next) → ⊥ }
     {
         let counts = self.judge(alloc, next)?;
         let recs = self.recs(alloc, &counts)?;

@@ -8,35 +8,26 @@ ghost use Rattle.long_names.specs.declared.object.Body.TheVariants.{Method};
 ghost use Rattle.image_builder.specs.Rules as rules;
 ghost use Rattle.image_builder.specs.Sizes.{Fits};
 
-use long_names::{Body, Name, Object, Octets, Value, Values, literal_count};
-
-/// How many objects an image has at least: those that are known.
-const FEWEST_OBJECTS: usize = 22;
-
-/// How many objects an image has at most.
-const MOST_OBJECTS: usize = 1_048_576;
-
-/// The lowest next name: the known objects' names are below it.
-const LOWEST_NEXT: u32 = 60;
-
-/// The most code bytes of a method.
-const MOST_CODE: usize = 16_000;
-
-/// The SmallIntegers are below this number, and from its negative on.
-const SMALL_INTEGERS: i16 = 16_384;
+use image_format::{FEWEST_OBJECTS, LOWEST_NEXT, MOST_OBJECTS};
+use long_names::{
+    Body, MOST_CODE, Name, Object, Octets, SMALL_INTEGERS, Value, Values, literal_count,
+};
 
 /// Whether a head may state so many objects and this next name.
 pub(crate) fn is_head(objects: usize, next: u32) -> bool
     ensures { rules.head_breaks objects next ≡ (if result then None else Some (3, 0)) }
 {
-    (FEWEST_OBJECTS..=MOST_OBJECTS).contains(&objects) && next >= LOWEST_NEXT && next % 2 == 0
+    (FEWEST_OBJECTS as usize..=MOST_OBJECTS as usize).contains(&objects)
+        && next >= LOWEST_NEXT
+        && next % 2 == 0
 }
 
 fn is_small(number: i16) -> bool
     ensures is { result ≡ rules.is_small number }
     ensures small { IsTrue result ↔ IsSmallInteger number }
 {
-    (-SMALL_INTEGERS..SMALL_INTEGERS).contains(&number)
+    let limit = SMALL_INTEGERS as i16;
+    (-limit..limit).contains(&number)
 }
 
 /// Whether a field may hold the value: a name, or a SmallInteger in range.
@@ -71,7 +62,7 @@ fn is_method(header: i16, literals: &Values, code: &Octets) -> bool
     ensures is { result ≡ rules.is_method header literals.now code.now }
     ensures size { IsTrue result → HasSize (Method header literals.now code.now) }
 {
-    code.len() <= MOST_CODE && is_small(header) && literal_count(header) == literals.len()
+    code.len() <= MOST_CODE as usize && is_small(header) && literal_count(header) == literals.len()
 }
 
 fn judge_fields(values: &Values) -> Option<u8>

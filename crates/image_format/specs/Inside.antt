@@ -2,6 +2,7 @@
 use Rattle.std.specs.Prelude.{◌≡◌, ℕ, ℤ, zero, suc, ◌+◌, ◌-◌, ◌%◌, ◌&&◌, List, ◌++◌, [], ◌∷◌, length, take, drop, Option, Some, None, Result, Ok, Err, nat_lt, nat_le, ◌==◌, if◌then◌else◌}
 use Rattle.std.specs.Int.{Width, w16, w32, w64, byte_len, from_be_bytes}
 use Rattle.std.specs.List.{list_all}
+use Rattle.long_names.specs.declared.limits.TheConstants.{MOST_CODE}
 use Rattle.long_names.specs.Words.{value_of, literal_count}
 use Rattle.long_names.specs.Objects.{int_of}
 use Rattle.long_names.specs.declared.value.Value.{Value}
@@ -92,7 +93,7 @@ unfoldable pub method_at : ℕ → List ℕ → Option (Body × List ℕ)
 method_at size bytes = do
   count ← number_at w32 bytes
   header ← header_at count.1
-  literals ← (if nat_le size 16000 && literal_count header.0 == count.0 then values_at count.0 header.1 else None)
+  literals ← (if nat_le size MOST_CODE && literal_count header.0 == count.0 then values_at count.0 header.1 else None)
   code ← octets_at size literals.1
   Some (Method header.0 literals.0 code.0, code.1)
 

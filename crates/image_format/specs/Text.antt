@@ -4,20 +4,9 @@ use Rattle.std.specs.Option.{option_map_or}
 use Rattle.long_names.specs.Heap.{Heap, object_count, rec_of}
 use Rattle.long_names.specs.Record.{four_bytes, record_text}
 use Rattle.long_names.specs.declared.object.Object.{Object}
+use Rattle.image_format.specs.declared.head.TheConstants.{VERSION, FEWEST_OBJECTS, MOST_OBJECTS, LOWEST_NEXT}
 
 -- ---- the head
-
--- how many objects an image has at least: those that are known
-abbrev pub FEWEST_OBJECTS : ℕ
-FEWEST_OBJECTS = 22
-
--- and at most
-abbrev pub MOST_OBJECTS : ℕ
-MOST_OBJECTS = 1048576
-
--- the lowest next name: the known objects' names are below it
-abbrev pub LOWEST_NEXT : ℕ
-LOWEST_NEXT = 60
 
 -- so many objects, and a next name of 32 bits that is even and above the known names
 pub record IsHead (count next : ℕ) : Type 0 where
@@ -27,9 +16,9 @@ pub record IsHead (count next : ℕ) : Type 0 where
   pub low : LOWEST_NEXT ≤ next
   pub high : next < 2 ^ 32
 
--- LOOM, version 1, the number of objects, and the next name
+-- LOOM, the version, the number of objects, and the next name
 abbrev pub head_text : ℕ → ℕ → List ℕ
-head_text count next = codes "LOOM" ++ (four_bytes 1 ++ (four_bytes count ++ four_bytes next))
+head_text count next = codes "LOOM" ++ (four_bytes VERSION ++ (four_bytes count ++ four_bytes next))
 
 -- ---- the text
 

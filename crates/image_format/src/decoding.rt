@@ -3,15 +3,13 @@ ghost use Rattle.std.specs.Prelude.{◌≡◌, ◌≢◌, ℕ, ◌≤◌, ◌++�
 ghost use Rattle.long_names.specs.declared.object.Rec.{Rec as Spelled};
 ghost use Rattle.long_names.specs.Objects.{IsRecord};
 ghost use Rattle.long_names.specs.Record.{record_text};
+ghost use Rattle.long_names.specs.declared.limits.TheConstants.{LONGEST_RECORD};
 ghost use Rattle.image_format.specs.Faults.{IsBad, IsPlaced};
 
 use crate::fault::RecFault;
 use crate::reading::record_of;
 use long_names::Rec;
 use std::alloc::Global;
-
-/// The bytes of the longest record: the head and 65,535 long words.
-pub const MAX_RECORD: usize = 262_160;
 
 /// The first record of the bytes, and its length in bytes. More bytes may follow it.
 ///
@@ -23,7 +21,7 @@ pub fn decode_rec(alloc: Global, bytes: &[u8]) -> Result<(Rec, usize), RecFault>
     ensures text { IfOk result (λ x. take x.1 bytes.now ≡ record_text x.0) }
     ensures len { IfOk result (λ x. length (record_text x.0) ≡ x.1) }
     ensures within { IfOk result (λ x. x.1 ≤ length bytes.now) }
-    ensures longest { IfOk result (λ x. x.1 ≤ MAX_RECORD) }
+    ensures longest { IfOk result (λ x. x.1 ≤ LONGEST_RECORD) }
     ensures record { IfOk result (λ x. IsRecord x.0) }
     // Bytes that begin with a record give that record, unless memory runs out.
     ensures only { (r : Spelled) (rest : List ℕ) → IsRecord r → bytes.now ≡ record_text r ++ rest → IfOk result (λ x. x.0 ≡ r) }

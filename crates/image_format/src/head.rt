@@ -8,16 +8,17 @@ use crate::big_endian::bytes_of_u32;
 /// How many bytes the head has: `LOOM`, the version, the object count and the next name.
 pub const HEAD_LEN: usize = 16;
 
-const VERSION: u32 = 1;
+/// The version that the head states.
+pub const VERSION: u32 = 1;
 
 /// How many objects an image has at least: those that are known.
-const FEWEST_OBJECTS: u32 = 22;
+pub const FEWEST_OBJECTS: u32 = 22;
 
 /// How many objects an image has at most.
-const MOST_OBJECTS: u32 = 1_048_576;
+pub const MOST_OBJECTS: u32 = 1_048_576;
 
 /// The lowest next name: the known objects' names are below it.
-const LOWEST_NEXT: u32 = 60;
+pub const LOWEST_NEXT: u32 = 60;
 
 /// How many objects an image has, and the name that the next new object takes.
 #[derive(Clone, Copy, Debug, PartialEq, Eq)]

@@ -6,16 +6,16 @@ ghost use Rattle.long_names.specs.Record.{record_text};
 ghost use Rattle.long_names.specs.Heap.{Heap};
 ghost use Rattle.image_format.specs.Text.{image_text};
 ghost use Rattle.image_format.specs.Valid.{IsImageHeap};
-ghost use Rattle.image_format.specs.declared.decoding.TheConstants.{MAX_RECORD};
+ghost use Rattle.long_names.specs.declared.limits.TheConstants.{LONGEST_RECORD};
 
 /// Each record has one text, and no text of a record begins another. So what was written is read again, whatever follows it.
 pub fn one_text()
     ensures { (a b : Rec) (x y : List ℕ) → IsRecord a → IsRecord b → record_text a ++ x ≡ record_text b ++ y → (a ≡ b) × (x ≡ y) }
 {}
 
-/// A record has at most `MAX_RECORD` bytes, and a multiple of four.
+/// A record has at most `LONGEST_RECORD` bytes, and a multiple of four.
 pub fn longest_record()
-    ensures longest { (r : Rec) → IsRecord r → length (record_text r) ≤ MAX_RECORD }
+    ensures longest { (r : Rec) → IsRecord r → length (record_text r) ≤ LONGEST_RECORD }
     ensures whole { (r : Rec) → length (record_text r) % 4 ≡ 0 }
 {}
 

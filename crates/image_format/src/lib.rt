@@ -20,10 +20,10 @@ pub mod laws;
 mod reading;
 
 pub use big_endian::{bytes_of_u16, bytes_of_u32, bytes_of_u64};
-pub use decoding::{MAX_RECORD, decode_rec};
+pub use decoding::decode_rec;
 pub use encoding::{encode_object, encode_rec};
 pub use fault::RecFault;
-pub use head::{HEAD_LEN, Head, decode_head};
+pub use head::{FEWEST_OBJECTS, HEAD_LEN, Head, LOWEST_NEXT, MOST_OBJECTS, VERSION, decode_head};
 
 #[cfg(test)]
 mod tests;

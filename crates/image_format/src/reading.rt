@@ -7,11 +7,10 @@ ghost use Rattle.long_names.specs.Record.{padding};
 ghost use Rattle.image_format.specs.Inside.{Gives, Shows, number_at, name_at, kind_at, value_at, values_at, words_at, octets_at, header_at, method_at, body_at, zeros_at, Decodes};
 
 use crate::fault::RecFault;
-use long_names::{Body, Kind, Name, Octets, Rec, Value, Values, Words16, literal_count, value_of};
+use long_names::{
+    Body, Kind, MOST_CODE, Name, Octets, Rec, Value, Values, Words16, literal_count, value_of,
+};
 use std::alloc::Global;
-
-/// The most code bytes of a method.
-const MAX_CODE: usize = 16_000;
 
 fn bad() -> RecFault
     ensures { result ≡ Bad 0 0 }
@@ -167,7 +166,7 @@ impl<'a> Unread<'a> {
     {
         let count = self.take_u32()?;
         let header = self.take_header()?;
-        if size > MAX_CODE || literal_count(header) != count as usize {
+        if size > MOST_CODE as usize || literal_count(header) != count as usize {
             return Err(bad());
         }
         let literals = self.take_values(alloc, count as usize)?;

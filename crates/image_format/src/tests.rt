@@ -1,5 +1,5 @@
 use super::*;
-use long_names::Octets;
+use long_names::{LONGEST_RECORD, Octets};
 use std::alloc::Global;
 use std::test::Fail;
 
@@ -115,7 +115,7 @@ fn long_record(
 fn the_longest_records(rt: HostRuntime) -> Result<(), Fail> {
     let alloc = rt.alloc();
     let values = long_record(alloc, 0, 65535, &[0, 0, 0, 2], 65535)?;
-    assert_eq!(rt; values.len(), MAX_RECORD);
+    assert_eq!(rt; values.len(), LONGEST_RECORD as usize);
     assert!(rt; is_kept(alloc, values.bytes())?);
     let mut words = long_record(alloc, 1, 65535, &[1, 2], 65535)?;
     words.extend(&[0, 0])?;

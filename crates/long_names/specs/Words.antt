@@ -1,13 +1,14 @@
 -- SmallIntegers, values and long words (chapter 30 of the Blue Book, with 32 bits).
 use Rattle.std.specs.Prelude.{ℕ, ℤ, pos, negsuc, ◌+◌, ◌-◌, ◌*◌, ◌/◌, ◌%◌, ◌^◌, ◌<◌, ◌==◌, nat_lt, nat_le, Option, Some, None, if◌then◌else◌}
 use Rattle.long_names.specs.Names.{IsLongName}
+use Rattle.long_names.specs.declared.limits.TheConstants.{SMALL_INTEGERS}
 use Rattle.long_names.specs.declared.value.Value.{Value}
 use Rattle.long_names.specs.declared.value.Value.TheVariants.{Int, Ref}
 
 -- a SmallInteger is from -16384 to 16383
 abbrev pub IsSmallInteger : ℤ → Type 0
-IsSmallInteger (pos n) = n < 16384
-IsSmallInteger (negsuc n) = n < 16384
+IsSmallInteger (pos n) = n < SMALL_INTEGERS
+IsSmallInteger (negsuc n) = n < SMALL_INTEGERS
 
 -- what a field may hold: a SmallInteger, or a name that fits a long word
 abbrev pub IsValue : Value → Type 0
@@ -22,7 +23,7 @@ long_word (Ref n) = n
 
 -- the SmallInteger whose long word is twice this and 1
 abbrev pub small_integer_of : ℕ → Option Value
-small_integer_of half = if nat_lt half 16384 then Some (Int (pos half)) else (if nat_le (2 ^ 31 - 16384) half then Some (Int (negsuc (2 ^ 31 - 1 - half))) else None)
+small_integer_of half = if nat_lt half SMALL_INTEGERS then Some (Int (pos half)) else (if nat_le (2 ^ 31 - SMALL_INTEGERS) half then Some (Int (negsuc (2 ^ 31 - 1 - half))) else None)
 
 -- the value of a long word: none for 0, and none for a SmallInteger out of range
 abbrev pub value_of : ℕ → Option Value

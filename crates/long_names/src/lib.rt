@@ -18,7 +18,9 @@ mod name;
 mod object;
 mod value;
 
-pub use limits::{LAST_NAME, LONGEST_RECORD, MOST_CODE, MOST_FIELDS, MOST_LITERALS};
+pub use limits::{
+    LAST_NAME, LONGEST_RECORD, MOST_CODE, MOST_FIELDS, MOST_LITERALS, SMALL_INTEGERS,
+};
 pub use lists::{NameList, Octets, RecList, Values, Words16};
 pub use name::{Name, bits};
 pub use object::{Body, Kind, Object, Rec, literal_count};

@@ -1,7 +1,10 @@
-// The limits of names, objects and records: each stands here once, and definitions and clauses cite it.
+// The limits of names, SmallIntegers, objects and records: each stands here once, and definitions and clauses cite it.
 
 /// No object is made with the next name here or above.
 pub const LAST_NAME: u32 = 4_294_967_294;
+
+/// A SmallInteger is below this number, and its negative or above (chapter 30: 15 bits).
+pub const SMALL_INTEGERS: u32 = 16_384;
 
 /// The most values of an object of pointers, words of one of words, and bytes of one of bytes.
 pub const MOST_FIELDS: u32 = 65_535;

@@ -3,6 +3,7 @@ ghost use Rattle.std.specs.Prelude.{◌≡◌, IfSome, Some};
 ghost use Rattle.long_names.specs.Words.{IsValue};
 ghost use Rattle.long_names.specs.Words as words;
 
+use crate::limits::SMALL_INTEGERS;
 use crate::name::Name;
 
 /// What a field holds: a SmallInteger from -16384 to 16383, or a name.
@@ -79,10 +80,10 @@ pub fn value_of(word: u32) -> Option<Value>
         };
     }
     let half = word / 2;
-    if half < 16384 {
+    if half < SMALL_INTEGERS {
         return Some(Value::Int(half as i16));
     }
-    if half >= 0x7FFF_C000 {
+    if half >= 0x8000_0000 - SMALL_INTEGERS {
         return Some(Value::Int(-1 - ((0x7FFF_FFFF - half) as i16)));
     }
     None

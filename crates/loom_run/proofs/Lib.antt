@@ -1,4 +1,5 @@
 pub mod Frames
+pub mod HeadlineLaws
 pub mod ImageLaws
 pub mod Lines
 pub mod LoadLaws

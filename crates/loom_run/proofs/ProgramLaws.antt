@@ -18,12 +18,14 @@ use Rattle.loom_run.specs.declared.running.Reason.TheVariants.{ByStop, NoMemory}
 use Rattle.loom_run.specs.declared.status.Status.{Status}
 use Rattle.event_file.specs.Text.{IsBadAt}
 use Rattle.event_file.proofs.OneReading.{none-bad}
-use Rattle.blue_model.specs.Cycle.{Ending, Stopping, ByCause, BySpentNames, Parked, Stuck, ending}
+use Rattle.blue_model.specs.Cycle.{Ending, ByCause, BySpentNames, ending}
+use Rattle.blue_model.specs.Endings.{said_in}
+use Rattle.blue_model.proofs.EndingLaws.{not_stuck, parked_of}
 use Rattle.loom_run.specs.Status.{usage_of}
-use Rattle.loom_run.specs.Top.{SaysRun, SavesRun, DrawsRun, RunsBy, SaysAllOrNothing, bytes_of, IsCaused, IsParked, JudgesImage, JudgesEvents, JudgesRun, IsOfMachine, RunOf, CanBeDone, IsDone}
+use Rattle.loom_run.specs.Top.{SaysRun, SavesRun, DrawsRun, RunsBy, SaysAllOrNothing, bytes_of, IsCaused, JudgesImage, JudgesEvents, JudgesRun, IsOfMachine, RunOf, CanBeDone, IsDone}
 use Rattle.loom_run.specs.declared.status.Status.TheVariants as answer
 use Rattle.loom_run.specs.declared.status.Status.TheVariants.{Done, Usage, ImageBad, EventsBad, NamesSpent, ReadFault, WriteFault, OutOfMemory}
-use Rattle.loom_run.specs.Run.{HaltsAs, EndsAs, IsParkedBy, IsStuckBy, said_in}
+use Rattle.loom_run.specs.Run.{HaltsAs, EndsAs}
 use Rattle.loom_run.specs.Parts.{StopsBy, SaysStopped, IsTold, unsaid, WasSaid, is_own_reason, is_spoken_by}
 
 -- the answer of a `?`
@@ -75,11 +77,6 @@ begins_to_say told run e old new ends speaks own said = subst (λ t. PutPrefix t
 
 -- ---- right words, images and events, and no fault
 
--- a run that goes through isn't stuck
-not_stuck : (why : Stopping) (ran : ℕ) (e : Ending) → IsParked e → IsStuckBy why ran e → ⊥
-not_stuck why ran (Parked end m drawn) parked stuck = stuck
-not_stuck why ran (Stuck reason count said) parked stuck = parked
-
 -- the answer of a run that can be done
 pub done_by : (image events : List ℕ) (steps : ℕ) (before now : Role → ℕ) (result : Status) → usage_of result ≡ None → IsCaused result before now → JudgesImage result image → JudgesEvents result events → (IsOfMachine result → RunOf image events steps (JudgesRun result)) → CanBeDone image events steps before now → IsDone result
 done_by image events steps before now (answer.Done ran) usage cause of_image of_events run can = tt
@@ -96,10 +93,6 @@ done_by image events steps before now (answer.NamesSpent ran) usage cause of_ima
     let r = run tt in absurd (not_stuck BySpentNames ran (ending r.lines steps r.heap) (can.runs r.heap r.lines r.is r.text r.list) r.run)
 
 -- ---- once the last line was put
-
-parked_of : (end : Step) (ran : ℕ) (run : Ending) → IsParkedBy end ran run → IsParked run
-parked_of end ran (Parked last m drawn) parked = tt
-parked_of end ran (Stuck why count said) parked = parked
 
 runs_unsaid : {tells : Role → Bool} {before now : Meanings} {saved display : List ℕ} (status : Status) (count : ℕ) (run : Ending) → RunsBy tells before now saved display status run → RunsBy tells before now saved display (unsaid status count) run
 runs_unsaid (answer.Done ran) count run r = record { judged = parked_of Next ran run r.judged; says = r.says; saves = r.saves; draws = r.draws }

@@ -13,7 +13,8 @@ use Rattle.blue_model.specs.declared.event.Line.{Line}
 use Rattle.blue_model.specs.Cycle.{Ending, Parked, Stuck, ending}
 use Rattle.blue_model.specs.Law.{EndingsAgree}
 use Rattle.blue_model.proofs.RunLaws.{endings-agree}
-use Rattle.loom_run.specs.Run.{Begins, OnParked}
+use Rattle.blue_model.specs.Endings.{OnParked}
+use Rattle.loom_run.specs.Run.{Begins}
 use Rattle.loom_run.specs.Saved.{saved_text}
 
 -- a fresh memory of a heap begins with it

@@ -27,7 +27,9 @@ use Rattle.contexts.specs.Serves.{HasRest, Stands, IsGo, Gives, GivesAs, IsCause
 use Rattle.contexts.proofs.SpeaksLaws.{GoesOn, goes_done, goes_then, goes_numbers, goes_set_numbers}
 use Rattle.contexts.proofs.ServesLaws.{Gives-after, serves_stop, says_quietly}
 use Rattle.contexts.proofs.CacheLaws.{sound_follows}
-use Rattle.loom_run.specs.Run.{Reaches, StopsIn, IsWorkFault, StopsAfter, RunsAs, HasFault, FaultsBy, Begins, HasSaid, IsStuckBy, StopsAs, SaysAs, Awaits, GoesThrough, GoesAs, DrawsAs, HaltsAs, said_in, is_quit}
+use Rattle.loom_run.specs.Run.{Reaches, StopsIn, IsWorkFault, StopsAfter, RunsAs, HasFault, FaultsBy, Begins, HasSaid, StopsAs, SaysAs, Awaits, GoesThrough, GoesAs, DrawsAs, HaltsAs}
+use Rattle.blue_model.specs.Endings.{IsStuckBy, said_in}
+use Rattle.blue_model.proofs.EndingLaws.{quit_stays, stopping_of, run_stopped, stopped_by, parked_by, started_by}
 use Rattle.loom_run.specs.declared.running.Reason.{Reason}
 use Rattle.loom_run.specs.declared.running.Reason.TheVariants.{ByStop, NoMemory}
 use Rattle.loom_run.specs.declared.running.Finished.{Finished}
@@ -141,30 +143,8 @@ pub counts_on : (before : ℕ) → GoesOn Next (count_bytecode before >>= λ _. 
 unfolding count_bytecode
 counts_on before = goes_then _ (goes_numbers _ (λ cpu. goes_set_numbers _)) goes_done
 
--- a run that the machine ended stays so
-quit_stays : (events : List Line) (k done : ℕ) (m n : Machine) → run events done m ≡ Ran Quit n → done ≤ k → run events k m ≡ Ran Quit n
-unfolding run
-quit_stays events zero done m n e low = let same : done ≡ 0 = omega arith in ap (λ i. run events i m) (sym same) ∙ e
-quit_stays events (suc k) done m n e low = go (nat_lt k done) refl (λ few. quit_stays events k done m n e few)
-  where
-    go : (b : Bool) → nat_lt k done ≡ b → (done ≤ k → run events k m ≡ Ran Quit n) → one_more events (run events k m) ≡ Ran Quit n
-    go true g before =
-        let high = ltb-true k done g in
-        let same : done ≡ suc k = omega arith in
-        ap (λ i. run events i m) (sym same) ∙ e
-    go false g before = let few = ltb-false k done g in ap (one_more events) (before few)
-
 pub reaches_end : (events : List Line) (new : Told) (now : Cpu) (done k : ℕ) (m : Machine) → done ≤ k → Reaches events new now Quit done m → Reaches events new now Quit k m
 reaches_end events new now done k m few x = record { machine = x.machine; ran = quit_stays events k done m x.machine x.ran few; stands = x.stands }
-
--- a machine that hasn't ended goes on
-pub goes_on : (end : Step) → is_quit end ≡ false → end ≡ Next
-goes_on Next e = refl
-goes_on Quit e = absurd (cc)
-
-pub has_ended : (end : Step) → is_quit end ≡ true → end ≡ Quit
-has_ended Quit e = refl
-has_ended Next e = absurd (cc)
 
 -- what was said when a call stopped that may say something
 has_said : (e : Stop) (mid new : Told) (before : List ℕ) → IsTrue mid.speaks → mid.transcript ≡ before → SaysLast Next mid new (Err e) → HasSaid e before new.transcript
@@ -212,12 +192,6 @@ runs_exit {events} {new} {now} {steps} {m} {e} r is h =
 
 -- ---- the model's run behind a stop
 
--- why an outcome stopped
-abbrev stopping_of : {A : Type 0} → Outcome A → Option Stopping
-stopping_of (Go a m log) = None
-stopping_of (Halt c log) = Some (ByCause c)
-stopping_of (Spent log) = Some BySpentNames
-
 -- A stop of the machine's own is the reason why its run ended, and all was said that the run says. Of another fault nothing is asked.
 abbrev pub IsHalt : Stop → ℕ → Told → Ending → Type 0
 IsHalt e ran new ending = StopsAs e ran ending × SaysAs e new ending
@@ -245,33 +219,6 @@ halts w o new now (Mem (WorkFault count)) ran end said g f s = (tt, λ own. neve
 halts w o new now (Mem (Damaged place name)) ran end said g f s = (tt, λ own. never own)
 halts w o new now (Mem (Said count)) ran end said g f s = (tt, λ own. never own)
 halts w o new now (Mem Memory) ran end said g f s = (tt, λ own. never own)
-
-run_stopped : (events : List Line) (k done : ℕ) (m n : Machine) (why : Stopping) (log : List LogRow) → run events done m ≡ Ran Next n → run_of n (cycle events n) ≡ Stopped n why log → done < k → run events k m ≡ Stopped n why log
-unfolding run
-run_stopped events zero done m n why log e f low = absurd (omega arith)
-run_stopped events (suc k) done m n why log e f low = go (nat_lt done k) refl (λ below. run_stopped events k done m n why log e f below)
-  where
-    go : (b : Bool) → nat_lt done k ≡ b → (done < k → run events k m ≡ Stopped n why log) → one_more events (run events k m) ≡ Stopped n why log
-    go true g next = ap (one_more events) (next (ltb-true done k g))
-    go false g next =
-        let high = ltb-false done k g in
-        let same : done ≡ k = omega arith in
-        ap (one_more events) (ap (λ i. run events i m) (sym same) ∙ e) ∙ f
-
-stopped_by : (n : Machine) (o : Outcome Step) (why : Stopping) → stopping_of o ≡ Some why → run_of n o ≡ Stopped n why (log_of o)
-stopped_by n (Go a m log) why e = absurd (cc)
-stopped_by n (Halt c log) why e = let same : ByCause c ≡ why = cc in ap (λ x. Stopped n x log) same
-stopped_by n (Spent log) why e = let same : BySpentNames ≡ why = cc in ap (λ x. Stopped n x log) same
-
-parked_by : (end : Step) (m : Machine) (o : Outcome (List ℕ)) (why : Stopping) → stopping_of o ≡ Some why → parked end m o ≡ model.Stuck why m.cpu.ran m.transcript
-parked_by end m (Go a n log) why e = absurd (cc)
-parked_by end m (Halt c log) why e = let same : ByCause c ≡ why = cc in ap (λ x. model.Stuck x m.cpu.ran m.transcript) same
-parked_by end m (Spent log) why e = let same : BySpentNames ≡ why = cc in ap (λ x. model.Stuck x m.cpu.ran m.transcript) same
-
-started_by : (events : List Line) (steps : ℕ) (o : Outcome (Unit {0})) (why : Stopping) → stopping_of o ≡ Some why → run_from events steps o ≡ model.Stuck why 0 []
-started_by events steps (Go a n log) why e = absurd (cc)
-started_by events steps (Halt c log) why e = let same : ByCause c ≡ why = cc in ap (λ x. model.Stuck x 0 []) same
-started_by events steps (Spent log) why e = let same : BySpentNames ≡ why = cc in ap (λ x. model.Stuck x 0 []) same
 
 -- a stop in a cycle
 pub run_stops : (events : List Line) (new : Told) (now : Cpu) (e : Stop) (steps : ℕ) (m : Machine) → StopsIn events new now e steps m → IsHalt e now.ran new (ended (run events steps m))

@@ -34,6 +34,6 @@ base_bytes ip =
     0 ∷ 0 ∷ 0 ∷ 2 ∷ 0 ∷ 0 ∷ 0 ∷ 2 ∷ []
 
 -- the text of what a run leaves
-abbrev pub text_of : Ending → List ℕ
-text_of (Parked end m picture) = image_text m.heap
-text_of (Stuck why ran said) = []
+abbrev pub text_of_ending : Ending → List ℕ
+text_of_ending (Parked end m picture) = image_text m.heap
+text_of_ending (Stuck why ran said) = []

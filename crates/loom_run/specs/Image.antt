@@ -19,11 +19,11 @@ abbrev pub text_of_recs : List Rec → ℕ → List ℕ
 text_of_recs recs next = head_text (length recs) next ++ recs_text recs
 
 -- its heap, and its text
-abbrev pub heap_of : Image → Heap
-heap_of image = heap_of_recs image.recs image.next
+abbrev pub heap_of_image : Image → Heap
+heap_of_image image = heap_of_recs image.recs image.next
 
-abbrev pub text_of : Image → List ℕ
-text_of image = text_of_recs image.recs image.next
+abbrev pub text_of_image : Image → List ℕ
+text_of_image image = text_of_recs image.recs image.next
 
 -- records as they may stand in an image: by rising name, below the next name
 pub record AreInOrder (recs : List Rec) (next : ℕ) : Type 0 where

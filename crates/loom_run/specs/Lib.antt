@@ -1,5 +1,6 @@
 pub mod Base
 pub mod Faults
+pub mod Headline
 pub mod Image
 pub mod Meanings
 pub mod Parts

@@ -4,12 +4,13 @@ use Rattle.long_names.specs.Counting.{Rose}
 use Rattle.long_names.specs.Heap.{Heap}
 use Rattle.blue_model.specs.declared.event.Line.{Line}
 use Rattle.blue_model.specs.Cycle.{Ending, ending}
+use Rattle.blue_model.specs.Endings.{said_in}
 use Rattle.loom_outside.specs.Outside.{RoleState, PutPrefix, puts}
 use Rattle.loom_outside.specs.declared.outside.Failed.{Failed}
 use Rattle.loom_outside.specs.declared.outside.Role.{Role}
 use Rattle.loom_outside.specs.declared.outside.Role.TheVariants.{Image, Events, Saved, Display, Transcript, Notes}
 use Rattle.loom_run.specs.Meanings.{Meanings, IsLeft, LeavesBut}
-use Rattle.loom_run.specs.Run.{StopsAs, is_own, said_in}
+use Rattle.loom_run.specs.Run.{StopsAs, is_own}
 use Rattle.loom_run.specs.Top.{SaysRun, HasRun, IsCaused, EventsBy, AttachedOnce, AttachedUnless, WasWritten, WasBegun, WasRefused, AreEvents, JudgesImage, JudgesEvents, IsOfMachine, RunOf, RunsBy, SaysAllOrNothing, bytes_of, is_before_events, is_before_saying, is_before_saving, is_before_drawing}
 use Rattle.loom_run.specs.Status.{line_of}
 use Rattle.loom_run.specs.declared.running.Finished.{Finished}

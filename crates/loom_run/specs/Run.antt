@@ -10,11 +10,12 @@ use Rattle.object_memory.specs.declared.fault.MemFault.{MemFault}
 use Rattle.object_memory.specs.declared.fault.MemFault.TheVariants.{CoreFull, WorkFull, WorkFault, Damaged, NamesSpent, Said, Memory}
 use Rattle.blue_model.specs.declared.cpu.Cpu.{Cpu}
 use Rattle.blue_model.specs.declared.step.Step.{Step}
-use Rattle.blue_model.specs.declared.step.Step.TheVariants.{Next, Quit}
+use Rattle.blue_model.specs.declared.step.Step.TheVariants.{Next}
 use Rattle.blue_model.specs.declared.event.Line.{Line}
 use Rattle.blue_model.specs.Machine.{Machine, LogRow, after}
 use Rattle.blue_model.specs.Devices.{picture}
-use Rattle.blue_model.specs.Cycle.{Ran, Stopping, ByCause, BySpentNames, Ending, cycle, parked}
+use Rattle.blue_model.specs.Cycle.{Ran, ByCause, BySpentNames, Ending, cycle, parked}
+use Rattle.blue_model.specs.Endings.{OnParked, OnDrawn, said_in, IsStuckBy, IsParkedBy}
 use Rattle.blue_model.specs.Cycle as model
 use Rattle.contexts.specs.declared.stop.Stop.{Stop}
 use Rattle.contexts.specs.declared.stop.Stop.TheVariants.{Stuck, Mem}
@@ -52,16 +53,6 @@ pub record StopsIn (events : List Line) (new : Told) (now : Cpu) (stop : Stop) (
 abbrev pub IsWorkFault : Stop → Type 0
 IsWorkFault (Mem (WorkFault count)) = Unit {0}
 IsWorkFault _ = ⊥
-
--- as many cycles were made as were asked for, unless the machine ended
-abbrev pub HasCounted : Step → ℕ → ℕ → Type 0
-HasCounted Next ran all = ran ≡ all
-HasCounted Quit ran all = ran ≤ all
-
--- the machine ended
-abbrev pub is_quit : Step → Bool
-is_quit Next = false
-is_quit Quit = true
 
 -- the memory couldn't settle after a cycle
 pub record StopsAfter (events : List Line) (new : Told) (now : Cpu) (stop : Stop) (cycles : ℕ) (m : Machine) : Type 0 where
@@ -111,26 +102,6 @@ pub record Begins (h : Heap) (t : Told) : Type 0 where
   pub rows : (class selector method : ℕ) → t.cache.rows class selector method ≡ false
   pub transcript : IsTrue t.speaks → t.transcript ≡ []
 
--- the model's run went through, and P holds of the machine that is parked
-abbrev pub OnParked : Ending → (Machine → Type 0) → Type 0
-OnParked (model.Parked end m drawn) P = P m
-OnParked (model.Stuck why ran said) P = ⊥
-
--- and P holds of the picture
-abbrev pub OnDrawn : Ending → (List ℕ → Type 0) → Type 0
-OnDrawn (model.Parked end m drawn) P = P drawn
-OnDrawn (model.Stuck why ran said) P = ⊥
-
--- all that the model's run said
-abbrev pub said_in : Ending → List ℕ
-said_in (model.Parked end m drawn) = m.transcript
-said_in (model.Stuck why ran said) = said
-
--- the model's run stopped for this reason, after so many bytecodes
-abbrev pub IsStuckBy : Stopping → ℕ → Ending → Type 0
-IsStuckBy why ran (model.Parked end m drawn) = ⊥
-IsStuckBy why ran (model.Stuck reason count said) = (reason ≡ why) × (count ≡ ran)
-
 -- a fault of the memory: names are spent where the model's run says so, and any other fault may come at any time
 abbrev pub FaultsAs : MemFault → ℕ → Ending → Type 0
 FaultsAs NamesSpent ran ending = IsStuckBy BySpentNames ran ending
@@ -155,11 +126,6 @@ is_own (Mem _) = false
 -- what was said when the model's run stopped
 abbrev pub SaysAs : Stop → Told → Ending → Type 0
 SaysAs stop new ending = IsTrue (is_own stop) → IsTrue new.speaks → new.transcript ≡ said_in ending
-
--- the model's run went through, and ended so after so many bytecodes
-abbrev pub IsParkedBy : Step → ℕ → Ending → Type 0
-IsParkedBy end ran (model.Parked last m drawn) = (last ≡ end) × (m.cpu.ran ≡ ran)
-IsParkedBy end ran (model.Stuck why count said) = ⊥
 
 -- The memory stands for the machine that was parked after a run, whose picture is still to be drawn: what the run comes to is what
 -- drawing it comes to.

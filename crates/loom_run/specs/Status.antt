@@ -16,21 +16,21 @@ role_text Transcript = codes "Transcript"
 role_text Notes = codes "Notes"
 
 -- what is said of a status, with no newline
-abbrev pub text_of : Status → List ℕ
-text_of (Done ran) = codes "ran " ++ decimal ran
-text_of (Quit ran) = codes "quit after " ++ decimal ran
-text_of (Usage word) = codes "usage: word " ++ decimal word
-text_of (ImageBad rule place) = codes "image: rule " ++ decimal rule ++ codes " at " ++ decimal place
-text_of (EventsBad line) = codes "events: line " ++ decimal line
-text_of (Stuck cause ran) = codes "stuck: cause " ++ decimal cause ++ codes " after " ++ decimal ran
-text_of (NamesSpent ran) = codes "names spent after " ++ decimal ran
-text_of (ReadFault role count) = codes "read fault: " ++ role_text role
-text_of (WriteFault role count) = codes "write fault: " ++ role_text role
-text_of OutOfMemory = codes "out of memory"
+abbrev pub text_of_status : Status → List ℕ
+text_of_status (Done ran) = codes "ran " ++ decimal ran
+text_of_status (Quit ran) = codes "quit after " ++ decimal ran
+text_of_status (Usage word) = codes "usage: word " ++ decimal word
+text_of_status (ImageBad rule place) = codes "image: rule " ++ decimal rule ++ codes " at " ++ decimal place
+text_of_status (EventsBad line) = codes "events: line " ++ decimal line
+text_of_status (Stuck cause ran) = codes "stuck: cause " ++ decimal cause ++ codes " after " ++ decimal ran
+text_of_status (NamesSpent ran) = codes "names spent after " ++ decimal ran
+text_of_status (ReadFault role count) = codes "read fault: " ++ role_text role
+text_of_status (WriteFault role count) = codes "write fault: " ++ role_text role
+text_of_status OutOfMemory = codes "out of memory"
 
 -- the last line on Notes
 abbrev pub line_of : Status → List ℕ
-line_of status = text_of status ++ codes "\n"
+line_of status = text_of_status status ++ codes "\n"
 
 -- the exit status of the program
 abbrev pub code_of : Status → ℕ

@@ -8,14 +8,12 @@ use Rattle.loom_outside.specs.declared.outside.Role.TheVariants.{Image, Events, 
 use Rattle.long_names.specs.Heap.{Heap}
 use Rattle.image_format.specs.Text.{image_text}
 use Rattle.image_format.specs.Valid.{IsImageHeap, IsValid}
-use Rattle.blue_model.specs.declared.cause.Cause.{Cause}
 use Rattle.blue_model.specs.declared.event.Line.{Line}
 use Rattle.blue_model.specs.declared.step.Step.TheVariants as step
-use Rattle.blue_model.specs.Cause.{cause_number}
-use Rattle.blue_model.specs.Cycle.{ByCause, BySpentNames, Ending, ending}
+use Rattle.blue_model.specs.Cycle.{BySpentNames, Ending, ending}
+use Rattle.blue_model.specs.Endings.{OnParked, OnDrawn, IsParked, IsParkedBy, IsStuck, IsStuckBy, said_in}
 use Rattle.loom_run.specs.Meanings.{Meanings}
 use Rattle.event_file.specs.Text.{AreRight, events_text, IsBadAt}
-use Rattle.loom_run.specs.Run.{OnParked, OnDrawn, IsParkedBy, IsStuckBy, said_in}
 use Rattle.loom_run.specs.Saved.{saved_text}
 use Rattle.loom_run.specs.Status.{line_of}
 use Rattle.loom_run.specs.declared.status.Status.{Status}
@@ -112,13 +110,6 @@ EventsBy status text old new = AttachedUnless (is_before_events status) text old
 -- all bytes of a role that is read
 abbrev pub bytes_of : RoleState → List ℕ
 bytes_of s = s.taken ++ s.left
-
--- the machine goes through, or it is stuck by the cause of this number after so many bytecodes
-abbrev pub IsParked : Ending → Type 0
-IsParked run = OnParked run (λ m. Unit {0})
-
-abbrev pub IsStuck : ℕ → ℕ → Ending → Type 0
-IsStuck number ran run = (cause : Cause) × IsStuckBy (ByCause cause) ran run × (number ≡ cause_number cause)
 
 -- the bytes are the text of these lines, which are an event file's
 abbrev pub AreEvents : List ℕ → List Line → Type 0

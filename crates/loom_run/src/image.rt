@@ -4,7 +4,7 @@ ghost use Rattle.long_names.specs.Objects.{IsRecord};
 ghost use Rattle.object_memory.specs.Told.{IsReady};
 ghost use Rattle.object_memory.specs.Records.{AreWhole};
 ghost use Rattle.object_memory.specs.Plain.{plain_told, fresh};
-ghost use Rattle.loom_run.specs.Image.{heap_of, text_of};
+ghost use Rattle.loom_run.specs.Image.{heap_of_image, text_of_image};
 ghost use Rattle.loom_run.specs.Saved.{saved_text};
 
 use long_names::RecList;
@@ -22,7 +22,7 @@ impl Image {
     /// The memory of its objects. The records are dropped.
     pub(crate) fn into_memory(self, alloc: Global) -> Result<PlainMemory, AllocError>
         requires { AreWhole self.recs self.next }
-        ensures told { IfOk result (λ memory. plain_told memory ≡ fresh (heap_of self)) }
+        ensures told { IfOk result (λ memory. plain_told memory ≡ fresh (heap_of_image self)) }
         ensures ready { IfOk result (λ memory. IsReady (plain_told memory)) }
     {
         PlainMemory::from_recs(alloc, &self.recs, self.next)
@@ -30,7 +30,7 @@ impl Image {
 
     /// The image of what a memory keeps.
     pub(crate) fn of_kept(alloc: Global, memory: &PlainMemory) -> Result<Image, AllocError>
-        ensures text { IfOk result (λ image. text_of image ≡ saved_text (plain_told memory.now).heap) }
+        ensures text { IfOk result (λ image. text_of_image image ≡ saved_text (plain_told memory.now).heap) }
         ensures records { IfOk result (λ image. All IsRecord image.recs) }
         ensures few { IfOk result (λ image. length image.recs < 2 ^ 32) }
     {

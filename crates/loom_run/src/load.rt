@@ -1,6 +1,7 @@
 // Reading an image.
 ghost use Rattle.std.specs.Prelude.{◌≡◌, ◌+◌, ◌<◌, ◌≤◌, ◌^◌, ◌≢◌, ◌↔◌, ◌++◌, ℕ, List, [], ◌∷◌, IsTrue, OnOk, OnErr, IfErr, IfOk, Err, All, false, length};
 ghost use Rattle.long_names.specs.Counting.{Rose};
+ghost use Rattle.long_names.specs.declared.limits.TheConstants.{LONGEST_RECORD};
 ghost use Rattle.long_names.specs.declared.object.Rec.{Rec as Spelled};
 ghost use Rattle.long_names.specs.Heap.{Heap, object_count};
 ghost use Rattle.long_names.specs.Objects.{IsRecord};
@@ -9,7 +10,7 @@ ghost use Rattle.image_format.specs.Text.{IsHead, head_text, records_below, imag
 ghost use Rattle.image_format.specs.Valid.{IsImageHeap, IsValid};
 ghost use Rattle.object_memory.specs.Records.{Rise, AreWhole};
 ghost use Rattle.loom_run.specs.Faults.{fault_of};
-ghost use Rattle.loom_run.specs.Image.{AreInOrder, IsComplete, heap_of, recs_text};
+ghost use Rattle.loom_run.specs.Image.{AreInOrder, IsComplete, heap_of_image, recs_text};
 ghost use Rattle.loom_run.specs.Meanings.{meanings, LeavesBut};
 ghost use Rattle.loom_run.specs.Window.{EndsTruly, OnlyRead, unused};
 ghost use Rattle.loom_run.specs.declared.load.LoadFault.TheVariants.{Read, Memory};
@@ -17,7 +18,7 @@ ghost use Rattle.loom_run.specs.declared.load.LoadFault.TheVariants.{Read, Memor
 use crate::image::Image;
 use crate::tally::Tally;
 use crate::window::Window;
-use image_format::{HEAD_LEN, Head, MAX_RECORD, RecFault, decode_head, decode_rec};
+use image_format::{HEAD_LEN, Head, RecFault, decode_head, decode_rec};
 use long_names::{Rec, RecList};
 use loom_outside::{Failed, Host, Role};
 use std::alloc::{AllocError, Global};
@@ -81,7 +82,7 @@ fn take_head(window: &mut Window) -> Result<Head, LoadFault>
 
 /// Takes a record from the window, which has it whole unless the file ends first.
 fn take_record(alloc: Global, window: &mut Window) -> Result<Rec, LoadFault>
-    requires { window.old.ended ≡ false → MAX_RECORD ≤ length window.old.bytes }
+    requires { window.old.ended ≡ false → LONGEST_RECORD ≤ length window.old.bytes }
     ensures taken { IfOk result (λ r. (window.old.bytes ≡ record_text r ++ window.new.bytes) × IsRecord r) }
     ensures ended { window.new.ended ≡ window.old.ended }
     ensures fault { result ≡ Err LoadFault.Read → ⊥ }
@@ -121,7 +122,7 @@ fn take_next(
     recs: &mut RecList,
     next: u32,
 ) -> Result<(), LoadFault>
-    requires window { window.old.ended ≡ false → MAX_RECORD ≤ length window.old.bytes }
+    requires window { window.old.ended ≡ false → LONGEST_RECORD ≤ length window.old.bytes }
     requires order { AreInOrder recs.old next }
     ensures taken { OnOk result (recs_text recs.new ++ window.new.bytes ≡ recs_text recs.old ++ window.old.bytes) }
     ensures one { OnOk result (length recs.new ≡ length recs.old + 1) }
@@ -191,7 +192,7 @@ fn read_recs<H: Host>(
 
 /// Reads Image to its end, record by record, and judges it as a whole. What it states is tested before it is believed, so it takes no more memory than the file fills.
 pub(crate) fn load<H: Host>(alloc: Global, host: &mut H) -> Result<Image, LoadFault>
-    ensures heap { IsTrue (H.tells Role.Image) → IfOk result (λ image. IsImageHeap (heap_of image) × ((H.roles host.old Role.Image).left ≡ image_text (heap_of image))) }
+    ensures heap { IsTrue (H.tells Role.Image) → IfOk result (λ image. IsImageHeap (heap_of_image image) × ((H.roles host.old Role.Image).left ≡ image_text (heap_of_image image))) }
     ensures whole { IfOk result (λ image. AreWhole image.recs image.next) }
     ensures end { IsTrue (H.tells Role.Image) → OnOk result ((H.roles host.new Role.Image).left ≡ []) }
     ensures bad { IsTrue (H.tells Role.Image) → result ≡ Err LoadFault.Bad → IsValid (H.roles host.old Role.Image).left → ⊥ }

@@ -8,12 +8,12 @@ ghost use Rattle.object_memory.specs.Records.{AreWhole};
 ghost use Rattle.object_memory.specs.Plain.{plain_told};
 ghost use Rattle.loom_outside.specs.Outside.{PutPrefix, puts};
 ghost use Rattle.blue_model.specs.Cycle.{ending};
+ghost use Rattle.blue_model.specs.Endings.{OnDrawn, OnParked, said_in};
 ghost use Rattle.event_file.specs.Text.{IsBadAt};
-ghost use Rattle.loom_run.specs.Image.{heap_of, text_of};
+ghost use Rattle.loom_run.specs.Image.{heap_of_image, text_of_image};
 ghost use Rattle.loom_run.specs.Meanings.{meanings, IsLeft, LeavesBut};
 ghost use Rattle.loom_run.specs.Parts.{IsAfterImage, IsAfterReading, IsFinished, IsRun, IsStopped, IsTold, IsWriting, SaysAny, SaysStopped, UnderEvents, WasSaid, WritesFor, is_own_reason, is_spoken_by, unsaid};
 ghost use Rattle.loom_run.specs.Promise.{Promise};
-ghost use Rattle.loom_run.specs.Run.{OnDrawn, OnParked, said_in};
 ghost use Rattle.loom_run.specs.Saved.{saved_text};
 ghost use Rattle.loom_run.specs.Top.{AreEvents, AttachedOnce, AttachedUnless, WasWritten, IsCaused, IsOfMachine, HasRun, JudgesEvents, JudgesRun, RunsBy, WasBegun, WasRefused, bytes_of, is_before_drawing, is_before_saving, is_before_saying};
 ghost use Rattle.loom_run.specs.Words.{texts_of};
@@ -36,7 +36,7 @@ fn read_image<H: Host>(alloc: Global, host: &mut H, name: &str) -> Result<Image,
     ensures attached { IsTrue (H.tells Role.Image)
         → AttachedOnce name.now (H.roles host.old Role.Image) (H.roles host.new Role.Image) }
     ensures heap { IsTrue (H.tells Role.Image)
-        → IfOk result (λ image. IsImageHeap (heap_of image) × (bytes_of (H.roles host.new Role.Image) ≡ image_text (heap_of image))) }
+        → IfOk result (λ image. IsImageHeap (heap_of_image image) × (bytes_of (H.roles host.new Role.Image) ≡ image_text (heap_of_image image))) }
     ensures whole { IfOk result (λ image. AreWhole image.recs image.next) }
     ensures bad { IsTrue (H.tells Role.Image)
         → result ≡ Err LoadFault.Bad → IsValid (bytes_of (H.roles host.new Role.Image)) → ⊥ }
@@ -56,10 +56,10 @@ fn write_saved<H: Host>(host: &mut H, name: &str, image: &Image) -> Result<(), F
     ensures attached { IsTrue (H.tells Role.Saved)
         → AttachedOnce name.now (H.roles host.old Role.Saved) (H.roles host.new Role.Saved) }
     ensures put { IsTrue (H.tells Role.Saved)
-        → OnOk result (WasWritten name.now (text_of image.now) (H.roles host.old Role.Saved) (H.roles host.new Role.Saved)) }
+        → OnOk result (WasWritten name.now (text_of_image image.now) (H.roles host.old Role.Saved) (H.roles host.new Role.Saved)) }
     ensures refused { IsTrue (H.tells Role.Saved)
         → OnErr result (WasRefused name.now (H.roles host.old Role.Saved) (H.roles host.new Role.Saved)
-        ⊎ WasBegun name.now (text_of image.now) (H.roles host.old Role.Saved) (H.roles host.new Role.Saved)) }
+        ⊎ WasBegun name.now (text_of_image image.now) (H.roles host.old Role.Saved) (H.roles host.new Role.Saved)) }
     ensures rose { IsErr result → Rose (H.faults host.old Role.Saved) (H.faults host.new Role.Saved) }
     ensures others { LeavesBut (Role.Saved ∷ []) (meanings H.Host host.old) (meanings H.Host host.new) }
 {
@@ -169,19 +169,19 @@ fn run_image<H: Host>(
     steps: u32,
 ) -> Result<Kept, Status>
     requires { AreWhole image.recs image.next }
-    ensures kept { IfOk result (λ kept. OnParked (ending events.now steps (heap_of image)) (λ m. text_of kept.image ≡ saved_text m.heap)) }
-    ensures drawn { IfOk result (λ kept. OnDrawn (ending events.now steps (heap_of image)) (λ picture. kept.picture ≡ picture)) }
+    ensures kept { IfOk result (λ kept. OnParked (ending events.now steps (heap_of_image image)) (λ m. text_of_image kept.image ≡ saved_text m.heap)) }
+    ensures drawn { IfOk result (λ kept. OnDrawn (ending events.now steps (heap_of_image image)) (λ picture. kept.picture ≡ picture)) }
     ensures finished { IfOk result (λ kept. IsFinished kept.status) }
     ensures counted { IfOk result (λ kept. HasRun kept.status steps) }
-    ensures parked { IfOk result (λ kept. JudgesRun kept.status (ending events.now steps (heap_of image))) }
+    ensures parked { IfOk result (λ kept. JudgesRun kept.status (ending events.now steps (heap_of_image image))) }
     ensures said { IsTrue (H.tells Role.Transcript) → IfOk result (λ kept. H.roles host.new Role.Transcript
-        ≡ puts (said_in (ending events.now steps (heap_of image))) (H.roles host.old Role.Transcript)) }
+        ≡ puts (said_in (ending events.now steps (heap_of_image image))) (H.roles host.old Role.Transcript)) }
     ensures records { IfOk result (λ kept. All IsRecord kept.image.recs) }
     ensures few { IfOk result (λ kept. length kept.image.recs < 2 ^ 32) }
     ensures stopped { IfErr result IsStopped }
     ensures ran { IfErr result (λ status. HasRun status steps) }
-    ensures runs { IfErr result (λ status. JudgesRun status (ending events.now steps (heap_of image))) }
-    ensures halted { IsTrue (H.tells Role.Transcript) → IfErr result (λ status. SaysStopped status (ending events.now steps (heap_of image))
+    ensures runs { IfErr result (λ status. JudgesRun status (ending events.now steps (heap_of_image image))) }
+    ensures halted { IsTrue (H.tells Role.Transcript) → IfErr result (λ status. SaysStopped status (ending events.now steps (heap_of_image image))
         (H.roles host.old Role.Transcript) (H.roles host.new Role.Transcript)) }
     ensures cause { IfErr result (λ status. IsCaused status (H.faults host.old) (H.faults host.new)) }
     ensures others { LeavesBut (Role.Transcript ∷ []) (meanings H.Host host.old) (meanings H.Host host.new) }
@@ -214,7 +214,7 @@ fn write_kept<H: Host>(host: &mut H, command: &Command<'_>, kept: &Kept) -> Stat
     ensures cause { IsCaused result (H.faults host.old) (H.faults host.new) }
     ensures saved { IsTrue (H.tells Role.Saved)
         → AttachedOnce command.now.saved.now (H.roles host.old Role.Saved) (H.roles host.new Role.Saved) }
-    ensures saves { IsTrue (H.tells Role.Saved) → WritesFor Role.Saved result command.now.saved.now (text_of kept.now.image)
+    ensures saves { IsTrue (H.tells Role.Saved) → WritesFor Role.Saved result command.now.saved.now (text_of_image kept.now.image)
         (H.roles host.old Role.Saved) (H.roles host.new Role.Saved) }
     ensures drawn { IsTrue (H.tells Role.Display)
         → AttachedUnless (is_before_drawing result) command.now.display.now (H.roles host.old Role.Display) (H.roles host.new Role.Display) }
@@ -251,9 +251,9 @@ fn run_and_write<H: Host>(
     ensures ran { HasRun result command.now.steps }
     ensures cause { IsCaused result (H.faults host.old) (H.faults host.new) }
     ensures run { IsOfMachine result → RunsBy H.tells (meanings H.Host host.old) (meanings H.Host host.new) command.now.saved.now
-        command.now.display.now result (ending events.now command.now.steps (heap_of image)) }
+        command.now.display.now result (ending events.now command.now.steps (heap_of_image image)) }
     ensures spared { IsTrue (H.tells Role.Transcript) → result ≡ Status.OutOfMemory
-        → SaysAny (ending events.now command.now.steps (heap_of image)) (H.roles host.old Role.Transcript) (H.roles host.new Role.Transcript) }
+        → SaysAny (ending events.now command.now.steps (heap_of_image image)) (H.roles host.old Role.Transcript) (H.roles host.new Role.Transcript) }
     ensures saved { IsTrue (H.tells Role.Saved)
         → AttachedUnless (is_before_saving result) command.now.saved.now (H.roles host.old Role.Saved) (H.roles host.new Role.Saved) }
     ensures unsaved { IsTrue (is_before_saving result) → IsLeft Role.Saved (meanings H.Host host.old) (meanings H.Host host.new) }
@@ -283,11 +283,11 @@ fn run_under_events<H: Host>(
         → AttachedOnce command.now.events.now (H.roles host.old Role.Events) (H.roles host.new Role.Events) }
     ensures judges { IsTrue (H.tells Role.Events) → JudgesEvents result (bytes_of (H.roles host.new Role.Events)) }
     ensures run { IsTrue (H.tells Role.Events) → IsOfMachine result
-        → UnderEvents (bytes_of (H.roles host.new Role.Events)) command.now.steps (heap_of image)
+        → UnderEvents (bytes_of (H.roles host.new Role.Events)) command.now.steps (heap_of_image image)
         (RunsBy H.tells (meanings H.Host host.old) (meanings H.Host host.new) command.now.saved.now command.now.display.now result) }
     ensures spared { IsTrue (H.tells Role.Events) → IsTrue (H.tells Role.Transcript) → result ≡ Status.OutOfMemory
         → (H.roles host.new Role.Transcript ≡ H.roles host.old Role.Transcript)
-        ⊎ UnderEvents (bytes_of (H.roles host.new Role.Events)) command.now.steps (heap_of image)
+        ⊎ UnderEvents (bytes_of (H.roles host.new Role.Events)) command.now.steps (heap_of_image image)
         (λ run. H.roles host.new Role.Transcript ≡ puts (said_in run) (H.roles host.old Role.Transcript)) }
     ensures unsaid { IsTrue (is_before_saying result) → IsLeft Role.Transcript (meanings H.Host host.old) (meanings H.Host host.new) }
     ensures saved { IsTrue (H.tells Role.Saved)

@@ -8,7 +8,8 @@ ghost use Rattle.blue_model.specs.Processes.{check_switch as check_switch_rule};
 ghost use Rattle.blue_model.specs.Cycle.{cycle as cycle_rule, turn as turn_rule, ending};
 ghost use Rattle.blue_model.specs.declared.step.Step.TheVariants as step;
 ghost use Rattle.contexts.specs.Serves.{Serves, Speaks, Stands, HasRest, StaysSound as StopsSound};
-ghost use Rattle.loom_run.specs.Run.{Begins, DrawsAs, EndsAs, FaultsBy, GoesAs, HaltsBy, HasCounted, RunsAs, SoundBy, StaysSound, is_quit as is_quit_step};
+ghost use Rattle.blue_model.specs.Endings.{HasCounted, is_quit as is_quit_step};
+ghost use Rattle.loom_run.specs.Run.{Begins, DrawsAs, EndsAs, FaultsBy, GoesAs, HaltsBy, RunsAs, SoundBy, StaysSound};
 ghost use Rattle.object_memory.specs.Calls.{IsFit};
 ghost use Rattle.contexts.specs.Calls.{StaysFit};
 

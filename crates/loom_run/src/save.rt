@@ -4,7 +4,7 @@ ghost use Rattle.long_names.specs.Counting.{Rose};
 ghost use Rattle.long_names.specs.Objects.{IsRecord};
 ghost use Rattle.image_format.specs.Text.{head_text};
 ghost use Rattle.loom_outside.specs.Outside.{PutPrefix, puts};
-ghost use Rattle.loom_run.specs.Image.{recs_text, text_of};
+ghost use Rattle.loom_run.specs.Image.{recs_text, text_of_image};
 ghost use Rattle.loom_run.specs.Meanings.{meanings, LeavesBut};
 ghost use Rattle.loom_run.specs.Parts.{Emits};
 
@@ -45,9 +45,9 @@ pub(crate) fn save<H: Host>(host: &mut H, image: &Image) -> Result<(), Failed>
     requires records { All IsRecord image.now.recs }
     requires few { length image.now.recs < 2 ^ 32 }
     ensures put { IsTrue (H.tells Role.Saved)
-        → OnOk result (H.roles host.new Role.Saved ≡ puts (text_of image.now) (H.roles host.old Role.Saved)) }
+        → OnOk result (H.roles host.new Role.Saved ≡ puts (text_of_image image.now) (H.roles host.old Role.Saved)) }
     ensures failed { IsTrue (H.tells Role.Saved)
-        → OnErr result (PutPrefix (text_of image.now) (H.roles host.old Role.Saved) (H.roles host.new Role.Saved)) }
+        → OnErr result (PutPrefix (text_of_image image.now) (H.roles host.old Role.Saved) (H.roles host.new Role.Saved)) }
     ensures rose { IsErr result → Rose (H.faults host.old Role.Saved) (H.faults host.new Role.Saved) }
     ensures others { LeavesBut (Role.Saved ∷ []) (meanings H.Host host.old) (meanings H.Host host.new) }
 {

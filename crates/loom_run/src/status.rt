@@ -3,8 +3,8 @@ ghost use Rattle.std.specs.Prelude.{◌≡◌, ◌+◌, ◌≤◌, ◌++◌, ℕ
 ghost use Rattle.arrayvec.specs.ArrayString.{array_string_len};
 ghost use Rattle.blue_model.specs.Cycle.{Ending};
 ghost use Rattle.loom_run.specs.Parts.{IsFinished, IsStopped, StopsBy, is_own_reason};
-ghost use Rattle.loom_run.specs.Run.{HasCounted, IsParkedBy};
-ghost use Rattle.loom_run.specs.Status.{role_text, text_of, line_of, code_of};
+ghost use Rattle.blue_model.specs.Endings.{HasCounted, IsParkedBy};
+ghost use Rattle.loom_run.specs.Status.{role_text, text_of_status, line_of, code_of};
 ghost use Rattle.loom_run.specs.Top.{HasRun, JudgesRun};
 
 use crate::running::{Finished, Halted, Reason};
@@ -71,7 +71,7 @@ impl Status {
     }
 
     fn text(&self) -> Line
-        ensures text { result.bytes ≡ text_of self.now }
+        ensures text { result.bytes ≡ text_of_status self.now }
         ensures short { array_string_len result ≤ 60 }
     {
         match *self {

@@ -5,7 +5,7 @@ ghost use Rattle.loom_run.specs.Meanings.{meanings, LeavesBut};
 ghost use Rattle.loom_run.specs.Window.{Ahead, EndsTruly, OnlyRead, unused};
 
 use crate::load::LoadFault;
-use image_format::MAX_RECORD;
+use long_names::LONGEST_RECORD;
 use loom_outside::{Host, Role, read_full};
 use std::alloc::{AllocError, Global};
 use std::marker::Model;
@@ -113,13 +113,13 @@ impl Window {
         requires { IsTrue (H.tells Role.Image) → EndsTruly self.old (H.roles host.old Role.Image) }
         ensures rest { IsTrue (H.tells Role.Image) → OnOk result (unused self.new (H.roles host.new Role.Image) ≡ unused self.old (H.roles host.old Role.Image)) }
         ensures ends { IsTrue (H.tells Role.Image) → OnOk result (EndsTruly self.new (H.roles host.new Role.Image)) }
-        ensures enough { OnOk result (self.new.ended ≡ false → MAX_RECORD ≤ length self.new.bytes) }
+        ensures enough { OnOk result (self.new.ended ≡ false → LONGEST_RECORD ≤ length self.new.bytes) }
         ensures image { IsTrue (H.tells Role.Image) → OnlyRead (H.roles host.old Role.Image) (H.roles host.new Role.Image) }
         ensures others { LeavesBut (Role.Image ∷ []) (meanings H.Host host.old) (meanings H.Host host.new) }
         ensures fault { IfErr result (λ f. f ≡ LoadFault.Bad → ⊥) }
         ensures read { result ≡ Err LoadFault.Read → Rose (H.faults host.old Role.Image) (H.faults host.new Role.Image) }
     {
-        while !self.ended && self.bytes.len() - self.at < MAX_RECORD {
+        while !self.ended && self.bytes.len() - self.at < LONGEST_RECORD as usize {
             self.read_piece(host)?;
         }
         Ok(())

@@ -4,7 +4,7 @@ use crate::base_image::{CONTEXT, METHOD, base};
 use crate::messages::{Message, POINTERS, WORDS};
 use crate::notation::{Header, NIL, add_bytes, add_method, add_pointers, add_words, name, object};
 use image_builder::Builder;
-use long_names::{Name, Value};
+use long_names::{Name, SMALL_INTEGERS, Value};
 use std::alloc::{AllocError, Global};
 
 const DICTIONARY: u32 = 68;
@@ -165,7 +165,7 @@ fn add_number(
     name: Name,
     word: u16,
 ) -> Result<Value, AllocError> {
-    if word < 16_384 {
+    if u32::from(word) < SMALL_INTEGERS {
         return Ok(Value::Int(word as i16));
     }
     let bytes = word.to_le_bytes();

@@ -7,7 +7,7 @@ ghost use Rattle.sample_images.specs.Header.{number_of};
 ghost use Rattle.long_names.specs.declared.value.Value.TheVariants.{Ref};
 
 use image_builder::Builder;
-use long_names::{Body, Name, Octets, Value, Values, Words16};
+use long_names::{Body, Name, Octets, SMALL_INTEGERS, Value, Values, Words16};
 use std::alloc::{AllocError, Global};
 
 /// nil's name as a field holds it.
@@ -108,10 +108,10 @@ impl Header {
             + i32::from(self.temporaries % 32) * 128
             + large
             + (literals % 64) as i32;
-        if bits < 16_384 {
+        if bits < SMALL_INTEGERS as i32 {
             bits as i16
         } else {
-            (bits - 32_768) as i16
+            (bits - 2 * SMALL_INTEGERS as i32) as i16
         }
     }
 }

@@ -3,8 +3,9 @@ use Rattle.blue_model.specs.declared.step.Step.{Step}
 use Rattle.blue_model.specs.declared.step.Step.TheVariants.{Next, Quit}
 use Rattle.object_memory.proofs.LaterLaws.{IsLater-refl, IsLater-trans}
 use Rattle.contexts.specs.declared.stop.Stop.TheVariants.{Mem}
+use Rattle.blue_model.proofs.EndingLaws.{goes_on, has_ended}
 use Rattle.loom_run.specs.Run.{Reaches}
-use Rattle.loom_run.proofs.RunningLaws.{faulted, faults_earlier, settled_stands, settling_faulted, reaches_start, reaches_more, reaches_end, goes_on, has_ended, stops_in, stops_after, runs_exit, settled_earlier, rest_stays, faults_exit}
+use Rattle.loom_run.proofs.RunningLaws.{faulted, faults_earlier, settled_stands, settling_faulted, reaches_start, reaches_more, reaches_end, stops_in, stops_after, runs_exit, settled_earlier, rest_stays, faults_exit}
 use Rattle.loom_run.proofs.running.run.Goals as goal
 
 pub loop-turn-init : goal.loop-turn-init

@@ -3,7 +3,7 @@ use Rattle.std.proofs.lemmas.List.{append-nil}
 use Rattle.loom_outside.specs.declared.outside.Role.TheVariants.{Saved}
 use Rattle.long_names.specs.declared.object.Rec.{Rec}
 use Rattle.image_format.specs.Text.{head_text}
-use Rattle.loom_run.specs.Image.{recs_text, text_of}
+use Rattle.loom_run.specs.Image.{recs_text, text_of_image}
 use Rattle.loom_run.specs.Meanings.{meanings}
 use Rattle.loom_run.specs.Parts.{Emits}
 use Rattle.loom_run.proofs.SaveLaws.{emits-of, emits-from, emits-both, emits-cut, emits-written, emits-all, emits-prefix}
@@ -26,7 +26,7 @@ returns-in_err-emit_recs-clause-failed g c =
     let text = whole recs c.len.result c.args.image.now.next c.len.ensures in
     emits-prefix {new = []} (emits-of (ap (λ t. head_text c.len.result c.args.image.now.next ++ t) (append-nil _) ∙ text) (emits-both (emits-from c.new-piece.ensures c.in_ok-emit_image_head.ensures) (emits-cut [] c.from_residual-in_err-emit_recs.ensures.0 c.in_err-emit_recs.ensures)))
 
-all-put : (g : _) (c : After-write_full g) → Emits (g.H.Host.tells Saved) (meanings g.H.Host c.args.host.now) (meanings g.H.Host c.write_full.new.host) [] (text_of c.args.image.now) [] c.write_full.result
+all-put : (g : _) (c : After-write_full g) → Emits (g.H.Host.tells Saved) (meanings g.H.Host c.args.host.now) (meanings g.H.Host c.write_full.new.host) [] (text_of_image c.args.image.now) [] c.write_full.result
 all-put g c =
     let recs = c.args.image.now.recs in
     let text = whole recs c.len.result c.args.image.now.next c.len.ensures in

@@ -2,7 +2,7 @@ use Rattle.std.proofs.Common.{◌≡◌, ℕ, Some, None, sym, ◌∙◌, ap}
 use Rattle.std.proofs.lemmas.List.Elements.{All-weaker}
 use Rattle.long_names.specs.Objects.{IsBody}
 use Rattle.long_names.specs.declared.object.Object.{Object}
-use Rattle.image_builder.specs.Builder.{heap_of}
+use Rattle.image_builder.specs.Builder.{built_heap}
 use Rattle.image_builder.specs.Parts.{IsEntry, count_in}
 use Rattle.image_builder.specs.Rules.{reading_breaks, whole_breaks}
 use Rattle.image_builder.proofs.Images.{read-entries, counts-are, broken-reading, broken-whole, not-image, tells-broken, makes-image}
@@ -55,7 +55,7 @@ returns-clause-image c =
     let counts = count_in c.in_ok-counts.counts in
     let read : reading_breaks self.objects.entries next ≡ None = sym c.in_ok-judge_reading.ensures.broken in
     let same = counts-are self next counts (read-entries self next read) c.in_ok-counts.ensures in
-    makes-image self next c.ranges.next.fits read (ap (whole_breaks self.objects.entries (heap_of self next).at) (sym same) ∙ sym c.in_ok-judge_whole.ensures) c.in_ok-judge_reading.ensures.entries
+    makes-image self next c.ranges.next.fits read (ap (whole_breaks self.objects.entries (built_heap self next).at) (sym same) ∙ sym c.in_ok-judge_whole.ensures) c.in_ok-judge_reading.ensures.entries
 
 pub returns-clause-broken : goal.returns-clause-broken
 returns-clause-broken c =
