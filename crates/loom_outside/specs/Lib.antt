@@ -9,3 +9,4 @@ pub mod Reading
 pub mod Real
 pub mod Rooms
 pub mod Store
+pub mod Work
