@@ -1,5 +1,5 @@
 -- Entries under short names, as a function.
-use Rattle.std.specs.Prelude.{ℕ, pos, ◌%◌, ◌==◌, ◌&&◌, nat_lt, Bool, true, false, Option, Some, None, if◌then◌else◌}
+use Rattle.std.specs.Prelude.{ℕ, zero, suc, pos, ◌+◌, ◌%◌, ◌==◌, ◌&&◌, nat_lt, Bool, true, false, Option, Some, None, if◌then◌else◌}
 use Rattle.long_names.specs.declared.object.Kind.TheVariants.{Pointers}
 use Rattle.object_table.specs.declared.entry.Entry.{Entry}
 use Rattle.object_table.specs.declared.entry.EntryState.{EntryState}
@@ -22,6 +22,15 @@ is_used (Resident p) = true
 
 abbrev pub is_free : Entry → Bool
 is_free e = if is_used e.state then false else true
+
+-- 1 for an entry that is in use
+abbrev pub used_by : Entry → ℕ
+used_by e = if is_used e.state then 1 else 0
+
+-- a sum over the numbers below n
+abbrev pub sum_below : ℕ → (ℕ → ℕ) → ℕ
+sum_below zero f = 0
+sum_below (suc n) f = sum_below n f + f n
 
 -- the place of the body, if it is in the segment
 abbrev pub place_of : EntryState → Option ℕ

@@ -11,17 +11,18 @@
 //! }
 //! ```
 //!
-//! Read `specs/Entries.antt` first, then `specs/Table.antt`. The table doesn't know which short name a name has, nor where a body lies,
+//! Read `specs/Entries.antt` first, then `specs/Table.antt`. `laws` says that each entry is free or in use, by numbers. The table doesn't know which short name a name has, nor where a body lies,
 //! and it counts no references by itself.
 #![tactic(auto)]
 
 mod entry;
 mod flags;
+pub mod laws;
 mod table;
 
 pub use entry::{Entry, EntryState, Short};
 pub use flags::EntryFlags;
-pub use table::Table;
+pub use table::{MOST_ENTRIES, Table};
 
 #[cfg(test)]
 mod tests;

@@ -1,10 +1,14 @@
 // The table of entries. Its free entries are known by their places, so that one is taken or given back in constant time.
 ghost use Rattle.std.specs.Prelude.{◌≤◌, length};
+ghost use Rattle.object_table.specs.declared.table.TheConstants.{MOST_ENTRIES};
 ghost use Rattle.object_table.specs.Inside.{IsVacant};
 
 use crate::entry::{Entry, Short};
 use long_names::Name;
 use std::alloc::{AllocError, Global};
+
+/// The most entries of a table: as many short words are even and above 0.
+pub const MOST_ENTRIES: u16 = 32_767;
 
 /// Entries under the short names from 2 on. Each is free or in use.
 #[derive(Drop)]
@@ -13,7 +17,7 @@ pub struct Table {
     // The first `free` of these are the places of the free entries.
     vacant: Vec<u16>,
     free: u16,
-    ghost small: { length entries.items ≤ 32767 },
+    ghost small: { length entries.items ≤ MOST_ENTRIES },
     ghost known: { IsVacant entries.items vacant.items free },
 }
 
@@ -24,7 +28,7 @@ impl Table {
 
     /// A table of so many entries, all of them free.
     pub fn new(alloc: Global, entries: u16) -> Result<Table, AllocError>
-        requires { entries ≤ 32767 }
+        requires { entries ≤ MOST_ENTRIES }
         ensures entry { IfOk result (λ t. entry_at t ≡ (λ s. free_entry)) }
         ensures entries { IfOk result (λ t. entries_of t ≡ entries) }
         ensures free { IfOk result (λ t. free_of t ≡ entries) }
@@ -52,7 +56,7 @@ impl Table {
     /// How many entries it was made with.
     pub fn entries(&self) -> u16
         ensures entries { result ≡ entries_of self.now }
-        ensures small { result ≤ 32767 }
+        ensures small { result ≤ MOST_ENTRIES }
     {
         self.entries.len() as u16
     }
