@@ -1,12 +1,12 @@
 -- When nothing more can go, what is in use is what the pinned objects and the registers need.
 use Rattle.std.proofs.Common.{zero, suc, ◌≡◌, ℕ, ◌+◌, ◌≤◌, ◌++◌, Bool, true, false, cond, List, [], ◌∷◌, length, refl, sym, ◌∙◌, ap, arith, Option, Some, None, count_by}
 use Rattle.std.proofs.lemmas.Grind.{common_steps}
-use Rattle.object_table.specs.Entries.{is_short, is_used, place_of}
+use Rattle.object_table.specs.Entries.{is_short, is_used, place_of, sum_below, used_by}
 use Rattle.core_view.specs.Core.{Core}
 use Rattle.core_view.specs.Counts.{names, one, holders_in, holders, tally, uses, outside}
 use Rattle.core_view.specs.Kept.{IsCore}
 use Rattle.core_view.proofs.Lists.{count-cons, words_below}
-use Rattle.core_view.specs.Room.{sum_below, used_by, entries_by, entries_for, over_three, is_among, in_hand, IsPin, IsBare}
+use Rattle.core_view.specs.Room.{entries_by, entries_for, over_three, is_among, in_hand, IsPin, IsBare}
 use Rattle.core_view.proofs.Sums.{sum-same, sum-less, sum-plus, sum-three, counts-few, tallies-few}
 
 -- 1 where there is a body

@@ -3,13 +3,13 @@ use Rattle.std.proofs.Common.{suc, ◌≡◌, ◌≢◌, ℕ, ◌+◌, ◌<◌, 
 use Rattle.std.proofs.lemmas.Grind.{common_steps}
 use Rattle.std.specs.Prelude.{All, AllPairs, sum_by}
 use Rattle.std.proofs.lemmas.List.Sums.{sum_by-cons}
-use Rattle.object_table.specs.Entries.{put, place_of}
+use Rattle.object_table.specs.Entries.{put, place_of, sum_below}
 use Rattle.core_segment.specs.Chunks.{Chunk, Placed, room_of, at_place, IsLaidOut}
 use Rattle.core_view.specs.Core.{Core}
 use Rattle.core_view.specs.Kept.{IsCore, IsTight}
 use Rattle.core_view.proofs.Core.{placed-used}
 use Rattle.core_view.proofs.Lists.{put-there}
-use Rattle.core_view.specs.Room.{sum_below, room_by, room_for, over_three, IsBare}
+use Rattle.core_view.specs.Room.{room_by, room_for, over_three, IsBare}
 use Rattle.core_view.proofs.Sums.{sum-out, sum-three}
 use Rattle.core_view.proofs.Bare.{no-place}
 

@@ -3,12 +3,11 @@ use Rattle.std.proofs.Common.{◌≡◌, ◌≢◌, ℕ, ◌+◌, ◌<◌, ◌&&
 use Rattle.std.proofs.lemmas.Bool.{cases_eq}
 use Rattle.long_names.specs.declared.object.Object.{Object}
 use Rattle.object_table.specs.declared.entry.Entry.{Entry}
-use Rattle.object_table.specs.Entries.{put, place_of}
+use Rattle.object_table.specs.Entries.{put, place_of, sum_below}
 use Rattle.core_view.specs.Core.{Core, with_entry}
 use Rattle.core_view.specs.Held.{Disk}
 use Rattle.core_view.specs.Kept.{IsCore, IsBacked}
 use Rattle.core_view.specs.Steps.{IsAbout, IsRefStep, written}
-use Rattle.core_view.specs.Room.{sum_below}
 use Rattle.core_view.specs.Purge.{fresh_by, fresh_of}
 use Rattle.core_view.proofs.Core.{placed-used}
 use Rattle.core_view.proofs.Lists.{put-here, put-there}

@@ -3,7 +3,7 @@ use Rattle.std.proofs.Common.{◌≡◌, ◌≢◌, ℕ, ◌+◌, ◌*◌, ◌%�
 use Rattle.std.proofs.lemmas.Grind.{common_steps}
 use Rattle.std.proofs.lemmas.Bool.{cases_eq}
 use Rattle.object_table.specs.declared.entry.Entry.{Entry}
-use Rattle.object_table.specs.Entries.{put, is_short, is_used, place_of, free_entry}
+use Rattle.object_table.specs.Entries.{put, is_short, is_used, place_of, free_entry, sum_below}
 use Rattle.core_segment.specs.Chunks.{Chunk}
 use Rattle.core_view.specs.Core.{Core, without_leaf}
 use Rattle.core_view.specs.Counts.{outside}
@@ -14,7 +14,7 @@ use Rattle.core_view.proofs.Leaves.{idle-outside}
 use Rattle.core_view.proofs.Lists.{put-here, put-there}
 use Rattle.core_view.proofs.Moves.{move-outside}
 use Rattle.core_view.proofs.Steps.{outside-used}
-use Rattle.core_view.specs.Room.{sum_below, is_among}
+use Rattle.core_view.specs.Room.{is_among}
 use Rattle.core_view.specs.Purge.{IsSameBody, IsPurged, IsFreed, fresh_by, fresh_of}
 use Rattle.core_view.proofs.Sums.{sum-same, sum-out}
 use Rattle.core_view.proofs.Fresh.{fresh-placed, fresh-unplaced}

@@ -2,10 +2,10 @@
 use Rattle.std.proofs.Common.{zero, suc, ◌≡◌, ◌≢◌, ℕ, ◌+◌, ◌<◌, ◌≤◌, ◌||◌, eqb, Bool, true, false, cond, List, [], ◌∷◌, length, refl, sym, ◌∙◌, ap, arith, ⊎_elim, count_by}
 use Rattle.std.proofs.lemmas.Grind.{common_steps}
 use Rattle.std.proofs.lemmas.Bool.{cases_eq}
-use Rattle.object_table.specs.Entries.{put}
+use Rattle.object_table.specs.Entries.{put, sum_below}
 use Rattle.core_view.specs.Counts.{names, one, tally}
 use Rattle.core_view.proofs.Lists.{put-here, put-there, count-cons, one-other, words_below}
-use Rattle.core_view.specs.Room.{sum_below, over_three, is_among}
+use Rattle.core_view.specs.Room.{over_three, is_among}
 
 pub sum-same : (n : ℕ) (f g : ℕ → ℕ) → ((q : ℕ) → q < n → g q ≡ f q) → sum_below n g ≡ sum_below n f
 sum-same zero f g h = refl

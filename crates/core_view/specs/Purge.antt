@@ -1,10 +1,10 @@
 -- What goes while room is made, and what stays.
 use Rattle.std.specs.Prelude.{◌≡◌, ℕ, ◌≤◌, ◌&&◌, true, None, Some, is_some, if◌then◌else◌}
 use Rattle.object_table.specs.declared.entry.Entry.{Entry}
-use Rattle.object_table.specs.Entries.{is_used, place_of}
+use Rattle.object_table.specs.Entries.{is_used, place_of, sum_below}
 use Rattle.core_view.specs.Core.{Core}
 use Rattle.core_view.specs.Counts.{outside}
-use Rattle.core_view.specs.Room.{sum_below, is_among}
+use Rattle.core_view.specs.Room.{is_among}
 
 -- 1 for an object that has no record
 abbrev pub fresh_by : Entry → ℕ

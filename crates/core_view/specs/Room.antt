@@ -1,19 +1,10 @@
 -- How much of a core is in use, and when nothing more can go.
-use Rattle.std.specs.Prelude.{◌≡◌, ℕ, zero, suc, ◌+◌, ◌≤◌, ◌==◌, ◌||◌, ◌++◌, Bool, true, List, [], ◌∷◌, length, Option, None, Some, if◌then◌else◌}
+use Rattle.std.specs.Prelude.{◌≡◌, ℕ, ◌+◌, ◌≤◌, ◌==◌, ◌||◌, ◌++◌, Bool, true, List, [], ◌∷◌, length, Option, None, Some, if◌then◌else◌}
 use Rattle.object_table.specs.declared.entry.Entry.{Entry}
 use Rattle.object_table.specs.Entries.{is_short, is_used, place_of}
 use Rattle.core_segment.specs.Chunks.{Chunk}
 use Rattle.core_view.specs.Core.{Core}
 use Rattle.core_view.specs.Words.{pointers}
-
--- a sum over the numbers below n
-abbrev pub sum_below : ℕ → (ℕ → ℕ) → ℕ
-sum_below zero f = 0
-sum_below (suc n) f = sum_below n f + f n
-
--- 1 for an entry in use
-abbrev pub used_by : Entry → ℕ
-used_by e = if is_used e.state then 1 else 0
 
 -- the words that a body takes
 abbrev pub room_by : (ℕ → Chunk) → Option ℕ → ℕ

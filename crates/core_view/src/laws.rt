@@ -2,7 +2,7 @@
 ghost use Rattle.std.specs.Prelude.{◌≡◌, ◌+◌, ◌<◌, ◌≤◌, ◌^◌, ℕ, List, Some, None, true, length, count_by, slice_get};
 ghost use Rattle.long_names.specs.Objects.{with_field};
 ghost use Rattle.object_table.specs.declared.entry.Entry.{Entry};
-ghost use Rattle.object_table.specs.Entries.{put, place_of};
+ghost use Rattle.object_table.specs.Entries.{put, place_of, sum_below, used_by};
 ghost use Rattle.core_segment.specs.declared.segment.Moved.{Moved};
 ghost use Rattle.core_segment.specs.Chunks.{Placed, at_place, IsLaidOut};
 ghost use Rattle.core_segment.specs.Segment.{IsMove as IsChunkMove};
@@ -11,7 +11,7 @@ ghost use Rattle.core_view.specs.Words.{meant, pointers};
 ghost use Rattle.core_view.specs.Held.{Disk, disk_with, fields_there, object_at, held};
 ghost use Rattle.core_view.specs.Counts.{names, outside};
 ghost use Rattle.core_view.specs.Kept.{IsCore, IsTight, IsBacked, Stays, KeepsOver};
-ghost use Rattle.core_view.specs.Room.{sum_below, used_by, room_for, entries_for, over_three, in_hand, IsPin, IsBare};
+ghost use Rattle.core_view.specs.Room.{room_for, entries_for, over_three, in_hand, IsPin, IsBare};
 ghost use Rattle.core_view.specs.Steps.{IsSpare, IsIdle, IsAt, IsOpening, IsMove, at_another, with_field_word, written};
 
 /// The words of bodies make fewer than 2 to the 31 references, so with few others there are never more.
