@@ -2,6 +2,7 @@
 use Rattle.std.proofs.Common.{zero, suc, ◌≡◌, ◌≢◌, ℕ, ◌+◌, ◌-◌, ◌*◌, ◌/◌, ◌<◌, ◌≤◌, max, List, [], ◌∷◌, length, get_or, drop, sum_by, refl, sym, ◌∙◌, ap, subst, arith, ⊎_elim, drop-cons, add-one}
 use Rattle.std.proofs.lemmas.Bool.{cases_eq, cases_lt}
 use Rattle.std.proofs.lemmas.List.Sums.{sum_by-cons}
+use Rattle.std.specs.List.{remove}
 use Rattle.core_segment.specs.declared.segment.Span.{Span}
 use Rattle.core_segment.specs.Inside.{no_span, end_of, IsLaid, IsGap, IsFirst, largest_gap, all_gaps}
 
@@ -57,6 +58,45 @@ gap-le (s ∷ ss) size words (suc index) place from gap low =
       behind = λ k h l. gap.behind (suc k) (omega arith) (omega arith);
       within = gap.within;
     }) first in
+    omega arith
+
+-- ---- a chunk is given back
+
+-- from a place further on
+largest-from : (spans : List Span) (size a b : ℕ) → a ≤ b → largest_gap b spans size ≤ largest_gap a spans size
+largest-from [] size a b low = omega arith
+largest-from (s ∷ ss) size a b low = omega arith
+
+-- what lies before all chunks
+first-gap-le : (spans : List Span) (size from p : ℕ) → p ≤ size → ((k : ℕ) → k < length spans → p ≤ (get_or spans k no_span).place)
+    → p - from ≤ largest_gap from spans size
+first-gap-le [] size from p within behind = omega arith
+first-gap-le (s ∷ ss) size from p within behind = let first : p ≤ s.place = behind 0 (omega arith) in omega arith
+
+pub largest-remove : (spans : List Span) (size k from : ℕ) → IsLaid spans size → k < length spans → ((j : ℕ) → j < length spans → from ≤ (get_or spans j no_span).place)
+    → largest_gap from spans size ≤ largest_gap from (remove spans k) size
+largest-remove [] size k from laid low below = absurd (omega arith)
+largest-remove (s ∷ ss) size zero from laid low below =
+    let within : s.place + s.len ≤ size = laid.within 0 (omega arith) in
+    let here : from ≤ s.place = below 0 (omega arith) in
+    let first = first-gap-le ss size from (end_of s) within (λ k h. laid.apart 0 (suc k) (omega arith) (omega arith)) in
+    let rest = largest-from ss size from (end_of s) (omega arith) in
+    omega arith
+largest-remove (s ∷ ss) size (suc k) from laid low below =
+    let rest = largest-remove ss size k (end_of s) (laid-tail s ss size laid) (omega arith) (λ j h. laid.apart 0 (suc j) (omega arith) (omega arith)) in
+    omega arith
+
+-- the words of a chunk that is given back are free together
+pub room-remove : (spans : List Span) (size k from : ℕ) → IsLaid spans size → k < length spans → ((j : ℕ) → j < length spans → from ≤ (get_or spans j no_span).place)
+    → (get_or spans k no_span).len ≤ largest_gap from (remove spans k) size
+room-remove [] size k from laid low below = absurd (omega arith)
+room-remove (s ∷ ss) size zero from laid low below =
+    let within : s.place + s.len ≤ size = laid.within 0 (omega arith) in
+    let here : from ≤ s.place = below 0 (omega arith) in
+    let first = first-gap-le ss size from (end_of s) within (λ k h. laid.apart 0 (suc k) (omega arith) (omega arith)) in
+    omega arith
+room-remove (s ∷ ss) size (suc k) from laid low below =
+    let rest = room-remove ss size k (end_of s) (laid-tail s ss size laid) (omega arith) (λ j h. laid.apart 0 (suc j) (omega arith) (omega arith)) in
     omega arith
 
 -- ---- the search for a gap

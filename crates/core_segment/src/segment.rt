@@ -48,7 +48,7 @@ pub struct Segment {
 }
 
 impl Segment {
-    ghost use Rattle.std.specs.Prelude.{◌≡◌, ◌≢◌, ◌+◌, ◌-◌, ◌*◌, ◌<◌, ◌≤◌, ◌^◌, ℕ, IfOk, IfSome, IfNone, Some, length, slice_get, slice_index_or};
+    ghost use Rattle.std.specs.Prelude.{◌≡◌, ◌≢◌, ◌+◌, ◌-◌, ◌*◌, ◌<◌, ◌≤◌, ◌^◌, ◌↔◌, ℕ, IfOk, IfSome, IfNone, IsTrue, Some, length, slice_get, slice_index_or};
     ghost use Rattle.core_segment.specs.Chunks.{Chunk, no_chunk, with_chunk, with_word};
     ghost use Rattle.core_segment.specs.Inside.{no_span, largest_gap, IsGap, IsFirst};
     ghost use Rattle.core_segment.specs.Segment.{chunk_at, size_of, free_of, largest_of, work_of, SameRoom, IsTaken, IsMove};
@@ -74,6 +74,23 @@ impl Segment {
         ensures { result ≡ free_of self.now }
     {
         self.free
+    }
+
+    /// How many words of a chunk are its user's.
+    pub fn len(&self, at: Addr) -> u32
+        requires { 0 < (chunk_at self.now at.place).owner }
+        ensures words { result ≡ length (chunk_at self.now at.place).words }
+        ensures small { result + 4 ≤ size_of self.now }
+    {
+        self.used[self.index_of(at)].len - 4
+    }
+
+    /// Whether so many words are free together, so that `take` gives them.
+    pub fn has_room(&self, words: u32) -> bool
+        requires { 1 ≤ words }
+        ensures { IsTrue result ↔ (words ≤ largest_of self.now) }
+    {
+        self.find_gap(words).is_some()
     }
 
     /// A word of a chunk. The first of its user's words has the index 0.
@@ -160,11 +177,13 @@ impl Segment {
         low
     }
 
-    /// Frees a chunk.
+    /// Frees a chunk. No free chunk gets smaller by it, and the words of this one are free together.
     pub fn give(&mut self, at: Addr)
         requires { 0 < (chunk_at self.old at.place).owner }
         ensures chunks { chunk_at self.new ≡ with_chunk (chunk_at self.old) at.place no_chunk }
         ensures free { free_of self.new ≡ free_of self.old + 4 + length (chunk_at self.old at.place).words }
+        ensures largest { largest_of self.old ≤ largest_of self.new }
+        ensures room { 4 + length (chunk_at self.old at.place).words ≤ largest_of self.new }
         ensures size { size_of self.new ≡ size_of self.old }
     {
         let index = self.index_of(at);
@@ -172,7 +191,8 @@ impl Segment {
         self.free += chunk.len;
     }
 
-    /// Moves one chunk down, so that less than before lies between free words. None exactly where the free words are one chunk or none.
+    /// Moves one chunk down, so that less than before lies between free words. None where all free words are one chunk or none, after
+    /// free chunks that touch were joined.
     pub fn compact_step(&mut self) -> Option<Moved>
         ensures moved { IfSome result (λ m. IsMove (chunk_at self.old) (chunk_at self.new) m) }
         ensures many { IfSome result (λ m. largest_of self.old < free_of self.old) }

@@ -8,14 +8,18 @@ use std::test::Fail;
 
 const ROOM: u16 = 100;
 
+// A name's key by this number is the name.
+const INVERSE: u32 = 340_573_321;
+
 // Names of which each second one has its home at the last of the 202 slots, and the others at the first ones.
 fn name(k: u16) -> Result<Name, Fail> {
-    let index = if k % 2 == 0 {
+    let home = if k % 2 == 0 {
         202 * u32::from(k) + 201
     } else {
         u32::from(k)
     };
-    Ok(Name::new(2 * index).ok_or("a name is above 0")?)
+    let key = 2 * home;
+    Ok(Name::new(key.wrapping_mul(INVERSE)).ok_or("a name is above 0")?)
 }
 
 fn add(resident: &mut Resident, k: u16) -> Result<(), Fail>
