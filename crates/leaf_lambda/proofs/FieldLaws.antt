@@ -1,11 +1,7 @@
 -- A store into a field: mark, hold the new word, write, let the old word go.
-use Rattle.std.proofs.Common.{zero, suc, ◌≡◌, ◌≢◌, ◌⊎◌, inl, inr, ⊎_elim, ℕ, ◌+◌, ◌≤◌, true, List, [], ◌∷◌, refl, sym, ◌∙◌, ap, subst, arith, Option, Some}
-use Rattle.std.proofs.lemmas.Bool.{cases_eq}
-use Rattle.std.specs.List.{slice_get, slice_set}
-use Rattle.long_names.specs.Objects.{fields_of, with_field}
-use Rattle.long_names.specs.Words.{IsValue}
-use Rattle.long_names.specs.declared.object.Body.{Body}
-use Rattle.long_names.specs.declared.object.Body.TheVariants as body
+use Rattle.std.proofs.Common.{◌≡◌, ◌≢◌, ℕ, ◌+◌, ◌≤◌, true, [], refl, sym, ◌∙◌, ap, subst, arith, Option, Some}
+use Rattle.std.specs.List.{slice_get}
+use Rattle.long_names.specs.Objects.{with_field}
 use Rattle.long_names.specs.declared.value.Value.{Value}
 use Rattle.long_names.specs.declared.object.Object.{Object}
 use Rattle.object_table.specs.declared.entry.Entry.{Entry}
@@ -14,9 +10,9 @@ use Rattle.core_view.specs.Core.{Core}
 use Rattle.core_view.specs.Words.{meant, pointers}
 use Rattle.core_view.specs.Held.{Disk, fields_there, object_at, held}
 use Rattle.core_view.specs.Counts.{outside, one, change_of, marked_of}
-use Rattle.core_view.specs.Kept.{IsCore, IsTight, IsBacked, IsValued, Keeps, Stays}
+use Rattle.core_view.specs.Kept.{IsCore, IsTight, IsBacked, Keeps, Stays}
 use Rattle.core_view.specs.Steps.{IsAt, IsAbout, with_mark, marked_changed, with_field_word}
-use Rattle.core_view.proofs.Lists.{put-here, put-there, one-here}
+use Rattle.core_view.proofs.Lists.{put-here, one-here}
 use Rattle.core_view.proofs.Core.{placed-used, held-at, meant-names}
 use Rattle.core_view.proofs.Entries.{at-entry}
 use Rattle.core_view.proofs.Others.{same-entries, entries-others, Others-trans, entry-others, entry-marks}
@@ -161,40 +157,6 @@ put-entry a m h x d s p i w old put_ drop =
     let wrote : x.entries s ≡ h.entries s = ap (λ (c : Core). c.entries s) put_.write in
     let at : place_of (x.entries s).state ≡ Some p = ap (λ (e : Entry). place_of e.state) wrote ∙ (at-held a m h x s p i w old put_).place in
     drop.step.bodies s p at ∙ ap (λ (e : Entry). with_refs e (d.entries s).refs) (wrote ∙ held_)
-
--- ---- values
-
-get-other : (vs : List Value) (i j : ℕ) (v x : Value) → slice_get (slice_set vs i v) j ≡ Some x → (x ≡ v) ⊎ (slice_get vs j ≡ Some x)
-get-other [] i j v x e = inr e
-get-other (y ∷ ys) zero zero v x e = inl (cc)
-get-other (y ∷ ys) zero (suc j) v x e = inr e
-get-other (y ∷ ys) (suc i) zero v x e = inr e
-get-other (y ∷ ys) (suc i) (suc j) v x e = get-other ys i j v x e
-
-field-other : (b : Body) (i j : ℕ) (v x : Value) → slice_get (fields_of (with_field b i v)) j ≡ Some x → (x ≡ v) ⊎ (slice_get (fields_of b) j ≡ Some x)
-field-other (body.Pointers values) i j v x e = get-other values i j v x e
-field-other (body.Words words) i j v x e = inr e
-field-other (body.Bytes bytes) i j v x e = inr e
-field-other (body.Method header literals code) i j v x e = get-other literals i j v x e
-
--- a value in a field of one object leaves every field a value
-pub put-valued : (at now : Disk) (n i : ℕ) (o : Object) (v : Value) → at n ≡ Some o → now ≡ put at n (Some (with_value o i v)) → IsValue v → IsValued at → IsValued now
-put-valued at now n i o v there is value valued m j p x has field = ⊎_elim here elsewhere (cases_eq m n)
-  where
-    there-now : put at n (Some (with_value o i v)) m ≡ Some p
-    there-now = ap (λ (f : Disk). f m) (sym is) ∙ has
-
-    object : (q r : Object) → Some q ≡ Some r → q ≡ r
-    object q r e = cc
-
-    here : m ≡ n → IsValue x
-    here e =
-        let same : with_value o i v ≡ p = object (with_value o i v) p (sym (put-here at n (Some (with_value o i v))) ∙ ap (λ (k : ℕ). put at n (Some (with_value o i v)) k) (sym e) ∙ there-now) in
-        ⊎_elim (λ (f : x ≡ v). subst IsValue (sym f) value) (λ (f : slice_get (fields_of o.body) j ≡ Some x). valued n j o x there f)
-        (field-other o.body i j v x (ap (λ (q : Object). slice_get (fields_of q.body) j) same ∙ field))
-
-    elsewhere : m ≢ n → IsValue x
-    elsewhere e = valued m j p x (sym (put-there at n (Some (with_value o i v)) m e) ∙ there-now) field
 
 -- the object of a body is held
 pub held-there : (a : Core) (disk : Disk) (s p i old : ℕ) → IsCore a → IsAt a s p i old → held a disk (a.entries s).name ≡ Some (object_at a disk (a.entries s) p)

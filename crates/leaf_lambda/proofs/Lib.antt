@@ -12,4 +12,5 @@ pub mod LeavingLaws
 pub mod RoomLaws
 pub mod MakeLaws
 pub mod StoreLaws
+pub mod ValuedLaws
 mod Examples

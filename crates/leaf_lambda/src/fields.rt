@@ -56,7 +56,7 @@ pub fn drop_word(p: &mut Parts, w: u16)
 }
 
 // What a word means that is no lambda is a value.
-fn words_mean_values(p: &Parts, w: u16)
+pub(crate) fn words_mean_values(p: &Parts, w: u16)
     requires parts { IsParts p.now }
     requires used { is_short w ≡ true → is_used ((core_of p.now).entries w).state ≡ true }
     requires some { w ≢ 0 }

@@ -11,12 +11,12 @@ ghost use Rattle.core_view.specs.Core.{with_entry, with_chunk_at};
 ghost use Rattle.core_view.specs.Words.{meant, int_of_short, words_for, most_len};
 ghost use Rattle.core_view.specs.Held.{Disk as Store, held};
 ghost use Rattle.core_view.specs.Counts.{outside, one, IsLight};
-ghost use Rattle.core_view.specs.Kept.{IsBacked, Stays};
+ghost use Rattle.core_view.specs.Kept.{IsBacked, IsValued, Stays};
 ghost use Rattle.core_view.specs.Steps.{IsOpening, IsMove, IsRefStep, with_refs_of};
 ghost use Rattle.leaf_lambda.specs.Parts.{core_of, spare_of, IsParts, IsWithin};
 ghost use Rattle.leaf_lambda.specs.Making.{fields_new, words_new, body_new, made, IsHoldingMany, IsMade};
 
-use crate::fields::is_name;
+use crate::fields::{is_name, words_mean_values};
 use crate::merge::literals_by;
 use crate::parts::Parts;
 use crate::steps::{grip, leaf};
@@ -211,10 +211,13 @@ pub fn make_body(
           class = ((core_of p.old).entries class.0).name;
           body = body_new kind len header (meant (core_of p.old).entries [] 0 filler);
         })) }
+    ensures valued { (disk : Store) → IsBacked (core_of p.old) disk → IsValued (held (core_of p.old) disk) → IsValued (held (core_of p.new) disk) }
     ensures spare { spare_of p.new ≡ spare_of p.old }
     ensures size { size_of p.new.segment ≡ size_of p.old.segment }
     ensures free { free_of p.new.segment + words_for kind len (literal_count (int_of_short header)) + 4 ≡ free_of p.old.segment }
 {
+    // What the filler means is a value, for `valued`.
+    words_mean_values(p, filler);
     grip(p, class);
     let fields = count_new(kind, len, header);
     hold_many(p, filler, fields);

@@ -8,7 +8,7 @@ ghost use Rattle.core_segment.specs.Chunks.{with_chunk};
 ghost use Rattle.core_segment.specs.Segment.{chunk_at, size_of, SameRoom};
 ghost use Rattle.core_view.specs.Core.{with_words};
 ghost use Rattle.core_view.specs.Held.{Disk as Store, held};
-ghost use Rattle.core_view.specs.Kept.{IsBacked};
+ghost use Rattle.core_view.specs.Kept.{IsBacked, IsValued};
 ghost use Rattle.core_view.specs.Steps.{with_mark, marked_changed};
 ghost use Rattle.leaf_lambda.specs.Parts.{core_of, spare_of, IsParts, IsWithin};
 ghost use Rattle.leaf_lambda.specs.Making.{with_byte, first_byte, HasBytes};
@@ -50,6 +50,7 @@ pub fn put_words(p: &mut Parts, s: Short, at: Addr, i: u32, run: &[u16])
         held (core_of p.new) disk
         ≡ put (held (core_of p.old) disk) ((core_of p.old).entries s.0).name
         (Some (record { class = o.class; body = with_run o.body i run.now })) }
+    ensures valued { (disk : Store) → IsBacked (core_of p.old) disk → IsValued (held (core_of p.old) disk) → IsValued (held (core_of p.new) disk) }
     ensures spare { spare_of p.new ≡ spare_of p.old }
     ensures size { size_of p.new.segment ≡ size_of p.old.segment }
     ensures room { SameRoom p.old.segment p.new.segment }
@@ -98,6 +99,7 @@ pub fn put_byte(p: &mut Parts, s: Short, at: Addr, i: u32, b: u8)
         held (core_of p.new) disk
         ≡ put (held (core_of p.old) disk) ((core_of p.old).entries s.0).name
         (Some (record { class = o.class; body = with_bytes o.body i (b ∷ []) })) }
+    ensures valued { (disk : Store) → IsBacked (core_of p.old) disk → IsValued (held (core_of p.old) disk) → IsValued (held (core_of p.new) disk) }
     ensures spare { spare_of p.new ≡ spare_of p.old }
     ensures size { size_of p.new.segment ≡ size_of p.old.segment }
     ensures room { SameRoom p.old.segment p.new.segment }

@@ -8,7 +8,8 @@ use Rattle.core_view.proofs.Core.{placed-used}
 use Rattle.core_view.proofs.Steps.{outside-used}
 use Rattle.core_view.specs.Steps.{IsAt}
 use Rattle.leaf_lambda.specs.Parts.{core_of}
-use Rattle.leaf_lambda.proofs.FieldLaws.{held-there, put-valued, IsPut, at-mark, put-loose, put-within, put-backed, put-held, put-entry}
+use Rattle.leaf_lambda.proofs.ValuedLaws.{field-valued}
+use Rattle.leaf_lambda.proofs.FieldLaws.{held-there, IsPut, at-mark, put-loose, put-within, put-backed, put-held, put-entry}
 use Rattle.leaf_lambda.proofs.TranslateLaws.{at-later}
 use Rattle.object_table.specs.Table.{free_of}
 use Rattle.resident_table.specs.declared.Parts2.{Parts2}
@@ -88,7 +89,7 @@ words_mean_values-requires-clause-used c = λ is. outside-used (core_of c.args.p
 pub returns-clause-valued : goal.returns-clause-valued
 returns-clause-valued c = λ disk backed valued.
     let there = held-there (core_of c.args.p.now) disk c.args.s.0 c.args.at.place c.args.i c.requires.there.0 c.requires.parts.core c.requires.there.1 in
-    put-valued (held (core_of c.args.p.now) disk) (held (core_of c.drop_word.new.p) disk) ((core_of c.args.p.now).entries c.args.s.0).name c.args.i (object_at (core_of c.args.p.now) disk ((core_of c.args.p.now).entries c.args.s.0) c.args.at.place)
+    field-valued (held (core_of c.args.p.now) disk) (held (core_of c.drop_word.new.p) disk) ((core_of c.args.p.now).entries c.args.s.0).name c.args.i (object_at (core_of c.args.p.now) disk ((core_of c.args.p.now).entries c.args.s.0) c.args.at.place)
     (meant (core_of c.args.p.now).entries [] 0 c.args.w) there (returns-clause-held c disk (object_at (core_of c.args.p.now) disk ((core_of c.args.p.now).entries c.args.s.0) c.args.at.place) backed there) c.words_mean_values.ensures valued
 
 pub returns-clause-room : goal.returns-clause-room

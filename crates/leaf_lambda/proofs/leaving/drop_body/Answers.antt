@@ -1,10 +1,10 @@
-use Rattle.std.proofs.Common.{◌≡◌, ℕ, ◌∷◌, ◌+◌, ◌<◌, true, false, Some, length, count_by, refl, sym, ◌∙◌, ap, subst, arith}
+use Rattle.std.proofs.Common.{◌≡◌, ℕ, ◌∷◌, ◌+◌, ◌<◌, ◌≤◌, true, false, Some, length, count_by, refl, sym, ◌∙◌, ap, subst, arith}
 use Rattle.std.proofs.lemmas.Grind.{common_steps}
 use Rattle.object_table.specs.declared.entry.Entry.{Entry}
 use Rattle.object_table.specs.Entries.{is_short, is_used, place_of, with_refs}
 use Rattle.object_table.specs.Table as table
 use Rattle.object_table.specs.Table.{entry_at}
-use Rattle.core_segment.specs.Segment.{size_of, free_of}
+use Rattle.core_segment.specs.Segment.{size_of, free_of, largest_of}
 use Rattle.resident_table.specs.declared.Parts2.{Parts2}
 use Rattle.core_view.specs.Core.{Core}
 use Rattle.core_view.specs.Words.{pointers}
@@ -129,3 +129,14 @@ returns-clause-free c = λ at there.
     let words : length ((core_of c.close_body.new.p).chunks c.place_of_body-at.result.place).words ≡ length ((core_of c.args.p.now).chunks at).words =
     ap (λ (d : Core). length (d.chunks c.place_of_body-at.result.place).words) c.close_body.ensures.core ∙ c.unresolve_fields.ensures.long ∙ ap (λ (q : ℕ). length ((core_of c.args.p.now).chunks q).words) (sym same) in
     omega arith
+
+pub returns-clause-largest : goal.returns-clause-largest
+returns-clause-largest c = λ at there.
+    let same : at ≡ c.place_of_body-at.result.place = some-same at c.place_of_body-at.result.place (sym there ∙ c.place_of_body-at.ensures) in
+    let last : largest_of c.let_go.new.p.segment ≡ largest_of c.give_chunk.new.p.segment = ap largest_of c.let_go.ensures.segment in
+    let given = c.give_chunk.ensures.largest in
+    let closed_ : largest_of c.close_body.new.p.segment ≡ largest_of c.unresolve_fields.new.p.segment = ap largest_of c.close_body.ensures.segment in
+    let first = c.unresolve_fields.ensures.room.largest in
+    let words : length ((core_of c.close_body.new.p).chunks c.place_of_body-at.result.place).words ≡ length ((core_of c.args.p.now).chunks at).words =
+    ap (λ (d : Core). length (d.chunks c.place_of_body-at.result.place).words) c.close_body.ensures.core ∙ c.unresolve_fields.ensures.long ∙ ap (λ (q : ℕ). length ((core_of c.args.p.now).chunks q).words) (sym same) in
+    (let a = given.0 in omega arith, let b = given.1 in omega arith)

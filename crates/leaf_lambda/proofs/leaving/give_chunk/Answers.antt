@@ -27,3 +27,7 @@ returns-clause-core c = given c
 pub returns-clause-free : goal.returns-clause-free
 unfolding core_of
 returns-clause-free c = c.free_chunk.ensures.free
+
+pub returns-clause-largest : goal.returns-clause-largest
+unfolding core_of
+returns-clause-largest c = c.free_chunk.ensures.largest

@@ -1,6 +1,10 @@
 use Rattle.std.proofs.Common.{ℕ, subst}
 use Rattle.leaf_lambda.specs.Parts.{core_of}
 use Rattle.leaf_lambda.specs.Making.{IsHoldingMany, IsMade}
+use Rattle.std.specs.Prelude.{[]}
+use Rattle.core_view.specs.Words.{meant}
+use Rattle.core_view.specs.Held.{held}
+use Rattle.leaf_lambda.proofs.ValuedLaws.{new-valued}
 use Rattle.leaf_lambda.proofs.MakeLaws.{IsMakeRun, many-held, make-opening, make-within, make-held, make-backed, make-made}
 use Rattle.leaf_lambda.proofs.making.make_body.Goals as goal
 
@@ -55,3 +59,7 @@ returns-clause-backed c = λ disk backed none. make-backed (core_of c.args.p.now
 
 pub returns-clause-held : goal.returns-clause-held
 returns-clause-held c = λ disk backed. make-held (core_of c.args.p.now) (core_of c.grip.new.p) (core_of c.hold_many.new.p) (core_of c.take_new-at.new.p) (core_of c.open_new.new.p) c.args.s.0 c.args.class.0 c.take_new-at.result.place c.args.filler c.args.kind c.args.len c.args.header disk (run c) c.open_new.ensures.core backed
+
+pub returns-clause-valued : goal.returns-clause-valued
+returns-clause-valued c = λ disk backed. new-valued (held (core_of c.args.p.now) disk) (held (core_of c.open_new.new.p) disk) ((core_of c.args.p.now).entries c.args.s.0).name ((core_of c.args.p.now).entries c.args.class.0).name c.args.kind c.args.len c.args.header (meant (core_of c.args.p.now).entries [] 0 c.args.filler)
+    (returns-clause-held c disk backed) c.words_mean_values.ensures

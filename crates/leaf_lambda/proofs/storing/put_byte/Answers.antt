@@ -5,10 +5,12 @@ use Rattle.core_segment.specs.declared.segment.Segment.{Segment}
 use Rattle.core_segment.specs.Chunks.{with_chunk}
 use Rattle.core_segment.specs.Segment.{chunk_at}
 use Rattle.core_view.specs.Core.{with_words}
-use Rattle.core_view.proofs.Core.{placed-used}
+use Rattle.core_view.proofs.Core.{placed-used, held-at}
 use Rattle.leaf_lambda.specs.Parts.{core_of}
 use Rattle.leaf_lambda.specs.Making.{byte_written, first_byte}
 use Rattle.leaf_lambda.proofs.StepLaws.{core-is}
+use Rattle.core_view.specs.Held.{held, object_at}
+use Rattle.leaf_lambda.proofs.ValuedLaws.{bytes-valued}
 use Rattle.leaf_lambda.proofs.StoreLaws.{IsRewritten, byte-there, byte-rewritten, byte-as-long, byte-means, rewritten-core, rewritten-within, rewritten-entry, rewritten-backed, rewritten-held}
 use Rattle.leaf_lambda.proofs.storing.put_byte.Goals as goal
 
@@ -54,3 +56,9 @@ returns-clause-backed c = λ disk. rewritten-backed (core_of c.args.p.now) (core
 pub returns-clause-held : goal.returns-clause-held
 returns-clause-held c = λ disk o backed at. rewritten-held (core_of c.args.p.now) (core_of c.mark_changed.new.p) (core_of (record { segment = c.set_word.new.self; names = c.mark_changed.new.p.names })) c.args.s.0 c.args.at.place (byte_written ((core_of c.args.p.now).entries c.args.s.0).kind ((core_of c.args.p.now).chunks c.args.at.place).words c.args.i c.word-w.result c.args.b) disk o (with_bytes o.body c.args.i (c.args.b ∷ [])) (run c) backed at
     (byte-means (core_of c.args.p.now) c.args.s.0 c.args.at.place c.args.i c.word-w.result c.args.b o c.requires.parts.core c.requires.place c.requires.kind c.requires.within (there c) (let fits = c.ranges.b.fits in omega arith))
+
+pub returns-clause-valued : goal.returns-clause-valued
+returns-clause-valued c = λ disk backed.
+    let there = held-at (core_of c.args.p.now) disk ((core_of c.args.p.now).entries c.args.s.0).name c.args.s.0 c.args.at.place (c.requires.parts.core.found c.args.s.0 (placed-used ((core_of c.args.p.now).entries c.args.s.0).state c.args.at.place c.requires.place)) c.requires.place in
+    bytes-valued (held (core_of c.args.p.now) disk) (held (core_of (record { segment = c.set_word.new.self; names = c.mark_changed.new.p.names })) disk) ((core_of c.args.p.now).entries c.args.s.0).name c.args.i (object_at (core_of c.args.p.now) disk ((core_of c.args.p.now).entries c.args.s.0) c.args.at.place) (c.args.b ∷ [])
+    there (returns-clause-held c disk (object_at (core_of c.args.p.now) disk ((core_of c.args.p.now).entries c.args.s.0) c.args.at.place) backed there)

@@ -8,10 +8,12 @@ use Rattle.core_segment.specs.Segment.{chunk_at}
 use Rattle.core_view.specs.Core.{Core, with_words}
 use Rattle.core_view.specs.Steps.{marked_changed}
 use Rattle.core_view.proofs.Lists.{put-here}
-use Rattle.core_view.proofs.Core.{placed-used}
+use Rattle.core_view.proofs.Core.{placed-used, held-at}
 use Rattle.leaf_lambda.specs.Parts.{core_of}
 use Rattle.leaf_lambda.proofs.CopyLaws.{body-small}
 use Rattle.leaf_lambda.proofs.StepLaws.{core-is}
+use Rattle.core_view.specs.Held.{held, object_at}
+use Rattle.leaf_lambda.proofs.ValuedLaws.{words-valued}
 use Rattle.leaf_lambda.proofs.StoreLaws.{IsRewritten, words-long, words-rewritten, words-as-long, words-means, rewritten-core, rewritten-within, rewritten-entry, rewritten-backed, rewritten-held}
 use Rattle.leaf_lambda.proofs.storing.put_words.Goals as goal
 
@@ -59,3 +61,9 @@ returns-clause-backed c = λ disk. rewritten-backed (core_of c.args.p.now) (core
 
 pub returns-clause-held : goal.returns-clause-held
 returns-clause-held c = λ disk o backed there. rewritten-held (core_of c.args.p.now) (core_of c.mark_changed.new.p) (core_of (record { segment = c.write_run.new.g; names = c.mark_changed.new.p.names })) c.args.s.0 c.args.at.place (put_run ((core_of c.args.p.now).chunks c.args.at.place).words c.args.i c.args.run.now) disk o (with_run o.body c.args.i c.args.run.now) (run c) backed there (words-means (core_of c.args.p.now) c.args.s.0 c.args.at.place c.args.i c.args.run.now o c.requires.kind)
+
+pub returns-clause-valued : goal.returns-clause-valued
+returns-clause-valued c = λ disk backed.
+    let there = held-at (core_of c.args.p.now) disk ((core_of c.args.p.now).entries c.args.s.0).name c.args.s.0 c.args.at.place (c.requires.parts.core.found c.args.s.0 (placed-used ((core_of c.args.p.now).entries c.args.s.0).state c.args.at.place c.requires.place)) c.requires.place in
+    words-valued (held (core_of c.args.p.now) disk) (held (core_of (record { segment = c.write_run.new.g; names = c.mark_changed.new.p.names })) disk) ((core_of c.args.p.now).entries c.args.s.0).name c.args.i (object_at (core_of c.args.p.now) disk ((core_of c.args.p.now).entries c.args.s.0) c.args.at.place) c.args.run.now
+    there (returns-clause-held c disk (object_at (core_of c.args.p.now) disk ((core_of c.args.p.now).entries c.args.s.0) c.args.at.place) backed there)
