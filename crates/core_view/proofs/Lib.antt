@@ -8,4 +8,12 @@ pub mod Bodies
 pub mod Records
 pub mod Steps
 pub mod Few
+pub mod Sums
+pub mod Bare
+pub mod Chunks
+pub mod Compaction
+pub mod Tight
+pub mod Fresh
+pub mod Others
+pub mod Purge
 mod Examples

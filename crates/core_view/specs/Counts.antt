@@ -1,5 +1,5 @@
 -- References: how many words name an entry, and how many of them are outside the bodies.
-use Rattle.std.specs.Prelude.{ℕ, ℤ, pos, zero, suc, ◌+◌, ◌-◌, ◌<◌, ◌==◌, ◌&&◌, Bool, List, [], ◌∷◌, count_by, Option, Some, None, if◌then◌else◌}
+use Rattle.std.specs.Prelude.{ℕ, ℤ, pos, zero, suc, ◌+◌, ◌-◌, ◌<◌, ◌==◌, ◌&&◌, Bool, false, List, [], ◌∷◌, count_by, Option, Some, None, if◌then◌else◌}
 use Rattle.object_table.specs.declared.entry.Entry.{Entry}
 use Rattle.object_table.specs.Entries.{is_short, place_of}
 use Rattle.core_segment.specs.Chunks.{Chunk}
@@ -46,3 +46,11 @@ change_by entries (Some s) = (entries s).change
 
 abbrev pub change_of : Core → ℕ → ℤ
 change_of c n = change_by c.entries (c.find n)
+
+-- whether the entry of a name is marked: false where it has none
+abbrev pub marked_by : (ℕ → Entry) → Option ℕ → Bool
+marked_by entries None = false
+marked_by entries (Some s) = (entries s).flags.marked
+
+abbrev pub marked_of : Core → ℕ → Bool
+marked_of c n = marked_by c.entries (c.find n)

@@ -1,12 +1,13 @@
 -- What a core keeps at each moment, alone and with its disk.
 use Rattle.std.specs.Prelude.{◌≡◌, ℕ, ◌<◌, ◌≤◌, true, false, length, Option, Some, None, slice_get}
 use Rattle.long_names.specs.declared.object.Object.{Object}
+use Rattle.long_names.specs.declared.value.Value.{Value}
 use Rattle.long_names.specs.Objects.{kind_of, len_of, fields_of}
 use Rattle.object_table.specs.declared.entry.Entry.{Entry}
 use Rattle.object_table.specs.Entries.{is_short, is_used, place_of}
 use Rattle.core_view.specs.Core.{Core}
 use Rattle.core_view.specs.Words.{pointers, words_for, most_len, header_in}
-use Rattle.long_names.specs.Words.{literal_count}
+use Rattle.long_names.specs.Words.{literal_count, IsValue}
 use Rattle.core_view.specs.Held.{Disk, object_at, held}
 use Rattle.core_view.specs.Counts.{uses}
 
@@ -32,6 +33,10 @@ pub record IsCore (c : Core) : Type 0 where
   pub counted : (s : ℕ) → uses c s ≤ (c.entries s).refs
   pub free : (s : ℕ) → is_used (c.entries s).state ≡ false → (c.entries s).refs ≡ 0
 
+-- Each chunk with an owner is the body of that entry: so words are accounted for, and no chunk is left that nothing frees.
+pub record IsTight (c : Core) : Type 0 where
+  pub bodies : (p : ℕ) → 0 < (c.chunks p).owner → place_of (c.entries (c.chunks p).owner).state ≡ Some p
+
 -- a record of the class, the kind, the length and the number of fields of an object
 pub record IsLike (o : Option Object) (now : Object) : Type 0 where
   pub object : Object
@@ -52,6 +57,10 @@ pub record IsBody (c : Core) (disk : Disk) (e : Entry) (p : ℕ) : Type 0 where
 -- With its disk.
 pub record IsBacked (c : Core) (disk : Disk) : Type 0 where
   pub body : (s p : ℕ) → place_of (c.entries s).state ≡ Some p → IsBody c disk (c.entries s) p
+
+-- Each field of each object is a value, so that a register can hold it.
+abbrev pub IsValued : Disk → Type 0
+IsValued at = (n i : ℕ) (o : Object) (v : Value) → at n ≡ Some o → slice_get (fields_of o.body) i ≡ Some v → IsValue v
 
 -- ---- what a step keeps
 

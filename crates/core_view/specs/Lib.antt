@@ -4,3 +4,5 @@ pub mod Held
 pub mod Counts
 pub mod Kept
 pub mod Steps
+pub mod Room
+pub mod Purge

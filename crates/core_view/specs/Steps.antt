@@ -1,9 +1,9 @@
 -- Steps of a core: what each of them asks, and what it touches.
 use Rattle.std.specs.Prelude.{◌≡◌, ◌≢◌, ℕ, ℤ, ◌<◌, ◌≤◌, true, false, ◌∷◌, length, count_by, Some, None, slice_get}
 use Rattle.object_table.specs.declared.entry.Entry.{Entry}
-use Rattle.object_table.specs.declared.entry.EntryState.TheVariants.{Leaf}
+use Rattle.object_table.specs.declared.entry.EntryState.TheVariants.{Leaf, Resident}
 use Rattle.object_table.specs.declared.flags.EntryFlags.{EntryFlags}
-use Rattle.object_table.specs.Entries.{is_short, is_used, place_of, with_refs}
+use Rattle.object_table.specs.Entries.{is_short, is_used, place_of, leaf_entry, with_refs}
 use Rattle.core_view.specs.Core.{Core, with_entry, with_word_in}
 use Rattle.core_view.specs.Words.{pointers, spot, words_for, most_len, header_in}
 use Rattle.long_names.specs.Words.{literal_count}
@@ -74,6 +74,10 @@ written e = record e { flags = record e.flags { changed = false; fresh = false }
 abbrev pub closed : Entry → Entry
 closed e = record e { state = Leaf }
 
+-- an entry whose body lies at another place
+abbrev pub at_another : Entry → ℕ → Entry
+at_another e p = record e { state = Resident p }
+
 -- an entry whose object differs from its record
 abbrev pub marked_changed : Entry → Entry
 marked_changed e = record e { flags = record e.flags { changed = true } }
@@ -99,6 +103,18 @@ pub record IsAbout (s : ℕ) (old new : Core) : Type 0 where
   pub chunks : (q p : ℕ) → q ≢ s → place_of (old.entries q).state ≡ Some p → new.chunks p ≡ old.chunks p
   pub bodies : (q p : ℕ) → q ≢ s → place_of (old.entries q).state ≡ Some p → new.entries q ≡ with_refs (old.entries q) (new.entries q).refs
   pub leaves : (q : ℕ) → q ≢ s → place_of (old.entries q).state ≡ None → place_of (new.entries q).state ≡ None
+
+-- Each entry in use keeps all but its references, and what came is a leaf of its name.
+pub record KeepsEntries (old new : Core) : Type 0 where
+  pub same : (t : ℕ) → is_used (old.entries t).state ≡ true → new.entries t ≡ with_refs (old.entries t) (new.entries t).refs
+  pub came : (t : ℕ) → is_used (old.entries t).state ≡ false → is_used (new.entries t).state ≡ true
+      → new.entries t ≡ with_refs (leaf_entry (new.entries t).name) (new.entries t).refs
+
+-- the same of all entries but s
+pub record KeepsOthers (s : ℕ) (old new : Core) : Type 0 where
+  pub same : (t : ℕ) → t ≢ s → is_used (old.entries t).state ≡ true → new.entries t ≡ with_refs (old.entries t) (new.entries t).refs
+  pub came : (t : ℕ) → t ≢ s → is_used (old.entries t).state ≡ false → is_used (new.entries t).state ≡ true
+      → new.entries t ≡ with_refs (leaf_entry (new.entries t).name) (new.entries t).refs
 
 -- bodies may lie elsewhere, but each has its words there, and nothing else of an entry changes
 pub record IsMove (old new : Core) : Type 0 where

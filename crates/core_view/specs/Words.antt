@@ -1,7 +1,7 @@
 -- What the words of a body mean (the LOOM paper's short pointers, and lambdas for fields that have none).
 use Rattle.std.specs.Prelude.{ℕ, ℤ, pos, negsuc, suc, ◌+◌, ◌-◌, ◌/◌, ◌%◌, ◌==◌, nat_lt, List, [], ◌∷◌, take, drop, get_or, if◌then◌else◌}
 use Rattle.long_names.specs.Words.{literal_count}
-use Rattle.long_names.specs.Objects.{MOST_CODE}
+use Rattle.long_names.specs.declared.limits.TheConstants.{MOST_CODE}
 use Rattle.long_names.specs.declared.value.Value.{Value}
 use Rattle.long_names.specs.declared.value.Value.TheVariants.{Int, Ref}
 use Rattle.long_names.specs.declared.object.Kind.{Kind}

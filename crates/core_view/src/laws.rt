@@ -1,14 +1,18 @@
 // What each step of a core leaves as it was, and what the held heap is then.
-ghost use Rattle.std.specs.Prelude.{◌≡◌, ◌<◌, ◌^◌, ℕ, Some, None, true, slice_get};
+ghost use Rattle.std.specs.Prelude.{◌≡◌, ◌+◌, ◌<◌, ◌≤◌, ◌^◌, ℕ, List, Some, None, true, length, count_by, slice_get};
 ghost use Rattle.long_names.specs.Objects.{with_field};
 ghost use Rattle.object_table.specs.declared.entry.Entry.{Entry};
-ghost use Rattle.object_table.specs.Entries.{put, place_of};
+ghost use Rattle.object_table.specs.Entries.{put, place_of, sum_below, used_by};
+ghost use Rattle.core_segment.specs.declared.segment.Moved.{Moved};
+ghost use Rattle.core_segment.specs.Chunks.{Placed, at_place, IsLaidOut};
+ghost use Rattle.core_segment.specs.Segment.{IsMove as IsChunkMove};
 ghost use Rattle.core_view.specs.Core.{Core, with_entry, with_leaf, without_leaf};
 ghost use Rattle.core_view.specs.Words.{meant, pointers};
 ghost use Rattle.core_view.specs.Held.{Disk, disk_with, fields_there, object_at, held};
-ghost use Rattle.core_view.specs.Counts.{outside};
-ghost use Rattle.core_view.specs.Kept.{IsCore, IsBacked, Stays, KeepsOver};
-ghost use Rattle.core_view.specs.Steps.{IsSpare, IsIdle, IsAt, IsOpening, IsMove, with_field_word, written};
+ghost use Rattle.core_view.specs.Counts.{names, outside};
+ghost use Rattle.core_view.specs.Kept.{IsCore, IsTight, IsBacked, Stays, KeepsOver};
+ghost use Rattle.core_view.specs.Room.{room_for, entries_for, over_three, in_hand, IsPin, IsBare};
+ghost use Rattle.core_view.specs.Steps.{IsSpare, IsIdle, IsAt, IsOpening, IsMove, at_another, with_field_word, written};
 
 /// The words of bodies make fewer than 2 to the 31 references, so with few others there are never more.
 pub fn references_are_few()
@@ -24,6 +28,22 @@ pub fn leaves_come_and_go()
 /// Bodies that lie elsewhere, and chunks where no body lies, change nothing that is held.
 pub fn bodies_may_move()
     ensures { (c d : Core) → IsCore c → IsMove c d → IsCore d × Stays c d × ((t : ℕ) → outside d t ≡ outside c t) }
+{}
+
+/// A chunk that moves takes its body with it, where each chunk with an owner is one: the entry of its owner says the new place then.
+pub fn a_chunk_moves_with_its_entry()
+    ensures { (c d : Core) (m : Moved) → IsCore c → IsTight c → IsChunkMove c.chunks d.chunks m
+        → d.entries ≡ put c.entries m.owner (at_another (c.entries m.owner) m.to.place) → d.find ≡ c.find → d.bound ≡ c.bound
+        → IsMove c d × IsTight d }
+{}
+
+/// Where nothing but three pinned objects is left, what is in use is theirs: entries by registers and slots, words by the segment's list.
+pub fn what_is_left_is_pinned()
+    ensures entries { (c : Core) (regs : List ℕ) (a b d : ℕ) → IsCore c → IsBare a b d c
+        → ((t : ℕ) → outside c t ≡ count_by (names t) (in_hand regs a b d)) → IsPin c a → IsPin c b → IsPin c d
+        → sum_below c.bound (λ t. used_by (c.entries t)) ≤ length regs + over_three (entries_for c) a b d }
+    ensures words { (c : Core) (xs : List Placed) (free size a b d : ℕ) → IsCore c → IsTight c → IsBare a b d c
+        → c.chunks ≡ at_place xs → IsLaidOut xs free size → size ≤ free + over_three (room_for c) a b d }
 {}
 
 /// Another word for a field changes the held heap at this field of this object alone.

@@ -3,13 +3,14 @@
 //! A core is four functions and a bound (`Core`): entries by short word, short words by name, chunks by place. Its held heap (`held`) gives
 //! each name the object whose body lies in the segment, each short word read as a number, as the name of its entry or, where it is a
 //! lambda, as that field of the disk's record; every other name has its record. `IsCore` is what a core keeps whatever the disk has,
-//! `IsBacked` what it keeps with its disk. A step that leaves the held heap as it was, over every disk, is one that `Stays`.
+//! `IsBacked` what it keeps with its disk; where it `IsTight`, each chunk with an owner is a body, so words are accounted for. A step that leaves the held heap as it was, over every disk, is one that `Stays`.
 //!
 //!     held (with_field_word c s p i w) disk ≡ put (held c disk) name (Some { class; body = with_field body i (meant .. w) })
 //!
 //! References are counted by difference: `outside c s` is how many there are beyond those of classes and fields, in registers and in
-//! what a call holds. Read `specs/Core.antt`, `Words.antt` and `Held.antt` first, then `Counts.antt`, `Kept.antt` and `Steps.antt`. The
-//! crate has no code: its laws stand on the functions of `laws`, which do nothing. What makes the steps is `leaf_lambda`.
+//! what a call holds. Read `specs/Core.antt`, `Words.antt` and `Held.antt` first, then `Counts.antt`, `Kept.antt` and `Steps.antt`. How
+//! much of a core is in use, and what goes while room is made, stand in `Room.antt` and `Purge.antt`. The crate has no code: its laws
+//! stand on the functions of `laws`, which do nothing, and in `proofs/`. What makes the steps is `leaf_lambda`.
 #![tactic(auto)]
 
 pub mod laws;

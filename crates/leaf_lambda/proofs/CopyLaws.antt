@@ -39,6 +39,15 @@ words-small kind.Words len ws long small = omega arith
 words-small kind.Bytes len ws long small = omega arith
 words-small kind.Method len ws long small = let few = literal_count-small (header_in ws) in omega arith
 
+pub most-small : (k : Kind) → most_len k ≤ 65535
+most-small kind.Pointers = omega arith
+most-small kind.Words = omega arith
+most-small kind.Bytes = omega arith
+most-small kind.Method = omega arith
+
+pub len-small : (c : Core) (s p : ℕ) → IsCore c → place_of (c.entries s).state ≡ Some p → (c.entries s).len ≤ 65535
+len-small c s p core at = let small = core.small s p at in let most = most-small (c.entries s).kind in omega arith
+
 pub body-small : (c : Core) (s p : ℕ) → IsCore c → place_of (c.entries s).state ≡ Some p → length (c.chunks p).words < 131072
 body-small c s p core at = words-small (c.entries s).kind (c.entries s).len (c.chunks p).words (core.long s p at) (core.small s p at)
 
@@ -138,7 +147,7 @@ pub can-blank : (k : Kind) (len : ℕ) (ws : List ℕ) → len ≤ most_len k �
 can-blank kind.Pointers len ws small = (omega arith, refl)
 can-blank kind.Words len ws small = (omega arith, refl)
 can-blank kind.Bytes len ws small = (omega arith, refl)
-can-blank kind.Method len ws small = (small, literal_count-small (header_in ws))
+can-blank kind.Method len ws small = (small, let few = literal_count-small (header_in ws) in omega arith)
 
 pub blank-like : (c : Core) (s p n class : ℕ) (next : List ℕ) → IsCore c → place_of (c.entries s).state ≡ Some p → HasRecord next → n ≡ (c.entries s).name
     → raw_of next ≡ blank_record n class (c.entries s).kind (c.entries s).len (literals_for (c.entries s).kind (header_in (c.chunks p).words)) → IsCopy next (c.entries s) (c.chunks p).words

@@ -9,12 +9,14 @@ use Rattle.object_table.specs.Entries.{put, is_short, is_used, place_of, with_re
 use Rattle.core_view.specs.Core.{Core}
 use Rattle.core_view.specs.Words.{meant, pointers}
 use Rattle.core_view.specs.Held.{Disk, fields_there, object_at, held}
-use Rattle.core_view.specs.Counts.{outside, one, change_of}
-use Rattle.core_view.specs.Kept.{IsCore, IsBacked, Keeps, Stays}
+use Rattle.core_view.specs.Counts.{outside, one, change_of, marked_of}
+use Rattle.core_view.specs.Kept.{IsCore, IsTight, IsBacked, Keeps, Stays}
 use Rattle.core_view.specs.Steps.{IsAt, IsAbout, with_mark, marked_changed, with_field_word}
 use Rattle.core_view.proofs.Lists.{put-here, one-here}
 use Rattle.core_view.proofs.Core.{placed-used, held-at, meant-names}
 use Rattle.core_view.proofs.Entries.{at-entry}
+use Rattle.core_view.proofs.Others.{same-entries, entries-others, Others-trans, entry-others, entry-marks}
+use Rattle.core_view.proofs.Tight.{ref-tight, word-tight, entry-tight}
 use Rattle.core_view.proofs.Words.{word-backed, word-held, word-outside}
 use Rattle.core_view.proofs.Steps.{mark-stays, mark-outside, mark-names, outside-more, outside-used, ref-about, About-trans, entry-about, entry-changes}
 use Rattle.leaf_lambda.specs.Parts.{IsHolding, IsDropping, IsWithin}
@@ -87,6 +89,11 @@ put-within a m h x d s p i w old put_ drop = record {
   about = About-trans s a m d marked (About-trans s m h d (ref-about s m h put_.hold.step) (About-trans s h x d wrote (ref-about s x d drop.step)));
   grew = λ n e. ap (λ (c : Core). c.find n) (sym put_.mark) ∙ put_.hold.grew n (ap (λ (c : Core). c.find n) (sym put_.write) ∙ drop.grew n e);
   changes = λ n. drop.changes n ∙ ap (λ (c : Core). change_of c n) put_.write ∙ put_.hold.changes n ∙ ap (λ (c : Core). change_of c n) put_.mark ∙ entry-changes a s (marked_changed (a.entries s)) refl n;
+  others = Others-trans s a m d (entry-others a m s (marked_changed (a.entries s)) (ap (λ (c : Core). c.entries) put_.mark))
+      (Others-trans s m h d (entries-others s m h put_.hold.others) (Others-trans s h x d (entries-others s h x (same-entries h x (ap (λ (c : Core). c.entries) put_.write))) (entries-others s x d drop.others)));
+  marks = λ n. drop.marks n ∙ ap (λ (c : Core). marked_of c n) put_.write ∙ put_.hold.marks n ∙ ap (λ (c : Core). marked_of c n) put_.mark ∙ entry-marks a s (marked_changed (a.entries s)) refl n;
+  tight = λ t. ref-tight x d drop.step
+      (subst IsTight (sym put_.write) (word-tight h s p i w (ref-tight m h put_.hold.step (subst IsTight (sym put_.mark) (entry-tight a s (marked_changed (a.entries s)) refl t)))));
 }
   where
     marked : IsAbout s a m
@@ -150,3 +157,7 @@ put-entry a m h x d s p i w old put_ drop =
     let wrote : x.entries s ≡ h.entries s = ap (λ (c : Core). c.entries s) put_.write in
     let at : place_of (x.entries s).state ≡ Some p = ap (λ (e : Entry). place_of e.state) wrote ∙ (at-held a m h x s p i w old put_).place in
     drop.step.bodies s p at ∙ ap (λ (e : Entry). with_refs e (d.entries s).refs) (wrote ∙ held_)
+
+-- the object of a body is held
+pub held-there : (a : Core) (disk : Disk) (s p i old : ℕ) → IsCore a → IsAt a s p i old → held a disk (a.entries s).name ≡ Some (object_at a disk (a.entries s) p)
+held-there a disk s p i old core at = held-at a disk (a.entries s).name s p (core.found s (used-there a s p i old at)) at.place

@@ -9,4 +9,8 @@ pub mod MergeLaws
 pub mod CopyLaws
 pub mod FieldLaws
 pub mod LeavingLaws
+pub mod RoomLaws
+pub mod MakeLaws
+pub mod StoreLaws
+pub mod ValuedLaws
 mod Examples

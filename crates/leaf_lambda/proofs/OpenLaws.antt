@@ -7,21 +7,23 @@ use Rattle.long_names.specs.declared.object.Kind.{Kind}
 use Rattle.object_record.specs.Raw.{RawRecord, raw_kind, raw_len, longs_of, IsRawRecord}
 use Rattle.object_record.specs.Objects.{object_in}
 use Rattle.object_table.specs.declared.entry.Entry.{Entry}
-use Rattle.object_table.specs.Entries.{is_used, place_of, with_refs}
-use Rattle.core_segment.specs.Chunks.{Chunk}
+use Rattle.object_table.specs.Entries.{put, is_used, place_of, with_refs}
+use Rattle.core_segment.specs.Chunks.{Chunk, with_chunk}
 use Rattle.core_view.specs.Core.{Core, with_entry}
 use Rattle.core_view.specs.Words.{pointers, body_in, words_for, header_in}
 use Rattle.core_view.specs.Held.{Disk}
-use Rattle.core_view.specs.Counts.{names, one, change_by}
+use Rattle.core_view.specs.Counts.{names, one, change_by, marked_by}
 use Rattle.core_view.specs.Kept.{IsCore, IsBacked, Keeps}
 use Rattle.core_view.specs.Steps.{IsOpening, IsMove, IsAbout}
 use Rattle.core_view.proofs.Lists.{put-here, count-cons}
 use Rattle.core_view.proofs.Entries.{at-entry, step-names}
 use Rattle.core_view.proofs.Bodies.{count-lambda, opening-step, opening-outside, opening-object, opening-keeps}
 use Rattle.core_view.proofs.Moves.{move-outside, move-stays}
+use Rattle.core_view.proofs.Others.{same-entries, entries-others, Others-trans, entry-others, entry-marks}
+use Rattle.core_view.proofs.Tight.{ref-tight, open-tight}
 use Rattle.core_view.proofs.Steps.{Keeps-trans, ref-about, About-trans, entry-about, entry-changes}
 use Rattle.leaf_lambda.specs.Parts.{IsHolding, IsWithin}
-use Rattle.leaf_lambda.specs.Records.{unresolved, opened, HasBody}
+use Rattle.leaf_lambda.specs.Records.{unresolved, opened, HasBody, IsOpened}
 use Rattle.leaf_lambda.proofs.RecordLaws.{unresolved-pointers, unresolved-long, unresolved-small, unresolved-body}
 
 some-same : {A : Type 0} (x y : A) → Some x ≡ Some y → x ≡ y
@@ -47,6 +49,7 @@ pub record IsOpenRun (a b m : Core) (s k p : ℕ) (raw : RawRecord) : Type 0 whe
   pub core_m : IsCore m
   pub entries : m.entries ≡ b.entries
   pub chunk : m.chunks p ≡ record { owner = s; words = unresolved raw.body }
+  pub chunks : m.chunks ≡ with_chunk b.chunks p (record { owner = s; words = unresolved raw.body })
   pub used : is_used (a.entries s).state ≡ true
   pub leaf : place_of (a.entries s).state ≡ None
   pub class_used : is_used (b.entries k).state ≡ true
@@ -103,6 +106,25 @@ run-within a b m d s k p raw run is = subst (λ (x : Core). IsWithin s a x) (sym
   grew = λ n e. run.hold.grew n (ap (λ f. f n) (sym run.move.find) ∙ e);
   changes = λ n.
       entry-changes m s (after m s k p raw) refl n ∙ ap (λ (f : ℕ → Entry). change_by f (m.find n)) run.entries ∙ ap (λ f. change_by b.entries (f n)) run.move.find ∙ run.hold.changes n;
+  others = Others-trans s a b (with_entry m s (after m s k p raw)) (entries-others s a b run.hold.others)
+      (Others-trans s b m (with_entry m s (after m s k p raw)) (entries-others s b m (same-entries b m run.entries)) (entry-others m (with_entry m s (after m s k p raw)) s (after m s k p raw) refl));
+  marks = λ n.
+      entry-marks m s (after m s k p raw) refl n ∙ ap (λ (f : ℕ → Entry). marked_by f (m.find n)) run.entries ∙ ap (λ f. marked_by b.entries (f n)) run.move.find ∙ run.hold.marks n;
+  tight = λ t. open-tight b (with_entry m s (after m s k p raw)) s p (record { owner = s; words = unresolved raw.body }) (after m s k p raw) (ref-tight a b run.hold.step t)
+      (run.hold.step.leaves s run.leaf) refl refl run.chunks (ap (λ (f : ℕ → Entry). put f s (after m s k p raw)) run.entries);
+})
+
+-- the entry is opened, and of it nothing else changes but its references
+pub run-opened : (a b m d : Core) (s k p : ℕ) (raw : RawRecord) → IsOpenRun a b m s k p raw → d ≡ with_entry m s (after m s k p raw) → IsOpened s p raw a d
+run-opened a b m d s k p raw run is = subst (λ (x : Core). IsOpened s p raw a x) (sym is) (record {
+  class = k;
+  used = at-entry m.entries s (after m s k p raw) (λ q e. is_used (b.entries q).state ≡ true → is_used e.state ≡ true) (λ on. refl) (λ q away on. ap (λ (f : ℕ → Entry). is_used (f q).state) run.entries ∙ on) k run.class_used;
+  named = step-names m s (after m s k p raw) (opening-step m s p (after m s k p raw) run.core_m (run-opening a b m s k p raw run)) k ∙ ap (λ (f : ℕ → Entry). (f k).name) run.entries ∙ run.class_name;
+  entry =
+      let here : put m.entries s (after m s k p raw) s ≡ after m s k p raw = put-here m.entries s (after m s k p raw) in
+      let was : m.entries s ≡ with_refs (a.entries s) (m.entries s).refs = ap (λ (f : ℕ → Entry). f s) run.entries ∙ run.hold.others.same s run.used ∙ ap (λ (f : ℕ → Entry). with_refs (a.entries s) (f s).refs) (sym run.entries) in
+      here ∙ ap (λ (e : Entry). opened e p k (raw_kind raw.body) (raw_len raw.body)) was
+      ∙ ap (λ (e : Entry). with_refs (opened (a.entries s) p k (raw_kind raw.body) (raw_len raw.body)) e.refs) (sym here);
 })
 
 pub run-keeps : (a b m d : Core) (s k p : ℕ) (raw : RawRecord) (disk : Disk) → IsOpenRun a b m s k p raw → d ≡ with_entry m s (after m s k p raw) → IsBacked a disk → disk (a.entries s).name ≡ Some (object_in raw) → Keeps disk a d

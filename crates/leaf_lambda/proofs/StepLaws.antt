@@ -1,13 +1,17 @@
 -- The parts as a core after a step.
-use Rattle.std.proofs.Common.{◌≡◌, ℕ, ◌+◌, ◌≤◌, Bool, true, false, cond, refl, sym, ◌∙◌, ap, arith}
+use Rattle.std.proofs.Common.{◌≡◌, ℕ, ◌+◌, ◌≤◌, Bool, true, false, cond, Option, Some, None, refl, sym, ◌∙◌, ap, subst, arith}
 use Rattle.object_table.specs.declared.entry.Entry.{Entry}
-use Rattle.object_table.specs.Entries.{is_free, is_used}
+use Rattle.std.specs.Prelude.{IfSome}
+use Rattle.object_table.specs.declared.entry.Short.{Short}
+use Rattle.object_table.specs.Entries.{is_free, is_used, leaf_entry}
+use Rattle.core_view.proofs.Entries.{at-entry}
 use Rattle.object_table.specs.Table.{entry_at, bound_of}
 use Rattle.core_view.specs.Core.{Core, with_leaf}
 use Rattle.core_view.specs.Counts.{uses}
 use Rattle.core_view.specs.Kept.{IsCore}
 use Rattle.core_view.specs.Steps.{IsSpare}
 use Rattle.core_view.proofs.Leaves.{leaf-outside}
+use Rattle.core_view.proofs.Others.{Entries-refl, leaf-entries, leaf-marks}
 use Rattle.core_view.proofs.Steps.{Stays-refl, RefStep-refl, leaf-stays, leaf-step, leaf-used, leaf-grew, leaf-changes}
 use Rattle.core_segment.specs.Segment.{chunk_at}
 use Rattle.resident_table.specs.Resident.{short_of}
@@ -37,7 +41,18 @@ leaf-comes c s n core spare = record {
   used = leaf-used c s n spare;
   grew = λ m e. leaf-grew c s n m e spare.absent;
   changes = leaf-changes c s n core spare;
+  others = leaf-entries c s n spare;
+  marks = leaf-marks c s n core spare;
 }
 
 pub none-comes : (c : Core) → IsLeafStep c c
-none-comes c = record { stays = Stays-refl c; step = RefStep-refl c; same_outside = λ t. refl; used = λ q on. refl; grew = λ m e. e; changes = λ m. refl }
+none-comes c = record { stays = Stays-refl c; step = RefStep-refl c; same_outside = λ t. refl; used = λ q on. refl; grew = λ m e. e; changes = λ m. refl; others = Entries-refl c; marks = λ m. refl }
+
+-- the leaf that came is the one that is answered
+pub only-leaf : (a d : Core) (n : ℕ) (result : Option Short) → IfSome result (λ (s : Short). IsSpare a s.0 n × (d ≡ with_leaf a s.0 n)) → IfSome result (λ (s : Short). (q : ℕ) → is_used (a.entries q).state ≡ false → is_used (d.entries q).state ≡ true → q ≡ s.0)
+only-leaf a d n None x = x
+only-leaf a d n (Some s) x = λ q off. subst (λ (c : Core). is_used (c.entries q).state ≡ true → q ≡ s.0) (sym x.1)
+    (at-entry a.entries s.0 (leaf_entry n) (λ r e. is_used (a.entries r).state ≡ false → is_used e.state ≡ true → r ≡ s.0) (λ off on. refl) (λ r away off on. absurd (cc)) q off)
+
+pub same-only : (a : Core) (s q : ℕ) → is_used (a.entries q).state ≡ false → is_used (a.entries q).state ≡ true → q ≡ s
+same-only a s q off on = let no : false ≡ true = sym off ∙ on in cc

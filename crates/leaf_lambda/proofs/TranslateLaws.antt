@@ -3,25 +3,62 @@ use Rattle.std.proofs.Common.{◌≡◌, ◌≢◌, ℕ, pos, ◌+◌, ◌-◌, 
 use Rattle.std.proofs.lemmas.Grind.{common_steps}
 use Rattle.std.proofs.lemmas.Option.{get_or_from_slice_get}
 use Rattle.std.specs.List.{slice_get, slice_set}
+use Rattle.std.specs.Prelude.{IfSome, IfNone}
+use Rattle.object_table.specs.declared.entry.Short.{Short}
 use Rattle.long_names.specs.declared.value.Value.{Value}
 use Rattle.long_names.specs.declared.value.Value.TheVariants.{Int, Ref}
 use Rattle.object_table.specs.declared.entry.Entry.{Entry}
 use Rattle.object_table.specs.Entries.{put, is_short, is_used, place_of, with_refs}
 use Rattle.core_segment.specs.Chunks.{Chunk}
-use Rattle.core_view.specs.Core.{Core}
+use Rattle.core_view.specs.Core.{Core, with_entry}
+use Rattle.core_view.proofs.Entries.{at-entry}
 use Rattle.core_view.specs.Words.{meant, pointers, spot}
 use Rattle.core_view.specs.Held.{Disk, fields_there}
-use Rattle.core_view.specs.Counts.{names, outside, one, IsLight, change_of}
+use Rattle.core_view.specs.Counts.{names, outside, one, IsLight, change_of, marked_of}
 use Rattle.core_view.specs.Kept.{IsCore, IsBacked, Keeps, Stays}
 use Rattle.core_view.specs.Steps.{IsAt, IsRefStep, IsAbout, with_refs_of, with_field_word}
 use Rattle.core_view.proofs.Core.{apart}
+use Rattle.core_view.proofs.Others.{Entries-refl, Entries-trans, same-entries, refs-entries, entries-others, Others-refl, Others-trans, entry-marks}
+use Rattle.core_view.proofs.Tight.{ref-tight, word-tight}
 use Rattle.core_view.proofs.Lists.{put-there, pointers-set}
 use Rattle.core_view.proofs.Steps.{Keeps-trans, Stays-trans, Stays-refl, RefStep-refl, RefStep-trans, ref-about, About-trans, About-refl, outside-more, refs-entry, entry-changes}
-use Rattle.core_view.proofs.Words.{word-keeps, word-outside, meant-lambda, one-zero, set-same}
-use Rattle.leaf_lambda.specs.Parts.{core_of, spare_of, IsLeafStep, IsHolding, IsDropping, IsWithin, IsSparing, RESERVE}
-use Rattle.leaf_lambda.specs.Records.{MayBeLambda}
+use Rattle.core_view.proofs.Words.{word-keeps, word-outside, meant-lambda, meant-short, one-zero, set-same}
+use Rattle.leaf_lambda.specs.Parts.{core_of, spare_of, leaves_for, IsLeafStep, IsNaming, IsHolding, IsDropping, IsWithin, IsSparing}
+use Rattle.leaf_lambda.specs.declared.translate.TheConstants.{RESERVE}
+use Rattle.leaf_lambda.specs.Records.{MayBeLambda, word_or_lambda}
 use Rattle.leaf_lambda.specs.declared.parts.Parts.{Parts}
 use Rattle.leaf_lambda.proofs.FillLaws.{written-words}
+
+-- ---- naming
+
+pub Naming-refl : (c : Core) → IsNaming c c
+Naming-refl c = record { more = λ t on. (on, omega arith); came = λ t off on. absurd (cc) }
+
+pub Naming-trans : (a b c : Core) → IsNaming a b → IsNaming b c → IsNaming a c
+Naming-trans a b c x y = record {
+  more = λ t on. let first = x.more t on in let then = y.more t first.0 in (then.0, (let low = first.1 in let up = then.1 in omega arith));
+  came = λ t off on. go t off on (is_used (b.entries t).state) refl;
+}
+  where
+    go : (t : ℕ) → is_used (a.entries t).state ≡ false → is_used (c.entries t).state ≡ true → (u : Bool) → is_used (b.entries t).state ≡ u → 1 ≤ (c.entries t).refs
+    go t off on true e = let first = x.came t off e in let then = (y.more t e).1 in omega arith
+    go t off on false e = y.came t e on
+
+-- where the entries are the same
+pub naming-entries : (a b d : Core) → IsNaming a b → d.entries ≡ b.entries → IsNaming a d
+naming-entries a b d x same = record {
+  more = λ t on. subst (λ (f : ℕ → Entry). (is_used (f t).state ≡ true) × ((a.entries t).refs ≤ (f t).refs)) (sym same) (x.more t on);
+  came = λ t off. subst (λ (f : ℕ → Entry). is_used (f t).state ≡ true → 1 ≤ (f t).refs) (sym same) (x.came t off);
+}
+
+-- where an entry in use takes another content with the same references
+pub naming-entry : (a m d : Core) (s : ℕ) (e : Entry) → IsNaming a m → is_used (m.entries s).state ≡ true → d ≡ with_entry m s e → is_used e.state ≡ true → e.refs ≡ (m.entries s).refs → IsNaming a d
+naming-entry a m d s e x used is still refs = record {
+  more = λ t on. subst (λ (c : Core). (is_used (c.entries t).state ≡ true) × ((a.entries t).refs ≤ (c.entries t).refs)) (sym is)
+      (at-entry m.entries s e (λ q y. is_used (a.entries q).state ≡ true → (is_used y.state ≡ true) × ((a.entries q).refs ≤ y.refs)) (λ on. (still, (let up = (x.more s on).1 in let same = refs in omega arith))) (λ q away on. x.more q on) t on);
+  came = λ t off. subst (λ (c : Core). is_used (c.entries t).state ≡ true → 1 ≤ (c.entries t).refs) (sym is)
+      (at-entry m.entries s e (λ q y. is_used (a.entries q).state ≡ false → is_used y.state ≡ true → 1 ≤ y.refs) (λ off on. let up = x.came s off used in let same = refs in omega arith) (λ q away off. x.came q off) t off);
+}
 
 -- ---- holding
 
@@ -34,11 +71,15 @@ none-held c w none = record {
   live = λ t on. (on, refl);
   grew = λ m e. e;
   changes = λ m. refl;
+  others = Entries-refl c;
+  marks = λ m. refl;
+  naming = Naming-refl c;
 }
 
 -- a leaf came, or nothing, and its name is held once more
-pub leaf-held-on : (a b d : Core) (s : ℕ) → IsLeafStep a b → Stays b d → IsRefStep b d → ((t : ℕ) → outside d t ≡ outside b t + one t s) → d ≡ with_refs_of b s ((b.entries s).refs + 1) → IsHolding s a d
-leaf-held-on a b d s leaf stays step out is = record {
+pub leaf-held-on : (a b d : Core) (s : ℕ) → IsLeafStep a b → Stays b d → IsRefStep b d → ((t : ℕ) → outside d t ≡ outside b t + one t s) → d ≡ with_refs_of b s ((b.entries s).refs + 1)
+    → ((q : ℕ) → is_used (a.entries q).state ≡ false → is_used (b.entries q).state ≡ true → q ≡ s) → IsHolding s a d
+leaf-held-on a b d s leaf stays step out is only = record {
   stays = Stays-trans a b d leaf.stays stays;
   step = RefStep-trans a b d leaf.step step;
   one_more = λ t. let first = leaf.same_outside t in let then = out t in omega arith;
@@ -48,6 +89,17 @@ leaf-held-on a b d s leaf stays step out is = record {
       (ap (λ (e : Entry). is_used e.state) same ∙ on, ap (λ (e : Entry). e.name) same);
   grew = λ m e. leaf.grew m (ap (λ (x : Core). x.find m) (sym is) ∙ e);
   changes = λ m. ap (λ (x : Core). change_of x m) is ∙ entry-changes b s (with_refs (b.entries s) ((b.entries s).refs + 1)) refl m ∙ leaf.changes m;
+  others = Entries-trans a b d leaf.others (refs-entries b d s ((b.entries s).refs + 1) is);
+  marks = λ m. ap (λ (x : Core). marked_of x m) is ∙ entry-marks b s (with_refs (b.entries s) ((b.entries s).refs + 1)) refl m ∙ leaf.marks m;
+  naming = record {
+    more = λ t on. subst (λ (x : Core). (is_used (x.entries t).state ≡ true) × ((a.entries t).refs ≤ (x.entries t).refs)) (sym is)
+        (at-entry b.entries s (with_refs (b.entries s) ((b.entries s).refs + 1)) (λ q y. is_used (a.entries q).state ≡ true → (is_used y.state ≡ true) × ((a.entries q).refs ≤ y.refs))
+        (λ on. let same = leaf.used s on in (ap (λ (e : Entry). is_used e.state) same ∙ on, (let r = ap (λ (e : Entry). e.refs) same in omega arith)))
+        (λ q away on. let same = leaf.used q on in (ap (λ (e : Entry). is_used e.state) same ∙ on, (let r = ap (λ (e : Entry). e.refs) same in omega arith))) t on);
+    came = λ t off. subst (λ (x : Core). is_used (x.entries t).state ≡ true → 1 ≤ (x.entries t).refs) (sym is)
+        (at-entry b.entries s (with_refs (b.entries s) ((b.entries s).refs + 1)) (λ q y. is_used (a.entries q).state ≡ false → is_used y.state ≡ true → 1 ≤ y.refs)
+        (λ off on. omega arith) (λ q away off on. absurd (away (only q off on))) t off);
+  };
 }
 
 -- what is no short name names nothing
@@ -66,6 +118,9 @@ none-dropped c w none = record {
   live = λ t on. (on, refl);
   grew = λ m e. e;
   changes = λ m. refl;
+  others = Entries-refl c;
+  marks = λ m. refl;
+  find = refl;
 }
 
 pub let-dropped : (c d : Core) (s : ℕ) → Stays c d → IsRefStep c d → ((t : ℕ) → outside d t + one t s ≡ outside c t) → d ≡ with_refs_of c s ((c.entries s).refs - 1) → IsDropping s c d
@@ -78,6 +133,9 @@ let-dropped c d s stays step out is = record {
       (ap (λ (e : Entry). is_used e.state) same ∙ on, ap (λ (e : Entry). e.name) same);
   grew = λ m e. ap (λ (x : Core). x.find m) (sym is) ∙ e;
   changes = λ m. ap (λ (x : Core). change_of x m) is ∙ entry-changes c s (with_refs (c.entries s) ((c.entries s).refs - 1)) refl m;
+  others = refs-entries c d s ((c.entries s).refs - 1) is;
+  marks = λ m. ap (λ (x : Core). marked_of x m) is ∙ entry-marks c s (with_refs (c.entries s) ((c.entries s).refs - 1)) refl m;
+  find = ap (λ (x : Core). x.find) is;
 }
 
 pub may-be : (find : ℕ → Option ℕ) (free n : ℕ) (v : Value) → v ≡ Ref n → (find n ≡ None) × (free ≤ RESERVE) → MayBeLambda find free (Some v)
@@ -88,6 +146,24 @@ pub MayBe-later : (find now : ℕ → Option ℕ) (free left : ℕ) (o : Option 
 MayBe-later find now free left None few less h = h
 MayBe-later find now free left (Some (Int z)) few less h = h
 MayBe-later find now free left (Some (Ref n)) few less h = (ap (λ f. f n) (few h.1) ∙ h.0, let low : free ≤ RESERVE = h.1 in omega arith)
+
+-- a name costs one entry at most
+pub leaves-few : (o : Option ℕ) → leaves_for o ≤ 1
+leaves-few None = omega arith
+leaves-few (Some s) = omega arith
+
+-- what the word for a short name means, and when it is a lambda
+pub word-means : (o : Option Short) (w n : ℕ) (v : Value) (entries : ℕ → Entry) → w ≡ word_or_lambda o → IfSome o (λ (s : Short). (is_short s.0 ≡ true) × ((entries s.0).name ≡ n)) → v ≡ Ref n
+    → w ≢ 0 → (old : List Value) (i : ℕ) → meant entries old i w ≡ v
+word-means None w n v entries is short ref some old i = absurd (some is)
+word-means (Some s) w n v entries is short ref some old i = ap (meant entries old i) is ∙ meant-short entries old i s.0 short.0 ∙ ap Ref short.1 ∙ sym ref
+
+pub word-lambda : {P : Type 0} (o : Option Short) (w n : ℕ) (entries : ℕ → Entry) → w ≡ word_or_lambda o → IfSome o (λ (s : Short). (is_short s.0 ≡ true) × ((entries s.0).name ≡ n)) → IfNone o P → w ≡ 0 → P
+word-lambda {P} None w n entries is short none zero_ = none
+word-lambda {P} (Some s) w n entries is short none zero_ = absurd (no-name (ap is_short (sym is ∙ zero_) ∙ refl) short.0)
+  where
+    no-name : is_short s.0 ≡ false → is_short s.0 ≡ true → ⊥
+    no-name off on = let no : false ≡ true = sym off ∙ on in cc
 
 -- ---- sparing
 
@@ -108,7 +184,7 @@ Sparing-trans p q r x y = record {
 -- ---- within
 
 pub Within-refl : (s : ℕ) (c : Core) → IsWithin s c c
-Within-refl s c = record { same_outside = λ t. refl; live = λ t on. (on, refl); about = About-refl s c; grew = λ m e. e; changes = λ m. refl }
+Within-refl s c = record { same_outside = λ t. refl; live = λ t on. (on, refl); about = About-refl s c; grew = λ m e. e; changes = λ m. refl; others = Others-refl s c; marks = λ m. refl; tight = λ t. t }
 
 pub Within-trans : (s : ℕ) (a b c : Core) → IsWithin s a b → IsWithin s b c → IsWithin s a c
 Within-trans s a b c x y = record {
@@ -117,6 +193,9 @@ Within-trans s a b c x y = record {
   about = About-trans s a b c x.about y.about;
   grew = λ m e. x.grew m (y.grew m e);
   changes = λ m. y.changes m ∙ x.changes m;
+  others = Others-trans s a b c x.others y.others;
+  marks = λ m. y.marks m ∙ x.marks m;
+  tight = λ t. y.tight (x.tight t);
 }
 
 pub Light-later : (s : ℕ) (a b : Core) → IsWithin s a b → IsLight a → IsLight b
@@ -161,6 +240,9 @@ resolve-within a b d s p i w core hold at held_ e = subst (λ (x : Core). IsWith
   about = About-trans s a b (with_field_word b s p i w) (ref-about s a b hold.step) (word-about b s p i w core (at-later a b s p i 0 hold.step at).place);
   grew = hold.grew;
   changes = hold.changes;
+  others = entries-others s a (with_field_word b s p i w) (Entries-trans a b (with_field_word b s p i w) hold.others (same-entries b (with_field_word b s p i w) refl));
+  marks = hold.marks;
+  tight = λ t. word-tight b s p i w (ref-tight a b hold.step t);
 })
 
 -- nothing was written
@@ -171,6 +253,9 @@ unresolved-within a b s hold = record {
   about = ref-about s a b hold.step;
   grew = hold.grew;
   changes = hold.changes;
+  others = entries-others s a b hold.others;
+  marks = hold.marks;
+  tight = ref-tight a b hold.step;
 }
 
 pub resolve-fields : (a b d : Core) (s p i w : ℕ) → IsRefStep a b → IsAt a s p i 0 → d ≡ with_field_word b s p i w → pointers (a.entries s).kind (d.chunks p).words ≡ slice_set (pointers (a.entries s).kind (a.chunks p).words) i w

@@ -1,9 +1,10 @@
 -- Words of bodies, and fields among them.
-use Rattle.std.proofs.Common.{zero, suc, ◌≡◌, ℕ, ◌<◌, List, [], ◌∷◌, length, get_or, sym, ◌∙◌, arith, Some}
+use Rattle.std.proofs.Common.{zero, suc, pos, negsuc, ◌≡◌, ℕ, ◌-◌, ◌/◌, ◌<◌, ◌≤◌, Bool, true, false, cond, nat_lt, List, [], ◌∷◌, length, get_or, refl, sym, ◌∙◌, arith, Some}
+use Rattle.std.proofs.lemmas.Grind.{common_steps}
 use Rattle.std.proofs.lemmas.Option.{slice_get_within, slice_get-get_or}
 use Rattle.std.specs.List.{slice_get}
 use Rattle.std.specs.Prelude.{take}
-use Rattle.long_names.specs.Words.{literal_count}
+use Rattle.long_names.specs.Words.{literal_count, IsSmallInteger}
 use Rattle.long_names.specs.declared.object.Kind.{Kind}
 use Rattle.long_names.specs.declared.object.Kind.TheVariants as kind
 use Rattle.object_table.specs.Entries.{place_of}
@@ -55,3 +56,11 @@ at-small c s p i w core at =
 pub field-there : (c : Core) (s p i n : ℕ) → place_of (c.entries s).state ≡ Some p → n ≡ length (pointers (c.entries s).kind (c.chunks p).words) → i < n → (old : ℕ) × IsAt c s p i old
 field-there c s p i n at total low =
     (get_or (pointers (c.entries s).kind (c.chunks p).words) i 0, record { place = at; word = slice_get-get_or (pointers (c.entries s).kind (c.chunks p).words) i 0 (omega arith) })
+
+-- the number of an odd short word is a SmallInteger
+pub odd-small : (w : ℕ) → w < 65536 → IsSmallInteger (int_of_short w)
+odd-small w low = go (nat_lt (w / 2) 16384) refl
+  where
+    go : (b : Bool) → nat_lt (w / 2) 16384 ≡ b → IsSmallInteger (cond b (pos (w / 2)) (negsuc (32767 - w / 2)))
+    go true e = grind (arith, common_steps)
+    go false e = let far : 16384 ≤ w / 2 = grind (arith, common_steps) in omega arith

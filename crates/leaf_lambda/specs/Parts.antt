@@ -1,14 +1,29 @@
 -- The parts of a core as one core, and what they keep.
-use Rattle.std.specs.Prelude.{◌≡◌, ℕ, ◌+◌, ◌≤◌, true, Option, Some, None, min}
+--
+-- The states of an object, as its entry has them, and the calls that lead from one to another:
+--
+--               find_or_leaf              translate_in             put_field, put_words, put_byte
+--   no entry ----------------->  leaf  ------------------>  clean ------------------------------->  changed
+--            <-----------------        <------------------        <-------------------------------
+--                 free_leaf       |        drop_body          ^     set_written, with merge_out's record
+--                                 |                           |
+--                                 |  make_body                |  set_written, with merge_out's record
+--                                 '------------->  fresh  ----'
+--
+-- Clean is just as its record: neither flag. Changed has CHANGED, and a record like it. Fresh has CHANGED and FRESH, no record and no
+-- lambda; stores leave it fresh. translate_in and resolve make leaves of what they name, each with a reference. compact_one moves a body
+-- in any of these states.
+use Rattle.std.specs.Prelude.{◌≡◌, ℕ, ◌+◌, ◌≤◌, true, false, Option, Some, None, min}
 use Rattle.object_table.specs.Entries.{is_used}
 use Rattle.object_table.specs.Table.{entry_at, bound_of, free_of}
 use Rattle.core_view.specs.Core.{Core}
-use Rattle.core_view.specs.Counts.{outside, one, change_of}
-use Rattle.core_view.specs.Kept.{IsCore, Stays}
-use Rattle.core_view.specs.Steps.{IsRefStep, IsAbout}
+use Rattle.core_view.specs.Counts.{outside, one, change_of, marked_of}
+use Rattle.core_view.specs.Kept.{IsCore, IsTight, Stays}
+use Rattle.core_view.specs.Steps.{IsRefStep, IsAbout, KeepsEntries, KeepsOthers}
 use Rattle.core_segment.specs.Segment.{chunk_at}
 use Rattle.resident_table.specs.Resident.{short_of, held_of, room_of}
 use Rattle.leaf_lambda.specs.declared.parts.Parts.{Parts}
+use Rattle.leaf_lambda.specs.declared.translate.TheConstants.{RESERVE}
 
 -- the core that the parts are
 unfoldable pub core_of : Parts → Core
@@ -38,6 +53,14 @@ pub record IsLeafStep (old new : Core) : Type 0 where
   pub used : (q : ℕ) → is_used (old.entries q).state ≡ true → new.entries q ≡ old.entries q
   pub grew : (m : ℕ) → new.find m ≡ None → old.find m ≡ None
   pub changes : (m : ℕ) → change_of new m ≡ change_of old m
+  pub others : KeepsEntries old new
+  pub marks : (m : ℕ) → marked_of new m ≡ marked_of old m
+
+-- entries only come, and each that came has a reference
+pub record IsNaming (old new : Core) : Type 0 where
+  pub more : (t : ℕ) → is_used (old.entries t).state ≡ true
+      → (is_used (new.entries t).state ≡ true) × ((old.entries t).refs ≤ (new.entries t).refs)
+  pub came : (t : ℕ) → is_used (old.entries t).state ≡ false → is_used (new.entries t).state ≡ true → 1 ≤ (new.entries t).refs
 
 -- at most a leaf came, and there is one reference more to what this word names
 pub record IsHolding (w : ℕ) (old new : Core) : Type 0 where
@@ -48,6 +71,9 @@ pub record IsHolding (w : ℕ) (old new : Core) : Type 0 where
       → (is_used (new.entries t).state ≡ true) × ((new.entries t).name ≡ (old.entries t).name)
   pub grew : (m : ℕ) → new.find m ≡ None → old.find m ≡ None
   pub changes : (m : ℕ) → change_of new m ≡ change_of old m
+  pub naming : IsNaming old new
+  pub others : KeepsEntries old new
+  pub marks : (m : ℕ) → marked_of new m ≡ marked_of old m
 
 -- there is one reference less to what this word names
 pub record IsDropping (w : ℕ) (old new : Core) : Type 0 where
@@ -58,9 +84,12 @@ pub record IsDropping (w : ℕ) (old new : Core) : Type 0 where
       → (is_used (new.entries t).state ≡ true) × ((new.entries t).name ≡ (old.entries t).name)
   pub grew : (m : ℕ) → new.find m ≡ None → old.find m ≡ None
   pub changes : (m : ℕ) → change_of new m ≡ change_of old m
+  pub find : new.find ≡ old.find
+  pub others : KeepsEntries old new
+  pub marks : (m : ℕ) → marked_of new m ≡ marked_of old m
 
--- what a call on s leaves as it was: references from outside, the names of entries in use, all bodies but that of s, and each change of
--- a count; no name loses its entry
+-- what a call on s leaves as it was: references from outside, the names of entries in use, all bodies but that of s, of each other entry
+-- in use all but its references, each change of a count and each mark; what came is a leaf; no name loses its entry, no chunk its body
 pub record IsWithin (s : ℕ) (old new : Core) : Type 0 where
   pub same_outside : (t : ℕ) → outside new t ≡ outside old t
   pub live : (t : ℕ) → is_used (old.entries t).state ≡ true
@@ -68,10 +97,9 @@ pub record IsWithin (s : ℕ) (old new : Core) : Type 0 where
   pub about : IsAbout s old new
   pub grew : (m : ℕ) → new.find m ≡ None → old.find m ≡ None
   pub changes : (m : ℕ) → change_of new m ≡ change_of old m
-
--- how many entries stay free while fields take entries
-abbrev pub RESERVE : ℕ
-RESERVE = 128
+  pub others : KeepsOthers s old new
+  pub marks : (m : ℕ) → marked_of new m ≡ marked_of old m
+  pub tight : IsTight old → IsTight new
 
 -- fields take entries only while more than the reserve are free
 pub record IsSparing (old new : Parts) : Type 0 where

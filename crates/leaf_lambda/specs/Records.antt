@@ -1,22 +1,23 @@
 -- The words of a record's body, before its fields have short names.
-use Rattle.std.specs.Prelude.{◌≡◌, ℕ, ℤ, ◌+◌, ◌*◌, ◌%◌, ◌≤◌, false, List, [], ◌∷◌, ◌++◌, length, replicate, Option, Some, None}
+use Rattle.std.specs.Prelude.{◌≡◌, ℕ, ℤ, ◌+◌, ◌*◌, ◌%◌, ◌≤◌, true, false, List, [], ◌∷◌, ◌++◌, length, replicate, Option, Some, None}
 use Rattle.long_names.specs.Words.{literal_count}
 use Rattle.long_names.specs.declared.value.Value.{Value}
 use Rattle.long_names.specs.declared.value.Value.TheVariants.{Int, Ref}
 use Rattle.long_names.specs.Objects.{fields_of}
 use Rattle.long_names.specs.declared.object.Kind.{Kind}
 use Rattle.long_names.specs.declared.object.Kind.TheVariants as kind
-use Rattle.object_record.specs.Raw.{RawBody, RawPointers, RawWords, RawBytes, RawMethod, raw_kind, raw_len, longs_of}
+use Rattle.object_record.specs.Raw.{RawRecord, RawBody, RawPointers, RawWords, RawBytes, RawMethod, raw_kind, raw_len, longs_of}
 use Rattle.object_record.specs.Buffer.{raw_of, HasRecord}
 use Rattle.object_record.specs.Objects.{body_of, object_in}
 use Rattle.object_table.specs.declared.entry.Entry.{Entry}
+use Rattle.object_table.specs.declared.entry.Short.{Short}
 use Rattle.object_table.specs.declared.entry.EntryState.TheVariants.{Resident}
-use Rattle.object_table.specs.Entries.{place_of}
+use Rattle.object_table.specs.Entries.{is_used, place_of, with_refs}
 use Rattle.core_view.specs.Core.{Core}
 use Rattle.core_view.specs.Held.{Disk}
 use Rattle.core_view.specs.Kept.{IsBacked, Keeps}
 use Rattle.core_view.specs.Words.{pointers, body_in}
-use Rattle.leaf_lambda.specs.Parts.{RESERVE}
+use Rattle.leaf_lambda.specs.declared.translate.TheConstants.{RESERVE}
 
 -- bytes two to a word, the high one first; of an odd number the last word has 0 as its low byte
 abbrev pub packed : List ℕ → List ℕ
@@ -41,10 +42,23 @@ opened e p class k len = record e {
   flags = record e.flags { changed = false; fresh = false };
 }
 
+-- The leaf s became the object of a record, whose body lies at a place, just as the record: of its entry nothing else changed but its
+-- references.
+pub record IsOpened (s p : ℕ) (raw : RawRecord) (old new : Core) : Type 0 where
+  pub class : ℕ
+  pub used : is_used (new.entries class).state ≡ true
+  pub named : (new.entries class).name ≡ raw.class
+  pub entry : new.entries s ≡ with_refs (opened (old.entries s) p class (raw_kind raw.body) (raw_len raw.body)) (new.entries s).refs
+
 -- over each disk that has this record for s, what that disk has to have and the held heap stay
 abbrev pub KeepsRecord : Core → Core → ℕ → List ℕ → Type 0
 KeepsRecord old new s bytes =
     (disk : Disk) → IsBacked old disk → disk (old.entries s).name ≡ Some (object_in (raw_of bytes)) → Keeps disk old new
+
+-- the word for a short name, or for none: a lambda
+abbrev pub word_or_lambda : Option Short → ℕ
+word_or_lambda None = 0
+word_or_lambda (Some s) = s.0
 
 -- Where a field may be a lambda, with so many entries free: its target has no entry and none is to spare, or its long word is no value.
 abbrev pub MayBeLambda : (ℕ → Option ℕ) → ℕ → Option Value → Type 0

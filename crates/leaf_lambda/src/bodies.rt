@@ -5,10 +5,10 @@ ghost use Rattle.object_record.specs.Raw.{raw_kind, raw_len, raw_bytes};
 ghost use Rattle.object_record.specs.Buffer.{raw_of, HasRecord};
 ghost use Rattle.object_table.specs.Entries.{is_used};
 ghost use Rattle.core_segment.specs.Chunks.{with_chunk};
-ghost use Rattle.core_view.specs.Core.{with_entry};
+ghost use Rattle.core_view.specs.Core.{with_entry, with_chunk_at};
 ghost use Rattle.core_view.specs.Counts.{outside};
 ghost use Rattle.core_view.specs.Steps.{IsOpening, IsMove};
-ghost use Rattle.core_segment.specs.Segment.{chunk_at, largest_of};
+ghost use Rattle.core_segment.specs.Segment.{chunk_at, size_of, free_of, largest_of, SameRoom};
 ghost use Rattle.leaf_lambda.specs.Parts.{core_of, spare_of, IsParts};
 ghost use Rattle.leaf_lambda.specs.Records.{packed, unresolved, opened};
 
@@ -94,8 +94,9 @@ fn fill(g: &mut Segment, at: Addr, buf: &RecordBuf, words: u32)
     requires record { HasRecord buf.now }
     requires long { length (chunk_at g.old at.place).words ≡ words }
     requires words { words ≡ length (unresolved (raw_of buf.now).body) }
-    ensures { chunk_at g.new
+    ensures chunk { chunk_at g.new
         ≡ with_chunk (chunk_at g.old) at.place (record { owner = (chunk_at g.old at.place).owner; words = unresolved (raw_of buf.now).body }) }
+    ensures room { SameRoom g.old g.new }
 {
     for k in 0..words {
         let w = body_word(buf, k);
@@ -113,6 +114,8 @@ fn take_filled(g: &mut Segment, words: u32, owner: u16, buf: &RecordBuf) -> Addr
     ensures vacant { (chunk_at g.old result.place).owner ≡ 0 }
     ensures chunk { chunk_at g.new
         ≡ with_chunk (chunk_at g.old) result.place (record { owner = owner; words = unresolved (raw_of buf.now).body }) }
+    ensures size { size_of g.new ≡ size_of g.old }
+    ensures free { free_of g.new + words + 4 ≡ free_of g.old }
 {
     match g.take(words + 4, owner) {
         Some(at) => {
@@ -133,6 +136,10 @@ pub fn take_body(p: &mut Parts, s: Short, buf: &RecordBuf) -> Addr
     ensures moves { IsMove (core_of p.old) (core_of p.new) }
     ensures same_names { p.new.names ≡ p.old.names }
     ensures chunk { (core_of p.new).chunks result.place ≡ record { owner = s.0; words = unresolved (raw_of buf.now).body } }
+    ensures core { core_of p.new
+        ≡ with_chunk_at (core_of p.old) result.place (record { owner = s.0; words = unresolved (raw_of buf.now).body }) }
+    ensures size { size_of p.new.segment ≡ size_of p.old.segment }
+    ensures free { free_of p.new.segment + length (unresolved (raw_of buf.now).body) + 4 ≡ free_of p.old.segment }
 {
     let words = words_of(buf);
     take_filled(&mut p.segment, words, s.0, buf)
@@ -145,6 +152,7 @@ pub fn open_body(p: &mut Parts, s: Short, at: Addr, class: Short, kind: Kind, le
     ensures parts { IsParts p.new }
     ensures core { core_of p.new ≡ with_entry (core_of p.old) s.0 (opened ((core_of p.old).entries s.0) at.place class.0 kind len) }
     ensures spare { spare_of p.new ≡ spare_of p.old }
+    ensures segment { p.new.segment ≡ p.old.segment }
 {
     let mut e = p.names.table.entry(s);
     e.state = EntryState::Resident(at.place);

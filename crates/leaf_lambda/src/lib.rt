@@ -17,10 +17,13 @@ pub mod bodies;
 pub mod fields;
 pub mod laws;
 pub mod leaving;
+pub mod making;
 pub mod merge;
+pub mod moving;
 pub mod numbers;
 pub mod parts;
 pub mod steps;
+pub mod storing;
 pub mod translate;
 mod turn;
 

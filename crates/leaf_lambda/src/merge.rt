@@ -161,14 +161,14 @@ fn merge_into(p: &Parts, s: Short, at: Addr, buf: &mut RecordBuf)
 }
 
 // How many literals the header word of a method says.
-fn literals_by(header: u16) -> u32
+pub(crate) fn literals_by(header: u16) -> u32
     ensures { result ≡ count_literals (int_of_short header) }
 {
     literal_count(int_short(header)) as u32
 }
 
-// How many literals an object of a kind has: what the header of a method says.
-pub(crate) fn literals_of(p: &Parts, at: Addr, kind: Kind) -> u32
+/// How many literals an object of a kind has: what the header of a method says.
+pub fn literals_of(p: &Parts, at: Addr, kind: Kind) -> u32
     requires { kind ≡ sort.Method → 0 < length ((core_of p.now).chunks at.place).words }
     ensures { result ≡ literals_for kind (header_in ((core_of p.now).chunks at.place).words) }
 {

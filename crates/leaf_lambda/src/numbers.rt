@@ -4,7 +4,7 @@ ghost use Rattle.long_names.specs.Words.{IsSmallInteger};
 ghost use Rattle.core_view.specs.Words.{int_of_short};
 
 /// The short word of a SmallInteger.
-pub(crate) fn short_int(number: i16) -> u16
+pub fn short_int(number: i16) -> u16
     ensures odd { result % 2 ≡ 1 }
     ensures value { IsSmallInteger number → int_of_short result ≡ number }
 {
@@ -16,7 +16,7 @@ pub(crate) fn short_int(number: i16) -> u16
 }
 
 /// The number of an odd short word.
-pub(crate) fn int_short(word: u16) -> i16
+pub fn int_short(word: u16) -> i16
     ensures { result ≡ int_of_short word }
 {
     let half = word / 2;

@@ -3,15 +3,15 @@ ghost use Rattle.std.specs.Prelude.{◌≡◌, ◌↔◌, ◌<◌, ◌≤◌, �
 ghost use Rattle.long_names.specs.Record.{kind_number};
 ghost use Rattle.object_record.specs.Buffer.{HasRecord};
 ghost use Rattle.object_table.specs.Entries.{is_used, place_of};
-ghost use Rattle.core_segment.specs.Segment.{largest_of};
+ghost use Rattle.object_table.specs.Table.{entries_of};
+ghost use Rattle.core_segment.specs.Segment.{size_of, free_of, largest_of};
 ghost use Rattle.core_view.specs.Held.{Disk as Store, held};
 ghost use Rattle.core_view.specs.Counts.{outside};
-ghost use Rattle.core_view.specs.Kept.{IsBacked};
+ghost use Rattle.core_view.specs.Kept.{IsTight, IsBacked};
 ghost use Rattle.leaf_lambda.specs.Parts.{core_of, spare_of, IsParts};
 ghost use Rattle.leaf_lambda.specs.Records.{IsCopy};
 
 use crate::leaving::field_total;
-use crate::translate::field_count;
 use core_segment::{Addr, Segment};
 use long_names::Kind;
 use object_record::RecordBuf;
@@ -36,7 +36,10 @@ impl Parts {
         ensures held { IfOk result (λ p. (disk : Store) → IsBacked (core_of p) disk × (held (core_of p) disk ≡ disk)) }
         ensures outside { IfOk result (λ p. (t : ℕ) → outside (core_of p) t ≡ 0) }
         ensures spare { IfOk result (λ p. spare_of p ≡ entries) }
-        ensures room { IfOk result (λ p. largest_of p.segment ≡ words) }
+        ensures size { IfOk result (λ p. size_of p.segment ≡ words) }
+        ensures room { IfOk result (λ p. (free_of p.segment ≡ words) × (largest_of p.segment ≡ words)) }
+        ensures entries { IfOk result (λ p. entries_of p.names.table ≡ entries) }
+        ensures tight { IfOk result (λ p. IsTight (core_of p)) }
     {
         Ok(Parts {
             segment: Segment::new(alloc, words)?,
@@ -81,5 +84,5 @@ pub fn is_copy(p: &Parts, s: Short, at: Addr, buf: &RecordBuf) -> bool
     if buf.len() != e.len {
         return false;
     }
-    field_count(buf) == field_total(p, s, at)
+    buf.field_count() == field_total(p, s, at)
 }

@@ -1,6 +1,7 @@
 // Single steps on the parts: references, leaves, the word of a field and the mark of a change. Each says the core that it makes.
-ghost use Rattle.std.specs.Prelude.{◌≡◌, ◌+◌, ◌-◌, ◌<◌, ◌≤◌, ◌^◌, ℕ, Option, Some, None, true, IfSome, IfNone, min};
+ghost use Rattle.std.specs.Prelude.{◌≡◌, ◌+◌, ◌-◌, ◌<◌, ◌≤◌, ◌^◌, ℕ, Option, Some, None, true, false, IfSome, IfNone, min};
 ghost use Rattle.object_table.specs.Entries.{is_short, is_used, place_of};
+ghost use Rattle.core_segment.specs.Segment.{SameRoom};
 ghost use Rattle.core_view.specs.Core.{with_leaf, without_leaf};
 ghost use Rattle.core_view.specs.Words.{spot};
 ghost use Rattle.core_view.specs.Held.{held};
@@ -73,6 +74,8 @@ pub fn find_or_leaf(p: &mut Parts, name: Name, spare: u16) -> Option<Short>
     ensures found { IfSome result (λ s. (is_used ((core_of p.new).entries s.0).state ≡ true)
         × (((core_of p.new).entries s.0).name ≡ name)) }
     ensures step { IsLeafStep (core_of p.old) (core_of p.new) }
+    ensures only { IfSome result (λ s. (q : ℕ) → is_used ((core_of p.old).entries q).state ≡ false
+        → is_used ((core_of p.new).entries q).state ≡ true → q ≡ s.0) }
     ensures none { IfNone result (((core_of p.old).find name ≡ None) × (spare_of p.old ≤ spare)) }
     ensures few { spare_of p.old ≤ spare → core_of p.new ≡ core_of p.old }
     ensures cost { spare_of p.new ≤ spare_of p.old × (spare_of p.old ≤ spare_of p.new + leaves_for ((core_of p.old).find name)) }
@@ -137,6 +140,7 @@ pub fn store_word(p: &mut Parts, s: Short, at: Addr, i: u32, w: u16)
     ensures parts { IsParts p.new }
     ensures core { core_of p.new ≡ with_field_word (core_of p.old) s.0 at.place i w }
     ensures same_names { p.new.names ≡ p.old.names }
+    ensures room { SameRoom p.old.segment p.new.segment }
 {
     let kind = p.names.table.entry(s).kind;
     p.segment.set_word(at, spot_of(kind, i), w);

@@ -13,7 +13,7 @@ use crate::leaving::field_total;
 use crate::merge::merge_out;
 use crate::parts::{Parts, is_copy, is_leaf};
 use crate::steps::{field_word, find_or_leaf, place_of_body};
-use crate::translate::{field_count, resolve, translate_in};
+use crate::translate::{resolve, translate_in};
 use long_names::{Kind, Name};
 use object_record::RecordBuf;
 use object_table::Short;
@@ -118,7 +118,7 @@ fn resolved(p: &mut Parts, s: Short, buf: &mut RecordBuf, i: u32) -> Option<u32>
     if i >= field_total(p, s, at) {
         return None;
     }
-    if i >= field_count(buf) {
+    if i >= buf.field_count() {
         return None;
     }
     if field_word(p, s, at, i) != 0 {
@@ -150,7 +150,7 @@ fn merged(p: &mut Parts, s: Short, buf: &mut RecordBuf) -> bool
 fn field(buf: &RecordBuf, i: u32) -> u32
     requires { HasRecord buf.now }
 {
-    if i < field_count(buf) {
+    if i < buf.field_count() {
         buf.long_field(i)
     } else {
         0

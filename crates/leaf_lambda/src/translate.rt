@@ -1,5 +1,5 @@
 // Records into bodies: an object comes in, and its lambdas are resolved.
-ghost use Rattle.std.specs.Prelude.{◌≡◌, ◌≢◌, ◌+◌, ◌-◌, ◌<◌, ◌≤◌, ℕ, List, Some, None, true, length, map, replicate, get_or, min, count_by, slice_get, slice_set, slice_index};
+ghost use Rattle.std.specs.Prelude.{◌≡◌, ◌≢◌, ◌+◌, ◌-◌, ◌<◌, ◌≤◌, ℕ, List, Some, None, IfSome, IfNone, true, length, map, replicate, get_or, min, count_by, slice_get, slice_set, slice_index};
 ghost use Rattle.long_names.specs.Objects.{body_words};
 ghost use Rattle.long_names.specs.Words.{IsValue, value_of as read_value};
 ghost use Rattle.long_names.specs.declared.value.Value.{Value as Meaning};
@@ -13,9 +13,10 @@ ghost use Rattle.core_view.specs.Held.{Disk as Store, fields_there};
 ghost use Rattle.core_view.specs.Counts.{names, holders, IsLight};
 ghost use Rattle.core_view.specs.Kept.{IsBacked, Keeps};
 ghost use Rattle.core_view.specs.Steps.{IsAt};
-ghost use Rattle.core_segment.specs.Segment.{largest_of};
-ghost use Rattle.leaf_lambda.specs.Parts.{core_of, spare_of, leaves_for, IsParts, IsHolding, IsWithin, IsSparing, RESERVE as LEAST};
-ghost use Rattle.leaf_lambda.specs.Records.{KeepsRecord, MayBeLambda, HasBody};
+ghost use Rattle.core_segment.specs.Segment.{size_of, free_of, largest_of, SameRoom};
+ghost use Rattle.leaf_lambda.specs.Parts.{core_of, spare_of, leaves_for, IsParts, IsHolding, IsNaming, IsWithin, IsSparing};
+ghost use Rattle.leaf_lambda.specs.declared.translate.TheConstants.{RESERVE as LEAST};
+ghost use Rattle.leaf_lambda.specs.Records.{KeepsRecord, MayBeLambda, HasBody, IsOpened, word_or_lambda};
 
 use crate::bodies::{open_body, take_body};
 use crate::numbers::short_int;
@@ -29,26 +30,38 @@ use object_table::Short;
 /// How many entries stay free while fields take entries.
 pub const RESERVE: u16 = 128;
 
-// The short word of a name, held from outside; 0 where it has no entry and none is to spare.
-fn short_for_name(p: &mut Parts, name: Name) -> u16
+// The short name of a name, held from outside. None where it has no entry and none is to spare.
+fn short_for_name(p: &mut Parts, name: Name) -> Option<Short>
     requires parts { IsParts p.old }
     requires light { IsLight (core_of p.old) }
     ensures parts { IsParts p.new }
-    ensures held { IsHolding result (core_of p.old) (core_of p.new) }
-    ensures short { result ≢ 0 → (is_short result ≡ true) × (((core_of p.new).entries result).name ≡ name) }
-    ensures lambda { result ≡ 0 → ((core_of p.old).find name ≡ None) × (spare_of p.old ≤ LEAST) }
+    ensures held { IsHolding (word_or_lambda result) (core_of p.old) (core_of p.new) }
+    ensures short { IfSome result (λ s. (is_short s.0 ≡ true) × (((core_of p.new).entries s.0).name ≡ name)) }
+    ensures none { IfNone result (((core_of p.old).find name ≡ None) × (spare_of p.old ≤ LEAST)) }
     ensures sparing { IsSparing p.old p.new }
+    ensures cost { spare_of p.old ≤ spare_of p.new + 1 }
+    ensures segment { p.new.segment ≡ p.old.segment }
 {
     match find_or_leaf(p, name, RESERVE) {
         Some(s) => {
             grip(p, s);
-            s.0
+            Some(s)
         }
+        None => None,
+    }
+}
+
+// The word for a short name; for none, a lambda.
+fn word_for(short: Option<Short>) -> u16
+    ensures { result ≡ word_or_lambda short }
+{
+    match short {
+        Some(s) => s.0,
         None => 0,
     }
 }
 
-// The same of a value.
+// The word of a value, held from outside where it is a short name.
 fn short_for_value(p: &mut Parts, v: &Value) -> u16
     requires parts { IsParts p.old }
     requires light { IsLight (core_of p.old) }
@@ -58,11 +71,16 @@ fn short_for_value(p: &mut Parts, v: &Value) -> u16
     ensures means { result ≢ 0 → (old : List Meaning) (i : ℕ) → meant (core_of p.new).entries old i result ≡ v.now }
     ensures lambda { result ≡ 0 → MayBeLambda (core_of p.old).find (spare_of p.old) (Some v.now) }
     ensures sparing { IsSparing p.old p.new }
+    ensures cost { spare_of p.old ≤ spare_of p.new + 1 }
+    ensures segment { p.new.segment ≡ p.old.segment }
 {
     match v.number() {
         Some(number) => short_int(number),
         None => match v.name() {
-            Some(name) => short_for_name(p, name),
+            Some(name) => {
+                let short = short_for_name(p, name);
+                word_for(short)
+            }
             None => unreachable!(),
         },
     }
@@ -77,6 +95,8 @@ fn short_for(p: &mut Parts, long: u32) -> u16
     ensures means { result ≢ 0 → (old : List Meaning) (i : ℕ) → meant (core_of p.new).entries old i result ≡ value_in long }
     ensures lambda { result ≡ 0 → MayBeLambda (core_of p.old).find (spare_of p.old) (read_value long) }
     ensures sparing { IsSparing p.old p.new }
+    ensures cost { spare_of p.old ≤ spare_of p.new + 1 }
+    ensures segment { p.new.segment ≡ p.old.segment }
 {
     match value_of(long) {
         Some(v) => short_for_value(p, &v),
@@ -94,11 +114,14 @@ fn resolve_field(p: &mut Parts, s: Short, at: Addr, i: u32, long: u32) -> u16
         → slice_get (fields_there (disk ((core_of p.old).entries s.0).name)) i ≡ Some (value_in long)
         → Keeps disk (core_of p.old) (core_of p.new) }
     ensures within { IsWithin s.0 (core_of p.old) (core_of p.new) }
+    ensures naming { IsNaming (core_of p.old) (core_of p.new) }
     ensures entry { (core_of p.new).entries s.0 ≡ with_refs ((core_of p.old).entries s.0) ((core_of p.new).entries s.0).refs }
     ensures fields { let k = ((core_of p.old).entries s.0).kind in
         pointers k ((core_of p.new).chunks at.place).words ≡ slice_set (pointers k ((core_of p.old).chunks at.place).words) i result }
     ensures lambda { result ≡ 0 → MayBeLambda (core_of p.old).find (spare_of p.old) (read_value long) }
     ensures sparing { IsSparing p.old p.new }
+    ensures cost { spare_of p.old ≤ spare_of p.new + 1 }
+    ensures room { SameRoom p.old.segment p.new.segment }
 {
     let w = short_for(p, long);
     if w != 0 {
@@ -120,12 +143,15 @@ fn resolve_fields(p: &mut Parts, s: Short, at: Addr, buf: &RecordBuf, count: u32
         → fields_there (disk ((core_of p.old).entries s.0).name) ≡ map value_in (longs_of (raw_of buf.now).body)
         → Keeps disk (core_of p.old) (core_of p.new) }
     ensures within { IsWithin s.0 (core_of p.old) (core_of p.new) }
+    ensures naming { IsNaming (core_of p.old) (core_of p.new) }
     ensures entry { (core_of p.new).entries s.0 ≡ with_refs ((core_of p.old).entries s.0) ((core_of p.new).entries s.0).refs }
     ensures lambda { let k = ((core_of p.old).entries s.0).kind in (i : ℕ)
         → slice_get (pointers k ((core_of p.new).chunks at.place).words) i ≡ Some 0
         → MayBeLambda (core_of p.new).find (spare_of p.new) (read_value (get_or (longs_of (raw_of buf.now).body) i 0)) }
     ensures long { length (pointers ((core_of p.old).entries s.0).kind ((core_of p.new).chunks at.place).words) ≡ count }
     ensures sparing { IsSparing p.old p.new }
+    ensures cost { spare_of p.old ≤ spare_of p.new + count }
+    ensures room { SameRoom p.old.segment p.new.segment }
 {
     for i in 0..count {
         let word = buf.long_field(i);
@@ -167,28 +193,20 @@ fn open_leaf(p: &mut Parts, s: Short, buf: &RecordBuf) -> Addr
     ensures parts { IsParts p.new }
     ensures keeps { KeepsRecord (core_of p.old) (core_of p.new) s.0 buf.now }
     ensures within { IsWithin s.0 (core_of p.old) (core_of p.new) }
+    ensures naming { IsNaming (core_of p.old) (core_of p.new) }
     ensures body { HasBody (core_of p.new) s.0 result.place (raw_of buf.now).body }
+    ensures opened { IsOpened s.0 result.place (raw_of buf.now) (core_of p.old) (core_of p.new) }
     ensures fields { pointers (raw_kind (raw_of buf.now).body) ((core_of p.new).chunks result.place).words
         ≡ replicate (length (longs_of (raw_of buf.now).body)) 0 }
     ensures cost { spare_of p.new ≤ spare_of p.old
         × (spare_of p.old ≤ spare_of p.new + leaves_for ((core_of p.old).find (raw_of buf.now).class)) }
+    ensures size { size_of p.new.segment ≡ size_of p.old.segment }
+    ensures free { free_of p.new.segment + body_words (object_in (raw_of buf.now)).body + 4 ≡ free_of p.old.segment }
 {
     let class = hold_class(p, buf);
     let at = take_body(p, s, buf);
     open_body(p, s, at, class, buf.kind(), buf.len());
     at
-}
-
-// How many fields a record has: its values, or the literals of a method.
-pub(crate) fn field_count(buf: &RecordBuf) -> u32
-    requires { HasRecord buf.now }
-    ensures { result ≡ length (longs_of (raw_of buf.now).body) }
-{
-    match buf.kind() {
-        Kind::Pointers => buf.len(),
-        Kind::Method => buf.literals(),
-        _ => 0,
-    }
 }
 
 /// Brings an object in under its leaf, from its record. Its class gets an entry. Each name among its fields becomes the short name of
@@ -204,21 +222,27 @@ pub fn translate_in(p: &mut Parts, s: Short, buf: &mut RecordBuf)
     ensures parts { IsParts p.new }
     ensures keeps { KeepsRecord (core_of p.old) (core_of p.new) s.0 buf.old }
     ensures within { IsWithin s.0 (core_of p.old) (core_of p.new) }
+    ensures naming { IsNaming (core_of p.old) (core_of p.new) }
     ensures body { (at : ℕ) × HasBody (core_of p.new) s.0 at (raw_of buf.old).body }
+    ensures opened { (at : ℕ) × IsOpened s.0 at (raw_of buf.old) (core_of p.old) (core_of p.new) }
     ensures lambda { (at i : ℕ) → IsAt (core_of p.new) s.0 at i 0
         → MayBeLambda (core_of p.new).find (spare_of p.new) (read_value (get_or (longs_of (raw_of buf.old).body) i 0)) }
     ensures refs { (t : ℕ)
         → ((core_of p.new).entries t).refs ≡ ((core_of p.old).entries t).refs + count_by (names t) (holders (core_of p.new) s.0) }
     ensures spare { min (spare_of p.old - leaves_for ((core_of p.old).find (raw_of buf.old).class)) LEAST ≤ spare_of p.new }
+    ensures cost { spare_of p.old
+        ≤ spare_of p.new + leaves_for ((core_of p.old).find (raw_of buf.old).class) + length (longs_of (raw_of buf.old).body) }
+    ensures size { size_of p.new.segment ≡ size_of p.old.segment }
+    ensures free { free_of p.new.segment + body_words (object_in (raw_of buf.old)).body + 4 ≡ free_of p.old.segment }
     ensures same { buf.new ≡ buf.old }
 {
     let at = open_leaf(p, s, buf);
-    let count = field_count(buf);
+    let count = buf.field_count();
     resolve_fields(p, s, at, buf, count);
 }
 
 /// The long word that the lambda of field `i` means, from the object's record. From here on the field has the short name of its target,
-/// where that has an entry or more than 128 entries are free.
+/// where that has an entry or more than [`RESERVE`] entries are free.
 pub fn resolve(p: &mut Parts, s: Short, buf: &mut RecordBuf, i: u32) -> u32
     requires parts { IsParts p.old }
     requires light { IsLight (core_of p.old) }
@@ -229,9 +253,13 @@ pub fn resolve(p: &mut Parts, s: Short, buf: &mut RecordBuf, i: u32) -> u32
     ensures long { result ≡ slice_index (longs_of (raw_of buf.old).body) i }
     ensures keeps { KeepsRecord (core_of p.old) (core_of p.new) s.0 buf.old }
     ensures within { IsWithin s.0 (core_of p.old) (core_of p.new) }
+    ensures naming { IsNaming (core_of p.old) (core_of p.new) }
     ensures entry { (core_of p.new).entries s.0 ≡ with_refs ((core_of p.old).entries s.0) ((core_of p.new).entries s.0).refs }
     ensures lambda { (at : ℕ) → IsAt (core_of p.new) s.0 at i 0 → MayBeLambda (core_of p.old).find (spare_of p.old) (read_value result) }
     ensures sparing { IsSparing p.old p.new }
+    ensures cost { spare_of p.old ≤ spare_of p.new + 1 }
+    ensures size { size_of p.new.segment ≡ size_of p.old.segment }
+    ensures room { SameRoom p.old.segment p.new.segment }
     ensures same { buf.new ≡ buf.old }
 {
     let long = buf.long_field(i);

@@ -10,6 +10,7 @@ use Rattle.long_names.specs.Objects.{put_run}
 use Rattle.long_names.specs.Record.{two_bytes, four_bytes, eight_bytes, kind_number, words_text, padding}
 use Rattle.long_names.specs.declared.object.Kind.{Kind}
 use Rattle.long_names.specs.declared.object.Kind.TheVariants as kind
+use Rattle.long_names.specs.declared.limits.TheConstants.{LONGEST_RECORD, MOST_CODE, MOST_LITERALS}
 use Rattle.object_record.specs.Raw.{RawBody, RawRecord, HasRawSize, HasRawRange, raw_kind, raw_len, raw_contents, raw_size, longs_text, blank_body, blank_record, CanBlank, stated_literals}
 use Rattle.object_record.specs.Buffer.{raw_of, HasRecord}
 use Rattle.object_record.specs.Inside.{IsPlain, size_stated}
@@ -97,12 +98,12 @@ blank-header n lt =
     let count : n % 32768 % 64 ≡ n = omega (arith, lt) in
     rw (odd, half, low, count) refl
 
-method-blank : (len literals : ℕ) → len ≤ 16000 → literals < 64 → IsBlank kind.Method len literals (blank_body kind.Method len literals)
+method-blank : (len literals : ℕ) → len ≤ MOST_CODE → literals ≤ MOST_LITERALS → IsBlank kind.Method len literals (blank_body kind.Method len literals)
 method-blank len literals le few = record {
   kind = refl;
   len_is = zero_longs len;
   ends = omega (arith, zero_longs len, zero_longs literals);
-  size = (blank-header literals few ∙ ap (λ (n : ℕ). Some n) (sym (zero_longs literals)), omega (arith, zero_longs len, le));
+  size = (blank-header literals (omega (arith, few)) ∙ ap (λ (n : ℕ). Some n) (sym (zero_longs literals)), omega (arith, zero_longs len, le));
   range = (omega (arith, few), All-replicate IsLong literals 0 (omega arith), All-replicate (λ b. b < 2 ^ 8) len 0 (omega arith));
 }
 
@@ -145,7 +146,7 @@ plain-made b head t name class len end k ns cs plain lt h e made =
 
 -- ---- methods
 
-pub header-written : (b p q : List ℕ) → length b ≡ 262160 → length p ≡ 4 → length q ≡ 4 → put_run (put_run b 20 p) 24 q ≡ take 20 b ++ (p ++ (q ++ drop 28 b))
+pub header-written : (b p q : List ℕ) → length b ≡ LONGEST_RECORD → length p ≡ 4 → length q ≡ 4 → put_run (put_run b 20 p) 24 q ≡ take 20 b ++ (p ++ (q ++ drop 28 b))
 header-written b p q len lp lq =
     let f : List ℕ = take 20 b in
     let lf : length f ≡ 20 = length-take-le 20 b (omega (arith, len)) in
@@ -164,7 +165,7 @@ method-kept name class count k size n header t u =
     let after : h ++ u ≡ headed name class count k size (four_bytes n ++ (four_bytes header ++ u)) = simp append_assoc in
     ap (λ (s : List ℕ). take 28 s ++ u) before ∙ ap (λ (s : List ℕ). s ++ u) (take_at h t 28 len) ∙ after
 
-pub method-made : (b head both t : List ℕ) (name class len literals : ℕ) → IsLongName name → IsLongName class → len ≤ 16000 → literals < 64
+pub method-made : (b head both t : List ℕ) (name class len literals : ℕ) → IsLongName name → IsLongName class → len ≤ MOST_CODE → literals ≤ MOST_LITERALS
     → head ≡ headed name class 0 3 len t
     → both ≡ take 20 head ++ (four_bytes literals ++ (four_bytes (2 * literals + 1) ++ drop 28 head))
     → b ≡ take 28 both ++ (replicate (28 + 4 * literals + len + padding (28 + 4 * literals + len) - 28) 0 ++ drop (28 + 4 * literals + len + padding (28 + 4 * literals + len)) both)
@@ -201,7 +202,7 @@ method-made b head both t name class len literals ns cs le few h made1 made2 =
 
 -- ---- sizes
 
-pub can-method : (k : Kind) (len literals : ℕ) → k ≡ kind.Method → CanBlank k len literals → (len ≤ 16000) × (literals < 64)
+pub can-method : (k : Kind) (len literals : ℕ) → k ≡ kind.Method → CanBlank k len literals → (len ≤ MOST_CODE) × (literals ≤ MOST_LITERALS)
 can-method kind.Pointers len literals is can = absurd cc
 can-method kind.Words len literals is can = absurd cc
 can-method kind.Bytes len literals is can = absurd cc

@@ -2,15 +2,17 @@
 use Rattle.std.proofs.Common.{◌≡◌, ◌≢◌, ℕ, ◌+◌, ◌*◌, ◌^◌, ◌<◌, ◌≤◌, List, [], ◌∷◌, ◌++◌, length, take, drop, replicate, refl, sym, ap, subst, ◌∙◌, arith}
 use Rattle.std.specs.Prelude.{slice_index, Some}
 use Rattle.std.proofs.lemmas.List.{take_at, length-append, length-replicate}
+use Rattle.long_names.specs.Names.{IsLongName}
 use Rattle.long_names.specs.Objects.{put_run}
 use Rattle.long_names.specs.Record.{two_bytes, four_bytes, eight_bytes, kind_number, padding}
 use Rattle.long_names.specs.declared.object.Kind.{Kind}
 use Rattle.long_names.specs.declared.object.Kind.TheVariants as kind
-use Rattle.object_record.specs.Raw.{RawBody, RawPointers, RawWords, RawBytes, RawMethod, RawRecord, HasRawSize, HasRawRange, raw_kind, raw_len, raw_literals, raw_header, longs_of, raw_words, raw_bytes, raw_size, raw_end, raw_text, raw_contents, with_long, with_word, with_byte, with_header, body_with_long, body_with_word, body_with_byte, body_with_header, stated_literals}
+use Rattle.object_record.specs.Raw.{RawBody, RawPointers, RawWords, RawBytes, RawMethod, RawRecord, HasRawSize, HasRawRange, raw_kind, raw_len, raw_literals, raw_header, longs_of, raw_words, raw_bytes, raw_size, raw_end, raw_text, raw_contents, with_name, with_long, with_word, with_byte, with_header, body_with_long, body_with_word, body_with_byte, body_with_header, stated_literals}
 use Rattle.object_record.specs.Buffer.{long_at, word_at, kind_numbered, raw_of, HasRecord}
 use Rattle.object_record.specs.Inside.{longs_place, bytes_place, size_stated}
 use Rattle.object_record.proofs.Numbers.{wide16, wide32, wide64}
-use Rattle.object_record.proofs.Texts.{length-contents, long-part, word-part, byte-part, header-part, long-range, word-range, byte-range, header-range, long-fits, word-fits, set-part, read-long, read-word, read-byte, part-within, kind-said, size-said, literals-said}
+use Rattle.object_record.proofs.Spots.{Spot, over, put-there}
+use Rattle.object_record.proofs.Texts.{begun, length-contents, long-part, word-part, byte-part, header-part, long-range, word-range, byte-range, header-range, long-fits, word-fits, set-part, read-long, read-word, read-byte, part-within, kind-said, size-said, literals-said}
 
 -- ---- places
 
@@ -80,6 +82,43 @@ set-byte b i p w h lt e fits =
     let same : p + i ≡ n = ap (λ (q : ℕ). q + i) (bytes-said b h p e) in
     let P : ℕ → Type 0 = λ q. HasRecord (put_run b q (w ∷ [])) × (raw_of (put_run b q (w ∷ [])) ≡ with_byte (raw_of b) i w) in
     subst P (sym same) (set-part b (body_with_byte body i w) n (v ∷ []) (w ∷ []) h (byte-part body i w lt) (byte-range body i w fits h.is.range) refl)
+
+-- ---- the name
+
+name-spot : (r : RawRecord) (n : ℕ) (rest : List ℕ) → Spot 0 (four_bytes r.name) (raw_text r ++ rest) (four_bytes n) (raw_text (with_name r n) ++ rest)
+unfolding raw_text
+name-spot r n rest =
+    let back : List ℕ = four_bytes r.class ++ (eight_bytes r.count ++ (two_bytes (kind_number (raw_kind r.body)) ++ (two_bytes (raw_len r.body) ++ (raw_contents r.body ++ replicate (padding (raw_end r.body)) 0)))) in
+    over rest 0 (four_bytes r.name) (raw_text r) (four_bytes n) (raw_text (with_name r n)) (record { front = []; back = back; len = refl; before = refl; after = refl })
+
+pub set-name : (b : List ℕ) (n : ℕ) → HasRecord b → IsLongName n → HasRecord (put_run b 0 (four_bytes n)) × (raw_of (put_run b 0 (four_bytes n)) ≡ with_name (raw_of b) n)
+set-name b n h is =
+    let r : RawRecord = raw_of b in
+    let rest : List ℕ = drop (length (raw_text r)) b in
+    let done : put_run b 0 (four_bytes n) ≡ raw_text (with_name r n) ++ rest =
+    ap (λ (t : List ℕ). put_run t 0 (four_bytes n)) h.begins
+    ∙ put-there 0 (four_bytes r.name) (raw_text r ++ rest) (four_bytes n) (raw_text (with_name r n) ++ rest) (name-spot r n rest) (wide32.len r.name ∙ sym (wide32.len n)) in
+    begun (put_run b 0 (four_bytes n)) (with_name r n) rest (record { name = is; class = h.is.class; count = h.is.count; size = h.is.size; range = h.is.range }) done
+
+-- ---- how many fields
+
+pub values-many : (b : RawBody) → raw_kind b ≡ kind.Pointers → raw_len b ≡ length (longs_of b)
+values-many (RawPointers longs) e = refl
+values-many (RawWords words) e = cc
+values-many (RawBytes bytes) e = cc
+values-many (RawMethod header literals code) e = cc
+
+pub literals-many : (b : RawBody) → raw_kind b ≡ kind.Method → raw_literals b ≡ length (longs_of b)
+literals-many (RawPointers longs) e = cc
+literals-many (RawWords words) e = cc
+literals-many (RawBytes bytes) e = cc
+literals-many (RawMethod header literals code) e = refl
+
+pub none-many : (b : RawBody) → raw_kind b ≢ kind.Pointers → raw_kind b ≢ kind.Method → 0 ≡ length (longs_of b)
+none-many (RawPointers longs) p m = absurd (p refl)
+none-many (RawWords words) p m = refl
+none-many (RawBytes bytes) p m = refl
+none-many (RawMethod header literals code) p m = absurd (m refl)
 
 -- ---- headers
 

@@ -9,8 +9,9 @@ use Rattle.std.proofs.lemmas.List.Elements.{All-nil, All-cons}
 use Rattle.long_names.specs.Record.{two_bytes, four_bytes, eight_bytes, kind_number, words_text, padding}
 use Rattle.long_names.specs.declared.object.Kind.{Kind}
 use Rattle.long_names.specs.declared.object.Kind.TheVariants as kind
+use Rattle.long_names.specs.declared.limits.TheConstants.{LONGEST_RECORD}
 use Rattle.object_record.specs.Raw.{RawBody, RawPointers, RawWords, RawBytes, RawMethod, RawRecord, IsRawRecord, HasRawSize, HasRawRange, raw_kind, raw_len, raw_literals, raw_header, raw_contents, raw_size, raw_end, raw_text, longs_text, stated_literals}
-use Rattle.object_record.specs.Buffer.{BUFFER, long_at, word_at, count_in, longs_in, words_in, kind_numbered, body_in, raw_of, HasRecord}
+use Rattle.object_record.specs.Buffer.{long_at, word_at, count_in, longs_in, words_in, kind_numbered, body_in, raw_of, HasRecord}
 use Rattle.object_record.specs.Inside.{size_stated, zeros_stated, HasStated, IsSized}
 use Rattle.object_record.proofs.Numbers.{AreBytes, AreBytes-drop, AreBytes-take, all-bytes, wide16, wide32, wide64}
 use Rattle.object_record.proofs.Reading.{IsLong, IsWord, headed, laid, after_head, text-laid, head-kind, head-rest, kind-fits, few-literals}
@@ -162,7 +163,7 @@ zeros-all zero = refl
 zeros-all (suc n) = zeros-all n
 
 -- the longest record fits the buffer
-pub room : (k : Kind) (size literals header : ℕ) → size < 2 ^ 16 → HasStated k size literals header → 20 + size_stated k size literals + padding (20 + size_stated k size literals) ≤ 262160
+pub room : (k : Kind) (size literals header : ℕ) → size < 2 ^ 16 → HasStated k size literals header → 20 + size_stated k size literals + padding (20 + size_stated k size literals) ≤ LONGEST_RECORD
 room kind.Pointers size literals header lt stated = omega (arith, lt)
 room kind.Words size literals header lt stated = omega (arith, lt)
 room kind.Bytes size literals header lt stated = omega (arith, lt)
@@ -181,7 +182,7 @@ at-contents b = (refl, ap (λ (t : List ℕ). from_be_bytes w32 (take 4 t)) (dro
 
 -- ---- both ways
 
-sized-body : (b : List ℕ) → AreBytes b → length b ≡ BUFFER → IsSized b → BodyBack (kind_numbered (word_at b 16)) (word_at b 18) (drop 20 b) (body_in (kind_numbered (word_at b 16)) (word_at b 18) (drop 20 b))
+sized-body : (b : List ℕ) → AreBytes b → length b ≡ LONGEST_RECORD → IsSized b → BodyBack (kind_numbered (word_at b 16)) (word_at b 18) (drop 20 b) (body_in (kind_numbered (word_at b 16)) (word_at b 18) (drop 20 b))
 sized-body b fits len sized =
     let k : Kind = kind_numbered (word_at b 16) in
     let size : ℕ = word_at b 18 in
@@ -193,7 +194,7 @@ sized-body b fits len sized =
     let fit : size_stated k size (long_at b 20) ≤ length c = omega (arith, room k size (long_at b 20) (long_at b 24) (word-below b 18 fits) sized.2, len, length-drop 20 b) in
     body-back k size c (AreBytes-drop 20 b fits) (word-below b 18 fits) (subst P (sym at.0) (subst Q (sym at.1) sized.2)) (subst R (sym at.0) fit)
 
-pub judged : (b : List ℕ) → AreBytes b → length b ≡ BUFFER → IsSized b → list_all (λ b. eqb b 0) (zeros_stated b) ≡ true → HasRecord b
+pub judged : (b : List ℕ) → AreBytes b → length b ≡ LONGEST_RECORD → IsSized b → list_all (λ b. eqb b 0) (zeros_stated b) ≡ true → HasRecord b
 unfolding raw_of
 judged b fits len sized zeros =
     let k : Kind = kind_numbered (word_at b 16) in

@@ -9,7 +9,7 @@ use Rattle.long_names.specs.declared.value.Value.TheVariants.{Int, Ref}
 use Rattle.long_names.specs.declared.object.Body.{Body}
 use Rattle.long_names.specs.declared.object.Body.TheVariants as body
 use Rattle.long_names.specs.declared.object.Rec.{Rec}
-use Rattle.object_record.specs.Raw.{raw_body, raw_record}
+use Rattle.object_record.specs.Raw.{RawBody, RawPointers, RawWords, RawBytes, RawMethod, longs_of, raw_body, raw_record}
 use Rattle.object_record.specs.Objects.{int_in, value_in, body_of, object_in}
 
 pub int_in-long : (z : ℤ) → IsSmallInteger z → int_in (long_word (Int z)) ≡ z
@@ -36,3 +36,10 @@ body-again (body.Method header literals code) size all = λ i. body.Method (int_
 
 pub object-again : (r : Rec) → IsRecord r → object_in (raw_record r) ≡ record { class = r.class; body = r.body }
 object-again r is = λ i. record { class = r.class; body = body-again r.body is.body.size is.body.fields i }
+
+-- the fields of a record's object are the values of its long words
+pub fields-values : (b : RawBody) → fields_of (body_of b) ≡ map value_in (longs_of b)
+fields-values (RawPointers longs) = refl
+fields-values (RawWords words) = refl
+fields-values (RawBytes bytes) = refl
+fields-values (RawMethod header literals code) = refl

@@ -13,8 +13,8 @@ use Rattle.long_names.specs.declared.object.Kind.{Kind}
 use Rattle.long_names.specs.declared.object.Body.{Body}
 use Rattle.long_names.specs.declared.object.Body.TheVariants as body
 use Rattle.long_names.specs.declared.object.Rec.{Rec}
+use Rattle.long_names.specs.declared.limits.TheConstants.{LONGEST_RECORD}
 use Rattle.object_record.specs.Raw.{RawBody, RawPointers, RawWords, RawBytes, RawMethod, RawRecord, IsRawRecord, HasRawSize, HasRawRange, raw_kind, raw_len, raw_contents, raw_end, raw_text, raw_body, raw_record, longs_text}
-use Rattle.object_record.specs.Buffer.{BUFFER}
 use Rattle.object_record.specs.Filling.{filled_with}
 use Rattle.object_record.proofs.Numbers.{wide16, wide32, wide64}
 use Rattle.object_record.proofs.Reading.{few-literals, IsLong}
@@ -101,14 +101,14 @@ raw-range (body.Method header literals code) is range = (word-fits (Int header) 
 pub is-raw : (r : Rec) → IsRecord r → IsRawRecord (raw_record r)
 is-raw r is = record { name = is.name; class = is.class; count = is.count; size = raw-size r.body is.body; range = raw-range r.body is.body is.range }
 
-end-fits : (b : RawBody) → HasRawSize b → raw_end b + padding (raw_end b) ≤ 262160
+end-fits : (b : RawBody) → HasRawSize b → raw_end b + padding (raw_end b) ≤ LONGEST_RECORD
 end-fits (RawPointers longs) size = omega (arith, size)
 end-fits (RawWords words) size = omega (arith, size)
 end-fits (RawBytes bytes) size = omega (arith, size)
 end-fits (RawMethod header literals code) size = omega (arith, size.1, few-literals header (length literals) size.0)
 
-pub longest-raw : (r : RawRecord) → IsRawRecord r → length (raw_text r) ≤ BUFFER
+pub longest-raw : (r : RawRecord) → IsRawRecord r → length (raw_text r) ≤ LONGEST_RECORD
 longest-raw r is = omega (arith, length-text r, end-fits r.body is.size)
 
-pub whole-filled : (old filling : List ℕ) → length filling ≡ BUFFER → filled_with old filling ≡ filling
-whole-filled old filling len = take_at filling (drop (length filling) old) BUFFER len
+pub whole-filled : (old filling : List ℕ) → length filling ≡ LONGEST_RECORD → filled_with old filling ≡ filling
+whole-filled old filling len = take_at filling (drop (length filling) old) LONGEST_RECORD len

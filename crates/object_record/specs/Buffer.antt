@@ -3,11 +3,8 @@ use Rattle.std.specs.Prelude.{◌≡◌, ℕ, zero, suc, ◌+◌, ◌*◌, ◌==
 use Rattle.std.specs.Int.{w16, w32, w64, from_be_bytes}
 use Rattle.long_names.specs.declared.object.Kind.{Kind}
 use Rattle.long_names.specs.declared.object.Kind.TheVariants as kind
+use Rattle.object_record.specs.declared.offsets.TheConstants.{NAME_AT, CLASS_AT, COUNT_AT, KIND_AT, SIZE_AT, CONTENTS_AT}
 use Rattle.object_record.specs.Raw.{RawBody, RawPointers, RawWords, RawBytes, RawMethod, RawRecord, IsRawRecord, raw_text}
-
--- how many bytes a buffer has: as many as the longest record
-abbrev pub BUFFER : ℕ
-BUFFER = 262160
 
 -- the numbers of four and of two bytes at a place
 unfoldable pub long_at : List ℕ → ℕ → ℕ
@@ -17,7 +14,7 @@ unfoldable pub word_at : List ℕ → ℕ → ℕ
 word_at bytes at = from_be_bytes w16 (take 2 (drop at bytes))
 
 unfoldable pub count_in : List ℕ → ℕ
-count_in bytes = from_be_bytes w64 (take 8 (drop 8 bytes))
+count_in bytes = from_be_bytes w64 (take 8 (drop COUNT_AT bytes))
 
 -- the first long words, as many as this, and the first words
 unfoldable pub longs_in : ℕ → List ℕ → List ℕ
@@ -43,10 +40,10 @@ body_in kind.Method size bytes =
 -- the raw record that bytes begin with, if they begin with one
 unfoldable pub raw_of : List ℕ → RawRecord
 raw_of bytes = record {
-  name = long_at bytes 0;
-  class = long_at bytes 4;
+  name = long_at bytes NAME_AT;
+  class = long_at bytes CLASS_AT;
   count = count_in bytes;
-  body = body_in (kind_numbered (word_at bytes 16)) (word_at bytes 18) (drop 20 bytes);
+  body = body_in (kind_numbered (word_at bytes KIND_AT)) (word_at bytes SIZE_AT) (drop CONTENTS_AT bytes);
 }
 
 -- the bytes begin with a raw record

@@ -1,26 +1,28 @@
 -- Where the parts of a record stand. No public clause cites it.
 use Rattle.std.specs.Prelude.{◌≡◌, ℕ, ◌+◌, ◌*◌, ◌≤◌, List, ◌++◌, take, drop, Some}
 use Rattle.long_names.specs.Names.{IsName}
-use Rattle.long_names.specs.Objects.{MOST_CODE}
+use Rattle.long_names.specs.declared.limits.TheConstants.{MOST_CODE}
 use Rattle.long_names.specs.Record.{two_bytes, four_bytes, eight_bytes, padding}
 use Rattle.long_names.specs.declared.object.Kind.{Kind}
 use Rattle.long_names.specs.declared.object.Kind.TheVariants as kind
+use Rattle.object_record.specs.declared.offsets.TheConstants.{NAME_AT, CLASS_AT, KIND_AT, SIZE_AT, CONTENTS_AT, HEADER_AT, LITERALS_AT}
+use Rattle.object_record.specs.declared.layout.TheConstants.{LAST_KIND}
 use Rattle.object_record.specs.Raw.{stated_literals}
 use Rattle.object_record.specs.Buffer.{long_at, word_at, kind_numbered}
 
 -- the first long word, or a method's first literal
 abbrev pub longs_place : Kind → ℕ
-longs_place kind.Pointers = 20
-longs_place kind.Words = 20
-longs_place kind.Bytes = 20
-longs_place kind.Method = 28
+longs_place kind.Pointers = CONTENTS_AT
+longs_place kind.Words = CONTENTS_AT
+longs_place kind.Bytes = CONTENTS_AT
+longs_place kind.Method = LITERALS_AT
 
 -- the first byte, or a method's first byte of code, past so many literals
 abbrev pub bytes_place : Kind → ℕ → ℕ
-bytes_place kind.Pointers literals = 20
-bytes_place kind.Words literals = 20
-bytes_place kind.Bytes literals = 20
-bytes_place kind.Method literals = 28 + 4 * literals
+bytes_place kind.Pointers literals = CONTENTS_AT
+bytes_place kind.Words literals = CONTENTS_AT
+bytes_place kind.Bytes literals = CONTENTS_AT
+bytes_place kind.Method literals = LITERALS_AT + 4 * literals
 
 -- how many bytes contents of this kind, size and number of literals have
 abbrev pub size_stated : Kind → ℕ → ℕ → ℕ
@@ -38,7 +40,7 @@ HasStated kind.Method size literals header = (size ≤ MOST_CODE) × (stated_lit
 
 -- where the contents end
 abbrev pub end_stated : List ℕ → ℕ
-end_stated bytes = 20 + size_stated (kind_numbered (word_at bytes 16)) (word_at bytes 18) (long_at bytes 20)
+end_stated bytes = CONTENTS_AT + size_stated (kind_numbered (word_at bytes KIND_AT)) (word_at bytes SIZE_AT) (long_at bytes CONTENTS_AT)
 
 -- what stands where the zeros have to
 abbrev pub zeros_stated : List ℕ → List ℕ
@@ -47,9 +49,9 @@ zeros_stated bytes = take (padding (end_stated bytes)) (drop (end_stated bytes) 
 -- all that a record's first bytes have to be, but for the zeros
 abbrev pub IsSized : List ℕ → Type 0
 IsSized bytes =
-    (IsName (long_at bytes 0) × IsName (long_at bytes 4))
-    × (word_at bytes 16 ≤ 3)
-    × HasStated (kind_numbered (word_at bytes 16)) (word_at bytes 18) (long_at bytes 20) (long_at bytes 24)
+    (IsName (long_at bytes NAME_AT) × IsName (long_at bytes CLASS_AT))
+    × (word_at bytes KIND_AT ≤ LAST_KIND)
+    × HasStated (kind_numbered (word_at bytes KIND_AT)) (word_at bytes SIZE_AT) (long_at bytes CONTENTS_AT) (long_at bytes HEADER_AT)
 
 -- name, class, count, kind and size, before the rest
 abbrev pub head_text : ℕ → ℕ → ℕ → ℕ → ℕ → List ℕ → List ℕ

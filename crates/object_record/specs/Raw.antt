@@ -3,8 +3,9 @@ use Rattle.std.specs.Prelude.{◌≡◌, ℕ, ◌+◌, ◌*◌, ◌^◌, ◌<◌
 use Rattle.std.specs.List.{flat_map}
 use Rattle.long_names.specs.Names.{IsLongName}
 use Rattle.long_names.specs.Words.{literal_count, long_word, value_of}
-use Rattle.long_names.specs.Objects.{MOST_CODE}
+use Rattle.long_names.specs.declared.limits.TheConstants.{MOST_CODE, MOST_LITERALS}
 use Rattle.long_names.specs.Record.{two_bytes, four_bytes, eight_bytes, kind_number, words_text, padding}
+use Rattle.object_record.specs.declared.offsets.TheConstants.{CONTENTS_AT}
 use Rattle.long_names.specs.declared.value.Value.{Value}
 use Rattle.long_names.specs.declared.value.Value.TheVariants.{Int, Ref}
 use Rattle.long_names.specs.declared.object.Kind.{Kind}
@@ -105,6 +106,10 @@ body_with_byte (RawMethod header literals code) i byte = RawMethod header litera
 abbrev pub with_raw : RawRecord → RawBody → RawRecord
 with_raw r body = record { name = r.name; class = r.class; count = r.count; body = body }
 
+-- with another name
+abbrev pub with_name : RawRecord → ℕ → RawRecord
+with_name r name = record { name = name; class = r.class; count = r.count; body = r.body }
+
 abbrev pub with_long : RawRecord → ℕ → ℕ → RawRecord
 with_long r i long = with_raw r (body_with_long r.body i long)
 
@@ -170,7 +175,7 @@ raw_size (RawMethod header literals code) = 8 + 4 * length literals + length cod
 
 -- and how many with name, class, count, kind and size
 abbrev pub raw_end : RawBody → ℕ
-raw_end body = 20 + raw_size body
+raw_end body = CONTENTS_AT + raw_size body
 
 -- the bytes of the record, with zeros up to a multiple of four
 unfoldable pub raw_text : RawRecord → List ℕ
@@ -211,4 +216,4 @@ abbrev pub CanBlank : Kind → ℕ → ℕ → Type 0
 CanBlank kind.Pointers len literals = (len < 2 ^ 16) × (literals ≡ 0)
 CanBlank kind.Words len literals = (len < 2 ^ 16) × (literals ≡ 0)
 CanBlank kind.Bytes len literals = (len < 2 ^ 16) × (literals ≡ 0)
-CanBlank kind.Method len literals = (len ≤ MOST_CODE) × (literals < 64)
+CanBlank kind.Method len literals = (len ≤ MOST_CODE) × (literals ≤ MOST_LITERALS)

@@ -2,39 +2,24 @@
 ghost use Rattle.std.specs.Prelude.{◌≡◌, ◌-◌, ◌++◌, ◌≤◌, ◌<◌, ◌+◌, ◌*◌, ◌^◌, ◌==◌, ◌↔◌, IsTrue, IfOk, Some, length, take, drop, replicate};
 ghost use Rattle.std.specs.Int.{w16, w32};
 ghost use Rattle.std.specs.List.{list_all};
-ghost use Rattle.long_names.specs.Objects.{put_run, MOST_CODE as LIMIT};
+ghost use Rattle.long_names.specs.Objects.{put_run};
 ghost use Rattle.long_names.specs.Record.{padding, four_bytes, kind_number};
 ghost use Rattle.object_record.specs.Raw.{raw_kind, raw_len, raw_literals, raw_size, raw_end, stated_literals, blank_record};
-ghost use Rattle.object_record.specs.Buffer.{BUFFER, long_at, word_at, kind_numbered, raw_of, HasRecord};
+ghost use Rattle.object_record.specs.Buffer.{long_at, word_at, kind_numbered, raw_of, HasRecord};
 ghost use Rattle.object_record.specs.Inside.{IsPlain, longs_place, bytes_place, size_stated, HasStated, IsSized, zeros_stated, head_text};
 ghost use Rattle.long_names.specs.Names.{IsName, IsLongName};
 ghost use Rattle.long_names.specs.declared.object.Kind.TheVariants.{Method};
 
-use long_names::{Kind, Name, Value, literal_count, value_of};
+use crate::offsets::{
+    CLASS_AT, CONTENTS_AT, COUNT_AT, HEADER_AT, KIND_AT, LITERALS_AT, NAME_AT, SIZE_AT,
+};
+use long_names::{
+    Kind, LONGEST_RECORD, MOST_CODE, MOST_LITERALS, Name, Value, literal_count, value_of,
+};
 use std::alloc::{AllocError, Global};
 
-/// Where the parts of the head stand.
-const NAME_AT: usize = 0;
-
-const CLASS_AT: usize = 4;
-
-const COUNT_AT: usize = 8;
-
-const KIND_AT: usize = 16;
-
-const SIZE_AT: usize = 18;
-
-/// Where the contents begin, and of a method its header and its first literal.
-const CONTENTS_AT: usize = 20;
-
-const HEADER_AT: usize = 24;
-
-const LITERALS_AT: usize = 28;
-
 /// The number of the kind of methods, the highest.
-const LAST_KIND: u16 = 3;
-
-const MOST_CODE: usize = 16_000;
+pub(crate) const LAST_KIND: u16 = 3;
 
 pub(crate) fn long_at(bytes: &[u8], at: usize) -> u32
     requires { at + 4 ≤ length bytes.now }
@@ -67,8 +52,8 @@ pub(crate) fn put(bytes: &mut Vec<u8>, at: usize, piece: &[u8])
 }
 
 pub(crate) fn kind_of(bytes: &[u8]) -> Kind
-    requires { length bytes.now ≡ BUFFER }
-    ensures { result ≡ kind_numbered (word_at bytes.now 16) }
+    requires { length bytes.now ≡ LONGEST_RECORD }
+    ensures { result ≡ kind_numbered (word_at bytes.now KIND_AT) }
 {
     match word_at(bytes, KIND_AT) {
         0 => Kind::Pointers,
@@ -79,8 +64,8 @@ pub(crate) fn kind_of(bytes: &[u8]) -> Kind
 }
 
 pub(crate) fn size_of(bytes: &[u8]) -> usize
-    requires { length bytes.now ≡ BUFFER }
-    ensures size { result ≡ word_at bytes.now 18 }
+    requires { length bytes.now ≡ LONGEST_RECORD }
+    ensures size { result ≡ word_at bytes.now SIZE_AT }
     ensures range { result < 2 ^ 16 }
 {
     word_at(bytes, SIZE_AT) as usize
@@ -88,8 +73,8 @@ pub(crate) fn size_of(bytes: &[u8]) -> usize
 
 /// How many literals a method has.
 pub(crate) fn literals_of(bytes: &[u8]) -> usize
-    requires { length bytes.now ≡ BUFFER }
-    ensures count { result ≡ long_at bytes.now 20 }
+    requires { length bytes.now ≡ LONGEST_RECORD }
+    ensures count { result ≡ long_at bytes.now CONTENTS_AT }
     ensures range { result < 2 ^ 32 }
 {
     long_at(bytes, CONTENTS_AT) as usize
@@ -97,8 +82,8 @@ pub(crate) fn literals_of(bytes: &[u8]) -> usize
 
 /// Where the first field stands: the first long word, or a method's first literal.
 pub(crate) fn longs_place(bytes: &[u8]) -> usize
-    requires { length bytes.now ≡ BUFFER }
-    ensures { result ≡ longs_place (kind_numbered (word_at bytes.now 16)) }
+    requires { length bytes.now ≡ LONGEST_RECORD }
+    ensures { result ≡ longs_place (kind_numbered (word_at bytes.now KIND_AT)) }
 {
     match kind_of(bytes) {
         Kind::Method => LITERALS_AT,
@@ -108,8 +93,8 @@ pub(crate) fn longs_place(bytes: &[u8]) -> usize
 
 /// Where the first byte stands, of code too.
 pub(crate) fn bytes_place(bytes: &[u8]) -> usize
-    requires { length bytes.now ≡ BUFFER }
-    ensures place { result ≡ bytes_place (kind_numbered (word_at bytes.now 16)) (long_at bytes.now 20) }
+    requires { length bytes.now ≡ LONGEST_RECORD }
+    ensures place { result ≡ bytes_place (kind_numbered (word_at bytes.now KIND_AT)) (long_at bytes.now CONTENTS_AT) }
     ensures range { result < 2 ^ 35 }
 {
     match kind_of(bytes) {
@@ -120,8 +105,8 @@ pub(crate) fn bytes_place(bytes: &[u8]) -> usize
 
 /// How many bytes there are before the zeros at the end.
 pub(crate) fn end_of(bytes: &[u8]) -> usize
-    requires { length bytes.now ≡ BUFFER }
-    ensures end { result ≡ 20 + size_stated (kind_numbered (word_at bytes.now 16)) (word_at bytes.now 18) (long_at bytes.now 20) }
+    requires { length bytes.now ≡ LONGEST_RECORD }
+    ensures end { result ≡ CONTENTS_AT + size_stated (kind_numbered (word_at bytes.now KIND_AT)) (word_at bytes.now SIZE_AT) (long_at bytes.now CONTENTS_AT) }
     ensures range { result < 2 ^ 35 }
 {
     let size = size_of(bytes);
@@ -142,8 +127,8 @@ pub(crate) fn padding_of(len: usize) -> usize
 }
 
 fn has_names(bytes: &[u8]) -> bool
-    requires { length bytes.now ≡ BUFFER }
-    ensures { IsTrue result ↔ (IsName (long_at bytes.now 0) × IsName (long_at bytes.now 4)) }
+    requires { length bytes.now ≡ LONGEST_RECORD }
+    ensures { IsTrue result ↔ (IsName (long_at bytes.now NAME_AT) × IsName (long_at bytes.now CLASS_AT)) }
 {
     Name::new(long_at(bytes, NAME_AT)).is_some() && Name::new(long_at(bytes, CLASS_AT)).is_some()
 }
@@ -160,12 +145,13 @@ fn states(header: u32, literals: usize) -> bool
 
 /// Whether an object of the kind may have the size and the literals.
 fn has_size(bytes: &[u8]) -> bool
-    requires { length bytes.now ≡ BUFFER }
-    ensures { IsTrue result ↔ HasStated (kind_numbered (word_at bytes.now 16)) (word_at bytes.now 18) (long_at bytes.now 20) (long_at bytes.now 24) }
+    requires { length bytes.now ≡ LONGEST_RECORD }
+    ensures { IsTrue result ↔ HasStated (kind_numbered (word_at bytes.now KIND_AT)) (word_at bytes.now SIZE_AT) (long_at bytes.now CONTENTS_AT) (long_at bytes.now HEADER_AT) }
 {
     match kind_of(bytes) {
         Kind::Method => {
-            size_of(bytes) <= MOST_CODE && states(long_at(bytes, HEADER_AT), literals_of(bytes))
+            size_of(bytes) <= MOST_CODE as usize
+                && states(long_at(bytes, HEADER_AT), literals_of(bytes))
         }
         _ => true,
     }
@@ -179,8 +165,8 @@ fn are_zeros(bytes: &[u8]) -> bool
 
 /// Whether zeros stand up to a multiple of four.
 fn has_zeros(bytes: &[u8]) -> bool
-    requires room { length bytes.now ≡ BUFFER }
-    requires size { HasStated (kind_numbered (word_at bytes.now 16)) (word_at bytes.now 18) (long_at bytes.now 20) (long_at bytes.now 24) }
+    requires room { length bytes.now ≡ LONGEST_RECORD }
+    requires size { HasStated (kind_numbered (word_at bytes.now KIND_AT)) (word_at bytes.now SIZE_AT) (long_at bytes.now CONTENTS_AT) (long_at bytes.now HEADER_AT) }
     ensures { result ≡ list_all (λ b. b == 0) (zeros_stated bytes.now) }
 {
     let end = end_of(bytes);
@@ -190,7 +176,7 @@ fn has_zeros(bytes: &[u8]) -> bool
 
 /// Whether names, kind, size and literals are such as a record may have.
 fn is_sized(bytes: &[u8]) -> bool
-    requires { length bytes.now ≡ BUFFER }
+    requires { length bytes.now ≡ LONGEST_RECORD }
     ensures { IsTrue result ↔ IsSized bytes.now }
 {
     has_names(bytes) && word_at(bytes, KIND_AT) <= LAST_KIND && has_size(bytes)
@@ -198,7 +184,7 @@ fn is_sized(bytes: &[u8]) -> bool
 
 /// Whether the bytes begin with a record.
 pub(crate) fn is_laid(bytes: &[u8]) -> bool
-    requires { length bytes.now ≡ BUFFER }
+    requires { length bytes.now ≡ LONGEST_RECORD }
     ensures { IsTrue result ↔ HasRecord bytes.now }
 {
     is_sized(bytes) && has_zeros(bytes)
@@ -211,9 +197,9 @@ fn number_of(kind: Kind) -> u16
 }
 
 fn write_head(bytes: &mut Vec<u8>, name: Name, class: Name, kind: Kind, size: u16)
-    requires { length bytes.old.items ≡ BUFFER }
+    requires { length bytes.old.items ≡ LONGEST_RECORD }
     ensures names { IsLongName name × IsLongName class }
-    ensures head { bytes.new.items ≡ head_text name class 0 (kind_number kind) size (drop 20 bytes.old.items) }
+    ensures head { bytes.new.items ≡ head_text name class 0 (kind_number kind) size (drop CONTENTS_AT bytes.old.items) }
     ensures len { length bytes.new.items ≡ length bytes.old.items }
 {
     put(bytes, NAME_AT, &name.get().to_be_bytes());
@@ -225,9 +211,9 @@ fn write_head(bytes: &mut Vec<u8>, name: Name, class: Name, kind: Kind, size: u1
 
 /// Puts the literal count and the header of a method without flags.
 fn write_header(bytes: &mut Vec<u8>, literals: u32)
-    requires room { length bytes.old.items ≡ BUFFER }
-    requires few { literals < 64 }
-    ensures header { bytes.new.items ≡ take 20 bytes.old.items ++ (four_bytes literals ++ (four_bytes (2 * literals + 1) ++ drop 28 bytes.old.items)) }
+    requires room { length bytes.old.items ≡ LONGEST_RECORD }
+    requires few { literals ≤ MOST_LITERALS }
+    ensures header { bytes.new.items ≡ take CONTENTS_AT bytes.old.items ++ (four_bytes literals ++ (four_bytes (2 * literals + 1) ++ drop LITERALS_AT bytes.old.items)) }
     ensures len { length bytes.new.items ≡ length bytes.old.items }
 {
     put(bytes, CONTENTS_AT, &literals.to_be_bytes());
@@ -259,7 +245,7 @@ fn plain_size(kind: Kind, len: u16) -> usize
 
 /// Makes the record of an object without literals, of zeros.
 pub(crate) fn blank_plain(bytes: &mut Vec<u8>, name: Name, class: Name, kind: Kind, len: u16)
-    requires room { length bytes.old.items ≡ BUFFER }
+    requires room { length bytes.old.items ≡ LONGEST_RECORD }
     requires plain { IsPlain kind }
     ensures record { HasRecord bytes.new.items }
     ensures blank { raw_of bytes.new.items ≡ blank_record name class kind len 0 }
@@ -272,9 +258,9 @@ pub(crate) fn blank_plain(bytes: &mut Vec<u8>, name: Name, class: Name, kind: Ki
 
 /// Makes the record of a method, of zeros but for its literal count and its header.
 pub(crate) fn blank_method(bytes: &mut Vec<u8>, name: Name, class: Name, len: u16, literals: u32)
-    requires room { length bytes.old.items ≡ BUFFER }
-    requires size { len ≤ LIMIT }
-    requires few { literals < 64 }
+    requires room { length bytes.old.items ≡ LONGEST_RECORD }
+    requires size { len ≤ MOST_CODE }
+    requires few { literals ≤ MOST_LITERALS }
     ensures record { HasRecord bytes.new.items }
     ensures blank { raw_of bytes.new.items ≡ blank_record name class Method len literals }
     ensures len { length bytes.new.items ≡ length bytes.old.items }

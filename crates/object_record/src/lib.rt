@@ -1,6 +1,6 @@
 //! One object's record in a buffer: its fields are read and set in place.
 //!
-//! A buffer is 262,160 bytes, as many as the longest record has. `blank` makes a record in it, or `space` lends the bytes to be filled
+//! A buffer has as many bytes as the longest record. `blank` makes a record in it, or `space` lends the bytes to be filled
 //! and `is_record` tells whether they begin with one of a name; every other call has as its condition that they do (`HasRecord`). What
 //! a record says is its raw record (`raw_of`): each getter answers a part of it, and each setter is one equation,
 //! `raw_of new ≡ with_long (raw_of old) i word`, so that all other parts stay. Fields are long words, and none of them is judged.
@@ -15,6 +15,10 @@
 
 pub mod laws;
 mod layout;
+mod offsets;
 mod record_buf;
 
+pub use offsets::{
+    CLASS_AT, CONTENTS_AT, COUNT_AT, HEADER_AT, KIND_AT, LITERALS_AT, NAME_AT, SIZE_AT,
+};
 pub use record_buf::RecordBuf;

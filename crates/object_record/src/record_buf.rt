@@ -1,27 +1,17 @@
 // A buffer of one record. Where it has a record, each call reads or sets one part of it, and no other.
 ghost use Rattle.std.specs.Prelude.{◌≡◌, ◌↔◌, ◌<◌, ◌≤◌, IsTrue, length, replicate, slice_index, IfOk, Some};
 ghost use Rattle.long_names.specs.declared.object.Kind.TheVariants.{Method};
-ghost use Rattle.object_record.specs.Raw.{raw_kind, raw_len, raw_literals, raw_header, longs_of, raw_words, raw_bytes, raw_text, with_long, with_header, with_word, with_byte, blank_record, CanBlank, stated_literals};
-ghost use Rattle.object_record.specs.Buffer.{BUFFER, raw_of, HasRecord};
+ghost use Rattle.object_record.specs.Raw.{raw_kind, raw_len, raw_literals, raw_header, longs_of, raw_words, raw_bytes, raw_text, with_name, with_long, with_header, with_word, with_byte, blank_record, CanBlank, stated_literals};
+ghost use Rattle.object_record.specs.Buffer.{raw_of, HasRecord};
 
 use crate::layout::{
     blank_method, blank_plain, bytes_place, end_of, is_laid, kind_of, literals_of, long_at,
     longs_place, padding_of, put, size_of, word_at, zeros,
 };
-use long_names::{Kind, Name};
+use crate::offsets::{CLASS_AT, CONTENTS_AT, HEADER_AT, NAME_AT};
+use long_names::{Kind, LONGEST_RECORD, Name};
 use std::alloc::{AllocError, Global};
 use std::marker::Model;
-
-/// How many bytes the longest record has.
-const LEN: usize = 262_160;
-
-const NAME_AT: usize = 0;
-
-const CLASS_AT: usize = 4;
-
-const HEADER_AT: usize = 24;
-
-const CONTENTS_AT: usize = 20;
 
 /// The bytes of one record, and what follows them in the buffer.
 #[derive(Debug, Drop)]
@@ -31,13 +21,13 @@ pub struct RecordBuf {
 
 impl Model for RecordBuf {
     ghost use Rattle.std.specs.Prelude.{List, ℕ, ◌≡◌, length};
-    ghost use Rattle.object_record.specs.Buffer.{BUFFER};
+    ghost use Rattle.long_names.specs.declared.limits.TheConstants.{LONGEST_RECORD};
 
     ghost Value = { List ℕ };
 
     ghost view = { λ a. a.bytes.items };
 
-    ghost invariant = { λ a. length a.bytes.items ≡ BUFFER };
+    ghost invariant = { λ a. length a.bytes.items ≡ LONGEST_RECORD };
 }
 
 impl RecordBuf {
@@ -46,10 +36,10 @@ impl RecordBuf {
 
     /// A buffer of zeros.
     pub fn new(alloc: Global) -> Result<RecordBuf, AllocError>
-        ensures { IfOk result (λ buffer. buffer ≡ replicate BUFFER 0) }
+        ensures { IfOk result (λ buffer. buffer ≡ replicate LONGEST_RECORD 0) }
     {
         Ok(RecordBuf {
-            bytes: zeros(alloc, LEN)?,
+            bytes: zeros(alloc, LONGEST_RECORD as usize)?,
         })
     }
 
@@ -57,6 +47,7 @@ impl RecordBuf {
     pub fn space(&mut self) -> &mut [u8]
         ensures* lends { sem 𝓛 (LendsBytes self.entry result) }
         ensures bytes { result.now ≡ self.old }
+        ensures len { length result.now ≡ LONGEST_RECORD }
     {
         &mut self.bytes
     }
@@ -102,6 +93,18 @@ impl RecordBuf {
         }
     }
 
+    /// How many fields: the values of pointers, or a method's literals; 0 for words and bytes.
+    pub fn field_count(&self) -> u32
+        requires { HasRecord self.now }
+        ensures { result ≡ length (longs_of (raw_of self.now).body) }
+    {
+        match self.kind() {
+            Kind::Pointers => self.len(),
+            Kind::Method => self.literals(),
+            _ => 0,
+        }
+    }
+
     /// A method's header, as its long word.
     pub fn header(&self) -> u32
         requires record { HasRecord self.now }
@@ -135,6 +138,15 @@ impl RecordBuf {
         ensures { result ≡ slice_index (raw_bytes (raw_of self.now).body) i }
     {
         self.bytes[bytes_place(&self.bytes) + i as usize]
+    }
+
+    /// Gives the record another name. Nothing else changes.
+    pub fn rename(&mut self, name: Name)
+        requires { HasRecord self.old }
+        ensures record { HasRecord self.new }
+        ensures set { raw_of self.new ≡ with_name (raw_of self.old) name }
+    {
+        put(&mut self.bytes, NAME_AT, &name.get().to_be_bytes());
     }
 
     /// Sets the long word of value `i`, or of a method's literal `i`. It may be any long word.

@@ -33,3 +33,6 @@ returns-clause-parts c = record { core = move-core (core_of c.args.p.now) _ c.re
 
 pub returns-clause-chunk : goal.returns-clause-chunk
 returns-clause-chunk c = ap (λ (d : Core). d.chunks c.take_filled.result.place) (taken c) ∙ put-here (core_of c.args.p.now).chunks c.take_filled.result.place (record { owner = c.args.s.0; words = unresolved (raw_of c.args.buf.now).body })
+
+pub returns-clause-core : goal.returns-clause-core
+returns-clause-core c = taken c

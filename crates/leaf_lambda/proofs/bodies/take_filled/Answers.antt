@@ -19,7 +19,7 @@ returns-clause-vacant c = c.in-Some.ensures.taken.vacant
 pub returns-clause-chunk : goal.returns-clause-chunk
 returns-clause-chunk c =
     let here : chunk_at c.take.new.self c.in-Some.at.place ≡ record { owner = c.args.owner; words = c.in-Some.ensures.taken.text } = ap (λ (f : ℕ → Chunk). f c.in-Some.at.place) c.in-Some.ensures.taken.chunks ∙ put-here (chunk_at c.args.g.now) c.in-Some.at.place (record { owner = c.args.owner; words = c.in-Some.ensures.taken.text }) in
-    c.fill.ensures
+    c.fill.ensures.chunk
     ∙ ap (λ (x : Chunk). with_chunk (chunk_at c.take.new.self) c.in-Some.at.place (record { owner = x.owner; words = unresolved (raw_of c.args.buf.now).body })) here
     ∙ ap (λ (f : ℕ → Chunk). with_chunk f c.in-Some.at.place (record { owner = c.args.owner; words = unresolved (raw_of c.args.buf.now).body })) c.in-Some.ensures.taken.chunks
     ∙ put-twice (chunk_at c.args.g.now) c.in-Some.at.place (record { owner = c.args.owner; words = c.in-Some.ensures.taken.text }) (record { owner = c.args.owner; words = unresolved (raw_of c.args.buf.now).body })

@@ -1,10 +1,15 @@
-use Rattle.std.proofs.Common.{ℕ, sym, ◌∙◌, ap, arith}
+use Rattle.std.proofs.Common.{ℕ, [], subst, sym, ◌∙◌, ap, arith}
+use Rattle.core_segment.specs.declared.segment.Segment.{Segment}
+use Rattle.core_segment.specs.Segment.{SameRoom}
 use Rattle.core_view.specs.Core.{Core}
+use Rattle.core_view.specs.Words.{meant}
+use Rattle.core_view.specs.Held.{held, object_at}
 use Rattle.core_view.proofs.Core.{placed-used}
 use Rattle.core_view.proofs.Steps.{outside-used}
 use Rattle.core_view.specs.Steps.{IsAt}
 use Rattle.leaf_lambda.specs.Parts.{core_of}
-use Rattle.leaf_lambda.proofs.FieldLaws.{IsPut, at-mark, put-loose, put-within, put-backed, put-held, put-entry}
+use Rattle.leaf_lambda.proofs.ValuedLaws.{field-valued}
+use Rattle.leaf_lambda.proofs.FieldLaws.{held-there, IsPut, at-mark, put-loose, put-within, put-backed, put-held, put-entry}
 use Rattle.leaf_lambda.proofs.TranslateLaws.{at-later}
 use Rattle.object_table.specs.Table.{free_of}
 use Rattle.resident_table.specs.declared.Parts2.{Parts2}
@@ -74,3 +79,23 @@ returns-clause-spare c = c.drop_word.ensures.spare ∙ ap (λ (n : Parts2). free
 
 pub returns-clause-entry : goal.returns-clause-entry
 returns-clause-entry c = put-entry (core_of c.args.p.now) (core_of c.mark_changed.new.p) (core_of c.hold_word.new.p) (core_of c.store_word.new.p) (core_of c.drop_word.new.p) c.args.s.0 c.args.at.place c.args.i c.args.w c.field_word-old.result (put-now c) c.drop_word.ensures.dropped
+
+pub returns-clause-find : goal.returns-clause-find
+returns-clause-find c = c.drop_word.ensures.dropped.find ∙ ap (λ (d : Core). d.find) c.store_word.ensures.core ∙ c.hold_word.ensures.find ∙ ap (λ (d : Core). d.find) c.mark_changed.ensures.core
+
+pub words_mean_values-requires-clause-used : goal.words_mean_values-requires-clause-used
+words_mean_values-requires-clause-used c = λ is. outside-used (core_of c.args.p.now) c.args.w c.requires.parts.core (c.requires.held is)
+
+pub returns-clause-valued : goal.returns-clause-valued
+returns-clause-valued c = λ disk backed valued.
+    let there = held-there (core_of c.args.p.now) disk c.args.s.0 c.args.at.place c.args.i c.requires.there.0 c.requires.parts.core c.requires.there.1 in
+    field-valued (held (core_of c.args.p.now) disk) (held (core_of c.drop_word.new.p) disk) ((core_of c.args.p.now).entries c.args.s.0).name c.args.i (object_at (core_of c.args.p.now) disk ((core_of c.args.p.now).entries c.args.s.0) c.args.at.place)
+    (meant (core_of c.args.p.now).entries [] 0 c.args.w) there (returns-clause-held c disk (object_at (core_of c.args.p.now) disk ((core_of c.args.p.now).entries c.args.s.0) c.args.at.place) backed there) c.words_mean_values.ensures valued
+
+pub returns-clause-room : goal.returns-clause-room
+returns-clause-room c =
+    subst (λ (g : Segment). SameRoom c.args.p.now.segment g) (sym c.drop_word.ensures.segment)
+    (subst (λ (g : Segment). SameRoom g c.store_word.new.p.segment) (c.hold_word.ensures.segment ∙ c.mark_changed.ensures.segment) c.store_word.ensures.room)
+
+pub returns-clause-size : goal.returns-clause-size
+returns-clause-size c = (returns-clause-room c).size

@@ -1,8 +1,10 @@
-use Rattle.std.proofs.Common.{◌≡◌, ℕ, ◌∷◌, ◌+◌, ◌<◌, true, false, Some, count_by, refl, sym, ◌∙◌, ap, subst, arith}
+use Rattle.std.proofs.Common.{◌≡◌, ℕ, ◌∷◌, ◌+◌, ◌<◌, ◌≤◌, true, false, Some, length, count_by, refl, sym, ◌∙◌, ap, subst, arith}
 use Rattle.std.proofs.lemmas.Grind.{common_steps}
 use Rattle.object_table.specs.declared.entry.Entry.{Entry}
-use Rattle.object_table.specs.Entries.{is_short, place_of}
-use Rattle.object_table.specs.Table.{entry_at, free_of}
+use Rattle.object_table.specs.Entries.{is_short, is_used, place_of, with_refs}
+use Rattle.object_table.specs.Table as table
+use Rattle.object_table.specs.Table.{entry_at}
+use Rattle.core_segment.specs.Segment.{size_of, free_of, largest_of}
 use Rattle.resident_table.specs.declared.Parts2.{Parts2}
 use Rattle.core_view.specs.Core.{Core}
 use Rattle.core_view.specs.Words.{pointers}
@@ -16,6 +18,7 @@ use Rattle.core_view.proofs.Moves.{move-outside, move-stays}
 use Rattle.leaf_lambda.specs.Parts.{core_of}
 use Rattle.leaf_lambda.proofs.TranslateLaws.{Within-trans}
 use Rattle.leaf_lambda.proofs.LeavingLaws.{closed-loose, close-within}
+use Rattle.resident_table.specs.Resident.{short_of}
 use Rattle.leaf_lambda.proofs.leaving.drop_body.Goals as goal
 use Rattle.leaf_lambda.proofs.TranslateLaws.{let-dropped}
 use Rattle.leaf_lambda.specs.Parts.{IsDropping}
@@ -79,7 +82,7 @@ returns-clause-within c = Within-trans c.args.s.0 (core_of c.args.p.now) (core_o
     (ap (λ (e : Entry). place_of e.state) c.unresolve_fields.ensures.entry ∙ c.place_of_body-at.ensures)
     (ap (λ (e : Entry). e.class.0) (sym c.entry.ensures))
     (ap (λ (e : Entry). pointers e.kind ((core_of c.unresolve_fields.new.p).chunks c.place_of_body-at.result.place).words) c.unresolve_fields.ensures.entry ∙ c.unresolve_fields.ensures.fields)
-    c.close_body.ensures.core c.give_chunk.ensures.moves (entries-same c) (dropped c))
+    c.close_body.ensures.core c.give_chunk.ensures.moves (entries-same c) (ap (λ (d : Core). d.chunks) c.give_chunk.ensures.core) (dropped c))
 
 pub returns-clause-stays : goal.returns-clause-stays
 returns-clause-stays c = λ disk backed.
@@ -97,4 +100,43 @@ returns-clause-gone c = c.let_go.ensures.step.leaves c.args.s.0
     (ap (λ (f : ℕ → Entry). place_of (f c.args.s.0).state) (entries-same c) ∙ ap (λ (d : Core). place_of (d.entries c.args.s.0).state) c.close_body.ensures.core ∙ ap (λ (e : Entry). place_of e.state) (put-here (core_of c.unresolve_fields.new.p).entries c.args.s.0 (closed ((core_of c.unresolve_fields.new.p).entries c.args.s.0))))
 
 pub returns-clause-spare : goal.returns-clause-spare
-returns-clause-spare c = c.let_go.ensures.spare ∙ ap (λ (n : Parts2). free_of n.table) c.give_chunk.ensures.same_names ∙ c.close_body.ensures.spare ∙ c.unresolve_fields.ensures.spare
+returns-clause-spare c = c.let_go.ensures.spare ∙ ap (λ (n : Parts2). table.free_of n.table) c.give_chunk.ensures.same_names ∙ c.close_body.ensures.spare ∙ c.unresolve_fields.ensures.spare
+
+find-same : (c : goal.After-let_go) → (core_of c.give_chunk.new.p).find ≡ (core_of c.close_body.new.p).find
+unfolding core_of
+find-same c = ap (λ (n : Parts2). short_of n.resident) c.give_chunk.ensures.same_names
+
+pub returns-clause-find : goal.returns-clause-find
+returns-clause-find c = (dropped c).find ∙ find-same c ∙ ap (λ (d : Core). d.find) c.close_body.ensures.core ∙ c.unresolve_fields.ensures.find
+
+pub returns-clause-entry : goal.returns-clause-entry
+returns-clause-entry c =
+    let before : (core_of c.give_chunk.new.p).entries c.args.s.0 ≡ closed ((core_of c.unresolve_fields.new.p).entries c.args.s.0) =
+    ap (λ (f : ℕ → Entry). f c.args.s.0) (entries-same c) ∙ ap (λ (d : Core). d.entries c.args.s.0) c.close_body.ensures.core ∙ put-here (core_of c.unresolve_fields.new.p).entries c.args.s.0 (closed ((core_of c.unresolve_fields.new.p).entries c.args.s.0)) in
+    (dropped c).others.same c.args.s.0 (ap (λ (e : Entry). is_used e.state) before)
+    ∙ ap (λ (e : Entry). with_refs e ((core_of c.let_go.new.p).entries c.args.s.0).refs) (before ∙ ap closed c.unresolve_fields.ensures.entry)
+
+pub returns-clause-size : goal.returns-clause-size
+returns-clause-size c = ap size_of c.let_go.ensures.segment ∙ c.give_chunk.ensures.size ∙ ap size_of c.close_body.ensures.segment ∙ c.unresolve_fields.ensures.room.size
+
+pub returns-clause-free : goal.returns-clause-free
+returns-clause-free c = λ at there.
+    let same : at ≡ c.place_of_body-at.result.place = some-same at c.place_of_body-at.result.place (sym there ∙ c.place_of_body-at.ensures) in
+    let last : free_of c.let_go.new.p.segment ≡ free_of c.give_chunk.new.p.segment = ap free_of c.let_go.ensures.segment in
+    let given = c.give_chunk.ensures.free in
+    let closed_ : free_of c.close_body.new.p.segment ≡ free_of c.unresolve_fields.new.p.segment = ap free_of c.close_body.ensures.segment in
+    let first = c.unresolve_fields.ensures.room.free in
+    let words : length ((core_of c.close_body.new.p).chunks c.place_of_body-at.result.place).words ≡ length ((core_of c.args.p.now).chunks at).words =
+    ap (λ (d : Core). length (d.chunks c.place_of_body-at.result.place).words) c.close_body.ensures.core ∙ c.unresolve_fields.ensures.long ∙ ap (λ (q : ℕ). length ((core_of c.args.p.now).chunks q).words) (sym same) in
+    omega arith
+
+pub returns-clause-largest : goal.returns-clause-largest
+returns-clause-largest c = λ at there.
+    let same : at ≡ c.place_of_body-at.result.place = some-same at c.place_of_body-at.result.place (sym there ∙ c.place_of_body-at.ensures) in
+    let last : largest_of c.let_go.new.p.segment ≡ largest_of c.give_chunk.new.p.segment = ap largest_of c.let_go.ensures.segment in
+    let given = c.give_chunk.ensures.largest in
+    let closed_ : largest_of c.close_body.new.p.segment ≡ largest_of c.unresolve_fields.new.p.segment = ap largest_of c.close_body.ensures.segment in
+    let first = c.unresolve_fields.ensures.room.largest in
+    let words : length ((core_of c.close_body.new.p).chunks c.place_of_body-at.result.place).words ≡ length ((core_of c.args.p.now).chunks at).words =
+    ap (λ (d : Core). length (d.chunks c.place_of_body-at.result.place).words) c.close_body.ensures.core ∙ c.unresolve_fields.ensures.long ∙ ap (λ (q : ℕ). length ((core_of c.args.p.now).chunks q).words) (sym same) in
+    (let a = given.0 in omega arith, let b = given.1 in omega arith)

@@ -54,3 +54,6 @@ returns-clause-keeps c = λ disk at backed place. subst (λ (d : Core). KeepsOve
 
 pub returns-clause-within : goal.returns-clause-within
 returns-clause-within c = subst (λ (d : Core). IsWithin c.args.s.0 (core_of c.args.p.now) d) (sym (returns-clause-core c)) (written-within (core_of c.args.p.now) c.args.s.0 c.requires.parts.core (placed-used ((core_of c.args.p.now).entries c.args.s.0).state c.requires.body.0 c.requires.body.1))
+
+pub returns-clause-find : goal.returns-clause-find
+returns-clause-find c = ap (λ (d : Core). d.find) (returns-clause-core c)

@@ -1,4 +1,10 @@
-use Rattle.std.proofs.Common.{◌∙◌, ap}
+use Rattle.std.proofs.Common.{ℕ, List, length, subst, sym, ◌∙◌, ap}
+use Rattle.std.proofs.Math.ListN.{length-set}
+use Rattle.core_segment.specs.Chunks.{Chunk}
+use Rattle.core_segment.specs.declared.segment.Segment.{Segment}
+use Rattle.core_segment.specs.Segment.{SameRoom}
+use Rattle.core_view.specs.Words.{spot}
+use Rattle.leaf_lambda.proofs.FillLaws.{written-words}
 use Rattle.object_table.specs.Entries.{place_of, with_refs}
 use Rattle.object_table.specs.Table.{free_of}
 use Rattle.resident_table.specs.declared.Parts2.{Parts2}
@@ -32,3 +38,16 @@ returns-clause-fields c = unresolve-fields (core_of c.args.p.now) (core_of c.sto
 
 pub returns-clause-spare : goal.returns-clause-spare
 returns-clause-spare c = c.drop_word.ensures.spare ∙ ap (λ (n : Parts2). free_of n.table) c.store_word.ensures.same_names
+
+pub returns-clause-find : goal.returns-clause-find
+returns-clause-find c = c.drop_word.ensures.dropped.find ∙ ap (λ (d : Core). d.find) c.store_word.ensures.core
+
+pub returns-clause-long : goal.returns-clause-long
+returns-clause-long c =
+    ap (λ (f : ℕ → Chunk). length (f c.args.at.place).words) c.drop_word.ensures.dropped.step.chunks
+    ∙ ap (λ (d : Core). length (d.chunks c.args.at.place).words) c.store_word.ensures.core
+    ∙ ap (λ (ws : List ℕ). length ws) (written-words (core_of c.args.p.now).chunks c.args.at.place (spot ((core_of c.args.p.now).entries c.args.s.0).kind c.args.i) 0)
+    ∙ length-set ((core_of c.args.p.now).chunks c.args.at.place).words (spot ((core_of c.args.p.now).entries c.args.s.0).kind c.args.i) 0
+
+pub returns-clause-room : goal.returns-clause-room
+returns-clause-room c = subst (λ (g : Segment). SameRoom c.args.p.now.segment g) (sym c.drop_word.ensures.segment) c.store_word.ensures.room

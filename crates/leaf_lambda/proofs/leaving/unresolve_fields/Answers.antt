@@ -6,6 +6,7 @@ use Rattle.object_table.specs.Entries.{place_of, with_refs}
 use Rattle.core_view.specs.Words.{pointers}
 use Rattle.core_view.proofs.Steps.{Keeps-trans, Keeps-refl}
 use Rattle.leaf_lambda.specs.Parts.{core_of}
+use Rattle.leaf_lambda.proofs.RoomLaws.{Room-refl, Room-trans}
 use Rattle.leaf_lambda.proofs.FillLaws.{get-set, get-set-other, all-same}
 use Rattle.leaf_lambda.proofs.RecordLaws.{get-zeros}
 use Rattle.leaf_lambda.proofs.TranslateLaws.{Within-refl, Within-trans}
@@ -21,6 +22,9 @@ loop-i-init c = record {
   entry = refl;
   long = sym c.requires.count;
   zeros = λ j low. absurd (omega arith);
+  body = refl;
+  room = Room-refl c.args.p.now.segment;
+  find = refl;
   spare = refl;
 }
 
@@ -53,6 +57,9 @@ loop-i-preserved c =
       zeros = λ j low. ap (λ (ws : List ℕ). slice_get ws j) fields ∙ ⊎_elim
           (λ (h : j ≡ c.loop-i.i). ap (λ (z : ℕ). slice_get (slice_set was c.loop-i.i 0) z) h ∙ get-set was c.loop-i.i 0 (omega (arith, c.loop-i.invariant.long)))
           (λ (h : j ≢ c.loop-i.i). get-set-other was c.loop-i.i 0 j h ∙ c.loop-i.invariant.zeros j (omega arith)) (cases_eq j c.loop-i.i);
+      body = r.long ∙ c.loop-i.invariant.body;
+      room = Room-trans c.args.p.now.segment c.loop-i.p.segment c.unresolve_field.new.p.segment c.loop-i.invariant.room r.room;
+      find = r.find ∙ c.loop-i.invariant.find;
       spare = r.spare ∙ c.loop-i.invariant.spare;
     }
 

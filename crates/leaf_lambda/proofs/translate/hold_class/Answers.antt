@@ -11,7 +11,7 @@ pub grip-requires-clause-light : goal.grip-requires-clause-light
 grip-requires-clause-light c = let some = c.requires.light c.in-Some.class.0 in let same = c.find_or_leaf.ensures.step.same_outside c.in-Some.class.0 in omega arith
 
 pub returns-clause-held : goal.returns-clause-held
-returns-clause-held c = leaf-held-on (core_of c.args.p.now) (core_of c.find_or_leaf.new.p) (core_of c.grip.new.p) c.in-Some.class.0 c.find_or_leaf.ensures.step c.grip.ensures.stays c.grip.ensures.step c.grip.ensures.outside c.grip.ensures.core
+returns-clause-held c = leaf-held-on (core_of c.args.p.now) (core_of c.find_or_leaf.new.p) (core_of c.grip.new.p) c.in-Some.class.0 c.find_or_leaf.ensures.step c.grip.ensures.stays c.grip.ensures.step c.grip.ensures.outside c.grip.ensures.core c.in-Some.ensures.only
 
 pub returns-clause-class : goal.returns-clause-class
 returns-clause-class c =

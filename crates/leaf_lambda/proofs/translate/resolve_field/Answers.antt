@@ -1,14 +1,17 @@
-use Rattle.std.proofs.Common.{◌≡◌, ℕ, sym, ◌∙◌, ap, subst, arith}
+use Rattle.std.proofs.Common.{◌≡◌, ℕ, ◌+◌, ◌≤◌, sym, ◌∙◌, ap, subst, arith}
 use Rattle.std.specs.List.{slice_set}
 use Rattle.object_table.specs.Entries.{with_refs}
+use Rattle.core_segment.specs.declared.segment.Segment.{Segment}
+use Rattle.core_segment.specs.Segment.{SameRoom}
+use Rattle.leaf_lambda.proofs.RoomLaws.{Room-refl}
 use Rattle.object_record.specs.Objects.{value_in}
 use Rattle.core_view.specs.Core.{Core}
 use Rattle.core_view.specs.Words.{pointers}
 use Rattle.core_view.proofs.Lists.{one-here}
-use Rattle.leaf_lambda.specs.Parts.{core_of, IsHolding}
+use Rattle.leaf_lambda.specs.Parts.{core_of, spare_of, IsHolding}
 use Rattle.object_table.specs.Table.{free_of}
 use Rattle.resident_table.specs.declared.Parts2.{Parts2}
-use Rattle.leaf_lambda.proofs.TranslateLaws.{Sparing-same, at-later, resolve-keeps, resolve-within, resolve-fields, unresolved-within, unresolved-fields}
+use Rattle.leaf_lambda.proofs.TranslateLaws.{Sparing-same, at-later, resolve-keeps, resolve-within, resolve-fields, unresolved-within, unresolved-fields, naming-entries}
 use Rattle.leaf_lambda.proofs.translate.resolve_field.Goals as goal
 
 pub store_word-requires-clause-there : goal.store_word-requires-clause-there
@@ -56,3 +59,18 @@ pub returns-else-w-ne0-clause-fields : goal.returns-else-w-ne0-clause-fields
 returns-else-w-ne0-clause-fields c =
     unresolved-fields (core_of c.args.p.now) (core_of c.short_for-w.new.p) c.args.s.0 c.args.at.place c.args.i c.short_for-w.ensures.held.step c.requires.there
     ∙ ap (λ (w : ℕ). slice_set (pointers ((core_of c.args.p.now).entries c.args.s.0).kind ((core_of c.args.p.now).chunks c.args.at.place).words) c.args.i w) (sym c.if-w-ne0.false)
+
+pub returns-then-w-ne0-clause-naming : goal.returns-then-w-ne0-clause-naming
+returns-then-w-ne0-clause-naming c = naming-entries (core_of c.args.p.now) (core_of c.short_for-w.new.p) (core_of c.store_word.new.p) c.short_for-w.ensures.held.naming (ap (λ (d : Core). d.entries) c.store_word.ensures.core)
+
+pub returns-else-w-ne0-clause-naming : goal.returns-else-w-ne0-clause-naming
+returns-else-w-ne0-clause-naming c = c.short_for-w.ensures.held.naming
+
+pub returns-then-w-ne0-clause-room : goal.returns-then-w-ne0-clause-room
+returns-then-w-ne0-clause-room c = subst (λ (g : Segment). SameRoom g c.store_word.new.p.segment) c.short_for-w.ensures.segment c.store_word.ensures.room
+
+pub returns-else-w-ne0-clause-room : goal.returns-else-w-ne0-clause-room
+returns-else-w-ne0-clause-room c = subst (λ (g : Segment). SameRoom g c.short_for-w.new.p.segment) c.short_for-w.ensures.segment (Room-refl c.short_for-w.new.p.segment)
+
+pub returns-then-w-ne0-clause-cost : goal.returns-then-w-ne0-clause-cost
+returns-then-w-ne0-clause-cost c = let cost = c.short_for-w.ensures.cost in let same : spare_of c.store_word.new.p ≡ spare_of c.short_for-w.new.p = ap (λ (n : Parts2). free_of n.table) c.store_word.ensures.same_names in omega arith

@@ -1,4 +1,4 @@
-use Rattle.std.proofs.Common.{ℕ, List, ◌≡◌, ◌≢◌, Option, Some, length, get_or, refl, sym, ◌∙◌, ap, subst, arith, ⊎_elim}
+use Rattle.std.proofs.Common.{ℕ, ◌+◌, ◌≤◌, List, ◌≡◌, ◌≢◌, Option, Some, length, get_or, refl, sym, ◌∙◌, ap, subst, arith, ⊎_elim}
 use Rattle.std.proofs.lemmas.Bool.{cases_eq}
 use Rattle.std.proofs.lemmas.Option.{slice_get_within}
 use Rattle.std.proofs.Math.ListN.{length-set, length-replicate}
@@ -15,21 +15,25 @@ use Rattle.core_view.specs.Held.{fields_there}
 use Rattle.core_view.proofs.Steps.{Keeps-refl, Keeps-trans}
 use Rattle.leaf_lambda.specs.Parts.{core_of, spare_of}
 use Rattle.leaf_lambda.specs.Records.{MayBeLambda}
+use Rattle.leaf_lambda.proofs.RoomLaws.{Room-refl, Room-trans}
 use Rattle.leaf_lambda.proofs.FillLaws.{get-set, get-set-other}
 use Rattle.leaf_lambda.proofs.RecordLaws.{get-zeros, map-get}
-use Rattle.leaf_lambda.proofs.TranslateLaws.{Within-refl, Within-trans, Light-later, Sparing-refl, Sparing-trans, MayBe-later}
+use Rattle.leaf_lambda.proofs.TranslateLaws.{Naming-refl, Naming-trans, Within-refl, Within-trans, Light-later, Sparing-refl, Sparing-trans, MayBe-later}
 use Rattle.leaf_lambda.proofs.translate.resolve_fields.Goals as goal
 
 pub loop-i-init : goal.loop-i-init
 loop-i-init c = record {
   parts = c.requires.parts;
   keeps = λ disk backed there. Keeps-refl disk (core_of c.args.p.now) backed;
+  naming = Naming-refl (core_of c.args.p.now);
   within = Within-refl c.args.s.0 (core_of c.args.p.now);
   entry = refl;
   long = ap length c.requires.fields ∙ length-replicate c.args.count 0;
   rest = λ j low high. ap (λ (ws : List ℕ). slice_get ws j) c.requires.fields ∙ get-zeros c.args.count j high;
   lambdas = λ j low. absurd (omega arith);
   sparing = Sparing-refl c.args.p.now;
+  cost = omega arith;
+  room = Room-refl c.args.p.now.segment;
 }
 
 pub long_field-word-requires-clause-field : goal.long_field-word-requires-clause-field
@@ -59,6 +63,7 @@ loop-i-preserved c =
           Keeps-trans disk (core_of c.args.p.now) (core_of c.loop-i.p) (core_of c.resolve_field.new.p) first
           (r.keeps disk first.backed (ap (λ (e : Entry). slice_get (fields_there (disk e.name)) c.loop-i.i) c.loop-i.invariant.entry
           ∙ ap (λ (vs : List Value). slice_get vs c.loop-i.i) there ∙ map-get (longs_of (raw_of c.args.buf.now).body) c.loop-i.i (omega (arith, c.requires.count)) ∙ ap (λ (x : ℕ). Some (value_in x)) (sym c.long_field-word.ensures)));
+      naming = Naming-trans (core_of c.args.p.now) (core_of c.loop-i.p) (core_of c.resolve_field.new.p) c.loop-i.invariant.naming r.naming;
       within = Within-trans c.args.s.0 (core_of c.args.p.now) (core_of c.loop-i.p) (core_of c.resolve_field.new.p) c.loop-i.invariant.within r.within;
       entry = r.entry ∙ ap (λ (e : Entry). with_refs e ((core_of c.resolve_field.new.p).entries c.args.s.0).refs) c.loop-i.invariant.entry;
       long = ap length fields ∙ length-set was c.loop-i.i c.resolve_field.result ∙ c.loop-i.invariant.long;
@@ -72,6 +77,8 @@ loop-i-preserved c =
           (λ (h : j ≢ c.loop-i.i). later (value_of (get_or (longs_of (raw_of c.args.buf.now).body) j 0))
           (c.loop-i.invariant.lambdas j (omega arith) (sym (get-set-other was c.loop-i.i c.resolve_field.result j h) ∙ ap (λ (ws : List ℕ). slice_get ws j) (sym fields) ∙ word))) (cases_eq j c.loop-i.i);
       sparing = Sparing-trans c.args.p.now c.loop-i.p c.resolve_field.new.p c.loop-i.invariant.sparing r.sparing;
+      cost = let before = c.loop-i.invariant.cost in let one_ = r.cost in omega arith;
+      room = Room-trans c.args.p.now.segment c.loop-i.p.segment c.resolve_field.new.p.segment c.loop-i.invariant.room r.room;
     }
   where
     same : (a b : ℕ) → Some a ≡ Some b → a ≡ b

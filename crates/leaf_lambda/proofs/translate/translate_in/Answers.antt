@@ -3,14 +3,14 @@ use Rattle.std.specs.List.{slice_get}
 use Rattle.long_names.specs.declared.object.Kind.{Kind}
 use Rattle.object_record.specs.Buffer.{raw_of}
 use Rattle.object_table.specs.declared.entry.Entry.{Entry}
-use Rattle.object_table.specs.Entries.{place_of}
+use Rattle.object_table.specs.Entries.{place_of, with_refs}
 use Rattle.core_view.specs.Words.{pointers}
 use Rattle.core_view.specs.Held.{fields_there}
 use Rattle.core_view.proofs.Bodies.{leaf-holders}
 use Rattle.core_view.proofs.Steps.{Keeps-trans, about-refs}
 use Rattle.leaf_lambda.specs.Parts.{core_of}
 use Rattle.leaf_lambda.proofs.RecordLaws.{fields-values}
-use Rattle.leaf_lambda.proofs.TranslateLaws.{Within-trans, Light-later}
+use Rattle.leaf_lambda.proofs.TranslateLaws.{Naming-trans, Within-trans, Light-later}
 use Rattle.leaf_lambda.proofs.translate.translate_in.Goals as goal
 
 some-same : {A : Type 0} (x y : A) → Some x ≡ Some y → x ≡ y
@@ -62,3 +62,27 @@ returns-clause-refs c = λ t.
 
 pub returns-clause-spare : goal.returns-clause-spare
 returns-clause-spare c = let cost = c.open_leaf-at.ensures.cost.1 in let least = c.resolve_fields.ensures.sparing.least in omega arith
+
+pub returns-clause-naming : goal.returns-clause-naming
+returns-clause-naming c = Naming-trans (core_of c.args.p.now) (core_of c.open_leaf-at.new.p) (core_of c.resolve_fields.new.p) c.open_leaf-at.ensures.naming c.resolve_fields.ensures.naming
+
+pub returns-clause-opened : goal.returns-clause-opened
+returns-clause-opened c =
+    let o = c.open_leaf-at.ensures.opened in (
+      c.open_leaf-at.result.place,
+      record {
+        class = o.class;
+        used = (c.resolve_fields.ensures.within.live o.class o.used).0;
+        named = (c.resolve_fields.ensures.within.live o.class o.used).1 ∙ o.named;
+        entry = c.resolve_fields.ensures.entry ∙ ap (λ (e : Entry). with_refs e ((core_of c.resolve_fields.new.p).entries c.args.s.0).refs) o.entry;
+      },
+    )
+
+pub returns-clause-size : goal.returns-clause-size
+returns-clause-size c = c.resolve_fields.ensures.room.size ∙ c.open_leaf-at.ensures.size
+
+pub returns-clause-free : goal.returns-clause-free
+returns-clause-free c = let same = c.resolve_fields.ensures.room.free in let took = c.open_leaf-at.ensures.free in omega arith
+
+pub returns-clause-cost : goal.returns-clause-cost
+returns-clause-cost c = let first = c.open_leaf-at.ensures.cost.1 in let then = c.resolve_fields.ensures.cost in let count = c.field_count-count.ensures in omega arith

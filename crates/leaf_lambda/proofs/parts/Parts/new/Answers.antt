@@ -1,10 +1,12 @@
-use Rattle.std.proofs.Common.{◌≡◌, ◌≤◌, refl, sym, ◌∙◌, ap, subst, arith}
+use Rattle.std.proofs.Common.{ℕ, ◌≡◌, ◌≤◌, refl, sym, ◌∙◌, ap, subst, arith}
 use Rattle.object_table.specs.Table.{bound_of}
 use Rattle.core_segment.specs.Segment.{chunk_at}
+use Rattle.core_segment.specs.Chunks.{Chunk}
 use Rattle.core_view.specs.Core.{Core}
+use Rattle.core_view.proofs.Tight.{empty-tight}
 use Rattle.core_view.specs.Held.{held}
 use Rattle.core_view.specs.Counts.{outside}
-use Rattle.core_view.specs.Kept.{IsCore, IsBacked}
+use Rattle.core_view.specs.Kept.{IsCore, IsTight, IsBacked}
 use Rattle.core_view.proofs.Leaves.{empty_core, empty-core, empty-backed, empty-held, empty-outside}
 use Rattle.leaf_lambda.specs.Parts.{core_of}
 use Rattle.leaf_lambda.proofs.StepLaws.{core-is}
@@ -32,3 +34,6 @@ returns-clause-held c = λ disk. (
 
 pub returns-clause-outside : goal.returns-clause-outside
 returns-clause-outside c = λ t. ap (λ (x : Core). outside x t) (is c) ∙ empty-outside (chunk_at c.in_ok-new.field-0) (bound_of c.in_ok-new-2.field-0) t
+
+pub returns-clause-tight : goal.returns-clause-tight
+returns-clause-tight c = subst IsTight (sym (is c)) (empty-tight (empty_core (chunk_at c.in_ok-new.field-0) (bound_of c.in_ok-new-2.field-0)) (λ p. ap (λ (f : ℕ → Chunk). (f p).owner) c.in_ok-new.ensures.chunks))
