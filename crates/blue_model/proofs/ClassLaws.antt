@@ -7,7 +7,8 @@ use Rattle.long_names.specs.Objects.{is_ref}
 use Rattle.long_names.specs.State.{object_at, name_at}
 use Rattle.blue_model.specs.declared.cause.Cause.{Cause}
 use Rattle.blue_model.specs.declared.cause.Cause.TheVariants.{Shape, Chain}
-use Rattle.blue_model.specs.Indexes.{SUPERCLASS_INDEX, METHOD_DICTIONARY_INDEX, CLASS_SIZE, METHOD_ARRAY_INDEX, SELECTOR_START, DICTIONARY_SIZE, LONGEST_CHAIN}
+use Rattle.blue_model.specs.declared.indexes.TheConstants.{SUPERCLASS_INDEX, METHOD_DICTIONARY_INDEX, CLASS_SIZE, METHOD_ARRAY_INDEX, SELECTOR_START, DICTIONARY_SIZE}
+use Rattle.blue_model.specs.declared.limits.TheConstants.{LONGEST_CHAIN}
 use Rattle.blue_model.specs.Machine.{Machine, LogRow, Outcome, Go, Halt, Spent, Rule, after, then_do, ◌>>=◌, done, halt, given, pick, rows_at, looked, look, part}
 use Rattle.blue_model.specs.Parts.{is_nil, shaped, size, field, code_of}
 use Rattle.blue_model.specs.Lookup.{raised, place_in, first_slot, turned, turned_back, slot_in, slot_of, method_at, find_in, found_or, find_from, lookup}

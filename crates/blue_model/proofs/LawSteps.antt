@@ -9,7 +9,8 @@ use Rattle.long_names.specs.declared.value.Value.TheVariants.{Int, Ref}
 use Rattle.long_names.specs.declared.object.Object.{Object}
 use Rattle.long_names.specs.declared.object.Body.{Body}
 use Rattle.long_names.specs.declared.object.Body.TheVariants.{Pointers, Words, Bytes, Method}
-use Rattle.long_names.specs.Names.{is_known, NIL, SMALL_INTEGER, LAST_NAME}
+use Rattle.long_names.specs.Names.{is_known, NIL, SMALL_INTEGER}
+use Rattle.long_names.specs.declared.limits.TheConstants.{LAST_NAME}
 use Rattle.long_names.specs.Objects.{Making, holds, fields_of, field_of, pointers_of, literals_of, words_of, bytes_of, with_field, with_words, with_bytes, text_of}
 use Rattle.long_names.specs.Heap.{Heap, Has, put_object, add_object}
 use Rattle.long_names.specs.State.{set_register, set_slot, object_at, name_at, class_at, part_at}
@@ -20,7 +21,7 @@ use Rattle.long_names.proofs.ThinLemmas.{IsThinner-add_object, IsBounded-add_obj
 use Rattle.long_names.proofs.AccessLaws.{words_of_row-same, entries_of_row-same, another, IsThinner-with_body, IsBounded-with_body, IsWhole-with_body, whole-heap}
 use Rattle.blue_model.specs.declared.cause.Cause.{Cause}
 use Rattle.blue_model.specs.declared.cpu.Cpu.{Cpu}
-use Rattle.blue_model.specs.Indexes.{METHOD_INDEX, HOME_INDEX}
+use Rattle.blue_model.specs.declared.indexes.TheConstants.{METHOD_INDEX, HOME_INDEX}
 use Rattle.blue_model.specs.Machine.{Machine, MACHINE_REGISTERS, LogRow, logged, row_of, making_row, Outcome, Go, Halt, Spent, Rule, after, then_do, ◌>>=◌, done, halt, given, pick, is_there, register, placed, put_register, clear, numbers, set_numbers, rows_at, looked, look, part, known, classed, class_of, stored, store, changed, store_word, store_byte, object_made, added, made, make, unpinned, unpin_all, with_pin, pinned, pin, spoken, say, times, each}
 use Rattle.blue_model.specs.declared.answer.Answer.{Answer}
 use Rattle.blue_model.specs.Parts.{at_least, shaped, field, home_by, home_in, home_of, literal}

@@ -4,7 +4,7 @@ use Rattle.long_names.specs.declared.value.Value.{Value}
 use Rattle.long_names.specs.declared.value.Value.TheVariants.{Ref}
 use Rattle.long_names.specs.Names.{NIL}
 use Rattle.long_names.specs.Heap.{Heap}
-use Rattle.blue_model.specs.Indexes.{FIRST_LINK_INDEX, LAST_LINK_INDEX, NEXT_LINK_INDEX, PRIORITY_INDEX, MY_LIST_INDEX}
+use Rattle.blue_model.specs.declared.indexes.TheConstants.{FIRST_LINK_INDEX, LAST_LINK_INDEX, NEXT_LINK_INDEX, PRIORITY_INDEX, MY_LIST_INDEX}
 use Rattle.blue_model.specs.Machine.{Machine, LogRow, Go, ◌>>=◌, ◌>>◌, done, known}
 use Rattle.blue_model.specs.Contexts.{store_field}
 use Rattle.blue_model.specs.Processes.{add, link_behind, take, empty_list, shorten}

@@ -2,7 +2,7 @@
 use Rattle.std.proofs.Common.{◌≡◌, inl, inr, zero, suc, ℕ, pos, ◌+◌, ◌≤◌, ◌<◌, ◌==◌, Bool, true, false, List, [], ◌∷◌, ◌++◌, map, length, Some, slice_get, refl, ◌∙◌, ap, subst, arith, eqb-true}
 use Rattle.long_names.specs.declared.value.Value.TheVariants.{Ref}
 use Rattle.long_names.specs.Heap.{Heap}
-use Rattle.blue_model.specs.Indexes.{PRIORITY_INDEX}
+use Rattle.blue_model.specs.declared.indexes.TheConstants.{PRIORITY_INDEX}
 use Rattle.blue_model.specs.Machine.{Machine}
 use Rattle.blue_model.specs.Queues.{field_at, times_in, IsAmong, AreApart, IsQueue, Queue, AreQueues, lists_of, processes_on, objects_of, HasPriority, HavePriorities}
 use Rattle.blue_model.proofs.NamesLaws.{same, same-no, times-none, times-cons, times-append, either}

@@ -3,7 +3,7 @@ use Rattle.std.specs.Prelude.{if◌then◌else◌, ◌==◌}
 use Rattle.std.proofs.Common.{ℕ, ℤ, zero, suc, Bool, true, false, Option, Some, None, refl}
 use Rattle.long_names.specs.declared.value.Value.TheVariants.{Int, Ref}
 use Rattle.long_names.specs.declared.value.Value.{Value}
-use Rattle.blue_model.specs.Indexes.{FIRST_LINK_INDEX}
+use Rattle.blue_model.specs.declared.indexes.TheConstants.{FIRST_LINK_INDEX}
 use Rattle.blue_model.specs.Machine.{Rule}
 use Rattle.blue_model.specs.Contexts.{store_field, push, stack, pop, pop_top, byte_of, fetch, jump, need_method, put_context, load_home, load, store_registers, enter, nil_context, back, back_with, scheduler, active_process, start, park_new, park}
 use Rattle.blue_model.specs.Lookup.{method_at, find_in, found_or, find_from, put_found, find, find_from_register}

@@ -7,7 +7,7 @@ use Rattle.long_names.specs.Names.{NIL, SCHEDULER_ASSOCIATION}
 use Rattle.long_names.specs.Heap.{Heap}
 use Rattle.long_names.specs.State.{NEW_PROCESS, set_register}
 use Rattle.blue_model.specs.declared.cause.Cause.TheVariants.{Shape, NoProcess}
-use Rattle.blue_model.specs.Indexes.{VALUE_INDEX, ASSOCIATION_SIZE, PROCESS_LISTS_INDEX, ACTIVE_PROCESS_INDEX, SCHEDULER_SIZE, FIRST_LINK_INDEX, LAST_LINK_INDEX, EXCESS_SIGNALS_INDEX, PRIORITY_INDEX}
+use Rattle.blue_model.specs.declared.indexes.TheConstants.{VALUE_INDEX, ASSOCIATION_SIZE, PROCESS_LISTS_INDEX, ACTIVE_PROCESS_INDEX, SCHEDULER_SIZE, FIRST_LINK_INDEX, LAST_LINK_INDEX, EXCESS_SIGNALS_INDEX, PRIORITY_INDEX}
 use Rattle.blue_model.specs.Machine.{Machine, LogRow, Go, Rule, ◌>>=◌, pick, part, numbers, set_numbers}
 use Rattle.blue_model.specs.Parts.{field, is_nil}
 use Rattle.blue_model.specs.Contexts.{scheduler, active_process}

@@ -12,7 +12,7 @@ use Rattle.long_names.specs.declared.value.Value.TheVariants.{Int}
 use Rattle.long_names.specs.Names.{POINT}
 use Rattle.long_names.specs.Objects.{OfPointers, int_of}
 use Rattle.blue_model.specs.declared.answer.Answer.{Answer}
-use Rattle.blue_model.specs.Indexes.{X_INDEX, Y_INDEX, POINT_SIZE}
+use Rattle.blue_model.specs.declared.indexes.TheConstants.{X_INDEX, Y_INDEX, POINT_SIZE}
 use Rattle.blue_model.specs.Machine.{Rule, ◌>>=◌, ◌>>◌, done, known, make}
 use Rattle.blue_model.specs.Contexts.{stated, store_field, stack}
 use Rattle.blue_model.specs.Trials.{where_some, answer, boolean, Primitive}

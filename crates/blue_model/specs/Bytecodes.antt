@@ -10,7 +10,7 @@ use Rattle.blue_model.specs.declared.cause.Cause.TheVariants.{Unused, Stack, Sha
 use Rattle.blue_model.specs.declared.event.Line.{Line}
 use Rattle.blue_model.specs.declared.step.Step.{Step}
 use Rattle.blue_model.specs.declared.step.Step.TheVariants.{Next}
-use Rattle.blue_model.specs.Indexes.{VALUE_INDEX, ASSOCIATION_SIZE, SENDER_INDEX, TEMP_FRAME_START}
+use Rattle.blue_model.specs.declared.indexes.TheConstants.{VALUE_INDEX, ASSOCIATION_SIZE, SENDER_INDEX, TEMP_FRAME_START}
 use Rattle.blue_model.specs.Machine.{Rule, ◌>>=◌, ◌>>◌, done, halt, given, pick, register, part, known, class_of}
 use Rattle.blue_model.specs.Parts.{size, field, literal}
 use Rattle.blue_model.specs.Contexts.{store_field, push, stack, pop, pop_top, fetch, jump}

@@ -6,7 +6,7 @@ use Rattle.long_names.specs.declared.object.Object.{Object}
 use Rattle.long_names.specs.Objects.{is_ref}
 use Rattle.long_names.specs.Heap.{Heap}
 use Rattle.long_names.specs.State.{object_at, name_at}
-use Rattle.blue_model.specs.Indexes.{SUPERCLASS_INDEX, METHOD_DICTIONARY_INDEX, CLASS_SIZE, METHOD_ARRAY_INDEX, SELECTOR_START, DICTIONARY_SIZE}
+use Rattle.blue_model.specs.declared.indexes.TheConstants.{SUPERCLASS_INDEX, METHOD_DICTIONARY_INDEX, CLASS_SIZE, METHOD_ARRAY_INDEX, SELECTOR_START, DICTIONARY_SIZE}
 use Rattle.blue_model.specs.Parts.{is_nil, shaped, field}
 use Rattle.blue_model.specs.Lookup.{raised, first_slot, turned, turned_back}
 

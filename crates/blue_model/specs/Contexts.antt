@@ -5,7 +5,8 @@ use Rattle.long_names.specs.declared.value.Value.TheVariants.{Int}
 use Rattle.long_names.specs.Names.{NIL, SCHEDULER_ASSOCIATION}
 use Rattle.long_names.specs.State.{ACTIVE_CONTEXT, HOME, METHOD, RECEIVER, NEW_PROCESS}
 use Rattle.blue_model.specs.declared.cause.Cause.TheVariants.{Pointer, Stack, Shape}
-use Rattle.blue_model.specs.Indexes.{VALUE_INDEX, ASSOCIATION_SIZE, ACTIVE_PROCESS_INDEX, SCHEDULER_SIZE, SUSPENDED_CONTEXT_INDEX, PROCESS_SIZE, SENDER_INDEX, INSTRUCTION_POINTER_INDEX, STACK_POINTER_INDEX, METHOD_INDEX, RECEIVER_INDEX, TEMP_FRAME_START, EMPTY_STACK, FULL_STACK}
+use Rattle.blue_model.specs.declared.indexes.TheConstants.{VALUE_INDEX, ASSOCIATION_SIZE, ACTIVE_PROCESS_INDEX, SCHEDULER_SIZE, SUSPENDED_CONTEXT_INDEX, PROCESS_SIZE, SENDER_INDEX, INSTRUCTION_POINTER_INDEX, STACK_POINTER_INDEX, METHOD_INDEX, RECEIVER_INDEX, TEMP_FRAME_START, EMPTY_STACK}
+use Rattle.blue_model.specs.declared.limits.TheConstants.{FULL_STACK}
 use Rattle.blue_model.specs.Machine.{Rule, ◌>>=◌, ◌>>◌, done, given, pick, register, put_register, clear, numbers, numbers_at_rest, set_numbers, part, known, store, unpin_all, pin}
 use Rattle.blue_model.specs.Parts.{size, field, number, home_of, code_of, byte_at}
 

@@ -11,7 +11,8 @@ use Rattle.long_names.specs.State.{ACTIVE_CONTEXT, NEW_METHOD}
 use Rattle.blue_model.specs.declared.answer.Answer.{Answer}
 use Rattle.blue_model.specs.declared.answer.Answer.TheVariants.{Done, Execute, Quit}
 use Rattle.blue_model.specs.declared.cause.Cause.TheVariants.{Pointer, Shape}
-use Rattle.blue_model.specs.Indexes.{INSTRUCTION_POINTER_INDEX, STACK_POINTER_INDEX, CALLER_INDEX, BLOCK_ARGUMENT_COUNT_INDEX, INITIAL_IP_INDEX, HOME_INDEX, TEMP_FRAME_START, FULL_STACK}
+use Rattle.blue_model.specs.declared.indexes.TheConstants.{INSTRUCTION_POINTER_INDEX, STACK_POINTER_INDEX, CALLER_INDEX, BLOCK_ARGUMENT_COUNT_INDEX, INITIAL_IP_INDEX, HOME_INDEX, TEMP_FRAME_START}
+use Rattle.blue_model.specs.declared.limits.TheConstants.{FULL_STACK}
 use Rattle.blue_model.specs.Machine.{Rule, ◌>>=◌, ◌>>◌, done, given, pick, each, register, put_register, numbers, part, known, class_of, make}
 use Rattle.blue_model.specs.Parts.{size, field, number, home_of}
 use Rattle.blue_model.specs.Contexts.{store_field, push, stack, pop, stated, enter}

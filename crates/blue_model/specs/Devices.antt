@@ -15,7 +15,7 @@ use Rattle.blue_model.specs.declared.cpu.Cpu.{Cpu}
 use Rattle.blue_model.specs.declared.event.Event.{Event}
 use Rattle.blue_model.specs.declared.event.Event.TheVariants.{Word, Purge, Compact}
 use Rattle.blue_model.specs.declared.event.Line.{Line}
-use Rattle.blue_model.specs.Indexes.{SEMAPHORE_SIZE}
+use Rattle.blue_model.specs.declared.indexes.TheConstants.{SEMAPHORE_SIZE}
 use Rattle.blue_model.specs.Machine.{Rule, ◌>>=◌, ◌>>◌, done, given, pick, register, put_register, numbers, set_numbers, part, class_of, store_byte, say}
 use Rattle.blue_model.specs.Parts.{is_nil, size}
 use Rattle.blue_model.specs.Contexts.{stack, pop}

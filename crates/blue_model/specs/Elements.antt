@@ -13,7 +13,7 @@ use Rattle.blue_model.specs.declared.answer.Answer.{Answer}
 use Rattle.blue_model.specs.declared.cause.Cause.TheVariants.{Shape}
 use Rattle.blue_model.specs.declared.spot.Spot.{Spot}
 use Rattle.blue_model.specs.declared.spot.Spot.TheVariants.{Field, Word, Byte}
-use Rattle.blue_model.specs.Indexes.{CLASS_SIZE, INSTANCE_SPECIFICATION_INDEX, CHARACTER_VALUE_INDEX}
+use Rattle.blue_model.specs.declared.indexes.TheConstants.{CLASS_SIZE, INSTANCE_SPECIFICATION_INDEX, CHARACTER_VALUE_INDEX}
 use Rattle.blue_model.specs.Machine.{Rule, ◌>>=◌, ◌>>◌, done, pick, part, known, class_of, store, store_word, store_byte, make}
 use Rattle.blue_model.specs.Parts.{field, number}
 use Rattle.blue_model.specs.Trials.{where_some, ◌>>?◌, peek}

@@ -6,7 +6,7 @@ use Rattle.std.specs.Int.{bit_at}
 use Rattle.long_names.specs.declared.value.Value.{Value}
 use Rattle.long_names.specs.declared.object.Object.{Object}
 use Rattle.long_names.specs.Objects.{words_of}
-use Rattle.blue_model.specs.Indexes.{BITS_INDEX, WIDTH_INDEX, HEIGHT_INDEX, FORM_SIZE}
+use Rattle.blue_model.specs.declared.indexes.TheConstants.{BITS_INDEX, WIDTH_INDEX, HEIGHT_INDEX, FORM_SIZE}
 use Rattle.blue_model.specs.Machine.{Rule, ◌>>=◌, done}
 use Rattle.blue_model.specs.Parts.{field, number}
 use Rattle.blue_model.specs.Trials.{peek}

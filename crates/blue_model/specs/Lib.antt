@@ -1,4 +1,3 @@
-pub mod Indexes
 pub mod Cause
 pub mod Machine
 pub mod Parts

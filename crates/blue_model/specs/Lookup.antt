@@ -6,7 +6,8 @@ use Rattle.long_names.specs.declared.object.Object.{Object}
 use Rattle.long_names.specs.Objects.{is_ref}
 use Rattle.long_names.specs.State.{SELECTOR, NEW_METHOD, name_at}
 use Rattle.blue_model.specs.declared.cause.Cause.TheVariants.{Shape, Chain}
-use Rattle.blue_model.specs.Indexes.{SUPERCLASS_INDEX, METHOD_DICTIONARY_INDEX, CLASS_SIZE, METHOD_ARRAY_INDEX, SELECTOR_START, DICTIONARY_SIZE, LONGEST_CHAIN}
+use Rattle.blue_model.specs.declared.indexes.TheConstants.{SUPERCLASS_INDEX, METHOD_DICTIONARY_INDEX, CLASS_SIZE, METHOD_ARRAY_INDEX, SELECTOR_START, DICTIONARY_SIZE}
+use Rattle.blue_model.specs.declared.limits.TheConstants.{LONGEST_CHAIN}
 use Rattle.blue_model.specs.Machine.{Rule, ◌>>=◌, ◌>>◌, done, halt, pick, register, put_register, look, part}
 use Rattle.blue_model.specs.Parts.{is_nil, shaped, size, field, code_of}
 

@@ -5,7 +5,8 @@ use Rattle.long_names.specs.declared.value.Value.{Value}
 use Rattle.long_names.specs.declared.value.Value.TheVariants.{Int, Ref}
 use Rattle.long_names.specs.declared.object.Body.{Body}
 use Rattle.long_names.specs.declared.object.Object.{Object}
-use Rattle.long_names.specs.Names.{NIL, LAST_NAME}
+use Rattle.long_names.specs.Names.{NIL}
+use Rattle.long_names.specs.declared.limits.TheConstants.{LAST_NAME}
 use Rattle.long_names.specs.Objects.{Making, body_made, with_field, with_words, with_bytes, field_of, words_of, bytes_of, text_of}
 use Rattle.long_names.specs.Heap.{Heap, add_object}
 use Rattle.long_names.specs.State.{set_register, set_slot, object_at, name_at, class_at, part_at}
@@ -14,7 +15,7 @@ use Rattle.long_names.specs.Need.{Row, words_of_row, entries_of_row}
 use Rattle.blue_model.specs.declared.cause.Cause.{Cause}
 use Rattle.blue_model.specs.declared.cause.Cause.TheVariants.{Shape}
 use Rattle.blue_model.specs.declared.cpu.Cpu.{Cpu}
-use Rattle.blue_model.specs.Indexes.{EMPTY_STACK}
+use Rattle.blue_model.specs.declared.indexes.TheConstants.{EMPTY_STACK}
 
 -- ---- machines
 

@@ -11,7 +11,8 @@ use Rattle.long_names.specs.Words.{unsigned_of, literal_count}
 use Rattle.long_names.specs.Objects.{OfPointers, int_of, is_ref, literals_of}
 use Rattle.long_names.specs.State.{ACTIVE_CONTEXT, SELECTOR, NEW_METHOD}
 use Rattle.blue_model.specs.declared.cause.Cause.TheVariants.{Stack, Shape, NotUnderstood}
-use Rattle.blue_model.specs.Indexes.{SENDER_INDEX, INSTRUCTION_POINTER_INDEX, STACK_POINTER_INDEX, METHOD_INDEX, RECEIVER_INDEX, SMALL_CONTEXT_SIZE, LARGE_CONTEXT_SIZE, MESSAGE_SELECTOR_INDEX, MESSAGE_ARGUMENTS_INDEX, MESSAGE_SIZE}
+use Rattle.blue_model.specs.declared.indexes.TheConstants.{SENDER_INDEX, INSTRUCTION_POINTER_INDEX, STACK_POINTER_INDEX, METHOD_INDEX, RECEIVER_INDEX, SMALL_CONTEXT_SIZE, LARGE_CONTEXT_SIZE, MESSAGE_SELECTOR_INDEX, MESSAGE_ARGUMENTS_INDEX, MESSAGE_SIZE}
+use Rattle.blue_model.specs.declared.limits.TheConstants.{SELF_FLAG, EXTENSION_FLAG}
 use Rattle.blue_model.specs.Machine.{Rule, ◌>>=◌, ◌>>◌, done, halt, given, pick, each, register, put_register, numbers, set_numbers, part, known, make}
 use Rattle.blue_model.specs.Parts.{size, heading}
 use Rattle.blue_model.specs.Contexts.{stack_place, store_field, push, stack, pop, enter}
@@ -19,11 +20,11 @@ use Rattle.blue_model.specs.Lookup.{find}
 
 -- ---- methods (chapter 27, compiled methods)
 
--- 0 to 4: so many arguments, and no primitive; 5 answers self, 6 a field of the receiver; 7 has a header extension
+-- below `SELF_FLAG` so many arguments, and no primitive; the method answers self, or a field of the receiver, or it has an extension
 abbrev pub flag_of : ℤ → ℕ
 flag_of header = unsigned_of header / 4096
 
--- how many temporaries, arguments among them; with flag 6 the number of the field
+-- how many temporaries, arguments among them; with `FIELD_FLAG` the number of the field
 abbrev pub temporaries_of : ℤ → ℕ
 temporaries_of header = unsigned_of header / 128 % 32
 
@@ -55,13 +56,13 @@ extension_arguments extension = unsigned_of extension / 256 % 32
 
 -- of a method without a header extension
 abbrev pub flag_arguments : ℕ → ℕ
-flag_arguments flag = if nat_lt flag 5 then flag else 0
+flag_arguments flag = if nat_lt flag SELF_FLAG then flag else 0
 
 -- argumentCountOf: (chapter 28)
 unfoldable pub arguments_of : Value → Rule ℕ
 arguments_of method = do
   header ← part Shape heading method
-  pick (flag_of header == 7) (part Shape extension method >>= λ it. done (extension_arguments it)) (done (flag_arguments (flag_of header)))
+  pick (flag_of header == EXTENSION_FLAG) (part Shape extension method >>= λ it. done (extension_arguments it)) (done (flag_arguments (flag_of header)))
 
 -- ---- the message
 

@@ -6,7 +6,8 @@ use Rattle.long_names.specs.declared.value.Value.TheVariants.{Int, Ref}
 use Rattle.long_names.specs.declared.object.Object.{Object}
 use Rattle.long_names.specs.Names.{NIL}
 use Rattle.long_names.specs.Objects.{int_of, is_ref, header_of, pointers_of, literals_of, bytes_of}
-use Rattle.blue_model.specs.Indexes.{METHOD_INDEX, HOME_INDEX, TEMP_FRAME_START, LAST_BYTE}
+use Rattle.blue_model.specs.declared.indexes.TheConstants.{METHOD_INDEX, HOME_INDEX, TEMP_FRAME_START}
+use Rattle.blue_model.specs.declared.limits.TheConstants.{LAST_BYTE}
 
 -- ---- values
 

@@ -8,7 +8,7 @@ use Rattle.long_names.specs.State.{ACTIVE_CONTEXT, NEW_PROCESS}
 use Rattle.blue_model.specs.declared.answer.Answer.{Answer}
 use Rattle.blue_model.specs.declared.answer.Answer.TheVariants.{Done}
 use Rattle.blue_model.specs.declared.cause.Cause.TheVariants.{Shape, NoProcess}
-use Rattle.blue_model.specs.Indexes.{PROCESS_LISTS_INDEX, ACTIVE_PROCESS_INDEX, FIRST_LINK_INDEX, LAST_LINK_INDEX, EXCESS_SIGNALS_INDEX, SEMAPHORE_SIZE, NEXT_LINK_INDEX, SUSPENDED_CONTEXT_INDEX, PRIORITY_INDEX, MY_LIST_INDEX, PROCESS_SIZE, SCHEDULER_SIZE}
+use Rattle.blue_model.specs.declared.indexes.TheConstants.{PROCESS_LISTS_INDEX, ACTIVE_PROCESS_INDEX, FIRST_LINK_INDEX, LAST_LINK_INDEX, EXCESS_SIGNALS_INDEX, SEMAPHORE_SIZE, NEXT_LINK_INDEX, SUSPENDED_CONTEXT_INDEX, PRIORITY_INDEX, MY_LIST_INDEX, PROCESS_SIZE, SCHEDULER_SIZE}
 use Rattle.blue_model.specs.Machine.{Rule, ◌>>=◌, ◌>>◌, done, halt, given, pick, register, put_register, numbers, set_numbers, part, known}
 use Rattle.blue_model.specs.Parts.{is_nil, size, field, number}
 use Rattle.blue_model.specs.Contexts.{store_field, stack, enter, scheduler, active_process}

@@ -8,7 +8,7 @@ use Rattle.long_names.specs.Names.{NIL, SCHEDULER_ASSOCIATION}
 use Rattle.long_names.specs.Objects.{pointers_of}
 use Rattle.long_names.specs.Heap.{Heap}
 use Rattle.long_names.specs.State.{NEW_PROCESS}
-use Rattle.blue_model.specs.Indexes.{VALUE_INDEX, PROCESS_LISTS_INDEX, ACTIVE_PROCESS_INDEX, FIRST_LINK_INDEX, LAST_LINK_INDEX, NEXT_LINK_INDEX, PRIORITY_INDEX}
+use Rattle.blue_model.specs.declared.indexes.TheConstants.{VALUE_INDEX, PROCESS_LISTS_INDEX, ACTIVE_PROCESS_INDEX, FIRST_LINK_INDEX, LAST_LINK_INDEX, NEXT_LINK_INDEX, PRIORITY_INDEX}
 use Rattle.blue_model.specs.Machine.{Machine}
 
 -- ---- fields

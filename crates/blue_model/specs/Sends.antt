@@ -9,7 +9,8 @@ use Rattle.blue_model.specs.declared.answer.Answer.TheVariants.{Done, Failed, Ex
 use Rattle.blue_model.specs.declared.cause.Cause.TheVariants.{Shape}
 use Rattle.blue_model.specs.declared.event.Line.{Line}
 use Rattle.blue_model.specs.declared.step.Step.{Step}
-use Rattle.blue_model.specs.Indexes.{VALUE_INDEX, ASSOCIATION_SIZE, INSTRUCTION_POINTER_INDEX, SUPERCLASS_INDEX}
+use Rattle.blue_model.specs.declared.indexes.TheConstants.{VALUE_INDEX, ASSOCIATION_SIZE, INSTRUCTION_POINTER_INDEX, SUPERCLASS_INDEX}
+use Rattle.blue_model.specs.declared.limits.TheConstants.{SELF_FLAG, FIELD_FLAG, EXTENSION_FLAG}
 use Rattle.blue_model.specs.Machine.{Rule, ◌>>=◌, ◌>>◌, done, given, pick, register, put_register, numbers, part, known, class_of}
 use Rattle.blue_model.specs.Parts.{is_nil, field, number, heading}
 use Rattle.blue_model.specs.Contexts.{push, stack, back_with}
@@ -45,7 +46,7 @@ unfoldable pub execute_method : List Line → Bool → Rule Answer
 execute_method events performed = do
   method ← register NEW_METHOD
   header ← part Shape heading method
-  pick (flag_of header == 5) (done Done) (pick (flag_of header == 6) (answer_field (temporaries_of header) >> done Done) (pick (flag_of header == 7) (execute_extended events performed method) (activate >> done Done)))
+  pick (flag_of header == SELF_FLAG) (done Done) (pick (flag_of header == FIELD_FLAG) (answer_field (temporaries_of header) >> done Done) (pick (flag_of header == EXTENSION_FLAG) (execute_extended events performed method) (activate >> done Done)))
 
 -- executeNewMethod (chapter 28), and the method that a perform found
 unfoldable pub execute : List Line → Rule Step

@@ -7,10 +7,11 @@ use Rattle.long_names.specs.declared.value.Value.{Value}
 use Rattle.long_names.specs.declared.value.Value.TheVariants.{Int, Ref}
 use Rattle.long_names.specs.declared.object.Object.{Object}
 use Rattle.long_names.specs.Names.{STRING, ARRAY, COMPILED_METHOD}
-use Rattle.long_names.specs.Objects.{Making, OfPointers, OfWords, OfBytes, OfMethod, MOST_CODE, name_of, int_of, is_ref, pointers_of, text_of}
+use Rattle.long_names.specs.Objects.{Making, OfPointers, OfWords, OfBytes, OfMethod, name_of, int_of, is_ref, pointers_of, text_of}
+use Rattle.long_names.specs.declared.limits.TheConstants.{MOST_CODE}
 use Rattle.blue_model.specs.declared.answer.Answer.{Answer}
 use Rattle.blue_model.specs.declared.spot.Spot.{Spot}
-use Rattle.blue_model.specs.Indexes.{STREAM_ARRAY_INDEX, STREAM_INDEX_INDEX, STREAM_READ_LIMIT_INDEX, STREAM_WRITE_LIMIT_INDEX, STREAM_SIZE}
+use Rattle.blue_model.specs.declared.indexes.TheConstants.{STREAM_ARRAY_INDEX, STREAM_INDEX_INDEX, STREAM_READ_LIMIT_INDEX, STREAM_WRITE_LIMIT_INDEX, STREAM_SIZE}
 use Rattle.blue_model.specs.Machine.{Rule, ◌>>=◌, ◌>>◌, done, pick, class_of, store, make}
 use Rattle.blue_model.specs.Parts.{size, field, number, literal, heading}
 use Rattle.blue_model.specs.Contexts.{store_field, stack}

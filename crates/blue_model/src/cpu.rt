@@ -2,6 +2,8 @@
 ghost use Rattle.std.specs.Prelude.{◌≡◌};
 ghost use Rattle.blue_model.specs.Machine.{numbers_at_rest};
 
+use crate::indexes::EMPTY_STACK;
+
 /// What the interpreter knows beside its registers: two pointers, and numbers that count.
 #[derive(Clone, Copy, Debug, PartialEq, Eq)]
 pub struct Cpu {
@@ -34,7 +36,7 @@ impl Cpu {
     {
         Cpu {
             ip: 0,
-            sp: 5,
+            sp: EMPTY_STACK as i32,
             args: 0,
             waiting: false,
             line: 0,

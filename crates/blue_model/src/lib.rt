@@ -18,7 +18,9 @@ mod answer;
 mod cause;
 mod cpu;
 mod event;
+pub mod indexes;
 pub mod laws;
+pub mod limits;
 mod spot;
 mod step;
 

@@ -19,7 +19,7 @@ use Rattle.object_memory.proofs.LaterLaws.{IsLater-refl}
 use Rattle.blue_model.specs.declared.cause.Cause.{Cause}
 use Rattle.blue_model.specs.declared.cause.Cause.TheVariants.{Pointer, Shape}
 use Rattle.blue_model.specs.declared.cpu.Cpu.{Cpu}
-use Rattle.blue_model.specs.Indexes.{LAST_BYTE}
+use Rattle.blue_model.specs.declared.limits.TheConstants.{LAST_BYTE}
 use Rattle.blue_model.specs.Machine.{Rule, given}
 use Rattle.blue_model.specs.Parts.{code_of, byte_at}
 use Rattle.blue_model.specs.Contexts.{byte_of}

@@ -4,7 +4,7 @@ use Rattle.long_names.specs.declared.value.Value.{Value}
 use Rattle.long_names.specs.declared.value.Value.TheVariants.{Int, Ref}
 use Rattle.long_names.specs.declared.object.Object.{Object}
 use Rattle.blue_model.specs.declared.cause.Cause.{Cause}
-use Rattle.blue_model.specs.Indexes.{LONGEST_CHAIN}
+use Rattle.blue_model.specs.declared.limits.TheConstants.{LONGEST_CHAIN}
 use Rattle.blue_model.specs.Machine.{Machine, LogRow, Outcome, Go, Halt, Spent, Rule, log_of, after, then_do, ◌>>=◌, done, halt, given, pick, looked, look, part}
 use Rattle.blue_model.specs.Lookup.{method_at, find_in, found_or, find_from, lookup}
 use Rattle.contexts.specs.Cache.{IsRead}

@@ -5,7 +5,8 @@ use borrow.Author.Tests.{ltb-true, ltb-false}
 use Rattle.long_names.specs.declared.value.Value.{Value}
 use Rattle.long_names.specs.declared.value.Value.TheVariants.{Ref}
 use Rattle.long_names.specs.declared.object.Object.{Object}
-use Rattle.long_names.specs.Names.{NIL, LAST_NAME}
+use Rattle.long_names.specs.Names.{NIL}
+use Rattle.long_names.specs.declared.limits.TheConstants.{LAST_NAME}
 use Rattle.long_names.specs.Objects.{Making}
 use Rattle.long_names.specs.Heap.{Heap, Has, add_object}
 use Rattle.long_names.specs.State.{name_at}

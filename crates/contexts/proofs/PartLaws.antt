@@ -18,7 +18,7 @@ use Rattle.object_memory.proofs.Callers.{field_there}
 use Rattle.blue_model.specs.declared.cause.Cause.TheVariants.{Shape}
 use Rattle.blue_model.specs.declared.cpu.Cpu.{Cpu}
 use Rattle.blue_model.specs.Machine.{◌>>=◌, given, part}
-use Rattle.blue_model.specs.Indexes.{METHOD_INDEX, HOME_INDEX, TEMP_FRAME_START}
+use Rattle.blue_model.specs.declared.indexes.TheConstants.{METHOD_INDEX, HOME_INDEX, TEMP_FRAME_START}
 use Rattle.blue_model.specs.Parts.{at_least, shaped, size, field, number, heading, home_by, home_in, home_of, code_by, code_of, literal}
 use Rattle.blue_model.specs.Messages.{last_literal, literal_before_last, extension}
 use Rattle.contexts.specs.declared.stop.Stop.{Stop}

@@ -1,7 +1,7 @@
 -- Places in code, as the code of the interpreter finds them.
 use Rattle.std.specs.Prelude.{ℕ, ℤ, pos, negsuc, ◌+◌, ◌-◌, ◌*◌, ◌&&◌, nat_lt, nat_le, Option, Some, None, if◌then◌else◌}
 use Rattle.std.specs.Option.{option_and_then}
-use Rattle.blue_model.specs.Indexes.{LAST_BYTE}
+use Rattle.blue_model.specs.declared.limits.TheConstants.{LAST_BYTE}
 
 -- the number that an instruction pointer may have
 abbrev pub code_place : ℤ → Option ℕ

@@ -1,7 +1,8 @@
 // Parts of objects that rules read, and the store into a field.
 ghost use Rattle.std.specs.Prelude.{◌≡◌, ◌≤◌, ◌<◌, ℕ, [], ◌∷◌, OnOk, IfOk, length, true};
 ghost use Rattle.long_names.specs.Names.{is_known};
-ghost use Rattle.long_names.specs.Objects.{pointers_of, OfPointers, OfWords, OfBytes, OfMethod, MOST_CODE};
+ghost use Rattle.long_names.specs.Objects.{pointers_of, OfPointers, OfWords, OfBytes, OfMethod};
+ghost use Rattle.long_names.specs.declared.limits.TheConstants.{MOST_CODE};
 ghost use Rattle.long_names.specs.State.{IsRef};
 ghost use Rattle.long_names.specs.Words.{IsSmallInteger};
 ghost use Rattle.long_names.specs.declared.value.Value.TheVariants.{Ref};

@@ -4,7 +4,8 @@ use Rattle.std.specs.Prelude.{ℕ, ℤ, pos, negsuc, ◌%◌, ◌==◌, ◌&&◌
 use Rattle.std.specs.List.{list_all}
 use Rattle.long_names.specs.Names.{is_known, known_names}
 use Rattle.long_names.specs.Words.{literal_count}
-use Rattle.long_names.specs.Objects.{MOST_CODE, fields_of}
+use Rattle.long_names.specs.Objects.{fields_of}
+use Rattle.long_names.specs.declared.limits.TheConstants.{MOST_CODE}
 use Rattle.long_names.specs.Heap.{Heap, count_of}
 use Rattle.long_names.specs.declared.value.Value.{Value}
 use Rattle.long_names.specs.declared.value.Value.TheVariants.{Int, Ref}

@@ -5,3 +5,4 @@ mod Pieces
 mod Places
 mod Taken
 pub mod Windows
+pub mod WorkLaws

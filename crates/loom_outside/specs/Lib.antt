@@ -1,5 +1,6 @@
 pub mod Bytes
 pub mod Files
+pub mod Lying
 pub mod Marks
 pub mod Memory
 pub mod Outside
@@ -9,3 +10,4 @@ pub mod Reading
 pub mod Real
 pub mod Rooms
 pub mod Store
+pub mod Work

@@ -1,5 +1,5 @@
 -- What the roles of a host hold, and what its calls do to them.
-use Rattle.std.specs.Prelude.{Bool, true, false, ◌≡◌, ◌≢◌, ℕ, ◌≤◌, List, [], ◌++◌, length, take, drop, Option, None, Some, Result, IsErr, OnOk, IfSome}
+use Rattle.std.specs.Prelude.{Bool, true, false, ◌≡◌, ◌≢◌, ℕ, ◌≤◌, List, [], ◌++◌, length, take, drop, Option, None, Some, Result, IsErr, OnOk, OnErr, IfSome}
 use Rattle.long_names.specs.Counting.{counted, Rose}
 use Rattle.loom_outside.specs.declared.outside.Role.{Role}
 use Rattle.loom_outside.specs.declared.outside.Role.TheVariants.{Image, Events, Saved, Display, Transcript, Notes}
@@ -10,10 +10,10 @@ pub record RoleState : Type 0 where
   -- the calls of `attach`, failed ones among them, and the name of the last
   pub attaches : ℕ
   pub name : Option (List ℕ)
-  -- of a role that is read: the bytes taken since then, and those left
+  -- of a role that is read: the bytes taken since the last attach that went through, and those left
   pub taken : List ℕ
   pub left : List ℕ
-  -- of a role that is written: the bytes put
+  -- of a role that is written: the bytes put since then
   pub put : List ℕ
   -- of Work
   pub contents : List ℕ
@@ -38,11 +38,14 @@ takes n s = record s { taken = s.taken ++ take n s.left; left = drop n s.left }
 abbrev pub holds : List ℕ → RoleState → RoleState
 holds bytes s = record s { contents = bytes }
 
--- after an attach of this name; of one that failed the name may be lost
+-- after an attach of this name; after one that failed the name may be lost, and the role is read and written on where it was
 pub record Attached {T : Type 0} (text : List ℕ) (result : Result T Failed) (old new : RoleState) : Type 0 where
   pub attaches : new.attaches ≡ counted old.attaches
   pub named : OnOk result (new.name ≡ Some text)
   pub no_other : IfSome new.name (λ name. name ≡ text)
+  pub still_taken : OnErr result (new.taken ≡ old.taken)
+  pub still_left : OnErr result (new.left ≡ old.left)
+  pub still_put : OnErr result (new.put ≡ old.put)
 
 -- nothing is taken of it, put to it or held by it
 pub record IsFresh (s : RoleState) : Type 0 where

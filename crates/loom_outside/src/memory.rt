@@ -1,5 +1,5 @@
 // A host in memory, for tests. It tells all, and fails where it is told to.
-ghost use Rattle.std.specs.Prelude.{◌≡◌, ◌≢◌, ◌+◌, ◌<◌, ◌≤◌, ◌++◌, ◌∷◌, ◌&&◌, ℕ, true, false, [], option_copied, None, Some, List, IsTrue, IfOk, OnOk, OnErr, IsErr, IsOk, IsSome, length, take, min, if◌then◌else◌};
+ghost use Rattle.std.specs.Prelude.{◌≡◌, ◌≢◌, ◌+◌, ◌-◌, ◌^◌, ◌<◌, ◌≤◌, ◌++◌, ◌∷◌, ◌&&◌, ℕ, true, false, [], option_copied, None, Some, List, IsTrue, IfOk, OnOk, OnErr, IsErr, IsOk, IsSome, length, take, min, if◌then◌else◌};
 ghost use Rattle.std.specs.Str.{bytes_eq};
 ghost use Rattle.loom_outside.specs.Bytes.{window, overwritten};
 ghost use Rattle.loom_outside.specs.Marks.{marked, stored, unmarked};
@@ -279,6 +279,7 @@ impl Host for MemoryHost {
         ensures others { SameBut Role.Work (roles_of self.old) (roles_of self.new) }
         ensures other_faults { SameBut Role.Work (faults_of self.old) (faults_of self.new) }
         ensures writes { writes_of self.new ≡ counted (writes_of self.old) }
+        ensures limit { writes_of self.old ≤ 2 ^ 64 - 1 }
         ensures cause { HasCause (faults_of self.old Role.Work) (faults_of self.new Role.Work) result }
 
         ensures call { OneCall Role.Work self.old self.new result }

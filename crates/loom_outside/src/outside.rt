@@ -1,5 +1,5 @@
 // The seven roles, and what a host does with each.
-ghost use Rattle.std.specs.Prelude.{◌≡◌, ◌+◌, ◌<◌, ◌≤◌, ℕ, Bool, IsTrue, IfOk, OnOk, OnErr, List, length, take, min};
+ghost use Rattle.std.specs.Prelude.{◌≡◌, ◌+◌, ◌-◌, ◌^◌, ◌<◌, ◌≤◌, ℕ, Bool, IsTrue, IfOk, OnOk, OnErr, List, length, take, min};
 ghost use Rattle.loom_outside.specs.declared.outside.Role.{Role};
 ghost use Rattle.loom_outside.specs.Bytes.{window, overwritten};
 ghost use Rattle.loom_outside.specs.Outside.{RoleState, SameBut, HasCause, CanAttach, CanRead, CanWrite, Attached, IsFresh, Took, TookSome, PutPrefix, puts, holds};
@@ -51,7 +51,8 @@ pub trait Host {
     ghost writes: { Self → ℕ };
 
     /// Opens the file of this name for a role: Image and Events to be read from its start, Work, Saved
-    /// and Display as a new and empty file.
+    /// and Display as a new and empty file. Where it failed, the role is read and written on where it
+    /// was; of what Work holds nothing is known.
     fn attach(&mut self, role: Role, name: &str) -> Result<(), Failed>
         requires { CanAttach role }
         ensures attached { IsTrue (tells role) → Attached name.now result (roles self.old role) (roles self.new role) }
@@ -108,6 +109,7 @@ pub trait Host {
         ensures others { SameBut Role.Work (roles self.old) (roles self.new) }
         ensures other_faults { SameBut Role.Work (faults self.old) (faults self.new) }
         ensures writes { writes self.new ≡ counted (writes self.old) }
+        ensures limit { writes self.old ≤ 2 ^ 64 - 1 }
         ensures cause { HasCause (faults self.old Role.Work) (faults self.new Role.Work) result };
 
     /// How often calls on this role failed, up to the greatest u64.

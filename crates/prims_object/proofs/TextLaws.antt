@@ -16,7 +16,7 @@ use Rattle.blue_model.specs.declared.spot.Spot.TheVariants.{Field, Word, Byte}
 use Rattle.blue_model.specs.Machine.{Machine, Outcome, Go, Rule, row_of, after, then_do, ◌>>=◌, done, pick, part}
 use Rattle.blue_model.specs.Trials.{peek}
 use Rattle.blue_model.specs.Elements.{byte_by, byte_of_object, text_at}
-use Rattle.blue_model.specs.Indexes.{CHARACTER_VALUE_INDEX}
+use Rattle.blue_model.specs.declared.indexes.TheConstants.{CHARACTER_VALUE_INDEX}
 use Rattle.blue_model.specs.Parts.{number}
 use Rattle.blue_model.specs.declared.cpu.Cpu.{Cpu}
 use Rattle.object_memory.specs.Told.{Told, IsReady}

@@ -2,7 +2,7 @@
 // in SCRATCH_1, the value in SCRATCH_2.
 ghost use Rattle.std.specs.Prelude.{◌≡◌, ◌≤◌, OnOk, IfSome};
 ghost use Rattle.std.specs.Option.{option_and_then};
-ghost use Rattle.long_names.specs.Objects.{MOST_CODE};
+ghost use Rattle.long_names.specs.declared.limits.TheConstants.{MOST_CODE};
 ghost use Rattle.long_names.specs.Words.{IsSmallInteger};
 ghost use Rattle.object_memory.specs.Told.{IsReady};
 ghost use Rattle.blue_model.specs.Storage as model;

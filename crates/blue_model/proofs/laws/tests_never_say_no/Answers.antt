@@ -5,7 +5,8 @@ use Rattle.long_names.specs.Heap.{Heap, Has}
 use Rattle.long_names.proofs.ThinLemmas.{holds-class, holds-field, has_here}
 use Rattle.long_names.specs.declared.object.Object.{Object}
 use Rattle.long_names.specs.Heap.{add_object}
-use Rattle.long_names.specs.Names.{NIL, LAST_NAME}
+use Rattle.long_names.specs.Names.{NIL}
+use Rattle.long_names.specs.declared.limits.TheConstants.{LAST_NAME}
 use Rattle.long_names.specs.Objects.{Making}
 use Rattle.blue_model.specs.Machine.{Machine, LogRow, Outcome, Go, is_there, object_made, added, made, make}
 use Rattle.blue_model.proofs.laws.tests_never_say_no.Goals as goal

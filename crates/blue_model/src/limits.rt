@@ -1,0 +1,21 @@
+// The limits of the machine, and the flags of a method's header. Each number stands here once, and definitions and clauses cite it.
+
+/// The highest stack pointer: as many values as the greatest SmallInteger, and the fields before them.
+pub const FULL_STACK: u32 = 16_388;
+
+/// The highest number of a byte of code, behind which an instruction pointer can be stated by a SmallInteger.
+pub const LAST_BYTE: u32 = 16_381;
+
+/// The most classes that a lookup visits.
+pub const LONGEST_CHAIN: u32 = 1024;
+
+// ---- the flag of a method's header (chapter 27, compiled methods). Below these it is the number of arguments
+
+/// The method answers its receiver.
+pub const SELF_FLAG: u32 = 5;
+
+/// The method answers a field of its receiver.
+pub const FIELD_FLAG: u32 = 6;
+
+/// The literal before the last is the header extension.
+pub const EXTENSION_FLAG: u32 = 7;
