@@ -1,156 +1,56 @@
-// A host over files and the standard streams.
-ghost use Rattle.std.specs.Prelude.{◌≡◌, ◌<◌, ◌≤◌, false, IfOk, IfSome, length};
+// A host over files and the standard streams, by which nothing that was kept is lost:
+//
+// - A file is cut or replaced only where no other role has it, whatever it is called; else the attach fails. Saved alone may
+//   replace what Image or Events read.
+// - What was written to a file is on the disk before the next role is attached, and Display's once each write is done; else
+//   that call fails.
+// - Saved is written beside its file, and takes its name when the next role is attached. So at any moment, also after a kill
+//   or a loss of power, the file of that name is the old one or the new one, whole. Only a file that is none of the kind, as
+//   a device, or one in a folder where none can be made, is written in its place.
+ghost use Rattle.std.specs.Prelude.{◌≡◌, false};
 ghost use Rattle.loom_outside.specs.Outside.{at_start};
 ghost use Rattle.loom_outside.specs.Real.{faults_counted, writes_counted};
 ghost use Rattle.loom_outside.specs.declared.outside.Role.{Role};
 
-use crate::per_role::PerRole;
-use crate::{Failed, Host, Role};
-use std::fs::{File, OpenOptions};
-use std::io::{ErrorKind, Read, Seek, SeekFrom, Write};
-use std::rt::Files;
+mod attached;
+mod identity;
+mod paths;
+mod saving;
+mod transfer;
 
-// How often a call is made at most, while signals interrupt it.
-const MOST_TRIES: u32 = 1_000;
+use crate::per_role::PerRole;
+use crate::real::attached::Attached;
+use crate::{Failed, Host, Role};
+use std::io::Write;
+use std::rt::Files;
 
 /// A host over files, and a writer each for Transcript and Notes. It tells nothing of bytes, and counts
 /// each failure, a call on a role that isn't attached among them. It keeps no bytes back: each call goes
 /// on to the file or the writer. A read, a write or a seek that a signal interrupts is made again, and
 /// has failed only where that happened 1,000 times in a row. The opening of a file is made again by std.
+/// Saved is attached until another role is: then it has its name, and takes no more.
 #[derive(Drop)]
-pub struct RealHost<R: Files, T: Write, N: Write> {
-    rt: R,
-    image: Option<R::File>,
-    events: Option<R::File>,
-    work: Option<R::File>,
-    saved: Option<R::File>,
-    display: Option<R::File>,
-    transcript: T,
-    notes: N,
+pub struct RealHost<R: Files + Alloc, T: Write, N: Write> {
+    files: Attached<R, T, N>,
     faults: PerRole<u64>,
     writes: u64,
 }
 
-// Some bytes to the front of the buffer, or None where that failed.
-fn read_some<F: Read>(file: &mut F, buf: &mut [u8]) -> Option<usize>
-    ensures { IfSome result (λ n. n ≤ length buf.old) }
-{
-    for _ in 0..MOST_TRIES {
-        match file.read(buf) {
-            Ok(n) => return Some(n),
-            Err(error) if error.kind() == ErrorKind::Interrupted => {}
-            Err(_) => return None,
-        }
-    }
-    None
-}
-
-fn read_from<F: Read>(file: &mut Option<F>, buf: &mut [u8]) -> Option<usize>
-    ensures { IfSome result (λ n. n ≤ length buf.old) }
-{
-    match file {
-        Some(file) => read_some(file, buf),
-        None => None,
-    }
-}
-
-// Some bytes of the piece, or None where that failed. A sink that takes nothing has failed.
-fn write_some<W: Write>(sink: &mut W, buf: &[u8]) -> Option<usize>
-    ensures bound { IfSome result (λ n. n ≤ length buf.now) }
-    ensures some { 0 < length buf.now → IfSome result (λ n. 0 < n) }
-{
-    if buf.is_empty() {
-        return Some(0);
-    }
-    for _ in 0..MOST_TRIES {
-        match sink.write(buf) {
-            Ok(0) => return None,
-            Ok(n) => return Some(n),
-            Err(error) if error.kind() == ErrorKind::Interrupted => {}
-            Err(_) => return None,
-        }
-    }
-    None
-}
-
-fn write_to<W: Write>(file: &mut Option<W>, buf: &[u8]) -> Option<usize>
-    ensures bound { IfSome result (λ n. n ≤ length buf.now) }
-    ensures some { 0 < length buf.now → IfSome result (λ n. 0 < n) }
-{
-    match file {
-        Some(file) => write_some(file, buf),
-        None => None,
-    }
-}
-
-// Goes to a place, counted from the start; false where that failed.
-fn seek_to<F: Seek>(file: &mut F, place: u64) -> bool {
-    for _ in 0..MOST_TRIES {
-        match file.seek(SeekFrom::Start(place)) {
-            Ok(_) => return true,
-            Err(error) if error.kind() == ErrorKind::Interrupted => {}
-            Err(_) => return false,
-        }
-    }
-    false
-}
-
-// The whole piece from a place on, with zeros past the end; false where that failed.
-fn read_whole<F: Read + Seek>(file: &mut F, place: u64, buf: &mut [u8]) -> bool {
-    if !seek_to(file, place) {
-        return false;
-    }
-    let mut done = 0;
-    while done < buf.len() {
-        match read_some(file, &mut buf[done..]) {
-            Some(0) => {
-                buf[done..].fill(0);
-                return true;
-            }
-            Some(n) => done += n,
-            None => return false,
-        }
-    }
-    true
-}
-
-// The whole piece to a place on; false where that failed.
-fn write_whole<F: Write + Seek>(file: &mut F, place: u64, buf: &[u8]) -> bool {
-    if !seek_to(file, place) {
-        return false;
-    }
-    let mut done = 0;
-    while done < buf.len() {
-        match write_some(file, &buf[done..]) {
-            Some(n) => done += n,
-            None => return false,
-        }
-    }
-    true
-}
-
-impl<R: Files, T: Write, N: Write> RealHost<R, T, N> {
+impl<R: Files + Alloc, T: Write, N: Write> RealHost<R, T, N> {
     /// A host where nothing is attached and nothing failed. The writers are those of Transcript and Notes.
     pub fn new(rt: R, transcript: T, notes: N) -> RealHost<R, T, N>
         ensures faults { (r : Role) → ⟦<RealHost<R, T, N> as Host>⟧.faults result r ≡ 0 }
         ensures writes { ⟦<RealHost<R, T, N> as Host>⟧.writes result ≡ 0 }
     {
         RealHost {
-            rt,
-            image: None,
-            events: None,
-            work: None,
-            saved: None,
-            display: None,
-            transcript,
-            notes,
+            files: Attached::new(rt, transcript, notes),
             faults: PerRole::<u64>::zeros(),
             writes: 0,
         }
     }
 }
 
-impl<R: Files, T: Write, N: Write> Host for RealHost<R, T, N> {
+impl<R: Files + Alloc, T: Write, N: Write> Host for RealHost<R, T, N> {
     ghost tells = { λ _. false };
 
     ghost roles = { λ _ _. at_start };
@@ -160,60 +60,28 @@ impl<R: Files, T: Write, N: Write> Host for RealHost<R, T, N> {
     ghost writes = { writes_counted };
 
     fn attach(&mut self, role: Role, name: &str) -> Result<(), Failed> {
-        let file = match role {
-            Role::Image | Role::Events => File::open(&self.rt, name),
-            Role::Work => OpenOptions::new()
-                .read(true)
-                .write(true)
-                .create(true)
-                .truncate(true)
-                .open(&self.rt, name),
-            _ => File::create(&self.rt, name),
-        };
-        let Ok(file) = file else {
-            return self.faults.fail(role);
-        };
-        match role {
-            Role::Image => self.image = Some(file),
-            Role::Events => self.events = Some(file),
-            Role::Work => self.work = Some(file),
-            Role::Saved => self.saved = Some(file),
-            Role::Display => self.display = Some(file),
-            Role::Transcript | Role::Notes => unreachable!(),
+        match self.files.attach(role, name) {
+            Ok(()) => Ok(()),
+            Err(_) => self.faults.fail(role),
         }
-        Ok(())
     }
 
     fn read(&mut self, role: Role, buf: &mut [u8]) -> Result<usize, Failed> {
-        let moved = match role {
-            Role::Image => read_from(&mut self.image, buf),
-            _ => read_from(&mut self.events, buf),
-        };
-        match moved {
+        match self.files.read(role, buf) {
             Some(n) => Ok(n),
             None => self.faults.fail(role),
         }
     }
 
     fn write(&mut self, role: Role, buf: &[u8]) -> Result<usize, Failed> {
-        let moved = match role {
-            Role::Saved => write_to(&mut self.saved, buf),
-            Role::Display => write_to(&mut self.display, buf),
-            Role::Transcript => write_some(&mut self.transcript, buf),
-            _ => write_some(&mut self.notes, buf),
-        };
-        match moved {
+        match self.files.write(role, buf) {
             Some(n) => Ok(n),
             None => self.faults.fail(role),
         }
     }
 
     fn read_at(&mut self, place: u64, buf: &mut [u8]) -> Result<(), Failed> {
-        let done = match &mut self.work {
-            Some(file) => read_whole(file, place, buf),
-            None => false,
-        };
-        if done {
+        if self.files.read_at(place, buf) {
             return Ok(());
         }
         self.faults.fail(Role::Work)
@@ -221,11 +89,7 @@ impl<R: Files, T: Write, N: Write> Host for RealHost<R, T, N> {
 
     fn write_at(&mut self, place: u64, buf: &[u8]) -> Result<(), Failed> {
         self.writes = self.writes.saturating_add(1);
-        let done = match &mut self.work {
-            Some(file) => write_whole(file, place, buf),
-            None => false,
-        };
-        if done {
+        if self.files.write_at(place, buf) {
             return Ok(());
         }
         self.faults.fail(Role::Work)

@@ -1,0 +1,68 @@
+// Which file of the system a file is, by whatever name it was opened.
+use std::fs::{Metadata, OpenFile};
+use std::io;
+use std::os::unix::fs::{FileTypeExt, MetadataExt};
+
+#[derive(Clone, Copy, PartialEq, Eq)]
+pub struct Identity {
+    device: u64,
+    inode: u64,
+}
+
+// None for what keeps no bytes, as a terminal, a pipe or the null device: roles may share it, and nothing is lost by that.
+pub fn identity_of(metadata: &Metadata) -> Option<Identity> {
+    let kind = metadata.file_type();
+    if kind.is_file() || kind.is_block_device() {
+        Some(Identity {
+            device: metadata.dev(),
+            inode: metadata.ino(),
+        })
+    } else {
+        None
+    }
+}
+
+// An open file.
+#[derive(Drop)]
+pub struct Opened<F> {
+    pub file: F,
+    pub identity: Option<Identity>,
+}
+
+impl<F: OpenFile + Drop> Opened<F> {
+    pub fn new(file: F) -> io::Result<Opened<F>> {
+        let identity = identity_of(&file.metadata()?);
+        Ok(Opened { file, identity })
+    }
+
+    // What was written is on the disk. What keeps no bytes has none.
+    pub fn sync(&self) -> io::Result<()> {
+        match self.identity {
+            Some(_) => self.file.sync_all(),
+            None => Ok(()),
+        }
+    }
+
+    // A regular file is empty then. Nothing else can be cut.
+    pub fn cut(&self) -> io::Result<()> {
+        if self.file.metadata()?.is_file() {
+            self.file.set_len(0)?;
+        }
+        Ok(())
+    }
+}
+
+// Of a role's file, where one is attached.
+pub fn identity_in<F>(opened: &Option<Opened<F>>) -> Option<Identity> {
+    match opened {
+        Some(opened) => opened.identity,
+        None => None,
+    }
+}
+
+pub fn sync_in<F: OpenFile + Drop>(opened: &Option<Opened<F>>) -> io::Result<()> {
+    match opened {
+        Some(opened) => opened.sync(),
+        None => Ok(()),
+    }
+}

@@ -1,0 +1,154 @@
+// The file of Saved while it is written. It is written beside the file that it is to be, and takes that file's name once it
+// is whole and on the disk: until then the file of that name is as before, and where anything fails it stays so.
+use crate::real::identity::{Identity, Opened, identity_of};
+use crate::real::paths::{followed, open_folder};
+use std::fs::{Metadata, OpenFile, OpenOptions, Permissions};
+use std::io::{self, ErrorKind};
+use std::os::unix::fs::{MetadataExt, OpenOptionsExt};
+use std::path::PathBuf;
+use std::rt::Files;
+
+// What the name of a file ends with while it is written.
+const PART: &str = ".part";
+
+// What a new file may be used for, but for what the process forbids.
+const NEW_MODE: u32 = 0o666;
+
+// The bits of a mode that say what a file may be used for.
+const MODE_BITS: u32 = 0o777;
+
+// The path that a file is written under, and the path that it is to have.
+#[derive(Drop)]
+pub struct Names<R: Files + Alloc> {
+    part: String<R::A>,
+    path: PathBuf<R::A>,
+}
+
+impl<R: Files + Alloc> Names<R> {
+    // For a file of this name. A symbolic link is followed first.
+    pub fn new(rt: &R, name: &str) -> io::Result<Names<R>> {
+        let path = followed(rt, name)?;
+        if path.as_path().file_name().is_none() {
+            return Err(io::Error::from(ErrorKind::InvalidInput));
+        }
+        let mut part = String::from_str(rt.alloc(), path.as_path().as_str())?;
+        part.push_str(PART)?;
+        Ok(Names { part, path })
+    }
+
+    pub fn part(&self) -> &str {
+        self.part.as_str()
+    }
+
+    // Whether the path is that of this file.
+    pub fn leads_to(&self, rt: &R, identity: Option<Identity>) -> bool {
+        is_at(rt, self.path.as_path().as_str(), identity)
+    }
+
+    // A new file to be written, with the mode of the old one where there is one.
+    pub fn create(&self, rt: &R, old: Option<&Metadata>) -> io::Result<R::File> {
+        let mode = match old {
+            Some(old) => old.mode() & MODE_BITS,
+            None => NEW_MODE,
+        };
+        OpenOptions::new()
+            .write(true)
+            .create_new(true)
+            .mode(mode)
+            .open(rt, self.part())
+    }
+
+    // The file that was written takes its name, and the folder is on the disk too.
+    fn take(&self, rt: &R, opened: Opened<R::File>) -> io::Result<()> {
+        opened.sync()?;
+        if !is_at(rt, self.part(), opened.identity) {
+            return Err(io::Error::from(ErrorKind::StaleNetworkFileHandle));
+        }
+        drop(opened);
+        let folder = open_folder(rt, self.path.as_path())?;
+        rt.rename(self.part(), self.path.as_path().as_str())?;
+        folder.sync_all()
+    }
+
+    // Removes what was written, unless another run has put its own there. Nothing more can be done where that fails.
+    fn remove(&self, rt: &R, identity: Option<Identity>) {
+        if is_at(rt, self.part(), identity) {
+            let _ = rt.remove_file(self.part());
+        }
+    }
+}
+
+// Whether it is this file that has the path, and no link.
+fn is_at<R: Files>(rt: &R, path: &str, identity: Option<Identity>) -> bool {
+    match rt.symlink_metadata(path) {
+        Ok(metadata) => identity.is_some() && identity_of(&metadata) == identity,
+        Err(_) => false,
+    }
+}
+
+#[derive(Drop)]
+pub struct Saving<R: Files + Alloc> {
+    pub opened: Opened<R::File>,
+    // None of a file that is written in its place
+    names: Option<Names<R>>,
+}
+
+impl<R: Files + Alloc> Saving<R> {
+    // The file itself is written.
+    pub fn in_place(opened: Opened<R::File>) -> Saving<R> {
+        Saving {
+            opened,
+            names: None,
+        }
+    }
+
+    // The file is written beside the one that it is to be.
+    pub fn beside(
+        rt: &R,
+        names: Names<R>,
+        file: R::File,
+        old: Option<Metadata>,
+    ) -> io::Result<Saving<R>> {
+        let saving = Saving {
+            opened: Opened::new(file)?,
+            names: Some(names),
+        };
+        if let Some(old) = old {
+            if let Err(error) = saving.permit(old.permissions()) {
+                saving.discard(rt);
+                return Err(error);
+            }
+        }
+        Ok(saving)
+    }
+
+    fn permit(&self, wanted: Permissions) -> io::Result<()> {
+        if self.opened.file.metadata()?.permissions() == wanted {
+            return Ok(());
+        }
+        self.opened.file.set_permissions(wanted)
+    }
+
+    // What was written is on the disk, under the name of Saved. Says which file that is.
+    pub fn finish(self, rt: &R) -> io::Result<Option<Identity>> {
+        let Saving { opened, names } = self;
+        let identity = opened.identity;
+        let Some(names) = names else {
+            opened.sync()?;
+            return Ok(identity);
+        };
+        if let Err(error) = names.take(rt, opened) {
+            names.remove(rt, identity);
+            return Err(error);
+        }
+        Ok(identity)
+    }
+
+    // Gives up. A file that was written beside another is removed.
+    pub fn discard(self, rt: &R) {
+        let Saving { opened, names } = self;
+        if let Some(names) = names {
+            names.remove(rt, opened.identity);
+        }
+    }
+}
