@@ -31,7 +31,7 @@ use Rattle.bitblt.specs.Shapes.{OptionalRoom}
 use Rattle.bitblt.proofs.BlitLaws.{words_served}
 use Rattle.contexts.specs.Serves.{Serves}
 use Rattle.contexts.proofs.Steps.{done_serves}
-use Rattle.contexts.proofs.ReadLaws.{reached_making, reached_saying, reached_need, look_refused, names_object, read_serves}
+use Rattle.contexts.proofs.ReadLaws.{reached_one, reached_making, reached_saying, reached_need, look_refused, names_object, read_serves}
 use Rattle.bitblt.specs.declared.transfer.Transfer.{Transfer}
 use Rattle.bitblt.specs.Transfers.{IsShared, row_words}
 use Rattle.bitblt.specs.Blits.{DEST_BITS, SOURCE_BITS, words_at, dest_words, source_words, shares, HasRooms, look_at_source, blit_words, IsWritten}
@@ -53,7 +53,7 @@ run_read t r at n out e k low = run_of (part_at t.heap (t.regs r) words_of) at n
 -- a read of it was refused,
 pub source_refused : {Z : Type 0} {old new : Told} {cpu : Cpu} {e : MemFault} (has : Bool) (r at n : ℕ) → has ≡ true → IsReady old → IsRef (old.regs r) → Called {A = Z} old new (Does (ReadWords r at n)) (Err e) → Serves old cpu new cpu (look_at_source has (old.regs r)) (Err (Mem e))
 unfolding look_at_source pick
-source_refused {Z} {old} true r at n is ready named x = let a = ReadWords r at n in look_refused (old.regs r) a (λ o. done tt) (reached_making a r refl) (reached_saying a r refl) (reached_need old a r refl) ready (λ told. names_object old r ready told named) x
+source_refused {Z} {old} true r at n is ready named x = let a = ReadWords r at n in look_refused (old.regs r) a (λ o. done tt) (reached_one a r refl) (reached_making a r refl) (reached_saying a r refl) (reached_need old a r refl) ready (λ told. names_object old r ready told named) x
 source_refused false r at n is ready named x = let no : ◌≡◌ {A = Bool} false true = is in absurd (cc)
 
 -- it was read,

@@ -1,19 +1,19 @@
 -- A sound cache stays sound: what its rows looked at is marked, and marked objects stay as they are or the cache is emptied.
-use Rattle.std.proofs.Common.{◌≡◌, ℕ, ◌<◌, Bool, true, false, cond, eqb, List, Option, Some, None, inl, inr, IsTrue, refl, sym, ◌∙◌, ap, subst₂, arith}
+use Rattle.std.proofs.Common.{◌≡◌, ℕ, ◌<◌, Bool, true, false, cond, eqb, List, Option, Some, None, inl, inr, IsTrue, refl, sym, ◌∙◌, ap, ap₂, subst₂, arith}
 use Rattle.std.proofs.lemmas.Grind.{common_steps}
 use Rattle.std.specs.Option.{option_map_or}
 use Rattle.long_names.specs.declared.value.Value.{Value}
 use Rattle.long_names.specs.declared.value.Value.TheVariants.{Int, Ref}
 use Rattle.long_names.specs.declared.object.Body.{Body}
 use Rattle.long_names.specs.declared.object.Object.{Object}
-use Rattle.long_names.specs.Objects.{name_of}
+use Rattle.long_names.specs.Objects.{is_ref}
 use Rattle.long_names.specs.Heap.{Heap, put_object}
-use Rattle.long_names.specs.Access.{Access, SetField, SetWord, SetByte, WriteWords, made_by, with_body, with_made, heap_after}
+use Rattle.long_names.specs.Access.{Access, SetField, SetWord, SetByte, WriteWords, Swap, made_by, with_body, with_made, with_swapped, heap_after}
 use Rattle.long_names.specs.Thin.{IsThinner}
-use Rattle.long_names.proofs.ThinLemmas.{has, or_second}
+use Rattle.long_names.proofs.ThinLemmas.{has, or_first, or_second, swap_at}
 use Rattle.long_names.proofs.AccessLaws.{another}
 use Rattle.object_memory.specs.Told.{Told, Cache, IsReady}
-use Rattle.object_memory.specs.Contract.{Call, Does, Settles, Thins, IsKeptCache, LeavesCache, with_mark, touched_by, marked_by, Follows, IsLeft}
+use Rattle.object_memory.specs.Contract.{Call, Does, Settles, Thins, IsKeptCache, LeavesCache, with_mark, touched_by, marked_by, no_names, Follows, IsLeft}
 use Rattle.object_memory.specs.Shape.{Looks}
 use Rattle.object_memory.proofs.LaterLaws.{rows_left}
 use Rattle.blue_model.specs.Machine.{Machine, Outcome, Go, log_of}
@@ -65,17 +65,17 @@ sound_frame h g before after rows up same sound = record {
       };
 }
 
-marks_kept : (touched marked : Option ℕ) (a c : Cache) → IsKeptCache touched a (with_mark a marked) c → (n : ℕ) → a.marks n ≡ true → c.marks n ≡ true
+marks_kept : (touched : ℕ → Bool) (marked : Option ℕ) (a c : Cache) → IsKeptCache touched a (with_mark a marked) c → (n : ℕ) → a.marks n ≡ true → c.marks n ≡ true
 marks_kept touched None a c k n is = ap (λ (f : ℕ → Bool). f n) k.marks ∙ is
 marks_kept touched (Some q) a c k n is = ap (λ (f : ℕ → Bool). f n) k.marks ∙ or_second (eqb n q) (a.marks n) is
 
 -- A sound cache stays sound after a call of any kind: what it leaves is thinner than what it made of the heap, and there each object
 -- from before the call is as it was, but the one that it stored into.
-pub sound_left : (old new : Told) (made : Heap) (touched marked : Option ℕ) → IsReady old → IsReady new → IsThinner made new.heap → LeavesCache touched marked old.cache (with_mark old.cache marked) new.cache → ((n : ℕ) → n < old.heap.next → (touched ≡ Some n → ⊥) → made.at n ≡ old.heap.at n) → IsTrue old.tells → IsTrue new.tells → IsSound old.heap old.cache → IsSound new.heap new.cache
+pub sound_left : (old new : Told) (made : Heap) (touched : ℕ → Bool) (marked : Option ℕ) → IsReady old → IsReady new → IsThinner made new.heap → LeavesCache touched marked old.cache (with_mark old.cache marked) new.cache → ((n : ℕ) → n < old.heap.next → (touched n ≡ true → ⊥) → made.at n ≡ old.heap.at n) → IsTrue old.tells → IsTrue new.tells → IsSound old.heap old.cache → IsSound new.heap new.cache
 sound_left old new made touched marked before after thinner (inr e) apart told now sound = record { sound = λ c s m is. (let none = e.rows c s m in absurd (cc)) }
 sound_left old new made touched marked before after thinner (inl k) apart told now sound = sound_frame old.heap new.heap old.cache new.cache (rows_left touched marked old.cache new.cache (inl k)) (marks_kept touched marked old.cache new.cache k) as_before sound
   where
-    other : (n : ℕ) → old.cache.marks n ≡ true → touched ≡ Some n → ⊥
+    other : (n : ℕ) → old.cache.marks n ≡ true → touched n ≡ true → ⊥
     other n is e = let not = k.untouched n e in absurd (cc)
 
     as_before : (n : ℕ) → old.cache.marks n ≡ true → new.heap.at n ≡ old.heap.at n
@@ -85,27 +85,43 @@ sound_left old new made touched marked before after thinner (inl k) apart told n
 
 -- ---- what a call makes of an object that it does not store into
 
-body_apart : (h : Heap) (v : Value) (change : Body → Body) (n : ℕ) → (name_of v ≡ Some n → ⊥) → (with_body h v change).at n ≡ h.at n
+-- the number of another name
+not_named : (n k : ℕ) → (is_ref n (Ref k) ≡ true → ⊥) → eqb n k ≡ false
+not_named n k other = go (eqb n k) refl
+  where
+    go : (b : Bool) → eqb n k ≡ b → eqb n k ≡ false
+    go true e = absurd (other (grind (arith, common_steps, e)))
+    go false e = e
+
+body_apart : (h : Heap) (v : Value) (change : Body → Body) (n : ℕ) → (is_ref n v ≡ true → ⊥) → (with_body h v change).at n ≡ h.at n
 body_apart h (Int z) change n other = refl
 body_apart h (Ref k) change n other = go (h.at k)
   where
-    apart : (b : Bool) → eqb n k ≡ b → b ≡ false
-    apart true e = let same : k ≡ n = grind (arith, common_steps, e) in absurd (other (ap (λ q. Some q) same))
-    apart false e = refl
-
     go : (x : Option Object) → (option_map_or (λ (o : Object). put_object h k (another change o)) x h).at n ≡ h.at n
     go None = refl
-    go (Some o) = ap (λ b. cond b (Some (another change o)) (h.at n)) (apart (eqb n k) refl)
+    go (Some o) = ap (λ b. cond b (Some (another change o)) (h.at n)) (not_named n k other)
+
+swapped_apart : (h : Heap) (v w : Value) (n : ℕ) → (is_ref n v ≡ true → ⊥) → (is_ref n w ≡ true → ⊥) → (with_swapped h v w).at n ≡ h.at n
+swapped_apart h (Int z) w n first second = refl
+swapped_apart h (Ref p) (Int z) n first second = refl
+swapped_apart h (Ref p) (Ref q) n first second = go (h.at p) (h.at q)
+  where
+    go : (x y : Option Object) → (swap_at h p q x y).at n ≡ h.at n
+    go None y = refl
+    go (Some o) None = refl
+    go (Some o) (Some r) = ap₂ (λ b c. cond b (Some o) (cond c (Some r) (h.at n))) (not_named n q second) (not_named n p first)
 
 made_apart : (h : Heap) (x : Option Object) (n : ℕ) → n < h.next → (with_made h x).at n ≡ h.at n
 made_apart h None n low = refl
 made_apart h (Some o) n low = let apart : eqb n h.next ≡ false = grind (arith, common_steps) in ap (λ b. cond b (Some o) (h.at n)) apart
 
-after_apart : (h : Heap) (regs : ℕ → Value) (a : Access) (n : ℕ) → n < h.next → (touched_by regs a ≡ Some n → ⊥) → (heap_after h regs a).at n ≡ h.at n
+after_apart : (h : Heap) (regs : ℕ → Value) (a : Access) (n : ℕ) → n < h.next → (touched_by regs a n ≡ true → ⊥) → (heap_after h regs a).at n ≡ h.at n
 after_apart h regs (SetField of i from) n low other = body_apart h (regs of) _ n other
 after_apart h regs (SetWord of i word) n low other = body_apart h (regs of) _ n other
 after_apart h regs (SetByte of i byte) n low other = body_apart h (regs of) _ n other
 after_apart h regs (WriteWords of at run) n low other = body_apart h (regs of) _ n other
+after_apart h regs (Swap p q) n low other =
+    swapped_apart h (regs p) (regs q) n (λ e. other (or_first (is_ref n (regs p)) (is_ref n (regs q)) e)) (λ e. other (or_second (is_ref n (regs p)) (is_ref n (regs q)) e))
 after_apart h regs a n low other = made_apart h (made_by regs a) n low
 
 -- ---- the law
@@ -113,16 +129,16 @@ after_apart h regs a n low other = made_apart h (made_by regs a) n low
 -- A sound cache is sound after each call that a memory answered,
 pub sound_follows : (old new : Told) (call : Call) → IsReady old → IsReady new → Follows old new call → IsTrue old.tells → IsTrue new.tells → IsSound old.heap old.cache → IsSound new.heap new.cache
 sound_follows old new (Does a) before after x told now sound = sound_left old new (heap_after old.heap old.regs a) (touched_by old.regs a) (marked_by old.regs a) before after (x.heap told) x.cache (after_apart old.heap old.regs a) told now sound
-sound_follows old new Settles before after x told now sound = sound_left old new old.heap None None before after (x.heap told) x.cache (λ n low other. refl) told now sound
-sound_follows old new Thins before after x told now sound = sound_left old new old.heap None None before after (x.heap told) x.cache (λ n low other. refl) told now sound
+sound_follows old new Settles before after x told now sound = sound_left old new old.heap no_names None before after (x.heap told) x.cache (λ n low other. refl) told now sound
+sound_follows old new Thins before after x told now sound = sound_left old new old.heap no_names None before after (x.heap told) x.cache (λ n low other. refl) told now sound
 
 -- after one that was refused,
 pub sound_refused : (old new : Told) → IsReady old → IsLeft old new → IsTrue old.tells → IsTrue new.tells → IsSound old.heap old.cache → IsSound new.heap new.cache
-sound_refused old new before x told now sound = sound_left old new old.heap None None before x.ready (x.heap told) x.cache (λ n low other. refl) told now sound
+sound_refused old new before x told now sound = sound_left old new old.heap no_names None before x.ready (x.heap told) x.cache (λ n low other. refl) told now sound
 
 -- after reads,
 pub sound_looked : (xs : List ℕ) (old new : Told) → IsReady old → IsReady new → Looks xs old new → IsTrue old.tells → IsTrue new.tells → IsSound old.heap old.cache → IsSound new.heap new.cache
-sound_looked xs old new before after x told now sound = sound_left old new old.heap None None before after (x.heap told) x.cache (λ n low other. refl) told now sound
+sound_looked xs old new before after x told now sound = sound_left old new old.heap no_names None before after (x.heap told) x.cache (λ n low other. refl) told now sound
 
 -- and after a call that leaves heap and cache.
 pub sound_put : (old new : Told) → new.heap ≡ old.heap → new.cache ≡ old.cache → IsSound old.heap old.cache → IsSound new.heap new.cache

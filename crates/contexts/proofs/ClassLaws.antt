@@ -56,7 +56,7 @@ class_serves {Z} {z} {old} {new} {cpu} to of above before ready x =
 pub class_refused : {Z : Type 0} {old new : Told} {cpu : Cpu} {f : MemFault} (to of : ℕ) → IsReady old → Called {A = Z} old new (Does (Class to of)) (Err f) → Serves old cpu new cpu (class_of (old.regs of)) (Err (Mem f))
 unfolding class_of
 class_refused {Z} {old} {new} {cpu} {f} to of ready x =
-    row_refused (Ref (name_at (old.regs of))) (Class to of) (λ m need logged. go m need (class_at m.heap (old.regs of)) logged) (λ low. (let no : 1 ≤ 0 = low in absurd (omega arith))) (λ says. says) refl ready (λ told. (name_at (old.regs of), refl, named-there old.heap old.regs old.slots (ready.whole told) of)) x
+    row_refused (Ref (name_at (old.regs of))) (Class to of) (λ m need logged. go m need (class_at m.heap (old.regs of)) logged) tt (λ low. (let no : 1 ≤ 0 = low in absurd (omega arith))) (λ says. says) refl ready (λ told. (name_at (old.regs of), refl, named-there old.heap old.regs old.slots (ready.whole told) of)) x
   where
     go : (m : Machine) (need : Need) (c : Option ℕ) → IsLogged need (rows_at m (Ref (name_at (old.regs of)))) → IsLogged need (log_of (classed m (old.regs of) c))
     go m need None logged = logged

@@ -26,7 +26,7 @@ use Rattle.contexts.specs.declared.stop.Stop.TheVariants.{Mem}
 use Rattle.contexts.specs.Serves.{Stands, Gives, Serves, with_found}
 use Rattle.contexts.proofs.ServesLaws.{IsCounted-refl, serves_then, serves_stop}
 use Rattle.contexts.proofs.Steps.{done_serves, read_first, read_last}
-use Rattle.contexts.proofs.ReadLaws.{quiet, reaches, reached_making, reached_saying, reached_need, look_refused, names_object}
+use Rattle.contexts.proofs.ReadLaws.{quiet, reaches, reached_one, reached_making, reached_saying, reached_need, look_refused, names_object}
 
 -- ---- where the memory stands still
 
@@ -63,7 +63,7 @@ by_look f (Ref n) named s = s
 
 -- An access to the object of a register was refused.
 pub peek_refused : {A B : Type 0} {old new : Told} {cpu : Cpu} {e : MemFault} (f : Object → Option B) (of : ℕ) (a : Access) → reaches a ≡ Some of → IsReady old → IsRef (old.regs of) → Called {A = A} old new (Does a) (Err e) → Serves old cpu new cpu (peek f (old.regs of)) (Err (Mem e))
-peek_refused {A} {B} {old} {new} {cpu} {e} f of a is ready named x = by_look f (old.regs of) named (look_refused (old.regs of) a (λ o. done (f o)) (reached_making a of is) (reached_saying a of is) (reached_need old a of is) ready (λ told. names_object old of ready told named) x)
+peek_refused {A} {B} {old} {new} {cpu} {e} f of a is ready named x = by_look f (old.regs of) named (look_refused (old.regs of) a (λ o. done (f o)) (reached_one a of is) (reached_making a of is) (reached_saying a of is) (reached_need old a of is) ready (λ told. names_object old of ready told named) x)
 
 -- a read of it was refused
 pub first_refused : {A B : Type 0} {old new : Told} {cpu : Cpu} {e : MemFault} (f : Object → Option B) (of : ℕ) → IsReady old → ReadsObject {A = A} old new of (Err e) → Serves old cpu new cpu (peek f (old.regs of)) (Err (Mem e))

@@ -12,7 +12,7 @@ use Rattle.long_names.specs.Names.{is_known}
 use Rattle.long_names.specs.Objects.{field_of}
 use Rattle.long_names.specs.Heap.{Heap, Has}
 use Rattle.long_names.specs.State.{IsRef, name_at, object_at, part_at}
-use Rattle.long_names.specs.Access.{Access, Known, KindOf, Field, Make, Say, target_of, made_by, with_made, object_of}
+use Rattle.long_names.specs.Access.{Access, Known, KindOf, Field, Make, Say, target_of, made_by, with_made, object_of, Swap}
 use Rattle.long_names.specs.Need.{Row}
 use Rattle.long_names.specs.Thin.{IsThinner, IsWhole}
 use Rattle.long_names.proofs.ThinLemmas.{has, same-there}
@@ -21,7 +21,7 @@ use Rattle.object_memory.specs.declared.fault.Need.{Need}
 use Rattle.object_memory.specs.declared.fault.MemFault.{MemFault}
 use Rattle.object_memory.specs.declared.fault.MemFault.TheVariants.{CoreFull, WorkFull, WorkFault, Damaged, NamesSpent, Said, Memory}
 use Rattle.object_memory.specs.Told.{Told, Bounds, IsReady, need_of}
-use Rattle.object_memory.specs.Contract.{Does, ForBounds, Lives, IsMaking, IsSaying, HasCause, SaysRefused, Refuses, Called, need_of_access}
+use Rattle.object_memory.specs.Contract.{Does, ForBounds, Lives, IsMaking, IsSaying, HasCause, SaysRefused, Refuses, Called, IsNeedOf, need_of_access}
 use Rattle.object_memory.specs.Shape.{is_among, Looks, ReadsObject}
 use Rattle.object_memory.proofs.LaterLaws.{IsLater-refl}
 use Rattle.object_memory.proofs.LooksLaws.{neither, Looks-trans, Looks-weaker, Looks-access, part_looked}
@@ -172,6 +172,7 @@ reaches a = target_of a
 reached_object : (h : Heap) (regs : ℕ → Value) (a : Access) (of : ℕ) → reaches a ≡ Some of → object_of h regs a ≡ name_at (regs of)
 reached_object h regs (Known to name) of e = let no : ◌≡◌ {A = Option ℕ} None (Some of) = e in absurd (cc)
 reached_object h regs (Say r) of e = let no : ◌≡◌ {A = Option ℕ} None (Some of) = e in absurd (cc)
+reached_object h regs (Swap p q) of e = let no : ◌≡◌ {A = Option ℕ} None (Some of) = e in absurd (cc)
 reached_object h regs _ of e = ap (λ (x : Option ℕ). option_map_or (λ r. name_at (regs r)) x h.next) e
 
 reached_made : (regs : ℕ → Value) (a : Access) (of : ℕ) → reaches a ≡ Some of → made_by regs a ≡ None
@@ -180,6 +181,19 @@ reached_made regs _ of e = refl
 
 pub reached_need : (t : Told) (a : Access) (of : ℕ) → reaches a ≡ Some of → need_of_access t a ≡ need_of t.heap (record { object = name_at (t.regs of); slots = t.slots })
 reached_need t a of e = ap (λ (x : Option Object). need_of (with_made t.heap x) (record { object = object_of t.heap t.regs a; slots = t.slots })) (reached_made t.regs a of e) ∙ ap (λ n. need_of t.heap (record { object = n; slots = t.slots })) (reached_object t.heap t.regs a of e)
+
+-- it has one row
+abbrev pub HasOneRow : Access → Type 0
+HasOneRow (Swap p q) = ⊥
+HasOneRow _ = Unit {0}
+
+one_need : (t : Told) (a : Access) (need : Need) → HasOneRow a → IsNeedOf t a need → need ≡ need_of_access t a
+one_need t (Swap p q) need one is = absurd one
+one_need t _ need one is = is
+
+pub reached_one : (a : Access) (of : ℕ) → reaches a ≡ Some of → HasOneRow a
+reached_one (Swap p q) of e = let no : ◌≡◌ {A = Option ℕ} None (Some of) = e in absurd (cc)
+reached_one _ of e = tt
 
 pub reached_making : (a : Access) (of : ℕ) → reaches a ≡ Some of → IsMaking (Does a) → ⊥
 reached_making (Make to class what) of e making = let no : ◌≡◌ {A = Option ℕ} None (Some of) = e in absurd (cc)
@@ -216,14 +230,14 @@ refused_silent old new (Say of) f silent says speaks = absurd (silent tt)
 refused_silent old new _ f silent says speaks = says speaks
 
 -- An outcome that has the row of an access which makes nothing allows its faults.
-pub allows_row : {A : Type 0} (old new : Told) (a : Access) (f : MemFault) (o : Outcome A) → IsTrue old.tells → (IsMaking (Does a) → ⊥) → (IsSaying (Does a) → ⊥) → IsLogged (need_of_access old a) (log_of o) → HasCause old new (Does a) f → Allows new f o
-allows_row old new a (CoreFull need) o told makes says row cause = subst (λ n. IsLogged n (log_of o)) (sym (cause.1 told)) row
-allows_row old new a (WorkFull live room) o told makes says row cause = absurd (makes cause.2)
-allows_row old new a (WorkFault count) o told makes says row cause = tt
-allows_row old new a (Damaged place name) o told makes says row cause = cause told
-allows_row old new a NamesSpent o told makes says row cause = absurd (makes cause.0)
-allows_row old new a (Said count) o told makes says row cause = absurd (says cause.2)
-allows_row old new a Memory o told makes says row cause = tt
+pub allows_row : {A : Type 0} (old new : Told) (a : Access) (f : MemFault) (o : Outcome A) → IsTrue old.tells → HasOneRow a → (IsMaking (Does a) → ⊥) → (IsSaying (Does a) → ⊥) → IsLogged (need_of_access old a) (log_of o) → HasCause old new (Does a) f → Allows new f o
+allows_row old new a (CoreFull need) o told one makes says row cause = subst (λ n. IsLogged n (log_of o)) (sym (one_need old a need one (cause.1 told))) row
+allows_row old new a (WorkFull live room) o told one makes says row cause = absurd (makes cause.2)
+allows_row old new a (WorkFault count) o told one makes says row cause = tt
+allows_row old new a (Damaged place name) o told one makes says row cause = cause told
+allows_row old new a NamesSpent o told one makes says row cause = absurd (makes cause.0)
+allows_row old new a (Said count) o told one makes says row cause = absurd (says cause.2)
+allows_row old new a Memory o told one makes says row cause = tt
 
 log_looked : (m : Machine) (v : Value) (x : Option Object) → log_of (looked m v x) ≡ rows_at m v
 log_looked m v None = refl
@@ -245,8 +259,8 @@ logged_here t cpu m (Ref n) whole there st =
     inl (row_has (need_of t.heap (record { object = n; slots = t.slots })) m n (sym need ∙ ap (λ (slots : ℕ → Option ℕ). need_of m.heap (record { object = n; slots = slots })) (sym st.slots)))
 
 -- An access to the object that a value names, which makes and says nothing, was refused. The rule has a row of that object.
-pub row_refused : {A B : Type 0} {old new : Told} {cpu : Cpu} {rule : Rule B} {f : MemFault} (v : Value) (a : Access) → ((m : Machine) (need : Need) → IsLogged need (rows_at m v) → IsLogged need (log_of (rule m))) → (IsMaking (Does a) → ⊥) → (IsSaying (Does a) → ⊥) → need_of_access old a ≡ need_of old.heap (record { object = name_at v; slots = old.slots }) → IsReady old → (IsTrue old.tells → NamesObject old.heap v) → Called {A = A} old new (Does a) (Err f) → Serves {A = B} old cpu new cpu rule (Err (Mem f))
-row_refused {A} {B} {old} {new} {cpu} {rule} {f} v a rows makes says need ready there x = record {
+pub row_refused : {A B : Type 0} {old new : Told} {cpu : Cpu} {rule : Rule B} {f : MemFault} (v : Value) (a : Access) → ((m : Machine) (need : Need) → IsLogged need (rows_at m v) → IsLogged need (log_of (rule m))) → HasOneRow a → (IsMaking (Does a) → ⊥) → (IsSaying (Does a) → ⊥) → need_of_access old a ≡ need_of old.heap (record { object = name_at v; slots = old.slots }) → IsReady old → (IsTrue old.tells → NamesObject old.heap v) → Called {A = A} old new (Does a) (Err f) → Serves {A = B} old cpu new cpu rule (Err (Mem f))
+row_refused {A} {B} {old} {new} {cpu} {rule} {f} v a rows one makes says need ready there x = record {
   later = x.later;
   ready = tt;
   reason = refused_reason old new a f x.err;
@@ -254,13 +268,13 @@ row_refused {A} {B} {old} {new} {cpu} {rule} {f} v a rows makes says need ready 
   silent = refused_silent old new a f says x.err.transcript;
   model = λ told m st.
       let row = subst (λ n. IsLogged n (rows_at m v)) (sym need) (logged_here old cpu m v (ready.whole told) (there told) st) in
-      allows_row old new a f (rule m) told makes says (rows m (need_of_access old a) row) x.err.cause;
+      allows_row old new a f (rule m) told one makes says (rows m (need_of_access old a) row) x.err.cause;
 }
 
 -- The rule looks at it.
-pub look_refused : {A B : Type 0} {old new : Told} {cpu : Cpu} {f : MemFault} (v : Value) (a : Access) (k : Object → Rule B) → (IsMaking (Does a) → ⊥) → (IsSaying (Does a) → ⊥) → need_of_access old a ≡ need_of old.heap (record { object = name_at v; slots = old.slots }) → IsReady old → (IsTrue old.tells → NamesObject old.heap v) → Called {A = A} old new (Does a) (Err f) → Serves {A = B} old cpu new cpu (look v >>= k) (Err (Mem f))
+pub look_refused : {A B : Type 0} {old new : Told} {cpu : Cpu} {f : MemFault} (v : Value) (a : Access) (k : Object → Rule B) → HasOneRow a → (IsMaking (Does a) → ⊥) → (IsSaying (Does a) → ⊥) → need_of_access old a ≡ need_of old.heap (record { object = name_at v; slots = old.slots }) → IsReady old → (IsTrue old.tells → NamesObject old.heap v) → Called {A = A} old new (Does a) (Err f) → Serves {A = B} old cpu new cpu (look v >>= k) (Err (Mem f))
 unfolding look
-look_refused {A} {B} {old} {new} {cpu} {f} v a k makes says need ready there x = serves_stop k (row_refused v a (λ m n row. subst (IsLogged n) (sym (log_looked m v (object_at m.heap v))) row) makes says need ready there x)
+look_refused {A} {B} {old} {new} {cpu} {f} v a k one makes says need ready there x = serves_stop k (row_refused v a (λ m n row. subst (IsLogged n) (sym (log_looked m v (object_at m.heap v))) row) one makes says need ready there x)
 
 -- a register that holds a name names an object
 pub names_object : (t : Told) (r : ℕ) → IsReady t → IsTrue t.tells → IsRef (t.regs r) → NamesObject t.heap (t.regs r)
@@ -272,12 +286,12 @@ names_object t r ready told ref = go (t.regs r) refl ref
 
 -- An access to the object of a register was refused, of which the rule has a row.
 pub object_refused : {A B : Type 0} {old new : Told} {cpu : Cpu} {rule : Rule B} {f : MemFault} (of : ℕ) (a : Access) → reaches a ≡ Some of → ((m : Machine) (need : Need) → IsLogged need (rows_at m (old.regs of)) → IsLogged need (log_of (rule m))) → IsReady old → (IsTrue old.tells → IsRef (old.regs of)) → Called {A = A} old new (Does a) (Err f) → Serves {A = B} old cpu new cpu rule (Err (Mem f))
-object_refused {A} {B} {old} {new} {cpu} {rule} {f} of a e rows ready named x = row_refused (old.regs of) a rows (reached_making a of e) (reached_saying a of e) (reached_need old a of e) ready (λ told. names_object old of ready told (named told)) x
+object_refused {A} {B} {old} {new} {cpu} {rule} {f} of a e rows ready named x = row_refused (old.regs of) a rows (reached_one a of e) (reached_making a of e) (reached_saying a of e) (reached_need old a of e) ready (λ told. names_object old of ready told (named told)) x
 
 -- The rule wants a part of it.
 pub part_refused : {A B : Type 0} {old new : Told} {cpu : Cpu} {f : MemFault} (c : Cause) (g : Object → Option B) (of : ℕ) (a : Access) → reaches a ≡ Some of → IsReady old → (IsTrue old.tells → IsRef (old.regs of)) → Called {A = A} old new (Does a) (Err f) → Serves {A = B} old cpu new cpu (part c g (old.regs of)) (Err (Mem f))
 unfolding part
-part_refused {A} {B} {old} {new} {cpu} {f} c g of a e ready named x = look_refused (old.regs of) a (λ o. given c (g o)) (reached_making a of e) (reached_saying a of e) (reached_need old a of e) ready (λ told. names_object old of ready told (named told)) x
+part_refused {A} {B} {old} {new} {cpu} {f} c g of a e ready named x = look_refused (old.regs of) a (λ o. given c (g o)) (reached_one a of e) (reached_making a of e) (reached_saying a of e) (reached_need old a of e) ready (λ told. names_object old of ready told (named told)) x
 
 -- a read of it was refused
 pub read_refused : {A B : Type 0} {old new : Told} {cpu : Cpu} {f : MemFault} (c : Cause) (g : Object → Option B) (of : ℕ) → IsReady old → ReadsObject {A = A} old new of (Err f) → Serves {A = B} old cpu new cpu (part c g (old.regs of)) (Err (Mem f))
@@ -333,7 +347,7 @@ known_serves {Z} {z} {old} {new} {cpu} to n above is before ready name x =
 -- or refused
 pub known_refused : {Z : Type 0} {old new : Told} {cpu : Cpu} {f : MemFault} (to n : ℕ) → is_known n ≡ true → IsReady old → Called {A = Z} old new (Does (Known to n)) (Err f) → Serves old cpu new cpu (known n) (Err (Mem f))
 unfolding known
-known_refused {Z} {old} {new} {cpu} {f} to n is ready x = look_refused (Ref n) (Known to n) (λ o. done (Ref n)) (λ low. (let no : 1 ≤ 0 = low in absurd (omega arith))) (λ says. says) refl ready (known_named old n ready is) x
+known_refused {Z} {old} {new} {cpu} {f} to n is ready x = look_refused (Ref n) (Known to n) (λ o. done (Ref n)) tt (λ low. (let no : 1 ≤ 0 = low in absurd (omega arith))) (λ says. says) refl ready (known_named old n ready is) x
 
 -- ---- the exit of a `?` where a register has the rule's answer
 
