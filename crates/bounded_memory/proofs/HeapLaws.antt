@@ -1,6 +1,8 @@
 -- No access changes the size of an object.
-use Rattle.std.proofs.Common.{◌≡◌, ℕ, ◌+◌, ◌/◌, ◌<◌, ◌≤◌, Bool, true, false, cond, eqb, List, [], ◌∷◌, ◌++◌, length, take, drop, Option, Some, None, IsTrue, refl, sym, ◌∙◌, ap, subst, arith, length-append, length-drop}
+use Rattle.std.proofs.Common.{zero, suc, ⊎_elim, ◌≡◌, ℕ, ◌+◌, ◌/◌, ◌<◌, ◌≤◌, Bool, true, false, cond, eqb, List, [], ◌∷◌, ◌++◌, length, take, drop, Option, Some, None, IsTrue, refl, sym, ◌∙◌, ap, subst, arith, length-append, length-drop}
 use Rattle.std.proofs.lemmas.Grind.{common_steps}
+use Rattle.std.proofs.lemmas.Bool.{cases_lt}
+use Rattle.std.specs.List.{slice_index_or}
 use Rattle.std.proofs.lemmas.List.{length-set, length-take}
 use Rattle.std.specs.Option.{option_map_or, option_and_then}
 use Rattle.long_names.specs.declared.value.Value.{Value}
@@ -94,9 +96,9 @@ StaysAt regs (Swap p q) k = (k ≡ name_at (regs p) → ⊥) × (k ≡ name_at (
 StaysAt regs _ k = Unit {0}
 
 -- a pinned object stays in its place
-pub pinned-stays : (regs : ℕ → Value) (slots : ℕ → Option ℕ) (a : Access) (i k : ℕ) → HasSlots regs slots a → slots i ≡ Some k → StaysAt regs a k
-pinned-stays regs slots (Swap p q) i k free e = (λ is. free.0 i (e ∙ ap (λ n. Some n) is), λ is. free.1 i (e ∙ ap (λ n. Some n) is))
-pinned-stays regs slots _ i k free e = tt
+pub pinned-stays : (regs : ℕ → Value) (slots : ℕ → Option ℕ) (a : Access) (i k : ℕ) → i < 3 → HasSlots regs slots a → slots i ≡ Some k → StaysAt regs a k
+pinned-stays regs slots (Swap p q) i k low free e = (λ is. free.0 i low (e ∙ ap (λ n. Some n) is), λ is. free.1 i low (e ∙ ap (λ n. Some n) is))
+pinned-stays regs slots _ i k low free e = tt
 
 size-swapped : (h : Heap) (v w : Value) (k : ℕ) → (k ≡ name_at v → ⊥) → (k ≡ name_at w → ⊥) → SameSize (with_swapped h v w) h k
 size-swapped h (Int z) w k one two = record { words = refl; entries = refl }
@@ -127,10 +129,24 @@ size-later h s regs slots a k whole can stays thinner there here =
     let thin = size-at (heap_after h regs a) s k (same-there (heap_after h regs a) s k thinner here) in
     record { words = sym thin.words ∙ after.words; entries = sym thin.entries ∙ after.entries }
 
+-- there are three slots
+no-pin : (pins : Pins) (i : ℕ) → 3 ≤ i → pin_at pins i ≡ None
+no-pin pins i high = go pins.slots i (let three = pins.three in omega arith)
+  where
+    go : (xs : List (Option Pin)) (i : ℕ) → length xs ≤ i → slice_index_or xs i None ≡ None
+    go [] i low = refl
+    go (x ∷ xs) zero low = absurd (omega arith)
+    go (x ∷ xs) (suc i) low = go xs i (omega arith)
+
+none-pinned : (h s : Heap) (x : Option ℕ) (p : Option Pin) → p ≡ None → IsPinnedAs h x p → IsPinnedAs s x p
+none-pinned h s None None e is = tt
+none-pinned h s (Some n) None e is = is
+none-pinned h s x (Some p) e is = absurd (cc)
+
 -- what an access leaves, whose slots are as before
 pub pinned-after : (p q : Told) (a : Access) (pins : Pins) → IsReady p → IsReady q → IsTrue p.tells → IsTrue q.tells → CanDo p.heap p.regs a → HasSlots p.regs p.slots a → q.slots ≡ p.slots → IsThinner (heap_after p.heap p.regs a) q.heap → ArePinned p pins → ArePinned q pins
 pinned-after p q a pins ready later told told' can free slots thinner are i =
     subst (λ (s : ℕ → Option ℕ). IsPinnedAs q.heap (s i) (pin_at pins i)) (sym slots)
-    (pinned-same p.heap q.heap (p.slots i) (pin_at pins i)
-    (λ k e. size-later p.heap q.heap p.regs p.slots a k (ready.whole told) can (pinned-stays p.regs p.slots a i k free e) thinner ((ready.whole told).pinned i k e) ((later.whole told').pinned i k (ap (λ (s : ℕ → Option ℕ). s i) slots ∙ e)))
-    (are i))
+    (⊎_elim (λ (low : i < 3). pinned-same p.heap q.heap (p.slots i) (pin_at pins i)
+    (λ k e. size-later p.heap q.heap p.regs p.slots a k (ready.whole told) can (pinned-stays p.regs p.slots a i k low free e) thinner ((ready.whole told).pinned i k e) ((later.whole told').pinned i k (ap (λ (s : ℕ → Option ℕ). s i) slots ∙ e)))
+    (are i)) (λ (high : 3 ≤ i). none-pinned p.heap q.heap (p.slots i) (pin_at pins i) (no-pin pins i high) (are i)) (cases_lt i 3))

@@ -1,6 +1,5 @@
 // The sizes of pinned objects.
-ghost use Rattle.std.specs.Prelude.{◌≡◌, ◌<◌, ◌≤◌, ◌==◌, if◌then◌else◌, None};
-ghost use Rattle.bounded_memory.specs.Pins.{pin_at, is_pin, is_same_pin, words_unless, entries_unless, words_with, entries_with};
+ghost use Rattle.std.specs.Prelude.{◌≡◌, ◌<◌, ◌≤◌, ◌==◌, if◌then◌else◌, None, length};
 
 use crate::size::Size;
 use object_memory::Need;
@@ -13,6 +12,8 @@ pub(crate) struct Pin {
 }
 
 impl Pin {
+    ghost use Rattle.bounded_memory.specs.Pins.{is_pin, is_same_pin, words_unless, entries_unless};
+
     fn is_named(pin: &Option<Pin>, name: u32) -> bool
         ensures { result ≡ is_pin name pin.now }
     {
@@ -58,9 +59,12 @@ impl Pin {
 #[derive(Drop)]
 pub(crate) struct Pins {
     slots: [Option<Pin>; 3],
+    ghost three: { length slots ≡ 3 },
 }
 
 impl Pins {
+    ghost use Rattle.bounded_memory.specs.Pins.{pin_at, words_with, entries_with};
+
     /// Nothing.
     pub(crate) fn new() -> Pins
         ensures { pin_at result ≡ (λ i. None) }

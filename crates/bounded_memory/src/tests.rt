@@ -34,6 +34,23 @@ fn pin(m: &mut BoundedMemory, name: Name) -> Result<(), MemFault>
     Ok(())
 }
 
+/// Lets two known objects change places. None is pinned.
+fn swap(m: &mut BoundedMemory, a: Name, b: Name) -> Result<(), MemFault>
+    requires fit { IsBoundedFit m.old }
+    requires first { is_known a ≡ true }
+    requires second { is_known b ≡ true }
+    ensures fit { StaysBoundedFit m.old m.new result }
+{
+    let (first, second) = (Reg::R10, Reg::R11);
+    m.unpin(0);
+    m.unpin(1);
+    m.unpin(2);
+    m.known(first, a)?;
+    m.known(second, b)?;
+    m.swap(first, second)?;
+    Ok(())
+}
+
 /// Makes an object of 3 words.
 fn make(m: &mut BoundedMemory) -> Result<(), MemFault>
     requires fit { IsBoundedFit m.old }
@@ -58,6 +75,14 @@ enum Steps {
     MakeTwo,
     /// Makes an object, settles, and makes another.
     MakeSettleMake,
+    /// Makes an object, and another that takes its register; settles, and makes two more.
+    MakeTwoSettleMakeTwo,
+    /// Swaps 8 and 12.
+    Swap,
+    /// Swaps 12 and 8.
+    SwapBack,
+    /// Swaps 8 and itself.
+    SwapOne,
 }
 
 fn take(m: &mut BoundedMemory, steps: Steps) -> Result<(), MemFault>
@@ -84,6 +109,16 @@ fn take(m: &mut BoundedMemory, steps: Steps) -> Result<(), MemFault>
             m.settle()?;
             make(m)
         }
+        Steps::MakeTwoSettleMakeTwo => {
+            make(m)?;
+            make(m)?;
+            m.settle()?;
+            make(m)?;
+            make(m)
+        }
+        Steps::Swap => swap(m, Name::SCHEDULER_ASSOCIATION, Name::SMALL_INTEGER),
+        Steps::SwapBack => swap(m, Name::SMALL_INTEGER, Name::SCHEDULER_ASSOCIATION),
+        Steps::SwapOne => swap(m, Name::SCHEDULER_ASSOCIATION, Name::SCHEDULER_ASSOCIATION),
     }
 }
 
@@ -121,6 +156,7 @@ fn full(object: u32, words: u32, entries: u32) -> Result<(), MemFault> {
 #[test]
 fn each_cause(rt: HostRuntime) -> Result<(), Fail> {
     let crowded = Err(MemFault::WorkFull { live: 28, room: 27 });
+    let crowded_by_two = Err(MemFault::WorkFull { live: 29, room: 28 });
     let rows = [
         row(6, 51, 26, Steps::Read, Ok(())),
         row(5, 51, 26, Steps::Read, full(8, 6, 51)),
@@ -135,6 +171,13 @@ fn each_cause(rt: HostRuntime) -> Result<(), Fail> {
         row(6, 51, 28, Steps::MakeTwo, full(68, 7, 51)),
         row(7, 51, 28, Steps::MakeSettleMake, Ok(())),
         row(7, 51, 27, Steps::MakeSettleMake, crowded),
+        row(7, 51, 29, Steps::MakeTwoSettleMakeTwo, Ok(())),
+        row(7, 51, 28, Steps::MakeTwoSettleMakeTwo, crowded_by_two),
+        row(6, 51, 26, Steps::Swap, Ok(())),
+        row(5, 51, 26, Steps::Swap, full(8, 6, 51)),
+        row(6, 50, 26, Steps::Swap, full(8, 6, 51)),
+        row(5, 51, 26, Steps::SwapBack, full(8, 6, 51)),
+        row(6, 51, 26, Steps::SwapOne, Ok(())),
         Case {
             core: 6,
             entries: 51,

@@ -1,5 +1,5 @@
 -- What a call of a memory does, and why it is refused.
-use Rattle.std.specs.Prelude.{◌≡◌, ℕ, ◌+◌, ◌≤◌, ◌<◌, ◌==◌, ◌||◌, ◌⊎◌, Bool, true, false, List, ◌++◌, Option, Some, None, Result, Ok, Err, IsTrue, OnOk, IfOk, IfErr, if◌then◌else◌}
+use Rattle.std.specs.Prelude.{◌≡◌, ℕ, ◌+◌, ◌≤◌, ◌<◌, ◌==◌, ◌||◌, ◌⊎◌, Bool, true, false, List, ◌++◌, Option, Some, None, Result, Ok, Err, IsTrue, OnOk, IfOk, IfErr}
 use Rattle.std.specs.Option.{option_map_or, option_and_then}
 use Rattle.long_names.specs.declared.value.Value.{Value}
 use Rattle.long_names.specs.declared.value.Value.TheVariants.{Int, Ref}
@@ -9,7 +9,7 @@ use Rattle.long_names.specs.Objects.{name_of, is_ref}
 use Rattle.long_names.specs.Heap.{Heap, object_count}
 use Rattle.long_names.specs.Kept.{kept}
 use Rattle.long_names.specs.State.{set_register}
-use Rattle.long_names.specs.Access.{Access, SetField, SetWord, SetByte, WriteWords, Make, Mark, Say, Swap, Answer, CanDo, HasNames, HasSlots, HasRanges, target_of, filled_by, heap_after, regs_after, slots_after, brought, said_by, answer_of}
+use Rattle.long_names.specs.Access.{Access, SetField, SetWord, SetByte, WriteWords, Make, Mark, Say, Swap, Answer, CanDo, HasNames, HasSlots, HasRanges, filled_by, heap_after, regs_after, slots_after, brought, said_by, answer_of}
 use Rattle.long_names.specs.Need.{Fits, row_of, other_row_of, heap_of_row, words_alone}
 use Rattle.long_names.specs.Thin.{IsThinner}
 use Rattle.object_memory.specs.Told.{Told, Bounds, Cache, IsReady, state_of, need_of, is_root}

@@ -270,7 +270,10 @@ fn swap<M: ObjectMemory>(m: &mut M, a: Reg, b: Reg) -> Result<Answer, MemFault>
     m.unpin(0);
     m.unpin(1);
     m.unpin(2);
-    if !shape::is_name(m, a) || !shape::is_name(m, b) {
+    if !shape::is_name(m, a) {
+        return Ok(Answer::Not);
+    }
+    if !shape::is_name(m, b) {
         return Ok(Answer::Not);
     }
     m.swap(a, b)?;

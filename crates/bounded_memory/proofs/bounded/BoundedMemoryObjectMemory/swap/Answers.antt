@@ -14,16 +14,16 @@ returns-in_err-fits-clause-access c =
     let e = c.in_err-fits.ensures in
     not-fitting c.args.self.now c.fits.new.self (Swap c.args.a c.args.b) c.args.a (λ _. Nothing) c.from_residual.result c.in_err-fits.field-0.0 c.from_residual.ensures.1 refl (inl refl) (λ need told. refl) c.requires.fit.ready e.refused e.later e.full
 
-pub fits-2-requires-clause-fit : goal.fits-2-requires-clause-fit
-fits-2-requires-clause-fit c = record { sound = c.in_ok-fits.ensures.sound; ready = subst (λ (t : Told). IsReady t) (sym c.in_ok-fits.ensures.told) c.requires.fit.ready }
+pub fits-requires-2-clause-fit : goal.fits-requires-2-clause-fit
+fits-requires-2-clause-fit c = record { sound = c.in_ok-fits.ensures.sound; ready = subst (λ (t : Told). IsReady t) (sym c.in_ok-fits.ensures.told) c.requires.fit.ready }
 
-pub fits-2-requires-clause-name : goal.fits-2-requires-clause-name
-fits-2-requires-clause-name c = subst (λ (t : Told). IsRef (t.regs c.args.b)) (sym c.in_ok-fits.ensures.told) c.requires.may.names.1
+pub fits-requires-2-clause-name : goal.fits-requires-2-clause-name
+fits-requires-2-clause-name c = subst (λ (t : Told). IsRef (t.regs c.args.b)) (sym c.in_ok-fits.ensures.told) c.requires.may.names.1
 
 pub returns-in_err-fits-2-clause-access : goal.returns-in_err-fits-2-clause-access
 returns-in_err-fits-2-clause-access c =
     let e = c.in_err-fits-2.ensures in
-    not-fitting-both c.args.self.now c.fits.new.self c.fits-2.new.self (Swap c.args.a c.args.b) c.args.b (λ _. Nothing) c.from_residual-2.result c.in_err-fits-2.field-0.0 c.from_residual-2.ensures.1 refl (λ t. inr refl) (λ t need told. refl) c.in_ok-fits.ensures.told c.requires.fit.ready e.refused e.later e.full
+    not-fitting-both c.args.self.now c.fits.new.self c.fits-2.new.self (Swap c.args.a c.args.b) c.args.b (λ _. Nothing) c.from_residual-in_err-fits-2.result c.in_err-fits-2.field-0.0 c.from_residual-in_err-fits-2.ensures.1 refl (λ t. inr refl) (λ t need told. refl) c.in_ok-fits.ensures.told c.requires.fit.ready e.refused e.later e.full
 
 pub swap-requires-clause-fit : goal.swap-requires-clause-fit
 swap-requires-clause-fit c = record { sound = tt; ready = ready-below c.args.self.now c.fits-2.new.self (c.in_ok-fits-2.ensures.told ∙ c.in_ok-fits.ensures.told) c.requires.fit.ready }

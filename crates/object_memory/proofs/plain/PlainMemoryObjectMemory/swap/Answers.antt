@@ -1,6 +1,6 @@
 use Rattle.std.proofs.Common.{◌≡◌, refl, sym, subst, ap₂, ◌∙◌, Ok}
 use Rattle.long_names.specs.declared.value.Value.{Value}
-use Rattle.long_names.specs.Heap.{Heap, Has}
+use Rattle.long_names.specs.Heap.{Heap}
 use Rattle.long_names.specs.Access.{Swap, Nothing, heap_after, with_swapped}
 use Rattle.object_memory.specs.Told.{IsReady}
 use Rattle.object_memory.specs.Contract.{Accessed}

@@ -15,4 +15,8 @@ emptied now slots n i e low is = go i low (sym (ap (λ (f : ℕ → Option ℕ).
     go (suc (suc (suc i))) low e = absurd (omega arith)
 
 pub swap-requires-clause-may : goal.swap-requires-clause-may
-swap-requires-clause-may g c = ?
+swap-requires-clause-may g c =
+    let t = g.M.ObjectMemory.told c.args.m.now in
+    let u = g.M.ObjectMemory.told c.unpin-3.new.self in
+    let slots : u.slots ≡ set_slot (set_slot (set_slot t.slots 0 None) 1 None) 2 None = ap (λ (v : Told). v.slots) c.unpin-3.ensures.told ∙ ap (λ (v : Told). set_slot v.slots 2 None) c.unpin-2.ensures.told ∙ ap (λ (v : Told). set_slot (set_slot v.slots 1 None) 2 None) c.unpin.ensures.told in
+    may_swap u c.args.a c.args.b (c.unpin-3.ensures.fit.ready (c.unpin-2.ensures.fit.ready (c.unpin.ensures.fit.ready c.requires.fit.ready))) (c.if-not-is_name.ensures.0 refl) (c.if-not-is_name-2.ensures.0 refl) (λ i low is. emptied u.slots t.slots _ i slots low is) (λ i low is. emptied u.slots t.slots _ i slots low is)

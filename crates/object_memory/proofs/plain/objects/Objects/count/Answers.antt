@@ -1,4 +1,4 @@
-use Rattle.std.proofs.Common.{◌∙◌, arith}
+use Rattle.std.proofs.Common.{arith}
 use Rattle.object_memory.proofs.MapLaws.{map-counted, map-few}
 use Rattle.object_memory.proofs.plain.objects.Objects.count.Goals as goal
 
