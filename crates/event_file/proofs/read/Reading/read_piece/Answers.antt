@@ -15,7 +15,7 @@ returns-in_err-judged-clause-bad g c = λ told line was.
     let old = begun_text c.args.self.now in
     let left = (g.H.Host.roles c.read_full.new.host Events).left in
     subst (IsBadAt line) (piece-text old (old ++ take c.in-Ok.count c.read_full.new.buf) c.in-Ok.count c.read_full.new.buf _ _ took refl)
-    (c.in_err-judged.ensures.bad line left (ap (λ f. Err f) fault))
+    (c.take_all-judged.ensures.bad line left (c.in_err-judged.was ∙ ap (λ f. Err f) fault))
 
 pub returns-clause-more : goal.returns-clause-more
 returns-clause-more g c = λ more.
