@@ -1,14 +1,13 @@
 -- How the chunks of a region change with its words and with where they lie.
-use Rattle.std.proofs.Common.{◌≡◌, ◌≢◌, ℕ, ◌+◌, ◌-◌, ◌<◌, ◌≤◌, ◌⊎◌, inl, inr, List, length, get_or, map, sum_by, Option, Some, None, refl, sym, ◌∙◌, ap, subst, arith, ⊎_elim, [], ◌∷◌}
+use Rattle.std.proofs.Common.{◌≡◌, ◌≢◌, ℕ, ◌+◌, ◌<◌, ◌≤◌, ◌⊎◌, inl, inr, List, length, get_or, map, sum_by, Option, Some, None, refl, sym, ◌∙◌, ap, subst, arith, ⊎_elim, [], ◌∷◌}
 use Rattle.std.proofs.lemmas.Bool.{cases_eq, cases_lt}
 use Rattle.std.proofs.lemmas.List.{get_or-set_same, get_or-set_other}
 use Rattle.std.proofs.lemmas.List.Edits.{get_or-insert_at}
 use Rattle.std.proofs.lemmas.List.Sums.{sum_by-cons}
 use Rattle.std.proofs.Math.ListN.{length-set}
 use Rattle.std.specs.List.{slice_set, slice_range, insert, remove}
-use Rattle.core_segment.specs.declared.segment.Span.{Span}
 use Rattle.core_segment.specs.Chunks.{Chunk, Placed, no_chunk, with_chunk, with_word, at_place}
-use Rattle.core_segment.specs.Inside.{no_span, end_of, placed, IsLaid, IsGap}
+use Rattle.core_segment.specs.Inside.{Span, no_span, end_of, word_at, placed, IsLaid, IsGap, IsOpened, IsCleared, IsShifted}
 use Rattle.core_segment.proofs.SpanLaws.{span_at, chunk_in, at-span, IsFound, found, absent, insert-other, remove-other, set-other, laid-other, laid-there, removed, changed, with-chunk, same-eqb, other-eqb}
 use Rattle.core_segment.proofs.WordLaws.{length-range, range-same, range-set}
 
@@ -112,52 +111,77 @@ gap-vacant region spans size words k place laid gap some = at-span region spans 
     (λ (b : k ≤ j). let a = gap.behind j b h in omega arith)
     (cases_lt j k)))
 
-pub take-chunks : (region : List ℕ) (spans : List Span) (size k : ℕ) (t : Span) → IsLaid (insert spans k t) size → k ≤ length spans
-    → length (insert spans k t) ≡ length spans + 1 → chunks region (insert spans k t) ≡ with_chunk (chunks region spans) t.place (placed region t).chunk
-take-chunks region spans size k t laid low many =
-    with-chunk (chunks region spans) (chunks region (insert spans k t)) t.place (placed region t).chunk
-    (at-span region (insert spans k t) t.place ∙ ap (chunk_in region) (
-    subst (λ (s : Span). span_at (insert spans k t) s.place ≡ Some s) (get_or-insert_at spans k t no_span low) (laid-there (insert spans k t) size k laid (omega arith))))
-    (λ q away. at-span region (insert spans k t) q ∙ ap (chunk_in region) (insert-other spans k t q (λ e. away (sym e)) low) ∙ sym (at-span region spans q))
+-- chunks of which no word changed
+kept-chunks : (region region' : List ℕ) (spans : List Span) (q : ℕ) (o : Option Span) → IsLaid spans (length region) → length region' ≡ length region → span_at spans q ≡ o
+    → ((u : Span) → IsFound spans q u → (i : ℕ) → u.place + 4 + i < end_of u → word_at region' (u.place + 4 + i) ≡ word_at region (u.place + 4 + i))
+    → chunk_in region' o ≡ chunk_in region o
+kept-chunks region region' spans q None laid size e same = refl
+kept-chunks region region' spans q (Some u) laid size e same =
+    let g = found spans q u e in
+    let within : end_of u ≤ length region = subst (λ (s : Span). end_of s ≤ length region) g.there (laid.within g.index g.low) in
+    kept-words region region' u within size (λ i h. same u g i h)
+
+pub take-chunks : (region region' : List ℕ) (spans : List Span) (k : ℕ) (t : Span) → IsLaid spans (length region) → IsLaid (insert spans k t) (length region)
+    → IsGap spans (length region) t.len k t.place → 4 ≤ t.len → length (insert spans k t) ≡ length spans + 1 → IsOpened region region' t.place t.owner t.len
+    → chunks region' (insert spans k t) ≡ with_chunk (chunks region spans) t.place (placed region' t).chunk
+take-chunks region region' spans k t laid laid' gap some many opened =
+    with-chunk (chunks region spans) (chunks region' (insert spans k t)) t.place (placed region' t).chunk
+    (at-span region' (insert spans k t) t.place ∙ ap (chunk_in region') (
+    subst (λ (s : Span). span_at (insert spans k t) s.place ≡ Some s) (get_or-insert_at spans k t no_span gap.among)
+    (laid-there (insert spans k t) (length region) k laid' (let low = gap.among in omega arith))))
+    (λ q away. at-span region' (insert spans k t) q ∙ ap (chunk_in region') (insert-other spans k t q (λ e. away (sym e)) gap.among)
+    ∙ kept-chunks region region' spans q (span_at spans q) laid opened.same_size refl (λ u g i h. words u q g i h) ∙ sym (at-span region spans q))
+  where
+    words : (u : Span) (q : ℕ) → IsFound spans q u → (i : ℕ) → u.place + 4 + i < end_of u → word_at region' (u.place + 4 + i) ≡ word_at region (u.place + 4 + i)
+    words u q g i h = ⊎_elim
+        (λ (b : g.index < k). let a : end_of u ≤ t.place = subst (λ (s : Span). end_of s ≤ t.place) g.there (gap.before g.index b) in opened.below (u.place + 4 + i) (omega arith))
+        (λ (b : k ≤ g.index). let a : t.place + t.len ≤ u.place = subst (λ (s : Span). t.place + t.len ≤ s.place) g.there (gap.behind g.index b g.low) in
+        opened.above (u.place + 4 + i) (omega arith))
+        (cases_lt g.index k)
 
 -- ---- a chunk is given back
 
-pub give-chunks : (region : List ℕ) (spans : List Span) (size k p : ℕ) → IsLaid spans size → k < length spans → length (remove spans k) + 1 ≡ length spans
-    → (get_or spans k no_span).place ≡ p → chunks region (remove spans k) ≡ with_chunk (chunks region spans) p no_chunk
-give-chunks region spans size k p laid low many e =
-    with-chunk (chunks region spans) (chunks region (remove spans k)) p no_chunk
-    (at-span region (remove spans k) p ∙ ap (chunk_in region)
+pub give-chunks : (region region' : List ℕ) (spans : List Span) (k p : ℕ) → IsLaid spans (length region) → k < length spans → length (remove spans k) + 1 ≡ length spans
+    → (get_or spans k no_span).place ≡ p → IsCleared region region' (get_or spans k no_span).place (end_of (get_or spans k no_span))
+    → chunks region' (remove spans k) ≡ with_chunk (chunks region spans) p no_chunk
+give-chunks region region' spans k p laid low many e cleared =
+    with-chunk (chunks region spans) (chunks region' (remove spans k)) p no_chunk
+    (at-span region' (remove spans k) p ∙ ap (chunk_in region')
     (absent (remove spans k) p (λ j h. removed (λ (s : Span). s.place ≢ p) spans k j low
-    (λ b same. laid-other spans size j k laid (λ f. omega arith) (omega arith) low (same ∙ sym e))
-    (λ b same. laid-other spans size (j + 1) k laid (λ f. omega arith) (omega arith) low (same ∙ sym e)))))
-    (λ q away. at-span region (remove spans k) q ∙ ap (chunk_in region) (remove-other spans k q (λ f. away (sym f ∙ e)) low) ∙ sym (at-span region spans q))
+    (λ b same. laid-other spans (length region) j k laid (λ f. omega arith) (omega arith) low (same ∙ sym e))
+    (λ b same. laid-other spans (length region) (j + 1) k laid (λ f. omega arith) (omega arith) low (same ∙ sym e)))))
+    (λ q away. at-span region' (remove spans k) q ∙ ap (chunk_in region') (remove-other spans k q (λ f. away (sym f ∙ e)) low)
+    ∙ kept-chunks region region' spans q (span_at spans q) laid cleared.same_size refl (λ u g i h. words u q g i (λ f. away (sym g.place ∙ ap (λ (s : Span). s.place) (sym g.there) ∙ ap (λ (z : ℕ). (get_or spans z no_span).place) f ∙ e)) h)
+    ∙ sym (at-span region spans q))
+  where
+    words : (u : Span) (q : ℕ) (g : IsFound spans q u) (i : ℕ) → g.index ≢ k → u.place + 4 + i < end_of u → word_at region' (u.place + 4 + i) ≡ word_at region (u.place + 4 + i)
+    words u q g i other h = ⊎_elim
+        (λ (b : g.index < k). let a : end_of u ≤ (get_or spans k no_span).place = subst (λ (s : Span). end_of s ≤ (get_or spans k no_span).place) g.there (laid.apart g.index k b low) in
+        cleared.below (u.place + 4 + i) (omega arith))
+        (λ (b : k ≤ g.index).
+        let a : end_of (get_or spans k no_span) ≤ u.place = subst (λ (s : Span). end_of (get_or spans k no_span) ≤ s.place) g.there (laid.apart k g.index (omega arith) g.low) in
+        cleared.above (u.place + 4 + i) (omega arith))
+        (cases_lt g.index k)
 
 -- ---- a chunk is moved down
 
--- the words of a region after those of one part were copied down
-pub record IsShift (region region' : List ℕ) (from to n : ℕ) : Type 0 where
-  pub size : length region' ≡ length region
-  pub copied : (i : ℕ) → to ≤ i → i < to + n → get_or region' i 0 ≡ get_or region (from + (i - to)) 0
-  pub below : (i : ℕ) → i < to → get_or region' i 0 ≡ get_or region i 0
-  pub above : (i : ℕ) → to + n ≤ i → get_or region' i 0 ≡ get_or region i 0
-
-moved-words : (region region' : List ℕ) (s t : Span) → IsShift region region' s.place t.place s.len → t.len ≡ s.len → t.owner ≡ s.owner → end_of s ≤ length region
+moved-words : (region region' : List ℕ) (s t : Span) → IsShifted region region' s.place t.place s.len → t.len ≡ s.len → t.owner ≡ s.owner → end_of s ≤ length region
     → t.place < s.place → (placed region' t).chunk ≡ (placed region s).chunk
 moved-words region region' s t shift len owner within down =
-    let size = shift.size in
+    let size = shift.same_size in
     ap (λ (o : ℕ). record { owner = o; words = slice_range region' (t.place + 4) (end_of t) }) owner
     ∙ ap (λ (words : List ℕ). record { owner = s.owner; words = words })
     (range-same region region' (s.place + 4) (t.place + 4) (end_of s) (end_of t) within (omega arith) (omega arith)
     (λ i h. shift.copied (t.place + 4 + i) (omega arith) (omega arith) ∙ ap (λ (z : ℕ). get_or region z 0) (omega arith)))
 
 move-away : (region region' : List ℕ) (spans : List Span) (k q : ℕ) (t : Span) (o : Option Span) → IsLaid spans (length region) → k < length spans
-    → IsShift region region' (get_or spans k no_span).place t.place (get_or spans k no_span).len → ((j : ℕ) → j < k → end_of (get_or spans j no_span) ≤ t.place)
+    → IsShifted region region' (get_or spans k no_span).place t.place (get_or spans k no_span).len → ((j : ℕ) → j < k → end_of (get_or spans j no_span) ≤ t.place)
     → t.place < (get_or spans k no_span).place → q ≢ (get_or spans k no_span).place → span_at spans q ≡ o → chunk_in region' o ≡ chunk_in region o
 move-away region region' spans k q t None laid low shift before down away e = refl
 move-away region region' spans k q t (Some u) laid low shift before down away e =
     let g = found spans q u e in
     let within : end_of u ≤ length region = subst (λ (s : Span). end_of s ≤ length region) g.there (laid.within g.index g.low) in
-    kept-words region region' u within shift.size
+    kept-words region region' u within shift.same_size
     (λ i h. ⊎_elim
     (λ (b : g.index < k). let a : end_of u ≤ t.place = subst (λ (s : Span). end_of s ≤ t.place) g.there (before g.index b) in shift.below (u.place + 4 + i) (omega arith))
     (λ (b : k ≤ g.index).
@@ -172,7 +196,7 @@ move-away region region' spans k q t (Some u) laid low shift before down away e 
         (cases_eq g.index k)
 
 pub move-chunks : (region region' : List ℕ) (spans : List Span) (k : ℕ) (t : Span) → IsLaid spans (length region) → IsLaid (slice_set spans k t) (length region)
-    → k < length spans → IsShift region region' (get_or spans k no_span).place t.place (get_or spans k no_span).len
+    → k < length spans → IsShifted region region' (get_or spans k no_span).place t.place (get_or spans k no_span).len
     → t.len ≡ (get_or spans k no_span).len → t.owner ≡ (get_or spans k no_span).owner
     → ((j : ℕ) → j < k → end_of (get_or spans j no_span) ≤ t.place) → t.place < (get_or spans k no_span).place
     → chunks region' (slice_set spans k t) ≡ with_chunk (with_chunk (chunks region spans) (get_or spans k no_span).place no_chunk) t.place (chunks region spans (get_or spans k no_span).place)

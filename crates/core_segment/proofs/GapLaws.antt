@@ -1,10 +1,9 @@
 -- Free words between chunks.
-use Rattle.std.proofs.Common.{zero, suc, ◌≡◌, ◌≢◌, ℕ, ◌+◌, ◌-◌, ◌*◌, ◌/◌, ◌<◌, ◌≤◌, max, List, [], ◌∷◌, length, get_or, drop, sum_by, refl, sym, ◌∙◌, ap, subst, arith, ⊎_elim, drop-cons, add-one}
-use Rattle.std.proofs.lemmas.Bool.{cases_eq, cases_lt}
+use Rattle.std.proofs.Common.{zero, suc, ◌≡◌, ◌≢◌, ℕ, ◌+◌, ◌-◌, ◌<◌, ◌≤◌, max, List, [], ◌∷◌, length, get_or, drop, sum_by, refl, sym, ◌∙◌, ap, subst, arith, ⊎_elim, drop-cons, add-one}
+use Rattle.std.proofs.lemmas.Bool.{cases_lt}
 use Rattle.std.proofs.lemmas.List.Sums.{sum_by-cons}
 use Rattle.std.specs.List.{remove}
-use Rattle.core_segment.specs.declared.segment.Span.{Span}
-use Rattle.core_segment.specs.Inside.{no_span, end_of, IsLaid, IsGap, IsFirst, largest_gap, all_gaps}
+use Rattle.core_segment.specs.Inside.{Span, no_span, end_of, IsLaid, IsAt, IsGap, largest_gap, all_gaps}
 
 abbrev pub lens : List Span → ℕ
 lens spans = sum_by (λ (s : Span). s.len) spans
@@ -30,21 +29,9 @@ gaps-sum (s ∷ ss) size from laid low below =
     let rest = gaps-sum ss size (end_of s) (laid-tail s ss size laid) within (λ k h. laid.apart 0 (suc k) (omega arith) (omega arith)) in
     omega (arith, lens-cons s ss)
 
--- chunks have four words or more
-pub spans-few : (spans : List Span) → ((k : ℕ) → k < length spans → 4 ≤ (get_or spans k no_span).len) → 4 * length spans ≤ lens spans
-spans-few [] sized = omega arith
-spans-few (s ∷ ss) sized =
-    let first : 4 ≤ s.len = sized 0 (omega arith) in
-    let rest = spans-few ss (λ k h. sized (suc k) (omega arith)) in
-    omega (arith, lens-cons s ss)
-
 pub largest-le : (spans : List Span) (size from : ℕ) → largest_gap from spans size ≤ all_gaps from spans size
 largest-le [] size from = omega arith
 largest-le (s ∷ ss) size from = let rest = largest-le ss size (end_of s) in omega arith
-
-pub gaps-none : (spans : List Span) (size from : ℕ) → largest_gap from spans size ≡ 0 → all_gaps from spans size ≡ 0
-gaps-none [] size from e = e
-gaps-none (s ∷ ss) size from e = let rest = gaps-none ss size (end_of s) (omega arith) in omega arith
 
 -- a gap is no larger than the largest
 pub gap-le : (spans : List Span) (size words index place from : ℕ) → IsGap spans size words index place → from ≤ place → words ≤ largest_gap from spans size
@@ -101,7 +88,7 @@ room-remove (s ∷ ss) size (suc k) from laid low below =
 
 -- ---- the search for a gap
 
-drop-at : (spans : List Span) (k : ℕ) → k < length spans → drop k spans ≡ get_or spans k no_span ∷ drop (k + 1) spans
+pub drop-at : (spans : List Span) (k : ℕ) → k < length spans → drop k spans ≡ get_or spans k no_span ∷ drop (k + 1) spans
 drop-at spans k low = drop-cons spans k no_span low ∙ ap (λ (n : ℕ). get_or spans k no_span ∷ drop n spans) (sym (add-one k))
 
 -- the gaps from a place before a chunk
@@ -116,6 +103,11 @@ gaps-at spans size k place low = ap (λ (l : List Span). all_gaps place l size) 
 pub drop-end : (spans : List Span) → drop (length spans) spans ≡ []
 drop-end [] = refl
 drop-end (s ∷ ss) = drop-end ss
+
+-- no gap before this place
+pub record IsFirst (spans : List Span) (size index place : ℕ) : Type 0 where
+  pub largest : largest_gap 0 spans size ≡ largest_gap place (drop index spans) size
+  pub gaps : all_gaps 0 spans size ≡ all_gaps place (drop index spans) size
 
 pub first-more : (spans : List Span) (size k place : ℕ) → k < length spans → (get_or spans k no_span).place - place ≡ 0 → IsFirst spans size k place
     → IsFirst spans size (k + 1) (end_of (get_or spans k no_span))
@@ -149,8 +141,37 @@ end-gap spans size place free first sum =
     first.largest ∙ ap (λ (l : List Span). largest_gap place l size) (drop-end spans)
     ∙ sym (ap (λ (l : List Span). all_gaps place l size) (drop-end spans)) ∙ sym first.gaps ∙ sum
 
-pub no-gap : (spans : List Span) (size free : ℕ) → largest_gap 0 spans size < 1 → all_gaps 0 spans size ≡ free → largest_gap 0 spans size ≡ free
-no-gap spans size free none sum = let a = gaps-none spans size 0 (omega arith) in omega arith
+-- where the free words from a place to another are all, they are the largest
+pub all-left : (spans : List Span) (size k place q free : ℕ) → IsLaid spans size → IsFirst spans size k place → IsAt spans k q → q ≤ size
+    → (q < size → (k < length spans) × ((get_or spans k no_span).place ≡ q)) → q - place ≡ free → all_gaps 0 spans size ≡ free → largest_gap 0 spans size ≡ free
+all-left spans size k place q free laid first at within there all sum = ⊎_elim
+    (λ (h : q < size). let here = there h in let e = here.1 in one-gap spans size k place free here.0 first (omega arith) sum)
+    (λ (h : size ≤ q). end-gap spans size place free
+    (subst (λ (z : ℕ). IsFirst spans size z place) (at-last h) first) sum)
+    (cases_lt q size)
+  where
+    at-last : size ≤ q → k ≡ length spans
+    at-last h = ⊎_elim
+        (λ (l : k < length spans). let a = at.behind k (omega arith) l in let b = laid.sized k l in let c = laid.within k l in absurd (omega arith))
+        (λ (l : length spans ≤ k). let a = at.among in omega arith)
+        (cases_lt k (length spans))
+
+-- where they are not all, a chunk follows
+pub not-all : (spans : List Span) (size k place q free : ℕ) → IsLaid spans size → IsFirst spans size k place → IsAt spans k q → q ≤ size
+    → q - place ≢ free → all_gaps 0 spans size ≡ free → q < size
+not-all spans size k place q free laid first at within part sum = ⊎_elim
+    (λ (h : q < size). h)
+    (λ (h : size ≤ q).
+    let gaps : all_gaps place (drop k spans) size ≡ size - place = ap (λ (l : List Span). all_gaps place l size) (ap (λ (z : ℕ). drop z spans) (at-last h) ∙ drop-end spans) in
+    let a = first.gaps in
+    absurd (part (omega arith)))
+    (cases_lt q size)
+  where
+    at-last : size ≤ q → k ≡ length spans
+    at-last h = ⊎_elim
+        (λ (l : k < length spans). let a = at.behind k (omega arith) l in let b = laid.sized k l in let c = laid.within k l in absurd (omega arith))
+        (λ (l : length spans ≤ k). let a = at.among in omega arith)
+        (cases_lt k (length spans))
 
 -- ---- what the search has passed
 
@@ -160,7 +181,6 @@ pub record IsPassed (spans : List Span) (size words index place : ℕ) : Type 0 
   pub behind : (k : ℕ) → index ≤ k → k < length spans → place ≤ (get_or spans k no_span).place
   pub within : place ≤ size
   pub less : largest_gap place (drop index spans) size < words → largest_gap 0 spans size < words
-  pub first : words ≡ 1 → IsFirst spans size index place
 
 pub passed-none : (spans : List Span) (size words : ℕ) → IsPassed spans size words 0 0
 passed-none spans size words = record {
@@ -168,7 +188,6 @@ passed-none spans size words = record {
   behind = λ k h l. omega arith;
   within = omega arith;
   less = λ h. h;
-  first = λ e. record { largest = refl; gaps = refl };
 }
 
 pub passed-more : (spans : List Span) (size words index place : ℕ) → IsLaid spans size → IsPassed spans size words index place → index < length spans
@@ -181,28 +200,16 @@ passed-more spans size words index place laid passed low small = record {
   behind = λ k h l. laid.apart index k (omega arith) l;
   within = laid.within index low;
   less = λ h. passed.less (let a = largest-at spans size index place low in omega arith);
-  first = λ e. first-more spans size index place low (omega arith) (passed.first e);
 }
 
-pub passed-gap : (spans : List Span) (size words index place : ℕ) → IsLaid spans size → IsPassed spans size words index place → index < length spans
-    → words ≤ (get_or spans index no_span).place - place → 1 ≤ words → IsGap spans size words index place
-passed-gap spans size words index place laid passed low large some = record {
-  among = omega arith;
+-- so many free words from a place on, up to another before which no chunk begins
+pub passed-gap : (spans : List Span) (size words index place q : ℕ) → IsPassed spans size words index place → IsAt spans index q → q ≤ size
+    → place + words ≤ q → IsGap spans size words index place
+passed-gap spans size words index place q passed at within large = record {
+  among = at.among;
   before = passed.before;
-  behind = λ k h l. ⊎_elim
-      (λ (e : k ≡ index). subst (λ (z : ℕ). place + words ≤ (get_or spans z no_span).place) (sym e) (omega arith))
-      (λ (e : k ≢ index). let a = laid.apart index k (omega arith) l in omega arith)
-      (cases_eq k index);
-  within = let a = laid.within index low in omega arith;
-}
-
-pub passed-end : (spans : List Span) (size words index place : ℕ) → IsPassed spans size words index place → index ≡ length spans
-    → place + words ≤ size → IsGap spans size words index place
-passed-end spans size words index place passed e large = record {
-  among = omega arith;
-  before = passed.before;
-  behind = λ k h l. absurd (omega arith);
-  within = large;
+  behind = λ k h l. let a = at.behind k h l in omega arith;
+  within = omega arith;
 }
 
 pub passed-all : (spans : List Span) (size words index place : ℕ) → IsPassed spans size words index place → index ≡ length spans → size - place < words
@@ -222,7 +229,3 @@ gap-free spans size free words index place laid all gap =
     let b = gap-le spans size words index place 0 gap (omega arith) in
     let c = largest-le spans size 0 in
     omega arith
-
--- where four words are free, one more chunk has room
-pub room-more : (spans : List Span) (size free : ℕ) → IsLaid spans size → free + lens spans ≡ size → 4 ≤ free → length spans < size / 4
-room-more spans size free laid all some = let a = spans-few spans laid.sized in omega arith

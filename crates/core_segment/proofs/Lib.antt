@@ -1,5 +1,11 @@
-pub mod ChunkLaws
-pub mod GapLaws
-pub mod KeptLaws
 pub mod SpanLaws
+pub mod GapLaws
 pub mod WordLaws
+pub mod WalkLaws
+pub mod PackLaws
+pub mod SoughtLaws
+pub mod HeadLaws
+pub mod RegionLaws
+pub mod ChunkLaws
+pub mod TellLaws
+pub mod KeptLaws

@@ -7,9 +7,8 @@ use Rattle.std.proofs.lemmas.List.Edits.{get_or-insert_at, get_or-insert_below, 
 use Rattle.std.proofs.Math.ListN.{length-set}
 use Rattle.std.proofs.Math.Path.{fun_ext}
 use Rattle.std.specs.List.{slice_set, insert, remove}
-use Rattle.core_segment.specs.declared.segment.Span.{Span}
 use Rattle.core_segment.specs.Chunks.{Chunk, no_chunk, with_chunk, at_place}
-use Rattle.core_segment.specs.Inside.{no_span, end_of, placed, IsLaid, IsGap}
+use Rattle.core_segment.specs.Inside.{Span, no_span, end_of, placed, IsLaid, IsGap}
 
 -- ---- the span that begins at a place
 
@@ -102,7 +101,7 @@ pub laid-there : (spans : List Span) (size k : ℕ) → IsLaid spans size → k 
 laid-there spans size k laid low = there spans k low (λ j h. laid-other spans size j k laid (λ e. omega arith) (omega arith) low)
 
 -- what the list with one more span has at an index
-inserted : (P : Span → Type 0) (spans : List Span) (k : ℕ) (t : Span) (j : ℕ) → k ≤ length spans
+pub inserted : (P : Span → Type 0) (spans : List Span) (k : ℕ) (t : Span) (j : ℕ) → k ≤ length spans
     → (j < k → P (get_or spans j no_span)) → (j ≡ k → P t) → (k < j → P (get_or spans (j - 1) no_span)) → P (get_or (insert spans k t) j no_span)
 inserted P spans k t j low below at above = ⊎_elim
     (λ (h : j < k). subst P (sym (get_or-insert_below spans k t no_span j h low)) (below h))

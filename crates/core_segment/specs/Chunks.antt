@@ -1,5 +1,6 @@
 -- Chunks of a segment, as a function of their places.
 use Rattle.std.specs.Prelude.{◌≡◌, ℕ, ◌+◌, ◌<◌, ◌≤◌, ◌==◌, List, [], ◌∷◌, length, All, AllPairs, sum_by, if◌then◌else◌, slice_set}
+use Rattle.core_segment.specs.declared.segment.TheConstants.{HEADER}
 
 -- a used chunk: its owner, which is not 0, and the words of its user, which come after the four of the segment's own
 pub record Chunk : Type 0 where
@@ -27,7 +28,7 @@ pub record Placed : Type 0 where
 
 -- the words of the region that a chunk takes: four of the segment's own, and those of its user
 abbrev pub room_of : Placed → ℕ
-room_of c = 4 + length c.chunk.words
+room_of c = HEADER + length c.chunk.words
 
 -- the chunk that begins at a place
 abbrev pub at_place : List Placed → ℕ → Chunk

@@ -3,11 +3,11 @@ use Rattle.std.specs.Prelude.{◌≡◌, ℕ, ◌+◌, ◌<◌, List, length, ma
 use Rattle.core_segment.specs.declared.segment.Moved.{Moved}
 use Rattle.core_segment.specs.declared.segment.Segment.{Segment}
 use Rattle.core_segment.specs.Chunks.{Chunk, Placed, no_chunk, at_place, with_chunk}
-use Rattle.core_segment.specs.Inside.{placed, largest_gap}
+use Rattle.core_segment.specs.Inside.{placed, spans_of, largest_gap}
 
 -- the used chunks, by rising place
 unfoldable pub chunks_of : Segment → List Placed
-chunks_of g = map (placed g.region.items) g.used.items
+chunks_of g = map (placed g.region.items) (spans_of g.region.items)
 
 -- the used chunk that begins at a place
 unfoldable pub chunk_at : Segment → ℕ → Chunk
@@ -23,7 +23,7 @@ free_of g = g.free
 
 -- the words of the largest free chunk
 unfoldable pub largest_of : Segment → ℕ
-largest_of g = largest_gap 0 g.used.items (length g.region.items)
+largest_of g = largest_gap 0 (spans_of g.region.items) (length g.region.items)
 
 -- how far down the used chunks could go at most, all together
 unfoldable pub work_of : Segment → ℕ

@@ -2,7 +2,9 @@
 //!
 //! A segment stands for a function from places to used chunks, `chunk_at`, each with an owner and words. `take`, `give` and `set_word`
 //! change one chunk, and `compact_step` moves one down, with its words; each is one equation of whole functions. `take` answers None
-//! exactly where no free chunk has so many words, and once `compact_step` answered None all free words are one chunk.
+//! exactly where no free chunk has so many words (`has_room` tells), and once `compact_step` answered None all free words are one chunk.
+//! No call but `new` takes memory, and there is none beside the region: chunks tell in their first words where they end. Steps of
+//! compaction one after another go over the region once.
 //!
 //! ```text
 //! let mut segment = Segment::new(alloc, 4096)?;
@@ -16,9 +18,10 @@
 #![tactic(auto)]
 
 pub mod laws;
+mod region;
 mod segment;
 
-pub use segment::{Addr, Moved, Segment};
+pub use segment::{Addr, HEADER, MOST_WORDS, Moved, Segment};
 
 #[cfg(test)]
 mod tests;

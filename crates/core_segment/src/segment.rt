@@ -1,10 +1,16 @@
-// The segment: a region of words, and where its used chunks lie in it. What no chunk takes is free.
-ghost use Rattle.std.specs.Prelude.{◌≡◌, ℕ, ◌+◌, ◌/◌, ◌^◌, ◌≤◌, length, sum_by};
-ghost use Rattle.std.specs.Vec.{vec_capacity};
-ghost use Rattle.core_segment.specs.declared.segment.Span.{Span};
-ghost use Rattle.core_segment.specs.Inside.{IsLaid};
+// The segment: a region of words, in which used chunks tell where they end. What no chunk takes is free.
+ghost use Rattle.std.specs.Prelude.{◌≡◌, ◌≤◌, length};
+ghost use Rattle.core_segment.specs.declared.segment.TheConstants.{MOST_WORDS};
+ghost use Rattle.core_segment.specs.Inside.{IsRegion, spans_of};
 
+use crate::region::{clear, later, open, shift, size_at};
 use std::alloc::{AllocError, Global};
+
+/// The most words of a segment.
+pub const MOST_WORDS: u32 = 16_777_216;
+
+/// The words at the front of a chunk that are the segment's own.
+pub const HEADER: u32 = 4;
 
 /// The place of a chunk: the index of its first word in the region.
 #[derive(Clone, Copy, Debug, PartialEq, Eq)]
@@ -19,53 +25,38 @@ pub struct Moved {
     pub to: Addr,
 }
 
-// A used chunk: its first four words are the segment's own.
-#[derive(Clone, Copy)]
-struct Span {
-    place: u32,
-    len: u32,
-    owner: u16,
-}
-
-// Free words from a place on, before the chunk of this index.
-#[derive(Clone, Copy)]
-struct Gap {
-    index: usize,
-    place: u32,
-}
-
 /// A region of words, of which parts are given out as chunks.
 #[derive(Drop)]
 pub struct Segment {
+    // A used chunk begins with its owner, which is not 0, and its size. Each free word is 0. So chunks are found from place to place.
     region: Vec<u16>,
-    // By rising place. A region has at most a quarter as many chunks as words, and there is room for all of them from the start.
-    used: Vec<Span>,
     free: u32,
-    ghost small: { length region.items ≤ 2 ^ 24 },
-    ghost laid: { IsLaid used.items (length region.items) },
-    ghost counted: { free + sum_by (λ (s : Span). s.len) used.items ≡ length region.items },
-    ghost room: { length region.items / 4 ≤ vec_capacity used },
+    // Where a compaction goes on: no word is free below `packed`, and each is from there to `next`.
+    packed: u32,
+    next: u32,
+    ghost small: { length region.items ≤ MOST_WORDS },
+    ghost whole: { IsRegion region.items (spans_of region.items) free packed next },
 }
 
 impl Segment {
-    ghost use Rattle.std.specs.Prelude.{◌≡◌, ◌≢◌, ◌+◌, ◌-◌, ◌*◌, ◌<◌, ◌≤◌, ◌^◌, ◌↔◌, ℕ, IfOk, IfSome, IfNone, IsTrue, Some, length, slice_get, slice_index_or};
+    ghost use Rattle.std.specs.Prelude.{◌≡◌, ◌≢◌, ◌+◌, ◌-◌, ◌*◌, ◌<◌, ◌≤◌, ◌^◌, ◌↔◌, ℕ, IfOk, IfSome, IfNone, IsTrue, Some, length, slice_get};
     ghost use Rattle.core_segment.specs.Chunks.{Chunk, no_chunk, with_chunk, with_word};
-    ghost use Rattle.core_segment.specs.Inside.{no_span, largest_gap, IsGap, IsFirst};
+    ghost use Rattle.core_segment.specs.Inside.{IsAt, IsGap, IsPacked, spans_of, word_at};
     ghost use Rattle.core_segment.specs.Segment.{chunk_at, size_of, free_of, largest_of, work_of, SameRoom, IsTaken, IsMove};
 
     /// A segment of so many words, all of them free.
     pub fn new(alloc: Global, words: u32) -> Result<Segment, AllocError>
-        requires some { 4 ≤ words }
-        requires most { words ≤ 2 ^ 24 }
+        requires some { HEADER ≤ words }
+        requires most { words ≤ MOST_WORDS }
         ensures chunks { IfOk result (λ g. chunk_at g ≡ (λ p. no_chunk)) }
         ensures size { IfOk result (λ g. size_of g ≡ words) }
         ensures free { IfOk result (λ g. (free_of g ≡ words) × (largest_of g ≡ words)) }
     {
-        let used = Vec::with_capacity(alloc, words as usize / 4)?;
         Ok(Segment {
             region: vec![in alloc; 0; words as usize]?,
-            used,
             free: words,
+            packed: 0,
+            next: 0,
         })
     }
 
@@ -80,9 +71,9 @@ impl Segment {
     pub fn len(&self, at: Addr) -> u32
         requires { 0 < (chunk_at self.now at.place).owner }
         ensures words { result ≡ length (chunk_at self.now at.place).words }
-        ensures small { result + 4 ≤ size_of self.now }
+        ensures small { result + HEADER ≤ size_of self.now }
     {
-        self.used[self.index_of(at)].len - 4
+        size_at(&self.region, at.place) - HEADER
     }
 
     /// Whether so many words are free together, so that `take` gives them.
@@ -98,7 +89,7 @@ impl Segment {
         requires { i < length (chunk_at self.now at.place).words }
         ensures { slice_get (chunk_at self.now at.place).words i ≡ Some result }
     {
-        self.region[at.place as usize + 4 + i as usize]
+        self.region[at.place as usize + HEADER as usize + i as usize]
     }
 
     /// Changes a word of a chunk.
@@ -107,36 +98,36 @@ impl Segment {
         ensures chunks { chunk_at self.new ≡ with_word (chunk_at self.old) at.place i w }
         ensures room { SameRoom self.old self.new }
     {
-        self.region[at.place as usize + 4 + i as usize] = w;
+        self.region[at.place as usize + HEADER as usize + i as usize] = w;
     }
 
-    // The first gap of at least so many words.
-    fn find_gap(&self, words: u32) -> Option<Gap>
+    // The first place from which on so many words are free.
+    fn find_gap(&self, words: u32) -> Option<u32>
         requires { 1 ≤ words }
         ensures none { IfNone result (largest_of self.now < words) }
-        ensures gap { IfSome result (λ g. IsGap self.now.used.items (length self.now.region.items) words g.index g.place) }
-        ensures first { IfSome result (λ g. words ≡ 1 → IsFirst self.now.used.items (length self.now.region.items) g.index g.place) }
+        ensures gap { IfSome result (λ p. (k : ℕ) × IsGap (spans_of self.now.region.items) (length self.now.region.items) words k p) }
     {
+        let size = self.region.len() as u32;
+        let mut start = 0;
         let mut place = 0;
-        for index in 0..self.used.len() {
-            let chunk = self.used[index];
-            if chunk.place - place >= words {
-                return Some(Gap { index, place });
+        while place < size {
+            let word = self.region[place as usize];
+            if word == 0 {
+                place += 1;
+                if place - start == words {
+                    return Some(start);
+                }
+            } else {
+                place += size_at(&self.region, place);
+                start = place;
             }
-            place = chunk.place + chunk.len;
-        }
-        if self.region.len() as u32 - place >= words {
-            return Some(Gap {
-                index: self.used.len(),
-                place,
-            });
         }
         None
     }
 
     /// Gives a chunk of so many words, four of them the segment's own, to an owner. None exactly where no free chunk has so many.
     pub fn take(&mut self, words: u32, owner: u16) -> Option<Addr>
-        requires some { 4 ≤ words }
+        requires some { HEADER ≤ words }
         requires owner { 0 < owner }
         ensures taken { IfSome result (λ at. IsTaken (chunk_at self.old) (chunk_at self.new) at.place owner words) }
         ensures free { IfSome result (λ at. free_of self.new + words ≡ free_of self.old) }
@@ -144,37 +135,12 @@ impl Segment {
         ensures none { IfNone result ((largest_of self.old < words) × (self.new ≡ self.old)) }
         ensures size { size_of self.new ≡ size_of self.old }
     {
-        let gap = self.find_gap(words)?;
-        let chunk = Span {
-            place: gap.place,
-            len: words,
-            owner,
-        };
-        match self.used.insert(gap.index, chunk) {
-            Ok(()) => {}
-            Err(_) => unreachable!(),
-        }
+        let place = self.find_gap(words)?;
+        open(&mut self.region, place, owner, words);
         self.free -= words;
-        Some(Addr { place: gap.place })
-    }
-
-    // The index of a used chunk.
-    fn index_of(&self, at: Addr) -> usize
-        requires { 0 < (chunk_at self.now at.place).owner }
-        ensures within { result < length self.now.used.items }
-        ensures there { (slice_index_or self.now.used.items result no_span).place ≡ at.place }
-    {
-        let mut low = 0;
-        let mut high = self.used.len();
-        while low < high {
-            let middle = low + (high - low) / 2;
-            if self.used[middle].place < at.place {
-                low = middle + 1;
-            } else {
-                high = middle;
-            }
-        }
-        low
+        self.packed = 0;
+        self.next = 0;
+        Some(Addr { place })
     }
 
     /// Frees a chunk. No free chunk gets smaller by it, and the words of this one are free together.
@@ -186,13 +152,53 @@ impl Segment {
         ensures room { 4 + length (chunk_at self.old at.place).words ≤ largest_of self.new }
         ensures size { size_of self.new ≡ size_of self.old }
     {
-        let index = self.index_of(at);
-        let chunk = self.used.remove(index);
-        self.free += chunk.len;
+        let size = size_at(&self.region, at.place);
+        clear(&mut self.region, at.place, at.place + size);
+        self.free += size;
+        self.packed = 0;
+        self.next = 0;
+    }
+
+    // The first free word behind the chunks that are packed, or the end.
+    fn end_of_packed(&self) -> u32
+        ensures packed { (k : ℕ) × IsPacked (spans_of self.now.region.items) (length self.now.region.items) k result self.now.next }
+        ensures free { word_at self.now.region.items result ≡ 0 }
+        ensures within { result ≤ length self.now.region.items }
+    {
+        let size = self.region.len() as u32;
+        let mut place = self.packed;
+        while place < size {
+            let word = self.region[place as usize];
+            if word == 0 {
+                return place;
+            }
+            place += size_at(&self.region, place);
+        }
+        place
+    }
+
+    // The next chunk from a free word on, or the end.
+    fn end_of_gap(&self, from: u32) -> u32
+        requires { from ≤ length self.now.region.items }
+        ensures gap { (k : ℕ) → IsAt (spans_of self.now.region.items) k from → IsAt (spans_of self.now.region.items) k result }
+        ensures used { result < length self.now.region.items → word_at self.now.region.items result ≢ 0 }
+        ensures behind { from ≤ result }
+        ensures within { result ≤ length self.now.region.items }
+    {
+        let size = self.region.len() as u32;
+        let mut place = from;
+        while place < size {
+            let word = self.region[place as usize];
+            if word != 0 {
+                return place;
+            }
+            place += 1;
+        }
+        place
     }
 
     /// Moves one chunk down, so that less than before lies between free words. None where all free words are one chunk or none, after
-    /// free chunks that touch were joined.
+    /// free chunks that touch were joined. As long as nothing is taken or given, a step goes on where the last one was.
     pub fn compact_step(&mut self) -> Option<Moved>
         ensures moved { IfSome result (λ m. IsMove (chunk_at self.old) (chunk_at self.new) m) }
         ensures many { IfSome result (λ m. largest_of self.old < free_of self.old) }
@@ -201,21 +207,21 @@ impl Segment {
         ensures free { free_of self.new ≡ free_of self.old }
         ensures size { size_of self.new ≡ size_of self.old }
     {
-        let gap = self.find_gap(1)?;
-        if gap.index == self.used.len() {
+        let to = self.end_of_packed();
+        let from = self.end_of_gap(later(to, self.next));
+        if from - to == self.free {
+            self.packed = to;
+            self.next = from;
             return None;
         }
-        let chunk = self.used[gap.index];
-        if chunk.place - gap.place == self.free {
-            return None;
-        }
-        let from = chunk.place as usize;
-        self.region
-            .copy_within(from..from + chunk.len as usize, gap.place as usize);
-        self.used[gap.index].place = gap.place;
+        let owner = self.region[from as usize];
+        let size = size_at(&self.region, from);
+        shift(&mut self.region, from, to, size);
+        self.packed = to + size;
+        self.next = from + size;
         Some(Moved {
-            owner: chunk.owner,
-            to: Addr { place: gap.place },
+            owner,
+            to: Addr { place: to },
         })
     }
 }

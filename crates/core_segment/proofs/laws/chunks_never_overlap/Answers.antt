@@ -1,9 +1,8 @@
 use Rattle.std.proofs.Common.{suc, ◌≡◌, ℕ, ◌+◌, ◌<◌, ◌≤◌, List, [], ◌∷◌, length, get_or, map, sum_by, refl, sym, subst, arith}
 use Rattle.std.proofs.lemmas.List.{get_or-map, length-map}
 use Rattle.std.proofs.lemmas.List.Sums.{sum_by-cons}
-use Rattle.core_segment.specs.declared.segment.Span.{Span}
 use Rattle.core_segment.specs.Chunks.{Placed, IsLaidOut, room_of}
-use Rattle.core_segment.specs.Inside.{no_span, end_of, placed, IsLaid}
+use Rattle.core_segment.specs.Inside.{Span, no_span, end_of, placed, spans_of, IsLaid}
 use Rattle.core_segment.specs.Segment.{chunks_of, free_of, size_of}
 use Rattle.core_segment.proofs.GapLaws.{lens}
 use Rattle.core_segment.proofs.WordLaws.{length-range}
@@ -50,4 +49,4 @@ laid-out region spans free laid all = record {
 
 pub returns : goal.returns
 unfolding chunks_of free_of size_of
-returns c = let g = c.args.segment.now in laid-out g.region.items g.used.items g.free g.laid g.counted
+returns c = let g = c.args.segment.now in laid-out g.region.items (spans_of g.region.items) g.free g.whole.laid g.whole.counted

@@ -1,36 +1,41 @@
-use Rattle.std.proofs.Common.{◌≡◌, ◌+◌, ◌-◌, ◌<◌, ◌≤◌, length, get_or, arith, sym, ◌∙◌, subst}
-use Rattle.std.proofs.lemmas.List.{get_or_default}
-use Rattle.core_segment.specs.declared.segment.Span.{Span}
-use Rattle.core_segment.specs.Inside.{no_span, end_of}
+use Rattle.std.proofs.Common.{ℕ, ◌≡◌, ◌≢◌, ◌+◌, ◌<◌, ◌≤◌, length, sym, ◌∙◌, subst, arith}
+use Rattle.core_segment.specs.Inside.{spans_of, word_at}
 use Rattle.core_segment.specs.Segment.{largest_of}
-use Rattle.core_segment.proofs.GapLaws.{IsPassed, passed-none, passed-more, passed-all}
+use Rattle.core_segment.proofs.WordLaws.{read}
+use Rattle.core_segment.proofs.SoughtLaws.{IsSought, sought-none, sought-chunk, sought-all, chunk-within}
 use Rattle.core_segment.proofs.segment.Segment.find_gap.Goals as goal
 
-pub loop-index-init : goal.loop-index-init
-loop-index-init c = record { passed = passed-none _ _ _ }
+pub loop-place-init : goal.loop-place-init
+loop-place-init c = record { sought = sought-none _ _ _ c.requires }
 
-pub overflow_sub-chunk : goal.overflow_sub-chunk
-overflow_sub-chunk c =
+pub overflow_add-place-else-word-eq0 : goal.overflow_add-place-else-word-eq0
+overflow_add-place-else-word-eq0 c =
     let g = c.args.self.now in
-    let low : c.loop-index.index < length g.used.items = let size = g.used.ok.0 in omega (arith, c.len-index-end.ensures) in
-    let read : c.index-chunk.result.now ≡ get_or g.used.items c.loop-index.index no_span = c.index-chunk.ensures ∙ get_or_default g.used.items c.loop-index.index c.index-chunk.result.now no_span low in
-    subst (λ (s : Span). c.loop-index.place ≤ s.place) (sym read) (c.loop-index.invariant.passed.behind c.loop-index.index (omega arith) low)
+    let region = g.region.items in
+    let sought = c.loop-place.invariant.sought in
+    let low : c.loop-place.place < length region = let a = g.region.ok.0 in let t = c.loop-place-test.true in omega (arith, c.len-size.ensures) in
+    let word : c.index-word.result.now ≡ word_at region c.loop-place.place = read region c.loop-place.place c.index-word.result.now low c.index-word.ensures in
+    let used : word_at region c.loop-place.place ≢ 0 = λ e. c.if-word-eq0.false (word ∙ e) in
+    let fits = chunk-within region (spans_of region) sought.index c.loop-place.place g.whole.laid g.whole.headed sought.at used in
+    let size = c.size_at-place.ensures in let small = g.small in
+    omega (arith, fits.1)
 
-pub loop-index-preserved : goal.loop-index-preserved
-loop-index-preserved c =
+pub loop-place-preserved : goal.loop-place-preserved
+loop-place-preserved c =
     let g = c.args.self.now in
-    let low : c.loop-index.index < length g.used.items = let size = g.used.ok.0 in omega (arith, c.len-index-end.ensures) in
-    let read : c.index-chunk.result.now ≡ get_or g.used.items c.loop-index.index no_span = c.index-chunk.ensures ∙ get_or_default g.used.items c.loop-index.index c.index-chunk.result.now no_span low in
+    let region = g.region.items in
+    let sought = c.loop-place.invariant.sought in
+    let low : c.loop-place.place < length region = let a = g.region.ok.0 in let t = c.loop-place-test.true in omega (arith, c.len-size.ensures) in
+    let word : c.index-word.result.now ≡ word_at region c.loop-place.place = read region c.loop-place.place c.index-word.result.now low c.index-word.ensures in
+    let used : word_at region c.loop-place.place ≢ 0 = λ e. c.if-word-eq0.false (word ∙ e) in
     record {
-      passed = subst (λ (s : Span). IsPassed g.used.items (length g.region.items) c.args.words (c.loop-index.index + 1) (end_of s)) (sym read)
-          (passed-more g.used.items (length g.region.items) c.args.words c.loop-index.index c.loop-index.place g.laid c.loop-index.invariant.passed low
-          (subst (λ (s : Span). s.place - c.loop-index.place < c.args.words) read (omega arith)));
+      sought = subst (λ (z : ℕ). IsSought (spans_of region) (length region) c.args.words (c.loop-place.place + z) (c.loop-place.place + z)) (sym c.size_at-place.ensures)
+          (sought-chunk region (spans_of region) c.args.words c.loop-place.start c.loop-place.place g.whole.laid g.whole.headed sought c.requires used);
     }
 
 pub returns-clause-none : goal.returns-clause-none
 unfolding largest_of
 returns-clause-none c =
     let g = c.args.self.now in
-    let spans = g.used.ok.0 in let size = g.region.ok.0 in
-    passed-all g.used.items (length g.region.items) c.args.words c.loop-index.index c.loop-index.place c.loop-index.invariant.passed
-    (omega (arith, c.len-index-end.ensures)) (omega (arith, c.len.ensures))
+    let past : length g.region.items ≤ c.loop-place.place = let a = g.region.ok.0 in let t = c.loop-place-test.false in omega (arith, c.len-size.ensures) in
+    sought-all (spans_of g.region.items) (length g.region.items) c.args.words c.loop-place.start c.loop-place.place g.whole.laid c.loop-place.invariant.sought past

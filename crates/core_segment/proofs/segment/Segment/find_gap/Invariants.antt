@@ -1,6 +1,12 @@
-use Rattle.std.proofs.Common.{length}
-use Rattle.core_segment.proofs.GapLaws.{IsPassed}
+use Rattle.std.proofs.Common.{◌-◌, length}
+use Rattle.core_segment.specs.Inside.{spans_of}
+use Rattle.core_segment.proofs.SoughtLaws.{IsSought}
 use Rattle.core_segment.proofs.segment.Segment.find_gap.Given as goal
 
-abbrev pub invariant-loop-index : goal.invariant-loop-index
-invariant-loop-index l = record { passed : IsPassed l.fn.self.used.items (length l.fn.self.region.items) l.words l.index l.place }
+abbrev pub invariant-loop-place : goal.invariant-loop-place
+invariant-loop-place l =
+    let region = l.fn.self.region.items in
+    record { sought : IsSought (spans_of region) (length region) l.words l.start l.place }
+
+abbrev pub decreases-loop-place : goal.decreases-loop-place
+decreases-loop-place l = l.size - l.place

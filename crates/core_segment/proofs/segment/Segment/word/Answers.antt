@@ -2,7 +2,7 @@ use Rattle.std.proofs.Common.{ℕ, ◌≡◌, ◌+◌, get_or, Some, ap, arith, 
 use Rattle.std.proofs.lemmas.Option.{slice_get-get_or}
 use Rattle.std.proofs.lemmas.List.{get_or_default}
 use Rattle.core_segment.specs.Chunks.{Chunk}
-use Rattle.core_segment.specs.Inside.{end_of}
+use Rattle.core_segment.specs.Inside.{spans_of, end_of}
 use Rattle.core_segment.specs.Segment.{chunks_of, chunk_at}
 use Rattle.core_segment.proofs.ChunkLaws.{chunks, word-there}
 use Rattle.core_segment.proofs.WordLaws.{range-at}
@@ -12,7 +12,7 @@ pub index-requires : goal.index-requires
 unfolding chunk_at chunks_of
 index-requires c =
     let g = c.args.self.now in
-    let word = word-there g.region.items g.used.items c.args.at.place c.args.i g.laid c.requires in
+    let word = word-there g.region.items (spans_of g.region.items) c.args.at.place c.args.i g.whole.laid c.requires in
     let a = word.inside in let b = word.within in let size = g.region.ok.0 in
     omega arith
 
@@ -20,11 +20,11 @@ pub returns : goal.returns
 unfolding chunk_at chunks_of
 returns c =
     let g = c.args.self.now in
-    let word = word-there g.region.items g.used.items c.args.at.place c.args.i g.laid c.requires in
+    let word = word-there g.region.items (spans_of g.region.items) c.args.at.place c.args.i g.whole.laid c.requires in
     let t = word.there.span in
     let place : t.place ≡ c.args.at.place = word.there.is.place in
     let a = word.inside in let b = word.within in
-    let words = (chunks g.region.items g.used.items c.args.at.place).words in
+    let words = (chunks g.region.items (spans_of g.region.items) c.args.at.place).words in
     let read : get_or words c.args.i 0 ≡ c.index.result.now =
     ap (λ (x : Chunk). get_or x.words c.args.i 0) word.there.chunk
     ∙ range-at g.region.items (t.place + 4) (end_of t) c.args.i (omega arith)

@@ -1,0 +1,5 @@
+use Rattle.core_segment.specs.Inside.{IsCleared}
+use Rattle.core_segment.proofs.region.clear.Given as goal
+
+abbrev pub invariant-loop-i : goal.invariant-loop-i
+invariant-loop-i l = record { cleared : IsCleared l.fn.region.items l.region.items l.from l.i }

@@ -1,0 +1,57 @@
+// The words of a region: the first words of a chunk, and changes of whole parts.
+ghost use Rattle.std.specs.Prelude.{◌≡◌, ◌+◌, ◌<◌, ◌≤◌, ◌^◌, ℕ, max, length};
+ghost use Rattle.core_segment.specs.Inside.{word_at, size_in, IsOpened, IsCleared, IsShifted};
+
+// How many values a word has.
+pub(crate) const RADIX: u32 = 65_536;
+
+// The greater of two places.
+pub(crate) fn later(a: u32, b: u32) -> u32
+    ensures { result ≡ max a b }
+{
+    if a < b { b } else { a }
+}
+
+// The size of the chunk that begins at a place, its first words included.
+pub(crate) fn size_at(region: &Vec<u16>, place: u32) -> u32
+    requires { place + 2 < length region.now.items }
+    ensures { result ≡ size_in region.now.items place }
+{
+    let at = place as usize;
+    u32::from(region[at + 1]) + RADIX * u32::from(region[at + 2])
+}
+
+// Writes the first words of a chunk.
+pub(crate) fn open(region: &mut Vec<u16>, place: u32, owner: u16, size: u32)
+    requires { place + 2 < length region.old.items }
+    ensures { IsOpened region.old.items region.new.items place owner size }
+{
+    let at = place as usize;
+    region[at] = owner;
+    region[at + 1] = (size % RADIX) as u16;
+    region[at + 2] = (size / RADIX) as u16;
+}
+
+// Makes the words between two places 0.
+pub(crate) fn clear(region: &mut Vec<u16>, from: u32, to: u32)
+    requires order { from ≤ to }
+    requires within { to ≤ length region.old.items }
+    ensures { IsCleared region.old.items region.new.items from to }
+{
+    for i in from..to {
+        region[i as usize] = 0;
+    }
+}
+
+// Moves so many words down over free ones, and makes those 0 that they leave.
+pub(crate) fn shift(region: &mut Vec<u16>, from: u32, to: u32, size: u32)
+    requires down { to < from }
+    requires within { from + size ≤ length region.old.items }
+    requires small { from + size < 2 ^ 32 }
+    requires free { (i : ℕ) → to ≤ i → i < from → word_at region.old.items i ≡ 0 }
+    ensures { IsShifted region.old.items region.new.items from to size }
+{
+    let end = from + size;
+    region.copy_within(from as usize..end as usize, to as usize);
+    clear(region, later(from, to + size), end);
+}
