@@ -2,4 +2,5 @@ mod ListLaws
 pub mod OneReading
 mod PieceLaws
 mod ReadLaws
+pub mod StopLaws
 mod TextLaws

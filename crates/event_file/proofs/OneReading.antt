@@ -35,10 +35,10 @@ right-front a b right = record {
   few = let few = right.few in omega (arith, length-append a b);
 }
 
-right-line : (front : List Line) (l : Line) (b : List Line) → AreRight (front ++ l ∷ b) → AreRight (front ++ l ∷ [])
+pub right-line : (front : List Line) (l : Line) (b : List Line) → AreRight (front ++ l ∷ b) → AreRight (front ++ l ∷ [])
 right-line front l b right = right-front (front ++ l ∷ []) b (subst AreRight (sym (append_assoc front (l ∷ []) b)) right)
 
-line-is : (front : List Line) (l : Line) → AreRight (front ++ l ∷ []) → IsLine l
+pub line-is : (front : List Line) (l : Line) → AreRight (front ++ l ∷ []) → IsLine l
 line-is front l right = subst IsLine (get-there front l) (right.lines_are (length front) l (omega (arith, length-append front (l ∷ []))))
   where
     get-there : (front : List Line) (l : Line) → slice_index_or (front ++ l ∷ []) (length front) l ≡ l

@@ -6,7 +6,9 @@ use Rattle.std.proofs.lemmas.List.Elements.{All-head, All-tail}
 use Rattle.loom_outside.specs.Outside.{RoleState, Took, TookSome, takes}
 use Rattle.blue_model.specs.declared.event.Line.{Line}
 use Rattle.event_file.specs.Text.{IsLine, line_body, line_text, events_text}
-use Rattle.event_file.specs.Inside.{Begun, IsBegun, begun_text}
+use Rattle.event_file.specs.Inside.{most_text}
+use Rattle.event_file.specs.Reading.{Begun, IsBegun, StopsInPiece, begun_text}
+use Rattle.event_file.specs.declared.limits.TheConstants.{PIECE}
 use Rattle.event_file.proofs.TextLaws.{line-length}
 
 -- ---- how long right lines are
@@ -18,7 +20,7 @@ events-length (l ∷ lines) is =
     let more = events-length lines (All-tail IsLine l lines is) in
     omega (arith, length-append (line_text l) (events_text lines), length-append (line_body l) (10 ∷ []))
 
-pub begun-length : (b : Begun) → IsBegun b → length (begun_text b) ≤ 1441791
+pub begun-length : (b : Begun) → IsBegun b → length (begun_text b) ≤ most_text
 begun-length b is =
     let lines = events-length b.lines is.right.lines_are in
     let few = is.right.few in
@@ -27,25 +29,54 @@ begun-length b is =
 
 -- ---- bytes that are taken
 
-pub took-none : (s : RoleState) → TookSome (length s.left) s s
+pub took-none : (s : RoleState) → TookSome 0 s s
 took-none s = (0, omega arith, omega arith, ap (λ (t : List ℕ). record s { taken = t }) (sym (append-nil s.taken)))
 
-pub took-some : (n : ℕ) (buf : List ℕ) (s t : RoleState) → Took n buf s t → TookSome (length s.left) s t
-took-some n buf s t took = (n, took.enough, took.enough, took.state)
-
+-- no more is taken than there is
 pub took-most : (most : ℕ) (s t : RoleState) → TookSome most s t → TookSome (length s.left) s t
 took-most most s t took = (took.0, took.2, took.2, took.3)
+
+pub took-up : (least most : ℕ) (s t : RoleState) → least ≤ most → TookSome least s t → TookSome most s t
+took-up least most s t more took = (took.0, (let few = took.1 in omega arith), took.2, took.3)
 
 takes-both : (m n : ℕ) (s : RoleState) → takes n (takes m s) ≡ takes (m + n) s
 takes-both m n s = ap₂ (λ (t l : List ℕ). record s { taken = t; left = l }) (append_assoc s.taken (take m s.left) (take n (drop m s.left)) ∙ ap (λ t. s.taken ++ t) (sym (take-add m n s.left))) (drop-drop n m s.left)
 
-pub took-both : (s t u : RoleState) → TookSome (length s.left) s t → TookSome (length t.left) t u → TookSome (length s.left) s u
-took-both s t u one two =
+pub took-both : (m n : ℕ) (s t u : RoleState) → TookSome m s t → TookSome n t u → TookSome (m + n) s u
+took-both m n s t u one two =
     let sizes : length t.left ≡ length (drop one.0 s.left) = ap (λ (r : RoleState). length r.left) one.3 in
     let few = one.1 in
+    let there = one.2 in
     let more = two.1 in
-    let all : one.0 + two.0 ≤ length s.left = omega (arith, sizes, length-drop one.0 s.left) in
-    (one.0 + two.0, all, all, two.3 ∙ ap (takes two.0) one.3 ∙ takes-both one.0 two.0 s)
+    let behind = two.2 in
+    (one.0 + two.0, omega arith, omega (arith, sizes, length-drop one.0 s.left), two.3 ∙ ap (takes two.0) one.3 ∙ takes-both one.0 two.0 s)
+
+-- what was read grows by what was taken
+pub took-more : (piece : ℕ) (b c : List ℕ) (s t u : RoleState) → TookSome (length b) s t → TookSome piece t u → c ++ u.left ≡ b ++ t.left
+    → TookSome (length c) s u
+took-more piece b c s t u one two text =
+    let sizes : length u.left ≡ length (drop two.0 t.left) = ap (λ (r : RoleState). length r.left) two.3 in
+    let both = ap length text in
+    let behind = two.2 in
+    let grown : length c ≡ length b + two.0 = omega (arith, sizes, both, length-drop two.0 t.left, length-append c u.left, length-append b t.left) in
+    took-up (length b + two.0) (length c) s u (omega (arith, grown)) (took-both (length b) two.0 s t u one (two.0, omega arith, behind, two.3))
+
+-- ---- where reading stops
+
+-- the piece behind what was begun shows that a line is bad
+pub stops-then : (b : Begun) (s t u : RoleState) → IsBegun b → TookSome (length (begun_text b)) s t → TookSome PIECE t u → begun_text b ++ t.left ≡ s.left
+    → StopsInPiece s u
+stops-then b s t u is one two text = record {
+  before = b;
+  before_is = is;
+  rest = t.left;
+  split = sym text;
+  taken = took-both (length (begun_text b)) PIECE s t u one two;
+}
+
+-- the end of the file does
+pub stops-there : (b : Begun) (s t : RoleState) → IsBegun b → TookSome (length (begun_text b)) s t → begun_text b ++ t.left ≡ s.left → StopsInPiece s t
+stops-there b s t is one text = stops-then b s t t is one (took-up 0 PIECE t t (omega arith) (took-none t)) text
 
 -- ---- a piece and what is left behind it
 

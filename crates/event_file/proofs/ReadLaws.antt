@@ -8,7 +8,8 @@ use Rattle.blue_model.specs.Devices.{AreRising}
 use Rattle.event_file.specs.declared.fault.EventFault.{EventFault}
 use Rattle.event_file.specs.declared.fault.EventFault.TheVariants.{Bad}
 use Rattle.event_file.specs.Text.{IsLine, AreRight, EndsThere, IsBadAt, line_body, line_text, events_text}
-use Rattle.event_file.specs.Inside.{Begun, IsBegun, begun_text}
+use Rattle.event_file.specs.Reading.{Begun, IsBegun, begun_text}
+use Rattle.event_file.specs.declared.limits.TheConstants.{MOST_LINES, LONGEST}
 use Rattle.event_file.proofs.TextLaws.{cut, stops-behind, line-free, line-length, body-same}
 
 -- ---- lines that rise
@@ -32,7 +33,7 @@ pub right-first : (lines : List Line) (l : Line) → length lines ≡ 0 → IsLi
 right-first [] l none is = record { lines_are = All-cons IsLine l [] is (All-nil IsLine); rising = (omega arith, tt); few = omega arith }
 right-first (x ∷ lines) l none is = absurd (omega arith)
 
-pub right-next : (lines : List Line) (k : ℕ) (last l : Line) → suc k ≡ length lines → slice_get lines k ≡ Some last → length lines < 65535 → AreRight lines → IsLine l → last.count ≤ l.count → AreRight (lines ++ l ∷ [])
+pub right-next : (lines : List Line) (k : ℕ) (last l : Line) → suc k ≡ length lines → slice_get lines k ≡ Some last → length lines < MOST_LINES → AreRight lines → IsLine l → last.count ≤ l.count → AreRight (lines ++ l ∷ [])
 right-next lines k last l len at room right is above = record {
   lines_are = All-push IsLine lines l right.lines_are is;
   rising = rising-goes 0 lines k last l len at right.rising above;
@@ -42,7 +43,7 @@ right-next lines k last l len at room right is above = record {
 pub right-was : (lines : List Line) (k : ℕ) (last l : Line) → suc k ≡ length lines → slice_get lines k ≡ Some last → AreRight (lines ++ l ∷ []) → last.count ≤ l.count
 right-was lines k last l len at right = rising-was 0 lines k last l len at right.rising
 
-pub right-room : (lines : List Line) (l : Line) → AreRight (lines ++ l ∷ []) → length lines < 65535
+pub right-room : (lines : List Line) (l : Line) → AreRight (lines ++ l ∷ []) → length lines < MOST_LINES
 right-room lines l right = let few = right.few in omega (arith, length-append lines (l ∷ []))
 
 pub right-line : (lines : List Line) (l : Line) → AreRight (lines ++ l ∷ []) → IsLine l
@@ -65,11 +66,11 @@ some-behind : (x s : List ℕ) (c : ℕ) → x ++ c ∷ s ≢ []
 some-behind x s c e = let none = ap length e in let both = length-append x (c ∷ s) in absurd (omega arith)
 
 -- there is no room
-pub bad-full : (b : Begun) (byte : ℕ) (rest : List ℕ) → IsBegun b → length b.lines ≡ 65535 → IsBadAt (length b.lines + 1) (begun_text b ++ byte ∷ rest)
+pub bad-full : (b : Begun) (byte : ℕ) (rest : List ℕ) → IsBegun b → length b.lines ≡ MOST_LINES → IsBadAt (length b.lines + 1) (begun_text b ++ byte ∷ rest)
 bad-full b byte rest is full = bad-at b (byte ∷ rest) is (some-behind b.line rest byte) (λ l tail right same. let room = right-room b.lines l right in absurd (omega arith))
 
 -- the line is too long
-pub bad-long : (b : Begun) (byte : ℕ) (rest : List ℕ) → IsBegun b → length b.line ≡ 21 → byte ≢ 10 → IsBadAt (length b.lines + 1) (begun_text b ++ byte ∷ rest)
+pub bad-long : (b : Begun) (byte : ℕ) (rest : List ℕ) → IsBegun b → length b.line ≡ LONGEST → byte ≢ 10 → IsBadAt (length b.lines + 1) (begun_text b ++ byte ∷ rest)
 bad-long b byte rest is long other = bad-at b (byte ∷ rest) is (some-behind b.line rest byte) (λ l tail right same.
     let line = right-line b.lines l right in
     let most = line-length l line in
@@ -113,7 +114,7 @@ text-line lines line l body =
     ∙ ap (λ (s : List ℕ). events_text lines ++ (s ++ 10 ∷ [])) (sym body)
     ∙ text-push lines line 10
 
-pub begun-push : (b : Begun) (byte : ℕ) → IsBegun b → byte ≢ 10 → length b.lines ≢ 65535 → length b.line ≢ 21 → IsBegun (record { lines = b.lines; line = b.line ++ byte ∷ [] })
+pub begun-push : (b : Begun) (byte : ℕ) → IsBegun b → byte ≢ 10 → length b.lines ≢ MOST_LINES → length b.line ≢ LONGEST → IsBegun (record { lines = b.lines; line = b.line ++ byte ∷ [] })
 begun-push b byte is other room short = record {
   right = is.right;
   unended = All-push (λ c. c ≢ 10) b.line byte is.unended other;

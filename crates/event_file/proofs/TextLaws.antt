@@ -12,6 +12,7 @@ use Rattle.std.specs.Str.{IsUtf8}
 use Rattle.blue_model.specs.declared.event.Event.{Event}
 use Rattle.blue_model.specs.declared.event.Event.TheVariants.{Word, Purge, Compact}
 use Rattle.blue_model.specs.declared.event.Line.{Line}
+use Rattle.event_file.specs.declared.limits.TheConstants.{LONGEST}
 use Rattle.event_file.specs.Text.{IsEvent, IsLine, event_text, line_body, line_text}
 
 -- ---- lists that are cut at their first stop
@@ -114,7 +115,7 @@ event-length (Word w) is = let digits = length-decimal-le 5 w (omega arith) (ome
 event-length Purge is = omega arith
 event-length Compact is = omega arith
 
-pub line-length : (l : Line) → IsLine l → length (line_body l) ≤ 21
+pub line-length : (l : Line) → IsLine l → length (line_body l) ≤ LONGEST
 line-length l is =
     let small = is.count in
     let digits = length-decimal-le 10 l.count (omega arith) (omega arith) (omega arith) in

@@ -1,10 +1,11 @@
 -- The text of an event file: a line for each event, with the number of bytecodes after which it comes. The counts never fall.
-use Rattle.std.specs.Prelude.{◌≡◌, ◌≢◌, ℕ, ◌<◌, ◌≤◌, ◌+◌, ◌^◌, List, [], ◌∷◌, ◌++◌, length, All, codes, decimal}
+use Rattle.std.specs.Prelude.{◌≡◌, ◌≢◌, ℕ, ◌≤◌, ◌+◌, List, [], ◌∷◌, ◌++◌, length, All, codes, decimal}
 use Rattle.std.specs.List.{flat_map}
 use Rattle.blue_model.specs.declared.event.Event.{Event}
 use Rattle.blue_model.specs.declared.event.Event.TheVariants.{Word, Purge, Compact}
 use Rattle.blue_model.specs.declared.event.Line.{Line}
 use Rattle.blue_model.specs.Devices.{AreRising}
+use Rattle.event_file.specs.declared.limits.TheConstants.{MOST_COUNT, MOST_WORD, MOST_LINES}
 
 abbrev pub event_text : Event → List ℕ
 event_text (Word word) = codes "word " ++ decimal word
@@ -22,22 +23,22 @@ line_text line = line_body line ++ 10 ∷ []
 abbrev pub events_text : List Line → List ℕ
 events_text lines = flat_map line_text lines
 
--- a word has 16 bits
+-- a word is an input word
 abbrev pub IsEvent : Event → Type 0
-IsEvent (Word word) = word < 2 ^ 16
+IsEvent (Word word) = word ≤ MOST_WORD
 IsEvent Purge = Unit {0}
 IsEvent Compact = Unit {0}
 
 -- a count is as many bytecodes as a run may have
 pub record IsLine (line : Line) : Type 0 where
-  pub count : line.count < 2 ^ 31
+  pub count : line.count ≤ MOST_COUNT
   pub event : IsEvent line.event
 
 -- the lines of a right file
 pub record AreRight (lines : List Line) : Type 0 where
   pub lines_are : All IsLine lines
   pub rising : AreRising 0 lines
-  pub few : length lines ≤ 65535
+  pub few : length lines ≤ MOST_LINES
 
 -- no right file goes on like this behind these lines
 abbrev pub EndsThere : List Line → List ℕ → Type 0

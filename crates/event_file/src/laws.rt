@@ -1,7 +1,10 @@
-//! What follows from the grammar: a text is read in one way.
-ghost use Rattle.std.specs.Prelude.{◌≡◌, ℕ, List};
+//! What follows from the grammar: a text is read in one way, and no further than its first bad line.
+ghost use Rattle.std.specs.Prelude.{◌≡◌, ◌+◌, ℕ, List, length};
+ghost use Rattle.loom_outside.specs.Outside.{RoleState, TookSome};
 ghost use Rattle.blue_model.specs.declared.event.Line.{Line};
+ghost use Rattle.event_file.specs.Reading.{StopsInPiece, unseen};
 ghost use Rattle.event_file.specs.Text.{AreRight, IsBadAt, events_text};
+ghost use Rattle.event_file.specs.declared.limits.TheConstants.{PIECE};
 
 /// A text is that of one list of lines at most.
 pub fn a_text_has_one_list()
@@ -16,4 +19,11 @@ pub fn a_text_has_one_bad_line()
 /// The text of right lines has no bad line.
 pub fn a_right_text_has_no_bad_line()
     ensures { (lines : List Line) (k : ℕ) → AreRight lines → IsBadAt k (events_text lines) → ⊥ }
+{}
+
+/// Where reading stopped at a bad line, what was taken ends less than a piece behind the byte that shows the line bad: its end, or the
+/// byte behind the longest line.
+pub fn no_piece_is_read_behind_a_bad_line()
+    ensures { (line : ℕ) (old new : RoleState) (bad : IsBadAt line old.left) → StopsInPiece old new
+        → TookSome (length (events_text bad.lines) + unseen bad.rest + PIECE) old new }
 {}

@@ -2,6 +2,7 @@
 //!
 //! `read_events` takes the role Events to its end, line by line, and answers its lines or the number of the first bad one. Its
 //! clauses `text` and `bad` say that both are exact: the bytes are the text of the list, or `IsBadAt` holds of them and the line.
+//! It reads no more once a line is seen to be bad: the clause `stops` says so.
 //! `laws` has that a text is read in one way. An `EventList` is seen as the list of its lines, and finds a word of the input queue
 //! in constant time.
 //!
@@ -15,13 +16,15 @@
 
 mod fault;
 pub mod laws;
+mod limits;
 mod line;
 mod list;
 mod read;
 
 pub use blue_model::{Event, Line};
 pub use fault::EventFault;
-pub use list::{EventList, MOST_LINES};
+pub use limits::{LONGEST, MOST_COUNT, MOST_LINES, MOST_WORD, PIECE};
+pub use list::EventList;
 pub use read::read_events;
 
 #[cfg(test)]

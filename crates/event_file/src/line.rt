@@ -1,18 +1,13 @@
 // A line of an event file, without its end.
-ghost use Rattle.std.specs.Prelude.{◌≡◌, ◌≢◌, ◌↔◌, ◌<◌, ◌≤◌, ◌^◌, ℕ, IsTrue, IfSome, None, decimal};
+ghost use Rattle.std.specs.Prelude.{◌≡◌, ◌≢◌, ◌↔◌, ◌≤◌, ℕ, IsTrue, IfSome, None, decimal};
 ghost use Rattle.blue_model.specs.declared.event.Event.{Event as Comes};
 ghost use Rattle.blue_model.specs.declared.event.Line.{Line as Row};
 ghost use Rattle.event_file.specs.Text.{IsEvent, IsLine, event_text, line_body};
 
+use crate::limits::{MOST_COUNT, MOST_WORD};
 use crate::{Event, Line};
 use itoa::Buffer;
 use std::str;
-
-/// The greatest count of a line.
-const MOST_COUNT: u32 = 2_147_483_647;
-
-/// The greatest word.
-const MOST_WORD: u32 = 65_535;
 
 /// Whether a text is this number in plain decimal.
 fn is_decimal(text: &str, number: u32) -> bool
@@ -40,7 +35,7 @@ fn number_in(text: &str, most: u32) -> Option<u32>
 /// The word that a text names.
 fn word_in(text: &str) -> Option<Event>
     ensures some { IfSome result (λ e. IsEvent e × (text.now ≡ event_text e)) }
-    ensures none { result ≡ None → (n : ℕ) → n < 2 ^ 16 → text.now ≢ event_text (Comes.Word n) }
+    ensures none { result ≡ None → (n : ℕ) → n ≤ MOST_WORD → text.now ≢ event_text (Comes.Word n) }
 {
     let (kind, number) = text.split_once(' ')?;
     if kind != "word" {

@@ -2,12 +2,10 @@
 ghost use Rattle.std.specs.Prelude.{◌≡◌, ◌<◌, ◌≤◌, ◌++◌, [], ◌∷◌, length, OnOk, OnErr, slice_get, Some};
 ghost use Rattle.blue_model.specs.Devices.{input_words, words_before};
 
+use crate::limits::MOST_LINES;
 use crate::{Event, Line};
 use std::alloc::{AllocError, Global};
 use std::marker::Model;
-
-/// How many lines an event list has at most.
-pub const MOST_LINES: usize = 65_535;
 
 /// The lines of an event list.
 #[derive(Debug, Drop)]

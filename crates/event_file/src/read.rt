@@ -3,22 +3,17 @@ ghost use Rattle.std.specs.Prelude.{◌≡◌, ◌≢◌, ◌↔◌, ◌+◌, �
 ghost use Rattle.long_names.specs.Counting.{Rose};
 ghost use Rattle.loom_outside.specs.Outside.{TookSome};
 ghost use Rattle.event_file.specs.Text.{AreRight, IsBadAt, IsLine, events_text};
-ghost use Rattle.event_file.specs.Reading.{IsEventsOnly};
-ghost use Rattle.event_file.specs.Inside.{IsLonger, begun_text};
+ghost use Rattle.event_file.specs.Reading.{IsBegun, IsEventsOnly, StopsInPiece, begun_text};
+ghost use Rattle.event_file.specs.Inside.{IsLonger};
 ghost use Rattle.event_file.specs.declared.fault.EventFault.TheVariants.{Bad, Read};
 
+use crate::limits::{LONGEST, MOST_LINES, PIECE};
 use crate::line::decode_line;
-use crate::{EventFault, EventList, Line, MOST_LINES};
+use crate::{EventFault, EventList, Line};
 use arrayvec::ArrayVec;
 use loom_outside::{Host, Role, read_full};
 use std::alloc::Global;
 use std::marker::Model;
-
-/// How many bytes one piece of the file has.
-const PIECE: usize = 4_096;
-
-/// How many bytes the longest line has without its end.
-const LONGEST: usize = 21;
 
 /// The lines that were read, and the bytes of the next one, which has not ended.
 #[derive(Drop)]
@@ -28,7 +23,7 @@ struct Reading {
 }
 
 impl Model for Reading {
-    ghost use Rattle.event_file.specs.Inside.{Begun, IsBegun};
+    ghost use Rattle.event_file.specs.Reading.{Begun, IsBegun};
 
     ghost Value = { Begun };
 
@@ -53,7 +48,8 @@ fn comes_next(lines: &EventList, line: Line) -> bool
 impl Reading {
     /// Nothing was read yet. It takes no memory.
     fn new(alloc: Global) -> Reading
-        ensures { begun_text result ≡ [] }
+        ensures text { begun_text result ≡ [] }
+        ensures begun { IsBegun result }
     {
         Reading {
             lines: EventList::new(alloc),
@@ -133,7 +129,8 @@ impl Reading {
         ensures end { IsTrue (H.tells Role.Events) → IfOk result (λ more. more ≡ false → (H.roles host.new Role.Events).left ≡ []) }
         ensures bad { IsTrue (H.tells Role.Events) → (line : ℕ) → result ≡ Err (Bad line) → IsBadAt line (begun_text self.old ++ (H.roles host.old Role.Events).left) }
         ensures read { (count : ℕ) → result ≡ Err (Read count) → (count ≡ H.faults host.new Role.Events) × Rose (H.faults host.old Role.Events) (H.faults host.new Role.Events) }
-        ensures taken { IsTrue (H.tells Role.Events) → TookSome (length (H.roles host.old Role.Events).left) (H.roles host.old Role.Events) (H.roles host.new Role.Events) }
+        ensures taken { IsTrue (H.tells Role.Events) → TookSome PIECE (H.roles host.old Role.Events) (H.roles host.new Role.Events) }
+        ensures begun { OnOk result (IsBegun self.new) }
         ensures others { IsEventsOnly H.Host host.old host.new }
     {
         let mut piece = [0; PIECE];
@@ -141,9 +138,10 @@ impl Reading {
             let count = host.fault_count(Role::Events);
             return Err(EventFault::Read { count });
         };
-        self.take_all(&piece[..count])?;
+        let judged = self.take_all(&piece[..count]);
         // shows the prover that the lines are right
         let _lines = &self.lines;
+        judged?;
         Ok(count == PIECE)
     }
 
@@ -161,12 +159,14 @@ impl Reading {
     }
 }
 
-/// Reads Events to its end, in one pass. It takes no more memory than the lines do.
+/// Reads Events to its end, in one pass, or no further than the piece that shows the first bad line. It takes no more memory than the
+/// lines do.
 pub fn read_events<H: Host>(alloc: Global, host: &mut H) -> Result<EventList, EventFault>
     ensures right { IfOk result (λ list. AreRight list) }
     ensures text { IsTrue (H.tells Role.Events) → IfOk result (λ list. (H.roles host.old Role.Events).left ≡ events_text list) }
     ensures end { IsTrue (H.tells Role.Events) → OnOk result ((H.roles host.new Role.Events).left ≡ []) }
     ensures bad { IsTrue (H.tells Role.Events) → (line : ℕ) → result ≡ Err (Bad line) → IsBadAt line (H.roles host.old Role.Events).left }
+    ensures stops { IsTrue (H.tells Role.Events) → (line : ℕ) → result ≡ Err (Bad line) → StopsInPiece (H.roles host.old Role.Events) (H.roles host.new Role.Events) }
     ensures read { (count : ℕ) → result ≡ Err (Read count) → (count ≡ H.faults host.new Role.Events) × Rose (H.faults host.old Role.Events) (H.faults host.new Role.Events) }
     ensures taken { IsTrue (H.tells Role.Events) → TookSome (length (H.roles host.old Role.Events).left) (H.roles host.old Role.Events) (H.roles host.new Role.Events) }
     ensures others { IsEventsOnly H.Host host.old host.new }

@@ -1,16 +1,17 @@
-use Rattle.std.proofs.Common.{◌≡◌, ◌++◌, ◌-◌, IsTrue, length}
+use Rattle.std.proofs.Common.{◌≡◌, ◌++◌, ◌+◌, ◌-◌, IsTrue, length}
 use Rattle.loom_outside.specs.declared.outside.Role.TheVariants.{Events}
 use Rattle.loom_outside.specs.Outside.{TookSome}
-use Rattle.event_file.specs.Reading.{IsEventsOnly}
-use Rattle.event_file.specs.Inside.{begun_text}
+use Rattle.event_file.specs.Inside.{most_text}
+use Rattle.event_file.specs.Reading.{IsBegun, IsEventsOnly, begun_text}
 use Rattle.event_file.proofs.read.read_events.Given as goal
 
 abbrev pub invariant-pieces : goal.invariant-pieces
 invariant-pieces g l = record {
   text : IsTrue (g.H.Host.tells Events) → begun_text l.reading ++ (g.H.Host.roles l.host Events).left ≡ (g.H.Host.roles l.initial.host Events).left;
-  taken : IsTrue (g.H.Host.tells Events) → TookSome (length (g.H.Host.roles l.initial.host Events).left) (g.H.Host.roles l.initial.host Events) (g.H.Host.roles l.host Events);
+  taken : IsTrue (g.H.Host.tells Events) → TookSome (length (begun_text l.reading)) (g.H.Host.roles l.initial.host Events) (g.H.Host.roles l.host Events);
+  begun : IsBegun l.reading;
   others : IsEventsOnly g.H.Host l.initial.host l.host;
 }
 
 abbrev pub decreases-pieces : goal.decreases-pieces
-decreases-pieces g l = 1441792 - length (begun_text l.reading)
+decreases-pieces g l = most_text + 1 - length (begun_text l.reading)

@@ -1,7 +1,7 @@
 use Rattle.std.proofs.Common.{◌++◌, [], ◌∷◌, ◌∙◌, subst, sym, ap, arith, refl}
 use Rattle.std.proofs.lemmas.Bool.Decides.{nat_tests}
 use Rattle.event_file.specs.Text.{AreRight}
-use Rattle.event_file.specs.Inside.{Begun, IsBegun}
+use Rattle.event_file.specs.Reading.{Begun, IsBegun}
 use Rattle.event_file.proofs.ReadLaws.{bad-none, bad-next, named}
 use Rattle.event_file.proofs.read.Reading.end_line.Goals as goal
 

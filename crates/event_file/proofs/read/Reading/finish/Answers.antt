@@ -1,6 +1,6 @@
 use Rattle.std.proofs.Common.{◌≡◌, length, subst, ap, ◌∙◌, arith}
 use Rattle.std.proofs.lemmas.Bool.Decides.{nat_tests}
-use Rattle.event_file.specs.Inside.{Begun, IsBegun}
+use Rattle.event_file.specs.Reading.{Begun, IsBegun}
 use Rattle.event_file.proofs.ReadLaws.{bad-end, named}
 use Rattle.event_file.proofs.read.Reading.finish.Goals as goal
 

@@ -1,6 +1,6 @@
 use Rattle.std.proofs.Common.{◌+◌, ◌++◌, ◌∷◌, List, ℕ, drop, get_or, subst, sym, ap, ◌∙◌, Err}
 use Rattle.event_file.specs.Text.{IsBadAt}
-use Rattle.event_file.specs.Inside.{begun_text}
+use Rattle.event_file.specs.Reading.{begun_text}
 use Rattle.event_file.proofs.ReadLaws.{passed, text-at}
 use Rattle.event_file.proofs.read.Reading.take_all.Goals as goal
 

@@ -1,5 +1,5 @@
 use Rattle.std.proofs.Common.{◌≡◌, ◌++◌, take}
-use Rattle.event_file.specs.Inside.{begun_text}
+use Rattle.event_file.specs.Reading.{begun_text}
 use Rattle.event_file.proofs.read.Reading.take_all.Given as goal
 
 abbrev pub invariant-loop-byte : goal.invariant-loop-byte
