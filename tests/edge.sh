@@ -1,6 +1,7 @@
 #!/bin/sh
 # Tries the program at its edge, on real files and streams, where no contract speaks: standard streams that are closed
-# or full, files that can't be read or written, an image that is saved over itself. Prints a line for each case.
+# or full, files that can't be read or written, a file that two words name in different ways, an image that is saved over
+# itself, disks that are full, and a run that is killed while it saves. Prints a line for each case.
 #
 #     tests/edge.sh [PROGRAM]
 set -u
@@ -12,7 +13,8 @@ case $loom in
 esac
 [ -x "$loom" ] || { echo "edge: there is no program $loom; ./demo builds it" >&2; exit 1; }
 work=$(mktemp -d) || exit 1
-trap 'rm -rf "$work"' EXIT
+trap 'umount "$work/small" 2>/dev/null; rm -rf "$work"' EXIT
+chmod 755 "$work"
 cd "$work" || exit 1
 
 exec 3>&- 4>&- 5>&- 6>&- 7>&- 8>&- 9>&- # what the caller left open
@@ -65,27 +67,69 @@ dead_image() {
 cp after.loom swept.loom
 patch swept.loom 15 '\110'
 
+# byte NUMBER: a byte as printf has it.
+byte() {
+    printf '\\%03o' "$1"
+}
+
+# large_image COUNT: makes large.loom, the base image and an array of so many arrays of 65,000 zeros each (at most 64), and
+# larger.loom, what two bytecodes make of it.
+large_image() {
+    cp "$base" large.loom || exit 1
+    patch large.loom 11 "$(byte $((27 + $1)))"      # so many objects
+    patch large.loom 15 "$(byte $((70 + 2 * $1)))"  # the next name
+    patch large.loom 31 '\022'                      # the count of nil, 18
+    patch large.loom 159 "$(byte $((25 + $1)))"     # of 16
+    patch large.loom 651 '\104'                     # the context's last field holds 68
+    {
+        printf '\000\000\000\104\000\000\000\020\000\000\000\000\000\000\000\001\000\000\000'
+        printf "$(byte "$1")"
+        for name in $(seq 70 2 $((68 + 2 * $1))); do
+            printf "\\000\\000\\000$(byte "$name")"
+        done
+        for name in $(seq 70 2 $((68 + 2 * $1))); do
+            printf "\\000\\000\\000$(byte "$name")"
+            printf '\000\000\000\020\000\000\000\000\000\000\000\001\000\000\375\350'
+            cat zeros
+        done
+    } >>large.loom
+    cp large.loom larger.loom && patch larger.loom 587 '\013'
+}
+printf '\000\000\000\001' >zeros
+for _ in 1 2 3 4 5 6 7 8 9 10 11 12 13 14 15 16; do
+    cat zeros zeros >more && mv more zeros
+done
+dd if=zeros of=more bs=26000 count=10 2>/dev/null && mv more zeros
+large_image 4
+
 # What stands in SAVED and DISPLAY before each run: text that is no image, and longer than any file that is written here.
 yes 'this is not an image' | head -n 100 >old.loom
 mkdir directory
 
-# What a run is tried with, beside its words: how many descriptors it may have, what has to be said on standard output, and
-# what has to be in DISPLAY: 'old' for what was there before, 'empty', or a file.
+# What a run is tried with, beside its words: how many descriptors it may have, what the shell does that becomes the program,
+# the command that runs it, what is done just before, what has to be said on standard output, and what has to be in DISPLAY:
+# 'old' for what was there before, 'empty', or a file. Where `killed` isn't empty, a file beside SAVED may be left.
 most=
+inner=
+as=
+before=
 said=
 display=empty
+killed=
 
 # try NAME STREAMS WORDS CODE LINE FILE WANTED: runs the program on the words, with its standard streams redirected as
 # STREAMS says. It has to end with the code, say this line alone on standard error ('' for none), leave FILE the bytes of
 # WANTED ('none' for no file), and leave base.loom as it was.
 try() {
+    rm -f saved.loom display.pbm
     cp old.loom saved.loom
     cp old.loom display.pbm
     rm -f new.loom new.pbm out notes wanted_notes wanted_out
     : >out
     : >notes
     : >empty
-    eval "( ${most:+ulimit -n $most;} exec \"\$loom\" $3 ) </dev/null >out 2>notes $2"
+    eval "$before"
+    { eval "( ${most:+ulimit -n $most;} $inner exec $as \"\$loom\" $3 ) </dev/null >out 2>notes $2"; } 2>/dev/null
     code=$?
     if [ -n "$5" ]; then echo "$5" >wanted_notes; else : >wanted_notes; fi
     if [ -n "$said" ]; then echo "$said" >wanted_out; else : >wanted_out; fi
@@ -104,13 +148,30 @@ try() {
         cat "$6" 2>/dev/null | cmp -s - "$7" || why="$why; $6 isn't $7"
     fi
     cmp -s base.loom "$base" || { why="$why; base.loom was changed"; cp "$base" base.loom; }
-    if [ -z "$why" ]; then
+    parts=$(find . -name '*.part' -type f)
+    if [ -n "$parts" ] && [ -z "$killed" ]; then why="$why; there is $parts"; fi
+    tell "$1" "$why"
+}
+
+# tell NAME WHY: prints the line of a case, which failed where there is a reason.
+tell() {
+    if [ -z "$2" ]; then
         passed=$((passed + 1))
         echo "ok      $1"
     else
         failed=$((failed + 1))
-        echo "FAILED  $1: ${why#; }"
+        echo "FAILED  $1: ${2#; }"
     fi
+}
+
+# skip NAME WHY: says that cases can't be tried here.
+skip() {
+    echo "skipped $1: $2"
+}
+
+# mode FILE: what may be done with it, as letters.
+mode() {
+    ls -l "$1" | cut -c1-10
 }
 
 good='run base.loom none.events saved.loom display.pbm 2'
@@ -184,7 +245,7 @@ said=
 try 'no picture, DISPLAY is full'       ''            'run base.loom none.events saved.loom /dev/full 2' 0 'ran 2' saved.loom after.loom
 
 # Too few descriptors to hold the places of the standard streams, and just enough: then there is none for IMAGE, for EVENTS,
-# for SAVED, for DISPLAY.
+# for SAVED, and for what is written beside it.
 most=4
 try 'four descriptors'                  ''            "$good" 1  ''      saved.loom old.loom
 most=6
@@ -194,7 +255,7 @@ try 'seven descriptors'                 ''            "$good" 9  'read fault: Ev
 most=8
 try 'eight descriptors'                 ''            "$good" 11 'write fault: Saved' saved.loom old.loom
 most=9
-try 'nine descriptors'                  ''            "$good" 11 'write fault: Display' saved.loom after.loom
+try 'nine descriptors'                  ''            "$good" 11 'write fault: Saved' saved.loom old.loom
 most=10
 display=empty
 try 'ten descriptors'                   ''            "$good" 0  'ran 2' saved.loom after.loom
@@ -252,6 +313,223 @@ cp both.loom dead.loom
 try 'SAVED is IMAGE, wrong events'      '' 'run both.loom cut.events both.loom display.pbm 3'    4 'events: line 1' both.loom dead.loom
 display=empty
 try 'SAVED is IMAGE, streams closed'    '0<&- 1>&- 2>&-' 'run both.loom none.events both.loom display.pbm 2' 11 '' both.loom swept.loom
+
+# One file that two words name in different ways: by another path, a symbolic link or a hard link. DISPLAY is then refused
+# before it is cut, and SAVED is whole.
+display=old
+cp good.events kept.events
+for file in base.loom kept.events saved.loom; do
+    case $file in
+        base.loom) role=IMAGE; wanted=$base ;;
+        kept.events) role=EVENTS; wanted=good.events ;;
+        saved.loom) role=SAVED; wanted=after.loom ;;
+    esac
+    words="run base.loom kept.events saved.loom"
+    try "DISPLAY is $role, by another path"      '' "$words ./$file 2"             11 'write fault: Display' $file "$wanted"
+    try "DISPLAY is $role, by a longer path"     '' "$words directory/../$file 2"  11 'write fault: Display' $file "$wanted"
+    try "DISPLAY is $role, by its whole path"    '' "$words \"\$work/$file\" 2"    11 'write fault: Display' $file "$wanted"
+    ln -s $file alias
+    try "DISPLAY is $role, by a symbolic link"   '' "$words alias 2"               11 'write fault: Display' $file "$wanted"
+    ln -sf "directory/../$file" alias
+    try "DISPLAY is $role, by a longer symbolic link" '' "$words directory/../alias 2" 11 'write fault: Display' $file "$wanted"
+    rm alias
+done
+ln base.loom alias
+try 'DISPLAY is IMAGE, by a hard link'           '' 'run base.loom none.events saved.loom alias 2' 11 'write fault: Display' saved.loom after.loom
+ln -f kept.events alias
+try 'DISPLAY is EVENTS, by a hard link'          '' 'run base.loom kept.events saved.loom alias 2' 11 'write fault: Display' kept.events good.events
+before='ln -f saved.loom alias'
+said=loom
+try 'DISPLAY is SAVED, by a hard link'           '' 'run hello.loom none.events saved.loom alias 9999' 0 'quit after 2056' saved.loom drawn.loom
+said=
+cmp -s alias hello.pbm
+tell 'what was a hard link of SAVED has the picture' "${?#0}"
+before='ln -f both.loom alias; ln -sf both.loom link.loom'
+dead_image both.loom
+try 'DISPLAY is IMAGE by a hard link, and SAVED is IMAGE' '' 'run both.loom none.events both.loom alias 2' 11 'write fault: Display' both.loom swept.loom
+before=
+rm -f alias link.loom
+
+# SAVED may be IMAGE or EVENTS, whatever it is called: it takes the place of what was read.
+display=empty
+dead_image both.loom
+try 'SAVED is IMAGE, by another path'   '' 'run both.loom none.events ./both.loom display.pbm 2' 0 'ran 2' both.loom swept.loom
+dead_image both.loom
+ln -s directory/../both.loom alias
+try 'SAVED is IMAGE, by a longer symbolic link' '' 'run both.loom none.events alias display.pbm 2' 0 'ran 2' both.loom swept.loom
+[ -h alias ]
+tell 'the symbolic link is still one' "${?#0}"
+dead_image both.loom
+cp both.loom dead.loom
+ln -f both.loom alias
+try 'SAVED is IMAGE, by a hard link'    '' 'run both.loom none.events alias display.pbm 2' 0 'ran 2' alias swept.loom
+cmp -s both.loom dead.loom
+tell 'the other hard link has the old image' "${?#0}"
+cp good.events both.events
+try 'SAVED is EVENTS, by another path'  '' 'run base.loom both.events ./both.events display.pbm 2' 0 'ran 2' both.events after.loom
+rm -f alias
+ln -s new.loom alias
+try 'SAVED is a link to no file'        '' 'run base.loom none.events alias display.pbm 2' 0 'ran 2' new.loom after.loom
+ln -sf new.pbm alias
+display=old
+try 'DISPLAY is a link to no file'      '' 'run base.loom none.events saved.loom alias 2' 0 'ran 2' new.pbm empty
+rm -f alias
+
+# A file that a standard stream goes to.
+said=hi
+try 'DISPLAY is standard output'        '' 'run say.loom none.events saved.loom out 3'         11 'write fault: Display' saved.loom said.loom
+try 'DISPLAY is /dev/stdout'            '' 'run say.loom none.events saved.loom /dev/stdout 3' 11 'write fault: Display' saved.loom said.loom
+try 'DISPLAY is standard error'         '' 'run say.loom none.events saved.loom notes 3'       11 'write fault: Display' saved.loom said.loom
+try 'SAVED is standard output'          '' 'run say.loom none.events out display.pbm 3'        11 'write fault: Saved'   saved.loom old.loom
+said=
+
+# What SAVED is written under, until it has its name.
+display=empty
+before='echo left >saved.loom.part'
+try 'SAVED.part was left by a run that was killed' '' "$good" 0 'ran 2' saved.loom after.loom
+display=old
+before='cp base.loom saved.loom.part'
+killed=yes
+try 'IMAGE is SAVED.part'               '' 'run saved.loom.part none.events saved.loom display.pbm 2' 11 'write fault: Saved' saved.loom.part base.loom
+before='ln -f base.loom saved.loom.part'
+try 'SAVED.part is a hard link of IMAGE' '' "$good" 11 'write fault: Saved' saved.loom old.loom
+rm saved.loom.part
+before='cp good.events saved.loom.part'
+try 'EVENTS is SAVED.part'              '' 'run base.loom saved.loom.part saved.loom display.pbm 2' 11 'write fault: Saved' saved.loom.part good.events
+before='rm saved.loom.part; mkdir saved.loom.part'
+try 'SAVED.part is a directory'         '' "$good" 11 'write fault: Saved' saved.loom old.loom
+rmdir saved.loom.part
+killed=
+before='ln -s old.loom saved.loom.part'
+try 'SAVED.part is a symbolic link'     '' "$good" 11 'write fault: Saved' saved.loom old.loom
+rm saved.loom.part
+display=empty
+for wanted in -rw------- -rw-r----- -rwxrwxrwx; do
+    case $wanted in
+        -rw-------) before='chmod 600 saved.loom' ;;
+        -rw-r-----) before='chmod 640 saved.loom' ;;
+        *) before='chmod 777 saved.loom' ;;
+    esac
+    try "SAVED may be used as $wanted"  '' "$good" 0 'ran 2' saved.loom after.loom
+    [ "$(mode saved.loom)" = "$wanted" ]
+    tell "SAVED may be used as $wanted still" "${?#0}"
+done
+before=
+
+# A limit on the size of files, with the signal that comes with it, and without.
+display=old
+inner="trap '' XFSZ; ulimit -f 500;"
+try 'a limit, SAVED'                    '' 'run large.loom none.events saved.loom display.pbm 2' 11 'write fault: Saved' saved.loom old.loom
+cp large.loom both.loom
+try 'a limit, SAVED is IMAGE'           '' 'run both.loom none.events both.loom display.pbm 2'   11 'write fault: Saved' both.loom large.loom
+inner='ulimit -f 500;'
+killed=yes
+try 'a limit and its signal, SAVED is IMAGE' '' 'run both.loom none.events both.loom display.pbm 2' 153 '' both.loom large.loom
+rm -f both.loom.part
+killed=
+inner=
+
+# A disk that has no room.
+mkdir small
+if mount -t tmpfs -o size=1500k small small 2>/dev/null; then
+    cp old.loom large.loom small
+    try 'a full disk, SAVED'            '' 'run large.loom none.events small/old.loom display.pbm 2'        11 'write fault: Saved' small/old.loom old.loom
+    try 'a full disk, SAVED is new'     '' 'run large.loom none.events small/new.loom display.pbm 2'        11 'write fault: Saved' small/new.loom none
+    try 'a full disk, SAVED is IMAGE'   '' 'run small/large.loom none.events small/large.loom display.pbm 2' 11 'write fault: Saved' small/large.loom large.loom
+    dd if=/dev/zero of=small/filler bs=4096 2>/dev/null
+    said=loom
+    try 'a full disk, DISPLAY is new'   '' 'run hello.loom none.events saved.loom small/new.pbm 9999'       11 'write fault: Display' saved.loom drawn.loom
+    said=
+    umount small
+else
+    skip 'a full disk' 'no file system can be mounted'
+fi
+
+# A folder where no file can be made: SAVED is written in its place, unless IMAGE or EVENTS is there. The user is no root.
+mkdir closed
+cp old.loom closed/saved.loom && cp base.loom closed/image.loom && chmod 666 closed/*.loom && chmod 555 closed
+as=
+if [ "$(id -u)" = 0 ]; then
+    as='setpriv --reuid 65534 --regid 65534 --clear-groups --'
+fi
+if $as test -x "$loom" 2>/dev/null && ! $as test -w closed; then
+    before='chmod 666 saved.loom display.pbm'
+    display=empty
+    try 'a closed folder, SAVED'        '' 'run base.loom none.events closed/saved.loom display.pbm 2' 0 'ran 2' closed/saved.loom after.loom
+    display=old
+    try 'a closed folder, SAVED is new' '' 'run base.loom none.events closed/new.loom display.pbm 2'   11 'write fault: Saved' closed/new.loom none
+    try 'a closed folder, SAVED is IMAGE' '' 'run closed/image.loom none.events closed/image.loom display.pbm 2' 11 'write fault: Saved' closed/image.loom base.loom
+    before='chmod 444 saved.loom'
+    try 'SAVED may only be read'        '' "$good" 11 'write fault: Saved' saved.loom old.loom
+    before=
+else
+    skip 'a closed folder' 'no other user can run the program'
+fi
+as=
+
+# Calls of the system that fail, by a tracer that answers them. SAVED is synced, then its folder, and then DISPLAY.
+as='strace -o trace -e trace=none -e'
+if $as inject=chroot:error=EIO true 2>/dev/null; then
+    display=old
+    as='strace -o trace -e inject=fsync:error=EIO:when=1'
+    try 'SAVED is not synced'           '' "$good" 11 'write fault: Display' saved.loom old.loom
+    as='strace -o trace -e inject=?rename,?renameat,?renameat2:error=EIO'
+    try 'SAVED gets no name'            '' "$good" 11 'write fault: Display' saved.loom old.loom
+    as='strace -o trace -e inject=fsync:error=EIO:when=2'
+    try 'the name of SAVED is not synced' '' "$good" 11 'write fault: Display' saved.loom after.loom
+    display=empty
+    as='strace -o trace -e inject=fsync:error=EIO:when=3'
+    try 'DISPLAY is not synced'         '' "$good" 11 'write fault: Display' saved.loom after.loom
+else
+    skip 'calls that fail' 'no tracer runs'
+fi
+as=
+
+# span: how many thousandths of a second it takes to save a large image over itself.
+span() {
+    save_over
+    begun=$(now)
+    wait "$run"
+    echo $(($(now) - begun))
+}
+
+# save_over: begins a run that saves a large image over itself, and waits until it has begun to save.
+save_over() {
+    rm -f both.loom both.loom.part display.pbm
+    cp large.loom both.loom
+    touch -t 200001010000 both.loom mark
+    "$loom" run both.loom none.events both.loom display.pbm 2 </dev/null >out 2>notes &
+    run=$!
+    turns=0
+    until [ -e both.loom.part ] || [ both.loom -nt mark ] || [ "$turns" -gt 1000000 ]; do
+        turns=$((turns + 1))
+    done
+}
+
+now() {
+    echo $(($(date +%s%N) / 1000000))
+}
+
+# A run that is killed at fifty moments, from where it begins to save until a little after its end. The image is so large
+# that saving it takes a while.
+for count in 1 8 64; do
+    large_image "$count"
+    span=$(span)
+    [ "$span" -lt 100 ] || break
+done
+cmp -s both.loom larger.loom
+tell 'a large image is saved over IMAGE' "${?#0}"
+why=
+for moment in $(seq 0 49); do
+    save_over
+    delay=$((moment * span / 45))
+    sleep "$(printf '%d.%03d' $((delay / 1000)) $((delay % 1000)))"
+    kill -9 "$run" 2>/dev/null
+    wait "$run" 2>/dev/null
+    cmp -s both.loom large.loom || cmp -s both.loom larger.loom || why="$why $moment"
+done
+tell 'killed at fifty moments of saving over IMAGE' "${why:+; it is neither the old image nor the new one at the moments$why}"
+rm -f both.loom.part
 
 # Words that are missing, extra or bad.
 display=old
