@@ -1,6 +1,7 @@
 -- What drawing the display comes to.
-use Rattle.std.specs.Prelude.{◌<◌, ℕ, List, take, Option, Some, None, Result, Ok, Err}
-use Rattle.object_memory.specs.Told.{Told}
+use Rattle.std.specs.Prelude.{◌≡◌, ◌<◌, ℕ, List, take, Option, Some, None, Result, Ok, Err, OnOk}
+use Rattle.object_memory.specs.Told.{Told, IsReady}
+use Rattle.object_memory.specs.declared.memory.ObjectMemory.{Ghosts}
 use Rattle.object_memory.specs.Contract.{IsLater}
 use Rattle.blue_model.specs.declared.cpu.Cpu.{Cpu}
 use Rattle.blue_model.specs.Machine.{Machine, Outcome, Go, Halt, Spent, Rule, ◌>>=◌, done}
@@ -51,3 +52,10 @@ abbrev pub DrawsSound : {A : Type 0} → Result A PictureFault → Type 0 → Ty
 DrawsSound (Ok bytes) P = P
 DrawsSound (Err (fault.Stop stop)) P = serves.StaysSound {A = List ℕ} (Err stop) P
 DrawsSound (Err fault.Memory) P = P
+
+-- what `StaysFit` says of a call, of one that draws
+pub record DrawsFit {M A : Type 0} (memory : Ghosts M) (old new : M) (answer : Result A PictureFault) : Type 0 where
+  pub sound : DrawsSound answer (memory.sound new)
+  pub ready : OnOk answer (IsReady (memory.told new))
+  pub lender : memory.lender new ≡ memory.lender old
+  pub outside : memory.outside new ≡ memory.outside old

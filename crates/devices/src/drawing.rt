@@ -10,7 +10,7 @@ ghost use Rattle.blue_model.specs.Forms as forms;
 ghost use Rattle.blue_model.specs.Devices as model;
 ghost use Rattle.contexts.specs.Serves.{Serves, StaysSound, with_value};
 ghost use Rattle.devices.specs.Inside.{IsSmall, HasRows, form_found, words_told, row_at, HasWords, bits_found, ReadsRow};
-ghost use Rattle.devices.specs.Pictures.{display_extent, IsShown, front_found, DrawnBy, DrawsSound};
+ghost use Rattle.devices.specs.Pictures.{display_extent, IsShown, front_found, DrawnBy, DrawsFit};
 ghost use Rattle.object_memory.specs.Calls.{IsFit};
 ghost use Rattle.contexts.specs.Calls.{StaysFit};
 
@@ -140,10 +140,7 @@ fn append_row<M: ObjectMemory>(
     requires height { y < 16384 }
     ensures reads { ReadsRow (M.told m.old) (M.told m.new) result }
     ensures text { IsTrue (M.told m.old).tells → OnOk result (text.new ≡ text.old ++ forms.row_bytes width (words_told (M.told m.old) 13) y) }
-    ensures ready { OnOk result (IsReady (M.told m.new)) }
-    ensures sound { DrawsSound result (M.sound m.new) }
-    ensures lender { M.lender m.new ≡ M.lender m.old }
-    ensures outside { M.outside m.new ≡ M.outside m.old }
+    ensures fit { DrawsFit M.ObjectMemory m.old m.new result }
 {
     let mut row = [0; MOST_BYTES];
     let count = draw_row(m, width, y, &mut row)?;
@@ -155,10 +152,7 @@ fn append_row<M: ObjectMemory>(
 pub fn picture<M: ObjectMemory>(alloc: Global, m: &mut M, cpu: &Cpu) -> Result<Octets, PictureFault>
     requires fit { IsFit M.ObjectMemory m.old }
     ensures drawn { DrawnBy (M.told m.old) cpu.now (M.told m.new) result }
-    ensures ready { OnOk result (IsReady (M.told m.new)) }
-    ensures sound { DrawsSound result (M.sound m.new) }
-    ensures lender { M.lender m.new ≡ M.lender m.old }
-    ensures outside { M.outside m.new ≡ M.outside m.old }
+    ensures fit { DrawsFit M.ObjectMemory m.old m.new result }
 {
     let Some((width, height)) = display_form(m, cpu)? else {
         return Ok(Octets::new(alloc));

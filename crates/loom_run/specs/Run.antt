@@ -1,10 +1,11 @@
 -- What a run over a memory has to do with a run of the model.
-use Rattle.std.specs.Prelude.{◌≡◌, ◌⊎◌, ℕ, ◌<◌, ◌≤◌, Bool, true, false, List, [], ◌++◌, Some, None, Result, Ok, Err, IsTrue}
+use Rattle.std.specs.Prelude.{◌≡◌, ◌⊎◌, ℕ, ◌<◌, ◌≤◌, Bool, true, false, List, [], ◌++◌, Some, None, Result, Ok, Err, IsTrue, OnOk}
 use Rattle.long_names.specs.Counting.{Rose}
 use Rattle.long_names.specs.Heap.{Heap}
 use Rattle.long_names.specs.Need.{Fits}
 use Rattle.long_names.specs.Thin.{IsThinner}
-use Rattle.object_memory.specs.Told.{Told}
+use Rattle.object_memory.specs.Told.{Told, IsReady}
+use Rattle.object_memory.specs.declared.memory.ObjectMemory.{Ghosts}
 use Rattle.object_memory.specs.Contract.{IsLater, ForBounds, NoBounds, work_faults, said_faults}
 use Rattle.object_memory.specs.declared.fault.MemFault.{MemFault}
 use Rattle.object_memory.specs.declared.fault.MemFault.TheVariants.{CoreFull, WorkFull, WorkFault, Damaged, NamesSpent, Said, Memory}
@@ -175,6 +176,24 @@ abbrev pub SoundBy : Reason → Type 0 → Type 0
 SoundBy (ByStop stop) P = serves.StaysSound {A = Unit {0}} (Err stop) P
 SoundBy NoMemory P = P
 
-abbrev pub StaysSound : Result Finished Halted → Type 0 → Type 0
-StaysSound (Ok finished) P = P
-StaysSound (Err halted) P = SoundBy halted.why P
+abbrev pub DrawsSound : {A : Type 0} → Result A Reason → Type 0 → Type 0
+DrawsSound (Ok bytes) P = P
+DrawsSound (Err why) P = SoundBy why P
+
+abbrev pub EndsSound : Result Finished Halted → Type 0 → Type 0
+EndsSound (Ok finished) P = P
+EndsSound (Err halted) P = SoundBy halted.why P
+
+-- what `StaysFit` says of a call, of one that draws the display of a parked machine
+pub record DrawsFit {M A : Type 0} (memory : Ghosts M) (old new : M) (answer : Result A Reason) : Type 0 where
+  pub sound : DrawsSound answer (memory.sound new)
+  pub ready : OnOk answer (IsReady (memory.told new))
+  pub lender : memory.lender new ≡ memory.lender old
+  pub outside : memory.outside new ≡ memory.outside old
+
+-- and of a whole run
+pub record EndsFit {M : Type 0} (memory : Ghosts M) (old new : M) (answer : Result Finished Halted) : Type 0 where
+  pub sound : EndsSound answer (memory.sound new)
+  pub ready : OnOk answer (IsReady (memory.told new))
+  pub lender : memory.lender new ≡ memory.lender old
+  pub outside : memory.outside new ≡ memory.outside old

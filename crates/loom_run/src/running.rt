@@ -7,9 +7,9 @@ ghost use Rattle.blue_model.specs.Machine.{Machine};
 ghost use Rattle.blue_model.specs.Processes.{check_switch as check_switch_rule};
 ghost use Rattle.blue_model.specs.Cycle.{cycle as cycle_rule, turn as turn_rule, ending};
 ghost use Rattle.blue_model.specs.declared.step.Step.TheVariants as step;
-ghost use Rattle.contexts.specs.Serves.{Serves, Speaks, Stands, HasRest, StaysSound as StopsSound};
+ghost use Rattle.contexts.specs.Serves.{Serves, Speaks, Stands, HasRest};
 ghost use Rattle.blue_model.specs.Endings.{HasCounted, is_quit as is_quit_step};
-ghost use Rattle.loom_run.specs.Run.{Begins, DrawsAs, EndsAs, FaultsBy, GoesAs, HaltsBy, RunsAs, SoundBy, StaysSound};
+ghost use Rattle.loom_run.specs.Run.{Begins, DrawsAs, EndsAs, DrawsFit, EndsFit, FaultsBy, GoesAs, HaltsBy, RunsAs};
 ghost use Rattle.object_memory.specs.Calls.{IsFit};
 ghost use Rattle.contexts.specs.Calls.{StaysFit};
 
@@ -161,11 +161,7 @@ fn go_through<M: ObjectMemory>(
 fn draw<M: ObjectMemory>(alloc: Global, m: &mut M, cpu: &Cpu) -> Result<Octets, Reason>
     requires fit { IsFit M.ObjectMemory m.old }
     ensures draws { DrawsAs (M.told m.old) cpu.now (M.told m.new) result }
-    ensures ready { OnOk result (IsReady (M.told m.new)) }
-    ensures sound { IfErr result (λ why. SoundBy why (M.sound m.new)) }
-    ensures still { OnOk result (M.sound m.new) }
-    ensures lender { M.lender m.new ≡ M.lender m.old }
-    ensures outside { M.outside m.new ≡ M.outside m.old }
+    ensures fit { DrawsFit M.ObjectMemory m.old m.new result }
 {
     match picture(alloc, m, cpu) {
         Ok(bytes) => Ok(bytes),
@@ -187,7 +183,7 @@ pub fn whole_run<M: ObjectMemory>(
     ensures ran { IfErr result (λ halted. halted.ran ≤ steps) }
     ensures counted { IfOk result (λ finished. HasCounted finished.end finished.ran steps) }
     ensures later { IsLater (M.told m.old) (M.told m.new) }
-    ensures fit { StaysFit M.ObjectMemory m.old m.new result }
+    ensures fit { EndsFit M.ObjectMemory m.old m.new result }
 {
     let mut cpu = Cpu::at_rest();
     let end = match go_through(m, &mut cpu, events, steps) {

@@ -21,12 +21,6 @@ loop-turn-init g c = record {
   outside = refl;
 }
 
-pub cycle-requires-clause-sound : goal.cycle-requires-clause-sound
-cycle-requires-clause-sound g c = c.loop-turn.invariant.sound
-
-pub cycle-requires-clause-ready : goal.cycle-requires-clause-ready
-cycle-requires-clause-ready g c = c.loop-turn.invariant.ready
-
 pub cycle-requires-clause-room : goal.cycle-requires-clause-room
 cycle-requires-clause-room g c =
     let ran = c.loop-turn.invariant.ran in
@@ -55,12 +49,6 @@ returns-in_err-step-clause-few g c =
 pub returns-in_err-step-clause-later : goal.returns-in_err-step-clause-later
 returns-in_err-step-clause-later g c = IsLater-trans _ _ _ c.loop-turn.invariant.later c.in_err-step.ensures.serves.later
 
-pub returns-in_err-step-clause-lender : goal.returns-in_err-step-clause-lender
-returns-in_err-step-clause-lender g c = c.in_err-step.ensures.fit.lender ∙ c.loop-turn.invariant.lender
-
-pub returns-in_err-step-clause-outside : goal.returns-in_err-step-clause-outside
-returns-in_err-step-clause-outside g c = c.in_err-step.ensures.fit.outside ∙ c.loop-turn.invariant.outside
-
 pub returns-in_err-settle-clause-runs : goal.returns-in_err-settle-clause-runs
 returns-in_err-settle-clause-runs g c = λ told m st.
     let here = c.loop-turn.invariant in
@@ -85,12 +73,6 @@ returns-in_err-settle-clause-few g c =
 
 pub returns-in_err-settle-clause-later : goal.returns-in_err-settle-clause-later
 returns-in_err-settle-clause-later g c = IsLater-trans _ _ _ (IsLater-trans _ _ _ c.loop-turn.invariant.later c.in_ok-step.ensures.serves.later) c.in_err-settle.ensures.called.later
-
-pub returns-in_err-settle-clause-lender : goal.returns-in_err-settle-clause-lender
-returns-in_err-settle-clause-lender g c = c.in_err-settle.ensures.fit.lender ∙ c.in_ok-step.ensures.fit.lender ∙ c.loop-turn.invariant.lender
-
-pub returns-in_err-settle-clause-outside : goal.returns-in_err-settle-clause-outside
-returns-in_err-settle-clause-outside g c = c.in_err-settle.ensures.fit.outside ∙ c.in_ok-step.ensures.fit.outside ∙ c.loop-turn.invariant.outside
 
 pub loop-turn-preserved : goal.loop-turn-preserved
 loop-turn-preserved g c =
@@ -131,18 +113,6 @@ returns-clause-later g c = c.loop-turn.invariant.later
 pub returns-clause-rest : goal.returns-clause-rest
 returns-clause-rest g c = c.loop-turn.invariant.rest
 
-pub returns-clause-ready : goal.returns-clause-ready
-returns-clause-ready g c = c.loop-turn.invariant.ready
-
-pub returns-clause-sound : goal.returns-clause-sound
-returns-clause-sound g c = c.loop-turn.invariant.sound
-
-pub returns-clause-lender : goal.returns-clause-lender
-returns-clause-lender g c = c.loop-turn.invariant.lender
-
-pub returns-clause-outside : goal.returns-clause-outside
-returns-clause-outside g c = c.loop-turn.invariant.outside
-
 pub returns-then-is_quit-clause-runs : goal.returns-then-is_quit-clause-runs
 returns-then-is_quit-clause-runs g c = λ told m st.
     let here = c.loop-turn.invariant in
@@ -177,14 +147,15 @@ returns-then-is_quit-clause-later g c = IsLater-trans _ _ _ (IsLater-trans _ _ _
 pub returns-then-is_quit-clause-rest : goal.returns-then-is_quit-clause-rest
 returns-then-is_quit-clause-rest g c = rest_stays _ _ c.in_ok-settle.ensures.called.ok.regs c.in_ok-step.ensures.rest
 
-pub returns-then-is_quit-clause-ready : goal.returns-then-is_quit-clause-ready
-returns-then-is_quit-clause-ready g c = c.in_ok-settle.ensures.fit.ready
+pub cycle-requires-clause-fit : goal.cycle-requires-clause-fit
+cycle-requires-clause-fit g c = record { sound = c.loop-turn.invariant.sound; ready = c.loop-turn.invariant.ready }
 
-pub returns-then-is_quit-clause-sound : goal.returns-then-is_quit-clause-sound
-returns-then-is_quit-clause-sound g c = c.in_ok-settle.ensures.fit.sound
+pub returns-clause-fit : goal.returns-clause-fit
+returns-clause-fit g c = let here = c.loop-turn.invariant in record { sound = here.sound; ready = here.ready; lender = here.lender; outside = here.outside }
 
-pub returns-then-is_quit-clause-lender : goal.returns-then-is_quit-clause-lender
-returns-then-is_quit-clause-lender g c = c.in_ok-settle.ensures.fit.lender ∙ c.in_ok-step.ensures.fit.lender ∙ c.loop-turn.invariant.lender
-
-pub returns-then-is_quit-clause-outside : goal.returns-then-is_quit-clause-outside
-returns-then-is_quit-clause-outside g c = c.in_ok-settle.ensures.fit.outside ∙ c.in_ok-step.ensures.fit.outside ∙ c.loop-turn.invariant.outside
+pub returns-then-is_quit-clause-fit : goal.returns-then-is_quit-clause-fit
+returns-then-is_quit-clause-fit g c =
+    let here = c.loop-turn.invariant in
+    let did = c.in_ok-step.ensures.fit in
+    let settled = c.in_ok-settle.ensures.fit in
+    record { sound = settled.sound; ready = settled.ready; lender = settled.lender ∙ did.lender ∙ here.lender; outside = settled.outside ∙ did.outside ∙ here.outside }
