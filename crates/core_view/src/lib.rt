@@ -3,7 +3,8 @@
 //! A core is four functions and a bound (`Core`): entries by short word, short words by name, chunks by place. Its held heap (`held`) gives
 //! each name the object whose body lies in the segment, each short word read as a number, as the name of its entry or, where it is a
 //! lambda, as that field of the disk's record; every other name has its record. `IsCore` is what a core keeps whatever the disk has,
-//! `IsBacked` what it keeps with its disk; where it `IsTight`, each chunk with an owner is a body, so words are accounted for. A step that leaves the held heap as it was, over every disk, is one that `Stays`.
+//! `IsBacked` what it keeps with its disk; where it `IsTight`, each chunk with an owner is a body, so words are accounted for. A step
+//! that leaves the held heap as it was, over every disk, is one that `Stays`.
 //!
 //!     held (with_field_word c s p i w) disk ≡ put (held c disk) name (Some { class; body = with_field body i (meant .. w) })
 //!

@@ -1,5 +1,5 @@
 -- Worked values of the definitions.
-use Rattle.std.proofs.Common.{◌≡◌, ℕ, pos, negsuc, List, [], ◌∷◌, refl}
+use Rattle.std.proofs.Common.{◌≡◌, pos, negsuc, [], ◌∷◌, refl}
 use Rattle.long_names.specs.declared.value.Value.TheVariants.{Int, Ref}
 use Rattle.object_record.specs.Raw.{RawPointers, RawBytes, RawMethod}
 use Rattle.object_record.specs.Objects.{value_in}

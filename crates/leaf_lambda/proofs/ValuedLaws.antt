@@ -1,5 +1,5 @@
 -- Every field stays a value: after a store, and where an object is made.
-use Rattle.std.proofs.Common.{zero, suc, ◌≡◌, ◌≢◌, ◌⊎◌, inl, inr, ⊎_elim, ℕ, List, [], ◌∷◌, replicate, refl, sym, ◌∙◌, ap, subst, Option, Some, None}
+use Rattle.std.proofs.Common.{zero, suc, ◌≡◌, ◌≢◌, ◌⊎◌, inl, inr, ⊎_elim, ℕ, List, [], ◌∷◌, replicate, refl, sym, ◌∙◌, ap, subst, Some}
 use Rattle.std.proofs.lemmas.Bool.{cases_eq}
 use Rattle.std.specs.List.{slice_get, slice_set}
 use Rattle.long_names.specs.Objects.{fields_of, with_field, with_bytes, with_words}

@@ -1,5 +1,5 @@
 -- Bodies of new objects, which have no record.
-use Rattle.std.specs.Prelude.{◌≡◌, ◌≢◌, ℕ, ◌+◌, ◌*◌, ◌/◌, ◌%◌, ◌==◌, ◌<◌, if◌then◌else◌, true, List, ◌∷◌, ◌++◌, replicate, slice_set}
+use Rattle.std.specs.Prelude.{◌≡◌, ◌≢◌, ℕ, ◌+◌, ◌*◌, ◌/◌, ◌%◌, ◌==◌, if◌then◌else◌, true, List, ◌∷◌, ◌++◌, replicate, slice_set}
 use Rattle.long_names.specs.Words.{literal_count}
 use Rattle.long_names.specs.declared.value.Value.{Value}
 use Rattle.long_names.specs.declared.object.Kind.{Kind}

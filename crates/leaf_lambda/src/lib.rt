@@ -2,15 +2,18 @@
 //! (`resolve`). A field is a short word: a number, the short name of an entry, or 0, a lambda, which means that field of the record.
 //!
 //! Each call keeps `IsParts`, and leaves the held heap (`held` of core_view) as it was over every disk that has the record: the clause
-//! `keeps`. Which fields may be lambdas says `MayBeLambda`, what stays beside the object's body says `IsWithin`. Only `put_field` changes
-//! what is held, at one field. An object without a record (fresh) has no lambda, and `merge_out` makes its record from nothing.
+//! `keeps`. Only stores (`put_field`, `put_words`, `put_byte`) and `make_body` change what is held, of one object. Which fields may be
+//! lambdas says `MayBeLambda`. What stays beside the object's body says `IsWithin`: references from outside, all of other entries but
+//! their references, changes of counts, marks, and that each chunk with an owner is a body. Words and entries are accounted for: `size`,
+//! `free`, `largest`, `room` of the segment, `spare`, `cost` and `naming` of the table.
 //!
 //!     translate_in(&mut parts, leaf, &mut record);
 //!     put_field(&mut parts, leaf, place_of_body(&parts, leaf), 3, word);
 //!     merge_out(&mut parts, leaf, &mut record);   // and once it is written: set_written, drop_body
 //!
-//! Read `specs/Parts.antt` first, then `Records.antt`. `turn` follows one fault, one store and one eviction by these promises alone. The
-//! crate reads and writes no disk, changes no count of an object, and frees no entry by itself: those are its callers' to do.
+//! Read `specs/Parts.antt` first, where an object's states are drawn, then `Records.antt` and `Making.antt`. `turn` follows one fault, one
+//! store and one eviction by these promises alone. The crate reads and writes no disk, changes no count of an object, and frees no entry
+//! by itself: those are its callers' to do.
 #![tactic(auto)]
 
 pub mod bodies;

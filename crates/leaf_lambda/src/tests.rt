@@ -13,7 +13,7 @@ use crate::leaving::field_total;
 use crate::merge::merge_out;
 use crate::parts::{Parts, is_copy, is_leaf};
 use crate::steps::{field_word, find_or_leaf, place_of_body};
-use crate::translate::{resolve, translate_in};
+use crate::translate::{RESERVE, resolve, translate_in};
 use long_names::{Kind, Name};
 use object_record::RecordBuf;
 use object_table::Short;
@@ -182,7 +182,7 @@ fn fields_take_entries_down_to_the_reserve(rt: HostRuntime) -> Result<(), Fail> 
     assert!(rt; is_leaf(&p, s));
     assert!(rt; p.names.table.free() == 200);
     translate_in(&mut p, s, &mut buf);
-    assert_eq!(rt; p.names.table.free(), 128);
+    assert_eq!(rt; p.names.table.free(), RESERVE);
     assert_eq!(rt; lambdas(&p, s), 228);
     assert!(rt; merged(&mut p, s, &mut buf));
     assert!(rt; buf.bytes() == again.bytes());

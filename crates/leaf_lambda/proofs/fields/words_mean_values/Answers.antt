@@ -1,10 +1,9 @@
-use Rattle.std.proofs.Common.{◌≡◌, ◌≢◌, ℕ, [], ◌%◌, true, false, sym, ◌∙◌, ap, subst, arith}
+use Rattle.std.proofs.Common.{◌≡◌, ◌≢◌, ℕ, [], ◌%◌, false, sym, ◌∙◌, ap, subst, arith}
 use Rattle.std.proofs.lemmas.Grind.{common_steps}
-use Rattle.long_names.specs.Words.{IsValue, IsSmallInteger}
-use Rattle.long_names.specs.declared.value.Value.TheVariants.{Int, Ref}
+use Rattle.long_names.specs.Words.{IsValue}
+use Rattle.long_names.specs.declared.value.Value.TheVariants.{Ref}
 use Rattle.object_table.specs.declared.entry.Entry.{Entry}
 use Rattle.object_table.specs.Entries.{is_short}
-use Rattle.core_view.specs.Words.{meant, int_of_short}
 use Rattle.core_view.proofs.Words.{meant-odd, meant-short}
 use Rattle.leaf_lambda.specs.Parts.{core_of}
 use Rattle.leaf_lambda.proofs.WordLaws.{odd-small}

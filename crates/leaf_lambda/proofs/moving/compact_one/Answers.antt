@@ -1,8 +1,7 @@
 use Rattle.std.proofs.Common.{◌≡◌, ℕ, ◌+◌, ◌*◌, refl, sym, ◌∙◌, ap, subst, arith}
 use Rattle.object_table.specs.declared.entry.Entry.{Entry}
-use Rattle.object_table.specs.Entries.{put, is_used, place_of}
+use Rattle.object_table.specs.Entries.{put}
 use Rattle.object_table.specs.Table.{entry_at}
-use Rattle.core_segment.specs.Segment.{chunk_at}
 use Rattle.core_view.proofs.Core.{placed-used}
 use Rattle.core_view.proofs.Moves.{move-core, move-stays, chunks-move}
 use Rattle.leaf_lambda.specs.Parts.{core_of}

@@ -1,4 +1,4 @@
-use Rattle.std.proofs.Common.{◌≡◌, ℕ, ◌+◌, ◌≤◌, sym, ◌∙◌, ap, subst, arith}
+use Rattle.std.proofs.Common.{◌≡◌, ℕ, sym, ◌∙◌, ap, subst, arith}
 use Rattle.std.specs.List.{slice_set}
 use Rattle.object_table.specs.Entries.{with_refs}
 use Rattle.core_segment.specs.declared.segment.Segment.{Segment}

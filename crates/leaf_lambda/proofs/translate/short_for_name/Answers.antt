@@ -1,4 +1,4 @@
-use Rattle.std.proofs.Common.{◌≡◌, ℕ, ◌+◌, ◌≤◌, ◌∙◌, sym, ap, subst, arith}
+use Rattle.std.proofs.Common.{◌+◌, ◌≤◌, ◌∙◌, sym, ap, subst, arith}
 use Rattle.object_table.specs.declared.entry.Entry.{Entry}
 use Rattle.core_view.specs.Core.{Core}
 use Rattle.core_view.proofs.Steps.{refs-entry}
