@@ -19,7 +19,7 @@ use Rattle.work_space.specs.Space.{IsSpace, from_of, end_of as space_end, first_
 use Rattle.work_space.proofs.BlockLaws.{put-at, some-inside}
 use Rattle.work_space.proofs.CountLaws.{end-most}
 use Rattle.work_space.proofs.FreeLaws.{out-within, linked-front, linked-none, times-at, times-there, times-more}
-use Rattle.work_space.specs.Calls.{IsWorkFault}
+use Rattle.loom_outside.specs.Work.{IsWorkFault}
 use Rattle.disk_objects.specs.declared.rest.DiskRest.{DiskRest}
 use Rattle.object_record.specs.Buffer.{HasRecord, raw_of}
 use Rattle.disk_objects.specs.Calls.{IsFault, IsGot}

@@ -9,7 +9,7 @@ use Rattle.object_record.specs.Raw.{RawRecord, IsRawRecord}
 use Rattle.work_directory.specs.Directory.{room_of, held_of, entries_of, IsIn, IsChanged}
 use Rattle.work_directory.specs.Table.{Entry, Entries}
 use Rattle.work_directory.specs.declared.directory.Directory.{Directory}
-use Rattle.work_space.specs.Calls.{IsWorkFault}
+use Rattle.loom_outside.specs.Work.{IsWorkFault}
 use Rattle.work_space.specs.Space.{from_of}
 use Rattle.work_space.specs.declared.space.Space.{Space}
 use Rattle.work_space.proofs.BlockLaws.{some-inside}

@@ -8,7 +8,7 @@ use Rattle.loom_outside.specs.declared.outside.Host.{Ghosts}
 use Rattle.loom_outside.specs.declared.outside.Role.TheVariants.{Work}
 use Rattle.long_names.specs.Counting.{Rose}
 use Rattle.object_record.specs.Buffer.{HasRecord, raw_of}
-use Rattle.work_directory.specs.Work.{work_of, IsWorkRead}
+use Rattle.loom_outside.specs.Work.{work_of, IsWorkRead}
 use Rattle.work_space.specs.Blocks.{times}
 use Rattle.disk_objects.specs.declared.names.NamesFault.{NamesFault}
 use Rattle.disk_objects.specs.declared.names.NamesFault.TheVariants.{Disk, Memory}

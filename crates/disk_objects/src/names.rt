@@ -4,7 +4,7 @@ ghost use Rattle.std.specs.BTreeSet.{IsOrdered, contains};
 ghost use Rattle.std.specs.FinMap as map;
 ghost use Rattle.std.specs.Ordering.{nat_cmp};
 ghost use Rattle.loom_outside.specs.declared.outside.Role.{Role};
-ghost use Rattle.work_directory.specs.Work.{IsWorkRead, work_of};
+ghost use Rattle.loom_outside.specs.Work.{IsWorkRead, work_of};
 
 use crate::rest::DiskRest;
 use long_names::{Name, NameList};

@@ -4,7 +4,7 @@ ghost use Rattle.std.specs.FinMap as map;
 ghost use Rattle.loom_outside.specs.declared.outside.Role.{Role};
 ghost use Rattle.loom_outside.specs.Outside.{Attached, CanAttach, CanRead, CanWrite, HasCause, IsFresh, PutPrefix, SameBut, Took, TookSome, puts};
 ghost use Rattle.object_record.specs.Buffer.{HasRecord, raw_of};
-ghost use Rattle.work_directory.specs.Work.{IsWorkOnly, IsWorkRead, work_of};
+ghost use Rattle.loom_outside.specs.Work.{IsWorkOnly, IsWorkRead, work_of};
 
 use crate::names::NamesFault;
 use crate::rest::DiskRest;

@@ -7,9 +7,8 @@ ghost use Rattle.loom_outside.specs.declared.outside.DiskFault.TheVariants.{Dama
 ghost use Rattle.object_record.specs.Buffer.{BUFFER, HasRecord, long_at, raw_of, word_at};
 ghost use Rattle.object_record.specs.Inside.{end_stated};
 ghost use Rattle.object_record.specs.Raw.{IsRawRecord, RawRecord};
-ghost use Rattle.work_directory.specs.Work.{IsWorkOnly, IsWorkRead, work_of};
+ghost use Rattle.loom_outside.specs.Work.{IsWorkOnly, IsWorkRead, work_of, IsWorkFault};
 ghost use Rattle.work_space.specs.Blocks.{AreFew, link_at};
-ghost use Rattle.work_space.specs.Calls.{IsWorkFault};
 ghost use Rattle.work_space.specs.Space.{IsSpace, from_of};
 ghost use Rattle.disk_objects.specs.Disk.{IsClass, IsLaid, link_to, record_size, with_count};
 ghost use Rattle.disk_objects.specs.Inside.{IsHead, IsHeadFault, IsLinkFault, IsRecordFault, IsRecordSize, IsSizedHead, IsStoreFault, Stores, Touches, Writes, size_stated_in};

@@ -9,7 +9,7 @@ ghost use Rattle.object_record.specs.Buffer.{HasRecord, raw_of};
 ghost use Rattle.disk_objects.specs.Disk.{link_to};
 ghost use Rattle.work_directory.specs.Directory.{entries_of};
 ghost use Rattle.work_directory.specs.Table.{entry_of};
-ghost use Rattle.work_directory.specs.Work.{IsWorkOnly, IsWorkRead, work_of};
+ghost use Rattle.loom_outside.specs.Work.{IsWorkOnly, IsWorkRead, work_of};
 
 use crate::record::{
     Head, LAST_PLACE, class_for, read_head, read_link, read_record, store, write_link, write_record,

@@ -3,7 +3,7 @@ ghost use Rattle.std.specs.Prelude.{◌≡◌, ◌<◌, ◌≤◌, ℕ, List, []
 ghost use Rattle.std.specs.FinMap as map;
 ghost use Rattle.loom_outside.specs.declared.outside.Role.{Role};
 ghost use Rattle.object_record.specs.Buffer.{HasRecord, raw_of};
-ghost use Rattle.work_directory.specs.Work.{work_of};
+ghost use Rattle.loom_outside.specs.Work.{work_of};
 ghost use Rattle.disk_objects.specs.Calls.{Stands};
 ghost use Rattle.disk_objects.specs.Disk.{IsDisk, Objects, object_of};
 

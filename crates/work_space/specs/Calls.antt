@@ -11,31 +11,6 @@ use Rattle.work_space.specs.Blocks.{block_size, last_end}
 use Rattle.work_space.specs.Space.{first_of, end_of, next_place}
 use Rattle.work_space.specs.declared.space.Space.{Space}
 
--- what Work contains
-abbrev pub contents_of : {H : Type 0} → Ghosts H → H → List ℕ
-contents_of host h = (host.roles h Work).contents
-
--- Work was read, or not even that: all that is told stays, and only faults of Work were counted
-pub record IsRead {H : Type 0} (host : Ghosts H) (old new : H) : Type 0 where
-  pub roles : (r : Role) → host.roles new r ≡ host.roles old r
-  pub other_faults : SameBut Work (host.faults old) (host.faults new)
-  pub later : host.faults old Work ≤ host.faults new Work
-  pub writes : host.writes new ≡ host.writes old
-
--- Work was written once: only its contents may have changed, and only faults of Work were counted
-pub record IsWritten {H : Type 0} (host : Ghosts H) (old new : H) : Type 0 where
-  pub others : SameBut Work (host.roles old) (host.roles new)
-  pub contents : IsTrue (host.tells Work) → (left : List ℕ) × (host.roles new Work ≡ holds left (host.roles old Work))
-  pub other_faults : SameBut Work (host.faults old) (host.faults new)
-  pub later : host.faults old Work ≤ host.faults new Work
-  pub writes : host.writes new ≡ counted (host.writes old)
-
--- a call on Work failed, and this is the count of its faults, which rose
-abbrev pub IsWorkFault : ℕ → ℕ → DiskFault → Type 0
-IsWorkFault before now (fault.Work count) = (count ≡ now) × Rose before now
-IsWorkFault before now (fault.Full held room) = ⊥
-IsWorkFault before now (fault.Damaged place name) = ⊥
-
 -- Why no block of a class was taken: a call on Work failed, or Damaged names the block that can't be taken. Where none of the class
 -- is free, that is a new one that would end behind the last place.
 abbrev pub IsTakeFault : Space → ℕ → ℕ → ℕ → DiskFault → Type 0

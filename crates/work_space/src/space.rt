@@ -22,7 +22,8 @@ pub struct Space {
 impl Space {
     ghost use Rattle.std.specs.Prelude.{◌≡◌, ◌+◌, ◌<◌, ◌≤◌, ◌^◌, ℕ, List, [], Option, None, Some, length, false, IsTrue, IfOk, IfErr, OnOk, OnErr, MatchResult};
     ghost use Rattle.work_space.specs.Blocks.{AreFew, block_size, classes, last_end};
-    ghost use Rattle.work_space.specs.Calls.{IsRead, IsWritten, IsWorkFault, IsTakeFault, IsDamagedBy, IsFullAt, contents_of};
+    ghost use Rattle.work_space.specs.Calls.{IsTakeFault, IsDamagedBy, IsFullAt};
+    ghost use Rattle.loom_outside.specs.Work.{IsWorkRead, IsWorkWritten, IsWorkFault, work_of};
     ghost use Rattle.work_space.specs.Space.{IsSpace, Takes, Gives, end_of, from_of, first_of, is_broken, is_link, next_place, next_end};
 
     /// No block is laid. The first one will be laid at this place, and Work may contain anything before it.
@@ -52,17 +53,17 @@ impl Space {
     pub fn take<H: Host>(&mut self, host: &mut H, c: u8) -> Result<u64, DiskFault>
         requires { c < classes }
         ensures takes { IsTrue (H.tells Role.Work) → (laid : List ℕ) (out : ℕ → Option ℕ) →
-            IsSpace self.old (contents_of H.Host host.old) laid out → IfOk result (Takes self.old self.new (contents_of H.Host host.new) laid out c) }
+            IsSpace self.old (work_of H.Host host.old) laid out → IfOk result (Takes self.old self.new (work_of H.Host host.new) laid out c) }
         ensures place { IfOk result (λ place. (place ≡ next_place self.old c) × (end_of self.new ≡ next_end self.old c)) }
         ensures fault { IfErr result (IsTakeFault self.old c (H.faults host.old Role.Work) (H.faults host.new Role.Work)) }
-        ensures told { IsTrue (H.tells Role.Work) → let broken = is_broken self.old (contents_of H.Host host.old) c in
+        ensures told { IsTrue (H.tells Role.Work) → let broken = is_broken self.old (work_of H.Host host.old) c in
             MatchResult result (λ place. broken ≡ false) (IsDamagedBy broken) }
         ensures sound { IsTrue (H.tells Role.Work) → (laid : List ℕ) (out : ℕ → Option ℕ) →
-            IsSpace self.old (contents_of H.Host host.old) laid out → AreFew laid → from_of self.old < 2 ^ 61 →
+            IsSpace self.old (work_of H.Host host.old) laid out → AreFew laid → from_of self.old < 2 ^ 61 →
             IfErr result (IsWorkFault (H.faults host.old Role.Work) (H.faults host.new Role.Work)) }
         ensures from { from_of self.new ≡ from_of self.old }
         ensures err { OnErr result (self.new ≡ self.old) }
-        ensures host { IsRead H.Host host.old host.new }
+        ensures host { IsWorkRead H.Host host.old host.new }
     {
         let place = self.heads[c as usize];
         if place == 0 {
@@ -80,13 +81,13 @@ impl Space {
     pub fn give<H: Host>(&mut self, host: &mut H, place: u64, c: u8) -> Result<(), DiskFault>
         requires { c < classes }
         ensures gives { IsTrue (H.tells Role.Work) → (laid : List ℕ) (out : ℕ → Option ℕ) →
-            IsSpace self.old (contents_of H.Host host.old) laid out → out place ≡ Some c →
-            OnOk result (Gives self.old self.new (contents_of H.Host host.old) (contents_of H.Host host.new) laid out c place) }
+            IsSpace self.old (work_of H.Host host.old) laid out → out place ≡ Some c →
+            OnOk result (Gives self.old self.new (work_of H.Host host.old) (work_of H.Host host.new) laid out c place) }
         ensures fault { IfErr result (IsWorkFault (H.faults host.old Role.Work) (H.faults host.new Role.Work)) }
         ensures from { from_of self.new ≡ from_of self.old }
         ensures end { end_of self.new ≡ end_of self.old }
         ensures err { OnErr result (self.new ≡ self.old) }
-        ensures host { IsWritten H.Host host.old host.new }
+        ensures host { IsWorkWritten H.Host host.old host.new }
     {
         write_link(host, place, self.heads[c as usize])?;
         self.heads[c as usize] = place;

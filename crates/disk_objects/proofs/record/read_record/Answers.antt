@@ -1,7 +1,7 @@
 use Rattle.std.proofs.Common.{◌-◌, ◌/◌, ◌++◌, ℕ, List, length, drop, ap, sym, ◌∙◌, refl, arith}
 use Rattle.loom_outside.specs.Bytes.{window}
 use Rattle.object_record.proofs.Numbers.{AreBytes}
-use Rattle.work_directory.specs.Work.{work_of}
+use Rattle.loom_outside.specs.Work.{work_of}
 use Rattle.work_space.proofs.SpaceLaws.{true-false}
 use Rattle.disk_objects.proofs.RecordLaws.{room-for, zeros-end, buffer-filled}
 use Rattle.disk_objects.proofs.record.read_record.Goals as goal

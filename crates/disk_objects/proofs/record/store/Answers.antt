@@ -2,9 +2,8 @@ use Rattle.std.proofs.Common.{ap, arith}
 use Rattle.loom_outside.specs.Outside.{RoleState}
 use Rattle.loom_outside.specs.declared.outside.Role.TheVariants.{Work}
 use Rattle.object_record.specs.Buffer.{raw_of}
-use Rattle.work_directory.specs.Work.{work_of}
-use Rattle.work_space.specs.Calls.{IsWorkFault}
-use Rattle.work_directory.proofs.CauseLaws.{exits}
+use Rattle.loom_outside.specs.Work.{work_of, IsWorkFault}
+use Rattle.loom_outside.proofs.WorkLaws.{exits}
 use Rattle.disk_objects.proofs.TouchLaws.{place-low, stored-in}
 use Rattle.disk_objects.proofs.record.store.Goals as goal
 

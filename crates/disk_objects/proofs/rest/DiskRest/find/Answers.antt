@@ -1,5 +1,5 @@
 use Rattle.std.proofs.Common.{sym, arith}
-use Rattle.work_directory.specs.Work.{work_of}
+use Rattle.loom_outside.specs.Work.{work_of}
 use Rattle.work_directory.specs.Table.{entry_of}
 use Rattle.disk_objects.proofs.FoundLaws.{place-there}
 use Rattle.disk_objects.proofs.rest.DiskRest.find.Goals as goal

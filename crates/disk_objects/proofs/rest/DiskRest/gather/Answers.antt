@@ -1,7 +1,7 @@
 use Rattle.std.proofs.Common.{◌≡◌, ℕ, List, sym, subst, ap, ◌∙◌, arith}
 use Rattle.work_directory.specs.Directory.{IsIn, slots_of, shown_at}
-use Rattle.work_directory.specs.Work.{work_of}
-use Rattle.work_directory.proofs.HostLaws.{work-same}
+use Rattle.loom_outside.specs.Work.{work_of}
+use Rattle.loom_outside.proofs.WorkLaws.{work-same}
 use Rattle.disk_objects.proofs.NamesLaws.{seen, disk-seen}
 use Rattle.disk_objects.proofs.rest.DiskRest.gather.Goals as goal
 

@@ -1,10 +1,9 @@
 use Rattle.std.proofs.Common.{ℕ, List, sym, subst, ◌∙◌}
 use Rattle.loom_outside.specs.declared.outside.Role.TheVariants.{Work}
-use Rattle.work_directory.specs.Work.{work_of}
+use Rattle.loom_outside.specs.Work.{work_of}
 use Rattle.disk_objects.specs.Calls.{IsFault}
 use Rattle.disk_objects.specs.Disk.{IsLaid}
-use Rattle.work_directory.proofs.HostLaws.{work-same}
-use Rattle.work_directory.proofs.CauseLaws.{exits}
+use Rattle.loom_outside.proofs.WorkLaws.{work-same, exits}
 use Rattle.disk_objects.proofs.FoundLaws.{record-sound, stored-there, size-there, got-there}
 use Rattle.disk_objects.proofs.rest.DiskRest.get.Goals as goal
 

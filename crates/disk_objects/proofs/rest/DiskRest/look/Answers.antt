@@ -1,12 +1,11 @@
 use Rattle.std.proofs.Common.{◌≤◌, ℕ, List, sym, subst}
 use Rattle.loom_outside.specs.Bytes.{window}
 use Rattle.loom_outside.specs.declared.outside.Role.TheVariants.{Work}
-use Rattle.work_directory.specs.Work.{work_of}
+use Rattle.loom_outside.specs.Work.{work_of}
 use Rattle.work_directory.specs.Table.{entry_of}
 use Rattle.disk_objects.specs.Calls.{IsFault}
 use Rattle.disk_objects.specs.Inside.{size_stated_in}
-use Rattle.work_directory.proofs.HostLaws.{work-same}
-use Rattle.work_directory.proofs.CauseLaws.{exits}
+use Rattle.loom_outside.proofs.WorkLaws.{work-same, exits}
 use Rattle.disk_objects.proofs.FoundLaws.{head-sound, size-low}
 use Rattle.disk_objects.proofs.rest.DiskRest.look.Goals as goal
 

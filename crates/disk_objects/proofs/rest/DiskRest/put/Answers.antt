@@ -1,6 +1,6 @@
 use Rattle.std.proofs.Common.{ℕ, List, sym, subst}
 use Rattle.disk_objects.specs.Disk.{IsDisk}
-use Rattle.work_directory.proofs.HostLaws.{work-same}
+use Rattle.loom_outside.proofs.WorkLaws.{work-same}
 use Rattle.disk_objects.proofs.rest.DiskRest.put.Goals as goal
 
 pub add-requires-clause-stands : goal.add-requires-clause-stands

@@ -3,9 +3,9 @@ use Rattle.std.proofs.lemmas.Result.{on_ok_weaker}
 use Rattle.loom_outside.specs.declared.outside.Role.TheVariants.{Work}
 use Rattle.object_record.specs.Buffer.{raw_of}
 use Rattle.work_directory.specs.Directory.{room_of, entries_of}
-use Rattle.work_directory.specs.Work.{work_of}
+use Rattle.loom_outside.specs.Work.{work_of}
 use Rattle.disk_objects.specs.Inside.{IsStepFault}
-use Rattle.work_directory.proofs.CauseLaws.{exits}
+use Rattle.loom_outside.proofs.WorkLaws.{exits}
 use Rattle.disk_objects.proofs.FoundLaws.{disk-few, disk-from}
 use Rattle.disk_objects.proofs.DiskLaws.{changed-named, open-given}
 use Rattle.disk_objects.proofs.PutLaws.{relocated-entries, put-moved, store-sound, some-there}

@@ -1,13 +1,12 @@
 use Rattle.std.proofs.Common.{◌≡◌, ◌⊎◌, ◌+◌, ℕ, List, sym, subst, ap, ◌∙◌, refl}
 use Rattle.long_names.specs.Names.{IsLongName}
 use Rattle.loom_outside.specs.declared.outside.Role.TheVariants.{Work}
-use Rattle.work_directory.specs.Work.{work_of}
+use Rattle.loom_outside.specs.Work.{work_of}
 use Rattle.work_directory.specs.Table.{entry_of}
 use Rattle.work_space.specs.Blocks.{link_at}
 use Rattle.disk_objects.specs.Calls.{IsFault}
 use Rattle.disk_objects.specs.Disk.{link_to}
-use Rattle.work_directory.proofs.HostLaws.{work-same}
-use Rattle.work_directory.proofs.CauseLaws.{exits}
+use Rattle.loom_outside.proofs.WorkLaws.{work-same, exits}
 use Rattle.disk_objects.proofs.FoundLaws.{disk-taken, disk-none, missing-fault, first-held, held-there, some-entry, link-sound, link-there, front-link, entry-name}
 use Rattle.disk_objects.proofs.rest.DiskRest.take_pending.Goals as goal
 
