@@ -1,5 +1,5 @@
 use Rattle.work_space.proofs.BlockLaws.{small-size}
-use Rattle.work_space.proofs.class.block_bytes.Goals as goal
+use Rattle.work_space.proofs.size_class.block_bytes.Goals as goal
 
 pub returns-clause-size : goal.returns-clause-size
 returns-clause-size c = (small-size c.args.c c.requires).0

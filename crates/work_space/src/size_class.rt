@@ -1,27 +1,26 @@
-// The classes of blocks: a block of class c has 32 * 2^c bytes.
+// The size classes of blocks: each has twice the bytes of the one before.
 ghost use Rattle.std.specs.Prelude.{◌≡◌, ◌<◌, ◌≤◌, ◌^◌, ◌*◌, ℕ, IfSome, IfNone};
-ghost use Rattle.work_space.specs.Blocks.{block_size, classes};
+ghost use Rattle.work_space.specs.Blocks.{block_size};
 
-/// How many classes there are, from 0 on.
-pub(crate) const CLASSES: usize = 15;
+use crate::limits::{SIZE_CLASSES, SMALLEST_BLOCK};
 
-/// The bytes of a block of a class.
+/// The bytes of a block of a size class.
 pub fn block_bytes(c: u8) -> u64
-    requires { c < classes }
+    requires { c < SIZE_CLASSES }
     ensures size { result ≡ block_size c }
     ensures most { result ≤ 2 ^ 19 }
 {
-    32 << c
+    SMALLEST_BLOCK << c
 }
 
-/// The smallest class whose blocks have so many bytes; None above the largest.
-pub fn class_of(bytes: u64) -> Option<u8>
-    ensures class { IfSome result (λ c. c < classes) }
+/// The smallest size class whose blocks have so many bytes; None above the largest.
+pub fn size_class_of(bytes: u64) -> Option<u8>
+    ensures class { IfSome result (λ c. c < SIZE_CLASSES) }
     ensures room { IfSome result (λ c. bytes ≤ block_size c) }
     ensures smallest { IfSome result (λ c. (d : ℕ) → bytes ≤ block_size d → c ≤ d) }
     ensures none { IfNone result (2 ^ 19 < bytes) }
 {
-    for c in 0..CLASSES as u8 {
+    for c in 0..SIZE_CLASSES as u8 {
         if bytes <= block_bytes(c) {
             return Some(c);
         }
