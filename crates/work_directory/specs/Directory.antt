@@ -75,8 +75,8 @@ pub record IsChanged (d : Directory) (entries : Entries) (old new : List ℕ) : 
 -- ---- in Work of a host, where it tells Work
 
 -- Work holds the directory
-abbrev pub Stands : {H : Type 0} → Ghosts H → H → Directory → Type 0
-Stands host now d = IsTrue (host.tells Work) → IsIn d (work_of host now)
+abbrev pub HoldsDirectory : {H : Type 0} → Ghosts H → H → Directory → Type 0
+HoldsDirectory host now d = IsTrue (host.tells Work) → IsIn d (work_of host now)
 
 -- the entries that it has there
 abbrev pub entries_in : {H : Type 0} → Ghosts H → H → Directory → Entries

@@ -36,7 +36,7 @@ impl Directory {
     ghost use Rattle.std.specs.FinMap as map;
     ghost use Rattle.loom_outside.specs.declared.outside.DiskFault.TheVariants.{Full};
     ghost use Rattle.loom_outside.specs.declared.outside.Role.{Role};
-    ghost use Rattle.work_directory.specs.Directory.{room_of, held_of, slots_of, end_of, entries_of, found_entry, shown_at, AnswersSearch, IsIn, IsOfName, Stands, entries_in, Holds, Lacks, Becomes};
+    ghost use Rattle.work_directory.specs.Directory.{room_of, held_of, slots_of, end_of, entries_of, found_entry, shown_at, AnswersSearch, IsIn, IsOfName, HoldsDirectory, entries_in, Holds, Lacks, Becomes};
     ghost use Rattle.work_directory.specs.Inside.{Closes};
     ghost use Rattle.work_directory.specs.Slots.{slot_at};
     ghost use Rattle.work_directory.specs.Table.{entry_of};
@@ -94,7 +94,7 @@ impl Directory {
 
     // Searches for a name.
     fn search<H: Host>(&self, host: &mut H, name: Name) -> Result<Found, DiskFault>
-        requires stands { Stands H.Host host.old self.now }
+        requires stands { HoldsDirectory H.Host host.old self.now }
         ensures name { IfOk result (IsOfName (slots_of self.now) name) }
         ensures found { IfOk result (λ found. IsTrue (H.tells Role.Work) → AnswersSearch (work_of H.Host host.old) (slots_of self.now) name found) }
         ensures read { IsWorkRead H.Host host.old host.new }
@@ -116,7 +116,7 @@ impl Directory {
 
     /// Where the search for a name ends: at an empty slot exactly where the name isn't held.
     pub fn seek<H: Host>(&self, host: &mut H, name: Name) -> Result<Found, DiskFault>
-        requires stands { Stands H.Host host.old self.now }
+        requires stands { HoldsDirectory H.Host host.old self.now }
         ensures found { IfOk result (λ found. IsTrue (H.tells Role.Work) → found_entry found ≡ map.get (entries_in H.Host host.old self.now) name) }
         ensures at { IfOk result (λ found. IsTrue (H.tells Role.Work) → AnswersSearch (work_of H.Host host.old) (slots_of self.now) name found) }
         ensures name { IfOk result (IsOfName (slots_of self.now) name) }
@@ -128,7 +128,7 @@ impl Directory {
 
     /// The slot of a name: None exactly where it isn't held.
     pub fn find<H: Host>(&self, host: &mut H, name: Name) -> Result<Option<Slot>, DiskFault>
-        requires stands { Stands H.Host host.old self.now }
+        requires stands { HoldsDirectory H.Host host.old self.now }
         ensures found { IfOk result (λ slot. IsTrue (H.tells Role.Work) → option_map entry_of slot ≡ map.get (entries_in H.Host host.old self.now) name) }
         ensures name { IfOk result (λ slot. IfSome slot (λ s. s.name ≡ name)) }
         ensures read { IsWorkRead H.Host host.old host.new }
@@ -143,7 +143,7 @@ impl Directory {
     /// What stands in slot `i`, None where it is empty. Damage is told about the word in place of its name.
     pub fn slot<H: Host>(&self, host: &mut H, i: u32) -> Result<Option<Slot>, DiskFault>
         requires within { i < slots_of self.now }
-        requires stands { Stands H.Host host.old self.now }
+        requires stands { HoldsDirectory H.Host host.old self.now }
         ensures shown { IfOk result (λ slot. IsTrue (H.tells Role.Work) → slot ≡ shown_at (work_of H.Host host.old) i) }
         ensures read { IsWorkRead H.Host host.old host.new }
         ensures cause { IfErr result (IsSlotCause H.Host host.old host.new i) }
@@ -154,7 +154,7 @@ impl Directory {
     /// Adds a name that isn't held. Full exactly where as many are held as there is room for; nothing is done then.
     #[tactic(auto, unfolding(crate::specs::Directory::room_of, crate::specs::Directory::held_of))]
     pub fn add<H: Host>(&mut self, host: &mut H, slot: Slot) -> Result<(), DiskFault>
-        requires stands { Stands H.Host host.old self.old }
+        requires stands { HoldsDirectory H.Host host.old self.old }
         requires absent { Lacks H.Host host.old self.old slot.name }
         ensures added { OnOk result (Becomes H.Host host.old host.new self.new (map.insert (entries_in H.Host host.old self.old) slot.name (entry_of slot))) }
         ensures held { OnOk result (held_of self.new ≡ held_of self.old + 1) }
@@ -182,7 +182,7 @@ impl Directory {
     /// Sets the count and the place of a name that is held.
     #[tactic(auto, unfolding(crate::specs::Directory::room_of, crate::specs::Directory::held_of))]
     pub fn set<H: Host>(&mut self, host: &mut H, slot: Slot) -> Result<(), DiskFault>
-        requires stands { Stands H.Host host.old self.old }
+        requires stands { HoldsDirectory H.Host host.old self.old }
         requires there { Holds H.Host host.old self.old slot.name }
         ensures set { OnOk result (Becomes H.Host host.old host.new self.new (map.insert (entries_in H.Host host.old self.old) slot.name (entry_of slot))) }
         ensures still { self.new ≡ self.old }
@@ -198,7 +198,7 @@ impl Directory {
     /// Removes a name that is held.
     #[tactic(auto, unfolding(crate::specs::Directory::room_of, crate::specs::Directory::held_of))]
     pub fn remove<H: Host>(&mut self, host: &mut H, name: Name) -> Result<(), DiskFault>
-        requires stands { Stands H.Host host.old self.old }
+        requires stands { HoldsDirectory H.Host host.old self.old }
         requires there { Holds H.Host host.old self.old name }
         ensures removed { OnOk result (Becomes H.Host host.old host.new self.new (map.remove (entries_in H.Host host.old self.old) name)) }
         ensures held { OnOk result (held_of self.new + 1 ≡ held_of self.old) }
@@ -222,7 +222,7 @@ impl Directory {
     // Takes out the slot `at` of a name: later ones move up over it, until the hole needs no filling.
     fn close_up<H: Host>(&self, host: &mut H, at: u32, name: Name) -> Result<(), DiskFault>
         requires within { at < slots_of self.now }
-        requires stands { Stands H.Host host.old self.now }
+        requires stands { HoldsDirectory H.Host host.old self.now }
         requires used { IsTrue (H.tells Role.Work) → (slot_at (work_of H.Host host.old) at).name ≢ 0 }
         ensures closed { OnOk result (IsTrue (H.tells Role.Work) → Closes (work_of H.Host host.old) (work_of H.Host host.new) (slots_of self.now) (held_of self.now) at) }
         ensures work { IsWorkOnly H.Host host.old host.new }

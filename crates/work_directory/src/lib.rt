@@ -21,7 +21,7 @@ mod slot;
 
 pub use directory::{Directory, Found};
 pub use limits::{MOST_NAMES, SLOT_BYTES};
-pub use slot::Slot;
+pub use slot::{Slot, damaged};
 
 #[cfg(test)]
 mod tests;

@@ -27,8 +27,8 @@ pub(crate) fn place_of(at: u32) -> u64
     SLOT_BYTES as u64 * u64::from(at)
 }
 
-// What stands at slot `at` can't be so.
-pub(crate) fn damaged(at: u32, name: Name) -> DiskFault
+/// The fault that what stands at slot `at` can't be so. It is told about a name.
+pub fn damaged(at: u32, name: Name) -> DiskFault
     ensures { result ≡ Damaged (SLOT_BYTES * at) name }
 {
     DiskFault::Damaged {

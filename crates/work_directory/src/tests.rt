@@ -1,7 +1,7 @@
 // Tables of calls over a host that tells nothing, where any call may be made at any time, and a caller over a host that tells Work.
 ghost use Rattle.std.specs.Prelude.{◌≡◌, ◌<◌, ◌≤◌, IsTrue, OnOk};
 ghost use Rattle.std.specs.FinMap as map;
-ghost use Rattle.work_directory.specs.Directory.{Stands, entries_in, Becomes};
+ghost use Rattle.work_directory.specs.Directory.{HoldsDirectory, entries_in, Becomes};
 ghost use Rattle.work_directory.specs.Table.{entry_of};
 ghost use Rattle.loom_outside.specs.Work.{IsWorkOnly};
 
@@ -262,7 +262,7 @@ fn calls_on_work_fail(rt: HostRuntime) -> Result<(), Fail> {
 
 // What a caller of any host knows by the contracts alone.
 fn store<H: Host>(directory: &mut Directory, host: &mut H, slot: &Slot) -> Result<(), DiskFault>
-    requires stands { Stands H.Host host.old directory.old }
+    requires stands { HoldsDirectory H.Host host.old directory.old }
     ensures stored { OnOk result (Becomes H.Host host.old host.new directory.new (map.insert (entries_in H.Host host.old directory.old) slot.now.name (entry_of slot.now))) }
     ensures work { IsWorkOnly H.Host host.old host.new }
 {
@@ -278,7 +278,7 @@ fn store_both<H: Host>(
     first: &Slot,
     second: &Slot,
 ) -> Result<(), DiskFault>
-    requires stands { Stands H.Host host.old directory.old }
+    requires stands { HoldsDirectory H.Host host.old directory.old }
     ensures entries { OnOk result (IsTrue (H.tells Role.Work) → entries_in H.Host host.new directory.new ≡ map.insert (map.insert (entries_in H.Host host.old directory.old) first.now.name (entry_of first.now)) second.now.name (entry_of second.now)) }
     ensures work { IsWorkOnly H.Host host.old host.new }
 {
