@@ -1,7 +1,4 @@
 -- Which range of the table has a byte.
--- An arm of the table is `dispatched BYTE PLACE RANGE ..`, with the place of its range and the callee's clause. An arm of a
--- match on an enum is `rw c.in-ARM.is (c.CALL.ensures.serves cpu)`. A number that was converted, as `u32::from(byte - 96)`, is
--- moved by `rw c.from.ensures at ..`.
 use Rattle.std.proofs.Common.{◌≡◌, ℕ, List, Option, ◌-◌, ◌^◌, ◌<◌, ◌≤◌, ◌&&◌, nat_lt, nat_le, true, length, Result, Ok, Err, sym, ◌∙◌, ap, subst, arith}
 use Rattle.std.proofs.lemmas.Bool.Decides.{nat_tests}
 use borrow.Author.Tests.{ltb-true}
