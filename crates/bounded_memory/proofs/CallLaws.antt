@@ -1,4 +1,9 @@
 -- Calls of a memory without bounds, as calls of one with bounds over it.
+-- A memory over another is proved in three steps. Here is one law for each way a call ends, over what the two tell and over the
+-- access: `forwarded` and `answered-over`, `core-full`, `making-refused`, `work-faulted`. `MemoryLaws` says the same of whole
+-- memories, so that each answer is one line. The code asks the memory below for a kind, a length and a header first, which
+-- changes nothing that is told; so the laws go by that one equation. A memory below without bounds refuses nothing but makings,
+-- marks and what is said (`never-refused`): all other calls are forwarded with one exit.
 use Rattle.std.proofs.Common.{◌≡◌, ℕ, ◌<◌, ◌≤◌, true, Option, Some, None, Result, Ok, Err, IsTrue, inl, inr, refl, sym, subst, subst₂, add-zero, arith}
 use Rattle.std.specs.Result.{OnOk, is_ok}
 use Rattle.long_names.specs.Counting.{counted}
