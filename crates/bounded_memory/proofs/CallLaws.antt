@@ -15,7 +15,7 @@ use Rattle.object_memory.specs.declared.fault.Need.{Need}
 use Rattle.object_memory.specs.declared.fault.MemFault.{MemFault}
 use Rattle.object_memory.specs.declared.fault.MemFault.TheVariants.{CoreFull, WorkFull, WorkFault, Damaged, NamesSpent, Said, Memory}
 use Rattle.object_memory.specs.Told.{Told, Bounds, IsReady}
-use Rattle.object_memory.specs.Contract.{Call, Does, Settles, Thins, MayDo, SameBounds, Raised, makes, Lives, IsLater, Brings, SaysBy, SaysRefused, CacheAfter, Counts, Follows, Called, LeavesAll, ForBounds, IsMaking, TakesMemory, HasCause, HasCore, BaseAfter, CountsKept, IsNeedOf, Accessed, need_of_access}
+use Rattle.object_memory.specs.Contract.{Call, Does, Settles, Thins, MayDo, SameBounds, Raised, makes, Lives, IsLater, Brings, SaysBy, SaysRefused, CacheAfter, Counts, Follows, Called, ForBounds, IsMaking, TakesMemory, HasCause, HasCore, BaseAfter, CountsKept, IsNeedOf, Accessed, need_of_access}
 use Rattle.object_memory.specs.Plain.{refused}
 use Rattle.object_memory.proofs.PlainLaws.{kept_cache, leaves}
 use Rattle.bounded_memory.specs.Bounded.{over, faulted, need_at, IsFull, CannotMake}
