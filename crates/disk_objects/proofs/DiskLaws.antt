@@ -14,7 +14,7 @@ use Rattle.work_space.specs.declared.space.Space.{Space}
 use Rattle.work_space.proofs.BlockLaws.{put-at, put-there, some-inside}
 use Rattle.work_space.proofs.FreeLaws.{out-within, out-apart}
 use Rattle.disk_objects.specs.declared.rest.DiskRest.{DiskRest}
-use Rattle.disk_objects.specs.Disk.{DiskObject, Objects, IsClass, IsLaid, IsStored, AreStored, AreKept, HasSpace, IsDisk, IsOwned, record_size, link_to, object_of, with_count}
+use Rattle.disk_objects.specs.Disk.{DiskObject, Objects, IsSizeClass, IsLaid, IsInBlock, AreInBlocks, AreKept, HasSpace, IsDisk, IsOwned, record_size, link_to, object_of, with_count}
 use Rattle.disk_objects.specs.Inside.{Touches, Writes, Stores, IsOpen}
 use Rattle.disk_objects.proofs.TouchLaws.{blocks-inside, blocks-front, front-touched, directory-kept, laid-kept}
 use Rattle.disk_objects.proofs.StoredLaws.{equal_or_not, none-is-some, Stays, insert-at, insert-there, insert-same, remove-at, remove-there, alike-entry, stored-frame, stored-insert, stored-remove, pending-insert, pending-remove, linked-put}
@@ -86,12 +86,12 @@ with_space rest s = record { directory = rest.directory; space = s; first = rest
 abbrev pub with_directory : DiskRest → Directory → DiskRest
 with_directory rest d = record { directory = d; space = rest.space; first = rest.first }
 
-pub store-open : (rest : DiskRest) (new : Space) (v w : List ℕ) (objects : Objects) (queue : List ℕ) (raw : RawRecord) (link place : ℕ) (places : List ℕ)
-    → (k : IsDisk rest v objects queue) → (s : Stores rest.space new v w k.laid k.out raw link place) → from_of new ≡ from_of rest.space
+pub store-open : (rest : DiskRest) (new : Space) (v w : List ℕ) (objects : Objects) (pending : List ℕ) (raw : RawRecord) (link place : ℕ) (places : List ℕ)
+    → (k : IsDisk rest v objects pending) → (s : Stores rest.space new v w k.laid k.out raw link place) → from_of new ≡ from_of rest.space
     → length places < room_of rest.directory → ((p : ℕ) → k.out p ≡ Some s.class → Contains places p)
-    → (o : IsOpen (with_space rest new) w objects queue place s.class) × (o.link ≡ k.link) × (entries_of rest.directory w ≡ entries_of rest.directory v)
+    → (o : IsOpen (with_space rest new) w objects pending place s.class) × (o.link ≡ k.link) × (entries_of rest.directory w ≡ entries_of rest.directory v)
     × ((p e : ℕ) → k.out p ≡ Some e → o.out p ≡ Some e)
-store-open rest new v w objects queue raw link place places k s from_is short all =
+store-open rest new v w objects pending raw link place places k s from_is short all =
     let d : Directory = rest.directory in
     let t = s.takes in
     let c : ℕ = s.class in
@@ -129,7 +129,7 @@ store-open rest new v w objects queue raw link place places k s from_is short al
                 (t.apart f.place e block)),
           ));
           linked = k.kept.linked;
-          pending = k.kept.pending;
+          are_pending = k.kept.are_pending;
         };
         owned = subst (λ (x : Entries). (p e : ℕ) → out' p ≡ Some e → p ≢ place → IsOwned x p) (sym dir.1) owned;
         spare_out = here;
@@ -149,20 +149,20 @@ uncounted-raw raw is = record { name = is.name; class = is.class; count = omega 
 uncounted-laid : (w : List ℕ) (place : ℕ) (raw : RawRecord) (link : ℕ) → IsLaid w place raw link → IsLaid w place (with_count raw 0) link
 uncounted-laid w place raw link l = record { names = l.names; link_is = l.link_is; tail = l.tail }
 
-pub open-entered : (rest : DiskRest) (d' : Directory) (w x : List ℕ) (objects : Objects) (queue : List ℕ) (spare class : ℕ) (o : IsOpen rest w objects queue spare class)
-    (name count link : ℕ) (raw : RawRecord) → IsClass class (record_size raw) → IsLaid w spare raw link → IsRawRecord raw → raw.name ≡ name
+pub open-entered : (rest : DiskRest) (d' : Directory) (w x : List ℕ) (objects : Objects) (pending : List ℕ) (spare class : ℕ) (o : IsOpen rest w objects pending spare class)
+    (name count link : ℕ) (raw : RawRecord) → IsSizeClass class (record_size raw) → IsLaid w spare raw link → IsRawRecord raw → raw.name ≡ name
     → room_of d' ≡ room_of rest.directory
     → IsChanged d' (map.insert (entries_of rest.directory w) name (record { count = count; place = spare })) w x
-    → (0 < times name queue → link ≡ o.link name)
-    → AreKept d' rest.space rest.first x o.laid o.out (put o.link name link) (map.insert objects name (object_of raw count)) queue
-open-entered rest d' w x objects queue spare class o name count link raw is laid raw_is named room ch linked =
+    → (0 < times name pending → link ≡ o.link name)
+    → AreKept d' rest.space rest.first x o.laid o.out (put o.link name link) (map.insert objects name (object_of raw count)) pending
+open-entered rest d' w x objects pending spare class o name count link raw is laid raw_is named room ch linked =
     let d : Directory = rest.directory in
     let e : Entry = record { count = count; place = spare } in
     let behind = stays-front d d' rest.space w x o.laid o.out o.kept.space room ch.behind (Some e) e class refl o.spare_out in
     record {
       directory = ch.is_in;
       space = space-front d rest.space w x o.laid o.out o.kept.space d' room ch.behind;
-      stored = subst (λ (y : Entries). AreStored x o.out (put o.link name link) y (map.insert objects name (object_of raw count))) (sym ch.entries_are)
+      stored = subst (λ (y : Entries). AreInBlocks x o.out (put o.link name link) y (map.insert objects name (object_of raw count))) (sym ch.entries_are)
           (stored-insert w x o.out o.out o.link (entries_of d w) objects name link e (object_of raw count) o.kept.stored
           (λ q other. stays-front d d' rest.space w x o.laid o.out o.kept.space room ch.behind (map.get (entries_of d w) q))
           (λ q f other there same. o.spare_free (q, f, there, same))
@@ -176,26 +176,26 @@ open-entered rest d' w x objects queue spare class o name count link raw is laid
             block = o.spare_out;
             laid = uncounted-laid x spare raw link (laid-kept w x spare (block_size class) raw link is.fits behind.1 laid);
           }));
-      linked = linked-put o.link (link_to rest.first) name link queue linked o.kept.linked;
-      pending = pending-insert objects queue name (object_of raw count) o.kept.pending;
+      linked = linked-put o.link (link_to rest.first) name link pending linked o.kept.linked;
+      are_pending = pending-insert objects pending name (object_of raw count) o.kept.are_pending;
     }
 
 -- a name that was not held: no block is left over
-pub open-added : (rest : DiskRest) (d' : Directory) (w x : List ℕ) (objects : Objects) (queue : List ℕ) (spare class : ℕ) (o : IsOpen rest w objects queue spare class)
-    (name count link : ℕ) (raw : RawRecord) → IsClass class (record_size raw) → IsLaid w spare raw link → IsRawRecord raw → raw.name ≡ name
+pub open-added : (rest : DiskRest) (d' : Directory) (w x : List ℕ) (objects : Objects) (pending : List ℕ) (spare class : ℕ) (o : IsOpen rest w objects pending spare class)
+    (name count link : ℕ) (raw : RawRecord) → IsSizeClass class (record_size raw) → IsLaid w spare raw link → IsRawRecord raw → raw.name ≡ name
     → room_of d' ≡ room_of rest.directory
     → IsChanged d' (map.insert (entries_of rest.directory w) name (record { count = count; place = spare })) w x
-    → (0 < times name queue → link ≡ o.link name)
+    → (0 < times name pending → link ≡ o.link name)
     → map.get (entries_of rest.directory w) name ≡ None
-    → IsDisk (with_directory rest d') x (map.insert objects name (object_of raw count)) queue
-open-added rest d' w x objects queue spare class o name count link raw is laid raw_is named room ch linked none =
+    → IsDisk (with_directory rest d') x (map.insert objects name (object_of raw count)) pending
+open-added rest d' w x objects pending spare class o name count link raw is laid raw_is named room ch linked none =
     let e : Entry = record { count = count; place = spare } in
     let m : Entries = entries_of rest.directory w in
     record {
       laid = o.laid;
       out = o.out;
       link = put o.link name link;
-      kept = open-entered rest d' w x objects queue spare class o name count link raw is laid raw_is named room ch linked;
+      kept = open-entered rest d' w x objects pending spare class o name count link raw is laid raw_is named room ch linked;
       owned = subst (λ (y : Entries). (p c : ℕ) → o.out p ≡ Some c → IsOwned y p) (sym ch.entries_are) (λ p c gone. ⊎_elim
           (λ (h : p ≡ spare). (name, e, insert-at m name e name refl, sym h))
           (λ (h : p ≢ spare). let q = o.owned p c gone h in
@@ -204,14 +204,14 @@ open-added rest d' w x objects queue spare class o name count link raw is laid r
     }
 
 -- a name that was held: its old block is left over
-pub open-moved : (rest : DiskRest) (d' : Directory) (w x : List ℕ) (objects : Objects) (queue : List ℕ) (spare class : ℕ) (o : IsOpen rest w objects queue spare class)
-    (name count link : ℕ) (raw : RawRecord) → IsClass class (record_size raw) → IsLaid w spare raw link → IsRawRecord raw → raw.name ≡ name
+pub open-moved : (rest : DiskRest) (d' : Directory) (w x : List ℕ) (objects : Objects) (pending : List ℕ) (spare class : ℕ) (o : IsOpen rest w objects pending spare class)
+    (name count link : ℕ) (raw : RawRecord) → IsSizeClass class (record_size raw) → IsLaid w spare raw link → IsRawRecord raw → raw.name ≡ name
     → room_of d' ≡ room_of rest.directory
     → IsChanged d' (map.insert (entries_of rest.directory w) name (record { count = count; place = spare })) w x
-    → (0 < times name queue → link ≡ o.link name)
+    → (0 < times name pending → link ≡ o.link name)
     → (old : Entry) (b : ℕ) → map.get (entries_of rest.directory w) name ≡ Some old → o.out old.place ≡ Some b
-    → IsOpen (with_directory rest d') x (map.insert objects name (object_of raw count)) queue old.place b
-open-moved rest d' w x objects queue spare class o name count link raw is laid raw_is named room ch linked old b there gone =
+    → IsOpen (with_directory rest d') x (map.insert objects name (object_of raw count)) pending old.place b
+open-moved rest d' w x objects pending spare class o name count link raw is laid raw_is named room ch linked old b there gone =
     let e : Entry = record { count = count; place = spare } in
     let m : Entries = entries_of rest.directory w in
     let other : old.place ≢ spare = λ same. o.spare_free (name, old, there, same) in
@@ -219,7 +219,7 @@ open-moved rest d' w x objects queue spare class o name count link raw is laid r
       laid = o.laid;
       out = o.out;
       link = put o.link name link;
-      kept = open-entered rest d' w x objects queue spare class o name count link raw is laid raw_is named room ch linked;
+      kept = open-entered rest d' w x objects pending spare class o name count link raw is laid raw_is named room ch linked;
       owned = subst (λ (y : Entries). (p c : ℕ) → o.out p ≡ Some c → p ≢ old.place → IsOwned y p) (sym ch.entries_are) (λ p c taken away. ⊎_elim
           (λ (h : p ≡ spare). (name, e, insert-at m name e name refl, sym h))
           (λ (h : p ≢ spare). let q = o.owned p c taken h in
@@ -234,9 +234,9 @@ open-moved rest d' w x objects queue spare class o name count link raw is laid r
 
 -- ---- the block that is left over is given back
 
-pub open-given : (rest : DiskRest) (new : Space) (x y : List ℕ) (objects : Objects) (queue : List ℕ) (spare class : ℕ) (o : IsOpen rest x objects queue spare class)
-    → Gives rest.space new x y o.laid o.out class spare → from_of new ≡ from_of rest.space → IsDisk (with_space rest new) y objects queue
-open-given rest new x y objects queue spare class o g from_is =
+pub open-given : (rest : DiskRest) (new : Space) (x y : List ℕ) (objects : Objects) (pending : List ℕ) (spare class : ℕ) (o : IsOpen rest x objects pending spare class)
+    → Gives rest.space new x y o.laid o.out class spare → from_of new ≡ from_of rest.space → IsDisk (with_space rest new) y objects pending
+open-given rest new x y objects pending spare class o g from_is =
     let d : Directory = rest.directory in
     let has = o.kept.space in
     let dir = directory-kept d x y (λ at n before. g.front at n (let e = has.from_is in omega arith)) o.kept.directory in
@@ -252,7 +252,7 @@ open-given rest new x y objects queue spare class o g from_is =
             let away : f.place ≢ spare = λ same. o.spare_free (q, f, is, same) in
             (put-there o.out spare None f.place away ∙ block, g.others f.place c block away));
         linked = o.kept.linked;
-        pending = o.kept.pending;
+        are_pending = o.kept.are_pending;
       };
       owned = subst (λ (z : Entries). (p c : ℕ) → out' p ≡ Some c → IsOwned z p) (sym dir.1) (λ p c gone. ⊎_elim
           (λ (h : p ≡ spare). absurd (none-is-some (put-at o.out spare None p h) gone))
@@ -262,11 +262,11 @@ open-given rest new x y objects queue spare class o g from_is =
 
 -- ---- a name is removed
 
-pub disk-removed : (rest : DiskRest) (d' : Directory) (v x : List ℕ) (objects : Objects) (queue : List ℕ) (name : ℕ) (k : IsDisk rest v objects queue)
-    → room_of d' ≡ room_of rest.directory → IsChanged d' (map.remove (entries_of rest.directory v) name) v x → times name queue ≡ 0
+pub disk-removed : (rest : DiskRest) (d' : Directory) (v x : List ℕ) (objects : Objects) (pending : List ℕ) (name : ℕ) (k : IsDisk rest v objects pending)
+    → room_of d' ≡ room_of rest.directory → IsChanged d' (map.remove (entries_of rest.directory v) name) v x → times name pending ≡ 0
     → (old : Entry) (b : ℕ) → map.get (entries_of rest.directory v) name ≡ Some old → k.out old.place ≡ Some b
-    → IsOpen (with_directory rest d') x (map.remove objects name) queue old.place b
-disk-removed rest d' v x objects queue name k room ch idle old b there gone =
+    → IsOpen (with_directory rest d') x (map.remove objects name) pending old.place b
+disk-removed rest d' v x objects pending name k room ch idle old b there gone =
     let d : Directory = rest.directory in
     let m : Entries = entries_of d v in
     let kept = k.kept in
@@ -277,11 +277,11 @@ disk-removed rest d' v x objects queue name k room ch idle old b there gone =
       kept = record {
         directory = ch.is_in;
         space = space-front d rest.space v x k.laid k.out kept.space d' room ch.behind;
-        stored = subst (λ (y : Entries). AreStored x k.out k.link y (map.remove objects name)) (sym ch.entries_are)
+        stored = subst (λ (y : Entries). AreInBlocks x k.out k.link y (map.remove objects name)) (sym ch.entries_are)
             (stored-remove v x k.out k.link m objects name kept.stored
             (λ q other. stays-front d d' rest.space v x k.laid k.out kept.space room ch.behind (map.get m q)));
         linked = kept.linked;
-        pending = pending-remove objects queue name idle kept.pending;
+        are_pending = pending-remove objects pending name idle kept.are_pending;
       };
       owned = subst (λ (y : Entries). (p c : ℕ) → k.out p ≡ Some c → p ≢ old.place → IsOwned y p) (sym ch.entries_are) (λ p c taken away.
           let q = k.owned p c taken in
@@ -295,11 +295,11 @@ disk-removed rest d' v x objects queue name k room ch idle old b there gone =
 
 -- ---- a record is written in its place
 
-pub disk-rewritten : (rest : DiskRest) (v w : List ℕ) (objects : Objects) (queue : List ℕ) (name : ℕ) (k : IsDisk rest v objects queue) (e : Entry) (o : DiskObject)
-    (raw : RawRecord) (link : ℕ) → map.get (entries_of rest.directory v) name ≡ Some e → (st : IsStored v k.out (k.link name) name e o) → IsRawRecord raw → raw.name ≡ name
-    → IsClass st.class (record_size raw) → link ≡ k.link name → Writes v w e.place raw link
-    → IsDisk rest w (map.insert objects name (object_of raw e.count)) queue × (entries_of rest.directory w ≡ entries_of rest.directory v)
-disk-rewritten rest v w objects queue name k e o raw link there st raw_is named is linked wrote =
+pub disk-rewritten : (rest : DiskRest) (v w : List ℕ) (objects : Objects) (pending : List ℕ) (name : ℕ) (k : IsDisk rest v objects pending) (e : Entry) (o : DiskObject)
+    (raw : RawRecord) (link : ℕ) → map.get (entries_of rest.directory v) name ≡ Some e → (st : IsInBlock v k.out (k.link name) name e o) → IsRawRecord raw → raw.name ≡ name
+    → IsSizeClass st.class (record_size raw) → link ≡ k.link name → Writes v w e.place raw link
+    → IsDisk rest w (map.insert objects name (object_of raw e.count)) pending × (entries_of rest.directory w ≡ entries_of rest.directory v)
+disk-rewritten rest v w objects pending name k e o raw link there st raw_is named is linked wrote =
     let d : Directory = rest.directory in
     let m : Entries = entries_of d v in
     let kept = k.kept in
@@ -316,7 +316,7 @@ disk-rewritten rest v w objects queue name k e o raw link there st raw_is named 
         kept = record {
           directory = dir.0;
           space = space-inside d rest.space v w k.laid k.out has e.place st.class e.place (record_size raw) st.block (omega arith) (omega (arith, size)) t;
-          stored = subst (λ (y : Entries). AreStored w k.out (put k.link name link) y (map.insert objects name (object_of raw e.count))) (same ∙ sym dir.1)
+          stored = subst (λ (y : Entries). AreInBlocks w k.out (put k.link name link) y (map.insert objects name (object_of raw e.count))) (same ∙ sym dir.1)
               (stored-insert v w k.out k.out k.link m objects name link e (object_of raw e.count) kept.stored
               (λ q other. stays-apart d rest.space v w k.laid k.out has e.place st.class e.place (record_size raw) st.block (omega arith) (omega (arith, size)) t (map.get m q)
               (λ f is_f at. other (kept.stored.apart q name f e is_f there at)))
@@ -331,8 +331,8 @@ disk-rewritten rest v w objects queue name k e o raw link there st raw_is named 
                 block = st.block;
                 laid = uncounted-laid w e.place raw link wrote.laid;
               }));
-          linked = linked-put k.link (link_to rest.first) name link queue (λ _. linked) kept.linked;
-          pending = pending-insert objects queue name (object_of raw e.count) kept.pending;
+          linked = linked-put k.link (link_to rest.first) name link pending (λ _. linked) kept.linked;
+          are_pending = pending-insert objects pending name (object_of raw e.count) kept.are_pending;
         };
         owned = subst (λ (y : Entries). (p c : ℕ) → k.out p ≡ Some c → IsOwned y p) (sym dir.1) k.owned;
       },
@@ -341,18 +341,18 @@ disk-rewritten rest v w objects queue name k e o raw link there st raw_is named 
 
 -- ---- a name gets another count
 
-pub disk-recounted : (rest : DiskRest) (d' : Directory) (v x : List ℕ) (objects : Objects) (queue : List ℕ) (name count : ℕ) (k : IsDisk rest v objects queue) (e : Entry)
+pub disk-recounted : (rest : DiskRest) (d' : Directory) (v x : List ℕ) (objects : Objects) (pending : List ℕ) (name count : ℕ) (k : IsDisk rest v objects pending) (e : Entry)
     (o : DiskObject) → map.get (entries_of rest.directory v) name ≡ Some e → map.get objects name ≡ Some o → room_of d' ≡ room_of rest.directory
     → IsChanged d' (map.insert (entries_of rest.directory v) name (record { count = count; place = e.place })) v x
-    → IsDisk (with_directory rest d') x (map.insert objects name (record { raw = o.raw; count = count })) queue
-disk-recounted rest d' v x objects queue name count k e o there object room ch =
+    → IsDisk (with_directory rest d') x (map.insert objects name (record { raw = o.raw; count = count })) pending
+disk-recounted rest d' v x objects pending name count k e o there object room ch =
     let d : Directory = rest.directory in
     let m : Entries = entries_of d v in
     let kept = k.kept in
     let f : Entry = record { count = count; place = e.place } in
     let p : DiskObject = record { raw = o.raw; count = count } in
     let got = alike-entry v k.out (k.link name) name (map.get m name) (map.get objects name) e there (kept.stored.each name) in
-    let st : IsStored v k.out (k.link name) name e o = subst (λ (y : DiskObject). IsStored v k.out (k.link name) name e y) (some-inside (sym got.1 ∙ object)) got.2 in
+    let st : IsInBlock v k.out (k.link name) name e o = subst (λ (y : DiskObject). IsInBlock v k.out (k.link name) name e y) (some-inside (sym got.1 ∙ object)) got.2 in
     let stays = stays-front d d' rest.space v x k.laid k.out kept.space room ch.behind in
     record {
       laid = k.laid;
@@ -361,7 +361,7 @@ disk-recounted rest d' v x objects queue name count k e o there object room ch =
       kept = record {
         directory = ch.is_in;
         space = space-front d rest.space v x k.laid k.out kept.space d' room ch.behind;
-        stored = subst (λ (y : Entries). AreStored x k.out (put k.link name (k.link name)) y (map.insert objects name p)) (sym ch.entries_are)
+        stored = subst (λ (y : Entries). AreInBlocks x k.out (put k.link name (k.link name)) y (map.insert objects name p)) (sym ch.entries_are)
             (stored-insert v x k.out k.out k.link m objects name (k.link name) f p kept.stored
             (λ q other. stays (map.get m q))
             (λ q g other is_g at. other (kept.stored.apart q name g e is_g there at))
@@ -375,8 +375,8 @@ disk-recounted rest d' v x objects queue name count k e o there object room ch =
               block = st.block;
               laid = laid-kept v x e.place (block_size st.class) o.raw (k.link name) st.is_class.fits (stays (Some e) e st.class refl st.block).1 st.laid;
             }));
-        linked = linked-put k.link (link_to rest.first) name (k.link name) queue (λ _. refl) kept.linked;
-        pending = pending-insert objects queue name p kept.pending;
+        linked = linked-put k.link (link_to rest.first) name (k.link name) pending (λ _. refl) kept.linked;
+        are_pending = pending-insert objects pending name p kept.are_pending;
       };
       owned = subst (λ (y : Entries). (q c : ℕ) → k.out q ≡ Some c → IsOwned y q) (sym ch.entries_are) (λ q c gone.
           let r = k.owned q c gone in

@@ -70,7 +70,7 @@ same-keys m n is = keys-sorted (map.entries m) (map.entries n) (map.entries_sort
 length-keys : {A : Type 0} (m : map.FinMap nat_cmp A) → length (map.keys m) ≡ map.len m
 length-keys m = length-map (map.entries m) (λ e. e.0) ∙ sym (map.len-entries m)
 
-module _ (rest : DiskRest) (v : List ℕ) (objects : Objects) (queue : List ℕ) (k : IsDisk rest v objects queue) where
+module _ (rest : DiskRest) (v : List ℕ) (objects : Objects) (pending : List ℕ) (k : IsDisk rest v objects pending) where
   pub disk-some : (q : ℕ) → is_some (map.get objects q) ≡ is_some (map.get (entries_of rest.directory v) q)
   disk-some q = alike-is_some v k.out (k.link q) q (map.get (entries_of rest.directory v) q) (map.get objects q) (k.kept.stored.each q)
 

@@ -1,10 +1,13 @@
-mod WindowLaws
-mod RecordLaws
-mod ClassLaws
-mod TouchLaws
-mod StoredLaws
-mod DiskLaws
-mod FoundLaws
-mod PutLaws
-mod KeyLaws
-mod NamesLaws
+pub mod WindowLaws
+pub mod RecordLaws
+pub mod ClassLaws
+pub mod TouchLaws
+pub mod StoredLaws
+pub mod DiskLaws
+pub mod FoundLaws
+pub mod PutLaws
+pub mod KeyLaws
+pub mod NamesLaws
+pub mod FaultLaws
+pub mod FunctionLaws
+pub mod SwapLaws

@@ -67,9 +67,9 @@ seen-more f q n = ap (seen f q) (let e : n + 1 ≡ suc n = omega arith in e)
 
 -- ---- the names of a disk
 
-module _ (rest : DiskRest) (v : List ℕ) (objects : Objects) (queue : List ℕ) (k : IsDisk rest v objects queue) where
+module _ (rest : DiskRest) (v : List ℕ) (objects : Objects) (pending : List ℕ) (k : IsDisk rest v objects pending) where
   pub disk-seen : (q : ℕ) → seen (shown_at v) q (slots_of rest.directory) ≡ is_some (map.get objects q)
-  disk-seen q = by_entry (map.get (entries_of rest.directory v) q) refl ∙ sym (disk-some rest v objects queue k q) where
+  disk-seen q = by_entry (map.get (entries_of rest.directory v) q) refl ∙ sym (disk-some rest v objects pending k q) where
     not_seen : map.get (entries_of rest.directory v) q ≡ None → (b : Bool) → seen (shown_at v) q (slots_of rest.directory) ≡ b → b ≡ false
     not_seen none false e = refl
     not_seen none true e =

@@ -9,14 +9,14 @@ use Rattle.object_record.specs.Raw.{RawRecord, IsRawRecord}
 use Rattle.work_directory.specs.Directory.{room_of, held_of, entries_of, IsIn, IsChanged}
 use Rattle.work_directory.specs.Table.{Entry, Entries}
 use Rattle.work_directory.specs.declared.directory.Directory.{Directory}
-use Rattle.work_space.specs.Calls.{IsWorkFault}
+use Rattle.loom_outside.specs.Work.{IsWorkFault}
 use Rattle.work_space.specs.Space.{from_of}
 use Rattle.work_space.specs.declared.space.Space.{Space}
 use Rattle.work_space.proofs.BlockLaws.{some-inside}
 use Rattle.disk_objects.specs.declared.rest.DiskRest.{DiskRest}
 use Rattle.disk_objects.specs.declared.rest.Held.{Held}
-use Rattle.disk_objects.specs.Disk.{DiskObject, Objects, IsClass, IsStored, IsDisk, record_size, object_of}
-use Rattle.disk_objects.specs.Inside.{Stores, Writes, IsOpen, IsHeld, IsStepFault, IsStoreFault}
+use Rattle.disk_objects.specs.Disk.{DiskObject, Objects, IsSizeClass, IsInBlock, IsDisk, record_size, object_of}
+use Rattle.disk_objects.specs.Inside.{Stores, Writes, IsOpen, IsHeld}
 use Rattle.disk_objects.proofs.StoredLaws.{places_of, place-among, length-places, insert-at, insert-again, remove-there}
 use Rattle.disk_objects.proofs.DiskLaws.{with_space, with_directory, store-open, open-added, open-moved, disk-rewritten, disk-recounted}
 use Rattle.disk_objects.proofs.FoundLaws.{absent-there, stored-there, size-there, link-there, class-same}
@@ -31,10 +31,10 @@ room-least d = d.some
 
 -- ---- a name that isn't held
 
-module _ (rest : DiskRest) (new : Space) (v w : List ℕ) (objects : Objects) (queue : List ℕ) (raw : RawRecord) (link place : ℕ)
-    (k : IsDisk rest v objects queue) (s : Stores rest.space new v w k.laid k.out raw link place) (from_is : from_of new ≡ from_of rest.space) where
+module _ (rest : DiskRest) (new : Space) (v w : List ℕ) (objects : Objects) (pending : List ℕ) (raw : RawRecord) (link place : ℕ)
+    (k : IsDisk rest v objects pending) (s : Stores rest.space new v w k.laid k.out raw link place) (from_is : from_of new ≡ from_of rest.space) where
   abbrev pub Opened : Type 0
-  Opened = (o : IsOpen (with_space rest new) w objects queue place s.class) × (o.link ≡ k.link) × (entries_of rest.directory w ≡ entries_of rest.directory v)
+  Opened = (o : IsOpen (with_space rest new) w objects pending place s.class) × (o.link ≡ k.link) × (entries_of rest.directory w ≡ entries_of rest.directory v)
       × ((p e : ℕ) → k.out p ≡ Some e → o.out p ≡ Some e)
 
   pub store-added : held_of rest.directory < room_of rest.directory → Opened
@@ -42,7 +42,7 @@ module _ (rest : DiskRest) (new : Space) (v w : List ℕ) (objects : Objects) (q
       let m : Entries = entries_of rest.directory v in
       let len = length-places m in
       let held = k.kept.directory.held in
-      store-open rest new v w objects queue raw link place (places_of m) k s from_is (omega (arith, len, held, short))
+      store-open rest new v w objects pending raw link place (places_of m) k s from_is (omega (arith, len, held, short))
       (λ p gone. let o = k.owned p s.class gone in place-among m o.0 o.1 p o.2 o.3)
 
   pub store-moved : (name : ℕ) (e : Entry) (b : ℕ) → map.get (entries_of rest.directory v) name ≡ Some e → k.out e.place ≡ Some b → b ≢ s.class → Opened
@@ -55,81 +55,81 @@ module _ (rest : DiskRest) (new : Space) (v w : List ℕ) (objects : Objects) (q
       let held = k.kept.directory.held in
       let most = held-most rest.directory in
       let least = room-least rest.directory in
-      store-open rest new v w objects queue raw link place (places_of less) k s from_is (omega (arith, len, fewer, held, most, least))
+      store-open rest new v w objects pending raw link place (places_of less) k s from_is (omega (arith, len, fewer, held, most, least))
       (λ p taken. let o = k.owned p s.class taken in
       let away : o.0 ≢ name = λ same.
       let at : o.1.place ≡ e.place = ap (λ (x : Entry). x.place) (some-inside (sym o.2 ∙ ap (map.get m) same ∙ there)) in
       other (some-inside (sym gone ∙ ap k.out (sym at ∙ o.3) ∙ taken)) in
       place-among less o.0 o.1 p (remove-there m name o.0 away ∙ o.2) o.3)
 
-pub put-added : (rest : DiskRest) (new : Space) (d' : Directory) (v w x : List ℕ) (objects : Objects) (queue : List ℕ) (raw : RawRecord) (place count : ℕ)
-    (k : IsDisk rest v objects queue) (s : Stores rest.space new v w k.laid k.out raw 0 place) → from_of new ≡ from_of rest.space → IsRawRecord raw
+pub put-added : (rest : DiskRest) (new : Space) (d' : Directory) (v w x : List ℕ) (objects : Objects) (pending : List ℕ) (raw : RawRecord) (place count : ℕ)
+    (k : IsDisk rest v objects pending) (s : Stores rest.space new v w k.laid k.out raw 0 place) → from_of new ≡ from_of rest.space → IsRawRecord raw
     → map.get (entries_of rest.directory v) raw.name ≡ None → held_of rest.directory < room_of rest.directory → room_of d' ≡ room_of rest.directory
     → IsChanged d' (map.insert (entries_of rest.directory w) raw.name (record { count = count; place = place })) w x
-    → IsDisk (record { directory = d'; space = new; first = rest.first }) x (map.insert objects raw.name (object_of raw count)) queue
-put-added rest new d' v w x objects queue raw place count k s from_is raw_is none short room ch =
-    let o = store-added rest new v w objects queue raw 0 place k s from_is short in
-    open-added (with_space rest new) d' w x objects queue place s.class o.0 raw.name count 0 raw s.is_class s.writes.laid raw_is refl room ch
-    (λ some. absurd (let held = k.kept.pending.held raw.name some in let no : false ≡ true = sym (ap is_some (absent-there rest v objects queue k raw.name none)) ∙ held in cc no))
+    → IsDisk (record { directory = d'; space = new; first = rest.first }) x (map.insert objects raw.name (object_of raw count)) pending
+put-added rest new d' v w x objects pending raw place count k s from_is raw_is none short room ch =
+    let o = store-added rest new v w objects pending raw 0 place k s from_is short in
+    open-added (with_space rest new) d' w x objects pending place s.class o.0 raw.name count 0 raw s.is_class s.writes.laid raw_is refl room ch
+    (λ some. absurd (let held = k.kept.are_pending.held raw.name some in let no : false ≡ true = sym (ap is_some (absent-there rest v objects pending k raw.name none)) ∙ held in cc no))
     (ap (λ (m : Entries). map.get m raw.name) o.2 ∙ none)
 
 -- ---- a name that is held
 
 -- the class and the link of what is held
-pub held-class : (rest : DiskRest) (v : List ℕ) (objects : Objects) (queue : List ℕ) (k : IsDisk rest v objects queue) (name : ℕ) (held : Held) → IsHeld rest v name held
-    → IsClass held.head.class held.head.size
-    → (o : DiskObject) × (map.get objects name ≡ Some o) × (st : IsStored v k.out (k.link name) name (record { count = held.count; place = held.place }) o)
+pub held-class : (rest : DiskRest) (v : List ℕ) (objects : Objects) (pending : List ℕ) (k : IsDisk rest v objects pending) (name : ℕ) (held : Held) → IsHeld rest v name held
+    → IsSizeClass held.head.class held.head.size
+    → (o : DiskObject) × (map.get objects name ≡ Some o) × (st : IsInBlock v k.out (k.link name) name (record { count = held.count; place = held.place }) o)
     × (st.class ≡ held.head.class) × (held.head.link ≡ k.link name)
-held-class rest v objects queue k name held h is =
+held-class rest v objects pending k name held h is =
     let e : Entry = record { count = held.count; place = held.place } in
-    let got = stored-there rest v objects queue k name e h.entry in
+    let got = stored-there rest v objects pending k name e h.entry in
     let st = got.2 in
-    let size = h.head.size ∙ size-there rest v objects queue k name e got.0 st in (
+    let size = h.head.size ∙ size-there rest v objects pending k name e got.0 st in (
       got.0,
       got.1,
       st,
-      class-same st.class held.head.class (record_size got.0.raw) st.is_class (subst (IsClass held.head.class) size is),
-      h.head.link ∙ link-there rest v objects queue k name e h.entry,
+      class-same st.class held.head.class (record_size got.0.raw) st.is_class (subst (IsSizeClass held.head.class) size is),
+      h.head.link ∙ link-there rest v objects pending k name e h.entry,
     )
 
-pub put-rewritten : (rest : DiskRest) (d' : Directory) (v w x : List ℕ) (objects : Objects) (queue : List ℕ) (raw : RawRecord) (count : ℕ) (held : Held)
-    (k : IsDisk rest v objects queue) → IsRawRecord raw → IsHeld rest v raw.name held → IsClass held.head.class held.head.size → IsClass held.head.class (record_size raw)
+pub put-rewritten : (rest : DiskRest) (d' : Directory) (v w x : List ℕ) (objects : Objects) (pending : List ℕ) (raw : RawRecord) (count : ℕ) (held : Held)
+    (k : IsDisk rest v objects pending) → IsRawRecord raw → IsHeld rest v raw.name held → IsSizeClass held.head.class held.head.size → IsSizeClass held.head.class (record_size raw)
     → Writes v w held.place raw held.head.link → room_of d' ≡ room_of rest.directory
     → IsChanged d' (map.insert (entries_of rest.directory w) raw.name (record { count = count; place = held.place })) w x
-    → IsDisk (record { directory = d'; space = rest.space; first = rest.first }) x (map.insert objects raw.name (object_of raw count)) queue
-put-rewritten rest d' v w x objects queue raw count held k raw_is h is want wrote room ch =
+    → IsDisk (record { directory = d'; space = rest.space; first = rest.first }) x (map.insert objects raw.name (object_of raw count)) pending
+put-rewritten rest d' v w x objects pending raw count held k raw_is h is want wrote room ch =
     let name : ℕ = raw.name in
     let e : Entry = record { count = held.count; place = held.place } in
-    let r = held-class rest v objects queue k name held h is in
-    let first = disk-rewritten rest v w objects queue name k e r.0 raw held.head.link h.entry r.2 raw_is refl (subst (λ (c : ℕ). IsClass c (record_size raw)) (sym r.3) want) r.4 wrote in
+    let r = held-class rest v objects pending k name held h is in
+    let first = disk-rewritten rest v w objects pending name k e r.0 raw held.head.link h.entry r.2 raw_is refl (subst (λ (c : ℕ). IsSizeClass c (record_size raw)) (sym r.3) want) r.4 wrote in
     let there = ap (λ (m : Entries). map.get m name) first.1 ∙ h.entry in
     let o : DiskObject = object_of raw held.count in
-    subst (λ (y : Objects). IsDisk (with_directory rest d') x y queue) (insert-again objects name o (object_of raw count))
-    (disk-recounted rest d' w x (map.insert objects name o) queue name count first.0 e o there (insert-at objects name o name refl) room ch)
+    subst (λ (y : Objects). IsDisk (with_directory rest d') x y pending) (insert-again objects name o (object_of raw count))
+    (disk-recounted rest d' w x (map.insert objects name o) pending name count first.0 e o there (insert-at objects name o name refl) room ch)
 
 -- what the directory is asked when the record is written in its place
-pub rewritten-entries : (rest : DiskRest) (v w : List ℕ) (objects : Objects) (queue : List ℕ) (raw : RawRecord) (held : Held)
-    (k : IsDisk rest v objects queue) → IsRawRecord raw → IsHeld rest v raw.name held → IsClass held.head.class held.head.size → IsClass held.head.class (record_size raw)
+pub rewritten-entries : (rest : DiskRest) (v w : List ℕ) (objects : Objects) (pending : List ℕ) (raw : RawRecord) (held : Held)
+    (k : IsDisk rest v objects pending) → IsRawRecord raw → IsHeld rest v raw.name held → IsSizeClass held.head.class held.head.size → IsSizeClass held.head.class (record_size raw)
     → Writes v w held.place raw held.head.link
     → IsIn rest.directory w × (map.get (entries_of rest.directory w) raw.name ≡ Some (record { count = held.count; place = held.place }))
-rewritten-entries rest v w objects queue raw held k raw_is h is want wrote =
+rewritten-entries rest v w objects pending raw held k raw_is h is want wrote =
     let name : ℕ = raw.name in
     let e : Entry = record { count = held.count; place = held.place } in
-    let r = held-class rest v objects queue k name held h is in
-    let first = disk-rewritten rest v w objects queue name k e r.0 raw held.head.link h.entry r.2 raw_is refl (subst (λ (c : ℕ). IsClass c (record_size raw)) (sym r.3) want) r.4 wrote in
+    let r = held-class rest v objects pending k name held h is in
+    let first = disk-rewritten rest v w objects pending name k e r.0 raw held.head.link h.entry r.2 raw_is refl (subst (λ (c : ℕ). IsSizeClass c (record_size raw)) (sym r.3) want) r.4 wrote in
     (first.0.kept.directory, ap (λ (m : Entries). map.get m name) first.1 ∙ h.entry)
 
-module _ (rest : DiskRest) (new : Space) (v w : List ℕ) (objects : Objects) (queue : List ℕ) (raw : RawRecord) (place : ℕ) (held : Held)
-    (k : IsDisk rest v objects queue) (s : Stores rest.space new v w k.laid k.out raw held.head.link place) (from_is : from_of new ≡ from_of rest.space)
-    (raw_is : IsRawRecord raw) (h : IsHeld rest v raw.name held) (is : IsClass held.head.class held.head.size) (want : IsClass held.head.class (record_size raw) → ⊥) where
-  relocated : (r : Opened rest new v w objects queue raw held.head.link place k s from_is)
+module _ (rest : DiskRest) (new : Space) (v w : List ℕ) (objects : Objects) (pending : List ℕ) (raw : RawRecord) (place : ℕ) (held : Held)
+    (k : IsDisk rest v objects pending) (s : Stores rest.space new v w k.laid k.out raw held.head.link place) (from_is : from_of new ≡ from_of rest.space)
+    (raw_is : IsRawRecord raw) (h : IsHeld rest v raw.name held) (is : IsSizeClass held.head.class held.head.size) (want : IsSizeClass held.head.class (record_size raw) → ⊥) where
+  relocated : (r : Opened rest new v w objects pending raw held.head.link place k s from_is)
       × (k.out held.place ≡ Some held.head.class) × (held.head.link ≡ k.link raw.name)
   relocated =
       let e : Entry = record { count = held.count; place = held.place } in
-      let r = held-class rest v objects queue k raw.name held h is in
+      let r = held-class rest v objects pending k raw.name held h is in
       let gone : k.out held.place ≡ Some held.head.class = r.2.block ∙ ap (λ (c : ℕ). Some c) r.3 in (
-        store-moved rest new v w objects queue raw held.head.link place k s from_is raw.name e held.head.class h.entry gone
-            (λ same. want (subst (λ (c : ℕ). IsClass c (record_size raw)) (sym same) s.is_class)),
+        store-moved rest new v w objects pending raw held.head.link place k s from_is raw.name e held.head.class h.entry gone
+            (λ same. want (subst (λ (c : ℕ). IsSizeClass c (record_size raw)) (sym same) s.is_class)),
         gone,
         r.4,
       )
@@ -141,18 +141,13 @@ module _ (rest : DiskRest) (new : Space) (v w : List ℕ) (objects : Objects) (q
   -- the old block is left over then
   pub put-moved : (d' : Directory) (x : List ℕ) (count : ℕ) → room_of d' ≡ room_of rest.directory
       → IsChanged d' (map.insert (entries_of rest.directory w) raw.name (record { count = count; place = place })) w x
-      → IsOpen (record { directory = d'; space = new; first = rest.first }) x (map.insert objects raw.name (object_of raw count)) queue held.place held.head.class
+      → IsOpen (record { directory = d'; space = new; first = rest.first }) x (map.insert objects raw.name (object_of raw count)) pending held.place held.head.class
   put-moved d' x count room ch =
       let e : Entry = record { count = held.count; place = held.place } in
       let r = relocated in
-      open-moved (with_space rest new) d' w x objects queue place s.class r.0.0 raw.name count held.head.link raw s.is_class s.writes.laid raw_is refl room ch
+      open-moved (with_space rest new) d' w x objects pending place s.class r.0.0 raw.name count held.head.link raw s.is_class s.writes.laid raw_is refl room ch
       (λ _. r.2 ∙ ap (λ (f : ℕ → ℕ). f raw.name) (sym r.0.1)) e held.head.class
       (ap (λ (m : Entries). map.get m raw.name) r.0.2 ∙ h.entry) (r.0.3 held.place held.head.class r.1)
-
-pub store-sound : (tells : Bool) (a c name : ℕ) (fault : DiskFault) → (IsTrue tells → IsWorkFault a c fault) → IsStoreFault a c fault → IsStepFault tells a c name fault
-store-sound tells a c name (Work count) right f = f
-store-sound tells a c name (Full held room) right f = f
-store-sound tells a c name (Damaged place about) right f = ((λ told. absurd (right told)), inr f)
 
 pub some-there : (m : Entries) (name n : ℕ) (e : Entry) → n ≡ name → map.get m name ≡ Some e → IsSome (map.get m n)
 some-there m name n e same there = subst (λ (o : Option Entry). IsSome o) (sym (ap (map.get m) same ∙ there)) refl

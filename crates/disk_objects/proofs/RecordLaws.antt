@@ -1,7 +1,9 @@
 -- Records in windows of Work.
 use Rattle.std.proofs.Common.{◌≡◌, ◌≢◌, Option, ℕ, ◌+◌, ◌-◌, ◌*◌, ◌^◌, ◌<◌, ◌≤◌, ◌⊎◌, inl, inr, List, [], ◌++◌, length, take, drop, replicate, refl, sym, ap, subst, ◌∙◌, append_assoc, arith, Result, Ok, Err, OnOk, IfOk, IfErr, IsTrue, Bool}
+use Rattle.std.specs.Prelude.{MatchResult}
 use Rattle.std.specs.Int.{w16, w32, w64, from_be_bytes}
 use Rattle.std.proofs.lemmas.List.{take_at, drop_at, drop-drop, length-append, length-drop, take_all, drop_all, take-take, take-append-drop, append-nil, length-replicate}
+use Rattle.long_names.specs.declared.limits.TheConstants.{LONGEST_RECORD}
 use Rattle.long_names.specs.Record.{four_bytes, eight_bytes, padding}
 use Rattle.long_names.specs.declared.object.Kind.{Kind}
 use Rattle.long_names.specs.declared.object.Kind.TheVariants as kind
@@ -9,7 +11,7 @@ use Rattle.byteorder.specs.Endian.{big_number, big_bytes}
 use Rattle.byteorder.specs.Numbers.{big_number-reads_back}
 use Rattle.loom_outside.specs.Bytes.{window}
 use Rattle.loom_outside.proofs.Windows.{length-window}
-use Rattle.object_record.specs.Raw.{RawBody, RawPointers, RawWords, RawBytes, RawMethod, RawRecord, IsRawRecord, raw_kind, raw_len, raw_literals, raw_size, raw_end, raw_text}
+use Rattle.object_record.specs.Raw.{RawBody, RawPointers, RawWords, RawBytes, RawMethod, RawRecord, IsRawRecord, raw_kind, raw_len, raw_literals, raw_size, raw_end, raw_text, with_name}
 use Rattle.object_record.specs.Buffer.{long_at, word_at, kind_numbered, raw_of, HasRecord}
 use Rattle.object_record.specs.Inside.{size_stated}
 use Rattle.object_record.proofs.Numbers.{AreBytes, AreBytes-take, AreBytes-drop, wide32, wide64}
@@ -212,26 +214,17 @@ record-read w bytes place raw link fits is laid begins =
 
 -- a buffer that had room for the record, and whose bytes were filled
 pub buffer-filled : (w old filled bytes : List ℕ) (place : ℕ) (raw : RawRecord) (link size : ℕ) → AreBytes filled → IsRawRecord raw → IsLaid w place raw link
-    → size ≡ record_size raw → size ≤ 262160 → length filled ≡ length old → filled ≡ window w place size ++ drop size old
-    → bytes ≡ take 262160 (filled ++ drop (length filled) old)
+    → size ≡ record_size raw → size ≤ LONGEST_RECORD → length filled ≡ length old → filled ≡ window w place size ++ drop size old
+    → bytes ≡ take LONGEST_RECORD (filled ++ drop (length filled) old)
     → HasRecord bytes × ((raw_of bytes).name ≡ raw.name) × (with_count (raw_of bytes) 0 ≡ with_count raw 0)
 buffer-filled w old filled bytes place raw link size fits is laid sized most same begins taken =
-    let all : bytes ≡ take 262160 filled =
-    taken ∙ ap (λ (t : List ℕ). take 262160 (filled ++ t)) (drop_all (length filled) old (omega (arith, same))) ∙ ap (take 262160) (append-nil filled) in
-    record-read w bytes place raw link (subst AreBytes (sym all) (AreBytes-take 262160 filled fits)) is laid
+    let all : bytes ≡ take LONGEST_RECORD filled =
+    taken ∙ ap (λ (t : List ℕ). take LONGEST_RECORD (filled ++ t)) (drop_all (length filled) old (omega (arith, same))) ∙ ap (take LONGEST_RECORD) (append-nil filled) in
+    record-read w bytes place raw link (subst AreBytes (sym all) (AreBytes-take LONGEST_RECORD filled fits)) is laid
     (ap (λ (n : ℕ). take n bytes) (sym sized)
-    ∙ ap (take size) all ∙ take-take size 262160 filled most ∙ ap (take size) begins
+    ∙ ap (take size) all ∙ take-take size LONGEST_RECORD filled most ∙ ap (take size) begins
     ∙ take_at (window w place size) (drop size old) size (length-window w place size)
     ∙ ap (window w place) sized)
-
--- as many zeros as a record of this size has
-pub room-for : (bytes : List ℕ) (k : ℕ) (r : RawRecord) → HasRecord bytes → raw_of bytes ≡ r → 20 + 4 * k ≤ raw_end r.body → 20 + 4 * k ≤ length bytes
-room-for bytes k r h is long =
-    let body : raw_end (raw_of bytes).body ≡ raw_end r.body = ap (λ (s : RawRecord). raw_end s.body) is in
-    omega (arith, ap length h.begins, length-append (raw_text (raw_of bytes)) (drop (length (raw_text (raw_of bytes))) bytes), length-text (raw_of bytes), body, long)
-
-pub zeros-end : (k : ℕ) → raw_end (RawPointers (replicate k 0)) ≡ 20 + 4 * k
-zeros-end k = omega (arith, length-replicate {A = ℕ} k 0)
 
 pub head-read : (w bytes : List ℕ) (place : ℕ) (r : Result Head DiskFault) → bytes ≡ window w place 28
     → IfOk r (λ head. head.link ≡ big_number 8 (take 8 (drop 8 bytes))) → IfOk r (λ head. head.size ≡ size_stated_in bytes) → IfOk r (IsHead w place)
@@ -239,11 +232,11 @@ head-read w bytes place (Ok head) is link size = record { link = head-link w byt
 head-read w bytes place (Err fault) is link size = tt
 
 pub head-fault : (w bytes : List ℕ) (tells : Bool) (before now place name : ℕ) (r : Result Head DiskFault) → (IsTrue tells → bytes ≡ window w place 28)
-    → IfErr r (λ fault. (fault ≡ Damaged place name) × (262160 < size_stated_in bytes)) → IfErr r (IsHeadFault w tells before now place name)
+    → IfErr r (λ fault. (fault ≡ Damaged place name) × (LONGEST_RECORD < size_stated_in bytes)) → IfErr r (IsHeadFault w tells before now place name)
 head-fault w bytes tells before now place name (Ok head) is why = tt
 head-fault w bytes tells before now place name (Err fault) is why =
     subst (IsHeadFault w tells before now place name) (sym why.0)
-    (λ told. subst (λ (b : List ℕ). 262160 < size_stated_in b) (is told) why.1, refl)
+    (λ told. subst (λ (b : List ℕ). LONGEST_RECORD < size_stated_in b) (is told) why.1, refl, refl)
 
 -- ---- a link that was read
 
@@ -258,8 +251,33 @@ link-read w bytes p link (Err e) is read to = tt
 
 pub link-fault : {T : Type 0} (w bytes : List ℕ) (p link : ℕ) (tells : Bool) (before now place name : ℕ) (r : Result T DiskFault) → (IsTrue tells → bytes ≡ window w p 8)
     → link ≡ big_number 8 bytes → IfErr r (λ fault. (fault ≡ Damaged place name) × (link ≢ 0) × (IsLongName link → ⊥))
-    → IfErr r (IsLinkFault (link_at w p) tells before now name)
+    → IfErr r (IsLinkFault (link_at w p) tells before now place name)
 link-fault w bytes p link tells before now place name (Ok next) is read why = tt
 link-fault w bytes p link tells before now place name (Err fault) is read why =
-    subst (IsLinkFault (link_at w p) tells before now name) (sym why.0)
-    (λ told. subst (λ (n : ℕ). (n ≢ 0) × (IsLongName n → ⊥)) (sym (link-shown w bytes p link (is told) read)) (why.1, why.2), refl)
+    subst (IsLinkFault (link_at w p) tells before now place name) (sym why.0)
+    (λ told. subst (λ (n : ℕ). (n ≢ 0) × (IsLongName n → ⊥)) (sym (link-shown w bytes p link (is told) read)) (why.1, why.2), refl, refl)
+
+-- ---- a record that is given another name
+
+count-apart : (v w : List ℕ) (place : ℕ) (a b : RawRecord) (link : ℕ) → with_count a 0 ≡ with_count b 0 → Writes v w place a link → Writes v w place b link
+count-apart v w place a b link same wrote =
+    let bare : Writes v w place (with_count a 0) link = record {
+      laid = record { names = wrote.laid.names; link_is = wrote.laid.link_is; tail = wrote.laid.tail };
+      touches = wrote.touches;
+    } in
+    let other = subst (λ (r : RawRecord). Writes v w place r link) same bare in
+    record {
+      laid = record { names = other.laid.names; link_is = other.laid.link_is; tail = other.laid.tail };
+      touches = other.touches;
+    }
+
+named-apart : (a b : RawRecord) (name : ℕ) → with_count a 0 ≡ with_count b 0 → with_count (with_name a name) 0 ≡ with_count (with_name b name) 0
+named-apart a b name same = ap (λ (r : RawRecord). with_name r name) same
+
+pub renamed-written : {E : Type 0} (F : E → Type 0) (u v w : List ℕ) (place : ℕ) (a c raw : RawRecord) (name link : ℕ) (r : Result (Unit {0}) E) → v ≡ u
+    → with_count a 0 ≡ with_count raw 0 → c ≡ with_name a name → OnOk r (Writes v w place c link) → IfErr r F
+    → MatchResult r (λ _. Writes u w place (with_name raw name) link) F
+renamed-written F u v w place a c raw name link (Ok x) still same is wrote fault =
+    subst (λ (t : List ℕ). Writes t w place (with_name raw name) link) still
+    (count-apart v w place c (with_name raw name) link (ap (λ (r : RawRecord). with_count r 0) is ∙ named-apart a raw name same) wrote)
+renamed-written F u v w place a c raw name link (Err e) still same is wrote fault = fault

@@ -13,7 +13,7 @@ use Rattle.work_directory.specs.Table.{Entry, Entries}
 use Rattle.work_space.specs.Blocks.{block_size, put, times, AreLinked}
 use Rattle.work_space.proofs.BlockLaws.{put-at, put-there, some-inside}
 use Rattle.work_space.proofs.FreeLaws.{linked-same}
-use Rattle.disk_objects.specs.Disk.{DiskObject, Objects, IsStored, AreAlike, AreStored, ArePending}
+use Rattle.disk_objects.specs.Disk.{DiskObject, Objects, IsInBlock, AreAlike, AreInBlocks, ArePending}
 use Rattle.disk_objects.proofs.TouchLaws.{laid-kept}
 
 pub equal_or_not : (a b : ℕ) → (a ≡ b) ⊎ (a ≢ b)
@@ -79,7 +79,7 @@ alike-kept v w out out' l q (Some f) (Some o) same a =
     }
 
 -- the same of other words for the same
-alike-at : (w : List ℕ) (out : ℕ → Option ℕ) (l l' q : ℕ) (oe oe' : Option Entry) (oo oo' : Option DiskObject) → l' ≡ l → oe' ≡ oe → oo' ≡ oo
+pub alike-at : (w : List ℕ) (out : ℕ → Option ℕ) (l l' q : ℕ) (oe oe' : Option Entry) (oo oo' : Option DiskObject) → l' ≡ l → oe' ≡ oe → oo' ≡ oo
     → AreAlike w out l q oe oo → AreAlike w out l' q oe' oo'
 alike-at w out l l' q oe oe' oo oo' a b c is =
     subst (λ (x : Option DiskObject). AreAlike w out l' q oe' x) (sym c)
@@ -88,10 +88,10 @@ alike-at w out l l' q oe oe' oo oo' a b c is =
 
 -- what a name has an entry for is an object, and the other way round
 pub alike-entry : (w : List ℕ) (out : ℕ → Option ℕ) (l q : ℕ) (oe : Option Entry) (oo : Option DiskObject) (e : Entry) → oe ≡ Some e → AreAlike w out l q oe oo
-    → (o : DiskObject) × (oo ≡ Some o) × IsStored w out l q e o
+    → (o : DiskObject) × (oo ≡ Some o) × IsInBlock w out l q e o
 alike-entry w out l q None oo e is a = absurd (none-is-some refl is)
 alike-entry w out l q (Some f) None e is a = absurd a
-alike-entry w out l q (Some f) (Some o) e is a = (o, refl, subst (λ (x : Entry). IsStored w out l q x o) (some-inside is) a)
+alike-entry w out l q (Some f) (Some o) e is a = (o, refl, subst (λ (x : Entry). IsInBlock w out l q x o) (some-inside is) a)
 
 pub alike-none : (w : List ℕ) (out : ℕ → Option ℕ) (l q : ℕ) (oe : Option Entry) (oo : Option DiskObject) → oe ≡ None → AreAlike w out l q oe oo → oo ≡ None
 alike-none w out l q None None is a = refl
@@ -106,24 +106,24 @@ alike-some w out l q None (Some o) is a = absurd a
 
 -- ---- all names
 
-pub stored-frame : (v w : List ℕ) (out out' : ℕ → Option ℕ) (link : ℕ → ℕ) (entries entries' : Entries) (objects : Objects) → AreStored v out link entries objects
-    → entries' ≡ entries → ((q : ℕ) → Stays v w out out' (map.get entries q)) → AreStored w out' link entries' objects
+pub stored-frame : (v w : List ℕ) (out out' : ℕ → Option ℕ) (link : ℕ → ℕ) (entries entries' : Entries) (objects : Objects) → AreInBlocks v out link entries objects
+    → entries' ≡ entries → ((q : ℕ) → Stays v w out out' (map.get entries q)) → AreInBlocks w out' link entries' objects
 stored-frame v w out out' link entries entries' objects s same stays =
-    subst (λ (x : Entries). AreStored w out' link x objects) (sym same) (record {
+    subst (λ (x : Entries). AreInBlocks w out' link x objects) (sym same) (record {
       each = λ q. alike-kept v w out out' (link q) q (map.get entries q) (map.get objects q) (stays q) (s.each q);
       apart = s.apart;
     })
 
 pub stored-insert : (v w : List ℕ) (out out' : ℕ → Option ℕ) (link : ℕ → ℕ) (entries : Entries) (objects : Objects) (name l : ℕ) (e : Entry) (o : DiskObject)
-    → AreStored v out link entries objects
+    → AreInBlocks v out link entries objects
     → ((q : ℕ) → q ≢ name → Stays v w out out' (map.get entries q))
     → ((q : ℕ) (f : Entry) → q ≢ name → map.get entries q ≡ Some f → f.place ≢ e.place)
-    → IsStored w out' l name e o
-    → AreStored w out' (put link name l) (map.insert entries name e) (map.insert objects name o)
+    → IsInBlock w out' l name e o
+    → AreInBlocks w out' (put link name l) (map.insert entries name e) (map.insert objects name o)
 stored-insert v w out out' link entries objects name l e o s stays fresh here = record {
   each = λ q. ⊎_elim
       (λ (h : q ≡ name). alike-at w out' l (put link name l q) q (Some e) _ (Some o) _ (put-at link name l q h) (insert-at entries name e q h)
-      (insert-at objects name o q h) (subst (λ (k : ℕ). IsStored w out' l k e o) (sym h) here))
+      (insert-at objects name o q h) (subst (λ (k : ℕ). IsInBlock w out' l k e o) (sym h) here))
       (λ (h : q ≢ name). alike-at w out' (link q) (put link name l q) q (map.get entries q) _ (map.get objects q) _ (put-there link name l q h)
       (insert-there entries name e q h) (insert-there objects name o q h)
       (alike-kept v w out out' (link q) q (map.get entries q) (map.get objects q) (stays q h) (s.each q)))
@@ -143,9 +143,9 @@ stored-insert v w out out' link entries objects name l e o s stays fresh here = 
 }
 
 pub stored-remove : (v w : List ℕ) (out : ℕ → Option ℕ) (link : ℕ → ℕ) (entries : Entries) (objects : Objects) (name : ℕ)
-    → AreStored v out link entries objects
+    → AreInBlocks v out link entries objects
     → ((q : ℕ) → q ≢ name → Stays v w out out (map.get entries q))
-    → AreStored w out link (map.remove entries name) (map.remove objects name)
+    → AreInBlocks w out link (map.remove entries name) (map.remove objects name)
 stored-remove v w out link entries objects name s stays = record {
   each = λ q. ⊎_elim
       (λ (h : q ≡ name). alike-at w out (link q) (link q) q None _ None _ refl (remove-at entries name q h) (remove-at objects name q h) tt)
@@ -164,8 +164,8 @@ stored-remove v w out link entries objects name s stays = record {
 
 -- ---- the pending names
 
-pub pending-insert : (objects : Objects) (queue : List ℕ) (name : ℕ) (o : DiskObject) → ArePending objects queue → ArePending (map.insert objects name o) queue
-pending-insert objects queue name o p = record {
+pub pending-insert : (objects : Objects) (pending : List ℕ) (name : ℕ) (o : DiskObject) → ArePending objects pending → ArePending (map.insert objects name o) pending
+pending-insert objects pending name o p = record {
   held = λ q some. ⊎_elim
       (λ (h : q ≡ name). subst IsSome (sym (insert-at objects name o q h)) refl)
       (λ (h : q ≢ name). subst IsSome (sym (insert-there objects name o q h)) (p.held q some))
@@ -173,19 +173,19 @@ pending-insert objects queue name o p = record {
   once = p.once;
 }
 
-pub pending-remove : (objects : Objects) (queue : List ℕ) (name : ℕ) → times name queue ≡ 0 → ArePending objects queue → ArePending (map.remove objects name) queue
-pending-remove objects queue name idle p = record {
+pub pending-remove : (objects : Objects) (pending : List ℕ) (name : ℕ) → times name pending ≡ 0 → ArePending objects pending → ArePending (map.remove objects name) pending
+pending-remove objects pending name idle p = record {
   held = λ q some. ⊎_elim
-      (λ (h : q ≡ name). absurd (let z = ap (λ (k : ℕ). times k queue) h in omega (arith, z, idle, some)))
+      (λ (h : q ≡ name). absurd (let z = ap (λ (k : ℕ). times k pending) h in omega (arith, z, idle, some)))
       (λ (h : q ≢ name). subst IsSome (sym (remove-there objects name q h)) (p.held q some))
       (equal_or_not q name);
   once = p.once;
 }
 
-pub linked-put : (link : ℕ → ℕ) (first name l : ℕ) (queue : List ℕ) → (0 < times name queue → l ≡ link name) → AreLinked link first queue
-    → AreLinked (put link name l) first queue
-linked-put link first name l queue same is = linked-same link (put link name l) first queue (λ q some. ⊎_elim
-    (λ (h : q ≡ name). put-at link name l q h ∙ same (subst (λ (k : ℕ). 0 < times k queue) h some) ∙ ap link (sym h))
+pub linked-put : (link : ℕ → ℕ) (first name l : ℕ) (pending : List ℕ) → (0 < times name pending → l ≡ link name) → AreLinked link first pending
+    → AreLinked (put link name l) first pending
+linked-put link first name l pending same is = linked-same link (put link name l) first pending (λ q some. ⊎_elim
+    (λ (h : q ≡ name). put-at link name l q h ∙ same (subst (λ (k : ℕ). 0 < times k pending) h some) ∙ ap link (sym h))
     (λ (h : q ≢ name). put-there link name l q h)
     (equal_or_not q name)) is
 

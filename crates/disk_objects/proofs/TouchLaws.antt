@@ -16,7 +16,7 @@ use Rattle.work_space.proofs.BlockLaws.{size-least, end-least, laid-within}
 use Rattle.work_space.proofs.CountLaws.{end-most}
 use Rattle.work_space.proofs.FreeLaws.{linked-same, out-within, free-laid, free-apart}
 use Rattle.work_space.proofs.SpaceLaws.{pick-new}
-use Rattle.disk_objects.specs.Disk.{IsClass, IsLaid, tail_text, record_size}
+use Rattle.disk_objects.specs.Disk.{IsSizeClass, IsLaid, tail_text, record_size}
 use Rattle.disk_objects.specs.Inside.{Touches, Writes, Stores}
 use Rattle.disk_objects.proofs.WindowLaws.{window-shorter, byte-in_window}
 use Rattle.disk_objects.proofs.RecordLaws.{length-tail}
@@ -73,7 +73,7 @@ place-low old new work work' laid out c place b few first t is =
     let within = (laid-within (from_of old) laid place c (t.reused some)).1 in omega arith)
     (cases_eq (first_of old c) 0)
 
-pub stored-in : (old new : Space) (u v w laid : List ℕ) (out : ℕ → Option ℕ) (raw : RawRecord) (link c place : ℕ) → IsClass c (record_size raw)
+pub stored-in : (old new : Space) (u v w laid : List ℕ) (out : ℕ → Option ℕ) (raw : RawRecord) (link c place : ℕ) → IsSizeClass c (record_size raw)
     → v ≡ u → Takes old new v laid out c place → Writes v w place raw link → Stores old new u w laid out raw link place
 stored-in old new u v w laid out raw link c place is same t wrote = record {
   class = c;

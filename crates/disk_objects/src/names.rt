@@ -4,7 +4,7 @@ ghost use Rattle.std.specs.BTreeSet.{IsOrdered, contains};
 ghost use Rattle.std.specs.FinMap as map;
 ghost use Rattle.std.specs.Ordering.{nat_cmp};
 ghost use Rattle.loom_outside.specs.declared.outside.Role.{Role};
-ghost use Rattle.work_directory.specs.Work.{IsWorkRead, work_of};
+ghost use Rattle.loom_outside.specs.Work.{IsWorkRead, work_of};
 
 use crate::rest::DiskRest;
 use long_names::{Name, NameList};
@@ -43,17 +43,17 @@ fn listed(alloc: Global, set: BTreeSet<Name>) -> Result<NameList, AllocError>
 }
 
 impl DiskRest {
-    ghost use Rattle.disk_objects.specs.Calls.{IsNamesFault, Stands};
+    ghost use Rattle.disk_objects.specs.Calls.{IsNamesFault, HoldsObjects};
     ghost use Rattle.disk_objects.specs.Disk.{IsDisk, Objects};
 
     // The names that the slots of the directory have.
     fn gather<H: Host>(&self, host: &mut H, alloc: Global) -> Result<BTreeSet<Name>, NamesFault>
-        requires stands { Stands H.Host host.old self.now }
-        ensures set { IsTrue (H.tells Role.Work) → (objects : Objects) (queue : List ℕ) → IsDisk self.now (work_of H.Host host.old) objects queue →
+        requires stands { HoldsObjects H.Host host.old self.now }
+        ensures set { IsTrue (H.tells Role.Work) → (objects : Objects) (pending : List ℕ) → IsDisk self.now (work_of H.Host host.old) objects pending →
             IfOk result (λ set. (q : ℕ) → contains nat_cmp set q ≡ is_some (map.get objects q)) }
         ensures ordered { IfOk result (λ set. IsOrdered nat_cmp set) }
         ensures read { IsWorkRead H.Host host.old host.new }
-        ensures fault { IfErr result (IsNamesFault (H.tells Role.Work) (H.faults host.old Role.Work) (H.faults host.new Role.Work)) }
+        ensures fault { IfErr result (IsNamesFault (H.tells Role.Work) (H.faults host.old Role.Work) (H.faults host.new Role.Work) self.now) }
     {
         let mut names = BTreeSet::new(alloc);
         for i in 0..self.directory.slots() {
@@ -67,11 +67,11 @@ impl DiskRest {
     }
 
     pub(crate) fn names<H: Host>(&self, host: &mut H, alloc: Global) -> Result<NameList, NamesFault>
-        requires stands { Stands H.Host host.old self.now }
-        ensures names { IsTrue (H.tells Role.Work) → (objects : Objects) (queue : List ℕ) → IsDisk self.now (work_of H.Host host.old) objects queue →
+        requires stands { HoldsObjects H.Host host.old self.now }
+        ensures names { IsTrue (H.tells Role.Work) → (objects : Objects) (pending : List ℕ) → IsDisk self.now (work_of H.Host host.old) objects pending →
             IfOk result (λ names. names ≡ map.keys objects) }
         ensures read { IsWorkRead H.Host host.old host.new }
-        ensures fault { IfErr result (IsNamesFault (H.tells Role.Work) (H.faults host.old Role.Work) (H.faults host.new Role.Work)) }
+        ensures fault { IfErr result (IsNamesFault (H.tells Role.Work) (H.faults host.old Role.Work) (H.faults host.new Role.Work) self.now) }
     {
         let set = self.gather(host, alloc)?;
         match listed(alloc, set) {

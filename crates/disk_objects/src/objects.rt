@@ -1,10 +1,10 @@
 // A disk: what stands in Work of a host stands for a map of objects and a list of pending names.
-ghost use Rattle.std.specs.Prelude.{◌≡◌, ◌≢◌, ◌<◌, ◌≤◌, ◌^◌, ℕ, List, [], ◌∷◌, length, min, Option, None, Some, IsOk, IsTrue, IfOk, IfErr, IsErr, OnOk, OnErr, option_map};
+ghost use Rattle.std.specs.Prelude.{◌≡◌, ◌≢◌, ◌<◌, ◌≤◌, ◌^◌, ℕ, List, [], ◌∷◌, length, min, Option, None, Some, IsOk, IsTrue, IfOk, IfErr, IsErr, OnOk, OnErr, option_map, ◌⊎◌, ◌+◌};
 ghost use Rattle.std.specs.FinMap as map;
 ghost use Rattle.loom_outside.specs.declared.outside.Role.{Role};
 ghost use Rattle.loom_outside.specs.Outside.{Attached, CanAttach, CanRead, CanWrite, HasCause, IsFresh, PutPrefix, SameBut, Took, TookSome, puts};
 ghost use Rattle.object_record.specs.Buffer.{HasRecord, raw_of};
-ghost use Rattle.work_directory.specs.Work.{IsWorkOnly, IsWorkRead, work_of};
+ghost use Rattle.loom_outside.specs.Work.{IsWorkOnly, IsWorkRead, work_of};
 
 use crate::names::NamesFault;
 use crate::rest::DiskRest;
@@ -12,6 +12,7 @@ use long_names::{Name, NameList};
 use loom_outside::{DiskFault, Failed, Host, Role, read_full, write_full};
 use object_record::RecordBuf;
 use std::alloc::Global;
+use work_directory::MOST_NAMES;
 
 /// Objects in the work file of a host, which it holds until it is taken apart: a finite map from names to records with counts, and a
 /// list of pending names. After a fault nothing is known of the objects any more.
@@ -22,13 +23,15 @@ pub struct DiskObjects<'h, H: Host> {
 }
 
 impl<'h, H: Host> DiskObjects<'h, H> {
-    ghost use Rattle.disk_objects.specs.Calls.{Stands, StandsWith, IsIdle, CanChange, IsFault, IsGot, IsNamesFault, IsPutFault, TookFirst, changed_by};
+    ghost use Rattle.disk_objects.specs.Calls.{AreHeldNames, CanChange, HoldsObjects, HoldsSuch, IsEitherFault, IsFault, IsGot, IsIdle, IsNamesFault, IsPutFault, TookFirst, changed_by, swapped};
+    ghost use Rattle.disk_objects.specs.Function.{ChangesCount, IsFetched, KeepsObjects, PutsObject, RemovesObject, SwapsObjects, counts_of, disk_of};
+    ghost use Rattle.disk_objects.specs.Places.{IsReadPlace, IsSlotPlace};
     ghost use Rattle.disk_objects.specs.Disk.{DiskObject, IsDisk, Objects, disk_first, disk_held, disk_room, link_to, object_of};
 
     /// A disk without objects, with room for so many, over Work that is attached and empty.
     pub fn begin(host: &'h mut H, room: u32) -> DiskObjects<'h, H>
         requires some { 0 < room }
-        requires most { room ≤ 1048576 }
+        requires most { room ≤ MOST_NAMES }
         requires empty { IsTrue (H.tells Role.Work) → work_of H.Host host.old ≡ [] }
         ensures disk { IsTrue (H.tells Role.Work) → IsDisk result.rest (work_of H.Host result.host.now) map.empty [] }
         ensures room { disk_room result.rest ≡ room }
@@ -76,8 +79,8 @@ impl<'h, H: Host> DiskObjects<'h, H> {
 
     /// How many objects there are.
     pub fn len(&self) -> u32
-        ensures objects { IsTrue (H.tells Role.Work) → (objects : Objects) (queue : List ℕ) →
-            IsDisk self.now.rest (work_of H.Host self.now.host.now) objects queue → result ≡ map.len objects }
+        ensures objects { IsTrue (H.tells Role.Work) → (objects : Objects) (pending : List ℕ) →
+            IsDisk self.now.rest (work_of H.Host self.now.host.now) objects pending → result ≡ map.len objects }
         ensures value { result ≡ disk_held self.now.rest }
         ensures most { result ≤ disk_room self.now.rest }
     {
@@ -87,14 +90,16 @@ impl<'h, H: Host> DiskObjects<'h, H> {
     /// Puts the record of a name into the buffer: false exactly where the name isn't held. The record's count is any number. After
     /// false or a fault the buffer may hold anything.
     pub fn get(&mut self, name: Name, buf: &mut RecordBuf) -> Result<bool, DiskFault>
-        requires stands { Stands H.Host self.old.host.now self.old.rest }
-        ensures got { IsTrue (H.tells Role.Work) → (objects : Objects) (queue : List ℕ) →
-            IsDisk self.old.rest (work_of H.Host self.old.host.now) objects queue → IfOk result (IsGot buf.new (map.get objects name)) }
+        requires stands { HoldsObjects H.Host self.old.host.now self.old.rest }
+        ensures got { IsTrue (H.tells Role.Work) → (objects : Objects) (pending : List ℕ) →
+            IsDisk self.old.rest (work_of H.Host self.old.host.now) objects pending → IfOk result (IsGot buf.new (map.get objects name)) }
         ensures record { IfOk result (λ held. IsTrue held → HasRecord buf.new × ((raw_of buf.new).name ≡ name)) }
+        ensures found { IsTrue (H.tells Role.Work) → IfOk result (IsFetched buf.new (disk_of H.Host self.old.host.now self.old.rest name)) }
+        ensures keeps { IsTrue (H.tells Role.Work) → KeepsObjects H.Host self.old.host.now self.new.host.now self.old.rest self.new.rest }
         ensures rest { self.new.rest ≡ self.old.rest }
         ensures read { IsWorkRead H.Host self.old.host.now self.new.host.now }
         ensures same_host { self.new.host.ghost_name ≡ self.old.host.ghost_name }
-        ensures fault { IfErr result (IsFault (H.tells Role.Work) (H.faults self.old.host.now Role.Work) (H.faults self.new.host.now Role.Work) name) }
+        ensures fault { IfErr result (IsFault (H.tells Role.Work) (H.faults self.old.host.now Role.Work) (H.faults self.new.host.now Role.Work) (IsReadPlace self.old.rest) name) }
     {
         self.rest.get(self.host, name, buf)
     }
@@ -103,102 +108,132 @@ impl<'h, H: Host> DiskObjects<'h, H> {
     /// there is room for; nothing changes then.
     pub fn put(&mut self, buf: &RecordBuf, count: u64) -> Result<(), DiskFault>
         requires record { HasRecord buf.now }
-        requires stands { Stands H.Host self.old.host.now self.old.rest }
-        ensures put { IsTrue (H.tells Role.Work) → (objects : Objects) (queue : List ℕ) →
-            IsDisk self.old.rest (work_of H.Host self.old.host.now) objects queue →
-            OnOk result (IsDisk self.new.rest (work_of H.Host self.new.host.now) (map.insert objects (raw_of buf.now).name (object_of (raw_of buf.now) count)) queue) }
-        ensures full { IsTrue (H.tells Role.Work) → (objects : Objects) (queue : List ℕ) →
-            IsDisk self.old.rest (work_of H.Host self.old.host.now) objects queue →
+        requires stands { HoldsObjects H.Host self.old.host.now self.old.rest }
+        ensures put { IsTrue (H.tells Role.Work) → (objects : Objects) (pending : List ℕ) →
+            IsDisk self.old.rest (work_of H.Host self.old.host.now) objects pending →
+            OnOk result (IsDisk self.new.rest (work_of H.Host self.new.host.now) (map.insert objects (raw_of buf.now).name (object_of (raw_of buf.now) count)) pending) }
+        ensures full { IsTrue (H.tells Role.Work) → (objects : Objects) (pending : List ℕ) →
+            IsDisk self.old.rest (work_of H.Host self.old.host.now) objects pending →
             disk_held self.old.rest ≡ disk_room self.old.rest → map.get objects (raw_of buf.now).name ≡ None → IsErr result }
+        ensures stored { IsTrue (H.tells Role.Work) → OnOk result (PutsObject H.Host self.old.host.now self.new.host.now self.old.rest self.new.rest (raw_of buf.now) count) }
+        ensures held { OnOk result ((disk_held self.new.rest ≡ disk_held self.old.rest) ⊎ (disk_held self.new.rest ≡ disk_held self.old.rest + 1)) }
         ensures room { disk_room self.new.rest ≡ disk_room self.old.rest }
         ensures work { IsWorkOnly H.Host self.old.host.now self.new.host.now }
         ensures same_host { self.new.host.ghost_name ≡ self.old.host.ghost_name }
-        ensures fault { IfErr result (IsPutFault H.Host self.old.host.now self.new.host.now self.old.rest self.new.rest (raw_of buf.now).name) }
+        ensures fault { IfErr result (IsPutFault H.Host self.old.host.now self.new.host.now self.old.rest self.new.rest (raw_of buf.now)) }
     {
         self.rest.put(self.host, buf, count)
     }
 
     /// The count of a name: None exactly where it isn't held.
     pub fn count(&mut self, name: Name) -> Result<Option<u64>, DiskFault>
-        requires stands { Stands H.Host self.old.host.now self.old.rest }
-        ensures count { IsTrue (H.tells Role.Work) → (objects : Objects) (queue : List ℕ) →
-            IsDisk self.old.rest (work_of H.Host self.old.host.now) objects queue →
+        requires stands { HoldsObjects H.Host self.old.host.now self.old.rest }
+        ensures count { IsTrue (H.tells Role.Work) → (objects : Objects) (pending : List ℕ) →
+            IsDisk self.old.rest (work_of H.Host self.old.host.now) objects pending →
             IfOk result (λ count. count ≡ option_map (λ (o : DiskObject). o.count) (map.get objects name)) }
+        ensures found { IsTrue (H.tells Role.Work) → IfOk result (λ count. count ≡ counts_of H.Host self.old.host.now self.old.rest name) }
+        ensures keeps { IsTrue (H.tells Role.Work) → KeepsObjects H.Host self.old.host.now self.new.host.now self.old.rest self.new.rest }
         ensures rest { self.new.rest ≡ self.old.rest }
         ensures read { IsWorkRead H.Host self.old.host.now self.new.host.now }
         ensures same_host { self.new.host.ghost_name ≡ self.old.host.ghost_name }
-        ensures fault { IfErr result (IsFault (H.tells Role.Work) (H.faults self.old.host.now Role.Work) (H.faults self.new.host.now Role.Work) name) }
+        ensures fault { IfErr result (IsFault (H.tells Role.Work) (H.faults self.old.host.now Role.Work) (H.faults self.new.host.now Role.Work) (IsSlotPlace self.old.rest) name) }
     {
         self.rest.count(self.host, name)
     }
 
     /// Changes the count of a name that is held, and answers it. The new count has to be from 0 to the greatest u64.
     pub fn add_count(&mut self, name: Name, change: i64) -> Result<u64, DiskFault>
-        requires stands { StandsWith H.Host self.old.host.now self.old.rest (CanChange name change) }
-        ensures counted { IsTrue (H.tells Role.Work) → (objects : Objects) (queue : List ℕ) →
-            IsDisk self.old.rest (work_of H.Host self.old.host.now) objects queue → (o : DiskObject) → map.get objects name ≡ Some o →
+        requires stands { HoldsSuch H.Host self.old.host.now self.old.rest (CanChange name change) }
+        ensures counted { IsTrue (H.tells Role.Work) → (objects : Objects) (pending : List ℕ) →
+            IsDisk self.old.rest (work_of H.Host self.old.host.now) objects pending → (o : DiskObject) → map.get objects name ≡ Some o →
             IfOk result (λ count. (count ≡ changed_by o.count change)
-            × IsDisk self.new.rest (work_of H.Host self.new.host.now) (map.insert objects name (record { raw = o.raw; count = count })) queue) }
+            × IsDisk self.new.rest (work_of H.Host self.new.host.now) (map.insert objects name (record { raw = o.raw; count = count })) pending) }
+        ensures changed { IsTrue (H.tells Role.Work) → IfOk result (ChangesCount H.Host self.old.host.now self.new.host.now self.old.rest self.new.rest name change) }
+        ensures held { disk_held self.new.rest ≡ disk_held self.old.rest }
         ensures room { disk_room self.new.rest ≡ disk_room self.old.rest }
         ensures work { IsWorkOnly H.Host self.old.host.now self.new.host.now }
         ensures same_host { self.new.host.ghost_name ≡ self.old.host.ghost_name }
-        ensures fault { IfErr result (IsFault (H.tells Role.Work) (H.faults self.old.host.now Role.Work) (H.faults self.new.host.now Role.Work) name) }
+        ensures fault { IfErr result (IsFault (H.tells Role.Work) (H.faults self.old.host.now Role.Work) (H.faults self.new.host.now Role.Work) (IsSlotPlace self.old.rest) name) }
     {
         self.rest.add_count(self.host, name, change)
     }
 
     /// Removes a name that is held and not pending.
     pub fn remove(&mut self, name: Name) -> Result<(), DiskFault>
-        requires stands { StandsWith H.Host self.old.host.now self.old.rest (IsIdle name) }
-        ensures removed { IsTrue (H.tells Role.Work) → (objects : Objects) (queue : List ℕ) →
-            IsDisk self.old.rest (work_of H.Host self.old.host.now) objects queue → IsIdle name objects queue →
-            OnOk result (IsDisk self.new.rest (work_of H.Host self.new.host.now) (map.remove objects name) queue) }
+        requires stands { HoldsSuch H.Host self.old.host.now self.old.rest (IsIdle name) }
+        ensures removed { IsTrue (H.tells Role.Work) → (objects : Objects) (pending : List ℕ) →
+            IsDisk self.old.rest (work_of H.Host self.old.host.now) objects pending → IsIdle name objects pending →
+            OnOk result (IsDisk self.new.rest (work_of H.Host self.new.host.now) (map.remove objects name) pending) }
+        ensures gone { IsTrue (H.tells Role.Work) → OnOk result (RemovesObject H.Host self.old.host.now self.new.host.now self.old.rest self.new.rest name) }
+        ensures held { OnOk result (disk_held self.new.rest + 1 ≡ disk_held self.old.rest) }
         ensures room { disk_room self.new.rest ≡ disk_room self.old.rest }
         ensures work { IsWorkOnly H.Host self.old.host.now self.new.host.now }
         ensures same_host { self.new.host.ghost_name ≡ self.old.host.ghost_name }
-        ensures fault { IfErr result (IsFault (H.tells Role.Work) (H.faults self.old.host.now Role.Work) (H.faults self.new.host.now Role.Work) name) }
+        ensures fault { IfErr result (IsFault (H.tells Role.Work) (H.faults self.old.host.now Role.Work) (H.faults self.new.host.now Role.Work) (IsReadPlace self.old.rest) name) }
     {
         self.rest.remove(self.host, name)
     }
 
-    /// Makes a name that is held and not pending the first pending one.
-    pub fn put_pending(&mut self, name: Name) -> Result<(), DiskFault>
-        requires stands { StandsWith H.Host self.old.host.now self.old.rest (IsIdle name) }
-        ensures queued { IsTrue (H.tells Role.Work) → (objects : Objects) (queue : List ℕ) →
-            IsDisk self.old.rest (work_of H.Host self.old.host.now) objects queue → IsIdle name objects queue →
-            OnOk result (IsDisk self.new.rest (work_of H.Host self.new.host.now) objects (name ∷ queue)) }
+    /// Exchanges the records of two names that are held. Each name keeps its count, and stays pending where it is. The buffer is for the
+    /// records, and may hold anything afterwards.
+    pub fn swap(&mut self, a: Name, b: Name, buf: &mut RecordBuf) -> Result<(), DiskFault>
+        requires stands { HoldsSuch H.Host self.old.host.now self.old.rest (AreHeldNames a b) }
+        ensures swapped { IsTrue (H.tells Role.Work) → (objects : Objects) (pending : List ℕ) →
+            IsDisk self.old.rest (work_of H.Host self.old.host.now) objects pending →
+            OnOk result (IsDisk self.new.rest (work_of H.Host self.new.host.now) (swapped objects a b) pending) }
+        ensures exchanged { IsTrue (H.tells Role.Work) → OnOk result (SwapsObjects H.Host self.old.host.now self.new.host.now self.old.rest self.new.rest a b) }
+        ensures held { disk_held self.new.rest ≡ disk_held self.old.rest }
         ensures room { disk_room self.new.rest ≡ disk_room self.old.rest }
         ensures work { IsWorkOnly H.Host self.old.host.now self.new.host.now }
         ensures same_host { self.new.host.ghost_name ≡ self.old.host.ghost_name }
-        ensures fault { IfErr result (IsFault (H.tells Role.Work) (H.faults self.old.host.now Role.Work) (H.faults self.new.host.now Role.Work) name) }
+        ensures fault { IfErr result (IsEitherFault (H.tells Role.Work) (H.faults self.old.host.now Role.Work) (H.faults self.new.host.now Role.Work) (IsReadPlace self.old.rest) a b) }
+    {
+        self.rest.swap(self.host, a, b, buf)
+    }
+
+    /// Makes a name that is held and not pending the first pending one.
+    pub fn put_pending(&mut self, name: Name) -> Result<(), DiskFault>
+        requires stands { HoldsSuch H.Host self.old.host.now self.old.rest (IsIdle name) }
+        ensures put { IsTrue (H.tells Role.Work) → (objects : Objects) (pending : List ℕ) →
+            IsDisk self.old.rest (work_of H.Host self.old.host.now) objects pending → IsIdle name objects pending →
+            OnOk result (IsDisk self.new.rest (work_of H.Host self.new.host.now) objects (name ∷ pending)) }
+        ensures keeps { IsTrue (H.tells Role.Work) → OnOk result (KeepsObjects H.Host self.old.host.now self.new.host.now self.old.rest self.new.rest) }
+        ensures held { disk_held self.new.rest ≡ disk_held self.old.rest }
+        ensures room { disk_room self.new.rest ≡ disk_room self.old.rest }
+        ensures work { IsWorkOnly H.Host self.old.host.now self.new.host.now }
+        ensures same_host { self.new.host.ghost_name ≡ self.old.host.ghost_name }
+        ensures fault { IfErr result (IsFault (H.tells Role.Work) (H.faults self.old.host.now Role.Work) (H.faults self.new.host.now Role.Work) (IsSlotPlace self.old.rest) name) }
     {
         self.rest.put_pending(self.host, name)
     }
 
     /// Takes the first pending name, which stays held: None exactly where none is pending.
     pub fn take_pending(&mut self) -> Result<Option<Name>, DiskFault>
-        requires stands { Stands H.Host self.old.host.now self.old.rest }
-        ensures took { IsTrue (H.tells Role.Work) → (objects : Objects) (queue : List ℕ) →
-            IsDisk self.old.rest (work_of H.Host self.old.host.now) objects queue →
-            IfOk result (TookFirst queue (IsDisk self.new.rest (work_of H.Host self.new.host.now) objects)) }
+        requires stands { HoldsObjects H.Host self.old.host.now self.old.rest }
+        ensures took { IsTrue (H.tells Role.Work) → (objects : Objects) (pending : List ℕ) →
+            IsDisk self.old.rest (work_of H.Host self.old.host.now) objects pending →
+            IfOk result (TookFirst pending (IsDisk self.new.rest (work_of H.Host self.new.host.now) objects)) }
         ensures first { IfOk result (λ name. name ≡ disk_first self.old.rest) }
+        ensures keeps { IsTrue (H.tells Role.Work) → IsOk result → KeepsObjects H.Host self.old.host.now self.new.host.now self.old.rest self.new.rest }
+        ensures held { disk_held self.new.rest ≡ disk_held self.old.rest }
         ensures room { disk_room self.new.rest ≡ disk_room self.old.rest }
         ensures read { IsWorkRead H.Host self.old.host.now self.new.host.now }
         ensures same_host { self.new.host.ghost_name ≡ self.old.host.ghost_name }
-        ensures fault { IfErr result (IsFault (H.tells Role.Work) (H.faults self.old.host.now Role.Work) (H.faults self.new.host.now Role.Work) (link_to (disk_first self.old.rest))) }
+        ensures fault { IfErr result (IsFault (H.tells Role.Work) (H.faults self.old.host.now Role.Work) (H.faults self.new.host.now Role.Work) (IsReadPlace self.old.rest) (link_to (disk_first self.old.rest))) }
     {
         self.rest.take_pending(self.host)
     }
 
     /// The names of all objects, rising.
     pub fn names(&mut self, alloc: Global) -> Result<NameList, NamesFault>
-        requires stands { Stands H.Host self.old.host.now self.old.rest }
-        ensures names { IsTrue (H.tells Role.Work) → (objects : Objects) (queue : List ℕ) →
-            IsDisk self.old.rest (work_of H.Host self.old.host.now) objects queue → IfOk result (λ names. names ≡ map.keys objects) }
+        requires stands { HoldsObjects H.Host self.old.host.now self.old.rest }
+        ensures names { IsTrue (H.tells Role.Work) → (objects : Objects) (pending : List ℕ) →
+            IsDisk self.old.rest (work_of H.Host self.old.host.now) objects pending → IfOk result (λ names. names ≡ map.keys objects) }
+        ensures keeps { IsTrue (H.tells Role.Work) → KeepsObjects H.Host self.old.host.now self.new.host.now self.old.rest self.new.rest }
         ensures rest { self.new.rest ≡ self.old.rest }
         ensures read { IsWorkRead H.Host self.old.host.now self.new.host.now }
         ensures same_host { self.new.host.ghost_name ≡ self.old.host.ghost_name }
-        ensures fault { IfErr result (IsNamesFault (H.tells Role.Work) (H.faults self.old.host.now Role.Work) (H.faults self.new.host.now Role.Work)) }
+        ensures fault { IfErr result (IsNamesFault (H.tells Role.Work) (H.faults self.old.host.now Role.Work) (H.faults self.new.host.now Role.Work) self.old.rest) }
     {
         self.rest.names(self.host, alloc)
     }
@@ -214,6 +249,7 @@ impl<'h, H: Host> DiskObjects<'h, H> {
         ensures other_faults { SameBut role (H.faults self.old.host.now) (H.faults self.new.host.now) }
         ensures writes { H.writes self.new.host.now ≡ H.writes self.old.host.now }
         ensures cause { HasCause (H.faults self.old.host.now role) (H.faults self.new.host.now role) result }
+        ensures keeps { HoldsObjects H.Host self.old.host.now self.old.rest → IsTrue (H.tells Role.Work) → KeepsObjects H.Host self.old.host.now self.new.host.now self.old.rest self.new.rest }
         ensures rest { self.new.rest ≡ self.old.rest }
         ensures same_host { self.new.host.ghost_name ≡ self.old.host.ghost_name }
     {
@@ -233,6 +269,7 @@ impl<'h, H: Host> DiskObjects<'h, H> {
         ensures other_faults { SameBut role (H.faults self.old.host.now) (H.faults self.new.host.now) }
         ensures writes { H.writes self.new.host.now ≡ H.writes self.old.host.now }
         ensures cause { HasCause (H.faults self.old.host.now role) (H.faults self.new.host.now role) result }
+        ensures keeps { HoldsObjects H.Host self.old.host.now self.old.rest → IsTrue (H.tells Role.Work) → KeepsObjects H.Host self.old.host.now self.new.host.now self.old.rest self.new.rest }
         ensures rest { self.new.rest ≡ self.old.rest }
         ensures same_host { self.new.host.ghost_name ≡ self.old.host.ghost_name }
     {
@@ -250,6 +287,7 @@ impl<'h, H: Host> DiskObjects<'h, H> {
         ensures other_faults { SameBut role (H.faults self.old.host.now) (H.faults self.new.host.now) }
         ensures writes { H.writes self.new.host.now ≡ H.writes self.old.host.now }
         ensures cause { HasCause (H.faults self.old.host.now role) (H.faults self.new.host.now role) result }
+        ensures keeps { HoldsObjects H.Host self.old.host.now self.old.rest → IsTrue (H.tells Role.Work) → KeepsObjects H.Host self.old.host.now self.new.host.now self.old.rest self.new.rest }
         ensures rest { self.new.rest ≡ self.old.rest }
         ensures same_host { self.new.host.ghost_name ≡ self.old.host.ghost_name }
     {

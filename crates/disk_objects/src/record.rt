@@ -4,40 +4,27 @@ ghost use Rattle.byteorder.specs.Endian.{big_number};
 ghost use Rattle.long_names.specs.Names.{IsLongName};
 ghost use Rattle.loom_outside.specs.Bytes.{window};
 ghost use Rattle.loom_outside.specs.declared.outside.DiskFault.TheVariants.{Damaged};
-ghost use Rattle.object_record.specs.Buffer.{BUFFER, HasRecord, long_at, raw_of, word_at};
+ghost use Rattle.object_record.specs.Buffer.{HasRecord, long_at, raw_of, word_at};
 ghost use Rattle.object_record.specs.Inside.{end_stated};
-ghost use Rattle.object_record.specs.Raw.{IsRawRecord, RawRecord};
-ghost use Rattle.work_directory.specs.Work.{IsWorkOnly, IsWorkRead, work_of};
+ghost use Rattle.object_record.specs.Raw.{IsRawRecord, RawRecord, with_name};
+ghost use Rattle.loom_outside.specs.Work.{IsWorkOnly, IsWorkRead, work_of, IsWorkFault};
 ghost use Rattle.work_space.specs.Blocks.{AreFew, link_at};
-ghost use Rattle.work_space.specs.Calls.{IsWorkFault};
 ghost use Rattle.work_space.specs.Space.{IsSpace, from_of};
-ghost use Rattle.disk_objects.specs.Disk.{IsClass, IsLaid, link_to, record_size, with_count};
+ghost use Rattle.disk_objects.specs.Disk.{IsSizeClass, IsLaid, link_to, record_size, with_count};
 ghost use Rattle.disk_objects.specs.Inside.{IsHead, IsHeadFault, IsLinkFault, IsRecordFault, IsRecordSize, IsSizedHead, IsStoreFault, Stores, Touches, Writes, size_stated_in};
 
 use byteorder::{BigEndian, ByteOrder};
-use long_names::{Kind, Name};
+use long_names::{LONGEST_RECORD, Name};
 use loom_outside::{DiskFault, Host, Role};
-use object_record::RecordBuf;
-use work_space::{Space, class_of};
-
-// How many bytes the longest record has.
-const LONGEST: u64 = 262_160;
-
-// How many of the first bytes of a record say how long it is. The smallest block has them.
-const HEAD: usize = 28;
-
-// Where a record has its count, and here the link.
-const LINK_AT: u64 = 8;
-
-// The place behind which no record begins.
-pub(crate) const LAST_PLACE: u64 = 1 << 62;
+use object_record::{CONTENTS_AT, COUNT_AT, KIND_AT, LITERALS_AT, RecordBuf, SIZE_AT};
+use work_space::{LAST_END, Space, size_class_of};
 
 /// What the first bytes of a record say.
 #[derive(Clone, Copy)]
 pub(crate) struct Head {
     pub(crate) link: u64,
     pub(crate) size: u64,
-    // the class of its block
+    // the size class of its block
     pub(crate) class: u8,
 }
 
@@ -66,22 +53,22 @@ fn long_at(bytes: &[u8], at: usize) -> u32
 
 // How many bytes a record has before its zeros, by its first bytes.
 fn end_of(bytes: &[u8]) -> u64
-    requires { length bytes.now ≡ 28 }
+    requires { length bytes.now ≡ LITERALS_AT }
     ensures end { result ≡ end_stated bytes.now }
     ensures most { result < 2 ^ 35 }
 {
-    let size = u64::from(word_at(bytes, 18));
-    match word_at(bytes, 16) {
-        0 => 20 + 4 * size,
-        1 => 20 + 2 * size,
-        2 => 20 + size,
-        _ => 28 + 4 * u64::from(long_at(bytes, 20)) + size,
+    let size = u64::from(word_at(bytes, SIZE_AT));
+    match word_at(bytes, KIND_AT) {
+        0 => CONTENTS_AT as u64 + 4 * size,
+        1 => CONTENTS_AT as u64 + 2 * size,
+        2 => CONTENTS_AT as u64 + size,
+        _ => LITERALS_AT as u64 + 4 * u64::from(long_at(bytes, CONTENTS_AT)) + size,
     }
 }
 
 // How many bytes a record has, by its first bytes.
 fn size_of(bytes: &[u8]) -> u64
-    requires { length bytes.now ≡ 28 }
+    requires { length bytes.now ≡ LITERALS_AT }
     ensures { result ≡ size_stated_in bytes.now }
 {
     let end = end_of(bytes);
@@ -90,23 +77,23 @@ fn size_of(bytes: &[u8]) -> u64
 
 // What the first bytes of the record at a place say. Damage is told about a name.
 fn parse(bytes: &[u8], place: u64, name: Name) -> Result<Head, DiskFault>
-    requires { length bytes.now ≡ 28 }
-    ensures link { IfOk result (λ head. head.link ≡ big_number 8 (take 8 (drop 8 bytes.now))) }
+    requires { length bytes.now ≡ LITERALS_AT }
+    ensures link { IfOk result (λ head. head.link ≡ big_number 8 (take 8 (drop COUNT_AT bytes.now))) }
     ensures size { IfOk result (λ head. head.size ≡ size_stated_in bytes.now) }
     ensures sized { IfOk result IsSizedHead }
-    ensures fault { IfErr result (λ fault. (fault ≡ Damaged place name) × (262160 < size_stated_in bytes.now)) }
+    ensures fault { IfErr result (λ fault. (fault ≡ Damaged place name) × (LONGEST_RECORD < size_stated_in bytes.now)) }
 {
     let size = size_of(bytes);
-    if size > LONGEST {
+    if size > LONGEST_RECORD as u64 {
         return Err(DiskFault::Damaged {
             place,
             name: name.get(),
         });
     }
     Ok(Head {
-        link: BigEndian::read_u64(&bytes[8..16]),
+        link: BigEndian::read_u64(&bytes[COUNT_AT..KIND_AT]),
         size,
-        class: class_of(size).unwrap(),
+        class: size_class_of(size).unwrap(),
     })
 }
 
@@ -117,7 +104,7 @@ pub(crate) fn read_head<H: Host>(host: &mut H, place: u64, name: Name) -> Result
     ensures read { IsWorkRead H.Host host.old host.new }
     ensures fault { IfErr result (IsHeadFault (work_of H.Host host.old) (H.tells Role.Work) (H.faults host.old Role.Work) (H.faults host.new Role.Work) place name) }
 {
-    let mut bytes = [0; HEAD];
+    let mut bytes = [0; LITERALS_AT];
     match host.read_at(place, &mut bytes) {
         Ok(()) => parse(&bytes, place, name),
         Err(_) => Err(failed(host)),
@@ -139,8 +126,7 @@ fn fill<H: Host>(host: &mut H, place: u64, size: usize, bytes: &mut [u8]) -> Res
     }
 }
 
-// Reads the record of a name, of so many bytes, into a buffer. A record of as many zeros is made there first, so that the buffer is
-// known to have the bytes.
+// Reads the record of a name, of so many bytes, into a buffer.
 pub(crate) fn read_record<H: Host>(
     host: &mut H,
     place: u64,
@@ -154,9 +140,8 @@ pub(crate) fn read_record<H: Host>(
         IsLaid (work_of H.Host host.old) place raw link →
         MatchResult result (λ _. with_count (raw_of buf.new) 0 ≡ with_count raw 0) (IsWorkFault (H.faults host.old Role.Work) (H.faults host.new Role.Work)) }
     ensures read { IsWorkRead H.Host host.old host.new }
-    ensures fault { IfErr result (IsRecordFault (H.faults host.old Role.Work) (H.faults host.new Role.Work) name) }
+    ensures fault { IfErr result (IsRecordFault (H.faults host.old Role.Work) (H.faults host.new Role.Work) place name) }
 {
-    buf.blank(name, Name::NIL, Kind::Pointers, (size as u32 - 20) / 4, 0);
     fill(host, place, size as usize, buf.space())?;
     if !buf.is_record(name) {
         return Err(DiskFault::Damaged {
@@ -192,13 +177,13 @@ pub(crate) fn read_link<H: Host>(
     place: u64,
     name: Name,
 ) -> Result<Option<Name>, DiskFault>
-    requires { place ≤ 2 ^ 62 }
-    ensures link { IsTrue (H.tells Role.Work) → IfOk result (λ next. link_at (work_of H.Host host.old) (place + 8) ≡ link_to next) }
+    requires { place ≤ LAST_END }
+    ensures link { IsTrue (H.tells Role.Work) → IfOk result (λ next. link_at (work_of H.Host host.old) (place + COUNT_AT) ≡ link_to next) }
     ensures read { IsWorkRead H.Host host.old host.new }
-    ensures fault { IfErr result (IsLinkFault (link_at (work_of H.Host host.old) (place + 8)) (H.tells Role.Work) (H.faults host.old Role.Work) (H.faults host.new Role.Work) name) }
+    ensures fault { IfErr result (IsLinkFault (link_at (work_of H.Host host.old) (place + COUNT_AT)) (H.tells Role.Work) (H.faults host.old Role.Work) (H.faults host.new Role.Work) place name) }
 {
     let mut bytes = [0; 8];
-    match host.read_at(place + LINK_AT, &mut bytes) {
+    match host.read_at(place + COUNT_AT as u64, &mut bytes) {
         Ok(()) => parse_link(BigEndian::read_u64(&bytes), place, name),
         Err(_) => Err(failed(host)),
     }
@@ -206,15 +191,15 @@ pub(crate) fn read_link<H: Host>(
 
 // Writes the link of the record at a place.
 pub(crate) fn write_link<H: Host>(host: &mut H, place: u64, link: u64) -> Result<(), DiskFault>
-    requires { place ≤ 2 ^ 62 }
-    ensures link { IsTrue (H.tells Role.Work) → OnOk result (link_at (work_of H.Host host.new) (place + 8) ≡ link) }
-    ensures touches { IsTrue (H.tells Role.Work) → OnOk result (Touches (work_of H.Host host.old) (work_of H.Host host.new) (place + 8) 8) }
+    requires { place ≤ LAST_END }
+    ensures link { IsTrue (H.tells Role.Work) → OnOk result (link_at (work_of H.Host host.new) (place + COUNT_AT) ≡ link) }
+    ensures touches { IsTrue (H.tells Role.Work) → OnOk result (Touches (work_of H.Host host.old) (work_of H.Host host.new) (place + COUNT_AT) 8) }
     ensures work { IsWorkOnly H.Host host.old host.new }
     ensures fault { IfErr result (IsWorkFault (H.faults host.old Role.Work) (H.faults host.new Role.Work)) }
 {
     let mut bytes = [0; 8];
     BigEndian::write_u64(&mut bytes, link);
-    write(host, place + LINK_AT, &bytes)
+    write(host, place + COUNT_AT as u64, &bytes)
 }
 
 fn write<H: Host>(host: &mut H, place: u64, bytes: &[u8]) -> Result<(), DiskFault>
@@ -237,7 +222,7 @@ pub(crate) fn write_record<H: Host>(
     link: u64,
 ) -> Result<(), DiskFault>
     requires record { HasRecord buf.now }
-    requires place { place ≤ 2 ^ 62 }
+    requires place { place ≤ LAST_END }
     ensures writes { IsTrue (H.tells Role.Work) → OnOk result (Writes (work_of H.Host host.old) (work_of H.Host host.new) place (raw_of buf.now) link) }
     ensures work { IsWorkOnly H.Host host.old host.new }
     ensures fault { IfErr result (IsWorkFault (H.faults host.old Role.Work) (H.faults host.new Role.Work)) }
@@ -246,12 +231,35 @@ pub(crate) fn write_record<H: Host>(
     write_link(host, place, link)
 }
 
-// The class of the block that the buffer's record wants.
-pub(crate) fn class_for(buf: &RecordBuf) -> u8
-    requires { HasRecord buf.now }
-    ensures { IsClass result (record_size (raw_of buf.now)) }
+// Gives the record of a name at a place another name, and puts this link where a record has its count. The buffer is for the record.
+pub(crate) fn rename_record<H: Host>(
+    host: &mut H,
+    place: u64,
+    size: u64,
+    name: Name,
+    other: Name,
+    link: u64,
+    buf: &mut RecordBuf,
+) -> Result<(), DiskFault>
+    requires size { IsRecordSize size }
+    requires place { place ≤ LAST_END }
+    ensures renamed { IsTrue (H.tells Role.Work) → (raw : RawRecord) (old : ℕ) → IsRawRecord raw → raw.name ≡ name → size ≡ record_size raw →
+        IsLaid (work_of H.Host host.old) place raw old →
+        MatchResult result (λ _. Writes (work_of H.Host host.old) (work_of H.Host host.new) place (with_name raw other) link) (IsWorkFault (H.faults host.old Role.Work) (H.faults host.new Role.Work)) }
+    ensures work { IsWorkOnly H.Host host.old host.new }
+    ensures fault { IfErr result (IsRecordFault (H.faults host.old Role.Work) (H.faults host.new Role.Work) place name) }
 {
-    class_of(buf.bytes().len() as u64).unwrap()
+    read_record(host, place, size, name, buf)?;
+    buf.rename(other);
+    write_record(host, place, buf, link)
+}
+
+// The size class of the block that the buffer's record wants.
+pub(crate) fn size_class_for(buf: &RecordBuf) -> u8
+    requires { HasRecord buf.now }
+    ensures { IsSizeClass result (record_size (raw_of buf.now)) }
+{
+    size_class_of(buf.bytes().len() as u64).unwrap()
 }
 
 // Takes a block for the buffer's record, writes it there with this link, and answers the place.
@@ -268,10 +276,10 @@ pub(crate) fn store<H: Host>(
         AreFew laid → from_of space.old < 2 ^ 61 → IfErr result (IsWorkFault (H.faults host.old Role.Work) (H.faults host.new Role.Work)) }
     ensures from { from_of space.new ≡ from_of space.old }
     ensures work { IsWorkOnly H.Host host.old host.new }
-    ensures fault { IfErr result (IsStoreFault (H.faults host.old Role.Work) (H.faults host.new Role.Work)) }
+    ensures fault { IfErr result (IsStoreFault space.old (raw_of buf.now) (H.faults host.old Role.Work) (H.faults host.new Role.Work)) }
 {
-    let place = space.take(host, class_for(buf))?;
-    if place > LAST_PLACE {
+    let place = space.take(host, size_class_for(buf))?;
+    if place > LAST_END {
         return Err(DiskFault::Damaged { place, name: 0 });
     }
     write_record(host, place, buf, link)?;

@@ -1,5 +1,5 @@
 // What is known of a disk without its host, and what each call does with a host.
-ghost use Rattle.std.specs.Prelude.{◌≡◌, ◌≢◌, ◌<◌, ◌≤◌, ◌^◌, ◌+ℤ◌, ℕ, List, [], ◌∷◌, pos, unsigned_abs, Option, None, Some, IsSome, IsTrue, IfSome, IfOk, IfErr, IsErr, OnOk, option_map};
+ghost use Rattle.std.specs.Prelude.{◌≡◌, ◌≢◌, ◌<◌, ◌≤◌, ◌^◌, ◌+ℤ◌, ℕ, List, [], ◌∷◌, pos, unsigned_abs, Option, None, Some, IsSome, IsTrue, IfSome, IfOk, IfErr, IsErr, OnOk, option_map, ◌⊎◌, ◌+◌, ◌*◌};
 ghost use Rattle.std.specs.FinMap as map;
 ghost use Rattle.std.specs.Int.{FitsUnsigned, w64};
 ghost use Rattle.std.specs.Option.{SomeIff};
@@ -7,18 +7,20 @@ ghost use Rattle.long_names.specs.Names.{IsName};
 ghost use Rattle.loom_outside.specs.declared.outside.Role.{Role};
 ghost use Rattle.object_record.specs.Buffer.{HasRecord, raw_of};
 ghost use Rattle.disk_objects.specs.Disk.{link_to};
-ghost use Rattle.work_directory.specs.Directory.{entries_of};
+ghost use Rattle.disk_objects.specs.Inside.{found_slot, held_slot};
+ghost use Rattle.work_directory.specs.Directory.{Holds, HoldsDirectory, IsChanged, entries_of, slots_of};
 ghost use Rattle.work_directory.specs.Table.{entry_of};
-ghost use Rattle.work_directory.specs.Work.{IsWorkOnly, IsWorkRead, work_of};
+ghost use Rattle.loom_outside.specs.Work.{IsWorkOnly, IsWorkRead, work_of};
 
 use crate::record::{
-    Head, LAST_PLACE, class_for, read_head, read_link, read_record, store, write_link, write_record,
+    Head, read_head, read_link, read_record, rename_record, size_class_for, store, write_link,
+    write_record,
 };
 use long_names::Name;
 use loom_outside::{DiskFault, Host};
 use object_record::RecordBuf;
-use work_directory::{Directory, Slot};
-use work_space::Space;
+use work_directory::{Directory, Found, MOST_NAMES, SLOT_BYTES, Slot, damaged};
+use work_space::{LAST_END, Space};
 
 /// What is left of a disk without its host: the directory, the blocks and the first pending name.
 #[derive(Drop)]
@@ -36,14 +38,42 @@ pub(crate) struct Held {
     head: Head,
 }
 
-// A name isn't there that is to be.
-fn missing(name: Name) -> DiskFault
-    ensures fault { result ≡ DiskFault.Damaged 0 name }
-    ensures name { IsName name }
+// The slot of a name that is held, and which one it is.
+#[derive(Clone, Copy)]
+pub(crate) struct HeldSlot {
+    at: u32,
+    slot: Slot,
+}
+
+// The slot that a search for a name found, None where it ended at an empty one. Damage is told of the slot.
+fn found_slot(found: Found, name: Name) -> Result<Option<Slot>, DiskFault>
+    ensures { result ≡ found_slot found name }
 {
-    DiskFault::Damaged {
-        place: 0,
-        name: name.get(),
+    match found {
+        Found::Held { at, slot } => {
+            if slot.place <= LAST_END {
+                Ok(Some(slot))
+            } else {
+                Err(damaged(at, name))
+            }
+        }
+        Found::Vacant { .. } => Ok(None),
+    }
+}
+
+// The slot of a name that is to be held. Damage is told of the slot where the search ended.
+fn held_slot(found: Found, name: Name) -> Result<HeldSlot, DiskFault>
+    ensures { result ≡ held_slot found name }
+{
+    match found {
+        Found::Held { at, slot } => {
+            if slot.place <= LAST_END {
+                Ok(HeldSlot { at, slot })
+            } else {
+                Err(damaged(at, name))
+            }
+        }
+        Found::Vacant { at } => Err(damaged(at, name)),
     }
 }
 
@@ -52,6 +82,17 @@ fn changed(count: u64, change: i64) -> Option<u64>
     ensures { SomeIff result (FitsUnsigned w64 (pos count +ℤ change)) (unsigned_abs (pos count +ℤ change)) }
 {
     count.checked_add_signed(change)
+}
+
+// The count of slot `at` after a change. Where there is none, damage is told of the slot.
+fn recount(count: u64, change: i64, at: u32, name: Name) -> Result<u64, DiskFault>
+    ensures count { IfOk result (λ n. n ≡ unsigned_abs (pos count +ℤ change)) }
+    ensures fault { IfErr result (λ fault. (fault ≡ DiskFault.Damaged (SLOT_BYTES * at) name) × (FitsUnsigned w64 (pos count +ℤ change) → ⊥)) }
+{
+    match changed(count, change) {
+        Some(count) => Ok(count),
+        None => Err(damaged(at, name)),
+    }
 }
 
 // The number that links to a name, 0 for none.
@@ -65,13 +106,14 @@ fn number_of(name: &Option<Name>) -> u64
 }
 
 impl DiskRest {
-    ghost use Rattle.disk_objects.specs.Calls.{Stands, StandsWith, IsIdle, CanChange, IsFault, IsGot, IsPutFault, TookFirst, changed_by};
-    ghost use Rattle.disk_objects.specs.Disk.{DiskObject, IsClass, IsDisk, Objects, disk_first, disk_held, disk_room, object_of, record_size};
+    ghost use Rattle.disk_objects.specs.Calls.{AreHeldNames, CanChange, HoldsObjects, HoldsSuch, IsEitherFault, IsFault, IsGot, IsHeldName, IsIdle, IsPutFault, TookFirst, changed_by, swapped};
+    ghost use Rattle.disk_objects.specs.Places.{IsReadPlace, IsSlotPlace};
+    ghost use Rattle.disk_objects.specs.Disk.{DiskObject, IsSizeClass, IsDisk, Objects, disk_first, disk_held, disk_room, object_of, record_size};
     ghost use Rattle.disk_objects.specs.Inside.{IsFound, IsHeld, IsSizedHeld, IsStepFault};
 
     pub(crate) fn new(room: u32) -> DiskRest
         requires some { 0 < room }
-        requires most { room ≤ 1048576 }
+        requires most { room ≤ MOST_NAMES }
         ensures disk { IsDisk result [] map.empty [] }
         ensures room { disk_room result ≡ room }
     {
@@ -99,33 +141,38 @@ impl DiskRest {
         self.directory.room()
     }
 
-    // The slot of a name.
+    // The slot of a name, None where it isn't held.
     fn find<H: Host>(&self, host: &mut H, name: Name) -> Result<Option<Slot>, DiskFault>
-        requires stands { Stands H.Host host.old self.now }
+        requires stands { HoldsObjects H.Host host.old self.now }
         ensures found { IfOk result (λ slot. IsTrue (H.tells Role.Work) → option_map entry_of slot ≡ map.get (entries_of self.now.directory (work_of H.Host host.old)) name) }
-        ensures place { IfOk result (λ slot. IfSome slot (λ s. s.place ≤ 2 ^ 62)) }
+        ensures place { IfOk result (λ slot. IfSome slot (λ s. s.place ≤ LAST_END)) }
         ensures read { IsWorkRead H.Host host.old host.new }
-        ensures fault { IfErr result (IsFault (H.tells Role.Work) (H.faults host.old Role.Work) (H.faults host.new Role.Work) name) }
+        ensures fault { IfErr result (IsFault (H.tells Role.Work) (H.faults host.old Role.Work) (H.faults host.new Role.Work) (IsSlotPlace self.now) name) }
     {
-        let Some(slot) = self.directory.find(host, name)? else {
-            return Ok(None);
-        };
-        if slot.place > LAST_PLACE {
-            return Err(DiskFault::Damaged {
-                place: slot.place,
-                name: name.get(),
-            });
-        }
-        Ok(Some(slot))
+        let found = self.directory.seek(host, name)?;
+        found_slot(found, name)
+    }
+
+    // The slot of a name that is held.
+    fn find_held<H: Host>(&self, host: &mut H, name: Name) -> Result<HeldSlot, DiskFault>
+        requires stands { HoldsSuch H.Host host.old self.now (IsHeldName name) }
+        ensures found { IfOk result (λ held. IsTrue (H.tells Role.Work) → map.get (entries_of self.now.directory (work_of H.Host host.old)) name ≡ Some (entry_of held.slot)) }
+        ensures place { IfOk result (λ held. held.slot.place ≤ LAST_END) }
+        ensures at { IfOk result (λ held. held.at < slots_of self.now.directory) }
+        ensures read { IsWorkRead H.Host host.old host.new }
+        ensures fault { IfErr result (IsFault (H.tells Role.Work) (H.faults host.old Role.Work) (H.faults host.new Role.Work) (IsSlotPlace self.now) name) }
+    {
+        let found = self.directory.seek(host, name)?;
+        held_slot(found, name)
     }
 
     // Where the object of a name stands, and what the first bytes of its record say.
     fn look<H: Host>(&self, host: &mut H, name: Name) -> Result<Option<Held>, DiskFault>
-        requires stands { Stands H.Host host.old self.now }
+        requires stands { HoldsObjects H.Host host.old self.now }
         ensures found { IsTrue (H.tells Role.Work) → IfOk result (IsFound self.now (work_of H.Host host.old) name) }
         ensures sized { IfOk result (λ held. IfSome held IsSizedHeld) }
         ensures read { IsWorkRead H.Host host.old host.new }
-        ensures fault { IfErr result (IsFault (H.tells Role.Work) (H.faults host.old Role.Work) (H.faults host.new Role.Work) name) }
+        ensures fault { IfErr result (IsFault (H.tells Role.Work) (H.faults host.old Role.Work) (H.faults host.new Role.Work) (IsReadPlace self.now) name) }
     {
         let Some(slot) = self.find(host, name)? else {
             return Ok(None);
@@ -138,18 +185,35 @@ impl DiskRest {
         }))
     }
 
+    // The same of a name that is held.
+    fn look_held<H: Host>(&self, host: &mut H, name: Name) -> Result<Held, DiskFault>
+        requires stands { HoldsSuch H.Host host.old self.now (IsHeldName name) }
+        ensures found { IsTrue (H.tells Role.Work) → IfOk result (IsHeld self.now (work_of H.Host host.old) name) }
+        ensures sized { IfOk result IsSizedHeld }
+        ensures read { IsWorkRead H.Host host.old host.new }
+        ensures fault { IfErr result (IsFault (H.tells Role.Work) (H.faults host.old Role.Work) (H.faults host.new Role.Work) (IsReadPlace self.now) name) }
+    {
+        let held = self.find_held(host, name)?;
+        let head = read_head(host, held.slot.place, name)?;
+        Ok(Held {
+            count: held.slot.count,
+            place: held.slot.place,
+            head,
+        })
+    }
+
     pub(crate) fn get<H: Host>(
         &self,
         host: &mut H,
         name: Name,
         buf: &mut RecordBuf,
     ) -> Result<bool, DiskFault>
-        requires stands { Stands H.Host host.old self.now }
-        ensures got { IsTrue (H.tells Role.Work) → (objects : Objects) (queue : List ℕ) → IsDisk self.now (work_of H.Host host.old) objects queue →
+        requires stands { HoldsObjects H.Host host.old self.now }
+        ensures got { IsTrue (H.tells Role.Work) → (objects : Objects) (pending : List ℕ) → IsDisk self.now (work_of H.Host host.old) objects pending →
             IfOk result (IsGot buf.new (map.get objects name)) }
         ensures record { IfOk result (λ held. IsTrue held → HasRecord buf.new × ((raw_of buf.new).name ≡ name)) }
         ensures read { IsWorkRead H.Host host.old host.new }
-        ensures fault { IfErr result (IsFault (H.tells Role.Work) (H.faults host.old Role.Work) (H.faults host.new Role.Work) name) }
+        ensures fault { IfErr result (IsFault (H.tells Role.Work) (H.faults host.old Role.Work) (H.faults host.new Role.Work) (IsReadPlace self.now) name) }
     {
         let Some(held) = self.look(host, name)? else {
             return Ok(false);
@@ -159,11 +223,11 @@ impl DiskRest {
     }
 
     pub(crate) fn count<H: Host>(&self, host: &mut H, name: Name) -> Result<Option<u64>, DiskFault>
-        requires stands { Stands H.Host host.old self.now }
-        ensures count { IsTrue (H.tells Role.Work) → (objects : Objects) (queue : List ℕ) → IsDisk self.now (work_of H.Host host.old) objects queue →
+        requires stands { HoldsObjects H.Host host.old self.now }
+        ensures count { IsTrue (H.tells Role.Work) → (objects : Objects) (pending : List ℕ) → IsDisk self.now (work_of H.Host host.old) objects pending →
             IfOk result (λ count. count ≡ option_map (λ (o : DiskObject). o.count) (map.get objects name)) }
         ensures read { IsWorkRead H.Host host.old host.new }
-        ensures fault { IfErr result (IsFault (H.tells Role.Work) (H.faults host.old Role.Work) (H.faults host.new Role.Work) name) }
+        ensures fault { IfErr result (IsFault (H.tells Role.Work) (H.faults host.old Role.Work) (H.faults host.new Role.Work) (IsSlotPlace self.now) name) }
     {
         match self.find(host, name)? {
             Some(slot) => Ok(Some(slot.count)),
@@ -177,78 +241,73 @@ impl DiskRest {
         name: Name,
         change: i64,
     ) -> Result<u64, DiskFault>
-        requires stands { StandsWith H.Host host.old self.old (CanChange name change) }
-        ensures counted { IsTrue (H.tells Role.Work) → (objects : Objects) (queue : List ℕ) → IsDisk self.old (work_of H.Host host.old) objects queue →
+        requires stands { HoldsSuch H.Host host.old self.old (CanChange name change) }
+        ensures counted { IsTrue (H.tells Role.Work) → (objects : Objects) (pending : List ℕ) → IsDisk self.old (work_of H.Host host.old) objects pending →
             (o : DiskObject) → map.get objects name ≡ Some o → IfOk result (λ count. (count ≡ changed_by o.count change)
-            × IsDisk self.new (work_of H.Host host.new) (map.insert objects name (record { raw = o.raw; count = count })) queue) }
+            × IsDisk self.new (work_of H.Host host.new) (map.insert objects name (record { raw = o.raw; count = count })) pending) }
+        ensures held { disk_held self.new ≡ disk_held self.old }
         ensures room { disk_room self.new ≡ disk_room self.old }
         ensures work { IsWorkOnly H.Host host.old host.new }
-        ensures fault { IfErr result (IsFault (H.tells Role.Work) (H.faults host.old Role.Work) (H.faults host.new Role.Work) name) }
+        ensures fault { IfErr result (IsFault (H.tells Role.Work) (H.faults host.old Role.Work) (H.faults host.new Role.Work) (IsSlotPlace self.old) name) }
     {
-        let Some(slot) = self.find(host, name)? else {
-            return Err(missing(name));
-        };
-        let Some(count) = changed(slot.count, change) else {
-            return Err(DiskFault::Damaged {
-                place: slot.place,
-                name: name.get(),
-            });
-        };
+        let held = self.find_held(host, name)?;
+        let count = recount(held.slot.count, change, held.at, name)?;
         let slot = Slot {
             name,
             count,
-            place: slot.place,
+            place: held.slot.place,
         };
         self.directory.set(host, slot)?;
         Ok(count)
     }
 
     pub(crate) fn put_pending<H: Host>(&mut self, host: &mut H, name: Name) -> Result<(), DiskFault>
-        requires stands { StandsWith H.Host host.old self.old (IsIdle name) }
-        ensures queued { IsTrue (H.tells Role.Work) → (objects : Objects) (queue : List ℕ) → IsDisk self.old (work_of H.Host host.old) objects queue →
-            IsIdle name objects queue → OnOk result (IsDisk self.new (work_of H.Host host.new) objects (name ∷ queue)) }
+        requires stands { HoldsSuch H.Host host.old self.old (IsIdle name) }
+        ensures put { IsTrue (H.tells Role.Work) → (objects : Objects) (pending : List ℕ) → IsDisk self.old (work_of H.Host host.old) objects pending →
+            IsIdle name objects pending → OnOk result (IsDisk self.new (work_of H.Host host.new) objects (name ∷ pending)) }
+        ensures held { disk_held self.new ≡ disk_held self.old }
         ensures room { disk_room self.new ≡ disk_room self.old }
         ensures work { IsWorkOnly H.Host host.old host.new }
-        ensures fault { IfErr result (IsFault (H.tells Role.Work) (H.faults host.old Role.Work) (H.faults host.new Role.Work) name) }
+        ensures fault { IfErr result (IsFault (H.tells Role.Work) (H.faults host.old Role.Work) (H.faults host.new Role.Work) (IsSlotPlace self.old) name) }
     {
-        let Some(slot) = self.find(host, name)? else {
-            return Err(missing(name));
-        };
-        write_link(host, slot.place, number_of(&self.first))?;
+        let held = self.find_held(host, name)?;
+        write_link(host, held.slot.place, number_of(&self.first))?;
         self.first = Some(name);
         Ok(())
     }
 
     pub(crate) fn take_pending<H: Host>(&mut self, host: &mut H) -> Result<Option<Name>, DiskFault>
-        requires stands { Stands H.Host host.old self.old }
-        ensures took { IsTrue (H.tells Role.Work) → (objects : Objects) (queue : List ℕ) → IsDisk self.old (work_of H.Host host.old) objects queue →
-            IfOk result (TookFirst queue (IsDisk self.new (work_of H.Host host.new) objects)) }
+        requires stands { HoldsObjects H.Host host.old self.old }
+        ensures took { IsTrue (H.tells Role.Work) → (objects : Objects) (pending : List ℕ) → IsDisk self.old (work_of H.Host host.old) objects pending →
+            IfOk result (TookFirst pending (IsDisk self.new (work_of H.Host host.new) objects)) }
         ensures first { IfOk result (λ name. name ≡ disk_first self.old) }
+        ensures held { disk_held self.new ≡ disk_held self.old }
         ensures room { disk_room self.new ≡ disk_room self.old }
         ensures read { IsWorkRead H.Host host.old host.new }
-        ensures fault { IfErr result (IsFault (H.tells Role.Work) (H.faults host.old Role.Work) (H.faults host.new Role.Work) (link_to (disk_first self.old))) }
+        ensures fault { IfErr result (IsFault (H.tells Role.Work) (H.faults host.old Role.Work) (H.faults host.new Role.Work) (IsReadPlace self.old) (link_to (disk_first self.old))) }
     {
         let Some(name) = self.first else {
             return Ok(None);
         };
-        let Some(slot) = self.find(host, name)? else {
-            return Err(missing(name));
-        };
-        self.first = read_link(host, slot.place, name)?;
+        // for the prover: a name is above 0
+        let _word = name.get();
+        let held = self.find_held(host, name)?;
+        self.first = read_link(host, held.slot.place, name)?;
         Ok(Some(name))
     }
 
     // Adds the buffer's record, whose name isn't held, with this count.
     fn add<H: Host>(&mut self, host: &mut H, buf: &RecordBuf, count: u64) -> Result<(), DiskFault>
         requires record { HasRecord buf.now }
-        requires stands { Stands H.Host host.old self.old }
+        requires stands { HoldsObjects H.Host host.old self.old }
         requires absent { IsTrue (H.tells Role.Work) → map.get (entries_of self.old.directory (work_of H.Host host.old)) (raw_of buf.now).name ≡ None }
         requires room { disk_held self.old < disk_room self.old }
-        ensures put { IsTrue (H.tells Role.Work) → (objects : Objects) (queue : List ℕ) → IsDisk self.old (work_of H.Host host.old) objects queue →
-            OnOk result (IsDisk self.new (work_of H.Host host.new) (map.insert objects (raw_of buf.now).name (object_of (raw_of buf.now) count)) queue) }
+        ensures put { IsTrue (H.tells Role.Work) → (objects : Objects) (pending : List ℕ) → IsDisk self.old (work_of H.Host host.old) objects pending →
+            OnOk result (IsDisk self.new (work_of H.Host host.new) (map.insert objects (raw_of buf.now).name (object_of (raw_of buf.now) count)) pending) }
+        ensures held { OnOk result (disk_held self.new ≡ disk_held self.old + 1) }
         ensures room { disk_room self.new ≡ disk_room self.old }
         ensures work { IsWorkOnly H.Host host.old host.new }
-        ensures fault { IfErr result (IsStepFault (H.tells Role.Work) (H.faults host.old Role.Work) (H.faults host.new Role.Work) (raw_of buf.now).name) }
+        ensures fault { IfErr result (IsStepFault (H.tells Role.Work) (H.faults host.old Role.Work) (H.faults host.new Role.Work) self.old (raw_of buf.now)) }
     {
         let place = store(&mut self.space, host, buf, 0)?;
         let name = buf.name();
@@ -264,15 +323,16 @@ impl DiskRest {
         count: u64,
     ) -> Result<(), DiskFault>
         requires record { HasRecord buf.now }
-        requires stands { Stands H.Host host.old self.old }
+        requires stands { HoldsObjects H.Host host.old self.old }
         requires held { IsTrue (H.tells Role.Work) → IsHeld self.old (work_of H.Host host.old) (raw_of buf.now).name held }
         requires sized { IsSizedHeld held }
-        requires class { IsClass held.head.class (record_size (raw_of buf.now)) }
-        ensures put { IsTrue (H.tells Role.Work) → (objects : Objects) (queue : List ℕ) → IsDisk self.old (work_of H.Host host.old) objects queue →
-            OnOk result (IsDisk self.new (work_of H.Host host.new) (map.insert objects (raw_of buf.now).name (object_of (raw_of buf.now) count)) queue) }
+        requires class { IsSizeClass held.head.class (record_size (raw_of buf.now)) }
+        ensures put { IsTrue (H.tells Role.Work) → (objects : Objects) (pending : List ℕ) → IsDisk self.old (work_of H.Host host.old) objects pending →
+            OnOk result (IsDisk self.new (work_of H.Host host.new) (map.insert objects (raw_of buf.now).name (object_of (raw_of buf.now) count)) pending) }
+        ensures held { disk_held self.new ≡ disk_held self.old }
         ensures room { disk_room self.new ≡ disk_room self.old }
         ensures work { IsWorkOnly H.Host host.old host.new }
-        ensures fault { IfErr result (IsStepFault (H.tells Role.Work) (H.faults host.old Role.Work) (H.faults host.new Role.Work) (raw_of buf.now).name) }
+        ensures fault { IfErr result (IsStepFault (H.tells Role.Work) (H.faults host.old Role.Work) (H.faults host.new Role.Work) self.old (raw_of buf.now)) }
     {
         let place = held.place;
         write_record(host, place, buf, held.head.link)?;
@@ -289,15 +349,16 @@ impl DiskRest {
         count: u64,
     ) -> Result<(), DiskFault>
         requires record { HasRecord buf.now }
-        requires stands { Stands H.Host host.old self.old }
+        requires stands { HoldsObjects H.Host host.old self.old }
         requires held { IsTrue (H.tells Role.Work) → IsHeld self.old (work_of H.Host host.old) (raw_of buf.now).name held }
         requires sized { IsSizedHeld held }
-        requires class { IsClass held.head.class (record_size (raw_of buf.now)) → ⊥ }
-        ensures put { IsTrue (H.tells Role.Work) → (objects : Objects) (queue : List ℕ) → IsDisk self.old (work_of H.Host host.old) objects queue →
-            OnOk result (IsDisk self.new (work_of H.Host host.new) (map.insert objects (raw_of buf.now).name (object_of (raw_of buf.now) count)) queue) }
+        requires class { IsSizeClass held.head.class (record_size (raw_of buf.now)) → ⊥ }
+        ensures put { IsTrue (H.tells Role.Work) → (objects : Objects) (pending : List ℕ) → IsDisk self.old (work_of H.Host host.old) objects pending →
+            OnOk result (IsDisk self.new (work_of H.Host host.new) (map.insert objects (raw_of buf.now).name (object_of (raw_of buf.now) count)) pending) }
+        ensures held { disk_held self.new ≡ disk_held self.old }
         ensures room { disk_room self.new ≡ disk_room self.old }
         ensures work { IsWorkOnly H.Host host.old host.new }
-        ensures fault { IfErr result (IsStepFault (H.tells Role.Work) (H.faults host.old Role.Work) (H.faults host.new Role.Work) (raw_of buf.now).name) }
+        ensures fault { IfErr result (IsStepFault (H.tells Role.Work) (H.faults host.old Role.Work) (H.faults host.new Role.Work) self.old (raw_of buf.now)) }
     {
         let place = store(&mut self.space, host, buf, held.head.link)?;
         let name = buf.name();
@@ -312,14 +373,15 @@ impl DiskRest {
         count: u64,
     ) -> Result<(), DiskFault>
         requires record { HasRecord buf.now }
-        requires stands { Stands H.Host host.old self.old }
-        ensures put { IsTrue (H.tells Role.Work) → (objects : Objects) (queue : List ℕ) → IsDisk self.old (work_of H.Host host.old) objects queue →
-            OnOk result (IsDisk self.new (work_of H.Host host.new) (map.insert objects (raw_of buf.now).name (object_of (raw_of buf.now) count)) queue) }
-        ensures full { IsTrue (H.tells Role.Work) → (objects : Objects) (queue : List ℕ) → IsDisk self.old (work_of H.Host host.old) objects queue →
+        requires stands { HoldsObjects H.Host host.old self.old }
+        ensures put { IsTrue (H.tells Role.Work) → (objects : Objects) (pending : List ℕ) → IsDisk self.old (work_of H.Host host.old) objects pending →
+            OnOk result (IsDisk self.new (work_of H.Host host.new) (map.insert objects (raw_of buf.now).name (object_of (raw_of buf.now) count)) pending) }
+        ensures full { IsTrue (H.tells Role.Work) → (objects : Objects) (pending : List ℕ) → IsDisk self.old (work_of H.Host host.old) objects pending →
             disk_held self.old ≡ disk_room self.old → map.get objects (raw_of buf.now).name ≡ None → IsErr result }
+        ensures held { OnOk result ((disk_held self.new ≡ disk_held self.old) ⊎ (disk_held self.new ≡ disk_held self.old + 1)) }
         ensures room { disk_room self.new ≡ disk_room self.old }
         ensures work { IsWorkOnly H.Host host.old host.new }
-        ensures fault { IfErr result (IsPutFault H.Host host.old host.new self.old self.new (raw_of buf.now).name) }
+        ensures fault { IfErr result (IsPutFault H.Host host.old host.new self.old self.new (raw_of buf.now)) }
     {
         let Some(held) = self.look(host, buf.name())? else {
             let held = self.directory.len();
@@ -329,7 +391,7 @@ impl DiskRest {
             }
             return self.add(host, buf, count);
         };
-        if class_for(buf) == held.head.class {
+        if size_class_for(buf) == held.head.class {
             self.rewrite(host, held, buf, count)
         } else {
             self.relocate(host, held, buf, count)
@@ -337,18 +399,75 @@ impl DiskRest {
     }
 
     pub(crate) fn remove<H: Host>(&mut self, host: &mut H, name: Name) -> Result<(), DiskFault>
-        requires stands { StandsWith H.Host host.old self.old (IsIdle name) }
-        ensures removed { IsTrue (H.tells Role.Work) → (objects : Objects) (queue : List ℕ) → IsDisk self.old (work_of H.Host host.old) objects queue →
-            IsIdle name objects queue → OnOk result (IsDisk self.new (work_of H.Host host.new) (map.remove objects name) queue) }
+        requires stands { HoldsSuch H.Host host.old self.old (IsIdle name) }
+        ensures removed { IsTrue (H.tells Role.Work) → (objects : Objects) (pending : List ℕ) → IsDisk self.old (work_of H.Host host.old) objects pending →
+            IsIdle name objects pending → OnOk result (IsDisk self.new (work_of H.Host host.new) (map.remove objects name) pending) }
+        ensures held { OnOk result (disk_held self.new + 1 ≡ disk_held self.old) }
         ensures room { disk_room self.new ≡ disk_room self.old }
         ensures work { IsWorkOnly H.Host host.old host.new }
-        ensures fault { IfErr result (IsFault (H.tells Role.Work) (H.faults host.old Role.Work) (H.faults host.new Role.Work) name) }
+        ensures fault { IfErr result (IsFault (H.tells Role.Work) (H.faults host.old Role.Work) (H.faults host.new Role.Work) (IsReadPlace self.old) name) }
     {
-        let Some(held) = self.look(host, name)? else {
-            return Err(missing(name));
-        };
+        let held = self.look_held(host, name)?;
         self.directory.remove(host, name)?;
         let class = held.head.class;
         self.space.give(host, held.place, class)
+    }
+
+    pub(crate) fn swap<H: Host>(
+        &mut self,
+        host: &mut H,
+        a: Name,
+        b: Name,
+        buf: &mut RecordBuf,
+    ) -> Result<(), DiskFault>
+        requires stands { HoldsSuch H.Host host.old self.old (AreHeldNames a b) }
+        ensures swapped { IsTrue (H.tells Role.Work) → (objects : Objects) (pending : List ℕ) → IsDisk self.old (work_of H.Host host.old) objects pending →
+            OnOk result (IsDisk self.new (work_of H.Host host.new) (swapped objects a b) pending) }
+        ensures held { disk_held self.new ≡ disk_held self.old }
+        ensures room { disk_room self.new ≡ disk_room self.old }
+        ensures work { IsWorkOnly H.Host host.old host.new }
+        ensures fault { IfErr result (IsEitherFault (H.tells Role.Work) (H.faults host.old Role.Work) (H.faults host.new Role.Work) (IsReadPlace self.old) a b) }
+    {
+        if a.get() == b.get() {
+            return Ok(());
+        }
+        let one = self.look_held(host, a)?;
+        let two = self.look_held(host, b)?;
+        rename_record(host, one.place, one.head.size, a, b, two.head.link, buf)?;
+        rename_record(host, two.place, two.head.size, b, a, one.head.link, buf)?;
+        self.exchange(host, one, two, a, b)
+    }
+
+    // Exchanges the places of the slots of two names.
+    fn exchange<H: Host>(
+        &mut self,
+        host: &mut H,
+        one: Held,
+        two: Held,
+        a: Name,
+        b: Name,
+    ) -> Result<(), DiskFault>
+        requires stands { HoldsDirectory H.Host host.old self.old.directory }
+        requires one { Holds H.Host host.old self.old.directory a }
+        requires two { Holds H.Host host.old self.old.directory b }
+        ensures exchanged { IsTrue (H.tells Role.Work) → OnOk result (IsChanged self.old.directory
+            (map.insert (map.insert (entries_of self.old.directory (work_of H.Host host.old)) a (record { count = one.count; place = two.place })) b (record { count = two.count; place = one.place }))
+            (work_of H.Host host.old) (work_of H.Host host.new)) }
+        ensures still { self.new ≡ self.old }
+        ensures work { IsWorkOnly H.Host host.old host.new }
+        ensures fault { IfErr result (IsEitherFault (H.tells Role.Work) (H.faults host.old Role.Work) (H.faults host.new Role.Work) (IsReadPlace self.old) a b) }
+    {
+        let first = Slot {
+            name: a,
+            count: one.count,
+            place: two.place,
+        };
+        self.directory.set(host, first)?;
+        let second = Slot {
+            name: b,
+            count: two.count,
+            place: one.place,
+        };
+        self.directory.set(host, second)
     }
 }

@@ -3,8 +3,8 @@ ghost use Rattle.std.specs.Prelude.{◌≡◌, ◌<◌, ◌≤◌, ℕ, List, []
 ghost use Rattle.std.specs.FinMap as map;
 ghost use Rattle.loom_outside.specs.declared.outside.Role.{Role};
 ghost use Rattle.object_record.specs.Buffer.{HasRecord, raw_of};
-ghost use Rattle.work_directory.specs.Work.{work_of};
-ghost use Rattle.disk_objects.specs.Calls.{Stands};
+ghost use Rattle.loom_outside.specs.Work.{work_of};
+ghost use Rattle.disk_objects.specs.Calls.{HoldsObjects};
 ghost use Rattle.disk_objects.specs.Disk.{IsDisk, Objects, object_of};
 
 mod silent;
@@ -28,6 +28,8 @@ enum Step {
     Count(u32, Option<u64>),
     AddCount(u32, i64, Result<u64, DiskFault>),
     Remove(u32, Result<(), DiskFault>),
+    // two names
+    Swap(u32, u32, Result<(), DiskFault>),
     PutPending(u32, Result<(), DiskFault>),
     TakePending(Result<Option<u32>, DiskFault>),
     Len(u32),
@@ -90,6 +92,9 @@ fn run(
             assert_eq!(rt; disk.add_count(name(word)?, change), want, "of {word}");
         }
         Step::Remove(word, want) => assert_eq!(rt; disk.remove(name(word)?), want, "of {word}"),
+        Step::Swap(a, b, want) => {
+            assert_eq!(rt; disk.swap(name(a)?, name(b)?, buf), want, "of {a} and {b}");
+        }
         Step::PutPending(word, want) => {
             assert_eq!(rt; disk.put_pending(name(word)?), want, "of {word}");
         }
@@ -123,7 +128,8 @@ fn check(rt: &impl Abort, alloc: Global, steps: &[Step]) -> Result<(), Fail> {
 #[test]
 fn objects_are_put_and_removed(rt: HostRuntime) -> Result<(), Fail> {
     let full = Full { held: 4, room: 4 };
-    let none = Damaged { place: 0, name: 2 };
+    // the search for a name that is gone ends at an empty slot: the one at its home
+    let none = Damaged { place: 24, name: 2 };
     let steps = [
         Step::Get(2, Ok(None)),
         Step::Put(2, 3, 5, Ok(())),
@@ -149,6 +155,14 @@ fn objects_are_put_and_removed(rt: HostRuntime) -> Result<(), Fail> {
         Step::TakePending(Ok(None)),
         Step::Get(2, Ok(Some(50))),
         Step::Get(4, Ok(Some(90))),
+        Step::PutPending(4, Ok(())),
+        Step::Swap(2, 4, Ok(())),
+        Step::Get(2, Ok(Some(90))),
+        Step::Get(4, Ok(Some(50))),
+        Step::Count(2, Some(9)),
+        Step::TakePending(Ok(Some(4))),
+        Step::Swap(4, 2, Ok(())),
+        Step::Swap(2, 2, Ok(())),
         Step::Put(6, 0, 0, Ok(())),
         Step::Shows(192, [0, 0, 0, 6, 0, 0, 0, 16]),
         Step::Put(8, 65_535, 1, Ok(())),
@@ -169,7 +183,8 @@ fn objects_are_put_and_removed(rt: HostRuntime) -> Result<(), Fail> {
 
 #[test]
 fn what_cannot_be_so_is_damaged(rt: HostRuntime) -> Result<(), Fail> {
-    let missing = Damaged { place: 0, name: 6 };
+    let missing = Damaged { place: 72, name: 6 };
+    let slot = Damaged { place: 24, name: 2 };
     let damaged = Damaged {
         place: 192,
         name: 2,
@@ -179,7 +194,7 @@ fn what_cannot_be_so_is_damaged(rt: HostRuntime) -> Result<(), Fail> {
         Step::AddCount(6, 1, Err(missing)),
         Step::Remove(6, Err(missing)),
         Step::PutPending(6, Err(missing)),
-        Step::AddCount(2, -6, Err(damaged)),
+        Step::AddCount(2, -6, Err(slot)),
         Step::PutPending(2, Ok(())),
         Step::Write(200, [0, 0, 0, 0, 0, 0, 0, 3]),
         Step::TakePending(Err(damaged)),
@@ -200,13 +215,7 @@ fn what_cannot_be_so_is_damaged(rt: HostRuntime) -> Result<(), Fail> {
         Step::Remove(2, Err(damaged)),
         // a place that is none
         Step::Write(40, [64, 0, 0, 0, 0, 0, 0, 1]),
-        Step::Get(
-            2,
-            Err(Damaged {
-                place: (1 << 62) + 1,
-                name: 2,
-            }),
-        ),
+        Step::Get(2, Err(slot)),
     ];
     check(&rt, rt.alloc(), &steps)
 }
@@ -266,10 +275,10 @@ fn put_both<H: Host>(
 ) -> Result<(), DiskFault>
     requires first { HasRecord first.now }
     requires second { HasRecord second.now }
-    requires stands { Stands H.Host disk.old.host.now disk.old.rest }
-    ensures put { IsTrue (H.tells Role.Work) → (objects : Objects) (queue : List ℕ) → IsDisk disk.old.rest (work_of H.Host disk.old.host.now) objects queue →
+    requires stands { HoldsObjects H.Host disk.old.host.now disk.old.rest }
+    ensures put { IsTrue (H.tells Role.Work) → (objects : Objects) (pending : List ℕ) → IsDisk disk.old.rest (work_of H.Host disk.old.host.now) objects pending →
         OnOk result (IsDisk disk.new.rest (work_of H.Host disk.new.host.now)
-        (map.insert (map.insert objects (raw_of first.now).name (object_of (raw_of first.now) 1)) (raw_of second.now).name (object_of (raw_of second.now) 2)) queue) }
+        (map.insert (map.insert objects (raw_of first.now).name (object_of (raw_of first.now) 1)) (raw_of second.now).name (object_of (raw_of second.now) 2)) pending) }
 {
     disk.put(first, 1)?;
     disk.put(second, 2)

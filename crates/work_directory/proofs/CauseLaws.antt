@@ -1,24 +1,16 @@
 -- Why calls failed, from why the calls inside them did.
-use Rattle.std.proofs.Common.{◌≡◌, ℕ, ◌*◌, ◌<◌, ◌≤◌, Some, None, IsTrue, Result, Ok, Err, IfErr, refl, sym, subst, arith}
-use Rattle.std.specs.Result.{IsErrAnd}
+use Rattle.std.proofs.Common.{◌≡◌, ℕ, ◌*◌, ◌<◌, ◌≤◌, Some, None, IsTrue, refl, sym, subst, arith}
+use Rattle.loom_outside.proofs.WorkLaws.{failed-later}
 use Rattle.loom_outside.specs.declared.outside.Host.{Ghosts}
 use Rattle.loom_outside.specs.declared.outside.Role.TheVariants.{Work as OfWork}
 use Rattle.loom_outside.specs.declared.outside.DiskFault.{DiskFault}
 use Rattle.loom_outside.specs.declared.outside.DiskFault.TheVariants.{Work, Full, Damaged}
 use Rattle.work_directory.specs.Inside.{IsLookCause, IsWriteCause}
 use Rattle.work_directory.specs.Slots.{bytes_of, IsSpelled}
-use Rattle.work_directory.specs.Work.{work_of, HasFailed, IsDamaged, IsCause, IsSlotCause}
-
--- a fault that leaves by a `?`
-pub exits : {T : Type 0} (r : Result T DiskFault) (fault : DiskFault) (P : DiskFault → Type 0) → IsErrAnd r (λ y. y ≡ fault) → P fault
-    → IfErr r P
-exits (Ok x) fault P e p = absurd e
-exits (Err y) fault P e p = subst P (sym e) p
+use Rattle.work_directory.specs.Work.{IsDamaged, IsCause, IsSlotCause}
+use Rattle.loom_outside.specs.Work.{work_of}
 
 module _ {H : Type 0} (host : Ghosts H) where
-  failed-later : (a b c : H) (count : ℕ) → host.faults a OfWork ≤ host.faults b OfWork → HasFailed host b c count → HasFailed host a c count
-  failed-later a b c count l f = record { count_is = f.count_is; rose = let r = f.rose in omega arith }
-
   -- damage at a slot, over a host that doesn't tell Work
   pub damaged-at : (n at place : ℕ) → place ≡ 24 * at → at < n → (IsTrue (host.tells OfWork) → ⊥) → IsDamaged host (24 * n) place
   damaged-at n at place here within untold = record { untold = untold; whole = omega (arith, here); below = omega (arith, here) }
@@ -31,21 +23,21 @@ module _ {H : Type 0} (host : Ghosts H) where
   pub look-cause : (a b c : H) (n at name : ℕ) (fault : DiskFault) → at < n → host.faults a OfWork ≤ host.faults b OfWork
       → (IsTrue (host.tells OfWork) → IsSpelled (bytes_of (work_of host b) at))
       → IsLookCause host b c at (Some name) fault → IsCause host a c (24 * n) name fault
-  look-cause a b c n at name (Work count) within l spelled f = failed-later a b c count l f
+  look-cause a b c n at name (Work count) within l spelled f = failed-later host a b c count l f
   look-cause a b c n at name (Full held room) within l spelled f = f
   look-cause a b c n at name (Damaged place about) within l spelled
       f = (damaged-at n at place f.1 within (λ told. f.0 told (spelled told)), f.2)
 
   pub write-cause : (a b c : H) (e name : ℕ) (fault : DiskFault) → host.faults a OfWork ≤ host.faults b OfWork
       → IsWriteCause host b c fault → IsCause host a c e name fault
-  write-cause a b c e name (Work count) l f = failed-later a b c count l f
+  write-cause a b c e name (Work count) l f = failed-later host a b c count l f
   write-cause a b c e name (Full held room) l f = f
   write-cause a b c e name (Damaged place about) l f = absurd f
 
   -- a cause of a later call
   pub cause-later : (a b c : H) (e name : ℕ) (fault : DiskFault) → host.faults a OfWork ≤ host.faults b OfWork
       → IsCause host b c e name fault → IsCause host a c e name fault
-  cause-later a b c e name (Work count) l f = failed-later a b c count l f
+  cause-later a b c e name (Work count) l f = failed-later host a b c count l f
   cause-later a b c e name (Full held room) l f = f
   cause-later a b c e name (Damaged place about) l f = f
 

@@ -1,5 +1,5 @@
 -- What a search found in a directory, and what a change makes of it.
-use Rattle.std.proofs.Common.{◌≡◌, ◌≢◌, ℕ, ◌+◌, ◌-◌, ◌*◌, ◌<◌, List, Option, Some, None, sym, ap, ◌∙◌, subst, arith, inl, inr}
+use Rattle.std.proofs.Common.{◌≡◌, ◌≢◌, ℕ, ◌+◌, ◌-◌, ◌*◌, ◌<◌, List, Option, Some, None, Bool, IsTrue, Result, Ok, Err, IfOk, sym, ap, ◌∙◌, subst, arith, inl, inr}
 use Rattle.std.specs.FinMap as map
 use Rattle.std.specs.Option.{IsSome}
 use Rattle.probing.specs.Search.{IsVacancy, Puts}
@@ -9,9 +9,11 @@ use Rattle.probing.proofs.MapLaws.{get-map_of_held, get-map_of_vacant, put_map}
 use Rattle.probing.proofs.TableLaws.{put_table, set_table}
 use Rattle.work_directory.specs.declared.slot.Slot.{Slot}
 use Rattle.work_directory.specs.declared.directory.Directory.{Directory}
-use Rattle.work_directory.specs.declared.directory.Found.TheVariants.{Held}
-use Rattle.work_directory.specs.Directory.{room_of, held_of, slots_of, entries_of, IsIn, IsChanged}
-use Rattle.work_directory.specs.Inside.{Writes, IsOfName, Closes}
+use Rattle.work_directory.specs.declared.directory.Found.{Found}
+use Rattle.work_directory.specs.declared.directory.Found.TheVariants.{Held, Vacant}
+use Rattle.loom_outside.specs.declared.outside.DiskFault.{DiskFault}
+use Rattle.work_directory.specs.Directory.{room_of, held_of, slots_of, entries_of, found_entry, AnswersSearch, IsIn, IsOfName, IsChanged}
+use Rattle.work_directory.specs.Inside.{Writes, Closes}
 use Rattle.work_directory.specs.Slots.{slot_at, bytes_of, IsSpelled, AreSpelled}
 use Rattle.work_directory.specs.Table.{Entry, Entries, entry_of, name_at, entry_at}
 use Rattle.work_directory.specs.Work.{SameFrom}
@@ -43,6 +45,13 @@ pub found-vacant : (d : Directory) (w : List ℕ) (name at : ℕ) → IsIn d w �
     → map.get (entries_of d w) name ≡ None
 found-vacant d w name at is named v = ap (λ m. map.get m name) (entries_are d w) ∙ get-map_of_vacant (name_at w) (entry_at w)
     (slots_of d) (held_of d) name at is.table named v
+
+pub found-entry : (d : Directory) (w : List ℕ) (name : ℕ) (tells : Bool) (r : Result Found DiskFault) → (IsTrue tells → IsIn d w)
+    → IfOk r (IsOfName (slots_of d) name) → IfOk r (λ found. IsTrue tells → AnswersSearch w (slots_of d) name found)
+    → IfOk r (λ found. IsTrue tells → found_entry found ≡ map.get (entries_of d w) name)
+found-entry d w name tells (Err e) is of answers = tt
+found-entry d w name tells (Ok (Held at slot)) is of answers = λ told. sym (found-held d w name at slot (is told) of (answers told))
+found-entry d w name tells (Ok (Vacant at)) is of answers = λ told. sym (found-vacant d w name at (is told) of.1 (answers told))
 
 pub none-there : (o : Option Entry) → o ≡ None → IsSome o → ⊥
 none-there o e h = cc (rw e at h)

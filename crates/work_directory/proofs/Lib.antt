@@ -2,6 +2,5 @@ pub mod CauseLaws
 mod ChangeLaws
 pub mod ContentsLaws
 pub mod EntryLaws
-pub mod HostLaws
 mod SlotLaws
 mod UnderWay

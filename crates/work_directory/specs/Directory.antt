@@ -1,14 +1,19 @@
 -- What a directory in Work stands for: a map from names to entries.
-use Rattle.std.specs.Prelude.{◌≡◌, ℕ, ◌*◌, List, Option, None, IsSome, IsTrue}
+use Rattle.std.specs.Prelude.{◌≡◌, ◌≢◌, ◌<◌, ℕ, ◌*◌, List, Option, None, Some, IsSome, IsTrue}
 use Rattle.std.specs.FinMap as map
 use Rattle.loom_outside.specs.declared.outside.Host.{Ghosts}
 use Rattle.loom_outside.specs.declared.outside.Role.TheVariants.{Work}
+use Rattle.probing.specs.Search.{IsVacancy}
 use Rattle.probing.specs.Table.{map_of, IsTable}
+use Rattle.work_directory.specs.declared.directory.Found.{Found}
+use Rattle.work_directory.specs.declared.directory.Found.TheVariants.{Held, Vacant}
+use Rattle.work_directory.specs.declared.limits.TheConstants.{SLOT_BYTES}
 use Rattle.work_directory.specs.declared.slot.Slot.{Slot}
 use Rattle.work_directory.specs.declared.directory.Directory.{Directory}
 use Rattle.work_directory.specs.Slots.{slot_at, used_slot, AreSpelled}
-use Rattle.work_directory.specs.Table.{Entries, name_at, entry_at}
-use Rattle.work_directory.specs.Work.{SameFrom, work_of}
+use Rattle.work_directory.specs.Table.{Entry, Entries, entry_of, name_at, entry_at}
+use Rattle.work_directory.specs.Work.{SameFrom}
+use Rattle.loom_outside.specs.Work.{work_of}
 
 -- how many names it has room for, and how many it holds
 unfoldable pub room_of : Directory → ℕ
@@ -23,7 +28,7 @@ slots_of d = 2 * room_of d
 
 -- the place behind its last slot
 abbrev pub end_of : Directory → ℕ
-end_of d = 24 * slots_of d
+end_of d = SLOT_BYTES * slots_of d
 
 -- the entries that it has in these contents of Work
 unfoldable pub entries_of : Directory → List ℕ → Entries
@@ -32,6 +37,25 @@ entries_of d work = map_of (name_at work) (entry_at work) (slots_of d)
 -- slot i in these contents, where it isn't empty
 unfoldable pub shown_at : List ℕ → ℕ → Option Slot
 shown_at work i = used_slot (slot_at work i)
+
+-- ---- where a search ends
+
+-- the entry that a search found
+abbrev pub found_entry : Found → Option Entry
+found_entry (Held at slot) = Some (entry_of slot)
+found_entry (Vacant at) = None
+
+-- a search for this name ended within n slots, at one of this name or at an empty one
+abbrev pub IsOfName : ℕ → ℕ → Found → Type 0
+IsOfName n name (Held at slot) = (at < n) × (slot.name ≡ name) × (name ≢ 0)
+IsOfName n name (Vacant at) = (at < n) × (name ≢ 0)
+
+-- it ended at the slot that it tells, or at the empty slot that it met first
+abbrev pub AnswersSearch : List ℕ → ℕ → ℕ → Found → Type 0
+AnswersSearch work n name (Held at slot) = slot_at work at ≡ slot
+AnswersSearch work n name (Vacant at) = IsVacancy (name_at work) n name at
+
+-- ---- a directory in Work
 
 -- these contents of Work hold the directory
 pub record IsIn (d : Directory) (work : List ℕ) : Type 0 where
@@ -51,8 +75,8 @@ pub record IsChanged (d : Directory) (entries : Entries) (old new : List ℕ) : 
 -- ---- in Work of a host, where it tells Work
 
 -- Work holds the directory
-abbrev pub Stands : {H : Type 0} → Ghosts H → H → Directory → Type 0
-Stands host now d = IsTrue (host.tells Work) → IsIn d (work_of host now)
+abbrev pub HoldsDirectory : {H : Type 0} → Ghosts H → H → Directory → Type 0
+HoldsDirectory host now d = IsTrue (host.tells Work) → IsIn d (work_of host now)
 
 -- the entries that it has there
 abbrev pub entries_in : {H : Type 0} → Ghosts H → H → Directory → Entries

@@ -2,28 +2,29 @@
 use Rattle.std.specs.Prelude.{◌≡◌, ℕ, ◌*◌, ◌^◌, ◌%◌, ◌<◌, ◌==◌, List, ◌++◌, drop, replicate, Option, None, Some, if◌then◌else◌}
 use Rattle.byteorder.specs.Endian.{big_bytes, big_number}
 use Rattle.loom_outside.specs.Bytes.{window}
+use Rattle.work_directory.specs.declared.limits.TheConstants.{SLOT_BYTES}
 use Rattle.work_directory.specs.declared.slot.Slot.{Slot}
 
 -- an empty slot. No object has the name 0
 abbrev pub no_slot : Slot
 no_slot = record { name = 0; count = 0; place = 0 }
 
--- the 24 bytes of a slot
+-- the bytes of a slot
 abbrev pub spelling : Slot → List ℕ
 spelling s = big_bytes 4 s.name ++ replicate 4 0 ++ big_bytes 8 s.count ++ big_bytes 8 s.place
 
--- the slot that 24 bytes spell
+-- the slot that bytes spell
 abbrev pub slot_in : List ℕ → Slot
 slot_in bytes = record { name = big_number 4 bytes; count = big_number 8 (drop 8 bytes); place = big_number 8 (drop 16 bytes) }
 
--- 24 bytes spell a slot: the four bytes are zero, and its name is one of an object or 0
+-- bytes spell a slot: the four bytes are zero, and its name is one of an object or 0
 pub record IsSpelled (bytes : List ℕ) : Type 0 where
   pub zeros : big_number 4 (drop 4 bytes) ≡ 0
   pub even : big_number 4 bytes % 2 ≡ 0
 
 -- the bytes of slot i
 abbrev pub bytes_of : List ℕ → ℕ → List ℕ
-bytes_of work i = window work (24 * i) 24
+bytes_of work i = window work (SLOT_BYTES * i) SLOT_BYTES
 
 -- slot i of Work
 unfoldable pub slot_at : List ℕ → ℕ → Slot

@@ -1,6 +1,8 @@
 // A map from names to counts and places. What stands in Work behind its slots stays as it is.
-ghost use Rattle.std.specs.Prelude.{◌<◌, ◌≤◌};
+ghost use Rattle.std.specs.Prelude.{◌<◌, ◌≤◌, ◌*◌};
+ghost use Rattle.work_directory.specs.declared.limits.TheConstants.{MOST_NAMES};
 
+use crate::limits::{MOST_NAMES, SLOT_BYTES};
 use crate::slot::{Slot, clear, damaged, look, place_of, put};
 use long_names::Name;
 use loom_outside::{DiskFault, Host};
@@ -18,13 +20,13 @@ pub struct Directory {
     room: u32,
     held: u32,
     ghost some: { 0 < room },
-    ghost most: { room ≤ 1048576 },
+    ghost most: { room ≤ MOST_NAMES },
     ghost fits: { held ≤ room },
 }
 
-// Where the search for a name ended: at its slot, or at an empty one.
+/// Where the search for a name ended: at its slot, or at the empty slot that it met first.
 #[derive(Clone, Copy)]
-enum Found {
+pub enum Found {
     Held { at: u32, slot: Slot },
     Vacant { at: u32 },
 }
@@ -34,16 +36,17 @@ impl Directory {
     ghost use Rattle.std.specs.FinMap as map;
     ghost use Rattle.loom_outside.specs.declared.outside.DiskFault.TheVariants.{Full};
     ghost use Rattle.loom_outside.specs.declared.outside.Role.{Role};
-    ghost use Rattle.work_directory.specs.Directory.{room_of, held_of, slots_of, end_of, entries_of, shown_at, IsIn, Stands, entries_in, Holds, Lacks, Becomes};
-    ghost use Rattle.work_directory.specs.Inside.{IsOfName, AnswersSearch, Closes};
+    ghost use Rattle.work_directory.specs.Directory.{room_of, held_of, slots_of, end_of, entries_of, found_entry, shown_at, AnswersSearch, IsIn, IsOfName, HoldsDirectory, entries_in, Holds, Lacks, Becomes};
+    ghost use Rattle.work_directory.specs.Inside.{Closes};
     ghost use Rattle.work_directory.specs.Slots.{slot_at};
     ghost use Rattle.work_directory.specs.Table.{entry_of};
-    ghost use Rattle.work_directory.specs.Work.{work_of, IsWorkOnly, IsWorkRead, IsCause, IsSlotCause};
+    ghost use Rattle.work_directory.specs.Work.{IsCause, IsSlotCause};
+    ghost use Rattle.loom_outside.specs.Work.{work_of, IsWorkOnly, IsWorkRead};
 
     /// An empty directory with room for so many names, over an empty file.
     pub fn new(room: u32) -> Directory
         requires some { 0 < room }
-        requires most { room ≤ 1048576 }
+        requires most { room ≤ MOST_NAMES }
         ensures room { room_of result ≡ room }
         ensures held { held_of result ≡ 0 }
         ensures stands { IsIn result [] }
@@ -66,7 +69,7 @@ impl Directory {
     pub fn room(&self) -> u32
         ensures value { result ≡ room_of self.now }
         ensures some { 0 < result }
-        ensures most { result ≤ 1048576 }
+        ensures most { result ≤ MOST_NAMES }
     {
         self.room
     }
@@ -76,7 +79,7 @@ impl Directory {
     pub fn slots(&self) -> u32
         ensures value { result ≡ slots_of self.now }
         ensures some { 1 < result }
-        ensures most { result ≤ 2097152 }
+        ensures most { result ≤ 2 * MOST_NAMES }
     {
         2 * self.room
     }
@@ -84,14 +87,14 @@ impl Directory {
     /// The byte of Work behind its last slot: 48 times its room.
     pub fn end(&self) -> u64
         ensures value { result ≡ end_of self.now }
-        ensures most { result ≤ 50331648 }
+        ensures most { result ≤ SLOT_BYTES * (2 * MOST_NAMES) }
     {
         place_of(self.slots())
     }
 
     // Searches for a name.
-    fn seek<H: Host>(&self, host: &mut H, name: Name) -> Result<Found, DiskFault>
-        requires stands { Stands H.Host host.old self.now }
+    fn search<H: Host>(&self, host: &mut H, name: Name) -> Result<Found, DiskFault>
+        requires stands { HoldsDirectory H.Host host.old self.now }
         ensures name { IfOk result (IsOfName (slots_of self.now) name) }
         ensures found { IfOk result (λ found. IsTrue (H.tells Role.Work) → AnswersSearch (work_of H.Host host.old) (slots_of self.now) name found) }
         ensures read { IsWorkRead H.Host host.old host.new }
@@ -111,9 +114,21 @@ impl Directory {
         Err(damaged(turn(home, slots - 1, slots), name))
     }
 
+    /// Where the search for a name ends: at an empty slot exactly where the name isn't held.
+    pub fn seek<H: Host>(&self, host: &mut H, name: Name) -> Result<Found, DiskFault>
+        requires stands { HoldsDirectory H.Host host.old self.now }
+        ensures found { IfOk result (λ found. IsTrue (H.tells Role.Work) → found_entry found ≡ map.get (entries_in H.Host host.old self.now) name) }
+        ensures at { IfOk result (λ found. IsTrue (H.tells Role.Work) → AnswersSearch (work_of H.Host host.old) (slots_of self.now) name found) }
+        ensures name { IfOk result (IsOfName (slots_of self.now) name) }
+        ensures read { IsWorkRead H.Host host.old host.new }
+        ensures cause { IfErr result (IsCause H.Host host.old host.new (end_of self.now) name) }
+    {
+        self.search(host, name)
+    }
+
     /// The slot of a name: None exactly where it isn't held.
     pub fn find<H: Host>(&self, host: &mut H, name: Name) -> Result<Option<Slot>, DiskFault>
-        requires stands { Stands H.Host host.old self.now }
+        requires stands { HoldsDirectory H.Host host.old self.now }
         ensures found { IfOk result (λ slot. IsTrue (H.tells Role.Work) → option_map entry_of slot ≡ map.get (entries_in H.Host host.old self.now) name) }
         ensures name { IfOk result (λ slot. IfSome slot (λ s. s.name ≡ name)) }
         ensures read { IsWorkRead H.Host host.old host.new }
@@ -128,7 +143,7 @@ impl Directory {
     /// What stands in slot `i`, None where it is empty. Damage is told about the word in place of its name.
     pub fn slot<H: Host>(&self, host: &mut H, i: u32) -> Result<Option<Slot>, DiskFault>
         requires within { i < slots_of self.now }
-        requires stands { Stands H.Host host.old self.now }
+        requires stands { HoldsDirectory H.Host host.old self.now }
         ensures shown { IfOk result (λ slot. IsTrue (H.tells Role.Work) → slot ≡ shown_at (work_of H.Host host.old) i) }
         ensures read { IsWorkRead H.Host host.old host.new }
         ensures cause { IfErr result (IsSlotCause H.Host host.old host.new i) }
@@ -139,7 +154,7 @@ impl Directory {
     /// Adds a name that isn't held. Full exactly where as many are held as there is room for; nothing is done then.
     #[tactic(auto, unfolding(crate::specs::Directory::room_of, crate::specs::Directory::held_of))]
     pub fn add<H: Host>(&mut self, host: &mut H, slot: Slot) -> Result<(), DiskFault>
-        requires stands { Stands H.Host host.old self.old }
+        requires stands { HoldsDirectory H.Host host.old self.old }
         requires absent { Lacks H.Host host.old self.old slot.name }
         ensures added { OnOk result (Becomes H.Host host.old host.new self.new (map.insert (entries_in H.Host host.old self.old) slot.name (entry_of slot))) }
         ensures held { OnOk result (held_of self.new ≡ held_of self.old + 1) }
@@ -155,7 +170,7 @@ impl Directory {
                 room: self.room,
             });
         }
-        let at = match self.seek(host, slot.name)? {
+        let at = match self.search(host, slot.name)? {
             Found::Held { at, .. } => return Err(damaged(at, slot.name)),
             Found::Vacant { at } => at,
         };
@@ -167,14 +182,14 @@ impl Directory {
     /// Sets the count and the place of a name that is held.
     #[tactic(auto, unfolding(crate::specs::Directory::room_of, crate::specs::Directory::held_of))]
     pub fn set<H: Host>(&mut self, host: &mut H, slot: Slot) -> Result<(), DiskFault>
-        requires stands { Stands H.Host host.old self.old }
+        requires stands { HoldsDirectory H.Host host.old self.old }
         requires there { Holds H.Host host.old self.old slot.name }
         ensures set { OnOk result (Becomes H.Host host.old host.new self.new (map.insert (entries_in H.Host host.old self.old) slot.name (entry_of slot))) }
         ensures still { self.new ≡ self.old }
         ensures work { IsWorkOnly H.Host host.old host.new }
         ensures cause { IfErr result (IsCause H.Host host.old host.new (end_of self.old) slot.name) }
     {
-        match self.seek(host, slot.name)? {
+        match self.search(host, slot.name)? {
             Found::Held { at, .. } => put(host, at, &slot),
             Found::Vacant { at } => Err(damaged(at, slot.name)),
         }
@@ -183,7 +198,7 @@ impl Directory {
     /// Removes a name that is held.
     #[tactic(auto, unfolding(crate::specs::Directory::room_of, crate::specs::Directory::held_of))]
     pub fn remove<H: Host>(&mut self, host: &mut H, name: Name) -> Result<(), DiskFault>
-        requires stands { Stands H.Host host.old self.old }
+        requires stands { HoldsDirectory H.Host host.old self.old }
         requires there { Holds H.Host host.old self.old name }
         ensures removed { OnOk result (Becomes H.Host host.old host.new self.new (map.remove (entries_in H.Host host.old self.old) name)) }
         ensures held { OnOk result (held_of self.new + 1 ≡ held_of self.old) }
@@ -192,7 +207,7 @@ impl Directory {
         ensures work { IsWorkOnly H.Host host.old host.new }
         ensures cause { IfErr result (IsCause H.Host host.old host.new (end_of self.old) name) }
     {
-        let at = match self.seek(host, name)? {
+        let at = match self.search(host, name)? {
             Found::Held { at, .. } => at,
             Found::Vacant { at } => return Err(damaged(at, name)),
         };
@@ -207,7 +222,7 @@ impl Directory {
     // Takes out the slot `at` of a name: later ones move up over it, until the hole needs no filling.
     fn close_up<H: Host>(&self, host: &mut H, at: u32, name: Name) -> Result<(), DiskFault>
         requires within { at < slots_of self.now }
-        requires stands { Stands H.Host host.old self.now }
+        requires stands { HoldsDirectory H.Host host.old self.now }
         requires used { IsTrue (H.tells Role.Work) → (slot_at (work_of H.Host host.old) at).name ≢ 0 }
         ensures closed { OnOk result (IsTrue (H.tells Role.Work) → Closes (work_of H.Host host.old) (work_of H.Host host.new) (slots_of self.now) (held_of self.now) at) }
         ensures work { IsWorkOnly H.Host host.old host.new }

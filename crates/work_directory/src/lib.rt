@@ -10,16 +10,18 @@
 //! let slot = directory.find(host, name)?;
 //! ```
 //!
-//! Read `specs/Directory.antt` first, then `specs/Work.antt` for what a call leaves of the host and why it fails; `specs/Slots.antt`
-//! has the bytes, and `probing` how a name is found. The crate doesn't know what stands at a place: that is for the layers above.
+//! Read `specs/Directory.antt` first, then `specs/Work.antt` for why a call fails; `specs/Slots.antt` has the bytes, and `probing` how a
+//! name is found. The crate doesn't know what stands at a place: that is for the layers above.
 #![tactic(auto)]
 
 mod directory;
 pub mod laws;
+mod limits;
 mod slot;
 
-pub use directory::Directory;
-pub use slot::Slot;
+pub use directory::{Directory, Found};
+pub use limits::{MOST_NAMES, SLOT_BYTES};
+pub use slot::{Slot, damaged};
 
 #[cfg(test)]
 mod tests;

@@ -3,14 +3,12 @@ ghost use Rattle.std.specs.Prelude.{◌≡◌, ◌*◌, ◌<◌, ℕ, length, If
 ghost use Rattle.loom_outside.specs.declared.outside.DiskFault.TheVariants.{Damaged};
 ghost use Rattle.work_directory.specs.Inside.{Writes, IsLookCause, IsWriteCause};
 ghost use Rattle.work_directory.specs.Slots.{no_slot, spelling, slot_in, slot_at, used_slot, IsSpelled, FitsBytes};
-ghost use Rattle.work_directory.specs.Work.{work_of, IsWorkOnly, IsWorkRead};
+ghost use Rattle.loom_outside.specs.Work.{work_of, IsWorkOnly, IsWorkRead};
 
+use crate::limits::SLOT_BYTES;
 use byteorder::{BigEndian, ByteOrder};
 use long_names::Name;
 use loom_outside::{DiskFault, Failed, Host, Role};
-
-// The bytes of a slot.
-const SIZE: usize = 24;
 
 /// What a directory has under a name.
 #[derive(Clone, Copy, Debug, PartialEq, Eq)]
@@ -24,14 +22,14 @@ pub struct Slot {
 
 // The byte of Work where slot `at` begins.
 pub(crate) fn place_of(at: u32) -> u64
-    ensures { result ≡ 24 * at }
+    ensures { result ≡ SLOT_BYTES * at }
 {
-    SIZE as u64 * u64::from(at)
+    SLOT_BYTES as u64 * u64::from(at)
 }
 
-// What stands at slot `at` can't be so.
-pub(crate) fn damaged(at: u32, name: Name) -> DiskFault
-    ensures { result ≡ Damaged (24 * at) name }
+/// The fault that what stands at slot `at` can't be so. It is told about a name.
+pub fn damaged(at: u32, name: Name) -> DiskFault
+    ensures { result ≡ Damaged (SLOT_BYTES * at) name }
 {
     DiskFault::Damaged {
         place: place_of(at),
@@ -39,13 +37,13 @@ pub(crate) fn damaged(at: u32, name: Name) -> DiskFault
     }
 }
 
-fn spell(slot: &Slot) -> [u8; SIZE]
+fn spell(slot: &Slot) -> [u8; SLOT_BYTES]
     ensures bytes { result ≡ spelling slot.now }
     ensures fits { FitsBytes slot.now }
     ensures spelled { IsSpelled result }
 {
     let Slot { name, count, place } = *slot;
-    let mut bytes = [0; SIZE];
+    let mut bytes = [0; SLOT_BYTES];
     BigEndian::write_u32(&mut bytes, name.get());
     BigEndian::write_u64(&mut bytes[8..], count);
     BigEndian::write_u64(&mut bytes[16..], place);
@@ -54,7 +52,7 @@ fn spell(slot: &Slot) -> [u8; SIZE]
 
 // The slot that these bytes spell, None for an empty one. Where they spell none, the word in place of the name.
 fn parse(bytes: &[u8]) -> Result<Option<Slot>, u32>
-    requires size { length bytes.now ≡ 24 }
+    requires size { length bytes.now ≡ SLOT_BYTES }
     ensures slot { IfOk result (λ slot. slot ≡ used_slot (slot_in bytes.now)) }
     ensures spelled { OnOk result (IsSpelled bytes.now) }
     ensures other { OnErr result (IsSpelled bytes.now → ⊥) }
@@ -93,7 +91,7 @@ pub(crate) fn look<H: Host>(
     ensures read { IsWorkRead H.Host host.old host.new }
     ensures cause { IfErr result (IsLookCause H.Host host.old host.new at sought) }
 {
-    let mut bytes = [0; SIZE];
+    let mut bytes = [0; SLOT_BYTES];
     if host.read_at(place_of(at), &mut bytes).is_err() {
         return Err(failed(host));
     }
@@ -124,11 +122,11 @@ pub(crate) fn clear<H: Host>(host: &mut H, at: u32) -> Result<(), DiskFault>
     ensures work { IsWorkOnly H.Host host.old host.new }
     ensures cause { IfErr result (IsWriteCause H.Host host.old host.new) }
 {
-    write(host, at, &[0; SIZE])
+    write(host, at, &[0; SLOT_BYTES])
 }
 
 fn write<H: Host>(host: &mut H, at: u32, bytes: &[u8]) -> Result<(), DiskFault>
-    requires size { length bytes.now ≡ 24 }
+    requires size { length bytes.now ≡ SLOT_BYTES }
     requires spelled { IsSpelled bytes.now }
     ensures writes { OnOk result (IsTrue (H.tells Role.Work) → (n : ℕ) → at < n → Writes (work_of H.Host host.old) (work_of H.Host host.new) n at (slot_in bytes.now)) }
     ensures work { IsWorkOnly H.Host host.old host.new }

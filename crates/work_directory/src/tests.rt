@@ -1,9 +1,9 @@
 // Tables of calls over a host that tells nothing, where any call may be made at any time, and a caller over a host that tells Work.
 ghost use Rattle.std.specs.Prelude.{◌≡◌, ◌<◌, ◌≤◌, IsTrue, OnOk};
 ghost use Rattle.std.specs.FinMap as map;
-ghost use Rattle.work_directory.specs.Directory.{Stands, entries_in, Becomes};
+ghost use Rattle.work_directory.specs.Directory.{HoldsDirectory, entries_in, Becomes};
 ghost use Rattle.work_directory.specs.Table.{entry_of};
-ghost use Rattle.work_directory.specs.Work.{IsWorkOnly};
+ghost use Rattle.loom_outside.specs.Work.{IsWorkOnly};
 
 mod silent;
 
@@ -29,7 +29,7 @@ enum Call {
     // a place in Work, and what is written there by no directory
     Write(u64, [u8; 8]),
     // a place in Work, and what stands there
-    Read(u64, [u8; 24]),
+    Read(u64, [u8; SLOT_BYTES]),
     // the call on Work of this number from now on fails
     Fail(u64),
 }
@@ -87,7 +87,7 @@ fn run(
             Ok(Ok(None))
         }
         Call::Read(place, want) => {
-            let mut bytes = [9; 24];
+            let mut bytes = [9; SLOT_BYTES];
             host.read_at(place, &mut bytes)?;
             assert_eq!(rt; bytes, want, "at {place}");
             Ok(Ok(None))
@@ -107,7 +107,7 @@ fn check(
     rows: &[(Call, Answer, u32)],
 ) -> Result<(), Fail>
     requires some { 0 < room }
-    requires most { room ≤ 1048576 }
+    requires most { room ≤ MOST_NAMES }
 {
     let mut host = Silent {
         host: MemoryHost::new(alloc, 1_000)?,
@@ -160,7 +160,7 @@ fn a_directory_is_filled_and_emptied(rt: HostRuntime) -> Result<(), Fail> {
             Ok(None),
             3,
         ),
-        (Call::Read(48, [0; 24]), Ok(None), 3),
+        (Call::Read(48, [0; SLOT_BYTES]), Ok(None), 3),
         (Call::Remove(30), Ok(None), 2),
         (Call::Remove(16), Ok(None), 1),
         (Call::Remove(2), Ok(None), 0),
@@ -262,7 +262,7 @@ fn calls_on_work_fail(rt: HostRuntime) -> Result<(), Fail> {
 
 // What a caller of any host knows by the contracts alone.
 fn store<H: Host>(directory: &mut Directory, host: &mut H, slot: &Slot) -> Result<(), DiskFault>
-    requires stands { Stands H.Host host.old directory.old }
+    requires stands { HoldsDirectory H.Host host.old directory.old }
     ensures stored { OnOk result (Becomes H.Host host.old host.new directory.new (map.insert (entries_in H.Host host.old directory.old) slot.now.name (entry_of slot.now))) }
     ensures work { IsWorkOnly H.Host host.old host.new }
 {
@@ -278,7 +278,7 @@ fn store_both<H: Host>(
     first: &Slot,
     second: &Slot,
 ) -> Result<(), DiskFault>
-    requires stands { Stands H.Host host.old directory.old }
+    requires stands { HoldsDirectory H.Host host.old directory.old }
     ensures entries { OnOk result (IsTrue (H.tells Role.Work) → entries_in H.Host host.new directory.new ≡ map.insert (map.insert (entries_in H.Host host.old directory.old) first.now.name (entry_of first.now)) second.now.name (entry_of second.now)) }
     ensures work { IsWorkOnly H.Host host.old host.new }
 {

@@ -10,7 +10,7 @@ use Rattle.work_space.proofs.FreeLaws.{times-cons, times-at, times-there, times-
 
 -- ---- their sizes
 
--- the bytes of the blocks of the first n classes
+-- the bytes of the blocks of the first n SIZE_CLASSES
 abbrev weight : ℕ → List ℕ → ℕ
 weight zero laid = 0
 weight (suc n) laid = weight n laid + times n laid * block_size n

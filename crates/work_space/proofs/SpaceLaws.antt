@@ -12,7 +12,8 @@ use Rattle.loom_outside.specs.Bytes.{window, overwritten}
 use Rattle.loom_outside.proofs.Windows.{window-overwritten_apart}
 use Rattle.work_space.specs.declared.space.Space.{Space}
 use Rattle.work_space.specs.Blocks.{block_size, put, laid_at, times, link_at, AreBlocks, AreFew}
-use Rattle.work_space.specs.Calls.{IsWorkFault, IsTakeFault, IsDamagedBy, IsFullAt}
+use Rattle.work_space.specs.Calls.{IsTakeFault, IsDamagedBy, IsFullAt}
+use Rattle.loom_outside.specs.Work.{IsWorkFault}
 use Rattle.work_space.specs.Space.{from_of, end_of, first_of, IsSpace, Takes, Gives, next_place, next_end, is_link, is_broken}
 use Rattle.work_space.proofs.BlockLaws.{none-some, size-least, size-most, end-least, laid-within, laid-apart, laid-step}
 use Rattle.work_space.proofs.CountLaws.{end-most, blocks-among}

@@ -1,48 +1,20 @@
--- What a call does with its host, and why it failed.
-use Rattle.std.specs.Prelude.{◌≡◌, ◌+◌, ◌<◌, ◌≤◌, ℕ, List, Bool, IsTrue, true}
-use Rattle.long_names.specs.Counting.{counted, Rose}
-use Rattle.loom_outside.specs.Outside.{SameBut, holds}
+-- Why a call failed.
+use Rattle.std.specs.Prelude.{◌≡◌, ◌+◌, ◌<◌, ℕ, Bool, true}
+use Rattle.long_names.specs.Counting.{Rose}
 use Rattle.loom_outside.specs.declared.outside.DiskFault.{DiskFault}
 use Rattle.loom_outside.specs.declared.outside.DiskFault.TheVariants as fault
-use Rattle.loom_outside.specs.declared.outside.Host.{Ghosts}
-use Rattle.loom_outside.specs.declared.outside.Role.{Role}
-use Rattle.loom_outside.specs.declared.outside.Role.TheVariants.{Work}
-use Rattle.work_space.specs.Blocks.{block_size, last_end}
+use Rattle.work_space.specs.Blocks.{block_size}
+use Rattle.work_space.specs.declared.limits.TheConstants.{LAST_END}
 use Rattle.work_space.specs.Space.{first_of, end_of, next_place}
 use Rattle.work_space.specs.declared.space.Space.{Space}
 
--- what Work contains
-abbrev pub contents_of : {H : Type 0} → Ghosts H → H → List ℕ
-contents_of host h = (host.roles h Work).contents
-
--- Work was read, or not even that: all that is told stays, and only faults of Work were counted
-pub record IsRead {H : Type 0} (host : Ghosts H) (old new : H) : Type 0 where
-  pub roles : (r : Role) → host.roles new r ≡ host.roles old r
-  pub other_faults : SameBut Work (host.faults old) (host.faults new)
-  pub later : host.faults old Work ≤ host.faults new Work
-  pub writes : host.writes new ≡ host.writes old
-
--- Work was written once: only its contents may have changed, and only faults of Work were counted
-pub record IsWritten {H : Type 0} (host : Ghosts H) (old new : H) : Type 0 where
-  pub others : SameBut Work (host.roles old) (host.roles new)
-  pub contents : IsTrue (host.tells Work) → (left : List ℕ) × (host.roles new Work ≡ holds left (host.roles old Work))
-  pub other_faults : SameBut Work (host.faults old) (host.faults new)
-  pub later : host.faults old Work ≤ host.faults new Work
-  pub writes : host.writes new ≡ counted (host.writes old)
-
--- a call on Work failed, and this is the count of its faults, which rose
-abbrev pub IsWorkFault : ℕ → ℕ → DiskFault → Type 0
-IsWorkFault before now (fault.Work count) = (count ≡ now) × Rose before now
-IsWorkFault before now (fault.Full held room) = ⊥
-IsWorkFault before now (fault.Damaged place name) = ⊥
-
--- Why no block of a class was taken: a call on Work failed, or Damaged names the block that can't be taken. Where none of the class
--- is free, that is a new one that would end behind the last place.
+-- Why no block of a size class was taken: a call on Work failed, or Damaged names the block that can't be taken. Where none of the size
+-- class is free, that is a new one that would end behind the last place.
 abbrev pub IsTakeFault : Space → ℕ → ℕ → ℕ → DiskFault → Type 0
 IsTakeFault s c before now (fault.Work count) = (count ≡ now) × Rose before now
 IsTakeFault s c before now (fault.Full held room) = ⊥
 IsTakeFault s c before now (fault.Damaged place name) =
-    (name ≡ 0) × (place ≡ next_place s c) × (first_of s c ≡ 0 → last_end < end_of s + block_size c)
+    (name ≡ 0) × (place ≡ next_place s c) × (first_of s c ≡ 0 → LAST_END < end_of s + block_size c)
 
 -- a fault is Damaged only where this is so
 abbrev pub IsDamagedBy : Bool → DiskFault → Type 0
@@ -52,8 +24,8 @@ IsDamagedBy broken (fault.Damaged place name) = broken ≡ true
 
 -- ---- inside
 
--- a new block of class c would begin at this end, and end behind the last place
+-- a new block of size class c would begin at this end, and end behind the last place
 abbrev pub IsFullAt : ℕ → ℕ → DiskFault → Type 0
 IsFullAt end c (fault.Work count) = ⊥
 IsFullAt end c (fault.Full held room) = ⊥
-IsFullAt end c (fault.Damaged place name) = (name ≡ 0) × (place ≡ end) × (last_end < end + block_size c)
+IsFullAt end c (fault.Damaged place name) = (name ≡ 0) × (place ≡ end) × (LAST_END < end + block_size c)

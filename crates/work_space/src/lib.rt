@@ -1,7 +1,7 @@
-//! Blocks in the work file: a block of class c has 32 * 2^c bytes, for c from 0 to 14.
+//! Blocks in the work file: a block of size class c has 32 * 2^c bytes, for c from 0 to 14.
 //!
 //! Blocks are laid one behind the other from a place on. A block that is given back is linked through Work itself into the list of its
-//! class, and taken again before a new one is laid. So `take` and `give` touch one link each, and take no memory.
+//! size class, and taken again before a new one is laid. So `take` and `give` touch one link each, and take no memory.
 //!
 //! ```text
 //! let mut space = Space::new(49_152);             // what Work holds before this place is the caller's
@@ -15,12 +15,14 @@
 //! may write. Read `specs/Blocks.antt` first, then `specs/Space.antt`, then `specs/Calls.antt`. The crate doesn't know what is in a block.
 #![tactic(auto)]
 
-mod class;
 pub mod laws;
+mod limits;
 mod link;
+mod size_class;
 mod space;
 
-pub use class::{block_bytes, class_of};
+pub use limits::{LAST_END, SIZE_CLASSES, SMALLEST_BLOCK};
+pub use size_class::{block_bytes, size_class_of};
 pub use space::Space;
 
 #[cfg(test)]

@@ -1,28 +1,24 @@
 // Blocks are taken and given back. Those that are out lie apart from one another, and a free one is taken before a new one is laid.
-use crate::class::{CLASSES, block_bytes};
+use crate::limits::{LAST_END, SIZE_CLASSES, SMALLEST_BLOCK};
 use crate::link::{read_link, write_link};
+use crate::size_class::block_bytes;
 use loom_outside::{DiskFault, Host, Role};
 
-/// The place behind which no block ends.
-const LAST: u64 = 1 << 62;
-
-/// The step in which blocks lie: the bytes of the smallest.
-const STEP: u64 = 32;
-
-/// The blocks of a work file, from a place on. It holds no more than where they begin and end and, for each class, the place of the
-/// first free block. Each free block holds the place of the next one of its class in its first 8 bytes, the highest first, and the
+/// The blocks of a work file, from a place on. It holds no more than where they begin and end and, for each size class, the place of the
+/// first free block. Each free block holds the place of the next one of its size class in its first 8 bytes, the highest first, and the
 /// last one 0. Which blocks are out is for the caller to know.
 #[derive(Drop)]
 pub struct Space {
     from: u64,
     end: u64,
-    heads: [u64; CLASSES],
+    heads: [u64; SIZE_CLASSES],
 }
 
 impl Space {
     ghost use Rattle.std.specs.Prelude.{◌≡◌, ◌+◌, ◌<◌, ◌≤◌, ◌^◌, ℕ, List, [], Option, None, Some, length, false, IsTrue, IfOk, IfErr, OnOk, OnErr, MatchResult};
-    ghost use Rattle.work_space.specs.Blocks.{AreFew, block_size, classes, last_end};
-    ghost use Rattle.work_space.specs.Calls.{IsRead, IsWritten, IsWorkFault, IsTakeFault, IsDamagedBy, IsFullAt, contents_of};
+    ghost use Rattle.work_space.specs.Blocks.{AreFew, block_size};
+    ghost use Rattle.work_space.specs.Calls.{IsTakeFault, IsDamagedBy, IsFullAt};
+    ghost use Rattle.loom_outside.specs.Work.{IsWorkRead, IsWorkWritten, IsWorkFault, work_of};
     ghost use Rattle.work_space.specs.Space.{IsSpace, Takes, Gives, end_of, from_of, first_of, is_broken, is_link, next_place, next_end};
 
     /// No block is laid. The first one will be laid at this place, and Work may contain anything before it.
@@ -35,7 +31,7 @@ impl Space {
         Space {
             from,
             end: from,
-            heads: [0; CLASSES],
+            heads: [0; SIZE_CLASSES],
         }
     }
 
@@ -47,22 +43,22 @@ impl Space {
         self.end
     }
 
-    /// Takes a block of a class, and answers its place: the first free one, or else a new one behind all others. Its bytes may be
+    /// Takes a block of a size class, and answers its place: the first free one, or else a new one behind all others. Its bytes may be
     /// anything. It is Damaged where the link of the free block can't be one, or a new one would end behind 2 to the 62.
     pub fn take<H: Host>(&mut self, host: &mut H, c: u8) -> Result<u64, DiskFault>
-        requires { c < classes }
+        requires { c < SIZE_CLASSES }
         ensures takes { IsTrue (H.tells Role.Work) → (laid : List ℕ) (out : ℕ → Option ℕ) →
-            IsSpace self.old (contents_of H.Host host.old) laid out → IfOk result (Takes self.old self.new (contents_of H.Host host.new) laid out c) }
+            IsSpace self.old (work_of H.Host host.old) laid out → IfOk result (Takes self.old self.new (work_of H.Host host.new) laid out c) }
         ensures place { IfOk result (λ place. (place ≡ next_place self.old c) × (end_of self.new ≡ next_end self.old c)) }
         ensures fault { IfErr result (IsTakeFault self.old c (H.faults host.old Role.Work) (H.faults host.new Role.Work)) }
-        ensures told { IsTrue (H.tells Role.Work) → let broken = is_broken self.old (contents_of H.Host host.old) c in
+        ensures told { IsTrue (H.tells Role.Work) → let broken = is_broken self.old (work_of H.Host host.old) c in
             MatchResult result (λ place. broken ≡ false) (IsDamagedBy broken) }
         ensures sound { IsTrue (H.tells Role.Work) → (laid : List ℕ) (out : ℕ → Option ℕ) →
-            IsSpace self.old (contents_of H.Host host.old) laid out → AreFew laid → from_of self.old < 2 ^ 61 →
+            IsSpace self.old (work_of H.Host host.old) laid out → AreFew laid → from_of self.old < 2 ^ 61 →
             IfErr result (IsWorkFault (H.faults host.old Role.Work) (H.faults host.new Role.Work)) }
         ensures from { from_of self.new ≡ from_of self.old }
         ensures err { OnErr result (self.new ≡ self.old) }
-        ensures host { IsRead H.Host host.old host.new }
+        ensures host { IsWorkRead H.Host host.old host.new }
     {
         let place = self.heads[c as usize];
         if place == 0 {
@@ -76,17 +72,17 @@ impl Space {
         Ok(place)
     }
 
-    /// Gives back the block of a class that is out at this place. After a fault Work may contain anything.
+    /// Gives back the block of a size class that is out at this place. After a fault Work may contain anything.
     pub fn give<H: Host>(&mut self, host: &mut H, place: u64, c: u8) -> Result<(), DiskFault>
-        requires { c < classes }
+        requires { c < SIZE_CLASSES }
         ensures gives { IsTrue (H.tells Role.Work) → (laid : List ℕ) (out : ℕ → Option ℕ) →
-            IsSpace self.old (contents_of H.Host host.old) laid out → out place ≡ Some c →
-            OnOk result (Gives self.old self.new (contents_of H.Host host.old) (contents_of H.Host host.new) laid out c place) }
+            IsSpace self.old (work_of H.Host host.old) laid out → out place ≡ Some c →
+            OnOk result (Gives self.old self.new (work_of H.Host host.old) (work_of H.Host host.new) laid out c place) }
         ensures fault { IfErr result (IsWorkFault (H.faults host.old Role.Work) (H.faults host.new Role.Work)) }
         ensures from { from_of self.new ≡ from_of self.old }
         ensures end { end_of self.new ≡ end_of self.old }
         ensures err { OnErr result (self.new ≡ self.old) }
-        ensures host { IsWritten H.Host host.old host.new }
+        ensures host { IsWorkWritten H.Host host.old host.new }
     {
         write_link(host, place, self.heads[c as usize])?;
         self.heads[c as usize] = place;
@@ -96,9 +92,9 @@ impl Space {
     /// Lays a new block behind all others.
     #[tactic(auto, unfolding(crate::specs::Space::from_of, crate::specs::Space::end_of, crate::specs::Space::first_of))]
     fn lay(&mut self, c: u8) -> Result<u64, DiskFault>
-        requires { c < classes }
+        requires { c < SIZE_CLASSES }
         ensures place { IfOk result (λ place. place ≡ end_of self.old) }
-        ensures room { OnOk result (end_of self.old + block_size c ≤ last_end) }
+        ensures room { OnOk result (end_of self.old + block_size c ≤ LAST_END) }
         ensures end { OnOk result (end_of self.new ≡ end_of self.old + block_size c) }
         ensures heads { (d : ℕ) → first_of self.new d ≡ first_of self.old d }
         ensures from { from_of self.new ≡ from_of self.old }
@@ -107,7 +103,7 @@ impl Space {
     {
         let place = self.end;
         let bytes = block_bytes(c);
-        if place > LAST - bytes {
+        if place > LAST_END - bytes {
             return Err(DiskFault::Damaged { place, name: 0 });
         }
         self.end = place + bytes;
@@ -118,6 +114,7 @@ impl Space {
     fn is_link(&self, link: u64) -> bool
         ensures { result ≡ is_link self.now link }
     {
-        link == 0 || (self.from <= link && link < self.end && (link - self.from) % STEP == 0)
+        link == 0
+            || (self.from <= link && link < self.end && (link - self.from) % SMALLEST_BLOCK == 0)
     }
 }

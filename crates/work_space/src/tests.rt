@@ -182,7 +182,7 @@ fn classes_have_room(rt: HostRuntime) {
         (524_289, None),
         (u64::MAX, None),
     ] {
-        assert_eq!(rt; class_of(bytes), class, "for {bytes}");
+        assert_eq!(rt; size_class_of(bytes), class, "for {bytes}");
     }
     for (c, bytes) in [(0, 32), (1, 64), (7, 4_096), (14, 524_288)] {
         assert!(rt; c < 15);

@@ -5,10 +5,10 @@ use Rattle.disk_objects.proofs.PutLaws.{held-most}
 use Rattle.disk_objects.proofs.laws.objects_are_records.Goals as goal
 
 pub returns-clause-count : goal.returns-clause-count
-returns-clause-count c = λ rest work objects queue k.
-    let len = disk-len rest work objects queue k in
+returns-clause-count c = λ rest work objects pending k.
+    let len = disk-len rest work objects pending k in
     let most = held-most rest.directory in
     (len, omega (arith, len, most))
 
 pub returns-clause-records : goal.returns-clause-records
-returns-clause-records c = λ rest work objects queue k name o is. record-there rest work objects queue k name o is
+returns-clause-records c = λ rest work objects pending k name o is. record-there rest work objects pending k name o is

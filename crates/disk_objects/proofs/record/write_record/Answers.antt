@@ -1,5 +1,5 @@
 use Rattle.object_record.specs.Buffer.{raw_of}
-use Rattle.work_directory.specs.Work.{work_of}
+use Rattle.loom_outside.specs.Work.{work_of}
 use Rattle.disk_objects.proofs.RecordLaws.{record-written-both}
 use Rattle.disk_objects.proofs.record.write_record.Goals as goal
 

@@ -1,8 +1,8 @@
 use Rattle.std.proofs.Common.{ap, arith}
 use Rattle.loom_outside.specs.Outside.{RoleState}
 use Rattle.loom_outside.specs.declared.outside.Role.TheVariants.{Work}
-use Rattle.work_directory.specs.Work.{work_of}
-use Rattle.work_directory.proofs.HostLaws.{holds-its}
+use Rattle.loom_outside.specs.Work.{work_of}
+use Rattle.loom_outside.proofs.WorkLaws.{holds-its}
 use Rattle.work_directory.proofs.SlotLaws.{writes}
 use Rattle.work_directory.proofs.slot.write.Goals as goal
 
@@ -18,7 +18,7 @@ returns-in-Ok-clause-work g c = record {
       (c.in-Ok.ensures.contents told);
   other_faults = c.in-Ok.ensures.other_faults;
   later = c.in-Ok.ensures.cause.later;
-  writes = omega (arith, c.in-Ok.ensures.writes);
+  writes = omega (arith, c.in-Ok.ensures.writes, c.in-Ok.ensures.limit);
 }
 
 pub returns-in-Err-clause-work : goal.returns-in-Err-clause-work
@@ -28,5 +28,5 @@ returns-in-Err-clause-work g c = record {
       (g.H.Host.roles c.write_at.new.self Work) l.0 l.1;
   other_faults = c.in-Err.ensures.other_faults;
   later = c.in-Err.ensures.cause.later;
-  writes = omega (arith, c.in-Err.ensures.writes);
+  writes = omega (arith, c.in-Err.ensures.writes, c.in-Err.ensures.limit);
 }

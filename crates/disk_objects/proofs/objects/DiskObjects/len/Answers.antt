@@ -1,8 +1,8 @@
 use Rattle.std.proofs.Common.{sym, ◌∙◌}
-use Rattle.work_directory.specs.Work.{work_of}
+use Rattle.loom_outside.specs.Work.{work_of}
 use Rattle.disk_objects.proofs.KeyLaws.{disk-len}
 use Rattle.disk_objects.proofs.objects.DiskObjects.len.Goals as goal
 
 pub returns-clause-objects : goal.returns-clause-objects
-returns-clause-objects g c told objects queue k =
-    c.len.ensures.value ∙ sym (disk-len c.args.self.now.rest (work_of g.H.Host c.args.self.now.host.now) objects queue k)
+returns-clause-objects g c told objects pending k =
+    c.len.ensures.value ∙ sym (disk-len c.args.self.now.rest (work_of g.H.Host c.args.self.now.host.now) objects pending k)

@@ -5,12 +5,13 @@ use Rattle.loom_outside.specs.declared.outside.Role.TheVariants.{Work}
 use Rattle.object_record.specs.Buffer.{raw_of}
 use Rattle.work_directory.specs.Directory.{entries_of}
 use Rattle.work_directory.specs.Table.{Entries}
-use Rattle.work_directory.specs.Work.{work_of}
+use Rattle.loom_outside.specs.Work.{work_of}
 use Rattle.disk_objects.specs.Inside.{IsStepFault}
-use Rattle.work_directory.proofs.CauseLaws.{exits}
+use Rattle.loom_outside.proofs.WorkLaws.{exits}
 use Rattle.disk_objects.proofs.FoundLaws.{disk-few, disk-from}
 use Rattle.disk_objects.proofs.DiskLaws.{changed-named}
-use Rattle.disk_objects.proofs.PutLaws.{store-added, put-added, store-sound}
+use Rattle.disk_objects.proofs.FaultLaws.{store-sound}
+use Rattle.disk_objects.proofs.PutLaws.{store-added, put-added}
 use Rattle.disk_objects.proofs.rest.DiskRest.add.Goals as goal
 
 pub returns-in_err-place-clause-fault : goal.returns-in_err-place-clause-fault
@@ -18,9 +19,9 @@ returns-in_err-place-clause-fault g c =
     let h = g.H.Host in
     let fault = c.in_err-place.field-0.0 in
     exits c.from_residual.result fault
-    (IsStepFault (h.tells Work) (h.faults c.args.host.now Work) (h.faults c.store.new.host Work) (raw_of c.args.buf.now).name)
+    (IsStepFault (h.tells Work) (h.faults c.args.host.now Work) (h.faults c.store.new.host Work) c.args.self.now (raw_of c.args.buf.now))
     c.from_residual.ensures.1
-    (store-sound (h.tells Work) (h.faults c.args.host.now Work) (h.faults c.store.new.host Work) (raw_of c.args.buf.now).name fault
+    (store-sound (h.tells Work) (h.faults c.args.host.now Work) (h.faults c.store.new.host Work) c.args.self.now (raw_of c.args.buf.now) fault
     (λ told.
     let v : List ℕ = work_of h c.args.host.now in
     let s = c.requires.stands told in
@@ -47,14 +48,14 @@ add-requires-clause-absent g c told =
     ∙ c.requires.absent told
 
 pub returns-clause-put : goal.returns-clause-put
-returns-clause-put g c told objects queue k =
+returns-clause-put g c told objects pending k =
     let h = g.H.Host in
     let rest = c.args.self.now in
     let raw = raw_of c.args.buf.now in
     let w : List ℕ = work_of h c.store.new.host in
     let x : List ℕ = work_of h c.add.new.host in
     on_ok_weaker c.add.result (λ ch.
-    put-added rest c.store.new.space c.add.new.self (work_of h c.args.host.now) w x objects queue raw c.in_ok-place.place c.args.count
+    put-added rest c.store.new.space c.add.new.self (work_of h c.args.host.now) w x objects pending raw c.in_ok-place.place c.args.count
     k (c.in_ok-place.ensures.stores told k.laid k.out k.kept.space.blocks) c.in_ok-place.ensures.from c.requires.record.is
     (c.requires.absent told) c.requires.room c.add.ensures.room
     (changed-named rest.directory c.add.new.self w x raw.name c.name-name.result _ c.name-name.ensures (ch told))) c.add.ensures.added

@@ -1,32 +1,33 @@
-use Rattle.std.proofs.Common.{◌≡◌, ℕ, List, sym, ap, ◌∙◌}
+use Rattle.std.proofs.Common.{◌≡◌, ℕ, List, Option, refl, subst, sym, ap, ◌∙◌}
+use Rattle.std.specs.Prelude.{IsSome}
 use Rattle.std.specs.Int.{w64}
 use Rattle.std.proofs.lemmas.Int.{to_z-of_z}
 use Rattle.work_directory.specs.Directory.{room_of}
-use Rattle.work_directory.specs.Work.{work_of}
+use Rattle.loom_outside.specs.Work.{work_of}
 use Rattle.work_directory.specs.Table.{entry_of}
 use Rattle.work_space.proofs.BlockLaws.{some-inside}
 use Rattle.disk_objects.specs.Calls.{changed_by}
 use Rattle.disk_objects.specs.Disk.{DiskObject}
-use Rattle.work_directory.proofs.HostLaws.{work-same}
+use Rattle.loom_outside.proofs.WorkLaws.{work-same}
 use Rattle.disk_objects.proofs.DiskLaws.{disk-recounted, changed-from}
 use Rattle.disk_objects.proofs.FoundLaws.{stored-there}
 use Rattle.disk_objects.proofs.rest.DiskRest.add_count.Goals as goal
 
-pub find-requires : goal.find-requires
-find-requires g c = record { stands = λ told. let s = c.requires.stands told in (s.0, s.1, s.2, tt) }
+pub find_held-requires : goal.find_held-requires
+find_held-requires g c = record { stands = λ told. let s = c.requires.stands told in (s.0, s.1, s.2, subst IsSome (sym s.3.1) refl) }
 
 pub returns-clause-counted : goal.returns-clause-counted
-returns-clause-counted g c told objects queue k o is =
+returns-clause-counted g c told objects pending k o is =
     let h = g.H.Host in
     let rest = c.args.self.now in
     let v : List ℕ = work_of h c.args.host.now in
-    let found = rw c.in-Some.is at (c.in_ok-slot.ensures.found told) in
-    let e = entry_of c.in-Some.slot in
-    let same = work-same h c.args.host.now c.find.new.host c.in_ok-slot.ensures.read in
-    let st = stored-there rest v objects queue k c.args.name e (sym found) in
-    let count : c.in-Some.slot.count ≡ o.count = sym (ap (λ (x : DiskObject). x.count) (some-inside (sym is ∙ st.1)) ∙ st.2.count) in (
-      c.in-Some-changed.ensures.1 ∙ ap (changed_by c.in-Some.slot.count) (to_z-of_z w64 c.args.change c.ranges.change) ∙ ap (λ (n : ℕ). changed_by n c.args.change) count,
-      disk-recounted rest c.set.new.self v (work_of h c.set.new.host) objects queue c.args.name c.in-Some-changed.count k e o (sym found) is
+    let found = c.in_ok-held.ensures.found told in
+    let e = entry_of c.in_ok-held.held.slot in
+    let same = work-same h c.args.host.now c.find_held.new.host c.in_ok-held.ensures.read in
+    let st = stored-there rest v objects pending k c.args.name e found in
+    let count : c.in_ok-held.held.slot.count ≡ o.count = sym (ap (λ (x : DiskObject). x.count) (some-inside (sym is ∙ st.1)) ∙ st.2.count) in (
+      c.in_ok-count.ensures.count ∙ ap (changed_by c.in_ok-held.held.slot.count) (to_z-of_z w64 c.args.change c.ranges.change) ∙ ap (λ (n : ℕ). changed_by n c.args.change) count,
+      disk-recounted rest c.set.new.self v (work_of h c.set.new.host) objects pending c.args.name c.in_ok-count.count k e o found is
           (ap room_of c.in_ok-set.ensures.still)
-          (changed-from rest.directory c.set.new.self (work_of h c.find.new.host) v (work_of h c.set.new.host) _ _ same (c.in_ok-set.ensures.set told)),
+          (changed-from rest.directory c.set.new.self (work_of h c.find_held.new.host) v (work_of h c.set.new.host) _ _ same (c.in_ok-set.ensures.set told)),
     )

@@ -1,16 +1,21 @@
-use Rattle.std.proofs.Common.{sym, arith}
-use Rattle.work_directory.specs.Work.{work_of}
-use Rattle.work_directory.specs.Table.{entry_of}
+use Rattle.std.proofs.Common.{ℕ, List, Result, IfErr, Option, sym, subst, ◌∙◌}
+use Rattle.loom_outside.specs.declared.outside.DiskFault.{DiskFault}
+use Rattle.loom_outside.specs.declared.outside.Role.TheVariants.{Work}
+use Rattle.loom_outside.specs.Work.{work_of}
+use Rattle.work_directory.specs.declared.slot.Slot.{Slot}
+use Rattle.disk_objects.specs.Calls.{IsFault}
+use Rattle.disk_objects.specs.Places.{IsSlotPlace}
+use Rattle.disk_objects.proofs.FaultLaws.{found-fault}
 use Rattle.disk_objects.proofs.FoundLaws.{place-there}
 use Rattle.disk_objects.proofs.rest.DiskRest.find.Goals as goal
 
-pub returns-then-slot-gt-LAST_PLACE-clause-fault : goal.returns-then-slot-gt-LAST_PLACE-clause-fault
-returns-then-slot-gt-LAST_PLACE-clause-fault g c = (
-  λ told.
-      let s = c.requires.stands told in
-      let found = rw c.in-Some.is at (c.in_ok-slot.ensures.found told) in
-      let low = place-there c.args.self.now (work_of g.H.Host c.args.host.now) s.0 s.1 s.2 c.args.name (entry_of c.in-Some.slot) (sym found) in
-      let high = c.if-slot-gt-LAST_PLACE.true in
-      omega (arith, low, high),
-  c.get.ensures.value,
-)
+pub returns-clause-fault : goal.returns-clause-fault
+returns-clause-fault g c =
+    let h = g.H.Host in
+    let rest = c.args.self.now in
+    let a : ℕ = h.faults c.args.host.now Work in
+    let b : ℕ = h.faults c.seek.new.host Work in
+    subst (λ (r : Result (Option Slot) DiskFault). IfErr r (IsFault (h.tells Work) a b (IsSlotPlace rest) c.args.name)) (sym c.found_slot.ensures)
+    (found-fault c.args.name rest (h.tells Work) a b c.in_ok-found.found c.in_ok-found.ensures.name (λ told e is.
+    let s = c.requires.stands told in
+    place-there rest (work_of h c.args.host.now) s.0 s.1 s.2 c.args.name e (sym (c.in_ok-found.ensures.found told) ∙ is)))

@@ -1,7 +1,7 @@
 use Rattle.std.proofs.Common.{◌≡◌, ℕ, List, sym, subst, ap, ◌∙◌, arith}
 use Rattle.work_directory.specs.Directory.{IsIn, slots_of, shown_at}
-use Rattle.work_directory.specs.Work.{work_of}
-use Rattle.work_directory.proofs.HostLaws.{work-same}
+use Rattle.loom_outside.specs.Work.{work_of}
+use Rattle.loom_outside.proofs.WorkLaws.{work-same}
 use Rattle.disk_objects.proofs.NamesLaws.{seen, disk-seen}
 use Rattle.disk_objects.proofs.rest.DiskRest.gather.Goals as goal
 
@@ -12,8 +12,8 @@ slot-requires-clause-stands g c told =
     subst (IsIn c.args.self.now.directory) (sym (work-same h c.args.host.now c.loop-i.host c.loop-i.invariant.read)) s.2.kept.directory
 
 pub returns-clause-set : goal.returns-clause-set
-returns-clause-set g c told objects queue k q =
+returns-clause-set g c told objects pending k q =
     let h = g.H.Host in
     let v : List ℕ = work_of h c.args.host.now in
     let all : c.loop-i.i ≡ slots_of c.args.self.now.directory = let value = c.slots-i-end.ensures.value in let low = c.loop-i-test.false in let high = c.loop-i.auto.i-end in omega arith in
-    c.loop-i.invariant.noted told q ∙ ap (seen (shown_at v) q) all ∙ disk-seen c.args.self.now v objects queue k q
+    c.loop-i.invariant.noted told q ∙ ap (seen (shown_at v) q) all ∙ disk-seen c.args.self.now v objects pending k q

@@ -1,10 +1,10 @@
-use Rattle.std.proofs.Common.{ℕ, List, sym, subst, ◌∙◌}
+use Rattle.std.proofs.Common.{inr, ℕ, List, sym, subst, ◌∙◌}
 use Rattle.loom_outside.specs.declared.outside.Role.TheVariants.{Work}
-use Rattle.work_directory.specs.Work.{work_of}
+use Rattle.loom_outside.specs.Work.{work_of}
 use Rattle.disk_objects.specs.Calls.{IsFault}
 use Rattle.disk_objects.specs.Disk.{IsLaid}
-use Rattle.work_directory.proofs.HostLaws.{work-same}
-use Rattle.work_directory.proofs.CauseLaws.{exits}
+use Rattle.disk_objects.specs.Places.{IsReadPlace}
+use Rattle.loom_outside.proofs.WorkLaws.{work-same, exits}
 use Rattle.disk_objects.proofs.FoundLaws.{record-sound, stored-there, size-there, got-there}
 use Rattle.disk_objects.proofs.rest.DiskRest.get.Goals as goal
 
@@ -14,9 +14,9 @@ returns-in_err-read_record-clause-fault g c =
     let held = c.in-Some.held in
     let fault = c.in_err-read_record.field-0.0 in
     exits c.from_residual-in_err-read_record.result fault
-    (IsFault (h.tells Work) (h.faults c.args.host.now Work) (h.faults c.read_record.new.host Work) c.args.name)
+    (IsFault (h.tells Work) (h.faults c.args.host.now Work) (h.faults c.read_record.new.host Work) (IsReadPlace c.args.self.now) c.args.name)
     c.from_residual-in_err-read_record.ensures.1
-    (record-sound (h.tells Work) (h.faults c.args.host.now Work) (h.faults c.look.new.host Work) (h.faults c.read_record.new.host Work) c.args.name fault
+    (record-sound (h.tells Work) (h.faults c.args.host.now Work) (h.faults c.look.new.host Work) (h.faults c.read_record.new.host Work) held.place c.args.name (IsReadPlace c.args.self.now) fault (inr (rw c.in-Some.is at c.in_ok-held.ensures.sized).place)
     (λ told.
     let v : List ℕ = work_of h c.args.host.now in
     let s = c.requires.stands told in
@@ -29,15 +29,15 @@ returns-in_err-read_record-clause-fault g c =
     c.in_ok-held.ensures.read.later c.in_err-read_record.ensures.fault)
 
 pub returns-clause-got : goal.returns-clause-got
-returns-clause-got g c told objects queue k =
+returns-clause-got g c told objects pending k =
     let h = g.H.Host in
     let held = c.in-Some.held in
     let v : List ℕ = work_of h c.args.host.now in
     let found = rw c.in-Some.is at (c.in_ok-held.ensures.found told) in
-    let st = stored-there c.args.self.now v objects queue k c.args.name _ found.entry in
+    let st = stored-there c.args.self.now v objects pending k c.args.name _ found.entry in
     let link : ℕ = k.link c.args.name in
     got-there _ _ st.0 st.1 c.in_ok-read_record.ensures.record.0
     (c.in_ok-read_record.ensures.told told st.0.raw link st.2.raw st.2.named
-    (found.head.size ∙ size-there c.args.self.now v objects queue k c.args.name _ st.0 st.2)
+    (found.head.size ∙ size-there c.args.self.now v objects pending k c.args.name _ st.0 st.2)
     (subst (λ (w : List ℕ). IsLaid w held.place st.0.raw link) (sym (work-same h c.args.host.now c.look.new.host c.in_ok-held.ensures.read)) st.2.laid))
     st.2.uncounted

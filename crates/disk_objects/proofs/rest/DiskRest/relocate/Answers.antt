@@ -3,12 +3,13 @@ use Rattle.std.proofs.lemmas.Result.{on_ok_weaker}
 use Rattle.loom_outside.specs.declared.outside.Role.TheVariants.{Work}
 use Rattle.object_record.specs.Buffer.{raw_of}
 use Rattle.work_directory.specs.Directory.{room_of, entries_of}
-use Rattle.work_directory.specs.Work.{work_of}
+use Rattle.loom_outside.specs.Work.{work_of}
 use Rattle.disk_objects.specs.Inside.{IsStepFault}
-use Rattle.work_directory.proofs.CauseLaws.{exits}
+use Rattle.loom_outside.proofs.WorkLaws.{exits}
 use Rattle.disk_objects.proofs.FoundLaws.{disk-few, disk-from}
 use Rattle.disk_objects.proofs.DiskLaws.{changed-named, open-given}
-use Rattle.disk_objects.proofs.PutLaws.{relocated-entries, put-moved, store-sound, some-there}
+use Rattle.disk_objects.proofs.FaultLaws.{store-sound}
+use Rattle.disk_objects.proofs.PutLaws.{relocated-entries, put-moved, some-there}
 use Rattle.disk_objects.proofs.rest.DiskRest.relocate.Goals as goal
 
 pub returns-in_err-place-clause-fault : goal.returns-in_err-place-clause-fault
@@ -16,9 +17,9 @@ returns-in_err-place-clause-fault g c =
     let h = g.H.Host in
     let fault = c.in_err-place.field-0.0 in
     exits c.from_residual.result fault
-    (IsStepFault (h.tells Work) (h.faults c.args.host.now Work) (h.faults c.store.new.host Work) (raw_of c.args.buf.now).name)
+    (IsStepFault (h.tells Work) (h.faults c.args.host.now Work) (h.faults c.store.new.host Work) c.args.self.now (raw_of c.args.buf.now))
     c.from_residual.ensures.1
-    (store-sound (h.tells Work) (h.faults c.args.host.now Work) (h.faults c.store.new.host Work) (raw_of c.args.buf.now).name fault
+    (store-sound (h.tells Work) (h.faults c.args.host.now Work) (h.faults c.store.new.host Work) c.args.self.now (raw_of c.args.buf.now) fault
     (λ told.
     let v : List ℕ = work_of h c.args.host.now in
     let s = c.requires.stands told in
@@ -45,15 +46,15 @@ set-requires-clause-there g c told =
     c.requires.sized.head.class c.requires.class).1
 
 pub returns-clause-put : goal.returns-clause-put
-returns-clause-put g c told objects queue k =
+returns-clause-put g c told objects pending k =
     let h = g.H.Host in
     let rest = c.args.self.now in
     let raw = raw_of c.args.buf.now in
     let w : List ℕ = work_of h c.store.new.host in
     let x : List ℕ = work_of h c.set.new.host in
-    let o = put-moved rest c.store.new.space (work_of h c.args.host.now) w objects queue raw c.in_ok-place.place
+    let o = put-moved rest c.store.new.space (work_of h c.args.host.now) w objects pending raw c.in_ok-place.place
     c.args.held k (c.in_ok-place.ensures.stores told k.laid k.out k.kept.space.blocks) c.in_ok-place.ensures.from c.requires.record.is (c.requires.held told)
     c.requires.sized.head.class c.requires.class c.set.new.self x c.args.count (ap room_of c.in_ok-set.ensures.still)
     (changed-named rest.directory c.set.new.self w x raw.name c.name-name.result _ c.name-name.ensures (c.in_ok-set.ensures.set told)) in
-    on_ok_weaker c.give.result (λ gave. open-given _ c.give.new.self x (work_of h c.give.new.host) _ queue c.args.held.place c.args.held.head.class o gave c.give.ensures.from)
+    on_ok_weaker c.give.result (λ gave. open-given _ c.give.new.self x (work_of h c.give.new.host) _ pending c.args.held.place c.args.held.head.class o gave c.give.ensures.from)
     (c.give.ensures.gives told o.laid o.out o.kept.space.blocks o.spare_out)

@@ -2,7 +2,7 @@ use Rattle.std.proofs.Common.{ℕ, List, ap}
 use Rattle.std.proofs.lemmas.Result.{on_ok_weaker}
 use Rattle.object_record.specs.Buffer.{raw_of}
 use Rattle.work_directory.specs.Directory.{room_of, entries_of}
-use Rattle.work_directory.specs.Work.{work_of}
+use Rattle.loom_outside.specs.Work.{work_of}
 use Rattle.disk_objects.proofs.DiskLaws.{changed-named}
 use Rattle.disk_objects.proofs.PutLaws.{put-rewritten, rewritten-entries, some-there}
 use Rattle.disk_objects.proofs.rest.DiskRest.rewrite.Goals as goal
@@ -23,13 +23,13 @@ set-requires-clause-there g c told =
     c.requires.record.is (c.requires.held told) c.requires.sized.head.class c.requires.class (c.in_ok-write_record.ensures.writes told)).1
 
 pub returns-clause-put : goal.returns-clause-put
-returns-clause-put g c told objects queue k =
+returns-clause-put g c told objects pending k =
     let h = g.H.Host in
     let rest = c.args.self.now in
     let raw = raw_of c.args.buf.now in
     let w : List ℕ = work_of h c.write_record.new.host in
     let x : List ℕ = work_of h c.set.new.host in
     on_ok_weaker c.set.result (λ ch.
-    put-rewritten rest c.set.new.self (work_of h c.args.host.now) w x objects queue raw c.args.count c.args.held k c.requires.record.is (c.requires.held told)
+    put-rewritten rest c.set.new.self (work_of h c.args.host.now) w x objects pending raw c.args.count c.args.held k c.requires.record.is (c.requires.held told)
     c.requires.sized.head.class c.requires.class (c.in_ok-write_record.ensures.writes told) (ap room_of c.set.ensures.still)
     (changed-named rest.directory c.set.new.self w x raw.name c.name-name.result _ c.name-name.ensures (ch told))) c.set.ensures.set

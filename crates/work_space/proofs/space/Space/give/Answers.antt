@@ -1,7 +1,7 @@
 use Rattle.std.proofs.Common.{◌<◌, length, refl, ap, arith}
 use Rattle.std.proofs.lemmas.List.{get_or-set_same, get_or-set_other}
 use Rattle.byteorder.specs.Endian.{big_bytes}
-use Rattle.work_space.specs.Calls.{contents_of}
+use Rattle.loom_outside.specs.Work.{work_of}
 use Rattle.work_space.specs.Space.{from_of, end_of, first_of}
 use Rattle.work_space.proofs.SpaceLaws.{give-gives}
 use Rattle.work_space.proofs.space.Space.give.Goals as goal
@@ -11,7 +11,7 @@ unfolding from_of end_of first_of
 returns-clause-gives g c told laid out b gone =
     let heads = c.args.self.now.heads in
     let low : c.args.c < length heads = omega arith in
-    give-gives c.args.self.now _ (contents_of g.H.Host c.args.host.now) _ laid out c.args.c c.args.place
+    give-gives c.args.self.now _ (work_of g.H.Host c.args.host.now) _ laid out c.args.c c.args.place
     (big_bytes 8 (first_of c.args.self.now c.args.c)) gone refl
     (ap (λ s. s.contents) (c.in_ok-write_link.ensures.written told)) (c.in_ok-write_link.ensures.link told)
     (get_or-set_same heads c.args.c c.args.place 0 low)

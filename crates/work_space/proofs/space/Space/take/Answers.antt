@@ -2,7 +2,7 @@ use Rattle.std.proofs.Common.{◌+◌, ◌<◌, false, true, slice_index, length
 use Rattle.std.proofs.lemmas.List.{get_or-set_same, get_or-set_other}
 use Rattle.loom_outside.specs.declared.outside.Role.TheVariants.{Work}
 use Rattle.work_space.specs.Blocks.{block_size}
-use Rattle.work_space.specs.Calls.{contents_of}
+use Rattle.loom_outside.specs.Work.{work_of}
 use Rattle.work_space.specs.Space.{from_of, end_of, first_of, is_link}
 use Rattle.work_space.proofs.SpaceLaws.{pick-old, lay-taken, lay-place, lay-fault, lay-told, lay-sound, broken, true-false, some-within, link-right, reuse-taken}
 use Rattle.work_space.proofs.space.Space.take.Goals as goal
@@ -41,14 +41,14 @@ returns-then-not-is_link-clause-fault g c = (
 pub returns-then-not-is_link-clause-told : goal.returns-then-not-is_link-clause-told
 unfolding first_of
 returns-then-not-is_link-clause-told g c told =
-    broken c.args.self.now (contents_of g.H.Host c.args.host.now) c.args.c c.in_ok-next.next false c.if-place-eq0.false
+    broken c.args.self.now (work_of g.H.Host c.args.host.now) c.args.c c.in_ok-next.next false c.if-place-eq0.false
     (c.in_ok-next.ensures.link told)
     (sym c.is_link.ensures ∙ c.if-not-is_link.true)
 
 pub returns-then-not-is_link-clause-sound : goal.returns-then-not-is_link-clause-sound
 unfolding first_of
 returns-then-not-is_link-clause-sound g c told laid out b few first =
-    let right = link-right c.args.self.now (contents_of g.H.Host c.args.host.now) laid out c.args.c c.requires c.if-place-eq0.false b in
+    let right = link-right c.args.self.now (work_of g.H.Host c.args.host.now) laid out c.args.c c.requires c.if-place-eq0.false b in
     true-false (sym right ∙ ap (is_link c.args.self.now) (sym (c.in_ok-next.ensures.link told)) ∙ sym c.is_link.ensures
     ∙ c.if-not-is_link.true)
 
@@ -58,7 +58,7 @@ returns-clause-takes g c told laid out b =
     let same = c.in_ok-next.ensures.host.roles Work in
     let heads = c.args.self.now.heads in
     let low : c.args.c < length heads = some-within heads c.args.c c.if-place-eq0.false in
-    reuse-taken c.args.self.now _ (contents_of g.H.Host c.args.host.now) _ laid out c.args.c c.requires (ap (λ s. s.contents) same)
+    reuse-taken c.args.self.now _ (work_of g.H.Host c.args.host.now) _ laid out c.args.c c.requires (ap (λ s. s.contents) same)
     c.if-place-eq0.false
     (get_or-set_same heads c.args.c c.in_ok-next.next 0 low ∙ c.in_ok-next.ensures.link told)
     (λ d away. get_or-set_other heads c.args.c d c.in_ok-next.next 0 away)
@@ -76,7 +76,7 @@ returns-clause-place g c = (
 pub returns-clause-told : goal.returns-clause-told
 unfolding first_of
 returns-clause-told g c told =
-    broken c.args.self.now (contents_of g.H.Host c.args.host.now) c.args.c c.in_ok-next.next true c.if-place-eq0.false
+    broken c.args.self.now (work_of g.H.Host c.args.host.now) c.args.c c.in_ok-next.next true c.if-place-eq0.false
     (c.in_ok-next.ensures.link told)
     (sym c.is_link.ensures ∙ c.if-not-is_link.false)
 

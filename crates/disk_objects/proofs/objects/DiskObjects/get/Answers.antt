@@ -1,0 +1,15 @@
+use Rattle.std.proofs.Common.{refl}
+use Rattle.loom_outside.specs.Work.{work_of}
+use Rattle.loom_outside.proofs.WorkLaws.{work-same}
+use Rattle.disk_objects.proofs.FunctionLaws.{same-disk, fetched}
+use Rattle.disk_objects.proofs.objects.DiskObjects.get.Goals as goal
+
+pub returns-clause-found : goal.returns-clause-found
+returns-clause-found g c told =
+    let s = c.requires.stands told in
+    fetched g.H.Host c.args.self.now.host.now c.get.new.host c.args.self.now.rest c.args.self.now.rest s.0 s.1 s.2 c.get.result c.get.new.buf c.args.name (c.get.ensures.got told s.0 s.1 s.2)
+
+pub returns-clause-keeps : goal.returns-clause-keeps
+returns-clause-keeps g c told =
+    same-disk g.H.Host c.args.self.now.host.now c.get.new.host c.args.self.now.rest c.args.self.now.rest refl
+    (work-same g.H.Host c.args.self.now.host.now c.get.new.host c.get.ensures.read) c.requires.stands
