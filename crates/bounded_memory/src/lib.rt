@@ -13,6 +13,3 @@ mod row;
 mod size;
 
 pub use bounded::BoundedMemory;
-
-#[cfg(test)]
-mod tests;

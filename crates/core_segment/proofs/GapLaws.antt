@@ -182,14 +182,6 @@ pub record IsPassed (spans : List Span) (size words index place : ℕ) : Type 0 
   pub within : place ≤ size
   pub less : largest_gap place (drop index spans) size < words → largest_gap 0 spans size < words
 
-pub passed-none : (spans : List Span) (size words : ℕ) → IsPassed spans size words 0 0
-passed-none spans size words = record {
-  before = λ k h. absurd (omega arith);
-  behind = λ k h l. omega arith;
-  within = omega arith;
-  less = λ h. h;
-}
-
 pub passed-more : (spans : List Span) (size words index place : ℕ) → IsLaid spans size → IsPassed spans size words index place → index < length spans
     → (get_or spans index no_span).place - place < words → IsPassed spans size words (index + 1) (end_of (get_or spans index no_span))
 passed-more spans size words index place laid passed low small = record {

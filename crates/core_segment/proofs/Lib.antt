@@ -8,4 +8,3 @@ pub mod HeadLaws
 pub mod RegionLaws
 pub mod ChunkLaws
 pub mod TellLaws
-pub mod KeptLaws

@@ -1,8 +1,9 @@
 -- The search for a gap, from place to place.
 use Rattle.std.proofs.Common.{◌≡◌, ◌≢◌, ℕ, ◌+◌, ◌-◌, ◌<◌, ◌≤◌, List, length, sym, subst, arith}
-use Rattle.core_segment.specs.Inside.{Span, word_at, size_in, largest_gap, IsLaid, IsHeaded, IsAt, IsGap}
-use Rattle.core_segment.proofs.GapLaws.{IsPassed, passed-none, passed-more, passed-gap, passed-all}
-use Rattle.core_segment.proofs.WalkLaws.{at-start, at-end, chunk-here, free-here, chunk-next}
+use Rattle.core_segment.specs.Inside.{Span, word_at, size_in, largest_gap, IsLaid, IsHeaded, IsAt, IsGap, IsRegion, index_at}
+use Rattle.core_segment.proofs.GapLaws.{IsPassed, passed-more, passed-gap, passed-all}
+use Rattle.core_segment.proofs.WalkLaws.{at-end, chunk-here, free-here, chunk-next}
+use Rattle.core_segment.proofs.PackLaws.{packed-at, packed-first, packed-within}
 
 -- No gap of so many words was met; the words from start to place are free, and fewer.
 pub record IsSought (spans : List Span) (size words start place : ℕ) : Type 0 where
@@ -13,15 +14,26 @@ pub record IsSought (spans : List Span) (size words start place : ℕ) : Type 0 
   pub short : place < start + words
   pub within : place ≤ size
 
-pub sought-none : (spans : List Span) (size words : ℕ) → 1 ≤ words → IsSought spans size words 0 0
-sought-none spans size words some = record {
-  index = 0;
-  passed = passed-none spans size words;
-  at = at-start spans;
-  order = omega arith;
-  short = omega arith;
-  within = omega arith;
-}
+-- it begins behind the chunks that are packed
+pub sought-none : (region : List ℕ) (spans : List Span) (free full next words : ℕ) → IsRegion region spans free full next → 1 ≤ words
+    → IsSought spans (length region) words full full
+sought-none region spans free full next words whole some =
+    let k = index_at spans full in
+    let at = packed-at spans (length region) k full next whole.laid whole.packed in
+    let first = packed-first spans (length region) k full next whole.packed in
+    record {
+      index = k;
+      passed = record {
+        before = at.before;
+        behind = at.behind;
+        within = packed-within spans (length region) k full next whole.laid whole.packed;
+        less = λ h. subst (λ (z : ℕ). z < words) (sym first.largest) h;
+      };
+      at = at;
+      order = omega arith;
+      short = omega arith;
+      within = packed-within spans (length region) k full next whole.laid whole.packed;
+    }
 
 -- one more free word
 pub sought-free : (region : List ℕ) (spans : List Span) (words start place : ℕ) → IsLaid spans (length region) → IsHeaded region spans

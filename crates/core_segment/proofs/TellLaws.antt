@@ -1,5 +1,5 @@
 -- What a region tells of a chunk by its place.
-use Rattle.std.proofs.Common.{◌≡◌, ◌≢◌, ℕ, ◌+◌, ◌-◌, ◌<◌, ◌≤◌, max, List, length, get_or, map, sum_by, refl, sym, ◌∙◌, ap, subst, arith, ⊎_elim}
+use Rattle.std.proofs.Common.{◌≡◌, ◌≢◌, ℕ, ◌+◌, ◌-◌, ◌<◌, ◌≤◌, max, min, List, length, get_or, map, sum_by, refl, sym, ◌∙◌, ap, subst, arith, ⊎_elim}
 use Rattle.std.proofs.lemmas.Bool.{cases_eq, cases_lt}
 use Rattle.std.proofs.lemmas.List.Sums.{sum_by-set}
 use Rattle.std.proofs.lemmas.List.Edits.{length-insert, length-remove}
@@ -55,14 +55,14 @@ taken region region' spans free full next k place owner words whole gap some own
 
 -- ---- a chunk is given back
 
-pub record IsGiven (region region' : List ℕ) (spans : List Span) (free p size : ℕ) : Type 0 where
-  pub whole : IsRegion region' (spans_of region') (free + size) 0 0
+pub record IsGiven (region region' : List ℕ) (spans : List Span) (free full p size : ℕ) : Type 0 where
+  pub whole : IsRegion region' (spans_of region') (free + size) (min full p) (min full p)
   pub chunks_are : chunks region' (spans_of region') ≡ with_chunk (chunks region spans) p no_chunk
   pub largest : largest_gap 0 spans (length region) ≤ largest_gap 0 (spans_of region') (length region')
   pub room : size ≤ largest_gap 0 (spans_of region') (length region')
 
 pub given : (region region' : List ℕ) (spans : List Span) (free full next p size : ℕ) → IsRegion region spans free full next → IsTold region spans p → size ≡ size_in region p
-    → IsCleared region region' p (p + size) → IsGiven region region' spans free p size
+    → IsCleared region region' p (p + size) → IsGiven region region' spans free full p size
 given region region' spans free full next p size whole tells is cleared =
     let k = tells.index in
     let s = get_or spans k no_span in
@@ -73,7 +73,8 @@ given region region' spans free full next p size whole tells is cleared =
     let same = cleared.same_size in
     let new = region-remove region region' spans free full next k whole tells.low off in
     record {
-      whole = subst (λ (z : ℕ). IsRegion region' (spans_of region') (free + z) 0 0) (sym len) new.whole;
+      whole = subst (λ (z : ℕ). IsRegion region' (spans_of region') (free + z) (min full p) (min full p)) (sym len)
+          (subst (λ (z : ℕ). IsRegion region' (spans_of region') (free + s.len) (min full z) (min full z)) place new.whole);
       chunks_are = ap (chunks region') new.is ∙ give-chunks region region' spans k p whole.laid tells.low (length-remove spans k tells.low) tells.place off;
       largest = larger new.is same (largest-remove spans (length region) k 0 whole.laid tells.low (λ j h. omega arith));
       room = larger new.is same (let room = room-remove spans (length region) k 0 whole.laid tells.low (λ j h. omega arith) in omega arith);

@@ -90,6 +90,10 @@ abbrev pub index_at : List Span → ℕ → ℕ
 index_at [] p = 0
 index_at (s ∷ ss) p = if nat_lt s.place p then suc (index_at ss p) else 0
 
+-- how far chunks are packed, with one more of this size at this place
+abbrev pub packed_with : ℕ → ℕ → ℕ → ℕ
+packed_with packed place size = if place == packed then place + size else packed
+
 -- what a segment keeps of its region: so many words are free, and how far its chunks are packed
 pub record IsRegion (region : List ℕ) (spans : List Span) (free full next : ℕ) : Type 0 where
   pub laid : IsLaid spans (length region)

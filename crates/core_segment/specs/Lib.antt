@@ -1,4 +1,3 @@
 pub mod Chunks
 pub mod Segment
 pub mod Inside
-pub mod tests

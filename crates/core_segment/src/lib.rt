@@ -22,6 +22,3 @@ mod region;
 mod segment;
 
 pub use segment::{Addr, HEADER, MOST_WORDS, Moved, Segment};
-
-#[cfg(test)]
-mod tests;

@@ -1,6 +1,6 @@
 // The words of a region: the first words of a chunk, and changes of whole parts.
-ghost use Rattle.std.specs.Prelude.{◌≡◌, ◌+◌, ◌<◌, ◌≤◌, ◌^◌, ℕ, max, length};
-ghost use Rattle.core_segment.specs.Inside.{word_at, size_in, IsOpened, IsCleared, IsShifted};
+ghost use Rattle.std.specs.Prelude.{◌≡◌, ◌+◌, ◌<◌, ◌≤◌, ◌^◌, ℕ, max, min, length};
+ghost use Rattle.core_segment.specs.Inside.{word_at, size_in, packed_with, IsOpened, IsCleared, IsShifted};
 
 // How many values a word has.
 pub(crate) const RADIX: u32 = 65_536;
@@ -10,6 +10,25 @@ pub(crate) fn later(a: u32, b: u32) -> u32
     ensures { result ≡ max a b }
 {
     if a < b { b } else { a }
+}
+
+// The smaller of two places.
+pub(crate) fn earlier(a: u32, b: u32) -> u32
+    ensures { result ≡ min a b }
+{
+    if a < b { a } else { b }
+}
+
+// How far chunks are packed, with one more of this size at this place.
+pub(crate) fn beyond(packed: u32, place: u32, size: u32) -> u32
+    requires { place + size < 2 ^ 32 }
+    ensures { result ≡ packed_with packed place size }
+{
+    if place == packed {
+        place + size
+    } else {
+        packed
+    }
 }
 
 // The size of the chunk that begins at a place, its first words included.

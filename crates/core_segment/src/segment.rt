@@ -3,7 +3,7 @@ ghost use Rattle.std.specs.Prelude.{◌≡◌, ◌≤◌, length};
 ghost use Rattle.core_segment.specs.declared.segment.TheConstants.{MOST_WORDS};
 ghost use Rattle.core_segment.specs.Inside.{IsRegion, spans_of};
 
-use crate::region::{clear, later, open, shift, size_at};
+use crate::region::{beyond, clear, earlier, later, open, shift, size_at};
 use std::alloc::{AllocError, Global};
 
 /// The most words of a segment.
@@ -31,7 +31,7 @@ pub struct Segment {
     // A used chunk begins with its owner, which is not 0, and its size. Each free word is 0. So chunks are found from place to place.
     region: Vec<u16>,
     free: u32,
-    // Where a compaction goes on: no word is free below `packed`, and each is from there to `next`.
+    // Where searches begin and a compaction goes on: no word is free below `packed`, and each is from there to `next`.
     packed: u32,
     next: u32,
     ghost small: { length region.items ≤ MOST_WORDS },
@@ -106,10 +106,11 @@ impl Segment {
         requires { 1 ≤ words }
         ensures none { IfNone result (largest_of self.now < words) }
         ensures gap { IfSome result (λ p. (k : ℕ) × IsGap (spans_of self.now.region.items) (length self.now.region.items) words k p) }
+        ensures behind { IfSome result (λ p. self.now.packed ≤ p) }
     {
         let size = self.region.len() as u32;
-        let mut start = 0;
-        let mut place = 0;
+        let mut start = self.packed;
+        let mut place = self.packed;
         while place < size {
             let word = self.region[place as usize];
             if word == 0 {
@@ -138,8 +139,8 @@ impl Segment {
         let place = self.find_gap(words)?;
         open(&mut self.region, place, owner, words);
         self.free -= words;
-        self.packed = 0;
-        self.next = 0;
+        self.packed = beyond(self.packed, place, words);
+        self.next = self.packed;
         Some(Addr { place })
     }
 
@@ -147,16 +148,16 @@ impl Segment {
     pub fn give(&mut self, at: Addr)
         requires { 0 < (chunk_at self.old at.place).owner }
         ensures chunks { chunk_at self.new ≡ with_chunk (chunk_at self.old) at.place no_chunk }
-        ensures free { free_of self.new ≡ free_of self.old + 4 + length (chunk_at self.old at.place).words }
+        ensures free { free_of self.new ≡ free_of self.old + HEADER + length (chunk_at self.old at.place).words }
         ensures largest { largest_of self.old ≤ largest_of self.new }
-        ensures room { 4 + length (chunk_at self.old at.place).words ≤ largest_of self.new }
+        ensures room { HEADER + length (chunk_at self.old at.place).words ≤ largest_of self.new }
         ensures size { size_of self.new ≡ size_of self.old }
     {
         let size = size_at(&self.region, at.place);
         clear(&mut self.region, at.place, at.place + size);
         self.free += size;
-        self.packed = 0;
-        self.next = 0;
+        self.packed = earlier(self.packed, at.place);
+        self.next = self.packed;
     }
 
     // The first free word behind the chunks that are packed, or the end.

@@ -28,6 +28,3 @@ mod rest;
 pub use names::NamesFault;
 pub use objects::DiskObjects;
 pub use rest::DiskRest;
-
-#[cfg(test)]
-mod tests;

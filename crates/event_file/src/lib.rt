@@ -26,6 +26,3 @@ pub use fault::EventFault;
 pub use limits::{LONGEST, MOST_COUNT, MOST_LINES, MOST_WORD, PIECE};
 pub use list::EventList;
 pub use read::read_events;
-
-#[cfg(test)]
-mod tests;

@@ -17,6 +17,3 @@ mod rules;
 
 pub use builder::Builder;
 pub use fault::BuildFault;
-
-#[cfg(test)]
-mod tests;

@@ -24,6 +24,3 @@ pub use decoding::decode_rec;
 pub use encoding::{encode_object, encode_rec};
 pub use fault::RecFault;
 pub use head::{FEWEST_OBJECTS, HEAD_LEN, Head, LOWEST_NEXT, MOST_OBJECTS, VERSION, decode_head};
-
-#[cfg(test)]
-mod tests;

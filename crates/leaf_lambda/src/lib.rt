@@ -33,6 +33,3 @@ mod turn;
 pub use merge::merge_out;
 pub use parts::Parts;
 pub use translate::{RESERVE, resolve, translate_in};
-
-#[cfg(test)]
-mod tests;

@@ -25,6 +25,3 @@ pub use lists::{NameList, Octets, RecList, Values, Words16};
 pub use name::{Name, bits};
 pub use object::{Body, Kind, Object, Rec, literal_count};
 pub use value::{Value, long_word, value_of};
-
-#[cfg(test)]
-mod tests;

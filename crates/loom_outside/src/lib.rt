@@ -22,6 +22,3 @@ pub use memory::MemoryHost;
 pub use outside::{DiskFault, Failed, Host, Role};
 pub use real::RealHost;
 pub use whole::{read_full, write_full};
-
-#[cfg(test)]
-mod tests;

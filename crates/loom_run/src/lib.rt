@@ -20,6 +20,3 @@ mod words;
 pub use program::loom;
 pub use running::{Finished, Halted, Reason, run, whole_run};
 pub use status::Status;
-
-#[cfg(test)]
-mod tests;

@@ -56,6 +56,3 @@ pub(crate) fn save<H: Host>(host: &mut H, image: &Image) -> Result<(), Failed>
     emit_recs(host, &mut piece, &image.recs)?;
     write_full(host, Role::Saved, piece.as_slice())
 }
-
-#[cfg(test)]
-mod tests;

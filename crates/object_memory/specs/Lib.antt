@@ -2,6 +2,7 @@ pub mod Base
 pub mod Told
 pub mod Contract
 pub mod Fit
+pub mod Caller
 pub mod Calls
 pub mod Stored
 pub mod Plain
@@ -9,4 +10,3 @@ pub mod Counts
 pub mod Worklist
 pub mod Records
 pub mod Shape
-pub mod tests

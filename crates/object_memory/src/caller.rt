@@ -1,9 +1,9 @@
-// A caller that is generic in the memory, proved from the clauses of the trait and of `shape` alone.
+// A worked caller: generic in the memory, and proved from the clauses of the trait and of `shape` alone.
 ghost use Rattle.std.specs.Prelude.{◌≡◌, ◌<◌, ◌+ℤ◌, pos, false, [], ◌∷◌, IsTrue, IfOk, IfErr, IfSome, Some};
 ghost use Rattle.long_names.specs.Words.{IsSmallInteger};
 ghost use Rattle.object_memory.specs.Calls.{IsFit, KeepsFit};
 ghost use Rattle.object_memory.specs.Shape.{Looks};
-ghost use Rattle.object_memory.specs.tests.Caller.{IsBumped};
+ghost use Rattle.object_memory.specs.Caller.{IsBumped};
 
 use crate::{MemFault, ObjectMemory, Reg, shape};
 
@@ -22,7 +22,7 @@ fn next_number(number: i16) -> Option<i16>
 
 /// Adds 1 to the number in field 1 of the object that a register names. False where there is no such field, no number in it, or no next
 /// number, and then it has only read.
-fn bump<M: ObjectMemory>(m: &mut M, of: Reg) -> Result<bool, MemFault>
+pub fn bump<M: ObjectMemory>(m: &mut M, of: Reg) -> Result<bool, MemFault>
     requires of { of < 10 }
     requires fit { IsFit M.ObjectMemory m.old }
     ensures bumped { IfOk result (λ done. IsTrue done → IsTrue (M.told m.old).tells → IsBumped (M.told m.old) (M.told m.new) of) }

@@ -16,6 +16,7 @@
 //! `caller.rt` has it whole. The trait doesn't say which objects stand in a core, nor when one is freed that nothing holds.
 #![tactic(auto)]
 
+pub mod caller;
 mod fault;
 pub mod laws;
 mod memory;
@@ -27,8 +28,3 @@ pub use fault::{MemFault, Need};
 pub use memory::ObjectMemory;
 pub use plain::PlainMemory;
 pub use reg::Reg;
-
-#[cfg(test)]
-mod caller;
-#[cfg(test)]
-mod tests;

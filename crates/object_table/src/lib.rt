@@ -23,6 +23,3 @@ mod table;
 pub use entry::{Entry, EntryState, Short};
 pub use flags::EntryFlags;
 pub use table::{MOST_ENTRIES, Table};
-
-#[cfg(test)]
-mod tests;

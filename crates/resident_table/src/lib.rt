@@ -27,6 +27,3 @@ pub struct Parts2 {
     pub table: Table,
     pub resident: Resident,
 }
-
-#[cfg(test)]
-mod tests;

@@ -22,6 +22,3 @@ mod slot;
 pub use directory::{Directory, Found};
 pub use limits::{MOST_NAMES, SLOT_BYTES};
 pub use slot::{Slot, damaged};
-
-#[cfg(test)]
-mod tests;

@@ -24,6 +24,3 @@ mod space;
 pub use limits::{LAST_END, SIZE_CLASSES, SMALLEST_BLOCK};
 pub use size_class::{block_bytes, size_class_of};
 pub use space::Space;
-
-#[cfg(test)]
-mod tests;

@@ -6,7 +6,9 @@ use Rattle.core_segment.proofs.SoughtLaws.{IsSought, sought-none, sought-chunk, 
 use Rattle.core_segment.proofs.segment.Segment.find_gap.Goals as goal
 
 pub loop-place-init : goal.loop-place-init
-loop-place-init c = record { sought = sought-none _ _ _ c.requires }
+loop-place-init c =
+    let g = c.args.self.now in
+    record { sought = sought-none g.region.items (spans_of g.region.items) g.free g.packed g.next c.args.words g.whole c.requires; behind = omega arith }
 
 pub overflow_add-place-else-word-eq0 : goal.overflow_add-place-else-word-eq0
 overflow_add-place-else-word-eq0 c =
@@ -31,6 +33,7 @@ loop-place-preserved c =
     record {
       sought = subst (λ (z : ℕ). IsSought (spans_of region) (length region) c.args.words (c.loop-place.place + z) (c.loop-place.place + z)) (sym c.size_at-place.ensures)
           (sought-chunk region (spans_of region) c.args.words c.loop-place.start c.loop-place.place g.whole.laid g.whole.headed sought c.requires used);
+      behind = let a = c.loop-place.invariant.behind in let b = sought.order in omega arith;
     }
 
 pub returns-clause-none : goal.returns-clause-none

@@ -45,7 +45,7 @@ invariant_of-self c =
     let tells = told g.region.items spans g.free g.packed g.next c.args.at.place g.whole c.requires in
     record {
       small = let same = c.clear.ensures.same_size in let small = g.small in omega arith;
-      whole = (given g.region.items c.clear.new.region.items spans g.free g.packed g.next c.args.at.place c.size_at-size.result g.whole tells c.size_at-size.ensures c.clear.ensures).whole;
+      whole = rw c.earlier-self.ensures (given g.region.items c.clear.new.region.items spans g.free g.packed g.next c.args.at.place c.size_at-size.result g.whole tells c.size_at-size.ensures c.clear.ensures).whole;
     }
 
 pub returns-clause-chunks : goal.returns-clause-chunks

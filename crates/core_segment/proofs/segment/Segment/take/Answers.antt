@@ -13,6 +13,12 @@ open-requires c =
     let within = gap.within in let some = c.requires.some in
     omega arith
 
+pub beyond-self-requires : goal.beyond-self-requires
+beyond-self-requires c =
+    let gap = c.in_ok-place.ensures.gap.1 in
+    let within = gap.within in let small = c.args.self.now.small in
+    omega arith
+
 pub overflow_sub-self : goal.overflow_sub-self
 overflow_sub-self c =
     let g = c.args.self.now in
@@ -31,8 +37,8 @@ invariant_of-self c =
     let fits = gap-free spans (length g.region.items) g.free c.args.words gap.0 c.in_ok-place.place g.whole.laid g.whole.counted gap.1 in
     record {
       small = let same = c.open.ensures.same_size in let small = g.small in omega arith;
-      whole = (region-insert g.region.items c.open.new.region.items spans g.free g.packed g.next gap.0 (taken_span c.in_ok-place.place c.args.words c.args.owner)
-          g.whole gap.1 c.requires.some c.requires.owner c.open.ensures fits).whole;
+      whole = rw c.beyond-self.ensures (region-insert g.region.items c.open.new.region.items spans g.free g.packed g.next gap.0 (taken_span c.in_ok-place.place c.args.words c.args.owner)
+          g.whole gap.1 c.requires.some c.requires.owner c.open.ensures fits c.in_ok-place.ensures.behind).whole;
     }
 
 pub returns-clause-taken : goal.returns-clause-taken
@@ -43,7 +49,7 @@ returns-clause-taken c =
     let gap = c.in_ok-place.ensures.gap in
     let fits = gap-free spans (length g.region.items) g.free c.args.words gap.0 c.in_ok-place.place g.whole.laid g.whole.counted gap.1 in
     let new = region-insert g.region.items c.open.new.region.items spans g.free g.packed g.next gap.0 (taken_span c.in_ok-place.place c.args.words c.args.owner)
-    g.whole gap.1 c.requires.some c.requires.owner c.open.ensures fits in
+    g.whole gap.1 c.requires.some c.requires.owner c.open.ensures fits c.in_ok-place.ensures.behind in
     subst (λ (l : List Span). IsTaken (chunks g.region.items spans) (chunks c.open.new.region.items l) c.in_ok-place.place c.args.owner c.args.words) (sym new.is)
     (taken g.region.items c.open.new.region.items spans g.free g.packed g.next gap.0 c.in_ok-place.place c.args.owner c.args.words g.whole gap.1
     c.requires.some c.requires.owner c.open.ensures)

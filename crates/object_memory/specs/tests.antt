@@ -1,2 +1,0 @@
--- What tests alone cite.
-pub mod Caller
