@@ -2,7 +2,7 @@
 ghost use Rattle.std.specs.Prelude.{◌≡◌, ◌≤◌, ◌<◌, [], ◌∷◌, OnOk, IfSome};
 ghost use Rattle.object_memory.specs.Told.{IsReady};
 ghost use Rattle.object_memory.specs.Shape.{Looks};
-ghost use Rattle.blue_model.specs.declared.cpu.Cpu.{Cpu};
+ghost use Rattle.blue_model.specs.declared.cpu.Cpu.{Cpu as Numbers};
 ghost use Rattle.blue_model.specs.Machine.{MACHINE_REGISTERS};
 ghost use Rattle.blue_model.specs.Bytecodes as model;
 ghost use Rattle.contexts.specs.Serves.{Serves, StaysSound, with_value};
@@ -55,7 +55,7 @@ fn temporary_place(i: u32, len: u32) -> Option<u32>
 pub(crate) fn receiver_variable<M: ObjectMemory>(m: &mut M, to: Reg, i: u32) -> Result<(), Stop>
     requires fit { IsFit M.ObjectMemory m.old }
     requires scratch { MACHINE_REGISTERS ≤ to }
-    ensures serves { (cpu : Cpu) → Serves (M.told m.old) cpu (M.told m.new) cpu (model.receiver_variable i) (with_value result ((M.told m.new).regs to)) }
+    ensures serves { (cpu : Numbers) → Serves (M.told m.old) cpu (M.told m.new) cpu (model.receiver_variable i) (with_value result ((M.told m.new).regs to)) }
     ensures looks { OnOk result (Looks (to ∷ []) (M.told m.old) (M.told m.new)) }
     ensures fit { StaysFit M.ObjectMemory m.old m.new result }
 {
@@ -68,7 +68,7 @@ pub(crate) fn temporary<M: ObjectMemory>(m: &mut M, to: Reg, i: u32) -> Result<(
     requires fit { IsFit M.ObjectMemory m.old }
     requires scratch { MACHINE_REGISTERS ≤ to }
     requires number { i < 64 }
-    ensures serves { (cpu : Cpu) → Serves (M.told m.old) cpu (M.told m.new) cpu (model.temporary i) (with_value result ((M.told m.new).regs to)) }
+    ensures serves { (cpu : Numbers) → Serves (M.told m.old) cpu (M.told m.new) cpu (model.temporary i) (with_value result ((M.told m.new).regs to)) }
     ensures looks { OnOk result (Looks (to ∷ []) (M.told m.old) (M.told m.new)) }
     ensures fit { StaysFit M.ObjectMemory m.old m.new result }
 {
@@ -84,7 +84,7 @@ pub(crate) fn temporary<M: ObjectMemory>(m: &mut M, to: Reg, i: u32) -> Result<(
 pub(crate) fn literal_constant<M: ObjectMemory>(m: &mut M, to: Reg, i: u32) -> Result<(), Stop>
     requires fit { IsFit M.ObjectMemory m.old }
     requires scratch { MACHINE_REGISTERS ≤ to }
-    ensures serves { (cpu : Cpu) → Serves (M.told m.old) cpu (M.told m.new) cpu (model.literal_constant i) (with_value result ((M.told m.new).regs to)) }
+    ensures serves { (cpu : Numbers) → Serves (M.told m.old) cpu (M.told m.new) cpu (model.literal_constant i) (with_value result ((M.told m.new).regs to)) }
     ensures looks { OnOk result (Looks (to ∷ []) (M.told m.old) (M.told m.new)) }
     ensures fit { StaysFit M.ObjectMemory m.old m.new result }
 {
@@ -96,7 +96,7 @@ pub(crate) fn literal_constant<M: ObjectMemory>(m: &mut M, to: Reg, i: u32) -> R
 pub(crate) fn literal_variable<M: ObjectMemory>(m: &mut M, to: Reg, i: u32) -> Result<(), Stop>
     requires fit { IsFit M.ObjectMemory m.old }
     requires scratch { MACHINE_REGISTERS ≤ to }
-    ensures serves { (cpu : Cpu) → Serves (M.told m.old) cpu (M.told m.new) cpu (model.literal_variable i) (with_value result ((M.told m.new).regs to)) }
+    ensures serves { (cpu : Numbers) → Serves (M.told m.old) cpu (M.told m.new) cpu (model.literal_variable i) (with_value result ((M.told m.new).regs to)) }
     ensures looks { OnOk result (Looks (to ∷ []) (M.told m.old) (M.told m.new)) }
     ensures fit { StaysFit M.ObjectMemory m.old m.new result }
 {
@@ -115,7 +115,7 @@ pub(crate) fn load_variable<M: ObjectMemory>(
     requires fit { IsFit M.ObjectMemory m.old }
     requires scratch { MACHINE_REGISTERS ≤ to }
     requires number { i < 64 }
-    ensures serves { (cpu : Cpu) → Serves (M.told m.old) cpu (M.told m.new) cpu (loads variable i) (with_value result ((M.told m.new).regs to)) }
+    ensures serves { (cpu : Numbers) → Serves (M.told m.old) cpu (M.told m.new) cpu (loads variable i) (with_value result ((M.told m.new).regs to)) }
     ensures looks { OnOk result (Looks (to ∷ []) (M.told m.old) (M.told m.new)) }
     ensures fit { StaysFit M.ObjectMemory m.old m.new result }
 {
@@ -134,7 +134,7 @@ pub(crate) fn store_receiver_variable<M: ObjectMemory>(
     from: Reg,
 ) -> Result<(), Stop>
     requires fit { IsFit M.ObjectMemory m.old }
-    ensures serves { (cpu : Cpu) → Serves (M.told m.old) cpu (M.told m.new) cpu (model.store_receiver_variable i ((M.told m.old).regs from)) result }
+    ensures serves { (cpu : Numbers) → Serves (M.told m.old) cpu (M.told m.new) cpu (model.store_receiver_variable i ((M.told m.old).regs from)) result }
     ensures fit { StaysFit M.ObjectMemory m.old m.new result }
 {
     store_field(m, Reg::RECEIVER, i, from)?;
@@ -145,7 +145,7 @@ pub(crate) fn store_receiver_variable<M: ObjectMemory>(
 pub(crate) fn store_temporary<M: ObjectMemory>(m: &mut M, i: u32, from: Reg) -> Result<(), Stop>
     requires fit { IsFit M.ObjectMemory m.old }
     requires number { i < 64 }
-    ensures serves { (cpu : Cpu) → Serves (M.told m.old) cpu (M.told m.new) cpu (model.store_temporary i ((M.told m.old).regs from)) result }
+    ensures serves { (cpu : Numbers) → Serves (M.told m.old) cpu (M.told m.new) cpu (model.store_temporary i ((M.told m.old).regs from)) result }
     ensures fit { StaysFit M.ObjectMemory m.old m.new result }
 {
     let len = size(m, Reg::HOME, 0)?;
@@ -164,7 +164,7 @@ pub(crate) fn store_literal_variable<M: ObjectMemory>(
 ) -> Result<(), Stop>
     requires fit { IsFit M.ObjectMemory m.old }
     requires from { from ≡ 11 → ⊥ }
-    ensures serves { (cpu : Cpu) → Serves (M.told m.old) cpu (M.told m.new) cpu (model.store_literal_variable i ((M.told m.old).regs from)) result }
+    ensures serves { (cpu : Numbers) → Serves (M.told m.old) cpu (M.told m.new) cpu (model.store_literal_variable i ((M.told m.old).regs from)) result }
     ensures fit { StaysFit M.ObjectMemory m.old m.new result }
 {
     literal_constant(m, Reg::R11, i)?;
@@ -182,7 +182,7 @@ pub(crate) fn store_variable<M: ObjectMemory>(
     requires fit { IsFit M.ObjectMemory m.old }
     requires number { i < 64 }
     requires from { from ≡ 11 → ⊥ }
-    ensures serves { (cpu : Cpu) → Serves (M.told m.old) cpu (M.told m.new) cpu (stores variable i ((M.told m.old).regs from)) result }
+    ensures serves { (cpu : Numbers) → Serves (M.told m.old) cpu (M.told m.new) cpu (stores variable i ((M.told m.old).regs from)) result }
     ensures fit { StaysFit M.ObjectMemory m.old m.new result }
 {
     match variable {

@@ -9,7 +9,7 @@ ghost use Rattle.long_names.specs.declared.value.Value.TheVariants.{Ref};
 ghost use Rattle.object_memory.specs.Told.{IsReady};
 ghost use Rattle.object_memory.specs.Shape.{HasPartAt, Looks};
 ghost use Rattle.blue_model.specs.declared.cause.Cause.TheVariants.{Shape};
-ghost use Rattle.blue_model.specs.declared.cpu.Cpu.{Cpu};
+ghost use Rattle.blue_model.specs.declared.cpu.Cpu.{Cpu as Numbers};
 ghost use Rattle.blue_model.specs.Machine.{MACHINE_REGISTERS, part, known, class_of, make, store};
 ghost use Rattle.blue_model.specs.Messages.{last_literal, literal_before_last, extension};
 ghost use Rattle.blue_model.specs.Parts.{size, field, number, heading, literal, home_of};
@@ -27,7 +27,7 @@ use object_memory::{ObjectMemory, Reg, shape};
 /// How many fields the object of pointers has that a register names. It has at least so many.
 pub fn size<M: ObjectMemory>(m: &mut M, of: Reg, least: u32) -> Result<u32, Stop>
     requires fit { IsFit M.ObjectMemory m.old }
-    ensures serves { (cpu : Cpu) → Serves (M.told m.old) cpu (M.told m.new) cpu (part Shape (size least) ((M.told m.old).regs of)) result }
+    ensures serves { (cpu : Numbers) → Serves (M.told m.old) cpu (M.told m.new) cpu (part Shape (size least) ((M.told m.old).regs of)) result }
     ensures looks { OnOk result (Looks [] (M.told m.old) (M.told m.new)) }
     ensures there { IfOk result (λ len. HasPartAt (M.told m.new) of pointers_of (λ xs. length xs ≡ len)) }
     ensures least { IfOk result (λ len. least ≤ len) }
@@ -47,7 +47,7 @@ pub fn size<M: ObjectMemory>(m: &mut M, of: Reg, least: u32) -> Result<u32, Stop
 pub fn field<M: ObjectMemory>(m: &mut M, to: Reg, of: Reg, least: u32, i: u32) -> Result<(), Stop>
     requires fit { IsFit M.ObjectMemory m.old }
     requires scratch { MACHINE_REGISTERS ≤ to }
-    ensures serves { (cpu : Cpu) → Serves (M.told m.old) cpu (M.told m.new) cpu (part Shape (field least i) ((M.told m.old).regs of)) (with_value result ((M.told m.new).regs to)) }
+    ensures serves { (cpu : Numbers) → Serves (M.told m.old) cpu (M.told m.new) cpu (part Shape (field least i) ((M.told m.old).regs of)) (with_value result ((M.told m.new).regs to)) }
     ensures looks { OnOk result (Looks (to ∷ []) (M.told m.old) (M.told m.new)) }
     ensures fit { StaysFit M.ObjectMemory m.old m.new result }
 {
@@ -66,7 +66,7 @@ pub fn field<M: ObjectMemory>(m: &mut M, to: Reg, of: Reg, least: u32, i: u32) -
 pub fn number<M: ObjectMemory>(m: &mut M, to: Reg, of: Reg, least: u32, i: u32) -> Result<i16, Stop>
     requires fit { IsFit M.ObjectMemory m.old }
     requires scratch { MACHINE_REGISTERS ≤ to }
-    ensures serves { (cpu : Cpu) → Serves (M.told m.old) cpu (M.told m.new) cpu (part Shape (number least i) ((M.told m.old).regs of)) result }
+    ensures serves { (cpu : Numbers) → Serves (M.told m.old) cpu (M.told m.new) cpu (part Shape (number least i) ((M.told m.old).regs of)) result }
     ensures looks { OnOk result (Looks (to ∷ []) (M.told m.old) (M.told m.new)) }
     ensures range { IfOk result IsSmallInteger }
     ensures fit { StaysFit M.ObjectMemory m.old m.new result }
@@ -82,7 +82,7 @@ pub fn number<M: ObjectMemory>(m: &mut M, to: Reg, of: Reg, least: u32, i: u32) 
 pub fn literal<M: ObjectMemory>(m: &mut M, to: Reg, of: Reg, i: u32) -> Result<(), Stop>
     requires fit { IsFit M.ObjectMemory m.old }
     requires scratch { MACHINE_REGISTERS ≤ to }
-    ensures serves { (cpu : Cpu) → Serves (M.told m.old) cpu (M.told m.new) cpu (part Shape (literal i) ((M.told m.old).regs of)) (with_value result ((M.told m.new).regs to)) }
+    ensures serves { (cpu : Numbers) → Serves (M.told m.old) cpu (M.told m.new) cpu (part Shape (literal i) ((M.told m.old).regs of)) (with_value result ((M.told m.new).regs to)) }
     ensures looks { OnOk result (Looks (to ∷ []) (M.told m.old) (M.told m.new)) }
     ensures fit { StaysFit M.ObjectMemory m.old m.new result }
 {
@@ -96,7 +96,7 @@ pub fn literal<M: ObjectMemory>(m: &mut M, to: Reg, of: Reg, i: u32) -> Result<(
 /// Whether a register names a method: it is stuck where it doesn't.
 pub fn need_method<M: ObjectMemory>(m: &mut M, of: Reg) -> Result<(), Stop>
     requires fit { IsFit M.ObjectMemory m.old }
-    ensures serves { (cpu : Cpu) → Serves (M.told m.old) cpu (M.told m.new) cpu (need_method ((M.told m.old).regs of)) result }
+    ensures serves { (cpu : Numbers) → Serves (M.told m.old) cpu (M.told m.new) cpu (need_method ((M.told m.old).regs of)) result }
     ensures looks { OnOk result (Looks [] (M.told m.old) (M.told m.new)) }
     ensures fit { StaysFit M.ObjectMemory m.old m.new result }
 {
@@ -109,7 +109,7 @@ pub fn need_method<M: ObjectMemory>(m: &mut M, of: Reg) -> Result<(), Stop>
 /// The header of the method that a register names.
 pub fn header<M: ObjectMemory>(m: &mut M, of: Reg) -> Result<i16, Stop>
     requires fit { IsFit M.ObjectMemory m.old }
-    ensures serves { (cpu : Cpu) → Serves (M.told m.old) cpu (M.told m.new) cpu (part Shape heading ((M.told m.old).regs of)) result }
+    ensures serves { (cpu : Numbers) → Serves (M.told m.old) cpu (M.told m.new) cpu (part Shape heading ((M.told m.old).regs of)) result }
     ensures range { IfOk result IsSmallInteger }
     ensures looks { OnOk result (Looks [] (M.told m.old) (M.told m.new)) }
     ensures fit { StaysFit M.ObjectMemory m.old m.new result }
@@ -125,7 +125,7 @@ pub fn header<M: ObjectMemory>(m: &mut M, of: Reg) -> Result<i16, Stop>
 pub fn class_of<M: ObjectMemory>(m: &mut M, to: Reg, of: Reg) -> Result<(), Stop>
     requires fit { IsFit M.ObjectMemory m.old }
     requires scratch { MACHINE_REGISTERS ≤ to }
-    ensures serves { (cpu : Cpu) → Serves (M.told m.old) cpu (M.told m.new) cpu (class_of ((M.told m.old).regs of)) (with_value result ((M.told m.new).regs to)) }
+    ensures serves { (cpu : Numbers) → Serves (M.told m.old) cpu (M.told m.new) cpu (class_of ((M.told m.old).regs of)) (with_value result ((M.told m.new).regs to)) }
     ensures looks { OnOk result (Looks (to ∷ []) (M.told m.old) (M.told m.new)) }
     ensures fit { StaysFit M.ObjectMemory m.old m.new result }
 {
@@ -137,7 +137,7 @@ pub fn class_of<M: ObjectMemory>(m: &mut M, to: Reg, of: Reg) -> Result<(), Stop
 pub fn last_literal<M: ObjectMemory>(m: &mut M, to: Reg, of: Reg) -> Result<(), Stop>
     requires fit { IsFit M.ObjectMemory m.old }
     requires scratch { MACHINE_REGISTERS ≤ to }
-    ensures serves { (cpu : Cpu) → Serves (M.told m.old) cpu (M.told m.new) cpu (part Shape last_literal ((M.told m.old).regs of)) (with_value result ((M.told m.new).regs to)) }
+    ensures serves { (cpu : Numbers) → Serves (M.told m.old) cpu (M.told m.new) cpu (part Shape last_literal ((M.told m.old).regs of)) (with_value result ((M.told m.new).regs to)) }
     ensures looks { OnOk result (Looks (to ∷ []) (M.told m.old) (M.told m.new)) }
     ensures fit { StaysFit M.ObjectMemory m.old m.new result }
 {
@@ -155,7 +155,7 @@ pub fn last_literal<M: ObjectMemory>(m: &mut M, to: Reg, of: Reg) -> Result<(), 
 pub fn literal_before_last<M: ObjectMemory>(m: &mut M, to: Reg, of: Reg) -> Result<(), Stop>
     requires fit { IsFit M.ObjectMemory m.old }
     requires scratch { MACHINE_REGISTERS ≤ to }
-    ensures serves { (cpu : Cpu) → Serves (M.told m.old) cpu (M.told m.new) cpu (part Shape literal_before_last ((M.told m.old).regs of)) (with_value result ((M.told m.new).regs to)) }
+    ensures serves { (cpu : Numbers) → Serves (M.told m.old) cpu (M.told m.new) cpu (part Shape literal_before_last ((M.told m.old).regs of)) (with_value result ((M.told m.new).regs to)) }
     ensures looks { OnOk result (Looks (to ∷ []) (M.told m.old) (M.told m.new)) }
     ensures fit { StaysFit M.ObjectMemory m.old m.new result }
 {
@@ -173,7 +173,7 @@ pub fn literal_before_last<M: ObjectMemory>(m: &mut M, to: Reg, of: Reg) -> Resu
 pub fn extension<M: ObjectMemory>(m: &mut M, to: Reg, of: Reg) -> Result<i16, Stop>
     requires fit { IsFit M.ObjectMemory m.old }
     requires scratch { MACHINE_REGISTERS ≤ to }
-    ensures serves { (cpu : Cpu) → Serves (M.told m.old) cpu (M.told m.new) cpu (part Shape extension ((M.told m.old).regs of)) result }
+    ensures serves { (cpu : Numbers) → Serves (M.told m.old) cpu (M.told m.new) cpu (part Shape extension ((M.told m.old).regs of)) result }
     ensures looks { OnOk result (Looks (to ∷ []) (M.told m.old) (M.told m.new)) }
     ensures range { IfOk result IsSmallInteger }
     ensures fit { StaysFit M.ObjectMemory m.old m.new result }
@@ -190,7 +190,7 @@ pub fn home<M: ObjectMemory>(m: &mut M, to: Reg, context: Reg) -> Result<(), Sto
     requires fit { IsFit M.ObjectMemory m.old }
     requires scratch { MACHINE_REGISTERS ≤ to }
     requires apart { to ≡ context → ⊥ }
-    ensures serves { (cpu : Cpu) → Serves (M.told m.old) cpu (M.told m.new) cpu (part Shape (home_of ((M.told m.old).regs context)) ((M.told m.old).regs context)) (with_value result ((M.told m.new).regs to)) }
+    ensures serves { (cpu : Numbers) → Serves (M.told m.old) cpu (M.told m.new) cpu (part Shape (home_of ((M.told m.old).regs context)) ((M.told m.old).regs context)) (with_value result ((M.told m.new).regs to)) }
     ensures looks { OnOk result (Looks (to ∷ []) (M.told m.old) (M.told m.new)) }
     ensures fit { StaysFit M.ObjectMemory m.old m.new result }
 {
@@ -214,7 +214,7 @@ pub fn known<M: ObjectMemory>(m: &mut M, to: Reg, name: Name) -> Result<(), Stop
     requires fit { IsFit M.ObjectMemory m.old }
     requires scratch { MACHINE_REGISTERS ≤ to }
     requires name { is_known name ≡ true }
-    ensures serves { (cpu : Cpu) → Serves (M.told m.old) cpu (M.told m.new) cpu (known name) (with_value result ((M.told m.new).regs to)) }
+    ensures serves { (cpu : Numbers) → Serves (M.told m.old) cpu (M.told m.new) cpu (known name) (with_value result ((M.told m.new).regs to)) }
     ensures name { OnOk result ((M.told m.new).regs to ≡ Ref name) }
     ensures looks { OnOk result (Looks (to ∷ []) (M.told m.old) (M.told m.new)) }
     ensures fit { StaysFit M.ObjectMemory m.old m.new result }
@@ -226,7 +226,7 @@ pub fn known<M: ObjectMemory>(m: &mut M, to: Reg, name: Name) -> Result<(), Stop
 /// Stores into field i of the object of pointers that a register names.
 pub fn store_field<M: ObjectMemory>(m: &mut M, of: Reg, i: u32, from: Reg) -> Result<(), Stop>
     requires fit { IsFit M.ObjectMemory m.old }
-    ensures serves { (cpu : Cpu) → Serves (M.told m.old) cpu (M.told m.new) cpu (store_field ((M.told m.old).regs of) i ((M.told m.old).regs from)) result }
+    ensures serves { (cpu : Numbers) → Serves (M.told m.old) cpu (M.told m.new) cpu (store_field ((M.told m.old).regs of) i ((M.told m.old).regs from)) result }
     ensures regs { OnOk result ((M.told m.new).regs ≡ (M.told m.old).regs) }
     ensures fit { StaysFit M.ObjectMemory m.old m.new result }
 {
@@ -240,7 +240,7 @@ pub fn store_field<M: ObjectMemory>(m: &mut M, of: Reg, i: u32, from: Reg) -> Re
 /// Stores into value or literal i of the object that a register names.
 pub fn store_value<M: ObjectMemory>(m: &mut M, of: Reg, i: u32, from: Reg) -> Result<(), Stop>
     requires fit { IsFit M.ObjectMemory m.old }
-    ensures serves { (cpu : Cpu) → Serves (M.told m.old) cpu (M.told m.new) cpu (store ((M.told m.old).regs of) i ((M.told m.old).regs from)) result }
+    ensures serves { (cpu : Numbers) → Serves (M.told m.old) cpu (M.told m.new) cpu (store ((M.told m.old).regs of) i ((M.told m.old).regs from)) result }
     ensures regs { OnOk result ((M.told m.new).regs ≡ (M.told m.old).regs) }
     ensures fit { StaysFit M.ObjectMemory m.old m.new result }
 {
@@ -257,7 +257,7 @@ pub fn make_pointers<M: ObjectMemory>(m: &mut M, to: Reg, class: Reg, n: u32) ->
     requires scratch { MACHINE_REGISTERS ≤ to }
     requires class { IsRef ((M.told m.old).regs class) }
     requires few { n < 65536 }
-    ensures serves { (cpu : Cpu) → Serves (M.told m.old) cpu (M.told m.new) cpu (make ((M.told m.old).regs class) (OfPointers n)) (with_value result ((M.told m.new).regs to)) }
+    ensures serves { (cpu : Numbers) → Serves (M.told m.old) cpu (M.told m.new) cpu (make ((M.told m.old).regs class) (OfPointers n)) (with_value result ((M.told m.new).regs to)) }
     ensures regs { OnOk result ((r : ℕ) → (r ≡ to → ⊥) → (M.told m.new).regs r ≡ (M.told m.old).regs r) }
     ensures fit { StaysFit M.ObjectMemory m.old m.new result }
 {
@@ -271,7 +271,7 @@ pub fn make_words<M: ObjectMemory>(m: &mut M, to: Reg, class: Reg, n: u32) -> Re
     requires scratch { MACHINE_REGISTERS ≤ to }
     requires class { IsRef ((M.told m.old).regs class) }
     requires few { n < 65536 }
-    ensures serves { (cpu : Cpu) → Serves (M.told m.old) cpu (M.told m.new) cpu (make ((M.told m.old).regs class) (OfWords n)) (with_value result ((M.told m.new).regs to)) }
+    ensures serves { (cpu : Numbers) → Serves (M.told m.old) cpu (M.told m.new) cpu (make ((M.told m.old).regs class) (OfWords n)) (with_value result ((M.told m.new).regs to)) }
     ensures regs { OnOk result ((r : ℕ) → (r ≡ to → ⊥) → (M.told m.new).regs r ≡ (M.told m.old).regs r) }
     ensures fit { StaysFit M.ObjectMemory m.old m.new result }
 {
@@ -285,7 +285,7 @@ pub fn make_bytes<M: ObjectMemory>(m: &mut M, to: Reg, class: Reg, n: u32) -> Re
     requires scratch { MACHINE_REGISTERS ≤ to }
     requires class { IsRef ((M.told m.old).regs class) }
     requires few { n < 65536 }
-    ensures serves { (cpu : Cpu) → Serves (M.told m.old) cpu (M.told m.new) cpu (make ((M.told m.old).regs class) (OfBytes n)) (with_value result ((M.told m.new).regs to)) }
+    ensures serves { (cpu : Numbers) → Serves (M.told m.old) cpu (M.told m.new) cpu (make ((M.told m.old).regs class) (OfBytes n)) (with_value result ((M.told m.new).regs to)) }
     ensures regs { OnOk result ((r : ℕ) → (r ≡ to → ⊥) → (M.told m.new).regs r ≡ (M.told m.old).regs r) }
     ensures fit { StaysFit M.ObjectMemory m.old m.new result }
 {
@@ -307,7 +307,7 @@ pub fn make_method<M: ObjectMemory>(
     requires class { IsRef ((M.told m.old).regs class) }
     requires header { IsSmallInteger header }
     requires few { code ≤ MOST_CODE }
-    ensures serves { (cpu : Cpu) → Serves (M.told m.old) cpu (M.told m.new) cpu (make ((M.told m.old).regs class) (OfMethod header code)) (with_value result ((M.told m.new).regs to)) }
+    ensures serves { (cpu : Numbers) → Serves (M.told m.old) cpu (M.told m.new) cpu (make ((M.told m.old).regs class) (OfMethod header code)) (with_value result ((M.told m.new).regs to)) }
     ensures regs { OnOk result ((r : ℕ) → (r ≡ to → ⊥) → (M.told m.new).regs r ≡ (M.told m.old).regs r) }
     ensures fit { StaysFit M.ObjectMemory m.old m.new result }
 {

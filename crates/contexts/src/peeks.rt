@@ -4,7 +4,7 @@ ghost use Rattle.std.specs.Prelude.{◌≡◌, ◌≤◌, ◌<◌, [], ◌∷◌
 ghost use Rattle.long_names.specs.Words.{IsSmallInteger};
 ghost use Rattle.object_memory.specs.Told.{IsReady};
 ghost use Rattle.object_memory.specs.Shape.{Looks};
-ghost use Rattle.blue_model.specs.declared.cpu.Cpu.{Cpu};
+ghost use Rattle.blue_model.specs.declared.cpu.Cpu.{Cpu as Numbers};
 ghost use Rattle.blue_model.specs.Machine.{MACHINE_REGISTERS};
 ghost use Rattle.blue_model.specs.Parts.{size, field, number, literal, heading};
 ghost use Rattle.blue_model.specs.Trials.{peek};
@@ -18,7 +18,7 @@ use object_memory::{ObjectMemory, Reg, shape};
 /// How many fields the object of pointers has that a register names, where it has at least so many.
 pub fn peek_size<M: ObjectMemory>(m: &mut M, of: Reg, least: u32) -> Result<Option<u32>, Stop>
     requires fit { IsFit M.ObjectMemory m.old }
-    ensures serves { (cpu : Cpu) → Serves (M.told m.old) cpu (M.told m.new) cpu (peek (size least) ((M.told m.old).regs of)) result }
+    ensures serves { (cpu : Numbers) → Serves (M.told m.old) cpu (M.told m.new) cpu (peek (size least) ((M.told m.old).regs of)) result }
     ensures looks { OnOk result (Looks [] (M.told m.old) (M.told m.new)) }
     ensures bound { IfOk result (λ len. IfSome len (λ n. n < 65536)) }
     ensures fit { StaysFit M.ObjectMemory m.old m.new result }
@@ -42,7 +42,7 @@ pub fn peek_field<M: ObjectMemory>(
 ) -> Result<bool, Stop>
     requires fit { IsFit M.ObjectMemory m.old }
     requires scratch { MACHINE_REGISTERS ≤ to }
-    ensures serves { (cpu : Cpu) → Serves (M.told m.old) cpu (M.told m.new) cpu (peek (field least i) ((M.told m.old).regs of)) (with_found result ((M.told m.new).regs to)) }
+    ensures serves { (cpu : Numbers) → Serves (M.told m.old) cpu (M.told m.new) cpu (peek (field least i) ((M.told m.old).regs of)) (with_found result ((M.told m.new).regs to)) }
     ensures looks { OnOk result (Looks (to ∷ []) (M.told m.old) (M.told m.new)) }
     ensures fit { StaysFit M.ObjectMemory m.old m.new result }
 {
@@ -67,7 +67,7 @@ pub fn peek_number<M: ObjectMemory>(
 ) -> Result<Option<i16>, Stop>
     requires fit { IsFit M.ObjectMemory m.old }
     requires scratch { MACHINE_REGISTERS ≤ to }
-    ensures serves { (cpu : Cpu) → Serves (M.told m.old) cpu (M.told m.new) cpu (peek (number least i) ((M.told m.old).regs of)) result }
+    ensures serves { (cpu : Numbers) → Serves (M.told m.old) cpu (M.told m.new) cpu (peek (number least i) ((M.told m.old).regs of)) result }
     ensures looks { OnOk result (Looks (to ∷ []) (M.told m.old) (M.told m.new)) }
     ensures range { IfOk result (λ found. IfSome found IsSmallInteger) }
     ensures fit { StaysFit M.ObjectMemory m.old m.new result }
@@ -81,7 +81,7 @@ pub fn peek_number<M: ObjectMemory>(
 /// The header of the method that a register names, where it names one.
 pub fn peek_header<M: ObjectMemory>(m: &mut M, of: Reg) -> Result<Option<i16>, Stop>
     requires fit { IsFit M.ObjectMemory m.old }
-    ensures serves { (cpu : Cpu) → Serves (M.told m.old) cpu (M.told m.new) cpu (peek heading ((M.told m.old).regs of)) result }
+    ensures serves { (cpu : Numbers) → Serves (M.told m.old) cpu (M.told m.new) cpu (peek heading ((M.told m.old).regs of)) result }
     ensures looks { OnOk result (Looks [] (M.told m.old) (M.told m.new)) }
     ensures range { IfOk result (λ found. IfSome found IsSmallInteger) }
     ensures fit { StaysFit M.ObjectMemory m.old m.new result }
@@ -97,7 +97,7 @@ pub fn peek_header<M: ObjectMemory>(m: &mut M, of: Reg) -> Result<Option<i16>, S
 pub fn peek_literal<M: ObjectMemory>(m: &mut M, to: Reg, of: Reg, i: u32) -> Result<bool, Stop>
     requires fit { IsFit M.ObjectMemory m.old }
     requires scratch { MACHINE_REGISTERS ≤ to }
-    ensures serves { (cpu : Cpu) → Serves (M.told m.old) cpu (M.told m.new) cpu (peek (literal i) ((M.told m.old).regs of)) (with_found result ((M.told m.new).regs to)) }
+    ensures serves { (cpu : Numbers) → Serves (M.told m.old) cpu (M.told m.new) cpu (peek (literal i) ((M.told m.old).regs of)) (with_found result ((M.told m.new).regs to)) }
     ensures looks { OnOk result (Looks (to ∷ []) (M.told m.old) (M.told m.new)) }
     ensures fit { StaysFit M.ObjectMemory m.old m.new result }
 {

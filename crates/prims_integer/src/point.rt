@@ -2,7 +2,7 @@
 ghost use Rattle.std.specs.Prelude.{◌≡◌, OnOk};
 ghost use Rattle.long_names.specs.Words.{IsSmallInteger};
 ghost use Rattle.object_memory.specs.Told.{IsReady};
-ghost use Rattle.blue_model.specs.declared.cpu.Cpu.{Cpu};
+ghost use Rattle.blue_model.specs.declared.cpu.Cpu.{Cpu as Numbers};
 ghost use Rattle.blue_model.specs.Arithmetic as model;
 ghost use Rattle.contexts.specs.Serves.{Serves, StaysSound, with_value};
 ghost use Rattle.object_memory.specs.Calls.{IsFit};
@@ -19,7 +19,7 @@ pub(crate) fn make_point<M: ObjectMemory>(m: &mut M, x: i16, y: i16) -> Result<(
     requires fit { IsFit M.ObjectMemory m.old }
     requires x { IsSmallInteger x }
     requires y { IsSmallInteger y }
-    ensures serves { (cpu : Cpu) → Serves (M.told m.old) cpu (M.told m.new) cpu (model.make_point x y) (with_value result ((M.told m.new).regs 11)) }
+    ensures serves { (cpu : Numbers) → Serves (M.told m.old) cpu (M.told m.new) cpu (model.make_point x y) (with_value result ((M.told m.new).regs 11)) }
     ensures fit { StaysFit M.ObjectMemory m.old m.new result }
 {
     known(m, Reg::R10, Name::POINT)?;

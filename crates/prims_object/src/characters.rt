@@ -5,7 +5,7 @@ ghost use Rattle.long_names.specs.declared.value.Value.TheVariants.{Int};
 ghost use Rattle.object_memory.specs.Told.{IsReady};
 ghost use Rattle.object_memory.specs.Shape.{Looks};
 ghost use Rattle.blue_model.specs.declared.answer.Answer.{Answer};
-ghost use Rattle.blue_model.specs.declared.cpu.Cpu.{Cpu};
+ghost use Rattle.blue_model.specs.declared.cpu.Cpu.{Cpu as Numbers};
 ghost use Rattle.blue_model.specs.Machine.{Rule};
 ghost use Rattle.blue_model.specs.Trials.{peek, ◌>>?◌};
 ghost use Rattle.blue_model.specs.Elements as model;
@@ -29,7 +29,7 @@ use object_memory::{ObjectMemory, Reg};
 /// Byte i of the object of bytes that a register names, where it has it.
 fn text_byte<M: ObjectMemory>(m: &mut M, of: Reg, i: u32) -> Result<Option<u8>, Stop>
     requires fit { IsFit M.ObjectMemory m.old }
-    ensures serves { (cpu : Cpu) → Serves (M.told m.old) cpu (M.told m.new) cpu (peek (model.text_at (Spot.Byte i)) ((M.told m.old).regs of)) result }
+    ensures serves { (cpu : Numbers) → Serves (M.told m.old) cpu (M.told m.new) cpu (peek (model.text_at (Spot.Byte i)) ((M.told m.old).regs of)) result }
     ensures looks { OnOk result (Looks [] (M.told m.old) (M.told m.new)) }
     ensures fit { StaysFit M.ObjectMemory m.old m.new result }
 {
@@ -46,7 +46,7 @@ fn text_byte<M: ObjectMemory>(m: &mut M, of: Reg, i: u32) -> Result<Option<u8>, 
 /// The byte that stands there in an object of bytes. None of another object.
 pub(crate) fn text_at<M: ObjectMemory>(m: &mut M, of: Reg, spot: Spot) -> Result<Option<u8>, Stop>
     requires fit { IsFit M.ObjectMemory m.old }
-    ensures serves { (cpu : Cpu) → Serves (M.told m.old) cpu (M.told m.new) cpu (peek (model.text_at spot) ((M.told m.old).regs of)) result }
+    ensures serves { (cpu : Numbers) → Serves (M.told m.old) cpu (M.told m.new) cpu (peek (model.text_at spot) ((M.told m.old).regs of)) result }
     ensures looks { OnOk result (Looks [] (M.told m.old) (M.told m.new)) }
     ensures fit { StaysFit M.ObjectMemory m.old m.new result }
 {
@@ -60,7 +60,7 @@ pub(crate) fn text_at<M: ObjectMemory>(m: &mut M, of: Reg, spot: Spot) -> Result
 /// Loads the character of a byte into R12: its field of the character table. False where that isn't there.
 pub(crate) fn character_of<M: ObjectMemory>(m: &mut M, byte: u8) -> Result<bool, Stop>
     requires fit { IsFit M.ObjectMemory m.old }
-    ensures serves { (cpu : Cpu) → Serves (M.told m.old) cpu (M.told m.new) cpu (model.character_of byte) (with_found result ((M.told m.new).regs 12)) }
+    ensures serves { (cpu : Numbers) → Serves (M.told m.old) cpu (M.told m.new) cpu (model.character_of byte) (with_found result ((M.told m.new).regs 12)) }
     ensures looks { OnOk result (Looks (12 ∷ 19 ∷ []) (M.told m.old) (M.told m.new)) }
     ensures fit { StaysFit M.ObjectMemory m.old m.new result }
 {
@@ -72,7 +72,7 @@ pub(crate) fn character_of<M: ObjectMemory>(m: &mut M, byte: u8) -> Result<bool,
 fn byte_of_character<M: ObjectMemory>(m: &mut M, of: Reg) -> Result<Option<u8>, Stop>
     requires fit { IsFit M.ObjectMemory m.old }
     requires low { of < 19 }
-    ensures serves { (cpu : Cpu) → Serves (M.told m.old) cpu (M.told m.new) cpu (model.byte_of_character ((M.told m.old).regs of)) result }
+    ensures serves { (cpu : Numbers) → Serves (M.told m.old) cpu (M.told m.new) cpu (model.byte_of_character ((M.told m.old).regs of)) result }
     ensures few { IfOk result (λ found. IfSome found (λ byte. byte < 256)) }
     ensures looks { OnOk result (Looks (19 ∷ []) (M.told m.old) (M.told m.new)) }
     ensures fit { StaysFit M.ObjectMemory m.old m.new result }
@@ -93,7 +93,7 @@ pub(crate) fn store_character<M: ObjectMemory>(
 ) -> Result<bool, Stop>
     requires fit { IsFit M.ObjectMemory m.old }
     requires array { array < 18 }
-    ensures leads { (cpu : Cpu) → Leads (M.told m.old) cpu (M.told m.new) (λ rest. model.byte_of_character ((M.told m.old).regs 12) >>? λ byte. model.put_element ((M.told m.old).regs array) spot (Int (pos byte)) rest) (λ (_ : Unit {0}) (rest : Rule Answer). rest) (with_found result tt) }
+    ensures leads { (cpu : Numbers) → Leads (M.told m.old) cpu (M.told m.new) (λ rest. model.byte_of_character ((M.told m.old).regs 12) >>? λ byte. model.put_element ((M.told m.old).regs array) spot (Int (pos byte)) rest) (λ (_ : Unit {0}) (rest : Rule Answer). rest) (with_found result tt) }
     ensures regs { OnOk result ((r : ℕ) → (r ≡ 18 → ⊥) → (r ≡ 19 → ⊥) → (M.told m.new).regs r ≡ (M.told m.old).regs r) }
     ensures fit { StaysFit M.ObjectMemory m.old m.new result }
 {

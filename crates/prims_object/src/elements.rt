@@ -3,7 +3,7 @@ ghost use Rattle.std.specs.Prelude.{◌≡◌, ◌<◌, ◌≤◌, ℕ, [], ◌�
 ghost use Rattle.object_memory.specs.Told.{IsReady};
 ghost use Rattle.object_memory.specs.Shape.{Looks};
 ghost use Rattle.blue_model.specs.declared.answer.Answer.{Answer};
-ghost use Rattle.blue_model.specs.declared.cpu.Cpu.{Cpu};
+ghost use Rattle.blue_model.specs.declared.cpu.Cpu.{Cpu as Numbers};
 ghost use Rattle.blue_model.specs.Machine.{Rule};
 ghost use Rattle.blue_model.specs.Elements as model;
 ghost use Rattle.contexts.specs.Serves.{Serves, StaysSound, with_value, with_found};
@@ -29,7 +29,7 @@ pub(crate) fn element_of<M: ObjectMemory>(
 ) -> Result<Option<Spot>, Stop>
     requires fit { IsFit M.ObjectMemory m.old }
     requires low { array < 19 }
-    ensures serves { (cpu : Cpu) → Serves (M.told m.old) cpu (M.told m.new) cpu (model.element_of ((M.told m.old).regs array) i) result }
+    ensures serves { (cpu : Numbers) → Serves (M.told m.old) cpu (M.told m.new) cpu (model.element_of ((M.told m.old).regs array) i) result }
     ensures looks { OnOk result (Looks (19 ∷ []) (M.told m.old) (M.told m.new)) }
     ensures fit { StaysFit M.ObjectMemory m.old m.new result }
 {
@@ -49,7 +49,7 @@ pub(crate) fn variable_of<M: ObjectMemory>(
     i: i32,
 ) -> Result<Option<Spot>, Stop>
     requires fit { IsFit M.ObjectMemory m.old }
-    ensures serves { (cpu : Cpu) → Serves (M.told m.old) cpu (M.told m.new) cpu (model.variable_of ((M.told m.old).regs receiver) i) result }
+    ensures serves { (cpu : Numbers) → Serves (M.told m.old) cpu (M.told m.new) cpu (model.variable_of ((M.told m.old).regs receiver) i) result }
     ensures looks { OnOk result (Looks [] (M.told m.old) (M.told m.new)) }
     ensures fit { StaysFit M.ObjectMemory m.old m.new result }
 {
@@ -62,7 +62,7 @@ pub(crate) fn variable_of<M: ObjectMemory>(
 /// Loads word i of the object of words that a register names, as a number.
 fn word_object<M: ObjectMemory>(m: &mut M, array: Reg, i: u32) -> Result<(), Stop>
     requires fit { IsFit M.ObjectMemory m.old }
-    ensures serves { (cpu : Cpu) → Serves (M.told m.old) cpu (M.told m.new) cpu (model.element_at ((M.told m.old).regs array) (Spot.Word i)) (with_value result ((M.told m.new).regs 12)) }
+    ensures serves { (cpu : Numbers) → Serves (M.told m.old) cpu (M.told m.new) cpu (model.element_at ((M.told m.old).regs array) (Spot.Word i)) (with_value result ((M.told m.new).regs 12)) }
     ensures regs { OnOk result ((r : ℕ) → (r ≡ 12 → ⊥) → (r ≡ 19 → ⊥) → (M.told m.new).regs r ≡ (M.told m.old).regs r) }
     ensures fit { StaysFit M.ObjectMemory m.old m.new result }
 {
@@ -73,7 +73,7 @@ fn word_object<M: ObjectMemory>(m: &mut M, array: Reg, i: u32) -> Result<(), Sto
 /// Loads byte i of the object of bytes that a register names, or of a method's code, as a number.
 fn byte_object<M: ObjectMemory>(m: &mut M, array: Reg, i: u32) -> Result<(), Stop>
     requires fit { IsFit M.ObjectMemory m.old }
-    ensures serves { (cpu : Cpu) → Serves (M.told m.old) cpu (M.told m.new) cpu (model.element_at ((M.told m.old).regs array) (Spot.Byte i)) (with_value result ((M.told m.new).regs 12)) }
+    ensures serves { (cpu : Numbers) → Serves (M.told m.old) cpu (M.told m.new) cpu (model.element_at ((M.told m.old).regs array) (Spot.Byte i)) (with_value result ((M.told m.new).regs 12)) }
     ensures regs { OnOk result ((r : ℕ) → (r ≡ 12 → ⊥) → (r ≡ 19 → ⊥) → (M.told m.new).regs r ≡ (M.told m.old).regs r) }
     ensures fit { StaysFit M.ObjectMemory m.old m.new result }
 {
@@ -84,7 +84,7 @@ fn byte_object<M: ObjectMemory>(m: &mut M, array: Reg, i: u32) -> Result<(), Sto
 /// Loads what stands there (subscript:with:): a value, or a number.
 pub(crate) fn element_at<M: ObjectMemory>(m: &mut M, array: Reg, spot: Spot) -> Result<(), Stop>
     requires fit { IsFit M.ObjectMemory m.old }
-    ensures serves { (cpu : Cpu) → Serves (M.told m.old) cpu (M.told m.new) cpu (model.element_at ((M.told m.old).regs array) spot) (with_value result ((M.told m.new).regs 12)) }
+    ensures serves { (cpu : Numbers) → Serves (M.told m.old) cpu (M.told m.new) cpu (model.element_at ((M.told m.old).regs array) spot) (with_value result ((M.told m.new).regs 12)) }
     ensures regs { OnOk result ((r : ℕ) → (r ≡ 12 → ⊥) → (r ≡ 19 → ⊥) → (M.told m.new).regs r ≡ (M.told m.old).regs r) }
     ensures fit { StaysFit M.ObjectMemory m.old m.new result }
 {
@@ -98,7 +98,7 @@ pub(crate) fn element_at<M: ObjectMemory>(m: &mut M, array: Reg, spot: Spot) -> 
 /// Stores the value of a register into value i.
 fn store_in_field<M: ObjectMemory>(m: &mut M, array: Reg, i: u32, from: Reg) -> Result<bool, Stop>
     requires fit { IsFit M.ObjectMemory m.old }
-    ensures leads { (cpu : Cpu) → Leads (M.told m.old) cpu (M.told m.new) (model.put_element ((M.told m.old).regs array) (Spot.Field i) ((M.told m.old).regs from)) (λ (_ : Unit {0}) (rest : Rule Answer). rest) (with_found result tt) }
+    ensures leads { (cpu : Numbers) → Leads (M.told m.old) cpu (M.told m.new) (model.put_element ((M.told m.old).regs array) (Spot.Field i) ((M.told m.old).regs from)) (λ (_ : Unit {0}) (rest : Rule Answer). rest) (with_found result tt) }
     ensures regs { OnOk result ((r : ℕ) → (r ≡ 19 → ⊥) → (M.told m.new).regs r ≡ (M.told m.old).regs r) }
     ensures fit { StaysFit M.ObjectMemory m.old m.new result }
 {
@@ -111,7 +111,7 @@ fn store_in_word<M: ObjectMemory>(m: &mut M, array: Reg, i: u32, from: Reg) -> R
     requires fit { IsFit M.ObjectMemory m.old }
     requires array { array < 19 }
     requires from { from < 19 }
-    ensures leads { (cpu : Cpu) → Leads (M.told m.old) cpu (M.told m.new) (model.put_element ((M.told m.old).regs array) (Spot.Word i) ((M.told m.old).regs from)) (λ (_ : Unit {0}) (rest : Rule Answer). rest) (with_found result tt) }
+    ensures leads { (cpu : Numbers) → Leads (M.told m.old) cpu (M.told m.new) (model.put_element ((M.told m.old).regs array) (Spot.Word i) ((M.told m.old).regs from)) (λ (_ : Unit {0}) (rest : Rule Answer). rest) (with_found result tt) }
     ensures regs { OnOk result ((r : ℕ) → (r ≡ 19 → ⊥) → (M.told m.new).regs r ≡ (M.told m.old).regs r) }
     ensures fit { StaysFit M.ObjectMemory m.old m.new result }
 {
@@ -125,7 +125,7 @@ fn store_in_word<M: ObjectMemory>(m: &mut M, array: Reg, i: u32, from: Reg) -> R
 /// Stores the number that a register holds into byte i. False where it is no SmallInteger from 0 to 255.
 fn store_in_byte<M: ObjectMemory>(m: &mut M, array: Reg, i: u32, from: Reg) -> Result<bool, Stop>
     requires fit { IsFit M.ObjectMemory m.old }
-    ensures leads { (cpu : Cpu) → Leads (M.told m.old) cpu (M.told m.new) (model.put_element ((M.told m.old).regs array) (Spot.Byte i) ((M.told m.old).regs from)) (λ (_ : Unit {0}) (rest : Rule Answer). rest) (with_found result tt) }
+    ensures leads { (cpu : Numbers) → Leads (M.told m.old) cpu (M.told m.new) (model.put_element ((M.told m.old).regs array) (Spot.Byte i) ((M.told m.old).regs from)) (λ (_ : Unit {0}) (rest : Rule Answer). rest) (with_found result tt) }
     ensures regs { OnOk result ((r : ℕ) → (r ≡ 19 → ⊥) → (M.told m.new).regs r ≡ (M.told m.old).regs r) }
     ensures fit { StaysFit M.ObjectMemory m.old m.new result }
 {
@@ -147,7 +147,7 @@ pub(crate) fn store_element<M: ObjectMemory>(
     requires fit { IsFit M.ObjectMemory m.old }
     requires array { array < 19 }
     requires from { from < 19 }
-    ensures leads { (cpu : Cpu) → Leads (M.told m.old) cpu (M.told m.new) (model.put_element ((M.told m.old).regs array) spot ((M.told m.old).regs from)) (λ (_ : Unit {0}) (rest : Rule Answer). rest) (with_found result tt) }
+    ensures leads { (cpu : Numbers) → Leads (M.told m.old) cpu (M.told m.new) (model.put_element ((M.told m.old).regs array) spot ((M.told m.old).regs from)) (λ (_ : Unit {0}) (rest : Rule Answer). rest) (with_found result tt) }
     ensures regs { OnOk result ((r : ℕ) → (r ≡ 19 → ⊥) → (M.told m.new).regs r ≡ (M.told m.old).regs r) }
     ensures fit { StaysFit M.ObjectMemory m.old m.new result }
 {

@@ -3,7 +3,7 @@ ghost use Rattle.std.specs.Prelude.{◌≡◌, ◌<◌, ◌≤◌, [], OnOk, IfO
 ghost use Rattle.std.specs.Option.{option_and_then};
 ghost use Rattle.object_memory.specs.Told.{IsReady};
 ghost use Rattle.object_memory.specs.Shape.{Looks};
-ghost use Rattle.blue_model.specs.declared.cpu.Cpu.{Cpu};
+ghost use Rattle.blue_model.specs.declared.cpu.Cpu.{Cpu as Numbers};
 ghost use Rattle.blue_model.specs.Trials.{peek};
 ghost use Rattle.blue_model.specs.Elements as model;
 ghost use Rattle.blue_model.specs.Storage as storage;
@@ -97,7 +97,7 @@ fn code_start(literals: Option<u32>) -> u32
 /// The elements of the object that a register names. None where it holds a number.
 fn extent_of<M: ObjectMemory>(m: &mut M, of: Reg) -> Result<Option<Extent>, Stop>
     requires fit { IsFit M.ObjectMemory m.old }
-    ensures serves { (cpu : Cpu) → Serves (M.told m.old) cpu (M.told m.new) cpu (peek extents.extent_of ((M.told m.old).regs of)) result }
+    ensures serves { (cpu : Numbers) → Serves (M.told m.old) cpu (M.told m.new) cpu (peek extents.extent_of ((M.told m.old).regs of)) result }
     ensures looks { OnOk result (Looks [] (M.told m.old) (M.told m.new)) }
     ensures start { IfOk result (λ found. IfSome found (λ x. x.start < 256)) }
     ensures len { IfOk result (λ found. IfSome found (λ x. x.len < 65536)) }
@@ -117,7 +117,7 @@ pub(crate) fn size_behind<M: ObjectMemory>(
     fixed: u32,
 ) -> Result<Option<u32>, Stop>
     requires fit { IsFit M.ObjectMemory m.old }
-    ensures serves { (cpu : Cpu) → Serves (M.told m.old) cpu (M.told m.new) cpu (peek (storage.size_behind fixed) ((M.told m.old).regs of)) result }
+    ensures serves { (cpu : Numbers) → Serves (M.told m.old) cpu (M.told m.new) cpu (peek (storage.size_behind fixed) ((M.told m.old).regs of)) result }
     ensures looks { OnOk result (Looks [] (M.told m.old) (M.told m.new)) }
     ensures fit { StaysFit M.ObjectMemory m.old m.new result }
 {
@@ -130,7 +130,7 @@ pub(crate) fn size_behind<M: ObjectMemory>(
 /// How many elements the object that a register names has (lengthOf:). None where it holds a number.
 pub(crate) fn length<M: ObjectMemory>(m: &mut M, of: Reg) -> Result<Option<u32>, Stop>
     requires fit { IsFit M.ObjectMemory m.old }
-    ensures serves { (cpu : Cpu) → Serves (M.told m.old) cpu (M.told m.new) cpu (peek model.length_of ((M.told m.old).regs of)) result }
+    ensures serves { (cpu : Numbers) → Serves (M.told m.old) cpu (M.told m.new) cpu (peek model.length_of ((M.told m.old).regs of)) result }
     ensures looks { OnOk result (Looks [] (M.told m.old) (M.told m.new)) }
     ensures fit { StaysFit M.ObjectMemory m.old m.new result }
 {
@@ -144,7 +144,7 @@ pub(crate) fn length<M: ObjectMemory>(m: &mut M, of: Reg) -> Result<Option<u32>,
 pub(crate) fn spot_of<M: ObjectMemory>(m: &mut M, of: Reg, e: u32) -> Result<Option<Spot>, Stop>
     requires fit { IsFit M.ObjectMemory m.old }
     requires first { 1 ≤ e }
-    ensures serves { (cpu : Cpu) → Serves (M.told m.old) cpu (M.told m.new) cpu (peek (model.spot_of e) ((M.told m.old).regs of)) result }
+    ensures serves { (cpu : Numbers) → Serves (M.told m.old) cpu (M.told m.new) cpu (peek (model.spot_of e) ((M.told m.old).regs of)) result }
     ensures looks { OnOk result (Looks [] (M.told m.old) (M.told m.new)) }
     ensures fit { StaysFit M.ObjectMemory m.old m.new result }
 {
@@ -157,7 +157,7 @@ pub(crate) fn spot_of<M: ObjectMemory>(m: &mut M, of: Reg, e: u32) -> Result<Opt
 /// How many bytes the object of bytes has that a register names. None where it names another object, or holds a number.
 pub(crate) fn text_length<M: ObjectMemory>(m: &mut M, of: Reg) -> Result<Option<u32>, Stop>
     requires fit { IsFit M.ObjectMemory m.old }
-    ensures serves { (cpu : Cpu) → Serves (M.told m.old) cpu (M.told m.new) cpu (peek extents.text_length ((M.told m.old).regs of)) result }
+    ensures serves { (cpu : Numbers) → Serves (M.told m.old) cpu (M.told m.new) cpu (peek extents.text_length ((M.told m.old).regs of)) result }
     ensures looks { OnOk result (Looks [] (M.told m.old) (M.told m.new)) }
     ensures fit { StaysFit M.ObjectMemory m.old m.new result }
 {
@@ -170,7 +170,7 @@ pub(crate) fn text_length<M: ObjectMemory>(m: &mut M, of: Reg) -> Result<Option<
 /// Whether the object that a register names is text, where it is an object of bytes.
 pub(crate) fn peek_text<M: ObjectMemory>(m: &mut M, of: Reg) -> Result<Option<bool>, Stop>
     requires fit { IsFit M.ObjectMemory m.old }
-    ensures serves { (cpu : Cpu) → Serves (M.told m.old) cpu (M.told m.new) cpu (peek storage.is_text ((M.told m.old).regs of)) result }
+    ensures serves { (cpu : Numbers) → Serves (M.told m.old) cpu (M.told m.new) cpu (peek storage.is_text ((M.told m.old).regs of)) result }
     ensures looks { OnOk result (Looks [] (M.told m.old) (M.told m.new)) }
     ensures fit { StaysFit M.ObjectMemory m.old m.new result }
 {
@@ -183,7 +183,7 @@ pub(crate) fn peek_text<M: ObjectMemory>(m: &mut M, of: Reg) -> Result<Option<bo
 /// Whether the object that a register names is text, where it is an object of values, which is none.
 pub(crate) fn peek_array<M: ObjectMemory>(m: &mut M, of: Reg) -> Result<Option<bool>, Stop>
     requires fit { IsFit M.ObjectMemory m.old }
-    ensures serves { (cpu : Cpu) → Serves (M.told m.old) cpu (M.told m.new) cpu (peek storage.is_array ((M.told m.old).regs of)) result }
+    ensures serves { (cpu : Numbers) → Serves (M.told m.old) cpu (M.told m.new) cpu (peek storage.is_array ((M.told m.old).regs of)) result }
     ensures looks { OnOk result (Looks [] (M.told m.old) (M.told m.new)) }
     ensures fit { StaysFit M.ObjectMemory m.old m.new result }
 {

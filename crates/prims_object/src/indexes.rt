@@ -6,7 +6,7 @@ ghost use Rattle.long_names.specs.Objects.{text_of};
 ghost use Rattle.long_names.specs.State.{IsRef};
 ghost use Rattle.object_memory.specs.Told.{IsReady};
 ghost use Rattle.object_memory.specs.Shape.{Looks};
-ghost use Rattle.blue_model.specs.declared.cpu.Cpu.{Cpu};
+ghost use Rattle.blue_model.specs.declared.cpu.Cpu.{Cpu as Numbers};
 ghost use Rattle.blue_model.specs.Trials.{peek, where_some, ◌>>?◌};
 ghost use Rattle.blue_model.specs.Elements as model;
 ghost use Rattle.contexts.specs.Serves.{Serves, StaysSound, with_value};
@@ -42,7 +42,7 @@ fn joined(low: u8, high: u8) -> i32
 /// bytes.
 fn two_bytes<M: ObjectMemory>(m: &mut M, of: Reg) -> Result<Option<i32>, Stop>
     requires fit { IsFit M.ObjectMemory m.old }
-    ensures serves { (cpu : Cpu) → Serves (M.told m.old) cpu (M.told m.new) cpu (peek (λ o. option_and_then model.two_bytes (text_of o.body)) ((M.told m.old).regs of)) result }
+    ensures serves { (cpu : Numbers) → Serves (M.told m.old) cpu (M.told m.new) cpu (peek (λ o. option_and_then model.two_bytes (text_of o.body)) ((M.told m.old).regs of)) result }
     ensures looks { OnOk result (Looks [] (M.told m.old) (M.told m.new)) }
     ensures range { IfOk result (λ found. IfSome found IsIndex) }
     ensures fit { StaysFit M.ObjectMemory m.old m.new result }
@@ -60,7 +60,7 @@ fn large_number<M: ObjectMemory>(m: &mut M, of: Reg) -> Result<Option<i32>, Stop
     requires fit { IsFit M.ObjectMemory m.old }
     requires low { of < 19 }
     requires named { IsRef ((M.told m.old).regs of) }
-    ensures serves { (cpu : Cpu) → Serves (M.told m.old) cpu (M.told m.new) cpu (peek model.large_number ((M.told m.old).regs of)) result }
+    ensures serves { (cpu : Numbers) → Serves (M.told m.old) cpu (M.told m.new) cpu (peek model.large_number ((M.told m.old).regs of)) result }
     ensures looks { OnOk result (Looks (19 ∷ []) (M.told m.old) (M.told m.new)) }
     ensures range { IfOk result (λ found. IfSome found IsIndex) }
     ensures fit { StaysFit M.ObjectMemory m.old m.new result }
@@ -77,7 +77,7 @@ fn large_number<M: ObjectMemory>(m: &mut M, of: Reg) -> Result<Option<i32>, Stop
 pub(crate) fn index_argument<M: ObjectMemory>(m: &mut M, of: Reg) -> Result<Option<i32>, Stop>
     requires fit { IsFit M.ObjectMemory m.old }
     requires low { of < 19 }
-    ensures serves { (cpu : Cpu) → Serves (M.told m.old) cpu (M.told m.new) cpu (model.index_argument ((M.told m.old).regs of)) result }
+    ensures serves { (cpu : Numbers) → Serves (M.told m.old) cpu (M.told m.new) cpu (model.index_argument ((M.told m.old).regs of)) result }
     ensures looks { OnOk result (Looks (19 ∷ []) (M.told m.old) (M.told m.new)) }
     ensures range { IfOk result (λ found. IfSome found IsIndex) }
     ensures fit { StaysFit M.ObjectMemory m.old m.new result }
@@ -119,7 +119,7 @@ pub(crate) fn byte_by(number: Option<i16>) -> Option<u8>
 pub(crate) fn natural_argument<M: ObjectMemory>(m: &mut M, of: Reg) -> Result<Option<u32>, Stop>
     requires fit { IsFit M.ObjectMemory m.old }
     requires low { of < 19 }
-    ensures leads { (cpu : Cpu) → Leads (M.told m.old) cpu (M.told m.new) (λ rest. model.index_argument ((M.told m.old).regs of) >>? λ z. where_some (model.natural z) rest) (λ n rest. rest n) result }
+    ensures leads { (cpu : Numbers) → Leads (M.told m.old) cpu (M.told m.new) (λ rest. model.index_argument ((M.told m.old).regs of) >>? λ z. where_some (model.natural z) rest) (λ n rest. rest n) result }
     ensures looks { OnOk result (Looks (19 ∷ []) (M.told m.old) (M.told m.new)) }
     ensures few { IfOk result (λ found. IfSome found (λ n. n < 65536)) }
     ensures fit { StaysFit M.ObjectMemory m.old m.new result }
@@ -133,7 +133,7 @@ pub(crate) fn natural_argument<M: ObjectMemory>(m: &mut M, of: Reg) -> Result<Op
 /// Makes a LargePositiveInteger of two bytes, the lowest first, in R12.
 fn make_large<M: ObjectMemory>(m: &mut M, n: u32) -> Result<(), Stop>
     requires fit { IsFit M.ObjectMemory m.old }
-    ensures serves { (cpu : Cpu) → Serves (M.told m.old) cpu (M.told m.new) cpu (model.make_large n) (with_value result ((M.told m.new).regs 12)) }
+    ensures serves { (cpu : Numbers) → Serves (M.told m.old) cpu (M.told m.new) cpu (model.make_large n) (with_value result ((M.told m.new).regs 12)) }
     ensures regs { OnOk result ((r : ℕ) → (r ≡ 12 → ⊥) → (r ≡ 19 → ⊥) → (M.told m.new).regs r ≡ (M.told m.old).regs r) }
     ensures fit { StaysFit M.ObjectMemory m.old m.new result }
 {
@@ -147,7 +147,7 @@ fn make_large<M: ObjectMemory>(m: &mut M, n: u32) -> Result<(), Stop>
 /// A number as an answer, in R12 (positive16BitIntegerFor:): a SmallInteger, or a new LargePositiveInteger of two bytes.
 pub fn number_object<M: ObjectMemory>(m: &mut M, n: u32) -> Result<(), Stop>
     requires fit { IsFit M.ObjectMemory m.old }
-    ensures serves { (cpu : Cpu) → Serves (M.told m.old) cpu (M.told m.new) cpu (model.number_object n) (with_value result ((M.told m.new).regs 12)) }
+    ensures serves { (cpu : Numbers) → Serves (M.told m.old) cpu (M.told m.new) cpu (model.number_object n) (with_value result ((M.told m.new).regs 12)) }
     ensures regs { OnOk result ((r : ℕ) → (r ≡ 12 → ⊥) → (r ≡ 19 → ⊥) → (M.told m.new).regs r ≡ (M.told m.old).regs r) }
     ensures fit { StaysFit M.ObjectMemory m.old m.new result }
 {

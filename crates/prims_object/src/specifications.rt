@@ -4,7 +4,7 @@ ghost use Rattle.long_names.specs.State.{IsRef};
 ghost use Rattle.long_names.specs.Words.{IsSmallInteger, unsigned_of};
 ghost use Rattle.object_memory.specs.Told.{IsReady};
 ghost use Rattle.object_memory.specs.Shape.{Looks};
-ghost use Rattle.blue_model.specs.declared.cpu.Cpu.{Cpu};
+ghost use Rattle.blue_model.specs.declared.cpu.Cpu.{Cpu as Numbers};
 ghost use Rattle.blue_model.specs.Elements as model;
 ghost use Rattle.contexts.specs.Serves.{Serves, StaysSound};
 ghost use Rattle.object_memory.specs.Calls.{IsFit};
@@ -61,7 +61,7 @@ pub(crate) fn fixed_fields(specification: i16) -> u32
 /// is there. R19 is used.
 pub(crate) fn specification_of<M: ObjectMemory>(m: &mut M, class: Reg) -> Result<Option<i16>, Stop>
     requires fit { IsFit M.ObjectMemory m.old }
-    ensures serves { (cpu : Cpu) → Serves (M.told m.old) cpu (M.told m.new) cpu (model.specification_of ((M.told m.old).regs class)) result }
+    ensures serves { (cpu : Numbers) → Serves (M.told m.old) cpu (M.told m.new) cpu (model.specification_of ((M.told m.old).regs class)) result }
     ensures looks { OnOk result (Looks (19 ∷ []) (M.told m.old) (M.told m.new)) }
     ensures range { IfOk result (λ found. IfSome found IsSmallInteger) }
     ensures named { IfOk result (λ found. IsSome found → IsRef ((M.told m.old).regs class)) }
@@ -77,7 +77,7 @@ pub(crate) fn specification_of<M: ObjectMemory>(m: &mut M, class: Reg) -> Result
 /// nothing. R19 is used.
 pub(crate) fn fixed_of<M: ObjectMemory>(m: &mut M, of: Reg) -> Result<Option<u32>, Stop>
     requires fit { IsFit M.ObjectMemory m.old }
-    ensures serves { (cpu : Cpu) → Serves (M.told m.old) cpu (M.told m.new) cpu (model.fixed_of ((M.told m.old).regs of)) result }
+    ensures serves { (cpu : Numbers) → Serves (M.told m.old) cpu (M.told m.new) cpu (model.fixed_of ((M.told m.old).regs of)) result }
     ensures looks { OnOk result (Looks (19 ∷ []) (M.told m.old) (M.told m.new)) }
     ensures few { IfOk result (λ found. IfSome found (λ n. n < 2048)) }
     ensures fit { StaysFit M.ObjectMemory m.old m.new result }

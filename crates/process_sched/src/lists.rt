@@ -3,7 +3,7 @@
 // the process that leaves a list in R17.
 ghost use Rattle.std.specs.Prelude.{◌≡◌, OnOk};
 ghost use Rattle.object_memory.specs.Told.{IsReady};
-ghost use Rattle.blue_model.specs.declared.cpu.Cpu.{Cpu};
+ghost use Rattle.blue_model.specs.declared.cpu.Cpu.{Cpu as Numbers};
 ghost use Rattle.blue_model.specs.Machine.{pick};
 ghost use Rattle.blue_model.specs.Parts.{is_nil};
 ghost use Rattle.blue_model.specs.Contexts.{store_field as store_rule};
@@ -22,7 +22,7 @@ use object_memory::{ObjectMemory, Reg};
 /// The process becomes the next of the last of the list.
 fn link_behind<M: ObjectMemory>(m: &mut M) -> Result<(), Stop>
     requires fit { IsFit M.ObjectMemory m.old }
-    ensures serves { (cpu : Cpu) → Serves (M.told m.old) cpu (M.told m.new) cpu (model.link_behind ((M.told m.old).regs 10) ((M.told m.old).regs 11)) result }
+    ensures serves { (cpu : Numbers) → Serves (M.told m.old) cpu (M.told m.new) cpu (model.link_behind ((M.told m.old).regs 10) ((M.told m.old).regs 11)) result }
     ensures process { OnOk result ((M.told m.new).regs 10 ≡ (M.told m.old).regs 10) }
     ensures list { OnOk result ((M.told m.new).regs 11 ≡ (M.told m.old).regs 11) }
     ensures other { OnOk result ((M.told m.new).regs 17 ≡ (M.told m.old).regs 17) }
@@ -36,7 +36,7 @@ fn link_behind<M: ObjectMemory>(m: &mut M) -> Result<(), Stop>
 /// The process becomes the first of a list that is empty, as its first process in R12 says, or the next of the last.
 fn link<M: ObjectMemory>(m: &mut M) -> Result<(), Stop>
     requires fit { IsFit M.ObjectMemory m.old }
-    ensures serves { (cpu : Cpu) → Serves (M.told m.old) cpu (M.told m.new) cpu (pick (is_nil ((M.told m.old).regs 12)) (store_rule ((M.told m.old).regs 11) 0 ((M.told m.old).regs 10)) (model.link_behind ((M.told m.old).regs 10) ((M.told m.old).regs 11))) result }
+    ensures serves { (cpu : Numbers) → Serves (M.told m.old) cpu (M.told m.new) cpu (pick (is_nil ((M.told m.old).regs 12)) (store_rule ((M.told m.old).regs 11) 0 ((M.told m.old).regs 10)) (model.link_behind ((M.told m.old).regs 10) ((M.told m.old).regs 11))) result }
     ensures process { OnOk result ((M.told m.new).regs 10 ≡ (M.told m.old).regs 10) }
     ensures list { OnOk result ((M.told m.new).regs 11 ≡ (M.told m.old).regs 11) }
     ensures other { OnOk result ((M.told m.new).regs 17 ≡ (M.told m.old).regs 17) }
@@ -52,7 +52,7 @@ fn link<M: ObjectMemory>(m: &mut M) -> Result<(), Stop>
 /// The process becomes the last of the list, which is its own from then on (addLastLink:toList:).
 pub(crate) fn add<M: ObjectMemory>(m: &mut M) -> Result<(), Stop>
     requires fit { IsFit M.ObjectMemory m.old }
-    ensures serves { (cpu : Cpu) → Serves (M.told m.old) cpu (M.told m.new) cpu (model.add ((M.told m.old).regs 10) ((M.told m.old).regs 11)) result }
+    ensures serves { (cpu : Numbers) → Serves (M.told m.old) cpu (M.told m.new) cpu (model.add ((M.told m.old).regs 10) ((M.told m.old).regs 11)) result }
     ensures other { OnOk result ((M.told m.new).regs 17 ≡ (M.told m.old).regs 17) }
     ensures fit { StaysFit M.ObjectMemory m.old m.new result }
 {
@@ -66,7 +66,7 @@ pub(crate) fn add<M: ObjectMemory>(m: &mut M) -> Result<(), Stop>
 /// No process is on the list any more.
 fn empty_list<M: ObjectMemory>(m: &mut M) -> Result<(), Stop>
     requires fit { IsFit M.ObjectMemory m.old }
-    ensures serves { (cpu : Cpu) → Serves (M.told m.old) cpu (M.told m.new) cpu (model.empty_list ((M.told m.old).regs 11)) result }
+    ensures serves { (cpu : Numbers) → Serves (M.told m.old) cpu (M.told m.new) cpu (model.empty_list ((M.told m.old).regs 11)) result }
     ensures first { OnOk result ((M.told m.new).regs 17 ≡ (M.told m.old).regs 17) }
     ensures fit { StaysFit M.ObjectMemory m.old m.new result }
 {
@@ -79,7 +79,7 @@ fn empty_list<M: ObjectMemory>(m: &mut M) -> Result<(), Stop>
 /// The next of the first process becomes the first of the list.
 fn shorten<M: ObjectMemory>(m: &mut M) -> Result<(), Stop>
     requires fit { IsFit M.ObjectMemory m.old }
-    ensures serves { (cpu : Cpu) → Serves (M.told m.old) cpu (M.told m.new) cpu (model.shorten ((M.told m.old).regs 11) ((M.told m.old).regs 17)) result }
+    ensures serves { (cpu : Numbers) → Serves (M.told m.old) cpu (M.told m.new) cpu (model.shorten ((M.told m.old).regs 11) ((M.told m.old).regs 17)) result }
     ensures first { OnOk result ((M.told m.new).regs 17 ≡ (M.told m.old).regs 17) }
     ensures fit { StaysFit M.ObjectMemory m.old m.new result }
 {
@@ -91,7 +91,7 @@ fn shorten<M: ObjectMemory>(m: &mut M) -> Result<(), Stop>
 /// The list is without its first process, which is in R17; the last is in R13.
 fn unlink<M: ObjectMemory>(m: &mut M) -> Result<(), Stop>
     requires fit { IsFit M.ObjectMemory m.old }
-    ensures serves { (cpu : Cpu) → Serves (M.told m.old) cpu (M.told m.new) cpu (pick (is_same ((M.told m.old).regs 17) ((M.told m.old).regs 13)) (model.empty_list ((M.told m.old).regs 11)) (model.shorten ((M.told m.old).regs 11) ((M.told m.old).regs 17))) result }
+    ensures serves { (cpu : Numbers) → Serves (M.told m.old) cpu (M.told m.new) cpu (pick (is_same ((M.told m.old).regs 17) ((M.told m.old).regs 13)) (model.empty_list ((M.told m.old).regs 11)) (model.shorten ((M.told m.old).regs 11) ((M.told m.old).regs 17))) result }
     ensures first { OnOk result ((M.told m.new).regs 17 ≡ (M.told m.old).regs 17) }
     ensures fit { StaysFit M.ObjectMemory m.old m.new result }
 {
@@ -105,7 +105,7 @@ fn unlink<M: ObjectMemory>(m: &mut M) -> Result<(), Stop>
 /// Takes the first process off the list, into R17 (removeFirstLinkOfList:).
 pub(crate) fn take<M: ObjectMemory>(m: &mut M) -> Result<(), Stop>
     requires fit { IsFit M.ObjectMemory m.old }
-    ensures serves { (cpu : Cpu) → Serves (M.told m.old) cpu (M.told m.new) cpu (model.take ((M.told m.old).regs 11)) (with_value result ((M.told m.new).regs 17)) }
+    ensures serves { (cpu : Numbers) → Serves (M.told m.old) cpu (M.told m.new) cpu (model.take ((M.told m.old).regs 11)) (with_value result ((M.told m.new).regs 17)) }
     ensures fit { StaysFit M.ObjectMemory m.old m.new result }
 {
     field(m, Reg::R17, Reg::R11, 0, FIRST_LINK_INDEX)?;

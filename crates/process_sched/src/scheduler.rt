@@ -4,7 +4,7 @@ ghost use Rattle.std.specs.Prelude.{◌≡◌, ◌<◌, [], ◌∷◌, OnOk, IfS
 ghost use Rattle.long_names.specs.Words.{IsSmallInteger};
 ghost use Rattle.object_memory.specs.Told.{IsReady};
 ghost use Rattle.object_memory.specs.Shape.{Looks};
-ghost use Rattle.blue_model.specs.declared.cpu.Cpu.{Cpu};
+ghost use Rattle.blue_model.specs.declared.cpu.Cpu.{Cpu as Numbers};
 ghost use Rattle.blue_model.specs.Processes as model;
 ghost use Rattle.contexts.specs.Serves.{Serves, StaysSound, with_value};
 ghost use Rattle.object_memory.specs.Calls.{IsFit};
@@ -20,7 +20,7 @@ use object_memory::{ObjectMemory, Reg};
 /// Loads the Array of the scheduler's lists into R15.
 fn process_lists<M: ObjectMemory>(m: &mut M) -> Result<(), Stop>
     requires fit { IsFit M.ObjectMemory m.old }
-    ensures serves { (cpu : Cpu) → Serves (M.told m.old) cpu (M.told m.new) cpu model.process_lists (with_value result ((M.told m.new).regs 15)) }
+    ensures serves { (cpu : Numbers) → Serves (M.told m.old) cpu (M.told m.new) cpu model.process_lists (with_value result ((M.told m.new).regs 15)) }
     ensures looks { OnOk result (Looks (15 ∷ []) (M.told m.old) (M.told m.new)) }
     ensures fit { StaysFit M.ObjectMemory m.old m.new result }
 {
@@ -45,7 +45,7 @@ fn list_index(priority: i16, count: u32) -> Option<u32>
 /// The process in R10 becomes the last on the list of its priority (sleep:). Stuck with Shape where its priority has no list.
 pub(crate) fn sleep<M: ObjectMemory>(m: &mut M) -> Result<(), Stop>
     requires fit { IsFit M.ObjectMemory m.old }
-    ensures serves { (cpu : Cpu) → Serves (M.told m.old) cpu (M.told m.new) cpu (model.sleep ((M.told m.old).regs 10)) result }
+    ensures serves { (cpu : Numbers) → Serves (M.told m.old) cpu (M.told m.new) cpu (model.sleep ((M.told m.old).regs 10)) result }
     ensures other { OnOk result ((M.told m.new).regs 17 ≡ (M.told m.old).regs 17) }
     ensures fit { StaysFit M.ObjectMemory m.old m.new result }
 {
@@ -62,7 +62,7 @@ pub(crate) fn sleep<M: ObjectMemory>(m: &mut M) -> Result<(), Stop>
 /// Takes the first process off the highest of so many lists that isn't empty, into R17. Stuck with NoProcess where all are empty.
 fn wake_among<M: ObjectMemory>(m: &mut M, count: u32) -> Result<(), Stop>
     requires fit { IsFit M.ObjectMemory m.old }
-    ensures serves { (cpu : Cpu) → Serves (M.told m.old) cpu (M.told m.new) cpu (model.wake_among count ((M.told m.old).regs 15)) (with_value result ((M.told m.new).regs 17)) }
+    ensures serves { (cpu : Numbers) → Serves (M.told m.old) cpu (M.told m.new) cpu (model.wake_among count ((M.told m.old).regs 15)) (with_value result ((M.told m.new).regs 17)) }
     ensures fit { StaysFit M.ObjectMemory m.old m.new result }
 {
     for turn in 0..count {
@@ -79,7 +79,7 @@ fn wake_among<M: ObjectMemory>(m: &mut M, count: u32) -> Result<(), Stop>
 /// all lists are empty.
 pub(crate) fn wake<M: ObjectMemory>(m: &mut M) -> Result<(), Stop>
     requires fit { IsFit M.ObjectMemory m.old }
-    ensures serves { (cpu : Cpu) → Serves (M.told m.old) cpu (M.told m.new) cpu model.wake (with_value result ((M.told m.new).regs 17)) }
+    ensures serves { (cpu : Numbers) → Serves (M.told m.old) cpu (M.told m.new) cpu model.wake (with_value result ((M.told m.new).regs 17)) }
     ensures fit { StaysFit M.ObjectMemory m.old m.new result }
 {
     process_lists(m)?;
@@ -91,7 +91,7 @@ pub(crate) fn wake<M: ObjectMemory>(m: &mut M) -> Result<(), Stop>
 pub(crate) fn has_list<M: ObjectMemory>(m: &mut M, priority: i16) -> Result<bool, Stop>
     requires fit { IsFit M.ObjectMemory m.old }
     requires range { IsSmallInteger priority }
-    ensures serves { (cpu : Cpu) → Serves (M.told m.old) cpu (M.told m.new) cpu (model.has_list priority) result }
+    ensures serves { (cpu : Numbers) → Serves (M.told m.old) cpu (M.told m.new) cpu (model.has_list priority) result }
     ensures looks { OnOk result (Looks (15 ∷ []) (M.told m.old) (M.told m.new)) }
     ensures fit { StaysFit M.ObjectMemory m.old m.new result }
 {

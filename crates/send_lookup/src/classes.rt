@@ -2,7 +2,7 @@
 ghost use Rattle.std.specs.Prelude.{◌≡◌, [], ◌∷◌, OnOk};
 ghost use Rattle.object_memory.specs.Told.{IsReady};
 ghost use Rattle.object_memory.specs.Shape.{Looks};
-ghost use Rattle.blue_model.specs.declared.cpu.Cpu.{Cpu};
+ghost use Rattle.blue_model.specs.declared.cpu.Cpu.{Cpu as Numbers};
 ghost use Rattle.blue_model.specs.Lookup as model;
 ghost use Rattle.contexts.specs.Serves.{Serves, StaysSound, with_found};
 ghost use Rattle.object_memory.specs.Calls.{IsFit};
@@ -19,7 +19,7 @@ use object_memory::{ObjectMemory, Reg, shape};
 /// Loads the method in a slot of the dictionary in R21 into R22. False where there is no slot.
 fn method_at<M: ObjectMemory>(m: &mut M, slot: Option<u32>) -> Result<bool, Stop>
     requires fit { IsFit M.ObjectMemory m.old }
-    ensures serves { (cpu : Cpu) → Serves (M.told m.old) cpu (M.told m.new) cpu (model.method_at ((M.told m.old).regs 21) slot) (with_found result ((M.told m.new).regs 22)) }
+    ensures serves { (cpu : Numbers) → Serves (M.told m.old) cpu (M.told m.new) cpu (model.method_at ((M.told m.old).regs 21) slot) (with_found result ((M.told m.new).regs 22)) }
     ensures looks { OnOk result (Looks (22 ∷ []) (M.told m.old) (M.told m.new)) }
     ensures fit { StaysFit M.ObjectMemory m.old m.new result }
 {
@@ -35,7 +35,7 @@ fn method_at<M: ObjectMemory>(m: &mut M, slot: Option<u32>) -> Result<bool, Stop
 /// Loads the method that the class in R20 has for the selector in R23 into R22. False where it has none.
 pub(crate) fn find_in<M: ObjectMemory>(m: &mut M) -> Result<bool, Stop>
     requires fit { IsFit M.ObjectMemory m.old }
-    ensures serves { (cpu : Cpu) → Serves (M.told m.old) cpu (M.told m.new) cpu (model.find_in ((M.told m.old).regs 23) ((M.told m.old).regs 20)) (with_found result ((M.told m.new).regs 22)) }
+    ensures serves { (cpu : Numbers) → Serves (M.told m.old) cpu (M.told m.new) cpu (model.find_in ((M.told m.old).regs 23) ((M.told m.old).regs 20)) (with_found result ((M.told m.new).regs 22)) }
     ensures looks { OnOk result (Looks (21 ∷ 22 ∷ []) (M.told m.old) (M.told m.new)) }
     ensures fit { StaysFit M.ObjectMemory m.old m.new result }
 {

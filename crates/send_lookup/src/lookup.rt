@@ -2,7 +2,7 @@
 ghost use Rattle.std.specs.Prelude.{◌≡◌, ◌<◌, [], ◌∷◌, OnOk};
 ghost use Rattle.object_memory.specs.Told.{IsReady};
 ghost use Rattle.object_memory.specs.Shape.{Looks};
-ghost use Rattle.blue_model.specs.declared.cpu.Cpu.{Cpu};
+ghost use Rattle.blue_model.specs.declared.cpu.Cpu.{Cpu as Numbers};
 ghost use Rattle.blue_model.specs.Lookup as model;
 ghost use Rattle.contexts.specs.Serves.{Serves, StaysSound, with_found};
 ghost use Rattle.send_lookup.specs.Found.{KeepsButMethod};
@@ -21,7 +21,7 @@ use object_memory::{ObjectMemory, Reg};
 /// before.
 fn go_up<M: ObjectMemory>(m: &mut M) -> Result<bool, Stop>
     requires fit { IsFit M.ObjectMemory m.old }
-    ensures serves { (cpu : Cpu) → Serves (M.told m.old) cpu (M.told m.new) cpu (model.lookup ((M.told m.old).regs 23) ((M.told m.old).regs 20)) (with_found result ((M.told m.new).regs 22)) }
+    ensures serves { (cpu : Numbers) → Serves (M.told m.old) cpu (M.told m.new) cpu (model.lookup ((M.told m.old).regs 23) ((M.told m.old).regs 20)) (with_found result ((M.told m.new).regs 22)) }
     ensures looks { OnOk result (Looks (20 ∷ 21 ∷ 22 ∷ []) (M.told m.old) (M.told m.new)) }
     ensures fit { StaysFit M.ObjectMemory m.old m.new result }
 {
@@ -45,7 +45,7 @@ fn go_up<M: ObjectMemory>(m: &mut M) -> Result<bool, Stop>
 pub fn look_up<M: ObjectMemory>(m: &mut M, selector: Reg, class: Reg) -> Result<bool, Stop>
     requires fit { IsFit M.ObjectMemory m.old }
     requires selector { selector < 20 }
-    ensures serves { (cpu : Cpu) → Serves (M.told m.old) cpu (M.told m.new) cpu (model.lookup ((M.told m.old).regs selector) ((M.told m.old).regs class)) (with_found result ((M.told m.new).regs 22)) }
+    ensures serves { (cpu : Numbers) → Serves (M.told m.old) cpu (M.told m.new) cpu (model.lookup ((M.told m.old).regs selector) ((M.told m.old).regs class)) (with_found result ((M.told m.new).regs 22)) }
     ensures looks { OnOk result (Looks (20 ∷ 21 ∷ 22 ∷ 23 ∷ []) (M.told m.old) (M.told m.new)) }
     ensures fit { StaysFit M.ObjectMemory m.old m.new result }
 {
@@ -60,7 +60,7 @@ pub fn look_up<M: ObjectMemory>(m: &mut M, selector: Reg, class: Reg) -> Result<
 /// used.
 pub fn find<M: ObjectMemory>(m: &mut M, class: Reg) -> Result<bool, Stop>
     requires fit { IsFit M.ObjectMemory m.old }
-    ensures serves { (cpu : Cpu) → Serves (M.told m.old) cpu (M.told m.new) cpu (model.find ((M.told m.old).regs class)) result }
+    ensures serves { (cpu : Numbers) → Serves (M.told m.old) cpu (M.told m.new) cpu (model.find ((M.told m.old).regs class)) result }
     ensures others { OnOk result (KeepsButMethod 20 (M.told m.old) (M.told m.new)) }
     ensures fit { StaysFit M.ObjectMemory m.old m.new result }
 {

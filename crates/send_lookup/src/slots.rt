@@ -5,7 +5,7 @@ ghost use Rattle.long_names.specs.State.{IsRef};
 ghost use Rattle.object_memory.specs.Told.{IsReady};
 ghost use Rattle.object_memory.specs.Shape.{HasPartAt, Looks};
 ghost use Rattle.blue_model.specs.declared.cause.Cause.TheVariants.{Shape};
-ghost use Rattle.blue_model.specs.declared.cpu.Cpu.{Cpu};
+ghost use Rattle.blue_model.specs.declared.cpu.Cpu.{Cpu as Numbers};
 ghost use Rattle.blue_model.specs.Machine.{part};
 ghost use Rattle.blue_model.specs.Lookup.{slot_of, turned_back};
 ghost use Rattle.contexts.specs.Serves.{Serves, StaysSound};
@@ -37,7 +37,7 @@ pub(crate) fn find_slot<M: ObjectMemory>(m: &mut M, fields: u32) -> Result<Optio
     requires some { 3 ≤ fields }
     requires few { fields < 65536 }
     requires there { HasPartAt (M.told m.old) 21 pointers_of (λ xs. length xs ≡ fields) }
-    ensures serves { (cpu : Cpu) → Serves (M.told m.old) cpu (M.told m.new) cpu (part Shape (slot_of ((M.told m.old).regs 23)) ((M.told m.old).regs 21)) result }
+    ensures serves { (cpu : Numbers) → Serves (M.told m.old) cpu (M.told m.new) cpu (part Shape (slot_of ((M.told m.old).regs 23)) ((M.told m.old).regs 21)) result }
     ensures looks { OnOk result (Looks (22 ∷ []) (M.told m.old) (M.told m.new)) }
     ensures fit { StaysFit M.ObjectMemory m.old m.new result }
 {
