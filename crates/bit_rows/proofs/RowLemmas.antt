@@ -1,4 +1,5 @@
 -- Bits of lists of words, and the steps of a row.
+-- One bit number for a whole list of words keeps shifts, masks and rows linear.
 use Rattle.std.proofs.Common.{◌≡◌, ◌≢◌, ℕ, ◌+◌, ◌-◌, ◌*◌, ◌/◌, ◌%◌, ◌^◌, ◌<◌, ◌≤◌, min, List, [], ◌∷◌, get_or, set, length, refl, sym, ap, ◌∙◌, arith, ⊎_elim, cond, Bool, true, false, get_or-set_other, get_or-set_same}
 use Rattle.std.specs.Int.RustNames.{bit_and}
 use Rattle.std.proofs.Math.Nat.{pow-le-pow_right}

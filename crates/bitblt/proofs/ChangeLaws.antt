@@ -1,4 +1,7 @@
 -- Words that are put into an object, once and again.
+-- A store after a store is the last one as an equation of heaps (`put_again`), and leaves every row of a log (`rows_put`). So a
+-- refusal between rows is a refusal of the whole rule (`puts_stop`). What shares is told by the registers (`shares`), not by
+-- equal words: equality of contents doesn't compose.
 use Rattle.std.proofs.Common.{◌≡◌, ℕ, ◌+◌, Bool, true, false, cond, eqb, ◌||◌, List, [], ◌∷◌, ◌++◌, length, Option, Some, None, refl, sym, ◌∙◌, ap, arith}
 use Rattle.std.proofs.Math.Path.{fun_ext}
 use Rattle.std.proofs.lemmas.Grind.{common_steps}

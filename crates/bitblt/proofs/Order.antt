@@ -1,4 +1,7 @@
 -- Which rows are done in the two passes, and that this order is right.
+-- Rows that read before they write go first, from the last one up; then the others, from the first one down. No row then reads
+-- a word that was written, whatever the two widths (`unwritten`). `Runs` ties a row's buffers to the form, `Overlap` the rows
+-- to one another.
 use Rattle.std.proofs.Common.{◌≡◌, ◌≢◌, ℕ, ◌+◌, ◌-◌, ◌<◌, ◌≤◌, refl, sym, ap, ◌∙◌, arith, ⊎_elim, ◌⊎◌, inl, inr, Bool, true, false, ◌&&◌, ◌||◌}
 use Rattle.std.proofs.lemmas.Bool.{cases_lt, cases_eq}
 use Rattle.bit_rows.specs.Rows.{within}

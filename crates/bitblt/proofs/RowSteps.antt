@@ -1,4 +1,6 @@
 -- Rows one after the other: what stands after each, and where a call stopped.
+-- The loops keep `IsPartly`: what was done serves `put_words` of the words now, and where the heap is told these are `AreDone`.
+-- One law for each exit: `partly_start`, `partly_same`, `partly_row`, `partly_stop`, `partly_end`.
 use Rattle.std.proofs.Common.{◌≡◌, ◌≢◌, ℕ, ◌+◌, ◌<◌, ◌≤◌, Bool, true, false, ◌&&◌, cond, List, length, Option, Some, None, Result, Ok, Err, IsTrue, is_some, refl, sym, ◌∙◌, ap, subst}
 use Rattle.long_names.specs.declared.value.Value.{Value}
 use Rattle.object_memory.specs.Told.{Told, IsReady}

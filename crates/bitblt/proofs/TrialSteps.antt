@@ -1,4 +1,5 @@
 -- The primitive in steps: what has come so far, and what is left of the rule.
+-- A chain of finds is `HasFound` (`AskedSteps`), the whole primitive `Comes`: one line for each exit.
 use Rattle.std.proofs.Common.{◌≡◌, ℕ, ◌≤◌, Bool, false, List, length, Option, Some, None, Result, Ok, Err, subst, subst₂}
 use Rattle.std.specs.Result.{IsErrAnd}
 use Rattle.long_names.specs.declared.value.Value.{Value}

@@ -1,4 +1,9 @@
 -- Calls of a memory without bounds, as calls of one with bounds over it.
+-- A memory over another is proved in three steps. Here is one law for each way a call ends, over what the two tell and over the
+-- access: `forwarded` and `answered-over`, `core-full`, `making-refused`, `work-faulted`. `MemoryLaws` says the same of whole
+-- memories, so that each answer is one line. The code asks the memory below for a kind, a length and a header first, which
+-- changes nothing that is told; so the laws go by that one equation. A memory below without bounds refuses nothing but makings,
+-- marks and what is said (`never-refused`): all other calls are forwarded with one exit.
 use Rattle.std.proofs.Common.{◌≡◌, ℕ, ◌<◌, ◌≤◌, true, Option, Some, None, Result, Ok, Err, IsTrue, inl, inr, refl, sym, subst, subst₂, add-zero, arith}
 use Rattle.std.specs.Result.{OnOk, is_ok}
 use Rattle.long_names.specs.Counting.{counted}
@@ -10,7 +15,7 @@ use Rattle.object_memory.specs.declared.fault.Need.{Need}
 use Rattle.object_memory.specs.declared.fault.MemFault.{MemFault}
 use Rattle.object_memory.specs.declared.fault.MemFault.TheVariants.{CoreFull, WorkFull, WorkFault, Damaged, NamesSpent, Said, Memory}
 use Rattle.object_memory.specs.Told.{Told, Bounds, IsReady}
-use Rattle.object_memory.specs.Contract.{Call, Does, Settles, Thins, MayDo, SameBounds, Raised, makes, Lives, IsLater, Brings, SaysBy, SaysRefused, CacheAfter, Counts, Follows, Called, LeavesAll, ForBounds, IsMaking, TakesMemory, HasCause, HasCore, BaseAfter, CountsKept, IsNeedOf, Accessed, need_of_access}
+use Rattle.object_memory.specs.Contract.{Call, Does, Settles, Thins, MayDo, SameBounds, Raised, makes, Lives, IsLater, Brings, SaysBy, SaysRefused, CacheAfter, Counts, Follows, Called, ForBounds, IsMaking, TakesMemory, HasCause, HasCore, BaseAfter, CountsKept, IsNeedOf, Accessed, need_of_access}
 use Rattle.object_memory.specs.Plain.{refused}
 use Rattle.object_memory.proofs.PlainLaws.{kept_cache, leaves}
 use Rattle.bounded_memory.specs.Bounded.{over, faulted, need_at, IsFull, CannotMake}

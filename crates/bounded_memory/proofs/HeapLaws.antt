@@ -1,4 +1,6 @@
 -- No access changes the size of an object.
+-- That is `size-after`, by cases over the access; `size-later` carries it to a thinner heap. The kept sizes say the need of a
+-- row by `need-with`, slot by slot (`BoundedLaws`).
 use Rattle.std.proofs.Common.{zero, suc, ⊎_elim, ◌≡◌, ℕ, ◌+◌, ◌/◌, ◌<◌, ◌≤◌, Bool, true, false, cond, eqb, List, [], ◌∷◌, ◌++◌, length, take, drop, Option, Some, None, IsTrue, refl, sym, ◌∙◌, ap, subst, arith, length-append, length-drop}
 use Rattle.std.proofs.lemmas.Grind.{common_steps}
 use Rattle.std.proofs.lemmas.Bool.{cases_lt}

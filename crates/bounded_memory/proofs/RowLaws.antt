@@ -1,4 +1,9 @@
 -- Calls of a memory without a row, as calls of one with a row over it.
+-- `with_row` tells a row only while the path below is whole, so a call that empties the cache below takes the row away by
+-- itself, and no call but `begin_path` has to look after it. The path stands first in the conjunction of `with_row`: with a
+-- path that is false the row computes away, and no equation of functions needs more than `refl` by cases over one Bool.
+-- `answered-with` lifts an answered access, `ready-with` that the memory is ready after it, `ready-kept` a call that leaves the
+-- cache.
 use Rattle.std.proofs.Common.{◌≡◌, ℕ, ◌&&◌, ◌||◌, ◌==◌, Bool, true, false, Option, Some, None, Result, Ok, Err, IsTrue, OnOk, inl, inr, refl, sym, ◌∙◌, ap, subst}
 use Rattle.long_names.specs.declared.value.Value.{Value}
 use Rattle.long_names.specs.declared.value.Value.TheVariants.{Int, Ref}

@@ -1,10 +1,8 @@
 -- Which range of the table has a byte.
-use Rattle.std.proofs.Common.{◌≡◌, ℕ, List, Option, ◌-◌, ◌^◌, ◌<◌, ◌≤◌, ◌&&◌, nat_lt, nat_le, true, length, Result, Ok, Err, sym, ◌∙◌, ap, subst, arith}
+use Rattle.std.proofs.Common.{◌≡◌, ℕ, List, Option, ◌-◌, ◌^◌, ◌<◌, ◌≤◌, ◌&&◌, nat_lt, nat_le, true, length, Result, Ok, Err, sym, subst, arith}
 use Rattle.std.proofs.lemmas.Bool.Decides.{nat_tests}
 use borrow.Author.Tests.{ltb-true}
 use Rattle.std.specs.List.{slice_index_or}
-use Rattle.std.specs.Result.{IsErrAnd}
-use Rattle.std.proofs.lemmas.Result.{err_from_is_err_and}
 use Rattle.object_memory.specs.Told.{Told}
 use Rattle.blue_model.specs.declared.cpu.Cpu.{Cpu}
 use Rattle.blue_model.specs.declared.event.Line.{Line}
@@ -41,8 +39,6 @@ unfolding then_next
 next_serves (Ok tt) s = serves_then _ s (done_serves s.ready)
 next_serves (Err e) s = serves_stop _ s
 
--- the exit of its `?`
-pub next_stops : {w : Option Step} {old new : Told} {cpu now : Cpu} {rule : Rule Step} {e : Stop} (r : Result Step Stop) → IsErrAnd r (λ y. y ≡ e) → ServesAs w old cpu new now rule (next_by (Err e)) → ServesAs w old cpu new now rule r
-next_stops {w} {old} {new} {cpu} {now} {rule} {e} r is s =
-    let q = err_from_is_err_and r is in
-    subst (λ (x : Result Step Stop). ServesAs w old cpu new now rule x) (sym (q.1 ∙ ap (λ y. Err y) q.2)) s
+-- and its answer
+pub after_next : {w : Option Step} {old new : Told} {cpu now : Cpu} {rule : Rule Step} {answer : Result Step Stop} (r : Result (Unit {0}) Stop) → answer ≡ next_by r → ServesAs w old cpu new now rule (next_by r) → ServesAs w old cpu new now rule answer
+after_next {w} {old} {new} {cpu} {now} {rule} r e s = subst (ServesAs w old cpu new now rule) (sym e) s

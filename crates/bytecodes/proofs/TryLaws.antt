@@ -1,4 +1,6 @@
 -- Which table has a primitive, and what becomes of a try.
+-- A primitive is tried in the table that has its index: `try_integer` and `try_object` say so by the least and the greatest
+-- index of each.
 use Rattle.std.proofs.Common.{◌≡◌, ℕ, ◌<◌, ◌≤◌, ◌==◌, nat_le, Bool, true, false, List, [], ◌∷◌, ◌++◌, Result, refl, sym, ◌∙◌, ap, subst, arith}
 use Rattle.std.proofs.lemmas.Bool.Decides.{nat_tests}
 use Rattle.std.proofs.lemmas.Grind.{common_steps}

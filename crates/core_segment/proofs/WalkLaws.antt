@@ -1,4 +1,8 @@
 -- Chunks as they are found in the words of a region, from place to place.
+-- Three algebras that never meet elsewhere: `SpanLaws` over the list of chunks, with one law each for insertion, removal and
+-- change; `WordLaws` over the words of a region; `HeadLaws` over the first words, by which a region tells its chunks.
+-- `spans-are` here says that what is found from place to place is the list. `ChunkLaws` and `RegionLaws` tie them together, and
+-- `TellLaws` has one law a public call.
 use Rattle.std.proofs.Common.{zero, suc, ◌≡◌, ◌≢◌, ℕ, ◌+◌, ◌<◌, ◌≤◌, ◌==◌, ltb, Bool, true, false, cond, List, [], ◌∷◌, length, get_or, drop, refl, sym, ◌∙◌, ap, subst, arith, ⊎_elim}
 use Rattle.std.proofs.lemmas.Bool.{cases_eq, cases_lt}
 use Rattle.std.proofs.lemmas.Bool.Decides.{nat_tests}

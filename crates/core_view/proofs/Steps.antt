@@ -1,4 +1,7 @@
 -- Steps one after another; references, leaves and the mark of a change as single steps.
+-- All laws of this crate are over `Core`, a record of functions, and never see a table or a segment. References are counted by
+-- difference: a step says `outside new t + a ≡ outside old t + b`, with no subtraction in a clause. What a call keeps is said
+-- for every disk (`Stays`, `KeepsRecord` of leaf_lambda); a caller chooses the disk once, at its end.
 use Rattle.std.proofs.Common.{◌≡◌, ◌≢◌, ℕ, ◌+◌, ◌-◌, ◌<◌, ◌≤◌, Bool, true, false, ◌∷◌, refl, sym, ◌∙◌, ap, subst, arith, ⊎_elim, Option, Some, None, count_by}
 use Rattle.std.proofs.lemmas.Bool.{cases_eq}
 use Rattle.object_table.specs.declared.entry.Entry.{Entry}

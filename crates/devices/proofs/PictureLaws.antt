@@ -1,4 +1,6 @@
 -- Rows of a picture, and the whole.
+-- A picture is drawn by rows, each of which serves a rule that only looks (`row_leaves`, `picture_leaves` of `blue_model`), so
+-- the machine that the memory stands for is one all through the loop.
 use Rattle.std.proofs.Common.{◌≡◌, ℕ, zero, suc, ◌<◌, ◌≤◌, ◌+◌, ◌*◌, ◌/◌, ◌%◌, nat_lt, cond, Bool, true, false, List, [], ◌∷◌, ◌++◌, length, map, take, drop, get_or, Option, Some, None, Result, Ok, Err, IsTrue, refl, sym, ◌∙◌, ap, ap₂, subst, arith, append_assoc, mul-le-mul_left}
 use Rattle.std.specs.Prelude.{unwrap_or, IfOk}
 use Rattle.std.specs.List.{range_with_len, concat}

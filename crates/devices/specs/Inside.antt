@@ -70,7 +70,7 @@ words_told t r = unwrap_or (part_at t.heap (t.regs r) words_of) []
 abbrev pub row_at : ℕ → List ℕ → ℕ → List ℕ
 row_at width words y = take (row_words width) (drop (row_words width * y) words)
 
--- the words in SCRATCH_3 have this row
+-- the words in R13 have this row
 abbrev pub HasWords : Told → ℕ → ℕ → Type 0
 HasWords t width y = HasPartAt t 13 words_of (λ words. row_words width * y + row_words width ≤ length words)
 

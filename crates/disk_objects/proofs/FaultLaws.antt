@@ -1,5 +1,5 @@
 -- Why calls failed, from why the steps inside them did, and the places that Damaged tells.
-use Rattle.std.proofs.Common.{◌≡◌, ℕ, ◌*◌, ◌<◌, ◌≤◌, ◌⊎◌, inl, inr, cond, Bool, true, false, Option, Some, None, Result, Ok, Err, IfOk, IfErr, IfSome, IsTrue, refl, sym, ap, subst, arith}
+use Rattle.std.proofs.Common.{◌≡◌, ℕ, ◌*◌, ◌<◌, ◌≤◌, inl, inr, cond, Bool, true, false, Option, Some, None, Ok, Err, IfOk, IfErr, IfSome, IsTrue, refl, sym, ap, subst, arith}
 use Rattle.std.specs.Prelude.{nat_le, option_map}
 use Rattle.std.proofs.lemmas.Bool.Decides.{nat_tests}
 use Rattle.loom_outside.specs.declared.outside.DiskFault.{DiskFault}
@@ -14,9 +14,7 @@ use Rattle.work_directory.specs.Work.{IsCause, IsSlotCause}
 use Rattle.work_directory.specs.declared.directory.Found.{Found}
 use Rattle.work_directory.specs.declared.directory.Found.TheVariants.{Held, Vacant}
 use Rattle.work_directory.specs.declared.limits.TheConstants.{SLOT_BYTES}
-use Rattle.work_directory.specs.declared.slot.Slot.{Slot}
 use Rattle.work_space.specs.Calls.{IsTakeFault}
-use Rattle.work_space.specs.Space.{next_place}
 use Rattle.work_space.specs.declared.limits.TheConstants.{LAST_END}
 use Rattle.work_space.specs.declared.space.Space.{Space}
 use Rattle.disk_objects.specs.declared.rest.DiskRest.{DiskRest}
@@ -24,7 +22,7 @@ use Rattle.disk_objects.specs.declared.rest.HeldSlot.{HeldSlot}
 use Rattle.disk_objects.specs.Calls.{IsFault, IsEitherFault, IsSlotsFault}
 use Rattle.disk_objects.specs.Disk.{IsSizeClass, record_size}
 use Rattle.disk_objects.specs.Inside.{IsStepFault, IsStoreFault, found_slot, held_slot}
-use Rattle.disk_objects.specs.Places.{IsBlockPlace, IsPutDamage, IsReadPlace, IsSlotPlace}
+use Rattle.disk_objects.specs.Places.{IsReadPlace, IsSlotPlace}
 use Rattle.disk_objects.proofs.StoredLaws.{none-is-some}
 
 -- ---- faults that go up

@@ -1,5 +1,5 @@
 -- The functions from names to objects and to counts are the map that stands on the disk, and what each call makes of them.
-use Rattle.std.proofs.Common.{◌≡◌, ◌≢◌, ℕ, ℤ, ◌+◌, ◌-◌, ◌≤◌, ◌++◌, ⊎_elim, cond, Bool, true, false, List, [], ◌∷◌, length, replicate, take, drop, append_assoc, Option, Some, None, Result, Ok, Err, IfOk, OnOk, IsTrue, refl, sym, ap, subst, ◌∙◌, arith}
+use Rattle.std.proofs.Common.{◌≡◌, ◌≢◌, ℕ, ℤ, ◌+◌, ◌-◌, ◌≤◌, ◌++◌, ⊎_elim, cond, Bool, true, false, List, [], length, replicate, take, drop, append_assoc, Option, Some, None, Result, Ok, Err, IfOk, OnOk, refl, sym, ap, subst, ◌∙◌, arith}
 use Rattle.std.specs.Prelude.{IsOk, is_some, option_map}
 use Rattle.std.specs.Cmp.{nat_cmp_total}
 use Rattle.std.specs.FinMap as map
@@ -11,8 +11,7 @@ use Rattle.long_names.specs.declared.object.Object.{Object}
 use Rattle.loom_outside.specs.Bytes.{window}
 use Rattle.loom_outside.specs.Work.{work_of}
 use Rattle.loom_outside.specs.declared.outside.Host.{Ghosts}
-use Rattle.loom_outside.specs.declared.outside.Role.TheVariants.{Work}
-use Rattle.object_record.specs.Buffer.{raw_of, HasRecord}
+use Rattle.object_record.specs.Buffer.{raw_of}
 use Rattle.object_record.specs.Objects.{object_in}
 use Rattle.object_record.specs.Raw.{RawRecord, IsRawRecord, raw_text}
 use Rattle.object_record.specs.declared.offsets.TheConstants.{KIND_AT}
@@ -22,14 +21,14 @@ use Rattle.object_record.proofs.Texts.{begun}
 use Rattle.work_directory.specs.Directory.{entries_of}
 use Rattle.work_directory.specs.Table.{Entry}
 use Rattle.work_space.specs.Blocks.{put}
-use Rattle.work_space.proofs.BlockLaws.{put-at, put-there, some-inside}
+use Rattle.work_space.proofs.BlockLaws.{put-at, put-there}
 use Rattle.disk_objects.specs.declared.rest.DiskRest.{DiskRest}
-use Rattle.disk_objects.specs.Calls.{HoldsObjects, IsGot, TookFirst, changed_by, renamed, swapped, swapped_by}
-use Rattle.disk_objects.specs.Disk.{Objects, DiskObject, IsDisk, IsInBlock, AreAlike, disk_held, object_of, names_text, tail_text, with_count}
+use Rattle.disk_objects.specs.Calls.{HoldsObjects, IsGot, TookFirst, changed_by, renamed, swapped_by}
+use Rattle.disk_objects.specs.Disk.{Objects, DiskObject, IsDisk, IsInBlock, AreAlike, disk_held, object_of, names_text, tail_text}
 use Rattle.disk_objects.specs.Function.{ChangesCount, IsFetched, KeepsObjects, PutsObject, RemovesObject, SwapsObjects, count_held, counts_at, counts_of, disk_of, exchanged, object_held, object_there, objects_at, record_at}
 use Rattle.disk_objects.proofs.KeyLaws.{disk-len}
 use Rattle.disk_objects.proofs.RecordLaws.{length-tail, text-parts}
-use Rattle.disk_objects.proofs.StoredLaws.{equal_or_not, insert-at, insert-there, none-is-some, remove-at, remove-there}
+use Rattle.disk_objects.proofs.StoredLaws.{equal_or_not, insert-at, insert-there, remove-at, remove-there}
 use Rattle.disk_objects.proofs.WindowLaws.{window-taken}
 
 -- ---- a record that stands in a block

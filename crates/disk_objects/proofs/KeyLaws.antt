@@ -1,4 +1,5 @@
 -- The names of a disk's objects are those of its directory.
+-- Two maps with the same names have the same keys (`same-keys`), so `names` is one equation.
 use Rattle.std.proofs.Common.{◌≡◌, ℕ, Bool, true, false, cond, List, [], ◌∷◌, length, map as mapped, Option, Some, None, refl, sym, ap, subst, ◌∙◌}
 use Rattle.std.specs.Prelude.{is_some, option_map, T, ◌&&◌}
 use Rattle.std.specs.Ordering.{nat_cmp, eq_by_cmp, is_lt}

@@ -1,15 +1,12 @@
 -- What a whole put or remove makes of a disk, from what its steps did.
-use Rattle.std.proofs.Common.{◌≡◌, ◌≢◌, ℕ, ◌-◌, ◌<◌, ◌≤◌, inr, cond, List, Option, Some, None, IsTrue, Bool, true, false, refl, sym, ap, subst, ◌∙◌, arith}
+use Rattle.std.proofs.Common.{◌≡◌, ◌≢◌, ℕ, ◌-◌, ◌<◌, ◌≤◌, cond, List, Option, Some, None, Bool, true, false, refl, sym, ap, subst, ◌∙◌, arith}
 use Rattle.std.specs.Prelude.{IsSome, is_some}
 use Rattle.std.specs.Cmp.{nat_cmp_total}
 use Rattle.std.specs.FinMap as map
-use Rattle.loom_outside.specs.declared.outside.DiskFault.{DiskFault}
-use Rattle.loom_outside.specs.declared.outside.DiskFault.TheVariants.{Work, Full, Damaged}
 use Rattle.object_record.specs.Raw.{RawRecord, IsRawRecord}
 use Rattle.work_directory.specs.Directory.{room_of, held_of, entries_of, IsIn, IsChanged}
 use Rattle.work_directory.specs.Table.{Entry, Entries}
 use Rattle.work_directory.specs.declared.directory.Directory.{Directory}
-use Rattle.loom_outside.specs.Work.{IsWorkFault}
 use Rattle.work_space.specs.Space.{from_of}
 use Rattle.work_space.specs.declared.space.Space.{Space}
 use Rattle.work_space.proofs.BlockLaws.{some-inside}

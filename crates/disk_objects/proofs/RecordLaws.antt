@@ -1,8 +1,8 @@
 -- Records in windows of Work.
-use Rattle.std.proofs.Common.{◌≡◌, ◌≢◌, Option, ℕ, ◌+◌, ◌-◌, ◌*◌, ◌^◌, ◌<◌, ◌≤◌, ◌⊎◌, inl, inr, List, [], ◌++◌, length, take, drop, replicate, refl, sym, ap, subst, ◌∙◌, append_assoc, arith, Result, Ok, Err, OnOk, IfOk, IfErr, IsTrue, Bool}
+use Rattle.std.proofs.Common.{◌≡◌, ◌≢◌, Option, ℕ, ◌+◌, ◌-◌, ◌*◌, ◌^◌, ◌<◌, ◌≤◌, ◌⊎◌, inl, inr, List, [], ◌++◌, length, take, drop, refl, sym, ap, subst, ◌∙◌, append_assoc, arith, Result, Ok, Err, OnOk, IfOk, IfErr, IsTrue, Bool}
 use Rattle.std.specs.Prelude.{MatchResult}
 use Rattle.std.specs.Int.{w16, w32, w64, from_be_bytes}
-use Rattle.std.proofs.lemmas.List.{take_at, drop_at, drop-drop, length-append, length-drop, take_all, drop_all, take-take, take-append-drop, append-nil, length-replicate}
+use Rattle.std.proofs.lemmas.List.{take_at, drop_at, drop-drop, length-append, length-drop, take_all, drop_all, take-take, take-append-drop, append-nil}
 use Rattle.long_names.specs.declared.limits.TheConstants.{LONGEST_RECORD}
 use Rattle.long_names.specs.Record.{four_bytes, eight_bytes, padding}
 use Rattle.long_names.specs.declared.object.Kind.{Kind}

@@ -1,4 +1,6 @@
 -- What a change of Work, of the blocks and of one entry makes of the objects that are stored.
+-- A put or a remove goes by `IsOpen`, a disk with one block more that no name has (`store-open`, `open-added`, `open-moved`,
+-- `disk-removed`, `open-given`).
 use Rattle.std.proofs.Common.{◌≡◌, ◌≢◌, ℕ, suc, ◌+◌, ◌<◌, ◌⊎◌, ⊎_elim, cond, Bool, true, false, List, [], ◌∷◌, length, get_or, map as mapped, Option, Some, None, refl, sym, ap, subst, ◌∙◌, arith}
 use Rattle.std.specs.Ordering.{nat_cmp, eq_by_cmp}
 use Rattle.std.specs.Cmp.{nat_cmp_total}

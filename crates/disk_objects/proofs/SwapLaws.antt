@@ -1,9 +1,8 @@
 -- Two names exchange their records: each record is written anew in its block, and the two slots exchange their places.
-use Rattle.std.proofs.Common.{◌≡◌, ◌≢◌, ℕ, ◌+◌, ◌<◌, ◌≤◌, inl, inr, ⊎_elim, List, Option, Some, None, refl, sym, ap, subst, ◌∙◌, arith}
+use Rattle.std.proofs.Common.{◌≡◌, ◌≢◌, ℕ, ◌≤◌, inl, ⊎_elim, List, Option, Some, refl, sym, ap, subst, ◌∙◌, arith}
 use Rattle.std.specs.Prelude.{IsSome}
 use Rattle.std.specs.FinMap as map
 use Rattle.long_names.specs.Names.{IsLongName}
-use Rattle.loom_outside.specs.Bytes.{window}
 use Rattle.object_record.specs.Raw.{RawRecord, IsRawRecord, with_name}
 use Rattle.work_directory.specs.Directory.{end_of, entries_of, IsIn, IsChanged}
 use Rattle.work_directory.specs.Table.{Entry, Entries}
@@ -14,9 +13,9 @@ use Rattle.work_space.proofs.BlockLaws.{put-at, put-there, some-inside}
 use Rattle.disk_objects.specs.declared.rest.DiskRest.{DiskRest}
 use Rattle.disk_objects.specs.Calls.{renamed, swapped, swapped_by}
 use Rattle.disk_objects.specs.Disk.{DiskObject, Objects, IsLaid, IsInBlock, AreInBlocks, AreAlike, HasSpace, IsDisk, IsOwned, record_size}
-use Rattle.disk_objects.specs.Inside.{Touches, Writes}
+use Rattle.disk_objects.specs.Inside.{Writes}
 use Rattle.disk_objects.proofs.TouchLaws.{directory-kept, laid-kept}
-use Rattle.disk_objects.proofs.StoredLaws.{Stays, alike-at, alike-kept, equal_or_not, insert-again, insert-at, insert-same, insert-there, none-is-some, pending-insert}
+use Rattle.disk_objects.proofs.StoredLaws.{Stays, alike-at, alike-kept, equal_or_not, insert-again, insert-at, insert-same, insert-there, pending-insert}
 use Rattle.disk_objects.proofs.DiskLaws.{block-behind, space-front, space-inside, stays-apart, stays-front}
 use Rattle.disk_objects.specs.Inside.{IsHeld, IsSizedHeld}
 use Rattle.disk_objects.specs.declared.rest.Held.{Held}

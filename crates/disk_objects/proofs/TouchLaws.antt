@@ -1,4 +1,5 @@
 -- What a change of some bytes of Work leaves of blocks, of the directory and of records.
+-- Every change of Work that a call makes is `Touches old new place size`: windows apart from it stay.
 use Rattle.std.proofs.Common.{◌≡◌, ◌≢◌, ℕ, ◌+◌, ◌^◌, ◌<◌, ◌≤◌, inl, inr, ⊎_elim, List, length, get_or, Option, Some, sym, ap, subst, ◌∙◌, arith}
 use Rattle.std.proofs.lemmas.Bool.{cases_eq}
 use Rattle.byteorder.specs.Endian.{big_number}

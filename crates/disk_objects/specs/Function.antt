@@ -1,12 +1,11 @@
 -- A disk as a function: the object of each name that it holds, and the count. What a call makes of them.
-use Rattle.std.specs.Prelude.{◌≡◌, ℕ, ℤ, ◌+◌, ◌-◌, List, ◌++◌, replicate, Bool, true, false, IsTrue, Option, None, Some, is_some, option_map, if◌then◌else◌}
+use Rattle.std.specs.Prelude.{◌≡◌, ℕ, ℤ, ◌+◌, ◌-◌, List, ◌++◌, replicate, Bool, true, false, Option, None, Some, is_some, option_map, if◌then◌else◌}
 use Rattle.std.specs.FinMap as map
 use Rattle.long_names.specs.declared.limits.TheConstants.{LONGEST_RECORD}
 use Rattle.long_names.specs.declared.object.Object.{Object}
 use Rattle.loom_outside.specs.Bytes.{window}
 use Rattle.loom_outside.specs.Work.{work_of}
 use Rattle.loom_outside.specs.declared.outside.Host.{Ghosts}
-use Rattle.loom_outside.specs.declared.outside.Role.TheVariants.{Work}
 use Rattle.object_record.specs.Buffer.{raw_of}
 use Rattle.object_record.specs.Objects.{object_in}
 use Rattle.object_record.specs.Raw.{RawRecord}

@@ -1,5 +1,5 @@
 -- What the functions inside say of records in Work.
-use Rattle.std.specs.Prelude.{◌≡◌, ◌≢◌, ◌⊎◌, ℕ, ◌+◌, ◌^◌, ◌%◌, ◌<◌, ◌≤◌, List, length, max, Bool, IsTrue, Option, None, Some, Result, Ok, Err, nat_le, if◌then◌else◌, ◌*◌}
+use Rattle.std.specs.Prelude.{◌≡◌, ◌≢◌, ◌⊎◌, ℕ, ◌+◌, ◌%◌, ◌<◌, ◌≤◌, List, length, max, Bool, IsTrue, Option, None, Some, Result, Ok, Err, nat_le, if◌then◌else◌, ◌*◌}
 use Rattle.std.specs.FinMap as map
 use Rattle.long_names.specs.Counting.{Rose}
 use Rattle.long_names.specs.Names.{IsLongName}

@@ -1,4 +1,7 @@
 -- The first that breaks a rule, from the left.
+-- A rule is a function that answers which rule an object breaks, and `first_of` is the first answer along the entries of the
+-- map. So each loop keeps one equation, that the first of what is left is the first of all (`goes-on`, `ends-at`), and an early
+-- return needs nothing else. Rules over the whole map take the look-up, not the heap, so that no clause is over all next names.
 use Rattle.std.proofs.Common.{◌≡◌, ℕ, ◌+◌, Bool, true, false, ◌&&◌, List, [], ◌∷◌, take, get_or, Option, Some, None, refl, sym, ◌∙◌, ap}
 use Rattle.std.proofs.lemmas.List.Elements.{All-head, All-tail, All-nil, All-cons}
 use Rattle.std.proofs.lemmas.List.Folds.{list_all_at, list_all_more}

@@ -1,4 +1,8 @@
 -- The objects of a builder make an image exactly where no rule is broken.
+-- Both directions: where nothing is broken the heap is an image's (`makes-image`), and of an image's heap nothing is broken
+-- (`image-unbroken`). What an object has to be is not kept by the builder but judged (`IsEntry`); it keeps only the sizes that
+-- its caller owes. `judge` has the whole judgment in its contract, so `finish` and `records` add what they write, and hand its
+-- refusal on (`tells-on`, `refused-on`).
 use Rattle.std.proofs.Common.{zero, suc, ◌≡◌, ℕ, ℤ, pos, negsuc, ◌+◌, ◌^◌, ◌<◌, ◌≤◌, nat_lt, nat_le, Bool, true, false, cond, eqb, ◌&&◌, ◌||◌, List, [], ◌∷◌, ◌++◌, length, Option, Some, None, Result, Ok, Err, IsErrAnd, is_some, refl, sym, ◌∙◌, ap, ap₂, subst, arith}
 use Rattle.std.proofs.lemmas.Grind.{common_steps, flat_map-append}
 use Rattle.std.proofs.lemmas.Map.Views.{All-found}

@@ -1,4 +1,5 @@
 -- The records of a builder's objects.
+-- They are those of a map of `object_memory` with the same objects, which `stored` makes, so that its law `recs-are` serves.
 use Rattle.std.proofs.Common.{◌≡◌, ℕ, ◌+◌, ◌<◌, Bool, cond, eqb, List, [], ◌∷◌, map, Option, Some, is_some, refl, sym, ◌∙◌, ap, ap₂, subst, arith}
 use Rattle.std.proofs.lemmas.Grind.{common_steps}
 use Rattle.std.proofs.lemmas.List.Elements.{All-head, All-map, All-weaker}

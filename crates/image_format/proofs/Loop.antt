@@ -1,4 +1,6 @@
 -- Reading many fields one after the other, as a loop does.
+-- Repetition is one definition over the reader of one element, `many_at`, with two laws (`many_take`, `many_again`) and one
+-- loop invariant.
 use Rattle.std.proofs.Common.{◌≡◌, ℕ, zero, suc, ◌-◌, ◌+◌, ◌*◌, ◌≤◌, ◌<◌, List, [], ◌∷◌, ◌++◌, length, take, drop, Option, Some, None, refl, sym, ap, ◌∙◌, append_assoc, arith, ltb}
 use Rattle.std.specs.Int.{Width, w16, w32, byte_len, from_be_bytes}
 use Rattle.std.proofs.lemmas.Bool.{ltb-false}

@@ -1,4 +1,5 @@
 -- Numbers of two, four and eight bytes: what is read is what was written, both ways.
+-- `two_bytes`, `four_bytes` and `eight_bytes` stay folded; facts on them are lemmas here.
 use Rattle.std.proofs.Common.{◌≡◌, ℕ, ◌+◌, ◌^◌, ◌<◌, Bool, true, false, cond, ltb, List, ◌++◌, length, get_or, take, drop, Option, Some, None, refl, sym, ap, subst, ◌∙◌, append_assoc, arith, inl, inr}
 use Rattle.std.specs.Prelude.{All}
 use Rattle.std.specs.Int.{Width, w16, w32, w64, byte_len, from_be_bytes}

@@ -1,4 +1,6 @@
 // Writing a record.
+// An encoder that may run out of memory halfway keeps that its output extends the old one, and `truncate` gives the old one
+// back.
 ghost use Rattle.std.specs.Prelude.{◌≡◌, ◌++◌, ◌^◌, ◌<◌, All, OnOk, OnErr};
 ghost use Rattle.long_names.specs.Words.{IsValue};
 ghost use Rattle.long_names.specs.Objects.{IsBody, IsRecord, HasRange};

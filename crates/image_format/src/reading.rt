@@ -1,4 +1,7 @@
 // Records and their fields, read from the left.
+// A cursor whose readers take `&mut self`, and no functions that answer what is left of a slice. The grammar is a chain of
+// options: each reader's clause says that it answers the chain's step. A long chain is a record of equations, one field for
+// each step, so that a failure names its step.
 ghost use Rattle.std.specs.Prelude.{◌≡◌, ◌==◌, IfOk, length};
 ghost use Rattle.std.specs.List.{list_all};
 ghost use Rattle.std.specs.Int.{w16, w32, w64};

@@ -1,4 +1,6 @@
 -- The words of a record's body: what they are, and that they mean the record.
+-- A raw body is changed by `with_longs`, `with_words`, `with_bytes`: a loop keeps `raw ≡ with_raw first (with_longs ..
+-- (longs_of raw))` and says its elements by `slice_get`; `all-same` closes it.
 use Rattle.std.proofs.Common.{zero, suc, ◌≡◌, ℕ, ℤ, pos, negsuc, ◌+◌, ◌-◌, ◌*◌, ◌/◌, ◌%◌, ◌^◌, ◌<◌, ◌≤◌, Bool, true, false, eqb, nat_lt, nat_le, List, [], ◌∷◌, ◌++◌, length, map, replicate, get_or, refl, sym, ◌∙◌, ap, arith, Option, Some, None, All}
 use Rattle.std.proofs.lemmas.Grind.{common_steps}
 use Rattle.std.proofs.lemmas.List.Elements.{All-head, All-tail}

@@ -1,4 +1,8 @@
 -- The parts as a core after a step.
+-- Each call of the parts below is one equation `put f k a`, so a step is `core-is`, then `subst` into a law of core_view. A
+-- body of lambdas comes first, then each field is resolved in place: nothing is half done, and the loop's invariant is the
+-- memory's. What several calls in a row said is one record over plain cores (`IsOpenRun`, `IsPut`): answers build it, and the
+-- laws take it.
 use Rattle.std.proofs.Common.{◌≡◌, ℕ, ◌+◌, ◌≤◌, Bool, true, false, cond, Option, Some, None, refl, sym, ◌∙◌, ap, subst, arith}
 use Rattle.object_table.specs.declared.entry.Entry.{Entry}
 use Rattle.std.specs.Prelude.{IfSome}

@@ -1,4 +1,11 @@
 //! The program `loom`: it runs `loom` of `loom_run` over the files and the standard streams of its process.
+//!
+//! `answer` says that the process ends with the code of a status which `loom` promises for the words after the program's name
+//! (`promised`), or with 12 and the host as it was where memory for them is refused (`refused`). Before anything else the standard
+//! streams that are closed are filled with the null device, so that no file of the run becomes one.
+//!
+//! There is no other code here: read `specs/Promise.antt` of `loom_run`. What files and streams do isn't promised; `tests/edge.sh` tries
+//! the program on them.
 #![tactic(auto)]
 
 ghost use Rattle.std.specs.Prelude.{◌≡◌, ◌≢◌, [], IfErr, IfOk, IsErr, IsOkAnd, drop};

@@ -1,4 +1,6 @@
 -- What a call leaves of the roles.
+-- What a host tells goes by role, and each call has one clause over the other roles (`SameBut`): a caller carries one fact and
+-- not six.
 use Rattle.std.proofs.Common.{◌≡◌, ◌≢◌, ℕ, List, ◌∙◌, ap, sym, subst, arith, rules, Bool, true, None, Result, Ok, Err, OnErr, is_err, if◌then◌else◌}
 use Rattle.std.proofs.lemmas.List.{append-nil}
 use Rattle.loom_outside.specs.Memory.{told}

@@ -1,4 +1,6 @@
 -- What a window shows after a write.
+-- A loop over pieces, as in `read_full` and `write_full`, keeps that what was done and the rest are the text; the laws of one
+-- piece after another stand in `Pieces`. The crates of the work file cite the windows here.
 use Rattle.std.proofs.Common.{◌≡◌, ℕ, ◌+◌, ◌-◌, ◌<◌, ◌≤◌, ◌⊎◌, ◌&&◌, List, [], replicate, length, length-append, ◌++◌, map, get_or, nat_le, nat_lt, true, false, cond, max, refl, sym, ap, ◌∙◌, arith, inl, inr}
 use Rattle.std.specs.List.{range_with_len}
 use Rattle.std.proofs.lemmas.List.{ext_get_or, get_or_past, get_or_append_left, get_or-append_right, get_or-replicate, length-replicate}

@@ -1,4 +1,6 @@
 -- What calls on Work one after another do with a host, and the faults that go up with them.
+-- That Work is told is a premise inside a clause, so a caller owes nothing over a host that tells nothing, and calls compose by
+-- `search`. A cause goes up with the call that it stopped. The crates of the work file cite these.
 use Rattle.std.proofs.Common.{◌≡◌, ℕ, ◌≤◌, List, Result, Ok, Err, IfErr, sym, ap, ◌∙◌, refl, subst, arith}
 use Rattle.std.specs.Result.{IsErrAnd}
 use Rattle.loom_outside.specs.Outside.{RoleState, holds}

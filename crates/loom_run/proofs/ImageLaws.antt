@@ -1,4 +1,9 @@
 -- What records that were read say of an image, and an image of them.
+-- Loading is exact in both directions: `text` says that what was read so far and what is left are the text, `bad` that no heap
+-- has this text. The head, the records and the end are judged in this order, each by its own function with an exact clause: a
+-- text that begins with these records is the text of records that begin with these (`begins`), so the next record of a valid
+-- image is one that `take_next` takes (`next-record`), and at the end nothing is left (`last-record`). `makes-image` has all
+-- that is wanted of complete records. What is complete is said of the records alone (`IsComplete`), without a heap.
 use Rattle.std.proofs.Common.{◌≡◌, ℕ, ◌<◌, ◌≤◌, Bool, true, false, cond, eqb, List, [], ◌∷◌, ◌++◌, length, Option, Some, None, is_some, refl, sym, ◌∙◌, ap, ap₂, subst, arith, append_assoc, length-append}
 use Rattle.std.proofs.lemmas.Grind.{common_steps}
 use Rattle.std.proofs.lemmas.List.{append-nil}

@@ -1,4 +1,8 @@
 -- What the parts of a run answer, put together.
+-- Each part has its own error type, the status is made in one place, and exact refusals are one equation of options over a
+-- definition that computes (`bad_word`). What a part of the run says of each role is a record (`RunsBy`, `IsRun`), and nearly
+-- every clause of `program.rt` proves without an answer; the line on Notes is put by `told_run`, `told_spared`, `done_by`.
+-- `LeavesBut` is the frame over the other roles; `search` builds and opens it by itself.
 use Rattle.std.specs.Prelude.{◌≢◌}
 use Rattle.std.proofs.Common.{◌≡◌, ℕ, Bool, true, false, List, [], ◌∷◌, None, Result, Ok, Err, IsTrue, inl, inr, refl, sym, ◌∙◌, ap, subst}
 use Rattle.std.specs.Prelude.{IfErr}

@@ -1,4 +1,7 @@
 -- The records of a heap, and the heap of records.
+-- The text of a heap is that of its records (`image-recs`), the heap of a heap's records is the heap (`heap-of-recs`), and
+-- records by rising name with exact counts are the records of their heap (`recs-again`). What says more of a heap goes by one
+-- of these three. `all-recs` shows a fact of each record of a heap from the objects.
 use Rattle.std.proofs.Common.{zero, suc, ◌≡◌, ℕ, ◌+◌, ◌<◌, ◌≤◌, Bool, true, false, cond, eqb, ◌↔◌, List, [], ◌∷◌, ◌++◌, length, map, Option, Some, None, is_some, refl, sym, ◌∙◌, ap, ap₂, subst, arith, ⊎_elim}
 use Rattle.std.proofs.lemmas.Grind.{common_steps, flat_map-append}
 use Rattle.std.proofs.lemmas.Bool.{cases_lt}

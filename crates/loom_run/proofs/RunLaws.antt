@@ -1,4 +1,7 @@
 -- What a whole run over a memory says of the model's run over its heap.
+-- `EndsAs` compares a whole run over a memory with `ending` of the model. What the memory keeps is what the model's parked
+-- machine keeps (`parked-text`): its heap is a thinning of the machine's, whose heap is bounded since the law of whole runs, at
+-- one heap, says that the machine is whole.
 use Rattle.std.proofs.Common.{◌≡◌, ℕ, pos, Bool, false, true, List, None, IsTrue, refl, sym, ◌∙◌, ap, subst}
 use Rattle.long_names.specs.declared.value.Value.TheVariants.{Int}
 use Rattle.long_names.specs.Heap.{Heap}

@@ -1,4 +1,8 @@
 -- Runs over a memory, and runs of the model.
+-- `RunsAs` says in which cycle of the model a run stands or stopped. The loop keeps `Reaches`, and one law makes each exit:
+-- `reaches_more`, `stops_in`, `stops_after` for a cycle and for the settling, `goes_start`, `goes_run`, `goes_park`,
+-- `goes_through` for a whole run. `halts` is the one law of stops: what an outcome's stop is, the ending's is, and what was
+-- said. That a model's run stopped there for good is `run_stopped`.
 use Rattle.std.proofs.Common.{zero, suc, ◌≡◌, ℕ, ◌+◌, ◌<◌, ◌≤◌, nat_lt, Bool, true, false, List, [], ◌++◌, Option, Some, None, Result, Ok, Err, IsTrue, IfErr, inl, inr, refl, sym, ◌∙◌, ap, subst, arith}
 use Rattle.std.proofs.Math.Path.{fun_ext}
 use borrow.Author.Tests.{ltb-true, ltb-false}

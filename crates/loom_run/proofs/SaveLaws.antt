@@ -1,4 +1,7 @@
 -- What is gathered for Saved and what was put to it, one call after the other.
+-- `Emits` says of a call which text it gathered behind what waited, what waits now, and what was put. It is a record with an
+-- argument for each, so that its laws find their arguments: `emits-both` for two texts one after the other, `emits-cut` where
+-- the first failed, `emits-of` for the same text in other words. Each exit of a function is one line of these.
 use Rattle.std.proofs.Common.{◌≡◌, ◌<◌, ◌≤◌, ◌+◌, ◌*◌, ℕ, ℤ, Bool, List, [], ◌∷◌, ◌++◌, length, replicate, take, drop, refl, sym, ◌∙◌, ap, arith, append_assoc, length-append, take-append-drop, subst, IsTrue, Some, Result, Ok, Err}
 use Rattle.std.specs.Prelude.{OnOk, OnErr, IsErr, slice_get}
 use Rattle.std.specs.List.{flat_map}

@@ -1,4 +1,6 @@
 -- Counting the words of records.
+-- `Raises by old new` says that `by` words more hold each name that is there, for a word, a list, an object and all records
+-- alike, and adds up (`raises-then`), so each loop carries it.
 use Rattle.std.proofs.Common.{zero, suc, ◌≡◌, ◌≢◌, ℕ, ◌+◌, ◌<◌, ◌≤◌, ◌^◌, Bool, true, false, cond, eqb, ◌||◌, ◌&&◌, ◌*◌, get_or, length-take, List, [], ◌∷◌, ◌++◌, length, take, Option, Some, None, is_some, refl, sym, ◌∙◌, ap, ap₂, subst, arith, ⊎_elim}
 use Rattle.std.proofs.lemmas.Grind.{common_steps}
 use Rattle.std.proofs.lemmas.Bool.{cases_eq}

@@ -1,8 +1,15 @@
 //! The program: an image and its events are read, so many bytecodes are run, and what was said, an image and a picture are written.
 //!
 //! `loom` does what the words of a command ask for, over any host. Its one clause is the record `Promise`: read `specs/Promise.antt`
-//! first. An image is read into records and judged, made into a memory, and run under the event list; what the memory keeps is records
-//! again, and they are written, and so is the picture of the display. `whole_run` is the run alone, over any object memory.
+//! first, or `specs/Headline.antt`, which has it in six lines for a run that goes through, as the law `headline` says.
+//!
+//!     let status = loom(alloc, host, &words);         // run IMAGE EVENTS SAVED DISPLAY STEPS
+//!     ExitCode::from(status.code())
+//!
+//! An image is read into records and judged, made into a memory, and run under the event list; what the memory keeps is records again,
+//! and they are written, and so is the picture of the display. `run` and `whole_run` are the run alone, over any object memory: their
+//! clauses `runs` and `ends` compare it with the model's (`specs/Run.antt`). Nothing is said of time, and want of memory may come
+//! before SAVED is attached.
 #![tactic(auto)]
 
 mod emit;

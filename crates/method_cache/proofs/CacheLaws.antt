@@ -1,4 +1,6 @@
 -- What stands in a row after a call, and what is found then.
+-- What is found is a function of the rows. A put is one law over functions from places to rows (`row_put`), and the pair that
+-- may be lost is the one that stood there by right.
 use Rattle.std.proofs.Common.{◌≡◌, ◌≢◌, ℕ, ◌<◌, ◌==◌, ◌&&◌, ◌⊎◌, inl, inr, cond, Bool, true, false, List, replicate, length, get_or, set, Option, Some, None, refl, sym, ◌∙◌, ap}
 use Rattle.std.specs.Prelude.{unwrap_or}
 use Rattle.std.specs.List.{slice_get}

@@ -1,4 +1,7 @@
 -- What the text of a raw record is read as: the raw record, whatever follows.
+-- `raw_of` is total, so that a getter is one equation of it, without a condition in the equation. That bytes begin with a raw
+-- record (`HasRecord`) is then two facts: `raw_of` is one, and its text is a prefix of the bytes. `begins_with` says that there
+-- is no other.
 use Rattle.std.proofs.Common.{suc, ◌≡◌, ℕ, ◌+◌, ◌*◌, ◌^◌, ◌<◌, List, [], ◌∷◌, ◌++◌, length, take, drop, replicate, Option, Some, None, refl, sym, ap, ◌∙◌, append_assoc, arith}
 use Rattle.std.specs.Int.{w16, w32, w64, from_be_bytes}
 use Rattle.std.proofs.lemmas.List.{take_at, drop_at, drop-drop, length-append}

@@ -1,4 +1,6 @@
 -- One piece of a text, and the same text with another piece in its place.
+-- A setter replaces one piece of a text. `Spot` says so of two texts, and goes through `++` on either side (`under`, `over`),
+-- so that the place in the buffer is found from the places in its parts.
 use Rattle.std.proofs.Common.{zero, suc, ◌≡◌, ℕ, ◌+◌, ◌*◌, ◌^◌, ◌<◌, ◌≤◌, List, [], ◌∷◌, ◌++◌, length, take, drop, refl, sym, ap, subst, ◌∙◌, append_assoc, arith, slice_set}
 use Rattle.std.specs.Prelude.{slice_index}
 use Rattle.std.specs.List.{flat_map}

@@ -11,8 +11,8 @@
 //! }
 //! ```
 //!
-//! Read `specs/Entries.antt` first, then `specs/Table.antt`. `laws` says that each entry is free or in use, by numbers. The table doesn't know which short name a name has, nor where a body lies,
-//! and it counts no references by itself.
+//! Read `specs/Entries.antt` first, then `specs/Table.antt`. `laws` says that each entry is free or in use, by numbers. The table
+//! doesn't know which short name a name has, nor where a body lies, and it counts no references by itself.
 #![tactic(auto)]
 
 mod entry;

@@ -1,4 +1,7 @@
 -- A part that a rule looks for, found by a call that wants it and is stuck where it isn't there; and the home of a context, found so.
+-- A call that finds out in two steps what the rule peeks at once (`peek_home`: first the size, then the home) serves `peek f`
+-- where another look says that the part is there. A rule with a condition in the middle answers an Option and not a rest
+-- (`block_start`, `method_for`), so that no law on rests is needed.
 use Rattle.std.proofs.Common.{◌≡◌, ℕ, nat_le, Bool, true, false, List, [], length, Option, Some, None, Ok, Err, refl, ◌∙◌, ap, ap₂, arith}
 use Rattle.std.specs.Prelude.{if◌then◌else◌}
 use Rattle.std.specs.Option.{option_and_then}

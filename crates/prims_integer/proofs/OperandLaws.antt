@@ -1,4 +1,5 @@
 -- Receiver and argument are read together, and then used.
+-- `both_then`, `not_both` and `both_exit` are the three exits of what goes on with them.
 use Rattle.std.proofs.Common.{◌≡◌, ℤ, List, [], ◌++◌, Option, Some, None, Result, Ok, Err, IfSome, refl, sym, ◌∙◌, ap, subst, append_assoc}
 use Rattle.std.specs.Result.{IsErrAnd}
 use Rattle.long_names.specs.declared.value.Value.{Value}

@@ -1,4 +1,6 @@
 -- A shift by more than 15 places does what one by 15 does.
+-- Nearly all of the pure functions prove without an answer: each is one line in 32 bits, and `small` at its end. What has one
+-- multiplies by a number that isn't known, or doesn't see this.
 use Rattle.std.proofs.Common.{zero, suc, ◌≡◌, ℕ, ℤ, pos, negsuc, ◌*◌, ◌^◌, ◌*ℤ◌, ◌≤◌, min, Bool, true, false, nat_le, None, refl, sym, ◌∙◌, ap, arith}
 use Rattle.std.proofs.Math.IntN.{neg_ℤ}
 use mir.Syntax.{w32}

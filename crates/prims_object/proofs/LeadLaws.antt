@@ -1,4 +1,8 @@
 -- Calls that begin a rule.
+-- A rule of a primitive goes on inside its conditions, so a call that is its first part can't serve a rule by itself. `Leads`
+-- says of it: whatever serves what comes next from here on serves the whole, for any rest; where nothing was found the
+-- primitive has failed, and a stop is the rule's. Its exits are `leads_exit`, `found_exit` and `leads_through`; `NaturalLaws`
+-- has those of a number that isn't negative.
 use Rattle.std.proofs.Common.{◌≡◌, Bool, Option, Some, None, Result, Ok, Err, refl, sym, ◌∙◌, ap, subst}
 use Rattle.std.specs.Result.{IsErrAnd}
 use Rattle.std.proofs.lemmas.Result.{err_from_is_err_and}

@@ -1,4 +1,5 @@
 -- Rules that come to the same over fewer rows: what serves a rule serves one whose log has all of its rows.
+-- So the code asks an object once for its kind and length (`Extent`) where the rule looks at several parts of it.
 use Rattle.std.proofs.Common.{◌≡◌, ℕ, true, List, [], ◌∷◌, Option, Some, None, Result, Ok, Err, inl, inr, refl, sym, ◌∙◌, subst, ap}
 use Rattle.std.specs.Option.{option_map}
 use Rattle.long_names.specs.declared.value.Value.TheVariants.{Ref}

@@ -1,4 +1,8 @@
 -- Laws of the map that slots stand for: f and g are their names, x and y the values in them.
+-- A table is its names, a function on numbers, and its values are a second function, so laws of searches never see a slot. A
+-- crate's slot comes in by `Puts` over whole slots, and `puts-part` gives the names and the values. Adding and setting are one
+-- law (`put_looked_up`: none or the same name stood there). A removal is stated by `looked_up`, and `closed_map` makes it an
+-- equation of maps.
 use Rattle.std.proofs.Common.{◌≡◌, ◌≢◌, ℕ, zero, suc, ◌+◌, ◌<◌, ◌⊎◌, ◌==◌, [], ◌∷◌, Bool, true, false, cond, refl, sym, ap, ◌∙◌, arith, inl, inr, Option, Some, None}
 use Rattle.std.proofs.lemmas.Bool.Decides.{nat_tests}
 use Rattle.std.specs.Ordering.{nat_cmp, eq_by_cmp}

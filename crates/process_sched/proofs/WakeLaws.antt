@@ -1,4 +1,6 @@
 -- The highest list that isn't empty, list by list.
+-- `wake_among` is the loop of the model from the highest list down: its invariant is `whole`, what serves the rest serves all.
+-- Where a call returns `()` under a `?` at its end, its exit goes by `exits`; in the middle, by `serves_exit`.
 use Rattle.std.proofs.Common.{◌≡◌, suc, ℕ, true, false, Ok, Err, Result, sym, subst}
 use Rattle.long_names.specs.declared.value.Value.{Value}
 use Rattle.object_memory.specs.Told.{Told}

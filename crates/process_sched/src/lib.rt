@@ -2,9 +2,16 @@
 //! a process to another.
 //!
 //! `run` does a primitive by its index, and says by its clause `serves` that it does what `process_primitives` of `blue_model` has for
-//! it. A process that is to go on waits in its register, with `waiting` set, until `switch` makes it the active one.
+//! it; `signal` and `switch` serve the rules of these names. A process that is to go on waits in its register, with `waiting` set, until
+//! `switch` makes it the active one.
 //!
-//! The scratch registers from 10 to 17 are used, and those of `contexts`.
+//!     signal(m, cpu, Reg::INPUT_SEMAPHORE)?;       // the first that waits there is resumed, or one signal more is kept
+//!     if cpu.waiting {
+//!         switch(m, cpu)?;
+//!     }
+//!
+//! Read `Processes.antt` of `blue_model` first; `Queues.antt` there reads process lists as lists, and laws say that they are queues. The
+//! scratch registers from 10 to 17 are used, and those of `contexts`. When a switch is made is its caller's to say.
 #![tactic(auto)]
 
 mod lists;

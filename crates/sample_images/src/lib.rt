@@ -9,7 +9,7 @@
 //!     add_pointers(alloc, &mut builder, name(68), Name::ARRAY, &[Value::Int(7), object(METHOD)])?;
 //!     add_pointers(alloc, &mut builder, Name::TRUE, Name::ARRAY, &[object(68)])?;    // in place of the one that it has
 //!     let mut m = memory(alloc, &builder, 70)?;
-//!     m.known(Reg::SCRATCH_0, Name::TRUE)?;
+//!     m.known(Reg::R10, Name::TRUE)?;
 //!
 //! An object that nothing holds is no part of an image, so each that is added has to be held, and its class has to be there: `memory`
 //! answers the first rule of images that is broken. What a method's header says stands in `specs/Header.antt`. There is one file of

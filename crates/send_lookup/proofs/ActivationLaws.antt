@@ -1,4 +1,6 @@
 -- Steps of an activation.
+-- Arguments are copied by a loop that serves `each p n`: the calls before turn k serve `each p k` (`each_none`, `each_more`),
+-- and a turn that stops stops the whole (`each_stop`).
 use Rattle.std.proofs.Common.{◌≡◌, ℕ, ℤ, pos, ◌+◌, ◌<◌, ◌≤◌, Some, None, Result, refl, ◌∙◌, ap, arith}
 use mir.Val.{to_z}
 use mir.Syntax.{w16}

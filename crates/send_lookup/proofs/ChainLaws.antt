@@ -1,4 +1,10 @@
 -- The lookup along the superclass chain, class by class.
+-- `find_from` recurses at its front: the loop of `look_up` keeps an implication (`whole`: what serves the lookup from this
+-- class on serves the whole), and `chain_on` takes one class off. The method cache is to join by one call in front of `look_up`
+-- in `find`: a row that is found is a lookup in the heap now, since `Stands` says that the cache is sound. What puts rows needs
+-- `begin_path` before the chain, a `mark` behind each object that was read, and `cache_put` at the end; and `find_slot`,
+-- `find_in` and `look_up` then have to say that, where the path is still whole, all that they looked at is marked and no mark
+-- was lost.
 use Rattle.std.proofs.Common.{◌≡◌, zero, suc, ℕ, true, false, Option, Some, None, Result, Ok, Err, sym, subst}
 use Rattle.long_names.specs.declared.value.Value.{Value}
 use Rattle.object_memory.specs.Told.{Told, IsReady}

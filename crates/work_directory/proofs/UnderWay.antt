@@ -1,4 +1,6 @@
 -- A slot is taken out of Work, step by step, by the values that the code has.
+-- Bytes of a directory come in by `Writes`, one record for one written slot. Removal is carried by `IsUnderWay`, with one law
+-- each for its start, a slot that stays, one that moves, and its end.
 use Rattle.std.proofs.Common.{◌≡◌, ◌≢◌, ℕ, ◌+◌, ◌*◌, ◌/◌, ◌%◌, ◌<◌, ◌≤◌, List, Some, None, refl, sym, ap, ◌∙◌, subst}
 use Rattle.probing.specs.Search.{Puts}
 use Rattle.probing.specs.Table.{IsTable, turned, apart, home_of}

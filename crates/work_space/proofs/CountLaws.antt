@@ -1,4 +1,6 @@
 -- How many blocks there are.
+-- Blocks are a list of size classes, the newest first, so a new block is one `put` of `laid_at`. That few blocks end soon is a
+-- sum by classes, and "no more blocks than places" a pigeonhole.
 use Rattle.std.proofs.Common.{zero, suc, ◌≡◌, ◌≢◌, ⊎_elim, ℕ, ◌+◌, ◌*◌, ◌^◌, ◌<◌, ◌≤◌, ◌==◌, cond, List, [], ◌∷◌, length, get_or, Some, refl, sym, ◌∙◌, ap, subst, arith}
 use Rattle.std.proofs.lemmas.Grind.{common_steps}
 use Rattle.std.proofs.lemmas.Bool.{cases_eq}

@@ -62,7 +62,7 @@ impl<R: Files + Alloc> Names<R> {
     fn take(&self, rt: &R, opened: Opened<R::File>) -> io::Result<()> {
         opened.sync()?;
         if !is_at(rt, self.part(), opened.identity) {
-            return Err(io::Error::from(ErrorKind::StaleNetworkFileHandle));
+            return Err(io::Error::from(ErrorKind::ResourceBusy));
         }
         drop(opened);
         let folder = open_folder(rt, self.path.as_path())?;

@@ -10,8 +10,5 @@ returns-in_default g c =
     let stored = c.store_top.ensures in
     record {
       serves = kind_stored _ (rw (← c.extended.ensures) (kind_tops _ _ c.in_default.not-Literal (rw c.from.ensures at stored.serves)));
-      ready = stored.fit.ready;
-      sound = stored.fit.sound;
-      lender = stored.fit.lender;
-      outside = stored.fit.outside;
+      fit = stored.fit;
     }

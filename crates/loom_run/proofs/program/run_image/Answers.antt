@@ -38,7 +38,7 @@ pub returns-clause-kept : goal.returns-clause-kept
 returns-clause-kept g c =
     let h = heap_of_image c.args.image in
     let start = c.in-Ok.ensures in
-    parked-text c.args.events.now c.args.steps h (plain_told c.whole_run-run.new.m) _ ((subst IsReady start.told start.fit.ready).whole refl)
+    parked-text c.args.events.now c.args.steps h (plain_told c.whole_run-run.new.m) _ ((subst IsReady start.told start.ready).whole refl)
     (rw c.in-Ok-run.is at (c.whole_run-run.ensures.ends refl (heap_of_image c.args.image) (begins-fresh (heap_of_image c.args.image) (plain_told c.in-Ok.memory) c.in-Ok.ensures.told))).heap (rw c.in-Ok-run.is at c.whole_run-run.ensures.fit.ready) refl c.in-Ok-of_kept.ensures.text
 
 pub returns-clause-drawn : goal.returns-clause-drawn

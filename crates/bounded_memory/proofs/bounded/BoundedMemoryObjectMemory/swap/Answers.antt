@@ -1,8 +1,7 @@
-use Rattle.std.proofs.Common.{◌≡◌, ◌∙◌, inl, inr, refl, sym, subst, arith}
+use Rattle.std.proofs.Common.{◌∙◌, inl, inr, refl, sym, subst, arith}
 use Rattle.long_names.specs.State.{IsRef}
 use Rattle.long_names.specs.Access.{Swap, Nothing}
 use Rattle.object_memory.specs.Told.{Told, IsReady}
-use Rattle.bounded_memory.specs.Bounded.{bounded_told}
 use Rattle.bounded_memory.proofs.MemoryLaws.{ready-below, may-below, not-fitting, not-fitting-both, forwards, stays-sound, ready-after}
 use Rattle.bounded_memory.proofs.bounded.BoundedMemoryObjectMemory.swap.Goals as goal
 

@@ -1,4 +1,3 @@
-use Rattle.loom_outside.specs.Work.{work_of}
 use Rattle.disk_objects.proofs.FunctionLaws.{put-if}
 use Rattle.disk_objects.proofs.objects.DiskObjects.put.Goals as goal
 use Rattle.object_record.specs.Buffer.{raw_of}

@@ -1,4 +1,3 @@
-use Rattle.loom_outside.specs.Work.{work_of}
 use Rattle.disk_objects.proofs.FunctionLaws.{kept-if}
 use Rattle.disk_objects.proofs.objects.DiskObjects.put_pending.Goals as goal
 

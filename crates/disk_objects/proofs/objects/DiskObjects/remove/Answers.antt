@@ -1,4 +1,3 @@
-use Rattle.loom_outside.specs.Work.{work_of}
 use Rattle.disk_objects.proofs.FunctionLaws.{removed-if}
 use Rattle.disk_objects.proofs.objects.DiskObjects.remove.Goals as goal
 

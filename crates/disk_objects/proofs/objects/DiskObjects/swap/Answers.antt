@@ -1,4 +1,3 @@
-use Rattle.loom_outside.specs.Work.{work_of}
 use Rattle.disk_objects.proofs.FunctionLaws.{swapped-if}
 use Rattle.disk_objects.proofs.objects.DiskObjects.swap.Goals as goal
 use Rattle.std.proofs.Common.{refl}

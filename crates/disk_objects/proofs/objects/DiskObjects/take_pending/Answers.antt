@@ -1,4 +1,3 @@
-use Rattle.loom_outside.specs.Work.{work_of}
 use Rattle.disk_objects.proofs.FunctionLaws.{kept-taken}
 use Rattle.disk_objects.proofs.objects.DiskObjects.take_pending.Goals as goal
 

@@ -1,4 +1,4 @@
-use Rattle.std.proofs.Common.{ℕ, List, Result, IfErr, Option, sym, subst, ◌∙◌}
+use Rattle.std.proofs.Common.{ℕ, Result, IfErr, Option, sym, subst, ◌∙◌}
 use Rattle.loom_outside.specs.declared.outside.DiskFault.{DiskFault}
 use Rattle.loom_outside.specs.declared.outside.Role.TheVariants.{Work}
 use Rattle.loom_outside.specs.Work.{work_of}

@@ -1,4 +1,4 @@
-use Rattle.std.proofs.Common.{◌+◌, ℕ, List, sym, subst}
+use Rattle.std.proofs.Common.{◌+◌, ℕ, List, subst}
 use Rattle.loom_outside.specs.Work.{work_of}
 use Rattle.work_directory.specs.Table.{entry_of}
 use Rattle.disk_objects.specs.Inside.{Touches}
