@@ -32,8 +32,7 @@ loop-r-init g c = record {
   regs = λ k. none_yet c.args.from k _;
   rest = refl;
   past = λ high. omega arith;
-  ready = c.requires.fit.ready;
-  sound = c.requires.fit.sound;
+  fit = record { sound = c.requires.fit.sound; ready = c.requires.fit.ready };
   lender = refl;
   outside = refl;
 }
@@ -47,8 +46,7 @@ loop-r-preserved g c =
       regs = λ k. cleared (told c.args.m.now) (told c.loop-r.m) (told c.int.new.self) c.args.from c.loop-r.r c.new.result k c.new.ensures c.loop-r.auto.r put.told (here.regs k);
       rest = still (told c.args.m.now) (told c.loop-r.m) (told c.int.new.self) c.new.result (Int (pos 0)) here.rest put.told;
       past = λ high. (let low = c.loop-r-test.true in omega arith);
-      ready = put.fit.ready here.ready;
-      sound = put.fit.sound;
+      fit = record { sound = put.fit.sound; ready = put.fit.ready here.fit.ready };
       lender = put.fit.lender ∙ here.lender;
       outside = put.fit.outside ∙ here.outside;
     }

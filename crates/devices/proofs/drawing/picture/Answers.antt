@@ -16,13 +16,13 @@ returns-in_default-clause-drawn g c = drawn_none _ c.new.ensures (rw c.in_defaul
 pub append_row-requires-clause-row : goal.append_row-requires-clause-row
 append_row-requires-clause-row g c =
     let here = c.rows.invariant in
-    row_there _ _ c.in-Some.width c.in-Some.height c.rows.y here.ready here.looks (rw c.in-Some.is at c.in_ok-width.ensures.rows) c.rows-test.true
+    row_there _ _ c.in-Some.width c.in-Some.height c.rows.y here.fit.ready here.looks (rw c.in-Some.is at c.in_ok-width.ensures.rows) c.rows-test.true
 
 pub returns-in_err-append_row-clause-drawn : goal.returns-in_err-append_row-clause-drawn
 returns-in_err-append_row-clause-drawn g c =
     let here = c.rows.invariant in
     exits_drawn _ _ _ c.in_err-append_row.field-0.0 _ c.from_residual-in_err-append_row.ensures.1
-    (row_fails c.in-Some.width c.in-Some.height (rw c.in-Some.is at c.in_ok-width.ensures.serves) c.in_ok-width.ensures.fit.ready _ _ c.in_err-append_row.field-0.0 here.ready here.looks c.in_err-append_row.ensures.reads)
+    (row_fails c.in-Some.width c.in-Some.height (rw c.in-Some.is at c.in_ok-width.ensures.serves) c.in_ok-width.ensures.fit.ready _ _ c.in_err-append_row.field-0.0 here.fit.ready here.looks c.in_err-append_row.ensures.reads)
 
 pub rows-preserved : goal.rows-preserved
 rows-preserved g c =
@@ -36,10 +36,9 @@ rows-preserved g c =
     record {
       text = λ told.
           row.text (here.looks.later.tells ∙ told)
-          ∙ rows_more width y (words_told u 13) c.in_ok-text.text c.rows.text (row_bytes width (words_told v 13) y) (here.text told) (ap (λ (words : List ℕ). row_bytes width words y) (words_stay u v here.ready here.looks told));
-      looks = Looks-trans [] [] u v w here.ready here.looks row.reads;
-      ready = row.fit.ready;
-      sound = row.fit.sound;
+          ∙ rows_more width y (words_told u 13) c.in_ok-text.text c.rows.text (row_bytes width (words_told v 13) y) (here.text told) (ap (λ (words : List ℕ). row_bytes width words y) (words_stay u v here.fit.ready here.looks told));
+      looks = Looks-trans [] [] u v w here.fit.ready here.looks row.reads;
+      fit = record { sound = row.fit.sound; ready = row.fit.ready };
       lender = row.fit.lender ∙ here.lender;
       outside = row.fit.outside ∙ here.outside;
     }
@@ -51,5 +50,5 @@ returns-clause-drawn g c =
     let end = c.rows.auto.y-end in
     let past = c.rows-test.false in
     let all : c.rows.y ≡ c.in-Some.height = omega arith in
-    drawn c.in-Some.width c.in-Some.height (rw c.in-Some.is at c.in_ok-width.ensures.serves) c.in_ok-width.ensures.fit.ready _ c.rows.text here.ready here.looks (rw c.in-Some.is at c.in_ok-width.ensures.rows)
+    drawn c.in-Some.width c.in-Some.height (rw c.in-Some.is at c.in_ok-width.ensures.serves) c.in_ok-width.ensures.fit.ready _ c.rows.text here.fit.ready here.looks (rw c.in-Some.is at c.in_ok-width.ensures.rows)
     (λ told. here.text told ∙ ap₂ (λ (front : List ℕ) (n : ℕ). front ++ concat (map (row_bytes c.in-Some.width (words_told u 13)) (range_with_len 0 n))) c.in_ok-text.ensures all)

@@ -12,8 +12,7 @@ lines-preserved g c =
     let taken = c.in_ok-take_line.ensures in
     record {
       whole = λ new now answer s. here.whole new now answer (lines_more _ _ _ _ c.item.ensures (sym c.is_due.ensures.due ∙ due) (c.is_due.ensures.there due) (serves_then _ taken.serves s));
-      ready = taken.fit.ready;
-      sound = taken.fit.sound;
+      fit = record { sound = taken.fit.sound; ready = taken.fit.ready };
       lender = taken.fit.lender ∙ here.lender;
       outside = taken.fit.outside ∙ here.outside;
     }
@@ -30,4 +29,4 @@ pub returns-clause-serves : goal.returns-clause-serves
 unfolding events_due
 returns-clause-serves g c =
     let here = c.lines.invariant in
-    numbers_then _ (here.whole _ _ _ (lines_none c.args.cpu.now.ran c.lines.place c.args.events.now here.ready (sym c.is_due.ensures.due ∙ c.lines-test.false)))
+    numbers_then _ (here.whole _ _ _ (lines_none c.args.cpu.now.ran c.lines.place c.args.events.now here.fit.ready (sym c.is_due.ensures.due ∙ c.lines-test.false)))

@@ -1,9 +1,10 @@
 use Rattle.std.proofs.Common.{◌≡◌, ◌-◌, length, drop, Result}
-use Rattle.object_memory.specs.Told.{Told, IsReady}
+use Rattle.object_memory.specs.Told.{Told}
 use Rattle.blue_model.specs.declared.cpu.Cpu.{Cpu}
 use Rattle.blue_model.specs.Devices.{take_lines}
 use Rattle.contexts.specs.declared.stop.Stop.{Stop}
 use Rattle.contexts.specs.Serves.{Serves}
+use Rattle.object_memory.specs.Calls.{IsFit}
 use Rattle.devices.proofs.events.events_due.Given as goal
 
 -- What serves the lines from this place on serves them all.
@@ -12,8 +13,7 @@ invariant-lines g l =
     let told = g.M.ObjectMemory.told in
     record {
       whole : (new : Told) (now : Cpu) (answer : Result (Unit {0}) Stop) → Serves (told l.m) l.cpu new now (take_lines l.count (drop l.place l.events)) answer → Serves (told l.fn.m) l.fn.cpu new now (take_lines l.count (drop l.fn.cpu.line l.events)) answer;
-      ready : IsReady (told l.m);
-      sound : g.M.ObjectMemory.sound l.m;
+      fit : IsFit g.M.ObjectMemory l.m;
       lender : g.M.ObjectMemory.lender l.m ≡ g.M.ObjectMemory.lender l.fn.m;
       outside : g.M.ObjectMemory.outside l.m ≡ g.M.ObjectMemory.outside l.fn.m;
     }

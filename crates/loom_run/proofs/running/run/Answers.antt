@@ -15,8 +15,7 @@ loop-turn-init g c = record {
   settled = λ some. absurd (omega arith);
   later = IsLater-refl _;
   rest = c.requires.rest;
-  ready = c.requires.fit.ready;
-  sound = c.requires.fit.sound;
+  fit = record { sound = c.requires.fit.sound; ready = c.requires.fit.ready };
   lender = refl;
   outside = refl;
 }
@@ -89,8 +88,7 @@ loop-turn-preserved g c =
       settled = λ some. settled_earlier (g.M.ObjectMemory.told c.args.m.now) (g.M.ObjectMemory.told c.cycle.new.m) (g.M.ObjectMemory.told c.settle.new.self) (IsLater-trans _ _ _ here.later did.serves.later) settled.called.ok.counts;
       later = IsLater-trans _ _ _ (IsLater-trans _ _ _ here.later did.serves.later) settled.called.later;
       rest = rest_stays _ _ settled.called.ok.regs did.rest;
-      ready = settled.fit.ready;
-      sound = settled.fit.sound;
+      fit = record { sound = settled.fit.sound; ready = settled.fit.ready };
       lender = settled.fit.lender ∙ did.fit.lender ∙ here.lender;
       outside = settled.fit.outside ∙ did.fit.outside ∙ here.outside;
     }
@@ -148,10 +146,10 @@ pub returns-then-is_quit-clause-rest : goal.returns-then-is_quit-clause-rest
 returns-then-is_quit-clause-rest g c = rest_stays _ _ c.in_ok-settle.ensures.called.ok.regs c.in_ok-step.ensures.rest
 
 pub cycle-requires-clause-fit : goal.cycle-requires-clause-fit
-cycle-requires-clause-fit g c = record { sound = c.loop-turn.invariant.sound; ready = c.loop-turn.invariant.ready }
+cycle-requires-clause-fit g c = c.loop-turn.invariant.fit
 
 pub returns-clause-fit : goal.returns-clause-fit
-returns-clause-fit g c = let here = c.loop-turn.invariant in record { sound = here.sound; ready = here.ready; lender = here.lender; outside = here.outside }
+returns-clause-fit g c = let here = c.loop-turn.invariant in record { sound = here.fit.sound; ready = here.fit.ready; lender = here.lender; outside = here.outside }
 
 pub returns-then-is_quit-clause-fit : goal.returns-then-is_quit-clause-fit
 returns-then-is_quit-clause-fit g c =

@@ -1,10 +1,10 @@
 use Rattle.std.proofs.Common.{◌≡◌, ◌+◌, ◌<◌, IsTrue}
-use Rattle.object_memory.specs.Told.{IsReady}
 use Rattle.object_memory.specs.Contract.{IsLater, Settled}
 use Rattle.blue_model.specs.declared.step.Step.TheVariants.{Next}
 use Rattle.blue_model.specs.Machine.{Machine}
 use Rattle.contexts.specs.Serves.{Stands, HasRest}
 use Rattle.loom_run.specs.Run.{Reaches}
+use Rattle.object_memory.specs.Calls.{IsFit}
 use Rattle.loom_run.proofs.running.run.Given as goal
 
 -- The memory stands for the machine after so many cycles, all of them counted.
@@ -17,8 +17,7 @@ invariant-loop-turn g l =
       settled : 0 < l.turn → Settled (told l.fn.m).bounds (told l.m).bounds;
       later : IsLater (told l.fn.m) (told l.m);
       rest : HasRest (told l.m);
-      ready : IsReady (told l.m);
-      sound : g.M.ObjectMemory.sound l.m;
+      fit : IsFit g.M.ObjectMemory l.m;
       lender : g.M.ObjectMemory.lender l.m ≡ g.M.ObjectMemory.lender l.fn.m;
       outside : g.M.ObjectMemory.outside l.m ≡ g.M.ObjectMemory.outside l.fn.m;
     }

@@ -7,8 +7,7 @@ pub loop-k-init : goal.loop-k-init
 loop-k-init g c = record {
   serves = each_none _ c.requires.fit.ready;
   regs = λ r off. refl;
-  ready = c.requires.fit.ready;
-  sound = c.requires.fit.sound;
+  fit = record { sound = c.requires.fit.sound; ready = c.requires.fit.ready };
   lender = refl;
   outside = refl;
 }
@@ -20,8 +19,7 @@ loop-k-preserved g c =
     record {
       serves = each_more _ c.loop-k.k {answer = Ok tt} here.serves (c.in_ok-move_down.ensures.serves);
       regs = λ r off. passed.regs r off ∙ here.regs r off;
-      ready = passed.fit.ready;
-      sound = passed.fit.sound;
+      fit = record { sound = passed.fit.sound; ready = passed.fit.ready };
       lender = passed.fit.lender ∙ here.lender;
       outside = passed.fit.outside ∙ here.outside;
     }

@@ -1,8 +1,8 @@
 use Rattle.std.proofs.Common.{◌≡◌, ℕ, Ok}
-use Rattle.object_memory.specs.Told.{IsReady}
 use Rattle.blue_model.specs.Machine.{each}
 use Rattle.blue_model.specs.Control as model
 use Rattle.contexts.specs.Serves.{Serves}
+use Rattle.object_memory.specs.Calls.{IsFit}
 use Rattle.prims_control.proofs.performs.push_elements.Given as goal
 
 -- The turns before this one were served.
@@ -12,8 +12,7 @@ invariant-loop-k g l =
     record {
       serves : Serves (told l.fn.m) l.fn.cpu (told l.m) l.cpu (each (model.push_element ((told l.fn.m).regs 12)) l.k) (Ok tt);
       regs : (r : ℕ) → (r ≡ 19 → ⊥) → (told l.m).regs r ≡ (told l.fn.m).regs r;
-      ready : IsReady (told l.m);
-      sound : g.M.ObjectMemory.sound l.m;
+      fit : IsFit g.M.ObjectMemory l.m;
       lender : g.M.ObjectMemory.lender l.m ≡ g.M.ObjectMemory.lender l.fn.m;
       outside : g.M.ObjectMemory.outside l.m ≡ g.M.ObjectMemory.outside l.fn.m;
     }

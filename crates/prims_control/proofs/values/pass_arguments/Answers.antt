@@ -8,8 +8,7 @@ pub loop-k-init : goal.loop-k-init
 loop-k-init g c = record {
   serves = each_none _ c.requires.fit.ready;
   regs = λ r off. refl;
-  ready = c.requires.fit.ready;
-  sound = c.requires.fit.sound;
+  fit = record { sound = c.requires.fit.sound; ready = c.requires.fit.ready };
   lender = refl;
   outside = refl;
 }
@@ -22,8 +21,7 @@ loop-k-preserved g c =
     record {
       serves = each_more _ c.loop-k.k {answer = Ok tt} here.serves (rw (block) at (c.in_ok-pass_argument.ensures.serves));
       regs = λ r off. passed.regs r off ∙ here.regs r off;
-      ready = passed.fit.ready;
-      sound = passed.fit.sound;
+      fit = record { sound = passed.fit.sound; ready = passed.fit.ready };
       lender = passed.fit.lender ∙ here.lender;
       outside = passed.fit.outside ∙ here.outside;
     }

@@ -1,9 +1,9 @@
 use Rattle.std.proofs.Common.{◌≡◌, ℕ, Ok}
-use Rattle.object_memory.specs.Told.{IsReady}
 use Rattle.blue_model.specs.declared.cpu.Cpu.{Cpu as Numbers}
 use Rattle.blue_model.specs.Machine.{each}
 use Rattle.blue_model.specs.Control as model
 use Rattle.contexts.specs.Serves.{Serves}
+use Rattle.object_memory.specs.Calls.{IsFit}
 use Rattle.prims_control.proofs.values.pass_elements.Given as goal
 
 -- The turns before this one were served.
@@ -13,8 +13,7 @@ invariant-loop-k g l =
     record {
       serves : (cpu : Numbers) → Serves (told l.fn.m) cpu (told l.m) cpu (each (model.pass_element ((told l.fn.m).regs 12) ((told l.fn.m).regs 10)) l.k) (Ok tt);
       regs : (r : ℕ) → (r ≡ 19 → ⊥) → (told l.m).regs r ≡ (told l.fn.m).regs r;
-      ready : IsReady (told l.m);
-      sound : g.M.ObjectMemory.sound l.m;
+      fit : IsFit g.M.ObjectMemory l.m;
       lender : g.M.ObjectMemory.lender l.m ≡ g.M.ObjectMemory.lender l.fn.m;
       outside : g.M.ObjectMemory.outside l.m ≡ g.M.ObjectMemory.outside l.fn.m;
     }

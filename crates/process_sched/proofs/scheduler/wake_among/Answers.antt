@@ -8,8 +8,7 @@ loop-turn-init g c =
     let all : c.args.count - 0 ≡ c.args.count = omega arith in
     record {
       whole = λ cpu new answer s. (rw all at s);
-      ready = c.requires.fit.ready;
-      sound = c.requires.fit.sound;
+      fit = record { sound = c.requires.fit.sound; ready = c.requires.fit.ready };
       lender = refl;
       outside = refl;
     }
@@ -24,8 +23,7 @@ loop-turn-preserved g c =
     let lists = first.looks.regs 15 refl ∙ list.looks.regs 15 refl in
     record {
       whole = λ cpu new answer s. here.whole cpu new answer (wake_on _ _ _ _ _ _ more next (list.serves cpu) (first.serves cpu) (sym c.is.ensures ∙ c.if-not-is.false) (rw lists at s));
-      ready = first.fit.ready;
-      sound = first.fit.sound;
+      fit = record { sound = first.fit.sound; ready = first.fit.ready };
       lender = first.fit.lender ∙ list.fit.lender ∙ here.lender;
       outside = first.fit.outside ∙ list.fit.outside ∙ here.outside;
     }

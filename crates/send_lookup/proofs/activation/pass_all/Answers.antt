@@ -7,8 +7,7 @@ pub loop-k-init : goal.loop-k-init
 loop-k-init g c = record {
   passed = each_none _ c.requires.fit.ready;
   regs = λ r apart. refl;
-  ready = c.requires.fit.ready;
-  sound = c.requires.fit.sound;
+  fit = record { sound = c.requires.fit.sound; ready = c.requires.fit.ready };
   lender = refl;
   outside = refl;
 }
@@ -27,8 +26,7 @@ loop-k-preserved g c =
     record {
       passed = each_more _ c.loop-k.k here.passed (rw context at passed.serves);
       regs = λ r apart. passed.regs r apart ∙ here.regs r apart;
-      ready = passed.fit.ready;
-      sound = passed.fit.sound;
+      fit = record { sound = passed.fit.sound; ready = passed.fit.ready };
       lender = passed.fit.lender ∙ here.lender;
       outside = passed.fit.outside ∙ here.outside;
     }

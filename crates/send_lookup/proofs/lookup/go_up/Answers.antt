@@ -9,8 +9,7 @@ pub loop-turn-init : goal.loop-turn-init
 loop-turn-init g c = record {
   whole = λ cpu new answer s. s;
   looks = looks_none (20 ∷ 21 ∷ 22 ∷ []) _ _ (Looks-refl _);
-  ready = c.requires.fit.ready;
-  sound = c.requires.fit.sound;
+  fit = record { sound = c.requires.fit.sound; ready = c.requires.fit.ready };
   lender = refl;
   outside = refl;
 }
@@ -27,9 +26,8 @@ loop-turn-preserved g c =
     let class = found.looks.regs 20 refl in
     record {
       whole = λ cpu new answer s. here.whole cpu new answer (chain_on _ _ _ _ _ more (sym c.is.ensures ∙ c.if-is.false) (found_none _ _ c.if-branch.false (found.serves cpu)) (rw (class) at load.serves cpu) (rw (selector) at s));
-      looks = looks_joined all _ _ _ found.fit.ready (looks_joined all _ _ _ here.ready here.looks (looks_rest 20 (21 ∷ 22 ∷ []) _ _ found.looks)) (looks_first 20 (21 ∷ 22 ∷ []) _ _ load.looks);
-      ready = load.fit.ready;
-      sound = load.fit.sound;
+      looks = looks_joined all _ _ _ found.fit.ready (looks_joined all _ _ _ here.fit.ready here.looks (looks_rest 20 (21 ∷ 22 ∷ []) _ _ found.looks)) (looks_first 20 (21 ∷ 22 ∷ []) _ _ load.looks);
+      fit = record { sound = load.fit.sound; ready = load.fit.ready };
       lender = load.fit.lender ∙ found.fit.lender ∙ here.lender;
       outside = load.fit.outside ∙ found.fit.outside ∙ here.outside;
     }
@@ -37,7 +35,7 @@ loop-turn-preserved g c =
 pub returns-then-is-clause-serves : goal.returns-then-is-clause-serves
 returns-then-is-clause-serves g c = λ cpu.
     let here = c.loop-turn.invariant in
-    here.whole cpu _ _ (chain_ends _ _ _ (sym c.is.ensures ∙ c.if-is.true) here.ready)
+    here.whole cpu _ _ (chain_ends _ _ _ (sym c.is.ensures ∙ c.if-is.true) here.fit.ready)
 
 pub returns-in_err-find_in-clause-serves : goal.returns-in_err-find_in-clause-serves
 returns-in_err-find_in-clause-serves g c = λ cpu.
@@ -57,7 +55,7 @@ returns-then-branch-clause-serves g c = λ cpu.
 pub returns-then-branch-clause-looks : goal.returns-then-branch-clause-looks
 returns-then-branch-clause-looks g c =
     let here = c.loop-turn.invariant in
-    looks_joined (20 ∷ 21 ∷ 22 ∷ []) _ _ _ here.ready here.looks (looks_rest 20 (21 ∷ 22 ∷ []) _ _ c.in_ok-find_in.ensures.looks)
+    looks_joined (20 ∷ 21 ∷ 22 ∷ []) _ _ _ here.fit.ready here.looks (looks_rest 20 (21 ∷ 22 ∷ []) _ _ c.in_ok-find_in.ensures.looks)
 
 pub returns-in_err-field-clause-serves : goal.returns-in_err-field-clause-serves
 returns-in_err-field-clause-serves g c = λ cpu.
@@ -77,4 +75,4 @@ returns-then-not-is-clause-serves g c = λ cpu.
 pub returns-clause-serves : goal.returns-clause-serves
 returns-clause-serves g c = λ cpu.
     let here = c.loop-turn.invariant in
-    here.whole cpu _ _ (chain_ends _ _ _ (sym c.is-2.ensures ∙ c.if-not-is.false) here.ready)
+    here.whole cpu _ _ (chain_ends _ _ _ (sym c.is-2.ensures ∙ c.if-not-is.false) here.fit.ready)

@@ -8,8 +8,7 @@ pub loop-i-init : goal.loop-i-init
 loop-i-init g c = record {
   serves = each_none _ c.requires.fit.ready;
   regs = λ r apart. refl;
-  ready = c.requires.fit.ready;
-  sound = c.requires.fit.sound;
+  fit = record { sound = c.requires.fit.sound; ready = c.requires.fit.ready };
   lender = refl;
   outside = refl;
 }
@@ -22,8 +21,7 @@ loop-i-preserved g c =
     record {
       serves = each_more _ c.loop-i.i here.serves (rw array at copied.serves);
       regs = λ r apart. copied.regs r apart ∙ here.regs r apart;
-      ready = copied.fit.ready;
-      sound = copied.fit.sound;
+      fit = record { sound = copied.fit.sound; ready = copied.fit.ready };
       lender = copied.fit.lender ∙ here.lender;
       outside = copied.fit.outside ∙ here.outside;
     }

@@ -21,17 +21,17 @@ field-requires-clause-may g c =
       name = there.name;
       there = λ is. (let h = there.there is in (h.0, h.1, omega (arith, h.2, c.slot_at-slot.ensures.within)));
     } in
-    may_field _ 22 21 (2 + slot) (has_looked (22 ∷ []) (told c.args.m.now) (told c.loop-place.m) 21 pointers_of (λ xs. 2 + slot < length xs) here.ready here.looks refl has)
+    may_field _ 22 21 (2 + slot) (has_looked (22 ∷ []) (told c.args.m.now) (told c.loop-place.m) 21 pointers_of (λ xs. 2 + slot < length xs) here.fit.ready here.looks refl has)
 
 pub returns-in_err-field-clause-serves : goal.returns-in_err-field-clause-serves
 returns-in_err-field-clause-serves g c = λ cpu.
     let here = c.loop-place.invariant in
-    exits _ c.from_residual.ensures.1 (later_refused (22 ∷ []) Shape (slot_of _) 21 (Field 22 21 (2 + c.slot_at-slot.result)) refl refl refl c.requires.fit.ready here.ready here.looks (ref_looked (22 ∷ []) _ _ 21 here.looks refl c.requires.there.name) c.in_err-field.ensures.access.called)
+    exits _ c.from_residual.ensures.1 (later_refused (22 ∷ []) Shape (slot_of _) 21 (Field 22 21 (2 + c.slot_at-slot.result)) refl refl refl c.requires.fit.ready here.fit.ready here.looks (ref_looked (22 ∷ []) _ _ 21 here.looks refl c.requires.there.name) c.in_err-field.ensures.access.called)
 
 pub returns-then-is-clause-looks : goal.returns-then-is-clause-looks
 returns-then-is-clause-looks g c =
     let here = c.loop-place.invariant in
-    looks_once 22 _ _ (looks_loaded (22 ∷ []) _ _ _ 22 21 (2 + c.slot_at-slot.result) here.ready here.looks c.in_ok-field.ensures.access.called)
+    looks_once 22 _ _ (looks_loaded (22 ∷ []) _ _ _ 22 21 (2 + c.slot_at-slot.result) here.fit.ready here.looks c.in_ok-field.ensures.access.called)
 
 pub returns-then-is-clause-serves : goal.returns-then-is-clause-serves
 returns-then-is-clause-serves g c = λ cpu.
@@ -45,13 +45,13 @@ returns-then-is-clause-serves g c = λ cpu.
     read_serves (22 ∷ []) Shape (slot_of (t.regs 23)) 21 None refl c.requires.fit.ready c.in_ok-field.ensures.fit.ready (returns-then-is-clause-looks g c)
     (λ told.
     let round = dictionary t.heap (t.regs 21) (t.regs 23) c.args.fields slots first (c.requires.there.there told) c.requires.some refl (ap (λ n. bit_and n (slots - 1)) c.hash.ensures) in
-    let held = by_place t.heap (t.regs 21) (w.regs 22) slots first c.loop-place.place slot c.slot_at-slot.ensures.slot (loaded (22 ∷ []) t u w 22 21 (2 + slot) here.ready here.looks refl c.in_ok-field.ensures.access.called told) in
+    let held = by_place t.heap (t.regs 21) (w.regs 22) slots first c.loop-place.place slot c.slot_at-slot.ensures.slot (loaded (22 ∷ []) t u w 22 21 (2 + slot) here.fit.ready here.looks refl c.in_ok-field.ensures.access.called told) in
     slot_nil c.loop-place.place (w.regs 22) round c.loop-place-test.true (here.passed told) held (sym c.is.ensures ∙ c.if-is.true))
 
 pub returns-then-same-clause-looks : goal.returns-then-same-clause-looks
 returns-then-same-clause-looks g c =
     let here = c.loop-place.invariant in
-    looks_once 22 _ _ (looks_loaded (22 ∷ []) _ _ _ 22 21 (2 + c.slot_at-slot.result) here.ready here.looks c.in_ok-field.ensures.access.called)
+    looks_once 22 _ _ (looks_loaded (22 ∷ []) _ _ _ 22 21 (2 + c.slot_at-slot.result) here.fit.ready here.looks c.in_ok-field.ensures.access.called)
 
 pub returns-then-same-clause-serves : goal.returns-then-same-clause-serves
 returns-then-same-clause-serves g c = λ cpu.
@@ -66,7 +66,7 @@ returns-then-same-clause-serves g c = λ cpu.
     read_serves (22 ∷ []) Shape (slot_of (t.regs 23)) 21 (Some slot) refl c.requires.fit.ready c.in_ok-field.ensures.fit.ready looks
     (λ told.
     let round = dictionary t.heap (t.regs 21) (t.regs 23) c.args.fields slots first (c.requires.there.there told) c.requires.some refl (ap (λ n. bit_and n (slots - 1)) c.hash.ensures) in
-    let held = by_place t.heap (t.regs 21) (w.regs 22) slots first c.loop-place.place slot c.slot_at-slot.ensures.slot (loaded (22 ∷ []) t u w 22 21 (2 + slot) here.ready here.looks refl c.in_ok-field.ensures.access.called told) in
+    let held = by_place t.heap (t.regs 21) (w.regs 22) slots first c.loop-place.place slot c.slot_at-slot.ensures.slot (loaded (22 ∷ []) t u w 22 21 (2 + slot) here.fit.ready here.looks refl c.in_ok-field.ensures.access.called told) in
     slot_found c.loop-place.place (w.regs 22) round c.loop-place-test.true (here.passed told) held (sym c.is.ensures ∙ c.if-is.false) (is_selector (w.regs 22) (t.regs 23) c.requires.selector (c.same.ensures.0 c.if-same.true ∙ looks.regs 23 refl))
     ∙ ap (λ k. Some (Some k)) (sym c.slot_at-slot.ensures.slot))
 
@@ -80,16 +80,15 @@ loop-place-preserved g c =
     let slots : ℕ = c.args.fields - 2 in
     let slot : ℕ = c.slot_at-slot.result in
     let first : ℕ = bit_and c.hash.result (slots - 1) in
-    let looks = looks_once 22 t w (looks_loaded (22 ∷ []) t u w 22 21 (2 + slot) here.ready here.looks load.access.called) in
+    let looks = looks_once 22 t w (looks_loaded (22 ∷ []) t u w 22 21 (2 + slot) here.fit.ready here.looks load.access.called) in
     let same : w.regs 23 ≡ t.regs 23 = looks.regs 23 refl in
     record {
       passed = λ told.
-          let held = by_place t.heap (t.regs 21) (w.regs 22) slots first c.loop-place.place slot c.slot_at-slot.ensures.slot (loaded (22 ∷ []) t u w 22 21 (2 + slot) here.ready here.looks refl load.access.called told) in
+          let held = by_place t.heap (t.regs 21) (w.regs 22) slots first c.loop-place.place slot c.slot_at-slot.ensures.slot (loaded (22 ∷ []) t u w 22 21 (2 + slot) here.fit.ready here.looks refl load.access.called told) in
           passed_more t.heap (t.regs 21) (t.regs 23) slots first c.loop-place.place (w.regs 22) (here.passed told) held (sym c.is.ensures ∙ c.if-is.false)
           (not_selector (w.regs 22) (t.regs 23) c.requires.selector (λ e. differs _ _ c.same.ensures c.if-same.false (e ∙ sym same)));
       looks = looks;
-      ready = load.fit.ready;
-      sound = load.fit.sound;
+      fit = record { sound = load.fit.sound; ready = load.fit.ready };
       lender = load.fit.lender ∙ here.lender;
       outside = load.fit.outside ∙ here.outside;
     }
@@ -101,7 +100,7 @@ returns-clause-serves g c = λ cpu.
     let slots : ℕ = c.args.fields - 2 in
     let first : ℕ = bit_and c.hash.result (slots - 1) in
     let all : c.loop-place.place ≡ slots = omega (arith, c.loop-place-test.false, c.loop-place.auto.place-end, c.requires.some) in
-    read_serves (22 ∷ []) Shape (slot_of (t.regs 23)) 21 None refl c.requires.fit.ready here.ready here.looks
+    read_serves (22 ∷ []) Shape (slot_of (t.regs 23)) 21 None refl c.requires.fit.ready here.fit.ready here.looks
     (λ told.
     let round = dictionary t.heap (t.regs 21) (t.regs 23) c.args.fields slots first (c.requires.there.there told) c.requires.some refl (ap (λ n. bit_and n (slots - 1)) c.hash.ensures) in
     slot_past round (λ i low. here.passed told i (omega (arith, all))))
