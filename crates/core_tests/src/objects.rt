@@ -1,0 +1,120 @@
+// An object of three fields is brought into a core of which two entries are free above the reserve: its class takes one of them and the
+// first field the other, so that the others are lambdas. It is written back as it was, then with a number in the place of one lambda, and
+// the other is resolved.
+ghost use Rattle.std.specs.Prelude.{◌≡◌, ℕ, IfOk, IfSome, Some, true};
+ghost use Rattle.object_record.specs.Buffer.{HasRecord};
+ghost use Rattle.object_table.specs.Entries.{is_used, place_of};
+ghost use Rattle.core_segment.specs.Segment.{largest_of};
+ghost use Rattle.core_view.specs.Counts.{IsLight};
+ghost use Rattle.core_view.specs.Steps.{IsAt};
+ghost use Rattle.leaf_lambda.specs.Parts.{core_of, IsParts};
+
+use core_segment::Addr;
+use leaf_lambda::fields::put_field;
+use leaf_lambda::leaving::field_total;
+use leaf_lambda::parts::{is_copy, is_leaf};
+use leaf_lambda::steps::{field_word, find_or_leaf, place_of_body};
+use leaf_lambda::{Parts, RESERVE, merge_out, resolve, translate_in};
+use long_names::{Kind, Name};
+use object_record::RecordBuf;
+use object_table::Short;
+use std::test::Fail;
+
+/// The number 3 as a short word, and as a long one.
+const THREE: u16 = 7;
+
+/// The entry of a name, a leaf.
+fn known(p: &mut Parts, name: Name) -> Result<Short, Fail>
+    requires parts { IsParts p.old }
+    requires light { IsLight (core_of p.old) }
+    ensures parts { IfOk result (λ s. IsParts p.new) }
+    ensures light { IfOk result (λ s. IsLight (core_of p.new)) }
+    ensures used { IfOk result (λ s. is_used ((core_of p.new).entries s.0).state ≡ true) }
+    ensures room { largest_of p.new.segment ≡ largest_of p.old.segment }
+{
+    Ok(find_or_leaf(p, name, RESERVE).ok_or("an entry is free")?)
+}
+
+/// Where the body of an object is, if it has a field `i`.
+fn body_with(p: &Parts, s: Short, i: u32) -> Option<Addr>
+    requires parts { IsParts p.now }
+    requires body { (at : ℕ) × (place_of ((core_of p.now).entries s.0).state ≡ Some at) }
+    ensures { IfSome result (λ at. (word : ℕ) × IsAt (core_of p.now) s.0 at.place i word) }
+{
+    let at = place_of_body(p, s);
+    if i < field_total(p, s, at) {
+        Some(at)
+    } else {
+        None
+    }
+}
+
+/// The long word of field `i` where that is a lambda.
+fn lambda(p: &mut Parts, s: Short, buf: &mut RecordBuf, i: u32) -> Option<u32>
+    requires parts { IsParts p.old }
+    requires light { IsLight (core_of p.old) }
+    requires body { (at : ℕ) × (place_of ((core_of p.old).entries s.0).state ≡ Some at) }
+    requires record { HasRecord buf.old }
+{
+    let at = body_with(p, s, i)?;
+    if i >= buf.field_count() || field_word(p, s, at, i) != 0 {
+        return None;
+    }
+    Some(resolve(p, s, buf, i))
+}
+
+/// Stores the number 3 into field `i`.
+fn store(p: &mut Parts, s: Short, i: u32)
+    requires parts { IsParts p.old }
+    requires light { IsLight (core_of p.old) }
+    requires body { (at : ℕ) × (place_of ((core_of p.old).entries s.0).state ≡ Some at) }
+    ensures parts { IsParts p.new }
+    ensures light { IsLight (core_of p.new) }
+    ensures body { (at : ℕ) × (place_of ((core_of p.new).entries s.0).state ≡ Some at) }
+{
+    if let Some(at) = body_with(p, s, i) {
+        put_field(p, s, at, i, THREE);
+    }
+}
+
+/// Makes the record of an object from its old one. Whether the old one is like it.
+fn merge(p: &mut Parts, s: Short, buf: &mut RecordBuf) -> bool
+    requires parts { IsParts p.old }
+    requires light { IsLight (core_of p.old) }
+    requires body { (at : ℕ) × (place_of ((core_of p.old).entries s.0).state ≡ Some at) }
+    requires record { HasRecord buf.old }
+    ensures parts { IsParts p.new }
+    ensures light { IsLight (core_of p.new) }
+    ensures body { (at : ℕ) × (place_of ((core_of p.new).entries s.0).state ≡ Some at) }
+    ensures record { HasRecord buf.new }
+{
+    let at = place_of_body(p, s);
+    if !is_copy(p, s, at, buf) {
+        return false;
+    }
+    merge_out(p, s, buf);
+    true
+}
+
+#[test]
+fn an_object_comes_and_goes(rt: HostRuntime) -> Result<(), Fail> {
+    let mut p = Parts::new(rt.alloc(), 64, RESERVE + 3)?;
+    let mut buf = RecordBuf::new(rt.alloc())?;
+    buf.blank(Name::TRUE, Name::ARRAY, Kind::Pointers, 3, 0);
+    buf.set_long_field(0, 1_000);
+    buf.set_long_field(1, 1_002);
+    let record = buf.bytes().to_vec(rt.alloc())?;
+    let s = known(&mut p, Name::TRUE)?;
+    assert!(rt; is_leaf(&p, s));
+    assert_eq!(rt; p.names.table.free(), RESERVE + 2);
+    translate_in(&mut p, s, &mut buf);
+    assert_eq!(rt; p.names.table.free(), RESERVE);
+    assert!(rt; merge(&mut p, s, &mut buf));
+    assert_eq!(rt; buf.bytes(), record.as_slice());
+    store(&mut p, s, 2);
+    assert!(rt; merge(&mut p, s, &mut buf));
+    assert!(rt; buf.field_count() == 3);
+    assert_eq!(rt; buf.long_field(2), u32::from(THREE));
+    assert_eq!(rt; lambda(&mut p, s, &mut buf, 1), Some(1_002));
+    Ok(())
+}
