@@ -1,12 +1,12 @@
 -- What a piece of the file brings.
-use Rattle.std.proofs.Common.{◌≡◌, ℕ, ◌≤◌, ◌+◌, ◌*◌, List, [], ◌∷◌, ◌++◌, length, All, take, drop, ◌∙◌, sym, ap, ap₂, arith, append_assoc, length-append, length-drop, take-append-drop}
+use Rattle.std.proofs.Common.{◌≡◌, ℕ, ◌≤◌, ◌+◌, ◌*◌, ◌%◌, List, [], ◌∷◌, ◌++◌, length, All, take, drop, ◌∙◌, sym, ap, ap₂, arith, append_assoc, length-append, length-drop, take-append-drop}
 use Rattle.std.proofs.Math.Seq.{take-add}
 use Rattle.std.proofs.lemmas.List.{append-nil, drop-drop}
 use Rattle.std.proofs.lemmas.List.Elements.{All-head, All-tail}
 use Rattle.loom_outside.specs.Outside.{RoleState, Took, TookSome, takes}
 use Rattle.blue_model.specs.declared.event.Line.{Line}
 use Rattle.event_file.specs.Text.{IsLine, line_body, line_text, events_text}
-use Rattle.event_file.specs.Inside.{most_text}
+use Rattle.event_file.specs.Inside.{IsLonger, most_text}
 use Rattle.event_file.specs.Reading.{Begun, IsBegun, StopsInPiece, begun_text}
 use Rattle.event_file.specs.declared.limits.TheConstants.{PIECE}
 use Rattle.event_file.proofs.TextLaws.{line-length}
@@ -63,20 +63,21 @@ took-more piece b c s t u one two text =
 
 -- ---- where reading stops
 
--- the piece behind what was begun shows that a line is bad
-pub stops-then : (b : Begun) (s t u : RoleState) → IsBegun b → TookSome (length (begun_text b)) s t → TookSome PIECE t u → begun_text b ++ t.left ≡ s.left
-    → StopsInPiece s u
-stops-then b s t u is one two text = record {
+-- whole pieces, and one more
+pub aligned-more : (b c : Begun) → length (begun_text b) % PIECE ≡ 0 → IsLonger PIECE b c → length (begun_text c) % PIECE ≡ 0
+aligned-more b c whole more = let longer = more.longer in omega arith
+
+-- the piece behind what was begun shows that a line is bad, or the end of the file behind it does
+pub stops-then : (b : Begun) (s t u : RoleState) → IsBegun b → length (begun_text b) % PIECE ≡ 0 → TookSome (length (begun_text b)) s t → TookSome PIECE t u
+    → begun_text b ++ t.left ≡ s.left → StopsInPiece s u
+stops-then b s t u is whole one two text = record {
   before = b;
   before_is = is;
+  aligned = whole;
   rest = t.left;
   split = sym text;
   taken = took-both (length (begun_text b)) PIECE s t u one two;
 }
-
--- the end of the file does
-pub stops-there : (b : Begun) (s t : RoleState) → IsBegun b → TookSome (length (begun_text b)) s t → begun_text b ++ t.left ≡ s.left → StopsInPiece s t
-stops-there b s t is one text = stops-then b s t t is one (took-up 0 PIECE t t (omega arith) (took-none t)) text
 
 -- ---- a piece and what is left behind it
 

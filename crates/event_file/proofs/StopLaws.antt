@@ -1,5 +1,5 @@
 -- How far reading goes behind a bad line.
-use Rattle.std.proofs.Common.{◌≡◌, ◌≢◌, ℕ, ◌≤◌, ◌+◌, ◌==◌, List, [], ◌∷◌, ◌++◌, length, ◌∙◌, sym, ap, subst, arith, append_assoc, length-append}
+use Rattle.std.proofs.Common.{◌≡◌, ◌≢◌, ℕ, ◌≤◌, ◌+◌, ◌*◌, ◌/◌, ◌%◌, ◌==◌, List, [], ◌∷◌, ◌++◌, length, ◌∙◌, sym, ap, subst, arith, append_assoc, length-append}
 use Rattle.std.proofs.lemmas.Bool.Decides.{nat_tests}
 use Rattle.std.proofs.lemmas.List.{append-nil}
 use Rattle.std.proofs.lemmas.List.Elements.{All-head, All-tail}
@@ -47,11 +47,16 @@ begun-most front (k ∷ a) (l ∷ b) line r s ra rb free short ends e =
     let sizes : length (line_text k) ≡ length (line_text l) = ap (λ (x : Line). length (line_text x)) first.line in
     omega (arith, length-append (line_text k) (events_text a), length-append (line_text l) (events_text b))
 
+-- whole pieces that end no later than a place end no later than the piece that holds it begins
+whole-pieces : (m shown : ℕ) → m % PIECE ≡ 0 → m ≤ shown → m + PIECE ≤ PIECE * (shown / PIECE + 1)
+whole-pieces m shown whole few = omega arith
+
 pub stops-soon : (number : ℕ) (old new : RoleState) (bad : IsBadAt number old.left) → StopsInPiece old new
-    → TookSome (length (events_text bad.lines) + unseen bad.rest + PIECE) old new
+    → TookSome (PIECE * ((length (events_text bad.lines) + unseen bad.rest) / PIECE + 1)) old new
 stops-soon number old new bad stops =
     let b = stops.before in
     let most = begun-most [] b.lines bad.lines b.line stops.rest bad.rest stops.before_is.right bad.right stops.before_is.unended stops.before_is.short bad.bad
     (sym (append_assoc (events_text b.lines) b.line stops.rest) ∙ sym stops.split ∙ bad.split) in
-    took-up (length (begun_text b) + PIECE) (length (events_text bad.lines) + unseen bad.rest + PIECE) old new
-    (omega (arith, length-append (events_text b.lines) b.line)) stops.taken
+    let shown = length (events_text bad.lines) + unseen bad.rest in
+    took-up (length (begun_text b) + PIECE) (PIECE * (shown / PIECE + 1)) old new
+    (whole-pieces (length (begun_text b)) shown stops.aligned (omega (arith, length-append (events_text b.lines) b.line))) stops.taken

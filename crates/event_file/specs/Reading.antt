@@ -1,5 +1,5 @@
 -- What reading an event file does with its host, and how far it reads.
-use Rattle.std.specs.Prelude.{◌≡◌, ◌≢◌, ℕ, ◌<◌, ◌≤◌, ◌+◌, ◌==◌, List, [], ◌++◌, length, min, All}
+use Rattle.std.specs.Prelude.{◌≡◌, ◌≢◌, ℕ, ◌<◌, ◌≤◌, ◌+◌, ◌%◌, ◌==◌, List, [], ◌++◌, length, min, All}
 use Rattle.std.specs.List.{position_or_len}
 use Rattle.loom_outside.specs.Outside.{RoleState, SameBut, TookSome}
 use Rattle.loom_outside.specs.declared.outside.Host.{Ghosts}
@@ -31,11 +31,12 @@ pub record IsBegun (b : Begun) : Type 0 where
   pub room : b.line ≢ [] → length b.lines < MOST_LINES
   pub short : length b.line ≤ LONGEST
 
--- Reading stopped at a bad line: nothing was taken behind the piece that shows it. What was taken before that piece shows none: right
--- lines, and bytes of one more that has not ended and is no longer than the longest.
+-- Reading stopped at a bad line: nothing was taken behind the piece that shows it. What was taken before that piece is whole pieces and
+-- shows none: right lines, and bytes of one more that has not ended and is no longer than the longest.
 pub record StopsInPiece (old new : RoleState) : Type 0 where
   pub before : Begun
   pub before_is : IsBegun before
+  pub aligned : length (begun_text before) % PIECE ≡ 0
   pub rest : List ℕ
   pub split : old.left ≡ begun_text before ++ rest
   pub taken : TookSome (length (begun_text before) + PIECE) old new

@@ -1,5 +1,5 @@
 //! What follows from the grammar: a text is read in one way, and no further than its first bad line.
-ghost use Rattle.std.specs.Prelude.{◌≡◌, ◌+◌, ℕ, List, length};
+ghost use Rattle.std.specs.Prelude.{◌≡◌, ◌+◌, ◌*◌, ◌/◌, ℕ, List, length};
 ghost use Rattle.loom_outside.specs.Outside.{RoleState, TookSome};
 ghost use Rattle.blue_model.specs.declared.event.Line.{Line};
 ghost use Rattle.event_file.specs.Reading.{StopsInPiece, unseen};
@@ -21,9 +21,9 @@ pub fn a_right_text_has_no_bad_line()
     ensures { (lines : List Line) (k : ℕ) → AreRight lines → IsBadAt k (events_text lines) → ⊥ }
 {}
 
-/// Where reading stopped at a bad line, what was taken ends less than a piece behind the byte that shows the line bad: its end, or the
-/// byte behind the longest line.
+/// Where reading stopped at a bad line, the last piece that was taken is the one that holds the byte that shows the line bad: its end,
+/// or the byte behind the longest line.
 pub fn no_piece_is_read_behind_a_bad_line()
     ensures { (line : ℕ) (old new : RoleState) (bad : IsBadAt line old.left) → StopsInPiece old new
-        → TookSome (length (events_text bad.lines) + unseen bad.rest + PIECE) old new }
+        → TookSome (PIECE * ((length (events_text bad.lines) + unseen bad.rest) / PIECE + 1)) old new }
 {}

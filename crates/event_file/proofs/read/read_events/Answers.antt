@@ -2,7 +2,7 @@ use Rattle.std.proofs.Common.{◌+◌, length, rules, ◌∙◌}
 use Rattle.loom_outside.specs.declared.outside.Role.TheVariants.{Events}
 use Rattle.event_file.specs.Reading.{begun_text}
 use Rattle.event_file.specs.declared.limits.TheConstants.{PIECE}
-use Rattle.event_file.proofs.PieceLaws.{took-most, took-both, took-more, stops-then, stops-there}
+use Rattle.event_file.proofs.PieceLaws.{took-most, took-both, took-more, aligned-more, stops-then}
 use Rattle.event_file.proofs.read.read_events.Goals as goal
 
 pub returns-in_err-read_piece-clause-taken : goal.returns-in_err-read_piece-clause-taken
@@ -16,7 +16,7 @@ pub returns-in_err-read_piece-clause-stops : goal.returns-in_err-read_piece-clau
 returns-in_err-read_piece-clause-stops g c = λ told line was.
     let told_of = g.H.Host.roles in
     stops-then c.pieces.reading (told_of c.args.host.now Events) (told_of c.pieces.host Events) (told_of c.read_piece.new.host Events)
-    c.pieces.invariant.begun (c.pieces.invariant.taken told) (c.in_err-read_piece.ensures.taken told) (c.pieces.invariant.text told)
+    c.pieces.invariant.begun c.pieces.invariant.aligned (c.pieces.invariant.taken told) (c.in_err-read_piece.ensures.taken told) (c.pieces.invariant.text told)
 
 pub pieces-preserved : goal.pieces-preserved
 pieces-preserved g c = record {
@@ -25,6 +25,7 @@ pieces-preserved g c = record {
       took-more PIECE (begun_text c.pieces.reading) _ (told_of c.args.host.now Events) (told_of c.pieces.host Events) (told_of c.read_piece.new.host Events)
       (c.pieces.invariant.taken told) (c.in_ok-read_piece.ensures.taken told) (c.in_ok-read_piece.ensures.text told);
   begun = search rules;
+  aligned = aligned-more c.pieces.reading c.read_piece.new.self c.pieces.invariant.aligned (search rules);
   others = search rules;
 }
 
@@ -38,7 +39,5 @@ returns-clause-taken g c = λ told.
 pub returns-clause-stops : goal.returns-clause-stops
 returns-clause-stops g c = λ told line was.
     let told_of = g.H.Host.roles in
-    stops-there c.read_piece.new.self (told_of c.args.host.now Events) (told_of c.read_piece.new.host Events) (search rules)
-    (took-more PIECE (begun_text c.pieces.reading) _ (told_of c.args.host.now Events) (told_of c.pieces.host Events) (told_of c.read_piece.new.host Events)
-    (c.pieces.invariant.taken told) (c.in_ok-read_piece.ensures.taken told) (c.in_ok-read_piece.ensures.text told))
-    (c.in_ok-read_piece.ensures.text told ∙ c.pieces.invariant.text told)
+    stops-then c.pieces.reading (told_of c.args.host.now Events) (told_of c.pieces.host Events) (told_of c.read_piece.new.host Events)
+    c.pieces.invariant.begun c.pieces.invariant.aligned (c.pieces.invariant.taken told) (c.in_ok-read_piece.ensures.taken told) (c.pieces.invariant.text told)
