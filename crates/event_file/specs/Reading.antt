@@ -1,5 +1,5 @@
 -- What reading an event file does with its host, and how far it reads.
-use Rattle.std.specs.Prelude.{◌≡◌, ◌≢◌, ℕ, ◌<◌, ◌≤◌, ◌+◌, ◌%◌, ◌==◌, List, [], ◌++◌, length, min, All}
+use Rattle.std.specs.Prelude.{◌≡◌, ◌≢◌, ℕ, ◌<◌, ◌≤◌, ◌+◌, ◌%◌, ◌==◌, List, [], ◌++◌, length, min, All, if◌then◌else◌}
 use Rattle.std.specs.List.{position_or_len}
 use Rattle.loom_outside.specs.Outside.{RoleState, SameBut, TookSome}
 use Rattle.loom_outside.specs.declared.outside.Host.{Ghosts}
@@ -41,6 +41,7 @@ pub record StopsInPiece (old new : RoleState) : Type 0 where
   pub split : old.left ≡ begun_text before ++ rest
   pub taken : TookSome (length (begun_text before) + PIECE) old new
 
--- how many bytes of a line stand before the one that shows it bad: before its end, or as many as the longest line has
-abbrev pub unseen : List ℕ → ℕ
-unseen rest = min LONGEST (position_or_len (λ byte. byte == 10) rest)
+-- how many bytes of a bad line behind so many right ones stand before the byte that shows it bad: none where no line may come any more,
+-- else those before its end, or as many as the longest line has
+abbrev pub unseen : ℕ → List ℕ → ℕ
+unseen lines rest = if lines == MOST_LINES then 0 else min LONGEST (position_or_len (λ byte. byte == 10) rest)

@@ -22,8 +22,8 @@ pub fn a_right_text_has_no_bad_line()
 {}
 
 /// Where reading stopped at a bad line, the last piece that was taken is the one that holds the byte that shows the line bad: its end,
-/// or the byte behind the longest line.
+/// the byte behind the longest line, or the first byte behind the most lines.
 pub fn no_piece_is_read_behind_a_bad_line()
     ensures { (line : ℕ) (old new : RoleState) (bad : IsBadAt line old.left) → StopsInPiece old new
-        → TookSome (PIECE * ((length (events_text bad.lines) + unseen bad.rest) / PIECE + 1)) old new }
+        → TookSome (PIECE * ((length (events_text bad.lines) + unseen (length bad.lines) bad.rest) / PIECE + 1)) old new }
 {}
