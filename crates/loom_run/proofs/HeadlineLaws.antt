@@ -1,5 +1,5 @@
 -- What the promise gives of a run that answers Done or Quit.
-use Rattle.std.proofs.Common.{◌≡◌, ℕ, Bool, List, refl, sym, ◌∙◌, ap}
+use Rattle.std.proofs.Common.{◌≡◌, ℕ, Bool, List, refl, ◌∙◌, ap}
 use Rattle.loom_outside.specs.declared.outside.Role.{Role}
 use Rattle.loom_outside.specs.declared.outside.Role.TheVariants.{Image, Events, Saved, Display, Transcript}
 use Rattle.loom_outside.specs.Outside.{RoleState}
@@ -12,7 +12,7 @@ use Rattle.blue_model.specs.declared.step.Step.TheVariants.{Next, Quit}
 use Rattle.blue_model.specs.Cycle.{Ending, Parked, Stuck, ending}
 use Rattle.blue_model.specs.Endings.{IsParkedBy, said_in}
 use Rattle.loom_outside.specs.Outside.{puts}
-use Rattle.loom_run.specs.Headline.{HasHeadline, HeadlineBy, TellsAll}
+use Rattle.loom_run.specs.Headline.{HasHeadline, HeadlineBy, TellsHeadline}
 use Rattle.loom_run.specs.Meanings.{Meanings}
 use Rattle.loom_run.specs.Promise.{Promise}
 use Rattle.loom_run.specs.Top.{AreEvents, Draws, RunOf, RunsBy, Saves, bytes_of}
@@ -38,11 +38,11 @@ parked before now steps ran end saved display heap lines (Parked last machine pi
   },
 )
 
-pub headline_from : (tells : Role → Bool) (before now : Meanings) (words : List (List ℕ)) (result : Status) → TellsAll tells → Promise tells before now words result → HeadlineBy result before now (steps_of words)
-headline_from tells before now words (answer.Done ran) all p =
-    let r : RunOf (bytes_of (now.roles Image)) (bytes_of (now.roles Events)) (steps_of words) (RunsBy tells before now (saved_word words) (display_word words) (answer.Done ran)) = p.run (all Image) (all Events) tt in
-    parked before now (steps_of words) ran Next (saved_word words) (display_word words) r.heap r.lines (ending r.lines (steps_of words) r.heap) r.is r.text r.list refl r.run.judged (r.run.says (all Transcript)) (r.run.saves (all Saved)) (r.run.draws (all Display))
-headline_from tells before now words (answer.Quit ran) all p =
-    let r : RunOf (bytes_of (now.roles Image)) (bytes_of (now.roles Events)) (steps_of words) (RunsBy tells before now (saved_word words) (display_word words) (answer.Quit ran)) = p.run (all Image) (all Events) tt in
-    parked before now (steps_of words) ran Quit (saved_word words) (display_word words) r.heap r.lines (ending r.lines (steps_of words) r.heap) r.is r.text r.list refl r.run.judged (r.run.says (all Transcript)) (r.run.saves (all Saved)) (r.run.draws (all Display))
-headline_from tells before now words _ all p = tt
+pub headline_from : (tells : Role → Bool) (before now : Meanings) (words : List (List ℕ)) (result : Status) → TellsHeadline tells → Promise tells before now words result → HeadlineBy result before now (steps_of words)
+headline_from tells before now words (answer.Done ran) told p =
+    let r : RunOf (bytes_of (now.roles Image)) (bytes_of (now.roles Events)) (steps_of words) (RunsBy tells before now (saved_word words) (display_word words) (answer.Done ran)) = p.run told.image told.events tt in
+    parked before now (steps_of words) ran Next (saved_word words) (display_word words) r.heap r.lines (ending r.lines (steps_of words) r.heap) r.is r.text r.list refl r.run.judged (r.run.says told.transcript) (r.run.saves told.saved) (r.run.draws told.display)
+headline_from tells before now words (answer.Quit ran) told p =
+    let r : RunOf (bytes_of (now.roles Image)) (bytes_of (now.roles Events)) (steps_of words) (RunsBy tells before now (saved_word words) (display_word words) (answer.Quit ran)) = p.run told.image told.events tt in
+    parked before now (steps_of words) ran Quit (saved_word words) (display_word words) r.heap r.lines (ending r.lines (steps_of words) r.heap) r.is r.text r.list refl r.run.judged (r.run.says told.transcript) (r.run.saves told.saved) (r.run.draws told.display)
+headline_from tells before now words _ told p = tt

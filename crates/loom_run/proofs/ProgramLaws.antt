@@ -11,7 +11,6 @@ use Rattle.std.proofs.lemmas.Result.{err_from_is_err_and}
 use Rattle.loom_outside.specs.Outside.{RoleState, puts, PutPrefix}
 use Rattle.loom_outside.specs.declared.outside.Role.{Role}
 use Rattle.loom_outside.specs.declared.outside.Role.TheVariants.{Image, Events, Saved, Display, Transcript, Notes}
-use Rattle.blue_model.specs.declared.step.Step.{Step}
 use Rattle.blue_model.specs.declared.step.Step.TheVariants.{Next, Quit}
 use Rattle.loom_run.specs.Meanings.{Meanings, LeavesBut}
 use Rattle.object_memory.specs.Told.{Told}

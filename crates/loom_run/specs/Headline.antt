@@ -1,5 +1,5 @@
--- What a run comes to that answers Done or Quit: the promise in six lines, over a host that tells what all its roles hold. `headline` of
--- `laws` says that `Promise` gives them.
+-- What a run comes to that answers Done or Quit: the promise in six lines, over a host that tells what the five roles of these lines
+-- hold. `headline` of `laws` says that `Promise` gives them.
 use Rattle.std.specs.Prelude.{◌≡◌, ℕ, List, ◌++◌, IsTrue, Bool}
 use Rattle.long_names.specs.Heap.{Heap}
 use Rattle.long_names.specs.Kept.{kept, no_roots}
@@ -44,6 +44,10 @@ HeadlineBy (Done ran) before now steps = HasHeadline before now steps step.Next
 HeadlineBy (Quit ran) before now steps = HasHeadline before now steps step.Quit
 HeadlineBy _ before now steps = Unit {0}
 
--- the host tells what each role holds
-abbrev pub TellsAll : (Role → Bool) → Type 0
-TellsAll tells = (role : Role) → IsTrue (tells role)
+-- the host tells what the five roles of the headline hold
+pub record TellsHeadline (tells : Role → Bool) : Type 0 where
+  pub image : IsTrue (tells Image)
+  pub events : IsTrue (tells Events)
+  pub transcript : IsTrue (tells Transcript)
+  pub saved : IsTrue (tells Saved)
+  pub display : IsTrue (tells Display)

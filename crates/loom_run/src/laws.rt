@@ -6,7 +6,7 @@ ghost use Rattle.blue_model.specs.Cycle.{ending};
 ghost use Rattle.loom_run.specs.Base.{base_bytes, text_of_ending};
 ghost use Rattle.loom_outside.specs.declared.outside.Role.{Role};
 ghost use Rattle.loom_run.specs.declared.status.Status.{Status};
-ghost use Rattle.loom_run.specs.Headline.{HeadlineBy, TellsAll};
+ghost use Rattle.loom_run.specs.Headline.{HeadlineBy, TellsHeadline};
 ghost use Rattle.loom_run.specs.Meanings.{Meanings};
 ghost use Rattle.loom_run.specs.Promise.{Promise};
 ghost use Rattle.loom_run.specs.Words.{IsRow, bad_word, image_word, events_word, saved_word, display_word, steps_of};
@@ -24,9 +24,10 @@ pub fn right_words()
     ensures { (words : List (List ℕ)) → (bad_word words ≡ None) ↔ IsRow words (image_word words) (events_word words) (saved_word words) (display_word words) (steps_of words) }
 {}
 
-/// Over a host that tells what each role holds, what `loom` promises gives, with Done or Quit, the six lines of `Headline`: the image's
-/// heap, the events' lines, the ending of the model's run over both, and the bytes of Transcript, Saved and Display.
+/// Over a host that tells what Image, Events, Transcript, Saved and Display hold, what `loom` promises gives, with Done or Quit, the six
+/// lines of `Headline`: the image's heap, the events' lines, the ending of the model's run over both, and the bytes of Transcript, Saved
+/// and Display.
 #[tactic(auto, using(crate::proofs::HeadlineLaws::headline_from))]
 pub fn headline()
-    ensures { (tells : Role → Bool) (before now : Meanings) (words : List (List ℕ)) (result : Status) → TellsAll tells → Promise tells before now words result → HeadlineBy result before now (steps_of words) }
+    ensures { (tells : Role → Bool) (before now : Meanings) (words : List (List ℕ)) (result : Status) → TellsHeadline tells → Promise tells before now words result → HeadlineBy result before now (steps_of words) }
 {}
