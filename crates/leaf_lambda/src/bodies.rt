@@ -116,6 +116,7 @@ fn take_filled(g: &mut Segment, words: u32, owner: u16, buf: &RecordBuf) -> Addr
         ≡ with_chunk (chunk_at g.old) result.place (record { owner = owner; words = unresolved (raw_of buf.now).body }) }
     ensures size { size_of g.new ≡ size_of g.old }
     ensures free { free_of g.new + words + 4 ≡ free_of g.old }
+    ensures largest { largest_of g.old ≤ largest_of g.new + words + 4 }
 {
     match g.take(words + 4, owner) {
         Some(at) => {
@@ -140,6 +141,7 @@ pub fn take_body(p: &mut Parts, s: Short, buf: &RecordBuf) -> Addr
         ≡ with_chunk_at (core_of p.old) result.place (record { owner = s.0; words = unresolved (raw_of buf.now).body }) }
     ensures size { size_of p.new.segment ≡ size_of p.old.segment }
     ensures free { free_of p.new.segment + length (unresolved (raw_of buf.now).body) + 4 ≡ free_of p.old.segment }
+    ensures largest { largest_of p.old.segment ≤ largest_of p.new.segment + length (unresolved (raw_of buf.now).body) + 4 }
 {
     let words = words_of(buf);
     take_filled(&mut p.segment, words, s.0, buf)

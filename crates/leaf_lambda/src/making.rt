@@ -133,6 +133,7 @@ fn take_filled_new(
         ≡ with_chunk (chunk_at g.old) result.place (record { owner = owner; words = words_new kind len header filler }) }
     ensures size { size_of g.new ≡ size_of g.old }
     ensures free { free_of g.new + words + 4 ≡ free_of g.old }
+    ensures largest { largest_of g.old ≤ largest_of g.new + words + 4 }
 {
     match g.take(words + 4, owner) {
         Some(at) => {
@@ -157,6 +158,7 @@ pub fn take_new(p: &mut Parts, s: Short, kind: Kind, len: u32, header: u16, fill
         ≡ with_chunk_at (core_of p.old) result.place (record { owner = s.0; words = words_new kind len header filler }) }
     ensures size { size_of p.new.segment ≡ size_of p.old.segment }
     ensures free { free_of p.new.segment + words_for kind len (literal_count (int_of_short header)) + 4 ≡ free_of p.old.segment }
+    ensures largest { largest_of p.old.segment ≤ largest_of p.new.segment + words_for kind len (literal_count (int_of_short header)) + 4 }
 {
     let words = size_new(kind, len, header);
     take_filled_new(&mut p.segment, words, s.0, kind, len, header, filler)
@@ -215,6 +217,7 @@ pub fn make_body(
     ensures spare { spare_of p.new ≡ spare_of p.old }
     ensures size { size_of p.new.segment ≡ size_of p.old.segment }
     ensures free { free_of p.new.segment + words_for kind len (literal_count (int_of_short header)) + 4 ≡ free_of p.old.segment }
+    ensures largest { largest_of p.old.segment ≤ largest_of p.new.segment + words_for kind len (literal_count (int_of_short header)) + 4 }
 {
     // What the filler means is a value, for `valued`.
     words_mean_values(p, filler);

@@ -202,6 +202,7 @@ fn open_leaf(p: &mut Parts, s: Short, buf: &RecordBuf) -> Addr
         × (spare_of p.old ≤ spare_of p.new + leaves_for ((core_of p.old).find (raw_of buf.now).class)) }
     ensures size { size_of p.new.segment ≡ size_of p.old.segment }
     ensures free { free_of p.new.segment + body_words (object_in (raw_of buf.now)).body + 4 ≡ free_of p.old.segment }
+    ensures largest { largest_of p.old.segment ≤ largest_of p.new.segment + body_words (object_in (raw_of buf.now)).body + 4 }
 {
     let class = hold_class(p, buf);
     let at = take_body(p, s, buf);
@@ -234,6 +235,7 @@ pub fn translate_in(p: &mut Parts, s: Short, buf: &mut RecordBuf)
         ≤ spare_of p.new + leaves_for ((core_of p.old).find (raw_of buf.old).class) + length (longs_of (raw_of buf.old).body) }
     ensures size { size_of p.new.segment ≡ size_of p.old.segment }
     ensures free { free_of p.new.segment + body_words (object_in (raw_of buf.old)).body + 4 ≡ free_of p.old.segment }
+    ensures largest { largest_of p.old.segment ≤ largest_of p.new.segment + body_words (object_in (raw_of buf.old)).body + 4 }
     ensures same { buf.new ≡ buf.old }
 {
     let at = open_leaf(p, s, buf);
@@ -242,7 +244,7 @@ pub fn translate_in(p: &mut Parts, s: Short, buf: &mut RecordBuf)
 }
 
 /// The long word that the lambda of field `i` means, from the object's record. From here on the field has the short name of its target,
-/// where that has an entry or more than [`RESERVE`] entries are free.
+/// where that has an entry or more than [`RESERVE`] entries are free. Each other field keeps its word.
 pub fn resolve(p: &mut Parts, s: Short, buf: &mut RecordBuf, i: u32) -> u32
     requires parts { IsParts p.old }
     requires light { IsLight (core_of p.old) }
@@ -255,6 +257,9 @@ pub fn resolve(p: &mut Parts, s: Short, buf: &mut RecordBuf, i: u32) -> u32
     ensures within { IsWithin s.0 (core_of p.old) (core_of p.new) }
     ensures naming { IsNaming (core_of p.old) (core_of p.new) }
     ensures entry { (core_of p.new).entries s.0 ≡ with_refs ((core_of p.old).entries s.0) ((core_of p.new).entries s.0).refs }
+    ensures fields { (at : ℕ) → place_of ((core_of p.old).entries s.0).state ≡ Some at → (w : ℕ)
+        × (let k = ((core_of p.old).entries s.0).kind in
+        pointers k ((core_of p.new).chunks at).words ≡ slice_set (pointers k ((core_of p.old).chunks at).words) i w) }
     ensures lambda { (at : ℕ) → IsAt (core_of p.new) s.0 at i 0 → MayBeLambda (core_of p.old).find (spare_of p.old) (read_value result) }
     ensures sparing { IsSparing p.old p.new }
     ensures cost { spare_of p.old ≤ spare_of p.new + 1 }
