@@ -2,8 +2,8 @@
 use Rattle.std.proofs.Common.{zero, suc, ◌≡◌, ◌≢◌, ℕ, ◌+◌, ◌-◌, ◌<◌, ◌≤◌, max, List, [], ◌∷◌, length, get_or, drop, sum_by, refl, sym, ◌∙◌, ap, subst, arith, ⊎_elim, drop-cons, add-one}
 use Rattle.std.proofs.lemmas.Bool.{cases_lt}
 use Rattle.std.proofs.lemmas.List.Sums.{sum_by-cons}
-use Rattle.std.specs.List.{remove}
-use Rattle.core_segment.specs.Inside.{Span, no_span, end_of, IsLaid, IsAt, IsGap, largest_gap, all_gaps}
+use Rattle.std.specs.List.{insert, remove}
+use Rattle.core_segment.specs.Inside.{Span, no_span, end_of, IsLaid, IsAt, IsGap, end_before, largest_gap, all_gaps}
 
 abbrev pub lens : List Span → ℕ
 lens spans = sum_by (λ (s : Span). s.len) spans
@@ -85,6 +85,35 @@ room-remove (s ∷ ss) size zero from laid low below =
 room-remove (s ∷ ss) size (suc k) from laid low below =
     let rest = room-remove ss size k (end_of s) (laid-tail s ss size laid) (omega arith) (λ j h. laid.apart 0 (suc j) (omega arith) (omega arith)) in
     omega arith
+
+-- ---- a chunk is taken
+
+-- where the words begin that are free before the chunk of an index, from a place on
+gap_start : ℕ → List Span → ℕ → ℕ
+gap_start from spans zero = from
+gap_start from spans (suc k) = end_of (get_or spans k no_span)
+
+gap_start-more : (s : Span) (ss : List Span) (from k : ℕ) → gap_start from (s ∷ ss) (suc k) ≡ gap_start (end_of s) ss k
+unfolding gap_start
+gap_start-more s ss from zero = refl
+gap_start-more s ss from (suc k) = refl
+
+largest-start : (spans : List Span) (size k from : ℕ) (t : Span) → k ≤ length spans → t.place ≡ gap_start from spans k
+    → largest_gap from spans size ≤ largest_gap from (insert spans k t) size + t.len
+unfolding gap_start
+largest-start [] size zero from t low at = omega arith
+largest-start [] size (suc k) from t low at = absurd (omega arith)
+largest-start (s ∷ ss) size zero from t low at = omega arith
+largest-start (s ∷ ss) size (suc k) from t low at =
+    let rest = largest-start ss size k (end_of s) t (omega arith) (at ∙ gap_start-more s ss from k) in
+    omega arith
+
+-- where a chunk is taken from the start of a gap, the largest gap gets smaller by its words at most
+pub largest-insert : (spans : List Span) (size k : ℕ) (t : Span) → k ≤ length spans → t.place ≡ end_before spans k
+    → largest_gap 0 spans size ≤ largest_gap 0 (insert spans k t) size + t.len
+unfolding gap_start
+largest-insert spans size zero t low at = largest-start spans size zero 0 t low at
+largest-insert spans size (suc k) t low at = largest-start spans size (suc k) 0 t low at
 
 -- ---- the search for a gap
 
@@ -180,6 +209,7 @@ pub record IsPassed (spans : List Span) (size words index place : ℕ) : Type 0 
   pub before : (k : ℕ) → k < index → end_of (get_or spans k no_span) ≤ place
   pub behind : (k : ℕ) → index ≤ k → k < length spans → place ≤ (get_or spans k no_span).place
   pub within : place ≤ size
+  pub top : place ≡ end_before spans index
   pub less : largest_gap place (drop index spans) size < words → largest_gap 0 spans size < words
 
 pub passed-more : (spans : List Span) (size words index place : ℕ) → IsLaid spans size → IsPassed spans size words index place → index < length spans
@@ -191,6 +221,7 @@ passed-more spans size words index place laid passed low small = record {
       (cases_lt k index);
   behind = λ k h l. laid.apart index k (omega arith) l;
   within = laid.within index low;
+  top = ap (end_before spans) (sym (add-one index));
   less = λ h. passed.less (let a = largest-at spans size index place low in omega arith);
 }
 

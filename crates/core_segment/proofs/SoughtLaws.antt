@@ -1,6 +1,6 @@
 -- The search for a gap, from place to place.
 use Rattle.std.proofs.Common.{◌≡◌, ◌≢◌, ℕ, ◌+◌, ◌-◌, ◌<◌, ◌≤◌, List, length, sym, subst, arith}
-use Rattle.core_segment.specs.Inside.{Span, word_at, size_in, largest_gap, IsLaid, IsHeaded, IsAt, IsGap, IsRegion, index_at}
+use Rattle.core_segment.specs.Inside.{Span, word_at, size_in, largest_gap, IsLaid, IsHeaded, IsAt, IsGap, IsRegion, end_before, index_at}
 use Rattle.core_segment.proofs.GapLaws.{IsPassed, passed-more, passed-gap, passed-all}
 use Rattle.core_segment.proofs.WalkLaws.{at-end, chunk-here, free-here, chunk-next}
 use Rattle.core_segment.proofs.PackLaws.{packed-at, packed-first, packed-within}
@@ -27,6 +27,7 @@ sought-none region spans free full next words whole some =
         before = at.before;
         behind = at.behind;
         within = packed-within spans (length region) k full next whole.laid whole.packed;
+        top = whole.packed.top;
         less = λ h. subst (λ (z : ℕ). z < words) (sym first.largest) h;
       };
       at = at;
@@ -51,12 +52,13 @@ sought-free region spans words start place laid headed sought low none part = re
 -- so many are free
 pub sought-found : (region : List ℕ) (spans : List Span) (words start place : ℕ) → IsLaid spans (length region) → IsHeaded region spans
     → IsSought spans (length region) words start place → place < length region → word_at region place ≡ 0 → place + 1 - start ≡ words
-    → (k : ℕ) × IsGap spans (length region) words k start
+    → (k : ℕ) × IsGap spans (length region) words k start × (start ≡ end_before spans k)
 sought-found region spans words start place laid headed sought low none all =
     let order = sought.order in (
       sought.index,
       passed-gap spans (length region) words sought.index start (place + 1) sought.passed
           (free-here region spans (length region) sought.index place laid headed sought.at none) (omega arith) (omega arith),
+      sought.passed.top,
     )
 
 -- a chunk begins there

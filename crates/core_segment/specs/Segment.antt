@@ -1,5 +1,6 @@
 -- What a segment stands for: chunks at their places, and how much is free.
 use Rattle.std.specs.Prelude.{◌≡◌, ℕ, ◌+◌, ◌<◌, List, length, map, sum_by}
+use Rattle.core_segment.specs.declared.segment.TheConstants.{HEADER}
 use Rattle.core_segment.specs.declared.segment.Moved.{Moved}
 use Rattle.core_segment.specs.declared.segment.Segment.{Segment}
 use Rattle.core_segment.specs.Chunks.{Chunk, Placed, no_chunk, at_place, with_chunk}
@@ -38,7 +39,7 @@ pub record SameRoom (old new : Segment) : Type 0 where
 -- A chunk of so many words was given to an owner, at a place where none began. What its words are is left open.
 pub record IsTaken (old new : ℕ → Chunk) (p owner words : ℕ) : Type 0 where
   pub text : List ℕ
-  pub size : length text + 4 ≡ words
+  pub size : length text + HEADER ≡ words
   pub vacant : (old p).owner ≡ 0
   pub chunks : new ≡ with_chunk old p (record { owner = owner; words = text })
 

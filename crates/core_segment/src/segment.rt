@@ -41,7 +41,7 @@ pub struct Segment {
 impl Segment {
     ghost use Rattle.std.specs.Prelude.{◌≡◌, ◌≢◌, ◌+◌, ◌-◌, ◌*◌, ◌<◌, ◌≤◌, ◌^◌, ◌↔◌, ℕ, IfOk, IfSome, IfNone, IsTrue, Some, length, slice_get};
     ghost use Rattle.core_segment.specs.Chunks.{Chunk, no_chunk, with_chunk, with_word};
-    ghost use Rattle.core_segment.specs.Inside.{IsAt, IsGap, IsPacked, spans_of, word_at};
+    ghost use Rattle.core_segment.specs.Inside.{IsAt, IsGap, IsPacked, end_before, spans_of, word_at};
     ghost use Rattle.core_segment.specs.Segment.{chunk_at, size_of, free_of, largest_of, work_of, SameRoom, IsTaken, IsMove};
 
     /// A segment of so many words, all of them free.
@@ -101,11 +101,12 @@ impl Segment {
         self.region[at.place as usize + HEADER as usize + i as usize] = w;
     }
 
-    // The first place from which on so many words are free.
+    // The first place from which on so many words are free: a chunk ends there, or the segment begins.
     fn find_gap(&self, words: u32) -> Option<u32>
         requires { 1 ≤ words }
         ensures none { IfNone result (largest_of self.now < words) }
-        ensures gap { IfSome result (λ p. (k : ℕ) × IsGap (spans_of self.now.region.items) (length self.now.region.items) words k p) }
+        ensures gap { IfSome result (λ p. (k : ℕ) × IsGap (spans_of self.now.region.items) (length self.now.region.items) words k p
+            × (p ≡ end_before (spans_of self.now.region.items) k)) }
         ensures behind { IfSome result (λ p. self.now.packed ≤ p) }
     {
         let size = self.region.len() as u32;
@@ -126,13 +127,15 @@ impl Segment {
         None
     }
 
-    /// Gives a chunk of so many words, four of them the segment's own, to an owner. None exactly where no free chunk has so many.
+    /// Gives a chunk of so many words, four of them the segment's own, to an owner. None exactly where no free chunk has so many. They
+    /// come from an end of one free chunk, so the largest one gets smaller by so many at most.
     pub fn take(&mut self, words: u32, owner: u16) -> Option<Addr>
         requires some { HEADER ≤ words }
         requires owner { 0 < owner }
         ensures taken { IfSome result (λ at. IsTaken (chunk_at self.old) (chunk_at self.new) at.place owner words) }
         ensures free { IfSome result (λ at. free_of self.new + words ≡ free_of self.old) }
         ensures room { IfSome result (λ at. words ≤ largest_of self.old) }
+        ensures largest { IfSome result (λ at. largest_of self.old ≤ largest_of self.new + words) }
         ensures none { IfNone result ((largest_of self.old < words) × (self.new ≡ self.old)) }
         ensures size { size_of self.new ≡ size_of self.old }
     {

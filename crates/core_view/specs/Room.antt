@@ -2,6 +2,7 @@
 use Rattle.std.specs.Prelude.{◌≡◌, ℕ, ◌+◌, ◌≤◌, ◌==◌, ◌||◌, ◌++◌, Bool, true, List, [], ◌∷◌, length, Option, None, Some, if◌then◌else◌}
 use Rattle.object_table.specs.declared.entry.Entry.{Entry}
 use Rattle.object_table.specs.Entries.{is_short, is_used, place_of}
+use Rattle.core_segment.specs.declared.segment.TheConstants.{HEADER}
 use Rattle.core_segment.specs.Chunks.{Chunk}
 use Rattle.core_view.specs.Core.{Core}
 use Rattle.core_view.specs.Words.{pointers}
@@ -9,7 +10,7 @@ use Rattle.core_view.specs.Words.{pointers}
 -- the words that a body takes
 abbrev pub room_by : (ℕ → Chunk) → Option ℕ → ℕ
 room_by chunks None = 0
-room_by chunks (Some p) = 4 + length (chunks p).words
+room_by chunks (Some p) = HEADER + length (chunks p).words
 
 abbrev pub room_for : Core → ℕ → ℕ
 room_for c s = room_by c.chunks (place_of (c.entries s).state)

@@ -1,7 +1,7 @@
 -- What the words of a body mean (the LOOM paper's short pointers, and lambdas for fields that have none).
-use Rattle.std.specs.Prelude.{ℕ, ℤ, pos, negsuc, suc, ◌+◌, ◌-◌, ◌/◌, ◌%◌, ◌==◌, nat_lt, List, [], ◌∷◌, take, drop, get_or, if◌then◌else◌}
+use Rattle.std.specs.Prelude.{ℕ, ℤ, pos, negsuc, suc, ◌+◌, ◌-◌, ◌*◌, ◌/◌, ◌%◌, ◌==◌, nat_lt, List, [], ◌∷◌, take, drop, get_or, if◌then◌else◌}
 use Rattle.long_names.specs.Words.{literal_count}
-use Rattle.long_names.specs.declared.limits.TheConstants.{MOST_CODE}
+use Rattle.long_names.specs.declared.limits.TheConstants.{SMALL_INTEGERS, MOST_FIELDS, MOST_CODE}
 use Rattle.long_names.specs.declared.value.Value.{Value}
 use Rattle.long_names.specs.declared.value.Value.TheVariants.{Int, Ref}
 use Rattle.long_names.specs.declared.object.Kind.{Kind}
@@ -14,7 +14,7 @@ use Rattle.object_table.specs.declared.entry.Entry.{Entry}
 
 -- the number of an odd short word: its upper 15 bits in two's complement
 abbrev pub int_of_short : ℕ → ℤ
-int_of_short w = if nat_lt (w / 2) 16384 then pos (w / 2) else negsuc (32767 - w / 2)
+int_of_short w = if nat_lt (w / 2) SMALL_INTEGERS then pos (w / 2) else negsuc (2 * SMALL_INTEGERS - 1 - w / 2)
 
 -- What a short word means at field i of an object whose record has these fields: a number, the name of an entry, or, where it is a
 -- lambda, what the record has there.
@@ -70,9 +70,9 @@ words_for kind.Method len literals = 1 + literals + (len + 1) / 2
 
 -- the most values, words, bytes or code bytes
 abbrev pub most_len : Kind → ℕ
-most_len kind.Pointers = 65535
-most_len kind.Words = 65535
-most_len kind.Bytes = 65535
+most_len kind.Pointers = MOST_FIELDS
+most_len kind.Words = MOST_FIELDS
+most_len kind.Bytes = MOST_FIELDS
 most_len kind.Method = MOST_CODE
 
 -- The body that words are, of so many values, words, bytes or code bytes, where the object's record has these fields.

@@ -13,7 +13,7 @@ ghost use Rattle.leaf_lambda.specs.Parts.{core_of, spare_of, IsParts};
 ghost use Rattle.leaf_lambda.specs.Records.{packed, unresolved, opened};
 
 use crate::parts::Parts;
-use core_segment::{Addr, Segment};
+use core_segment::{Addr, HEADER, Segment};
 use long_names::Kind;
 use object_record::RecordBuf;
 use object_table::{EntryState, Short};
@@ -110,14 +110,15 @@ fn take_filled(g: &mut Segment, words: u32, owner: u16, buf: &RecordBuf) -> Addr
     requires words { words ≡ length (unresolved (raw_of buf.now).body) }
     requires small { words < 2 ^ 17 }
     requires owned { 0 < owner }
-    requires room { words + 4 ≤ largest_of g.old }
+    requires room { words + HEADER ≤ largest_of g.old }
     ensures vacant { (chunk_at g.old result.place).owner ≡ 0 }
     ensures chunk { chunk_at g.new
         ≡ with_chunk (chunk_at g.old) result.place (record { owner = owner; words = unresolved (raw_of buf.now).body }) }
     ensures size { size_of g.new ≡ size_of g.old }
-    ensures free { free_of g.new + words + 4 ≡ free_of g.old }
+    ensures free { free_of g.new + words + HEADER ≡ free_of g.old }
+    ensures largest { largest_of g.old ≤ largest_of g.new + words + HEADER }
 {
-    match g.take(words + 4, owner) {
+    match g.take(words + HEADER, owner) {
         Some(at) => {
             fill(g, at, buf, words);
             at
@@ -131,7 +132,7 @@ pub fn take_body(p: &mut Parts, s: Short, buf: &RecordBuf) -> Addr
     requires parts { IsParts p.old }
     requires record { HasRecord buf.now }
     requires used { is_used ((core_of p.old).entries s.0).state ≡ true }
-    requires room { length (unresolved (raw_of buf.now).body) + 4 ≤ largest_of p.old.segment }
+    requires room { length (unresolved (raw_of buf.now).body) + HEADER ≤ largest_of p.old.segment }
     ensures parts { IsParts p.new }
     ensures moves { IsMove (core_of p.old) (core_of p.new) }
     ensures same_names { p.new.names ≡ p.old.names }
@@ -139,7 +140,8 @@ pub fn take_body(p: &mut Parts, s: Short, buf: &RecordBuf) -> Addr
     ensures core { core_of p.new
         ≡ with_chunk_at (core_of p.old) result.place (record { owner = s.0; words = unresolved (raw_of buf.now).body }) }
     ensures size { size_of p.new.segment ≡ size_of p.old.segment }
-    ensures free { free_of p.new.segment + length (unresolved (raw_of buf.now).body) + 4 ≡ free_of p.old.segment }
+    ensures free { free_of p.new.segment + length (unresolved (raw_of buf.now).body) + HEADER ≡ free_of p.old.segment }
+    ensures largest { largest_of p.old.segment ≤ largest_of p.new.segment + length (unresolved (raw_of buf.now).body) + HEADER }
 {
     let words = words_of(buf);
     take_filled(&mut p.segment, words, s.0, buf)

@@ -1,6 +1,7 @@
 // Bodies that go: an object is evicted once it is just as its record.
 ghost use Rattle.std.specs.Prelude.{◌≡◌, ◌+◌, ◌<◌, ◌≤◌, ◌^◌, ℕ, Some, None, false, length, replicate, slice_set};
 ghost use Rattle.object_table.specs.Entries.{place_of, with_refs};
+ghost use Rattle.core_segment.specs.declared.segment.TheConstants.{HEADER};
 ghost use Rattle.core_segment.specs.Chunks.{no_chunk, with_chunk};
 ghost use Rattle.core_segment.specs.Segment.{chunk_at, size_of, free_of, largest_of, SameRoom};
 ghost use Rattle.core_view.specs.Core.{with_entry, with_chunk_at};
@@ -98,8 +99,8 @@ fn close_body(p: &mut Parts, s: Short, at: Addr)
 fn free_chunk(g: &mut Segment, at: Addr)
     requires { 0 < (chunk_at g.old at.place).owner }
     ensures chunks { chunk_at g.new ≡ with_chunk (chunk_at g.old) at.place no_chunk }
-    ensures free { free_of g.new ≡ free_of g.old + 4 + length (chunk_at g.old at.place).words }
-    ensures largest { (largest_of g.old ≤ largest_of g.new) × (4 + length (chunk_at g.old at.place).words ≤ largest_of g.new) }
+    ensures free { free_of g.new ≡ free_of g.old + HEADER + length (chunk_at g.old at.place).words }
+    ensures largest { (largest_of g.old ≤ largest_of g.new) × (HEADER + length (chunk_at g.old at.place).words ≤ largest_of g.new) }
     ensures size { size_of g.new ≡ size_of g.old }
 {
     g.give(at);
@@ -115,9 +116,9 @@ fn give_chunk(p: &mut Parts, at: Addr)
     ensures same_names { p.new.names ≡ p.old.names }
     ensures core { core_of p.new ≡ with_chunk_at (core_of p.old) at.place no_chunk }
     ensures size { size_of p.new.segment ≡ size_of p.old.segment }
-    ensures free { free_of p.new.segment ≡ free_of p.old.segment + 4 + length ((core_of p.old).chunks at.place).words }
+    ensures free { free_of p.new.segment ≡ free_of p.old.segment + HEADER + length ((core_of p.old).chunks at.place).words }
     ensures largest { (largest_of p.old.segment ≤ largest_of p.new.segment)
-        × (4 + length ((core_of p.old).chunks at.place).words ≤ largest_of p.new.segment) }
+        × (HEADER + length ((core_of p.old).chunks at.place).words ≤ largest_of p.new.segment) }
 {
     free_chunk(&mut p.segment, at);
 }
@@ -168,9 +169,9 @@ pub fn drop_body(p: &mut Parts, s: Short)
     ensures spare { spare_of p.new ≡ spare_of p.old }
     ensures size { size_of p.new.segment ≡ size_of p.old.segment }
     ensures free { (at : ℕ) → place_of ((core_of p.old).entries s.0).state ≡ Some at
-        → free_of p.new.segment ≡ free_of p.old.segment + 4 + length ((core_of p.old).chunks at).words }
+        → free_of p.new.segment ≡ free_of p.old.segment + HEADER + length ((core_of p.old).chunks at).words }
     ensures largest { (at : ℕ) → place_of ((core_of p.old).entries s.0).state ≡ Some at → (largest_of p.old.segment ≤ largest_of p.new.segment)
-        × (4 + length ((core_of p.old).chunks at).words ≤ largest_of p.new.segment) }
+        × (HEADER + length ((core_of p.old).chunks at).words ≤ largest_of p.new.segment) }
 {
     let at = place_of_body(p, s);
     let count = field_total(p, s, at);

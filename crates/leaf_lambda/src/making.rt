@@ -20,7 +20,7 @@ use crate::fields::{is_name, words_mean_values};
 use crate::merge::literals_by;
 use crate::parts::Parts;
 use crate::steps::{grip, leaf};
-use core_segment::{Addr, Segment};
+use core_segment::{Addr, HEADER, Segment};
 use long_names::{Kind, Name};
 use object_table::{EntryState, Short};
 
@@ -127,14 +127,15 @@ fn take_filled_new(
     requires words { words ≡ length (words_new kind len header filler) }
     requires small { words < 2 ^ 17 }
     requires owned { 0 < owner }
-    requires room { words + 4 ≤ largest_of g.old }
+    requires room { words + HEADER ≤ largest_of g.old }
     ensures vacant { (chunk_at g.old result.place).owner ≡ 0 }
     ensures chunk { chunk_at g.new
         ≡ with_chunk (chunk_at g.old) result.place (record { owner = owner; words = words_new kind len header filler }) }
     ensures size { size_of g.new ≡ size_of g.old }
-    ensures free { free_of g.new + words + 4 ≡ free_of g.old }
+    ensures free { free_of g.new + words + HEADER ≡ free_of g.old }
+    ensures largest { largest_of g.old ≤ largest_of g.new + words + HEADER }
 {
-    match g.take(words + 4, owner) {
+    match g.take(words + HEADER, owner) {
         Some(at) => {
             fill_new(g, at, kind, len, header, filler, words);
             at
@@ -148,7 +149,7 @@ pub fn take_new(p: &mut Parts, s: Short, kind: Kind, len: u32, header: u16, fill
     requires parts { IsParts p.old }
     requires used { is_used ((core_of p.old).entries s.0).state ≡ true }
     requires len { len ≤ most_len kind }
-    requires room { words_for kind len (literal_count (int_of_short header)) + 4 ≤ largest_of p.old.segment }
+    requires room { words_for kind len (literal_count (int_of_short header)) + HEADER ≤ largest_of p.old.segment }
     ensures parts { IsParts p.new }
     ensures moves { IsMove (core_of p.old) (core_of p.new) }
     ensures same_names { p.new.names ≡ p.old.names }
@@ -156,7 +157,8 @@ pub fn take_new(p: &mut Parts, s: Short, kind: Kind, len: u32, header: u16, fill
     ensures core { core_of p.new
         ≡ with_chunk_at (core_of p.old) result.place (record { owner = s.0; words = words_new kind len header filler }) }
     ensures size { size_of p.new.segment ≡ size_of p.old.segment }
-    ensures free { free_of p.new.segment + words_for kind len (literal_count (int_of_short header)) + 4 ≡ free_of p.old.segment }
+    ensures free { free_of p.new.segment + words_for kind len (literal_count (int_of_short header)) + HEADER ≡ free_of p.old.segment }
+    ensures largest { largest_of p.old.segment ≤ largest_of p.new.segment + words_for kind len (literal_count (int_of_short header)) + HEADER }
 {
     let words = size_new(kind, len, header);
     take_filled_new(&mut p.segment, words, s.0, kind, len, header, filler)
@@ -200,7 +202,7 @@ pub fn make_body(
     requires filler { is_short filler ≡ true → is_used ((core_of p.old).entries filler).state ≡ true }
     requires some { filler ≢ 0 }
     requires len { len ≤ most_len kind }
-    requires room { words_for kind len (literal_count (int_of_short header)) + 4 ≤ largest_of p.old.segment }
+    requires room { words_for kind len (literal_count (int_of_short header)) + HEADER ≤ largest_of p.old.segment }
     ensures parts { IsParts p.new }
     ensures within { IsWithin s.0 (core_of p.old) (core_of p.new) }
     ensures body { (at : ℕ) × IsMade s.0 class.0 at kind len header filler (core_of p.old) (core_of p.new) }
@@ -214,7 +216,8 @@ pub fn make_body(
     ensures valued { (disk : Store) → IsBacked (core_of p.old) disk → IsValued (held (core_of p.old) disk) → IsValued (held (core_of p.new) disk) }
     ensures spare { spare_of p.new ≡ spare_of p.old }
     ensures size { size_of p.new.segment ≡ size_of p.old.segment }
-    ensures free { free_of p.new.segment + words_for kind len (literal_count (int_of_short header)) + 4 ≡ free_of p.old.segment }
+    ensures free { free_of p.new.segment + words_for kind len (literal_count (int_of_short header)) + HEADER ≡ free_of p.old.segment }
+    ensures largest { largest_of p.old.segment ≤ largest_of p.new.segment + words_for kind len (literal_count (int_of_short header)) + HEADER }
 {
     // What the filler means is a value, for `valued`.
     words_mean_values(p, filler);
@@ -233,7 +236,7 @@ fn one_making(p: &mut Parts, name: Name, class: Short, nil: Short, len: u32) -> 
     requires class { is_used ((core_of p.old).entries class.0).state ≡ true }
     requires nil { (is_used ((core_of p.old).entries nil.0).state ≡ true) × (((core_of p.old).entries nil.0).name ≡ NIL) }
     requires len { len < 65536 }
-    requires room { len + 4 ≤ largest_of p.old.segment }
+    requires room { len + HEADER ≤ largest_of p.old.segment }
     ensures held { IfSome result (λ s. (disk : Store) → IsBacked (core_of p.old) disk →
         held (core_of p.new) disk ≡ put (held (core_of p.old) disk) name (Some (record {
           class = ((core_of p.old).entries class.0).name;

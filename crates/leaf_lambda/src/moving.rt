@@ -17,6 +17,8 @@ pub fn compact_one(p: &mut Parts) -> bool
     ensures moves { IsMove (core_of p.old) (core_of p.new) }
     ensures stays { Stays (core_of p.old) (core_of p.new) }
     ensures done { result ≡ false → largest_of p.new.segment ≡ free_of p.new.segment }
+    ensures same { result ≡ false → core_of p.new ≡ core_of p.old }
+    ensures many { result ≡ true → largest_of p.old.segment < free_of p.old.segment }
     ensures less { result ≡ true → work_of p.new.segment < work_of p.old.segment }
     ensures free { free_of p.new.segment ≡ free_of p.old.segment }
     ensures size { size_of p.new.segment ≡ size_of p.old.segment }

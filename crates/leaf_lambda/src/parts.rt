@@ -1,9 +1,11 @@
 // The parts of a core, made and asked.
-ghost use Rattle.std.specs.Prelude.{◌≡◌, ◌↔◌, ◌<◌, ◌≤◌, ◌^◌, ℕ, IfOk, IsTrue, Some, None, true};
+ghost use Rattle.std.specs.Prelude.{◌≡◌, ◌↔◌, ◌<◌, ◌≤◌, ℕ, IfOk, IsTrue, Some, None, true};
 ghost use Rattle.long_names.specs.Record.{kind_number};
 ghost use Rattle.object_record.specs.Buffer.{HasRecord};
+ghost use Rattle.object_table.specs.declared.table.TheConstants.{MOST_ENTRIES};
 ghost use Rattle.object_table.specs.Entries.{is_used, place_of};
 ghost use Rattle.object_table.specs.Table.{entries_of};
+ghost use Rattle.core_segment.specs.declared.segment.TheConstants.{HEADER, MOST_WORDS};
 ghost use Rattle.core_segment.specs.Segment.{size_of, free_of, largest_of};
 ghost use Rattle.core_view.specs.Held.{Disk as Store, held};
 ghost use Rattle.core_view.specs.Counts.{outside};
@@ -29,9 +31,9 @@ pub struct Parts {
 impl Parts {
     /// A core of so many words and entries, which knows no object.
     pub fn new(alloc: Global, words: u32, entries: u16) -> Result<Parts, AllocError>
-        requires some { 4 ≤ words }
-        requires most { words ≤ 2 ^ 24 }
-        requires few { entries ≤ 32767 }
+        requires some { HEADER ≤ words }
+        requires most { words ≤ MOST_WORDS }
+        requires few { entries ≤ MOST_ENTRIES }
         ensures parts { IfOk result IsParts }
         ensures held { IfOk result (λ p. (disk : Store) → IsBacked (core_of p) disk × (held (core_of p) disk ≡ disk)) }
         ensures outside { IfOk result (λ p. (t : ℕ) → outside (core_of p) t ≡ 0) }

@@ -13,6 +13,7 @@ ghost use Rattle.core_view.specs.Held.{Disk as Store, fields_there};
 ghost use Rattle.core_view.specs.Counts.{names, holders, IsLight};
 ghost use Rattle.core_view.specs.Kept.{IsBacked, Keeps};
 ghost use Rattle.core_view.specs.Steps.{IsAt};
+ghost use Rattle.core_segment.specs.declared.segment.TheConstants.{HEADER};
 ghost use Rattle.core_segment.specs.Segment.{size_of, free_of, largest_of, SameRoom};
 ghost use Rattle.leaf_lambda.specs.Parts.{core_of, spare_of, leaves_for, IsParts, IsHolding, IsNaming, IsWithin, IsSparing};
 ghost use Rattle.leaf_lambda.specs.declared.translate.TheConstants.{RESERVE as LEAST};
@@ -189,7 +190,7 @@ fn open_leaf(p: &mut Parts, s: Short, buf: &RecordBuf) -> Addr
     requires leaf { (is_used ((core_of p.old).entries s.0).state ≡ true) × (place_of ((core_of p.old).entries s.0).state ≡ None) }
     requires record { HasRecord buf.now }
     requires class { leaves_for ((core_of p.old).find (raw_of buf.now).class) ≤ spare_of p.old }
-    requires room { body_words (object_in (raw_of buf.now)).body + 4 ≤ largest_of p.old.segment }
+    requires room { body_words (object_in (raw_of buf.now)).body + HEADER ≤ largest_of p.old.segment }
     ensures parts { IsParts p.new }
     ensures keeps { KeepsRecord (core_of p.old) (core_of p.new) s.0 buf.now }
     ensures within { IsWithin s.0 (core_of p.old) (core_of p.new) }
@@ -201,7 +202,8 @@ fn open_leaf(p: &mut Parts, s: Short, buf: &RecordBuf) -> Addr
     ensures cost { spare_of p.new ≤ spare_of p.old
         × (spare_of p.old ≤ spare_of p.new + leaves_for ((core_of p.old).find (raw_of buf.now).class)) }
     ensures size { size_of p.new.segment ≡ size_of p.old.segment }
-    ensures free { free_of p.new.segment + body_words (object_in (raw_of buf.now)).body + 4 ≡ free_of p.old.segment }
+    ensures free { free_of p.new.segment + body_words (object_in (raw_of buf.now)).body + HEADER ≡ free_of p.old.segment }
+    ensures largest { largest_of p.old.segment ≤ largest_of p.new.segment + body_words (object_in (raw_of buf.now)).body + HEADER }
 {
     let class = hold_class(p, buf);
     let at = take_body(p, s, buf);
@@ -218,7 +220,7 @@ pub fn translate_in(p: &mut Parts, s: Short, buf: &mut RecordBuf)
     requires leaf { (is_used ((core_of p.old).entries s.0).state ≡ true) × (place_of ((core_of p.old).entries s.0).state ≡ None) }
     requires record { HasRecord buf.old }
     requires class { leaves_for ((core_of p.old).find (raw_of buf.old).class) ≤ spare_of p.old }
-    requires room { body_words (object_in (raw_of buf.old)).body + 4 ≤ largest_of p.old.segment }
+    requires room { body_words (object_in (raw_of buf.old)).body + HEADER ≤ largest_of p.old.segment }
     ensures parts { IsParts p.new }
     ensures keeps { KeepsRecord (core_of p.old) (core_of p.new) s.0 buf.old }
     ensures within { IsWithin s.0 (core_of p.old) (core_of p.new) }
@@ -233,7 +235,8 @@ pub fn translate_in(p: &mut Parts, s: Short, buf: &mut RecordBuf)
     ensures cost { spare_of p.old
         ≤ spare_of p.new + leaves_for ((core_of p.old).find (raw_of buf.old).class) + length (longs_of (raw_of buf.old).body) }
     ensures size { size_of p.new.segment ≡ size_of p.old.segment }
-    ensures free { free_of p.new.segment + body_words (object_in (raw_of buf.old)).body + 4 ≡ free_of p.old.segment }
+    ensures free { free_of p.new.segment + body_words (object_in (raw_of buf.old)).body + HEADER ≡ free_of p.old.segment }
+    ensures largest { largest_of p.old.segment ≤ largest_of p.new.segment + body_words (object_in (raw_of buf.old)).body + HEADER }
     ensures same { buf.new ≡ buf.old }
 {
     let at = open_leaf(p, s, buf);
@@ -242,7 +245,7 @@ pub fn translate_in(p: &mut Parts, s: Short, buf: &mut RecordBuf)
 }
 
 /// The long word that the lambda of field `i` means, from the object's record. From here on the field has the short name of its target,
-/// where that has an entry or more than [`RESERVE`] entries are free.
+/// where that has an entry or more than [`RESERVE`] entries are free. Each other field keeps its word.
 pub fn resolve(p: &mut Parts, s: Short, buf: &mut RecordBuf, i: u32) -> u32
     requires parts { IsParts p.old }
     requires light { IsLight (core_of p.old) }
@@ -255,6 +258,9 @@ pub fn resolve(p: &mut Parts, s: Short, buf: &mut RecordBuf, i: u32) -> u32
     ensures within { IsWithin s.0 (core_of p.old) (core_of p.new) }
     ensures naming { IsNaming (core_of p.old) (core_of p.new) }
     ensures entry { (core_of p.new).entries s.0 ≡ with_refs ((core_of p.old).entries s.0) ((core_of p.new).entries s.0).refs }
+    ensures fields { (at : ℕ) → place_of ((core_of p.old).entries s.0).state ≡ Some at → (w : ℕ)
+        × (let k = ((core_of p.old).entries s.0).kind in
+        pointers k ((core_of p.new).chunks at).words ≡ slice_set (pointers k ((core_of p.old).chunks at).words) i w) }
     ensures lambda { (at : ℕ) → IsAt (core_of p.new) s.0 at i 0 → MayBeLambda (core_of p.old).find (spare_of p.old) (read_value result) }
     ensures sparing { IsSparing p.old p.new }
     ensures cost { spare_of p.old ≤ spare_of p.new + 1 }

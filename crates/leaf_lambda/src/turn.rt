@@ -5,6 +5,7 @@ ghost use Rattle.object_record.specs.Raw.{longs_of};
 ghost use Rattle.object_record.specs.Buffer.{raw_of};
 ghost use Rattle.object_record.specs.Objects.{object_in};
 ghost use Rattle.object_table.specs.Entries.{is_used, place_of};
+ghost use Rattle.core_segment.specs.declared.segment.TheConstants.{HEADER};
 ghost use Rattle.core_segment.specs.Segment.{largest_of};
 ghost use Rattle.core_view.specs.Held.{Disk as Store, held};
 ghost use Rattle.core_view.specs.Counts.{IsLight};
@@ -28,7 +29,7 @@ fn one_turn(p: &mut Parts, s: Short, buf: &mut RecordBuf, i: u32, w: u16)
     requires light { IsLight (core_of p.old) }
     requires leaf { (is_used ((core_of p.old).entries s.0).state ≡ true) × (place_of ((core_of p.old).entries s.0).state ≡ None) }
     requires class { leaves_for ((core_of p.old).find (raw_of buf.old).class) ≤ spare_of p.old }
-    requires room { body_words (object_in (raw_of buf.old)).body + 4 ≤ largest_of p.old.segment }
+    requires room { body_words (object_in (raw_of buf.old)).body + HEADER ≤ largest_of p.old.segment }
     requires told { IsTold (core_of p.old) s.0 buf.old }
     requires field { i < length (longs_of (raw_of buf.old).body) }
     requires number { w % 2 ≡ 1 }

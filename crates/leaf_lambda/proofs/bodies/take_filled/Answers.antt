@@ -23,3 +23,6 @@ returns-clause-chunk c =
     ∙ ap (λ (x : Chunk). with_chunk (chunk_at c.take.new.self) c.in-Some.at.place (record { owner = x.owner; words = unresolved (raw_of c.args.buf.now).body })) here
     ∙ ap (λ (f : ℕ → Chunk). with_chunk f c.in-Some.at.place (record { owner = c.args.owner; words = unresolved (raw_of c.args.buf.now).body })) c.in-Some.ensures.taken.chunks
     ∙ put-twice (chunk_at c.args.g.now) c.in-Some.at.place (record { owner = c.args.owner; words = c.in-Some.ensures.taken.text }) (record { owner = c.args.owner; words = unresolved (raw_of c.args.buf.now).body })
+
+pub returns-clause-largest : goal.returns-clause-largest
+returns-clause-largest c = let took = c.in-Some.ensures.largest in let same = c.fill.ensures.room.largest in omega arith

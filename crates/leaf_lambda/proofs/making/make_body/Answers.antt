@@ -1,4 +1,5 @@
-use Rattle.std.proofs.Common.{ℕ, subst}
+use Rattle.std.proofs.Common.{ℕ, ◌≡◌, ap, arith, subst}
+use Rattle.core_segment.specs.Segment.{largest_of}
 use Rattle.leaf_lambda.specs.Parts.{core_of}
 use Rattle.leaf_lambda.specs.Making.{IsHoldingMany, IsMade}
 use Rattle.std.specs.Prelude.{[]}
@@ -63,3 +64,11 @@ returns-clause-held c = λ disk backed. make-held (core_of c.args.p.now) (core_o
 pub returns-clause-valued : goal.returns-clause-valued
 returns-clause-valued c = λ disk backed. new-valued (held (core_of c.args.p.now) disk) (held (core_of c.open_new.new.p) disk) ((core_of c.args.p.now).entries c.args.s.0).name ((core_of c.args.p.now).entries c.args.class.0).name c.args.kind c.args.len c.args.header (meant (core_of c.args.p.now).entries [] 0 c.args.filler)
     (returns-clause-held c disk backed) c.words_mean_values.ensures
+
+pub returns-clause-largest : goal.returns-clause-largest
+returns-clause-largest c =
+    let held : largest_of c.grip.new.p.segment ≡ largest_of c.args.p.now.segment = ap largest_of c.grip.ensures.segment in
+    let first : largest_of c.hold_many.new.p.segment ≡ largest_of c.grip.new.p.segment = ap largest_of c.hold_many.ensures.segment in
+    let took = c.take_new-at.ensures.largest in
+    let last : largest_of c.open_new.new.p.segment ≡ largest_of c.take_new-at.new.p.segment = ap largest_of c.open_new.ensures.segment in
+    omega arith

@@ -35,3 +35,6 @@ returns-clause-core c = taken c
 pub returns-clause-vacant : goal.returns-clause-vacant
 unfolding core_of
 returns-clause-vacant c = c.take_filled_new.ensures.vacant
+
+pub returns-clause-largest : goal.returns-clause-largest
+returns-clause-largest c = let took = c.take_filled_new.ensures.largest in let words = c.size_new-words.ensures in omega arith

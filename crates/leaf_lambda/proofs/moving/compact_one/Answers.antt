@@ -62,3 +62,7 @@ returns-in-None-clause-stays c = move-stays (core_of c.args.p.now) _ c.requires.
 
 pub returns-in-Some-clause-stays : goal.returns-in-Some-clause-stays
 returns-in-Some-clause-stays c = move-stays (core_of c.args.p.now) _ c.requires.parts.core (returns-in-Some-clause-moves c)
+
+pub returns-in-None-clause-same : goal.returns-in-None-clause-same
+unfolding core_of
+returns-in-None-clause-same c = λ no. ap (λ f. record (core_of c.args.p.now) { chunks = f }) c.in-None.ensures.none.1

@@ -112,3 +112,11 @@ returns-clause-free c =
     let took = c.take_body-at.ensures.free in
     let last : free_of c.open_body.new.p.segment ≡ free_of c.take_body-at.new.p.segment = ap free_of c.open_body.ensures.segment in
     omega arith
+
+pub returns-clause-largest : goal.returns-clause-largest
+returns-clause-largest c =
+    let words = unresolved-words (raw_of c.args.buf.now).body in
+    let first : largest_of c.hold_class-class.new.p.segment ≡ largest_of c.args.p.now.segment = ap largest_of c.hold_class-class.ensures.segment in
+    let took = c.take_body-at.ensures.largest in
+    let last : largest_of c.open_body.new.p.segment ≡ largest_of c.take_body-at.new.p.segment = ap largest_of c.open_body.ensures.segment in
+    omega arith

@@ -43,3 +43,12 @@ returns-clause-lambda c = λ at is.
     ∙ ap (λ (e : Entry). slice_get (pointers e.kind ((core_of c.resolve_field.new.p).chunks c.place_of_body-at.result.place).words) c.args.i) (sym c.resolve_field.ensures.entry)
     ∙ ap (λ (z : ℕ). slice_get (pointers ((core_of c.resolve_field.new.p).entries c.args.s.0).kind ((core_of c.resolve_field.new.p).chunks z).words) c.args.i) (sym same) ∙ is.word in
     c.resolve_field.ensures.lambda (some-same c.resolve_field.result 0 (sym (get-set was c.args.i c.resolve_field.result low) ∙ word))
+
+pub returns-clause-fields : goal.returns-clause-fields
+returns-clause-fields c = λ at place.
+    let k = ((core_of c.args.p.now).entries c.args.s.0).kind in
+    let same : c.place_of_body-at.result.place ≡ at = some-same c.place_of_body-at.result.place at (sym c.place_of_body-at.ensures ∙ place) in (
+      c.resolve_field.result,
+      subst (λ (z : ℕ). pointers k ((core_of c.resolve_field.new.p).chunks z).words ≡ slice_set (pointers k ((core_of c.args.p.now).chunks z).words) c.args.i c.resolve_field.result)
+          same c.resolve_field.ensures.fields,
+    )

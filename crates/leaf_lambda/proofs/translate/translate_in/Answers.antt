@@ -86,3 +86,6 @@ returns-clause-free c = let same = c.resolve_fields.ensures.room.free in let too
 
 pub returns-clause-cost : goal.returns-clause-cost
 returns-clause-cost c = let first = c.open_leaf-at.ensures.cost.1 in let then = c.resolve_fields.ensures.cost in let count = c.field_count-count.ensures in omega arith
+
+pub returns-clause-largest : goal.returns-clause-largest
+returns-clause-largest c = let same = c.resolve_fields.ensures.room.largest in let took = c.open_leaf-at.ensures.largest in omega arith

@@ -22,6 +22,18 @@ overflow_add-place-else-word-eq0 c =
     let size = c.size_at-place.ensures in let small = g.small in
     omega (arith, fits.1)
 
+pub loop-place-smaller : goal.loop-place-smaller
+loop-place-smaller c =
+    let g = c.args.self.now in
+    let region = g.region.items in
+    let sought = c.loop-place.invariant.sought in
+    let low : c.loop-place.place < length region = let a = g.region.ok.0 in let t = c.loop-place-test.true in omega (arith, c.len-size.ensures) in
+    let word : c.index-word.result.now ≡ word_at region c.loop-place.place = read region c.loop-place.place c.index-word.result.now low c.index-word.ensures in
+    let used : word_at region c.loop-place.place ≢ 0 = λ e. c.if-word-eq0.false (word ∙ e) in
+    let fits = chunk-within region (spans_of region) sought.index c.loop-place.place g.whole.laid g.whole.headed sought.at used in
+    let size = c.size_at-place.ensures in let some = fits.0 in let t = c.loop-place-test.true in
+    omega arith
+
 pub loop-place-preserved : goal.loop-place-preserved
 loop-place-preserved c =
     let g = c.args.self.now in

@@ -1,7 +1,8 @@
-use Rattle.std.proofs.Common.{ℕ, List, length, arith, sym, subst}
-use Rattle.core_segment.specs.Inside.{Span, spans_of}
+use Rattle.std.proofs.Common.{ℕ, ◌≡◌, ◌+◌, ◌≤◌, List, length, arith, sym, subst}
+use Rattle.std.specs.List.{insert}
+use Rattle.core_segment.specs.Inside.{Span, spans_of, end_before, largest_gap}
 use Rattle.core_segment.specs.Segment.{chunks_of, chunk_at, size_of, free_of, largest_of, IsTaken}
-use Rattle.core_segment.proofs.GapLaws.{gap-le, gap-free}
+use Rattle.core_segment.proofs.GapLaws.{gap-le, gap-free, largest-insert}
 use Rattle.core_segment.proofs.RegionLaws.{region-insert}
 use Rattle.core_segment.proofs.ChunkLaws.{chunks}
 use Rattle.core_segment.proofs.TellLaws.{taken}
@@ -41,6 +42,12 @@ invariant_of-self c =
           g.whole gap.1 c.requires.some c.requires.owner c.open.ensures fits c.in_ok-place.ensures.behind).whole;
     }
 
+-- the largest gap, over the chunks and the size that the region has then
+less : (spans now : List Span) (size same k : ℕ) (t : Span) → k ≤ length spans → t.place ≡ end_before spans k → now ≡ insert spans k t → same ≡ size
+    → largest_gap 0 spans size ≤ largest_gap 0 now same + t.len
+less spans now size same k t low at is e = subst (λ (n : ℕ). largest_gap 0 spans size ≤ largest_gap 0 now n + t.len) (sym e)
+    (subst (λ (l : List Span). largest_gap 0 spans size ≤ largest_gap 0 l size + t.len) (sym is) (largest-insert spans size k t low at))
+
 pub returns-clause-taken : goal.returns-clause-taken
 unfolding chunk_at chunks_of
 returns-clause-taken c =
@@ -68,6 +75,18 @@ returns-clause-room c =
     let g = c.args.self.now in
     let gap = c.in_ok-place.ensures.gap in
     gap-le (spans_of g.region.items) (length g.region.items) c.args.words gap.0 c.in_ok-place.place 0 gap.1 (omega arith)
+
+pub returns-clause-largest : goal.returns-clause-largest
+unfolding largest_of
+returns-clause-largest c =
+    let g = c.args.self.now in
+    let spans = spans_of g.region.items in
+    let gap = c.in_ok-place.ensures.gap in
+    let fits = gap-free spans (length g.region.items) g.free c.args.words gap.0 c.in_ok-place.place g.whole.laid g.whole.counted gap.1 in
+    let t = taken_span c.in_ok-place.place c.args.words c.args.owner in
+    let new = region-insert g.region.items c.open.new.region.items spans g.free g.packed g.next gap.0 t
+    g.whole gap.1 c.requires.some c.requires.owner c.open.ensures fits c.in_ok-place.ensures.behind in
+    less spans (spans_of c.open.new.region.items) (length g.region.items) (length c.open.new.region.items) gap.0 t gap.1.among gap.2 new.is c.open.ensures.same_size
 
 pub returns-clause-size : goal.returns-clause-size
 unfolding size_of
