@@ -5,10 +5,10 @@ use Rattle.work_directory.specs.Directory.{slots_of, end_of, IsIn}
 use Rattle.work_directory.specs.Table.{name_at}
 use Rattle.work_directory.specs.Work.{IsCause}
 use Rattle.loom_outside.specs.Work.{work_of}
-use Rattle.work_directory.proofs.CauseLaws.{look-cause, damaged-cause}
+use Rattle.work_directory.proofs.CauseLaws.{look-cause}
 use Rattle.loom_outside.proofs.WorkLaws.{exits, work-same}
 use Rattle.work_directory.proofs.ChangeLaws.{some-empty, one-spelled}
-use Rattle.work_directory.proofs.directory.Directory.search.Goals as goal
+use Rattle.work_directory.proofs.directory.Directory.scan.Goals as goal
 
 pub returns-in_err-slot-clause-cause : goal.returns-in_err-slot-clause-cause
 returns-in_err-slot-clause-cause g c =
@@ -24,16 +24,11 @@ returns-in_err-slot-clause-cause g c =
     c.in_err-slot.ensures.cause)
 
 -- a directory has an empty slot, so the search doesn't come round
-pub returns-clause-cause : goal.returns-clause-cause
-returns-clause-cause g c =
-    let h = g.H.Host in
+pub returns-clause-some : goal.returns-clause-some
+returns-clause-some g c = λ told.
+    let w = work_of g.H.Host c.args.host.now in
     let d = c.args.self.now in
-    let n : c.slots-slots.result ≡ slots_of d = c.slots-slots.ensures.value in
-    let within : c.turn.result < slots_of d = let l = c.turn.ensures.within in omega (arith, l, n) in
-    damaged-cause h c.args.host.now c.loop-step.host (slots_of d) c.turn.result c.args.name c.damaged.result c.damaged.ensures within
-    (λ told.
-    let w = work_of h c.args.host.now in
-    let all : c.loop-step.step ≡ slots_of d = let low = c.loop-step-test.false in let high = c.loop-step.auto.step-end in omega
-    (arith, n, low, high) in
-    not_all_passed (name_at w) (slots_of d) c.args.name (some-empty d w (c.requires.stands told))
+    let all : c.loop-step.step ≡ slots_of d = let n = c.slots-slots.ensures.value in let low = c.loop-step-test.false in let high = c.loop-step.auto.step-end in
+    omega (arith, n, low, high) in
+    absurd (not_all_passed (name_at w) (slots_of d) c.args.name (some-empty d w (c.requires.stands told))
     (subst (λ (k : ℕ). IsPassed (name_at w) (slots_of d) c.args.name k) all (c.loop-step.invariant.passed told)))
