@@ -117,6 +117,7 @@ impl<'h, H: Host> DiskObjects<'h, H> {
             disk_held self.old.rest ≡ disk_room self.old.rest → map.get objects (raw_of buf.now).name ≡ None → IsErr result }
         ensures stored { IsTrue (H.tells Role.Work) → OnOk result (PutsObject H.Host self.old.host.now self.new.host.now self.old.rest self.new.rest (raw_of buf.now) count) }
         ensures held { OnOk result ((disk_held self.new.rest ≡ disk_held self.old.rest) ⊎ (disk_held self.new.rest ≡ disk_held self.old.rest + 1)) }
+        ensures failed { OnErr result (disk_held self.new.rest ≡ disk_held self.old.rest) }
         ensures room { disk_room self.new.rest ≡ disk_room self.old.rest }
         ensures work { IsWorkOnly H.Host self.old.host.now self.new.host.now }
         ensures same_host { self.new.host.ghost_name ≡ self.old.host.ghost_name }
@@ -166,6 +167,7 @@ impl<'h, H: Host> DiskObjects<'h, H> {
             OnOk result (IsDisk self.new.rest (work_of H.Host self.new.host.now) (map.remove objects name) pending) }
         ensures gone { IsTrue (H.tells Role.Work) → OnOk result (RemovesObject H.Host self.old.host.now self.new.host.now self.old.rest self.new.rest name) }
         ensures held { OnOk result (disk_held self.new.rest + 1 ≡ disk_held self.old.rest) }
+        ensures failed { OnErr result ((disk_held self.new.rest ≡ disk_held self.old.rest) ⊎ (disk_held self.new.rest + 1 ≡ disk_held self.old.rest)) }
         ensures room { disk_room self.new.rest ≡ disk_room self.old.rest }
         ensures work { IsWorkOnly H.Host self.old.host.now self.new.host.now }
         ensures same_host { self.new.host.ghost_name ≡ self.old.host.ghost_name }

@@ -1,5 +1,5 @@
 // What is known of a disk without its host, and what each call does with a host.
-ghost use Rattle.std.specs.Prelude.{◌≡◌, ◌≢◌, ◌<◌, ◌≤◌, ◌^◌, ◌+ℤ◌, ℕ, List, [], ◌∷◌, pos, unsigned_abs, Option, None, Some, IsSome, IsTrue, IfSome, IfOk, IfErr, IsErr, OnOk, option_map, ◌⊎◌, ◌+◌, ◌*◌};
+ghost use Rattle.std.specs.Prelude.{◌≡◌, ◌≢◌, ◌<◌, ◌≤◌, ◌^◌, ◌+ℤ◌, ℕ, List, [], ◌∷◌, pos, unsigned_abs, Option, None, Some, IsSome, IsTrue, IfSome, IfOk, IfErr, IsErr, OnOk, OnErr, option_map, ◌⊎◌, ◌+◌, ◌*◌};
 ghost use Rattle.std.specs.FinMap as map;
 ghost use Rattle.std.specs.Int.{FitsUnsigned, w64};
 ghost use Rattle.std.specs.Option.{SomeIff};
@@ -305,6 +305,7 @@ impl DiskRest {
         ensures put { IsTrue (H.tells Role.Work) → (objects : Objects) (pending : List ℕ) → IsDisk self.old (work_of H.Host host.old) objects pending →
             OnOk result (IsDisk self.new (work_of H.Host host.new) (map.insert objects (raw_of buf.now).name (object_of (raw_of buf.now) count)) pending) }
         ensures held { OnOk result (disk_held self.new ≡ disk_held self.old + 1) }
+        ensures failed { OnErr result (disk_held self.new ≡ disk_held self.old) }
         ensures room { disk_room self.new ≡ disk_room self.old }
         ensures work { IsWorkOnly H.Host host.old host.new }
         ensures fault { IfErr result (IsStepFault (H.tells Role.Work) (H.faults host.old Role.Work) (H.faults host.new Role.Work) self.old (raw_of buf.now)) }
@@ -379,6 +380,7 @@ impl DiskRest {
         ensures full { IsTrue (H.tells Role.Work) → (objects : Objects) (pending : List ℕ) → IsDisk self.old (work_of H.Host host.old) objects pending →
             disk_held self.old ≡ disk_room self.old → map.get objects (raw_of buf.now).name ≡ None → IsErr result }
         ensures held { OnOk result ((disk_held self.new ≡ disk_held self.old) ⊎ (disk_held self.new ≡ disk_held self.old + 1)) }
+        ensures failed { OnErr result (disk_held self.new ≡ disk_held self.old) }
         ensures room { disk_room self.new ≡ disk_room self.old }
         ensures work { IsWorkOnly H.Host host.old host.new }
         ensures fault { IfErr result (IsPutFault H.Host host.old host.new self.old self.new (raw_of buf.now)) }
@@ -403,6 +405,7 @@ impl DiskRest {
         ensures removed { IsTrue (H.tells Role.Work) → (objects : Objects) (pending : List ℕ) → IsDisk self.old (work_of H.Host host.old) objects pending →
             IsIdle name objects pending → OnOk result (IsDisk self.new (work_of H.Host host.new) (map.remove objects name) pending) }
         ensures held { OnOk result (disk_held self.new + 1 ≡ disk_held self.old) }
+        ensures failed { OnErr result ((disk_held self.new ≡ disk_held self.old) ⊎ (disk_held self.new + 1 ≡ disk_held self.old)) }
         ensures room { disk_room self.new ≡ disk_room self.old }
         ensures work { IsWorkOnly H.Host host.old host.new }
         ensures fault { IfErr result (IsFault (H.tells Role.Work) (H.faults host.old Role.Work) (H.faults host.new Role.Work) (IsReadPlace self.old) name) }

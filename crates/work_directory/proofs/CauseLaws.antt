@@ -1,14 +1,23 @@
 -- Why calls failed, from why the calls inside them did.
-use Rattle.std.proofs.Common.{◌≡◌, ℕ, ◌*◌, ◌<◌, ◌≤◌, Some, None, IsTrue, refl, sym, subst, arith}
+use Rattle.std.proofs.Common.{◌≡◌, ℕ, ◌*◌, ◌<◌, ◌≤◌, Option, Some, None, IsTrue, IsSome, IfErr, refl, sym, subst, arith}
 use Rattle.loom_outside.proofs.WorkLaws.{failed-later}
 use Rattle.loom_outside.specs.declared.outside.Host.{Ghosts}
 use Rattle.loom_outside.specs.declared.outside.Role.TheVariants.{Work as OfWork}
 use Rattle.loom_outside.specs.declared.outside.DiskFault.{DiskFault}
 use Rattle.loom_outside.specs.declared.outside.DiskFault.TheVariants.{Work, Full, Damaged}
-use Rattle.work_directory.specs.Inside.{IsLookCause, IsWriteCause}
+use Rattle.std.proofs.lemmas.Bool.Decides.{nat_tests}
+use Rattle.probing.specs.Table.{turned}
+use Rattle.work_directory.specs.declared.directory.Found.{Found}
+use Rattle.work_directory.specs.declared.limits.TheConstants.{SLOT_BYTES}
+use Rattle.work_directory.specs.Inside.{IsLookCause, IsWriteCause, last_slot, search_end}
 use Rattle.work_directory.specs.Slots.{bytes_of, IsSpelled}
 use Rattle.work_directory.specs.Work.{IsDamaged, IsCause, IsSlotCause}
 use Rattle.loom_outside.specs.Work.{work_of}
+
+-- the slot that a search reads last is one of them
+pub last-within : (n name : ℕ) → 0 < n → last_slot n name < n
+unfolding turned
+last-within n name some = grind (arith, nat_tests)
 
 module _ {H : Type 0} (host : Ghosts H) where
   -- damage at a slot, over a host that doesn't tell Work
@@ -46,3 +55,9 @@ module _ {H : Type 0} (host : Ghosts H) where
   slot-cause a b i (Work count) spelled f = f
   slot-cause a b i (Full held room) spelled f = f
   slot-cause a b i (Damaged place about) spelled f = ((λ told. f.0 told (spelled told)), f.1)
+
+  -- a search that met no empty slot, over a host that doesn't tell Work
+  pub end-cause : (a c : H) (n name : ℕ) (found : Option Found) → 0 < n → (IsTrue (host.tells OfWork) → IsSome found)
+      → IfErr (search_end found name n) (IsCause host a c (SLOT_BYTES * n) name)
+  end-cause a c n name (Some found) some is = tt
+  end-cause a c n name None some is = damaged-cause a c n (last_slot n name) name _ refl (last-within n name some) (λ told. cc (is told))

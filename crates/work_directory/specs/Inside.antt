@@ -1,10 +1,12 @@
 -- What the functions inside say of written slots and of closing up.
-use Rattle.std.specs.Prelude.{◌≡◌, ℕ, ◌*◌, List, Option, IfSome, IsTrue}
+use Rattle.std.specs.Prelude.{◌≡◌, ℕ, ◌*◌, ◌-◌, List, Option, None, Some, Result, Ok, Err, IfSome, IsTrue}
 use Rattle.loom_outside.specs.declared.outside.Host.{Ghosts}
 use Rattle.loom_outside.specs.declared.outside.Role.TheVariants.{Work as OfWork}
 use Rattle.loom_outside.specs.declared.outside.DiskFault.{DiskFault}
 use Rattle.loom_outside.specs.declared.outside.DiskFault.TheVariants.{Work, Full, Damaged}
 use Rattle.probing.specs.Search.{Puts, IsClosedUp}
+use Rattle.probing.specs.Table.{home_of, turned}
+use Rattle.work_directory.specs.declared.directory.Found.{Found}
 use Rattle.work_directory.specs.declared.slot.Slot.{Slot}
 use Rattle.work_directory.specs.declared.limits.TheConstants.{SLOT_BYTES}
 use Rattle.work_directory.specs.Slots.{slot_at, bytes_of, IsSpelled, AreSpelled}
@@ -36,3 +38,12 @@ abbrev pub IsWriteCause : {H : Type 0} → Ghosts H → H → H → DiskFault �
 IsWriteCause host old new (Work count) = HasFailed host old new count
 IsWriteCause host old new (Full held room) = ⊥
 IsWriteCause host old new (Damaged place about) = ⊥
+
+-- the slot that a search for a name among n slots reads last: the one before its home, around the end
+abbrev pub last_slot : ℕ → ℕ → ℕ
+last_slot n name = turned (home_of name n) (n - 1) n
+
+-- where a search through all n slots ended; where it met no empty slot, damage is told of the one that it read last
+abbrev pub search_end : Option Found → ℕ → ℕ → Result Found DiskFault
+search_end (Some found) name n = Ok found
+search_end None name n = Err (Damaged (SLOT_BYTES * last_slot n name) name)

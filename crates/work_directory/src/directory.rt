@@ -1,5 +1,6 @@
 // A map from names to counts and places. What stands in Work behind its slots stays as it is.
-ghost use Rattle.std.specs.Prelude.{◌<◌, ◌≤◌, ◌*◌};
+ghost use Rattle.std.specs.Prelude.{◌≡◌, ◌<◌, ◌≤◌, ◌*◌, ◌^◌};
+ghost use Rattle.work_directory.specs.Inside.{search_end};
 ghost use Rattle.work_directory.specs.declared.limits.TheConstants.{MOST_NAMES};
 
 use crate::limits::{MOST_NAMES, SLOT_BYTES};
@@ -31,8 +32,21 @@ pub enum Found {
     Vacant { at: u32 },
 }
 
+// Where a search through all slots ended. Where it met no empty slot, damage is told of the one that it read last, which stands before
+// the name's home.
+fn search_end(found: Option<Found>, name: Name, slots: u32) -> Result<Found, DiskFault>
+    requires some { 0 < slots }
+    requires few { slots < 2 ^ 31 }
+    ensures { result ≡ search_end found name slots }
+{
+    match found {
+        Some(found) => Ok(found),
+        None => Err(damaged(turn(name.index() % slots, slots - 1, slots), name)),
+    }
+}
+
 impl Directory {
-    ghost use Rattle.std.specs.Prelude.{◌≡◌, ◌≢◌, ◌+◌, [], IsTrue, IfSome, IfOk, IfErr, OnOk, OnErr, Err, option_map};
+    ghost use Rattle.std.specs.Prelude.{◌≡◌, ◌≢◌, ◌+◌, [], IsTrue, IsSome, IfSome, IfOk, IfErr, OnOk, OnErr, Err, option_map};
     ghost use Rattle.std.specs.FinMap as map;
     ghost use Rattle.loom_outside.specs.declared.outside.DiskFault.TheVariants.{Full};
     ghost use Rattle.loom_outside.specs.declared.outside.Role.{Role};
@@ -92,11 +106,12 @@ impl Directory {
         place_of(self.slots())
     }
 
-    // Searches for a name.
-    fn search<H: Host>(&self, host: &mut H, name: Name) -> Result<Found, DiskFault>
+    // Looks for a name, slot by slot: None where it met no empty slot.
+    fn scan<H: Host>(&self, host: &mut H, name: Name) -> Result<Option<Found>, DiskFault>
         requires stands { HoldsDirectory H.Host host.old self.now }
-        ensures name { IfOk result (IsOfName (slots_of self.now) name) }
-        ensures found { IfOk result (λ found. IsTrue (H.tells Role.Work) → AnswersSearch (work_of H.Host host.old) (slots_of self.now) name found) }
+        ensures name { IfOk result (λ found. IfSome found (IsOfName (slots_of self.now) name)) }
+        ensures found { IfOk result (λ found. IsTrue (H.tells Role.Work) → IfSome found (AnswersSearch (work_of H.Host host.old) (slots_of self.now) name)) }
+        ensures some { IfOk result (λ found. IsTrue (H.tells Role.Work) → IsSome found) }
         ensures read { IsWorkRead H.Host host.old host.new }
         ensures cause { IfErr result (IsCause H.Host host.old host.new (end_of self.now) name) }
     {
@@ -105,13 +120,25 @@ impl Directory {
         for step in 0..slots {
             let at = turn(home, step, slots);
             let Some(slot) = look(host, at, Some(name))? else {
-                return Ok(Found::Vacant { at });
+                return Ok(Some(Found::Vacant { at }));
             };
             if slot.name == name {
-                return Ok(Found::Held { at, slot });
+                return Ok(Some(Found::Held { at, slot }));
             }
         }
-        Err(damaged(turn(home, slots - 1, slots), name))
+        Ok(None)
+    }
+
+    // Searches for a name.
+    fn search<H: Host>(&self, host: &mut H, name: Name) -> Result<Found, DiskFault>
+        requires stands { HoldsDirectory H.Host host.old self.now }
+        ensures name { IfOk result (IsOfName (slots_of self.now) name) }
+        ensures found { IfOk result (λ found. IsTrue (H.tells Role.Work) → AnswersSearch (work_of H.Host host.old) (slots_of self.now) name found) }
+        ensures read { IsWorkRead H.Host host.old host.new }
+        ensures cause { IfErr result (IsCause H.Host host.old host.new (end_of self.now) name) }
+    {
+        let found = self.scan(host, name)?;
+        search_end(found, name, self.slots())
     }
 
     /// Where the search for a name ends: at an empty slot exactly where the name isn't held.

@@ -4,7 +4,7 @@ use Rattle.probing.specs.Search.{IsPassed}
 use Rattle.work_directory.specs.Directory.{slots_of}
 use Rattle.work_directory.specs.Table.{name_at}
 use Rattle.loom_outside.specs.Work.{work_of, IsWorkRead}
-use Rattle.work_directory.proofs.directory.Directory.search.Given as goal
+use Rattle.work_directory.proofs.directory.Directory.scan.Given as goal
 
 abbrev pub invariant-loop-step : goal.invariant-loop-step
 invariant-loop-step g l = record {
