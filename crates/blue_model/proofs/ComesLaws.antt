@@ -129,7 +129,7 @@ unfolding given
 answers-given c None = answers_halt c
 answers-given c (Some a) = answers_done a refl
 
-answers-part : {m : Machine} {A : Type 0} (c : Cause) (f : Object → Option A) (v : Value) → Answers m (λ a. part_in m.heap f v ≡ Some a) (part c f v)
+pub answers-part : {m : Machine} {A : Type 0} (c : Cause) (f : Object → Option A) (v : Value) → Answers m (λ a. part_in m.heap f v ≡ Some a) (part c f v)
 unfolding part
 answers-part {m} {A} c f v = answers_then {Q = λ (o : Object). object_at m.heap v ≡ Some o} _ (answers_look v) (λ o e. weaken o e (answers-given c (f o)))
   where

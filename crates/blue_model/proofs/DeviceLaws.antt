@@ -1,7 +1,7 @@
 -- The law of thinning, for forms, blits and devices.
 use Rattle.blue_model.specs.Forms.{Form, Extent, count_of, form_by, form_where, form_of}
 use Rattle.blue_model.specs.BitBlt.{Asked, some_form, form_or_nil, words_or, copy, copy_bits}
-use Rattle.blue_model.specs.Devices.{semaphore_or_nil, put_semaphore, set_input, input_semaphore, take_word, input_word, put_tick, tick_words, set_timer, signal_at_tick, show_form, be_display, string_text, say_string, join_queue, take_event, take_line, take_lines, events_due, fire, check_timer, due, display_form, display_row, picture_of, picture}
+use Rattle.blue_model.specs.Devices.{semaphore_or_nil, put_semaphore, set_input, input_semaphore, take_word, input_word, keep_machine, put_tick, tick_words, set_timer, signal_at_tick, show_form, be_display, string_text, say_string, join_queue, take_event, take_line, take_lines, events_due, fire, check_timer, due, display_form, display_row, picture_of, picture}
 use Rattle.blue_model.specs.declared.event.Event.{Event}
 use Rattle.blue_model.specs.declared.event.Event.TheVariants as event
 use Rattle.blue_model.specs.declared.event.Line.{Line}
@@ -120,6 +120,10 @@ law-input_word {w} events = search (lawful, trying, law-take_word) depth 14
 law-put_tick : {w : Lost} (v : Value) (tick : ℕ) → IsKept w v → Lawful w IsPlain (put_tick v tick)
 unfolding put_tick
 law-put_tick {w} v tick k = search lawful depth 14
+
+pub law-keep_machine : {w : Lost} → Lawful w IsPlain keep_machine
+unfolding keep_machine
+law-keep_machine {w} = search (lawful, trying, law-stack) depth 16
 
 pub law-tick_words : {w : Lost} → Lawful w IsPlain tick_words
 unfolding tick_words

@@ -4,34 +4,36 @@ use Rattle.std.proofs.Common.{zero, suc, ◌≡◌, ℕ, ◌<◌, ◌≤◌, nat
 use borrow.Author.Tests.{ltb-true, ltb-false}
 use Rattle.blue_model.specs.declared.event.Line.{Line}
 use Rattle.blue_model.specs.declared.step.Step.{Step}
-use Rattle.blue_model.specs.declared.step.Step.TheVariants.{Next, Quit}
+use Rattle.blue_model.specs.declared.step.Step.TheVariants.{Next, Quit, Keep}
 use Rattle.blue_model.specs.Machine.{Machine, LogRow, Outcome, Go, Halt, Spent, log_of}
 use Rattle.blue_model.specs.Cycle.{Ran, Stopped, Stopping, ByCause, BySpentNames, Ending, Parked, Stuck, run_of, one_more, run, parked, run_from, cycle}
-use Rattle.blue_model.specs.Endings.{IsParked, IsParkedBy, IsStuckBy, is_quit}
+use Rattle.blue_model.specs.Endings.{IsParked, IsParkedBy, IsStuckBy, is_last}
 
 -- ---- runs that ended
 
--- a run that the machine ended stays so
-pub quit_stays : (events : List Line) (k done : ℕ) (m n : Machine) → run events done m ≡ Ran Quit n → done ≤ k → run events k m ≡ Ran Quit n
+-- a run that its last bytecode ended stays so
+last_more : (events : List Line) (end : Step) (n : Machine) → is_last end ≡ true → one_more events (Ran end n) ≡ Ran end n
+last_more events Next n e = absurd (cc)
+last_more events Quit n e = refl
+last_more events Keep n e = refl
+
+pub last_stays : (events : List Line) (k done : ℕ) (end : Step) (m n : Machine) → is_last end ≡ true → run events done m ≡ Ran end n → done ≤ k → run events k m ≡ Ran end n
 unfolding run
-quit_stays events zero done m n e low = let same : done ≡ 0 = omega arith in ap (λ i. run events i m) (sym same) ∙ e
-quit_stays events (suc k) done m n e low = go (nat_lt k done) refl (λ few. quit_stays events k done m n e few)
+last_stays events zero done end m n last e low = let same : done ≡ 0 = omega arith in ap (λ i. run events i m) (sym same) ∙ e
+last_stays events (suc k) done end m n last e low = go (nat_lt k done) refl (λ few. last_stays events k done end m n last e few)
   where
-    go : (b : Bool) → nat_lt k done ≡ b → (done ≤ k → run events k m ≡ Ran Quit n) → one_more events (run events k m) ≡ Ran Quit n
+    go : (b : Bool) → nat_lt k done ≡ b → (done ≤ k → run events k m ≡ Ran end n) → one_more events (run events k m) ≡ Ran end n
     go true g before =
         let high = ltb-true k done g in
         let same : done ≡ suc k = omega arith in
         ap (λ i. run events i m) (sym same) ∙ e
-    go false g before = let few = ltb-false k done g in ap (one_more events) (before few)
+    go false g before = let few = ltb-false k done g in ap (one_more events) (before few) ∙ last_more events end n last
 
 -- a machine that hasn't ended goes on
-pub goes_on : (end : Step) → is_quit end ≡ false → end ≡ Next
+pub goes_on : (end : Step) → is_last end ≡ false → end ≡ Next
 goes_on Next e = refl
 goes_on Quit e = absurd (cc)
-
-pub has_ended : (end : Step) → is_quit end ≡ true → end ≡ Quit
-has_ended Quit e = refl
-has_ended Next e = absurd (cc)
+goes_on Keep e = absurd (cc)
 
 -- ---- runs that stopped
 

@@ -1,7 +1,7 @@
 -- A primitive that fails has changed nothing.
 use Rattle.blue_model.specs.Forms.{Form, Extent, count_of, form_where, form_of}
 use Rattle.blue_model.specs.BitBlt.{form_or_nil, copy_bits, blit_primitives}
-use Rattle.blue_model.specs.Devices.{semaphore_or_nil, set_input, input_semaphore, take_word, input_word, tick_words, set_timer, signal_at_tick, show_form, be_display, string_text, say_string, device_primitives, display_form, display_row, picture_of, picture}
+use Rattle.blue_model.specs.Devices.{semaphore_or_nil, set_input, input_semaphore, take_word, input_word, keep_machine, tick_words, set_timer, signal_at_tick, show_form, be_display, string_text, say_string, device_primitives, display_form, display_row, picture_of, picture}
 use Rattle.blue_model.specs.declared.event.Line.{Line}
 use Rattle.std.proofs.Common.{◌≡◌, ℕ, ℤ, Bool, true, false, List, [], ◌∷◌, ◌++◌, Option, Some, None, refl, sym, ◌∙◌, ap, subst}
 use Rattle.long_names.specs.declared.value.Value.{Value}
@@ -9,7 +9,7 @@ use Rattle.long_names.specs.declared.value.Value.TheVariants.{Int, Ref}
 use Rattle.long_names.specs.declared.object.Object.{Object}
 use Rattle.long_names.specs.State.{class_at, name_at}
 use Rattle.blue_model.specs.declared.answer.Answer.{Answer}
-use Rattle.blue_model.specs.declared.answer.Answer.TheVariants.{Done, Failed, Execute, Quit}
+use Rattle.blue_model.specs.declared.answer.Answer.TheVariants.{Done, Failed, Execute, Quit, Keep}
 use Rattle.blue_model.specs.declared.cause.Cause.{Cause}
 use Rattle.blue_model.specs.declared.cause.Cause.TheVariants.{Shape}
 use Rattle.blue_model.specs.declared.spot.Spot.{Spot}
@@ -21,9 +21,10 @@ use Rattle.blue_model.specs.Messages.{arguments_of}
 use Rattle.blue_model.specs.Processes.{process_lists, current_process, primitive_signal, primitive_wait, has_list, primitive_resume, primitive_suspend, process_primitives}
 use Rattle.blue_model.specs.Control.{block_copy, pointer_for, block_start, enter_block, value, array_length, value_with_arguments, taking, method_for, execute_found, perform_with, perform, has_room, perform_with_arguments, flush_cache, quit, control_primitives, control_primitive}
 use Rattle.blue_model.specs.Trials.{failed, where_some, where_true, ◌>>?◌, peek, answer, Primitive, with_arguments, primitive_in}
-use Rattle.blue_model.specs.Arithmetic.{of_numbers, arithmetic, comparison, point, integer_primitives}
+use Rattle.blue_model.specs.Arithmetic.{of_numbers, arithmetic, comparison, point, shifted, integer_primitives}
+use Rattle.blue_model.specs.LargeInts.{large_operand, of_large, of_shift, answer_result, large_result, large_arithmetic, large_comparison, large_shift, large_primitives}
 use Rattle.blue_model.specs.Elements.{index_argument, specification_of, fixed_of, spot_at, element_of, variable_of, put_element, character_of, byte_of_character}
-use Rattle.blue_model.specs.Storage.{at, at_put, size_of, string_at, string_at_put, streamed_by, streamed, of_stream, next_spot, streamed_element, next, put_streamed, next_put, at_end, method_object, object_at_index, object_at_put, new, new_with_size, new_method, instance_variable_at, instance_variable_at_put, hash, equivalent, class, object_primitives}
+use Rattle.blue_model.specs.Storage.{at, at_put, size_of, string_at, string_at_put, streamed_by, streamed, of_stream, next_spot, streamed_element, next, put_streamed, next_put, at_end, method_object, object_at_index, object_at_put, new, new_with_size, new_method, instance_variable_at, instance_variable_at_put, hash, equivalent, become, class, object_primitives}
 use Rattle.blue_model.specs.Primitives.{primitive}
 use Rattle.blue_model.proofs.ClassLaws.{Answers, answers_then, answers_done, answers_halt, answers_look, lookup_takes}
 
@@ -159,6 +160,10 @@ never_quit : NeverFails (done Quit)
 unfolding done
 never_quit = record { never = λ m s log e. let no : ◌≡◌ {A = Answer} Quit Failed = cc in absurd (cc) }
 
+never_keep : NeverFails (done Keep)
+unfolding done
+never_keep = record { never = λ m s log e. let no : ◌≡◌ {A = Answer} Keep Failed = cc in absurd (cc) }
+
 never-answer : (n : ℕ) (v : Value) → NeverFails (answer n v)
 unfolding answer
 never-answer n v = never_then _ _ (λ a. never_then _ _ (λ b. never_done))
@@ -241,6 +246,31 @@ clean-comparison {m} f = clean-of_numbers _ (λ a b. clean_end _ _ (λ v. never-
 clean-point : {m : Machine} → FailsClean m point
 unfolding point
 clean-point {m} = clean-of_numbers _ (λ a b. clean_end _ _ (λ v. never-answer 1 v))
+
+looks-large_operand : {m : Machine} (v : Value) → Looks m (large_operand v)
+unfolding large_operand
+looks-large_operand (Int z) = looks_done (Some z)
+looks-large_operand (Ref n) = looks_peek _ (Ref n)
+
+clean-of_large : {m : Machine} (p : ℤ → ℤ → Rule Answer) → ((a b : ℤ) → FailsClean m (p a b)) → FailsClean m (of_large p)
+unfolding of_large
+clean-of_large {m} p f = clean_then _ (looks-stack 1) (λ receiver. clean_then _ (looks-stack 0) (λ argument. clean_try _ (looks-large_operand receiver) (λ a. clean_try _ (looks-large_operand argument) (λ b. f a b))))
+
+clean-answer_result : {m : Machine} (result : Option ℤ) → FailsClean m (answer_result result)
+unfolding answer_result
+clean-answer_result result = clean_where_some _ _ (λ z. clean_end _ _ (λ v. never-answer 1 v))
+
+clean-large_arithmetic : {m : Machine} (f : ℤ → ℤ → Option ℤ) → FailsClean m (large_arithmetic f)
+unfolding large_arithmetic
+clean-large_arithmetic f = clean-of_large _ (λ a b. clean-answer_result (large_result f a b))
+
+clean-large_comparison : {m : Machine} (f : ℤ → ℤ → Bool) → FailsClean m (large_comparison f)
+unfolding large_comparison
+clean-large_comparison f = clean-of_large _ (λ a b. clean_end _ _ (λ v. never-answer 1 v))
+
+clean-large_shift : {m : Machine} → FailsClean m large_shift
+unfolding large_shift of_shift
+clean-large_shift {m} = clean_then _ (looks-stack 1) (λ receiver. clean_then _ (looks-stack 0) (λ argument. clean_try _ (looks-large_operand receiver) (λ a. clean_where_some _ _ (λ b. clean-answer_result (large_result shifted a b)))))
 
 clean-at : {m : Machine} → FailsClean m at
 unfolding at
@@ -328,6 +358,12 @@ clean-hash {m} = search (cleanly, looks_peek, places) depth 16
 clean-equivalent : {m : Machine} → FailsClean m equivalent
 unfolding equivalent
 clean-equivalent {m} = search (cleanly, looks_peek, places) depth 16
+
+clean-become : {m : Machine} → FailsClean m become
+unfolding become
+clean-become {m} =
+    clean_then _ (looks-stack 1) (λ receiver. clean_then _ (looks-stack 0) (λ argument. clean_then _ (looks_register _) (λ context. clean_then _ (looks_register _) (λ home. clean_then _ (looks_register _) (λ method.
+    clean_where_true _ _ (clean_end _ _ (λ a. never_then _ _ (λ b. never_done))))))))
 
 clean-class : {m : Machine} → FailsClean m class
 unfolding class
@@ -510,6 +546,10 @@ clean-input_word : {m : Machine} (events : List Line) → FailsClean m (input_wo
 unfolding input_word
 clean-input_word {m} events = clean_then _ looks_numbers (λ cpu. clean_where_some _ _ (λ word. clean_never (never-take_word word)))
 
+clean-keep_machine : {m : Machine} → FailsClean m keep_machine
+unfolding keep_machine
+clean-keep_machine {m} = clean_then _ (looks-stack 0) (λ v. clean_then _ looks_numbers (λ cpu. clean_where_true _ _ (clean_never never_keep)))
+
 clean-tick_words : {m : Machine} → FailsClean m tick_words
 unfolding tick_words
 clean-tick_words {m} = clean_then _ (looks-stack 0) (λ v. clean_try _ (looks_peek _ v) (λ old. clean_end _ _ (λ cpu. never_then _ _ (λ a. never_then _ _ (λ b. never_done)))))
@@ -550,7 +590,11 @@ clean-primitive_in (p ∷ ps) index f = clean_pick _ _ _ (clean-with_arguments p
 
 primitives_clean : (m : Machine) → AreClean m (integer_primitives ++ object_primitives)
 unfolding AreClean integer_primitives object_primitives
-primitives_clean m = search (clean-arithmetic, clean-comparison, clean-point, clean-at, clean-at_put, clean-size_of, clean-string_at, clean-string_at_put, clean-next, clean-next_put, clean-at_end, clean-object_at_index, clean-object_at_put, clean-new, clean-new_with_size, clean-new_method, clean-instance_variable_at, clean-instance_variable_at_put, clean-hash, clean-equivalent, clean-class) depth 80 fits 40000
+primitives_clean m = search (clean-arithmetic, clean-comparison, clean-point, clean-at, clean-at_put, clean-size_of, clean-string_at, clean-string_at_put, clean-next, clean-next_put, clean-at_end, clean-object_at_index, clean-object_at_put, clean-new, clean-new_with_size, clean-new_method, clean-instance_variable_at, clean-instance_variable_at_put, clean-hash, clean-equivalent, clean-become, clean-class) depth 80 fits 40000
+
+large_clean : (m : Machine) → AreClean m large_primitives
+unfolding AreClean large_primitives
+large_clean m = search (clean-large_arithmetic, clean-large_comparison, clean-large_shift) depth 80 fits 40000
 
 control_clean : (m : Machine) → AreClean m control_primitives
 unfolding AreClean control_primitives
@@ -570,11 +614,11 @@ blits_clean m = (clean-copy_bits, tt)
 
 devices_clean : (m : Machine) (events : List Line) → AreClean m (device_primitives events)
 unfolding AreClean device_primitives
-devices_clean m events = (clean-input_semaphore, (clean-input_word events, (clean-tick_words, (clean-signal_at_tick, (clean-be_display, (clean-say_string, tt))))))
+devices_clean m events = (clean-input_semaphore, (clean-input_word events, (clean-keep_machine, (clean-tick_words, (clean-signal_at_tick, (clean-be_display, (clean-say_string, tt)))))))
 
 pub copy_bits_changes_nothing : (m s : Machine) (log : List LogRow) → copy_bits m ≡ Go Failed s log → s ≡ m
 copy_bits_changes_nothing m s log e = clean-copy_bits.clean s log e
 
 pub failed_changes_nothing : (events : List Line) (index : ℕ) (m s : Machine) (log : List LogRow) → primitive events index m ≡ Go Failed s log → s ≡ m
 unfolding primitive
-failed_changes_nothing events index m s log e = let clean : FailsClean m (primitive events index) = clean_pick _ _ _ (clean-control_primitive index) (clean_pick _ _ _ (clean-primitive_in _ index (processes_clean m)) (clean_pick _ _ _ (clean-primitive_in _ index (blits_clean m)) (clean_pick _ _ _ (clean-primitive_in _ index (devices_clean m events)) (clean-primitive_in _ index (primitives_clean m))))) in clean.clean s log e
+failed_changes_nothing events index m s log e = let clean : FailsClean m (primitive events index) = clean_pick _ _ _ (clean-control_primitive index) (clean_pick _ _ _ (clean-primitive_in _ index (processes_clean m)) (clean_pick _ _ _ (clean-primitive_in _ index (blits_clean m)) (clean_pick _ _ _ (clean-primitive_in _ index (devices_clean m events)) (clean_pick _ _ _ (clean-primitive_in _ index (large_clean m)) (clean-primitive_in _ index (primitives_clean m)))))) in clean.clean s log e

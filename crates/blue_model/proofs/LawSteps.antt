@@ -1,6 +1,6 @@
 -- The law of thinning, for each combinator.
 use Rattle.blue_model.specs.BitBlt.{put_words}
-use Rattle.std.proofs.Common.{◌≡◌, ℕ, ℤ, pos, ◌+◌, ◌-◌, ◌≤◌, zero, suc, Bool, true, false, cond, nat_lt, nat_le, eqb, ◌&&◌, List, [], ◌∷◌, ◌++◌, length, Option, Some, None, is_some, refl, sym, ◌∙◌, ap, ap₂, subst, arith}
+use Rattle.std.proofs.Common.{◌≡◌, ℕ, ℤ, pos, ◌+◌, ◌-◌, ◌≤◌, zero, suc, Bool, true, false, cond, nat_lt, nat_le, eqb, ◌&&◌, List, [], ◌∷◌, ◌++◌, length, Option, Some, None, is_some, refl, sym, ◌∙◌, ap, ap₂, subst, subst₂, arith}
 use Rattle.std.specs.List.{slice_get}
 use Rattle.std.specs.Option.{option_map_or, option_and_then}
 use Rattle.std.proofs.lemmas.Grind.{common_steps}
@@ -12,17 +12,17 @@ use Rattle.long_names.specs.declared.object.Body.TheVariants.{Pointers, Words, B
 use Rattle.long_names.specs.Names.{is_known, NIL, SMALL_INTEGER}
 use Rattle.long_names.specs.declared.limits.TheConstants.{LAST_NAME}
 use Rattle.long_names.specs.Objects.{Making, holds, fields_of, field_of, pointers_of, literals_of, words_of, bytes_of, with_field, with_words, with_bytes, text_of}
-use Rattle.long_names.specs.Heap.{Heap, Has, put_object, add_object}
+use Rattle.long_names.specs.Heap.{Heap, Has, IsBounded, put_object, add_object}
 use Rattle.long_names.specs.State.{set_register, set_slot, object_at, name_at, class_at, part_at}
-use Rattle.long_names.specs.Access.{Make, with_body}
+use Rattle.long_names.specs.Access.{Make, with_body, with_swapped}
 use Rattle.long_names.specs.Need.{Row}
-use Rattle.long_names.specs.Thin.{IsWhole}
-use Rattle.long_names.proofs.ThinLemmas.{IsThinner-add_object, IsBounded-add_object, IsWhole-regs, IsWhole-set, IsWhole-slots, IsWhole-pin, IsWhole-with_field, IsWhole-same_fields, fields-with_words, fields-with_bytes, has_put, holds-class, holds-field, both}
+use Rattle.long_names.specs.Thin.{IsThinner, IsWhole}
+use Rattle.long_names.proofs.ThinLemmas.{IsThinner-add_object, IsBounded-add_object, IsThinner-swap_objects, IsBounded-swap_objects, IsWhole-swap_objects, swap_at, swapped_apart, IsWhole-regs, IsWhole-set, IsWhole-slots, IsWhole-pin, IsWhole-with_field, IsWhole-same_fields, fields-with_words, fields-with_bytes, has_put, holds-class, holds-field, both}
 use Rattle.long_names.proofs.AccessLaws.{words_of_row-same, entries_of_row-same, another, IsThinner-with_body, IsBounded-with_body, IsWhole-with_body, whole-heap}
 use Rattle.blue_model.specs.declared.cause.Cause.{Cause}
 use Rattle.blue_model.specs.declared.cpu.Cpu.{Cpu}
 use Rattle.blue_model.specs.declared.indexes.TheConstants.{METHOD_INDEX, HOME_INDEX}
-use Rattle.blue_model.specs.Machine.{Machine, MACHINE_REGISTERS, LogRow, logged, row_of, making_row, Outcome, Go, Halt, Spent, Rule, after, then_do, ◌>>=◌, done, halt, given, pick, is_there, register, placed, put_register, clear, numbers, set_numbers, rows_at, looked, look, part, known, classed, class_of, stored, store, changed, store_word, store_byte, object_made, added, made, make, unpinned, unpin_all, with_pin, pinned, pin, spoken, say, times, each}
+use Rattle.blue_model.specs.Machine.{Machine, MACHINE_REGISTERS, LogRow, logged, row_of, making_row, Outcome, Go, Halt, Spent, Rule, after, then_do, ◌>>=◌, done, halt, given, pick, is_there, register, placed, put_register, clear, numbers, set_numbers, rows_at, looked, look, part, known, classed, class_of, stored, store, changed, store_word, store_byte, is_unpinned, is_free, swapped, swap, object_made, added, made, make, unpinned, unpin_all, with_pin, pinned, pin, spoken, say, times, each}
 use Rattle.blue_model.specs.declared.answer.Answer.{Answer}
 use Rattle.blue_model.specs.Parts.{at_least, shaped, field, home_by, home_in, home_of, literal}
 use Rattle.blue_model.specs.Messages.{last_literal}
@@ -241,6 +241,11 @@ pub law_part_value : {w : Lost} (c : Cause) (f : Object → Option Value) (v : V
 unfolding part
 law_part_value {w} c f v within k = law_then _ (law_look v k) (λ o h. law_given (IsKept w) c (f o) (λ x e. within.within o x h e))
 
+-- an object by a name that isn't lost
+pub law_named : {w : Lost} (n : ℕ) → w.lost n ≡ false → Lawful w (IsKept w) (known n)
+unfolding known
+law_named {w} n e = law_then _ (law_look (Ref n) (kept_ref w n e)) (λ o h. law_done (Ref n) (kept_ref w n e))
+
 pub law_known : {w : Lost} (n : ℕ) → is_known n ≡ true → Lawful w (IsKept w) (known n)
 unfolding known
 law_known n e = law_then _ (law_look (Ref n) (kept_known n e)) (λ o h. law_done (Ref n) (kept_known n e))
@@ -337,6 +342,84 @@ law_store {w} v i x k l = record {
         same = λ q f. same_body m.heap s.heap v (λ b. with_field b i x) q (object_alike w m s h v k) (h.same q f);
         gone = λ q f. gone_body w s.heap v (λ b. with_field b i x) q k f (h.gone q f);
         fresh = λ q le. h.fresh q (subst (λ n. n ≤ q) (next_body s.heap v (λ b. with_field b i x)) le);
+      },
+    )
+
+-- ---- a swap
+
+free_alike : (w : Lost) (m s : Machine) (v : Value) → IsAlike w m s → IsKept w v → is_free s v ≡ is_free m v
+free_alike w m s v h k = ap₂ (λ b slots. b && is_unpinned slots v) (there_alike w m s h v k) h.thinned.slots
+
+thinner_swapped : (h s : Heap) (v x : Value) → IsThinner h s → object_at h v ≡ object_at s v → object_at h x ≡ object_at s x → IsThinner (with_swapped h v x) (with_swapped s v x)
+thinner_swapped h s (Int z) x t e f = t
+thinner_swapped h s (Ref n) (Int z) t e f = t
+thinner_swapped h s (Ref n) (Ref k) t e f = IsThinner-swap_objects h s n k t e f
+
+bounded_swapped : (h : Heap) (v x : Value) → IsBounded h → IsBounded (with_swapped h v x)
+bounded_swapped h (Int z) x b = b
+bounded_swapped h (Ref n) (Int z) b = b
+bounded_swapped h (Ref n) (Ref k) b = IsBounded-swap_objects h n k b
+
+whole_swapped : (s : Heap) (regs : ℕ → Value) (slots : ℕ → Option ℕ) (v x : Value) → IsWhole s regs slots → IsWhole (with_swapped s v x) regs slots
+whole_swapped s regs slots (Int z) x whole = whole
+whole_swapped s regs slots (Ref n) (Int z) whole = whole
+whole_swapped s regs slots (Ref n) (Ref k) whole = IsWhole-swap_objects s regs slots n k whole
+
+same_swapped : (h s : Heap) (v x : Value) (q : ℕ) → object_at s v ≡ object_at h v → object_at s x ≡ object_at h x → s.at q ≡ h.at q → (with_swapped s v x).at q ≡ (with_swapped h v x).at q
+same_swapped h s (Int z) x q e f g = g
+same_swapped h s (Ref n) (Int z) q e f g = g
+same_swapped h s (Ref n) (Ref k) q e f g = subst₂ (λ a b. (swap_at s n k (s.at n) (s.at k)).at q ≡ (swap_at h n k a b).at q) e f (go (s.at n) (s.at k))
+  where
+    go : (a b : Option Object) → (swap_at s n k a b).at q ≡ (swap_at h n k a b).at q
+    go None b = g
+    go (Some o) None = g
+    go (Some o) (Some p) = ap (λ y. cond (eqb q k) (Some o) (cond (eqb q n) (Some p) y)) g
+
+pub next_swapped : (s : Heap) (v x : Value) → (with_swapped s v x).next ≡ s.next
+next_swapped s (Int z) x = refl
+next_swapped s (Ref n) (Int z) = refl
+next_swapped s (Ref n) (Ref k) = go (s.at n) (s.at k)
+  where
+    go : (a b : Option Object) → (swap_at s n k a b).next ≡ s.next
+    go None b = refl
+    go (Some o) None = refl
+    go (Some o) (Some p) = refl
+
+gone_swapped : (w : Lost) (s : Heap) (v x : Value) (q : ℕ) → IsKept w v → IsKept w x → w.lost q ≡ true → s.at q ≡ None → (with_swapped s v x).at q ≡ None
+gone_swapped w s (Int z) x q k l lost none = none
+gone_swapped w s (Ref n) (Int z) q k l lost none = none
+gone_swapped w s (Ref n) (Ref p) q k l lost none = swapped_apart s n p q (other n (k.kept n refl)) (other p (l.kept p refl)) ∙ none
+  where
+    other : (r : ℕ) → w.lost r ≡ false → q ≡ r → ⊥
+    other r kept same = let no : true ≡ false = sym lost ∙ ap w.lost same ∙ kept in absurd (cc)
+
+pub law_swap : {w : Lost} (v x : Value) → IsKept w v → IsKept w x → Lawful w IsPlain (swap v x)
+unfolding swap
+law_swap {w} v x k l = record {
+  agrees = λ m s h. subst (λ b. Agrees w IsPlain (swapped m v x b) (swapped s v x (is_free s v && is_free s x))) (ap₂ (λ a b. a && b) (free_alike w m s v h k) (free_alike w m s x h l)) (step m s h (is_free s v && is_free s x));
+}
+  where
+    step : (m s : Machine) → IsAlike w m s → (b : Bool) → Agrees w IsPlain (swapped m v x b) (swapped s v x b)
+    step m s h false = (refl, ap₂ (λ p q. p ++ q) (rows_alike w m s v h k) (rows_alike w m s x h l))
+    step m s h true = (
+      refl,
+      ap₂ (λ p q. p ++ q) (rows_alike w m s v h k) (rows_alike w m s x h l),
+      record {},
+      record {
+        thinned = record {
+          thinning = record {
+            thinner = thinner_swapped m.heap s.heap v x h.thinned.thinning.thinner (sym (object_alike w m s h v k)) (sym (object_alike w m s h x l));
+            whole = whole_swapped s.heap s.regs s.slots v x h.thinned.thinning.whole;
+          };
+          bounded = bounded_swapped m.heap v x h.thinned.bounded;
+          regs = h.thinned.regs;
+          slots = h.thinned.slots;
+          transcript = h.thinned.transcript;
+          cpu = h.thinned.cpu;
+        };
+        same = λ q f. same_swapped m.heap s.heap v x q (object_alike w m s h v k) (object_alike w m s h x l) (h.same q f);
+        gone = λ q f. gone_swapped w s.heap v x q k l f (h.gone q f);
+        fresh = λ q le. h.fresh q (subst (λ n. n ≤ q) (next_swapped s.heap v x) le);
       },
     )
 
@@ -540,7 +623,7 @@ law_say {w} v k = record {
 -- ---- what is taken out of objects
 
 -- the values of an object of pointers are its fields
-shaped_fields : (least : ℕ) (o : Object) (values : List Value) → shaped least o ≡ Some values → fields_of o.body ≡ values
+pub shaped_fields : (least : ℕ) (o : Object) (values : List Value) → shaped least o ≡ Some values → fields_of o.body ≡ values
 shaped_fields least o values e = go o.body e
   where
     long : (vs : List Value) (b : Bool) → cond b (Some vs) None ≡ Some values → vs ≡ values
@@ -610,8 +693,9 @@ within_home_of {w} context k = record { within = λ o v h e. go o v h (shaped 6 
 
 -- ---- the law of a rule
 
-pub respects : {A : Type 0} {K : Lost → A → Type 0} {p : Rule A} → ((w : Lost) → Lawful w (K w) p) → RespectsThinning p
-respects {A} {K} {p} f = record { agree = λ m s h. weaken (world m s h) (p m) (p s) ((f (world m s h)).agrees m s (alike m s h)) }
+-- at two machines, of which the thinner one has what isn't lost
+pub respects_at : {A : Type 0} {K : Lost → A → Type 0} {p : Rule A} (m s : Machine) → IsThinned m s → ((w : Lost) → ((n : ℕ) → Has s.heap n → w.lost n ≡ false) → Lawful w (K w) p) → Agree (p m) (p s)
+respects_at {A} {K} {p} m s h f = weaken (world m s h) (p m) (p s) ((f (world m s h) (λ n there. not_lost (world m s h) m s (alike m s h) n there)).agrees m s (alike m s h))
   where
     lost_of : (m s : Machine) → ℕ → Bool
     lost_of m s n = is_some (m.heap.at n) && cond (is_some (s.heap.at n)) false true
@@ -648,6 +732,9 @@ respects {A} {K} {p} f = record { agree = λ m s h. weaken (world m s h) (p m) (
     weaken w (Halt c log) (Halt d los) h = h
     weaken w (Spent log) (Spent los) h = h
     weaken w _ _ h = absurd h
+
+pub respects : {A : Type 0} {K : Lost → A → Type 0} {p : Rule A} → ((w : Lost) → Lawful w (K w) p) → RespectsThinning p
+respects f = record { agree = λ m s h. respects_at m s h (λ w there. f w) }
 
 -- ---- the forms that a search uses
 
@@ -717,6 +804,6 @@ unfolding each
 law_each {w} p zero f = law_done tt (record {})
 law_each {w} p (suc n) f = then_plain (λ _. p n) (law_each {w = w} p n f) (λ _. f n)
 
-pub ruleset lawful = (then_value, then_maybe, then_held, then_plain, law_pick, done_none, done_some, done_plain, law_done, law_halt, law_register, law_numbers, law_set_numbers, law_clear, law_put_register, within_field, within_literal, within_last_literal, within_home_of, law_look, law_known, law_class_of, law_part_value, law_part, law_given_plain, law_store, law_store_word, law_store_byte, law_make, law_unpin_all, law_pin, law_say, law_times, law_each, kept_int, kept_known)
+pub ruleset lawful = (then_value, then_maybe, then_held, then_plain, law_pick, done_none, done_some, done_plain, law_done, law_halt, law_register, law_numbers, law_set_numbers, law_clear, law_put_register, within_field, within_literal, within_last_literal, within_home_of, law_look, law_known, law_class_of, law_part_value, law_part, law_given_plain, law_store, law_store_word, law_store_byte, law_swap, law_make, law_unpin_all, law_pin, law_say, law_times, law_each, kept_int, kept_known)
 
 pub ruleset trying = (try_value, try_plain, law_where_true, law_where_some, law_failed, law_peek_value, law_peek)

@@ -1,6 +1,6 @@
 -- The law of thinning, for each rule.
 use Rattle.std.specs.Prelude.{if◌then◌else◌, ◌==◌}
-use Rattle.std.proofs.Common.{ℕ, ℤ, zero, suc, Bool, true, false, Option, Some, None, refl}
+use Rattle.std.proofs.Common.{ℕ, ℤ, pos, negsuc, zero, suc, Bool, true, false, List, Option, Some, None, refl}
 use Rattle.long_names.specs.declared.value.Value.TheVariants.{Int, Ref}
 use Rattle.long_names.specs.declared.value.Value.{Value}
 use Rattle.blue_model.specs.declared.indexes.TheConstants.{FIRST_LINK_INDEX}
@@ -15,10 +15,11 @@ use Rattle.blue_model.specs.declared.answer.Answer.{Answer}
 use Rattle.blue_model.specs.declared.spot.Spot.{Spot}
 use Rattle.blue_model.specs.declared.spot.Spot.TheVariants.{Field, Word, Byte}
 use Rattle.blue_model.specs.Trials.{answer, boolean}
-use Rattle.blue_model.specs.Arithmetic.{of_numbers, arithmetic, comparison, make_point, point}
+use Rattle.blue_model.specs.Arithmetic.{of_numbers, arithmetic, comparison, make_point, point, shifted}
+use Rattle.blue_model.specs.LargeInts.{large_operand, put_bytes, make_large_integer, large_answer, of_large, of_shift, answer_result, large_result, large_arithmetic, large_comparison, large_shift}
 use Rattle.blue_model.specs.Elements.{index_argument, make_large, number_object, specification_of, fixed_of, spot_at, element_of, variable_of, element_at, put_element, character_of, byte_of_character}
-use Rattle.blue_model.specs.Storage.{at, at_put, size_of, string_at, string_at_put, streamed_by, streamed, of_stream, next_spot, advance, streamed_element, next, put_streamed, next_put, at_end, method_object, object_at_index, object_at_put, new, new_with_size, new_method, instance_variable_at, instance_variable_at_put, hash, equivalent, class}
-use Rattle.blue_model.proofs.LawSteps.{lawful, trying, then_plain, then_value, law_part_value, within_field, try_plain, law_pick, law_done, law_store, law_store_word, law_store_byte, law_where_some, kept_int, law_peek, done_plain}
+use Rattle.blue_model.specs.Storage.{at, at_put, size_of, string_at, string_at_put, streamed_by, streamed, of_stream, next_spot, advance, streamed_element, next, put_streamed, next_put, at_end, method_object, object_at_index, object_at_put, new, new_with_size, new_method, instance_variable_at, instance_variable_at_put, hash, equivalent, class, become}
+use Rattle.blue_model.proofs.LawSteps.{lawful, trying, then_plain, then_value, law_part_value, within_field, try_plain, law_pick, law_done, law_store, law_store_word, law_store_byte, law_each, law_where_some, kept_int, law_peek, done_plain}
 
 -- ---- contexts
 
@@ -227,6 +228,52 @@ pub law-point : {w : Lost} → Lawful w IsPlain point
 unfolding point
 law-point {w} = search (lawful, trying, law-of_numbers, law-make_point, law-answer) depth 14
 
+-- ---- large integers
+
+pub law-large_operand : {w : Lost} (v : Value) → IsKept w v → Lawful w IsPlain (large_operand v)
+unfolding large_operand
+law-large_operand (Int z) k = done_plain (Some z)
+law-large_operand (Ref n) k = law_peek _ (Ref n) k
+
+pub law-put_bytes : {w : Lost} (v : Value) (bytes : List ℕ) → IsKept w v → Lawful w IsPlain (put_bytes v bytes)
+unfolding put_bytes
+law-put_bytes v bytes k = law_each _ _ (λ i. law_store_byte v i _ k)
+
+pub law-make_large_integer : {w : Lost} (z : ℤ) → Lawful w (IsKept w) (make_large_integer z)
+unfolding make_large_integer
+law-make_large_integer {w} (pos n) = search (lawful, law-put_bytes) depth 16
+law-make_large_integer {w} (negsuc n) = search (lawful, law-put_bytes) depth 16
+
+pub law-large_answer : {w : Lost} (z : ℤ) → Lawful w (IsKept w) (large_answer z)
+unfolding large_answer
+law-large_answer {w} z = search (lawful, law-make_large_integer) depth 12
+
+pub law-of_large : {w : Lost} (p : ℤ → ℤ → Rule Answer) → ((a b : ℤ) → Lawful w IsPlain (p a b)) → Lawful w IsPlain (of_large p)
+unfolding of_large
+law-of_large {w} p f = search (lawful, trying, law-stack, law-large_operand, f) depth 14
+
+pub law-of_shift : {w : Lost} (p : ℤ → ℤ → Rule Answer) → ((a b : ℤ) → Lawful w IsPlain (p a b)) → Lawful w IsPlain (of_shift p)
+unfolding of_shift
+law-of_shift {w} p f = search (lawful, trying, law-stack, law-large_operand, f) depth 14
+
+pub law-answer_result : {w : Lost} (result : Option ℤ) → Lawful w IsPlain (answer_result result)
+unfolding answer_result
+law-answer_result {w} result = search (lawful, trying, law-large_answer, law-answer) depth 14
+
+pub law-large_arithmetic : {w : Lost} (f : ℤ → ℤ → Option ℤ) → Lawful w IsPlain (large_arithmetic f)
+unfolding large_arithmetic
+law-large_arithmetic f = law-of_large _ (λ a b. law-answer_result (large_result f a b))
+
+pub law-large_comparison : {w : Lost} (f : ℤ → ℤ → Bool) → Lawful w IsPlain (large_comparison f)
+unfolding large_comparison
+law-large_comparison {w} f = search (lawful, trying, law-of_large, law-boolean, law-answer) depth 14
+
+pub law-large_shift : {w : Lost} → Lawful w IsPlain large_shift
+unfolding large_shift
+law-large_shift = law-of_shift _ (λ a b. law-answer_result (large_result shifted a b))
+
+-- ---- elements
+
 pub law-index_argument : {w : Lost} (v : Value) → IsKept w v → Lawful w IsPlain (index_argument v)
 unfolding index_argument
 law-index_argument (Int z) k = done_plain (Some z)
@@ -376,6 +423,10 @@ law-hash {w} = search (lawful, trying, elements) depth 14
 pub law-equivalent : {w : Lost} → Lawful w IsPlain equivalent
 unfolding equivalent
 law-equivalent {w} = search (lawful, trying, elements) depth 14
+
+pub law-become : {w : Lost} → Lawful w IsPlain become
+unfolding become
+law-become {w} = search (lawful, trying, elements, law-pop) depth 20
 
 pub law-class : {w : Lost} → Lawful w IsPlain class
 unfolding class

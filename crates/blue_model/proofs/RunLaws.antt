@@ -3,14 +3,14 @@ use Rattle.blue_model.specs.declared.event.Line.{Line}
 use Rattle.std.proofs.Common.{◌≡◌, ℕ, zero, suc, refl, sym, ap, List}
 use Rattle.long_names.specs.Heap.{Heap}
 use Rattle.blue_model.specs.declared.step.Step.{Step}
-use Rattle.blue_model.specs.declared.step.Step.TheVariants.{Next, Quit}
+use Rattle.blue_model.specs.declared.step.Step.TheVariants.{Next, Quit, Keep}
 use Rattle.blue_model.specs.Machine.{Machine, Outcome, Go, Halt, Spent, at_rest}
-use Rattle.blue_model.specs.Contexts.{start}
+use Rattle.blue_model.specs.State.{State, begin}
 use Rattle.blue_model.specs.Cycle.{Run, Ran, Stopped, ByCause, run_of, one_more, run, parked, ended, run_from, ending, cycle, park_and_draw}
-use Rattle.blue_model.specs.Law.{IsThinned, Agree, RespectsThinning, RunsAgree, EndingsAgree}
+use Rattle.blue_model.specs.Law.{IsThinned, HasState, Agree, RespectsThinning, RunsAgree, EndingsAgree}
 use Rattle.blue_model.proofs.LawSteps.{respects}
 use Rattle.blue_model.proofs.TurnLaws.{law-cycle, law-park_and_draw}
-use Rattle.blue_model.proofs.RuleLaws.{law-start}
+use Rattle.blue_model.proofs.StateLaws.{begins-agree}
 
 run_of-agree : (m s : Machine) (o p : Outcome Step) → IsThinned m s → Agree o p → RunsAgree (run_of m o) (run_of s p)
 run_of-agree m s (Go a next log) (Go b then rows) t h = (h.0, h.2)
@@ -21,8 +21,13 @@ run_of-agree m s _ _ t h = absurd h
 one_more-agree : (events : List Line) (a b : Run) → RespectsThinning (cycle events) → RunsAgree a b → RunsAgree (one_more events a) (one_more events b)
 one_more-agree events (Ran Next m) (Ran Next s) law h = run_of-agree m s (cycle events m) (cycle events s) h.1 (law.agree m s h.1)
 one_more-agree events (Ran Quit m) (Ran Quit s) law h = h
+one_more-agree events (Ran Keep m) (Ran Keep s) law h = h
 one_more-agree events (Ran Next m) (Ran Quit s) law h = let no : Next ≡ Quit = h.0 in absurd (cc)
 one_more-agree events (Ran Quit m) (Ran Next s) law h = let no : Quit ≡ Next = h.0 in absurd (cc)
+one_more-agree events (Ran Next m) (Ran Keep s) law h = let no : Next ≡ Keep = h.0 in absurd (cc)
+one_more-agree events (Ran Keep m) (Ran Next s) law h = let no : Keep ≡ Next = h.0 in absurd (cc)
+one_more-agree events (Ran Quit m) (Ran Keep s) law h = let no : Quit ≡ Keep = h.0 in absurd (cc)
+one_more-agree events (Ran Keep m) (Ran Quit s) law h = let no : Keep ≡ Quit = h.0 in absurd (cc)
 one_more-agree events (Stopped m why log) (Stopped s reason rows) law h = h
 one_more-agree events _ _ law h = absurd h
 
@@ -59,6 +64,6 @@ run_from-agree events k (Halt c log) (Halt d rows) h = (ap (λ e. ByCause e) h.0
 run_from-agree events k (Spent log) (Spent rows) h = (refl, refl, refl)
 run_from-agree events k _ _ h = absurd h
 
-pub endings-agree : (events : List Line) (k : ℕ) (h s : Heap) → IsThinned (at_rest h) (at_rest s) → EndingsAgree (ending events k h) (ending events k s)
+pub endings-agree : (events : List Line) (k : ℕ) (state : State) (h s : Heap) → IsThinned (at_rest h) (at_rest s) → HasState state s → EndingsAgree (ending events k state h) (ending events k state s)
 unfolding ending
-endings-agree events k h s t = let law : RespectsThinning start = respects (λ w. law-start {w = w}) in run_from-agree events k (start (at_rest h)) (start (at_rest s)) (law.agree (at_rest h) (at_rest s) t)
+endings-agree events k state h s t has = run_from-agree events k (begin state (at_rest h)) (begin state (at_rest s)) (begins-agree state (at_rest h) (at_rest s) t has)

@@ -2,7 +2,7 @@
 use Rattle.blue_model.specs.declared.event.Line.{Line}
 use Rattle.blue_model.specs.BitBlt.{blit_primitives}
 use Rattle.blue_model.specs.Devices.{device_primitives}
-use Rattle.blue_model.proofs.DeviceLaws.{law-copy_bits, law-input_semaphore, law-input_word, law-tick_words, law-signal_at_tick, law-be_display, law-say_string, law-due, law-picture}
+use Rattle.blue_model.proofs.DeviceLaws.{law-copy_bits, law-input_semaphore, law-input_word, law-keep_machine, law-tick_words, law-signal_at_tick, law-be_display, law-say_string, law-due, law-picture}
 use Rattle.std.proofs.Common.{◌≡◌, ℕ, ℤ, ◌-◌, Bool, true, List, [], ◌∷◌, ◌++◌}
 use Rattle.long_names.specs.declared.value.Value.{Value}
 use Rattle.long_names.specs.Names.{is_known}
@@ -18,9 +18,10 @@ use Rattle.blue_model.specs.declared.answer.Answer.TheVariants.{Done}
 use Rattle.blue_model.specs.declared.step.Step.{Step}
 use Rattle.blue_model.specs.Trials.{Primitive, with_arguments, primitive_in}
 use Rattle.blue_model.specs.Arithmetic.{integer_primitives}
+use Rattle.blue_model.specs.LargeInts.{large_primitives}
 use Rattle.blue_model.specs.Storage.{class, object_primitives}
 use Rattle.blue_model.specs.Primitives.{primitive, then_next, tried}
-use Rattle.blue_model.proofs.RuleLaws.{law-activate, law-arithmetic, law-at, law-at_end, law-at_put, law-back_with, law-block_copy, law-check_switch, law-class, law-comparison, law-equivalent, law-fetch, law-find_or_tell, law-flush_cache, law-hash, law-instance_variable_at, law-instance_variable_at_put, law-jump, law-new, law-new_method, law-new_with_size, law-next, law-next_put, law-object_at_index, law-object_at_put, law-park, law-perform, law-perform_with_arguments, law-point, law-pop, law-pop_top, law-primitive_resume, law-primitive_signal, law-primitive_suspend, law-primitive_wait, law-push, law-put_stack, law-quit, law-set_arguments, law-size_of, law-stack, law-store_field, law-string_at, law-string_at_put, law-value, law-value_with_arguments}
+use Rattle.blue_model.proofs.RuleLaws.{law-activate, law-arithmetic, law-at, law-at_end, law-at_put, law-back_with, law-block_copy, law-check_switch, law-class, law-comparison, law-equivalent, law-fetch, law-find_or_tell, law-flush_cache, law-hash, law-instance_variable_at, law-instance_variable_at_put, law-jump, law-large_arithmetic, law-large_comparison, law-large_shift, law-new, law-new_method, law-new_with_size, law-next, law-next_put, law-object_at_index, law-object_at_put, law-park, law-perform, law-perform_with_arguments, law-point, law-pop, law-pop_top, law-primitive_resume, law-primitive_signal, law-primitive_suspend, law-primitive_wait, law-push, law-put_stack, law-quit, law-set_arguments, law-size_of, law-stack, law-store_field, law-string_at, law-string_at_put, law-value, law-value_with_arguments, law-become}
 use Rattle.blue_model.proofs.LawSteps.{lawful, then_plain, law_pick, law_halt, law_numbers, law_failed, law_part, law_where_true, done_plain}
 
 -- ---- the table of primitives
@@ -41,7 +42,11 @@ law-primitive_in (p ∷ ps) index f = law_pick _ _ _ (law-with_arguments p f.0) 
 
 primitives_lawful : (w : Lost) → ArePrimitivesLawful w (integer_primitives ++ object_primitives)
 unfolding ArePrimitivesLawful integer_primitives object_primitives
-primitives_lawful w = search (law-arithmetic, law-comparison, law-point, law-at, law-at_put, law-size_of, law-string_at, law-string_at_put, law-next, law-next_put, law-at_end, law-object_at_index, law-object_at_put, law-new, law-new_with_size, law-new_method, law-instance_variable_at, law-instance_variable_at_put, law-hash, law-equivalent, law-class) depth 80 fits 40000
+primitives_lawful w = search (law-arithmetic, law-comparison, law-point, law-at, law-at_put, law-size_of, law-string_at, law-string_at_put, law-next, law-next_put, law-at_end, law-object_at_index, law-object_at_put, law-new, law-new_with_size, law-new_method, law-instance_variable_at, law-instance_variable_at_put, law-hash, law-equivalent, law-become, law-class) depth 80 fits 40000
+
+large_lawful : (w : Lost) → ArePrimitivesLawful w large_primitives
+unfolding ArePrimitivesLawful large_primitives
+large_lawful w = search (law-large_arithmetic, law-large_comparison, law-large_shift) depth 80 fits 40000
 
 control_lawful : (w : Lost) → ArePrimitivesLawful w control_primitives
 unfolding ArePrimitivesLawful control_primitives
@@ -61,11 +66,11 @@ blits_lawful w = (law-copy_bits, tt)
 
 devices_lawful : (w : Lost) (events : List Line) → ArePrimitivesLawful w (device_primitives events)
 unfolding ArePrimitivesLawful device_primitives
-devices_lawful w events = (law-input_semaphore, (law-input_word events, (law-tick_words, (law-signal_at_tick, (law-be_display, (law-say_string, tt))))))
+devices_lawful w events = (law-input_semaphore, (law-input_word events, (law-keep_machine, (law-tick_words, (law-signal_at_tick, (law-be_display, (law-say_string, tt)))))))
 
 pub law-primitive : {w : Lost} (events : List Line) (index : ℕ) → Lawful w IsPlain (primitive events index)
 unfolding primitive
-law-primitive {w} events index = law_pick _ _ _ (law-control_primitive index) (law_pick _ _ _ (law-primitive_in _ index (processes_lawful w)) (law_pick _ _ _ (law-primitive_in _ index (blits_lawful w)) (law_pick _ _ _ (law-primitive_in _ index (devices_lawful w events)) (law-primitive_in _ index (primitives_lawful w)))))
+law-primitive {w} events index = law_pick _ _ _ (law-control_primitive index) (law_pick _ _ _ (law-primitive_in _ index (processes_lawful w)) (law_pick _ _ _ (law-primitive_in _ index (blits_lawful w)) (law_pick _ _ _ (law-primitive_in _ index (devices_lawful w events)) (law_pick _ _ _ (law-primitive_in _ index (large_lawful w)) (law-primitive_in _ index (primitives_lawful w))))))
 
 pub law-then_next : {w : Lost} (p : Rule (Unit {0})) → Lawful w IsPlain p → Lawful w IsPlain (then_next p)
 unfolding then_next

@@ -11,6 +11,7 @@ use Rattle.long_names.specs.Heap.{Heap}
 use Rattle.blue_model.specs.Contexts.{stated}
 use Rattle.blue_model.specs.Forms.{Form}
 use Rattle.blue_model.specs.BitBlt.{Asked}
+use Rattle.blue_model.specs.State.{State, no_state, state_in}
 use Rattle.blue_model.specs.Cycle.{Ending, Parked, Stuck}
 
 abbrev pub nil : Value
@@ -58,6 +59,19 @@ base_code = 112 ∷ 135 ∷ 163 ∷ 252 ∷ []
 abbrev pub context_in : Ending → Option Object
 context_in (Parked end m picture) = m.heap.at CONTEXT
 context_in (Stuck why ran said) = None
+
+-- and its state, by the heap as it was parked
+abbrev pub state_after : Ending → Option State
+state_after (Parked end m picture) = Some (state_in m.heap m)
+state_after (Stuck why ran said) = None
+
+-- seven bytecodes were run before
+abbrev pub seven_before : State
+seven_before = record no_state { clock = 7 }
+
+-- names for the display and both semaphores, and a tick that is far away
+abbrev pub full_state : State
+full_state = record { clock = 7; display = CONTEXT; input = PROCESS; timer = SCHEDULER; tick = 90 }
 
 -- ---- arithmetic
 

@@ -5,10 +5,11 @@ use Rattle.long_names.specs.State.{SELECTOR, NEW_METHOD}
 use Rattle.blue_model.specs.declared.cause.Cause.{Cause}
 use Rattle.blue_model.specs.declared.event.Line.{Line}
 use Rattle.blue_model.specs.declared.step.Step.{Step}
-use Rattle.blue_model.specs.declared.step.Step.TheVariants.{Next, Quit}
+use Rattle.blue_model.specs.declared.step.Step.TheVariants.{Next, Quit, Keep}
 use Rattle.blue_model.specs.Machine.{Machine, LogRow, Outcome, Go, Halt, Spent, Rule, ◌>>=◌, ◌>>◌, done, clear, numbers, set_numbers, at_rest}
-use Rattle.blue_model.specs.Contexts.{fetch, start, park}
+use Rattle.blue_model.specs.Contexts.{fetch, park}
 use Rattle.blue_model.specs.Devices.{due, picture}
+use Rattle.blue_model.specs.State.{State, begin}
 use Rattle.blue_model.specs.Processes.{check_switch}
 use Rattle.blue_model.specs.Bytecodes.{bytecode}
 
@@ -66,6 +67,7 @@ run_of m (Spent log) = Stopped m BySpentNames log
 abbrev pub one_more : List Line → Run → Run
 one_more events (Ran Next m) = run_of m (cycle events m)
 one_more events (Ran Quit m) = Ran Quit m
+one_more events (Ran Keep m) = Ran Keep m
 one_more events (Stopped m why log) = Stopped m why log
 
 unfoldable pub run : List Line → ℕ → Machine → Run
@@ -99,6 +101,6 @@ run_from events steps (Go a m log) = ended (run events steps m)
 run_from events steps (Halt c log) = Stuck (ByCause c) 0 []
 run_from events steps (Spent log) = Stuck BySpentNames 0 []
 
--- What becomes of a heap under an event list: the start, at most so many bytecodes, and park, with the picture.
-unfoldable pub ending : List Line → ℕ → Heap → Ending
-ending events steps h = run_from events steps (start (at_rest h))
+-- What becomes of a heap and a state under an event list: the start, at most so many bytecodes, and park, with the picture.
+unfoldable pub ending : List Line → ℕ → State → Heap → Ending
+ending events steps state h = run_from events steps (begin state (at_rest h))

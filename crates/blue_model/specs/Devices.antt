@@ -9,7 +9,7 @@ use Rattle.long_names.specs.Names.{STRING}
 use Rattle.long_names.specs.Objects.{is_ref, text_of}
 use Rattle.long_names.specs.State.{INPUT_SEMAPHORE, TIMER_SEMAPHORE, DISPLAY}
 use Rattle.blue_model.specs.declared.answer.Answer.{Answer}
-use Rattle.blue_model.specs.declared.answer.Answer.TheVariants.{Done}
+use Rattle.blue_model.specs.declared.answer.Answer.TheVariants.{Done, Keep}
 use Rattle.blue_model.specs.declared.cause.Cause.TheVariants.{Shape}
 use Rattle.blue_model.specs.declared.cpu.Cpu.{Cpu}
 use Rattle.blue_model.specs.declared.event.Event.{Event}
@@ -19,7 +19,7 @@ use Rattle.blue_model.specs.declared.indexes.TheConstants.{SEMAPHORE_SIZE}
 use Rattle.blue_model.specs.Machine.{Rule, ◌>>=◌, ◌>>◌, done, given, pick, register, put_register, numbers, set_numbers, part, class_of, store_byte, say}
 use Rattle.blue_model.specs.Parts.{is_nil, size}
 use Rattle.blue_model.specs.Contexts.{stack, pop}
-use Rattle.blue_model.specs.Trials.{where_some, ◌>>?◌, peek, answer, Primitive}
+use Rattle.blue_model.specs.Trials.{where_some, where_true, ◌>>?◌, peek, answer, Primitive}
 use Rattle.blue_model.specs.Elements.{number_object}
 use Rattle.blue_model.specs.Storage.{row}
 use Rattle.blue_model.specs.Processes.{signal}
@@ -87,6 +87,10 @@ input_word events = do
 
 -- ---- the clock
 
+-- the bytecodes of earlier runs, and those of this one, which stand still at the greatest number
+abbrev pub clock : Cpu → ℕ
+clock cpu = min (cpu.base + cpu.ran) 4294967295
+
 abbrev pub four_bytes : List ℕ → Option ℕ
 four_bytes (a ∷ b ∷ c ∷ d ∷ rest) = Some (a + 256 * b + 65536 * c + 16777216 * d)
 four_bytes _ = None
@@ -103,13 +107,13 @@ put_tick v tick = do
   store_byte v 2 (tick / 65536 % 256)
   store_byte v 3 (tick / 16777216 % 256)
 
--- primitiveTimeWordsInto: the number of bytecodes that were run before this one
+-- primitiveTimeWordsInto: the clock before this bytecode
 unfoldable pub tick_words : Rule Answer
 tick_words = do
   bytes ← stack 0
   peek tick_of bytes >>? λ old. (do
     cpu ← numbers
-    put_tick bytes cpu.ran
+    put_tick bytes (clock cpu)
     pop 1
     done Done)
 
@@ -130,6 +134,15 @@ signal_at_tick = do
   semaphore ← stack 1
   bytes ← stack 0
   semaphore_or_nil semaphore >>? λ there. peek tick_of bytes >>? λ tick. set_timer semaphore there tick
+
+-- ---- checkpoints
+
+-- The machine is to be kept as it is, where a checkpoint may be made (this profile's own)
+unfoldable pub keep_machine : Rule Answer
+keep_machine = do
+  stack 0
+  cpu ← numbers
+  where_true cpu.vault (done Keep)
 
 -- ---- display and transcript
 
@@ -165,6 +178,7 @@ unfoldable pub device_primitives : List Line → List Primitive
 device_primitives events =
     row 93 1 input_semaphore
     ∷ row 95 0 (input_word events)
+    ∷ row 97 0 keep_machine
     ∷ row 99 1 tick_words
     ∷ row 100 2 signal_at_tick
     ∷ row 102 0 be_display
@@ -217,8 +231,8 @@ events_due events = do
   take_lines cpu.ran (drop cpu.line events)
 
 abbrev pub is_reached : Option ℕ → ℕ → Bool
-is_reached None ran = false
-is_reached (Some tick) ran = nat_le tick ran
+is_reached None now = false
+is_reached (Some tick) now = nat_le tick now
 
 -- the timer signals its semaphore, and is cleared
 unfoldable pub fire : Rule (Unit {0})
@@ -232,7 +246,7 @@ fire = do
 unfoldable pub check_timer : Rule (Unit {0})
 check_timer = do
   cpu ← numbers
-  pick (is_reached cpu.timer cpu.ran) fire (done tt)
+  pick (is_reached cpu.timer (clock cpu)) fire (done tt)
 
 -- lines and then the timer
 unfoldable pub due : List Line → Rule (Unit {0})

@@ -2,22 +2,24 @@
 use Rattle.std.specs.Prelude.{◌≡◌, ℕ, ◌≤◌, Bool, true, false, List}
 use Rattle.blue_model.specs.declared.cause.Cause.{Cause}
 use Rattle.blue_model.specs.declared.step.Step.{Step}
-use Rattle.blue_model.specs.declared.step.Step.TheVariants.{Next, Quit}
+use Rattle.blue_model.specs.declared.step.Step.TheVariants.{Next, Quit, Keep}
 use Rattle.blue_model.specs.Cause.{cause_number}
 use Rattle.blue_model.specs.Machine.{Machine}
 use Rattle.blue_model.specs.Cycle.{Stopping, ByCause, Ending, Parked, Stuck}
 
 -- ---- steps
 
--- the machine ended
-abbrev pub is_quit : Step → Bool
-is_quit Next = false
-is_quit Quit = true
+-- no bytecode follows in this run
+abbrev pub is_last : Step → Bool
+is_last Next = false
+is_last Quit = true
+is_last Keep = true
 
--- as many cycles were made as were asked for, unless the machine ended
+-- as many cycles were made as were asked for, unless the machine ended, or is to be kept
 abbrev pub HasCounted : Step → ℕ → ℕ → Type 0
 HasCounted Next ran all = ran ≡ all
 HasCounted Quit ran all = ran ≤ all
+HasCounted Keep ran all = ran ≤ all
 
 -- ---- a run that went through
 

@@ -1,15 +1,17 @@
 -- A machine over a thinner heap goes the same way.
-use Rattle.std.specs.Prelude.{◌≡◌, ℕ, true, List, Some}
+use Rattle.std.specs.Prelude.{◌≡◌, ℕ, ◌<◌, true, List, Some}
 use Rattle.long_names.specs.declared.value.Value.{Value}
 use Rattle.long_names.specs.declared.value.Value.TheVariants.{Ref}
 use Rattle.long_names.specs.declared.object.Object.{Object}
 use Rattle.long_names.specs.Names.{is_known}
+use Rattle.long_names.specs.State.{SLOTS}
 use Rattle.long_names.specs.Objects.{Making, field_of}
-use Rattle.long_names.specs.Heap.{IsBounded}
+use Rattle.long_names.specs.Heap.{Heap, IsBounded, Has}
 use Rattle.long_names.specs.Thin.{IsWhole, IsThinning}
 use Rattle.blue_model.specs.declared.event.Line.{Line}
-use Rattle.blue_model.specs.declared.step.Step.TheVariants.{Next, Quit}
+use Rattle.blue_model.specs.declared.step.Step.TheVariants.{Next, Quit, Keep}
 use Rattle.blue_model.specs.Machine.{Machine, LogRow, Outcome, Go, Halt, Spent, Rule, is_there, make}
+use Rattle.blue_model.specs.State.{State, name_in}
 use Rattle.blue_model.specs.Cycle.{Run, Ran, Stopped, run, Ending, Parked, Stuck}
 
 -- ---- one rule
@@ -26,6 +28,10 @@ pub record IsThinned (m s : Machine) : Type 0 where
   pub slots : s.slots ≡ m.slots
   pub transcript : s.transcript ≡ m.transcript
   pub cpu : s.cpu ≡ m.cpu
+
+-- Slots 0 to 2 pin the active context, its home and its method: registers 0 to 2 hold names, and slot i has that of register i.
+pub record HasPins (m : Machine) : Type 0 where
+  pub pins : (i : ℕ) → i < SLOTS → (n : ℕ) × (m.regs i ≡ Ref n) × (m.slots i ≡ Some n)
 
 -- Two outcomes are the same but for a thinning: equal answers, causes and logs.
 abbrev pub Agree : {A : Type 0} → Outcome A → Outcome A → Type 0
@@ -50,7 +56,14 @@ RunsAgree _ _ = ⊥
 abbrev pub go_on : List Line → ℕ → Run → Run
 go_on events k (Ran Next m) = run events k m
 go_on events k (Ran Quit m) = Ran Quit m
+go_on events k (Ran Keep m) = Ran Keep m
 go_on events k (Stopped m why log) = Stopped m why log
+
+-- each name of the state has its object in the heap
+pub record HasState (state : State) (h : Heap) : Type 0 where
+  pub display : (n : ℕ) → name_in state.display ≡ Some n → Has h n
+  pub input : (n : ℕ) → name_in state.input ≡ Some n → Has h n
+  pub timer : (n : ℕ) → name_in state.timer ≡ Some n → Has h n
 
 -- and two whole runs
 abbrev pub EndingsAgree : Ending → Ending → Type 0

@@ -6,6 +6,7 @@ pub mod Lookup
 pub mod ClassList
 pub mod Trials
 pub mod Arithmetic
+pub mod LargeInts
 pub mod Elements
 pub mod Storage
 pub mod Messages
@@ -15,12 +16,17 @@ pub mod Control
 pub mod Forms
 pub mod BitBlt
 pub mod Devices
+pub mod State
 pub mod Primitives
 pub mod Sends
 pub mod Bytecodes
 pub mod Cycle
+pub mod Logs
 pub mod Endings
 pub mod Law
 pub mod Alike
 pub mod Base
 pub mod Worked
+pub mod Loaded
+pub mod Guarded
+pub mod Snaps

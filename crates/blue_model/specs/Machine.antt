@@ -9,9 +9,10 @@ use Rattle.long_names.specs.Names.{NIL}
 use Rattle.long_names.specs.declared.limits.TheConstants.{LAST_NAME}
 use Rattle.long_names.specs.Objects.{Making, body_made, with_field, with_words, with_bytes, field_of, words_of, bytes_of, text_of}
 use Rattle.long_names.specs.Heap.{Heap, add_object}
-use Rattle.long_names.specs.State.{set_register, set_slot, object_at, name_at, class_at, part_at}
-use Rattle.long_names.specs.Access.{with_body}
-use Rattle.long_names.specs.Need.{Row, words_of_row, entries_of_row}
+use Rattle.long_names.specs.Kept.{any_below}
+use Rattle.long_names.specs.State.{SLOTS, set_register, set_slot, object_at, name_at, class_at, part_at}
+use Rattle.long_names.specs.Access.{with_body, with_swapped}
+use Rattle.long_names.specs.Need.{Row, is_pinned, words_of_row, entries_of_row}
 use Rattle.blue_model.specs.declared.cause.Cause.{Cause}
 use Rattle.blue_model.specs.declared.cause.Cause.TheVariants.{Shape}
 use Rattle.blue_model.specs.declared.cpu.Cpu.{Cpu}
@@ -32,7 +33,7 @@ abbrev pub MACHINE_REGISTERS : ℕ
 MACHINE_REGISTERS = 10
 
 abbrev pub numbers_at_rest : Cpu
-numbers_at_rest = record { ip = pos 0; sp = pos EMPTY_STACK; args = 0; waiting = false; line = 0; words_in = 0; words_out = 0; timer = None; display = false; input = false; ran = 0 }
+numbers_at_rest = record { ip = pos 0; sp = pos EMPTY_STACK; args = 0; waiting = false; line = 0; words_in = 0; words_out = 0; timer = None; display = false; input = false; ran = 0; base = 0; vault = false }
 
 -- nothing has been loaded: numbers in all registers, no object pinned, nothing said
 abbrev pub at_rest : Heap → Machine
@@ -188,6 +189,24 @@ store_word v i word m = changed m v (λ b. with_words b i (word ∷ [])) (is_som
 -- storeByte:ofObject:withValue: (chapter 30), of code too
 unfoldable pub store_byte : Value → ℕ → ℕ → Rule (Unit {0})
 store_byte v i byte m = changed m v (λ b. with_bytes b i (byte ∷ [])) (is_some (part_at m.heap v (λ b. option_and_then (λ (bytes : List ℕ). slice_get bytes i) (bytes_of b))))
+
+-- the value is a name, and no slot has it
+abbrev pub is_unpinned : (ℕ → Option ℕ) → Value → Bool
+is_unpinned slots (Int z) = false
+is_unpinned slots (Ref n) = if any_below SLOTS (λ i. is_pinned n (slots i)) then false else true
+
+-- The value names an object that may change places: it is there, and not pinned, since what is pinned stays in the core. Slots have the
+-- active context, its home and its method, which primitives leave in their places, so over a whole heap this test never says no
+abbrev pub is_free : Machine → Value → Bool
+is_free m v = is_there m.heap v && is_unpinned m.slots v
+
+abbrev pub swapped : Machine → Value → Value → Bool → Outcome (Unit {0})
+swapped m v w true = Go tt (record m { heap = with_swapped m.heap v w }) (rows_at m v ++ rows_at m w)
+swapped m v w false = Halt Shape (rows_at m v ++ rows_at m w)
+
+-- swapPointersOf:and: (chapter 30). The objects of two names change places, with class and body; of one name nothing changes
+unfoldable pub swap : Value → Value → Rule (Unit {0})
+swap v w m = swapped m v w (is_free m v && is_free m w)
 
 abbrev pub object_made : Value → Making → Object
 object_made class what = record { class = name_at class; body = body_made what }

@@ -1,13 +1,14 @@
 -- The table of primitives (chapter 29), and their tries.
 use Rattle.std.specs.Prelude.{ℕ, ◌==◌, ◌||◌, ◌&&◌, Bool, true, false, nat_le, List, ◌++◌}
 use Rattle.blue_model.specs.declared.answer.Answer.{Answer}
-use Rattle.blue_model.specs.declared.answer.Answer.TheVariants.{Done, Failed, Execute, Quit}
+use Rattle.blue_model.specs.declared.answer.Answer.TheVariants.{Done, Failed, Execute, Quit, Keep}
 use Rattle.blue_model.specs.declared.step.Step.{Step}
 use Rattle.blue_model.specs.declared.step.Step.TheVariants as step
 use Rattle.blue_model.specs.declared.event.Line.{Line}
 use Rattle.blue_model.specs.Machine.{Rule, ◌>>=◌, ◌>>◌, done, pick}
 use Rattle.blue_model.specs.Trials.{primitive_in}
 use Rattle.blue_model.specs.Arithmetic.{integer_primitives}
+use Rattle.blue_model.specs.LargeInts.{large_primitives}
 use Rattle.blue_model.specs.Storage.{object_primitives}
 use Rattle.blue_model.specs.Control.{control_primitive}
 use Rattle.blue_model.specs.Processes.{process_primitives}
@@ -17,6 +18,10 @@ use Rattle.blue_model.specs.Devices.{device_primitives}
 -- blocks, performs, the method cache and the end of the run
 abbrev pub is_control : ℕ → Bool
 is_control index = (nat_le 80 index && nat_le index 84) || (index == 89) || (index == 113)
+
+-- arithmetic on large integers
+abbrev pub is_large : ℕ → Bool
+is_large index = nat_le 21 index && nat_le index 37
 
 -- signal, wait, resume and suspend
 abbrev pub is_process : ℕ → Bool
@@ -37,7 +42,8 @@ primitive events index =
     (pick (is_process index) (primitive_in process_primitives index)
     (pick (is_blit index) (primitive_in blit_primitives index)
     (pick (is_device index) (primitive_in (device_primitives events) index)
-    (primitive_in (integer_primitives ++ object_primitives) index))))
+    (pick (is_large index) (primitive_in large_primitives index)
+    (primitive_in (integer_primitives ++ object_primitives) index)))))
 
 abbrev pub is_perform : ℕ → Bool
 is_perform index = (index == 83) || (index == 84)
@@ -47,6 +53,7 @@ has_failed Done = false
 has_failed Failed = true
 has_failed Execute = false
 has_failed Quit = false
+has_failed Keep = false
 
 -- ---- how a bytecode ends
 
@@ -55,6 +62,7 @@ step_of Done = step.Next
 step_of Failed = step.Next
 step_of Execute = step.Next
 step_of Quit = step.Quit
+step_of Keep = step.Keep
 
 -- a rule after which the next bytecode follows
 unfoldable pub then_next : Rule (Unit {0}) → Rule Step

@@ -5,7 +5,7 @@ use Rattle.long_names.specs.declared.value.Value.{Value}
 use Rattle.long_names.specs.Names.{CANNOT_RETURN, SPECIAL_SELECTORS, MUST_BE_BOOLEAN}
 use Rattle.long_names.specs.State.{ACTIVE_CONTEXT, METHOD, SELECTOR, NEW_METHOD}
 use Rattle.blue_model.specs.declared.answer.Answer.{Answer}
-use Rattle.blue_model.specs.declared.answer.Answer.TheVariants.{Done, Failed, Execute, Quit}
+use Rattle.blue_model.specs.declared.answer.Answer.TheVariants.{Done, Failed, Execute, Quit, Keep}
 use Rattle.blue_model.specs.declared.cause.Cause.TheVariants.{Shape}
 use Rattle.blue_model.specs.declared.event.Line.{Line}
 use Rattle.blue_model.specs.declared.step.Step.{Step}
@@ -33,6 +33,7 @@ is_execute Done = false
 is_execute Failed = false
 is_execute Execute = true
 is_execute Quit = false
+is_execute Keep = false
 
 -- a method with a header extension: primitive 0 is none, and another is tried first. Of a method that a perform found, neither perform
 -- is tried again

@@ -1,5 +1,5 @@
 -- Array, stream and storage primitives (chapter 29).
-use Rattle.std.specs.Prelude.{ℕ, ℤ, pos, ◌+◌, ◌-◌, ◌/◌, ◌%◌, ◌==◌, ◌||◌, Bool, true, false, nat_lt, nat_le, List, [], ◌∷◌, Option, Some, None, if◌then◌else◌}
+use Rattle.std.specs.Prelude.{ℕ, ℤ, pos, ◌+◌, ◌-◌, ◌/◌, ◌%◌, ◌==◌, ◌||◌, ◌&&◌, Bool, true, false, nat_lt, nat_le, List, [], ◌∷◌, Option, Some, None, is_some, if◌then◌else◌}
 use Rattle.std.specs.Option.{option_and_then}
 use Rattle.std.specs.Int.Signed.{lt_z}
 use Rattle.std.specs.Ordering.{int_eq}
@@ -8,13 +8,15 @@ use Rattle.long_names.specs.declared.value.Value.TheVariants.{Int, Ref}
 use Rattle.long_names.specs.declared.object.Object.{Object}
 use Rattle.long_names.specs.Names.{STRING, ARRAY, COMPILED_METHOD}
 use Rattle.long_names.specs.Objects.{Making, OfPointers, OfWords, OfBytes, OfMethod, name_of, int_of, is_ref, pointers_of, text_of}
+use Rattle.long_names.specs.State.{ACTIVE_CONTEXT, HOME, METHOD}
 use Rattle.long_names.specs.declared.limits.TheConstants.{MOST_CODE, SMALL_INTEGERS}
 use Rattle.blue_model.specs.declared.answer.Answer.{Answer}
+use Rattle.blue_model.specs.declared.answer.Answer.TheVariants.{Done}
 use Rattle.blue_model.specs.declared.spot.Spot.{Spot}
 use Rattle.blue_model.specs.declared.indexes.TheConstants.{STREAM_ARRAY_INDEX, STREAM_INDEX_INDEX, STREAM_READ_LIMIT_INDEX, STREAM_WRITE_LIMIT_INDEX, STREAM_SIZE}
-use Rattle.blue_model.specs.Machine.{Rule, ◌>>=◌, ◌>>◌, done, pick, class_of, store, make}
+use Rattle.blue_model.specs.Machine.{Rule, ◌>>=◌, ◌>>◌, done, pick, register, class_of, store, swap, make}
 use Rattle.blue_model.specs.Parts.{size, field, number, literal, heading}
-use Rattle.blue_model.specs.Contexts.{store_field, stack}
+use Rattle.blue_model.specs.Contexts.{store_field, stack, pop}
 use Rattle.blue_model.specs.Trials.{where_some, where_true, ◌>>?◌, peek, answer, boolean, Primitive}
 use Rattle.blue_model.specs.Elements.{natural, index_argument, number_object, has_pointers, has_words, is_indexable, fixed_fields, specification_of, fixed_of, length_of, element_of, variable_of, element_at, put_element, text_at, character_of, byte_of_character}
 
@@ -212,6 +214,23 @@ equivalent = do
   argument ← stack 0
   boolean (is_same receiver argument) >>= answer 1
 
+-- the value is a name, and none of these
+abbrev pub is_another : Value → Value → Value → Value → Bool
+is_another context home method v = if is_same v context || (is_same v home || is_same v method) then false else is_some (name_of v)
+
+-- primitiveBecome: receiver and argument change places. Neither is the active context, its home or its method
+unfoldable pub become : Rule Answer
+become = do
+  receiver ← stack 1
+  argument ← stack 0
+  context ← register ACTIVE_CONTEXT
+  home ← register HOME
+  method ← register METHOD
+  where_true (is_another context home method receiver && is_another context home method argument) (do
+    swap receiver argument
+    pop 1
+    done Done)
+
 -- primitiveClass
 unfoldable pub class : Rule Answer
 class = do
@@ -237,6 +256,7 @@ object_primitives =
     ∷ row 69 2 object_at_put
     ∷ row 70 0 new
     ∷ row 71 1 new_with_size
+    ∷ row 72 1 become
     ∷ row 73 1 instance_variable_at
     ∷ row 74 2 instance_variable_at_put
     ∷ row 75 0 hash

@@ -11,4 +11,6 @@ pub enum Answer {
     Execute,
     /// The machine is to end.
     Quit,
+    /// The machine is to be kept as it is, and goes on.
+    Keep,
 }

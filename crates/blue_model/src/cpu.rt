@@ -27,6 +27,10 @@ pub struct Cpu {
     pub input: bool,
     /// How many bytecodes were run.
     pub ran: u32,
+    /// The clock at the start: how many bytecodes earlier runs of this machine have run.
+    pub base: u32,
+    /// A checkpoint may be made.
+    pub vault: bool,
 }
 
 impl Cpu {
@@ -46,6 +50,8 @@ impl Cpu {
             display: false,
             input: false,
             ran: 0,
+            base: 0,
+            vault: false,
         }
     }
 }

@@ -1,8 +1,11 @@
 // Laws of the machine. No code calls these functions: what each of them ensures is the law.
-ghost use Rattle.std.specs.Prelude.{◌≡◌, ℕ, ℤ, pos, ◌+◌, ◌-◌, ◌+ℤ◌, ◌*ℤ◌, ◌<◌, ◌≤◌, ◌^◌, true, List, [], ◌∷◌, ◌++◌, Contains, count_by, Option, Some, None};
+ghost use Rattle.std.specs.Prelude.{◌≡◌, ℕ, ℤ, pos, ◌+◌, ◌-◌, ◌+ℤ◌, ◌*ℤ◌, ◌<◌, ◌≤◌, ◌^◌, true, List, [], ◌∷◌, ◌++◌, All, Contains, count_by, length, replicate, Option, Some, None, false};
 ghost use Rattle.long_names.specs.declared.value.Value.{Value};
 ghost use Rattle.long_names.specs.declared.value.Value.TheVariants.{Ref};
-ghost use Rattle.long_names.specs.Names.{NIL, SCHEDULER_ASSOCIATION};
+ghost use Rattle.long_names.specs.declared.object.Body.TheVariants.{Bytes};
+ghost use Rattle.long_names.specs.Names.{NIL, SCHEDULER_ASSOCIATION, LARGE_POSITIVE_INTEGER, LARGE_NEGATIVE_INTEGER};
+ghost use Rattle.long_names.specs.Objects.{int_of};
+ghost use Rattle.long_names.specs.State.{object_at};
 ghost use Rattle.long_names.specs.Heap.{Heap};
 ghost use Rattle.blue_model.specs.declared.cause.Cause.TheVariants.{Pointer, Unused, Stack, Shape};
 ghost use Rattle.blue_model.specs.declared.indexes.TheConstants.{NEXT_LINK_INDEX};
@@ -10,6 +13,7 @@ ghost use Rattle.blue_model.specs.declared.limits.TheConstants.{LONGEST_CHAIN};
 ghost use Rattle.blue_model.specs.Machine.{Machine, LogRow, Go, at_rest};
 ghost use Rattle.blue_model.specs.Contexts.{start, park};
 ghost use Rattle.blue_model.specs.Arithmetic.{sum, divided, exact_quotient, rounded_down, quotient_down, remainder_down, quotient_to_zero, bits_and, shifted};
+ghost use Rattle.blue_model.specs.LargeInts.{magnitude, fewest_bytes, in_range, large_value, number_at, large_operand, large_answer, large_and, large_result};
 ghost use Rattle.blue_model.specs.Lookup.{lookup, find_from_register};
 ghost use Rattle.blue_model.specs.ClassList.{class_list, taken};
 ghost use Rattle.blue_model.specs.Processes.{add, take, current_process, resume, suspend_active, signal, wait};
@@ -17,16 +21,19 @@ ghost use Rattle.blue_model.specs.Queues.{IsAmong, IsNotAmong, AreApart, IsQueue
 ghost use Rattle.blue_model.specs.declared.answer.Answer.TheVariants.{Failed};
 ghost use Rattle.blue_model.specs.Primitives.{primitive};
 ghost use Rattle.blue_model.specs.Bytecodes.{Range, bytecodes, has_byte, bytecode};
-ghost use Rattle.blue_model.specs.declared.step.Step.TheVariants.{Next, Quit};
+ghost use Rattle.blue_model.specs.declared.step.Step.{Step};
+ghost use Rattle.blue_model.specs.declared.step.Step.TheVariants.{Next, Keep};
+ghost use Rattle.blue_model.specs.Endings.{is_last};
+ghost use Rattle.blue_model.specs.State.{State, no_state, begin};
 ghost use Rattle.blue_model.specs.Cycle.{step, cycle, run, Ran, ending, park_and_draw, Stuck, ByCause};
 ghost use Rattle.blue_model.specs.declared.event.Line.{Line};
 ghost use Rattle.blue_model.specs.BitBlt.{copy_bits, copied_words, black};
 ghost use Rattle.blue_model.specs.Devices.{due, display_row, picture, take_lines, take_all, lines_at, AreRising};
 ghost use Rattle.blue_model.specs.Forms.{picture_rows};
 ghost use Rattle.blue_model.specs.Base.{one_right_and_down, small_form, small_words, moved_words, moved_picture};
-ghost use Rattle.blue_model.specs.Law.{IsWholeMachine, IsThinned, RespectsThinning, RunsAgree, EndingsAgree, AllThere, go_on};
+ghost use Rattle.blue_model.specs.Law.{IsWholeMachine, IsThinned, RespectsThinning, Agree, HasState, RunsAgree, EndingsAgree, AllThere, go_on};
 ghost use Rattle.blue_model.specs.Worked.{worked_heap, worked_schedule, current_after, field_after, GATE, RUNNER, LOW_SECOND, MIDDLE, HIGH, NEWCOMER};
-ghost use Rattle.blue_model.specs.Base.{nil, heap_running, base_code, context_at, context_in, minus, small_result};
+ghost use Rattle.blue_model.specs.Base.{nil, heap_running, base_code, context_at, context_in, state_after, seven_before, full_state, minus, small_result};
 
 /// A cycle over a thinning answers, stops and logs as over the heap, and leaves a thinning of what it leaves of the heap. So do its
 /// bytecode alone, the start and park. A machine whose heap is whole is a thinning of itself.
@@ -120,10 +127,10 @@ pub fn runs_add_up()
     ensures { (events : List Line) (j k : ℕ) (m : Machine) → run events (j + k) m ≡ go_on events k (run events j m) }
 {}
 
-/// A run of k cycles that goes through ran k bytecodes more, and one that the machine ended no more than that.
+/// A run of k cycles that goes through ran k bytecodes more, and one that its last bytecode ended no more than that.
 pub fn runs_count_bytecodes()
     ensures through { (events : List Line) (k : ℕ) (m n : Machine) → run events k m ≡ Ran Next n → n.cpu.ran ≡ m.cpu.ran + k }
-    ensures ended { (events : List Line) (k : ℕ) (m n : Machine) → run events k m ≡ Ran Quit n → n.cpu.ran ≤ m.cpu.ran + k }
+    ensures ended { (events : List Line) (k : ℕ) (end : Step) (m n : Machine) → is_last end ≡ true → run events k m ≡ Ran end n → n.cpu.ran ≤ m.cpu.ran + k }
 {}
 
 /// A run of k cycles over a thinning runs as over the heap, or stops for the same reason with the same log, and is over a thinning
@@ -132,10 +139,16 @@ pub fn a_run_respects_thinning()
     ensures { (events : List Line) (k : ℕ) (m s : Machine) → IsThinned m s → RunsAgree (run events k m) (run events k s) }
 {}
 
-/// A whole run over a thinning is parked over a thinning of what is parked over the heap, or is stuck for the same reason after as
-/// many bytecodes.
+/// A start on a state respects thinning where the names of the state have their objects in the thinner heap. On no state it is a start.
+pub fn a_start_on_a_state()
+    ensures thin { (state : State) (m s : Machine) → IsThinned m s → HasState state s.heap → Agree (begin state m) (begin state s) }
+    ensures plain { (m : Machine) → begin no_state m ≡ start m }
+{}
+
+/// A whole run over a thinning that has the objects of the state's names is parked over a thinning of what is parked over the heap, or
+/// is stuck for the same reason after as many bytecodes.
 pub fn a_whole_run_respects_thinning()
-    ensures { (events : List Line) (steps : ℕ) (h s : Heap) → IsThinned (at_rest h) (at_rest s) → EndingsAgree (ending events steps h) (ending events steps s) }
+    ensures { (events : List Line) (steps : ℕ) (state : State) (h s : Heap) → IsThinned (at_rest h) (at_rest s) → HasState state s → EndingsAgree (ending events steps state h) (ending events steps state s) }
 {}
 
 /// The tests of the rules that write a value down never say no over a whole heap.
@@ -169,6 +182,33 @@ pub fn worked_arithmetic()
     ensures shifted_left { small_result shifted (pos 1) (pos 14) ≡ None }
 {}
 
+/// What a rule answers for a large integer reads as it. Equal numbers have the same SmallInteger, or objects of one class and body, and
+/// no fewer bytes are that number.
+pub fn a_large_answer_is_its_number()
+    ensures value { (z : ℤ) (m s : Machine) (v : Value) (log : List LogRow) → in_range z ≡ Some z → large_answer z m ≡ Go v s log → number_at s.heap v ≡ Some z }
+    ensures read { (m s : Machine) (v : Value) (found : Option ℤ) (log : List LogRow) → large_operand v m ≡ Go found s log → (s ≡ m) × (found ≡ number_at m.heap v) }
+    ensures one { (z : ℤ) (m n s t : Machine) (v w : Value) (log rows : List LogRow) → large_answer z m ≡ Go v s log → large_answer z n ≡ Go w t rows → (int_of v ≡ int_of w) × (object_at s.heap v ≡ object_at t.heap w) }
+    ensures fewest { (bytes : List ℕ) → All (λ b. b < 256) bytes → length (fewest_bytes (magnitude bytes)) ≤ length bytes }
+{}
+
+/// Large integers that operations give, or not.
+pub fn worked_large_integers()
+    ensures carried { large_result sum (pos 18446744073709551615) (pos 1) ≡ Some (pos 18446744073709551616) }
+    ensures past_the_end { large_result sum (pos 170141183460469231731687303715884105727) (pos 1) ≡ None }
+    ensures down { large_result (divided quotient_down) (minus 32768) (pos 3) ≡ Some (minus 10923) }
+    ensures to_zero { large_result (divided quotient_to_zero) (minus 32768) (pos 3) ≡ Some (minus 10922) }
+    ensures left_over { large_result (divided remainder_down) (minus 32768) (pos 3) ≡ Some (pos 1) }
+    ensures lowest_down { large_result (divided quotient_down) (minus (2 ^ 127)) (minus 1) ≡ None }
+    ensures lowest_left { large_result (divided remainder_down) (minus (2 ^ 127)) (minus 1) ≡ Some (pos 0) }
+    ensures bits { large_result large_and (minus 32768) (pos 65535) ≡ Some (pos 32768) }
+    ensures shifted_right { large_result shifted (minus (2 ^ 127)) (minus 16384) ≡ Some (minus 1) }
+    ensures shifted_left { large_result shifted (pos 1) (pos 127) ≡ None }
+    ensures nothing_shifted { large_result shifted (pos 0) (pos 16383) ≡ Some (pos 0) }
+    ensures bytes { fewest_bytes 32768 ≡ 0 ∷ 128 ∷ [] }
+    ensures zeros { large_value (record { class = LARGE_NEGATIVE_INTEGER; body = Bytes (5 ∷ 0 ∷ 0 ∷ []) }) ≡ Some (minus 5) }
+    ensures too_long { large_value (record { class = LARGE_POSITIVE_INTEGER; body = Bytes (replicate 17 0) }) ≡ None }
+{}
+
 /// The heaps of the worked values below are whole: their laws speak of something.
 pub fn worked_heaps_are_whole()
     ensures { (code : List ℕ) → IsWholeMachine (at_rest (heap_running code)) }
@@ -176,19 +216,27 @@ pub fn worked_heaps_are_whole()
 
 /// A context whose method pushes the receiver, pops it and jumps back, after 0 to 4 bytecodes.
 pub fn base_image()
-    ensures none { context_in (ending [] 0 (heap_running base_code)) ≡ context_at 3 0 nil }
-    ensures one { context_in (ending [] 1 (heap_running base_code)) ≡ context_at 4 1 nil }
-    ensures two { context_in (ending [] 2 (heap_running base_code)) ≡ context_at 5 0 nil }
-    ensures three { context_in (ending [] 3 (heap_running base_code)) ≡ context_at 3 0 nil }
-    ensures four { context_in (ending [] 4 (heap_running base_code)) ≡ context_at 4 1 nil }
+    ensures none { context_in (ending [] 0 no_state (heap_running base_code)) ≡ context_at 3 0 nil }
+    ensures one { context_in (ending [] 1 no_state (heap_running base_code)) ≡ context_at 4 1 nil }
+    ensures two { context_in (ending [] 2 no_state (heap_running base_code)) ≡ context_at 5 0 nil }
+    ensures three { context_in (ending [] 3 no_state (heap_running base_code)) ≡ context_at 3 0 nil }
+    ensures four { context_in (ending [] 4 no_state (heap_running base_code)) ≡ context_at 4 1 nil }
+{}
+
+/// The state of that machine: the clock goes on from the state that it began with, and names and the tick stay.
+pub fn base_states()
+    ensures clock { state_after (ending [] 2 no_state (heap_running base_code)) ≡ Some (record no_state { clock = 2 }) }
+    ensures goes_on { state_after (ending [] 2 seven_before (heap_running base_code)) ≡ Some (record no_state { clock = 9 }) }
+    ensures names { state_after (ending [] 3 full_state (heap_running base_code)) ≡ Some (record full_state { clock = 10 }) }
+    ensures nothing { state_after (ending [] 0 full_state (heap_running base_code)) ≡ Some full_state }
 {}
 
 /// Codes that stop at their first bytecode, and one that stops at its second.
 pub fn stuck_codes()
-    ensures unused { ending [] 5 (heap_running (126 ∷ [])) ≡ Stuck (ByCause Unused) 0 [] }
-    ensures empty_stack { ending [] 5 (heap_running (135 ∷ [])) ≡ Stuck (ByCause Stack) 0 [] }
-    ensures over_the_end { ending [] 5 (heap_running (151 ∷ [])) ≡ Stuck (ByCause Pointer) 0 [] }
-    ensures no_code { ending [] 5 (heap_running []) ≡ Stuck (ByCause Pointer) 0 [] }
-    ensures no_field { ending [] 5 (heap_running (117 ∷ 0 ∷ [])) ≡ Stuck (ByCause Shape) 1 [] }
-    ensures no_receiver { ending [] 5 (heap_running (176 ∷ [])) ≡ Stuck (ByCause Stack) 0 [] }
+    ensures unused { ending [] 5 no_state (heap_running (126 ∷ [])) ≡ Stuck (ByCause Unused) 0 [] }
+    ensures empty_stack { ending [] 5 no_state (heap_running (135 ∷ [])) ≡ Stuck (ByCause Stack) 0 [] }
+    ensures over_the_end { ending [] 5 no_state (heap_running (151 ∷ [])) ≡ Stuck (ByCause Pointer) 0 [] }
+    ensures no_code { ending [] 5 no_state (heap_running []) ≡ Stuck (ByCause Pointer) 0 [] }
+    ensures no_field { ending [] 5 no_state (heap_running (117 ∷ 0 ∷ [])) ≡ Stuck (ByCause Shape) 1 [] }
+    ensures no_receiver { ending [] 5 no_state (heap_running (176 ∷ [])) ≡ Stuck (ByCause Stack) 0 [] }
 {}

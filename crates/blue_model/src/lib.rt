@@ -2,25 +2,30 @@
 //!
 //! A rule takes a machine (heap, registers, slots, transcript, numbers) to an answer and the next machine, or to a cause, with a log
 //! of each object that it needs. Bytecodes are a table of ranges, each with its rule, and each byte is in one range. `laws` says so,
-//! and that a cycle, a lookup and a whole run go the same way over a heap from which objects were freed early.
+//! and that a cycle, a lookup and a whole run go the same way over a heap from which objects were freed early. `checkpoint_laws` says
+//! where a machine goes on that is kept and loaded again, and what a guarded run is, which does so at each checkpoint. `pin_laws` says
+//! which objects are pinned, and that none of them changes places.
 //!
 //!     ghost use Rattle.blue_model.specs.Cycle.{Parked, Stuck, ending};
 //!     // a contract cites a run: `ending steps heap` is `Parked step m`, or `Stuck why ran`, and then:
 //!     let number = cause.number();                       // 1 to 7, of a run that is stuck
 //!
-//! Read `Machine` first, of the files of `specs/`, then `Contexts`, `Lookup`, `Messages`, `Sends`, `Bytecodes` and `Cycle`; primitives
-//! are in `Arithmetic`, `Storage`, `Control`, `Processes`, `BitBlt` and `Devices`, and `Queues` reads process lists as lists. `Law` says
-//! what the laws of thinning promise, `Alike` how they are proved of rules, and `Base` has heaps as worked values. The crate runs
-//! nothing.
+//! Read `Machine` first, of the files of `specs/`, then `Contexts`, `Lookup`, `Messages`, `Sends`, `Bytecodes` and `Cycle`, and `Loaded`
+//! and `Guarded` for what is kept; primitives are in `Arithmetic`, `Storage`, `Control`, `Processes`, `BitBlt` and `Devices`, and
+//! `Queues` reads process lists as lists. `Law` says what the laws of thinning promise, `Alike` how they are proved of rules, and `Base`
+//! and `Snaps` have heaps as worked values. The crate runs nothing.
 #![tactic(auto)]
 
 mod answer;
 mod cause;
+pub mod checkpoint_laws;
 mod cpu;
 mod event;
 pub mod indexes;
 pub mod laws;
 pub mod limits;
+pub mod log_laws;
+pub mod pin_laws;
 mod spot;
 mod step;
 

@@ -9,6 +9,15 @@ pub const LAST_BYTE: u32 = 16_381;
 /// The most classes that a lookup visits.
 pub const LONGEST_CHAIN: u32 = 1024;
 
+/// The most bytes of a large integer.
+pub const LARGE_BYTES: u32 = 16;
+
+/// A large integer is from -(2 to this power) to 2 to this power less 1.
+pub const LARGE_BITS: u32 = 127;
+
+/// The serial number under which nothing more is kept: the last one of a checkpoint.
+pub const LAST_SERIAL: u64 = 4_611_686_018_427_387_903;
+
 // ---- the flag of a method's header (chapter 27, compiled methods). Below these it is the number of arguments
 
 /// The method answers its receiver.

@@ -7,4 +7,6 @@ pub enum Step {
     Next,
     /// The machine is to end.
     Quit,
+    /// The machine is to be kept as it is, and goes on.
+    Keep,
 }

@@ -6,25 +6,26 @@ use Rattle.blue_model.specs.Bytecodes.{bytecode, bytecodes, push_receiver, push_
 use Rattle.blue_model.specs.Primitives.{then_next}
 use Rattle.blue_model.specs.Processes.{check_switch}
 use Rattle.blue_model.specs.Devices.{due, events_due, check_timer, picture, display_form}
+use Rattle.blue_model.specs.State.{begin, restore}
 use Rattle.blue_model.specs.Cycle.{ending, run, cycle, turn, step, count_bytecode, park_and_draw}
 use Rattle.blue_model.proofs.laws.base_image.Goals as goal
 
 pub returns-clause-none : goal.returns-clause-none
-unfolding ending ◌>>=◌ run cycle turn step count_bytecode start need_method put_context load_home load fetch park store_registers store_field scheduler active_process park_new check_switch due events_due check_timer park_and_draw picture display_form then_next bytecode bytecodes push_receiver push_of push_number long_jump jump push pop store part look known given pick register put_register numbers set_numbers clear pin unpin_all done halt field number size home_of code_of byte_of receiver_variable
+unfolding ending begin restore ◌>>=◌ run cycle turn step count_bytecode start need_method put_context load_home load fetch park store_registers store_field scheduler active_process park_new check_switch due events_due check_timer park_and_draw picture display_form then_next bytecode bytecodes push_receiver push_of push_number long_jump jump push pop store part look known given pick register put_register numbers set_numbers clear pin unpin_all done halt field number size home_of code_of byte_of receiver_variable
 returns-clause-none c = refl
 
 pub returns-clause-one : goal.returns-clause-one
-unfolding ending ◌>>=◌ run cycle turn step count_bytecode start need_method put_context load_home load fetch park store_registers store_field scheduler active_process park_new check_switch due events_due check_timer park_and_draw picture display_form then_next bytecode bytecodes push_receiver push_of push_number long_jump jump push pop store part look known given pick register put_register numbers set_numbers clear pin unpin_all done halt field number size home_of code_of byte_of receiver_variable
+unfolding ending begin restore ◌>>=◌ run cycle turn step count_bytecode start need_method put_context load_home load fetch park store_registers store_field scheduler active_process park_new check_switch due events_due check_timer park_and_draw picture display_form then_next bytecode bytecodes push_receiver push_of push_number long_jump jump push pop store part look known given pick register put_register numbers set_numbers clear pin unpin_all done halt field number size home_of code_of byte_of receiver_variable
 returns-clause-one c = refl
 
 pub returns-clause-two : goal.returns-clause-two
-unfolding ending ◌>>=◌ run cycle turn step count_bytecode start need_method put_context load_home load fetch park store_registers store_field scheduler active_process park_new check_switch due events_due check_timer park_and_draw picture display_form then_next bytecode bytecodes push_receiver push_of push_number long_jump jump push pop store part look known given pick register put_register numbers set_numbers clear pin unpin_all done halt field number size home_of code_of byte_of receiver_variable
+unfolding ending begin restore ◌>>=◌ run cycle turn step count_bytecode start need_method put_context load_home load fetch park store_registers store_field scheduler active_process park_new check_switch due events_due check_timer park_and_draw picture display_form then_next bytecode bytecodes push_receiver push_of push_number long_jump jump push pop store part look known given pick register put_register numbers set_numbers clear pin unpin_all done halt field number size home_of code_of byte_of receiver_variable
 returns-clause-two c = refl
 
 pub returns-clause-three : goal.returns-clause-three
-unfolding ending ◌>>=◌ run cycle turn step count_bytecode start need_method put_context load_home load fetch park store_registers store_field scheduler active_process park_new check_switch due events_due check_timer park_and_draw picture display_form then_next bytecode bytecodes push_receiver push_of push_number long_jump jump push pop store part look known given pick register put_register numbers set_numbers clear pin unpin_all done halt field number size home_of code_of byte_of receiver_variable
+unfolding ending begin restore ◌>>=◌ run cycle turn step count_bytecode start need_method put_context load_home load fetch park store_registers store_field scheduler active_process park_new check_switch due events_due check_timer park_and_draw picture display_form then_next bytecode bytecodes push_receiver push_of push_number long_jump jump push pop store part look known given pick register put_register numbers set_numbers clear pin unpin_all done halt field number size home_of code_of byte_of receiver_variable
 returns-clause-three c = refl
 
 pub returns-clause-four : goal.returns-clause-four
-unfolding ending ◌>>=◌ run cycle turn step count_bytecode start need_method put_context load_home load fetch park store_registers store_field scheduler active_process park_new check_switch due events_due check_timer park_and_draw picture display_form then_next bytecode bytecodes push_receiver push_of push_number long_jump jump push pop store part look known given pick register put_register numbers set_numbers clear pin unpin_all done halt field number size home_of code_of byte_of receiver_variable
+unfolding ending begin restore ◌>>=◌ run cycle turn step count_bytecode start need_method put_context load_home load fetch park store_registers store_field scheduler active_process park_new check_switch due events_due check_timer park_and_draw picture display_form then_next bytecode bytecodes push_receiver push_of push_number long_jump jump push pop store part look known given pick register put_register numbers set_numbers clear pin unpin_all done halt field number size home_of code_of byte_of receiver_variable
 returns-clause-four c = refl
