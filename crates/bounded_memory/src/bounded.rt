@@ -291,6 +291,10 @@ impl ObjectMemory for BoundedMemory {
         self.memory.hash(r)
     }
 
+    fn is_pinned(&self, r: Reg) -> bool {
+        self.memory.is_pinned(r)
+    }
+
     fn class(&mut self, to: Reg, of: Reg) -> Result<(), MemFault> {
         if self.memory.as_int(of).is_some() {
             return self.memory.class(to, of);

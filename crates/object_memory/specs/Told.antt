@@ -51,10 +51,14 @@ pub record IsReady (t : Told) : Type 0 where
   pub marked : IsTrue t.tells → (n : ℕ) → t.cache.marks n ≡ true → Has t.heap n
   pub cached : (c s m : ℕ) → t.cache.rows c s m ≡ true → t.cache.marks m ≡ true
 
+-- a slot has this name
+abbrev pub has_slot : (ℕ → Option ℕ) → ℕ → Bool
+has_slot slots n = any_below SLOTS (λ i. is_pinned n (slots i))
+
 -- what a row needs of a core
 abbrev pub need_of : Heap → Row → Need
 need_of h r = record { object = r.object; words = words_of_row h r; entries = entries_of_row h r }
 
 -- the names in registers and slots
 abbrev pub is_root : Told → ℕ → Bool
-is_root t n = any_below REGISTERS (λ r. is_ref n (t.regs r)) || any_below SLOTS (λ i. is_pinned n (t.slots i))
+is_root t n = any_below REGISTERS (λ r. is_ref n (t.regs r)) || has_slot t.slots n

@@ -15,7 +15,7 @@ pub trait ObjectMemory {
     ghost use Rattle.long_names.specs.Access.{Known, Class, KindOf, Length, Header, Field, SetField, Word, SetWord, Byte, SetByte, ReadWords, WriteWords, ReadBytes, Make, Pin, Mark, Say, Swap, Nothing, OfKind, OfNumber, OfSigned, OfRun};
     ghost use Rattle.long_names.specs.State.{set_register, set_slot, name_at, part_at, IsRef};
     ghost use Rattle.long_names.specs.declared.value.Value.TheVariants.{Int, Ref};
-    ghost use Rattle.object_memory.specs.Told.{Told};
+    ghost use Rattle.object_memory.specs.Told.{Told, has_slot};
     ghost use Rattle.object_memory.specs.Contract.{MayDo, Accessed, Called, Follows, IsLater, Settles, Thins, is_marked, IsFound, IsUnknown, IsPut};
     ghost use Rattle.object_memory.specs.Fit.{MayCall, StaysCallable, KeepsCallable};
 
@@ -76,6 +76,12 @@ pub trait ObjectMemory {
         requires sound { sound self.now }
         requires name { IsRef ((told self.now).regs r) }
         ensures { result ≡ name_at ((told self.now).regs r) / 2 };
+
+    /// Whether a slot has the name in the register.
+    fn is_pinned(&self, r: Reg) -> bool
+        requires sound { sound self.now }
+        requires name { IsRef ((told self.now).regs r) }
+        ensures { result ≡ has_slot (told self.now).slots (name_at ((told self.now).regs r)) };
 
     /// The class; SmallInteger for a number (fetchClassOf:).
     fn class(&mut self, to: Reg, of: Reg) -> Result<(), MemFault>

@@ -239,6 +239,10 @@ impl ObjectMemory for PlainMemory {
         self.registers.name(r).index()
     }
 
+    fn is_pinned(&self, r: Reg) -> bool {
+        self.slots.has(self.registers.name(r))
+    }
+
     fn class(&mut self, to: Reg, of: Reg) -> Result<(), MemFault> {
         let class = self.class_of(of);
         self.registers.set(to, Value::Ref(class));

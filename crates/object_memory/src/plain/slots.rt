@@ -5,6 +5,7 @@ ghost use Rattle.long_names.specs.Need.{is_pinned};
 ghost use Rattle.object_memory.specs.Counts.{count_in};
 ghost use Rattle.long_names.specs.State.{set_slot};
 ghost use Rattle.object_memory.specs.Plain.{names_of};
+ghost use Rattle.object_memory.specs.Told.{has_slot};
 
 use crate::plain::counts::Counts;
 use long_names::Name;
@@ -14,6 +15,16 @@ use std::alloc::AllocError;
 #[derive(Drop)]
 pub(crate) struct Slots {
     pub(crate) names: [Option<Name>; 3],
+}
+
+/// Whether a slot has this name.
+fn is_pinned(slot: Option<Name>, name: Name) -> bool
+    ensures { result ≡ is_pinned name slot }
+{
+    match slot {
+        Some(pinned) => pinned == name,
+        None => false,
+    }
 }
 
 impl Slots {
@@ -29,6 +40,15 @@ impl Slots {
         ensures { names_of self.new ≡ set_slot (names_of self.old) slot name }
     {
         self.names[slot as usize] = name;
+    }
+
+    /// Whether one of them has this name.
+    pub(crate) fn has(&self, name: Name) -> bool
+        ensures { result ≡ has_slot (names_of self.now) name }
+    {
+        is_pinned(self.names[0], name)
+            || is_pinned(self.names[1], name)
+            || is_pinned(self.names[2], name)
     }
 
     /// Counts the names in them, beside those of the registers.
