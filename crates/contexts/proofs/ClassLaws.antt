@@ -39,6 +39,7 @@ class_here {t} {cpu} of v ready is = record {
   ready = ready;
   reason = tt;
   counts = (0, IsCounted-refl t);
+  vault = λ may. may;
   silent = λ speaks. refl;
   model = λ told m st. (let it = is told in subst (λ x. Gives t cpu (Ok v) (classed m (t.regs of) x)) (sym (class_same m.heap t.heap st.heap (t.regs of) it.0 it.1)) (it.2, st));
 }

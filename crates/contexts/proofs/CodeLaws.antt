@@ -34,10 +34,10 @@ use Rattle.contexts.proofs.PartLaws.{code_is, code_none}
 -- ---- what was done without an access serves a rule, if it does where the heap is told
 
 pub told_serves : {A : Type 0} {t : Told} {cpu : Cpu} {rule : Rule A} {a : A} → IsReady t → (IsTrue t.tells → Serves t cpu t cpu rule (Ok a)) → Serves t cpu t cpu rule (Ok a)
-told_serves {A} {t} {cpu} {rule} {a} ready s = record { later = IsLater-refl t; ready = ready; reason = tt; counts = (0, IsCounted-refl t); silent = λ speaks. refl; model = λ told m st. (s told).model told m st }
+told_serves {A} {t} {cpu} {rule} {a} ready s = record { later = IsLater-refl t; ready = ready; reason = tt; counts = (0, IsCounted-refl t); vault = λ may. may; silent = λ speaks. refl; model = λ told m st. (s told).model told m st }
 
 pub told_stuck : {A : Type 0} {t : Told} {cpu : Cpu} {rule : Rule A} {c : Cause} → (IsTrue t.tells → Serves t cpu t cpu rule (Err (Stuck c))) → Serves t cpu t cpu rule (Err (Stuck c))
-told_stuck {A} {t} {cpu} {rule} {c} s = record { later = IsLater-refl t; ready = tt; reason = tt; counts = tt; silent = λ speaks. refl; model = λ told m st. (s told).model told m st }
+told_stuck {A} {t} {cpu} {rule} {c} s = record { later = IsLater-refl t; ready = tt; reason = tt; counts = tt; vault = tt; silent = λ speaks. refl; model = λ told m st. (s told).model told m st }
 
 -- ---- places
 

@@ -13,5 +13,6 @@ pub mod ServesLaws
 pub mod SpeaksLaws
 pub mod Steps
 pub mod StoreLaws
+pub mod SwapLaws
 pub mod TableLaws
 pub mod TrialLaws

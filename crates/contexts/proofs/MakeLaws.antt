@@ -53,6 +53,7 @@ make_serves {Z} {z} {old} {new} {cpu} {spell} to class what above before ready x
   ready = ready;
   reason = tt;
   counts = (1, record { counts = x.called.ok.counts; next = λ told. (let same = (x.called.ok.heap told).next in omega arith) });
+  vault = λ may. may;
   silent = x.called.ok.transcript;
   model = λ told m st. go told m st (nat_lt m.heap.next LAST_NAME) refl;
 }
@@ -107,6 +108,7 @@ make_refused {Z} {old} {new} {cpu} {f} to class what ready x = record {
   ready = tt;
   reason = refused_reason old new (Make to class what) f x.err;
   counts = tt;
+  vault = tt;
   silent = refused_silent old new (Make to class what) f (λ says. says) x.err.transcript;
   model = λ told m st. go told m st (nat_lt m.heap.next LAST_NAME) refl;
 }

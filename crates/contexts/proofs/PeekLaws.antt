@@ -44,6 +44,7 @@ peek_here {A} {t} {cpu} f r x ready e = record {
   ready = ready;
   reason = tt;
   counts = (0, IsCounted-refl t);
+  vault = λ may. may;
   silent = λ speaks. refl;
   model = λ told m st. peeks_here f t cpu m (t.regs r) x ((ready.whole told).rooted r) st (e told);
 }
@@ -92,6 +93,7 @@ by_steps {A} {B} {old} {new} {cpu} {now} {answer} f g v s = record {
   ready = s.ready;
   reason = s.reason;
   counts = s.counts;
+  vault = s.vault;
   silent = s.silent;
   model = λ told m st. subst (Gives new now answer) (sym (peek_by f g v m)) (s.model told m st);
 }

@@ -83,6 +83,7 @@ part_serves {A} {t} {cpu} c f r a ready e = record {
   ready = ready;
   reason = tt;
   counts = (0, IsCounted-refl t);
+  vault = λ may. may;
   silent = λ speaks. refl;
   model = λ told m st. subst (Gives t cpu (Ok a)) (sym (goes_here c f t cpu m (t.regs r) a st (e told))) (refl, st);
 }
@@ -94,6 +95,7 @@ part_stuck {A} {t} {cpu} f r ready e = record {
   ready = tt;
   reason = tt;
   counts = tt;
+  vault = tt;
   silent = λ speaks. refl;
   model = λ told m st. stuck_here f t cpu m (t.regs r) ((ready.whole told).rooted r) st (e told);
 }
@@ -106,6 +108,7 @@ part_first {A} {B} {w} {t} {new} {cpu} {now} {rest} {answer} c f r there s = rec
   ready = s.ready;
   reason = s.reason;
   counts = s.counts;
+  vault = s.vault;
   silent = s.silent;
   model = λ told m st.
       let it = there told in
@@ -136,6 +139,7 @@ part_steps {A} {B} {w} {old} {new} {cpu} {now} {answer} c f g v s = record {
   ready = s.ready;
   reason = s.reason;
   counts = s.counts;
+  vault = s.vault;
   silent = s.silent;
   model = λ told m st. subst (GivesAs w new now answer) (sym (part_by c f g v m)) (s.model told m st);
 }
@@ -265,6 +269,7 @@ row_refused {A} {B} {old} {new} {cpu} {rule} {f} v a rows one makes says need re
   ready = tt;
   reason = refused_reason old new a f x.err;
   counts = tt;
+  vault = tt;
   silent = refused_silent old new a f says x.err.transcript;
   model = λ told m st.
       let row = subst (λ n. IsLogged n (rows_at m v)) (sym need) (logged_here old cpu m v (ready.whole told) (there told) st) in
@@ -335,6 +340,7 @@ known_here {t} {cpu} n is ready = record {
   ready = ready;
   reason = tt;
   counts = (0, IsCounted-refl t);
+  vault = λ may. may;
   silent = λ speaks. refl;
   model = λ told m st. (let it = has t.heap n ((ready.whole told).known n is) in subst (Gives t cpu (Ok (Ref n))) (sym (known_goes n m it.0 (st.heap.same n it.0 it.1))) (refl, st));
 }

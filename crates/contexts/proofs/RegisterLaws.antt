@@ -37,6 +37,7 @@ pin_serves {Z} {z} {old} {new} {cpu} slot of before ready named x = record {
   ready = ready;
   reason = tt;
   counts = (0, record { counts = x.ok.counts; next = λ told. (let same = (x.ok.heap told).next in omega arith) });
+  vault = λ may. may;
   silent = x.ok.transcript;
   model = λ told m st. go told m st (old.regs of) refl named;
 }
@@ -74,7 +75,7 @@ pin_refused {Z} {old} {new} {cpu} {f} slot of ready named x = object_refused of 
 -- a number is not pinned
 pub pin_stuck : {t : Told} {cpu : Cpu} (slot of : ℕ) → (IsRef (t.regs of) → ⊥) → Serves t cpu t cpu (pin slot (t.regs of)) (Err (Stuck Shape))
 unfolding pin
-pin_stuck {t} {cpu} slot of unnamed = record { later = IsLater-refl t; ready = tt; reason = tt; counts = tt; silent = λ speaks. refl; model = λ told m st. go m (t.regs of) unnamed }
+pin_stuck {t} {cpu} slot of unnamed = record { later = IsLater-refl t; ready = tt; reason = tt; counts = tt; vault = tt; silent = λ speaks. refl; model = λ told m st. go m (t.regs of) unnamed }
   where
     go : (m : Machine) (v : Value) → (IsRef v → ⊥) → Gives {A = Unit {0}} t cpu (Err (Stuck Shape)) (pin slot v m)
     go m (Int z) unnamed = refl
@@ -88,6 +89,7 @@ unpin_serves {old} {new} {cpu} ready e = subst (λ (t : Told). Serves old cpu t 
   ready = subst IsReady e ready;
   reason = tt;
   counts = (0, record { counts = Raised-refl old.bounds; next = λ told. omega arith });
+  vault = λ may. may;
   silent = λ speaks. refl;
   model = λ told m st. (
     refl,
@@ -123,6 +125,7 @@ put_serves {old} {new} {cpu} to from low before ready e = subst (λ (t : Told). 
   ready = subst IsReady e ready;
   reason = tt;
   counts = (0, record { counts = Raised-refl old.bounds; next = λ told. omega arith });
+  vault = λ may. may;
   silent = λ speaks. refl;
   model = λ told m st.
       let there = held_there m.heap old.heap old.regs old.slots (thinned_here old cpu m before told st) from in

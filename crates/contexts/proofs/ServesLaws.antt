@@ -68,6 +68,13 @@ HasReason-earlier a b c (Ok x) l n q = tt
 HasReason-earlier a b c (Err (Stuck d)) l n q = tt
 HasReason-earlier a b c (Err (Mem f)) l n q = record { rose = Rose-earlier a.refusals b.refusals c.refusals l.refusals q.rose; last = q.last; cause = IsCaused-earlier a b c f l n q.cause }
 
+-- ---- the vault
+
+-- what opened it neither before nor after opened it at all
+pub vault_then : {A : Type 0} (cpu between now : Cpu) (r : Result A Stop) → (IsTrue between.vault → IsTrue cpu.vault) → OnOk r (IsTrue now.vault → IsTrue between.vault) → OnOk r (IsTrue now.vault → IsTrue cpu.vault)
+vault_then cpu between now (Ok x) p q = λ may. p (q may)
+vault_then cpu between now (Err e) p q = tt
+
 -- ---- what was said
 
 -- nothing, twice
@@ -103,11 +110,11 @@ says_quietly (Some x) old new (Err (Mem Memory)) h = h
 
 -- ---- logs
 
-IsLogged-after : (need : Need) (xs ys : List LogRow) → IsLogged need ys → IsLogged need (xs ++ ys)
+pub IsLogged-after : (need : Need) (xs ys : List LogRow) → IsLogged need ys → IsLogged need (xs ++ ys)
 IsLogged-after need [] ys h = h
 IsLogged-after need (x ∷ xs) ys h = inr (IsLogged-after need xs ys h)
 
-IsLogged-before : (need : Need) (xs ys : List LogRow) → IsLogged need xs → IsLogged need (xs ++ ys)
+pub IsLogged-before : (need : Need) (xs ys : List LogRow) → IsLogged need xs → IsLogged need (xs ++ ys)
 IsLogged-before need [] ys h = absurd h
 IsLogged-before need (x ∷ xs) ys (inl h) = inl h
 IsLogged-before need (x ∷ xs) ys (inr h) = inr (IsLogged-before need xs ys h)
@@ -218,6 +225,7 @@ speaks_quiet {A} {w} {old} {new} {cpu} {now} {rule} {answer} s = record {
   ready = s.ready;
   reason = s.reason;
   counts = s.counts;
+  vault = s.vault;
   silent = says_quietly w old new answer s.silent;
   model = λ told m st. gives_quietly w new now answer (rule m) (s.model told m st);
 }
@@ -230,6 +238,7 @@ serves_then {A} {B} {w} {old} {mid} {new} {cpu} {between} {now} {p} k {a} {answe
   ready = s.ready;
   reason = HasReason-earlier old mid new answer f.later f.counts s.reason;
   counts = counts_trans old mid new answer f.later f.counts s.counts;
+  vault = vault_then cpu between now answer f.vault s.vault;
   silent = says_later w old mid new answer f.later f.silent s.silent;
   model = λ told m st. Gives-then w mid new between now (p m) k a answer (f.model told m st) (λ n sn. s.model (f.later.tells ∙ told) n sn);
 }
@@ -247,6 +256,7 @@ serves_stop {A} {B} {w} {old} {new} {cpu} {now} {p} k {e} f = record {
   ready = tt;
   reason = reason_other A B old new e f.reason;
   counts = tt;
+  vault = tt;
   silent = says_quietly w old new (Err e) f.silent;
   model = λ told m st. Gives-stop w new now (p m) k e (f.model told m st);
 }
@@ -270,6 +280,7 @@ by_model {A} {old} {new} {cpu} {now} {r} p q step s = record {
   ready = s.ready;
   reason = s.reason;
   counts = s.counts;
+  vault = s.vault;
   silent = s.silent;
   model = λ told m st. step m told st (s.model told m st);
 }

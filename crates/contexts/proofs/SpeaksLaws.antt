@@ -31,7 +31,7 @@ use Rattle.contexts.proofs.StoreLaws.{thinned_here}
 
 -- A call that answered something else said nothing,
 pub speaks_not : {A : Type 0} {b : A} {old new : Told} {cpu now : Cpu} {rule : Rule A} {a : A} → Speaks b old cpu new now rule (Ok a) → (a ≡ b → ⊥) → Serves old cpu new now rule (Ok a)
-speaks_not {A} {b} {old} {new} {cpu} {now} {rule} {a} s other = record { later = s.later; ready = s.ready; reason = tt; counts = s.counts; silent = silent s.silent; model = s.model }
+speaks_not {A} {b} {old} {new} {cpu} {now} {rule} {a} s other = record { later = s.later; ready = s.ready; reason = tt; counts = s.counts; vault = s.vault; silent = silent s.silent; model = s.model }
   where
     silent : Says (Some b) old new (Ok a) → SaidNothing old new
     silent (inl e) = absurd (other e)
@@ -49,6 +49,7 @@ speaks_then {A} {B} {b} {c} {old} {mid} {new} {cpu} {between} {now} {p} k {a} {d
   ready = s.ready;
   reason = tt;
   counts = counts_trans old mid new (Ok d) f.later f.counts s.counts;
+  vault = λ may. f.vault (s.vault may);
   silent = silent f.silent;
   model = λ told m st. Gives-then (Some c) mid new between now (p m) k a (Ok d) (f.model told m st) (λ n sn. s.model (f.later.tells ∙ told) n sn);
 }
@@ -140,6 +141,7 @@ speaks_stop {A} {B} {b} {c} {old} {new} {cpu} {now} {p} k {e} f rest = record {
   ready = tt;
   reason = reason_other A B old new e f.reason;
   counts = tt;
+  vault = tt;
   silent = says_other b c old new e f.silent;
   model = λ told m st. gives_said b c new now (p m) k e rest (f.model told m st);
 }
@@ -169,6 +171,7 @@ say_serves {Z} {z} {old} {new} {cpu} of before ready may x = record {
   ready = ready;
   reason = tt;
   counts = (0, record { counts = x.ok.counts; next = λ told. (let same = (x.ok.heap told).next in omega arith) });
+  vault = λ may. may;
   silent = inl refl;
   model = λ told m st. (
       let it = text_here old cpu m of before told st may in
@@ -200,6 +203,7 @@ say_refused {Z} {old} {new} {cpu} {f} of ready may x = record {
   ready = tt;
   reason = refused_reason old new (Say of) f x.err;
   counts = tt;
+  vault = tt;
   silent = silent f x.err.transcript;
   model = λ told m st. allows told m st f x.err;
 }
@@ -250,6 +254,7 @@ say_stuck {t} {cpu} of ready none = record {
   ready = tt;
   reason = tt;
   counts = tt;
+  vault = tt;
   silent = λ speaks. refl;
   model = λ told m st.
       let lost : part_at m.heap (t.regs of) text_of ≡ None = part-same m.heap t.heap t.regs t.slots (thinned_here t cpu m ready told st) of text_of ∙ none told in

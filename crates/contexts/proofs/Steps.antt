@@ -25,7 +25,7 @@ use Rattle.contexts.proofs.ServesLaws.{IsCounted-refl, IsCounted-trans, counts_t
 
 pub done_serves : {A : Type 0} {w : Option A} {t : Told} {cpu : Cpu} {a : A} → IsReady t → ServesAs w t cpu t cpu (done a) (Ok a)
 unfolding done
-done_serves {A} {w} {t} {cpu} {a} r = record { later = IsLater-refl t; ready = r; reason = tt; counts = (0, IsCounted-refl t); silent = says_quietly w t t (Ok a) (λ speaks. refl); model = λ told m st. (refl, st) }
+done_serves {A} {w} {t} {cpu} {a} r = record { later = IsLater-refl t; ready = r; reason = tt; counts = (0, IsCounted-refl t); vault = λ may. may; silent = says_quietly w t t (Ok a) (λ speaks. refl); model = λ told m st. (refl, st) }
 
 -- a register that was carried over later calls has the value
 pub done_same : {A : Type 0} {w : Option A} {t : Told} {cpu : Cpu} {a b : A} → b ≡ a → IsReady t → ServesAs w t cpu t cpu (done a) (Ok b)
@@ -33,7 +33,7 @@ done_same {A} {w} {t} {cpu} {a} {b} e ready = subst (λ x. ServesAs w t cpu t cp
 
 pub halt_serves : {A : Type 0} {w : Option A} {t : Told} {cpu : Cpu} {c : Cause} → ServesAs w t cpu t cpu (halt c) (Err (Stuck c))
 unfolding halt
-halt_serves {A} {w} {t} {cpu} {c} = record { later = IsLater-refl t; ready = tt; reason = tt; counts = tt; silent = says_quietly w t t (Err (Stuck c)) (λ speaks. refl); model = λ told m st. refl }
+halt_serves {A} {w} {t} {cpu} {c} = record { later = IsLater-refl t; ready = tt; reason = tt; counts = tt; vault = tt; silent = says_quietly w t t (Err (Stuck c)) (λ speaks. refl); model = λ told m st. refl }
 
 -- ---- registers and numbers
 
@@ -44,6 +44,7 @@ register_then {B} {w} {t} {new} {cpu} {now} r k {answer} low s = record {
   ready = s.ready;
   reason = s.reason;
   counts = s.counts;
+  vault = s.vault;
   silent = s.silent;
   model = λ told m st. Gives-after w new now [] (k (m.regs r) m) answer (subst (λ v. GivesAs w new now answer (k v m)) (sym (st.regs r (ltb-true r MACHINE_REGISTERS low))) (s.model told m st));
 }
@@ -59,6 +60,7 @@ clear_serves {old} {new} {cpu} among ready e cleared = subst (λ (t : Told). Ser
       ready = ready;
       reason = tt;
       counts = (0, record { counts = Raised-refl old.bounds; next = λ told. omega arith });
+      vault = λ may. may;
       silent = λ speaks. refl;
       model = λ told m st. (
         refl,
@@ -80,23 +82,26 @@ numbers_then {B} {w} {t} {new} {cpu} {now} k {answer} s = record {
   ready = s.ready;
   reason = s.reason;
   counts = s.counts;
+  vault = s.vault;
   silent = s.silent;
   model = λ told m st. Gives-after w new now [] (k m.cpu m) answer (subst (λ n. GivesAs w new now answer (k n m)) (sym st.numbers) (s.model told m st));
 }
 
-pub set_numbers_serves : {w : Option (Unit {0})} {t : Told} {cpu now : Cpu} → IsReady t → ServesAs w t cpu t now (set_numbers now) (Ok tt)
+-- numbers that don't open the vault
+pub set_numbers_serves : {w : Option (Unit {0})} {t : Told} {cpu now : Cpu} → (IsTrue now.vault → IsTrue cpu.vault) → IsReady t → ServesAs w t cpu t now (set_numbers now) (Ok tt)
 unfolding set_numbers
-set_numbers_serves {w} {t} {cpu} {now} r = record {
+set_numbers_serves {w} {t} {cpu} {now} opens r = record {
   later = IsLater-refl t;
   ready = r;
   reason = tt;
   counts = (0, IsCounted-refl t);
+  vault = opens;
   silent = says_quietly w t t (Ok tt) (λ speaks. refl);
   model = λ told m st. (refl, record { heap = st.heap; regs = st.regs; slots = st.slots; numbers = refl; transcript = st.transcript; cache = st.cache });
 }
 
-pub set_numbers_at : {w : Option (Unit {0})} {t : Told} {cpu now : Cpu} (next : Cpu) → now ≡ next → IsReady t → ServesAs w t cpu t now (set_numbers next) (Ok tt)
-set_numbers_at {w} {t} {cpu} {now} next e ready = subst (λ n. ServesAs w t cpu t now (set_numbers n) (Ok tt)) e (set_numbers_serves ready)
+pub set_numbers_at : {w : Option (Unit {0})} {t : Told} {cpu now : Cpu} (next : Cpu) → now ≡ next → (IsTrue next.vault → IsTrue cpu.vault) → IsReady t → ServesAs w t cpu t now (set_numbers next) (Ok tt)
+set_numbers_at {w} {t} {cpu} {now} next e opens ready = subst (λ n. ServesAs w t cpu t n (set_numbers next) (Ok tt)) (sym e) (set_numbers_serves opens ready)
 
 -- ---- values that there may be
 
@@ -107,6 +112,7 @@ given_then {A} {B} {w} {t} {new} {cpu} {now} c o k a {answer} e s = record {
   ready = s.ready;
   reason = s.reason;
   counts = s.counts;
+  vault = s.vault;
   silent = s.silent;
   model = λ told m st. (let P : Option A → Type 0 = λ x. GivesAs w new now answer (then_do (given c x m) k) in subst P (sym (e told)) (Gives-after w new now [] (k a m) answer (s.model told m st)));
 }
@@ -118,6 +124,7 @@ given_stuck {A} {B} {w} {t} {cpu} {now} {c} o k e = record {
   ready = tt;
   reason = tt;
   counts = tt;
+  vault = tt;
   silent = says_quietly w t t (Err (Stuck c)) (λ speaks. refl);
   model = λ told m st. (let P : Option A → Type 0 = λ x. Gives {A = B} t now (Err (Stuck c)) (then_do (given c x m) k) in subst P (sym (e told)) refl);
 }
@@ -129,6 +136,7 @@ given_serves {A} {w} {t} {cpu} c o a ready e = record {
   ready = ready;
   reason = tt;
   counts = (0, IsCounted-refl t);
+  vault = λ may. may;
   silent = says_quietly w t t (Ok a) (λ speaks. refl);
   model = λ told m st. (let P : Option A → Type 0 = λ x. Gives t cpu (Ok a) (given c x m) in subst P (sym (e told)) (refl, st));
 }
@@ -140,6 +148,7 @@ given_ends {A} {w} {t} {cpu} c o e = record {
   ready = tt;
   reason = tt;
   counts = tt;
+  vault = tt;
   silent = says_quietly w t t (Err (Stuck c)) (λ speaks. refl);
   model = λ told m st. (let P : Option A → Type 0 = λ x. Gives {A = A} t cpu (Err (Stuck c)) (given c x m) in subst P (sym (e told)) refl);
 }
@@ -271,6 +280,7 @@ read_first {B} {w} {old} {mid} {new} {cpu} {now} {rule} {answer} ready q s = rec
   ready = s.ready;
   reason = HasReason-earlier old mid new answer q.later (0, q.counts) s.reason;
   counts = counts_trans old mid new answer q.later (0, q.counts) s.counts;
+  vault = s.vault;
   silent = says_later w old mid new answer q.later q.silent s.silent;
   model = λ told m st. s.model (q.later.tells ∙ told) m (stands_quietly old mid cpu m ready q told st);
 }
@@ -282,6 +292,7 @@ read_last {B} {old} {mid} {new} {cpu} {now} {rule} {a} s q = record {
   ready = q.ready;
   reason = tt;
   counts = (s.counts.0 + 0, IsCounted-trans s.counts.0 0 old mid new s.later s.counts.1 q.counts);
+  vault = s.vault;
   silent = λ speaks. q.silent (s.later.speaks ∙ speaks) ∙ s.silent speaks;
   model = λ told m st. step (rule m) (s.later.tells ∙ told) (s.model told m st);
 }
@@ -298,6 +309,7 @@ stuck_last {B} {old} {mid} {new} {cpu} {now} {rule} {c} s q = record {
   ready = tt;
   reason = tt;
   counts = tt;
+  vault = tt;
   silent = λ speaks. q.silent (s.later.speaks ∙ speaks) ∙ s.silent speaks;
   model = s.model;
 }

@@ -65,6 +65,7 @@ store_serves {Z} {z} {old} {new} {cpu} of i from before ready may x = record {
   ready = ready;
   reason = tt;
   counts = (0, record { counts = x.ok.counts; next = λ told. (let same = (x.ok.heap told).next ∙ next_stored old.heap (old.regs of) _ in omega arith) });
+  vault = λ may. may;
   silent = x.ok.transcript;
   model = λ told m st.
       let it = may.heap told in
@@ -136,6 +137,7 @@ store_stuck {t} {cpu} of i from ready none = record {
   ready = tt;
   reason = tt;
   counts = tt;
+  vault = tt;
   silent = λ speaks. refl;
   model = λ told m st.
       let lost : part_at m.heap (t.regs of) (λ b. field_of b i) ≡ None = part-same m.heap t.heap t.regs t.slots (thinned_here t cpu m ready told st) of (λ b. field_of b i) ∙ none told in
@@ -155,6 +157,7 @@ change_serves {A} {Z} {z} {old} {new} {cpu} f change of a over regs slots counts
   ready = ready;
   reason = tt;
   counts = (0, record { counts = counts; next = λ told. (let same = (x.ok.heap told).next ∙ ap (λ (h : Heap). h.next) (over old.heap) ∙ next_stored old.heap (old.regs of) change in omega arith) });
+  vault = λ may. may;
   silent = silent;
   model = λ told m st.
       let it = there told in
@@ -187,6 +190,7 @@ change_stuck {A} {t} {cpu} f change of ready none = record {
   ready = tt;
   reason = tt;
   counts = tt;
+  vault = tt;
   silent = λ speaks. refl;
   model = λ told m st.
       let lost : part_at m.heap (t.regs of) f ≡ None = part-same m.heap t.heap t.regs t.slots (thinned_here t cpu m ready told st) of f ∙ none told in

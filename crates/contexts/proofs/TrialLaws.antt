@@ -17,7 +17,7 @@ use Rattle.contexts.proofs.ServesLaws.{IsCounted-refl, says_quietly, serves_then
 -- nothing was done, and the primitive failed
 pub failed_serves : {w : Option Answer} {t : Told} {cpu : Cpu} → IsReady t → ServesAs w t cpu t cpu failed (Ok Failed)
 unfolding failed done
-failed_serves {w} {t} {cpu} ready = record { later = IsLater-refl t; ready = ready; reason = tt; counts = (0, IsCounted-refl t); silent = says_quietly w t t (Ok Failed) (λ speaks. refl); model = λ told m st. (refl, st) }
+failed_serves {w} {t} {cpu} ready = record { later = IsLater-refl t; ready = ready; reason = tt; counts = (0, IsCounted-refl t); vault = λ may. may; silent = says_quietly w t t (Ok Failed) (λ speaks. refl); model = λ told m st. (refl, st) }
 
 -- ---- a value that there may be
 
@@ -28,6 +28,7 @@ some_then {A} {w} {t} {new} {cpu} {now} o k a {answer} e s = record {
   ready = s.ready;
   reason = s.reason;
   counts = s.counts;
+  vault = s.vault;
   silent = s.silent;
   model = λ told m st. (let P : Option A → Type 0 = λ x. GivesAs w new now answer (where_some x k m) in subst P (sym (e told)) (s.model told m st));
 }
@@ -41,6 +42,7 @@ none_fails {A} {w} {t} {cpu} o k ready e =
       ready = s.ready;
       reason = s.reason;
       counts = s.counts;
+      vault = s.vault;
       silent = s.silent;
       model = λ told m st. (let P : Option A → Type 0 = λ x. GivesAs w t cpu (Ok Failed) (where_some x k m) in subst P (sym (e told)) (s.model told m st));
     }
@@ -54,6 +56,7 @@ true_then {w} {t} {new} {cpu} {now} b p {answer} e s = record {
   ready = s.ready;
   reason = s.reason;
   counts = s.counts;
+  vault = s.vault;
   silent = s.silent;
   model = λ told m st. (let P : Bool → Type 0 = λ x. GivesAs w new now answer (where_true x p m) in subst P (sym (e told)) (s.model told m st));
 }
@@ -67,6 +70,7 @@ false_fails {w} {t} {cpu} b p ready e =
       ready = s.ready;
       reason = s.reason;
       counts = s.counts;
+      vault = s.vault;
       silent = s.silent;
       model = λ told m st. (let P : Bool → Type 0 = λ x. GivesAs w t cpu (Ok Failed) (where_true x p m) in subst P (sym (e told)) (s.model told m st));
     }

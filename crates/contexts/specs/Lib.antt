@@ -1,4 +1,5 @@
 pub mod Cache
 pub mod Calls
+pub mod Keeping
 pub mod Places
 pub mod Serves

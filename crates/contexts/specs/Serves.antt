@@ -161,6 +161,8 @@ pub record ServesAs {A : Type 0} (w : Option A) (old : Told) (cpu : Cpu) (new : 
   pub ready : OnOk answer (IsReady new)
   pub reason : HasReason old new answer
   pub counts : OnOk answer ((makings : ℕ) × IsCounted makings old new)
+  -- no rule opens the vault
+  pub vault : OnOk answer (IsTrue now.vault → IsTrue cpu.vault)
   pub silent : Says w old new answer
   pub model : IsTrue old.tells → (m : Machine) → Stands old cpu m → GivesAs w new now answer (rule m)
 

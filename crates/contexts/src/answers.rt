@@ -8,6 +8,7 @@ ghost use Rattle.blue_model.specs.Trials as model;
 ghost use Rattle.contexts.specs.Serves.{Serves, StaysSound, with_value};
 ghost use Rattle.object_memory.specs.Calls.{IsFit};
 ghost use Rattle.contexts.specs.Calls.{StaysFit};
+ghost use Rattle.contexts.specs.Keeping.{NeverKeeps};
 
 use crate::parts::known;
 use crate::stacks::{pop, push};
@@ -22,6 +23,7 @@ pub fn answer<M: ObjectMemory>(m: &mut M, cpu: &mut Cpu, n: u32, from: Reg) -> R
     requires few { n < 256 }
     ensures serves { Serves (M.told m.old) cpu.old (M.told m.new) cpu.new (model.answer n ((M.told m.old).regs from)) result }
     ensures done { IfOk result (λ a. a ≡ Answer.Done) }
+    ensures never_keeps { NeverKeeps result }
     ensures fit { StaysFit M.ObjectMemory m.old m.new result }
 {
     pop(cpu, n + 1)?;

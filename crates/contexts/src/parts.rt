@@ -10,7 +10,7 @@ ghost use Rattle.object_memory.specs.Told.{IsReady};
 ghost use Rattle.object_memory.specs.Shape.{HasPartAt, Looks};
 ghost use Rattle.blue_model.specs.declared.cause.Cause.TheVariants.{Shape};
 ghost use Rattle.blue_model.specs.declared.cpu.Cpu.{Cpu as Numbers};
-ghost use Rattle.blue_model.specs.Machine.{MACHINE_REGISTERS, part, known, class_of, make, store};
+ghost use Rattle.blue_model.specs.Machine.{MACHINE_REGISTERS, part, known, class_of, make, store, is_unpinned, swap};
 ghost use Rattle.blue_model.specs.Messages.{last_literal, literal_before_last, extension};
 ghost use Rattle.blue_model.specs.Parts.{size, field, number, heading, literal, home_of};
 ghost use Rattle.blue_model.specs.Contexts.{store_field, need_method};
@@ -248,6 +248,28 @@ pub fn store_value<M: ObjectMemory>(m: &mut M, of: Reg, i: u32, from: Reg) -> Re
         return Err(Stop::Stuck(Cause::Shape));
     }
     m.set_field(of, i, from)?;
+    Ok(())
+}
+
+/// Whether a register holds a name that no slot has.
+fn is_unpinned<M: ObjectMemory>(m: &M, r: Reg) -> bool
+    requires sound { M.sound m.now }
+    ensures { result ≡ is_unpinned (M.told m.now).slots ((M.told m.now).regs r) }
+{
+    shape::is_name(m, r) && !m.is_pinned(r)
+}
+
+/// Lets the objects that two registers name change places (swapPointersOf:and:, chapter 30). It is stuck where one of them is pinned.
+pub fn swap<M: ObjectMemory>(m: &mut M, a: Reg, b: Reg) -> Result<(), Stop>
+    requires fit { IsFit M.ObjectMemory m.old }
+    ensures serves { (cpu : Numbers) → Serves (M.told m.old) cpu (M.told m.new) cpu (swap ((M.told m.old).regs a) ((M.told m.old).regs b)) result }
+    ensures regs { OnOk result ((M.told m.new).regs ≡ (M.told m.old).regs) }
+    ensures fit { StaysFit M.ObjectMemory m.old m.new result }
+{
+    if !is_unpinned(m, a) || !is_unpinned(m, b) {
+        return Err(Stop::Stuck(Cause::Shape));
+    }
+    m.swap(a, b)?;
     Ok(())
 }
 

@@ -12,4 +12,4 @@ pub returns-clause-serves : goal.returns-clause-serves
 unfolding fetch
 returns-clause-serves g c =
     let ready = c.in_ok-byte.ensures.fit.ready in
-    numbers_then _ (register_then _ _ refl (serves_then _ (c.in_ok-byte.ensures.serves _ _ c.place_here-place.ensures) (serves_then _ (set_numbers_at _ c.advance.ensures ready) (done_serves ready))))
+    numbers_then _ (register_then _ _ refl (serves_then _ (c.in_ok-byte.ensures.serves _ _ c.place_here-place.ensures) (serves_then _ (set_numbers_at _ c.advance.ensures (λ may. may) ready) (done_serves ready))))

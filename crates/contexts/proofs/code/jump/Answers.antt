@@ -18,4 +18,4 @@ returns-clause-serves g c =
     let ready = c.in_ok-byte_of.ensures.fit.ready in
     let place = rw (kept c.args.distance c.ranges.distance.sfits) at c.place_from-place.ensures.place in
     let here : Some c.in-Some.place ≡ code_place (c.args.cpu.now.ip +ℤ c.args.distance) = rw (kept c.args.distance c.ranges.distance.sfits) at c.in-Some.ensures.place in
-    numbers_then _ (register_then _ _ refl (serves_then _ (c.in_ok-byte_of.ensures.serves _ _ place) (set_numbers_at _ (rw (place_is (c.args.cpu.now.ip +ℤ c.args.distance) c.in-Some.place here) at c.go_to.ensures) ready)))
+    numbers_then _ (register_then _ _ refl (serves_then _ (c.in_ok-byte_of.ensures.serves _ _ place) (set_numbers_at _ (rw (place_is (c.args.cpu.now.ip +ℤ c.args.distance) c.in-Some.place here) at c.go_to.ensures) (λ may. may) ready)))

@@ -66,4 +66,4 @@ returns-clause-serves g c =
     (serves_then _ (rw (stays, c.in_ok-pin-2.ensures.regs, c.in_ok-field.ensures.looks.regs 21 refl, c.in_ok-pin.ensures.regs) at c.in_ok-field-2.ensures.serves _)
     (given_then _ _ _ _ (λ told. c.if-not-take_stated.ensures.depth)
     (serves_then _ (rw (context, home, method) at c.put_context.ensures.serves _)
-    (numbers_then _ (set_numbers_at _ c.if-not-take_stated.ensures.numbers c.put_context.ensures.fit.ready))))))))
+    (numbers_then _ (set_numbers_at _ c.if-not-take_stated.ensures.numbers (λ may. may) c.put_context.ensures.fit.ready))))))))

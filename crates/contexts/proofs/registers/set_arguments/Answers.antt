@@ -5,4 +5,4 @@ use Rattle.contexts.proofs.registers.set_arguments.Goals as goal
 
 pub returns-clause-serves : goal.returns-clause-serves
 unfolding set_arguments
-returns-clause-serves c = λ t ready. numbers_then _ (set_numbers_at _ refl ready)
+returns-clause-serves c = λ t ready. numbers_then _ (set_numbers_at _ refl (λ may. may) ready)

@@ -8,4 +8,4 @@ returns-then-not-lower c = record { serves = λ t ready. numbers_then _ (given_s
 
 pub returns : goal.returns
 unfolding pop
-returns c = record { serves = λ t ready. numbers_then _ (given_then _ _ _ _ (λ told. c.if-not-lower.ensures.lowered) (set_numbers_at _ c.if-not-lower.ensures.rest ready)) }
+returns c = record { serves = λ t ready. numbers_then _ (given_then _ _ _ _ (λ told. c.if-not-lower.ensures.lowered) (set_numbers_at _ c.if-not-lower.ensures.rest (λ may. may) ready)) }

@@ -25,4 +25,4 @@ unfolding push
 returns-clause-serves g c =
     let same = regs_looked _ _ c.in_ok-len.ensures.looks in
     numbers_then _ (register_then _ _ refl (serves_then _ (c.in_ok-len.ensures.serves _) (given_then _ _ _ _ (λ told. sym c.in-Some.ensures.place)
-    (serves_then _ (rw same at c.in_ok-store_field.ensures.serves _) (set_numbers_at _ c.raise.ensures c.in_ok-store_field.ensures.fit.ready)))))
+    (serves_then _ (rw same at c.in_ok-store_field.ensures.serves _) (set_numbers_at _ c.raise.ensures (λ may. may) c.in_ok-store_field.ensures.fit.ready)))))
