@@ -1,8 +1,7 @@
 -- The slots of a method dictionary, place by place of the round.
 -- A rule takes a slot in one look, and the code reads slot by slot. So the loop of `find_slot` keeps a fact of the heap at its
 -- entry (`HasPassed`: the places before this one hold neither nil nor the selector), which `passed_more` takes on, and
--- `slot_found`, `slot_nil` and `slot_past` turn into what the rule sees. Reads that fill the same few registers are joined by
--- `looks_joined`, after `looks_first` and `looks_rest` have made their lists the same.
+-- `slot_found`, `slot_nil` and `slot_past` turn into what the rule sees.
 use Rattle.std.proofs.Common.{◌≡◌, zero, suc, ℕ, ◌+◌, ◌-◌, ◌/◌, ◌<◌, ◌≤◌, nat_lt, Bool, true, false, cond, eqb, List, [], ◌∷◌, length, drop, bit_and, Option, Some, None, IsTrue, refl, sym, ◌∙◌, ap, arith}
 use Rattle.std.proofs.lemmas.Grind.{common_steps}
 use borrow.Author.Tests.{ltb-true, ltb-false, le-leb}

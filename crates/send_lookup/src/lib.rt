@@ -1,5 +1,5 @@
-//! Messages over any object memory (chapter 28 of the Blue Book): the lookup of a selector along the superclass chain, what is sent at
-//! the chain's end, and the activation of the method that was found.
+//! Messages over any object memory (chapter 28 of the Blue Book): the lookup of a selector along the superclass chain, with the memory's
+//! method cache in front of it, what is sent at the chain's end, and the activation of the method that was found.
 //!
 //! Each call says by its clause `serves` that it does what the rule of its name in `blue_model` does: `look_up` and `find` those of
 //! `specs/Lookup.antt` there, `find_or_tell` and `activate` those of `Messages.antt`. The selector is in register 4, the method that was
@@ -8,8 +8,11 @@
 //!     find_or_tell(m, cpu, class)?;       // the method, or that of doesNotUnderstand: with a Message on the stack
 //!     activate(m, cpu)?;                  // a context takes receiver and arguments, and is entered
 //!
-//! Read `specs/Found.antt` first, what a lookup leaves, after `Serves.antt` of `contexts`. The scratch registers from 15 on are used.
-//! No method cache stands in front of the lookup yet, and no primitive is tried here.
+//! The cache is asked first. A lookup that goes on begins a path, marks each object that it looks at, and puts its row, so that the cache
+//! stays sound (`Cache.antt` of `contexts`) and is never flushed.
+//!
+//! Read `specs/Found.antt` first, what a lookup leaves and what it answers for a cached pair, and `specs/Path.antt`, what it marks, after
+//! `Serves.antt` of `contexts`. The scratch registers from 15 on are used. No primitive is tried here.
 #![tactic(auto)]
 
 mod activation;
@@ -17,6 +20,8 @@ mod classes;
 pub mod header;
 mod lookup;
 mod message;
+mod methods;
+mod path;
 mod slots;
 
 pub use activation::activate;

@@ -16,7 +16,7 @@ use contexts::{Cause, Cpu, Stop, pop, push, set_arguments, stack};
 use long_names::Name;
 use object_memory::{ObjectMemory, Reg};
 
-// The scratch registers from 15 to 19 are those of this file and of `activation`; what callers keep stands below.
+// The scratch registers from 15 to 18 are those of this file and of `activation`; what callers keep stands below.
 
 /// Copies argument i of n from the stack into the array in R16.
 fn copy_argument<M: ObjectMemory>(m: &mut M, cpu: &Cpu, n: u32, i: u32) -> Result<(), Stop>

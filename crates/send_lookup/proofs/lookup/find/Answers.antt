@@ -5,28 +5,49 @@ use Rattle.contexts.proofs.ServesLaws.{serves_then, serves_stop, exits}
 use Rattle.contexts.proofs.Steps.{register_then, done_serves}
 use Rattle.contexts.proofs.RegisterLaws.{put_serves}
 use Rattle.contexts.proofs.PeekLaws.{found_one, found_none}
-use Rattle.send_lookup.proofs.ClassLaws.{low_among}
+use Rattle.send_lookup.proofs.RowLaws.{when_true, when_false, found_method, no_pair, asked_lookup, below_asked}
 use Rattle.send_lookup.proofs.lookup.find.Goals as goal
 
-pub returns-in_err-look_up-clause-serves : goal.returns-in_err-look_up-clause-serves
+pub returns-then-cache_find-clause-serves : goal.returns-then-cache_find-clause-serves
+returns-then-cache_find-clause-serves g c = λ cpu.
+    let ready = c.requires.fit.ready in
+    found_method c.args.class ready (c.cache_find.ensures.fit.ready ready) (when_true _ _ _ c.if-cache_find.true c.cache_find.ensures.found)
+
+pub returns-then-cache_find-clause-cached : goal.returns-then-cache_find-clause-cached
+returns-then-cache_find-clause-cached g c = λ has. (refl, when_true _ _ _ c.if-cache_find.true c.cache_find.ensures.found)
+
+pub returns-then-cache_find-clause-others : goal.returns-then-cache_find-clause-others
+returns-then-cache_find-clause-others g c = λ r low apart. (Looks-put _ _ 5 _ (when_true _ _ _ c.if-cache_find.true c.cache_find.ensures.found).told).regs r (not_among 5 r apart)
+
+pub returns-in_err-look_up_whole-clause-serves : goal.returns-in_err-look_up_whole-clause-serves
 unfolding find
-returns-in_err-look_up-clause-serves g c = λ cpu. register_then 4 _ refl (exits _ c.from_residual.ensures.1 (serves_stop _ (c.in_err-look_up.ensures.serves cpu)))
+returns-in_err-look_up_whole-clause-serves g c = λ cpu.
+    register_then 4 _ refl (exits _ c.from_residual.ensures.1 (serves_stop _ (asked_lookup c.args.class 4 (when_false _ _ _ c.if-cache_find.false c.cache_find.ensures.found) (c.in_err-look_up_whole.ensures.serves cpu))))
+
+pub returns-in_err-look_up_whole-clause-cached : goal.returns-in_err-look_up_whole-clause-cached
+returns-in_err-look_up_whole-clause-cached g c = λ has. absurd (no_pair _ _ c.args.class 4 (when_false _ _ _ c.if-cache_find.false c.cache_find.ensures.found) has)
 
 pub returns-then-not-branch-clause-serves : goal.returns-then-not-branch-clause-serves
 unfolding find put_found
 returns-then-not-branch-clause-serves g c = λ cpu.
-    let found = c.in_ok-look_up.ensures in
-    register_then 4 _ refl (serves_then _ (found_none _ _ c.if-not-branch.true (found.serves cpu)) (done_serves found.fit.ready))
+    let found = c.in_ok-look_up_whole.ensures in
+    register_then 4 _ refl (serves_then _ (asked_lookup c.args.class 4 (when_false _ _ _ c.if-cache_find.false c.cache_find.ensures.found) (found_none _ _ c.if-not-branch.true (found.serves cpu))) (done_serves found.fit.ready))
+
+pub returns-then-not-branch-clause-cached : goal.returns-then-not-branch-clause-cached
+returns-then-not-branch-clause-cached g c = λ has. absurd (no_pair _ _ c.args.class 4 (when_false _ _ _ c.if-cache_find.false c.cache_find.ensures.found) has)
 
 pub returns-then-not-branch-clause-others : goal.returns-then-not-branch-clause-others
-returns-then-not-branch-clause-others g c = λ r low apart. c.in_ok-look_up.ensures.looks.regs r (low_among r low)
+returns-then-not-branch-clause-others g c = λ r low apart. below_asked _ _ (g.M.ObjectMemory.told c.look_up_whole.new.m) c.args.class 4 (when_false _ _ _ c.if-cache_find.false c.cache_find.ensures.found) c.in_ok-look_up_whole.ensures.others r low
 
 pub returns-clause-serves : goal.returns-clause-serves
 unfolding find put_found
 returns-clause-serves g c = λ cpu.
-    let found = c.in_ok-look_up.ensures in
+    let found = c.in_ok-look_up_whole.ensures in
     let ready = c.copy.ensures.fit.ready found.fit.ready in
-    register_then 4 _ refl (serves_then _ (found_one _ _ c.if-not-branch.false (found.serves cpu)) (serves_then _ (put_serves 5 22 refl found.fit.ready ready c.copy.ensures.told) (done_serves ready)))
+    register_then 4 _ refl (serves_then _ (asked_lookup c.args.class 4 (when_false _ _ _ c.if-cache_find.false c.cache_find.ensures.found) (found_one _ _ c.if-not-branch.false (found.serves cpu))) (serves_then _ (put_serves 5 22 refl found.fit.ready ready c.copy.ensures.told) (done_serves ready)))
+
+pub returns-clause-cached : goal.returns-clause-cached
+returns-clause-cached g c = λ has. absurd (no_pair _ _ c.args.class 4 (when_false _ _ _ c.if-cache_find.false c.cache_find.ensures.found) has)
 
 pub returns-clause-others : goal.returns-clause-others
-returns-clause-others g c = λ r low apart. (Looks-put _ _ 5 _ c.copy.ensures.told).regs r (not_among 5 r apart) ∙ c.in_ok-look_up.ensures.looks.regs r (low_among r low)
+returns-clause-others g c = λ r low apart. (Looks-put _ _ 5 _ c.copy.ensures.told).regs r (not_among 5 r apart) ∙ below_asked _ _ (g.M.ObjectMemory.told c.look_up_whole.new.m) c.args.class 4 (when_false _ _ _ c.if-cache_find.false c.cache_find.ensures.found) c.in_ok-look_up_whole.ensures.others r low

@@ -1,26 +1,24 @@
-use Rattle.std.proofs.Common.{[], ◌∷◌, refl, ◌∙◌, arith}
-use Rattle.object_memory.proofs.LooksLaws.{Looks-put, put_value, below_among}
-use Rattle.contexts.proofs.Steps.{read_first}
-use Rattle.contexts.proofs.RegisterLaws.{copy_quiet}
-use Rattle.send_lookup.proofs.ClassLaws.{looks_joined, looks_four, looks_last, looks_tenth, on_ok}
+use Rattle.std.proofs.Common.{[], ◌∷◌, refl, arith}
+use Rattle.object_memory.proofs.LooksLaws.{Looks-put, below_among}
+use Rattle.send_lookup.proofs.RowLaws.{when_true, when_false, found_serves, no_pair, asked_lookup, asked_others}
 use Rattle.send_lookup.proofs.lookup.look_up.Goals as goal
 
-pub returns-clause-serves : goal.returns-clause-serves
-returns-clause-serves g c = λ cpu.
-    let class = c.copy.ensures in
-    let selector = c.copy-2.ensures in
-    let between = class.fit.ready c.requires.fit.ready in
-    let ready = selector.fit.ready between in
-    let the_class = (Looks-put _ _ 23 _ selector.told).regs 20 refl ∙ put_value _ _ 20 _ class.told in
-    let the_selector = put_value _ _ 23 _ selector.told ∙ (Looks-put _ _ 20 _ class.told).regs c.args.selector (below_among 20 (20 ∷ []) _ c.requires.selector refl) in
-    read_first c.requires.fit.ready (copy_quiet _ _ 20 c.args.class (omega arith) c.requires.fit.ready between class.told)
-    (read_first between (copy_quiet _ _ 23 c.args.selector (omega arith) between ready selector.told) (rw (the_class, the_selector) at c.go_up.ensures.serves cpu))
+pub returns-then-cache_find-clause-serves : goal.returns-then-cache_find-clause-serves
+returns-then-cache_find-clause-serves g c = λ cpu.
+    let ready = c.requires.fit.ready in
+    found_serves 22 c.args.class c.args.selector (omega arith) ready (c.cache_find.ensures.fit.ready ready) (when_true _ _ _ c.if-cache_find.true c.cache_find.ensures.found)
 
-pub returns-clause-looks : goal.returns-clause-looks
-returns-clause-looks g c =
-    let class = c.copy.ensures in
-    let selector = c.copy-2.ensures in
-    let between = class.fit.ready c.requires.fit.ready in
-    let ready = selector.fit.ready between in
-    let all = 20 ∷ 21 ∷ 22 ∷ 23 ∷ [] in
-    on_ok c.go_up.result (λ last. looks_joined all _ _ _ ready (looks_joined all _ _ _ between (looks_tenth _ _ (Looks-put _ _ 20 _ class.told)) (looks_last _ _ (Looks-put _ _ 23 _ selector.told))) (looks_four _ _ last)) c.go_up.ensures.looks
+pub returns-then-cache_find-clause-cached : goal.returns-then-cache_find-clause-cached
+returns-then-cache_find-clause-cached g c = λ has. (refl, when_true _ _ _ c.if-cache_find.true c.cache_find.ensures.found)
+
+pub returns-then-cache_find-clause-others : goal.returns-then-cache_find-clause-others
+returns-then-cache_find-clause-others g c = λ r low. (Looks-put _ _ 22 _ (when_true _ _ _ c.if-cache_find.true c.cache_find.ensures.found).told).regs r (below_among 19 (22 ∷ []) r low refl)
+
+pub returns-clause-serves : goal.returns-clause-serves
+returns-clause-serves g c = λ cpu. asked_lookup c.args.class c.args.selector (when_false _ _ _ c.if-cache_find.false c.cache_find.ensures.found) (c.look_up_whole.ensures.serves cpu)
+
+pub returns-clause-cached : goal.returns-clause-cached
+returns-clause-cached g c = λ has. absurd (no_pair _ _ c.args.class c.args.selector (when_false _ _ _ c.if-cache_find.false c.cache_find.ensures.found) has)
+
+pub returns-clause-others : goal.returns-clause-others
+returns-clause-others g c = asked_others _ _ (g.M.ObjectMemory.told c.look_up_whole.new.m) c.args.class c.args.selector c.look_up_whole.result (when_false _ _ _ c.if-cache_find.false c.cache_find.ensures.found) c.look_up_whole.ensures.others
