@@ -1,0 +1,5 @@
+mod AnswerLaws
+mod ByteLaws
+mod OperandLaws
+mod ShiftLaws
+mod TableLaws
