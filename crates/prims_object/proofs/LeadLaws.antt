@@ -15,7 +15,7 @@ use Rattle.blue_model.specs.Trials.{where_some, ◌>>?◌}
 use Rattle.contexts.specs.declared.stop.Stop.{Stop}
 use Rattle.contexts.specs.Serves.{Serves, with_found}
 use Rattle.contexts.proofs.TrialLaws.{found_then, none_found, finding_stopped, some_then, none_fails}
-use Rattle.prims_object.specs.Leads.{Leads}
+use Rattle.prims_object.specs.Leads.{Leads, with_done}
 
 -- the exit of a `?`
 pub leads_exit : {A P : Type 0} {old new : Told} {cpu : Cpu} {rule : P → Rule Answer} {e : Stop} (next : A → P → Rule Answer) (r : Result (Option A) Stop) → IsErrAnd r (λ y. y ≡ e) → ((rest : P) → Serves old cpu new cpu (rule rest) (Err e)) → Leads old cpu new rule next r
@@ -28,6 +28,12 @@ pub found_exit : {A P : Type 0} {old new : Told} {cpu : Cpu} {rule : P → Rule 
 found_exit {A} {P} {old} {new} {cpu} {rule} {e} next r v is s =
     let q = err_from_is_err_and r is in
     subst (λ (x : Result Bool Stop). Leads old cpu new rule next (with_found x v)) (sym (q.1 ∙ ap (λ y. Err y) q.2)) s
+
+-- and of a call that finds nothing but that it went through
+pub done_exit : {P : Type 0} {old new : Told} {cpu : Cpu} {rule : P → Rule Answer} {e : Stop} (next : Unit {0} → P → Rule Answer) (r : Result (Unit {0}) Stop) → IsErrAnd r (λ y. y ≡ e) → ((rest : P) → Serves old cpu new cpu (rule rest) (Err e)) → Leads old cpu new rule next (with_done r)
+done_exit {P} {old} {new} {cpu} {rule} {e} next r is s =
+    let q = err_from_is_err_and r is in
+    subst (λ (x : Result (Unit {0}) Stop). Leads old cpu new rule next (with_done x)) (sym (q.1 ∙ ap (λ y. Err y) q.2)) s
 
 -- A number was found, and then what it may be.
 pub leads_by : {A B : Type 0} {old new : Told} {cpu : Cpu} {p : Rule (Option A)} (a : A) (f : A → Option B) (o : Option B) → o ≡ f a → Serves old cpu new cpu p (Ok (Some a)) → Leads old cpu new (λ (rest : B → Rule Answer). p >>? λ x. where_some (f x) rest) (λ b rest. rest b) (Ok o)

@@ -8,7 +8,7 @@ use Rattle.long_names.specs.Objects.{int_of}
 use Rattle.long_names.specs.State.{IsRef}
 use Rattle.object_memory.specs.Told.{Told, IsReady}
 use Rattle.object_memory.specs.Shape.{is_among, Looks}
-use Rattle.object_memory.proofs.LooksLaws.{neither, not_among, Looks-weaker}
+use Rattle.object_memory.proofs.LooksLaws.{neither, not_among, Looks-weaker, Looks-trans}
 use Rattle.blue_model.specs.declared.cpu.Cpu.{Cpu}
 use Rattle.blue_model.specs.Machine.{done}
 use Rattle.blue_model.specs.Trials.{peek}
@@ -37,6 +37,15 @@ looks_swapped j k a b x = Looks-weaker (k ∷ j ∷ []) (j ∷ k ∷ []) a b (λ
     other true q e = let no : ◌≡◌ {A = Bool} true false = e in absurd (cc)
     other false true e = let no : ◌≡◌ {A = Bool} true false = e in absurd (cc)
     other false false e = refl
+
+-- reads that filled two registers, and reads that filled the second again
+pub looks_more : (j k : ℕ) (a b c : Told) → IsReady b → Looks (j ∷ k ∷ []) a b → Looks (k ∷ []) b c → Looks (j ∷ k ∷ []) a c
+looks_more j k a b c ready x y = Looks-weaker (j ∷ k ∷ k ∷ []) (j ∷ k ∷ []) a c (λ r e. again (eqb r j) (eqb r k) e) (Looks-trans (j ∷ k ∷ []) (k ∷ []) a b c ready x y)
+  where
+    again : (p q : Bool) → (p || (q || false)) ≡ false → (p || (q || (q || false))) ≡ false
+    again true q e = let no : ◌≡◌ {A = Bool} true false = e in absurd (cc)
+    again false true e = let no : ◌≡◌ {A = Bool} true false = e in absurd (cc)
+    again false false e = refl
 
 -- reads that filled the first of these registers
 pub looks_first : (k : ℕ) (xs : List ℕ) (a b : Told) → Looks (k ∷ []) a b → Looks (k ∷ xs) a b

@@ -72,6 +72,7 @@ serves_within {A} {old} {new} {cpu} {now} {p} {q} {answer} w s = record {
   ready = s.ready;
   reason = s.reason;
   counts = s.counts;
+  vault = s.vault;
   silent = s.silent;
   model = λ told m st. gives_within new now answer (q m) (p m) (w m) (s.model told m st);
 }

@@ -14,3 +14,8 @@ abbrev pub Leads : {A P : Type 0} → Told → Cpu → Told → (P → Rule Answ
 Leads {A} {P} old cpu new rule next (Ok (Some a)) = (rest : P) (later : Told) (now : Cpu) (answer : Result Answer Stop) → Serves new cpu later now (next a rest) answer → Serves old cpu later now (rule rest) answer
 Leads {A} {P} old cpu new rule next (Ok None) = (rest : P) → Serves old cpu new cpu (rule rest) (Ok Failed)
 Leads {A} {P} old cpu new rule next (Err e) = (rest : P) → Serves old cpu new cpu (rule rest) (Err e)
+
+-- a call that may stop, and finds nothing but that it went through
+abbrev pub with_done : Result (Unit {0}) Stop → Result (Option (Unit {0})) Stop
+with_done (Ok u) = Ok (Some u)
+with_done (Err e) = Err e

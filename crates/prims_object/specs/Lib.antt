@@ -1,3 +1,4 @@
 pub mod Extents
 pub mod Leads
 pub mod Numbers
+pub mod Operands

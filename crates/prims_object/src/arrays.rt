@@ -5,11 +5,13 @@ ghost use Rattle.blue_model.specs.Storage as model;
 ghost use Rattle.contexts.specs.Serves.{Serves, StaysSound};
 ghost use Rattle.object_memory.specs.Calls.{IsFit};
 ghost use Rattle.contexts.specs.Calls.{StaysFit};
+ghost use Rattle.contexts.specs.Keeping.{NeverKeeps};
 
 use crate::characters::{character_of, store_character, text_at};
-use crate::elements::{element_at, element_of, store_element};
+use crate::elements::{element_at, store_element};
 use crate::extents::size_behind;
-use crate::indexes::{index_argument, number_object};
+use crate::indexes::number_object;
+use crate::operands::{element_place, one_argument, two_arguments};
 use crate::specifications::fixed_of;
 use contexts::{Answer, Cpu, Stop, answer, stack};
 use object_memory::{ObjectMemory, Reg};
@@ -18,14 +20,11 @@ use object_memory::{ObjectMemory, Reg};
 pub(crate) fn at<M: ObjectMemory>(m: &mut M, cpu: &mut Cpu) -> Result<Answer, Stop>
     requires fit { IsFit M.ObjectMemory m.old }
     ensures serves { Serves (M.told m.old) cpu.old (M.told m.new) cpu.new model.at result }
+    ensures never_keeps { NeverKeeps result }
     ensures fit { StaysFit M.ObjectMemory m.old m.new result }
 {
-    stack(m, cpu, Reg::R10, 1)?;
-    stack(m, cpu, Reg::R11, 0)?;
-    let Some(i) = index_argument(m, Reg::R11)? else {
-        return Ok(Answer::Failed);
-    };
-    let Some(spot) = element_of(m, Reg::R10, i)? else {
+    one_argument(m, cpu)?;
+    let Some(spot) = element_place(m)? else {
         return Ok(Answer::Failed);
     };
     element_at(m, Reg::R10, spot)?;
@@ -36,15 +35,11 @@ pub(crate) fn at<M: ObjectMemory>(m: &mut M, cpu: &mut Cpu) -> Result<Answer, St
 pub(crate) fn at_put<M: ObjectMemory>(m: &mut M, cpu: &mut Cpu) -> Result<Answer, Stop>
     requires fit { IsFit M.ObjectMemory m.old }
     ensures serves { Serves (M.told m.old) cpu.old (M.told m.new) cpu.new model.at_put result }
+    ensures never_keeps { NeverKeeps result }
     ensures fit { StaysFit M.ObjectMemory m.old m.new result }
 {
-    stack(m, cpu, Reg::R10, 2)?;
-    stack(m, cpu, Reg::R11, 1)?;
-    stack(m, cpu, Reg::R12, 0)?;
-    let Some(i) = index_argument(m, Reg::R11)? else {
-        return Ok(Answer::Failed);
-    };
-    let Some(spot) = element_of(m, Reg::R10, i)? else {
+    two_arguments(m, cpu)?;
+    let Some(spot) = element_place(m)? else {
         return Ok(Answer::Failed);
     };
     if !store_element(m, Reg::R10, spot, Reg::R12)? {
@@ -57,6 +52,7 @@ pub(crate) fn at_put<M: ObjectMemory>(m: &mut M, cpu: &mut Cpu) -> Result<Answer
 pub(crate) fn size<M: ObjectMemory>(m: &mut M, cpu: &mut Cpu) -> Result<Answer, Stop>
     requires fit { IsFit M.ObjectMemory m.old }
     ensures serves { Serves (M.told m.old) cpu.old (M.told m.new) cpu.new model.size_of result }
+    ensures never_keeps { NeverKeeps result }
     ensures fit { StaysFit M.ObjectMemory m.old m.new result }
 {
     stack(m, cpu, Reg::R10, 0)?;
@@ -74,14 +70,11 @@ pub(crate) fn size<M: ObjectMemory>(m: &mut M, cpu: &mut Cpu) -> Result<Answer, 
 pub(crate) fn string_at<M: ObjectMemory>(m: &mut M, cpu: &mut Cpu) -> Result<Answer, Stop>
     requires fit { IsFit M.ObjectMemory m.old }
     ensures serves { Serves (M.told m.old) cpu.old (M.told m.new) cpu.new model.string_at result }
+    ensures never_keeps { NeverKeeps result }
     ensures fit { StaysFit M.ObjectMemory m.old m.new result }
 {
-    stack(m, cpu, Reg::R10, 1)?;
-    stack(m, cpu, Reg::R11, 0)?;
-    let Some(i) = index_argument(m, Reg::R11)? else {
-        return Ok(Answer::Failed);
-    };
-    let Some(spot) = element_of(m, Reg::R10, i)? else {
+    one_argument(m, cpu)?;
+    let Some(spot) = element_place(m)? else {
         return Ok(Answer::Failed);
     };
     let Some(byte) = text_at(m, Reg::R10, spot)? else {
@@ -97,15 +90,11 @@ pub(crate) fn string_at<M: ObjectMemory>(m: &mut M, cpu: &mut Cpu) -> Result<Ans
 pub(crate) fn string_at_put<M: ObjectMemory>(m: &mut M, cpu: &mut Cpu) -> Result<Answer, Stop>
     requires fit { IsFit M.ObjectMemory m.old }
     ensures serves { Serves (M.told m.old) cpu.old (M.told m.new) cpu.new model.string_at_put result }
+    ensures never_keeps { NeverKeeps result }
     ensures fit { StaysFit M.ObjectMemory m.old m.new result }
 {
-    stack(m, cpu, Reg::R10, 2)?;
-    stack(m, cpu, Reg::R11, 1)?;
-    stack(m, cpu, Reg::R12, 0)?;
-    let Some(i) = index_argument(m, Reg::R11)? else {
-        return Ok(Answer::Failed);
-    };
-    let Some(spot) = element_of(m, Reg::R10, i)? else {
+    two_arguments(m, cpu)?;
+    let Some(spot) = element_place(m)? else {
         return Ok(Answer::Failed);
     };
     let Some(_) = text_at(m, Reg::R10, spot)? else {

@@ -10,14 +10,15 @@ ghost use Rattle.blue_model.specs.Storage as model;
 ghost use Rattle.contexts.specs.Serves.{Serves, StaysSound, with_value};
 ghost use Rattle.object_memory.specs.Calls.{IsFit};
 ghost use Rattle.contexts.specs.Calls.{StaysFit};
+ghost use Rattle.contexts.specs.Keeping.{NeverKeeps};
 
-use crate::elements::{element_at, store_element, variable_of};
-use crate::indexes::{index_argument, natural_argument};
+use crate::elements::{element_at, store_element};
+use crate::indexes::natural_argument;
+use crate::operands::{one_argument, two_arguments, variable_place};
 use crate::specifications::{
     fixed_fields, has_pointers, has_words, is_indexable, specification_of,
 };
 use contexts::parts::{make_bytes, make_pointers, make_words};
-use contexts::peeks::peek_size;
 use contexts::{Answer, Cpu, Stop, answer, stack};
 use long_names::Name;
 use object_memory::{ObjectMemory, Reg};
@@ -70,6 +71,7 @@ fn make_sized<M: ObjectMemory>(m: &mut M, specification: i16, n: u32) -> Result<
 pub(crate) fn new<M: ObjectMemory>(m: &mut M, cpu: &mut Cpu) -> Result<Answer, Stop>
     requires fit { IsFit M.ObjectMemory m.old }
     ensures serves { Serves (M.told m.old) cpu.old (M.told m.new) cpu.new model.new result }
+    ensures never_keeps { NeverKeeps result }
     ensures fit { StaysFit M.ObjectMemory m.old m.new result }
 {
     stack(m, cpu, Reg::R10, 0)?;
@@ -87,10 +89,10 @@ pub(crate) fn new<M: ObjectMemory>(m: &mut M, cpu: &mut Cpu) -> Result<Answer, S
 pub(crate) fn new_with_size<M: ObjectMemory>(m: &mut M, cpu: &mut Cpu) -> Result<Answer, Stop>
     requires fit { IsFit M.ObjectMemory m.old }
     ensures serves { Serves (M.told m.old) cpu.old (M.told m.new) cpu.new model.new_with_size result }
+    ensures never_keeps { NeverKeeps result }
     ensures fit { StaysFit M.ObjectMemory m.old m.new result }
 {
-    stack(m, cpu, Reg::R10, 1)?;
-    stack(m, cpu, Reg::R11, 0)?;
+    one_argument(m, cpu)?;
     let Some(specification) = specification_of(m, Reg::R10)? else {
         return Ok(Answer::Failed);
     };
@@ -115,17 +117,11 @@ pub(crate) fn instance_variable_at<M: ObjectMemory>(
 ) -> Result<Answer, Stop>
     requires fit { IsFit M.ObjectMemory m.old }
     ensures serves { Serves (M.told m.old) cpu.old (M.told m.new) cpu.new model.instance_variable_at result }
+    ensures never_keeps { NeverKeeps result }
     ensures fit { StaysFit M.ObjectMemory m.old m.new result }
 {
-    stack(m, cpu, Reg::R10, 1)?;
-    stack(m, cpu, Reg::R11, 0)?;
-    let Some(_) = peek_size(m, Reg::R10, 0)? else {
-        return Ok(Answer::Failed);
-    };
-    let Some(i) = index_argument(m, Reg::R11)? else {
-        return Ok(Answer::Failed);
-    };
-    let Some(spot) = variable_of(m, Reg::R10, i)? else {
+    one_argument(m, cpu)?;
+    let Some(spot) = variable_place(m)? else {
         return Ok(Answer::Failed);
     };
     element_at(m, Reg::R10, spot)?;
@@ -139,18 +135,11 @@ pub(crate) fn instance_variable_at_put<M: ObjectMemory>(
 ) -> Result<Answer, Stop>
     requires fit { IsFit M.ObjectMemory m.old }
     ensures serves { Serves (M.told m.old) cpu.old (M.told m.new) cpu.new model.instance_variable_at_put result }
+    ensures never_keeps { NeverKeeps result }
     ensures fit { StaysFit M.ObjectMemory m.old m.new result }
 {
-    stack(m, cpu, Reg::R10, 2)?;
-    stack(m, cpu, Reg::R11, 1)?;
-    stack(m, cpu, Reg::R12, 0)?;
-    let Some(_) = peek_size(m, Reg::R10, 0)? else {
-        return Ok(Answer::Failed);
-    };
-    let Some(i) = index_argument(m, Reg::R11)? else {
-        return Ok(Answer::Failed);
-    };
-    let Some(spot) = variable_of(m, Reg::R10, i)? else {
+    two_arguments(m, cpu)?;
+    let Some(spot) = variable_place(m)? else {
         return Ok(Answer::Failed);
     };
     if !store_element(m, Reg::R10, spot, Reg::R12)? {

@@ -1,4 +1,4 @@
-//! The primitives on objects, arrays and streams over any object memory (chapter 29 of the Blue Book): 60 to 71, 73 to 75, 79, 110
+//! The primitives on objects, arrays and streams over any object memory (chapter 29 of the Blue Book): 60 to 75, 79, 110
 //! and 111.
 //!
 //! `run` does a primitive by its index, and says by its clause `serves` that it does what `object_primitives` of `blue_model` has for
@@ -10,6 +10,7 @@
 #![tactic(auto)]
 
 mod arrays;
+mod becomes;
 mod characters;
 mod elements;
 mod extents;
@@ -17,6 +18,7 @@ mod indexes;
 mod instances;
 mod methods;
 mod names;
+mod operands;
 mod specifications;
 mod streams;
 mod table;

@@ -9,11 +9,13 @@ ghost use Rattle.blue_model.specs.Storage as model;
 ghost use Rattle.contexts.specs.Serves.{Serves, StaysSound};
 ghost use Rattle.object_memory.specs.Calls.{IsFit};
 ghost use Rattle.contexts.specs.Calls.{StaysFit};
+ghost use Rattle.contexts.specs.Keeping.{NeverKeeps};
 
 use crate::indexes::natural_argument;
+use crate::operands::{one_argument, two_arguments};
 use contexts::parts::{make_method, store_value};
 use contexts::peeks::{peek_header, peek_literal};
-use contexts::{Answer, Cpu, Stop, answer, stack};
+use contexts::{Answer, Cpu, Stop, answer};
 use long_names::MOST_CODE;
 use object_memory::{ObjectMemory, Reg, shape};
 
@@ -27,6 +29,7 @@ fn method_object<M: ObjectMemory>(
     requires fit { IsFit M.ObjectMemory m.old }
     requires header { IsSmallInteger header }
     ensures serves { Serves (M.told m.old) cpu.old (M.told m.new) cpu.new (model.method_object ((M.told m.old).regs 10) header n) result }
+    ensures never_keeps { NeverKeeps result }
     ensures fit { StaysFit M.ObjectMemory m.old m.new result }
 {
     if n == 1 {
@@ -46,10 +49,10 @@ fn method_object<M: ObjectMemory>(
 pub(crate) fn object_at<M: ObjectMemory>(m: &mut M, cpu: &mut Cpu) -> Result<Answer, Stop>
     requires fit { IsFit M.ObjectMemory m.old }
     ensures serves { Serves (M.told m.old) cpu.old (M.told m.new) cpu.new model.object_at_index result }
+    ensures never_keeps { NeverKeeps result }
     ensures fit { StaysFit M.ObjectMemory m.old m.new result }
 {
-    stack(m, cpu, Reg::R10, 1)?;
-    stack(m, cpu, Reg::R11, 0)?;
+    one_argument(m, cpu)?;
     let Some(header) = peek_header(m, Reg::R10)? else {
         return Ok(Answer::Failed);
     };
@@ -63,11 +66,10 @@ pub(crate) fn object_at<M: ObjectMemory>(m: &mut M, cpu: &mut Cpu) -> Result<Ans
 pub(crate) fn object_at_put<M: ObjectMemory>(m: &mut M, cpu: &mut Cpu) -> Result<Answer, Stop>
     requires fit { IsFit M.ObjectMemory m.old }
     ensures serves { Serves (M.told m.old) cpu.old (M.told m.new) cpu.new model.object_at_put result }
+    ensures never_keeps { NeverKeeps result }
     ensures fit { StaysFit M.ObjectMemory m.old m.new result }
 {
-    stack(m, cpu, Reg::R10, 2)?;
-    stack(m, cpu, Reg::R11, 1)?;
-    stack(m, cpu, Reg::R12, 0)?;
+    two_arguments(m, cpu)?;
     let Some(_) = peek_header(m, Reg::R10)? else {
         return Ok(Answer::Failed);
     };
@@ -100,11 +102,10 @@ fn code_size(number: Option<i16>) -> Option<u32>
 pub(crate) fn new_method<M: ObjectMemory>(m: &mut M, cpu: &mut Cpu) -> Result<Answer, Stop>
     requires fit { IsFit M.ObjectMemory m.old }
     ensures serves { Serves (M.told m.old) cpu.old (M.told m.new) cpu.new model.new_method result }
+    ensures never_keeps { NeverKeeps result }
     ensures fit { StaysFit M.ObjectMemory m.old m.new result }
 {
-    stack(m, cpu, Reg::R10, 2)?;
-    stack(m, cpu, Reg::R11, 1)?;
-    stack(m, cpu, Reg::R12, 0)?;
+    two_arguments(m, cpu)?;
     let Some(code) = code_size(m.as_int(Reg::R11)) else {
         return Ok(Answer::Failed);
     };

@@ -11,10 +11,12 @@ ghost use Rattle.blue_model.specs.Machine.{Rule};
 ghost use Rattle.blue_model.specs.Storage as model;
 ghost use Rattle.contexts.specs.Serves.{Serves, StaysSound, with_found};
 ghost use Rattle.prims_object.specs.Leads.{Leads};
+ghost use Rattle.prims_object.specs.Operands as rules;
 ghost use Rattle.prims_object.specs.Numbers as numbers;
 ghost use Rattle.prims_object.specs.Numbers.{IsIndex};
 ghost use Rattle.object_memory.specs.Calls.{IsFit};
 ghost use Rattle.contexts.specs.Calls.{StaysFit};
+ghost use Rattle.contexts.specs.Keeping.{NeverKeeps};
 
 use crate::characters::{character_of, store_character, text_at};
 use crate::elements::{element_at, element_of, store_element};
@@ -28,7 +30,7 @@ use blue_model::indexes::{
 use contexts::parts::{class_of, store_field};
 use contexts::peeks::{peek_field, peek_number};
 use contexts::{Answer, Cpu, Stop, answer, boolean, stack};
-use long_names::Name;
+use long_names::{Name, SMALL_INTEGERS};
 use object_memory::{ObjectMemory, Reg};
 
 /// What a stream has beside its array.
@@ -75,7 +77,7 @@ impl Stream {
         requires { self.now.index < 16384 }
         ensures { result ≡ nat_lt (self.now.index + 1) 16384 }
     {
-        self.index + 1 < 16384
+        self.index + 1 < SMALL_INTEGERS
     }
 }
 
@@ -96,14 +98,11 @@ fn streamed<M: ObjectMemory>(m: &mut M) -> Result<Option<bool>, Stop>
     Ok(None)
 }
 
-/// Loads the array of the stream in R10 into R13, and answers its numbers, with the limit that stands in a field. None where
-/// it is no stream. R19 is used.
-fn open<M: ObjectMemory>(m: &mut M, limit: u32) -> Result<Option<Stream>, Stop>
+/// Loads the array of the stream in R10 into R13, and answers whether it is text. None where there is no such array. R19 is used.
+fn array_of<M: ObjectMemory>(m: &mut M) -> Result<Option<bool>, Stop>
     requires fit { IsFit M.ObjectMemory m.old }
-    ensures leads { (cpu : Numbers) → Leads (M.told m.old) cpu (M.told m.new) (model.of_stream limit ((M.told m.old).regs 10)) (λ stream (rest : Value → Bool → ℕ → ℤ → Rule Answers). rest ((M.told m.new).regs 13) stream.text stream.index stream.limit) result }
+    ensures leads { (cpu : Numbers) → Leads (M.told m.old) cpu (M.told m.new) (rules.of_array ((M.told m.old).regs 10)) (λ text (rest : Value → Bool → Rule Answers). rest ((M.told m.new).regs 13) text) result }
     ensures looks { OnOk result (Looks (13 ∷ 19 ∷ []) (M.told m.old) (M.told m.new)) }
-    ensures index { IfOk result (λ found. IfSome found (λ stream. stream.index < 16384)) }
-    ensures limit { IfOk result (λ found. IfSome found (λ stream. IsSmallInteger stream.limit)) }
     ensures fit { StaysFit M.ObjectMemory m.old m.new result }
 {
     if !peek_field(m, Reg::R13, Reg::R10, STREAM_SIZE, STREAM_ARRAY_INDEX)? {
@@ -112,6 +111,20 @@ fn open<M: ObjectMemory>(m: &mut M, limit: u32) -> Result<Option<Stream>, Stop>
     let Some(text) = streamed(m)? else {
         return Ok(None);
     };
+    Ok(Some(text))
+}
+
+/// The numbers of the stream in R10, with the limit that stands in a field. Whether its array is text is given. None where it has no
+/// such numbers. R19 is used.
+fn numbers_of<M: ObjectMemory>(m: &mut M, text: bool, limit: u32) -> Result<Option<Stream>, Stop>
+    requires fit { IsFit M.ObjectMemory m.old }
+    ensures leads { (cpu : Numbers) → Leads (M.told m.old) cpu (M.told m.new) (rules.of_numbers limit ((M.told m.old).regs 10)) (λ stream (rest : ℕ → ℤ → Rule Answers). rest stream.index stream.limit) result }
+    ensures text { IfOk result (λ found. IfSome found (λ stream. stream.text ≡ text)) }
+    ensures looks { OnOk result (Looks (19 ∷ []) (M.told m.old) (M.told m.new)) }
+    ensures index { IfOk result (λ found. IfSome found (λ stream. stream.index < 16384)) }
+    ensures limit { IfOk result (λ found. IfSome found (λ stream. IsSmallInteger stream.limit)) }
+    ensures fit { StaysFit M.ObjectMemory m.old m.new result }
+{
     let Some(number) = peek_number(m, Reg::R19, Reg::R10, STREAM_SIZE, STREAM_INDEX_INDEX)? else {
         return Ok(None);
     };
@@ -122,6 +135,25 @@ fn open<M: ObjectMemory>(m: &mut M, limit: u32) -> Result<Option<Stream>, Stop>
         return Ok(None);
     };
     Ok(Some(Stream { text, index, limit }))
+}
+
+/// Loads the array of the stream in R10 into R13, and answers its numbers, with the limit that stands in a field. None where
+/// it is no stream. R19 is used.
+fn open<M: ObjectMemory>(m: &mut M, limit: u32) -> Result<Option<Stream>, Stop>
+    requires fit { IsFit M.ObjectMemory m.old }
+    ensures leads { (cpu : Numbers) → Leads (M.told m.old) cpu (M.told m.new) (model.of_stream limit ((M.told m.old).regs 10)) (λ stream (rest : Value → Bool → ℕ → ℤ → Rule Answers). rest ((M.told m.new).regs 13) stream.text stream.index stream.limit) result }
+    ensures looks { OnOk result (Looks (13 ∷ 19 ∷ []) (M.told m.old) (M.told m.new)) }
+    ensures index { IfOk result (λ found. IfSome found (λ stream. stream.index < 16384)) }
+    ensures limit { IfOk result (λ found. IfSome found (λ stream. IsSmallInteger stream.limit)) }
+    ensures fit { StaysFit M.ObjectMemory m.old m.new result }
+{
+    let Some(text) = array_of(m)? else {
+        return Ok(None);
+    };
+    let Some(stream) = numbers_of(m, text, limit)? else {
+        return Ok(None);
+    };
+    Ok(Some(stream))
 }
 
 /// Where the next element of the array in R13 stands. None where the limit is reached, where the array ends, or where the index
@@ -195,6 +227,7 @@ fn put_streamed<M: ObjectMemory>(m: &mut M, text: bool, spot: Spot) -> Result<bo
 pub(crate) fn next<M: ObjectMemory>(m: &mut M, cpu: &mut Cpu) -> Result<Answer, Stop>
     requires fit { IsFit M.ObjectMemory m.old }
     ensures serves { Serves (M.told m.old) cpu.old (M.told m.new) cpu.new model.next result }
+    ensures never_keeps { NeverKeeps result }
     ensures fit { StaysFit M.ObjectMemory m.old m.new result }
 {
     stack(m, cpu, Reg::R10, 0)?;
@@ -215,6 +248,7 @@ pub(crate) fn next<M: ObjectMemory>(m: &mut M, cpu: &mut Cpu) -> Result<Answer, 
 pub(crate) fn next_put<M: ObjectMemory>(m: &mut M, cpu: &mut Cpu) -> Result<Answer, Stop>
     requires fit { IsFit M.ObjectMemory m.old }
     ensures serves { Serves (M.told m.old) cpu.old (M.told m.new) cpu.new model.next_put result }
+    ensures never_keeps { NeverKeeps result }
     ensures fit { StaysFit M.ObjectMemory m.old m.new result }
 {
     stack(m, cpu, Reg::R10, 1)?;
@@ -236,6 +270,7 @@ pub(crate) fn next_put<M: ObjectMemory>(m: &mut M, cpu: &mut Cpu) -> Result<Answ
 pub(crate) fn at_end<M: ObjectMemory>(m: &mut M, cpu: &mut Cpu) -> Result<Answer, Stop>
     requires fit { IsFit M.ObjectMemory m.old }
     ensures serves { Serves (M.told m.old) cpu.old (M.told m.new) cpu.new model.at_end result }
+    ensures never_keeps { NeverKeeps result }
     ensures fit { StaysFit M.ObjectMemory m.old m.new result }
 {
     stack(m, cpu, Reg::R10, 0)?;

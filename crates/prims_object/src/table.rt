@@ -6,8 +6,10 @@ ghost use Rattle.blue_model.specs.Storage.{object_primitives};
 ghost use Rattle.contexts.specs.Serves.{Serves, StaysSound};
 ghost use Rattle.object_memory.specs.Calls.{IsFit};
 ghost use Rattle.contexts.specs.Calls.{StaysFit};
+ghost use Rattle.contexts.specs.Keeping.{NeverKeeps};
 
 use crate::arrays::{at, at_put, size, string_at, string_at_put};
+use crate::becomes::change_places;
 use crate::instances::{instance_variable_at, instance_variable_at_put, new, new_with_size};
 use crate::methods::{new_method, object_at, object_at_put};
 use crate::names::{class, equivalent, hash};
@@ -20,6 +22,7 @@ use object_memory::ObjectMemory;
 pub fn run<M: ObjectMemory>(m: &mut M, cpu: &mut Cpu, index: u8) -> Result<Answer, Stop>
     requires fit { IsFit M.ObjectMemory m.old }
     ensures serves { Serves (M.told m.old) cpu.old (M.told m.new) cpu.new (primitive_in object_primitives index) result }
+    ensures never_keeps { NeverKeeps result }
     ensures fit { StaysFit M.ObjectMemory m.old m.new result }
 {
     match (index, cpu.args) {
@@ -35,6 +38,7 @@ pub fn run<M: ObjectMemory>(m: &mut M, cpu: &mut Cpu, index: u8) -> Result<Answe
         (69, 2) => object_at_put(m, cpu),
         (70, 0) => new(m, cpu),
         (71, 1) => new_with_size(m, cpu),
+        (72, 1) => change_places(m, cpu),
         (73, 1) => instance_variable_at(m, cpu),
         (74, 2) => instance_variable_at_put(m, cpu),
         (75, 0) => hash(m, cpu),

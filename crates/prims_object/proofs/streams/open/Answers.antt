@@ -1,110 +1,40 @@
-use Rattle.std.proofs.Common.{[], ◌∷◌, sym, ◌∙◌, ap, refl}
-use Rattle.long_names.specs.Words.{IsSmallInteger}
-use Rattle.object_memory.proofs.LooksLaws.{Looks-trans}
-use Rattle.object_memory.proofs.ShapeLaws.{small_number}
-use Rattle.blue_model.specs.Elements.{natural}
-use Rattle.blue_model.specs.Storage.{of_stream}
+use Rattle.std.proofs.Common.{[], ◌∷◌, ◌≡◌, refl}
 use Rattle.contexts.proofs.ReadLaws.{looks_again}
-use Rattle.contexts.proofs.TrialLaws.{found_then, none_found, finding_stopped, some_then, none_fails}
+use Rattle.blue_model.specs.Storage.{of_stream}
 use Rattle.prims_object.proofs.LeadLaws.{leads_exit}
-use Rattle.prims_object.proofs.NumberLaws.{index_as, small_index}
-use Rattle.prims_object.proofs.TestLaws.{of_some, looks_first}
+use Rattle.prims_object.proofs.TestLaws.{of_some, looks_more}
 use Rattle.prims_object.proofs.streams.open.Goals as goal
-
-pub returns-in_err-peek_field-clause-leads : goal.returns-in_err-peek_field-clause-leads
-unfolding of_stream
-returns-in_err-peek_field-clause-leads g c = λ cpu. leads_exit _ _ c.from_residual.ensures.1 (λ rest. finding_stopped _ (c.in_err-peek_field.ensures.serves cpu))
-
-pub returns-then-not-branch-clause-leads : goal.returns-then-not-branch-clause-leads
-unfolding of_stream
-returns-then-not-branch-clause-leads g c = λ cpu rest. none_found _ refl (rw c.if-not-branch.true at c.in_ok-peek_field.ensures.serves cpu)
-
-pub returns-then-not-branch-clause-looks : goal.returns-then-not-branch-clause-looks
-returns-then-not-branch-clause-looks g c = looks_first 13 (19 ∷ []) _ _ c.in_ok-peek_field.ensures.looks
 
 pub returns-in_err-text-clause-leads : goal.returns-in_err-text-clause-leads
 unfolding of_stream
-returns-in_err-text-clause-leads g c = λ cpu. leads_exit _ _ c.from_residual-in_err-text.ensures.1 (λ rest. found_then _ refl (rw c.if-not-branch.false at c.in_ok-peek_field.ensures.serves cpu) (finding_stopped _ (c.in_err-text.ensures.serves cpu)))
+returns-in_err-text-clause-leads g c = λ cpu. leads_exit _ _ c.from_residual.ensures.1 (λ rest. c.in_err-text.ensures.leads cpu _)
 
 pub returns-in_default-clause-leads : goal.returns-in_default-clause-leads
 unfolding of_stream
-returns-in_default-clause-leads g c = λ cpu rest. found_then _ refl (rw c.if-not-branch.false at c.in_ok-peek_field.ensures.serves cpu) (none_found _ c.in_default.is (c.in_ok-text.ensures.serves cpu))
+returns-in_default-clause-leads g c = λ cpu rest. (rw c.in_default.is at c.in_ok-text.ensures.leads cpu) _
 
-pub returns-in_default-clause-looks : goal.returns-in_default-clause-looks
-returns-in_default-clause-looks g c = Looks-trans (13 ∷ []) (19 ∷ []) _ _ _ c.in_ok-peek_field.ensures.fit.ready c.in_ok-peek_field.ensures.looks c.in_ok-text.ensures.looks
-
-pub returns-in_err-number-clause-leads : goal.returns-in_err-number-clause-leads
+pub returns-in_err-stream-clause-leads : goal.returns-in_err-stream-clause-leads
 unfolding of_stream
-returns-in_err-number-clause-leads g c = λ cpu.
-    let stream = c.in_ok-text.ensures.looks.regs 10 refl ∙ c.in_ok-peek_field.ensures.looks.regs 10 refl in
-    leads_exit _ _ c.from_residual-in_err-number.ensures.1 (λ rest. found_then _ refl (rw c.if-not-branch.false at c.in_ok-peek_field.ensures.serves cpu)
-    (found_then _ c.in-Some.is (c.in_ok-text.ensures.serves cpu)
-    (finding_stopped _ (rw stream at c.in_err-number.ensures.serves cpu))))
+returns-in_err-stream-clause-leads g c = λ cpu.
+    let from = c.in_ok-text.ensures.looks.regs 10 refl in
+    leads_exit _ _ c.from_residual-in_err-stream.ensures.1 (λ rest. (rw c.in-Some.is at c.in_ok-text.ensures.leads cpu) _ _ _ _ ((rw from at c.in_err-stream.ensures.leads cpu) _))
 
 pub returns-in_default-2-clause-leads : goal.returns-in_default-2-clause-leads
 unfolding of_stream
 returns-in_default-2-clause-leads g c = λ cpu rest.
-    let stream = c.in_ok-text.ensures.looks.regs 10 refl ∙ c.in_ok-peek_field.ensures.looks.regs 10 refl in
-    found_then _ refl (rw c.if-not-branch.false at c.in_ok-peek_field.ensures.serves cpu)
-    (found_then _ c.in-Some.is (c.in_ok-text.ensures.serves cpu)
-    (none_found _ c.in_default-2.is (rw stream at c.in_ok-number.ensures.serves cpu)))
+    let from = c.in_ok-text.ensures.looks.regs 10 refl in
+    (rw c.in-Some.is at c.in_ok-text.ensures.leads cpu) _ _ _ _ ((rw (c.in_default-2.is, from) at c.in_ok-stream.ensures.leads cpu) _)
 
 pub returns-in_default-2-clause-looks : goal.returns-in_default-2-clause-looks
-returns-in_default-2-clause-looks g c = Looks-trans (13 ∷ []) (19 ∷ []) _ _ _ c.in_ok-peek_field.ensures.fit.ready c.in_ok-peek_field.ensures.looks (looks_again 19 _ _ _ c.in_ok-text.ensures.fit.ready c.in_ok-text.ensures.looks c.in_ok-number.ensures.looks)
-
-pub returns-in_err-limit-clause-leads : goal.returns-in_err-limit-clause-leads
-unfolding of_stream
-returns-in_err-limit-clause-leads g c = λ cpu.
-    let stream = c.in_ok-text.ensures.looks.regs 10 refl ∙ c.in_ok-peek_field.ensures.looks.regs 10 refl in
-    let again = c.in_ok-number.ensures.looks.regs 10 refl ∙ stream in
-    leads_exit _ _ c.from_residual-in_err-limit.ensures.1 (λ rest. found_then _ refl (rw c.if-not-branch.false at c.in_ok-peek_field.ensures.serves cpu)
-    (found_then _ c.in-Some.is (c.in_ok-text.ensures.serves cpu)
-    (found_then _ c.in-Some-2.is (rw stream at c.in_ok-number.ensures.serves cpu)
-    (finding_stopped _ (rw again at c.in_err-limit.ensures.serves cpu)))))
-
-pub returns-in_default-3-clause-leads : goal.returns-in_default-3-clause-leads
-unfolding of_stream
-returns-in_default-3-clause-leads g c = λ cpu rest.
-    let stream = c.in_ok-text.ensures.looks.regs 10 refl ∙ c.in_ok-peek_field.ensures.looks.regs 10 refl in
-    let again = c.in_ok-number.ensures.looks.regs 10 refl ∙ stream in
-    found_then _ refl (rw c.if-not-branch.false at c.in_ok-peek_field.ensures.serves cpu)
-    (found_then _ c.in-Some.is (c.in_ok-text.ensures.serves cpu)
-    (found_then _ c.in-Some-2.is (rw stream at c.in_ok-number.ensures.serves cpu)
-    (none_found _ c.in_default-3.is (rw again at c.in_ok-limit.ensures.serves cpu))))
-
-pub returns-in_default-3-clause-looks : goal.returns-in_default-3-clause-looks
-returns-in_default-3-clause-looks g c = Looks-trans (13 ∷ []) (19 ∷ []) _ _ _ c.in_ok-peek_field.ensures.fit.ready c.in_ok-peek_field.ensures.looks (looks_again 19 _ _ _ c.in_ok-text.ensures.fit.ready c.in_ok-text.ensures.looks (looks_again 19 _ _ _ c.in_ok-number.ensures.fit.ready c.in_ok-number.ensures.looks c.in_ok-limit.ensures.looks))
-
-pub returns-in_default-natural-clause-leads : goal.returns-in_default-natural-clause-leads
-unfolding of_stream
-returns-in_default-natural-clause-leads g c = λ cpu rest.
-    let stream = c.in_ok-text.ensures.looks.regs 10 refl ∙ c.in_ok-peek_field.ensures.looks.regs 10 refl in
-    let again = c.in_ok-number.ensures.looks.regs 10 refl ∙ stream in
-    let small = of_some IsSmallInteger _ c.in-Some-2.is c.in_ok-number.ensures.range in
-    let index = ap natural (sym (index_as _ _ (c.from.ensures ∙ small_number _ small) (small_index _ small))) ∙ sym c.natural.ensures in
-    found_then _ refl (rw c.if-not-branch.false at c.in_ok-peek_field.ensures.serves cpu)
-    (found_then _ c.in-Some.is (c.in_ok-text.ensures.serves cpu)
-    (found_then _ c.in-Some-2.is (rw stream at c.in_ok-number.ensures.serves cpu)
-    (found_then _ c.in-Some-3.is (rw again at c.in_ok-limit.ensures.serves cpu)
-    (none_fails _ _ c.in_ok-limit.ensures.fit.ready (λ told. index ∙ c.in_default-natural.is)))))
-
-pub returns-in_default-natural-clause-looks : goal.returns-in_default-natural-clause-looks
-returns-in_default-natural-clause-looks g c = Looks-trans (13 ∷ []) (19 ∷ []) _ _ _ c.in_ok-peek_field.ensures.fit.ready c.in_ok-peek_field.ensures.looks (looks_again 19 _ _ _ c.in_ok-text.ensures.fit.ready c.in_ok-text.ensures.looks (looks_again 19 _ _ _ c.in_ok-number.ensures.fit.ready c.in_ok-number.ensures.looks c.in_ok-limit.ensures.looks))
+returns-in_default-2-clause-looks g c = looks_more 13 19 _ _ _ c.in_ok-text.ensures.fit.ready c.in_ok-text.ensures.looks c.in_ok-stream.ensures.looks
 
 pub returns-clause-leads : goal.returns-clause-leads
 unfolding of_stream
 returns-clause-leads g c = λ cpu rest later now answer next.
-    let stream = c.in_ok-text.ensures.looks.regs 10 refl ∙ c.in_ok-peek_field.ensures.looks.regs 10 refl in
-    let again = c.in_ok-number.ensures.looks.regs 10 refl ∙ stream in
-    let small = of_some IsSmallInteger _ c.in-Some-2.is c.in_ok-number.ensures.range in
-    let index = ap natural (sym (index_as _ _ (c.from.ensures ∙ small_number _ small) (small_index _ small))) ∙ sym c.natural.ensures in
-    let array = c.in_ok-limit.ensures.looks.regs 13 refl ∙ c.in_ok-number.ensures.looks.regs 13 refl ∙ c.in_ok-text.ensures.looks.regs 13 refl in
-    let limit = small_number _ (of_some IsSmallInteger _ c.in-Some-3.is c.in_ok-limit.ensures.range) in
-    found_then _ refl (rw c.if-not-branch.false at c.in_ok-peek_field.ensures.serves cpu)
-    (found_then _ c.in-Some.is (c.in_ok-text.ensures.serves cpu)
-    (found_then _ c.in-Some-2.is (rw stream at c.in_ok-number.ensures.serves cpu)
-    (found_then _ c.in-Some-3.is (rw again at c.in_ok-limit.ensures.serves cpu)
-    (some_then _ _ c.in-Some-natural.index (λ told. index ∙ c.in-Some-natural.is) (rw (array, limit) at next)))))
+    let from = c.in_ok-text.ensures.looks.regs 10 refl in
+    let array = c.in_ok-stream.ensures.looks.regs 13 refl in
+    let text : c.in-Some-2.stream.text ≡ c.in-Some.text = of_some (λ s. s.text ≡ c.in-Some.text) _ c.in-Some-2.is c.in_ok-stream.ensures.text in
+    (rw c.in-Some.is at c.in_ok-text.ensures.leads cpu) _ _ _ _ ((rw (c.in-Some-2.is, from) at c.in_ok-stream.ensures.leads cpu) _ _ _ _ (rw (array, text) at next))
 
 pub returns-clause-looks : goal.returns-clause-looks
-returns-clause-looks g c = Looks-trans (13 ∷ []) (19 ∷ []) _ _ _ c.in_ok-peek_field.ensures.fit.ready c.in_ok-peek_field.ensures.looks (looks_again 19 _ _ _ c.in_ok-text.ensures.fit.ready c.in_ok-text.ensures.looks (looks_again 19 _ _ _ c.in_ok-number.ensures.fit.ready c.in_ok-number.ensures.looks c.in_ok-limit.ensures.looks))
+returns-clause-looks g c = looks_more 13 19 _ _ _ c.in_ok-text.ensures.fit.ready c.in_ok-text.ensures.looks c.in_ok-stream.ensures.looks

@@ -53,6 +53,10 @@ pub returns-in-71-eq1-clause-serves : goal.returns-in-71-eq1-clause-serves
 unfolding pick object_primitives
 returns-in-71-eq1-clause-serves g c = row_serves object_primitives (row 71 1 model.new_with_size) _ 71 c.in-71-eq1.is-0 refl c.in-71-eq1.is-1 c.new_with_size.ensures.serves
 
+pub returns-in-72-eq1-clause-serves : goal.returns-in-72-eq1-clause-serves
+unfolding pick object_primitives
+returns-in-72-eq1-clause-serves g c = row_serves object_primitives (row 72 1 model.become) _ 72 c.in-72-eq1.is-0 refl c.in-72-eq1.is-1 c.change_places.ensures.serves
+
 pub returns-in-73-eq1-clause-serves : goal.returns-in-73-eq1-clause-serves
 unfolding pick object_primitives
 returns-in-73-eq1-clause-serves g c = row_serves object_primitives (row 73 1 model.instance_variable_at) _ 73 c.in-73-eq1.is-0 refl c.in-73-eq1.is-1 c.instance_variable_at.ensures.serves
@@ -127,28 +131,32 @@ returns-in_default-12-clause-serves g c = row_fails object_primitives (row 71 1 
 
 pub returns-in_default-13-clause-serves : goal.returns-in_default-13-clause-serves
 unfolding pick object_primitives
-returns-in_default-13-clause-serves g c = row_fails object_primitives (row 73 1 model.instance_variable_at) _ 73 c.in_default.is-0 refl c.in_default.is-1.1 c.requires.fit.ready
+returns-in_default-13-clause-serves g c = row_fails object_primitives (row 72 1 model.become) _ 72 c.in_default.is-0 refl c.in_default.is-1.1 c.requires.fit.ready
 
 pub returns-in_default-14-clause-serves : goal.returns-in_default-14-clause-serves
 unfolding pick object_primitives
-returns-in_default-14-clause-serves g c = row_fails object_primitives (row 74 2 model.instance_variable_at_put) _ 74 c.in_default.is-0 refl c.in_default.is-1.1 c.requires.fit.ready
+returns-in_default-14-clause-serves g c = row_fails object_primitives (row 73 1 model.instance_variable_at) _ 73 c.in_default.is-0 refl c.in_default.is-1.1 c.requires.fit.ready
 
 pub returns-in_default-15-clause-serves : goal.returns-in_default-15-clause-serves
 unfolding pick object_primitives
-returns-in_default-15-clause-serves g c = row_fails object_primitives (row 75 0 model.hash) _ 75 c.in_default.is-0 refl c.in_default.is-1.1 c.requires.fit.ready
+returns-in_default-15-clause-serves g c = row_fails object_primitives (row 74 2 model.instance_variable_at_put) _ 74 c.in_default.is-0 refl c.in_default.is-1.1 c.requires.fit.ready
 
 pub returns-in_default-16-clause-serves : goal.returns-in_default-16-clause-serves
 unfolding pick object_primitives
-returns-in_default-16-clause-serves g c = row_fails object_primitives (row 79 2 model.new_method) _ 79 c.in_default.is-0 refl c.in_default.is-1.1 c.requires.fit.ready
+returns-in_default-16-clause-serves g c = row_fails object_primitives (row 75 0 model.hash) _ 75 c.in_default.is-0 refl c.in_default.is-1.1 c.requires.fit.ready
 
 pub returns-in_default-17-clause-serves : goal.returns-in_default-17-clause-serves
 unfolding pick object_primitives
-returns-in_default-17-clause-serves g c = row_fails object_primitives (row 110 1 model.equivalent) _ 110 c.in_default.is-0 refl c.in_default.is-1.1 c.requires.fit.ready
+returns-in_default-17-clause-serves g c = row_fails object_primitives (row 79 2 model.new_method) _ 79 c.in_default.is-0 refl c.in_default.is-1.1 c.requires.fit.ready
 
 pub returns-in_default-18-clause-serves : goal.returns-in_default-18-clause-serves
 unfolding pick object_primitives
-returns-in_default-18-clause-serves g c = row_fails object_primitives (row 111 0 model.class) _ 111 c.in_default.is-0 refl c.in_default.is-1.1 c.requires.fit.ready
+returns-in_default-18-clause-serves g c = row_fails object_primitives (row 110 1 model.equivalent) _ 110 c.in_default.is-0 refl c.in_default.is-1.1 c.requires.fit.ready
 
 pub returns-in_default-19-clause-serves : goal.returns-in_default-19-clause-serves
+unfolding pick object_primitives
+returns-in_default-19-clause-serves g c = row_fails object_primitives (row 111 0 model.class) _ 111 c.in_default.is-0 refl c.in_default.is-1.1 c.requires.fit.ready
+
+pub returns-in_default-20-clause-serves : goal.returns-in_default-20-clause-serves
 unfolding object_primitives
-returns-in_default-19-clause-serves g c = none_serves object_primitives _ c.requires.fit.ready c.in_default.is-0
+returns-in_default-20-clause-serves g c = none_serves object_primitives _ c.requires.fit.ready c.in_default.is-0
