@@ -204,6 +204,7 @@ nothing_put {t} {cpu} has s v ws ready there = record {
   ready = ready;
   reason = tt;
   counts = (0, IsCounted-refl t);
+  vault = λ may. may;
   silent = λ speaks. refl;
   model = λ told m st.
       let bits = there m told st in
@@ -237,6 +238,7 @@ written_serves {Z} {z} {old} {new} {cpu} of at run before ready there x = record
   ready = ready;
   reason = tt;
   counts = (0, record { counts = x.ok.counts; next = λ told. (let same = (x.ok.heap told).next ∙ next_same old.heap (old.regs of) (λ b. with_words b at run) in omega arith) });
+  vault = λ may. may;
   silent = x.ok.transcript;
   model = λ told m st.
       let it = there told in

@@ -74,6 +74,7 @@ copy_nothing {t} {cpu} q dest source tone words from halftone ready there same =
   ready = ready;
   reason = tt;
   counts = (0, IsCounted-refl t);
+  vault = λ may. may;
   silent = λ speaks. refl;
   model = λ told m st.
       let has = there m told st in

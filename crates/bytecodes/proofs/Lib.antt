@@ -1,4 +1,5 @@
 pub mod DispatchLaws
+pub mod KeepLaws
 pub mod VariableLaws
 pub mod SendLaws
 pub mod TryLaws

@@ -14,8 +14,9 @@ use Rattle.blue_model.specs.declared.event.Line.{Line}
 use Rattle.blue_model.specs.Machine.{Rule, pick}
 use Rattle.blue_model.specs.Trials.{Primitive, with_arguments, primitive_in}
 use Rattle.blue_model.specs.Arithmetic.{integer_primitives}
+use Rattle.blue_model.specs.LargeInts.{large_primitives}
 use Rattle.blue_model.specs.Storage.{object_primitives}
-use Rattle.blue_model.specs.Primitives.{is_control, is_process, is_blit, is_device, has_failed, primitive}
+use Rattle.blue_model.specs.Primitives.{is_control, is_process, is_blit, is_device, is_large, has_failed, primitive}
 use Rattle.blue_model.specs.Control.{control_primitive}
 use Rattle.blue_model.specs.Processes.{process_primitives}
 use Rattle.blue_model.specs.BitBlt.{blit_primitives}
@@ -72,19 +73,27 @@ integers_below = refl
 
 -- ---- tries
 
-try_first : {old new : Told} {cpu now : Cpu} {answer : Result Answer Stop} (events : List Line) (index : ℕ) → is_control index ≡ false → is_process index ≡ false → is_blit index ≡ false → is_device index ≡ false → Serves old cpu new now (primitive_in (integer_primitives ++ object_primitives) index) answer → Speaks Done old cpu new now (primitive events index) answer
+try_first : {old new : Told} {cpu now : Cpu} {answer : Result Answer Stop} (events : List Line) (index : ℕ) → is_control index ≡ false → is_process index ≡ false → is_blit index ≡ false → is_device index ≡ false → is_large index ≡ false → Serves old cpu new now (primitive_in (integer_primitives ++ object_primitives) index) answer → Speaks Done old cpu new now (primitive events index) answer
 unfolding primitive
-try_first events index control process blit device s =
+try_first events index control process blit device large s =
     speaks_quiet (pick_false _ (control_primitive index) _ control (pick_false _ (primitive_in process_primitives index) _ process
-    (pick_false _ (primitive_in blit_primitives index) _ blit (pick_false _ (primitive_in (device_primitives events) index) _ device s))))
+    (pick_false _ (primitive_in blit_primitives index) _ blit (pick_false _ (primitive_in (device_primitives events) index) _ device
+    (pick_false _ (primitive_in large_primitives index) _ large s)))))
 
-pub try_integer : {old new : Told} {cpu now : Cpu} {answer : Result Answer Stop} (events : List Line) (index : ℕ) → is_control index ≡ false → is_process index ≡ false → is_blit index ≡ false → is_device index ≡ false → index < 60 → Serves old cpu new now (primitive_in integer_primitives index) answer → Speaks Done old cpu new now (primitive events index) answer
-try_integer {old} {new} {cpu} {now} {answer} events index control process blit device low s =
-    try_first events index control process blit device (subst (λ (rule : Rule Answer). Serves old cpu new now rule answer) (sym (first_rows integer_primitives object_primitives index (none_above object_primitives 60 index objects_above low))) s)
+pub try_integer : {old new : Told} {cpu now : Cpu} {answer : Result Answer Stop} (events : List Line) (index : ℕ) → is_control index ≡ false → is_process index ≡ false → is_blit index ≡ false → is_device index ≡ false → is_large index ≡ false → index < 60 → Serves old cpu new now (primitive_in integer_primitives index) answer → Speaks Done old cpu new now (primitive events index) answer
+try_integer {old} {new} {cpu} {now} {answer} events index control process blit device large low s =
+    try_first events index control process blit device large (subst (λ (rule : Rule Answer). Serves old cpu new now rule answer) (sym (first_rows integer_primitives object_primitives index (none_above object_primitives 60 index objects_above low))) s)
 
-pub try_object : {old new : Told} {cpu now : Cpu} {answer : Result Answer Stop} (events : List Line) (index : ℕ) → is_control index ≡ false → is_process index ≡ false → is_blit index ≡ false → is_device index ≡ false → 60 ≤ index → Serves old cpu new now (primitive_in object_primitives index) answer → Speaks Done old cpu new now (primitive events index) answer
-try_object {old} {new} {cpu} {now} {answer} events index control process blit device high s =
-    try_first events index control process blit device (subst (λ (rule : Rule Answer). Serves old cpu new now rule answer) (sym (last_rows integer_primitives object_primitives 59 index integers_below (omega arith))) s)
+pub try_object : {old new : Told} {cpu now : Cpu} {answer : Result Answer Stop} (events : List Line) (index : ℕ) → is_control index ≡ false → is_process index ≡ false → is_blit index ≡ false → is_device index ≡ false → is_large index ≡ false → 60 ≤ index → Serves old cpu new now (primitive_in object_primitives index) answer → Speaks Done old cpu new now (primitive events index) answer
+try_object {old} {new} {cpu} {now} {answer} events index control process blit device large high s =
+    try_first events index control process blit device large (subst (λ (rule : Rule Answer). Serves old cpu new now rule answer) (sym (last_rows integer_primitives object_primitives 59 index integers_below (omega arith))) s)
+
+pub try_large : {old new : Told} {cpu now : Cpu} {answer : Result Answer Stop} (events : List Line) (index : ℕ) → is_control index ≡ false → is_process index ≡ false → is_blit index ≡ false → is_device index ≡ false → is_large index ≡ true → Serves old cpu new now (primitive_in large_primitives index) answer → Speaks Done old cpu new now (primitive events index) answer
+unfolding primitive
+try_large events index control process blit device large s =
+    speaks_quiet (pick_false _ (control_primitive index) _ control (pick_false _ (primitive_in process_primitives index) _ process
+    (pick_false _ (primitive_in blit_primitives index) _ blit (pick_false _ (primitive_in (device_primitives events) index) _ device
+    (pick_true _ (primitive_in large_primitives index) _ large s)))))
 
 pub try_control : {old new : Told} {cpu now : Cpu} {answer : Result Answer Stop} (events : List Line) (index : ℕ) → is_control index ≡ true → Serves old cpu new now (control_primitive index) answer → Speaks Done old cpu new now (primitive events index) answer
 unfolding primitive

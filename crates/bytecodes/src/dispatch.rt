@@ -11,6 +11,7 @@ ghost use Rattle.blue_model.specs.Machine.{clear as clear_rule};
 ghost use Rattle.bytecodes.specs.Steps.{next_by};
 ghost use Rattle.object_memory.specs.Calls.{IsFit};
 ghost use Rattle.contexts.specs.Calls.{StaysFit};
+ghost use Rattle.contexts.specs.Keeping.{StepsBy};
 
 use crate::jumps::{jump_on, long_jump, long_jump_on, short_jump};
 use crate::returns::{return_from_block, return_known, return_receiver, return_top};
@@ -48,6 +49,7 @@ pub(crate) fn bytecode<M: ObjectMemory>(
 ) -> Result<Step, Stop>
     requires fit { IsFit M.ObjectMemory m.old }
     ensures serves { Speaks Next (M.told m.old) cpu.old (M.told m.new) cpu.new (bytecode_rule events.now byte) result }
+    ensures keeps { StepsBy cpu.old.vault result }
     ensures fit { StaysFit M.ObjectMemory m.old m.new result }
 {
     match byte {
@@ -177,10 +179,12 @@ fn rest<M: ObjectMemory>(m: &mut M)
 }
 
 /// Fetches a bytecode and does it (interpret, chapter 28). Input comes from the event list. The bytecode isn't counted here.
+/// It ends with Keep only where a checkpoint may be made.
 pub fn step<M: ObjectMemory>(m: &mut M, cpu: &mut Cpu, events: &EventList) -> Result<Step, Stop>
     requires fit { IsFit M.ObjectMemory m.old }
     ensures serves { Speaks Next (M.told m.old) cpu.old (M.told m.new) cpu.new (step_rule events.now) result }
     ensures rest { OnOk result (HasRest (M.told m.new)) }
+    ensures keeps { StepsBy cpu.old.vault result }
     ensures fit { StaysFit M.ObjectMemory m.old m.new result }
 {
     let byte = fetch(m, cpu)?;

@@ -12,6 +12,7 @@ ghost use Rattle.bytecodes.specs.Steps.{activation};
 ghost use Rattle.contexts.specs.Serves.{Serves, Speaks, StaysSound};
 ghost use Rattle.object_memory.specs.Calls.{IsFit};
 ghost use Rattle.contexts.specs.Calls.{StaysFit};
+ghost use Rattle.contexts.specs.Keeping.{KeepsBy, NeverKeeps, StepsBy};
 
 use crate::tries::{has_failed, is_execute, is_perform, step_of, try_primitive};
 use blue_model::Step;
@@ -55,6 +56,7 @@ fn is_none(index: u8, performed: bool) -> bool
 fn activated<M: ObjectMemory>(m: &mut M, cpu: &mut Cpu) -> Result<Answer, Stop>
     requires fit { IsFit M.ObjectMemory m.old }
     ensures serves { Serves (M.told m.old) cpu.old (M.told m.new) cpu.new activation result }
+    ensures never_keeps { NeverKeeps result }
     ensures fit { StaysFit M.ObjectMemory m.old m.new result }
 {
     activate(m, cpu)?;
@@ -71,6 +73,7 @@ fn execute_extended<M: ObjectMemory>(
 ) -> Result<Answer, Stop>
     requires fit { IsFit M.ObjectMemory m.old }
     ensures serves { Speaks Done (M.told m.old) cpu.old (M.told m.new) cpu.new (model.execute_extended events.now performed ((M.told m.old).regs NEW_METHOD)) result }
+    ensures keeps { KeepsBy cpu.old.vault result }
     ensures fit { StaysFit M.ObjectMemory m.old m.new result }
 {
     let extension = extension(m, Reg::R10, Reg::NEW_METHOD)?;
@@ -95,6 +98,7 @@ fn execute_method<M: ObjectMemory>(
 ) -> Result<Answer, Stop>
     requires fit { IsFit M.ObjectMemory m.old }
     ensures serves { Speaks Done (M.told m.old) cpu.old (M.told m.new) cpu.new (model.execute_method events.now performed) result }
+    ensures keeps { KeepsBy cpu.old.vault result }
     ensures fit { StaysFit M.ObjectMemory m.old m.new result }
 {
     let header = header(m, Reg::NEW_METHOD)?;
@@ -117,6 +121,7 @@ pub(crate) fn execute<M: ObjectMemory>(
 ) -> Result<Step, Stop>
     requires fit { IsFit M.ObjectMemory m.old }
     ensures serves { Speaks Next (M.told m.old) cpu.old (M.told m.new) cpu.new (model.execute events.now) result }
+    ensures keeps { StepsBy cpu.old.vault result }
     ensures fit { StaysFit M.ObjectMemory m.old m.new result }
 {
     let answer = execute_method(m, cpu, events, false)?;

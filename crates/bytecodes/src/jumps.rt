@@ -7,6 +7,7 @@ ghost use Rattle.blue_model.specs.Contexts.{jump as jump_rule};
 ghost use Rattle.contexts.specs.Serves.{Serves, Speaks, StaysSound};
 ghost use Rattle.object_memory.specs.Calls.{IsFit};
 ghost use Rattle.contexts.specs.Calls.{StaysFit};
+ghost use Rattle.contexts.specs.Keeping.{StepsBy};
 
 use crate::sends::must_be_boolean;
 use blue_model::Step;
@@ -28,6 +29,7 @@ pub(crate) fn jump_where<M: ObjectMemory>(
     requires fit { IsFit M.ObjectMemory m.old }
     requires distance { distance < 1024 }
     ensures serves { Speaks Next (M.told m.old) cpu.old (M.told m.new) cpu.new (model.jump_where events.now taken passed (pos distance) ((M.told m.old).regs 10)) result }
+    ensures keeps { StepsBy cpu.old.vault result }
     ensures fit { StaysFit M.ObjectMemory m.old m.new result }
 {
     if m.is(Reg::R10, taken) {
@@ -52,6 +54,7 @@ pub(crate) fn jump_on<M: ObjectMemory>(
     requires fit { IsFit M.ObjectMemory m.old }
     requires distance { distance < 1024 }
     ensures serves { Speaks Next (M.told m.old) cpu.old (M.told m.new) cpu.new (model.jump_on events.now taken passed (pos distance)) result }
+    ensures keeps { StepsBy cpu.old.vault result }
     ensures fit { StaysFit M.ObjectMemory m.old m.new result }
 {
     pop_top(m, cpu, Reg::R10)?;
@@ -98,6 +101,7 @@ pub(crate) fn long_jump_on<M: ObjectMemory>(
     requires fit { IsFit M.ObjectMemory m.old }
     requires number { i < 4 }
     ensures serves { Speaks Next (M.told m.old) cpu.old (M.told m.new) cpu.new (model.long_jump_on events.now taken passed i) result }
+    ensures keeps { StepsBy cpu.old.vault result }
     ensures fit { StaysFit M.ObjectMemory m.old m.new result }
 {
     let byte = fetch(m, cpu)?;

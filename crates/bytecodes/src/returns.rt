@@ -11,6 +11,7 @@ ghost use Rattle.long_names.specs.State.{RECEIVER};
 ghost use Rattle.contexts.specs.Serves.{Serves, Speaks, StaysSound};
 ghost use Rattle.object_memory.specs.Calls.{IsFit};
 ghost use Rattle.contexts.specs.Calls.{StaysFit};
+ghost use Rattle.contexts.specs.Keeping.{StepsBy};
 
 use crate::sends::cannot_return;
 use blue_model::Step;
@@ -41,6 +42,7 @@ pub(crate) fn return_to<M: ObjectMemory>(
 ) -> Result<Step, Stop>
     requires fit { IsFit M.ObjectMemory m.old }
     ensures serves { Speaks Next (M.told m.old) cpu.old (M.told m.new) cpu.new (return_to events.now ((M.told m.old).regs 11) ((M.told m.old).regs 10)) result }
+    ensures keeps { StepsBy cpu.old.vault result }
     ensures fit { StaysFit M.ObjectMemory m.old m.new result }
 {
     if m.is(Reg::R11, Name::NIL) {
@@ -62,6 +64,7 @@ pub(crate) fn return_home<M: ObjectMemory>(
 ) -> Result<Step, Stop>
     requires fit { IsFit M.ObjectMemory m.old }
     ensures serves { Speaks Next (M.told m.old) cpu.old (M.told m.new) cpu.new (model.return_home events.now ((M.told m.old).regs 10)) result }
+    ensures keeps { StepsBy cpu.old.vault result }
     ensures fit { StaysFit M.ObjectMemory m.old m.new result }
 {
     field(m, Reg::R11, Reg::HOME, 0, SENDER_INDEX)?;
@@ -76,6 +79,7 @@ pub(crate) fn return_receiver<M: ObjectMemory>(
 ) -> Result<Step, Stop>
     requires fit { IsFit M.ObjectMemory m.old }
     ensures serves { Speaks Next (M.told m.old) cpu.old (M.told m.new) cpu.new (model.return_of events.now (register RECEIVER)) result }
+    ensures keeps { StepsBy cpu.old.vault result }
     ensures fit { StaysFit M.ObjectMemory m.old m.new result }
 {
     m.copy(Reg::R10, Reg::RECEIVER);
@@ -92,6 +96,7 @@ pub(crate) fn return_known<M: ObjectMemory>(
     requires fit { IsFit M.ObjectMemory m.old }
     requires name { is_known name ≡ true }
     ensures serves { Speaks Next (M.told m.old) cpu.old (M.told m.new) cpu.new (model.return_of events.now (known_rule name)) result }
+    ensures keeps { StepsBy cpu.old.vault result }
     ensures fit { StaysFit M.ObjectMemory m.old m.new result }
 {
     known(m, Reg::R10, name)?;
@@ -106,6 +111,7 @@ pub(crate) fn return_top<M: ObjectMemory>(
 ) -> Result<Step, Stop>
     requires fit { IsFit M.ObjectMemory m.old }
     ensures serves { Speaks Next (M.told m.old) cpu.old (M.told m.new) cpu.new (model.return_of events.now pop_rule) result }
+    ensures keeps { StepsBy cpu.old.vault result }
     ensures fit { StaysFit M.ObjectMemory m.old m.new result }
 {
     pop_top(m, cpu, Reg::R10)?;
@@ -120,6 +126,7 @@ pub(crate) fn return_from_block<M: ObjectMemory>(
 ) -> Result<Step, Stop>
     requires fit { IsFit M.ObjectMemory m.old }
     ensures serves { Speaks Next (M.told m.old) cpu.old (M.told m.new) cpu.new (model.return_from_block events.now) result }
+    ensures keeps { StepsBy cpu.old.vault result }
     ensures fit { StaysFit M.ObjectMemory m.old m.new result }
 {
     pop_top(m, cpu, Reg::R10)?;

@@ -8,6 +8,7 @@ ghost use Rattle.contexts.specs.Serves.{Serves, Speaks, StaysSound};
 ghost use Rattle.std.specs.List.{slice_index_or};
 ghost use Rattle.object_memory.specs.Calls.{IsFit};
 ghost use Rattle.contexts.specs.Calls.{StaysFit};
+ghost use Rattle.contexts.specs.Keeping.{StepsBy};
 
 use crate::execution::execute;
 use crate::tries::{has_failed, step_of, try_primitive};
@@ -30,6 +31,7 @@ fn send_from<M: ObjectMemory>(
 ) -> Result<Step, Stop>
     requires fit { IsFit M.ObjectMemory m.old }
     ensures serves { Speaks Next (M.told m.old) cpu.old (M.told m.new) cpu.new (model.send_from events.now ((M.told m.old).regs 11) ((M.told m.old).regs 10) n) result }
+    ensures keeps { StepsBy cpu.old.vault result }
     ensures fit { StaysFit M.ObjectMemory m.old m.new result }
 {
     m.copy(Reg::SELECTOR, Reg::R10);
@@ -47,6 +49,7 @@ pub(crate) fn send<M: ObjectMemory>(
 ) -> Result<Step, Stop>
     requires fit { IsFit M.ObjectMemory m.old }
     ensures serves { Speaks Next (M.told m.old) cpu.old (M.told m.new) cpu.new (model.send events.now ((M.told m.old).regs 10) n) result }
+    ensures keeps { StepsBy cpu.old.vault result }
     ensures fit { StaysFit M.ObjectMemory m.old m.new result }
 {
     stack(m, cpu, Reg::R11, u32::from(n))?;
@@ -63,6 +66,7 @@ pub(crate) fn send_super<M: ObjectMemory>(
 ) -> Result<Step, Stop>
     requires fit { IsFit M.ObjectMemory m.old }
     ensures serves { Speaks Next (M.told m.old) cpu.old (M.told m.new) cpu.new (model.send_super events.now ((M.told m.old).regs 10) n) result }
+    ensures keeps { StepsBy cpu.old.vault result }
     ensures fit { StaysFit M.ObjectMemory m.old m.new result }
 {
     stack(m, cpu, Reg::R11, u32::from(n))?;
@@ -89,6 +93,7 @@ pub(crate) fn special_send<M: ObjectMemory>(
     requires fit { IsFit M.ObjectMemory m.old }
     requires number { s < 32 }
     ensures serves { Speaks Next (M.told m.old) cpu.old (M.told m.new) cpu.new (model.special_send events.now s) result }
+    ensures keeps { StepsBy cpu.old.vault result }
     ensures fit { StaysFit M.ObjectMemory m.old m.new result }
 {
     known(m, Reg::R12, Name::SPECIAL_SELECTORS)?;
@@ -108,6 +113,7 @@ pub(crate) fn cannot_return<M: ObjectMemory>(
 ) -> Result<Step, Stop>
     requires fit { IsFit M.ObjectMemory m.old }
     ensures serves { Speaks Next (M.told m.old) cpu.old (M.told m.new) cpu.new (model.cannot_return events.now ((M.told m.old).regs 10)) result }
+    ensures keeps { StepsBy cpu.old.vault result }
     ensures fit { StaysFit M.ObjectMemory m.old m.new result }
 {
     push(m, cpu, Reg::ACTIVE_CONTEXT)?;
@@ -124,6 +130,7 @@ pub(crate) fn must_be_boolean<M: ObjectMemory>(
 ) -> Result<Step, Stop>
     requires fit { IsFit M.ObjectMemory m.old }
     ensures serves { Speaks Next (M.told m.old) cpu.old (M.told m.new) cpu.new (model.must_be_boolean events.now ((M.told m.old).regs 10)) result }
+    ensures keeps { StepsBy cpu.old.vault result }
     ensures fit { StaysFit M.ObjectMemory m.old m.new result }
 {
     push(m, cpu, Reg::R10)?;
@@ -142,6 +149,7 @@ pub(crate) fn send_literal<M: ObjectMemory>(
     requires fit { IsFit M.ObjectMemory m.old }
     requires number { i < 256 }
     ensures serves { Speaks Next (M.told m.old) cpu.old (M.told m.new) cpu.new (table.send_literal events.now i n) result }
+    ensures keeps { StepsBy cpu.old.vault result }
     ensures fit { StaysFit M.ObjectMemory m.old m.new result }
 {
     literal_constant(m, Reg::R10, i)?;
@@ -159,6 +167,7 @@ pub(crate) fn send_literal_super<M: ObjectMemory>(
     requires fit { IsFit M.ObjectMemory m.old }
     requires number { i < 256 }
     ensures serves { Speaks Next (M.told m.old) cpu.old (M.told m.new) cpu.new (table.send_literal_super events.now i n) result }
+    ensures keeps { StepsBy cpu.old.vault result }
     ensures fit { StaysFit M.ObjectMemory m.old m.new result }
 {
     literal_constant(m, Reg::R10, i)?;
@@ -173,6 +182,7 @@ pub(crate) fn single_extended_send<M: ObjectMemory>(
 ) -> Result<Step, Stop>
     requires fit { IsFit M.ObjectMemory m.old }
     ensures serves { Speaks Next (M.told m.old) cpu.old (M.told m.new) cpu.new (table.single_extended (table.send_literal events.now)) result }
+    ensures keeps { StepsBy cpu.old.vault result }
     ensures fit { StaysFit M.ObjectMemory m.old m.new result }
 {
     let byte = fetch(m, cpu)?;
@@ -187,6 +197,7 @@ pub(crate) fn double_extended_send<M: ObjectMemory>(
 ) -> Result<Step, Stop>
     requires fit { IsFit M.ObjectMemory m.old }
     ensures serves { Speaks Next (M.told m.old) cpu.old (M.told m.new) cpu.new (table.double_extended (table.send_literal events.now)) result }
+    ensures keeps { StepsBy cpu.old.vault result }
     ensures fit { StaysFit M.ObjectMemory m.old m.new result }
 {
     let n = fetch(m, cpu)?;
@@ -202,6 +213,7 @@ pub(crate) fn single_extended_super<M: ObjectMemory>(
 ) -> Result<Step, Stop>
     requires fit { IsFit M.ObjectMemory m.old }
     ensures serves { Speaks Next (M.told m.old) cpu.old (M.told m.new) cpu.new (table.single_extended (table.send_literal_super events.now)) result }
+    ensures keeps { StepsBy cpu.old.vault result }
     ensures fit { StaysFit M.ObjectMemory m.old m.new result }
 {
     let byte = fetch(m, cpu)?;
@@ -216,6 +228,7 @@ pub(crate) fn double_extended_super<M: ObjectMemory>(
 ) -> Result<Step, Stop>
     requires fit { IsFit M.ObjectMemory m.old }
     ensures serves { Speaks Next (M.told m.old) cpu.old (M.told m.new) cpu.new (table.double_extended (table.send_literal_super events.now)) result }
+    ensures keeps { StepsBy cpu.old.vault result }
     ensures fit { StaysFit M.ObjectMemory m.old m.new result }
 {
     let n = fetch(m, cpu)?;
@@ -235,6 +248,7 @@ pub(crate) fn tried_for<M: ObjectMemory>(
     requires fit { IsFit M.ObjectMemory m.old }
     requires number { s < 32 }
     ensures serves { Speaks Next (M.told m.old) cpu.old (M.told m.new) cpu.new (table.tried_for events.now index n s) result }
+    ensures keeps { StepsBy cpu.old.vault result }
     ensures fit { StaysFit M.ObjectMemory m.old m.new result }
 {
     set_arguments(cpu, n);
@@ -266,6 +280,7 @@ pub(crate) fn arithmetic_send<M: ObjectMemory>(
     requires fit { IsFit M.ObjectMemory m.old }
     requires number { s < 16 }
     ensures serves { Speaks Next (M.told m.old) cpu.old (M.told m.new) cpu.new (table.arithmetic_send events.now s) result }
+    ensures keeps { StepsBy cpu.old.vault result }
     ensures fit { StaysFit M.ObjectMemory m.old m.new result }
 {
     stack(m, cpu, Reg::R10, 1)?;
@@ -283,6 +298,7 @@ pub(crate) fn context_send<M: ObjectMemory>(
 ) -> Result<Step, Stop>
     requires fit { IsFit M.ObjectMemory m.old }
     ensures serves { Speaks Next (M.told m.old) cpu.old (M.told m.new) cpu.new (table.block_send events.now 80 1 table.is_context_class 24) result }
+    ensures keeps { StepsBy cpu.old.vault result }
     ensures fit { StaysFit M.ObjectMemory m.old m.new result }
 {
     stack(m, cpu, Reg::R10, 1)?;
@@ -304,6 +320,7 @@ pub(crate) fn block_send<M: ObjectMemory>(
     requires fit { IsFit M.ObjectMemory m.old }
     requires number { s < 32 }
     ensures serves { Speaks Next (M.told m.old) cpu.old (M.told m.new) cpu.new (table.block_send events.now 81 n table.is_block_class s) result }
+    ensures keeps { StepsBy cpu.old.vault result }
     ensures fit { StaysFit M.ObjectMemory m.old m.new result }
 {
     stack(m, cpu, Reg::R10, u32::from(n))?;

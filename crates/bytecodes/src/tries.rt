@@ -7,6 +7,7 @@ ghost use Rattle.blue_model.specs.Sends.{is_execute as is_execute_rule};
 ghost use Rattle.contexts.specs.Serves.{Serves, Speaks, StaysSound};
 ghost use Rattle.object_memory.specs.Calls.{IsFit};
 ghost use Rattle.contexts.specs.Calls.{StaysFit};
+ghost use Rattle.contexts.specs.Keeping.{KeepsBy};
 
 use blue_model::Step;
 use contexts::{Answer, Cpu, Stop};
@@ -41,6 +42,13 @@ fn is_device(index: u8) -> bool
     matches!(index, 93..=102 | 128)
 }
 
+/// Whether the primitive is one of arithmetic on large integers.
+fn is_large(index: u8) -> bool
+    ensures { result ≡ model.is_large index }
+{
+    matches!(index, 21..=37)
+}
+
 /// Whether the primitive is one of the two performs.
 pub(crate) fn is_perform(index: u8) -> bool
     ensures { result ≡ model.is_perform index }
@@ -54,7 +62,7 @@ pub(crate) fn has_failed(answer: Answer) -> bool
 {
     match answer {
         Answer::Failed => true,
-        Answer::Done | Answer::Execute | Answer::Quit => false,
+        Answer::Done | Answer::Execute | Answer::Quit | Answer::Keep => false,
     }
 }
 
@@ -64,7 +72,7 @@ pub(crate) fn is_execute(answer: Answer) -> bool
 {
     match answer {
         Answer::Execute => true,
-        Answer::Done | Answer::Failed | Answer::Quit => false,
+        Answer::Done | Answer::Failed | Answer::Quit | Answer::Keep => false,
     }
 }
 
@@ -74,6 +82,7 @@ pub(crate) fn step_of(answer: Answer) -> Step
 {
     match answer {
         Answer::Quit => Step::Quit,
+        Answer::Keep => Step::Keep,
         Answer::Done | Answer::Failed | Answer::Execute => Step::Next,
     }
 }
@@ -87,6 +96,7 @@ pub(crate) fn try_primitive<M: ObjectMemory>(
 ) -> Result<Answer, Stop>
     requires fit { IsFit M.ObjectMemory m.old }
     ensures serves { Speaks Done (M.told m.old) cpu.old (M.told m.new) cpu.new (model.primitive events.now index) result }
+    ensures keeps { KeepsBy cpu.old.vault result }
     ensures fit { StaysFit M.ObjectMemory m.old m.new result }
 {
     if is_control(index) {
@@ -100,6 +110,9 @@ pub(crate) fn try_primitive<M: ObjectMemory>(
     }
     if is_device(index) {
         return devices::run(m, cpu, events, index);
+    }
+    if is_large(index) {
+        return large_ints::run(m, cpu, index);
     }
     if index < 60 {
         prims_integer::run(m, cpu, index)

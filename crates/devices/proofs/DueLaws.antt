@@ -58,6 +58,7 @@ purge_refused {A} {old} {new} {cpu} {f} x = record {
   ready = tt;
   reason = record { rose = x.err.rose; last = x.err.last; cause = purge_caused old new f x.err.cause };
   counts = tt;
+  vault = tt;
   silent = x.err.transcript;
   model = λ told m st. purge_allowed old new m f told x.err.cause;
 }

@@ -2,6 +2,8 @@ mod ClockLaws
 mod DueLaws
 mod FormLaws
 mod InputLaws
+pub mod KeepLaws
 mod PictureLaws
 mod PixelLaws
+mod StateLaws
 mod TextLaws

@@ -119,7 +119,7 @@ done_told : {A : Type 0} {t : Told} {cpu : Cpu} (a b : A) → IsReady t → (IsT
 unfolding done
 done_told {A} {t} {cpu} a b ready same =
     let s : Serves t cpu t cpu (done a) (Ok a) = done_serves ready in
-    record { later = s.later; ready = ready; reason = tt; counts = s.counts; silent = s.silent; model = λ told m st. (same told, st) }
+    record { later = s.later; ready = ready; reason = tt; counts = s.counts; vault = s.vault; silent = s.silent; model = λ told m st. (same told, st) }
 
 module _ {t u : Told} {cpu : Cpu} (width height : ℕ) (form : Serves t cpu u cpu display_form (Ok (form_in (Some (width, height)) (u.regs 13)))) (ready : IsReady u) where
   pub drawn : (w : Told) (text : List ℕ) → IsReady w → Looks [] u w → HasRows u 13 (width, height) → (IsTrue u.tells → text ≡ picture_head width height ++ concat (map (row_bytes width (words_told u 13)) (range_with_len 0 height))) → Serves t cpu w cpu picture (Ok text)
@@ -194,6 +194,7 @@ row_missing {t} {u} {cpu} y width height bits form shown past = record {
   ready = tt;
   reason = tt;
   counts = tt;
+  vault = tt;
   silent = form.silent;
   model = λ told m st. absurd (never (display_form m) (shown told m st) (form.model told m st));
 }

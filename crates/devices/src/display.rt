@@ -9,6 +9,7 @@ ghost use Rattle.contexts.specs.Serves.{Serves, StaysSound};
 ghost use Rattle.devices.specs.Inside.{IsSmall, HasRows, form_found};
 ghost use Rattle.object_memory.specs.Calls.{IsFit};
 ghost use Rattle.contexts.specs.Calls.{StaysFit};
+ghost use Rattle.contexts.specs.Keeping.{NeverKeeps};
 
 use contexts::{Answer, Cpu, Stop, stack};
 use forms::read_form;
@@ -33,6 +34,7 @@ pub(crate) fn form_of<M: ObjectMemory>(m: &mut M) -> Result<Option<(u32, u32)>, 
 pub(crate) fn be_display<M: ObjectMemory>(m: &mut M, cpu: &mut Cpu) -> Result<Answer, Stop>
     requires fit { IsFit M.ObjectMemory m.old }
     ensures serves { Serves (M.told m.old) cpu.old (M.told m.new) cpu.new devices.be_display result }
+    ensures never_keeps { NeverKeeps result }
     ensures fit { StaysFit M.ObjectMemory m.old m.new result }
 {
     stack(m, cpu, Reg::R11, 0)?;

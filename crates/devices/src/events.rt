@@ -9,6 +9,7 @@ ghost use Rattle.object_memory.specs.Calls.{IsFit};
 ghost use Rattle.contexts.specs.Calls.{StaysFit};
 
 use crate::input::raised;
+use crate::ticks::clock;
 use contexts::{Cpu, Stop};
 use event_file::{Event, EventList, Line};
 use object_memory::{ObjectMemory, Reg};
@@ -93,10 +94,10 @@ fn fire<M: ObjectMemory>(m: &mut M, cpu: &mut Cpu) -> Result<(), Stop>
 }
 
 /// Whether the timer's tick has come.
-fn is_reached(timer: Option<u32>, ran: u32) -> bool
-    ensures { result ≡ model.is_reached timer ran }
+fn is_reached(timer: Option<u32>, now: u32) -> bool
+    ensures { result ≡ model.is_reached timer now }
 {
-    timer.is_some_and(|tick| tick <= ran)
+    timer.is_some_and(|tick| tick <= now)
 }
 
 fn check_timer<M: ObjectMemory>(m: &mut M, cpu: &mut Cpu) -> Result<(), Stop>
@@ -104,7 +105,7 @@ fn check_timer<M: ObjectMemory>(m: &mut M, cpu: &mut Cpu) -> Result<(), Stop>
     ensures serves { Serves (M.told m.old) cpu.old (M.told m.new) cpu.new model.check_timer result }
     ensures fit { StaysFit M.ObjectMemory m.old m.new result }
 {
-    if is_reached(cpu.timer, cpu.ran) {
+    if is_reached(cpu.timer, clock(cpu)) {
         return fire(m, cpu);
     }
     Ok(())

@@ -9,6 +9,7 @@ ghost use Rattle.contexts.specs.Serves.{Serves, Speaks, StaysSound, with_found};
 ghost use Rattle.devices.specs.Inside.{text_in};
 ghost use Rattle.object_memory.specs.Calls.{IsFit};
 ghost use Rattle.contexts.specs.Calls.{StaysFit};
+ghost use Rattle.contexts.specs.Keeping.{NeverKeeps};
 
 use contexts::data::say;
 use contexts::parts::class_of;
@@ -35,6 +36,7 @@ fn is_string<M: ObjectMemory>(m: &mut M) -> Result<bool, Stop>
 pub(crate) fn say_string<M: ObjectMemory>(m: &mut M, cpu: &mut Cpu) -> Result<Answer, Stop>
     requires fit { IsFit M.ObjectMemory m.old }
     ensures speaks { Speaks Outcome.Done (M.told m.old) cpu.old (M.told m.new) cpu.new model.say_string result }
+    ensures never_keeps { NeverKeeps result }
     ensures fit { StaysFit M.ObjectMemory m.old m.new result }
 {
     stack(m, cpu, Reg::R10, 0)?;

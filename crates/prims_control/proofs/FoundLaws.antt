@@ -109,6 +109,7 @@ wanted_found {A} {old} {new} {cpu} {now} f v a s = record {
   ready = s.ready;
   reason = tt;
   counts = s.counts;
+  vault = s.vault;
   silent = s.silent;
   model = λ told m st. goes_found f a _ v m (s.model told m st);
 }
@@ -120,6 +121,7 @@ wanted_stopped {A} {B} {old} {mid} {new} {cpu} {now} f g v b {e} there first s =
   ready = tt;
   reason = reason_other A (Option A) old new e s.reason;
   counts = tt;
+  vault = tt;
   silent = s.silent;
   model = λ told m st. gives_stopped f g b there new now e _ v m (first.model told m st) (s.model told m st);
 }
@@ -131,6 +133,7 @@ wanted_unread {A} {B} {old} {new} {cpu} {now} f g v {e} s = record {
   ready = tt;
   reason = reason_other (Option B) (Option A) old new e s.reason;
   counts = tt;
+  vault = tt;
   silent = s.silent;
   model = λ told m st. gives_unread f g new now e v m (s.model told m st);
 }
@@ -142,6 +145,7 @@ wanted_lacking {A} {B} {old} {new} {cpu} {now} f g v lacks s = record {
   ready = s.ready;
   reason = tt;
   counts = s.counts;
+  vault = s.vault;
   silent = s.silent;
   model = λ told m st. goes_lacking f g lacks _ v m (s.model told m st);
 }

@@ -6,6 +6,7 @@ ghost use Rattle.blue_model.specs.Control as model;
 ghost use Rattle.contexts.specs.Serves.{Serves, StaysSound, with_value};
 ghost use Rattle.object_memory.specs.Calls.{IsFit};
 ghost use Rattle.contexts.specs.Calls.{StaysFit};
+ghost use Rattle.contexts.specs.Keeping.{NeverKeeps};
 
 use crate::numbers::{block_pointer, natural};
 use crate::parts::{peek_home, store_number};
@@ -55,6 +56,7 @@ fn argument_number<M: ObjectMemory>(m: &M) -> Option<u32>
 pub(crate) fn block_copy<M: ObjectMemory>(m: &mut M, cpu: &mut Cpu) -> Result<Answer, Stop>
     requires fit { IsFit M.ObjectMemory m.old }
     ensures serves { Serves (M.told m.old) cpu.old (M.told m.new) cpu.new model.block_copy result }
+    ensures never_keeps { NeverKeeps result }
     ensures fit { StaysFit M.ObjectMemory m.old m.new result }
 {
     stack(m, cpu, Reg::R10, 1)?;

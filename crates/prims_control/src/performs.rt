@@ -10,6 +10,7 @@ ghost use Rattle.blue_model.specs.Control as model;
 ghost use Rattle.contexts.specs.Serves.{Serves, StaysSound, with_found};
 ghost use Rattle.object_memory.specs.Calls.{IsFit};
 ghost use Rattle.contexts.specs.Calls.{StaysFit};
+ghost use Rattle.contexts.specs.Keeping.{NeverKeeps};
 
 use crate::numbers::{extension_arguments, fits, flag_arguments};
 use crate::parts::array_length;
@@ -58,6 +59,7 @@ fn method_for<M: ObjectMemory>(m: &mut M, n: u32) -> Result<bool, Stop>
 fn execute_found<M: ObjectMemory>(m: &mut M, cpu: &mut Cpu, n: u8) -> Answer
     requires fit { IsFit M.ObjectMemory m.old }
     ensures serves { Serves (M.told m.old) cpu.old (M.told m.new) cpu.new (model.execute_found ((M.told m.old).regs 22) n) (Ok result) }
+    ensures never_keeps { NeverKeeps (Ok result) }
     ensures fit { StaysFit M.ObjectMemory m.old m.new (Ok result) }
 {
     m.copy(Reg::NEW_METHOD, Reg::R22);
@@ -95,6 +97,7 @@ fn move_arguments<M: ObjectMemory>(m: &mut M, cpu: &Cpu, n: u32) -> Result<(), S
 fn perform_with<M: ObjectMemory>(m: &mut M, cpu: &mut Cpu, n: u8) -> Result<Answer, Stop>
     requires fit { IsFit M.ObjectMemory m.old }
     ensures serves { Serves (M.told m.old) cpu.old (M.told m.new) cpu.new (model.perform_with n) result }
+    ensures never_keeps { NeverKeeps result }
     ensures fit { StaysFit M.ObjectMemory m.old m.new result }
 {
     let count = u32::from(n);
@@ -115,6 +118,7 @@ fn perform_with<M: ObjectMemory>(m: &mut M, cpu: &mut Cpu, n: u8) -> Result<Answ
 pub(crate) fn perform<M: ObjectMemory>(m: &mut M, cpu: &mut Cpu) -> Result<Answer, Stop>
     requires fit { IsFit M.ObjectMemory m.old }
     ensures serves { Serves (M.told m.old) cpu.old (M.told m.new) cpu.new model.perform result }
+    ensures never_keeps { NeverKeeps result }
     ensures fit { StaysFit M.ObjectMemory m.old m.new result }
 {
     if cpu.args == 0 {
@@ -167,6 +171,7 @@ pub(crate) fn perform_with_arguments<M: ObjectMemory>(
 ) -> Result<Answer, Stop>
     requires fit { IsFit M.ObjectMemory m.old }
     ensures serves { Serves (M.told m.old) cpu.old (M.told m.new) cpu.new model.perform_with_arguments result }
+    ensures never_keeps { NeverKeeps result }
     ensures fit { StaysFit M.ObjectMemory m.old m.new result }
 {
     stack(m, cpu, Reg::R10, 2)?;

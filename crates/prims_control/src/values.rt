@@ -9,6 +9,7 @@ ghost use Rattle.blue_model.specs.Control as model;
 ghost use Rattle.contexts.specs.Serves.{Serves, StaysSound};
 ghost use Rattle.object_memory.specs.Calls.{IsFit};
 ghost use Rattle.contexts.specs.Calls.{StaysFit};
+ghost use Rattle.contexts.specs.Keeping.{NeverKeeps};
 
 use crate::numbers::states;
 use crate::parts::{array_length, store_number};
@@ -73,6 +74,7 @@ fn enter_block<M: ObjectMemory>(m: &mut M, cpu: &mut Cpu, n: u32, ip: i16) -> Re
     requires few { n < 16384 }
     requires range { IsSmallInteger ip }
     ensures serves { Serves (M.told m.old) cpu.old (M.told m.new) cpu.new (model.enter_block ((M.told m.old).regs 10) n ip) result }
+    ensures never_keeps { NeverKeeps result }
     ensures fit { StaysFit M.ObjectMemory m.old m.new result }
 {
     store_number(m, Reg::R10, 1, ip)?;
@@ -114,6 +116,7 @@ fn pass_arguments<M: ObjectMemory>(m: &mut M, cpu: &Cpu, n: u32) -> Result<(), S
 pub(crate) fn value<M: ObjectMemory>(m: &mut M, cpu: &mut Cpu) -> Result<Answer, Stop>
     requires fit { IsFit M.ObjectMemory m.old }
     ensures serves { Serves (M.told m.old) cpu.old (M.told m.new) cpu.new model.value result }
+    ensures never_keeps { NeverKeeps result }
     ensures fit { StaysFit M.ObjectMemory m.old m.new result }
 {
     let n = u32::from(cpu.args);
@@ -160,6 +163,7 @@ pub(crate) fn value_with_arguments<M: ObjectMemory>(
 ) -> Result<Answer, Stop>
     requires fit { IsFit M.ObjectMemory m.old }
     ensures serves { Serves (M.told m.old) cpu.old (M.told m.new) cpu.new model.value_with_arguments result }
+    ensures never_keeps { NeverKeeps result }
     ensures fit { StaysFit M.ObjectMemory m.old m.new result }
 {
     stack(m, cpu, Reg::R10, 1)?;

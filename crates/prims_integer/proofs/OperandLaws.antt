@@ -52,6 +52,7 @@ serves_both {old} {new} {cpu} {now} p {answer} s = record {
   ready = s.ready;
   reason = s.reason;
   counts = s.counts;
+  vault = s.vault;
   silent = s.silent;
   model = λ told m st. subst (Gives new now answer) (sym (by_both p m)) (s.model told m st);
 }

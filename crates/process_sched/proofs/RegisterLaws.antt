@@ -20,6 +20,7 @@ register_here {t} {cpu} r low ready = record {
   ready = ready;
   reason = tt;
   counts = (0, IsCounted-refl t);
+  vault = λ may. may;
   silent = λ speaks. refl;
   model = λ told m st. (st.regs r (ltb-true r MACHINE_REGISTERS low), st);
 }
@@ -36,6 +37,7 @@ number_put {old} {new} {cpu} to z low ready e = subst (λ (t : Told). Serves old
   ready = subst IsReady e ready;
   reason = tt;
   counts = (0, record { counts = Raised-refl old.bounds; next = λ told. omega arith });
+  vault = λ may. may;
   silent = λ speaks. refl;
   model = λ told m st. (
     refl,

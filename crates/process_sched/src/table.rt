@@ -7,6 +7,7 @@ ghost use Rattle.blue_model.specs.Processes as model;
 ghost use Rattle.contexts.specs.Serves.{Serves, StaysSound};
 ghost use Rattle.object_memory.specs.Calls.{IsFit};
 ghost use Rattle.contexts.specs.Calls.{StaysFit};
+ghost use Rattle.contexts.specs.Keeping.{NeverKeeps};
 
 use crate::scheduler::has_list;
 use crate::semaphores::{signal, wait};
@@ -22,6 +23,7 @@ use object_memory::{ObjectMemory, Reg};
 fn primitive_signal<M: ObjectMemory>(m: &mut M, cpu: &mut Cpu) -> Result<Answer, Stop>
     requires fit { IsFit M.ObjectMemory m.old }
     ensures serves { Serves (M.told m.old) cpu.old (M.told m.new) cpu.new model.primitive_signal result }
+    ensures never_keeps { NeverKeeps result }
     ensures fit { StaysFit M.ObjectMemory m.old m.new result }
 {
     stack(m, cpu, Reg::R11, 0)?;
@@ -36,6 +38,7 @@ fn primitive_signal<M: ObjectMemory>(m: &mut M, cpu: &mut Cpu) -> Result<Answer,
 fn primitive_wait<M: ObjectMemory>(m: &mut M, cpu: &mut Cpu) -> Result<Answer, Stop>
     requires fit { IsFit M.ObjectMemory m.old }
     ensures serves { Serves (M.told m.old) cpu.old (M.told m.new) cpu.new model.primitive_wait result }
+    ensures never_keeps { NeverKeeps result }
     ensures fit { StaysFit M.ObjectMemory m.old m.new result }
 {
     stack(m, cpu, Reg::R11, 0)?;
@@ -50,6 +53,7 @@ fn primitive_wait<M: ObjectMemory>(m: &mut M, cpu: &mut Cpu) -> Result<Answer, S
 fn primitive_resume<M: ObjectMemory>(m: &mut M, cpu: &mut Cpu) -> Result<Answer, Stop>
     requires fit { IsFit M.ObjectMemory m.old }
     ensures serves { Serves (M.told m.old) cpu.old (M.told m.new) cpu.new model.primitive_resume result }
+    ensures never_keeps { NeverKeeps result }
     ensures fit { StaysFit M.ObjectMemory m.old m.new result }
 {
     stack(m, cpu, Reg::R17, 0)?;
@@ -68,6 +72,7 @@ fn primitive_resume<M: ObjectMemory>(m: &mut M, cpu: &mut Cpu) -> Result<Answer,
 fn primitive_suspend<M: ObjectMemory>(m: &mut M, cpu: &mut Cpu) -> Result<Answer, Stop>
     requires fit { IsFit M.ObjectMemory m.old }
     ensures serves { Serves (M.told m.old) cpu.old (M.told m.new) cpu.new model.primitive_suspend result }
+    ensures never_keeps { NeverKeeps result }
     ensures fit { StaysFit M.ObjectMemory m.old m.new result }
 {
     stack(m, cpu, Reg::R17, 0)?;
@@ -86,6 +91,7 @@ fn primitive_suspend<M: ObjectMemory>(m: &mut M, cpu: &mut Cpu) -> Result<Answer
 pub fn run<M: ObjectMemory>(m: &mut M, cpu: &mut Cpu, index: u8) -> Result<Answer, Stop>
     requires fit { IsFit M.ObjectMemory m.old }
     ensures serves { Serves (M.told m.old) cpu.old (M.told m.new) cpu.new (primitive_in model.process_primitives index) result }
+    ensures never_keeps { NeverKeeps result }
     ensures fit { StaysFit M.ObjectMemory m.old m.new result }
 {
     match (index, cpu.args) {

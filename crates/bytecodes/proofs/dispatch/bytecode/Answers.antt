@@ -5,6 +5,7 @@ use Rattle.blue_model.specs.Machine.{halt, known, register}
 use Rattle.blue_model.specs.Sends.{special_send}
 use Rattle.blue_model.specs.declared.cause.Cause.TheVariants.{Unused}
 use Rattle.bytecodes.proofs.DispatchLaws.{after_next, dispatched, from_zero, next_serves}
+use Rattle.bytecodes.proofs.KeepLaws.{next_keeps}
 use Rattle.contexts.proofs.Steps.{halt_serves}
 use Rattle.long_names.specs.Names.{FALSE, NIL, TRUE}
 use Rattle.long_names.specs.State.{RECEIVER}
@@ -189,3 +190,60 @@ returns-in-224-to-239-clause-serves g c = dispatched c.args.events.now c.args.by
 pub returns-in_default-clause-serves : goal.returns-in_default-clause-serves
 unfolding bytecodes
 returns-in_default-clause-serves g c = dispatched c.args.events.now c.args.byte 44 (from_to 240 255 (λ i. send_literal c.args.events.now i 2)) (omega arith) refl refl (grind arith) (omega arith) (rw c.from-in_default.ensures at c.send_literal-in_default.ensures.serves)
+
+pub returns-in-0-to-15-clause-keeps : goal.returns-in-0-to-15-clause-keeps
+returns-in-0-to-15-clause-keeps g c = next_keeps _ _ c.next-in-0-to-15.ensures
+
+pub returns-in-16-to-31-clause-keeps : goal.returns-in-16-to-31-clause-keeps
+returns-in-16-to-31-clause-keeps g c = next_keeps _ _ c.next-in-16-to-31.ensures
+
+pub returns-in-32-to-63-clause-keeps : goal.returns-in-32-to-63-clause-keeps
+returns-in-32-to-63-clause-keeps g c = next_keeps _ _ c.next-in-32-to-63.ensures
+
+pub returns-in-64-to-95-clause-keeps : goal.returns-in-64-to-95-clause-keeps
+returns-in-64-to-95-clause-keeps g c = next_keeps _ _ c.next-in-64-to-95.ensures
+
+pub returns-in-96-to-103-clause-keeps : goal.returns-in-96-to-103-clause-keeps
+returns-in-96-to-103-clause-keeps g c = next_keeps _ _ c.next-in-96-to-103.ensures
+
+pub returns-in-104-to-111-clause-keeps : goal.returns-in-104-to-111-clause-keeps
+returns-in-104-to-111-clause-keeps g c = next_keeps _ _ c.next-in-104-to-111.ensures
+
+pub returns-in-112-clause-keeps : goal.returns-in-112-clause-keeps
+returns-in-112-clause-keeps g c = next_keeps _ _ c.next.ensures
+
+pub returns-in-113-clause-keeps : goal.returns-in-113-clause-keeps
+returns-in-113-clause-keeps g c = next_keeps _ _ c.next-in-113.ensures
+
+pub returns-in-114-clause-keeps : goal.returns-in-114-clause-keeps
+returns-in-114-clause-keeps g c = next_keeps _ _ c.next-in-114.ensures
+
+pub returns-in-115-clause-keeps : goal.returns-in-115-clause-keeps
+returns-in-115-clause-keeps g c = next_keeps _ _ c.next-in-115.ensures
+
+pub returns-in-116-to-119-clause-keeps : goal.returns-in-116-to-119-clause-keeps
+returns-in-116-to-119-clause-keeps g c = next_keeps _ _ c.next-in-116-to-119.ensures
+
+pub returns-in-128-clause-keeps : goal.returns-in-128-clause-keeps
+returns-in-128-clause-keeps g c = next_keeps _ _ c.next-in-128.ensures
+
+pub returns-in-129-clause-keeps : goal.returns-in-129-clause-keeps
+returns-in-129-clause-keeps g c = next_keeps _ _ c.next-in-129.ensures
+
+pub returns-in-130-clause-keeps : goal.returns-in-130-clause-keeps
+returns-in-130-clause-keeps g c = next_keeps _ _ c.next-in-130.ensures
+
+pub returns-in-135-clause-keeps : goal.returns-in-135-clause-keeps
+returns-in-135-clause-keeps g c = next_keeps _ _ c.next-in-135.ensures
+
+pub returns-in-136-clause-keeps : goal.returns-in-136-clause-keeps
+returns-in-136-clause-keeps g c = next_keeps _ _ c.next-in-136.ensures
+
+pub returns-in-137-clause-keeps : goal.returns-in-137-clause-keeps
+returns-in-137-clause-keeps g c = next_keeps _ _ c.next-in-137.ensures
+
+pub returns-in-144-to-151-clause-keeps : goal.returns-in-144-to-151-clause-keeps
+returns-in-144-to-151-clause-keeps g c = next_keeps _ _ c.next-in-144-to-151.ensures
+
+pub returns-in-160-to-167-clause-keeps : goal.returns-in-160-to-167-clause-keeps
+returns-in-160-to-167-clause-keeps g c = next_keeps _ _ c.next-in-160-to-167.ensures

@@ -16,3 +16,6 @@ pub returns-clause-serves : goal.returns-clause-serves
 unfolding step
 returns-clause-serves g c =
     serves_then _ c.in_ok-byte.ensures.serves (speaks_then _ c.in_ok-step.ensures.serves (serves_then _ (c.rest.ensures.serves _) (done_serves c.rest.ensures.fit.ready)) (λ e. e))
+
+pub returns-clause-keeps : goal.returns-clause-keeps
+returns-clause-keeps g c = λ k. c.in_ok-byte.ensures.serves.vault (c.in_ok-step.ensures.keeps k)

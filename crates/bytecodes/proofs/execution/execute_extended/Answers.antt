@@ -5,6 +5,7 @@ use Rattle.contexts.proofs.ServesLaws.{speaks_quiet, serves_then, serves_exit}
 use Rattle.contexts.proofs.Steps.{pick_true, pick_false, done_serves}
 use Rattle.contexts.proofs.SpeaksLaws.{speaks_failed, speaks_then, speaks_exit, goes_done, goes_false}
 use Rattle.bytecodes.proofs.TryLaws.{not_failed}
+use Rattle.devices.proofs.KeepLaws.{keeps_never}
 use Rattle.bytecodes.proofs.execution.execute_extended.Goals as goal
 
 pub returns-in_err-extension-clause-serves : goal.returns-in_err-extension-clause-serves
@@ -41,3 +42,9 @@ returns-clause-serves g c =
     let index = rw z at c.primitive-index.ensures in
     serves_then _ (c.in_ok-extension.ensures.serves _) (pick_false _ _ _ (sym (rw index at c.is_none.ensures) ∙ c.if-is_none.false) (speaks_then _ (rw index at c.in_ok-answer.ensures.serves)
     (pick_false _ _ _ (sym c.has_failed.ensures ∙ c.if-has_failed.false) (done_serves c.in_ok-answer.ensures.fit.ready)) (λ e. e)))
+
+pub returns-then-is_none-clause-keeps : goal.returns-then-is_none-clause-keeps
+returns-then-is_none-clause-keeps g c = keeps_never _ _ c.activated.ensures.never_keeps
+
+pub returns-then-has_failed-clause-keeps : goal.returns-then-has_failed-clause-keeps
+returns-then-has_failed-clause-keeps g c = keeps_never _ _ c.activated-then-has_failed.ensures.never_keeps

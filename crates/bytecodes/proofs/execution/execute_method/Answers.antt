@@ -1,9 +1,11 @@
-use Rattle.std.proofs.Common.{refl, arith}
+use Rattle.std.proofs.Common.{Ok, refl, arith}
+use Rattle.blue_model.specs.declared.answer.Answer.TheVariants.{Done}
 use Rattle.object_memory.proofs.ShapeLaws.{small_number}
 use Rattle.bytecodes.proofs.SendLaws.{equal, unequal}
 use Rattle.blue_model.specs.Sends.{execute_method}
 use Rattle.contexts.proofs.ServesLaws.{speaks_quiet, serves_then, serves_exit}
 use Rattle.contexts.proofs.Steps.{register_then, pick_true, pick_false, done_serves}
+use Rattle.devices.proofs.KeepLaws.{keeps_never}
 use Rattle.bytecodes.proofs.execution.execute_method.Goals as goal
 
 pub returns-in_err-header-clause-serves : goal.returns-in_err-header-clause-serves
@@ -49,3 +51,12 @@ returns-in_default-clause-serves g c =
     let flag = rw z at c.flag.ensures.flag in
     register_then _ _ refl (serves_then _ (c.in_ok-header.ensures.serves _)
     (pick_false _ _ _ (unequal _ _ 5 flag (λ e. absurd (omega arith))) (pick_false _ _ _ (unequal _ _ 6 flag (λ e. absurd (omega arith))) (pick_false _ _ _ (unequal _ _ 7 flag (λ e. absurd (omega arith))) (speaks_quiet c.activated.ensures.serves)))))
+
+pub returns-in-5-clause-keeps : goal.returns-in-5-clause-keeps
+returns-in-5-clause-keeps g c = keeps_never _ (Ok Done) refl
+
+pub returns-in_ok-answer_field-in-6-clause-keeps : goal.returns-in_ok-answer_field-in-6-clause-keeps
+returns-in_ok-answer_field-in-6-clause-keeps g c = keeps_never _ (Ok Done) refl
+
+pub returns-in_default-clause-keeps : goal.returns-in_default-clause-keeps
+returns-in_default-clause-keeps g c = keeps_never _ _ c.activated.ensures.never_keeps

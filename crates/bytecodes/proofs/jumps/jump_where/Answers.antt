@@ -4,6 +4,7 @@ use Rattle.blue_model.specs.Primitives.{then_next}
 use Rattle.blue_model.specs.Bytecodes.{jump_where}
 use Rattle.contexts.proofs.ServesLaws.{serves_then, serves_exit}
 use Rattle.contexts.proofs.Steps.{pick_true, pick_false, done_serves}
+use Rattle.bytecodes.proofs.KeepLaws.{goes_next}
 use Rattle.bytecodes.proofs.jumps.jump_where.Goals as goal
 
 pub returns-in_err-jump-clause-serves : goal.returns-in_err-jump-clause-serves
@@ -25,3 +26,9 @@ returns-then-is-2-clause-serves g c = pick_false _ _ _ (sym c.if-is.ensures) (pi
 pub returns-clause-serves : goal.returns-clause-serves
 unfolding jump_where
 returns-clause-serves g c = pick_false _ _ _ (sym c.if-is.ensures) (pick_false _ _ _ (sym c.if-is-2.ensures) c.must_be_boolean.ensures.serves)
+
+pub returns-then-is-clause-keeps : goal.returns-then-is-clause-keeps
+returns-then-is-clause-keeps g c = goes_next
+
+pub returns-then-is-2-clause-keeps : goal.returns-then-is-2-clause-keeps
+returns-then-is-2-clause-keeps g c = goes_next

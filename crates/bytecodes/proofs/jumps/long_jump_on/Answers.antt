@@ -1,5 +1,6 @@
 use Rattle.blue_model.specs.Bytecodes.{long_jump_on}
 use Rattle.contexts.proofs.ServesLaws.{serves_then, serves_exit}
+use Rattle.bytecodes.proofs.KeepLaws.{keeps_after}
 use Rattle.bytecodes.proofs.jumps.long_jump_on.Goals as goal
 
 pub returns-in_err-byte-clause-serves : goal.returns-in_err-byte-clause-serves
@@ -9,3 +10,6 @@ returns-in_err-byte-clause-serves g c = serves_exit _ _ c.in_err-byte.ensures.se
 pub returns-clause-serves : goal.returns-clause-serves
 unfolding long_jump_on
 returns-clause-serves g c = serves_then _ c.in_ok-byte.ensures.serves (rw c.from.ensures at c.jump_on.ensures.serves)
+
+pub returns-clause-keeps : goal.returns-clause-keeps
+returns-clause-keeps g c = keeps_after _ _ _ c.in_ok-byte.ensures.serves.vault c.jump_on.ensures.keeps

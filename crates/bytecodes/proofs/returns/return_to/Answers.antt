@@ -3,6 +3,7 @@ use Rattle.blue_model.specs.Primitives.{then_next}
 use Rattle.blue_model.specs.Sends.{return_to}
 use Rattle.contexts.proofs.ServesLaws.{serves_then, serves_exit}
 use Rattle.contexts.proofs.Steps.{pick_true, pick_false, done_serves}
+use Rattle.bytecodes.proofs.KeepLaws.{goes_next}
 use Rattle.bytecodes.proofs.returns.return_to.Goals as goal
 
 pub returns-then-is-clause-serves : goal.returns-then-is-clause-serves
@@ -34,3 +35,6 @@ returns-clause-serves g c =
     let context = c.in_ok-field.ensures.looks.regs 11 refl in
     pick_false _ _ _ (sym c.if-is.ensures) (serves_then _ (c.in_ok-field.ensures.serves _)
     (pick_false _ _ _ (sym c.if-is-2.ensures) (serves_then _ (rw (value, context) at c.in_ok-back_with.ensures.serves) (done_serves c.in_ok-back_with.ensures.fit.ready))))
+
+pub returns-clause-keeps : goal.returns-clause-keeps
+returns-clause-keeps g c = goes_next

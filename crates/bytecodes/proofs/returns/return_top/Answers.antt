@@ -1,5 +1,6 @@
 use Rattle.blue_model.specs.Bytecodes.{return_of}
 use Rattle.contexts.proofs.ServesLaws.{serves_then, serves_exit}
+use Rattle.bytecodes.proofs.KeepLaws.{keeps_after}
 use Rattle.bytecodes.proofs.returns.return_top.Goals as goal
 
 pub returns-in_err-pop_top-clause-serves : goal.returns-in_err-pop_top-clause-serves
@@ -9,3 +10,6 @@ returns-in_err-pop_top-clause-serves g c = serves_exit _ _ c.in_err-pop_top.ensu
 pub returns-clause-serves : goal.returns-clause-serves
 unfolding return_of
 returns-clause-serves g c = serves_then _ c.in_ok-pop_top.ensures.serves c.return_home.ensures.serves
+
+pub returns-clause-keeps : goal.returns-clause-keeps
+returns-clause-keeps g c = keeps_after _ _ _ c.in_ok-pop_top.ensures.serves.vault c.return_home.ensures.keeps

@@ -2,6 +2,7 @@ use Rattle.std.proofs.Common.{refl}
 use Rattle.blue_model.specs.Sends.{cannot_return}
 use Rattle.contexts.proofs.ServesLaws.{serves_then, serves_exit}
 use Rattle.contexts.proofs.Steps.{register_then}
+use Rattle.bytecodes.proofs.KeepLaws.{keeps_after}
 use Rattle.bytecodes.proofs.sends.cannot_return.Goals as goal
 
 pub returns-in_err-push-clause-serves : goal.returns-in_err-push-clause-serves
@@ -28,3 +29,6 @@ returns-clause-serves g c =
     (serves_then _ (rw c.in_ok-push.ensures.regs at c.in_ok-push-2.ensures.serves)
     (serves_then _ (c.in_ok-known.ensures.serves _)
     c.send.ensures.serves)))
+
+pub returns-clause-keeps : goal.returns-clause-keeps
+returns-clause-keeps g c = keeps_after _ _ _ (λ may. c.in_ok-push.ensures.serves.vault (c.in_ok-push-2.ensures.serves.vault may)) c.send.ensures.keeps

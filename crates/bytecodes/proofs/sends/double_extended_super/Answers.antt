@@ -1,5 +1,6 @@
 use Rattle.blue_model.specs.Bytecodes.{double_extended}
 use Rattle.contexts.proofs.ServesLaws.{serves_then, serves_exit}
+use Rattle.bytecodes.proofs.KeepLaws.{keeps_after}
 use Rattle.bytecodes.proofs.sends.double_extended_super.Goals as goal
 
 pub returns-in_err-n-clause-serves : goal.returns-in_err-n-clause-serves
@@ -13,3 +14,6 @@ returns-in_err-i-clause-serves g c = serves_then _ c.in_ok-n.ensures.serves (ser
 pub returns-clause-serves : goal.returns-clause-serves
 unfolding double_extended
 returns-clause-serves g c = serves_then _ c.in_ok-n.ensures.serves (serves_then _ c.in_ok-i.ensures.serves (rw c.from.ensures at c.send_literal_super.ensures.serves))
+
+pub returns-clause-keeps : goal.returns-clause-keeps
+returns-clause-keeps g c = keeps_after _ _ _ (λ may. c.in_ok-n.ensures.serves.vault (c.in_ok-i.ensures.serves.vault may)) c.send_literal_super.ensures.keeps

@@ -5,6 +5,7 @@ use Rattle.contexts.proofs.ServesLaws.{serves_then}
 use Rattle.contexts.proofs.Steps.{pick_true, pick_false, done_same}
 use Rattle.contexts.proofs.SpeaksLaws.{speaks_failed, speaks_then, speaks_exit, goes_done, goes_false}
 use Rattle.bytecodes.proofs.TryLaws.{not_failed}
+use Rattle.bytecodes.proofs.KeepLaws.{keeps_after, steps_after}
 use Rattle.bytecodes.proofs.sends.tried_for.Goals as goal
 
 pub returns-in_err-answer-clause-serves : goal.returns-in_err-answer-clause-serves
@@ -23,3 +24,9 @@ unfolding tried_for tried
 returns-clause-serves g c =
     serves_then _ (c.set_arguments.ensures.serves _ c.requires.fit.ready) (speaks_then _ c.in_ok-answer.ensures.serves
     (pick_false _ _ _ (sym c.has_failed.ensures ∙ c.if-has_failed.false) (done_same c.step_of.ensures c.in_ok-answer.ensures.fit.ready)) (λ e. c.step_of.ensures ∙ ap step_of e))
+
+pub returns-then-has_failed-clause-keeps : goal.returns-then-has_failed-clause-keeps
+returns-then-has_failed-clause-keeps g c = keeps_after _ _ _ (λ may. (c.set_arguments.ensures.serves _ c.requires.fit.ready).vault (c.in_ok-answer.ensures.serves.vault may)) c.special_send.ensures.keeps
+
+pub returns-clause-keeps : goal.returns-clause-keeps
+returns-clause-keeps g c = steps_after _ _ (c.set_arguments.ensures.serves _ c.requires.fit.ready).vault c.step_of.ensures c.in_ok-answer.ensures.keeps

@@ -32,4 +32,4 @@ returns-clause-serves g c =
     serves_then _ c.in_ok-stack.ensures.serves
     (found_then _ (ap (λ x. form_in x ((g.M.ObjectMemory.told c.form_of.new.m).regs 13)) c.in-Some.is) (c.in_ok-form_of.ensures.serves _)
     (serves_then _ (put_serves_at 9 11 _ refl form before ready c.copy.ensures.told)
-    (numbers_then _ (serves_then _ (set_numbers_at _ refl ready) (done_serves ready)))))
+    (numbers_then _ (serves_then _ (set_numbers_at _ refl (λ may. may) ready) (done_serves ready)))))

@@ -14,4 +14,4 @@ unfolding fire
 returns-clause-serves g c =
     let ready = c.int.ensures.fit.ready c.in_ok-signal.ensures.fit.ready in
     register_then 8 _ refl (serves_then _ c.in_ok-signal.ensures.serves
-    (serves_then _ (number_put 8 (pos 0) refl ready c.int.ensures.told) (numbers_then _ (set_numbers_at _ refl ready))))
+    (serves_then _ (number_put 8 (pos 0) refl ready c.int.ensures.told) (numbers_then _ (set_numbers_at _ refl (λ may. may) ready))))

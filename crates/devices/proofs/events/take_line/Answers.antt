@@ -6,4 +6,4 @@ use Rattle.devices.proofs.events.take_line.Goals as goal
 
 pub returns-clause-serves : goal.returns-clause-serves
 unfolding take_line
-returns-clause-serves g c = numbers_then _ (serves_then _ (set_numbers_at _ (ap (λ n. record c.args.cpu.now { line = n }) c.raised-cpu.ensures) c.requires.fit.ready) c.take_event.ensures.serves)
+returns-clause-serves g c = numbers_then _ (serves_then _ (set_numbers_at _ (ap (λ n. record c.args.cpu.now { line = n }) c.raised-cpu.ensures) (λ may. may) c.requires.fit.ready) c.take_event.ensures.serves)

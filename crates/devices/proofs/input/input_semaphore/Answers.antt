@@ -29,7 +29,7 @@ returns-in_err-pop-clause-serves g c =
     serves_then _ c.in_ok-stack.ensures.serves
     (found_then _ c.in-Some.is (c.in_ok-there.ensures.serves _)
     (serves_then _ (rw same at c.put_semaphore.ensures.serves c.args.cpu.now)
-    (numbers_then _ (serves_then _ (set_numbers_at _ refl ready)
+    (numbers_then _ (serves_then _ (set_numbers_at _ refl (λ may. may) ready)
     (serves_exit _ _ (c.in_err-pop.ensures.serves _ ready) c.from_residual-in_err-pop.ensures.1)))))
 
 pub returns-clause-serves : goal.returns-clause-serves
@@ -40,5 +40,5 @@ returns-clause-serves g c =
     serves_then _ c.in_ok-stack.ensures.serves
     (found_then _ c.in-Some.is (c.in_ok-there.ensures.serves _)
     (serves_then _ (rw same at c.put_semaphore.ensures.serves c.args.cpu.now)
-    (numbers_then _ (serves_then _ (set_numbers_at _ refl ready)
+    (numbers_then _ (serves_then _ (set_numbers_at _ refl (λ may. may) ready)
     (serves_then _ (c.in_ok-pop.ensures.serves _ ready) (done_serves ready))))))

@@ -21,4 +21,4 @@ returns-clause-serves g c =
     let ready = c.in_ok-number_object.ensures.fit.ready in
     numbers_then _ (some_then _ _ _ (λ told. sym c.next_word.ensures ∙ c.in-Some.is)
     (serves_then _ (rw c.from.ensures at c.in_ok-number_object.ensures.serves c.args.cpu.now)
-    (numbers_then _ (serves_then _ (set_numbers_at _ (ap (λ n. record c.args.cpu.now { words_out = n }) c.raised-cpu.ensures) ready) c.answer.ensures.serves))))
+    (numbers_then _ (serves_then _ (set_numbers_at _ (ap (λ n. record c.args.cpu.now { words_out = n }) c.raised-cpu.ensures) (λ may. may) ready) c.answer.ensures.serves))))

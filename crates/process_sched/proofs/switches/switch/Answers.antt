@@ -50,7 +50,7 @@ returns-clause-serves g c =
     (register_then 6 _ refl (serves_then _ (rw scheduler at c.in_ok-store_field-2.ensures.serves c.args.cpu.now)
     (serves_then _ (rw c.in_ok-store_field-2.ensures.regs at c.in_ok-field-2.ensures.serves c.args.cpu.now)
     (serves_then _ (number_put 6 (pos 0) refl ready c.int.ensures.told)
-    (numbers_then _ (serves_then _ (set_numbers_at _ refl ready) (rw context at c.enter.ensures.serves))))))))))
+    (numbers_then _ (serves_then _ (set_numbers_at _ refl (λ may. may) ready) (rw context at c.enter.ensures.serves))))))))))
 
 pub returns-clause-others : goal.returns-clause-others
 returns-clause-others g c = on_ok c.enter.result (λ kept r above low apart.

@@ -9,4 +9,4 @@ pub returns-clause-serves : goal.returns-clause-serves
 unfolding transfer
 returns-clause-serves g c =
     let ready = c.copy.ensures.fit.ready c.requires.fit.ready in
-    serves_then _ (put_serves 6 17 refl c.requires.fit.ready ready c.copy.ensures.told) (numbers_then _ (set_numbers_at _ refl ready))
+    serves_then _ (put_serves 6 17 refl c.requires.fit.ready ready c.copy.ensures.told) (numbers_then _ (set_numbers_at _ refl (λ may. may) ready))

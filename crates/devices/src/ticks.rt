@@ -1,5 +1,5 @@
-// The clock (chapter 29): the primitives 99 and 100. A tick is the number of the bytecodes that were run. The object of bytes is in
-// R10, the semaphore in R11.
+// The clock (chapter 29): the primitives 99 and 100. A tick is a bytecode, of this run or an earlier one. The object of bytes is in R10,
+// the semaphore in R11.
 ghost use Rattle.std.specs.Prelude.{◌≡◌, [], OnOk, Some};
 ghost use Rattle.object_memory.specs.Told.{IsReady};
 ghost use Rattle.object_memory.specs.Shape.{Looks};
@@ -10,12 +10,20 @@ ghost use Rattle.contexts.specs.Serves.{Serves, StaysSound};
 ghost use Rattle.devices.specs.Inside.{found_tick};
 ghost use Rattle.object_memory.specs.Calls.{IsFit};
 ghost use Rattle.contexts.specs.Calls.{StaysFit};
+ghost use Rattle.contexts.specs.Keeping.{NeverKeeps};
 
 use crate::input::{put_semaphore, semaphore_or_nil};
 use contexts::data::store_byte;
 use contexts::{Answer, Cpu, Stop, pop, stack};
 use long_names::Kind;
 use object_memory::{ObjectMemory, Reg, shape};
+
+/// The clock: how many bytecodes were run, by earlier runs of the machine and by this one. It stands still at the greatest number.
+pub fn clock(cpu: &Cpu) -> u32
+    ensures { result ≡ model.clock cpu.now }
+{
+    cpu.base.saturating_add(cpu.ran)
+}
 
 /// Whether an object of this kind and length has a tick: at least four bytes.
 fn has_tick(found: Option<(Kind, u32)>) -> bool
@@ -63,23 +71,24 @@ fn put_tick<M: ObjectMemory>(m: &mut M, of: Reg, tick: u32) -> Result<(), Stop>
     store_byte(m, of, 3, (tick / 16_777_216 % 256) as u8)
 }
 
-/// Stores the number of bytecodes that were run before this one into the argument (primitiveTimeWordsInto).
+/// Stores the clock before this bytecode into the argument (primitiveTimeWordsInto).
 pub(crate) fn tick_words<M: ObjectMemory>(m: &mut M, cpu: &mut Cpu) -> Result<Answer, Stop>
     requires fit { IsFit M.ObjectMemory m.old }
     ensures serves { Serves (M.told m.old) cpu.old (M.told m.new) cpu.new model.tick_words result }
+    ensures never_keeps { NeverKeeps result }
     ensures fit { StaysFit M.ObjectMemory m.old m.new result }
 {
     stack(m, cpu, Reg::R10, 0)?;
     let Some(_) = tick_of(m, Reg::R10)? else {
         return Ok(Answer::Failed);
     };
-    put_tick(m, Reg::R10, cpu.ran)?;
+    put_tick(m, Reg::R10, clock(cpu))?;
     pop(cpu, 1)?;
     Ok(Answer::Done)
 }
 
 /// The tick of the timer, where there is a semaphore for it.
-fn timer_at(there: bool, tick: u32) -> Option<u32>
+pub(crate) fn timer_at(there: bool, tick: u32) -> Option<u32>
     ensures { result ≡ model.timer_at there tick }
 {
     if there { Some(tick) } else { None }
@@ -94,6 +103,7 @@ fn set_timer<M: ObjectMemory>(
 ) -> Result<Answer, Stop>
     requires fit { IsFit M.ObjectMemory m.old }
     ensures serves { Serves (M.told m.old) cpu.old (M.told m.new) cpu.new (model.set_timer ((M.told m.old).regs 11) there tick) result }
+    ensures never_keeps { NeverKeeps result }
     ensures fit { StaysFit M.ObjectMemory m.old m.new result }
 {
     put_semaphore(m, Reg::TIMER_SEMAPHORE, Reg::R11, there);
@@ -106,6 +116,7 @@ fn set_timer<M: ObjectMemory>(
 pub(crate) fn signal_at_tick<M: ObjectMemory>(m: &mut M, cpu: &mut Cpu) -> Result<Answer, Stop>
     requires fit { IsFit M.ObjectMemory m.old }
     ensures serves { Serves (M.told m.old) cpu.old (M.told m.new) cpu.new model.signal_at_tick result }
+    ensures never_keeps { NeverKeeps result }
     ensures fit { StaysFit M.ObjectMemory m.old m.new result }
 {
     stack(m, cpu, Reg::R11, 1)?;

@@ -1,7 +1,7 @@
 use Rattle.std.proofs.Common.{ap, ◌∙◌}
 use Rattle.blue_model.specs.Devices.{put_tick}
 use Rattle.contexts.proofs.ServesLaws.{serves_then, serves_exit}
-use Rattle.devices.proofs.clock.put_tick.Goals as goal
+use Rattle.devices.proofs.ticks.put_tick.Goals as goal
 
 pub returns-in_err-store_byte-clause-serves : goal.returns-in_err-store_byte-clause-serves
 unfolding put_tick

@@ -7,7 +7,7 @@ use Rattle.blue_model.specs.Devices.{tick_of}
 use Rattle.contexts.proofs.ServesLaws.{exits}
 use Rattle.contexts.proofs.PeekLaws.{peek_serves, first_refused, then_refused}
 use Rattle.devices.proofs.ClockLaws.{tick_none, tick_there, tick_read}
-use Rattle.devices.proofs.clock.tick_of.Goals as goal
+use Rattle.devices.proofs.ticks.tick_of.Goals as goal
 
 pub returns-in_err-found-clause-serves : goal.returns-in_err-found-clause-serves
 returns-in_err-found-clause-serves g c = λ cpu. exits _ c.from_residual.ensures.1 (first_refused tick_of c.args.of c.requires.fit.ready c.in_err-found.ensures.read)

@@ -2,7 +2,7 @@ use Rattle.std.proofs.Common.{refl, ◌∙◌}
 use Rattle.blue_model.specs.Devices.{signal_at_tick}
 use Rattle.contexts.proofs.ServesLaws.{serves_then, serves_exit}
 use Rattle.contexts.proofs.TrialLaws.{found_then, none_found, finding_exit}
-use Rattle.devices.proofs.clock.signal_at_tick.Goals as goal
+use Rattle.devices.proofs.ticks.signal_at_tick.Goals as goal
 
 pub returns-in_err-stack-clause-serves : goal.returns-in_err-stack-clause-serves
 unfolding signal_at_tick
