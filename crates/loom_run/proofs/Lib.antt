@@ -1,3 +1,4 @@
+pub mod CourseLaws
 pub mod Frames
 pub mod HeadlineLaws
 pub mod ImageLaws
@@ -5,6 +6,7 @@ pub mod Lines
 pub mod LoadLaws
 pub mod Numbers
 pub mod RecLaws
+pub mod RoomLaws
 pub mod Rows
 pub mod RunLaws
 pub mod RunningLaws

@@ -21,7 +21,11 @@ use Rattle.loom_run.specs.declared.running.Reason.TheVariants.{ByStop, NoMemory}
 use Rattle.loom_run.specs.declared.status.Status.{Status}
 use Rattle.event_file.specs.Text.{IsBadAt}
 use Rattle.event_file.proofs.OneReading.{none-bad}
+use Rattle.blue_model.specs.State.{no_state}
+use Rattle.blue_model.specs.Logs.{Course}
 use Rattle.blue_model.specs.Cycle.{Ending, ByCause, BySpentNames, ending}
+use Rattle.object_memory.specs.declared.fault.MemFault.TheVariants as fault
+use Rattle.contexts.specs.declared.stop.Stop.TheVariants as stop
 use Rattle.blue_model.specs.Endings.{said_in}
 use Rattle.blue_model.proofs.EndingLaws.{not_stuck, parked_of}
 use Rattle.loom_run.specs.Status.{usage_of}
@@ -37,18 +41,25 @@ fault_exit {T} P r e is p =
     let q = err_from_is_err_and r is in
     subst (λ (x : Result T Status). IfErr x P) (sym (q.1 ∙ ap (λ y. Err y) q.2)) p
 
-halt_spoken : (why : Reason) (ran : ℕ) (new : Told) (e : Ending) → HaltsAs why ran new e → IsTrue new.speaks → is_own_reason why ≡ true → new.transcript ≡ said_in e
-halt_spoken (ByStop stop) ran new e h speaks own = h.1 own speaks
-halt_spoken NoMemory ran new e h speaks own = h speaks
+halt_spoken : (why : Reason) (ran : ℕ) (new : Told) (c : Course) → HaltsAs why ran new c → IsTrue new.speaks → is_own_reason why ≡ true → new.transcript ≡ said_in c.ending
+halt_spoken (ByStop stop) ran new c h speaks own = h.own own speaks
+halt_spoken NoMemory ran new c h speaks own = h speaks
 
 -- what the memory said is what the run says
-pub spoken : (new : Told) (run : Result Finished Halted) (e : Ending) → EndsAs new run e → IsTrue new.speaks → is_spoken_by run ≡ true → new.transcript ≡ said_in e
-spoken new (Ok finished) e ends speaks own = ends.said speaks
-spoken new (Err halted) e ends speaks own = halt_spoken halted.why halted.ran new e ends speaks own
+pub spoken : (new : Told) (run : Result Finished Halted) (c : Course) → EndsAs new run c → IsTrue new.speaks → is_spoken_by run ≡ true → new.transcript ≡ said_in c.ending
+spoken new (Ok finished) c ends speaks own = ends.said speaks
+spoken new (Err halted) c ends speaks own = halt_spoken halted.why halted.ran new c ends speaks own
 
-pub stops_by : (why : Reason) (ran : ℕ) (new : Told) (e : Ending) → HaltsAs why ran new e → StopsBy why ran e
-stops_by (ByStop stop) ran new e h = h.0
-stops_by NoMemory ran new e h = tt
+pub stops_by : (why : Reason) (ran : ℕ) (new : Told) (c : Course) → HaltsAs why ran new c → StopsBy why ran c.ending
+stops_by (ByStop (stop.Stuck cause)) ran new c h = h.stops
+stops_by (ByStop (stop.Mem fault.NamesSpent)) ran new c h = h.stops
+stops_by (ByStop (stop.Mem (fault.CoreFull need))) ran new c h = tt
+stops_by (ByStop (stop.Mem (fault.WorkFull live room))) ran new c h = tt
+stops_by (ByStop (stop.Mem (fault.WorkFault count))) ran new c h = tt
+stops_by (ByStop (stop.Mem (fault.Damaged place name))) ran new c h = tt
+stops_by (ByStop (stop.Mem (fault.Said count))) ran new c h = tt
+stops_by (ByStop (stop.Mem fault.Memory)) ran new c h = tt
+stops_by NoMemory ran new c h = tt
 
 -- an answer that is no fault of writing says all
 says_all : (status : Status) (e : Ending) (old new : RoleState) → ((role : Role) (count : ℕ) → status ≡ WriteFault role count → ⊥) → new ≡ puts (said_in e) old → SaysStopped status e old new
@@ -64,19 +75,19 @@ says_all (WriteFault role count) e old new other is = absurd (other role count r
 says_all OutOfMemory e old new other is = inr is
 
 -- what was said where the run ended before its end
-pub says_stopped : (status : Status) (why : Reason) (ran : ℕ) (told : Told) (e : Ending) (old new : RoleState) → HaltsAs why ran told e → IsTrue told.speaks → ((role : Role) (count : ℕ) → status ≡ WriteFault role count → ⊥) → (is_own_reason why ≡ false → status ≡ OutOfMemory) → WasSaid (is_own_reason why) told.transcript old new → SaysStopped status e old new
-says_stopped status why ran told e old new halts speaks other memory said = go (is_own_reason why) refl said
+pub says_stopped : (status : Status) (why : Reason) (ran : ℕ) (told : Told) (c : Course) (old new : RoleState) → HaltsAs why ran told c → IsTrue told.speaks → ((role : Role) (count : ℕ) → status ≡ WriteFault role count → ⊥) → (is_own_reason why ≡ false → status ≡ OutOfMemory) → WasSaid (is_own_reason why) told.transcript old new → SaysStopped status c.ending old new
+says_stopped status why ran told c old new halts speaks other memory said = go (is_own_reason why) refl said
   where
-    go : (b : Bool) → is_own_reason why ≡ b → WasSaid b told.transcript old new → SaysStopped status e old new
-    go true own is = says_all status e old new other (is ∙ ap (λ t. puts t old) (halt_spoken why ran told e halts speaks own))
-    go false own is = subst (λ s. SaysStopped s e old new) (sym (memory own)) (inl is)
+    go : (b : Bool) → is_own_reason why ≡ b → WasSaid b told.transcript old new → SaysStopped status c.ending old new
+    go true own is = says_all status c.ending old new other (is ∙ ap (λ t. puts t old) (halt_spoken why ran told c halts speaks own))
+    go false own is = subst (λ s. SaysStopped s c.ending old new) (sym (memory own)) (inl is)
 
 -- and where it went through
-pub says_through : (told : Told) (run : Result Finished Halted) (e : Ending) (old new : RoleState) → EndsAs told run e → IsTrue told.speaks → is_spoken_by run ≡ true → WasSaid (is_spoken_by run) told.transcript old new → new ≡ puts (said_in e) old
-says_through told run e old new ends speaks own said = subst (λ b. WasSaid b told.transcript old new) own said ∙ ap (λ t. puts t old) (spoken told run e ends speaks own)
+pub says_through : (told : Told) (run : Result Finished Halted) (c : Course) (old new : RoleState) → EndsAs told run c → IsTrue told.speaks → is_spoken_by run ≡ true → WasSaid (is_spoken_by run) told.transcript old new → new ≡ puts (said_in c.ending) old
+says_through told run c old new ends speaks own said = subst (λ b. WasSaid b told.transcript old new) own said ∙ ap (λ t. puts t old) (spoken told run c ends speaks own)
 
-pub begins_to_say : (told : Told) (run : Result Finished Halted) (e : Ending) (old new : RoleState) → EndsAs told run e → IsTrue told.speaks → is_spoken_by run ≡ true → PutPrefix told.transcript old new → PutPrefix (said_in e) old new
-begins_to_say told run e old new ends speaks own said = subst (λ t. PutPrefix t old new) (spoken told run e ends speaks own) said
+pub begins_to_say : (told : Told) (run : Result Finished Halted) (c : Course) (old new : RoleState) → EndsAs told run c → IsTrue told.speaks → is_spoken_by run ≡ true → PutPrefix told.transcript old new → PutPrefix (said_in c.ending) old new
+begins_to_say told run c old new ends speaks own said = subst (λ t. PutPrefix t old new) (spoken told run c ends speaks own) said
 
 -- ---- right words, images and events, and no fault
 
@@ -91,9 +102,9 @@ done_by image events steps before now (answer.EventsBad line) usage cause of_ima
 done_by image events steps before now (answer.ReadFault role count) usage cause of_image of_events run can = absurd (can.still role cause.2)
 done_by image events steps before now (answer.WriteFault role count) usage cause of_image of_events run can = absurd (can.still role cause.2)
 done_by image events steps before now (answer.Stuck cause_number ran) usage cause of_image of_events run can =
-    let r = run tt in absurd (not_stuck (ByCause r.run.0) ran (ending r.lines steps r.heap) (can.runs r.heap r.lines r.is r.text r.list) r.run.1)
+    let r = run tt in absurd (not_stuck (ByCause r.run.0) ran (ending r.lines steps no_state r.heap) (can.runs r.heap r.lines r.is r.text r.list) r.run.1)
 done_by image events steps before now (answer.NamesSpent ran) usage cause of_image of_events run can =
-    let r = run tt in absurd (not_stuck BySpentNames ran (ending r.lines steps r.heap) (can.runs r.heap r.lines r.is r.text r.list) r.run)
+    let r = run tt in absurd (not_stuck BySpentNames ran (ending r.lines steps no_state r.heap) (can.runs r.heap r.lines r.is r.text r.list) r.run)
 
 -- ---- once the last line was put
 

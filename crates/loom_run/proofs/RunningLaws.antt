@@ -1,38 +1,53 @@
 -- Runs over a memory, and runs of the model.
 -- `RunsAs` says in which cycle of the model a run stands or stopped. The loop keeps `Reaches`, and one law makes each exit:
 -- `reaches_more`, `stops_in`, `stops_after` for a cycle and for the settling, `goes_start`, `goes_run`, `goes_park`,
--- `goes_through` for a whole run. `halts` is the one law of stops: what an outcome's stop is, the ending's is, and what was
--- said. That a model's run stopped there for good is `run_stopped`.
-use Rattle.std.proofs.Common.{suc, ◌≡◌, ℕ, ◌+◌, ◌<◌, ◌≤◌, Bool, true, false, List, [], ◌++◌, Option, Some, None, Result, Ok, Err, IsTrue, IfErr, inl, inr, refl, sym, ◌∙◌, ap, subst, arith}
+-- `goes_through` for a whole run. `halts` is the one law of stops: what an outcome's stop is, the ending's is, what was said, and
+-- which row or making a refusal names. That a model's run stopped there for good is `run_stopped`; what the course of a run is at
+-- that bytecode stands in `CourseLaws`, and how many objects live in `RoomLaws`.
+use Rattle.std.proofs.Common.{suc, ◌≡◌, ℕ, ◌+◌, ◌<◌, ◌≤◌, nat_lt, Bool, true, false, cond, eqb, ◌⊎◌, List, [], ◌++◌, Option, Some, None, Result, Ok, Err, IsTrue, IfErr, inl, inr, refl, sym, ◌∙◌, ap, subst, arith}
+use borrow.Author.Tests.{ltb-true, ltb-false}
 use Rattle.std.proofs.Math.Path.{fun_ext}
 use Rattle.std.specs.Result.{IsErrAnd}
 use Rattle.std.proofs.lemmas.Result.{err_from_is_err_and}
 use Rattle.long_names.specs.Counting.{Rose}
-use Rattle.long_names.specs.Heap.{Heap}
+use Rattle.long_names.specs.Heap.{Heap, object_count}
+use Rattle.long_names.specs.Kept.{kept}
+use Rattle.long_names.specs.Thin.{IsThinner}
 use Rattle.long_names.proofs.ThinLemmas.{IsThinner-trans}
 use Rattle.object_memory.specs.Told.{Told, Bounds, IsReady}
-use Rattle.object_memory.specs.Contract.{Settles, IsLater, SameBounds, Settled, Called, HasCause, work_faults, said_faults}
+use Rattle.object_memory.specs.Contract.{Settles, Settled, IsLater, SameBounds, Called, Follows, HasCause, Raised, IfBounds, CountsKept, work_faults, said_faults}
 use Rattle.object_memory.specs.declared.fault.MemFault.{MemFault}
 use Rattle.object_memory.specs.declared.fault.MemFault.TheVariants.{CoreFull, WorkFull, WorkFault, Damaged, NamesSpent, Said, Memory}
 use Rattle.blue_model.specs.declared.cpu.Cpu.{Cpu}
 use Rattle.blue_model.specs.declared.step.Step.{Step}
-use Rattle.blue_model.specs.declared.step.Step.TheVariants.{Next, Quit}
+use Rattle.blue_model.specs.declared.step.Step.TheVariants.{Next, Quit, Keep}
 use Rattle.blue_model.specs.declared.event.Line.{Line}
-use Rattle.blue_model.specs.Machine.{Machine, Outcome, Go, Halt, Spent, Rule, after, then_do, at_rest, ◌>>=◌, done, clear, set_numbers}
+use Rattle.blue_model.specs.Machine.{Machine, LogRow, Outcome, Go, Halt, Spent, Rule, log_of, after, then_do, at_rest, ◌>>=◌, done, clear, set_numbers}
 use Rattle.blue_model.specs.Devices.{picture}
 use Rattle.blue_model.proofs.FailLaws.{picture_leaves}
 use Rattle.blue_model.specs.Contexts.{start, park}
-use Rattle.blue_model.specs.Cycle.{Ran, Stopped, Stopping, ByCause, BySpentNames, Ending, run_of, one_more, run, ended, parked, run_from, ending, cycle, park_and_draw, count_bytecode}
+use Rattle.blue_model.specs.Cycle.{Ran, Stopped, Stopping, ByCause, BySpentNames, Ending, run_of, one_more, run, ended, parked, run_from, cycle, park_and_draw, count_bytecode}
+use Rattle.blue_model.specs.Logs.{Course, course, said_by, rows_after, lives, lives_by, living, IsLive, made_in}
+use Rattle.blue_model.specs.Logs as logs
+use Rattle.blue_model.specs.State.{no_state}
+use Rattle.blue_model.proofs.StartLaws.{Leaves, start_leaves}
+use Rattle.blue_model.proofs.CountLaws.{runs_count}
+use Rattle.blue_model.proofs.LiveLaws.{none_made}
+use Rattle.blue_model.proofs.MakingLaws.{none-start}
+use Rattle.blue_model.proofs.MakingTurns.{none-park_and_draw}
 use Rattle.blue_model.specs.Cycle as model
 use Rattle.contexts.specs.declared.stop.Stop.{Stop}
 use Rattle.contexts.specs.declared.stop.Stop.TheVariants.{Stuck, Mem}
-use Rattle.contexts.specs.Serves.{HasRest, Stands, IsGo, Gives, GivesAs, IsCaused, HasReason, SaidNothing, SaysLast, Serves, ServesAs, Speaks}
+use Rattle.contexts.specs.Serves.{HasRest, Stands, IsGo, Gives, GivesAs, IsLogged, HasMaking, MaySay, IsCaused, HasReason, SaidNothing, SaysLast, Serves, ServesAs, Speaks}
 use Rattle.contexts.proofs.SpeaksLaws.{GoesOn, goes_done, goes_then, goes_numbers, goes_set_numbers}
 use Rattle.contexts.proofs.ServesLaws.{Gives-after, serves_stop, says_quietly}
 use Rattle.contexts.proofs.CacheLaws.{sound_follows}
-use Rattle.loom_run.specs.Run.{Reaches, StopsIn, IsWorkFault, StopsAfter, RunsAs, HasFault, FaultsBy, Begins, HasSaid, StopsAs, SaysAs, Awaits, GoesThrough, GoesAs, DrawsAs, HaltsAs}
-use Rattle.blue_model.specs.Endings.{IsStuckBy, said_in}
-use Rattle.blue_model.proofs.EndingLaws.{quit_stays, stopping_of, run_stopped, stopped_by, parked_by, started_by}
+use Rattle.loom_run.specs.Run.{Reaches, IsSettled, IsFullIn, StopsIn, IsWorkFault, StopsAfter, RunsAs, HasFault, FaultsBy, CountsAll, Begins, HasSaid, IsHalt, Awaits, GoesThrough, GoesAs, DrawsAs, HaltsAs}
+use Rattle.loom_run.proofs.CourseLaws.{course_from, course_started, logged_behind, rows_at_cycle, lives_at_cycle, next_cycle, said_at_start, rows_at_start, rows_at_end, said_at_end}
+use Rattle.loom_run.proofs.RoomLaws.{living_stands, full_lives, unmade}
+use Rattle.object_memory.specs.declared.fault.Need.{Need}
+use Rattle.blue_model.specs.Endings.{OnParked, OnDrawn, IsParkedBy, IsStuckBy, HasCounted, is_last, said_in}
+use Rattle.blue_model.proofs.EndingLaws.{last_stays, stopping_of, run_stopped, stopped_by, parked_by, started_by}
 use Rattle.loom_run.specs.declared.running.Reason.{Reason}
 use Rattle.loom_run.specs.declared.running.Reason.TheVariants.{ByStop, NoMemory}
 use Rattle.loom_run.specs.declared.running.Finished.{Finished}
@@ -41,8 +56,8 @@ use Rattle.loom_run.specs.declared.running.Finished.{Finished}
 
 -- what stopped says nothing of the numbers
 pub stop_numbers : {A : Type 0} {w : Option A} {old new : Told} {cpu now other : Cpu} {rule : Rule A} (e : Stop) → ServesAs w old cpu new now rule (Err e) → ServesAs w old cpu new other rule (Err e)
-stop_numbers (Stuck c) s = record { later = s.later; ready = s.ready; reason = s.reason; counts = s.counts; silent = s.silent; model = s.model }
-stop_numbers (Mem f) s = record { later = s.later; ready = s.ready; reason = s.reason; counts = s.counts; silent = s.silent; model = s.model }
+stop_numbers (Stuck c) s = record { later = s.later; ready = s.ready; reason = s.reason; counts = s.counts; vault = tt; silent = s.silent; model = s.model }
+stop_numbers (Mem f) s = record { later = s.later; ready = s.ready; reason = s.reason; counts = s.counts; vault = tt; silent = s.silent; model = s.model }
 
 -- the cause of a refusal without the makings before it
 caused : (old new : Told) (f : MemFault) → IsCaused old new f → HasFault old new f
@@ -146,8 +161,8 @@ pub counts_on : (before : ℕ) → GoesOn Next (count_bytecode before >>= λ _. 
 unfolding count_bytecode
 counts_on before = goes_then _ (goes_numbers _ (λ cpu. goes_set_numbers _)) goes_done
 
-pub reaches_end : (events : List Line) (new : Told) (now : Cpu) (done k : ℕ) (m : Machine) → done ≤ k → Reaches events new now Quit done m → Reaches events new now Quit k m
-reaches_end events new now done k m few x = record { machine = x.machine; ran = quit_stays events k done m x.machine x.ran few; stands = x.stands }
+pub reaches_end : (events : List Line) (new : Told) (now : Cpu) (end : Step) (done k : ℕ) (m : Machine) → is_last end ≡ true → done ≤ k → Reaches events new now end done m → Reaches events new now end k m
+reaches_end events new now end done k m last few x = record { machine = x.machine; ran = last_stays events k done end m x.machine last x.ran few; stands = x.stands }
 
 -- what was said when a call stopped that may say something
 has_said : (e : Stop) (mid new : Told) (before : List ℕ) → IsTrue mid.speaks → mid.transcript ≡ before → SaysLast Next mid new (Err e) → HasSaid e before new.transcript
@@ -164,8 +179,39 @@ has_said (Mem Memory) mid new before spoke was s = s spoke ∙ was
 said_before : (e : Stop) (mid new : Told) (before : List ℕ) → IsTrue mid.speaks → mid.transcript ≡ before → SaidNothing mid new → HasSaid e before new.transcript
 said_before e mid new before spoke was s = has_said e mid new before spoke was (says_quietly (Some Next) mid new (Err e) s)
 
-pub stops_in : (events : List Line) (mid new : Told) (between now : Cpu) (k steps : ℕ) (m : Machine) (e : Stop) → IsTrue mid.tells → k < steps → now.ran ≡ between.ran → Reaches events mid between Next k m → Speaks Next mid between new now (cycle events) (Err e) → StopsIn events new now e steps m
-stops_in events mid new between now k steps m e told few same x s = record {
+-- what a settling leaves
+pub after_settling : (old new : Told) → Follows old new Settles → IsSettled new
+after_settling old new x = go old.bounds new.bounds x.counts x.base
+  where
+    go : (a b : Option Bounds) → Settled a b → IfBounds b (λ y. CountsKept new y.base) → IfBounds b (λ y. (y.made ≡ 0) × CountsKept new y.base)
+    go a None s c = tt
+    go None (Some y) s c = absurd s
+    go (Some x) (Some y) s c = (s, c)
+
+-- no room for an object: the memory before this cycle is that before the run, or has settled
+full_in : (events : List Line) (old mid new : Told) (between now : Cpu) (k : ℕ) (m : Machine) (e : Stop) → IsTrue mid.tells → IsReady mid → HasRest mid → (k ≡ 0 → mid ≡ old) → (0 < k → IsSettled mid) → Stands mid between m → Speaks Next mid between new now (cycle events) (Err e) → IsFullIn events old new e k m
+full_in events old mid new between now k m (Mem (WorkFull live room)) told ready rest first settled st s = (
+  λ none. subst (λ x. IsCaused x new (WorkFull live room)) (first none) s.reason.cause,
+  λ is. full_lives events mid new between m live room told ready rest st (at is) s.reason.cause (s.model told m st),
+)
+  where
+    at : (0 < k) ⊎ IsSettled old → IsSettled mid
+    at (inl more) = settled more
+    at (inr is) = go (nat_lt 0 k) refl
+      where
+        go : (b : Bool) → nat_lt 0 k ≡ b → IsSettled mid
+        go true g = settled (ltb-true 0 k g)
+        go false g = let none = ltb-false 0 k g in subst IsSettled (sym (first (omega arith))) is
+full_in events old mid new between now k m (Stuck c) told ready rest first settled st s = tt
+full_in events old mid new between now k m (Mem (CoreFull need)) told ready rest first settled st s = tt
+full_in events old mid new between now k m (Mem (WorkFault count)) told ready rest first settled st s = tt
+full_in events old mid new between now k m (Mem (Damaged place name)) told ready rest first settled st s = tt
+full_in events old mid new between now k m (Mem NamesSpent) told ready rest first settled st s = tt
+full_in events old mid new between now k m (Mem (Said count)) told ready rest first settled st s = tt
+full_in events old mid new between now k m (Mem Memory) told ready rest first settled st s = tt
+
+pub stops_in : (events : List Line) (old mid new : Told) (between now : Cpu) (k steps : ℕ) (m : Machine) (e : Stop) → IsTrue mid.tells → IsReady mid → HasRest mid → (k ≡ 0 → mid ≡ old) → (0 < k → IsSettled mid) → k < steps → now.ran ≡ between.ran → Reaches events mid between Next k m → Speaks Next mid between new now (cycle events) (Err e) → StopsIn events old new now e steps m
+stops_in events old mid new between now k steps m e told ready rest first settled few same x s = record {
   done = k;
   machine = x.machine;
   few = few;
@@ -173,6 +219,7 @@ stops_in events mid new between now k steps m e told few same x s = record {
   count = ap (λ (c : Cpu). c.ran) x.stands.numbers ∙ sym same;
   said = λ speaks. (let spoke = sym s.later.speaks ∙ speaks in has_said e mid new x.machine.transcript spoke (x.stands.transcript spoke) s.silent);
   gives = s.model told x.machine x.stands;
+  full = full_in events old mid new between now k x.machine e told ready rest first settled x.stands s;
 }
 
 pub stops_after : {Z : Type 0} (events : List Line) (mid new : Told) (now : Cpu) (end : Step) (k steps : ℕ) (m : Machine) (f : MemFault) → IsTrue mid.tells → k ≤ steps → Reaches events mid now end k m → Called {A = Z} mid new Settles (Err f) → StopsAfter events new now (Mem f) steps m
@@ -188,54 +235,99 @@ stops_after events mid new now end k steps m f told few x c = record {
 }
 
 -- the answer of a `?`
-pub runs_exit : {events : List Line} {new : Told} {now : Cpu} {steps : ℕ} {m : Machine} {e : Stop} (r : Result Step Stop) → IsErrAnd r (λ y. y ≡ e) → RunsAs events new now steps m (Err e) → RunsAs events new now steps m r
-runs_exit {events} {new} {now} {steps} {m} {e} r is h =
+pub runs_exit : {events : List Line} {old new : Told} {now : Cpu} {steps : ℕ} {m : Machine} {e : Stop} (r : Result Step Stop) → IsErrAnd r (λ y. y ≡ e) → RunsAs events old new now steps m (Err e) → RunsAs events old new now steps m r
+runs_exit {events} {old} {new} {now} {steps} {m} {e} r is h =
     let q = err_from_is_err_and r is in
-    subst (λ (x : Result Step Stop). RunsAs events new now steps m x) (sym (q.1 ∙ ap (λ y. Err y) q.2)) h
+    subst (λ (x : Result Step Stop). RunsAs events old new now steps m x) (sym (q.1 ∙ ap (λ y. Err y) q.2)) h
 
 -- ---- the model's run behind a stop
 
--- A stop of the machine's own is the reason why its run ended, and all was said that the run says. Of another fault nothing is asked.
-abbrev pub IsHalt : Stop → ℕ → Told → Ending → Type 0
-IsHalt e ran new ending = StopsAs e ran ending × SaysAs e new ending
-
-never : {P : Type 0} → IsTrue false → P
+pub never : {P : Type 0} → IsTrue false → P
 never e = let no : ◌≡◌ {A = Bool} false true = e in absurd (cc)
 
-halts : {A : Type 0} (w : Option A) (o : Outcome A) (new : Told) (now : Cpu) (e : Stop) (ran : ℕ) (end : Ending) (said : List ℕ) → GivesAs w new now (Err e) o → ((why : Stopping) → stopping_of o ≡ Some why → end ≡ model.Stuck why ran said) → (IsTrue new.speaks → HasSaid e said new.transcript) → IsHalt e ran new end
-halts w (Halt d log) new now (Stuck c) ran end said g f s =
-    let is : end ≡ model.Stuck (ByCause d) ran said = f (ByCause d) refl in
-    let cause : d ≡ c = g in (
-      subst (IsStuckBy (ByCause c) ran) (sym is) (ap (λ x. ByCause x) cause, refl),
-      λ own speaks. s speaks ∙ sym (ap said_in is),
-    )
-halts w (Go a n log) new now (Stuck c) ran end said g f s = absurd g
-halts w (Spent log) new now (Stuck c) ran end said g f s = absurd g
-halts w (Spent log) new now (Mem NamesSpent) ran end said g f s =
-    let is : end ≡ model.Stuck BySpentNames ran said = f BySpentNames refl in
-    (subst (IsStuckBy BySpentNames ran) (sym is) (refl, refl), λ own speaks. s speaks ∙ sym (ap said_in is))
-halts w (Go a n log) new now (Mem NamesSpent) ran end said g f s = absurd g
-halts w (Halt d log) new now (Mem NamesSpent) ran end said g f s = absurd g
-halts w o new now (Mem (CoreFull need)) ran end said g f s = (tt, λ own. never own)
-halts w o new now (Mem (WorkFull live room)) ran end said g f s = (tt, λ own. never own)
-halts w o new now (Mem (WorkFault count)) ran end said g f s = (tt, λ own. never own)
-halts w o new now (Mem (Damaged place name)) ran end said g f s = (tt, λ own. never own)
-halts w o new now (Mem (Said count)) ran end said g f s = (tt, λ own. never own)
-halts w o new now (Mem Memory) ran end said g f s = (tt, λ own. never own)
+-- where a memory had no room for an object, so many live at one of these makings
+abbrev IsFullAt : Stop → List ℕ → Type 0
+IsFullAt (Mem (WorkFull live room)) makings = IsLive live makings
+IsFullAt _ makings = Unit {0}
 
--- a stop in a cycle
-pub run_stops : (events : List Line) (new : Told) (now : Cpu) (e : Stop) (steps : ℕ) (m : Machine) → StopsIn events new now e steps m → IsHalt e now.ran new (ended (run events steps m))
-run_stops events new now e steps m x = halts (Some Next) (cycle events x.machine) new now e now.ran (ended (run events steps m)) x.machine.transcript x.gives by x.said
-  where
-    by : (why : Stopping) → stopping_of (cycle events x.machine) ≡ Some why → ended (run events steps m) ≡ model.Stuck why now.ran x.machine.transcript
-    by why f = ap ended (run_stopped events steps x.done m x.machine why _ x.ran (stopped_by x.machine (cycle events x.machine) why f) x.few) ∙ ap (λ k. model.Stuck why k x.machine.transcript) x.count
+halts : {A : Type 0} (w : Option A) (o : Outcome A) (new : Told) (now : Cpu) (e : Stop) (ran : ℕ) (c : Course) (said : List ℕ) → GivesAs w new now (Err e) o → ((why : Stopping) → stopping_of o ≡ Some why → c.ending ≡ model.Stuck why ran said) → c.said ran ≡ said → ((need : Need) → IsLogged need (log_of o) → IsLogged need (c.rows ran)) → (HasMaking new.heap.next (log_of o) → IsFullAt e (c.lives ran)) → (MaySay w new o → IsTrue new.speaks → (rest : List ℕ) × (c.said (ran + 1) ≡ new.transcript ++ rest)) → (IsTrue new.speaks → HasSaid e said new.transcript) → IsHalt e ran new c
+halts w (Halt d log) new now (Stuck x) ran c said g f at rows full more s =
+    let is : c.ending ≡ model.Stuck (ByCause d) ran said = f (ByCause d) refl in
+    let cause : d ≡ x = g in record {
+      stops = subst (IsStuckBy (ByCause x) ran) (sym is) (ap (λ y. ByCause y) cause, refl);
+      says = λ speaks. s speaks ∙ sym at;
+      own = λ own speaks. s speaks ∙ sym (ap said_in is);
+    }
+halts w (Go a n log) new now (Stuck x) ran c said g f at rows full more s = absurd g
+halts w (Spent log) new now (Stuck x) ran c said g f at rows full more s = absurd g
+halts w (Spent log) new now (Mem NamesSpent) ran c said g f at rows full more s =
+    let is : c.ending ≡ model.Stuck BySpentNames ran said = f BySpentNames refl in record {
+      stops = subst (IsStuckBy BySpentNames ran) (sym is) (refl, refl);
+      says = λ speaks. s speaks ∙ sym at;
+      own = λ own speaks. s speaks ∙ sym (ap said_in is);
+    }
+halts w (Go a n log) new now (Mem NamesSpent) ran c said g f at rows full more s = absurd g
+halts w (Halt d log) new now (Mem NamesSpent) ran c said g f at rows full more s = absurd g
+halts w o new now (Mem (CoreFull need)) ran c said g f at rows full more s = record { stops = rows need g; says = λ speaks. s speaks ∙ sym at; own = λ own. never own }
+halts w o new now (Mem (WorkFull live room)) ran c said g f at rows full more s = record { stops = full g; says = λ speaks. s speaks ∙ sym at; own = λ own. never own }
+halts w o new now (Mem (WorkFault count)) ran c said g f at rows full more s = record { stops = tt; says = λ speaks. s speaks ∙ sym at; own = λ own. never own }
+halts w o new now (Mem (Damaged place name)) ran c said g f at rows full more s = absurd g
+halts w o new now (Mem (Said count)) ran c said g f at rows full more s = record {
+  stops = tt;
+  says = λ speaks. (let part = s speaks in let next = more g speaks in (part.0, next.0, part.1 ∙ ap (λ (t : List ℕ). t ++ part.0) (sym at), next.1));
+  own = λ own. never own;
+}
+halts w o new now (Mem Memory) ran c said g f at rows full more s = record { stops = tt; says = λ speaks. s speaks ∙ sym at; own = λ own. never own }
 
-pub unsettled_stops : (events : List Line) (new : Told) (now : Cpu) (e : Stop) (steps : ℕ) (m : Machine) → StopsAfter events new now e steps m → IsHalt e now.ran new (ended (run events steps m))
-unsettled_stops events new now e steps m x = go e x.fault
+-- a stop in a cycle, of a run from the machine that a start came to
+pub run_stops : (events : List Line) (old new : Told) (now : Cpu) (e : Stop) (steps : ℕ) (u : Unit {0}) (m : Machine) (log : List LogRow) → m.cpu.ran ≡ 0 → IsSettled old → StopsIn events old new now e steps m → IsHalt e now.ran new (course_from events steps (Go u m log))
+run_stops events old new now e steps u m log fresh settled x =
+    subst (λ k. IsHalt e k new (course_from events steps (Go u m log))) same
+    (halts (Some Next) (cycle events x.machine) new now e x.done (course_from events steps (Go u m log)) x.machine.transcript x.gives by (ap said_by x.ran) rows full more x.said)
   where
-    go : (e : Stop) → IsWorkFault e → StopsAs e now.ran (ended (run events steps m)) × SaysAs e new (ended (run events steps m))
+    count : x.machine.cpu.ran ≡ x.done
+    count = let all = runs_count events x.done m x.machine x.ran in omega arith
+
+    same : x.done ≡ now.ran
+    same = sym count ∙ x.count
+
+    by : (why : Stopping) → stopping_of (cycle events x.machine) ≡ Some why → ended (run events steps m) ≡ model.Stuck why x.done x.machine.transcript
+    by why f = ap ended (run_stopped events steps x.done m x.machine why _ x.ran (stopped_by x.machine (cycle events x.machine) why f) x.few) ∙ ap (λ k. model.Stuck why k x.machine.transcript) count
+
+    rows : (need : Need) → IsLogged need (log_of (cycle events x.machine)) → IsLogged need (cond (eqb x.done 0) log [] ++ rows_after events steps x.done (run events x.done m))
+    rows need h = logged_behind need (cond (eqb x.done 0) log []) (rows_after events steps x.done (run events x.done m)) (subst (IsLogged need) (sym (rows_at_cycle events steps x.done m x.machine x.ran x.few)) h)
+
+    room : (e : Stop) → IsFullIn events old new e x.done x.machine → IsFullAt e (lives events x.machine)
+    room (Mem (WorkFull live size)) f = f.1 (inr settled)
+    room (Stuck c) f = tt
+    room (Mem (CoreFull need)) f = tt
+    room (Mem (WorkFault faults)) f = tt
+    room (Mem (Damaged place name)) f = tt
+    room (Mem NamesSpent) f = tt
+    room (Mem (Said faults)) f = tt
+    room (Mem Memory) f = tt
+
+    full : HasMaking new.heap.next (log_of (cycle events x.machine)) → IsFullAt e (lives_by events steps x.done (run events x.done m))
+    full h = subst (IsFullAt e) (sym (lives_at_cycle events steps x.done m x.machine x.ran x.few)) (room e x.full)
+
+    more : MaySay (Some Next) new (cycle events x.machine) → IsTrue new.speaks → (rest : List ℕ) × (said_by (run events (x.done + 1) m) ≡ new.transcript ++ rest)
+    more h speaks = go (cycle events x.machine) refl h
+      where
+        go : (o : Outcome Step) → cycle events x.machine ≡ o → MaySay (Some Next) new o → (rest : List ℕ) × (said_by (run events (x.done + 1) m) ≡ new.transcript ++ rest)
+        go (Go a n rows) f g = let told = g.1 speaks in (told.0, ap said_by (next_cycle events x.done m x.machine x.ran ∙ ap (run_of x.machine) f) ∙ told.1)
+        go (Halt c rows) f g = absurd g
+        go (Spent rows) f g = absurd g
+
+-- and one in a settling
+pub unsettled_stops : (events : List Line) (new : Told) (now : Cpu) (e : Stop) (steps : ℕ) (u : Unit {0}) (m : Machine) (log : List LogRow) → m.cpu.ran ≡ 0 → StopsAfter events new now e steps m → IsHalt e now.ran new (course_from events steps (Go u m log))
+unsettled_stops events new now e steps u m log fresh x = go e x.fault
+  where
+    at : said_by (run events now.ran m) ≡ x.machine.transcript
+    at = subst (λ k. said_by (run events k m) ≡ x.machine.transcript) x.count (said_at_end events x.done x.end m x.machine fresh x.ran)
+
+    go : (e : Stop) → IsWorkFault e → IsHalt e now.ran new (course_from events steps (Go u m log))
     go (Stuck c) h = absurd h
-    go (Mem (WorkFault count)) h = (tt, λ own. never own)
+    go (Mem (WorkFault count)) h = record { stops = tt; says = λ speaks. x.said speaks ∙ sym at; own = λ own. never own }
     go (Mem (CoreFull need)) h = absurd h
     go (Mem (WorkFull live room)) h = absurd h
     go (Mem (Damaged place name)) h = absurd h
@@ -266,15 +358,11 @@ fresh_stands h t cpu b = record {
 
 -- ---- from turn to turn
 
-pub settled_earlier : (a b c : Told) → IsLater a b → Settled b.bounds c.bounds → Settled a.bounds c.bounds
-settled_earlier a b c l s = go a.bounds b.bounds c.bounds l.bounds s
-  where
-    go : (x y z : Option Bounds) → SameBounds x y → Settled y z → Settled x z
-    go None None z p s = s
-    go None (Some y) z p s = absurd p
-    go (Some x) None z p s = absurd p
-    go (Some x) (Some y) None p s = absurd s
-    go (Some x) (Some y) (Some z) p s = s
+-- a last bytecode comes after no more than as many as were asked for
+pub last_counted : (end : Step) (ran all : ℕ) → is_last end ≡ true → ran ≤ all → HasCounted end ran all
+last_counted Next ran all e few = absurd (cc)
+last_counted Quit ran all e few = few
+last_counted Keep ran all e few = few
 
 pub rest_stays : (old new : Told) → new.regs ≡ old.regs → HasRest old → HasRest new
 rest_stays old new same rest = record { message = λ r is. ap (λ f. f r) same ∙ rest.message r is; scratch = λ r above high. ap (λ f. f r) same ∙ rest.scratch r above high }
@@ -286,99 +374,153 @@ faults_exit {A} old new e r is h =
 
 -- ---- whole runs
 
--- the start was made, and P holds of what follows it
+-- the start was made
 begun : (h : Heap) (a mid : Told) (cpu between : Cpu) → IsTrue a.tells → Begins h a → Serves a cpu mid between start (Ok tt) → IsGo tt (Stands mid between) (start (at_rest h))
 begun h a mid cpu between told b s = subst (IsGo tt (Stands mid between)) (starts_same h a cpu) (s.model told (fresh_machine h a cpu) (fresh_stands h a cpu b))
 
-pub goes_start : (events : List Line) (steps : ℕ) (h : Heap) (a new : Told) (cpu now : Cpu) (e : Stop) → IsTrue a.tells → Begins h a → Serves {A = Unit {0}} a cpu new now start (Err e) → now.ran ≡ 0 → IsHalt e now.ran new (ending events steps h)
-unfolding ending
+-- the law of a whole run, by what the start came to
+whole : (P : Course → Type 0) (events : List Line) (steps : ℕ) (h : Heap) → P (course_from events steps (start (at_rest h))) → P (course events steps no_state h)
+whole P events steps h x = subst P (sym (course_started events steps h)) x
+
+pub goes_start : (events : List Line) (steps : ℕ) (h : Heap) (a new : Told) (cpu now : Cpu) (e : Stop) → IsTrue a.tells → Begins h a → Serves {A = Unit {0}} a cpu new now start (Err e) → now.ran ≡ 0 → IsHalt e now.ran new (course events steps no_state h)
 goes_start events steps h a new cpu now e told b s same =
-    subst (λ k. IsHalt e k new (run_from events steps (start (at_rest h)))) (sym same)
-    (halts None (start (at_rest h)) new now e 0 (run_from events steps (start (at_rest h))) []
+    whole (IsHalt e now.ran new) events steps h
+    (subst (λ k. IsHalt e k new (course_from events steps (start (at_rest h)))) (sym same)
+    (halts None (start (at_rest h)) new now e 0 (course_from events steps (start (at_rest h))) []
     (subst (Gives {A = Unit {0}} new now (Err e)) (starts_same h a cpu) (s.model told (fresh_machine h a cpu) (fresh_stands h a cpu b)))
     (started_by events steps (start (at_rest h)))
-    (λ speaks. let spoke = sym s.later.speaks ∙ speaks in said_before e a new [] spoke (b.transcript spoke) s.silent))
+    (said_at_start events h)
+    (rows_at_start events steps (start (at_rest h)))
+    (λ makes. absurd (unmade new.heap.next (log_of (start (at_rest h))) (none_made start (at_rest h) none-start) makes))
+    (λ may. absurd may)
+    (λ speaks. let spoke = sym s.later.speaks ∙ speaks in said_before e a new [] spoke (b.transcript spoke) s.silent)))
 
-pub goes_run : (events : List Line) (steps : ℕ) (h : Heap) (a mid new : Told) (cpu between now : Cpu) (e : Stop) → IsTrue a.tells → Begins h a → Serves a cpu mid between start (Ok tt) → ((m : Machine) → Stands mid between m → RunsAs events new now steps m (Err e)) → IsHalt e now.ran new (ending events steps h)
-unfolding ending
-goes_run events steps h a mid new cpu between now e told b s runs = go (start (at_rest h)) (begun h a mid cpu between told b s)
+-- After a start the memory's number of living objects is that of the machine, and it has made nothing.
+pub start_settled : (h : Heap) (a mid : Told) (cpu between : Cpu) → IsTrue a.tells → Begins h a → IsReady mid → HasRest mid → Serves a cpu mid between start (Ok tt) → IsSettled mid
+unfolding living
+start_settled h a mid cpu between told b ready rest s = at (start (at_rest h)) (begun h a mid cpu between told b s) (start_leaves (at_rest h))
   where
-    either : (m : Machine) → RunsAs events new now steps m (Err e) → IsHalt e now.ran new (ended (run events steps m))
-    either m (inl x) = run_stops events new now e steps m x
-    either m (inr x) = unsettled_stops events new now e steps m x
+    now : IsTrue mid.tells
+    now = s.later.tells ∙ told
 
-    go : (o : Outcome (Unit {0})) → IsGo tt (Stands mid between) o → IsHalt e now.ran new (run_from events steps o)
-    go (Go u m log) g = either m (runs m g.1)
+    kept_here : (n : Machine) → Stands mid between n → n.heap ≡ h → (base : Option ℕ) → CountsAll h base → CountsKept mid base
+    kept_here n st same None all = tt
+    kept_here n st same (Some base) all = λ tells. sym (living_stands mid between n now ready rest st ∙ ap (λ (x : Heap). object_count (kept x (logs.is_root n))) same ∙ all (logs.is_root n))
+
+    bounds : (n : Machine) → Stands mid between n → n.heap ≡ h → (makings : ℕ) → makings ≡ 0 → (x y : Option Bounds) → Raised makings x y → IfBounds x (λ b. (b.made ≡ 0) × CountsAll h b.base) → IfBounds y (λ b. (b.made ≡ 0) × CountsKept mid b.base)
+    bounds n st same k none None None r i = tt
+    bounds n st same k none None (Some y) r i = absurd r
+    bounds n st same k none (Some x) None r i = absurd r
+    bounds n st same k none (Some x) (Some y) r i = ((let made = r.1 in let zero = i.0 in omega arith), kept_here n st same y.base (subst (CountsAll h) (sym r.0) i.1))
+
+    at : (o : Outcome (Unit {0})) → IsGo tt (Stands mid between) o → Leaves (at_rest h) o → IsSettled mid
+    at (Go u n log) g l =
+        let counts = s.counts in
+        let none : counts.0 ≡ 0 = (let next = counts.1.next told in let first = b.heap.next in let last = g.1.heap.next in let same : n.heap.next ≡ h.next = ap (λ (x : Heap). x.next) l.0 in omega arith) in
+        bounds n g.1 l.0 counts.0 none a.bounds mid.bounds counts.1.counts b.base
+    at (Halt c log) g l = absurd g
+    at (Spent log) g l = absurd g
+
+pub goes_run : (events : List Line) (steps : ℕ) (h : Heap) (a mid new : Told) (cpu between now : Cpu) (e : Stop) → IsTrue a.tells → Begins h a → Serves a cpu mid between start (Ok tt) → between.ran ≡ 0 → IsSettled mid → ((m : Machine) → Stands mid between m → RunsAs events mid new now steps m (Err e)) → IsHalt e now.ran new (course events steps no_state h)
+goes_run events steps h a mid new cpu between now e told b s fresh settled runs = whole (IsHalt e now.ran new) events steps h (go (start (at_rest h)) (begun h a mid cpu between told b s))
+  where
+    either : (u : Unit {0}) (m : Machine) (log : List LogRow) → m.cpu.ran ≡ 0 → RunsAs events mid new now steps m (Err e) → IsHalt e now.ran new (course_from events steps (Go u m log))
+    either u m log f (inl x) = run_stops events mid new now e steps u m log f settled x
+    either u m log f (inr x) = unsettled_stops events new now e steps u m log f x
+
+    go : (o : Outcome (Unit {0})) → IsGo tt (Stands mid between) o → IsHalt e now.ran new (course_from events steps o)
+    go (Go u m log) g = either u m log (ap (λ (c : Cpu). c.ran) g.1.numbers ∙ fresh) (runs m g.1)
     go (Halt c log) g = absurd g
     go (Spent log) g = absurd g
 
--- a stop in parking or in drawing
-draw_stops : (end : Step) (last : Machine) (o : Outcome (List ℕ)) (new : Told) (now : Cpu) (e : Stop) → Gives {A = List ℕ} new now (Err e) o → last.cpu.ran ≡ now.ran → (IsTrue new.speaks → HasSaid e last.transcript new.transcript) → IsHalt e now.ran new (parked end last o)
-draw_stops end last o new now e g same said = halts None o new now e now.ran (parked end last o) last.transcript g (λ why f. parked_by end last o why f ∙ ap (λ k. model.Stuck why k last.transcript) same) said
+-- the rows of park and of the picture are rows of the bytecode after the last
+rows_behind : (events : List Line) (steps : ℕ) (end : Step) (m n : Machine) (log : List LogRow) (ran : ℕ) → m.cpu.ran ≡ 0 → run events steps m ≡ Ran end n → n.cpu.ran ≡ ran → (need : Need) → IsLogged need (log_of (park_and_draw n)) → IsLogged need (cond (eqb ran 0) log [] ++ rows_after events steps ran (run events ran m))
+rows_behind events steps end m n log ran fresh e count need h = logged_behind need (cond (eqb ran 0) log []) (rows_after events steps ran (run events ran m)) (subst (λ k. IsLogged need (rows_after events steps k (run events k m))) count (subst (IsLogged need) (sym (rows_at_end events steps end m n fresh e)) h))
 
-pub goes_park : (events : List Line) (end : Step) (steps : ℕ) (h : Heap) (a mid far new : Told) (cpu between then now : Cpu) (e : Stop) → IsTrue a.tells → Begins h a → Serves a cpu mid between start (Ok tt) → ((m : Machine) → Stands mid between m → Reaches events far then end steps m) → IsTrue far.tells → Serves {A = Unit {0}} far then new now park (Err e) → now ≡ then → IsHalt e now.ran new (ending events steps h)
-unfolding ending park_and_draw
-goes_park events end steps h a mid far new cpu between then now e told b s runs tells p same = go (start (at_rest h)) (begun h a mid cpu between told b s)
+said_behind : (events : List Line) (steps : ℕ) (end : Step) (m n : Machine) (ran : ℕ) → m.cpu.ran ≡ 0 → run events steps m ≡ Ran end n → n.cpu.ran ≡ ran → said_by (run events ran m) ≡ n.transcript
+said_behind events steps end m n ran fresh e count = subst (λ k. said_by (run events k m) ≡ n.transcript) count (said_at_end events steps end m n fresh e)
+
+pub goes_park : (events : List Line) (end : Step) (steps : ℕ) (h : Heap) (a mid far new : Told) (cpu between then now : Cpu) (e : Stop) → IsTrue a.tells → Begins h a → Serves a cpu mid between start (Ok tt) → between.ran ≡ 0 → ((m : Machine) → Stands mid between m → Reaches events far then end steps m) → IsTrue far.tells → Serves {A = Unit {0}} far then new now park (Err e) → now ≡ then → IsHalt e now.ran new (course events steps no_state h)
+unfolding park_and_draw
+goes_park events end steps h a mid far new cpu between then now e told b s fresh runs tells p same = whole (IsHalt e now.ran new) events steps h (go (start (at_rest h)) (begun h a mid cpu between told b s))
   where
-    at : (m : Machine) → Reaches events far then end steps m → IsHalt e now.ran new (ended (run events steps m))
-    at m x =
+    at : (u : Unit {0}) (m : Machine) (log : List LogRow) → m.cpu.ran ≡ 0 → Reaches events far then end steps m → IsHalt e now.ran new (course_from events steps (Go u m log))
+    at u m log f x =
         let count = ap (λ (c : Cpu). c.ran) (x.stands.numbers ∙ sym same) in
-        let whole : Serves {A = List ℕ} far then new now (park >>= λ _. picture) (Err e) = serves_stop (λ _. picture) p in
-        subst (λ r. IsHalt e now.ran new (ended r)) (sym x.ran) (draw_stops end x.machine (park_and_draw x.machine) new now e (whole.model tells x.machine x.stands) count (λ speaks. let spoke = sym p.later.speaks ∙ speaks in said_before e far new x.machine.transcript spoke (x.stands.transcript spoke) p.silent))
+        let all : Serves {A = List ℕ} far then new now (park >>= λ _. picture) (Err e) = serves_stop (λ _. picture) p in
+        halts None (park_and_draw x.machine) new now e now.ran (course_from events steps (Go u m log)) x.machine.transcript (all.model tells x.machine x.stands)
+        (λ why g. ap ended x.ran ∙ parked_by end x.machine (park_and_draw x.machine) why g ∙ ap (λ k. model.Stuck why k x.machine.transcript) count)
+        (said_behind events steps end m x.machine now.ran f x.ran count)
+        (rows_behind events steps end m x.machine log now.ran f x.ran count)
+        (λ makes. absurd (unmade new.heap.next (log_of (park_and_draw x.machine)) (none_made park_and_draw x.machine none-park_and_draw) makes))
+        (λ may. absurd may)
+        (λ speaks. let spoke = sym p.later.speaks ∙ speaks in said_before e far new x.machine.transcript spoke (x.stands.transcript spoke) p.silent)
 
-    go : (o : Outcome (Unit {0})) → IsGo tt (Stands mid between) o → IsHalt e now.ran new (run_from events steps o)
-    go (Go u m log) g = at m (runs m g.1)
+    go : (o : Outcome (Unit {0})) → IsGo tt (Stands mid between) o → IsHalt e now.ran new (course_from events steps o)
+    go (Go u m log) g = at u m log (ap (λ (c : Cpu). c.ran) g.1.numbers ∙ fresh) (runs m g.1)
     go (Halt c log) g = absurd g
     go (Spent log) g = absurd g
 
-pub goes_through : (events : List Line) (end : Step) (steps : ℕ) (h : Heap) (a mid far new : Told) (cpu between then now : Cpu) → IsTrue a.tells → Begins h a → Serves a cpu mid between start (Ok tt) → ((m : Machine) → Stands mid between m → Reaches events far then end steps m) → IsTrue far.tells → Serves far then new now park (Ok tt) → now ≡ then → Awaits new now end (ending events steps h)
-unfolding ending park_and_draw ◌>>=◌
-goes_through events end steps h a mid far new cpu between then now told b s runs tells p same = go (start (at_rest h)) (begun h a mid cpu between told b s)
+pub goes_through : (events : List Line) (end : Step) (steps : ℕ) (h : Heap) (a mid far new : Told) (cpu between then now : Cpu) → IsTrue a.tells → Begins h a → Serves a cpu mid between start (Ok tt) → between.ran ≡ 0 → ((m : Machine) → Stands mid between m → Reaches events far then end steps m) → IsTrue far.tells → Serves far then new now park (Ok tt) → now ≡ then → Awaits new now end (course events steps no_state h)
+unfolding park_and_draw ◌>>=◌
+goes_through events end steps h a mid far new cpu between then now told b s fresh runs tells p same = whole (Awaits new now end) events steps h (go (start (at_rest h)) (begun h a mid cpu between told b s))
   where
-    stands : (m : Machine) (o : Outcome (Unit {0})) → IsGo tt (Stands new now) o → Stands far then m → Awaits new now end (parked end m (then_do o (λ _. picture)))
-    stands m (Go u n log) g st = record {
-      machine = n;
-      stands = g.1;
-      last = m;
-      log = log;
-      count = ap (λ (c : Cpu). c.ran) (st.numbers ∙ sym same);
-      said = λ speaks. (let spoke = sym p.later.speaks ∙ speaks in p.silent spoke ∙ st.transcript spoke);
-      ends = refl;
-    }
-    stands m (Halt c log) g st = absurd g
-    stands m (Spent log) g st = absurd g
+    awaits : (u : Unit {0}) (m : Machine) (log : List LogRow) → m.cpu.ran ≡ 0 → (x : Reaches events far then end steps m) (o : Outcome (Unit {0})) → park x.machine ≡ o → IsGo tt (Stands new now) o → Awaits new now end (course_from events steps (Go u m log))
+    awaits u m log f x (Go v n rows) e g =
+        let count = ap (λ (c : Cpu). c.ran) (x.stands.numbers ∙ sym same) in
+        let drawn : park_and_draw x.machine ≡ after rows (picture n) = ap (λ (o : Outcome (Unit {0})). then_do o (λ _. picture)) e in record {
+          machine = n;
+          stands = g.1;
+          last = x.machine;
+          log = rows;
+          count = count;
+          said = λ speaks. (let spoke = sym p.later.speaks ∙ speaks in p.silent spoke ∙ x.stands.transcript spoke);
+          ends = ap ended x.ran ∙ ap (parked end x.machine) drawn;
+          told = said_behind events steps end m x.machine now.ran f x.ran count;
+          rows = λ need h. rows_behind events steps end m x.machine log now.ran f x.ran count need (subst (λ (o : Outcome (List ℕ)). IsLogged need (log_of o)) (sym drawn) h);
+          unmade = subst (λ (o : Outcome (List ℕ)). made_in (log_of o) ≡ []) drawn (none_made park_and_draw x.machine none-park_and_draw);
+        }
+    awaits u m log f x (Halt c rows) e g = absurd g
+    awaits u m log f x (Spent rows) e g = absurd g
 
-    at : (m : Machine) → Reaches events far then end steps m → Awaits new now end (ended (run events steps m))
-    at m x = subst (λ r. Awaits new now end (ended r)) (sym x.ran) (stands x.machine (park x.machine) (p.model tells x.machine x.stands) x.stands)
-
-    go : (o : Outcome (Unit {0})) → IsGo tt (Stands mid between) o → Awaits new now end (run_from events steps o)
-    go (Go u m log) g = at m (runs m g.1)
+    go : (o : Outcome (Unit {0})) → IsGo tt (Stands mid between) o → Awaits new now end (course_from events steps o)
+    go (Go u m log) g = let x = runs m g.1 in awaits u m log (ap (λ (c : Cpu). c.ran) g.1.numbers ∙ fresh) x (park x.machine) refl (p.model tells x.machine x.stands)
     go (Halt c log) g = absurd g
     go (Spent log) g = absurd g
 
-pub goes_exit : (new : Told) (now : Cpu) (e : Stop) (r : Result Step Stop) (ending : Ending) → IsErrAnd r (λ y. y ≡ e) → IsHalt e now.ran new ending → GoesAs new now r ending
-goes_exit new now e r ending is h =
+pub goes_exit : (new : Told) (now : Cpu) (e : Stop) (r : Result Step Stop) (c : Course) → IsErrAnd r (λ y. y ≡ e) → IsHalt e now.ran new c → GoesAs new now r c
+goes_exit new now e r c is h =
     let q = err_from_is_err_and r is in
-    subst (λ (x : Result Step Stop). GoesAs new now x ending) (sym (q.1 ∙ ap (λ y. Err y) q.2)) h
+    subst (λ (x : Result Step Stop). GoesAs new now x c) (sym (q.1 ∙ ap (λ y. Err y) q.2)) h
 
 -- ---- the picture
 
-pub draws_through : (mid new : Told) (now : Cpu) (end : Step) (ending : Ending) (finished : Finished) → IsTrue mid.tells → Awaits mid now end ending → Serves mid now new now picture (Ok finished.picture) → finished.end ≡ end → finished.ran ≡ now.ran → GoesThrough new finished ending
-draws_through mid new now end ending finished tells x s last ran = subst (GoesThrough new finished) (sym x.ends) (go (picture x.machine) (s.model tells x.machine x.stands))
+pub draws_through : (mid new : Told) (now : Cpu) (end : Step) (c : Course) (finished : Finished) → IsTrue mid.tells → Awaits mid now end c → Serves mid now new now picture (Ok finished.picture) → finished.end ≡ end → finished.ran ≡ now.ran → GoesThrough new finished c
+draws_through mid new now end c finished tells x s last ran = go (picture x.machine) refl (s.model tells x.machine x.stands)
   where
-    go : (o : Outcome (List ℕ)) → IsGo finished.picture (Stands new now) o → GoesThrough new finished (parked end x.last (after x.log o))
-    go (Go bytes n rows) g = record { parked = (sym last, ap (λ (c : Cpu). c.ran) g.1.numbers ∙ sym ran); heap = g.1.heap; drawn = sym g.0; said = λ speaks. g.1.transcript speaks }
-    go (Halt c rows) g = absurd g
-    go (Spent rows) g = absurd g
+    go : (o : Outcome (List ℕ)) → picture x.machine ≡ o → IsGo finished.picture (Stands new now) o → GoesThrough new finished c
+    go (Go bytes n rows) e g =
+        let is : c.ending ≡ parked end x.last (Go bytes n (x.log ++ rows)) = x.ends ∙ ap (λ (o : Outcome (List ℕ)). parked end x.last (after x.log o)) e in record {
+          parked = subst (IsParkedBy finished.end finished.ran) (sym is) (sym last, ap (λ (c : Cpu). c.ran) g.1.numbers ∙ sym ran);
+          heap = subst (λ y. OnParked y (λ m. IsThinner m.heap new.heap)) (sym is) g.1.heap;
+          drawn = subst (λ y. OnDrawn y (λ picture. finished.picture ≡ picture)) (sym is) (sym g.0);
+          said = λ speaks. g.1.transcript speaks ∙ ap said_in (sym is);
+        }
+    go (Halt d rows) e g = absurd g
+    go (Spent rows) e g = absurd g
 
-pub draws_stop : (mid new : Told) (now : Cpu) (end : Step) (ending : Ending) (e : Stop) → IsTrue mid.tells → Awaits mid now end ending → Serves {A = List ℕ} mid now new now picture (Err e) → StopsAs e now.ran ending × SaysAs e new ending
-draws_stop mid new now end ending e tells x s =
-    let stop : IsHalt e now.ran new (parked end x.last (after x.log (picture x.machine))) = draw_stops end x.last (after x.log (picture x.machine)) new now e (Gives-after None new now x.log (picture x.machine) (Err e) (s.model tells x.machine x.stands)) x.count (λ speaks. let spoke = sym s.later.speaks ∙ speaks in said_before e mid new x.last.transcript spoke (x.said spoke) s.silent) in
-    subst (λ (y : Ending). StopsAs e now.ran y × SaysAs e new y) (sym x.ends) stop
+pub draws_stop : (mid new : Told) (now : Cpu) (end : Step) (c : Course) (e : Stop) → IsTrue mid.tells → Awaits mid now end c → Serves {A = List ℕ} mid now new now picture (Err e) → IsHalt e now.ran new c
+draws_stop mid new now end c e tells x s =
+    halts None (after x.log (picture x.machine)) new now e now.ran c x.last.transcript (Gives-after None new now x.log (picture x.machine) (Err e) (s.model tells x.machine x.stands))
+    (λ why f. x.ends ∙ parked_by end x.last (after x.log (picture x.machine)) why f ∙ ap (λ k. model.Stuck why k x.last.transcript) x.count)
+    x.told x.rows
+    (λ makes. absurd (unmade new.heap.next (log_of (after x.log (picture x.machine))) x.unmade makes))
+    (λ may. absurd may)
+    (λ speaks. let spoke = sym s.later.speaks ∙ speaks in said_before e mid new x.last.transcript spoke (x.said spoke) s.silent)
 
 -- whatever drawing comes to, what was said is what the run said
-pub draws_nothing : (mid new : Told) (now : Cpu) (end : Step) (ending : Ending) → IsTrue mid.tells → Awaits mid now end ending → IsLater mid new → SaidNothing mid new → IsTrue new.speaks → new.transcript ≡ said_in ending
-draws_nothing mid new now end ending tells x later silent speaks =
+pub draws_nothing : (mid new : Told) (now : Cpu) (end : Step) (c : Course) → IsTrue mid.tells → Awaits mid now end c → IsLater mid new → SaidNothing mid new → IsTrue new.speaks → new.transcript ≡ said_in c.ending
+draws_nothing mid new now end c tells x later silent speaks =
     let spoke = sym later.speaks ∙ speaks in
     let told : new.transcript ≡ x.machine.transcript = silent spoke ∙ x.stands.transcript spoke in
     let last : new.transcript ≡ x.last.transcript = silent spoke ∙ x.said spoke in
@@ -386,9 +528,9 @@ draws_nothing mid new now end ending tells x later silent speaks =
   where
     go : (o : Outcome (List ℕ)) → picture x.machine ≡ o → new.transcript ≡ x.machine.transcript → new.transcript ≡ x.last.transcript → new.transcript ≡ said_in (parked end x.last (after x.log o))
     go (Go bytes n rows) e told last = told ∙ ap (λ (m : Machine). m.transcript) (sym (picture_leaves x.machine n bytes rows e))
-    go (Halt c rows) e told last = last
+    go (Halt d rows) e told last = last
     go (Spent rows) e told last = last
 
-pub draw_halts : (mid new : Told) (now : Cpu) (end : Step) (ending : Ending) (why : Reason) → IsTrue mid.tells → Awaits mid now end ending → DrawsAs mid now new (Err why) → HaltsAs why now.ran new ending
-draw_halts mid new now end ending (ByStop stop) tells x s = draws_stop mid new now end ending stop tells x s
-draw_halts mid new now end ending NoMemory tells x s = λ speaks. draws_nothing mid new now end ending tells x s.0 s.1 speaks
+pub draw_halts : (mid new : Told) (now : Cpu) (end : Step) (c : Course) (why : Reason) → IsTrue mid.tells → Awaits mid now end c → DrawsAs mid now new (Err why) → HaltsAs why now.ran new c
+draw_halts mid new now end c (ByStop stop) tells x s = draws_stop mid new now end c stop tells x s
+draw_halts mid new now end c NoMemory tells x s = λ speaks. draws_nothing mid new now end c tells x s.0 s.1 speaks

@@ -12,6 +12,7 @@ use Rattle.blue_model.specs.declared.event.Line.{Line}
 use Rattle.blue_model.specs.declared.step.Step.{Step}
 use Rattle.blue_model.specs.declared.step.Step.TheVariants as step
 use Rattle.blue_model.specs.Machine.{Machine}
+use Rattle.blue_model.specs.State.{no_state}
 use Rattle.blue_model.specs.Cycle.{Parked, ending}
 use Rattle.loom_run.specs.Meanings.{Meanings}
 use Rattle.loom_run.specs.Top.{bytes_of}
@@ -26,7 +27,7 @@ pub record Headline (before now : Meanings) (steps : ℕ) (end : Step) (heap : H
   pub events : AreRight lines × (bytes_of (now.roles Events) ≡ events_text lines)
   -- The Blue Book's machine over one unbounded memory, started on this heap under these lines, comes after so many bytecodes, or after
   -- the one that ends it, to the machine, which is parked, with the picture on its display.
-  pub ending : ending lines steps heap ≡ Parked end machine picture
+  pub ending : ending lines steps no_state heap ≡ Parked end machine picture
   -- Transcript has what it said, behind what stood there before.
   pub transcript : (now.roles Transcript).put ≡ (before.roles Transcript).put ++ machine.transcript
   -- Saved holds the image of what is kept of its heap, with exact counts.

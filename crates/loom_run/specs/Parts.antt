@@ -3,14 +3,17 @@ use Rattle.std.specs.Prelude.{◌≡◌, ◌≢◌, ℕ, Bool, true, false, List
 use Rattle.long_names.specs.Counting.{Rose}
 use Rattle.long_names.specs.Heap.{Heap}
 use Rattle.blue_model.specs.declared.event.Line.{Line}
-use Rattle.blue_model.specs.Cycle.{Ending, ending}
-use Rattle.blue_model.specs.Endings.{said_in}
+use Rattle.blue_model.specs.State.{no_state}
+use Rattle.blue_model.specs.Cycle.{ByCause, BySpentNames, Ending, ending}
+use Rattle.blue_model.specs.Endings.{IsStuckBy, said_in}
+use Rattle.object_memory.specs.declared.fault.MemFault.TheVariants as fault
+use Rattle.contexts.specs.declared.stop.Stop.TheVariants as stop
 use Rattle.loom_outside.specs.Outside.{RoleState, PutPrefix, puts}
 use Rattle.loom_outside.specs.declared.outside.Failed.{Failed}
 use Rattle.loom_outside.specs.declared.outside.Role.{Role}
 use Rattle.loom_outside.specs.declared.outside.Role.TheVariants.{Image, Events, Saved, Display, Transcript, Notes}
 use Rattle.loom_run.specs.Meanings.{Meanings, IsLeft, LeavesBut}
-use Rattle.loom_run.specs.Run.{StopsAs, is_own}
+use Rattle.loom_run.specs.Run.{is_own}
 use Rattle.loom_run.specs.Top.{SaysRun, HasRun, IsCaused, EventsBy, AttachedOnce, AttachedUnless, WasWritten, WasBegun, WasRefused, AreEvents, JudgesImage, JudgesEvents, IsOfMachine, RunOf, RunsBy, SaysAllOrNothing, bytes_of, is_before_events, is_before_saying, is_before_saving, is_before_drawing}
 use Rattle.loom_run.specs.Status.{line_of}
 use Rattle.loom_run.specs.declared.running.Finished.{Finished}
@@ -60,7 +63,9 @@ SaysAny run old new = (new ≡ old) ⊎ (new ≡ puts (said_in run) old)
 
 -- a stop of the machine is the one that ended its run
 abbrev pub StopsBy : Reason → ℕ → Ending → Type 0
-StopsBy (ByStop stop) ran run = StopsAs stop ran run
+StopsBy (ByStop (stop.Stuck cause)) ran run = IsStuckBy (ByCause cause) ran run
+StopsBy (ByStop (stop.Mem fault.NamesSpent)) ran run = IsStuckBy BySpentNames ran run
+StopsBy (ByStop (stop.Mem _)) ran run = Unit {0}
 StopsBy NoMemory ran run = Unit {0}
 
 -- whether what was said is all that the run says: it isn't where memory was refused in a cycle
@@ -106,7 +111,7 @@ IsAfterImage _ = Unit {0}
 
 -- the bytes are an event list, and P holds of what becomes of a heap under it
 abbrev pub UnderEvents : List ℕ → ℕ → Heap → (Ending → Type 0) → Type 0
-UnderEvents events steps heap P = (lines : List Line) × AreEvents events lines × P (ending lines steps heap)
+UnderEvents events steps heap P = (lines : List Line) × AreEvents events lines × P (ending lines steps no_state heap)
 
 -- What a run came to, without its last line: `Promise` says it with the words.
 pub record IsRun (tells : Role → Bool) (before now : Meanings) (image_name events_name saved_name display_name : List ℕ) (steps : ℕ) (result : Status) : Type 0 where

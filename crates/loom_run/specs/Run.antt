@@ -1,26 +1,29 @@
 -- What a run over a memory has to do with a run of the model.
-use Rattle.std.specs.Prelude.{◌≡◌, ◌⊎◌, ℕ, ◌<◌, ◌≤◌, Bool, true, false, List, [], ◌++◌, Some, None, Result, Ok, Err, IsTrue, OnOk}
+use Rattle.std.specs.Prelude.{◌≡◌, ◌⊎◌, ℕ, ◌+◌, ◌<◌, ◌≤◌, Bool, true, false, List, [], ◌++◌, Option, Some, None, Result, Ok, Err, IsTrue, OnOk}
 use Rattle.long_names.specs.Counting.{Rose}
-use Rattle.long_names.specs.Heap.{Heap}
+use Rattle.long_names.specs.Heap.{Heap, object_count}
+use Rattle.long_names.specs.Kept.{kept}
 use Rattle.long_names.specs.Need.{Fits}
 use Rattle.long_names.specs.Thin.{IsThinner}
 use Rattle.object_memory.specs.Told.{Told, IsReady}
 use Rattle.object_memory.specs.declared.memory.ObjectMemory.{Ghosts}
-use Rattle.object_memory.specs.Contract.{IsLater, ForBounds, NoBounds, work_faults, said_faults}
+use Rattle.object_memory.specs.Contract.{IsLater, ForBounds, IfBounds, NoBounds, CountsKept, work_faults, said_faults}
+use Rattle.object_memory.specs.declared.fault.Need.{Need}
 use Rattle.object_memory.specs.declared.fault.MemFault.{MemFault}
 use Rattle.object_memory.specs.declared.fault.MemFault.TheVariants.{CoreFull, WorkFull, WorkFault, Damaged, NamesSpent, Said, Memory}
 use Rattle.blue_model.specs.declared.cpu.Cpu.{Cpu}
 use Rattle.blue_model.specs.declared.step.Step.{Step}
 use Rattle.blue_model.specs.declared.step.Step.TheVariants.{Next}
 use Rattle.blue_model.specs.declared.event.Line.{Line}
-use Rattle.blue_model.specs.Machine.{Machine, LogRow, after}
+use Rattle.blue_model.specs.Machine.{Machine, LogRow, log_of, after}
 use Rattle.blue_model.specs.Devices.{picture}
 use Rattle.blue_model.specs.Cycle.{Ran, ByCause, BySpentNames, Ending, cycle, parked}
+use Rattle.blue_model.specs.Logs.{Course, IsLive, lives, made_in}
 use Rattle.blue_model.specs.Endings.{OnParked, OnDrawn, said_in, IsStuckBy, IsParkedBy}
 use Rattle.blue_model.specs.Cycle as model
 use Rattle.contexts.specs.declared.stop.Stop.{Stop}
 use Rattle.contexts.specs.declared.stop.Stop.TheVariants.{Stuck, Mem}
-use Rattle.contexts.specs.Serves.{Stands, GivesAs, Serves, SaidNothing}
+use Rattle.contexts.specs.Serves.{Stands, GivesAs, Serves, SaidNothing, IsLogged, IsCaused}
 use Rattle.contexts.specs.Serves as serves
 use Rattle.loom_run.specs.declared.running.Finished.{Finished}
 use Rattle.loom_run.specs.declared.running.Halted.{Halted}
@@ -40,9 +43,20 @@ abbrev pub HasSaid : Stop → List ℕ → List ℕ → Type 0
 HasSaid (Mem (Said count)) before now = (z : List ℕ) × (now ≡ before ++ z)
 HasSaid _ before now = now ≡ before
 
+-- The memory has settled, and made nothing since then. Where it says how many objects lived, so many are kept, with its registers and
+-- slots as roots.
+abbrev pub IsSettled : Told → Type 0
+IsSettled t = IfBounds t.bounds (λ b. (b.made ≡ 0) × CountsKept t b.base)
+
+-- Where there was no room for an object in the cycle after so many, from old to new. In the first cycle that has the cause that one call
+-- has. After a settling, and so in every other cycle, as many objects live as the model says at one of the cycle's makings.
+abbrev pub IsFullIn : List Line → Told → Told → Stop → ℕ → Machine → Type 0
+IsFullIn events old new (Mem (WorkFull live room)) done m = (done ≡ 0 → IsCaused old new (WorkFull live room)) × (((0 < done) ⊎ IsSettled old) → IsLive live (lives events m))
+IsFullIn events old new _ done m = Unit {0}
+
 -- The run stopped in the cycle after so many: the model's machine there comes to this stop, or allows the fault. So many bytecodes
--- were run, and what was said is what that machine had said.
-pub record StopsIn (events : List Line) (new : Told) (now : Cpu) (stop : Stop) (cycles : ℕ) (m : Machine) : Type 0 where
+-- were run, and what was said is what that machine had said. Each cycle before it ended with a settling.
+pub record StopsIn (events : List Line) (old new : Told) (now : Cpu) (stop : Stop) (cycles : ℕ) (m : Machine) : Type 0 where
   pub done : ℕ
   pub machine : Machine
   pub few : done < cycles
@@ -50,6 +64,7 @@ pub record StopsIn (events : List Line) (new : Told) (now : Cpu) (stop : Stop) (
   pub count : machine.cpu.ran ≡ now.ran
   pub said : IsTrue new.speaks → HasSaid stop machine.transcript new.transcript
   pub gives : GivesAs (Some Next) new now (Err stop) (cycle events machine)
+  pub full : IsFullIn events old new stop done machine
 
 abbrev pub IsWorkFault : Stop → Type 0
 IsWorkFault (Mem (WorkFault count)) = Unit {0}
@@ -67,9 +82,9 @@ pub record StopsAfter (events : List Line) (new : Told) (now : Cpu) (stop : Stop
   pub fault : IsWorkFault stop
 
 -- a run of at most so many cycles, with this answer, is the model's
-abbrev pub RunsAs : List Line → Told → Cpu → ℕ → Machine → Result Step Stop → Type 0
-RunsAs events new now cycles m (Ok end) = Reaches events new now end cycles m
-RunsAs events new now cycles m (Err stop) = StopsIn events new now stop cycles m ⊎ StopsAfter events new now stop cycles m
+abbrev pub RunsAs : List Line → Told → Told → Cpu → ℕ → Machine → Result Step Stop → Type 0
+RunsAs events old new now cycles m (Ok end) = Reaches events new now end cycles m
+RunsAs events old new now cycles m (Err stop) = StopsIn events old new now stop cycles m ⊎ StopsAfter events new now stop cycles m
 
 -- ---- why a memory refused, as far as no row is named
 
@@ -95,28 +110,42 @@ FaultsBy old new (Stuck cause) = Unit {0}
 
 -- ---- whole runs
 
--- A memory with which nothing was done yet, of this heap or of one that is thinner: nothing is pinned, no row is cached, and nothing
--- was said.
+-- so many of a heap's objects are kept, whatever the roots are, where it is said how many
+abbrev pub CountsAll : Heap → Option ℕ → Type 0
+CountsAll h None = Unit {0}
+CountsAll h (Some base) = (root : ℕ → Bool) → object_count (kept h root) ≡ base
+
+-- A memory with which nothing was done yet, of this heap or of one that is thinner: nothing is pinned, no row is cached, nothing was
+-- said, and nothing made. Where it says how many objects live, they are those of the heap.
 pub record Begins (h : Heap) (t : Told) : Type 0 where
   pub heap : IsThinner h t.heap
   pub slots : (i : ℕ) → t.slots i ≡ None
   pub rows : (class selector method : ℕ) → t.cache.rows class selector method ≡ false
   pub transcript : IsTrue t.speaks → t.transcript ≡ []
+  pub base : IfBounds t.bounds (λ b. (b.made ≡ 0) × CountsAll h b.base)
 
--- a fault of the memory: names are spent where the model's run says so, and any other fault may come at any time
-abbrev pub FaultsAs : MemFault → ℕ → Ending → Type 0
-FaultsAs NamesSpent ran ending = IsStuckBy BySpentNames ran ending
-FaultsAs (CoreFull need) ran ending = Unit {0}
-FaultsAs (WorkFull live room) ran ending = Unit {0}
-FaultsAs (WorkFault count) ran ending = Unit {0}
-FaultsAs (Damaged place name) ran ending = Unit {0}
-FaultsAs (Said count) ran ending = Unit {0}
-FaultsAs Memory ran ending = Unit {0}
+-- A fault of the memory after so many bytecodes: names are spent where the model's run says so. A need is that of a row of the next
+-- bytecode, and for so many living objects there was no room at one of its makings. A memory that tells its heap is never damaged.
+-- Faults of the outside and want of memory may come at any time.
+abbrev pub FaultsAs : MemFault → ℕ → Course → Type 0
+FaultsAs NamesSpent ran c = IsStuckBy BySpentNames ran c.ending
+FaultsAs (CoreFull need) ran c = IsLogged need (c.rows ran)
+FaultsAs (WorkFull live room) ran c = IsLive live (c.lives ran)
+FaultsAs (WorkFault count) ran c = Unit {0}
+FaultsAs (Damaged place name) ran c = ⊥
+FaultsAs (Said count) ran c = Unit {0}
+FaultsAs Memory ran c = Unit {0}
 
--- the stop is the one that ended the model's run, after so many bytecodes
-abbrev pub StopsAs : Stop → ℕ → Ending → Type 0
-StopsAs (Stuck cause) ran ending = IsStuckBy (ByCause cause) ran ending
-StopsAs (Mem fault) ran ending = FaultsAs fault ran ending
+-- the stop is the one that ended the model's run after so many bytecodes, or a fault that may come then
+abbrev pub StopsAs : Stop → ℕ → Course → Type 0
+StopsAs (Stuck cause) ran c = IsStuckBy (ByCause cause) ran c.ending
+StopsAs (Mem fault) ran c = FaultsAs fault ran c
+
+-- What was said is the model's transcript after so many bytecodes. Where its own saying failed, a part of what the next bytecode says
+-- joined that.
+abbrev pub SaysAs : Stop → ℕ → Told → Course → Type 0
+SaysAs (Mem (Said count)) ran new c = (z rest : List ℕ) × (new.transcript ≡ c.said ran ++ z) × (c.said (ran + 1) ≡ new.transcript ++ rest)
+SaysAs _ ran new c = new.transcript ≡ c.said ran
 
 -- the stop is one of the machine, and no fault of a memory beside spent names
 abbrev pub is_own : Stop → Bool
@@ -124,32 +153,38 @@ is_own (Stuck cause) = true
 is_own (Mem NamesSpent) = true
 is_own (Mem _) = false
 
--- what was said when the model's run stopped
-abbrev pub SaysAs : Stop → Told → Ending → Type 0
-SaysAs stop new ending = IsTrue (is_own stop) → IsTrue new.speaks → new.transcript ≡ said_in ending
+-- a whole run stopped so after so many bytecodes
+pub record IsHalt (stop : Stop) (ran : ℕ) (new : Told) (c : Course) : Type 0 where
+  pub stops : StopsAs stop ran c
+  pub says : IsTrue new.speaks → SaysAs stop ran new c
+  -- of a stop of the machine that is all that the run says
+  pub own : IsTrue (is_own stop) → IsTrue new.speaks → new.transcript ≡ said_in c.ending
 
 -- The memory stands for the machine that was parked after a run, whose picture is still to be drawn: what the run comes to is what
--- drawing it comes to.
-pub record Awaits (new : Told) (now : Cpu) (end : Step) (ending : Ending) : Type 0 where
+-- drawing it comes to. The rows of park and of the picture are rows of the next bytecode, and none of them makes anything.
+pub record Awaits (new : Told) (now : Cpu) (end : Step) (c : Course) : Type 0 where
   pub machine : Machine
   pub stands : Stands new now machine
   pub last : Machine
   pub log : List LogRow
   pub count : last.cpu.ran ≡ now.ran
   pub said : IsTrue new.speaks → new.transcript ≡ last.transcript
-  pub ends : ending ≡ parked end last (after log (picture machine))
+  pub ends : c.ending ≡ parked end last (after log (picture machine))
+  pub told : c.said now.ran ≡ last.transcript
+  pub rows : (need : Need) → IsLogged need (log_of (after log (picture machine))) → IsLogged need (c.rows now.ran)
+  pub unmade : made_in (log_of (after log (picture machine))) ≡ []
 
 -- the run up to the picture went as the model's, or stopped as it
-abbrev pub GoesAs : Told → Cpu → Result Step Stop → Ending → Type 0
-GoesAs new now (Ok end) ending = Awaits new now end ending
-GoesAs new now (Err stop) ending = StopsAs stop now.ran ending × SaysAs stop new ending
+abbrev pub GoesAs : Told → Cpu → Result Step Stop → Course → Type 0
+GoesAs new now (Ok end) c = Awaits new now end c
+GoesAs new now (Err stop) c = IsHalt stop now.ran new c
 
 -- the memory stands for the heap of the parked machine, whose picture this is, and said what the run said
-pub record GoesThrough (new : Told) (finished : Finished) (ending : Ending) : Type 0 where
-  pub parked : IsParkedBy finished.end finished.ran ending
-  pub heap : OnParked ending (λ m. IsThinner m.heap new.heap)
-  pub drawn : OnDrawn ending (λ picture. finished.picture ≡ picture)
-  pub said : IsTrue new.speaks → new.transcript ≡ said_in ending
+pub record GoesThrough (new : Told) (finished : Finished) (c : Course) : Type 0 where
+  pub parked : IsParkedBy finished.end finished.ran c.ending
+  pub heap : OnParked c.ending (λ m. IsThinner m.heap new.heap)
+  pub drawn : OnDrawn c.ending (λ picture. finished.picture ≡ picture)
+  pub said : IsTrue new.speaks → new.transcript ≡ said_in c.ending
 
 -- drawing comes to the model's picture, or to its stop, or no memory was found
 abbrev pub DrawsAs : Told → Cpu → Told → Result (List ℕ) Reason → Type 0
@@ -158,13 +193,13 @@ DrawsAs old cpu new (Err (ByStop stop)) = Serves old cpu new cpu picture (Err st
 DrawsAs old cpu new (Err NoMemory) = IsLater old new × SaidNothing old new
 
 -- why a whole run halted, by what became of the model's
-abbrev pub HaltsAs : Reason → ℕ → Told → Ending → Type 0
-HaltsAs (ByStop stop) ran new ending = StopsAs stop ran ending × SaysAs stop new ending
-HaltsAs NoMemory ran new ending = IsTrue new.speaks → new.transcript ≡ said_in ending
+abbrev pub HaltsAs : Reason → ℕ → Told → Course → Type 0
+HaltsAs (ByStop stop) ran new c = IsHalt stop ran new c
+HaltsAs NoMemory ran new c = IsTrue new.speaks → new.transcript ≡ said_in c.ending
 
-abbrev pub EndsAs : Told → Result Finished Halted → Ending → Type 0
-EndsAs new (Ok finished) ending = GoesThrough new finished ending
-EndsAs new (Err halted) ending = HaltsAs halted.why halted.ran new ending
+abbrev pub EndsAs : Told → Result Finished Halted → Course → Type 0
+EndsAs new (Ok finished) c = GoesThrough new finished c
+EndsAs new (Err halted) c = HaltsAs halted.why halted.ran new c
 
 -- only a memory that refused answers a fault
 abbrev pub HaltsBy : Told → Told → Reason → Type 0

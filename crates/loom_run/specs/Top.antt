@@ -10,6 +10,7 @@ use Rattle.image_format.specs.Text.{image_text}
 use Rattle.image_format.specs.Valid.{IsImageHeap, IsValid}
 use Rattle.blue_model.specs.declared.event.Line.{Line}
 use Rattle.blue_model.specs.declared.step.Step.TheVariants as step
+use Rattle.blue_model.specs.State.{no_state}
 use Rattle.blue_model.specs.Cycle.{BySpentNames, Ending, ending}
 use Rattle.blue_model.specs.Endings.{OnParked, OnDrawn, IsParked, IsParkedBy, IsStuck, IsStuckBy, said_in}
 use Rattle.loom_run.specs.Meanings.{Meanings}
@@ -122,7 +123,7 @@ pub record RunOf (image events : List ℕ) (steps : ℕ) (P : Ending → Type 0)
   pub text : image ≡ image_text heap
   pub lines : List Line
   pub list : AreEvents events lines
-  pub run : P (ending lines steps heap)
+  pub run : P (ending lines steps no_state heap)
 
 -- What an answer says of the bytes of Image: they are no image, or they are one
 abbrev pub JudgesImage : Status → List ℕ → Type 0
@@ -280,5 +281,5 @@ pub record CanBeDone (image events : List ℕ) (steps : ℕ) (before now : Role 
   pub valid : IsValid image
   pub list : List Line
   pub lines : AreEvents events list
-  pub runs : (h : Heap) (lines : List Line) → IsImageHeap h → image ≡ image_text h → AreEvents events lines → IsParked (ending lines steps h)
+  pub runs : (h : Heap) (lines : List Line) → IsImageHeap h → image ≡ image_text h → AreEvents events lines → IsParked (ending lines steps no_state h)
   pub still : (r : Role) → Rose (before r) (now r) → ⊥

@@ -3,6 +3,10 @@ ghost use Rattle.std.specs.Prelude.{◌↔◌, Bool, List, [], None, ◌≡◌, 
 ghost use Rattle.image_format.specs.Text.{image_text};
 ghost use Rattle.blue_model.specs.Base.{heap_running, base_code};
 ghost use Rattle.blue_model.specs.Cycle.{ending};
+ghost use Rattle.blue_model.specs.State.{no_state};
+ghost use Rattle.long_names.specs.Heap.{Heap, object_count};
+ghost use Rattle.long_names.specs.Kept.{kept};
+ghost use Rattle.image_format.specs.Valid.{IsImageHeap};
 ghost use Rattle.loom_run.specs.Base.{base_bytes, text_of_ending};
 ghost use Rattle.loom_outside.specs.declared.outside.Role.{Role};
 ghost use Rattle.loom_run.specs.declared.status.Status.{Status};
@@ -14,7 +18,7 @@ ghost use Rattle.loom_run.specs.Words.{IsRow, bad_word, image_word, events_word,
 /// The base image as bytes, before two bytecodes and after them: its context's instruction pointer is field 1, 3 and then 5.
 pub fn base_text()
     ensures before { image_text (heap_running base_code) ≡ base_bytes 7 }
-    ensures after { text_of_ending (ending [] 2 (heap_running base_code)) ≡ base_bytes 11 }
+    ensures after { text_of_ending (ending [] 2 no_state (heap_running base_code)) ≡ base_bytes 11 }
 {}
 
 /// Words of which none is bad are `run`, the files of the image, the events, the saved image and the picture, which
@@ -30,4 +34,10 @@ pub fn right_words()
 #[tactic(auto, using(crate::proofs::HeadlineLaws::headline_from))]
 pub fn headline()
     ensures { (tells : Role → Bool) (before now : Meanings) (words : List (List ℕ)) (result : Status) → TellsHeadline tells → Promise tells before now words result → HeadlineBy result before now (steps_of words) }
+{}
+
+/// All objects of an image's heap are kept, whatever the roots are: so as many live at first as were read.
+#[tactic(auto, using(crate::proofs::RunLaws::image_kept))]
+pub fn an_image_is_kept()
+    ensures { (h : Heap) (root : ℕ → Bool) → IsImageHeap h → object_count (kept h root) ≡ object_count h }
 {}

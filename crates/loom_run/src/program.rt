@@ -8,6 +8,7 @@ ghost use Rattle.object_memory.specs.Records.{AreWhole};
 ghost use Rattle.object_memory.specs.Plain.{plain_told};
 ghost use Rattle.loom_outside.specs.Outside.{PutPrefix, puts};
 ghost use Rattle.blue_model.specs.Cycle.{ending};
+ghost use Rattle.blue_model.specs.State.{no_state};
 ghost use Rattle.blue_model.specs.Endings.{OnDrawn, OnParked, said_in};
 ghost use Rattle.event_file.specs.Text.{IsBadAt};
 ghost use Rattle.loom_run.specs.Image.{heap_of_image, text_of_image};
@@ -169,19 +170,19 @@ fn run_image<H: Host>(
     steps: u32,
 ) -> Result<Kept, Status>
     requires { AreWhole image.recs image.next }
-    ensures kept { IfOk result (λ kept. OnParked (ending events.now steps (heap_of_image image)) (λ m. text_of_image kept.image ≡ saved_text m.heap)) }
-    ensures drawn { IfOk result (λ kept. OnDrawn (ending events.now steps (heap_of_image image)) (λ picture. kept.picture ≡ picture)) }
+    ensures kept { IfOk result (λ kept. OnParked (ending events.now steps no_state (heap_of_image image)) (λ m. text_of_image kept.image ≡ saved_text m.heap)) }
+    ensures drawn { IfOk result (λ kept. OnDrawn (ending events.now steps no_state (heap_of_image image)) (λ picture. kept.picture ≡ picture)) }
     ensures finished { IfOk result (λ kept. IsFinished kept.status) }
     ensures counted { IfOk result (λ kept. HasRun kept.status steps) }
-    ensures parked { IfOk result (λ kept. JudgesRun kept.status (ending events.now steps (heap_of_image image))) }
+    ensures parked { IfOk result (λ kept. JudgesRun kept.status (ending events.now steps no_state (heap_of_image image))) }
     ensures said { IsTrue (H.tells Role.Transcript) → IfOk result (λ kept. H.roles host.new Role.Transcript
-        ≡ puts (said_in (ending events.now steps (heap_of_image image))) (H.roles host.old Role.Transcript)) }
+        ≡ puts (said_in (ending events.now steps no_state (heap_of_image image))) (H.roles host.old Role.Transcript)) }
     ensures records { IfOk result (λ kept. All IsRecord kept.image.recs) }
     ensures few { IfOk result (λ kept. length kept.image.recs < 2 ^ 32) }
     ensures stopped { IfErr result IsStopped }
     ensures ran { IfErr result (λ status. HasRun status steps) }
-    ensures runs { IfErr result (λ status. JudgesRun status (ending events.now steps (heap_of_image image))) }
-    ensures halted { IsTrue (H.tells Role.Transcript) → IfErr result (λ status. SaysStopped status (ending events.now steps (heap_of_image image))
+    ensures runs { IfErr result (λ status. JudgesRun status (ending events.now steps no_state (heap_of_image image))) }
+    ensures halted { IsTrue (H.tells Role.Transcript) → IfErr result (λ status. SaysStopped status (ending events.now steps no_state (heap_of_image image))
         (H.roles host.old Role.Transcript) (H.roles host.new Role.Transcript)) }
     ensures cause { IfErr result (λ status. IsCaused status (H.faults host.old) (H.faults host.new)) }
     ensures others { LeavesBut (Role.Transcript ∷ []) (meanings H.Host host.old) (meanings H.Host host.new) }
@@ -251,9 +252,9 @@ fn run_and_write<H: Host>(
     ensures ran { HasRun result command.now.steps }
     ensures cause { IsCaused result (H.faults host.old) (H.faults host.new) }
     ensures run { IsOfMachine result → RunsBy H.tells (meanings H.Host host.old) (meanings H.Host host.new) command.now.saved.now
-        command.now.display.now result (ending events.now command.now.steps (heap_of_image image)) }
+        command.now.display.now result (ending events.now command.now.steps no_state (heap_of_image image)) }
     ensures spared { IsTrue (H.tells Role.Transcript) → result ≡ Status.OutOfMemory
-        → SaysAny (ending events.now command.now.steps (heap_of_image image)) (H.roles host.old Role.Transcript) (H.roles host.new Role.Transcript) }
+        → SaysAny (ending events.now command.now.steps no_state (heap_of_image image)) (H.roles host.old Role.Transcript) (H.roles host.new Role.Transcript) }
     ensures saved { IsTrue (H.tells Role.Saved)
         → AttachedUnless (is_before_saving result) command.now.saved.now (H.roles host.old Role.Saved) (H.roles host.new Role.Saved) }
     ensures unsaved { IsTrue (is_before_saving result) → IsLeft Role.Saved (meanings H.Host host.old) (meanings H.Host host.new) }

@@ -1,15 +1,18 @@
 // Runs over any memory.
-ghost use Rattle.std.specs.Prelude.{◌≡◌, ◌≤◌, ◌<◌, ◌+◌, ◌^◌, Ok, IfErr, IfOk, IsTrue, OnOk, OnErr};
+ghost use Rattle.std.specs.Prelude.{◌≡◌, ◌≤◌, ◌<◌, ◌+◌, ◌^◌, false, IfErr, IfOk, IsTrue, OnOk, OnErr};
 ghost use Rattle.long_names.specs.Heap.{Heap};
 ghost use Rattle.object_memory.specs.Told.{IsReady};
-ghost use Rattle.object_memory.specs.Contract.{IsLater, Settled};
+ghost use Rattle.object_memory.specs.Contract.{IsLater};
 ghost use Rattle.blue_model.specs.Machine.{Machine};
 ghost use Rattle.blue_model.specs.Processes.{check_switch as check_switch_rule};
-ghost use Rattle.blue_model.specs.Cycle.{cycle as cycle_rule, turn as turn_rule, ending};
+ghost use Rattle.blue_model.specs.Cycle.{cycle as cycle_rule, turn as turn_rule};
 ghost use Rattle.blue_model.specs.declared.step.Step.TheVariants as step;
 ghost use Rattle.contexts.specs.Serves.{Serves, Speaks, Stands, HasRest};
-ghost use Rattle.blue_model.specs.Endings.{HasCounted, is_quit as is_quit_step};
-ghost use Rattle.loom_run.specs.Run.{Begins, DrawsAs, EndsAs, DrawsFit, EndsFit, FaultsBy, GoesAs, HaltsBy, RunsAs};
+ghost use Rattle.blue_model.specs.Endings.{HasCounted, is_last as is_last_step};
+ghost use Rattle.blue_model.specs.State.{no_state};
+ghost use Rattle.blue_model.specs.Logs.{course};
+ghost use Rattle.contexts.specs.Keeping.{StepsBy, is_kept};
+ghost use Rattle.loom_run.specs.Run.{Begins, DrawsAs, EndsAs, DrawsFit, EndsFit, FaultsBy, GoesAs, HaltsBy, IsSettled, RunsAs};
 ghost use Rattle.object_memory.specs.Calls.{IsFit};
 ghost use Rattle.contexts.specs.Calls.{StaysFit};
 
@@ -39,6 +42,7 @@ fn turn<M: ObjectMemory>(m: &mut M, cpu: &mut Cpu, events: &EventList) -> Result
     requires fit { IsFit M.ObjectMemory m.old }
     ensures serves { Speaks step.Next (M.told m.old) cpu.old (M.told m.new) cpu.new (turn_rule events.now) result }
     ensures rest { OnOk result (HasRest (M.told m.new)) }
+    ensures keeps { StepsBy cpu.old.vault result }
     ensures fit { StaysFit M.ObjectMemory m.old m.new result }
 {
     due(m, cpu, events)?;
@@ -54,6 +58,7 @@ fn cycle<M: ObjectMemory>(m: &mut M, cpu: &mut Cpu, events: &EventList) -> Resul
     ensures counted { OnOk result (cpu.new.ran ≡ cpu.old.ran + 1) }
     ensures kept { OnErr result (cpu.new.ran ≡ cpu.old.ran) }
     ensures rest { OnOk result (HasRest (M.told m.new)) }
+    ensures keeps { StepsBy cpu.old.vault result }
     ensures fit { StaysFit M.ObjectMemory m.old m.new result }
 {
     let ran = cpu.ran;
@@ -69,18 +74,19 @@ fn cycle<M: ObjectMemory>(m: &mut M, cpu: &mut Cpu, events: &EventList) -> Resul
     }
 }
 
-/// Whether the machine ended.
-fn is_quit(step: Step) -> bool
-    ensures { result ≡ is_quit_step step }
+/// Whether no bytecode follows: the machine ended, or is to be kept.
+fn is_last(step: Step) -> bool
+    ensures { result ≡ is_last_step step }
 {
     match step {
         Step::Next => false,
-        Step::Quit => true,
+        Step::Quit | Step::Keep => true,
     }
 }
 
-/// Runs so many bytecodes under an event list, or until one ends the machine (interpret, chapter 28). The memory settles after each.
-/// `cpu.ran` says how many were run, where it stops too. Quit comes exactly where the last bytecode ended the machine.
+/// Runs so many bytecodes under an event list, or until one ends the machine or has it kept (interpret, chapter 28). The memory settles
+/// after each. `cpu.ran` says how many were run, where it stops too. Quit and Keep come exactly where the last bytecode gave them, and
+/// Keep only with an open vault.
 pub fn run<M: ObjectMemory>(
     m: &mut M,
     cpu: &mut Cpu,
@@ -90,11 +96,12 @@ pub fn run<M: ObjectMemory>(
     requires fit { IsFit M.ObjectMemory m.old }
     requires rest { HasRest (M.told m.old) }
     requires room { cpu.old.ran + steps < 2 ^ 32 }
-    ensures runs { IsTrue (M.told m.old).tells → (machine : Machine) → Stands (M.told m.old) cpu.old machine → RunsAs events.now (M.told m.new) cpu.new steps machine result }
+    ensures runs { IsTrue (M.told m.old).tells → (machine : Machine) → Stands (M.told m.old) cpu.old machine → RunsAs events.now (M.told m.old) (M.told m.new) cpu.new steps machine result }
     ensures fault { IfErr result (FaultsBy (M.told m.old) (M.told m.new)) }
     ensures counted { IfOk result (λ end. HasCounted end cpu.new.ran (cpu.old.ran + steps)) }
     ensures few { cpu.new.ran ≤ cpu.old.ran + steps }
-    ensures settled { OnOk result (0 < steps → Settled (M.told m.old).bounds (M.told m.new).bounds) }
+    ensures settled { OnOk result (0 < steps → IsSettled (M.told m.new)) }
+    ensures keeps { StepsBy cpu.old.vault result }
     ensures later { IsLater (M.told m.old) (M.told m.new) }
     ensures rest { OnOk result (HasRest (M.told m.new)) }
     ensures fit { StaysFit M.ObjectMemory m.old m.new result }
@@ -102,8 +109,8 @@ pub fn run<M: ObjectMemory>(
     for turn in 0..steps {
         let step = cycle(m, cpu, events)?;
         m.settle()?;
-        if is_quit(step) {
-            return Ok(Step::Quit);
+        if is_last(step) {
+            return Ok(step);
         }
     }
     Ok(Step::Next)
@@ -136,7 +143,7 @@ pub struct Halted {
     pub ran: u32,
 }
 
-/// Starts, runs so many bytecodes, and parks. `cpu.ran` says how many were run.
+/// Starts with no state, runs so many bytecodes, and parks. The vault is shut. `cpu.ran` says how many were run.
 fn go_through<M: ObjectMemory>(
     m: &mut M,
     cpu: &mut Cpu,
@@ -144,10 +151,11 @@ fn go_through<M: ObjectMemory>(
     steps: u32,
 ) -> Result<Step, Stop>
     requires fit { IsFit M.ObjectMemory m.old }
-    ensures ends { IsTrue (M.told m.old).tells → (h : Heap) → Begins h (M.told m.old) → GoesAs (M.told m.new) cpu.new result (ending events.now steps h) }
+    ensures ends { IsTrue (M.told m.old).tells → (h : Heap) → Begins h (M.told m.old) → GoesAs (M.told m.new) cpu.new result (course events.now steps no_state h) }
     ensures fault { IfErr result (FaultsBy (M.told m.old) (M.told m.new)) }
     ensures few { cpu.new.ran ≤ steps }
     ensures counted { IfOk result (λ end. HasCounted end cpu.new.ran steps) }
+    ensures keeps { StepsBy cpu.old.vault result }
     ensures later { IsLater (M.told m.old) (M.told m.new) }
     ensures fit { StaysFit M.ObjectMemory m.old m.new result }
 {
@@ -170,7 +178,7 @@ fn draw<M: ObjectMemory>(alloc: Global, m: &mut M, cpu: &Cpu) -> Result<Octets, 
     }
 }
 
-/// Starts, runs so many bytecodes under an event list, parks, and draws the display.
+/// Starts with no state and a vault that is shut, runs so many bytecodes under an event list, parks, and draws the display.
 pub fn whole_run<M: ObjectMemory>(
     alloc: Global,
     m: &mut M,
@@ -178,10 +186,11 @@ pub fn whole_run<M: ObjectMemory>(
     steps: u32,
 ) -> Result<Finished, Halted>
     requires fit { IsFit M.ObjectMemory m.old }
-    ensures ends { IsTrue (M.told m.old).tells → (h : Heap) → Begins h (M.told m.old) → EndsAs (M.told m.new) result (ending events.now steps h) }
+    ensures ends { IsTrue (M.told m.old).tells → (h : Heap) → Begins h (M.told m.old) → EndsAs (M.told m.new) result (course events.now steps no_state h) }
     ensures fault { IfErr result (λ halted. HaltsBy (M.told m.old) (M.told m.new) halted.why) }
     ensures ran { IfErr result (λ halted. halted.ran ≤ steps) }
     ensures counted { IfOk result (λ finished. HasCounted finished.end finished.ran steps) }
+    ensures kept { IfOk result (λ finished. is_kept finished.end ≡ false) }
     ensures later { IsLater (M.told m.old) (M.told m.new) }
     ensures fit { EndsFit M.ObjectMemory m.old m.new result }
 {

@@ -1,9 +1,10 @@
 // How a run ends, and the line that says so.
-ghost use Rattle.std.specs.Prelude.{◌≡◌, ◌+◌, ◌≤◌, ◌++◌, ℕ, length, codes, decimal, IsFalse};
+ghost use Rattle.std.specs.Prelude.{◌≡◌, ◌+◌, ◌≤◌, ◌++◌, ℕ, false, length, codes, decimal, IsFalse};
 ghost use Rattle.arrayvec.specs.ArrayString.{array_string_len};
 ghost use Rattle.blue_model.specs.Cycle.{Ending};
 ghost use Rattle.loom_run.specs.Parts.{IsFinished, IsStopped, StopsBy, is_own_reason};
 ghost use Rattle.blue_model.specs.Endings.{HasCounted, IsParkedBy};
+ghost use Rattle.contexts.specs.Keeping.{is_kept};
 ghost use Rattle.loom_run.specs.Status.{role_text, text_of_status, line_of, code_of};
 ghost use Rattle.loom_run.specs.Top.{HasRun, JudgesRun};
 
@@ -93,8 +94,9 @@ impl Status {
     }
 }
 
-// The answer of a run that went through.
+// The answer of a run that went through, and whose machine isn't to be kept.
 pub(crate) fn status_of_end(finished: &Finished) -> Status
+    requires { is_kept finished.now.end ≡ false }
     ensures finished { IsFinished result }
     ensures ran { (steps : ℕ) → HasCounted finished.now.end finished.now.ran steps → HasRun result steps }
     ensures runs { (run : Ending) → IsParkedBy finished.now.end finished.now.ran run → JudgesRun result run }
@@ -102,7 +104,7 @@ pub(crate) fn status_of_end(finished: &Finished) -> Status
     let ran = finished.ran;
     match finished.end {
         Step::Next => Status::Done { ran },
-        Step::Quit => Status::Quit { ran },
+        Step::Quit | Step::Keep => Status::Quit { ran },
     }
 }
 

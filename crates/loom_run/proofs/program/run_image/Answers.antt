@@ -2,7 +2,8 @@ use Rattle.std.proofs.Common.{inr, refl, ap, subst}
 use Rattle.loom_outside.specs.declared.outside.Role.TheVariants.{Transcript}
 use Rattle.object_memory.specs.Told.{IsReady}
 use Rattle.object_memory.specs.Plain.{plain_told}
-use Rattle.blue_model.specs.Cycle.{ending}
+use Rattle.blue_model.specs.State.{no_state}
+use Rattle.blue_model.specs.Logs.{course}
 use Rattle.loom_run.specs.Image.{heap_of_image}
 use Rattle.loom_run.specs.Parts.{SaysStopped, is_spoken_by}
 use Rattle.loom_run.proofs.RunLaws.{begins-fresh, parked-text}
@@ -11,27 +12,27 @@ use Rattle.loom_run.proofs.program.run_image.Goals as goal
 
 pub returns-in_err-say-clause-halted : goal.returns-in_err-say-clause-halted
 returns-in_err-say-clause-halted g c = λ tells.
-    let run = ending c.args.events.now c.args.steps (heap_of_image c.args.image) in
+    let run = course c.args.events.now c.args.steps no_state (heap_of_image c.args.image) in
     let old = g.H.Host.roles c.args.host.now Transcript in
     let new = g.H.Host.roles c.say.new.host Transcript in
     let said = c.in_err-say.ensures.refused tells in
-    fault_exit (λ status. SaysStopped status run old new) c.from_residual.result c.in_err-say.field-0.0 c.from_residual.ensures.1
+    fault_exit (λ status. SaysStopped status run.ending old new) c.from_residual.result c.in_err-say.field-0.0 c.from_residual.ensures.1
     (rw c.in_err-say.ensures.fault (begins_to_say (plain_told c.whole_run-run.new.m) c.whole_run-run.result run old new (c.whole_run-run.ensures.ends refl (heap_of_image c.args.image) (begins-fresh (heap_of_image c.args.image) (plain_told c.in-Ok.memory) c.in-Ok.ensures.told)) refl said.0 said.1))
 
 pub returns-in-Err-clause-runs : goal.returns-in-Err-clause-runs
 returns-in-Err-clause-runs g c =
-    let run = ending c.args.events.now c.args.steps (heap_of_image c.args.image) in
-    c.status_of.ensures.runs run (stops_by c.in-Err.halted.why c.in-Err.halted.ran (plain_told c.whole_run-run.new.m) run (rw c.in-Err.is at (c.whole_run-run.ensures.ends refl (heap_of_image c.args.image) (begins-fresh (heap_of_image c.args.image) (plain_told c.in-Ok.memory) c.in-Ok.ensures.told))))
+    let run = course c.args.events.now c.args.steps no_state (heap_of_image c.args.image) in
+    c.status_of.ensures.runs run.ending (stops_by c.in-Err.halted.why c.in-Err.halted.ran (plain_told c.whole_run-run.new.m) run (rw c.in-Err.is at (c.whole_run-run.ensures.ends refl (heap_of_image c.args.image) (begins-fresh (heap_of_image c.args.image) (plain_told c.in-Ok.memory) c.in-Ok.ensures.told))))
 
 pub returns-in-Err-clause-halted : goal.returns-in-Err-clause-halted
 returns-in-Err-clause-halted g c = λ tells.
-    let run = ending c.args.events.now c.args.steps (heap_of_image c.args.image) in
+    let run = course c.args.events.now c.args.steps no_state (heap_of_image c.args.image) in
     says_stopped c.status_of.result c.in-Err.halted.why c.in-Err.halted.ran (plain_told c.whole_run-run.new.m) run (g.H.Host.roles c.args.host.now Transcript) (g.H.Host.roles c.say.new.host Transcript)
     (rw c.in-Err.is at (c.whole_run-run.ensures.ends refl (heap_of_image c.args.image) (begins-fresh (heap_of_image c.args.image) (plain_told c.in-Ok.memory) c.in-Ok.ensures.told))) refl c.status_of.ensures.unwritten c.status_of.ensures.memory (rw c.in-Err.is at (c.in_ok-say.ensures.put tells))
 
 pub returns-in_default-of_kept-clause-halted : goal.returns-in_default-of_kept-clause-halted
 returns-in_default-of_kept-clause-halted g c = λ tells.
-    let run = ending c.args.events.now c.args.steps (heap_of_image c.args.image) in
+    let run = course c.args.events.now c.args.steps no_state (heap_of_image c.args.image) in
     inr (says_through (plain_told c.whole_run-run.new.m) c.whole_run-run.result run (g.H.Host.roles c.args.host.now Transcript) (g.H.Host.roles c.say.new.host Transcript) (c.whole_run-run.ensures.ends refl (heap_of_image c.args.image) (begins-fresh (heap_of_image c.args.image) (plain_told c.in-Ok.memory) c.in-Ok.ensures.told)) refl (ap is_spoken_by c.in-Ok-run.is) (c.in_ok-say.ensures.put tells))
 
 pub returns-clause-kept : goal.returns-clause-kept
@@ -49,5 +50,5 @@ returns-clause-parked g c = c.status_of_end.ensures.runs _ (rw c.in-Ok-run.is at
 
 pub returns-clause-said : goal.returns-clause-said
 returns-clause-said g c = λ tells.
-    let run = ending c.args.events.now c.args.steps (heap_of_image c.args.image) in
+    let run = course c.args.events.now c.args.steps no_state (heap_of_image c.args.image) in
     says_through (plain_told c.whole_run-run.new.m) c.whole_run-run.result run (g.H.Host.roles c.args.host.now Transcript) (g.H.Host.roles c.say.new.host Transcript) (c.whole_run-run.ensures.ends refl (heap_of_image c.args.image) (begins-fresh (heap_of_image c.args.image) (plain_told c.in-Ok.memory) c.in-Ok.ensures.told)) refl (ap is_spoken_by c.in-Ok-run.is) (c.in_ok-say.ensures.put tells)

@@ -10,8 +10,11 @@ pub returns-in-Ok-clause-serves : goal.returns-in-Ok-clause-serves
 unfolding cycle count_bytecode
 returns-in-Ok-clause-serves g c =
     let ready = rw c.in-Ok.is at c.turn.ensures.fit.ready in
-    numbers_then _ (speaks_then _ (rw c.in-Ok.is at c.turn.ensures.serves) (serves_then _ (numbers_then _ (set_numbers_at _ refl ready)) (done_serves ready)) (λ e. e))
+    numbers_then _ (speaks_then _ (rw c.in-Ok.is at c.turn.ensures.serves) (serves_then _ (numbers_then _ (set_numbers_at _ refl (λ may. may) ready)) (done_serves ready)) (λ e. e))
 
 pub returns-in-Err-clause-serves : goal.returns-in-Err-clause-serves
 unfolding cycle
 returns-in-Err-clause-serves g c = stop_numbers _ (numbers_then _ (speaks_stop _ (rw c.in-Err.is at c.turn.ensures.serves) (counts_on _)))
+
+pub returns-in-Ok-clause-keeps : goal.returns-in-Ok-clause-keeps
+returns-in-Ok-clause-keeps g c = rw c.in-Ok.is at c.turn.ensures.keeps

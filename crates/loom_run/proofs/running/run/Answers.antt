@@ -1,18 +1,20 @@
 use Rattle.std.proofs.Common.{◌+◌, inl, inr, refl, sym, ◌∙◌, subst, arith}
 use Rattle.blue_model.specs.declared.step.Step.{Step}
-use Rattle.blue_model.specs.declared.step.Step.TheVariants.{Next, Quit}
+use Rattle.blue_model.specs.declared.step.Step.TheVariants.{Next}
 use Rattle.object_memory.proofs.LaterLaws.{IsLater-refl, IsLater-trans}
 use Rattle.contexts.specs.declared.stop.Stop.TheVariants.{Mem}
-use Rattle.blue_model.proofs.EndingLaws.{goes_on, has_ended}
+use Rattle.blue_model.proofs.EndingLaws.{goes_on}
 use Rattle.loom_run.specs.Run.{Reaches}
-use Rattle.loom_run.proofs.RunningLaws.{faulted, faults_earlier, settled_stands, settling_faulted, reaches_start, reaches_more, reaches_end, stops_in, stops_after, runs_exit, settled_earlier, rest_stays, faults_exit}
+use Rattle.loom_run.proofs.RunningLaws.{faulted, faults_earlier, settled_stands, settling_faulted, reaches_start, reaches_more, reaches_end, stops_in, stops_after, runs_exit, after_settling, last_counted, never, rest_stays, faults_exit}
 use Rattle.loom_run.proofs.running.run.Goals as goal
 
 pub loop-turn-init : goal.loop-turn-init
 loop-turn-init g c = record {
   runs = λ told m st. reaches_start _ _ _ m st;
   ran = omega arith;
+  first = λ none. refl;
   settled = λ some. absurd (omega arith);
+  vault = λ may. may;
   later = IsLater-refl _;
   rest = c.requires.rest;
   fit = record { sound = c.requires.fit.sound; ready = c.requires.fit.ready };
@@ -30,7 +32,7 @@ cycle-requires-clause-room g c =
 pub returns-in_err-step-clause-runs : goal.returns-in_err-step-clause-runs
 returns-in_err-step-clause-runs g c = λ told m st.
     let here = c.loop-turn.invariant in
-    runs_exit _ c.from_residual.ensures.1 (inl (stops_in _ _ _ _ _ c.loop-turn.turn c.args.steps m _ (here.later.tells ∙ told) c.loop-turn-test.true c.in_err-step.ensures.kept (here.runs told m st) c.in_err-step.ensures.serves))
+    runs_exit _ c.from_residual.ensures.1 (inl (stops_in _ _ _ _ _ _ c.loop-turn.turn c.args.steps m _ (here.later.tells ∙ told) here.fit.ready here.rest here.first here.settled c.loop-turn-test.true c.in_err-step.ensures.kept (here.runs told m st) c.in_err-step.ensures.serves))
 
 pub returns-in_err-step-clause-fault : goal.returns-in_err-step-clause-fault
 returns-in_err-step-clause-fault g c =
@@ -81,11 +83,13 @@ loop-turn-preserved g c =
     record {
       runs = λ told m st.
           let now = here.later.tells ∙ told in
-          let on = goes_on _ (sym c.is_quit.ensures ∙ c.if-is_quit.false) in
+          let on = goes_on _ (sym c.is_last.ensures ∙ c.if-is_last.false) in
           let next = reaches_more _ _ _ _ _ Next c.loop-turn.turn m now (here.runs told m st) (rw on at did.serves) in
           record { machine = next.machine; ran = next.ran; stands = settled_stands _ _ _ next.machine did.fit.ready settled.fit.ready settled.called (did.serves.later.tells ∙ now) next.stands };
       ran = (let before = here.ran in let counted = did.counted in omega arith);
-      settled = λ some. settled_earlier (g.M.ObjectMemory.told c.args.m.now) (g.M.ObjectMemory.told c.cycle.new.m) (g.M.ObjectMemory.told c.settle.new.self) (IsLater-trans _ _ _ here.later did.serves.later) settled.called.ok.counts;
+      first = λ none. absurd (omega arith);
+      settled = λ some. after_settling _ _ settled.called.ok;
+      vault = λ may. here.vault (did.serves.vault may);
       later = IsLater-trans _ _ _ (IsLater-trans _ _ _ here.later did.serves.later) settled.called.later;
       rest = rest_stays _ _ settled.called.ok.regs did.rest;
       fit = record { sound = settled.fit.sound; ready = settled.fit.ready };
@@ -105,45 +109,51 @@ returns-clause-few g c = let ran = c.loop-turn.invariant.ran in omega (arith, c.
 pub returns-clause-settled : goal.returns-clause-settled
 returns-clause-settled g c = λ some. c.loop-turn.invariant.settled (omega (arith, c.loop-turn-test.false))
 
+pub returns-clause-keeps : goal.returns-clause-keeps
+returns-clause-keeps g c = λ kept. never kept
+
 pub returns-clause-later : goal.returns-clause-later
 returns-clause-later g c = c.loop-turn.invariant.later
 
 pub returns-clause-rest : goal.returns-clause-rest
 returns-clause-rest g c = c.loop-turn.invariant.rest
 
-pub returns-then-is_quit-clause-runs : goal.returns-then-is_quit-clause-runs
-returns-then-is_quit-clause-runs g c = λ told m st.
+pub returns-then-is_last-clause-runs : goal.returns-then-is_last-clause-runs
+returns-then-is_last-clause-runs g c = λ told m st.
     let here = c.loop-turn.invariant in
     let did = c.in_ok-step.ensures in
     let settled = c.in_ok-settle.ensures in
     let now = here.later.tells ∙ told in
     let few = c.loop-turn-test.true in
-    let ended = has_ended _ (sym c.is_quit.ensures ∙ c.if-is_quit.true) in
-    let next = reaches_more _ _ _ _ _ Quit c.loop-turn.turn m now (here.runs told m st) (rw ended at did.serves) in
-    reaches_end _ _ _ (c.loop-turn.turn + 1) c.args.steps m (omega arith) record { machine = next.machine; ran = next.ran; stands = settled_stands _ _ _ next.machine did.fit.ready settled.fit.ready settled.called (did.serves.later.tells ∙ now) next.stands }
+    let last = sym c.is_last.ensures ∙ c.if-is_last.true in
+    let next = reaches_more _ _ _ _ _ _ c.loop-turn.turn m now (here.runs told m st) did.serves in
+    reaches_end _ _ _ _ (c.loop-turn.turn + 1) c.args.steps m last (omega arith) record { machine = next.machine; ran = next.ran; stands = settled_stands _ _ _ next.machine did.fit.ready settled.fit.ready settled.called (did.serves.later.tells ∙ now) next.stands }
 
-pub returns-then-is_quit-clause-counted : goal.returns-then-is_quit-clause-counted
-returns-then-is_quit-clause-counted g c =
+pub returns-then-is_last-clause-counted : goal.returns-then-is_last-clause-counted
+returns-then-is_last-clause-counted g c =
+    let ran = c.loop-turn.invariant.ran in
+    let few = c.loop-turn-test.true in
+    let counted = c.in_ok-step.ensures.counted in
+    last_counted _ _ _ (sym c.is_last.ensures ∙ c.if-is_last.true) (omega arith)
+
+pub returns-then-is_last-clause-few : goal.returns-then-is_last-clause-few
+returns-then-is_last-clause-few g c =
     let ran = c.loop-turn.invariant.ran in
     let few = c.loop-turn-test.true in
     let counted = c.in_ok-step.ensures.counted in
     omega arith
 
-pub returns-then-is_quit-clause-few : goal.returns-then-is_quit-clause-few
-returns-then-is_quit-clause-few g c =
-    let ran = c.loop-turn.invariant.ran in
-    let few = c.loop-turn-test.true in
-    let counted = c.in_ok-step.ensures.counted in
-    omega arith
+pub returns-then-is_last-clause-settled : goal.returns-then-is_last-clause-settled
+returns-then-is_last-clause-settled g c = λ some. after_settling _ _ c.in_ok-settle.ensures.called.ok
 
-pub returns-then-is_quit-clause-settled : goal.returns-then-is_quit-clause-settled
-returns-then-is_quit-clause-settled g c = λ some. settled_earlier (g.M.ObjectMemory.told c.args.m.now) (g.M.ObjectMemory.told c.cycle.new.m) (g.M.ObjectMemory.told c.settle.new.self) (IsLater-trans _ _ _ c.loop-turn.invariant.later c.in_ok-step.ensures.serves.later) c.in_ok-settle.ensures.called.ok.counts
+pub returns-then-is_last-clause-keeps : goal.returns-then-is_last-clause-keeps
+returns-then-is_last-clause-keeps g c = λ kept. c.loop-turn.invariant.vault (c.in_ok-step.ensures.keeps kept)
 
-pub returns-then-is_quit-clause-later : goal.returns-then-is_quit-clause-later
-returns-then-is_quit-clause-later g c = IsLater-trans _ _ _ (IsLater-trans _ _ _ c.loop-turn.invariant.later c.in_ok-step.ensures.serves.later) c.in_ok-settle.ensures.called.later
+pub returns-then-is_last-clause-later : goal.returns-then-is_last-clause-later
+returns-then-is_last-clause-later g c = IsLater-trans _ _ _ (IsLater-trans _ _ _ c.loop-turn.invariant.later c.in_ok-step.ensures.serves.later) c.in_ok-settle.ensures.called.later
 
-pub returns-then-is_quit-clause-rest : goal.returns-then-is_quit-clause-rest
-returns-then-is_quit-clause-rest g c = rest_stays _ _ c.in_ok-settle.ensures.called.ok.regs c.in_ok-step.ensures.rest
+pub returns-then-is_last-clause-rest : goal.returns-then-is_last-clause-rest
+returns-then-is_last-clause-rest g c = rest_stays _ _ c.in_ok-settle.ensures.called.ok.regs c.in_ok-step.ensures.rest
 
 pub cycle-requires-clause-fit : goal.cycle-requires-clause-fit
 cycle-requires-clause-fit g c = c.loop-turn.invariant.fit
@@ -151,8 +161,8 @@ cycle-requires-clause-fit g c = c.loop-turn.invariant.fit
 pub returns-clause-fit : goal.returns-clause-fit
 returns-clause-fit g c = let here = c.loop-turn.invariant in record { sound = here.fit.sound; ready = here.fit.ready; lender = here.lender; outside = here.outside }
 
-pub returns-then-is_quit-clause-fit : goal.returns-then-is_quit-clause-fit
-returns-then-is_quit-clause-fit g c =
+pub returns-then-is_last-clause-fit : goal.returns-then-is_last-clause-fit
+returns-then-is_last-clause-fit g c =
     let here = c.loop-turn.invariant in
     let did = c.in_ok-step.ensures.fit in
     let settled = c.in_ok-settle.ensures.fit in

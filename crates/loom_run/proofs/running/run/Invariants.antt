@@ -1,9 +1,9 @@
 use Rattle.std.proofs.Common.{◌≡◌, ◌+◌, ◌<◌, IsTrue}
-use Rattle.object_memory.specs.Contract.{IsLater, Settled}
+use Rattle.object_memory.specs.Contract.{IsLater}
 use Rattle.blue_model.specs.declared.step.Step.TheVariants.{Next}
 use Rattle.blue_model.specs.Machine.{Machine}
 use Rattle.contexts.specs.Serves.{Stands, HasRest}
-use Rattle.loom_run.specs.Run.{Reaches}
+use Rattle.loom_run.specs.Run.{Reaches, IsSettled}
 use Rattle.object_memory.specs.Calls.{IsFit}
 use Rattle.loom_run.proofs.running.run.Given as goal
 
@@ -14,7 +14,9 @@ invariant-loop-turn g l =
     record {
       runs : IsTrue (told l.fn.m).tells → (m : Machine) → Stands (told l.fn.m) l.fn.cpu m → Reaches l.fn.events (told l.m) l.cpu Next l.turn m;
       ran : l.cpu.ran ≡ l.fn.cpu.ran + l.turn;
-      settled : 0 < l.turn → Settled (told l.fn.m).bounds (told l.m).bounds;
+      first : l.turn ≡ 0 → told l.m ≡ told l.fn.m;
+      settled : 0 < l.turn → IsSettled (told l.m);
+      vault : IsTrue l.cpu.vault → IsTrue l.fn.cpu.vault;
       later : IsLater (told l.fn.m) (told l.m);
       rest : HasRest (told l.m);
       fit : IsFit g.M.ObjectMemory l.m;

@@ -1,5 +1,6 @@
 use Rattle.blue_model.specs.Cycle.{turn}
 use Rattle.contexts.proofs.ServesLaws.{serves_then, serves_exit}
+use Rattle.bytecodes.proofs.KeepLaws.{keeps_after}
 use Rattle.loom_run.proofs.running.turn.Goals as goal
 
 pub returns-in_err-due-clause-serves : goal.returns-in_err-due-clause-serves
@@ -13,3 +14,6 @@ returns-in_err-check_switch-clause-serves g c = serves_then _ c.in_ok-due.ensure
 pub returns-clause-serves : goal.returns-clause-serves
 unfolding turn
 returns-clause-serves g c = serves_then _ c.in_ok-due.ensures.serves (serves_then _ c.in_ok-check_switch.ensures.serves c.step.ensures.serves)
+
+pub returns-clause-keeps : goal.returns-clause-keeps
+returns-clause-keeps g c = keeps_after _ _ _ (λ k. c.in_ok-due.ensures.serves.vault (c.in_ok-check_switch.ensures.serves.vault k)) c.step.ensures.keeps

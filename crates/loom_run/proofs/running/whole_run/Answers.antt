@@ -1,13 +1,14 @@
 use Rattle.std.proofs.Common.{sym, ◌∙◌, subst}
 use Rattle.loom_run.specs.Run.{HaltsAs}
 use Rattle.loom_run.specs.declared.running.Halted.{Halted}
-use Rattle.blue_model.specs.Cycle.{ending}
+use Rattle.blue_model.specs.State.{no_state}
+use Rattle.blue_model.specs.Logs.{course}
 use Rattle.loom_run.proofs.RunningLaws.{draw_halts}
 use Rattle.loom_run.proofs.running.whole_run.Goals as goal
 
 pub returns-in-Err-draw-clause-ends : goal.returns-in-Err-draw-clause-ends
 returns-in-Err-draw-clause-ends g c = λ told h begins.
     let at = g.M.ObjectMemory.told in
-    let end = ending c.args.events.now c.args.steps h in
+    let end = course c.args.events.now c.args.steps no_state h in
     subst (λ (x : Halted). HaltsAs x.why x.ran (at c.draw.new.m) end) (sym c.halt_of-in-Err-draw.ensures)
     (draw_halts (at c.go_through.new.m) (at c.draw.new.m) c.go_through.new.cpu c.in-Ok.end end c.in-Err-draw.why (c.in-Ok.ensures.later.tells ∙ told) (c.in-Ok.ensures.ends told h begins) c.in-Err-draw.ensures.draws)

@@ -1,0 +1,107 @@
+-- What a whole run of the model comes to, at a cycle, at its start and at its end.
+-- `course` begins with no state, which is a start (`course_started`). `course_from` has it by what the start came to. The laws here say what its said, rows
+-- and lives are at the bytecode where a run over a memory stopped.
+use Rattle.std.proofs.Common.{suc, ◌≡◌, ℕ, ◌+◌, ◌<◌, ◌≤◌, nat_lt, Bool, true, false, cond, eqb, List, [], ◌∷◌, ◌++◌, inl, inr, refl, ◌∙◌, ap, arith}
+use borrow.Author.Tests.{ltb-true, ltb-false}
+use Rattle.std.proofs.lemmas.Grind.{common_steps}
+use Rattle.long_names.specs.Heap.{Heap}
+use Rattle.object_memory.specs.declared.fault.Need.{Need}
+use Rattle.blue_model.specs.declared.event.Line.{Line}
+use Rattle.blue_model.specs.declared.step.Step.{Step}
+use Rattle.blue_model.specs.declared.step.Step.TheVariants.{Next, Quit, Keep}
+use Rattle.blue_model.specs.Machine.{Machine, LogRow, Outcome, Go, Halt, Spent, log_of, at_rest}
+use Rattle.blue_model.specs.Contexts.{start}
+use Rattle.blue_model.specs.State.{no_state}
+use Rattle.blue_model.specs.Cycle.{Ran, run_of, one_more, run, run_from, ending, cycle, park_and_draw}
+use Rattle.blue_model.specs.Logs.{Course, course, said_by, said_from, said_after, rows_after, rows_from, rows_of_bytecode, lives, lives_by, lives_from, lives_in_bytecode}
+use Rattle.blue_model.proofs.StateLaws.{no_state-starts}
+use Rattle.blue_model.proofs.StartLaws.{Leaves, start_leaves}
+use Rattle.blue_model.proofs.CountLaws.{runs_count, came_at}
+use Rattle.contexts.specs.Serves.{IsLogged}
+
+-- by what the start came to
+abbrev pub course_from : List Line → ℕ → Outcome (Unit {0}) → Course
+course_from events steps o = record { ending = run_from events steps o; said = λ k. said_from events k o; rows = λ k. rows_from events steps k o; lives = λ k. lives_from events steps k o }
+
+pub course_started : (events : List Line) (steps : ℕ) (h : Heap) → course events steps no_state h ≡ course_from events steps (start (at_rest h))
+unfolding ending said_after rows_of_bytecode lives_in_bytecode
+course_started events steps h = ap (course_from events steps) (no_state-starts (at_rest h))
+
+-- ---- rows behind others
+
+pub logged_behind : (need : Need) (xs ys : List LogRow) → IsLogged need ys → IsLogged need (xs ++ ys)
+logged_behind need [] ys h = h
+logged_behind need (x ∷ xs) ys h = inr (logged_behind need xs ys h)
+
+pub logged_before : (need : Need) (xs ys : List LogRow) → IsLogged need xs → IsLogged need (xs ++ ys)
+logged_before need [] ys h = absurd h
+logged_before need (x ∷ xs) ys (inl h) = inl h
+logged_before need (x ∷ xs) ys (inr h) = inr (logged_before need xs ys h)
+
+-- ---- tests of numbers
+
+below_by : (a b : ℕ) → a < b → nat_lt a b ≡ true
+below_by a b low = go (nat_lt a b) refl
+  where
+    go : (x : Bool) → nat_lt a b ≡ x → nat_lt a b ≡ true
+    go true e = e
+    go false e = let high = ltb-false a b e in absurd (omega arith)
+
+above_by : (a b : ℕ) → b ≤ a → nat_lt a b ≡ false
+above_by a b high = go (nat_lt a b) refl
+  where
+    go : (x : Bool) → nat_lt a b ≡ x → nat_lt a b ≡ false
+    go false e = e
+    go true e = let low = ltb-true a b e in absurd (omega arith)
+
+same_by : (a : ℕ) → eqb a a ≡ true
+same_by a = grind (arith, common_steps)
+
+-- ---- at a cycle
+
+pub rows_at_cycle : (events : List Line) (steps k : ℕ) (m n : Machine) → run events k m ≡ Ran Next n → k < steps → rows_after events steps k (run events k m) ≡ log_of (cycle events n)
+rows_at_cycle events steps k m n e low = ap (rows_after events steps k) e ∙ ap (λ b. cond b (log_of (cycle events n)) (cond (eqb k steps) (log_of (park_and_draw n)) [])) (below_by k steps low)
+
+pub lives_at_cycle : (events : List Line) (steps k : ℕ) (m n : Machine) → run events k m ≡ Ran Next n → k < steps → lives_by events steps k (run events k m) ≡ lives events n
+lives_at_cycle events steps k m n e low = ap (lives_by events steps k) e ∙ ap (λ b. cond b (lives events n) []) (below_by k steps low)
+
+pub next_cycle : (events : List Line) (k : ℕ) (m n : Machine) → run events k m ≡ Ran Next n → run events (k + 1) m ≡ run_of n (cycle events n)
+unfolding run
+next_cycle events k m n e = ap (λ i. run events i m) (next k) ∙ ap (one_more events) e
+  where
+    next : (k : ℕ) → k + 1 ≡ suc k
+    next k = omega arith
+
+-- ---- at the start
+
+pub said_at_start : (events : List Line) (h : Heap) → said_from events 0 (start (at_rest h)) ≡ []
+unfolding run
+said_at_start events h = go (start (at_rest h)) (start_leaves (at_rest h))
+  where
+    go : (o : Outcome (Unit {0})) → Leaves (at_rest h) o → said_from events 0 o ≡ []
+    go (Go u m log) l = l.1
+    go (Halt c log) l = refl
+    go (Spent log) l = refl
+
+pub rows_at_start : (events : List Line) (steps : ℕ) (o : Outcome (Unit {0})) (need : Need) → IsLogged need (log_of o) → IsLogged need (rows_from events steps 0 o)
+rows_at_start events steps (Go u m log) need h = logged_before need log (rows_after events steps 0 (run events 0 m)) h
+rows_at_start events steps (Halt c log) need h = h
+rows_at_start events steps (Spent log) need h = h
+
+-- ---- at the end
+
+pub rows_at_end : (events : List Line) (steps : ℕ) (end : Step) (m n : Machine) → m.cpu.ran ≡ 0 → run events steps m ≡ Ran end n → rows_after events steps n.cpu.ran (run events n.cpu.ran m) ≡ log_of (park_and_draw n)
+rows_at_end events steps end m n fresh e = ap (rows_after events steps n.cpu.ran) (came_at events steps end m n fresh e).1 ∙ go end e
+  where
+    go : (end : Step) → run events steps m ≡ Ran end n → rows_after events steps n.cpu.ran (Ran end n) ≡ log_of (park_and_draw n)
+    go Next f =
+        let all = runs_count events steps m n f in
+        let same : n.cpu.ran ≡ steps = omega arith in
+        ap (λ k. rows_after events steps k (Ran Next n)) same
+        ∙ ap (λ b. cond b (log_of (cycle events n)) (cond (eqb steps steps) (log_of (park_and_draw n)) [])) (above_by steps steps (omega arith))
+        ∙ ap (λ b. cond b (log_of (park_and_draw n)) []) (same_by steps)
+    go Quit f = ap (λ b. cond b (log_of (park_and_draw n)) []) (same_by n.cpu.ran)
+    go Keep f = ap (λ b. cond b (log_of (park_and_draw n)) []) (same_by n.cpu.ran)
+
+pub said_at_end : (events : List Line) (k : ℕ) (end : Step) (m n : Machine) → m.cpu.ran ≡ 0 → run events k m ≡ Ran end n → said_by (run events n.cpu.ran m) ≡ n.transcript
+said_at_end events k end m n fresh e = ap said_by (came_at events k end m n fresh e).1
