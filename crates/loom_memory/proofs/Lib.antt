@@ -1,0 +1,12 @@
+pub mod CacheLaws
+pub mod NeedLaws
+pub mod RegLaws
+pub mod FullLaws
+pub mod AccessLaws
+pub mod CalmLaws
+pub mod LoadLaws
+pub mod FieldLaws
+pub mod LambdaLaws
+pub mod CallLaws
+pub mod BringLaws
+pub mod ReadLaws

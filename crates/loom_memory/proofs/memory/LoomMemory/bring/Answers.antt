@@ -1,0 +1,50 @@
+use Rattle.std.proofs.Common.{◌≡◌, ℕ, ◌≤◌, Some, None, true, refl, sym, ◌∙◌, ap, subst, arith}
+use Rattle.object_table.specs.declared.entry.Entry.{Entry}
+use Rattle.object_table.specs.Entries.{is_used, place_of}
+use Rattle.core_view.specs.Counts.{outside}
+use Rattle.core_view.proofs.Steps.{outside-used}
+use Rattle.leaf_lambda.specs.declared.parts.Parts.{Parts}
+use Rattle.leaf_lambda.specs.Parts.{core_of}
+use Rattle.loom_memory.specs.Memory.{loom_told}
+use Rattle.loom_memory.proofs.AccessLaws.{quiet-ready}
+use Rattle.purger.proofs.RoomLaws.{some-of, none-of}
+use Rattle.loom_memory.proofs.BringLaws.{ok-after, err-at, quiet-same}
+use Rattle.loom_memory.proofs.memory.LoomMemory.bring.Goals as goal
+
+pub entry-requires-clause-within : goal.entry-requires-clause-within
+unfolding core_of
+entry-requires-clause-within g c = c.requires.sound.kept.parts.core.within c.args.s.0 (outside-used (core_of c.args.self.now.parts) c.args.s.0 c.requires.sound.kept.parts.core c.requires.out)
+
+pub entry-requires-clause-short : goal.entry-requires-clause-short
+entry-requires-clause-short g c = c.requires.sound.kept.parts.core.short c.args.s.0 (outside-used (core_of c.args.self.now.parts) c.args.s.0 c.requires.sound.kept.parts.core c.requires.out)
+
+pub returns-then-is_some-clause-quiet : goal.returns-then-is_some-clause-quiet
+returns-then-is_some-clause-quiet g c = quiet-same g.H.Host c.args.self.now
+
+pub returns-then-is_some-clause-there : goal.returns-then-is_some-clause-there
+unfolding core_of
+returns-then-is_some-clause-there g c = let there = some-of c.place.result c.is_some.result c.is_some.ensures c.if-is_some.true in (there.0, ap (λ (e : Entry). place_of e.state) (sym c.entry.ensures) ∙ sym c.place.ensures ∙ there.1)
+
+pub look-requires-clause-leaf : goal.look-requires-clause-leaf
+unfolding core_of
+look-requires-clause-leaf g c = (outside-used (core_of c.args.self.now.parts) c.args.s.0 c.requires.sound.kept.parts.core c.requires.out, ap (λ (e : Entry). place_of e.state) (sym c.entry.ensures) ∙ sym c.place.ensures ∙ none-of c.place.result c.is_some.result c.is_some.ensures c.if-is_some.false)
+
+pub bring_leaf-requires-clause-ready : goal.bring_leaf-requires-clause-ready
+bring_leaf-requires-clause-ready g c = quiet-ready (loom_told g.H.Host c.args.self.now) (loom_told g.H.Host c.look.new.self) c.in-Ok.ensures.quiet c.requires.ready
+
+pub bring_leaf-requires-clause-out : goal.bring_leaf-requires-clause-out
+bring_leaf-requires-clause-out g c = subst (λ (p : Parts). 1 ≤ outside (core_of p) c.args.s.0) (sym c.in-Ok.ensures.parts) c.requires.out
+
+pub bring_leaf-requires-clause-leaf : goal.bring_leaf-requires-clause-leaf
+unfolding core_of
+bring_leaf-requires-clause-leaf g c = subst (λ (p : Parts). place_of ((core_of p).entries c.args.s.0).state ≡ None) (sym c.in-Ok.ensures.parts) (ap (λ (e : Entry). place_of e.state) (sym c.entry.ensures) ∙ sym c.place.ensures ∙ none-of c.place.result c.is_some.result c.is_some.ensures c.if-is_some.false)
+
+pub returns-in-Ok-clause-quiet : goal.returns-in-Ok-clause-quiet
+returns-in-Ok-clause-quiet g c = ok-after c.bring_leaf.result (loom_told g.H.Host c.args.self.now) (loom_told g.H.Host c.look.new.self) (loom_told g.H.Host c.bring_leaf.new.self) c.in-Ok.ensures.quiet c.bring_leaf.ensures.quiet
+
+pub returns-in-Ok-clause-err : goal.returns-in-Ok-clause-err
+returns-in-Ok-clause-err g c = err-at c.bring_leaf.result (loom_told g.H.Host c.args.self.now) (loom_told g.H.Host c.look.new.self) (loom_told g.H.Host c.bring_leaf.new.self) ((core_of c.args.self.now.parts).entries c.args.s.0).name ((core_of c.look.new.self.parts).entries c.args.s.0).name
+    (ap (λ (p : Parts). ((core_of p).entries c.args.s.0).name) c.in-Ok.ensures.parts) c.in-Ok.ensures.quiet c.bring_leaf.ensures.err
+
+pub returns-in-Err-clause-err : goal.returns-in-Err-clause-err
+returns-in-Err-clause-err g c = λ a of target named silent none. c.in-Err.ensures.err a silent none

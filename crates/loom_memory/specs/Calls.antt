@@ -1,0 +1,31 @@
+-- What a call finds of the object of its register, once it is in the core.
+use Rattle.std.specs.Prelude.{◌≡◌, ℕ, Bool, true, false, Some, IsTrue}
+use Rattle.long_names.specs.Access.{Access, KindOf, Length, Header, Word, Byte, ReadWords, ReadBytes}
+use Rattle.long_names.specs.State.{object_at as object_of_value}
+use Rattle.loom_outside.specs.declared.outside.Host.{Ghosts}
+use Rattle.loom_outside.specs.declared.outside.Role.TheVariants.{Work}
+use Rattle.object_table.specs.Entries.{place_of}
+use Rattle.disk_objects.specs.Function.{disk_of}
+use Rattle.core_view.specs.Held.{object_at}
+use Rattle.leaf_lambda.specs.Parts.{core_of}
+use Rattle.loom_memory.specs.declared.memory.LoomMemory.{LoomMemory}
+use Rattle.loom_memory.specs.Memory.{loom_told}
+
+-- an access that only reads its object, and fills no register
+abbrev pub is_read : Access → Bool
+is_read (KindOf of) = true
+is_read (Length of) = true
+is_read (Header of) = true
+is_read (Word of i) = true
+is_read (Byte of i) = true
+is_read (ReadWords of at count) = true
+is_read (ReadBytes of at count) = true
+is_read _ = false
+
+-- The entry of a register's object has a body, and where the heap is told, what the heap has under the register's name is what that body
+-- means.
+pub record IsLoaded {H : Type 0} (host : Ghosts H) (m : LoomMemory H) (of s : ℕ) : Type 0 where
+  pub at : ℕ
+  pub place : place_of ((core_of m.parts).entries s).state ≡ Some at
+  pub object : IsTrue (host.tells Work) → object_of_value (loom_told host m).heap ((loom_told host m).regs of)
+      ≡ Some (object_at (core_of m.parts) (disk_of host m.disk.host.now m.disk.rest) ((core_of m.parts).entries s) at)

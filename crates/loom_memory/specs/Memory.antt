@@ -1,0 +1,215 @@
+-- What a two-level memory tells, and what it keeps.
+use Rattle.std.specs.Prelude.{◌≡◌, ◌≢◌, ℕ, pos, ◌+◌, ◌<◌, ◌≤◌, ◌==◌, ◌||◌, ◌++◌, Bool, true, false, List, [], ◌∷◌, length, count_by, Option, None, Some, IsTrue, slice_index_or, if◌then◌else◌}
+use Rattle.long_names.specs.declared.value.Value.{Value}
+use Rattle.long_names.specs.declared.value.Value.TheVariants.{Ref}
+use Rattle.object_memory.specs.declared.fault.Need.{Need}
+use Rattle.long_names.specs.declared.object.Object.{Object}
+use Rattle.long_names.specs.Heap.{Heap}
+use Rattle.long_names.specs.Words.{IsValue}
+use Rattle.long_names.specs.Objects.{fields_of, body_words}
+use Rattle.std.specs.List.{slice_get}
+use Rattle.long_names.specs.Access.{Access, Say, Field, SetField, brought, heap_after, target_of}
+use Rattle.long_names.specs.State.{set_register}
+use Rattle.loom_outside.specs.Outside.{RoleState, at_start}
+use Rattle.loom_outside.specs.declared.outside.Role.{Role}
+use Rattle.loom_outside.specs.declared.outside.Role.TheVariants.{Work, Transcript}
+use Rattle.loom_outside.specs.declared.outside.Host.{Ghosts}
+use Rattle.object_memory.specs.Told.{Told, Bounds}
+use Rattle.object_memory.specs.declared.fault.MemFault.{MemFault}
+use Rattle.object_memory.specs.declared.fault.MemFault.TheVariants.{WorkFault, Damaged}
+use Rattle.loom_outside.specs.declared.outside.DiskFault.{DiskFault}
+use Rattle.loom_outside.specs.declared.outside.DiskFault.TheVariants as fault
+use Rattle.object_table.specs.declared.entry.Entry.{Entry}
+use Rattle.object_table.specs.Entries.{is_short, place_of}
+use Rattle.object_table.specs.Table.{entries_of}
+use Rattle.core_segment.specs.Segment.{size_of}
+use Rattle.disk_objects.specs.declared.rest.DiskRest.{DiskRest}
+use Rattle.disk_objects.specs.Calls.{HoldsObjects}
+use Rattle.disk_objects.specs.Disk.{disk_held, disk_room}
+use Rattle.core_view.specs.Core.{Core}
+use Rattle.core_view.specs.Words.{meant}
+use Rattle.core_view.specs.Held.{Disk, held}
+use Rattle.core_view.specs.Counts.{names, outside}
+use Rattle.core_view.specs.Kept.{IsBacked, IsValued}
+use Rattle.leaf_lambda.specs.declared.parts.Parts.{Parts}
+use Rattle.leaf_lambda.specs.Parts.{core_of, IsParts}
+use Rattle.loom_memory.specs.declared.ledger.Ledger.{Ledger}
+use Rattle.purger.specs.declared.room.Pinned.{Pinned}
+use Rattle.loom_memory.specs.declared.memory.LoomMemory.{LoomMemory}
+use Rattle.object_memory.specs.Contract.{SameBounds, Raised, Does, IsLater, Refuses, LeavesCache, no_names, touched_by, makes}
+use Rattle.method_cache.specs.Found.{found}
+use Rattle.purger.specs.declared.eviction.TheConstants.{NOWHERE}
+use Rattle.purger.specs.Marks.{AreHere, LeavesMarks}
+use Rattle.loom_memory.specs.Cache.{cache_of, IsCached}
+use Rattle.core_view.specs.Kept.{IsTight}
+use Rattle.core_view.specs.Room.{in_hand, is_among, over_three, room_for, entries_for}
+use Rattle.disk_objects.specs.Function.{disk_of}
+use Rattle.core_view.specs.Purge.{fresh_of}
+
+-- the word of a register
+abbrev pub word_in : List ℕ → ℕ → ℕ
+word_in regs r = slice_index_or regs r 1
+
+-- the word of a slot
+abbrev pub pin_in : Pinned → ℕ → ℕ
+pin_in pins i = if i == 0 then pins.a else (if i == 1 then pins.b else (if i == 2 then pins.d else 0))
+
+-- the name of a slot's word, 0 for none
+abbrev pub name_if : (ℕ → Entry) → ℕ → Option ℕ
+name_if entries w = if w == 0 then None else Some (entries w).name
+
+-- a heap where it is told, else nothing
+abbrev pub heap_if : Bool → Disk → ℕ → Heap
+heap_if true at next = record { at = at; next = next }
+heap_if false at next = record { at = λ n. None; next = 0 }
+
+-- what is told of a core over a disk
+abbrev pub told_of : {H : Type 0} → Ghosts H → H → DiskRest → Core → List ℕ → Pinned → Ledger → Told
+told_of host now rest c regs pins k = record {
+  tells = host.tells Work;
+  speaks = host.tells Transcript;
+  heap = heap_if (host.tells Work) (held c (disk_of host now rest)) k.next;
+  regs = λ r. meant c.entries [] 0 (word_in regs r);
+  slots = λ i. name_if c.entries (pin_in pins i);
+  transcript = (host.roles now Transcript).put;
+  cache = cache_of c (found k.rows) k.mark k.begun;
+  refusals = k.refusals;
+  last = k.last;
+  bounds = Some (record { core = k.core; entries = k.entries; room = disk_room rest; base = k.base; made = k.made; work_faults = host.faults now Work; said_faults = host.faults now Transcript });
+}
+
+unfoldable pub loom_told : {H : Type 0} → Ghosts H → LoomMemory H → Told
+loom_told host m = told_of host m.disk.host.now m.disk.rest (core_of m.parts) m.regs m.pinned m.ledger
+
+-- a slot's word is 0, or names an entry with a body
+abbrev pub IsPinned : Core → ℕ → Type 0
+IsPinned c w = w ≢ 0 → (is_short w ≡ true) × ((p : ℕ) × (place_of (c.entries w).state ≡ Some p))
+
+-- what is kept, of the parts alone
+pub record IsKept (p : Parts) (regs : List ℕ) (pins : Pinned) (k : Ledger) : Type 0 where
+  pub parts : IsParts p
+  pub tight : IsTight (core_of p)
+  pub size : size_of p.segment ≡ k.core
+  pub entries : entries_of p.names.table ≡ k.entries
+  pub rooted : (t : ℕ) → outside (core_of p) t ≡ count_by (names t) (in_hand regs pins.a pins.b pins.d)
+  pub filled : (r : ℕ) → word_in regs r ≢ 0
+  pub many : length regs ≡ 24
+  pub pinned : (i : ℕ) → IsPinned (core_of p) (pin_in pins i)
+  pub here : AreHere (core_of p)
+  pub cached : IsCached (core_of p) (found k.rows) k.mark
+
+-- and with the disk
+pub record IsOver {H : Type 0} (host : Ghosts H) (now : H) (rest : DiskRest) (c : Core) (k : Ledger) : Type 0 where
+  pub stands : HoldsObjects host now rest
+  pub backed : IsTrue (host.tells Work) → IsBacked c (disk_of host now rest)
+  pub counted : IsTrue (host.tells Work) → disk_held rest + fresh_of c ≡ k.held
+  pub roomy : k.held ≤ disk_room rest
+  pub based : (b : ℕ) → k.base ≡ Some b → k.held ≡ b + k.made
+  pub valued : IsTrue (host.tells Work) → IsValued (held c (disk_of host now rest))
+
+pub record IsSound {H : Type 0} (host : Ghosts H) (m : LoomMemory H) : Type 0 where
+  pub kept : IsKept m.parts m.regs m.pinned m.ledger
+  pub over : IsOver host m.disk.host.now m.disk.rest (core_of m.parts) m.ledger
+
+-- what is outside: the roles that this memory has nothing to do with, and their faults
+pub record Others : Type 0 where
+  pub role : RoleState
+  pub faults : ℕ
+
+abbrev pub others_of : Role → RoleState → ℕ → Others
+others_of Work s n = record { role = at_start; faults = 0 }
+others_of Transcript s n = record { role = at_start; faults = 0 }
+others_of r s n = record { role = s; faults = n }
+
+unfoldable pub loom_outside : {H : Type 0} → Ghosts H → LoomMemory H → Role → Others
+loom_outside host m r = others_of r (host.roles m.disk.host.now r) (host.faults m.disk.host.now r)
+
+-- the name of the loan by which it holds its host
+abbrev pub loom_lender : {H : Type 0} → LoomMemory H → ℕ
+loom_lender m = m.disk.host.ghost_name
+
+-- an entry has a body, and its name
+pub record IsStill (old new : Core) (s : ℕ) : Type 0 where
+  pub at : ℕ
+  pub place : place_of (new.entries s).state ≡ Some at
+  pub name : (new.entries s).name ≡ (old.entries s).name
+
+-- objects came and went, but what registers and slots hold is as it was
+pub record IsCalm (pins : Pinned) (old new : Core) : Type 0 where
+  pub bound : new.bound ≡ old.bound
+  pub same_outside : (t : ℕ) → outside new t ≡ outside old t
+  pub live : (t : ℕ) → 1 ≤ outside old t → (new.entries t).name ≡ (old.entries t).name
+  pub pinned : (t p : ℕ) → is_among pins.a pins.b pins.d t ≡ true → place_of (old.entries t).state ≡ Some p → IsStill old new t
+  pub marks : LeavesMarks old new
+  pub here : AreHere old → AreHere new
+
+-- nothing of what is told changed but how often calls failed, and that all marks and rows may be gone
+pub record IsQuiet (old new : Told) : Type 0 where
+  pub same : new ≡ (record old { bounds = new.bounds; cache = new.cache })
+  pub cache : LeavesCache no_names None old.cache old.cache new.cache
+  pub bounds : SameBounds old.bounds new.bounds
+  pub counts : Raised 0 old.bounds new.bounds
+
+-- the words that the objects of the slots take beside one that isn't there
+abbrev pub words_beside : Core → Pinned → ℕ
+words_beside c pins = over_three (room_for c) pins.a pins.b pins.d
+
+abbrev pub entries_beside : Core → Pinned → ℕ
+entries_beside c pins = over_three (entries_for c) pins.a pins.b pins.d
+
+-- an access that says nothing
+abbrev pub IsSilent : Access → Type 0
+IsSilent (Say of) = ⊥
+IsSilent a = Unit {0}
+
+-- field i of the object of a register came into another
+pub record IsTaken (t u : Told) (to of i : ℕ) : Type 0 where
+  pub value : Value
+  pub same : u ≡ (record t { bounds = u.bounds; cache = u.cache; regs = set_register t.regs to value })
+  pub cache : LeavesCache no_names None t.cache t.cache u.cache
+  pub bounds : SameBounds t.bounds u.bounds
+  pub counts : Raised 0 t.bounds u.bounds
+  pub brings : IsTrue t.tells → brought t.heap t.regs (Field to of i) ≡ Some value
+
+-- a call was refused, for whatever it says of this access
+abbrev pub IsRefused : Told → Told → Access → MemFault → Type 0
+IsRefused t u a f = IsLater t u × Refuses t u (Does a) f
+
+-- a field was stored
+pub record IsStoredIn (t u : Told) (of i from : ℕ) : Type 0 where
+  pub heap : Heap
+  pub same : u ≡ (record t { heap = heap; cache = u.cache })
+  pub cache : LeavesCache (touched_by t.regs (SetField of i from)) None t.cache t.cache u.cache
+  pub stored : IsTrue t.tells → heap ≡ heap_after t.heap t.regs (SetField of i from)
+
+-- a fault of the disk as a refusal
+abbrev pub IsRefusalOf : DiskFault → MemFault → Type 0
+IsRefusalOf (fault.Work count) r = r ≡ WorkFault count
+IsRefusalOf (fault.Full held room) r = r ≡ Damaged NOWHERE 0
+IsRefusalOf (fault.Damaged place about) r = r ≡ Damaged place about
+
+-- ---- what the object of a call needs
+
+-- the words of the row of an object of so many words, whose entry is s
+abbrev pub words_in_row : Core → Pinned → ℕ → ℕ → ℕ
+words_in_row c pins s words =
+    words
+    + (if pins.a == s then 0 else room_for c pins.a)
+    + (if (pins.b == s) || (pins.b == pins.a) then 0 else room_for c pins.b)
+    + (if (pins.d == s) || ((pins.d == pins.a) || (pins.d == pins.b)) then 0 else room_for c pins.d)
+
+-- the need of its row
+pub record IsNeed (c : Core) (pins : Pinned) (s words : ℕ) (need : Need) : Type 0 where
+  pub object : need.object ≡ (c.entries s).name
+  pub all : need.words ≡ words_in_row c pins s words
+  pub entries : need.entries ≡ 51 + over_three (entries_for c) pins.a pins.b pins.d
+
+-- an object of so many words was read, which is that of the disk where it is told
+pub record IsSized (told : Bool) (x : Option Object) (words : ℕ) : Type 0 where
+  pub object : Object
+  pub sized : 4 + body_words object.body ≡ words
+  pub there : IsTrue told → x ≡ Some object
+
+-- a call was refused, for every silent access whose register has this name
+abbrev pub IsRefusedAt : Told → Told → ℕ → MemFault → Type 0
+IsRefusedAt t u n f = (a : Access) (of : ℕ) → target_of a ≡ Some of → t.regs of ≡ Ref n → IsSilent a → makes a ≡ 0 → IsRefused t u a f

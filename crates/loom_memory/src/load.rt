@@ -1,0 +1,353 @@
+// The object of a register comes into the core, or the call is refused.
+ghost use Rattle.std.specs.Prelude.{◌≡◌, ◌≢◌, ◌+◌, ◌≤◌, ◌<◌, ◌^◌, ◌||◌, if◌then◌else◌, ℕ, Some, None, true, false, IsTrue, OnOk, IfOk, IfErr, length};
+ghost use Rattle.long_names.specs.declared.object.Object.{Object as Item};
+ghost use Rattle.long_names.specs.Objects.{body_words};
+ghost use Rattle.object_table.specs.Entries.{is_short, is_used, place_of};
+ghost use Rattle.object_table.specs.Table.{entry_at, entries_of, bound_of, free_of};
+ghost use Rattle.core_segment.specs.Segment.{largest_of, size_of, free_of as words_free};
+ghost use Rattle.core_view.specs.Words.{pointers};
+ghost use Rattle.core_view.specs.Counts.{outside};
+ghost use Rattle.leaf_lambda.specs.Parts.{core_of, spare_of, IsParts};
+ghost use Rattle.object_table.specs.Entries.{sum_below, used_by};
+ghost use Rattle.core_view.specs.Room.{over_three, room_for, entries_for};
+
+use crate::bring::{bring_in, refusal_of};
+use crate::memory::LoomMemory;
+use core_segment::Addr;
+use core_segment::laws::chunks_never_overlap;
+use leaf_lambda::Parts;
+use leaf_lambda::bodies::words_of;
+use leaf_lambda::leaving::{body_total, field_total};
+use loom_outside::{Host, Role};
+use object_memory::{MemFault, Need, Reg};
+use object_table::Short;
+use object_table::laws::entries_are_counted;
+use purger::eviction::fetch;
+use purger::{NOWHERE, RoomFault};
+
+// The words that an entry's body takes, 0 where it has none.
+fn room_of(p: &Parts, s: Short) -> u32
+    requires parts { IsParts p.now }
+    requires used { is_used ((core_of p.now).entries s.0).state ≡ true }
+    ensures words { result ≡ room_for (core_of p.now) s.0 }
+    ensures small { result < 2 ^ 18 }
+{
+    match p.names.table.entry(s).place() {
+        None => 0,
+        Some(place) => 4 + body_total(p, s, Addr { place }),
+    }
+}
+
+// The entries that an entry's body needs, 0 where it has none.
+fn leaves_of(p: &Parts, s: Short) -> u32
+    requires parts { IsParts p.now }
+    requires used { is_used ((core_of p.now).entries s.0).state ≡ true }
+    ensures leaves { result ≡ entries_for (core_of p.now) s.0 }
+    ensures small { result < 2 ^ 18 }
+{
+    match p.names.table.entry(s).place() {
+        None => 0,
+        Some(place) => {
+            let _words = body_total(p, s, Addr { place });
+            2 + field_total(p, s, Addr { place })
+        }
+    }
+}
+
+// The same of the word of a slot.
+fn room_of_word(p: &Parts, w: u16) -> u32
+    requires parts { IsParts p.now }
+    requires used { w ≢ 0 → is_used ((core_of p.now).entries w).state ≡ true }
+    ensures words { result ≡ room_for (core_of p.now) w }
+    ensures small { result < 2 ^ 18 }
+{
+    if w == 0 {
+        return 0;
+    }
+    room_of(p, Short(w))
+}
+
+fn leaves_of_word(p: &Parts, w: u16) -> u32
+    requires parts { IsParts p.now }
+    requires used { w ≢ 0 → is_used ((core_of p.now).entries w).state ≡ true }
+    ensures leaves { result ≡ entries_for (core_of p.now) w }
+    ensures small { result < 2 ^ 18 }
+{
+    if w == 0 {
+        return 0;
+    }
+    leaves_of(p, Short(w))
+}
+
+fn either(x: bool, y: bool) -> bool
+    ensures { result ≡ x || y }
+{
+    x || y
+}
+
+// A number, or 0.
+fn unless(skip: bool, n: u32) -> u32
+    ensures is { result ≡ (if skip then 0 else n) }
+    ensures most { result ≤ n }
+{
+    if skip { 0 } else { n }
+}
+
+impl<'h, H: Host> LoomMemory<'h, H> {
+    ghost use Rattle.long_names.specs.Heap.{Has};
+    ghost use Rattle.long_names.specs.Access.{Access, target_of};
+    ghost use Rattle.object_memory.specs.Told.{IsReady};
+    ghost use Rattle.long_names.specs.Need.{Fits, words_at};
+    ghost use Rattle.object_memory.specs.declared.fault.Need.{Need as Wanted};
+    ghost use Rattle.long_names.specs.State.{IsRef};
+    ghost use Rattle.object_memory.specs.Contract.{Does, HasCore, IfBounds, IsLater, KeepsSound, LeavesAll, Refuses, makes};
+    ghost use Rattle.loom_memory.specs.Calls.{IsLoaded};
+    ghost use Rattle.disk_objects.specs.Function.{disk_of};
+    ghost use Rattle.purger.specs.Purge.{IsShort};
+    ghost use Rattle.loom_memory.specs.Memory.{loom_told, loom_outside, word_in, words_in_row, IsNeed, IsSized, IsSound, IsQuiet, IsCalm, IsSilent, IsRefused, IsRefusedAt};
+
+    // The object of a leaf comes in, whose words have room in one chunk.
+    pub(crate) fn come(&mut self, s: Short, words: u32) -> Result<(), MemFault>
+        requires sound { IsSound H.Host self.old }
+        requires ready { IsReady (loom_told H.Host self.old) }
+        requires leaf { (is_used ((core_of self.old.parts).entries s.0).state ≡ true) × (place_of ((core_of self.old.parts).entries s.0).state ≡ None) }
+        requires room { words ≤ largest_of self.old.parts.segment }
+        requires spare { 27 ≤ spare_of self.old.parts }
+        requires held { IsTrue (H.tells Role.Work) → (o : Item) × (disk_of H.Host self.old.disk.host.now self.old.disk.rest ((core_of self.old.parts).entries s.0).name ≡ Some o) × (4 + body_words o.body ≤ words) }
+        ensures quiet { OnOk result (IsQuiet (loom_told H.Host self.old) (loom_told H.Host self.new)) }
+        ensures sound { KeepsSound result (IsSound H.Host self.new) }
+        ensures regs { OnOk result (self.new.regs ≡ self.old.regs) }
+        ensures there { OnOk result ((at : ℕ) × (place_of ((core_of self.new.parts).entries s.0).state ≡ Some at)) }
+        ensures spare { OnOk result (26 ≤ spare_of self.new.parts) }
+        ensures err { IfErr result (λ f. (a : Access) → IsSilent a → makes a ≡ 0 → IsRefused (loom_told H.Host self.old) (loom_told H.Host self.new) a f) }
+        ensures lender { self.new.disk.host.ghost_name ≡ self.old.disk.host.ghost_name }
+        ensures outside { loom_outside H.Host self.new ≡ loom_outside H.Host self.old }
+    {
+        match bring_in(&mut self.parts, &mut self.disk, &mut self.buf, s, words) {
+            Ok(()) => Ok(()),
+            Err(f) => {
+                let f = refusal_of(f);
+                Err(self.refuse(f))
+            }
+        }
+    }
+
+    // The words that the object of a leaf takes, from its record, which stays in the buffer.
+    fn look(&mut self, s: Short) -> Result<u32, MemFault>
+        requires sound { IsSound H.Host self.old }
+        requires ready { IsReady (loom_told H.Host self.old) }
+        requires leaf { (is_used ((core_of self.old.parts).entries s.0).state ≡ true) × (place_of ((core_of self.old.parts).entries s.0).state ≡ None) }
+        requires has { IsTrue (H.tells Role.Work) → Has (loom_told H.Host self.old).heap ((core_of self.old.parts).entries s.0).name }
+        ensures quiet { OnOk result (IsQuiet (loom_told H.Host self.old) (loom_told H.Host self.new)) }
+        ensures sound { KeepsSound result (IsSound H.Host self.new) }
+        ensures parts { OnOk result (self.new.parts ≡ self.old.parts) }
+        ensures regs { OnOk result (self.new.regs ≡ self.old.regs) }
+        ensures pins { OnOk result (self.new.pinned ≡ self.old.pinned) }
+        ensures sized { IfOk result (λ words. IsSized (H.tells Role.Work) (disk_of H.Host self.new.disk.host.now self.new.disk.rest ((core_of self.new.parts).entries s.0).name) words) }
+        ensures small { IfOk result (λ words. words < 2 ^ 18) }
+        ensures err { IfErr result (λ f. (a : Access) → IsSilent a → makes a ≡ 0 → IsRefused (loom_told H.Host self.old) (loom_told H.Host self.new) a f) }
+        ensures lender { self.new.disk.host.ghost_name ≡ self.old.disk.host.ghost_name }
+        ensures outside { loom_outside H.Host self.new ≡ loom_outside H.Host self.old }
+    {
+        let name = self.parts.names.table.entry(s).name;
+        match fetch(&mut self.disk, name, &mut self.buf) {
+            Ok(held) => {
+                if held {
+                    return Ok(words_of(&self.buf) + 4);
+                }
+                Err(self.refuse(MemFault::Damaged {
+                    place: NOWHERE,
+                    name: name.get(),
+                }))
+            }
+            Err(f) => {
+                let f = refusal_of(f);
+                Err(self.refuse(f))
+            }
+        }
+    }
+
+    // `room`, whose want is no refusal.
+    pub(crate) fn clear(&mut self, words: u32) -> Result<bool, MemFault>
+        requires sound { IsSound H.Host self.old }
+        requires ready { IsReady (loom_told H.Host self.old) }
+        ensures quiet { OnOk result (IsQuiet (loom_told H.Host self.old) (loom_told H.Host self.new)) }
+        ensures sound { KeepsSound result (IsSound H.Host self.new) }
+        ensures calm { OnOk result (IsCalm self.old.pinned (core_of self.old.parts) (core_of self.new.parts)) }
+        ensures leaves { OnOk result ((t : ℕ) → place_of ((core_of self.old.parts).entries t).state ≡ None → place_of ((core_of self.new.parts).entries t).state ≡ None) }
+        ensures regs { OnOk result (self.new.regs ≡ self.old.regs) }
+        ensures pins { OnOk result (self.new.pinned ≡ self.old.pinned) }
+        ensures room { IfOk result (λ enough. IsTrue enough → (words ≤ largest_of self.new.parts.segment) × (27 ≤ spare_of self.new.parts)) }
+        ensures short { IfOk result (λ enough. enough ≡ false → IsShort self.new.parts self.new.pinned.a self.new.pinned.b self.new.pinned.d words 27) }
+        ensures err { IfErr result (λ f. (a : Access) → IsSilent a → makes a ≡ 0 → IsRefused (loom_told H.Host self.old) (loom_told H.Host self.new) a f) }
+        ensures lender { self.new.disk.host.ghost_name ≡ self.old.disk.host.ghost_name }
+        ensures outside { loom_outside H.Host self.new ≡ loom_outside H.Host self.old }
+    {
+        match self.room(words) {
+            Ok(()) => Ok(true),
+            Err(f) => match f {
+                RoomFault::Short => Ok(false),
+                RoomFault::Disk(f) => {
+                    let f = refusal_of(f);
+                    Err(self.refuse(f))
+                }
+            },
+        }
+    }
+
+    // The need of an access to an object of so many words.
+    fn need(&self, s: Short, words: u32) -> Need
+        requires sound { IsSound H.Host self.now }
+        requires used { is_used ((core_of self.now.parts).entries s.0).state ≡ true }
+        requires small { words < 2 ^ 18 }
+        ensures { IsNeed (core_of self.now.parts) self.now.pinned s.0 words result }
+    {
+        let p = &self.parts;
+        let a = self.pinned.a;
+        let b = self.pinned.b;
+        let d = self.pinned.d;
+        let first = unless(a == s.0, room_of_word(p, a));
+        let second = unless(either(b == s.0, b == a), room_of_word(p, b));
+        let third = unless(either(d == s.0, either(d == a, d == b)), room_of_word(p, d));
+        let one = leaves_of_word(p, a);
+        let two = unless(b == a, leaves_of_word(p, b));
+        let three = unless(either(d == a, d == b), leaves_of_word(p, d));
+        Need {
+            object: p.names.table.entry(s).name.get(),
+            words: words + first + second + third,
+            entries: 51 + (one + two + three),
+        }
+    }
+
+    // Refuses for want of room.
+    fn full(&mut self, s: Short, words: u32) -> MemFault
+        requires sound { IsSound H.Host self.old }
+        requires ready { IsReady (loom_told H.Host self.old) }
+        requires used { is_used ((core_of self.old.parts).entries s.0).state ≡ true }
+        requires small { words < 2 ^ 18 }
+        requires sized { IsTrue (H.tells Role.Work) → words_at (loom_told H.Host self.old).heap ((core_of self.old.parts).entries s.0).name ≡ words }
+        requires unfit { (need : Wanted) → IsNeed (core_of self.old.parts) self.old.pinned s.0 words need → Fits self.old.ledger.core self.old.ledger.entries need.words need.entries → ⊥ }
+        ensures sound { IsSound H.Host self.new }
+        ensures err { IsRefusedAt (loom_told H.Host self.old) (loom_told H.Host self.new) ((core_of self.old.parts).entries s.0).name result }
+        ensures lender { self.new.disk.host.ghost_name ≡ self.old.disk.host.ghost_name }
+        ensures outside { loom_outside H.Host self.new ≡ loom_outside H.Host self.old }
+    {
+        let need = self.need(s, words);
+        self.refuse(MemFault::CoreFull(need))
+    }
+
+    // Refuses for want of entries. Where the object is a leaf, its record tells how many words it takes.
+    pub(crate) fn want(&mut self, s: Short) -> MemFault
+        requires sound { IsSound H.Host self.old }
+        requires ready { IsReady (loom_told H.Host self.old) }
+        requires used { is_used ((core_of self.old.parts).entries s.0).state ≡ true }
+        requires has { IsTrue (H.tells Role.Work) → Has (loom_told H.Host self.old).heap ((core_of self.old.parts).entries s.0).name }
+        requires short { IsShort self.old.parts self.old.pinned.a self.old.pinned.b self.old.pinned.d 0 27 }
+        ensures sound { LeavesAll result (IsSound H.Host self.new) }
+        ensures err { IsRefusedAt (loom_told H.Host self.old) (loom_told H.Host self.new) ((core_of self.old.parts).entries s.0).name result }
+        ensures lender { self.new.disk.host.ghost_name ≡ self.old.disk.host.ghost_name }
+        ensures outside { loom_outside H.Host self.new ≡ loom_outside H.Host self.old }
+    {
+        entries_are_counted(&self.parts.names.table);
+        if self.parts.names.table.entry(s).place().is_some() {
+            let words = room_of(&self.parts, s);
+            return self.full(s, words);
+        }
+        match self.look(s) {
+            Ok(words) => self.full(s, words),
+            Err(f) => f,
+        }
+    }
+
+    // The object of a leaf comes in, whose record was read and has so many words.
+    fn bring_leaf(&mut self, s: Short, words: u32) -> Result<(), MemFault>
+        requires sound { IsSound H.Host self.old }
+        requires ready { IsReady (loom_told H.Host self.old) }
+        requires out { 1 ≤ outside (core_of self.old.parts) s.0 }
+        requires leaf { place_of ((core_of self.old.parts).entries s.0).state ≡ None }
+        requires sized { IsSized (H.tells Role.Work) (disk_of H.Host self.old.disk.host.now self.old.disk.rest ((core_of self.old.parts).entries s.0).name) words }
+        requires small { words < 2 ^ 18 }
+        ensures quiet { OnOk result (IsQuiet (loom_told H.Host self.old) (loom_told H.Host self.new)) }
+        ensures sound { KeepsSound result (IsSound H.Host self.new) }
+        ensures regs { OnOk result (self.new.regs ≡ self.old.regs) }
+        ensures there { OnOk result ((at : ℕ) × (place_of ((core_of self.new.parts).entries s.0).state ≡ Some at)) }
+        ensures spare { OnOk result (26 ≤ spare_of self.new.parts) }
+        ensures err { IfErr result (IsRefusedAt (loom_told H.Host self.old) (loom_told H.Host self.new) ((core_of self.old.parts).entries s.0).name) }
+        ensures lender { self.new.disk.host.ghost_name ≡ self.old.disk.host.ghost_name }
+        ensures outside { loom_outside H.Host self.new ≡ loom_outside H.Host self.old }
+    {
+        if words > self.ledger.core {
+            return Err(self.full(s, words));
+        }
+        match self.clear(words) {
+            Ok(enough) => {
+                if enough {
+                    return self.come(s, words);
+                }
+                entries_are_counted(&self.parts.names.table);
+                chunks_never_overlap(&self.parts.segment);
+                Err(self.full(s, words))
+            }
+            Err(f) => Err(f),
+        }
+    }
+
+    // Brings the object of an entry in, where 27 entries are free. A body stays as it is.
+    pub(crate) fn bring(&mut self, s: Short) -> Result<(), MemFault>
+        requires sound { IsSound H.Host self.old }
+        requires ready { IsReady (loom_told H.Host self.old) }
+        requires out { 1 ≤ outside (core_of self.old.parts) s.0 }
+        requires has { IsTrue (H.tells Role.Work) → Has (loom_told H.Host self.old).heap ((core_of self.old.parts).entries s.0).name }
+        requires spare { 27 ≤ spare_of self.old.parts }
+        ensures quiet { OnOk result (IsQuiet (loom_told H.Host self.old) (loom_told H.Host self.new)) }
+        ensures sound { KeepsSound result (IsSound H.Host self.new) }
+        ensures regs { OnOk result (self.new.regs ≡ self.old.regs) }
+        ensures there { OnOk result ((at : ℕ) × (place_of ((core_of self.new.parts).entries s.0).state ≡ Some at)) }
+        ensures spare { OnOk result (26 ≤ spare_of self.new.parts) }
+        ensures err { IfErr result (IsRefusedAt (loom_told H.Host self.old) (loom_told H.Host self.new) ((core_of self.old.parts).entries s.0).name) }
+        ensures lender { self.new.disk.host.ghost_name ≡ self.old.disk.host.ghost_name }
+        ensures outside { loom_outside H.Host self.new ≡ loom_outside H.Host self.old }
+    {
+        if self.parts.names.table.entry(s).place().is_some() {
+            return Ok(());
+        }
+        match self.look(s) {
+            Ok(words) => self.bring_leaf(s, words),
+            Err(f) => Err(f),
+        }
+    }
+
+    // Brings the object of a register into the core, and leaves 26 entries free.
+    pub(crate) fn load(&mut self, of: Reg) -> Result<Short, MemFault>
+        requires sound { IsSound H.Host self.old }
+        requires ready { IsReady (loom_told H.Host self.old) }
+        requires name { IsRef ((loom_told H.Host self.old).regs of) }
+        ensures quiet { OnOk result (IsQuiet (loom_told H.Host self.old) (loom_told H.Host self.new)) }
+        ensures sound { KeepsSound result (IsSound H.Host self.new) }
+        ensures word { IfOk result (λ s. s.0 ≡ word_in self.new.regs of) }
+        ensures loaded { IfOk result (λ s. IsLoaded H.Host self.new of s.0) }
+        ensures core { OnOk result ((a : Access) → target_of a ≡ Some of → makes a ≡ 0 → IfBounds (loom_told H.Host self.old).bounds (HasCore (loom_told H.Host self.old) a)) }
+        ensures spare { OnOk result (26 ≤ spare_of self.new.parts) }
+        ensures err { IfErr result (λ f. (a : Access) → target_of a ≡ Some of → makes a ≡ 0 → IsSilent a → IsLater (loom_told H.Host self.old) (loom_told H.Host self.new) × Refuses (loom_told H.Host self.old) (loom_told H.Host self.new) (Does a) f) }
+        ensures lender { self.new.disk.host.ghost_name ≡ self.old.disk.host.ghost_name }
+        ensures outside { loom_outside H.Host self.new ≡ loom_outside H.Host self.old }
+    {
+        let s = Short(self.regs[of.index()]);
+        match self.clear(0) {
+            Ok(enough) => {
+                if enough {
+                    return match self.bring(s) {
+                        Ok(()) => {
+                            // no body is larger than the core
+                            chunks_never_overlap(&self.parts.segment);
+                            Ok(s)
+                        }
+                        Err(f) => Err(f),
+                    };
+                }
+                Err(self.want(s))
+            }
+            Err(f) => Err(f),
+        }
+    }
+}

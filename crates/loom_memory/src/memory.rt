@@ -1,0 +1,106 @@
+// The memory of two levels.
+ghost use Rattle.std.specs.Prelude.{◌≡◌, ◌≢◌, ◌+◌, ◌%◌, ◌≤◌, ◌<◌, ℕ, Some, None, [], true, false, IsTrue, IfOk, IfErr, OnOk, IsOk};
+ghost use Rattle.long_names.specs.Words.{IsSmallInteger};
+ghost use Rattle.long_names.specs.State.{set_register};
+ghost use Rattle.object_table.specs.Entries.{is_short, is_used, place_of};
+ghost use Rattle.core_view.specs.Words.{meant, int_of_short};
+ghost use Rattle.core_segment.specs.Segment.{largest_of};
+ghost use Rattle.loom_outside.specs.Work.{IsWorkOnly};
+ghost use Rattle.disk_objects.specs.Disk.{disk_room};
+ghost use Rattle.leaf_lambda.specs.Parts.{core_of, spare_of};
+
+use crate::ledger::Ledger;
+use disk_objects::DiskObjects;
+use leaf_lambda::Parts;
+use leaf_lambda::fields::{drop_word, hold_word};
+use loom_outside::Host;
+use object_memory::{MemFault, Reg};
+use object_record::RecordBuf;
+use object_table::Short;
+use purger::{Pinned, RoomFault, make_room};
+
+/// Objects on a disk, and a core of those that are at hand. Registers and slots hold short words.
+#[derive(Drop)]
+pub struct LoomMemory<'h, H: Host> {
+    pub(crate) disk: DiskObjects<'h, H>,
+    pub(crate) parts: Parts,
+    // The record of the object of a call, and that of one that leaves.
+    pub(crate) buf: RecordBuf,
+    pub(crate) out: RecordBuf,
+    pub(crate) regs: [u16; 24],
+    pub(crate) pinned: Pinned,
+    pub(crate) ledger: Ledger,
+}
+
+impl<'h, H: Host> LoomMemory<'h, H> {
+    ghost use Rattle.loom_memory.specs.Memory.{loom_told, loom_outside, IsSound};
+
+    // Puts a word that is no lambda into a register.
+    pub(crate) fn put_word(&mut self, to: Reg, w: u16)
+        requires sound { IsSound H.Host self.old }
+        requires used { is_short w ≡ true → is_used ((core_of self.old.parts).entries w).state ≡ true }
+        requires some { w ≢ 0 }
+        ensures told { loom_told H.Host self.new ≡ record (loom_told H.Host self.old) { regs = set_register (loom_told H.Host self.old).regs to (meant (core_of self.old.parts).entries [] 0 w) } }
+        ensures sound { IsSound H.Host self.new }
+        ensures disk { self.new.disk.rest ≡ self.old.disk.rest }
+        ensures lender { self.new.disk.host.ghost_name ≡ self.old.disk.host.ghost_name }
+        ensures outside { loom_outside H.Host self.new ≡ loom_outside H.Host self.old }
+    {
+        hold_word(&mut self.parts, w);
+        let old = self.regs[to.index()];
+        self.regs[to.index()] = w;
+        drop_word(&mut self.parts, old);
+    }
+}
+
+impl<'h, H: Host> LoomMemory<'h, H> {
+    ghost use Rattle.purger.specs.Purge.{OnShort, OnDisk, Undisturbed, IsShort, IsPurgeFault};
+    ghost use Rattle.long_names.specs.State.{IsRef};
+    ghost use Rattle.long_names.specs.Counting.{counted};
+    ghost use Rattle.long_names.specs.Access.{Access, target_of};
+    ghost use Rattle.object_memory.specs.Told.{IsReady};
+    ghost use Rattle.object_memory.specs.Plain.{refused};
+    ghost use Rattle.object_memory.specs.Contract.{Does, IsLater, KeepsSound, Refuses, makes};
+    ghost use Rattle.loom_memory.specs.Memory.{loom_told, loom_outside, word_in, IsSound, IsQuiet, IsCalm, IsSilent};
+
+    // Makes room for so many words, and for 27 entries, beside the objects of the slots.
+    pub(crate) fn room(&mut self, words: u32) -> Result<(), RoomFault>
+        requires sound { IsSound H.Host self.old }
+        ensures quiet { Undisturbed result (IsQuiet (loom_told H.Host self.old) (loom_told H.Host self.new)) }
+        ensures sound { Undisturbed result (IsSound H.Host self.new) }
+        ensures calm { IsCalm self.old.pinned (core_of self.old.parts) (core_of self.new.parts) }
+        ensures regs { self.new.regs ≡ self.old.regs }
+        ensures pins { self.new.pinned ≡ self.old.pinned }
+        ensures ledger { self.new.ledger ≡ self.old.ledger }
+        ensures room { OnOk result ((words ≤ largest_of self.new.parts.segment) × (27 ≤ spare_of self.new.parts)) }
+        ensures short { IfErr result (λ f. OnShort f (IsShort self.new.parts self.old.pinned.a self.old.pinned.b self.old.pinned.d words 27)) }
+        ensures fault { IfErr result (λ f. OnDisk f (IsPurgeFault H.Host self.old.disk.host.now self.new.disk.host.now)) }
+        ensures leaves { (t : ℕ) → place_of ((core_of self.old.parts).entries t).state ≡ None → place_of ((core_of self.new.parts).entries t).state ≡ None }
+        ensures work { IsWorkOnly H.Host self.old.disk.host.now self.new.disk.host.now }
+        ensures limit { disk_room self.new.disk.rest ≡ disk_room self.old.disk.rest }
+        ensures lender { self.new.disk.host.ghost_name ≡ self.old.disk.host.ghost_name }
+        ensures outside { loom_outside H.Host self.new ≡ loom_outside H.Host self.old }
+    {
+        make_room(
+            &mut self.parts,
+            &mut self.disk,
+            &mut self.out,
+            words,
+            27,
+            &self.pinned,
+        )
+    }
+
+    // Counts a refusal.
+    pub(crate) fn refuse(&mut self, f: MemFault) -> MemFault
+        ensures result { result ≡ f }
+        ensures told { loom_told H.Host self.new ≡ refused (loom_told H.Host self.old) f }
+        ensures sound { IsSound H.Host self.old → IsSound H.Host self.new }
+        ensures later { (loom_told H.Host self.old).refusals ≤ counted (loom_told H.Host self.old).refusals }
+        ensures lender { self.new.disk.host.ghost_name ≡ self.old.disk.host.ghost_name }
+        ensures outside { loom_outside H.Host self.new ≡ loom_outside H.Host self.old }
+    {
+        self.ledger.refuse(f);
+        f
+    }
+}

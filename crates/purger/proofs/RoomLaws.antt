@@ -1,0 +1,101 @@
+-- What making room puts together.
+use Rattle.std.proofs.Common.{◌≡◌, ◌≢◌, ℕ, ◌+◌, ◌*◌, ◌<◌, ◌≤◌, IsTrue, Result, Ok, Err, Bool, true, false, refl, sym, ◌∙◌, ap, subst, arith, Option, Some, None, is_some, ⊎_elim}
+use Rattle.std.proofs.lemmas.Bool.{cases_eq}
+use Rattle.std.proofs.lemmas.Grind.{common_steps}
+use Rattle.std.specs.Result.{IfErr}
+use Rattle.loom_outside.specs.declared.outside.DiskFault.{DiskFault}
+use Rattle.loom_outside.specs.declared.outside.DiskFault.TheVariants as fault
+use Rattle.loom_outside.specs.declared.outside.Host.{Ghosts}
+use Rattle.loom_outside.specs.declared.outside.Role.TheVariants.{Work}
+use Rattle.loom_outside.specs.Outside.{RoleState, holds}
+use Rattle.loom_outside.specs.Work.{IsWorkOnly}
+use Rattle.object_table.specs.declared.entry.Entry.{Entry}
+use Rattle.object_table.specs.Entries.{is_used, place_of}
+use Rattle.object_table.specs.Table.{entries_of}
+use Rattle.disk_objects.specs.declared.rest.DiskRest.{DiskRest}
+use Rattle.disk_objects.specs.Disk.{disk_held, disk_room}
+use Rattle.core_view.specs.Core.{Core}
+use Rattle.core_view.specs.Held.{Disk}
+use Rattle.core_view.specs.Kept.{IsCore, IsBacked, KeepsOver}
+use Rattle.core_view.specs.Purge.{IsPurged, IsFreed, fresh_of}
+use Rattle.core_view.specs.Room.{is_among}
+use Rattle.core_view.proofs.Purge.{fresh-least}
+use Rattle.leaf_lambda.specs.declared.parts.Parts.{Parts}
+use Rattle.leaf_lambda.specs.Parts.{core_of}
+use Rattle.purger.proofs.MarkLaws.{odd-short, low-short}
+use Rattle.purger.specs.Purge.{IsEvictFault, IsPurgeFault, KeepsBodies}
+
+pub over-refl : (c : Core) (disk : Disk) → IsBacked c disk → KeepsOver c disk c disk
+over-refl c disk backed = record { backed = backed; held = refl }
+
+purge-fault : {H : Type 0} (host : Ghosts H) (old new : H) (rest : DiskRest) (c : Core) (s p : ℕ) (f : DiskFault) → IsCore c → place_of (c.entries s).state ≡ Some p → (IsTrue (host.tells Work) → disk_held rest + fresh_of c ≤ disk_room rest)
+    → IsEvictFault host old new rest (c.entries s).flags.fresh f → IsPurgeFault host old new f
+purge-fault {H} host old new rest c s p (fault.Work count) core at counted cause = cause
+purge-fault {H} host old new rest c s p (fault.Full held room) core at counted cause = λ told.
+    let some = fresh-least c s p core at (cause.1 told) in
+    let most = counted told in
+    let full = cause.0 in
+    absurd (omega arith)
+purge-fault {H} host old new rest c s p (fault.Damaged place about) core at counted cause = cause
+
+pub purge-fault-if : {T H : Type 0} (host : Ghosts H) (r : Result T DiskFault) (old new : H) (rest : DiskRest) (c : Core) (s p : ℕ) → IsCore c → place_of (c.entries s).state ≡ Some p → (IsTrue (host.tells Work) → disk_held rest + fresh_of c ≤ disk_room rest)
+    → IfErr r (IsEvictFault host old new rest (c.entries s).flags.fresh) → IfErr r (IsPurgeFault host old new)
+purge-fault-if {T} {H} host (Ok x) old new rest c s p core at counted cause = tt
+purge-fault-if {T} {H} host (Err f) old new rest c s p core at counted cause = purge-fault host old new rest c s p f core at counted cause
+
+-- ---- tests
+
+pub off-on : (e f : Entry) (b : Bool) → e ≡ f → b ≡ is_used e.state → b ≡ false → is_used f.state ≡ true → ⊥
+off-on e f b same is no_ on = let both : true ≡ false = sym on ∙ ap (λ (x : Entry). is_used x.state) (sym same) ∙ sym is ∙ no_ in cc
+
+pub some-none : (o : Option ℕ) (b : Bool) → b ≡ is_some o → b ≡ true → o ≡ None → ⊥
+some-none o b is yes_ none = let both : true ≡ false = sym yes_ ∙ is ∙ ap is_some none in cc
+
+pub none-of : (o : Option ℕ) (b : Bool) → b ≡ is_some o → b ≡ false → o ≡ None
+none-of None b is no_ = refl
+none-of (Some p) b is no_ = let both : true ≡ false = sym is ∙ no_ in absurd (cc)
+
+pub some-of : (o : Option ℕ) (b : Bool) → b ≡ is_some o → b ≡ true → (p : ℕ) × (o ≡ Some p)
+some-of None b is yes_ = let both : true ≡ false = sym yes_ ∙ is in absurd (cc)
+some-of (Some p) b is yes_ = (p, refl)
+
+-- ---- the table and the host
+
+pub bound-entries : (p q : Parts) → (core_of q).bound ≡ (core_of p).bound → entries_of q.names.table ≡ entries_of p.names.table
+unfolding core_of
+bound-entries p q same = omega arith
+
+pub work-refl : {H : Type 0} (host : Ghosts H) (now : H) → IsWorkOnly host now now
+work-refl {H} host now = record { others = λ role away. refl; work = λ told. refl; other_faults = λ role away. refl; later = omega arith; writes = omega arith }
+
+pub work-trans : {H : Type 0} (host : Ghosts H) (a b c : H) → IsWorkOnly host a b → IsWorkOnly host b c → IsWorkOnly host a c
+work-trans {H} host a b c x y = record {
+  others = λ r away. y.others r away ∙ x.others r away;
+  work = λ told. y.work told ∙ ap (λ (s : RoleState). holds (host.roles c Work).contents s) (x.work told);
+  other_faults = λ r away. y.other_faults r away ∙ x.other_faults r away;
+  later = let first = x.later in let then = y.later in omega arith;
+  writes = let first = x.writes in let then = y.writes in omega arith;
+}
+
+-- ---- where no body goes
+
+-- what stays whichever three are pinned keeps all bodies
+pub all-pinned : (c d : Core) → ((a b k : ℕ) → IsPurged a b k c d) → KeepsBodies c d
+all-pinned c d purged s p at = (purged s s s).pinned s p (self s) at
+  where
+    self : (s : ℕ) → is_among s s s s ≡ true
+    self s = grind (arith, common_steps)
+
+-- ---- entry by entry
+
+pub idle-first : {A : Type 0} (c : Core) (s : ℕ) → IsCore c → s < 2 → is_used (c.entries s).state ≡ true → A
+idle-first {A} c s core low on = let both : true ≡ false = sym (core.short s on) ∙ low-short s low in absurd (cc)
+
+pub idle-more : (c d : Core) (i s : ℕ) → IsCore d → IsFreed c d → ((s : ℕ) → s < 2 * i + 2 → is_used (c.entries s).state ≡ true → place_of (c.entries s).state ≡ None → 1 ≤ (c.entries s).refs)
+    → (is_used (d.entries (2 * i + 2)).state ≡ true → place_of (d.entries (2 * i + 2)).state ≡ None → 1 ≤ (d.entries (2 * i + 2)).refs) → s < 2 * (i + 1) + 2 → is_used (d.entries s).state ≡ true → place_of (d.entries s).state ≡ None → 1 ≤ (d.entries s).refs
+idle-more c d i s core freed before here low on leaf = ⊎_elim (λ (e : s ≡ 2 * i + 2). subst (λ (k : ℕ). 1 ≤ (d.entries k).refs) (sym e) (here (ap (λ (k : ℕ). is_used (d.entries k).state) (sym e) ∙ on) (ap (λ (k : ℕ). place_of (d.entries k).state) (sym e) ∙ leaf)))
+    (λ (e : s ≢ 2 * i + 2). ⊎_elim (λ (f : s ≡ 2 * i + 3). absurd (let both : true ≡ false = sym (core.short s on) ∙ odd-short s i f in cc))
+    (λ (f : s ≢ 2 * i + 3). let same = freed.same s on in subst (λ (x : Entry). 1 ≤ x.refs) (sym same) (before s (omega arith) (ap (λ (x : Entry). is_used x.state) (sym same) ∙ on) (ap (λ (x : Entry). place_of x.state) (sym same) ∙ leaf))) (cases_eq s (2 * i + 3))) (cases_eq s (2 * i + 2))
+
+pub gone-freed : (c d : Core) (s p : ℕ) → IsFreed c d → place_of (c.entries s).state ≡ None → place_of (d.entries s).state ≡ Some p → ⊥
+gone-freed c d s p freed gone at = let both : None ≡ Some p = sym (freed.leaves s gone) ∙ at in cc

@@ -1,0 +1,263 @@
+// One object is written back and leaves the core.
+ghost use Rattle.std.specs.Prelude.{◌≡◌, ◌+◌, ◌≤◌, ◌<◌, ℕ, Some, None, true, false, IsTrue, IfOk, IfErr, OnOk, is_some, if◌then◌else◌};
+ghost use Rattle.loom_outside.specs.Work.{IsWorkOnly, IsWorkRead};
+ghost use Rattle.object_record.specs.Buffer.{raw_of, HasRecord};
+ghost use Rattle.object_record.specs.Objects.{object_in};
+ghost use Rattle.object_table.specs.Entries.{put, is_used, place_of};
+ghost use Rattle.disk_objects.specs.Calls.{HoldsObjects};
+ghost use Rattle.disk_objects.specs.Disk.{disk_held, disk_room};
+ghost use Rattle.disk_objects.specs.Function.{disk_of, IsFetched};
+ghost use Rattle.core_segment.specs.Segment.{size_of};
+ghost use Rattle.core_view.specs.Counts.{change_of};
+ghost use Rattle.core_view.specs.Kept.{IsTight, IsBacked, KeepsOver};
+ghost use Rattle.core_view.specs.Core.{with_entry};
+ghost use Rattle.core_view.specs.Purge.{fresh_of, IsPurged};
+ghost use Rattle.core_view.specs.Room.{is_among};
+ghost use Rattle.core_view.specs.Steps.{written};
+ghost use Rattle.leaf_lambda.specs.Parts.{core_of, spare_of, IsParts, IsWithin};
+ghost use Rattle.leaf_lambda.specs.Records.{IsCopy};
+ghost use Rattle.purger.specs.Marks.{AreHere, LeavesMarks};
+ghost use Rattle.purger.specs.Purge.{IsReadFault, IsEvictFault};
+
+use crate::marks::unmark_for;
+use core_segment::Addr;
+use disk_objects::DiskObjects;
+use disk_objects::laws::a_disk_is_its_objects;
+use leaf_lambda::laws::own_record_is_like;
+use leaf_lambda::leaving::{drop_body, set_written};
+use leaf_lambda::parts::is_copy;
+use leaf_lambda::steps::place_of_body;
+use leaf_lambda::{Parts, merge_out};
+use long_names::Name;
+use loom_outside::{DiskFault, Host, Role};
+use object_record::RecordBuf;
+use object_table::Short;
+
+/// The place of a damage that no byte of Work shows.
+pub const NOWHERE: u64 = 18_446_744_073_709_551_615;
+
+/// What was read of a name can't be so.
+pub fn damaged(name: Name) -> DiskFault
+    ensures { result ≡ DiskFault.Damaged NOWHERE name }
+{
+    DiskFault::Damaged {
+        place: NOWHERE,
+        name: name.get(),
+    }
+}
+
+/// The record of a name: false exactly where it has none.
+pub fn fetch<H: Host>(
+    disk: &mut DiskObjects<'_, H>,
+    name: Name,
+    buf: &mut RecordBuf,
+) -> Result<bool, DiskFault>
+    requires stands { HoldsObjects H.Host disk.old.host.now disk.old.rest }
+    ensures found { IsTrue (H.tells Role.Work) → IfOk result (IsFetched buf.new (disk_of H.Host disk.old.host.now disk.old.rest name)) }
+    ensures record { IfOk result (λ held. IsTrue held → HasRecord buf.new × ((raw_of buf.new).name ≡ name)) }
+    ensures stands { HoldsObjects H.Host disk.new.host.now disk.new.rest }
+    ensures same { disk_of H.Host disk.new.host.now disk.new.rest ≡ disk_of H.Host disk.old.host.now disk.old.rest }
+    ensures rest { disk.new.rest ≡ disk.old.rest }
+    ensures read { IsWorkRead H.Host disk.old.host.now disk.new.host.now }
+    ensures same_host { disk.new.host.ghost_name ≡ disk.old.host.ghost_name }
+    ensures fault { IfErr result (IsReadFault (H.tells Role.Work) (H.faults disk.old.host.now Role.Work) (H.faults disk.new.host.now Role.Work)) }
+{
+    disk.get(name, buf)
+}
+
+/// Reads the record of an object with a body, and tests that it is like it. Of a fresh object, which has none, nothing is read.
+pub fn read_copy<H: Host>(
+    p: &Parts,
+    disk: &mut DiskObjects<'_, H>,
+    buf: &mut RecordBuf,
+    s: Short,
+    at: Addr,
+) -> Result<(), DiskFault>
+    requires parts { IsParts p.now }
+    requires place { place_of ((core_of p.now).entries s.0).state ≡ Some at.place }
+    requires stands { HoldsObjects H.Host disk.old.host.now disk.old.rest }
+    requires backed { IsTrue (H.tells Role.Work) → IsBacked (core_of p.now) (disk_of H.Host disk.old.host.now disk.old.rest) }
+    ensures copy { OnOk result (((core_of p.now).entries s.0).flags.fresh ≡ false → IsCopy buf.new ((core_of p.now).entries s.0) ((core_of p.now).chunks at.place).words) }
+    ensures there { IsTrue (H.tells Role.Work) → OnOk result (((core_of p.now).entries s.0).flags.fresh ≡ false
+        → disk_of H.Host disk.old.host.now disk.old.rest ((core_of p.now).entries s.0).name ≡ Some (object_in (raw_of buf.new))) }
+    ensures stands { HoldsObjects H.Host disk.new.host.now disk.new.rest }
+    ensures same { disk_of H.Host disk.new.host.now disk.new.rest ≡ disk_of H.Host disk.old.host.now disk.old.rest }
+    ensures rest { disk.new.rest ≡ disk.old.rest }
+    ensures read { IsWorkRead H.Host disk.old.host.now disk.new.host.now }
+    ensures same_host { disk.new.host.ghost_name ≡ disk.old.host.ghost_name }
+    ensures fault { IfErr result (IsReadFault (H.tells Role.Work) (H.faults disk.old.host.now Role.Work) (H.faults disk.new.host.now Role.Work)) }
+{
+    // a told record is like its object
+    own_record_is_like();
+    let e = p.names.table.entry(s);
+    if e.flags.fresh {
+        return Ok(());
+    }
+    if !fetch(disk, e.name, buf)? {
+        return Err(damaged(e.name));
+    }
+    if is_copy(p, s, at, buf) {
+        return Ok(());
+    }
+    Err(damaged(e.name))
+}
+
+// Writes a record, with no count.
+fn store<H: Host>(disk: &mut DiskObjects<'_, H>, buf: &RecordBuf) -> Result<(), DiskFault>
+    requires record { HasRecord buf.now }
+    requires stands { HoldsObjects H.Host disk.old.host.now disk.old.rest }
+    ensures stored { IsTrue (H.tells Role.Work) → OnOk result (disk_of H.Host disk.new.host.now disk.new.rest
+        ≡ put (disk_of H.Host disk.old.host.now disk.old.rest) (raw_of buf.now).name (Some (object_in (raw_of buf.now)))) }
+    ensures held { IsTrue (H.tells Role.Work) → OnOk result (disk_held disk.new.rest
+        ≡ disk_held disk.old.rest + (if is_some (disk_of H.Host disk.old.host.now disk.old.rest (raw_of buf.now).name) then 0 else 1)) }
+    ensures stands { OnOk result (HoldsObjects H.Host disk.new.host.now disk.new.rest) }
+    ensures room { disk_room disk.new.rest ≡ disk_room disk.old.rest }
+    ensures work { IsWorkOnly H.Host disk.old.host.now disk.new.host.now }
+    ensures same_host { disk.new.host.ghost_name ≡ disk.old.host.ghost_name }
+    ensures fault { IfErr result (IsEvictFault H.Host disk.old.host.now disk.new.host.now disk.old.rest (if is_some (disk_of H.Host disk.old.host.now disk.old.rest (raw_of buf.now).name) then false else true)) }
+{
+    // Full says that the map has no such name
+    a_disk_is_its_objects();
+    disk.put(buf, 0)
+}
+
+// Writes the object of a body over its record, or as a new one.
+fn write_back<H: Host>(
+    p: &mut Parts,
+    disk: &mut DiskObjects<'_, H>,
+    buf: &mut RecordBuf,
+    s: Short,
+) -> Result<(), DiskFault>
+    requires parts { IsParts p.old }
+    requires body { (at : ℕ) × (place_of ((core_of p.old).entries s.0).state ≡ Some at) }
+    requires stands { HoldsObjects H.Host disk.old.host.now disk.old.rest }
+    requires backed { IsTrue (H.tells Role.Work) → IsBacked (core_of p.old) (disk_of H.Host disk.old.host.now disk.old.rest) }
+    ensures parts { IsParts p.new }
+    ensures core { OnOk result (core_of p.new ≡ with_entry (core_of p.old) s.0 (written ((core_of p.old).entries s.0))) }
+    ensures err { IfErr result (λ f. p.new ≡ p.old) }
+    ensures within { IsWithin s.0 (core_of p.old) (core_of p.new) }
+    ensures keeps { IsTrue (H.tells Role.Work) → OnOk result (KeepsOver (core_of p.old) (disk_of H.Host disk.old.host.now disk.old.rest) (core_of p.new) (disk_of H.Host disk.new.host.now disk.new.rest)) }
+    ensures counted { IsTrue (H.tells Role.Work) → OnOk result (disk_held disk.new.rest + fresh_of (core_of p.new) ≡ disk_held disk.old.rest + fresh_of (core_of p.old)) }
+    ensures spare { spare_of p.new ≡ spare_of p.old }
+    ensures segment { p.new.segment ≡ p.old.segment }
+    ensures stands { OnOk result (HoldsObjects H.Host disk.new.host.now disk.new.rest) }
+    ensures room { disk_room disk.new.rest ≡ disk_room disk.old.rest }
+    ensures work { IsWorkOnly H.Host disk.old.host.now disk.new.host.now }
+    ensures same_host { disk.new.host.ghost_name ≡ disk.old.host.ghost_name }
+    ensures fault { IfErr result (IsEvictFault H.Host disk.old.host.now disk.new.host.now disk.old.rest ((core_of p.old).entries s.0).flags.fresh) }
+{
+    let at = place_of_body(p, s);
+    read_copy(p, disk, buf, s, at)?;
+    merge_out(p, s, buf);
+    store(disk, buf)?;
+    set_written(p, s);
+    Ok(())
+}
+
+// Whether an object is just as its record.
+fn is_clean(p: &Parts, s: Short) -> bool
+    requires parts { IsParts p.now }
+    requires used { is_used ((core_of p.now).entries s.0).state ≡ true }
+    ensures clean { IsTrue result → (((core_of p.now).entries s.0).flags.fresh ≡ false) × (((core_of p.now).entries s.0).flags.changed ≡ false) }
+{
+    let e = p.names.table.entry(s);
+    if e.flags.fresh {
+        return false;
+    }
+    !e.flags.changed
+}
+
+// Writes an object back unless it is just as its record.
+fn clean<H: Host>(
+    p: &mut Parts,
+    disk: &mut DiskObjects<'_, H>,
+    buf: &mut RecordBuf,
+    s: Short,
+) -> Result<(), DiskFault>
+    requires parts { IsParts p.old }
+    requires body { (at : ℕ) × (place_of ((core_of p.old).entries s.0).state ≡ Some at) }
+    requires stands { HoldsObjects H.Host disk.old.host.now disk.old.rest }
+    requires backed { IsTrue (H.tells Role.Work) → IsBacked (core_of p.old) (disk_of H.Host disk.old.host.now disk.old.rest) }
+    ensures parts { IsParts p.new }
+    ensures clean { OnOk result ((((core_of p.new).entries s.0).flags.fresh ≡ false) × (((core_of p.new).entries s.0).flags.changed ≡ false)) }
+    ensures body { (place_of ((core_of p.new).entries s.0).state ≡ place_of ((core_of p.old).entries s.0).state) }
+    ensures mark { ((core_of p.new).entries s.0).flags.marked ≡ ((core_of p.old).entries s.0).flags.marked }
+    ensures within { IsWithin s.0 (core_of p.old) (core_of p.new) }
+    ensures keeps { IsTrue (H.tells Role.Work) → OnOk result (KeepsOver (core_of p.old) (disk_of H.Host disk.old.host.now disk.old.rest) (core_of p.new) (disk_of H.Host disk.new.host.now disk.new.rest)) }
+    ensures counted { IsTrue (H.tells Role.Work) → OnOk result (disk_held disk.new.rest + fresh_of (core_of p.new) ≡ disk_held disk.old.rest + fresh_of (core_of p.old)) }
+    ensures spare { spare_of p.new ≡ spare_of p.old }
+    ensures segment { p.new.segment ≡ p.old.segment }
+    ensures stands { OnOk result (HoldsObjects H.Host disk.new.host.now disk.new.rest) }
+    ensures room { disk_room disk.new.rest ≡ disk_room disk.old.rest }
+    ensures work { IsWorkOnly H.Host disk.old.host.now disk.new.host.now }
+    ensures same_host { disk.new.host.ghost_name ≡ disk.old.host.ghost_name }
+    ensures fault { IfErr result (IsEvictFault H.Host disk.old.host.now disk.new.host.now disk.old.rest ((core_of p.old).entries s.0).flags.fresh) }
+{
+    if is_clean(p, s) {
+        return Ok(());
+    }
+    write_back(p, disk, buf, s)
+}
+
+// Evicts an object that isn't marked.
+fn evict_unmarked<H: Host>(
+    p: &mut Parts,
+    disk: &mut DiskObjects<'_, H>,
+    buf: &mut RecordBuf,
+    s: Short,
+) -> Result<(), DiskFault>
+    requires parts { IsParts p.old }
+    requires body { (at : ℕ) × (place_of ((core_of p.old).entries s.0).state ≡ Some at) }
+    requires unmarked { ((core_of p.old).entries s.0).flags.marked ≡ false }
+    requires stands { HoldsObjects H.Host disk.old.host.now disk.old.rest }
+    requires backed { IsTrue (H.tells Role.Work) → IsBacked (core_of p.old) (disk_of H.Host disk.old.host.now disk.old.rest) }
+    ensures parts { IsParts p.new }
+    ensures gone { OnOk result (place_of ((core_of p.new).entries s.0).state ≡ None) }
+    ensures within { IsWithin s.0 (core_of p.old) (core_of p.new) }
+    ensures mark { ((core_of p.new).entries s.0).flags.marked ≡ false }
+    ensures keeps { IsTrue (H.tells Role.Work) → OnOk result (KeepsOver (core_of p.old) (disk_of H.Host disk.old.host.now disk.old.rest) (core_of p.new) (disk_of H.Host disk.new.host.now disk.new.rest)) }
+    ensures counted { IsTrue (H.tells Role.Work) → OnOk result (disk_held disk.new.rest + fresh_of (core_of p.new) ≡ disk_held disk.old.rest + fresh_of (core_of p.old)) }
+    ensures spare { spare_of p.new ≡ spare_of p.old }
+    ensures size { size_of p.new.segment ≡ size_of p.old.segment }
+    ensures stands { OnOk result (HoldsObjects H.Host disk.new.host.now disk.new.rest) }
+    ensures room { disk_room disk.new.rest ≡ disk_room disk.old.rest }
+    ensures work { IsWorkOnly H.Host disk.old.host.now disk.new.host.now }
+    ensures same_host { disk.new.host.ghost_name ≡ disk.old.host.ghost_name }
+    ensures fault { IfErr result (IsEvictFault H.Host disk.old.host.now disk.new.host.now disk.old.rest ((core_of p.old).entries s.0).flags.fresh) }
+{
+    clean(p, disk, buf, s)?;
+    drop_body(p, s);
+    Ok(())
+}
+
+/// Evicts an object: where it differs from its record or has none it is written, with its lambdas as the old record has them; then its
+/// body goes. If it was marked, all marks go. Full only where it has no record and there is no room for one more.
+pub fn evict<H: Host>(
+    p: &mut Parts,
+    disk: &mut DiskObjects<'_, H>,
+    buf: &mut RecordBuf,
+    s: Short,
+) -> Result<(), DiskFault>
+    requires parts { IsParts p.old }
+    requires body { (at : ℕ) × (place_of ((core_of p.old).entries s.0).state ≡ Some at) }
+    requires stands { HoldsObjects H.Host disk.old.host.now disk.old.rest }
+    requires backed { IsTrue (H.tells Role.Work) → IsBacked (core_of p.old) (disk_of H.Host disk.old.host.now disk.old.rest) }
+    ensures parts { IsParts p.new }
+    ensures gone { OnOk result (place_of ((core_of p.new).entries s.0).state ≡ None) }
+    ensures purged { (a b d : ℕ) → is_among a b d s.0 ≡ false → IsPurged a b d (core_of p.old) (core_of p.new) }
+    ensures keeps { IsTrue (H.tells Role.Work) → OnOk result (KeepsOver (core_of p.old) (disk_of H.Host disk.old.host.now disk.old.rest) (core_of p.new) (disk_of H.Host disk.new.host.now disk.new.rest)) }
+    ensures counted { IsTrue (H.tells Role.Work) → OnOk result (disk_held disk.new.rest + fresh_of (core_of p.new) ≡ disk_held disk.old.rest + fresh_of (core_of p.old)) }
+    ensures marks { LeavesMarks (core_of p.old) (core_of p.new) }
+    ensures here { AreHere (core_of p.old) → AreHere (core_of p.new) }
+    ensures tight { IsTight (core_of p.old) → IsTight (core_of p.new) }
+    ensures spare { spare_of p.new ≡ spare_of p.old }
+    ensures size { size_of p.new.segment ≡ size_of p.old.segment }
+    ensures stands { OnOk result (HoldsObjects H.Host disk.new.host.now disk.new.rest) }
+    ensures room { disk_room disk.new.rest ≡ disk_room disk.old.rest }
+    ensures work { IsWorkOnly H.Host disk.old.host.now disk.new.host.now }
+    ensures same_host { disk.new.host.ghost_name ≡ disk.old.host.ghost_name }
+    ensures fault { IfErr result (IsEvictFault H.Host disk.old.host.now disk.new.host.now disk.old.rest ((core_of p.old).entries s.0).flags.fresh) }
+{
+    unmark_for(p, s);
+    evict_unmarked(p, disk, buf, s)
+}

@@ -1,0 +1,69 @@
+// Marks go: all at once.
+ghost use Rattle.std.specs.Prelude.{◌≡◌, ◌<◌, ℕ, true, false, Some};
+ghost use Rattle.object_table.specs.Entries.{is_short, is_used, place_of};
+ghost use Rattle.object_table.specs.Table.{bound_of, entries_of};
+ghost use Rattle.core_view.specs.Counts.{outside, marked_of, change_of};
+ghost use Rattle.core_view.specs.Kept.{IsTight, Stays};
+ghost use Rattle.core_view.specs.Purge.{fresh_of};
+ghost use Rattle.leaf_lambda.specs.Parts.{core_of, spare_of, IsParts};
+ghost use Rattle.purger.specs.Marks.{AreHere, IsUnmarking, LeavesMarks};
+
+use leaf_lambda::Parts;
+use object_table::Short;
+
+// Takes the mark from an entry.
+fn unmark_one(p: &mut Parts, s: Short)
+    requires parts { IsParts p.old }
+    requires short { is_short s.0 ≡ true }
+    requires within { s.0 < bound_of p.old.names.table }
+    ensures parts { IsParts p.new }
+    ensures step { IsUnmarking (core_of p.old) (core_of p.new) }
+    ensures stays { Stays (core_of p.old) (core_of p.new) }
+    ensures outside { (t : ℕ) → outside (core_of p.new) t ≡ outside (core_of p.old) t }
+    ensures here { is_used ((core_of p.new).entries s.0).state ≡ true → ((core_of p.new).entries s.0).flags.marked ≡ false }
+    ensures entries { entries_of p.new.names.table ≡ entries_of p.old.names.table }
+    ensures spare { spare_of p.new ≡ spare_of p.old }
+    ensures segment { p.new.segment ≡ p.old.segment }
+{
+    let mut e = p.names.table.entry(s);
+    if !e.is_used() {
+        return;
+    }
+    e.flags.marked = false;
+    p.names.table.set(s, e);
+}
+
+/// Takes all marks away.
+pub fn unmark_all(p: &mut Parts)
+    requires parts { IsParts p.old }
+    ensures parts { IsParts p.new }
+    ensures step { IsUnmarking (core_of p.old) (core_of p.new) }
+    ensures stays { Stays (core_of p.old) (core_of p.new) }
+    ensures outside { (t : ℕ) → outside (core_of p.new) t ≡ outside (core_of p.old) t }
+    ensures none { (n : ℕ) → marked_of (core_of p.new) n ≡ false }
+    ensures spare { spare_of p.new ≡ spare_of p.old }
+    ensures segment { p.new.segment ≡ p.old.segment }
+{
+    for i in 0..p.names.table.entries() {
+        unmark_one(p, Short(2 * i + 2));
+    }
+}
+
+/// Takes all marks away where this object is marked.
+pub fn unmark_for(p: &mut Parts, s: Short)
+    requires parts { IsParts p.old }
+    requires used { is_used ((core_of p.old).entries s.0).state ≡ true }
+    ensures parts { IsParts p.new }
+    ensures step { IsUnmarking (core_of p.old) (core_of p.new) }
+    ensures stays { Stays (core_of p.old) (core_of p.new) }
+    ensures outside { (t : ℕ) → outside (core_of p.new) t ≡ outside (core_of p.old) t }
+    ensures marks { LeavesMarks (core_of p.old) (core_of p.new) }
+    ensures gone { ((core_of p.new).entries s.0).flags.marked ≡ false }
+    ensures spare { spare_of p.new ≡ spare_of p.old }
+    ensures segment { p.new.segment ≡ p.old.segment }
+{
+    let e = p.names.table.entry(s);
+    if e.flags.marked {
+        unmark_all(p);
+    }
+}

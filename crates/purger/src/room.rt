@@ -1,0 +1,338 @@
+// Room is made: objects leave the core until there is enough.
+ghost use Rattle.std.specs.Prelude.{◌≡◌, ◌⊎◌, ◌+◌, ◌≤◌, ◌<◌, ℕ, Some, None, true, false, IsTrue, IfOk, IfErr, OnOk};
+ghost use Rattle.loom_outside.specs.Work.{IsWorkOnly};
+ghost use Rattle.object_table.specs.Entries.{is_short, is_used, place_of};
+ghost use Rattle.object_table.specs.Table.{bound_of, entries_of};
+ghost use Rattle.core_segment.specs.Segment.{free_of, largest_of, size_of};
+ghost use Rattle.disk_objects.specs.Calls.{HoldsObjects};
+ghost use Rattle.disk_objects.specs.Disk.{disk_held, disk_room};
+ghost use Rattle.disk_objects.specs.Function.{disk_of};
+ghost use Rattle.core_view.specs.Kept.{IsTight, IsBacked, KeepsOver, Stays};
+ghost use Rattle.core_view.specs.Purge.{fresh_of, IsPurged, HasNoIdle, IsFreed};
+ghost use Rattle.core_view.specs.Room.{is_among};
+ghost use Rattle.leaf_lambda.specs.Parts.{core_of, spare_of, IsParts};
+ghost use Rattle.purger.specs.Marks.{AreHere, KeepsMarks, LeavesMarks};
+ghost use Rattle.purger.specs.Purge.{HasRoom, IsShort, KeepsBodies, OnShort, OnDisk, Undisturbed, IsPurgeFault};
+
+use crate::eviction::evict;
+use disk_objects::DiskObjects;
+use leaf_lambda::Parts;
+use leaf_lambda::moving::compact_one;
+use leaf_lambda::steps::free_leaf;
+use loom_outside::{DiskFault, Host, Role};
+use object_record::RecordBuf;
+use object_table::Short;
+
+/// Why there is no room: nothing more can go, or a call on Work failed.
+#[derive(Clone, Copy, Debug, PartialEq, Eq)]
+pub enum RoomFault {
+    Short,
+    Disk(DiskFault),
+}
+
+/// The short words of three objects that stay; 0 for none.
+#[derive(Clone, Copy, Debug, PartialEq, Eq)]
+pub struct Pinned {
+    pub a: u16,
+    pub b: u16,
+    pub d: u16,
+}
+
+impl Pinned {
+    /// Whether an entry is one of them.
+    pub fn has(&self, s: Short) -> bool
+        ensures { result ≡ is_among self.now.a self.now.b self.now.d s.0 }
+    {
+        s.0 == self.a || (s.0 == self.b || s.0 == self.d)
+    }
+}
+
+/// Moves bodies down until all free words are one chunk, or none.
+pub fn compact(p: &mut Parts)
+    requires parts { IsParts p.old }
+    requires tight { IsTight (core_of p.old) }
+    ensures parts { IsParts p.new }
+    ensures tight { IsTight (core_of p.new) }
+    ensures stays { Stays (core_of p.old) (core_of p.new) }
+    ensures purged { (a b d : ℕ) → IsPurged a b d (core_of p.old) (core_of p.new) }
+    ensures fresh { fresh_of (core_of p.new) ≡ fresh_of (core_of p.old) }
+    ensures marks { KeepsMarks (core_of p.old) (core_of p.new) }
+    ensures here { AreHere (core_of p.old) → AreHere (core_of p.new) }
+    ensures room { largest_of p.new.segment ≡ free_of p.old.segment }
+    ensures size { size_of p.new.segment ≡ size_of p.old.segment }
+    ensures spare { spare_of p.new ≡ spare_of p.old }
+{
+    while compact_one(p) {}
+}
+
+// Frees a leaf to which nothing refers.
+fn free_if_idle(p: &mut Parts, s: Short)
+    requires parts { IsParts p.old }
+    requires tight { IsTight (core_of p.old) }
+    requires marks { AreHere (core_of p.old) }
+    requires short { is_short s.0 ≡ true }
+    requires within { s.0 < bound_of p.old.names.table }
+    ensures parts { IsParts p.new }
+    ensures tight { IsTight (core_of p.new) }
+    ensures stays { Stays (core_of p.old) (core_of p.new) }
+    ensures freed { IsFreed (core_of p.old) (core_of p.new) }
+    ensures here { is_used ((core_of p.new).entries s.0).state ≡ true → place_of ((core_of p.new).entries s.0).state ≡ None → 1 ≤ ((core_of p.new).entries s.0).refs }
+    ensures marks { KeepsMarks (core_of p.old) (core_of p.new) }
+    ensures entries { entries_of p.new.names.table ≡ entries_of p.old.names.table }
+    ensures segment { p.new.segment ≡ p.old.segment }
+{
+    let e = p.names.table.entry(s);
+    if !e.is_used() {
+        return;
+    }
+    if e.place().is_some() {
+        return;
+    }
+    if e.refs == 0 {
+        free_leaf(p, s);
+    }
+}
+
+// Frees all leaves to which nothing refers.
+fn free_idle(p: &mut Parts)
+    requires parts { IsParts p.old }
+    requires tight { IsTight (core_of p.old) }
+    requires marks { AreHere (core_of p.old) }
+    ensures parts { IsParts p.new }
+    ensures tight { IsTight (core_of p.new) }
+    ensures stays { Stays (core_of p.old) (core_of p.new) }
+    ensures freed { IsFreed (core_of p.old) (core_of p.new) }
+    ensures idle { HasNoIdle (core_of p.new) }
+    ensures marks { KeepsMarks (core_of p.old) (core_of p.new) }
+    ensures here { AreHere (core_of p.new) }
+    ensures segment { p.new.segment ≡ p.old.segment }
+{
+    for i in 0..p.names.table.entries() {
+        free_if_idle(p, Short(2 * i + 2));
+    }
+}
+
+/// Whether so many words and entries are free.
+pub fn has_room(p: &Parts, words: u32, entries: u16) -> bool
+    ensures has { IsTrue result → HasRoom p.now words entries }
+    ensures lacks { result ≡ false → HasRoom p.now words entries → ⊥ }
+{
+    if p.segment.free_words() < words {
+        return false;
+    }
+    entries <= p.names.table.free()
+}
+
+// Whether so many words are free together.
+fn is_together(p: &Parts, words: u32) -> bool
+    ensures { IsTrue result → words ≤ largest_of p.now.segment }
+{
+    if words == 0 {
+        return true;
+    }
+    p.segment.has_room(words)
+}
+
+// Moves bodies together where so many words are free, but not as one chunk.
+fn gather(p: &mut Parts, words: u32)
+    requires parts { IsParts p.old }
+    requires tight { IsTight (core_of p.old) }
+    requires words { words ≤ free_of p.old.segment }
+    ensures parts { IsParts p.new }
+    ensures tight { IsTight (core_of p.new) }
+    ensures stays { Stays (core_of p.old) (core_of p.new) }
+    ensures purged { (a b d : ℕ) → IsPurged a b d (core_of p.old) (core_of p.new) }
+    ensures fresh { fresh_of (core_of p.new) ≡ fresh_of (core_of p.old) }
+    ensures marks { KeepsMarks (core_of p.old) (core_of p.new) }
+    ensures here { AreHere (core_of p.old) → AreHere (core_of p.new) }
+    ensures room { words ≤ largest_of p.new.segment }
+    ensures size { size_of p.new.segment ≡ size_of p.old.segment }
+    ensures spare { spare_of p.new ≡ spare_of p.old }
+{
+    if is_together(p, words) {
+        return;
+    }
+    compact(p);
+}
+
+// Whether an object may leave: it has a body, and isn't pinned.
+fn may_leave(p: &Parts, s: Short, pinned: &Pinned) -> bool
+    requires parts { IsParts p.now }
+    requires short { is_short s.0 ≡ true }
+    requires within { s.0 < bound_of p.now.names.table }
+    ensures body { IsTrue result → (at : ℕ) × (place_of ((core_of p.now).entries s.0).state ≡ Some at) }
+    ensures loose { IsTrue result → is_among pinned.now.a pinned.now.b pinned.now.d s.0 ≡ false }
+    ensures stays { result ≡ false → (at : ℕ) → place_of ((core_of p.now).entries s.0).state ≡ Some at → is_among pinned.now.a pinned.now.b pinned.now.d s.0 ≡ true }
+{
+    if pinned.has(s) {
+        return false;
+    }
+    p.names.table.entry(s).place().is_some()
+}
+
+// Evicts an object that isn't pinned, while there is room on the disk for all that have no record.
+fn leave<H: Host>(
+    p: &mut Parts,
+    disk: &mut DiskObjects<'_, H>,
+    buf: &mut RecordBuf,
+    s: Short,
+) -> Result<(), DiskFault>
+    requires parts { IsParts p.old }
+    requires tight { IsTight (core_of p.old) }
+    requires marks { AreHere (core_of p.old) }
+    requires body { (at : ℕ) × (place_of ((core_of p.old).entries s.0).state ≡ Some at) }
+    requires stands { HoldsObjects H.Host disk.old.host.now disk.old.rest }
+    requires backed { IsTrue (H.tells Role.Work) → IsBacked (core_of p.old) (disk_of H.Host disk.old.host.now disk.old.rest) }
+    requires counted { IsTrue (H.tells Role.Work) → disk_held disk.old.rest + fresh_of (core_of p.old) ≤ disk_room disk.old.rest }
+    ensures parts { IsParts p.new }
+    ensures tight { IsTight (core_of p.new) }
+    ensures gone { OnOk result (place_of ((core_of p.new).entries s.0).state ≡ None) }
+    ensures purged { (a b d : ℕ) → is_among a b d s.0 ≡ false → IsPurged a b d (core_of p.old) (core_of p.new) }
+    ensures keeps { IsTrue (H.tells Role.Work) → OnOk result (KeepsOver (core_of p.old) (disk_of H.Host disk.old.host.now disk.old.rest) (core_of p.new) (disk_of H.Host disk.new.host.now disk.new.rest)) }
+    ensures counted { IsTrue (H.tells Role.Work) → OnOk result (disk_held disk.new.rest + fresh_of (core_of p.new) ≡ disk_held disk.old.rest + fresh_of (core_of p.old)) }
+    ensures marks { LeavesMarks (core_of p.old) (core_of p.new) }
+    ensures here { AreHere (core_of p.new) }
+    ensures stands { OnOk result (HoldsObjects H.Host disk.new.host.now disk.new.rest) }
+    ensures size { size_of p.new.segment ≡ size_of p.old.segment }
+    ensures limit { disk_room disk.new.rest ≡ disk_room disk.old.rest }
+    ensures work { IsWorkOnly H.Host disk.old.host.now disk.new.host.now }
+    ensures same_host { disk.new.host.ghost_name ≡ disk.old.host.ghost_name }
+    ensures fault { IfErr result (IsPurgeFault H.Host disk.old.host.now disk.new.host.now) }
+{
+    evict(p, disk, buf, s)
+}
+
+// Evicts an object that may leave, unless there is room, and frees the leaves to which nothing refers then.
+fn evict_more<H: Host>(
+    p: &mut Parts,
+    disk: &mut DiskObjects<'_, H>,
+    buf: &mut RecordBuf,
+    s: Short,
+    words: u32,
+    entries: u16,
+    pinned: &Pinned,
+) -> Result<(), DiskFault>
+    requires parts { IsParts p.old }
+    requires tight { IsTight (core_of p.old) }
+    requires marks { AreHere (core_of p.old) }
+    requires short { is_short s.0 ≡ true }
+    requires within { s.0 < bound_of p.old.names.table }
+    requires idle { HasNoIdle (core_of p.old) }
+    requires stands { HoldsObjects H.Host disk.old.host.now disk.old.rest }
+    requires backed { IsTrue (H.tells Role.Work) → IsBacked (core_of p.old) (disk_of H.Host disk.old.host.now disk.old.rest) }
+    requires counted { IsTrue (H.tells Role.Work) → disk_held disk.old.rest + fresh_of (core_of p.old) ≤ disk_room disk.old.rest }
+    ensures parts { IsParts p.new }
+    ensures tight { IsTight (core_of p.new) }
+    ensures purged { IsPurged pinned.now.a pinned.now.b pinned.now.d (core_of p.old) (core_of p.new) }
+    ensures idle { OnOk result (HasNoIdle (core_of p.new)) }
+    ensures gone { OnOk result (HasRoom p.new words entries
+        ⊎ ((at : ℕ) → place_of ((core_of p.new).entries s.0).state ≡ Some at → is_among pinned.now.a pinned.now.b pinned.now.d s.0 ≡ true)) }
+    ensures enough { HasRoom p.old words entries → HasRoom p.new words entries }
+    ensures keeps { IsTrue (H.tells Role.Work) → OnOk result (KeepsOver (core_of p.old) (disk_of H.Host disk.old.host.now disk.old.rest) (core_of p.new) (disk_of H.Host disk.new.host.now disk.new.rest)) }
+    ensures counted { IsTrue (H.tells Role.Work) → OnOk result (disk_held disk.new.rest + fresh_of (core_of p.new) ≡ disk_held disk.old.rest + fresh_of (core_of p.old)) }
+    ensures marks { LeavesMarks (core_of p.old) (core_of p.new) }
+    ensures here { AreHere (core_of p.new) }
+    ensures stands { OnOk result (HoldsObjects H.Host disk.new.host.now disk.new.rest) }
+    ensures size { size_of p.new.segment ≡ size_of p.old.segment }
+    ensures limit { disk_room disk.new.rest ≡ disk_room disk.old.rest }
+    ensures work { IsWorkOnly H.Host disk.old.host.now disk.new.host.now }
+    ensures same_host { disk.new.host.ghost_name ≡ disk.old.host.ghost_name }
+    ensures fault { IfErr result (IsPurgeFault H.Host disk.old.host.now disk.new.host.now) }
+{
+    if has_room(p, words, entries) {
+        return Ok(());
+    }
+    if !may_leave(p, s, pinned) {
+        return Ok(());
+    }
+    leave(p, disk, buf, s)?;
+    free_idle(p);
+    Ok(())
+}
+
+// Makes room where there is none.
+fn purge<H: Host>(
+    p: &mut Parts,
+    disk: &mut DiskObjects<'_, H>,
+    buf: &mut RecordBuf,
+    words: u32,
+    entries: u16,
+    pinned: &Pinned,
+) -> Result<(), RoomFault>
+    requires parts { IsParts p.old }
+    requires tight { IsTight (core_of p.old) }
+    requires marks { AreHere (core_of p.old) }
+    requires stands { HoldsObjects H.Host disk.old.host.now disk.old.rest }
+    requires backed { IsTrue (H.tells Role.Work) → IsBacked (core_of p.old) (disk_of H.Host disk.old.host.now disk.old.rest) }
+    requires counted { IsTrue (H.tells Role.Work) → disk_held disk.old.rest + fresh_of (core_of p.old) ≤ disk_room disk.old.rest }
+    ensures parts { IsParts p.new }
+    ensures tight { IsTight (core_of p.new) }
+    ensures purged { IsPurged pinned.now.a pinned.now.b pinned.now.d (core_of p.old) (core_of p.new) }
+    ensures room { OnOk result ((words ≤ largest_of p.new.segment) × (entries ≤ spare_of p.new)) }
+    ensures short { IfErr result (λ f. OnShort f (IsShort p.new pinned.now.a pinned.now.b pinned.now.d words entries)) }
+    ensures keeps { IsTrue (H.tells Role.Work) → Undisturbed result (KeepsOver (core_of p.old) (disk_of H.Host disk.old.host.now disk.old.rest) (core_of p.new) (disk_of H.Host disk.new.host.now disk.new.rest)) }
+    ensures counted { IsTrue (H.tells Role.Work) → Undisturbed result (disk_held disk.new.rest + fresh_of (core_of p.new) ≡ disk_held disk.old.rest + fresh_of (core_of p.old)) }
+    ensures marks { LeavesMarks (core_of p.old) (core_of p.new) }
+    ensures here { AreHere (core_of p.new) }
+    ensures stands { Undisturbed result (HoldsObjects H.Host disk.new.host.now disk.new.rest) }
+    ensures size { size_of p.new.segment ≡ size_of p.old.segment }
+    ensures limit { disk_room disk.new.rest ≡ disk_room disk.old.rest }
+    ensures work { IsWorkOnly H.Host disk.old.host.now disk.new.host.now }
+    ensures same_host { disk.new.host.ghost_name ≡ disk.old.host.ghost_name }
+    ensures fault { IfErr result (λ f. OnDisk f (IsPurgeFault H.Host disk.old.host.now disk.new.host.now)) }
+{
+    free_idle(p);
+    for i in 0..p.names.table.entries() {
+        match evict_more(p, disk, buf, Short(2 * i + 2), words, entries, pinned) {
+            Ok(()) => {}
+            Err(f) => return Err(RoomFault::Disk(f)),
+        }
+    }
+    if has_room(p, words, entries) {
+        gather(p, words);
+        Ok(())
+    } else {
+        Err(RoomFault::Short)
+    }
+}
+
+/// Makes room: so many words and entries are free after it, the words as one chunk, and three objects stay in the core. Where that many
+/// were free before, no body goes and Work isn't touched. Short only where nothing more can go and that many aren't free.
+pub fn make_room<H: Host>(
+    p: &mut Parts,
+    disk: &mut DiskObjects<'_, H>,
+    buf: &mut RecordBuf,
+    words: u32,
+    entries: u16,
+    pinned: &Pinned,
+) -> Result<(), RoomFault>
+    requires parts { IsParts p.old }
+    requires tight { IsTight (core_of p.old) }
+    requires marks { AreHere (core_of p.old) }
+    requires stands { HoldsObjects H.Host disk.old.host.now disk.old.rest }
+    requires backed { IsTrue (H.tells Role.Work) → IsBacked (core_of p.old) (disk_of H.Host disk.old.host.now disk.old.rest) }
+    requires counted { IsTrue (H.tells Role.Work) → disk_held disk.old.rest + fresh_of (core_of p.old) ≤ disk_room disk.old.rest }
+    ensures parts { IsParts p.new }
+    ensures tight { IsTight (core_of p.new) }
+    ensures purged { IsPurged pinned.now.a pinned.now.b pinned.now.d (core_of p.old) (core_of p.new) }
+    ensures room { OnOk result ((words ≤ largest_of p.new.segment) × (entries ≤ spare_of p.new)) }
+    ensures short { IfErr result (λ f. OnShort f (IsShort p.new pinned.now.a pinned.now.b pinned.now.d words entries)) }
+    ensures needless { HasRoom p.old words entries → KeepsBodies (core_of p.old) (core_of p.new)
+        × (disk.new.host.now ≡ disk.old.host.now) × (disk.new.rest ≡ disk.old.rest) }
+    ensures keeps { IsTrue (H.tells Role.Work) → Undisturbed result (KeepsOver (core_of p.old) (disk_of H.Host disk.old.host.now disk.old.rest) (core_of p.new) (disk_of H.Host disk.new.host.now disk.new.rest)) }
+    ensures counted { IsTrue (H.tells Role.Work) → Undisturbed result (disk_held disk.new.rest + fresh_of (core_of p.new) ≡ disk_held disk.old.rest + fresh_of (core_of p.old)) }
+    ensures marks { LeavesMarks (core_of p.old) (core_of p.new) }
+    ensures here { AreHere (core_of p.new) }
+    ensures stands { Undisturbed result (HoldsObjects H.Host disk.new.host.now disk.new.rest) }
+    ensures size { size_of p.new.segment ≡ size_of p.old.segment }
+    ensures limit { disk_room disk.new.rest ≡ disk_room disk.old.rest }
+    ensures work { IsWorkOnly H.Host disk.old.host.now disk.new.host.now }
+    ensures same_host { disk.new.host.ghost_name ≡ disk.old.host.ghost_name }
+    ensures fault { IfErr result (λ f. OnDisk f (IsPurgeFault H.Host disk.old.host.now disk.new.host.now)) }
+{
+    if has_room(p, words, entries) {
+        gather(p, words);
+        return Ok(());
+    }
+    purge(p, disk, buf, words, entries, pinned)
+}
