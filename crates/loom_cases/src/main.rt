@@ -27,7 +27,7 @@ use std::{env, fs, io};
 const BASE: &str = "base.loom";
 
 /// The files of cases. Those of the last are wrong on purpose: each has to be reported.
-const FILES: [&str; 54] = [
+const FILES: [&str; 56] = [
     "runs.cases",
     "start.cases",
     "blocks.cases",
@@ -52,10 +52,12 @@ const FILES: [&str; 54] = [
     "must_be_boolean.cases",
     "tries.cases",
     "integers.cases",
+    "large_integers.cases",
     "elements.cases",
     "strings.cases",
     "streams.cases",
     "storage.cases",
+    "becomes.cases",
     "long_arrays.cases",
     "own_objects.cases",
     "methods.cases",

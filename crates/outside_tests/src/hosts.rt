@@ -1,20 +1,10 @@
-// One table of steps over each host; and hosts that fail, in memory and over files.
+// One table of steps over each host: real files and streams, and a host in memory.
 use loom_outside::{Failed, Host, LyingHost, MemoryHost, RealHost, Role, read_full, write_full};
+use std::alloc::{AllocError, Global};
 use std::fs::File;
 use std::io::{ErrorKind, Write};
-use std::process::Abort;
 use std::test::Fail;
 use std::{fs, io};
-
-const ROLES: [Role; 7] = [
-    Role::Image,
-    Role::Events,
-    Role::Work,
-    Role::Saved,
-    Role::Display,
-    Role::Transcript,
-    Role::Notes,
-];
 
 // A step, and what comes of it.
 #[derive(Clone, Copy)]
@@ -27,72 +17,99 @@ enum Step {
     End(Role, &'static [u8]),
     WriteAt(u64, &'static [u8]),
     ReadAt(u64, &'static [u8]),
+    // a write of a byte fails
+    Fails(Role),
+    // so many calls on the role have failed
+    Faults(Role, u64),
 }
 
-fn attach<H: Host>(rt: &impl Abort, host: &mut H, role: Role, name: &str) -> Result<(), Failed> {
-    assert!(rt; !matches!(role, Role::Transcript | Role::Notes));
-    host.attach(role, name)
+// Each answers whether what came of it is what is wanted.
+fn attach<H: Host>(host: &mut H, role: Role, name: &str) -> Result<bool, Failed> {
+    if matches!(role, Role::Transcript | Role::Notes) {
+        return Ok(false);
+    }
+    host.attach(role, name)?;
+    Ok(true)
 }
 
-fn put<H: Host>(rt: &impl Abort, host: &mut H, role: Role, text: &[u8]) -> Result<(), Failed> {
-    assert!(rt; !matches!(role, Role::Image | Role::Events | Role::Work));
-    write_full(host, role, text)
+fn put<H: Host>(host: &mut H, role: Role, text: &[u8]) -> Result<bool, Failed> {
+    if matches!(role, Role::Image | Role::Events | Role::Work) {
+        return Ok(false);
+    }
+    write_full(host, role, text)?;
+    Ok(true)
 }
 
-fn take<H: Host>(
-    rt: &impl Abort,
-    host: &mut H,
-    role: Role,
-    buf: &mut [u8],
-) -> Result<usize, Failed> {
-    assert!(rt; matches!(role, Role::Image | Role::Events));
-    read_full(host, role, buf)
-}
-
-fn run<H: Host>(rt: &impl Abort, host: &mut H, step: Step) -> Result<(), Failed> {
+// Takes as many bytes as a text has, and so many more where it is the end.
+fn take<H: Host>(host: &mut H, role: Role, text: &[u8], more: usize) -> Result<bool, Failed> {
     let mut buf = [9; 10];
-    match step {
-        Step::Attach(role, name) => attach(rt, host, role, name),
-        Step::Misses(role, name) => {
-            let before = host.fault_count(role);
-            assert_eq!(rt; attach(rt, host, role, name), Err(Failed), "{name}");
-            assert_eq!(rt; host.fault_count(role), before.saturating_add(1));
-            Ok(())
-        }
-        Step::Put(role, text) => put(rt, host, role, text),
-        Step::Take(role, text) => {
-            assert!(rt; text.len() <= 10);
-            let piece = &mut buf[..text.len()];
-            assert_eq!(rt; take(rt, host, role, piece)?, text.len());
-            assert_eq!(rt; &*piece, text);
-            Ok(())
-        }
-        Step::End(role, text) => {
-            let n = take(rt, host, role, &mut buf)?;
-            assert!(rt; n < 10);
-            assert_eq!(rt; &buf[..n], text);
-            Ok(())
-        }
-        Step::WriteAt(place, text) => host.write_at(place, text),
-        Step::ReadAt(place, text) => {
-            assert!(rt; text.len() <= 10);
-            let piece = &mut buf[..text.len()];
-            host.read_at(place, piece)?;
-            assert_eq!(rt; &*piece, text);
-            Ok(())
-        }
+    if !matches!(role, Role::Image | Role::Events) {
+        return Ok(false);
+    }
+    if more > 1 || text.len() > 8 {
+        return Ok(false);
+    }
+    let n = read_full(host, role, &mut buf[..text.len() + more])?;
+    Ok(&buf[..n] == text)
+}
+
+fn read_at<H: Host>(host: &mut H, place: u64, text: &[u8]) -> Result<bool, Failed> {
+    let mut buf = [9; 10];
+    if text.len() > 9 {
+        return Ok(false);
+    }
+    let piece = &mut buf[..text.len()];
+    host.read_at(place, piece)?;
+    Ok(&*piece == text)
+}
+
+fn write_at<H: Host>(host: &mut H, place: u64, text: &[u8]) -> Result<bool, Failed> {
+    host.write_at(place, text)?;
+    Ok(true)
+}
+
+fn fails<H: Host>(host: &mut H, role: Role) -> bool {
+    match role {
+        Role::Work => write_at(host, 0, b"w").is_err(),
+        _ => put(host, role, b"w").is_err(),
     }
 }
 
+fn run<H: Host>(host: &mut H, step: Step) -> Result<bool, Failed> {
+    match step {
+        Step::Attach(role, name) => attach(host, role, name),
+        Step::Misses(role, name) => Ok(attach(host, role, name).is_err()),
+        Step::Put(role, text) => put(host, role, text),
+        Step::Take(role, text) => take(host, role, text, 0),
+        Step::End(role, text) => take(host, role, text, 1),
+        Step::WriteAt(place, text) => write_at(host, place, text),
+        Step::ReadAt(place, text) => read_at(host, place, text),
+        Step::Fails(role) => Ok(fails(host, role)),
+        Step::Faults(role, count) => Ok(host.fault_count(role) == count),
+    }
+}
+
+// The first step of which something else came.
+fn first_wrong<H: Host>(host: &mut H, steps: &[Step]) -> Result<Option<usize>, Failed> {
+    for (i, step) in steps.iter().enumerate() {
+        if !run(host, *step)? {
+            return Ok(Some(i));
+        }
+    }
+    Ok(None)
+}
+
 // What holds over files as over memory.
-const STEPS: [Step; 29] = [
+const STEPS: [Step; 31] = [
     Step::Misses(Role::Image, "none"),
+    Step::Faults(Role::Image, 1),
     Step::Attach(Role::Saved, "s"),
     Step::Put(Role::Saved, b"abc"),
     Step::Put(Role::Saved, b"def"),
     Step::Attach(Role::Image, "s"),
     Step::Take(Role::Image, b"abcd"),
     Step::Misses(Role::Events, "none"),
+    Step::Faults(Role::Events, 1),
     Step::End(Role::Image, b"ef"),
     Step::End(Role::Image, b""),
     Step::Attach(Role::Saved, "t"),
@@ -117,6 +134,49 @@ const STEPS: [Step; 29] = [
     Step::WriteAt(1, b"y"),
 ];
 
+// Where nothing is attached yet.
+const FIRST: [Step; 2] = [Step::Fails(Role::Work), Step::Fails(Role::Saved)];
+
+// Once a write of Notes is interrupted 1,000 times.
+const LAST: [Step; 7] = [
+    Step::Faults(Role::Image, 1),
+    Step::Faults(Role::Events, 1),
+    Step::Faults(Role::Work, 1),
+    Step::Faults(Role::Saved, 1),
+    Step::Faults(Role::Notes, 0),
+    Step::Fails(Role::Notes),
+    Step::Faults(Role::Notes, 1),
+];
+
+/// A file, and what stands in it then.
+struct Text {
+    name: &'static str,
+    text: &'static str,
+}
+
+const TEXTS: [Text; 5] = [
+    Text {
+        name: "s",
+        text: "abcdef",
+    },
+    Text {
+        name: "t",
+        text: "x",
+    },
+    Text {
+        name: "d",
+        text: "picture",
+    },
+    Text {
+        name: "w",
+        text: "\0y",
+    },
+    Text {
+        name: "said",
+        text: "said\n",
+    },
+];
+
 // A writer that is interrupted so many times before it takes a piece, and 1,000 times before the next.
 #[derive(Drop)]
 struct Interrupted {
@@ -138,64 +198,109 @@ impl Write for Interrupted {
     }
 }
 
-#[test]
-fn files_and_streams(rt: HostRuntime) -> Result<(), Fail> {
-    for name in ["s", "t", "d"] {
-        fs::write(&rt, name, "longer than what is put into it")?;
-    }
-    let said = File::create(&rt, "said")?;
-    let mut host = RealHost::new(rt.clone()?, said, Interrupted { times: 999 });
-    assert_eq!(rt; call(&mut host, Role::Work), Err(Failed));
-    assert_eq!(rt; call(&mut host, Role::Saved), Err(Failed));
-    for step in STEPS {
-        run(&rt, &mut host, step)?;
-    }
-    for (role, count) in [
-        (Role::Image, 1),
-        (Role::Work, 1),
-        (Role::Saved, 1),
-        (Role::Notes, 0),
-    ] {
-        assert_eq!(rt; host.fault_count(role), count, "{role:?}");
-    }
-    assert_eq!(rt; call(&mut host, Role::Notes), Err(Failed));
-    assert_eq!(rt; host.fault_count(Role::Notes), 1);
-    for (name, text) in [
-        ("s", "abcdef"),
-        ("t", "x"),
-        ("d", "picture"),
-        ("w", "\0y"),
-        ("said", "said\n"),
-    ] {
-        let file = fs::read_to_string(&rt, name)?;
-        assert_eq!(rt; file.as_str(), text, "{name}");
-        fs::remove_file(&rt, name)?;
+// Each file has a text before.
+fn lay(rt: &HostRuntime) -> io::Result<()> {
+    for row in &TEXTS {
+        fs::write(rt, row.name, "longer than what is put into it")?;
     }
     Ok(())
 }
 
+// Whether the file holds its text. It is removed.
+fn is_right(rt: &HostRuntime, row: &Text) -> io::Result<bool> {
+    let text = fs::read_to_string(rt, row.name)?;
+    fs::remove_file(rt, row.name)?;
+    Ok(text.as_str() == row.text)
+}
+
+// The first file that holds another text.
+fn first_other(rt: &HostRuntime) -> io::Result<Option<&'static str>> {
+    for row in &TEXTS {
+        if !is_right(rt, row)? {
+            return Ok(Some(row.name));
+        }
+    }
+    Ok(None)
+}
+
+#[test]
+fn files_and_streams(rt: HostRuntime) -> Result<(), Fail> {
+    lay(&rt)?;
+    let said = File::create(&rt, "said")?;
+    let mut host = RealHost::new(rt.clone()?, said, Interrupted { times: 999 });
+    assert_eq!(rt; first_wrong(&mut host, &FIRST)?, None);
+    assert_eq!(rt; first_wrong(&mut host, &STEPS)?, None);
+    assert_eq!(rt; first_wrong(&mut host, &LAST)?, None);
+    assert_eq!(rt; first_other(&rt)?, None);
+    Ok(())
+}
+
+// How many bytes a host moves at once, and how much room it has for Work and Saved.
+struct Sizes {
+    chunk: usize,
+    room: u64,
+}
+
+const SIZES: [Sizes; 4] = [
+    Sizes { chunk: 1, room: 0 },
+    Sizes {
+        chunk: 100,
+        room: 0,
+    },
+    Sizes {
+        chunk: 1,
+        room: 65_536,
+    },
+    Sizes {
+        chunk: 100,
+        room: 65_536,
+    },
+];
+
+fn in_memory(alloc: Global, sizes: &Sizes) -> Result<MemoryHost, AllocError> {
+    let mut host = MemoryHost::new(alloc, sizes.chunk.max(1))?;
+    host.reserve(Role::Work, sizes.room)?;
+    host.reserve(Role::Saved, sizes.room)?;
+    Ok(host)
+}
+
+fn is_file(host: &MemoryHost, name: &str, bytes: &[u8]) -> bool {
+    host.file(name) == Some(bytes)
+}
+
+// After the steps.
+fn is_whole(host: &MemoryHost) -> bool {
+    host.transcript() == b"said\n".as_slice()
+        && host.notes() == b"noted\n".as_slice()
+        && is_file(host, "s", b"abcdef")
+        && is_file(host, "t", b"x")
+        && host.file("w").is_none()
+        && host.work_writes() == (3, 3)
+}
+
+// Another write to Transcript is told, a read moves a chunk, and there isn't room for everything.
+fn goes_on(host: &mut MemoryHost, chunk: usize) -> Result<bool, Failed> {
+    write_full(host, Role::Transcript, b"more")?;
+    host.attach(Role::Image, "s")?;
+    let n = host.read(Role::Image, &mut [0; 5])?;
+    Ok(n == chunk.min(5) && host.work_writes() == (3, 4))
+}
+
+fn holds_all(alloc: Global, sizes: &Sizes) -> Result<bool, Fail> {
+    let mut host = in_memory(alloc, sizes)?;
+    let wrong = first_wrong(&mut host, &STEPS)?;
+    Ok(
+        wrong.is_none()
+            && is_whole(&host)
+            && goes_on(&mut host, sizes.chunk)?
+            && host.reserve(Role::Work, u64::MAX).is_err(),
+    )
+}
+
 #[test]
 fn memory(rt: HostRuntime) -> Result<(), Fail> {
-    for (chunk, room) in [(1, 0), (100, 0), (1, 65_536), (100, 65_536)] {
-        assert!(rt; chunk > 0);
-        let mut host = MemoryHost::new(rt.alloc(), chunk)?;
-        host.reserve(Role::Work, room)?;
-        host.reserve(Role::Saved, room)?;
-        assert_eq!(rt; host.work_writes(), (0, 0));
-        for step in STEPS {
-            run(&rt, &mut host, step)?;
-        }
-        assert_eq!(rt; host.work_writes(), (3, 3));
-        assert_eq!(rt; host.transcript(), b"said\n".as_slice());
-        assert_eq!(rt; host.notes(), b"noted\n".as_slice());
-        assert_eq!(rt; host.file("s"), Some(b"abcdef".as_slice()));
-        assert_eq!(rt; host.file("t"), Some(b"x".as_slice()));
-        assert_eq!(rt; host.file("w"), None);
-        run(&rt, &mut host, Step::Put(Role::Transcript, b"more"))?;
-        assert_eq!(rt; host.work_writes(), (3, 4));
-        host.attach(Role::Image, "s")?;
-        assert_eq!(rt; host.read(Role::Image, &mut [0; 5])?, chunk.min(5));
-        assert!(rt; host.reserve(Role::Work, u64::MAX).is_err());
+    for sizes in &SIZES {
+        assert!(rt; holds_all(rt.alloc(), sizes)?);
     }
     Ok(())
 }
@@ -262,71 +367,44 @@ const NEWER: [Shown; 13] = [
     },
 ];
 
-fn is_file(host: &MemoryHost, name: &str, bytes: &[u8]) -> bool {
-    host.file(name) == Some(bytes)
+// The writer of the older file writes on in it.
+const ADDED: [Shown; 1] = [Shown {
+    step: Step::Put(Role::Display, b"er"),
+    file: b"added",
+}];
+
+// The first step after which something else came, or the file shows something else.
+fn first_not_shown(host: &mut MemoryHost, rows: &[Shown]) -> Result<Option<usize>, Failed> {
+    for (i, row) in rows.iter().enumerate() {
+        if !run(host, row.step)? || !is_file(host, "s", row.file) {
+            return Ok(Some(i));
+        }
+    }
+    Ok(None)
 }
 
 #[test]
 fn a_newer_file(rt: HostRuntime) -> Result<(), Fail> {
     let mut host = MemoryHost::new(rt.alloc(), 4)?;
-    for row in &NEWER {
-        run(&rt, &mut host, row.step)?;
-        assert!(rt; is_file(&host, "s", row.file));
-    }
+    assert_eq!(rt; first_not_shown(&mut host, &NEWER)?, None);
     host.add_file("s", b"added")?;
-    run(&rt, &mut host, Step::Put(Role::Display, b"er"))?;
-    assert_eq!(rt; host.file("s"), Some(b"added".as_slice()));
-    assert_eq!(rt; host.file("none"), None);
+    assert_eq!(rt; first_not_shown(&mut host, &ADDED)?, None);
     Ok(())
 }
 
-// One call on a role of which nothing is attached.
-fn call<H: Host>(host: &mut H, role: Role) -> Result<(), Failed> {
-    match role {
-        Role::Image | Role::Events => {
-            let _n = host.read(role, &mut [0; 2])?;
-        }
-        Role::Work => host.write_at(0, b"w")?,
-        Role::Saved | Role::Display | Role::Transcript | Role::Notes => {
-            let _n = host.write(role, b"w")?;
-        }
-    }
-    Ok(())
-}
-
-#[test]
-fn listed_calls_fail(rt: HostRuntime) -> Result<(), Fail> {
-    for role in ROLES {
-        for nth in [1, 2, 3] {
-            let mut host = MemoryHost::new(rt.alloc(), 100)?;
-            call(&mut host, role)?;
-            host.fail(role, nth)?;
-            host.fail(role, 0)?;
-            for k in [1, 2, 3, 4] {
-                let failed = call(&mut host, role).is_err();
-                assert_eq!(rt; failed, k == nth, "call {k} on {role:?}, {nth} listed");
-            }
-            for other in ROLES {
-                assert_eq!(rt; host.fault_count(other), if other == role { 1 } else { 0 });
-            }
-        }
-    }
-    Ok(())
-}
+const LIES: [Step; 5] = [
+    Step::Attach(Role::Work, "w"),
+    Step::WriteAt(0, b"ab"),
+    Step::ReadAt(0, b"ab"),
+    Step::ReadAt(0, b"nm"),
+    Step::ReadAt(0, b"ab"),
+];
 
 // The second read gives each byte with the lowest bits turned.
 #[test]
 fn one_read_lies(rt: HostRuntime) -> Result<(), Fail> {
     let mut host = LyingHost::new(MemoryHost::new(rt.alloc(), 100)?, 2, 0x0f);
-    host.attach(Role::Work, "w")?;
-    host.write_at(0, b"ab")?;
-    for want in [*b"ab", *b"nm", *b"ab"] {
-        let mut bytes = [0; 2];
-        host.read_at(0, &mut bytes)?;
-        assert_eq!(rt; bytes, want);
-    }
-    write_full(&mut host, Role::Transcript, b"said")?;
-    assert_eq!(rt; host.inner().transcript(), b"said".as_slice());
-    assert_eq!(rt; host.inner().work_writes(), (1, 1));
+    assert_eq!(rt; first_wrong(&mut host, &LIES)?, None);
+    assert_eq!(rt; host.inner().work_writes(), (0, 0));
     Ok(())
 }
