@@ -1,7 +1,6 @@
 -- Accesses of a memory that keeps its heap while objects come and go below.
-use Rattle.std.proofs.Common.{◌≡◌, ℕ, ◌+◌, ◌<◌, ◌≤◌, true, false, eqb, cond, List, Option, Some, None, Result, Ok, Err, IsTrue, inl, refl, sym, ◌∙◌, ap, subst, add-zero, arith, Bool, ⊎_elim}
+use Rattle.std.proofs.Common.{◌≡◌, ℕ, ◌≤◌, true, false, Option, Some, None, Ok, Err, IsTrue, refl, sym, ◌∙◌, ap, subst, add-zero, arith, Bool, ⊎_elim}
 use Rattle.std.proofs.lemmas.Grind.{common_steps}
-use Rattle.std.specs.Option.{option_map_or, option_and_then}
 use Rattle.long_names.specs.declared.value.Value.{Value}
 use Rattle.long_names.specs.declared.object.Kind.{Kind}
 use Rattle.long_names.specs.Counting.{counted}
@@ -12,9 +11,8 @@ use Rattle.long_names.specs.Thin.{IsThinner}
 use Rattle.long_names.proofs.ThinLemmas.{IsThinner-refl}
 use Rattle.object_memory.specs.declared.fault.MemFault.{MemFault}
 use Rattle.object_memory.specs.declared.fault.MemFault.TheVariants.{CoreFull, WorkFull, WorkFault, Damaged, NamesSpent, Said, Memory}
-use Rattle.object_memory.specs.declared.fault.Need.{Need}
 use Rattle.object_memory.specs.Told.{Told, Cache, Bounds, IsReady}
-use Rattle.object_memory.specs.Contract.{Does, SameBounds, Raised, makes, Counts, IfBounds, IsMaking, HasCause, HasCore, Accessed, IsLater, Refuses, LeavesCache, IsKeptCache, LeavesAll, IsLeft, IsSaying, SaysRefused, SaysBy, no_names, touched_by, work_faults}
+use Rattle.object_memory.specs.Contract.{Does, SameBounds, Raised, makes, IfBounds, HasCause, HasCore, Accessed, IsLater, Refuses, LeavesCache, LeavesAll, IsLeft, IsSaying, SaysRefused, no_names, touched_by, work_faults}
 use Rattle.object_memory.specs.Plain.{refused}
 use Rattle.loom_memory.proofs.CacheLaws.{left-then, left-trans}
 use Rattle.long_names.specs.Need.{words_alone}

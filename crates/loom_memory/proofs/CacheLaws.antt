@@ -1,8 +1,7 @@
 -- The cache of a core while marks stay, or all go.
-use Rattle.std.proofs.Common.{◌≡◌, ◌≢◌, ◌⊎◌, inl, inr, ℕ, ◌<◌, ◌==◌, ◌&&◌, ◌||◌, Bool, true, false, eqb, refl, sym, ◌∙◌, ap, subst, arith, Option, Some, None, ⊎_elim}
+use Rattle.std.proofs.Common.{◌≡◌, inl, inr, ℕ, ◌<◌, ◌&&◌, ◌||◌, Bool, true, false, eqb, refl, sym, ◌∙◌, ap, subst, arith, Option, Some, None, ⊎_elim}
 use Rattle.std.proofs.lemmas.Grind.{common_steps}
 use Rattle.std.proofs.Math.Path.{fun_ext}
-use Rattle.object_table.specs.declared.entry.Entry.{Entry}
 use Rattle.object_table.specs.Entries.{is_short, is_used}
 use Rattle.core_view.specs.Core.{Core}
 use Rattle.core_view.specs.Counts.{marked_by, marked_of}
@@ -10,7 +9,7 @@ use Rattle.core_view.specs.Kept.{IsCore}
 use Rattle.object_memory.specs.Told.{Cache}
 use Rattle.object_memory.specs.Contract.{LeavesCache, IsKeptCache, IsEmptied, no_names}
 use Rattle.purger.specs.Marks.{KeepsMarks, LeavesMarks}
-use Rattle.purger.proofs.MarkLaws.{marked-at, none-marked}
+use Rattle.purger.proofs.MarkLaws.{marked-at}
 use Rattle.loom_memory.specs.Cache.{has_mark, is_word_of, row_by, cache_of, IsCached}
 
 pub and-both : (a b : Bool) → a && b ≡ true → (a ≡ true) × (b ≡ true)

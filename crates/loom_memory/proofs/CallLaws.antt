@@ -1,5 +1,5 @@
 -- The object of a call comes in, or the call is refused: the need of its row, and why it has no room.
-use Rattle.std.proofs.Common.{zero, suc, ◌≡◌, ◌≢◌, ℕ, ◌+◌, ◌<◌, ◌≤◌, ◌||◌, Bool, true, false, cond, eqb, List, [], ◌∷◌, length, refl, sym, ◌∙◌, ap, subst, add-zero, arith, Option, Some, None, IsTrue, count_by}
+use Rattle.std.proofs.Common.{◌≡◌, ◌≢◌, ℕ, ◌+◌, ◌<◌, ◌≤◌, ◌||◌, Bool, true, false, cond, eqb, List, [], ◌∷◌, length, refl, sym, ◌∙◌, ap, subst, add-zero, arith, Option, Some, None, IsTrue, count_by}
 use Rattle.std.proofs.lemmas.Grind.{common_steps}
 use Rattle.std.specs.Option.{option_map_or, is_some}
 use Rattle.long_names.specs.declared.value.Value.{Value}
@@ -9,7 +9,7 @@ use Rattle.long_names.specs.Objects.{body_words}
 use Rattle.long_names.specs.Counting.{counted, Rose}
 use Rattle.long_names.specs.Heap.{Heap, Has}
 use Rattle.long_names.specs.State.{name_at}
-use Rattle.long_names.specs.Need.{Row, Fits, words_at, entries_at, added, is_pinned, words_of_row, entries_of_row}
+use Rattle.long_names.specs.Need.{Fits, words_at, added, is_pinned, words_of_row}
 use Rattle.long_names.specs.Access.{Access, Known, Class, KindOf, Length, Header, Field, SetField, Word, SetWord, Byte, SetByte, ReadWords, WriteWords, ReadBytes, Make, Pin, Mark, Say, Swap, target_of}
 use Rattle.loom_outside.specs.declared.outside.Host.{Ghosts}
 use Rattle.loom_outside.specs.Outside.{RoleState}
@@ -18,18 +18,16 @@ use Rattle.loom_outside.specs.declared.outside.Role.TheVariants.{Work, Transcrip
 use Rattle.loom_outside.specs.declared.outside.DiskFault.{DiskFault}
 use Rattle.loom_outside.specs.declared.outside.DiskFault.TheVariants as fault
 use Rattle.object_memory.specs.declared.fault.MemFault.{MemFault}
-use Rattle.object_memory.specs.declared.fault.MemFault.TheVariants.{CoreFull, WorkFault, Damaged}
+use Rattle.object_memory.specs.declared.fault.MemFault.TheVariants.{CoreFull}
 use Rattle.object_memory.specs.declared.fault.Need.{Need}
-use Rattle.object_memory.specs.Told.{Told, Bounds, IsReady, need_of}
-use Rattle.object_memory.specs.Contract.{Does, makes, SameBounds, Raised, HasCause, ForBounds, SaysRefused, need_of_access, IsNeedOf, LeavesAll}
+use Rattle.object_memory.specs.Told.{Told, IsReady, need_of}
+use Rattle.object_memory.specs.Contract.{Does, makes, HasCause, ForBounds, SaysRefused, need_of_access, IsNeedOf, LeavesAll}
 use Rattle.object_memory.specs.Plain.{refused}
-use Rattle.object_table.specs.declared.entry.Entry.{Entry}
-use Rattle.object_table.specs.Entries.{is_short, is_used, place_of}
+use Rattle.object_table.specs.Entries.{is_used, place_of}
 use Rattle.loom_outside.specs.Work.{IsWorkOnly}
-use Rattle.disk_objects.specs.declared.rest.DiskRest.{DiskRest}
 use Rattle.disk_objects.specs.Disk.{disk_room}
 use Rattle.core_view.specs.Core.{Core}
-use Rattle.core_view.specs.Words.{meant, pointers, int_of_short}
+use Rattle.core_view.specs.Words.{pointers, int_of_short}
 use Rattle.core_view.specs.Counts.{names, outside}
 use Rattle.std.proofs.lemmas.List.{length-take}
 use Rattle.long_names.specs.Words.{literal_count}
@@ -44,9 +42,9 @@ use Rattle.loom_memory.specs.declared.ledger.Ledger.{Ledger}
 use Rattle.loom_memory.specs.declared.memory.LoomMemory.{LoomMemory}
 use Rattle.disk_objects.specs.Function.{disk_of}
 use Rattle.purger.specs.Purge.{IsPurgeFault}
-use Rattle.core_view.specs.Room.{room_by, room_for, entries_for, over_three, IsBare}
+use Rattle.core_view.specs.Room.{room_by, room_for, over_three, IsBare}
 use Rattle.object_table.specs.Entries.{sum_below, used_by}
-use Rattle.loom_memory.specs.Memory.{pin_in, name_if, heap_if, loom_told, told_of, IsPinned, IsSound, IsQuiet, IsSilent, IsRefused, IsRefusedAt, IsRefusalOf, IsNeed, IsSized, words_in_row}
+use Rattle.loom_memory.specs.Memory.{pin_in, name_if, heap_if, loom_told, IsPinned, IsSound, IsQuiet, IsSilent, IsRefused, IsRefusedAt, IsRefusalOf, IsNeed, IsSized, words_in_row}
 use Rattle.core_view.specs.Room.{in_hand}
 use Rattle.loom_memory.proofs.NeedLaws.{words-at, names-eq, none-there, slot-adds}
 use Rattle.loom_memory.proofs.FullLaws.{slots_by, heap_by, row-entries, pinned-is, no-entries, no-words}

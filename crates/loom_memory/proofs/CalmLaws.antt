@@ -1,20 +1,16 @@
 -- Objects come and go, and what registers and slots hold stays: what is told stays.
-use Rattle.std.proofs.Common.{zero, suc, ◌≡◌, ◌≢◌, ℕ, ◌+◌, ◌*◌, ◌<◌, ◌≤◌, ◌++◌, Bool, true, false, cond, eqb, List, [], ◌∷◌, length, refl, sym, ◌∙◌, ap, subst, arith, Option, Some, None, IsTrue, count_by, ⊎_elim, Result, Ok, Err, add-zero}
+use Rattle.std.proofs.Common.{◌≡◌, ◌≢◌, ℕ, ◌+◌, Bool, true, false, cond, eqb, List, [], refl, sym, ◌∙◌, ap, subst, arith, Option, Some, None, IsTrue, ⊎_elim, Result, Ok, Err, add-zero}
 use Rattle.std.proofs.lemmas.Grind.{common_steps}
 use Rattle.std.proofs.lemmas.Bool.{cases_eq}
 use Rattle.std.proofs.Math.Path.{fun_ext}
-use Rattle.std.specs.List.{slice_get}
 use Rattle.long_names.specs.declared.value.Value.{Value}
-use Rattle.long_names.specs.Heap.{Heap}
 use Rattle.loom_outside.specs.declared.outside.Host.{Ghosts}
 use Rattle.loom_outside.specs.declared.outside.Role.{Role}
 use Rattle.loom_outside.specs.declared.outside.Role.TheVariants.{Image, Events, Work, Saved, Display, Transcript, Notes}
 use Rattle.loom_outside.specs.Outside.{RoleState}
 use Rattle.loom_outside.specs.Work.{IsWorkOnly}
-use Rattle.object_memory.specs.Told.{Told}
 use Rattle.object_table.specs.declared.entry.Entry.{Entry}
-use Rattle.object_table.specs.Entries.{is_short, is_used, place_of}
-use Rattle.object_table.specs.Table.{entries_of}
+use Rattle.object_table.specs.Entries.{is_used, place_of}
 use Rattle.core_segment.specs.Segment.{size_of}
 use Rattle.disk_objects.specs.declared.rest.DiskRest.{DiskRest}
 use Rattle.disk_objects.specs.Disk.{disk_room, disk_held}
@@ -24,10 +20,8 @@ use Rattle.purger.specs.declared.room.RoomFault.TheVariants.{Short, Disk as OfDi
 use Rattle.core_view.specs.Core.{Core}
 use Rattle.core_view.specs.Words.{meant}
 use Rattle.core_view.specs.Held.{Disk, held}
-use Rattle.core_view.specs.Counts.{names, outside}
 use Rattle.core_view.specs.Kept.{IsCore, KeepsOver}
-use Rattle.core_view.proofs.Core.{placed-used, meant-names}
-use Rattle.core_view.proofs.Lists.{count-cons, one-here}
+use Rattle.core_view.proofs.Core.{meant-names}
 use Rattle.leaf_lambda.specs.declared.parts.Parts.{Parts}
 use Rattle.leaf_lambda.specs.Parts.{core_of, IsParts, IsWithin}
 use Rattle.core_view.proofs.Steps.{outside-used}
@@ -36,10 +30,9 @@ use Rattle.purger.specs.declared.room.Pinned.{Pinned}
 use Rattle.core_view.specs.Room.{is_among}
 use Rattle.core_view.specs.Kept.{IsTight}
 use Rattle.disk_objects.specs.Function.{disk_of}
-use Rattle.core_view.specs.Purge.{IsSameBody, IsPurged, fresh_of}
+use Rattle.core_view.specs.Purge.{IsPurged, fresh_of}
 use Rattle.purger.specs.Purge.{Undisturbed}
 use Rattle.loom_memory.specs.Memory.{word_in, pin_in, name_if, heap_if, told_of, IsPinned, IsKept, IsOver, IsCalm, IsQuiet, IsSound, Others, others_of}
-use Rattle.core_view.specs.Room.{in_hand}
 use Rattle.core_view.specs.Kept.{IsValued}
 use Rattle.loom_memory.specs.declared.memory.LoomMemory.{LoomMemory}
 use Rattle.core_view.specs.Counts.{marked_of}
@@ -48,7 +41,7 @@ use Rattle.purger.specs.Marks.{AreHere, LeavesMarks}
 use Rattle.purger.proofs.MarkLaws.{marked-at, Marks-same, within-marks, within-here, within-body}
 use Rattle.loom_memory.specs.Cache.{IsCached}
 use Rattle.loom_memory.proofs.CacheLaws.{cached-left, cache-left}
-use Rattle.loom_memory.proofs.RegLaws.{IsRooted, register-held, heap-same, kept-rooted, word-there, count-append}
+use Rattle.loom_memory.proofs.RegLaws.{IsRooted, register-held, heap-same, word-there}
 
 pub purged-calm : (pins : Pinned) (x y : Core) → IsPurged pins.a pins.b pins.d x y → LeavesMarks x y → (AreHere x → AreHere y) → IsCalm pins x y
 purged-calm pins x y purged marks here = record { marks = marks; here = here; bound = purged.bound; same_outside = purged.same_outside; live = purged.live; pinned = λ t p among at. let body = purged.pinned t p among at in record { at = body.at; place = body.place; name = body.name } }

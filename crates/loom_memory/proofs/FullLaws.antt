@@ -1,9 +1,8 @@
 -- CoreFull: the need of a row that has no room.
-use Rattle.std.proofs.Common.{◌≡◌, ◌≢◌, ℕ, ◌+◌, ◌<◌, ◌≤◌, ◌||◌, Bool, true, false, cond, eqb, List, [], ◌∷◌, length, refl, sym, ◌∙◌, ap, subst, arith, Option, Some, None, count_by}
+use Rattle.std.proofs.Common.{◌≡◌, ◌≢◌, ℕ, ◌+◌, ◌<◌, ◌≤◌, ◌||◌, Bool, true, false, cond, eqb, List, length, refl, sym, ◌∙◌, ap, subst, arith, Option, Some, None, count_by}
 use Rattle.std.proofs.lemmas.Grind.{common_steps}
 use Rattle.long_names.specs.Heap.{Heap}
-use Rattle.long_names.specs.Need.{Row, Fits, words_at, entries_at, added, is_pinned, words_of_row, entries_of_row}
-use Rattle.object_table.specs.declared.entry.Entry.{Entry}
+use Rattle.long_names.specs.Need.{Fits, words_at, entries_at, added, is_pinned, words_of_row, entries_of_row}
 use Rattle.object_table.specs.Entries.{is_short, is_used, place_of}
 use Rattle.core_view.specs.Core.{Core}
 use Rattle.core_view.specs.Held.{Disk, held}
@@ -12,7 +11,7 @@ use Rattle.core_view.specs.Kept.{IsCore}
 use Rattle.core_view.proofs.Core.{placed-used}
 use Rattle.purger.specs.declared.room.Pinned.{Pinned}
 use Rattle.object_table.specs.Entries.{sum_below, used_by}
-use Rattle.core_view.specs.Room.{room_by, room_for, entries_by, entries_for, over_three, is_among, IsBare}
+use Rattle.core_view.specs.Room.{room_by, room_for, entries_by, entries_for, over_three, IsBare}
 use Rattle.loom_memory.specs.Memory.{pin_in, name_if, IsPinned}
 use Rattle.core_view.specs.Room.{in_hand}
 use Rattle.loom_memory.proofs.NeedLaws.{words-at, entries-at, names-eq, none-there, slot-adds}

@@ -1,5 +1,5 @@
 -- A lambda of an object in the core is read into a register.
-use Rattle.std.proofs.Common.{zero, suc, ◌≡◌, ◌≢◌, ℕ, pos, negsuc, ◌+◌, ◌-◌, ◌^◌, ◌/◌, ◌%◌, ◌<◌, ◌≤◌, Bool, true, false, cond, eqb, List, [], ◌∷◌, get_or, refl, sym, ◌∙◌, ap, subst, arith, Option, Some, None, IsTrue}
+use Rattle.std.proofs.Common.{zero, suc, ◌≡◌, ℕ, pos, negsuc, ◌-◌, ◌^◌, ◌/◌, ◌%◌, ◌<◌, ◌≤◌, Bool, true, false, cond, eqb, List, [], ◌∷◌, get_or, refl, sym, ◌∙◌, ap, subst, arith, Option, Some, None, IsTrue}
 use Rattle.std.proofs.lemmas.Grind.{common_steps}
 use Rattle.std.specs.Prelude.{nat_lt, nat_le}
 use Rattle.std.specs.List.{slice_get}
@@ -8,18 +8,17 @@ use Rattle.long_names.specs.declared.value.Value.{Value}
 use Rattle.long_names.specs.declared.value.Value.TheVariants.{Int, Ref}
 use Rattle.long_names.specs.declared.object.Object.{Object}
 use Rattle.long_names.specs.Words.{IsValue, value_of, small_integer_of}
-use Rattle.long_names.specs.Objects.{field_of, fields_of}
+use Rattle.long_names.specs.Objects.{field_of}
 use Rattle.long_names.specs.Counting.{counted}
 use Rattle.long_names.specs.State.{set_register}
 use Rattle.long_names.specs.Access.{Access, Field, brought}
 use Rattle.loom_outside.specs.declared.outside.Host.{Ghosts}
 use Rattle.loom_outside.specs.declared.outside.Role.TheVariants.{Work, Transcript}
 use Rattle.loom_outside.specs.declared.outside.DiskFault.{DiskFault}
-use Rattle.loom_outside.specs.declared.outside.DiskFault.TheVariants as fault
 use Rattle.object_memory.specs.declared.fault.MemFault.{MemFault}
 use Rattle.object_memory.specs.declared.fault.MemFault.TheVariants.{Damaged}
 use Rattle.object_memory.specs.Told.{Told, Bounds, IsReady}
-use Rattle.object_memory.specs.Contract.{Does, makes, SameBounds, Raised, LeavesCache, no_names}
+use Rattle.object_memory.specs.Contract.{makes, SameBounds, Raised, LeavesCache, no_names}
 use Rattle.purger.proofs.MarkLaws.{Marks-same, Kept-refl, live-found}
 use Rattle.loom_memory.proofs.RegLaws.{entries-here}
 use Rattle.object_memory.specs.Plain.{refused}
@@ -34,20 +33,19 @@ use Rattle.core_view.specs.Core.{Core}
 use Rattle.core_view.specs.Words.{meant}
 use Rattle.core_view.specs.Steps.{IsAt}
 use Rattle.core_view.specs.Held.{Disk, fields_there, object_at, held}
-use Rattle.core_view.specs.Kept.{IsCore, Keeps}
+use Rattle.core_view.specs.Kept.{IsCore}
 use Rattle.core_view.proofs.Core.{held-at, placed-used}
 use Rattle.core_view.proofs.Words.{field-meant}
 use Rattle.core_view.proofs.Steps.{outside-used}
 use Rattle.leaf_lambda.specs.declared.parts.Parts.{Parts}
-use Rattle.leaf_lambda.specs.Parts.{core_of, IsParts, IsLeafStep, IsWithin}
-use Rattle.loom_memory.specs.declared.ledger.Ledger.{Ledger}
+use Rattle.leaf_lambda.specs.Parts.{core_of, IsParts, IsLeafStep}
 use Rattle.purger.specs.declared.room.Pinned.{Pinned}
 use Rattle.loom_memory.specs.declared.memory.LoomMemory.{LoomMemory}
 use Rattle.disk_objects.specs.Function.{disk_of}
-use Rattle.loom_memory.specs.Memory.{heap_if, loom_told, told_of, IsKept, IsSound, IsCalm, IsQuiet, IsTaken, IsSilent, IsRefused, IsRefusalOf}
+use Rattle.loom_memory.specs.Memory.{heap_if, loom_told, told_of, IsSound, IsCalm, IsQuiet, IsTaken, IsSilent, IsRefused, IsRefusalOf}
 use Rattle.core_view.specs.Kept.{IsValued}
 use Rattle.loom_memory.proofs.RegLaws.{kept-rooted}
-use Rattle.loom_memory.proofs.CalmLaws.{store-calm, quiet-is}
+use Rattle.loom_memory.proofs.CalmLaws.{quiet-is}
 use Rattle.loom_memory.proofs.AccessLaws.{refused-quiet}
 use Rattle.loom_memory.proofs.FieldLaws.{fault-cause, read-only}
 use Rattle.loom_memory.proofs.LoadLaws.{object-told}

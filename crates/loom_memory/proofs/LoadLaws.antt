@@ -1,5 +1,5 @@
 -- What is told of an object whose body is in the core.
-use Rattle.std.proofs.Common.{zero, suc, ◌≡◌, ◌≢◌, ℕ, pos, ◌+◌, ◌%◌, ◌<◌, ◌≤◌, get_or, Bool, true, false, cond, eqb, List, [], ◌∷◌, length, refl, sym, ◌∙◌, ap, subst, arith, Option, Some, None, IsTrue}
+use Rattle.std.proofs.Common.{zero, suc, ◌≡◌, ◌≢◌, ℕ, pos, ◌+◌, ◌%◌, ◌<◌, ◌≤◌, get_or, Bool, true, false, cond, eqb, List, [], ◌∷◌, length, refl, sym, ◌∙◌, ap, subst, arith, Option, Some, IsTrue}
 use Rattle.std.proofs.lemmas.Grind.{common_steps}
 use Rattle.std.proofs.lemmas.List.Sums.{sum_by-cons}
 use Rattle.std.specs.Prelude.{sum_by}
@@ -12,12 +12,12 @@ use Rattle.long_names.specs.declared.object.Kind.TheVariants as kind
 use Rattle.long_names.specs.declared.object.Object.{Object}
 use Rattle.long_names.specs.Objects.{kind_of, fields_of, field_of, with_field}
 use Rattle.long_names.specs.Heap.{Heap, put_object, add_object}
-use Rattle.long_names.specs.State.{IsRef, object_at as object_of_value, part_at}
-use Rattle.long_names.specs.Need.{words_at, words_named, words_alone}
+use Rattle.long_names.specs.State.{object_at as object_of_value}
+use Rattle.long_names.specs.Need.{words_named, words_alone}
 use Rattle.long_names.specs.Access.{KindOf, Field, SetField, OfKind, CanDo, answer_of, brought, with_body, heap_after}
 use Rattle.object_table.specs.declared.entry.Entry.{Entry}
 use Rattle.object_table.specs.Entries.{put, is_short, place_of}
-use Rattle.core_segment.specs.Chunks.{Chunk, Placed, no_chunk, room_of, at_place, IsLaidOut}
+use Rattle.core_segment.specs.Chunks.{Chunk, Placed, room_of, at_place, IsLaidOut}
 use Rattle.core_view.specs.Core.{Core}
 use Rattle.core_view.specs.Words.{meant, body_in, pointers, int_of_short}
 use Rattle.core_view.specs.Steps.{IsAt}

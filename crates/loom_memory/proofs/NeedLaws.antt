@@ -1,7 +1,6 @@
 -- What a row needs, from the entries of a core.
-use Rattle.std.proofs.Common.{zero, suc, ◌≡◌, ◌≢◌, ℕ, ◌+◌, ◌-◌, ◌*◌, ◌/◌, ◌<◌, ◌≤◌, ◌||◌, Bool, true, false, cond, eqb, List, [], ◌∷◌, length, take, drop, refl, sym, ◌∙◌, ap, subst, arith, Option, Some, None}
+use Rattle.std.proofs.Common.{◌≡◌, ◌≢◌, ℕ, ◌+◌, ◌*◌, Bool, true, false, cond, eqb, List, [], ◌∷◌, length, take, drop, refl, sym, ◌∙◌, ap, arith, Option, Some, None}
 use Rattle.std.proofs.lemmas.Grind.{common_steps}
-use Rattle.std.proofs.lemmas.Bool.{cases_eq}
 use Rattle.std.proofs.lemmas.List.{length-take, length-drop}
 use Rattle.std.specs.Option.{option_map_or}
 use Rattle.long_names.specs.Words.{literal_count}
@@ -10,18 +9,17 @@ use Rattle.long_names.specs.declared.object.Kind.{Kind}
 use Rattle.long_names.specs.declared.object.Kind.TheVariants as kind
 use Rattle.long_names.specs.declared.object.Object.{Object}
 use Rattle.long_names.specs.Objects.{body_words, fields_of}
-use Rattle.long_names.specs.Heap.{Heap}
-use Rattle.long_names.specs.Need.{Row, Fits, words_at, entries_at, added, is_pinned, words_of_row, entries_of_row}
+use Rattle.long_names.specs.Need.{words_at, entries_at, added}
 use Rattle.object_table.specs.declared.entry.Entry.{Entry}
 use Rattle.object_table.specs.Entries.{is_short, is_used, place_of}
 use Rattle.core_view.specs.Core.{Core}
-use Rattle.core_view.specs.Words.{meant, values_by, bytes_in, header_in, literals_in, code_in, pointers, words_for, body_in, int_of_short}
+use Rattle.core_view.specs.Words.{meant, bytes_in, header_in, pointers, words_for, body_in, int_of_short}
 use Rattle.core_view.specs.Held.{Disk, fields_there, object_at, held}
 use Rattle.core_view.specs.Kept.{IsCore}
 use Rattle.core_view.proofs.Core.{placed-used, held-at}
 use Rattle.core_view.proofs.Lists.{length-values}
 use Rattle.core_view.proofs.Words.{body-fields}
-use Rattle.core_view.specs.Room.{room_by, room_for, entries_by, entries_for, over_three, is_among}
+use Rattle.core_view.specs.Room.{room_by, room_for, entries_by, entries_for}
 use Rattle.loom_memory.specs.Memory.{name_if}
 
 length-bytes : (ws : List ℕ) → length (bytes_in ws) ≡ 2 * length ws

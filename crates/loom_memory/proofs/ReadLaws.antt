@@ -1,12 +1,12 @@
 -- Reads of an object in the core, and what every access to it needs of the core.
-use Rattle.std.proofs.Common.{◌≡◌, ℕ, ◌+◌, ◌≤◌, Bool, true, false, Option, Some, None, Result, Ok, Err, IsTrue, refl, sym, ◌∙◌, ap, subst, arith}
+use Rattle.std.proofs.Common.{◌≡◌, ℕ, ◌≤◌, true, Option, Some, None, Ok, IsTrue, refl, sym, ◌∙◌, ap, subst, arith}
 use Rattle.long_names.specs.declared.value.Value.{Value}
 use Rattle.long_names.specs.Heap.{Heap}
 use Rattle.long_names.specs.Access.{Access, Known, Class, KindOf, Length, Header, Field, SetField, Word, SetWord, Byte, SetByte, ReadWords, WriteWords, ReadBytes, Make, Pin, Mark, Say, Swap, Answer, answer_of, target_of}
 use Rattle.long_names.specs.Need.{words_alone, words_named}
 use Rattle.long_names.proofs.ThinLemmas.{IsThinner-refl}
 use Rattle.object_memory.specs.Told.{Told, Cache, Bounds}
-use Rattle.object_memory.specs.Contract.{Does, SameBounds, Raised, IfBounds, HasCore, Accessed, LeavesCache, no_names, makes}
+use Rattle.object_memory.specs.Contract.{SameBounds, Raised, IfBounds, HasCore, Accessed, LeavesCache, no_names, makes}
 use Rattle.loom_memory.specs.Memory.{IsQuiet}
 use Rattle.loom_memory.specs.Calls.{is_read}
 

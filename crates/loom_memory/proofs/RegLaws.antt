@@ -1,7 +1,6 @@
 -- A word comes into a register, and the one before is let go.
-use Rattle.std.proofs.Common.{zero, suc, ◌≡◌, ◌≢◌, ℕ, ◌+◌, ◌<◌, ◌≤◌, ◌++◌, Bool, true, false, cond, eqb, List, [], ◌∷◌, length, refl, sym, ◌∙◌, ap, subst, arith, Option, Some, None, IsTrue, count_by, ⊎_elim}
+use Rattle.std.proofs.Common.{zero, suc, ◌≡◌, ◌≢◌, ℕ, ◌+◌, ◌<◌, ◌≤◌, ◌++◌, Bool, true, false, cond, eqb, List, [], ◌∷◌, length, refl, sym, ◌∙◌, ap, subst, arith, Option, Some, None, IsTrue, count_by}
 use Rattle.std.proofs.lemmas.Grind.{common_steps}
-use Rattle.std.proofs.lemmas.Bool.{cases_eq}
 use Rattle.std.proofs.lemmas.List.Sums.{count_by-le-length}
 use Rattle.std.proofs.Math.Path.{fun_ext}
 use Rattle.std.specs.List.{slice_get, slice_set, slice_index_or}
@@ -16,11 +15,10 @@ use Rattle.leaf_lambda.specs.Parts.{core_of, IsParts}
 use Rattle.long_names.specs.declared.value.Value.{Value}
 use Rattle.long_names.specs.State.{set_register}
 use Rattle.loom_outside.specs.declared.outside.Host.{Ghosts}
-use Rattle.loom_outside.specs.declared.outside.Role.TheVariants.{Work, Transcript}
+use Rattle.loom_outside.specs.declared.outside.Role.TheVariants.{Work}
 use Rattle.object_memory.specs.Told.{Told, IsReady}
 use Rattle.object_table.specs.declared.entry.Entry.{Entry}
-use Rattle.object_table.specs.Entries.{is_short, is_used, place_of, with_refs}
-use Rattle.core_segment.specs.Chunks.{Chunk}
+use Rattle.object_table.specs.Entries.{is_short, is_used, place_of}
 use Rattle.disk_objects.specs.declared.rest.DiskRest.{DiskRest}
 use Rattle.core_view.specs.Core.{Core}
 use Rattle.core_view.specs.Words.{meant}
@@ -41,15 +39,10 @@ use Rattle.core_view.proofs.Tight.{ref-tight}
 use Rattle.core_view.proofs.Fresh.{ref-fresh}
 use Rattle.loom_memory.specs.declared.ledger.Ledger.{Ledger}
 use Rattle.purger.specs.declared.room.Pinned.{Pinned}
-use Rattle.object_table.specs.Entries.{sum_below}
-use Rattle.core_view.specs.Kept.{IsTight}
 use Rattle.disk_objects.specs.Function.{disk_of}
-use Rattle.core_view.specs.Purge.{fresh_by, fresh_of}
 use Rattle.loom_memory.specs.Memory.{word_in, pin_in, name_if, heap_if, told_of, IsPinned, IsKept, IsOver}
 use Rattle.core_view.specs.Room.{in_hand}
 use Rattle.core_view.specs.Kept.{IsValued}
-use Rattle.core_view.proofs.Sums.{sum-same}
-use Rattle.core_view.proofs.Fresh.{fresh-unplaced}
 
 -- ---- what references leave
 

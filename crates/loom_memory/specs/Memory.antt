@@ -1,20 +1,18 @@
 -- What a two-level memory tells, and what it keeps.
-use Rattle.std.specs.Prelude.{◌≡◌, ◌≢◌, ℕ, pos, ◌+◌, ◌<◌, ◌≤◌, ◌==◌, ◌||◌, ◌++◌, Bool, true, false, List, [], ◌∷◌, length, count_by, Option, None, Some, IsTrue, slice_index_or, if◌then◌else◌}
+use Rattle.std.specs.Prelude.{◌≡◌, ◌≢◌, ℕ, ◌+◌, ◌≤◌, ◌==◌, ◌||◌, Bool, true, false, List, [], length, count_by, Option, None, Some, IsTrue, slice_index_or, if◌then◌else◌}
 use Rattle.long_names.specs.declared.value.Value.{Value}
 use Rattle.long_names.specs.declared.value.Value.TheVariants.{Ref}
 use Rattle.object_memory.specs.declared.fault.Need.{Need}
 use Rattle.long_names.specs.declared.object.Object.{Object}
 use Rattle.long_names.specs.Heap.{Heap}
-use Rattle.long_names.specs.Words.{IsValue}
-use Rattle.long_names.specs.Objects.{fields_of, body_words}
-use Rattle.std.specs.List.{slice_get}
+use Rattle.long_names.specs.Objects.{body_words}
 use Rattle.long_names.specs.Access.{Access, Say, Field, SetField, brought, heap_after, target_of}
 use Rattle.long_names.specs.State.{set_register}
 use Rattle.loom_outside.specs.Outside.{RoleState, at_start}
 use Rattle.loom_outside.specs.declared.outside.Role.{Role}
 use Rattle.loom_outside.specs.declared.outside.Role.TheVariants.{Work, Transcript}
 use Rattle.loom_outside.specs.declared.outside.Host.{Ghosts}
-use Rattle.object_memory.specs.Told.{Told, Bounds}
+use Rattle.object_memory.specs.Told.{Told}
 use Rattle.object_memory.specs.declared.fault.MemFault.{MemFault}
 use Rattle.object_memory.specs.declared.fault.MemFault.TheVariants.{WorkFault, Damaged}
 use Rattle.loom_outside.specs.declared.outside.DiskFault.{DiskFault}

@@ -1,4 +1,14 @@
-//! The memory of two levels: objects on a disk, and a core of those that are at hand.
+//! The memory of two levels: objects on a disk, and a core of those that are at hand. It is in the making: what it tells and keeps
+//! stands, and how the object of a register comes into the core; of the trait's calls `kind` alone.
+//!
+//! `load` is the step that each access begins with: room is made beside the pinned objects, and the object is brought in where it is a
+//! leaf. Where the row of the access doesn't fit it answers CoreFull with that row's need (`full`), said of every access that names the
+//! object and is silent (`err`). Nothing of what is told changes meanwhile but counts of faults, and that all marks may be gone
+//! (`IsQuiet`).
+//!
+//! Read `specs/Memory.antt` first: `told_of`, what is told of a core over a disk, and `IsSound`, in two halves, what the core keeps over
+//! every host (`IsKept`) and what it keeps with a disk (`IsOver`). `specs/Cache.antt` has the rows of the method cache. Objects leave by
+//! `purger`.
 #![tactic(auto)]
 
 pub mod bring;

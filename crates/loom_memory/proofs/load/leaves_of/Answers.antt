@@ -1,10 +1,8 @@
-use Rattle.std.proofs.Common.{◌≡◌, ℕ, ◌+◌, ◌<◌, ◌≤◌, Option, Some, None, refl, sym, ◌∙◌, ap, arith, length}
+use Rattle.std.proofs.Common.{ℕ, ◌+◌, sym, ◌∙◌, ap}
 use Rattle.object_table.specs.declared.entry.Entry.{Entry}
 use Rattle.object_table.specs.Entries.{place_of}
-use Rattle.core_view.specs.Words.{pointers}
 use Rattle.leaf_lambda.specs.Parts.{core_of}
 use Rattle.core_view.specs.Room.{entries_by}
-use Rattle.loom_memory.proofs.CallLaws.{few-pointers}
 use Rattle.loom_memory.proofs.load.leaves_of.Goals as goal
 
 pub entry-requires-clause-within : goal.entry-requires-clause-within

@@ -1,6 +1,6 @@
-use Rattle.std.proofs.Common.{◌≡◌, ℕ, ◌≤◌, Some, None, true, refl, sym, ◌∙◌, ap, subst, arith}
+use Rattle.std.proofs.Common.{◌≡◌, ◌≤◌, None, sym, ◌∙◌, ap, subst}
 use Rattle.object_table.specs.declared.entry.Entry.{Entry}
-use Rattle.object_table.specs.Entries.{is_used, place_of}
+use Rattle.object_table.specs.Entries.{place_of}
 use Rattle.core_view.specs.Counts.{outside}
 use Rattle.core_view.proofs.Steps.{outside-used}
 use Rattle.leaf_lambda.specs.declared.parts.Parts.{Parts}

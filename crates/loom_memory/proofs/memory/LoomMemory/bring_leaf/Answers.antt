@@ -1,10 +1,10 @@
-use Rattle.std.proofs.Common.{◌≡◌, ℕ, ◌+◌, ◌≤◌, Some, None, true, refl, sym, ◌∙◌, ap, subst, arith, IsTrue}
+use Rattle.std.proofs.Common.{ℕ, ap, subst, arith}
 use Rattle.loom_outside.specs.declared.outside.Role.TheVariants.{Work}
 use Rattle.object_memory.specs.Told.{Told}
 use Rattle.core_view.proofs.Steps.{outside-used}
 use Rattle.leaf_lambda.specs.Parts.{core_of}
 use Rattle.disk_objects.specs.Function.{disk_of}
-use Rattle.loom_memory.specs.Memory.{loom_told, heap_if, IsSized, IsRefusedAt}
+use Rattle.loom_memory.specs.Memory.{loom_told, IsRefusedAt}
 use Rattle.loom_memory.proofs.AccessLaws.{quiet-ready}
 use Rattle.loom_memory.proofs.CallLaws.{leaf-words, refused-at}
 use Rattle.loom_memory.proofs.BringLaws.{IsLeafStill, leaf-still, sized-then, unfit, ok-after, err-after}

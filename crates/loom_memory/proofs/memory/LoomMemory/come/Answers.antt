@@ -1,4 +1,4 @@
-use Rattle.std.proofs.Common.{◌≡◌, ℕ, ◌+◌, ◌≤◌, Some, None, true, refl, sym, ◌∙◌, ap, subst, arith, IsTrue}
+use Rattle.std.proofs.Common.{◌≡◌, ℕ, None, true, refl, sym, ◌∙◌, ap, subst, arith, IsTrue}
 use Rattle.loom_outside.specs.declared.outside.Role.TheVariants.{Work, Transcript}
 use Rattle.disk_objects.specs.Disk.{disk_room, disk_held}
 use Rattle.disk_objects.specs.declared.rest.DiskRest.{DiskRest}
@@ -18,9 +18,8 @@ use Rattle.core_view.specs.Kept.{IsValued}
 use Rattle.loom_memory.proofs.RegLaws.{kept-rooted, few-held}
 use Rattle.loom_memory.proofs.CalmLaws.{within-calm, calm-kept, quiet-is, work-outside}
 use Rattle.loom_memory.proofs.AccessLaws.{refused-quiet}
-use Rattle.loom_memory.proofs.FieldLaws.{fault-cause, faults-told, read-only}
+use Rattle.loom_memory.proofs.FieldLaws.{fault-cause, read-only}
 use Rattle.loom_memory.proofs.memory.LoomMemory.come.Goals as goal
-use Rattle.loom_memory.proofs.memory.LoomMemory.come.Given as given
 
 pub bring_in-requires-clause-light : goal.bring_in-requires-clause-light
 bring_in-requires-clause-light g c = λ t. let m = c.args.self.now in few-held (core_of m.parts) m.regs m.pinned t (kept-rooted m.parts m.regs m.pinned m.ledger c.requires.sound.kept) c.requires.sound.kept.many

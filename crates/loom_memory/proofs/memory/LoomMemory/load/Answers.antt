@@ -1,12 +1,11 @@
 use Rattle.std.specs.List.{slice_index_or}
-use Rattle.std.proofs.Common.{◌≡◌, ℕ, ◌≤◌, List, [], IsTrue, Some, true, refl, sym, ◌∙◌, ap, subst, arith}
-use Rattle.long_names.specs.declared.value.Value.TheVariants.{Ref}
+use Rattle.std.proofs.Common.{◌≡◌, ℕ, List, [], refl, sym, ◌∙◌, ap, arith}
 use Rattle.leaf_lambda.specs.Parts.{core_of}
 use Rattle.loom_memory.specs.Memory.{loom_told, word_in}
 use Rattle.loom_memory.proofs.RegLaws.{word-is}
 use Rattle.loom_memory.proofs.AccessLaws.{quiet-ready, quiet-trans}
 use Rattle.loom_memory.proofs.CallLaws.{refused-at}
-use Rattle.loom_memory.proofs.BringLaws.{IsNamed, named-then}
+use Rattle.loom_memory.proofs.BringLaws.{named-then}
 use Rattle.loom_outside.specs.declared.outside.Role.TheVariants.{Work}
 use Rattle.core_segment.specs.Segment.{chunk_at, chunks_of, free_of, size_of}
 use Rattle.core_view.specs.Words.{meant}

@@ -1,12 +1,11 @@
-use Rattle.std.proofs.Common.{◌≡◌, ℕ, List, [], ◌+◌, ◌≤◌, Some, true, refl, sym, ◌∙◌, ap, subst, arith}
-use Rattle.std.specs.List.{slice_get, slice_set, slice_index_or}
+use Rattle.std.proofs.Common.{◌≡◌, ℕ, [], Some, refl, ◌∙◌, ap, arith}
+use Rattle.std.specs.List.{slice_get, slice_index_or}
 use Rattle.long_names.specs.State.{set_register}
-use Rattle.object_memory.specs.Told.{Told}
 use Rattle.core_view.specs.Words.{meant}
 use Rattle.core_view.proofs.Steps.{Stays-trans, RefStep-trans}
 use Rattle.leaf_lambda.specs.Parts.{core_of}
-use Rattle.loom_memory.specs.Memory.{loom_told, told_of, loom_outside, IsSound}
-use Rattle.loom_memory.proofs.RegLaws.{IsRooted, IsSwap, register-held, swapped, told-then, old-there, kept-rooted, kept-then, over-then}
+use Rattle.loom_memory.specs.Memory.{loom_told, told_of, loom_outside}
+use Rattle.loom_memory.proofs.RegLaws.{IsSwap, register-held, swapped, told-then, old-there, kept-rooted, kept-then, over-then}
 use Rattle.loom_memory.proofs.memory.LoomMemory.put_word.Goals as goal
 use Rattle.loom_memory.proofs.memory.LoomMemory.put_word.Given as given
 

@@ -1,4 +1,4 @@
-use Rattle.std.proofs.Common.{◌≡◌, refl, ap}
+use Rattle.std.proofs.Common.{refl, ap}
 use Rattle.leaf_lambda.specs.Parts.{core_of}
 use Rattle.loom_memory.specs.Memory.{loom_told, told_of, loom_outside}
 use Rattle.loom_memory.specs.declared.ledger.Ledger.{Ledger}

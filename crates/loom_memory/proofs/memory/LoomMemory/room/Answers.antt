@@ -1,7 +1,6 @@
-use Rattle.std.proofs.Common.{◌≡◌, ℕ, ◌+◌, ◌≤◌, arith, refl, Result, Ok, Err}
-use Rattle.std.specs.Result.{OnOk, IfErr}
+use Rattle.std.proofs.Common.{arith}
 use Rattle.leaf_lambda.specs.Parts.{core_of}
-use Rattle.loom_memory.specs.Memory.{loom_told, loom_outside, IsSound, IsKept, IsCalm}
+use Rattle.loom_memory.specs.Memory.{loom_told, loom_outside, IsKept, IsCalm}
 use Rattle.loom_memory.proofs.RegLaws.{kept-rooted}
 use Rattle.loom_memory.proofs.CalmLaws.{purged-calm, calm-kept, quiet-if, sound-if, work-outside, kept-if}
 use Rattle.loom_memory.proofs.memory.LoomMemory.room.Goals as goal

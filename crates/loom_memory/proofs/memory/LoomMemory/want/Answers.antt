@@ -1,7 +1,6 @@
-use Rattle.std.proofs.Common.{◌≡◌, ℕ, ◌+◌, true, Some, None, refl, sym, ◌∙◌, ap, subst, IsTrue}
+use Rattle.std.proofs.Common.{◌≡◌, ◌+◌, true, None, sym, ◌∙◌, ap, subst}
 use Rattle.loom_outside.specs.declared.outside.Role.TheVariants.{Work}
 use Rattle.object_table.specs.declared.entry.Entry.{Entry}
-use Rattle.object_table.specs.declared.table.Table.{Table}
 use Rattle.object_table.specs.Entries.{is_used, place_of}
 use Rattle.object_table.specs.Table.{entry_at, entries_of, bound_of, free_of}
 use Rattle.leaf_lambda.specs.declared.parts.Parts.{Parts}
@@ -14,7 +13,6 @@ use Rattle.loom_memory.proofs.CallLaws.{body-told, leaf-words, refused-at}
 use Rattle.loom_memory.proofs.BringLaws.{unfit-spare, short-same}
 use Rattle.purger.proofs.RoomLaws.{some-of, none-of}
 use Rattle.loom_memory.proofs.memory.LoomMemory.want.Goals as goal
-use Rattle.loom_memory.proofs.memory.LoomMemory.want.Given as given
 
 pub entry-requires-clause-within : goal.entry-requires-clause-within
 unfolding core_of
