@@ -18,6 +18,9 @@ pub const LARGE_BITS: u32 = 127;
 /// The serial number under which nothing more is kept: the last one of a checkpoint.
 pub const LAST_SERIAL: u64 = 4_611_686_018_427_387_903;
 
+/// The greatest count of lines, words or bytecodes: what has counted so far stands still at it.
+pub const GREATEST_COUNT: u32 = 4_294_967_295;
+
 // ---- the flag of a method's header (chapter 27, compiled methods). Below these it is the number of arguments
 
 /// The method answers its receiver.
