@@ -6,7 +6,6 @@ use long_names::Name;
 use loom_outside::DiskFault::{self, Damaged, Full, Work};
 use loom_outside::{Host, LyingHost};
 use std::alloc::Global;
-use std::process::Abort;
 use std::test::Fail;
 use work_directory::{Directory, MOST_NAMES, SLOT_BYTES, Slot};
 
@@ -38,13 +37,6 @@ fn slot(word: u32, count: u64, place: u64) -> Result<Slot, Fail> {
     Ok(Slot { name, count, place })
 }
 
-fn shown(slot: Option<Slot>) -> Answer {
-    match slot {
-        Some(slot) => Ok(Some((slot.name.get(), slot.count, slot.place))),
-        None => Ok(None),
-    }
-}
-
 fn done(answer: Result<(), DiskFault>) -> Answer {
     match answer {
         Ok(()) => Ok(None),
@@ -54,36 +46,43 @@ fn done(answer: Result<(), DiskFault>) -> Answer {
 
 fn found(answer: Result<Option<Slot>, DiskFault>) -> Answer {
     match answer {
-        Ok(slot) => shown(slot),
+        Ok(None) => Ok(None),
+        Ok(Some(slot)) => Ok(Some((slot.name.get(), slot.count, slot.place))),
         Err(fault) => Err(fault),
     }
 }
 
-fn run(
-    rt: &impl Abort,
-    directory: &mut Directory,
-    host: &mut LyingHost,
-    call: Call,
-) -> Result<Answer, Fail> {
-    match call {
+// There is one of this number.
+fn shown(directory: &mut Directory, host: &mut LyingHost, i: u32) -> Result<Answer, Fail> {
+    if i >= directory.slots() {
+        return Err("there is no such slot".into());
+    }
+    Ok(found(directory.slot(host, i)))
+}
+
+fn reads(host: &mut LyingHost, place: u64, want: &[u8; SLOT_BYTES]) -> Result<Answer, Fail> {
+    let mut bytes = [9; SLOT_BYTES];
+    host.read_at(place, &mut bytes)?;
+    if bytes != *want {
+        return Err("other bytes stand there".into());
+    }
+    Ok(Ok(None))
+}
+
+fn writes(host: &mut LyingHost, place: u64, bytes: &[u8; 8]) -> Result<Answer, Fail> {
+    host.write_at(place, bytes)?;
+    Ok(Ok(None))
+}
+
+fn answer_to(directory: &mut Directory, host: &mut LyingHost, call: &Call) -> Result<Answer, Fail> {
+    match *call {
         Call::Add(word, count, place) => Ok(done(directory.add(host, slot(word, count, place)?))),
         Call::Set(word, count, place) => Ok(done(directory.set(host, slot(word, count, place)?))),
         Call::Remove(word) => Ok(done(directory.remove(host, name(word)?))),
         Call::Find(word) => Ok(found(directory.find(host, name(word)?))),
-        Call::Slot(i) => {
-            assert!(rt; i < directory.slots());
-            Ok(found(directory.slot(host, i)))
-        }
-        Call::Write(place, bytes) => {
-            host.write_at(place, &bytes)?;
-            Ok(Ok(None))
-        }
-        Call::Read(place, want) => {
-            let mut bytes = [9; SLOT_BYTES];
-            host.read_at(place, &mut bytes)?;
-            assert_eq!(rt; bytes, want, "at {place}");
-            Ok(Ok(None))
-        }
+        Call::Slot(i) => shown(directory, host, i),
+        Call::Write(place, bytes) => writes(host, place, &bytes),
+        Call::Read(place, want) => reads(host, place, &want),
     }
 }
 
@@ -94,25 +93,29 @@ struct Row {
     held: u32,
 }
 
-// Makes the calls of a table, over a host whose calls on Work of these numbers fail.
-fn check(
-    rt: &impl Abort,
+fn is_right(directory: &mut Directory, host: &mut LyingHost, row: &Row) -> Result<bool, Fail> {
+    let answer = answer_to(directory, host, &row.call)?;
+    Ok(answer == row.answer && directory.len() == row.held)
+}
+
+// Makes the calls of a table, over a host whose calls on Work of these numbers fail. The first row that comes out otherwise.
+fn first_wrong(
     alloc: Global,
     failing: &[u64],
     room: u32,
     rows: &[Row],
-) -> Result<(), Fail>
+) -> Result<Option<usize>, Fail>
     requires some { 0 < room }
     requires most { room ≤ MOST_NAMES }
 {
     let mut host = attached(alloc, failing)?;
     let mut directory = Directory::new(room);
     for (i, row) in rows.iter().enumerate() {
-        let got = run(rt, &mut directory, &mut host, row.call)?;
-        assert_eq!(rt; got, row.answer, "of row {i}");
-        assert_eq!(rt; directory.len(), row.held, "after row {i}");
+        if !is_right(&mut directory, &mut host, row)? {
+            return Ok(Some(i));
+        }
     }
-    Ok(())
+    Ok(None)
 }
 
 // With room for 4 names there are 8 slots. 14 and 30 have their home at slot 7, 16 at 0, 2 and 18 at 1.
@@ -476,16 +479,20 @@ const FAILING: [Row; 13] = [
 
 #[test]
 fn a_directory_is_filled_and_emptied(rt: HostRuntime) -> Result<(), Fail> {
-    check(&rt, rt.alloc(), &[], 4, &FILLED)
+    assert_eq!(rt; first_wrong(rt.alloc(), &[], 4, &FILLED)?, None);
+    Ok(())
 }
 
 #[test]
 fn what_was_not_written_by_a_directory_is_damage(rt: HostRuntime) -> Result<(), Fail> {
-    check(&rt, rt.alloc(), &[], 4, &DAMAGED)?;
-    check(&rt, rt.alloc(), &[], 1, &FULL_OF_NAMES)
+    assert_eq!(rt; first_wrong(rt.alloc(), &[], 4, &DAMAGED)?, None);
+    assert_eq!(rt; first_wrong(rt.alloc(), &[], 1, &FULL_OF_NAMES)?, None);
+    Ok(())
 }
 
 #[test]
 fn calls_on_work_fail(rt: HostRuntime) -> Result<(), Fail> {
-    check(&rt, rt.alloc(), &[1, 4, 10, 13, 16, 19], 4, &FAILING)
+    let failing = [1, 4, 10, 13, 16, 19];
+    assert_eq!(rt; first_wrong(rt.alloc(), &failing, 4, &FAILING)?, None);
+    Ok(())
 }

@@ -1,7 +1,7 @@
 // Tables of calls on a disk of objects, each with what comes of it.
 use crate::hosts::attached;
 use disk_objects::{DiskObjects, DiskRest};
-use long_names::{Kind, MOST_FIELDS, Name};
+use long_names::{Kind, MOST_FIELDS, Name, NameList};
 use loom_outside::DiskFault::{self, Damaged, Full, Work};
 use loom_outside::{Host, LyingHost};
 use object_record::RecordBuf;
@@ -33,14 +33,15 @@ fn name(word: u32) -> Result<Name, Fail> {
 }
 
 fn put(
-    rt: &impl Abort,
     disk: &mut DiskObjects<'_, LyingHost>,
     buf: &mut RecordBuf,
     word: u32,
     len: u32,
     count: u64,
 ) -> Result<Result<(), DiskFault>, Fail> {
-    assert!(rt; len <= MOST_FIELDS);
+    if len > MOST_FIELDS {
+        return Err("an object has 65,535 bytes at most".into());
+    }
     buf.blank(name(word)?, Name::ARRAY, Kind::Bytes, len, 0);
     Ok(disk.put(buf, count))
 }
@@ -64,34 +65,44 @@ fn taken(disk: &mut DiskObjects<'_, LyingHost>) -> Result<Option<u32>, DiskFault
     }
 }
 
-// Makes a call of the disk.
-fn call(
-    rt: &impl Abort,
+fn shows(host: &mut LyingHost, place: u64, want: &[u8; 8]) -> Result<bool, Fail> {
+    let mut bytes = [9; 8];
+    host.read_at(place, &mut bytes)?;
+    Ok(bytes == *want)
+}
+
+// Whether the answer of a call of the disk is the one that is wanted.
+fn answers(
     disk: &mut DiskObjects<'_, LyingHost>,
     buf: &mut RecordBuf,
-    step: Step,
-) -> Result<(), Fail> {
-    match step {
-        Step::Put(word, len, count, want) => {
-            assert_eq!(rt; put(rt, disk, buf, word, len, count)?, want, "of {word}");
-        }
-        Step::Get(word, want) => assert_eq!(rt; get(disk, buf, word)?, want, "of {word}"),
-        Step::Count(word, want) => assert_eq!(rt; disk.count(name(word)?), Ok(want), "of {word}"),
-        Step::AddCount(word, change, want) => {
-            assert_eq!(rt; disk.add_count(name(word)?, change), want, "of {word}");
-        }
-        Step::Remove(word, want) => assert_eq!(rt; disk.remove(name(word)?), want, "of {word}"),
-        Step::Swap(a, b, want) => {
-            assert_eq!(rt; disk.swap(name(a)?, name(b)?, buf), want, "of {a} and {b}");
-        }
-        Step::PutPending(word, want) => {
-            assert_eq!(rt; disk.put_pending(name(word)?), want, "of {word}");
-        }
-        Step::TakePending(want) => assert_eq!(rt; taken(disk), want),
-        Step::Len(want) => assert_eq!(rt; disk.len(), want),
-        Step::Shows(..) | Step::Write(..) => {}
+    step: &Step,
+) -> Result<bool, Fail> {
+    match *step {
+        Step::Put(word, len, count, want) => Ok(put(disk, buf, word, len, count)? == want),
+        Step::Get(word, want) => Ok(get(disk, buf, word)? == want),
+        Step::Count(word, want) => Ok(disk.count(name(word)?) == Ok(want)),
+        Step::AddCount(word, change, want) => Ok(disk.add_count(name(word)?, change) == want),
+        Step::Remove(word, want) => Ok(disk.remove(name(word)?) == want),
+        Step::Swap(a, b, want) => Ok(disk.swap(name(a)?, name(b)?, buf) == want),
+        Step::PutPending(word, want) => Ok(disk.put_pending(name(word)?) == want),
+        Step::TakePending(want) => Ok(taken(disk) == want),
+        Step::Len(want) => Ok(disk.len() == want),
+        Step::Shows(..) | Step::Write(..) => Ok(true),
     }
-    Ok(())
+}
+
+fn writes(host: &mut LyingHost, place: u64, bytes: &[u8; 8]) -> Result<bool, Fail> {
+    host.write_at(place, bytes)?;
+    Ok(true)
+}
+
+// Whether a step on Work does, or shows, what it says.
+fn holds(host: &mut LyingHost, step: &Step) -> Result<bool, Fail> {
+    match *step {
+        Step::Shows(place, want) => shows(host, place, &want),
+        Step::Write(place, bytes) => writes(host, place, &bytes),
+        _ => Ok(true),
+    }
 }
 
 // Takes a step on Work, or on the disk there, which is taken apart again.
@@ -102,17 +113,11 @@ fn run(
     buf: &mut RecordBuf,
     step: Step,
 ) -> Result<DiskRest, Fail> {
-    if let Step::Shows(place, want) = step {
-        let mut bytes = [9; 8];
-        host.read_at(place, &mut bytes)?;
-        assert_eq!(rt; bytes, want, "at {place}");
-    }
-    if let Step::Write(place, bytes) = step {
-        host.write_at(place, &bytes)?;
-    }
+    let held = holds(host, &step)?;
     let mut disk = DiskObjects::again(host, rest);
-    call(rt, &mut disk, buf, step)?;
+    let right = answers(&mut disk, buf, &step)?;
     let (_host, rest) = disk.apart();
+    assert!(rt; held && right);
     Ok(rest)
 }
 
@@ -246,30 +251,42 @@ fn calls_on_work_fail(rt: HostRuntime) -> Result<(), Fail> {
     check(&rt, rt.alloc(), &[2, 10, 15], &FAILING)
 }
 
+/// How many objects there is room for on a larger disk.
+const ROOM: u32 = 1_024;
+
+// Puts an object under each name from the last to the first.
+fn fills(disk: &mut DiskObjects<'_, LyingHost>, buf: &mut RecordBuf) -> Result<bool, Fail> {
+    for i in 0..ROOM {
+        if put(disk, buf, 2 * (ROOM - i), i % 50, 1)?.is_err() {
+            return Ok(false);
+        }
+    }
+    Ok(true)
+}
+
+// They rise, and none is left out.
+fn are_all(names: &NameList) -> bool {
+    names.len() == ROOM as usize
+        && (0..names.len()).all(|i| names.item(i).index() as usize == i + 1)
+}
+
 #[test]
 fn the_last_object_finds_no_room(rt: HostRuntime) -> Result<(), Fail> {
     let mut host = attached(rt.alloc(), &[])?;
     let mut buf = RecordBuf::new(rt.alloc())?;
-    let mut disk = DiskObjects::begin(&mut host, 1_024);
-    for i in 1..1_025u32 {
-        assert_eq!(&rt; put(&rt, &mut disk, &mut buf, 2 * i, i % 50, 1)?, Ok(()));
-    }
+    let mut disk = DiskObjects::begin(&mut host, ROOM);
+    assert!(rt; fills(&mut disk, &mut buf)?);
     let full = Full {
-        held: 1_024,
-        room: 1_024,
+        held: ROOM,
+        room: ROOM,
     };
-    assert_eq!(&rt; put(&rt, &mut disk, &mut buf, 2_050, 1, 1)?, Err(full));
-    assert_eq!(&rt; disk.len(), 1_024);
-    assert_eq!(&rt; disk.room(), 1_024);
-    assert_eq!(&rt; get(&mut disk, &mut buf, 2_048)?, Ok(Some(24)));
+    assert_eq!(rt; put(&mut disk, &mut buf, 2 * ROOM + 2, 1, 1)?, Err(full));
+    assert_eq!(rt; get(&mut disk, &mut buf, 2 * ROOM)?, Ok(Some(0)));
     let names = disk.names(rt.alloc());
-    assert!(&rt; names.is_ok());
+    assert!(rt; names.is_ok());
     let Ok(names) = names else {
         return Ok(());
     };
-    assert_eq!(&rt; names.len(), 1_024);
-    for i in 0..names.len() {
-        assert_eq!(&rt; names.item(i).index() as usize, i + 1);
-    }
+    assert!(rt; are_all(&names));
     Ok(())
 }

@@ -1,9 +1,11 @@
 // Tables of calls on a space of blocks, with their answers.
+ghost use Rattle.std.specs.Prelude.{◌<◌};
+
 use crate::hosts::attached;
 use loom_outside::DiskFault::{self, Damaged, Work};
 use loom_outside::{Host, LyingHost};
 use std::alloc::Global;
-use std::process::Abort;
+use std::slice;
 use std::test::Fail;
 use work_space::{LAST_END, SIZE_CLASSES, Space, block_bytes, size_class_of};
 
@@ -20,43 +22,44 @@ enum Step {
 }
 
 /// A step, and where the last block ends then.
+#[derive(Clone, Copy)]
 struct Row {
     step: Step,
     end: u64,
 }
 
-fn run(rt: &impl Abort, space: &mut Space, host: &mut LyingHost, step: Step) -> Result<(), Fail> {
+// Whether the answer is the one that is wanted.
+fn run(space: &mut Space, host: &mut LyingHost, step: Step) -> Result<bool, Fail> {
     match step {
-        Step::Take(c, want) => {
-            assert!(rt; usize::from(c) < SIZE_CLASSES);
-            assert_eq!(rt; space.take(host, c), want, "of class {c}");
-        }
+        Step::Take(c, want) => Ok(usize::from(c) < SIZE_CLASSES && space.take(host, c) == want),
         Step::Give(place, c, want) => {
-            assert!(rt; usize::from(c) < SIZE_CLASSES);
-            assert_eq!(rt; space.give(host, place, c), want, "of class {c} at {place}");
+            Ok(usize::from(c) < SIZE_CLASSES && space.give(host, place, c) == want)
         }
-        Step::Link(place, link) => host.write_at(place, &link.to_be_bytes())?,
+        Step::Link(place, link) => {
+            host.write_at(place, &link.to_be_bytes())?;
+            Ok(true)
+        }
     }
-    Ok(())
 }
 
-// Takes the steps over a space that begins at a place, where the calls on Work of these numbers fail.
-fn check(
-    rt: &impl Abort,
+// Takes the steps over a space that begins at a place, where the calls on Work of these numbers fail. The first row that comes out
+// otherwise.
+fn first_wrong(
     alloc: Global,
     failing: &[u64],
     from: u64,
     rows: &[Row],
-) -> Result<(), Fail> {
+) -> Result<Option<usize>, Fail>
+    requires { 0 < from }
+{
     let mut host = attached(alloc, failing)?;
-    assert!(rt; from > 0);
     let mut space = Space::new(from);
-    assert_eq!(rt; space.end(), from);
     for (i, row) in rows.iter().enumerate() {
-        run(rt, &mut space, &mut host, row.step)?;
-        assert_eq!(rt; space.end(), row.end, "after row {i}");
+        if !run(&mut space, &mut host, row.step)? || space.end() != row.end {
+            return Ok(Some(i));
+        }
     }
-    Ok(())
+    Ok(None)
 }
 
 const BLOCKS: [Row; 12] = [
@@ -136,12 +139,14 @@ const FAILING: [Row; 5] = [
 
 #[test]
 fn blocks_are_taken_and_given_back(rt: HostRuntime) -> Result<(), Fail> {
-    check(&rt, rt.alloc(), &[], FROM, &BLOCKS)
+    assert_eq!(rt; first_wrong(rt.alloc(), &[], FROM, &BLOCKS)?, None);
+    Ok(())
 }
 
 #[test]
 fn a_failed_call_is_told(rt: HostRuntime) -> Result<(), Fail> {
-    check(&rt, rt.alloc(), &[1, 3], FROM, &FAILING)
+    assert_eq!(rt; first_wrong(rt.alloc(), &[1, 3], FROM, &FAILING)?, None);
+    Ok(())
 }
 
 /// What stands as the link of the first of two free blocks, and whether it can be one.
@@ -185,75 +190,110 @@ const LINKS: [Link; 8] = [
     },
 ];
 
-// The first block is free, its link is written anew, and it is taken again.
+/// The first block is free, its link is written anew, and it is taken again.
+fn relinked(row: &Link) -> [Row; 5] {
+    let end = FROM + 64;
+    let taken = if row.right {
+        Ok(FROM)
+    } else {
+        Err(Damaged {
+            place: FROM,
+            name: 0,
+        })
+    };
+    [
+        Row {
+            step: Step::Take(0, Ok(FROM)),
+            end: FROM + 32,
+        },
+        Row {
+            step: Step::Take(0, Ok(FROM + 32)),
+            end,
+        },
+        Row {
+            step: Step::Give(FROM, 0, Ok(())),
+            end,
+        },
+        Row {
+            step: Step::Link(FROM, row.link),
+            end,
+        },
+        Row {
+            step: Step::Take(0, taken),
+            end,
+        },
+    ]
+}
+
 #[test]
 fn a_wrong_link_is_damaged(rt: HostRuntime) -> Result<(), Fail> {
-    let damaged = Damaged {
-        place: FROM,
-        name: 0,
-    };
     for row in &LINKS {
-        let mut host = attached(rt.alloc(), &[])?;
-        let mut space = Space::new(FROM);
-        let taken = if row.right { Ok(FROM) } else { Err(damaged) };
-        for step in [
-            Step::Take(0, Ok(FROM)),
-            Step::Take(0, Ok(FROM + 32)),
-            Step::Give(FROM, 0, Ok(())),
-            Step::Link(FROM, row.link),
-            Step::Take(0, taken),
-        ] {
-            run(&rt, &mut space, &mut host, step)?;
-        }
+        assert_eq!(rt; first_wrong(rt.alloc(), &[], FROM, &relinked(row))?, None);
     }
     Ok(())
 }
 
-/// Where blocks begin, the size class of the first, and whether it is laid.
+/// Where blocks begin, and the first step there.
 struct Last {
     from: u64,
-    class: u8,
-    laid: bool,
+    row: Row,
 }
 
 const LAST: [Last; 4] = [
     Last {
         from: LAST_END - 32,
-        class: 0,
-        laid: true,
+        row: Row {
+            step: Step::Take(0, Ok(LAST_END - 32)),
+            end: LAST_END,
+        },
     },
     Last {
         from: LAST_END - 32,
-        class: 1,
-        laid: false,
+        row: Row {
+            step: Step::Take(
+                1,
+                Err(Damaged {
+                    place: LAST_END - 32,
+                    name: 0,
+                }),
+            ),
+            end: LAST_END - 32,
+        },
     },
     Last {
         from: LAST_END,
-        class: 0,
-        laid: false,
+        row: Row {
+            step: Step::Take(
+                0,
+                Err(Damaged {
+                    place: LAST_END,
+                    name: 0,
+                }),
+            ),
+            end: LAST_END,
+        },
     },
     Last {
         from: u64::MAX,
-        class: 14,
-        laid: false,
+        row: Row {
+            step: Step::Take(
+                14,
+                Err(Damaged {
+                    place: u64::MAX,
+                    name: 0,
+                }),
+            ),
+            end: u64::MAX,
+        },
     },
 ];
 
 #[test]
 fn blocks_end_somewhere(rt: HostRuntime) -> Result<(), Fail> {
-    for row in &LAST {
-        let mut host = attached(rt.alloc(), &[])?;
-        assert!(rt; row.from > 0);
-        let mut space = Space::new(row.from);
-        let taken = if row.laid {
-            Ok(row.from)
-        } else {
-            Err(Damaged {
-                place: row.from,
-                name: 0,
-            })
-        };
-        run(&rt, &mut space, &mut host, Step::Take(row.class, taken))?;
+    for last in &LAST {
+        assert!(rt; last.from > 0);
+        let rows = slice::from_ref(&last.row);
+        assert_eq!(rt; first_wrong(rt.alloc(), &[], last.from, rows)?, None);
     }
     Ok(())
 }
@@ -305,11 +345,12 @@ const SIZES: [Size; 9] = [
 
 #[test]
 fn size_classes_have_room(rt: HostRuntime) {
-    for row in &SIZES {
-        assert_eq!(rt; size_class_of(row.bytes), row.class, "for {}", row.bytes);
-    }
-    for (c, bytes) in [(0, 32), (1, 64), (7, 4_096), (14, 524_288)] {
-        assert!(rt; usize::from(c) < SIZE_CLASSES);
-        assert_eq!(rt; block_bytes(c), bytes);
-    }
+    let wrong = SIZES
+        .iter()
+        .position(|row| size_class_of(row.bytes) != row.class);
+    assert_eq!(rt; wrong, None);
+    assert_eq!(rt; block_bytes(0), 32);
+    assert_eq!(rt; block_bytes(1), 64);
+    assert_eq!(rt; block_bytes(7), 4_096);
+    assert_eq!(rt; block_bytes(14), 524_288);
 }
