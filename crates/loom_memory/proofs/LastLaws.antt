@@ -1,5 +1,5 @@
 -- The last step of a field's access, over a load that was quiet.
-use Rattle.std.proofs.Common.{◌≡◌, ℕ, List, Option, Result, Ok, Err, Some, None, IsTrue, refl, sym, ◌∙◌, ap, subst}
+use Rattle.std.proofs.Common.{◌≡◌, ℕ, List, Option, Result, Ok, Err, IsTrue, refl, sym, ◌∙◌, ap, subst}
 use Rattle.std.specs.Result.{OnOk, IfErr}
 use Rattle.std.specs.Option.{option_map_or}
 use Rattle.long_names.specs.declared.value.Value.{Value}
@@ -8,7 +8,7 @@ use Rattle.long_names.specs.Thin.{IsWhole}
 use Rattle.long_names.proofs.AccessLaws.{whole-after}
 use Rattle.long_names.specs.Access.{Access, Field, Nothing, CanDo, brought}
 use Rattle.object_memory.specs.declared.fault.MemFault.{MemFault}
-use Rattle.object_memory.specs.Told.{Told, Cache, Bounds, IsReady}
+use Rattle.object_memory.specs.Told.{Told, Cache, IsReady}
 use Rattle.object_memory.specs.Contract.{Accessed, IfBounds, HasCore}
 use Rattle.method_cache.specs.Found.{found}
 use Rattle.loom_outside.specs.declared.outside.Host.{Ghosts}

@@ -22,8 +22,8 @@ use Rattle.loom_outside.specs.declared.outside.Host.{Ghosts}
 use Rattle.loom_outside.specs.declared.outside.Role.TheVariants.{Work}
 use Rattle.object_memory.specs.declared.fault.MemFault.{MemFault}
 use Rattle.object_memory.specs.Told.{Told, Cache, Bounds, IsReady}
-use Rattle.object_memory.specs.Contract.{Does, SameBounds, Raised, IfBounds, HasCore, Accessed, LeavesCache, IsKeptCache, touched_by, makes, stores}
-use Rattle.object_table.specs.Entries.{put, is_used, place_of}
+use Rattle.object_memory.specs.Contract.{SameBounds, Raised, IfBounds, HasCore, Accessed, LeavesCache, touched_by, makes, stores}
+use Rattle.object_table.specs.Entries.{put, place_of}
 use Rattle.disk_objects.specs.Function.{disk_of}
 use Rattle.core_segment.specs.Segment.{size_of}
 use Rattle.core_view.specs.Core.{Core}
@@ -43,7 +43,7 @@ use Rattle.purger.specs.Marks.{IsUnmarking, LeavesMarks}
 use Rattle.purger.proofs.MarkLaws.{marked-at, within-marks, unmarked-purged, unmarked-here, unmarked-tight, unmarked-fresh}
 use Rattle.purger.proofs.RoomLaws.{work-refl}
 use Rattle.loom_memory.specs.declared.memory.LoomMemory.{LoomMemory}
-use Rattle.loom_memory.specs.Memory.{heap_if, loom_told, told_of, word_in, IsCalm, IsQuiet, IsRefused, IsSilent, IsSound}
+use Rattle.loom_memory.specs.Memory.{heap_if, told_of, word_in, IsCalm, IsQuiet, IsRefused, IsSilent, IsSound}
 use Rattle.loom_memory.specs.Stores.{IsStored}
 use Rattle.loom_memory.proofs.AccessLaws.{after-quiet, refused-is, same-trans, raised-trans}
 use Rattle.loom_memory.proofs.CacheLaws.{cache-same, left-then}

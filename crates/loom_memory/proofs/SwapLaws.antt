@@ -1,10 +1,9 @@
 -- Two objects that aren't in the core change places: their records are exchanged.
-use Rattle.std.proofs.Common.{◌≡◌, ◌≢◌, ℕ, ◌+◌, ◌<◌, ◌≤◌, ◌||◌, Bool, true, false, cond, eqb, List, [], Option, None, Some, is_some, IsTrue, refl, sym, ◌∙◌, ap, subst, add-zero, arith, ⊎_elim}
+use Rattle.std.proofs.Common.{◌≡◌, ◌≢◌, ℕ, ◌<◌, ◌||◌, Bool, true, false, cond, eqb, List, [], Option, None, Some, is_some, IsTrue, refl, sym, ◌∙◌, ap, subst, add-zero, arith, ⊎_elim}
 use Rattle.std.proofs.lemmas.Grind.{common_steps}
 use Rattle.std.proofs.lemmas.Bool.{cases_eq}
 use Rattle.std.proofs.Math.Path.{fun_ext}
 use Rattle.std.specs.Prelude.{IsSome}
-use Rattle.std.specs.List.{slice_get}
 use Rattle.std.specs.Option.{option_map_or}
 use Rattle.std.specs.FinMap as map
 use Rattle.long_names.specs.declared.value.Value.{Value}
@@ -13,39 +12,35 @@ use Rattle.long_names.specs.declared.object.Object.{Object}
 use Rattle.long_names.specs.Objects.{is_ref}
 use Rattle.long_names.specs.Words.{IsValue}
 use Rattle.long_names.specs.State.{IsRef, SLOTS}
-use Rattle.long_names.specs.Heap.{Heap, Has, put_object}
+use Rattle.long_names.specs.Heap.{Has, put_object}
 use Rattle.long_names.specs.Access.{Swap, IsUnpinned, heap_after, with_swapped}
 use Rattle.loom_outside.specs.Outside.{RoleState}
 use Rattle.loom_outside.specs.Work.{work_of, IsWorkOnly}
 use Rattle.loom_outside.specs.declared.outside.DiskFault.{DiskFault}
 use Rattle.loom_outside.specs.declared.outside.DiskFault.TheVariants as fault
 use Rattle.loom_outside.specs.declared.outside.Host.{Ghosts}
-use Rattle.loom_outside.specs.declared.outside.Role.{Role}
 use Rattle.loom_outside.specs.declared.outside.Role.TheVariants.{Work, Transcript}
 use Rattle.object_memory.specs.Told.{Told, IsReady, Bounds}
 use Rattle.object_memory.specs.Contract.{HasCore, IfBounds, touched_by}
 use Rattle.object_table.specs.declared.entry.Entry.{Entry}
 use Rattle.object_table.specs.Entries.{put, is_used, place_of}
 use Rattle.disk_objects.specs.declared.rest.DiskRest.{DiskRest}
-use Rattle.disk_objects.specs.Calls.{HoldsObjects, HoldsSuch, AreHeldNames, IsFault, IsEitherFault}
+use Rattle.disk_objects.specs.Calls.{HoldsObjects, HoldsSuch, AreHeldNames, IsEitherFault}
 use Rattle.disk_objects.specs.Disk.{DiskObject, Objects, IsDisk, disk_held, disk_room}
 use Rattle.disk_objects.specs.Function.{disk_of, exchanged, objects_at, object_held, SwapsObjects}
 use Rattle.core_view.specs.Core.{Core}
 use Rattle.core_view.specs.Counts.{marked_of}
 use Rattle.core_view.specs.Words.{meant, body_in}
-use Rattle.core_view.specs.Held.{Disk, fields_there, object_at, held, held_by, held_in}
+use Rattle.core_view.specs.Held.{Disk, fields_there, held, held_by, held_in}
 use Rattle.core_view.specs.Kept.{IsCore, IsBacked, IsBody, IsLike, IsValued}
-use Rattle.core_view.specs.Purge.{fresh_of}
 use Rattle.core_view.specs.Room.{is_among}
 use Rattle.core_view.proofs.Core.{held-leaf, placed-used}
 use Rattle.core_view.proofs.Lists.{put-here, put-there}
 use Rattle.leaf_lambda.specs.Parts.{core_of}
-use Rattle.method_cache.specs.Found.{found}
 use Rattle.purger.specs.declared.room.Pinned.{Pinned}
 use Rattle.purger.specs.Marks.{AreHere}
 use Rattle.purger.specs.Purge.{IsPurgeFault}
 use Rattle.purger.proofs.MarkLaws.{marked-at}
-use Rattle.loom_memory.specs.declared.ledger.Ledger.{Ledger}
 use Rattle.loom_memory.specs.declared.memory.LoomMemory.{LoomMemory}
 use Rattle.loom_memory.specs.Memory.{heap_if, loom_told, name_if, pin_in, told_of, word_in, IsOver, IsSound}
 use Rattle.loom_memory.specs.Stores.{IsStored}

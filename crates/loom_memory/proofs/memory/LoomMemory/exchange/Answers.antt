@@ -18,7 +18,6 @@ use Rattle.loom_memory.proofs.CalmLaws.{work-outside}
 use Rattle.loom_memory.proofs.CallLaws.{purge-refused}
 use Rattle.loom_memory.proofs.SwapLaws.{named-now, record-there, both-held, swapped-is, swapped-over, either-purge, swaps-as}
 use Rattle.loom_memory.proofs.memory.LoomMemory.exchange.Goals as goal
-use Rattle.loom_memory.proofs.memory.LoomMemory.exchange.Given as given
 
 first-short : {H : Type 0} (host : Ghosts H) (m : LoomMemory H) (of i : ℕ) → IsSound host m → IsReady (loom_told host m) → IsRef ((loom_told host m).regs of) → i ≡ of → i < 24 → IsNamed host m m of (slice_index_or m.regs i 0)
 first-short {H} host m of i sound ready name same low = named-now host m of (slice_index_or m.regs i 0) sound ready name (word-is m.regs i of same low sound.kept.many)

@@ -1,4 +1,4 @@
-use Rattle.std.proofs.Common.{◌≡◌, ℕ, ◌+◌, ◌<◌, ◌≤◌, List, Some, true, false, refl, sym, ◌∙◌, ap, subst, arith, length, IsTrue}
+use Rattle.std.proofs.Common.{◌≡◌, ℕ, List, Some, false, refl, sym, ◌∙◌, ap, subst, arith, IsTrue}
 use Rattle.std.specs.List.{slice_get}
 use Rattle.loom_outside.specs.declared.outside.Role.TheVariants.{Work}
 use Rattle.long_names.specs.declared.value.Value.{Value}
@@ -13,12 +13,11 @@ use Rattle.core_view.specs.Held.{Disk, fields_there, held}
 use Rattle.core_view.specs.Kept.{IsBacked, Keeps}
 use Rattle.core_view.proofs.Core.{placed-used}
 use Rattle.leaf_lambda.specs.Parts.{core_of}
-use Rattle.leaf_lambda.specs.Records.{IsCopy}
 use Rattle.leaf_lambda.proofs.RecordLaws.{fields-values, map-get}
 use Rattle.std.proofs.lemmas.Option.{slice_get_within}
 use Rattle.disk_objects.specs.Function.{disk_of}
 use Rattle.core_view.specs.Purge.{fresh_by}
-use Rattle.loom_memory.specs.Memory.{loom_told, loom_outside, told_of, IsCalm, IsQuiet}
+use Rattle.loom_memory.specs.Memory.{loom_told, loom_outside, told_of, IsCalm}
 use Rattle.core_view.specs.Kept.{IsValued}
 use Rattle.loom_memory.proofs.RegLaws.{kept-rooted, few-held}
 use Rattle.core_view.proofs.Fresh.{fresh-stays}

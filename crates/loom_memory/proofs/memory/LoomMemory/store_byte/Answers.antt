@@ -1,7 +1,6 @@
-use Rattle.std.proofs.Common.{◌≡◌, ℕ, ◌<◌, ◌≤◌, [], ◌∷◌, Some, IsTrue, refl, sym, ◌∙◌, ap, subst, arith, length}
+use Rattle.std.proofs.Common.{◌≡◌, [], ◌∷◌, IsTrue, refl, sym, ◌∙◌, ap, subst, arith}
 use Rattle.long_names.specs.declared.object.Kind.{Kind}
-use Rattle.long_names.specs.declared.object.Kind.TheVariants as kind
-use Rattle.long_names.specs.Access.{Access, SetByte}
+use Rattle.long_names.specs.Access.{SetByte}
 use Rattle.long_names.specs.Objects.{with_bytes}
 use Rattle.loom_outside.specs.declared.outside.Role.TheVariants.{Work}
 use Rattle.object_table.specs.declared.entry.Entry.{Entry}

@@ -1,12 +1,11 @@
-use Rattle.std.proofs.Common.{◌≡◌, ◌≢◌, ℕ, ◌<◌, ◌≤◌, [], Some, None, refl, sym, ◌∙◌, ap, subst, arith, length, IsTrue}
+use Rattle.std.proofs.Common.{◌≤◌, [], refl, sym, ◌∙◌, ap, arith, length, IsTrue}
 use Rattle.std.specs.List.{slice_index_or}
-use Rattle.long_names.specs.declared.value.Value.{Value}
-use Rattle.long_names.specs.Access.{Field, SetField}
+use Rattle.long_names.specs.Access.{SetField}
 use Rattle.loom_outside.specs.declared.outside.Role.TheVariants.{Work}
 use Rattle.object_table.specs.declared.entry.Entry.{Entry}
 use Rattle.object_table.specs.Entries.{place_of}
 use Rattle.core_view.specs.Words.{meant, pointers}
-use Rattle.core_view.specs.Held.{held, object_at}
+use Rattle.core_view.specs.Held.{object_at}
 use Rattle.core_view.proofs.Core.{placed-used, held-at}
 use Rattle.core_view.proofs.Words.{meant-short}
 use Rattle.leaf_lambda.specs.Parts.{core_of}

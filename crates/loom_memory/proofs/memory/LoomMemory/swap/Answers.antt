@@ -1,7 +1,7 @@
-use Rattle.std.proofs.Common.{◌≡◌, ℕ, Option, subst, sym, refl, ◌∙◌, ap}
+use Rattle.std.proofs.Common.{subst, sym, refl, ◌∙◌}
 use Rattle.long_names.specs.State.{IsRef, name_at}
 use Rattle.long_names.specs.Access.{Swap, Nothing, IsUnpinned}
-use Rattle.object_memory.specs.Told.{Told, IsReady}
+use Rattle.object_memory.specs.Told.{Told}
 use Rattle.loom_memory.specs.Memory.{loom_told, IsQuiet}
 use Rattle.loom_memory.proofs.AccessLaws.{after-quiet, refused-is, quiet-ready, quiet-trans}
 use Rattle.loom_memory.proofs.StoreLaws.{store-last, store-ready}

@@ -1,4 +1,4 @@
-use Rattle.std.proofs.Common.{◌≡◌, ◌≢◌, ℕ, ◌<◌, ◌≤◌, [], Some, refl, sym, ◌∙◌, ap, arith, length, IsTrue}
+use Rattle.std.proofs.Common.{◌≡◌, ◌≤◌, [], Some, refl, sym, ap, arith, length, IsTrue}
 use Rattle.long_names.specs.Access.{Field, brought}
 use Rattle.loom_outside.specs.declared.outside.Role.TheVariants.{Work}
 use Rattle.core_view.specs.Words.{meant, pointers}

@@ -1,6 +1,5 @@
-use Rattle.std.proofs.Common.{◌≡◌, ℕ, [], Some, None, refl, sym, ◌∙◌, ap, subst, IsTrue}
+use Rattle.std.proofs.Common.{◌≡◌, [], Some, refl, sym, ◌∙◌, ap, IsTrue}
 use Rattle.long_names.specs.declared.value.Value.{Value}
-use Rattle.long_names.specs.Words.{value_of}
 use Rattle.long_names.specs.State.{set_register}
 use Rattle.long_names.specs.Access.{Field, brought}
 use Rattle.loom_outside.specs.declared.outside.Role.TheVariants.{Work}

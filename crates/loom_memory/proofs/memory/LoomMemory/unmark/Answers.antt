@@ -1,4 +1,4 @@
-use Rattle.std.proofs.Common.{◌≡◌, refl, ap}
+use Rattle.std.proofs.Common.{refl, ap}
 use Rattle.object_table.specs.Entries.{place_of}
 use Rattle.leaf_lambda.specs.Parts.{core_of}
 use Rattle.purger.proofs.MarkLaws.{state-same}

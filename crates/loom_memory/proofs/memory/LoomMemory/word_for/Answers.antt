@@ -1,4 +1,4 @@
-use Rattle.std.proofs.Common.{◌≡◌, [], refl, sym, ◌∙◌, ap, subst}
+use Rattle.std.proofs.Common.{[], refl, sym, ◌∙◌, ap, subst}
 use Rattle.long_names.specs.Words.{IsSmallInteger, IsValue}
 use Rattle.long_names.specs.declared.value.Value.{Value}
 use Rattle.long_names.specs.declared.value.Value.TheVariants.{Int}
@@ -14,7 +14,6 @@ use Rattle.loom_memory.proofs.CalmLaws.{calm-kept}
 use Rattle.loom_memory.proofs.LastLaws.{told-still, leaf-keeps}
 use Rattle.loom_memory.proofs.LambdaLaws.{leaf-calm}
 use Rattle.loom_memory.proofs.memory.LoomMemory.word_for.Goals as goal
-use Rattle.loom_memory.proofs.memory.LoomMemory.word_for.Given as given
 
 pub returns-in-Some-clause-means : goal.returns-in-Some-clause-means
 returns-in-Some-clause-means g c =

@@ -1,4 +1,4 @@
-use Rattle.std.proofs.Common.{◌≡◌, refl, ◌∙◌}
+use Rattle.std.proofs.Common.{refl, ◌∙◌}
 use Rattle.long_names.specs.Access.{WriteWords, Nothing}
 use Rattle.loom_memory.specs.Memory.{loom_told}
 use Rattle.loom_memory.proofs.AccessLaws.{refused-is, quiet-ready}
