@@ -144,7 +144,7 @@ refused-is {A} t u a spell f both = record { called = record { later = both.0; o
 
 -- ---- several steps
 
-same-trans : (a b c : Option Bounds) → SameBounds a b → SameBounds b c → SameBounds a c
+pub same-trans : (a b c : Option Bounds) → SameBounds a b → SameBounds b c → SameBounds a c
 same-trans None None None x y = tt
 same-trans None None (Some c) x y = absurd y
 same-trans None (Some b) c x y = absurd x
@@ -152,7 +152,7 @@ same-trans (Some a) None c x y = absurd x
 same-trans (Some a) (Some b) None x y = absurd y
 same-trans (Some a) (Some b) (Some c) x y = (y.0 ∙ x.0, y.1 ∙ x.1, y.2 ∙ x.2, (let p = x.3 in let q = y.3 in omega arith), (let p = x.4 in let q = y.4 in omega arith))
 
-raised-trans : (a b c : Option Bounds) → Raised 0 a b → Raised 0 b c → Raised 0 a c
+pub raised-trans : (a b c : Option Bounds) → Raised 0 a b → Raised 0 b c → Raised 0 a c
 raised-trans None None None x y = tt
 raised-trans None None (Some c) x y = absurd y
 raised-trans None (Some b) c x y = absurd x

@@ -171,7 +171,7 @@ work-outside {H} host old new work = fun_ext (λ r. go r)
     go Transcript = refl
     go Notes = both Notes (λ e. cc)
 
-transcript-away : ◌≢◌ {A = Role} Transcript Work
+pub transcript-away : ◌≢◌ {A = Role} Transcript Work
 transcript-away = λ e. cc
 
 pub quiet-is : {H : Type 0} (host : Ghosts H) (old new : H) (rest now : DiskRest) (x y : Core) (regs : List ℕ) (pins : Pinned) (k : Ledger) → IsRooted x regs pins → IsCore y → IsCached x (found k.rows) k.mark → IsCalm pins x y → IsWorkOnly host old new → disk_room now ≡ disk_room rest
@@ -191,7 +191,7 @@ quiet-if {T} {H} host (Ok v) old new rest now x y regs pins k root core cached c
 quiet-if {T} {H} host (Err Short) old new rest now x y regs pins k root core cached calm work room keeps = quiet-is host old new rest now x y regs pins k root core cached calm work room (λ told. (keeps told).held)
 quiet-if {T} {H} host (Err (OfDisk f)) old new rest now x y regs pins k root core cached calm work room keeps = tt
 
-over-is : {H : Type 0} (host : Ghosts H) (old new : H) (rest now : DiskRest) (x y : Core) (k : Ledger) → IsOver host old rest x k → disk_room now ≡ disk_room rest → HoldsObjects host new now
+pub over-is : {H : Type 0} (host : Ghosts H) (old new : H) (rest now : DiskRest) (x y : Core) (k : Ledger) → IsOver host old rest x k → disk_room now ≡ disk_room rest → HoldsObjects host new now
     → (IsTrue (host.tells Work) → KeepsOver x (disk_of host old rest) y (disk_of host new now)) → (IsTrue (host.tells Work) → disk_held now + fresh_of y ≡ disk_held rest + fresh_of x) → IsOver host new now y k
 over-is {H} host old new rest now x y k over room stands keeps counts = record {
   stands = stands;

@@ -10,3 +10,6 @@ pub mod LambdaLaws
 pub mod CallLaws
 pub mod BringLaws
 pub mod ReadLaws
+pub mod StoreLaws
+pub mod LastLaws
+pub mod SwapLaws

@@ -12,7 +12,10 @@
 #![tactic(auto)]
 
 pub mod bring;
+pub mod fields;
 pub mod ledger;
 pub mod load;
 pub mod memory;
 pub mod reads;
+pub mod stores;
+pub mod swap;

@@ -1,0 +1,28 @@
+use Rattle.std.proofs.Common.{refl, ◌∙◌}
+use Rattle.long_names.specs.Access.{SetByte, Nothing}
+use Rattle.loom_memory.specs.Memory.{loom_told}
+use Rattle.loom_memory.proofs.AccessLaws.{refused-is, quiet-ready}
+use Rattle.loom_memory.proofs.LastLaws.{can-still}
+use Rattle.loom_memory.proofs.StoreLaws.{store-last, store-ready}
+use Rattle.loom_memory.proofs.memory.LoomMemory.set_byte.Goals as goal
+
+pub store_byte-requires-clause-ready : goal.store_byte-requires-clause-ready
+store_byte-requires-clause-ready g c = quiet-ready (loom_told g.H.Host c.args.self.now) (loom_told g.H.Host c.open.new.self) c.in-Ok.ensures.quiet c.requires.fit.ready
+
+pub store_byte-requires-clause-may : goal.store_byte-requires-clause-may
+unfolding loom_told
+store_byte-requires-clause-may g c = λ told. can-still (loom_told g.H.Host c.args.self.now) (loom_told g.H.Host c.open.new.self) (SetByte c.args.of c.args.i c.args.b) c.in-Ok.ensures.quiet (c.requires.may.heap told)
+
+pub returns-in-Ok-clause-access : goal.returns-in-Ok-clause-access
+returns-in-Ok-clause-access g c = store-last c.store_byte.result (loom_told g.H.Host c.args.self.now) (loom_told g.H.Host c.open.new.self) (loom_told g.H.Host c.store_byte.new.self) (SetByte c.args.of c.args.i c.args.b) refl tt refl c.in-Ok.ensures.quiet c.store_byte.ensures.stored c.store_byte.ensures.err (c.in-Ok.ensures.core (SetByte c.args.of c.args.i c.args.b) refl refl)
+
+pub returns-in-Err-clause-access : goal.returns-in-Err-clause-access
+returns-in-Err-clause-access g c = refused-is (loom_told g.H.Host c.args.self.now) (loom_told g.H.Host c.open.new.self) (SetByte c.args.of c.args.i c.args.b) (λ _. Nothing) c.in-Err.f (c.in-Err.ensures.err (SetByte c.args.of c.args.i c.args.b) refl refl tt)
+
+pub returns-in-Ok-clause-fit : goal.returns-in-Ok-clause-fit
+returns-in-Ok-clause-fit g c = record {
+  sound = c.store_byte.ensures.sound;
+  ready = store-ready c.store_byte.result (loom_told g.H.Host c.open.new.self) (loom_told g.H.Host c.store_byte.new.self) (SetByte c.args.of c.args.i c.args.b) refl (quiet-ready (loom_told g.H.Host c.args.self.now) (loom_told g.H.Host c.open.new.self) c.in-Ok.ensures.quiet c.requires.fit.ready) c.store_byte.ensures.stored;
+  lender = c.store_byte.ensures.lender ∙ c.in-Ok.ensures.lender;
+  outside = c.store_byte.ensures.outside ∙ c.in-Ok.ensures.outside;
+}

@@ -1,0 +1,79 @@
+use Rattle.std.proofs.Common.{◌≡◌, [], ◌∷◌, IsTrue, refl, sym, ◌∙◌, ap, subst, arith}
+use Rattle.long_names.specs.declared.object.Kind.{Kind}
+use Rattle.long_names.specs.Access.{SetByte}
+use Rattle.long_names.specs.Objects.{with_bytes}
+use Rattle.loom_outside.specs.declared.outside.Role.TheVariants.{Work}
+use Rattle.object_table.specs.declared.entry.Entry.{Entry}
+use Rattle.object_table.specs.Entries.{place_of}
+use Rattle.core_view.specs.Words.{meant}
+use Rattle.core_view.specs.Held.{object_at}
+use Rattle.core_view.specs.Purge.{fresh_by}
+use Rattle.core_view.proofs.Core.{placed-used, held-at}
+use Rattle.core_view.proofs.Words.{meant-short}
+use Rattle.disk_objects.specs.Function.{disk_of}
+use Rattle.leaf_lambda.specs.Parts.{core_of}
+use Rattle.leaf_lambda.specs.Making.{HasBytes}
+use Rattle.loom_memory.specs.Memory.{loom_told, loom_outside}
+use Rattle.loom_memory.proofs.FieldLaws.{told-bounds, damaged-refused}
+use Rattle.loom_memory.proofs.StoreLaws.{bytes-can, body-told, stored-is, stored-sound}
+use Rattle.loom_memory.proofs.memory.LoomMemory.store_byte.Goals as goal
+use Rattle.loom_memory.proofs.memory.LoomMemory.store_byte.Given as given
+
+pub entry-e-requires-clause-short : goal.entry-e-requires-clause-short
+entry-e-requires-clause-short g c = c.requires.sound.kept.parts.core.short c.args.s.0 (placed-used ((core_of c.args.self.now.parts).entries c.args.s.0).state c.requires.there.0 c.requires.there.1)
+
+pub entry-e-requires-clause-within : goal.entry-e-requires-clause-within
+unfolding core_of
+entry-e-requires-clause-within g c = c.requires.sound.kept.parts.core.within c.args.s.0 (placed-used ((core_of c.args.self.now.parts).entries c.args.s.0).state c.requires.there.0 c.requires.there.1)
+
+pub put_byte-requires-clause-kind : goal.put_byte-requires-clause-kind
+unfolding core_of
+put_byte-requires-clause-kind g c = subst (λ (k : Kind). HasBytes k) (ap (λ (e : Entry). e.kind) c.entry-e.ensures) (c.has_byte-fits.ensures.yes c.if-fits.true).0
+
+pub put_byte-requires-clause-within : goal.put_byte-requires-clause-within
+unfolding core_of
+put_byte-requires-clause-within g c = let low = (c.has_byte-fits.ensures.yes c.if-fits.true).1 in let same = ap (λ (e : Entry). e.len) c.entry-e.ensures in omega (arith, low, same)
+
+place-same : (g : given.Over) (c : goal.After-put_byte g) → place_of ((core_of c.put_byte.new.p).entries c.args.s.0).state ≡ place_of ((core_of c.args.self.now.parts).entries c.args.s.0).state
+place-same g c = ap (λ (e : Entry). place_of e.state) c.put_byte.ensures.entry
+
+name-same : (g : given.Over) (c : goal.After-put_byte g) → ((core_of c.put_byte.new.p).entries c.args.s.0).name ≡ ((core_of c.args.self.now.parts).entries c.args.s.0).name
+name-same g c = ap (λ (e : Entry). e.name) c.put_byte.ensures.entry
+
+pub returns-then-fits-clause-sound : goal.returns-then-fits-clause-sound
+returns-then-fits-clause-sound g c = stored-sound g.H.Host c.args.self.now c.put_byte.new.p c.args.s.0 c.place_of_body-place.result.place c.requires.sound c.put_byte.ensures.parts c.put_byte.ensures.within c.place_of_body-place.ensures (place-same g c) (name-same g c) (ap fresh_by c.put_byte.ensures.entry) c.put_byte.ensures.size c.put_byte.ensures.backed c.put_byte.ensures.valued
+
+pub returns-then-fits-clause-outside : goal.returns-then-fits-clause-outside
+unfolding loom_outside
+returns-then-fits-clause-outside g c = refl
+
+pub returns-then-fits-clause-stored : goal.returns-then-fits-clause-stored
+unfolding loom_told
+returns-then-fits-clause-stored g c =
+    let m = c.args.self.now in
+    let p = c.place_of_body-place.result.place in
+    stored-is g.H.Host m c.put_byte.new.p (SetByte c.args.of c.args.i c.args.b) c.args.of c.args.s.0 p c.requires.sound c.put_byte.ensures.parts c.put_byte.ensures.within c.place_of_body-place.ensures (place-same g c) (name-same g c) c.requires.gone refl refl c.requires.word
+    (λ told.
+    let disk = disk_of g.H.Host m.disk.host.now m.disk.rest in
+    let core = c.requires.sound.kept.parts.core in
+    let used = placed-used ((core_of m.parts).entries c.args.s.0).state p c.place_of_body-place.ensures in
+    let there = held-at (core_of m.parts) disk ((core_of m.parts).entries c.args.s.0).name c.args.s.0 p (core.found c.args.s.0 used) c.place_of_body-place.ensures in
+    body-told (g.H.Host.tells Work) (core_of m.parts) (core_of c.put_byte.new.p) disk disk m.ledger.next ((core_of m.parts).entries c.args.s.0).name _ (object_at (core_of m.parts) disk ((core_of m.parts).entries c.args.s.0) p) (λ b. with_bytes b c.args.i (c.args.b ∷ [])) told
+    (ap (meant (core_of m.parts).entries [] 0) (sym c.requires.word) ∙ meant-short (core_of m.parts).entries [] 0 c.args.s.0 (core.short c.args.s.0 used))
+    there
+    (c.put_byte.ensures.held disk (object_at (core_of m.parts) disk ((core_of m.parts).entries c.args.s.0) p) (c.requires.sound.over.backed told) there))
+
+none-there : (g : given.Over) (c : goal.After-refuse g) → IsTrue (loom_told g.H.Host c.args.self.now).tells → ⊥
+unfolding loom_told core_of
+none-there g c = λ told.
+    let m = c.args.self.now in
+    let can = bytes-can (g.H.Host.tells Work) (core_of m.parts) (disk_of g.H.Host m.disk.host.now m.disk.rest) m.ledger.next c.args.s.0 c.requires.there.0 c.args.i _ told c.requires.sound.kept.parts.core c.requires.there.1 (ap (meant (core_of m.parts).entries [] 0) (sym c.requires.word)) (c.requires.may told) in
+    let e = c.entry-e.ensures in
+    let kind_ : HasBytes c.entry-e.result.kind = subst (λ (k : Kind). HasBytes k) (ap (λ (e : Entry). e.kind) (sym c.entry-e.ensures)) can.0 in
+    let past = c.has_byte-fits.ensures.no c.if-fits.false kind_ in
+    let low = can.1 in
+    let same = ap (λ (e : Entry). e.len) c.entry-e.ensures in
+    omega (arith, past, low, same)
+
+pub returns-clause-err : goal.returns-clause-err
+returns-clause-err g c = let b = told-bounds g.H.Host c.args.self.now in damaged-refused (loom_told g.H.Host c.args.self.now) (loom_told g.H.Host c.refuse.new.self) (SetByte c.args.of c.args.i c.args.b) _ _ c.refuse.result c.refuse.ensures.told c.refuse.ensures.result c.requires.ready refl tt c.refuse.ensures.later (none-there g c) b.0 b.1

@@ -1,0 +1,52 @@
+use Rattle.std.proofs.Common.{subst, sym, refl, ◌∙◌}
+use Rattle.long_names.specs.State.{IsRef, name_at}
+use Rattle.long_names.specs.Access.{Swap, Nothing, IsUnpinned}
+use Rattle.object_memory.specs.Told.{Told}
+use Rattle.loom_memory.specs.Memory.{loom_told, IsQuiet}
+use Rattle.loom_memory.proofs.AccessLaws.{after-quiet, refused-is, quiet-ready, quiet-trans}
+use Rattle.loom_memory.proofs.StoreLaws.{store-last, store-ready}
+use Rattle.loom_memory.proofs.SwapLaws.{swap-core}
+use Rattle.loom_memory.proofs.memory.LoomMemory.swap.Goals as goal
+use Rattle.loom_memory.proofs.memory.LoomMemory.swap.Goals.{After-exchange}
+use Rattle.loom_memory.proofs.memory.LoomMemory.swap.Given as given
+
+pub put_away-requires-in-Ok-clause-ready : goal.put_away-requires-in-Ok-clause-ready
+put_away-requires-in-Ok-clause-ready g c = quiet-ready (loom_told g.H.Host c.args.self.now) (loom_told g.H.Host c.put_away.new.self) c.in-Ok.ensures.quiet c.requires.fit.ready
+
+pub put_away-requires-in-Ok-clause-name : goal.put_away-requires-in-Ok-clause-name
+put_away-requires-in-Ok-clause-name g c = subst (λ (z : Told). IsRef (z.regs c.args.b)) (sym c.in-Ok.ensures.quiet.same) c.requires.may.names.1
+
+pub put_away-requires-in-Ok-clause-unpinned : goal.put_away-requires-in-Ok-clause-unpinned
+put_away-requires-in-Ok-clause-unpinned g c = subst (λ (z : Told). IsUnpinned z.slots (name_at (z.regs c.args.b))) (sym c.in-Ok.ensures.quiet.same) c.requires.may.slots.1
+
+both-quiet : (g : given.Over) (c : After-exchange g) → IsQuiet (loom_told g.H.Host c.args.self.now) (loom_told g.H.Host c.put_away-in-Ok.new.self)
+both-quiet g c = quiet-trans (loom_told g.H.Host c.args.self.now) (loom_told g.H.Host c.put_away.new.self) (loom_told g.H.Host c.put_away-in-Ok.new.self) c.in-Ok.ensures.quiet c.in-Ok-put_away.ensures.quiet
+
+pub exchange-requires-clause-ready : goal.exchange-requires-clause-ready
+exchange-requires-clause-ready g c = quiet-ready (loom_told g.H.Host c.put_away.new.self) (loom_told g.H.Host c.put_away-in-Ok.new.self) c.in-Ok-put_away.ensures.quiet (quiet-ready (loom_told g.H.Host c.args.self.now) (loom_told g.H.Host c.put_away.new.self) c.in-Ok.ensures.quiet c.requires.fit.ready)
+
+pub exchange-requires-clause-names : goal.exchange-requires-clause-names
+exchange-requires-clause-names g c =
+    let quiet = quiet-trans (loom_told g.H.Host c.args.self.now) (loom_told g.H.Host c.put_away.new.self) (loom_told g.H.Host c.put_away-in-Ok.new.self) c.in-Ok.ensures.quiet c.in-Ok-put_away.ensures.quiet in
+    (subst (λ (z : Told). IsRef (z.regs c.args.a)) (sym quiet.same) c.requires.may.names.0, subst (λ (z : Told). IsRef (z.regs c.args.b)) (sym quiet.same) c.requires.may.names.1)
+
+pub exchange-requires-clause-away : goal.exchange-requires-clause-away
+exchange-requires-clause-away g c = (c.in-Ok-put_away.ensures.leaves c.args.a c.in-Ok.ensures.away, c.in-Ok-put_away.ensures.away)
+
+pub returns-in-Ok-put_away-clause-access : goal.returns-in-Ok-put_away-clause-access
+returns-in-Ok-put_away-clause-access g c = store-last c.exchange.result (loom_told g.H.Host c.args.self.now) (loom_told g.H.Host c.put_away-in-Ok.new.self) (loom_told g.H.Host c.exchange.new.self) (Swap c.args.a c.args.b) refl tt refl (both-quiet g c) c.exchange.ensures.swapped c.exchange.ensures.err (swap-core (loom_told g.H.Host c.args.self.now) c.args.a c.args.b)
+
+pub returns-in-Ok-put_away-clause-fit : goal.returns-in-Ok-put_away-clause-fit
+returns-in-Ok-put_away-clause-fit g c = record {
+  sound = c.exchange.ensures.sound;
+  ready = store-ready c.exchange.result (loom_told g.H.Host c.put_away-in-Ok.new.self) (loom_told g.H.Host c.exchange.new.self) (Swap c.args.a c.args.b) refl (quiet-ready (loom_told g.H.Host c.args.self.now) (loom_told g.H.Host c.put_away-in-Ok.new.self) (both-quiet g c) c.requires.fit.ready) c.exchange.ensures.swapped;
+  lender = c.exchange.ensures.lender ∙ c.in-Ok-put_away.ensures.lender ∙ c.in-Ok.ensures.lender;
+  outside = c.exchange.ensures.outside ∙ c.in-Ok-put_away.ensures.outside ∙ c.in-Ok.ensures.outside;
+}
+
+pub returns-in-Err-put_away-clause-access : goal.returns-in-Err-put_away-clause-access
+returns-in-Err-put_away-clause-access g c = refused-is (loom_told g.H.Host c.args.self.now) (loom_told g.H.Host c.put_away-in-Ok.new.self) (Swap c.args.a c.args.b) (λ _. Nothing) c.in-Err-put_away.f
+    (after-quiet (loom_told g.H.Host c.args.self.now) (loom_told g.H.Host c.put_away.new.self) (loom_told g.H.Host c.put_away-in-Ok.new.self) (Swap c.args.a c.args.b) c.in-Err-put_away.f tt refl c.in-Ok.ensures.quiet (c.in-Err-put_away.ensures.err (Swap c.args.a c.args.b) tt refl))
+
+pub returns-in-Err-clause-access : goal.returns-in-Err-clause-access
+returns-in-Err-clause-access g c = refused-is (loom_told g.H.Host c.args.self.now) (loom_told g.H.Host c.put_away.new.self) (Swap c.args.a c.args.b) (λ _. Nothing) c.in-Err.f (c.in-Err.ensures.err (Swap c.args.a c.args.b) tt refl)

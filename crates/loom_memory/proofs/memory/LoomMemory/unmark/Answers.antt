@@ -1,0 +1,25 @@
+use Rattle.std.proofs.Common.{refl, ap}
+use Rattle.object_table.specs.Entries.{place_of}
+use Rattle.leaf_lambda.specs.Parts.{core_of}
+use Rattle.purger.proofs.MarkLaws.{state-same}
+use Rattle.loom_memory.specs.Memory.{loom_told, loom_outside, IsCalm}
+use Rattle.loom_memory.proofs.StoreLaws.{unmark-calm, unmark-quiet, unmark-sound}
+use Rattle.loom_memory.proofs.memory.LoomMemory.unmark.Goals as goal
+use Rattle.loom_memory.proofs.memory.LoomMemory.unmark.Given as given
+
+calm-of : (g : given.Over) (c : goal.After-unmark_for g) → IsCalm c.args.self.now.pinned (core_of c.args.self.now.parts) (core_of c.unmark_for.new.p)
+calm-of g c = unmark-calm g.H.Host c.args.self.now c.unmark_for.new.p c.requires.sound c.unmark_for.ensures.step c.unmark_for.ensures.outside c.unmark_for.ensures.marks
+
+pub returns-clause-quiet : goal.returns-clause-quiet
+unfolding loom_told
+returns-clause-quiet g c = unmark-quiet g.H.Host c.args.self.now c.unmark_for.new.p c.requires.sound c.unmark_for.ensures.parts c.unmark_for.ensures.stays (calm-of g c)
+
+pub returns-clause-sound : goal.returns-clause-sound
+returns-clause-sound g c = unmark-sound g.H.Host c.args.self.now c.unmark_for.new.p c.requires.sound c.unmark_for.ensures.parts c.unmark_for.ensures.stays c.unmark_for.ensures.step (calm-of g c) c.unmark_for.ensures.segment
+
+pub returns-clause-place : goal.returns-clause-place
+returns-clause-place g c = ap place_of (state-same (core_of c.args.self.now.parts) (core_of c.unmark_for.new.p) c.args.s.0 c.unmark_for.ensures.step)
+
+pub returns-clause-outside : goal.returns-clause-outside
+unfolding loom_outside
+returns-clause-outside g c = refl

@@ -1,0 +1,47 @@
+use Rattle.std.proofs.Common.{[], refl, sym, ◌∙◌, ap, subst}
+use Rattle.long_names.specs.Words.{IsSmallInteger, IsValue}
+use Rattle.long_names.specs.declared.value.Value.{Value}
+use Rattle.long_names.specs.declared.value.Value.TheVariants.{Int}
+use Rattle.object_memory.proofs.ShapeLaws.{int_is, small_number}
+use Rattle.core_view.proofs.Words.{meant-odd}
+use Rattle.core_segment.specs.Segment.{size_of}
+use Rattle.leaf_lambda.specs.Parts.{core_of}
+use Rattle.disk_objects.specs.Function.{disk_of}
+use Rattle.loom_memory.specs.Memory.{loom_told, loom_outside}
+use Rattle.loom_memory.proofs.RegLaws.{kept-rooted, over-then}
+use Rattle.core_view.proofs.Tight.{ref-tight}
+use Rattle.loom_memory.proofs.CalmLaws.{calm-kept}
+use Rattle.loom_memory.proofs.LastLaws.{told-still, leaf-keeps}
+use Rattle.loom_memory.proofs.LambdaLaws.{leaf-calm}
+use Rattle.loom_memory.proofs.memory.LoomMemory.word_for.Goals as goal
+
+pub returns-in-Some-clause-means : goal.returns-in-Some-clause-means
+returns-in-Some-clause-means g c =
+    let value = int_is c.args.v.now c.in-Some.number (sym c.in-Some.ensures) in
+    let range : IsSmallInteger c.in-Some.number = subst (λ (v : Value). IsValue v) value c.requires.value in
+    let is = small_number c.in-Some.number range in
+    meant-odd (core_of c.args.self.now.parts).entries [] 0 c.short_int.result c.short_int.ensures.odd ∙ ap Int (c.short_int.ensures.value (subst IsSmallInteger (sym is) range) ∙ is) ∙ sym value
+
+pub returns-in-Some-find_or_leaf-clause-told : goal.returns-in-Some-find_or_leaf-clause-told
+unfolding loom_told
+returns-in-Some-find_or_leaf-clause-told g c =
+    let m = c.args.self.now in
+    let step = c.in-Some-find_or_leaf.ensures.step in
+    let core = c.requires.sound.kept.parts.core in
+    let now = c.in-Some-find_or_leaf.ensures.parts.core in
+    told-still g.H.Host m.disk.host.now m.disk.rest (core_of m.parts) (core_of c.find_or_leaf.new.p) m.regs m.pinned m.ledger (kept-rooted m.parts m.regs m.pinned m.ledger c.requires.sound.kept) now c.requires.sound.kept.cached
+    (leaf-calm m.pinned (core_of m.parts) (core_of c.find_or_leaf.new.p) core now step) (leaf-keeps (core_of m.parts) (core_of c.find_or_leaf.new.p) core now step)
+    (λ told. (step.stays (disk_of g.H.Host m.disk.host.now m.disk.rest) (c.requires.sound.over.backed told)).held)
+
+pub returns-in-Some-find_or_leaf-clause-sound : goal.returns-in-Some-find_or_leaf-clause-sound
+returns-in-Some-find_or_leaf-clause-sound g c =
+    let m = c.args.self.now in
+    let step = c.in-Some-find_or_leaf.ensures.step in
+    record {
+      kept = calm-kept m.parts c.find_or_leaf.new.p m.regs m.pinned m.ledger c.requires.sound.kept (leaf-calm m.pinned (core_of m.parts) (core_of c.find_or_leaf.new.p) c.requires.sound.kept.parts.core c.in-Some-find_or_leaf.ensures.parts.core step) c.in-Some-find_or_leaf.ensures.parts (ref-tight (core_of m.parts) (core_of c.find_or_leaf.new.p) step.step c.requires.sound.kept.tight) (ap size_of c.in-Some-find_or_leaf.ensures.segment);
+      over = over-then g.H.Host m.disk.host.now m.disk.rest (core_of m.parts) (core_of c.find_or_leaf.new.p) m.ledger step.stays step.step c.requires.sound.over;
+    }
+
+pub returns-in-Some-find_or_leaf-clause-outside : goal.returns-in-Some-find_or_leaf-clause-outside
+unfolding loom_outside
+returns-in-Some-find_or_leaf-clause-outside g c = refl

@@ -1,0 +1,28 @@
+use Rattle.std.proofs.Common.{refl, ◌∙◌}
+use Rattle.long_names.specs.Access.{WriteWords, Nothing}
+use Rattle.loom_memory.specs.Memory.{loom_told}
+use Rattle.loom_memory.proofs.AccessLaws.{refused-is, quiet-ready}
+use Rattle.loom_memory.proofs.LastLaws.{can-still}
+use Rattle.loom_memory.proofs.StoreLaws.{err-of, store-last, store-ready}
+use Rattle.loom_memory.proofs.memory.LoomMemory.write_words.Goals as goal
+
+pub store_words-requires-clause-ready : goal.store_words-requires-clause-ready
+store_words-requires-clause-ready g c = quiet-ready (loom_told g.H.Host c.args.self.now) (loom_told g.H.Host c.open.new.self) c.in-Ok.ensures.quiet c.requires.fit.ready
+
+pub store_words-requires-clause-may : goal.store_words-requires-clause-may
+unfolding loom_told
+store_words-requires-clause-may g c = λ told. can-still (loom_told g.H.Host c.args.self.now) (loom_told g.H.Host c.open.new.self) (WriteWords c.args.of c.args.at c.args.from.now) c.in-Ok.ensures.quiet (c.requires.may.heap told)
+
+pub returns-in-Ok-clause-access : goal.returns-in-Ok-clause-access
+returns-in-Ok-clause-access g c = store-last c.store_words.result (loom_told g.H.Host c.args.self.now) (loom_told g.H.Host c.open.new.self) (loom_told g.H.Host c.store_words.new.self) (WriteWords c.args.of c.args.at c.args.from.now) refl tt refl c.in-Ok.ensures.quiet c.store_words.ensures.stored (err-of c.store_words.result (loom_told g.H.Host c.open.new.self) (loom_told g.H.Host c.store_words.new.self) (WriteWords c.args.of c.args.at c.args.from.now) tt refl c.store_words.ensures.err) (c.in-Ok.ensures.core (WriteWords c.args.of c.args.at c.args.from.now) refl refl)
+
+pub returns-in-Err-clause-access : goal.returns-in-Err-clause-access
+returns-in-Err-clause-access g c = refused-is (loom_told g.H.Host c.args.self.now) (loom_told g.H.Host c.open.new.self) (WriteWords c.args.of c.args.at c.args.from.now) (λ _. Nothing) c.in-Err.f (c.in-Err.ensures.err (WriteWords c.args.of c.args.at c.args.from.now) refl refl tt)
+
+pub returns-in-Ok-clause-fit : goal.returns-in-Ok-clause-fit
+returns-in-Ok-clause-fit g c = record {
+  sound = c.store_words.ensures.sound;
+  ready = store-ready c.store_words.result (loom_told g.H.Host c.open.new.self) (loom_told g.H.Host c.store_words.new.self) (WriteWords c.args.of c.args.at c.args.from.now) refl (quiet-ready (loom_told g.H.Host c.args.self.now) (loom_told g.H.Host c.open.new.self) c.in-Ok.ensures.quiet c.requires.fit.ready) c.store_words.ensures.stored;
+  lender = c.store_words.ensures.lender ∙ c.in-Ok.ensures.lender;
+  outside = c.store_words.ensures.outside ∙ c.in-Ok.ensures.outside;
+}

@@ -1,0 +1,23 @@
+-- What a store leaves of what is told.
+use Rattle.std.specs.Prelude.{◌≡◌, ℕ, None, IsTrue}
+use Rattle.long_names.specs.Heap.{Heap}
+use Rattle.long_names.specs.Access.{Access, heap_after}
+use Rattle.object_memory.specs.Told.{Told}
+use Rattle.object_memory.specs.Contract.{SameBounds, Raised, LeavesCache, touched_by}
+use Rattle.object_table.specs.Entries.{place_of}
+use Rattle.leaf_lambda.specs.Parts.{core_of}
+use Rattle.loom_memory.specs.declared.memory.LoomMemory.{LoomMemory}
+use Rattle.loom_memory.specs.Memory.{word_in}
+
+-- An access stored: the heap changed as it says, the cache as it may, and calls on the disk may have failed.
+pub record IsStored (t u : Told) (a : Access) : Type 0 where
+  pub heap : Heap
+  pub same : u ≡ (record t { heap = heap; bounds = u.bounds; cache = u.cache })
+  pub bounds : SameBounds t.bounds u.bounds
+  pub counts : Raised 0 t.bounds u.bounds
+  pub cache : LeavesCache (touched_by t.regs a) None t.cache t.cache u.cache
+  pub stored : IsTrue t.tells → heap ≡ heap_after t.heap t.regs a
+
+-- the object of a register has no body in the core
+abbrev pub IsAway : {H : Type 0} → LoomMemory H → ℕ → Type 0
+IsAway m of = place_of ((core_of m.parts).entries (word_in m.regs of)).state ≡ None

@@ -1,0 +1,161 @@
+// Fields of objects, into a register and out of it.
+ghost use Rattle.std.specs.Prelude.{◌≡◌, ◌≢◌, ◌≤◌, ℕ, [], Some, true, IsTrue, OnOk, IfOk, IfErr, slice_get};
+ghost use Rattle.long_names.specs.Words.{IsValue};
+ghost use Rattle.object_record.specs.Objects.{value_in};
+ghost use Rattle.object_table.specs.Entries.{is_short, is_used, place_of};
+ghost use Rattle.core_view.specs.Words.{meant};
+ghost use Rattle.core_view.specs.Held.{fields_there};
+ghost use Rattle.core_view.specs.Steps.{IsAt};
+ghost use Rattle.leaf_lambda.specs.Parts.{core_of, spare_of};
+
+use crate::bring::refusal_of;
+use crate::memory::LoomMemory;
+use core_segment::Addr;
+use leaf_lambda::leaving::field_total;
+use leaf_lambda::numbers::short_int;
+use leaf_lambda::resolve;
+use leaf_lambda::steps::{field_word, find_or_leaf, place_of_body};
+use long_names::{Value, value_of};
+use loom_outside::{Host, Role};
+use object_memory::{MemFault, Reg};
+use object_table::Short;
+use purger::NOWHERE;
+use purger::eviction::read_copy;
+
+impl<'h, H: Host> LoomMemory<'h, H> {
+    ghost use Rattle.long_names.specs.Access.{Access, Field, CanDo, Nothing};
+    ghost use Rattle.object_memory.specs.Told.{IsReady};
+    ghost use Rattle.object_memory.specs.Contract.{Accessed, KeepsSound, MayDo, makes};
+    ghost use Rattle.object_memory.specs.Fit.{MayCall, StaysCallable};
+    ghost use Rattle.disk_objects.specs.Function.{disk_of};
+    ghost use Rattle.loom_memory.specs.Memory.{loom_told, loom_outside, loom_lender, word_in, IsSound, IsQuiet, IsSilent, IsTaken, IsRefused};
+
+    // The long word that a lambda means.
+    fn read_lambda(&mut self, s: Short, at: Addr, i: u32) -> Result<u32, MemFault>
+        requires sound { IsSound H.Host self.old }
+        requires ready { IsReady (loom_told H.Host self.old) }
+        requires lambda { IsAt (core_of self.old.parts) s.0 at.place i 0 }
+        requires spare { 26 ≤ spare_of self.old.parts }
+        ensures quiet { OnOk result (IsQuiet (loom_told H.Host self.old) (loom_told H.Host self.new)) }
+        ensures sound { KeepsSound result (IsSound H.Host self.new) }
+        ensures long { IsTrue (H.tells Role.Work) → IfOk result (λ long. slice_get (fields_there (disk_of H.Host self.old.disk.host.now self.old.disk.rest ((core_of self.old.parts).entries s.0).name)) i ≡ Some (value_in long)) }
+        ensures spare { OnOk result (1 ≤ spare_of self.new.parts) }
+        ensures err { IfErr result (λ f. (a : Access) → IsSilent a → makes a ≡ 0 → IsRefused (loom_told H.Host self.old) (loom_told H.Host self.new) a f) }
+        ensures lender { self.new.disk.host.ghost_name ≡ self.old.disk.host.ghost_name }
+        ensures outside { loom_outside H.Host self.new ≡ loom_outside H.Host self.old }
+    {
+        match read_copy(&self.parts, &mut self.disk, &mut self.buf, s, at) {
+            Ok(()) => {
+                let e = self.parts.names.table.entry(s);
+                if e.flags.fresh {
+                    return Err(self.refuse(MemFault::Damaged {
+                        place: NOWHERE,
+                        name: e.name.get(),
+                    }));
+                }
+                Ok(resolve(&mut self.parts, s, &mut self.buf, i))
+            }
+            Err(f) => {
+                let f = refusal_of(f);
+                Err(self.refuse(f))
+            }
+        }
+    }
+
+    // The short word of a value. Its name gets an entry.
+    fn word_for(&mut self, v: &Value) -> u16
+        requires sound { IsSound H.Host self.old }
+        requires value { IsValue v.now }
+        requires spare { 1 ≤ spare_of self.old.parts }
+        ensures told { loom_told H.Host self.new ≡ loom_told H.Host self.old }
+        ensures sound { IsSound H.Host self.new }
+        ensures used { is_short result ≡ true → is_used ((core_of self.new.parts).entries result).state ≡ true }
+        ensures some { result ≢ 0 }
+        ensures means { meant (core_of self.new.parts).entries [] 0 result ≡ v.now }
+        ensures lender { self.new.disk.host.ghost_name ≡ self.old.disk.host.ghost_name }
+        ensures outside { loom_outside H.Host self.new ≡ loom_outside H.Host self.old }
+    {
+        match v.number() {
+            Some(number) => short_int(number),
+            None => match v.name() {
+                Some(name) => match find_or_leaf(&mut self.parts, name, 0) {
+                    Some(s) => s.0,
+                    None => unreachable!(),
+                },
+                None => unreachable!(),
+            },
+        }
+    }
+
+    // Puts what a lambda means into a register.
+    fn take_lambda(&mut self, to: Reg, of: Reg, s: Short, at: Addr, i: u32) -> Result<(), MemFault>
+        requires sound { IsSound H.Host self.old }
+        requires ready { IsReady (loom_told H.Host self.old) }
+        requires may { IsTrue (H.tells Role.Work) → CanDo (loom_told H.Host self.old).heap (loom_told H.Host self.old).regs (Field to of i) }
+        requires word { s.0 ≡ word_in self.old.regs of }
+        requires lambda { IsAt (core_of self.old.parts) s.0 at.place i 0 }
+        requires spare { 26 ≤ spare_of self.old.parts }
+        ensures taken { OnOk result (IsTaken (loom_told H.Host self.old) (loom_told H.Host self.new) to of i) }
+        ensures sound { KeepsSound result (IsSound H.Host self.new) }
+        ensures err { IfErr result (IsRefused (loom_told H.Host self.old) (loom_told H.Host self.new) (Field to of i)) }
+        ensures lender { self.new.disk.host.ghost_name ≡ self.old.disk.host.ghost_name }
+        ensures outside { loom_outside H.Host self.new ≡ loom_outside H.Host self.old }
+    {
+        match self.read_lambda(s, at, i) {
+            Ok(long) => match value_of(long) {
+                Some(v) => {
+                    let w = self.word_for(&v);
+                    self.put_word(to, w);
+                    Ok(())
+                }
+                None => Err(self.refuse(MemFault::Damaged {
+                    place: NOWHERE,
+                    name: long,
+                })),
+            },
+            Err(f) => Err(f),
+        }
+    }
+
+    // Puts field i of an object in the core into a register.
+    fn take_field(&mut self, to: Reg, of: Reg, s: Short, i: u32) -> Result<(), MemFault>
+        requires sound { IsSound H.Host self.old }
+        requires ready { IsReady (loom_told H.Host self.old) }
+        requires may { IsTrue (H.tells Role.Work) → CanDo (loom_told H.Host self.old).heap (loom_told H.Host self.old).regs (Field to of i) }
+        requires word { s.0 ≡ word_in self.old.regs of }
+        requires there { (at : ℕ) × (place_of ((core_of self.old.parts).entries s.0).state ≡ Some at) }
+        requires spare { 26 ≤ spare_of self.old.parts }
+        ensures taken { OnOk result (IsTaken (loom_told H.Host self.old) (loom_told H.Host self.new) to of i) }
+        ensures sound { KeepsSound result (IsSound H.Host self.new) }
+        ensures err { IfErr result (IsRefused (loom_told H.Host self.old) (loom_told H.Host self.new) (Field to of i)) }
+        ensures lender { self.new.disk.host.ghost_name ≡ self.old.disk.host.ghost_name }
+        ensures outside { loom_outside H.Host self.new ≡ loom_outside H.Host self.old }
+    {
+        let at = place_of_body(&self.parts, s);
+        if i >= field_total(&self.parts, s, at) {
+            let name = self.parts.names.table.entry(s).name.get();
+            return Err(self.refuse(MemFault::Damaged {
+                place: NOWHERE,
+                name,
+            }));
+        }
+        let w = field_word(&self.parts, s, at, i);
+        if w == 0 {
+            return self.take_lambda(to, of, s, at, i);
+        }
+        self.put_word(to, w);
+        Ok(())
+    }
+
+    pub(crate) fn field(&mut self, to: Reg, of: Reg, i: u32) -> Result<(), MemFault>
+        requires fit { MayCall (IsSound H.Host) (loom_told H.Host) self.old }
+        requires may { MayDo (loom_told H.Host self.old) (Field to of i) }
+        ensures access { Accessed (loom_told H.Host self.old) (loom_told H.Host self.new) (Field to of i) (λ _. Nothing) result }
+        ensures fit { StaysCallable (IsSound H.Host) (loom_told H.Host) loom_lender (loom_outside H.Host) self.old self.new result }
+    {
+        match self.load(of) {
+            Ok(s) => self.take_field(to, of, s, i),
+            Err(f) => Err(f),
+        }
+    }
+}

@@ -1,0 +1,219 @@
+// Stores into objects: fields, words and bytes.
+ghost use Rattle.std.specs.Prelude.{◌≡◌, ◌+◌, ◌≤◌, ◌<◌, ℕ, [], ◌∷◌, Some, true, false, IsTrue, OnOk, IfOk, IfErr, length};
+ghost use Rattle.long_names.specs.declared.object.Kind.TheVariants as sort;
+ghost use Rattle.object_table.specs.Entries.{is_used, place_of};
+ghost use Rattle.leaf_lambda.specs.Parts.{core_of};
+ghost use Rattle.leaf_lambda.specs.Making.{HasBytes};
+
+use crate::memory::LoomMemory;
+use leaf_lambda::fields::put_field;
+use leaf_lambda::leaving::field_total;
+use leaf_lambda::steps::place_of_body;
+use leaf_lambda::storing::{put_byte, put_words};
+use long_names::Kind;
+use loom_outside::{Host, Role};
+use object_memory::{MemFault, Reg};
+use object_table::Short;
+use purger::NOWHERE;
+use purger::marks::unmark_for;
+
+// Whether a body of a kind and a length has so many words from a place on.
+fn has_words(kind: Kind, len: u32, at: u32, count: usize) -> bool
+    ensures yes { result ≡ true → (kind ≡ sort.Words) × (at + count ≤ len) }
+    ensures no { result ≡ false → kind ≡ sort.Words → len < at + count }
+{
+    match kind {
+        Kind::Words => at <= len && count <= (len - at) as usize,
+        _ => false,
+    }
+}
+
+// Whether it has byte i, of code too.
+fn has_byte(kind: Kind, len: u32, i: u32) -> bool
+    ensures yes { result ≡ true → HasBytes kind × (i < len) }
+    ensures no { result ≡ false → HasBytes kind → len ≤ i }
+{
+    match kind {
+        Kind::Bytes => i < len,
+        Kind::Method => i < len,
+        _ => false,
+    }
+}
+
+impl<'h, H: Host> LoomMemory<'h, H> {
+    ghost use Rattle.long_names.specs.Access.{Access, SetField, SetWord, SetByte, WriteWords, CanDo, Nothing, target_of};
+    ghost use Rattle.long_names.specs.State.{IsRef};
+    ghost use Rattle.object_memory.specs.Told.{IsReady};
+    ghost use Rattle.object_memory.specs.Contract.{Accessed, Does, HasCore, IfBounds, KeepsSound, MayDo, makes};
+    ghost use Rattle.object_memory.specs.Fit.{MayCall, StaysCallable};
+    ghost use Rattle.loom_memory.specs.Memory.{loom_told, loom_outside, loom_lender, word_in, IsSound, IsQuiet, IsSilent, IsRefused};
+    ghost use Rattle.loom_memory.specs.Stores.{IsStored};
+
+    // Before an object is stored into: all marks go where it is marked.
+    fn unmark(&mut self, s: Short)
+        requires sound { IsSound H.Host self.old }
+        requires used { is_used ((core_of self.old.parts).entries s.0).state ≡ true }
+        ensures quiet { IsQuiet (loom_told H.Host self.old) (loom_told H.Host self.new) }
+        ensures sound { IsSound H.Host self.new }
+        ensures regs { self.new.regs ≡ self.old.regs }
+        ensures gone { ((core_of self.new.parts).entries s.0).flags.marked ≡ false }
+        ensures place { place_of ((core_of self.new.parts).entries s.0).state ≡ place_of ((core_of self.old.parts).entries s.0).state }
+        ensures lender { self.new.disk.host.ghost_name ≡ self.old.disk.host.ghost_name }
+        ensures outside { loom_outside H.Host self.new ≡ loom_outside H.Host self.old }
+    {
+        unmark_for(&mut self.parts, s);
+    }
+
+    // Brings the object of a register into the core, to be stored into: it isn't marked then.
+    fn open(&mut self, of: Reg) -> Result<Short, MemFault>
+        requires sound { IsSound H.Host self.old }
+        requires ready { IsReady (loom_told H.Host self.old) }
+        requires name { IsRef ((loom_told H.Host self.old).regs of) }
+        ensures quiet { OnOk result (IsQuiet (loom_told H.Host self.old) (loom_told H.Host self.new)) }
+        ensures sound { KeepsSound result (IsSound H.Host self.new) }
+        ensures word { IfOk result (λ s. s.0 ≡ word_in self.new.regs of) }
+        ensures there { IfOk result (λ s. (at : ℕ) × (place_of ((core_of self.new.parts).entries s.0).state ≡ Some at)) }
+        ensures gone { IfOk result (λ s. ((core_of self.new.parts).entries s.0).flags.marked ≡ false) }
+        ensures core { OnOk result ((a : Access) → target_of a ≡ Some of → makes a ≡ 0 → IfBounds (loom_told H.Host self.old).bounds (HasCore (loom_told H.Host self.old) a)) }
+        ensures err { IfErr result (λ f. (a : Access) → target_of a ≡ Some of → makes a ≡ 0 → IsSilent a → IsRefused (loom_told H.Host self.old) (loom_told H.Host self.new) a f) }
+        ensures lender { self.new.disk.host.ghost_name ≡ self.old.disk.host.ghost_name }
+        ensures outside { loom_outside H.Host self.new ≡ loom_outside H.Host self.old }
+    {
+        match self.load(of) {
+            Ok(s) => {
+                self.unmark(s);
+                Ok(s)
+            }
+            Err(f) => Err(f),
+        }
+    }
+
+    // Stores the value of a register into field i of an object in the core, whatever was there.
+    fn store_field(&mut self, of: Reg, s: Short, i: u32, from: Reg) -> Result<(), MemFault>
+        requires sound { IsSound H.Host self.old }
+        requires ready { IsReady (loom_told H.Host self.old) }
+        requires may { IsTrue (H.tells Role.Work) → CanDo (loom_told H.Host self.old).heap (loom_told H.Host self.old).regs (SetField of i from) }
+        requires word { s.0 ≡ word_in self.old.regs of }
+        requires there { (at : ℕ) × (place_of ((core_of self.old.parts).entries s.0).state ≡ Some at) }
+        requires gone { ((core_of self.old.parts).entries s.0).flags.marked ≡ false }
+        ensures stored { OnOk result (IsStored (loom_told H.Host self.old) (loom_told H.Host self.new) (SetField of i from)) }
+        ensures sound { KeepsSound result (IsSound H.Host self.new) }
+        ensures err { IfErr result (IsRefused (loom_told H.Host self.old) (loom_told H.Host self.new) (SetField of i from)) }
+        ensures lender { self.new.disk.host.ghost_name ≡ self.old.disk.host.ghost_name }
+        ensures outside { loom_outside H.Host self.new ≡ loom_outside H.Host self.old }
+    {
+        let at = place_of_body(&self.parts, s);
+        if i >= field_total(&self.parts, s, at) {
+            let name = self.parts.names.table.entry(s).name.get();
+            return Err(self.refuse(MemFault::Damaged {
+                place: NOWHERE,
+                name,
+            }));
+        }
+        let w = self.regs[from.index()];
+        put_field(&mut self.parts, s, at, i, w);
+        Ok(())
+    }
+
+    pub(crate) fn set_field(&mut self, of: Reg, i: u32, from: Reg) -> Result<(), MemFault>
+        requires fit { MayCall (IsSound H.Host) (loom_told H.Host) self.old }
+        requires may { MayDo (loom_told H.Host self.old) (SetField of i from) }
+        ensures access { Accessed (loom_told H.Host self.old) (loom_told H.Host self.new) (SetField of i from) (λ _. Nothing) result }
+        ensures fit { StaysCallable (IsSound H.Host) (loom_told H.Host) loom_lender (loom_outside H.Host) self.old self.new result }
+    {
+        match self.open(of) {
+            Ok(s) => self.store_field(of, s, i, from),
+            Err(f) => Err(f),
+        }
+    }
+
+    // Stores a run of words into an object in the core, from word at on.
+    fn store_words(&mut self, of: Reg, s: Short, at: u32, run: &[u16]) -> Result<(), MemFault>
+        requires sound { IsSound H.Host self.old }
+        requires ready { IsReady (loom_told H.Host self.old) }
+        requires may { IsTrue (H.tells Role.Work) → CanDo (loom_told H.Host self.old).heap (loom_told H.Host self.old).regs (WriteWords of at run.now) }
+        requires word { s.0 ≡ word_in self.old.regs of }
+        requires there { (at : ℕ) × (place_of ((core_of self.old.parts).entries s.0).state ≡ Some at) }
+        requires gone { ((core_of self.old.parts).entries s.0).flags.marked ≡ false }
+        ensures stored { OnOk result (IsStored (loom_told H.Host self.old) (loom_told H.Host self.new) (WriteWords of at run.now)) }
+        ensures sound { KeepsSound result (IsSound H.Host self.new) }
+        ensures err { IfErr result (λ f. (a : Access) → IsSilent a → makes a ≡ 0 → IsRefused (loom_told H.Host self.old) (loom_told H.Host self.new) a f) }
+        ensures lender { self.new.disk.host.ghost_name ≡ self.old.disk.host.ghost_name }
+        ensures outside { loom_outside H.Host self.new ≡ loom_outside H.Host self.old }
+    {
+        let e = self.parts.names.table.entry(s);
+        let fits = has_words(e.kind, e.len, at, run.len());
+        if fits {
+            let place = place_of_body(&self.parts, s);
+            put_words(&mut self.parts, s, place, at, run);
+            return Ok(());
+        }
+        Err(self.refuse(MemFault::Damaged {
+            place: NOWHERE,
+            name: e.name.get(),
+        }))
+    }
+
+    pub(crate) fn set_word(&mut self, of: Reg, i: u32, w: u16) -> Result<(), MemFault>
+        requires fit { MayCall (IsSound H.Host) (loom_told H.Host) self.old }
+        requires may { MayDo (loom_told H.Host self.old) (SetWord of i w) }
+        ensures access { Accessed (loom_told H.Host self.old) (loom_told H.Host self.new) (SetWord of i w) (λ _. Nothing) result }
+        ensures fit { StaysCallable (IsSound H.Host) (loom_told H.Host) loom_lender (loom_outside H.Host) self.old self.new result }
+    {
+        match self.open(of) {
+            Ok(s) => self.store_words(of, s, i, &[w]),
+            Err(f) => Err(f),
+        }
+    }
+
+    pub(crate) fn write_words(&mut self, of: Reg, at: u32, from: &[u16]) -> Result<(), MemFault>
+        requires fit { MayCall (IsSound H.Host) (loom_told H.Host) self.old }
+        requires may { MayDo (loom_told H.Host self.old) (WriteWords of at from.now) }
+        ensures access { Accessed (loom_told H.Host self.old) (loom_told H.Host self.new) (WriteWords of at from.now) (λ _. Nothing) result }
+        ensures fit { StaysCallable (IsSound H.Host) (loom_told H.Host) loom_lender (loom_outside H.Host) self.old self.new result }
+    {
+        match self.open(of) {
+            Ok(s) => self.store_words(of, s, at, from),
+            Err(f) => Err(f),
+        }
+    }
+
+    // Stores byte i of an object in the core, of code too.
+    fn store_byte(&mut self, of: Reg, s: Short, i: u32, b: u8) -> Result<(), MemFault>
+        requires sound { IsSound H.Host self.old }
+        requires ready { IsReady (loom_told H.Host self.old) }
+        requires may { IsTrue (H.tells Role.Work) → CanDo (loom_told H.Host self.old).heap (loom_told H.Host self.old).regs (SetByte of i b) }
+        requires word { s.0 ≡ word_in self.old.regs of }
+        requires there { (at : ℕ) × (place_of ((core_of self.old.parts).entries s.0).state ≡ Some at) }
+        requires gone { ((core_of self.old.parts).entries s.0).flags.marked ≡ false }
+        ensures stored { OnOk result (IsStored (loom_told H.Host self.old) (loom_told H.Host self.new) (SetByte of i b)) }
+        ensures sound { KeepsSound result (IsSound H.Host self.new) }
+        ensures err { IfErr result (IsRefused (loom_told H.Host self.old) (loom_told H.Host self.new) (SetByte of i b)) }
+        ensures lender { self.new.disk.host.ghost_name ≡ self.old.disk.host.ghost_name }
+        ensures outside { loom_outside H.Host self.new ≡ loom_outside H.Host self.old }
+    {
+        let e = self.parts.names.table.entry(s);
+        let fits = has_byte(e.kind, e.len, i);
+        if fits {
+            let place = place_of_body(&self.parts, s);
+            put_byte(&mut self.parts, s, place, i, b);
+            return Ok(());
+        }
+        Err(self.refuse(MemFault::Damaged {
+            place: NOWHERE,
+            name: e.name.get(),
+        }))
+    }
+
+    pub(crate) fn set_byte(&mut self, of: Reg, i: u32, b: u8) -> Result<(), MemFault>
+        requires fit { MayCall (IsSound H.Host) (loom_told H.Host) self.old }
+        requires may { MayDo (loom_told H.Host self.old) (SetByte of i b) }
+        ensures access { Accessed (loom_told H.Host self.old) (loom_told H.Host self.new) (SetByte of i b) (λ _. Nothing) result }
+        ensures fit { StaysCallable (IsSound H.Host) (loom_told H.Host) loom_lender (loom_outside H.Host) self.old self.new result }
+    {
+        match self.open(of) {
+            Ok(s) => self.store_byte(of, s, i, b),
+            Err(f) => Err(f),
+        }
+    }
+}

@@ -1,0 +1,89 @@
+// Two objects change places under their names: both leave the core, and their records are exchanged.
+ghost use Rattle.std.specs.Prelude.{◌≡◌, ℕ, IsTrue, OnOk, IfErr};
+
+use crate::bring::refusal_of;
+use crate::memory::LoomMemory;
+use disk_objects::laws::a_disk_is_its_objects;
+use loom_outside::Host;
+use object_memory::{MemFault, Reg};
+use object_table::Short;
+use purger::eviction::evict;
+
+impl<'h, H: Host> LoomMemory<'h, H> {
+    ghost use Rattle.long_names.specs.Access.{Access, Swap, IsUnpinned, Nothing};
+    ghost use Rattle.long_names.specs.State.{IsRef, name_at};
+    ghost use Rattle.object_memory.specs.Told.{IsReady};
+    ghost use Rattle.object_memory.specs.Contract.{Accessed, KeepsSound, MayDo, makes};
+    ghost use Rattle.object_memory.specs.Fit.{MayCall, StaysCallable};
+    ghost use Rattle.loom_memory.specs.Memory.{loom_told, loom_outside, loom_lender, IsSound, IsQuiet, IsSilent, IsRefused};
+    ghost use Rattle.loom_memory.specs.Stores.{IsAway, IsStored};
+
+    // The object of a register leaves the core.
+    fn put_away(&mut self, of: Reg) -> Result<(), MemFault>
+        requires sound { IsSound H.Host self.old }
+        requires ready { IsReady (loom_told H.Host self.old) }
+        requires name { IsRef ((loom_told H.Host self.old).regs of) }
+        requires unpinned { IsUnpinned (loom_told H.Host self.old).slots (name_at ((loom_told H.Host self.old).regs of)) }
+        ensures quiet { OnOk result (IsQuiet (loom_told H.Host self.old) (loom_told H.Host self.new)) }
+        ensures sound { KeepsSound result (IsSound H.Host self.new) }
+        ensures away { OnOk result (IsAway self.new of) }
+        ensures leaves { OnOk result ((r : ℕ) → IsAway self.old r → IsAway self.new r) }
+        ensures err { IfErr result (λ f. (a : Access) → IsSilent a → makes a ≡ 0 → IsRefused (loom_told H.Host self.old) (loom_told H.Host self.new) a f) }
+        ensures lender { self.new.disk.host.ghost_name ≡ self.old.disk.host.ghost_name }
+        ensures outside { loom_outside H.Host self.new ≡ loom_outside H.Host self.old }
+    {
+        let s = Short(self.regs[of.index()]);
+        if self.parts.names.table.entry(s).place().is_some() {
+            return match evict(&mut self.parts, &mut self.disk, &mut self.out, s) {
+                Ok(()) => Ok(()),
+                Err(f) => {
+                    let f = refusal_of(f);
+                    Err(self.refuse(f))
+                }
+            };
+        }
+        Ok(())
+    }
+
+    // The records of the objects of two registers are exchanged, which aren't in the core.
+    fn exchange(&mut self, a: Reg, b: Reg) -> Result<(), MemFault>
+        requires sound { IsSound H.Host self.old }
+        requires ready { IsReady (loom_told H.Host self.old) }
+        requires names { IsRef ((loom_told H.Host self.old).regs a) × IsRef ((loom_told H.Host self.old).regs b) }
+        requires away { IsAway self.old a × IsAway self.old b }
+        ensures swapped { OnOk result (IsStored (loom_told H.Host self.old) (loom_told H.Host self.new) (Swap a b)) }
+        ensures sound { KeepsSound result (IsSound H.Host self.new) }
+        ensures err { IfErr result (IsRefused (loom_told H.Host self.old) (loom_told H.Host self.new) (Swap a b)) }
+        ensures lender { self.new.disk.host.ghost_name ≡ self.old.disk.host.ghost_name }
+        ensures outside { loom_outside H.Host self.new ≡ loom_outside H.Host self.old }
+    {
+        // What has an object on the disk is held there.
+        a_disk_is_its_objects();
+        let s = Short(self.regs[a.index()]);
+        let t = Short(self.regs[b.index()]);
+        let first = self.parts.names.table.entry(s).name;
+        let second = self.parts.names.table.entry(t).name;
+        match self.disk.swap(first, second, &mut self.out) {
+            Ok(()) => Ok(()),
+            Err(f) => {
+                let f = refusal_of(f);
+                Err(self.refuse(f))
+            }
+        }
+    }
+
+    pub(crate) fn swap(&mut self, a: Reg, b: Reg) -> Result<(), MemFault>
+        requires fit { MayCall (IsSound H.Host) (loom_told H.Host) self.old }
+        requires may { MayDo (loom_told H.Host self.old) (Swap a b) }
+        ensures access { Accessed (loom_told H.Host self.old) (loom_told H.Host self.new) (Swap a b) (λ _. Nothing) result }
+        ensures fit { StaysCallable (IsSound H.Host) (loom_told H.Host) loom_lender (loom_outside H.Host) self.old self.new result }
+    {
+        match self.put_away(a) {
+            Ok(()) => match self.put_away(b) {
+                Ok(()) => self.exchange(a, b),
+                Err(f) => Err(f),
+            },
+            Err(f) => Err(f),
+        }
+    }
+}
