@@ -1,18 +1,16 @@
 -- How far reading goes before it breaks off: a record is within the longest, and three zeros.
-use Rattle.std.proofs.Common.{◌≡◌, ℕ, ℤ, zero, suc, ◌+◌, ◌-◌, ◌*◌, ◌%◌, ◌^◌, ◌<◌, ◌≤◌, Bool, true, false, cond, eqb, ltb, leb, List, [], ◌∷◌, ◌++◌, length, take, drop, Option, Some, None, Result, Ok, Err, refl, sym, ap, ◌∙◌, arith, ◌&&◌}
+use Rattle.std.proofs.Common.{◌≡◌, ℕ, ℤ, zero, suc, ◌+◌, ◌-◌, ◌*◌, ◌%◌, ◌^◌, ◌<◌, ◌≤◌, Bool, true, false, cond, eqb, ltb, List, ◌∷◌, length, take, drop, Option, Some, None, Result, Ok, Err, refl, arith, ◌&&◌}
 use Rattle.std.specs.Int.{Width, w16, w32, w64, byte_len, from_be_bytes}
 use Rattle.std.specs.List.{list_all}
-use Rattle.std.proofs.lemmas.Bool.{ltb-false, ltb-true, leb-true}
+use Rattle.std.proofs.lemmas.Bool.{ltb-false, ltb-true}
 use Rattle.std.proofs.lemmas.List.{length-drop}
 use Rattle.long_names.specs.Words.{value_of, literal_count}
-use Rattle.long_names.specs.Record.{padding, two_bytes, four_bytes, eight_bytes}
-use Rattle.long_names.specs.declared.value.Value.{Value}
+use Rattle.long_names.specs.Record.{padding, eight_bytes}
 use Rattle.long_names.specs.declared.object.Kind.{Kind}
 use Rattle.long_names.specs.declared.object.Kind.TheVariants as kind
-use Rattle.long_names.specs.declared.object.Rec.{Rec}
 use Rattle.image_format.specs.declared.fault.Halt.{Halt}
 use Rattle.image_format.specs.Reading.{◌>>=◌, broken, judged, is_size, kind_of_number, header_in, octets_at, number_at, name_at, kind_at, size_at, value_at, many_at, values_at, header_at, method_at, body_at, zeros_at, record_at}
-use Rattle.image_format.proofs.Numbers.{AreBytes, wide16, wide32, wide64, number_takes, bind_ok, judged_ok}
+use Rattle.image_format.proofs.Numbers.{AreBytes, wide64, number_takes}
 use Rattle.image_format.proofs.Fields.{name_takes, kind_takes, header_stated}
 use Rattle.image_format.proofs.Records.{size_takes}
 

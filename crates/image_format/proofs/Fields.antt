@@ -1,5 +1,5 @@
 -- The fields of a record: what is read is spelled so, and what is spelled so is read.
-use Rattle.std.proofs.Common.{◌≡◌, ℕ, ℤ, zero, suc, ◌%◌, ◌^◌, ◌<◌, true, cond, eqb, ltb, List, [], ◌∷◌, ◌++◌, length, replicate, Option, Some, None, Result, Ok, Err, refl, sym, ap, subst, ◌∙◌, append_assoc, arith, ◌&&◌, inl, inr}
+use Rattle.std.proofs.Common.{◌≡◌, ℕ, ℤ, zero, suc, ◌%◌, ◌^◌, ◌<◌, true, eqb, ltb, List, [], ◌∷◌, ◌++◌, length, replicate, Option, Some, None, Result, Ok, refl, sym, ap, subst, ◌∙◌, append_assoc, arith, ◌&&◌, inl, inr}
 use Rattle.std.specs.Prelude.{All}
 use Rattle.std.specs.Int.{w16, w32}
 use Rattle.std.specs.List.{list_all, flat_map}
@@ -15,7 +15,7 @@ use Rattle.long_names.specs.declared.object.Kind.{Kind}
 use Rattle.long_names.specs.declared.object.Kind.TheVariants as kind
 use Rattle.long_names.specs.Names.{IsLongName}
 use Rattle.long_names.specs.Record.{two_bytes, four_bytes, kind_number, values_text, words_text}
-use Rattle.image_format.specs.Reading.{judged, number_at, name_at, kind_of_number, kind_at, value_at, many_at, values_at, words_at, octets_at, header_of, header_in, header_at, zeros_at}
+use Rattle.image_format.specs.Reading.{judged, number_at, name_at, kind_of_number, kind_at, value_at, many_at, values_at, words_at, octets_at, header_in, header_at, zeros_at}
 use Rattle.image_format.proofs.Numbers.{AreBytes, Takes, takes_then, bind_ok, ok_is, some_is, passed_ok, judged_ok, octets_take, octets_again, wide16, wide32, number_takes, number_again}
 use Rattle.image_format.proofs.Values.{chosen, none_is, value_back, value_again, word_fits}
 

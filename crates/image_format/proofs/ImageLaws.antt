@@ -1,26 +1,24 @@
 -- No rule breaks exactly where bytes are the text of a heap that an image may have, of one version, and of one heap, head and state.
-use Rattle.std.proofs.Common.{◌≡◌, ℕ, zero, suc, ◌%◌, ◌^◌, ◌<◌, ◌≤◌, Bool, true, false, cond, eqb, ltb, leb, ◌&&◌, ◌||◌, List, [], ◌∷◌, ◌++◌, length, take, drop, get_or, Option, Some, None, is_some, option_map, Result, Ok, Err, refl, sym, ap, ap₂, subst, ◌∙◌, append_assoc, arith, inl, inr, ◌⊎◌}
+use Rattle.std.proofs.Common.{◌≡◌, ℕ, zero, suc, ◌%◌, ◌^◌, ◌<◌, ◌≤◌, Bool, true, false, eqb, ltb, leb, ◌&&◌, List, [], ◌∷◌, ◌++◌, length, take, drop, Option, Some, None, is_some, option_map, Result, Ok, Err, refl, sym, ap, ap₂, subst, ◌∙◌, arith, inl, inr}
 use Rattle.std.specs.Prelude.{All}
-use Rattle.std.proofs.lemmas.Bool.{cases_lt, and_parts, and_from, or_cases, eqb-true, eq-eqb, ne_eqb, ltb-true, lt-ltb, leb-true, le-leb}
+use Rattle.std.proofs.lemmas.Bool.{cases_lt, and_parts, and_from, or_cases, eqb-true, eq-eqb, ltb-true, lt-ltb, leb-true, le-leb}
 use Rattle.std.proofs.lemmas.List.{append-nil, get_or_past}
 use Rattle.std.proofs.lemmas.List.Elements.{All-nil, All-cons, All-head, All-tail, All-weaker, All-get_or}
 use Rattle.long_names.specs.Names.{IsName, is_known, known_names}
 use Rattle.long_names.specs.Objects.{IsRecord, IsObject, holds}
-use Rattle.long_names.specs.Record.{four_bytes, record_text}
+use Rattle.long_names.specs.Record.{four_bytes}
 use Rattle.long_names.specs.Heap.{Heap, Has, object_count, count_of, rec_of}
 use Rattle.long_names.specs.declared.object.Object.{Object}
 use Rattle.long_names.specs.declared.object.Rec.{Rec}
 use Rattle.image_format.specs.declared.fault.Halt.{Halt}
-use Rattle.image_format.specs.declared.opening.Opening.{Opening}
 use Rattle.image_format.specs.declared.opening.State.{State}
 use Rattle.image_format.specs.declared.opening.ImageHead.{ImageHead}
-use Rattle.image_format.specs.Reading.{◌>>=◌}
-use Rattle.image_format.specs.Heads.{no_state, version_head_text, stated_text, opening_text, is_count, is_next, is_version, is_state_word, is_tick, head_at}
+use Rattle.image_format.specs.Heads.{no_state, version_head_text, is_count, is_next, is_version, is_state_word, is_tick, head_at}
 use Rattle.image_format.specs.Text.{IsHead, head_text, records_below, image_text}
 use Rattle.image_format.specs.Valid.{IsImageHeap, IsValid}
 use Rattle.image_format.specs.Faults.{break_of}
 use Rattle.image_format.specs.Rules.{Image, image_at, records_at, end_at, break_in, whole_break, first_break, ◌or◌, first_failing, first_missing, first_lost, has_all, is_counted, object_of_rec, rec_in, object_in, words_in, IsState, IsStateWord, IsHeadOf, text_under, IsValidImage}
-use Rattle.image_format.proofs.Numbers.{AreBytes, Takes, takes_then, bind_ok, ok_is, wide32}
+use Rattle.image_format.proofs.Numbers.{AreBytes, takes_then, bind_ok, ok_is}
 use Rattle.image_format.proofs.Records.{pair_is}
 use Rattle.image_format.proofs.Counts.{count_fits}
 use Rattle.image_format.proofs.Heads.{word-same}

@@ -1,14 +1,14 @@
 -- Heads of both versions: what is read is spelled so, and what is spelled so is read.
-use Rattle.std.proofs.Common.{◌≡◌, ℕ, ◌%◌, ◌^◌, ◌<◌, ◌≤◌, Bool, true, false, cond, eqb, ltb, leb, ◌&&◌, ◌||◌, List, [], ◌++◌, length, Result, Ok, Err, refl, sym, ap, subst, ◌∙◌, append_assoc, codes, arith, inl, inr, ◌⊎◌}
+use Rattle.std.proofs.Common.{◌≡◌, ℕ, ◌^◌, ◌<◌, Bool, true, false, cond, eqb, List, ◌++◌, Result, Ok, refl, sym, ap, subst, ◌∙◌, append_assoc, codes, arith, inl, inr, ◌⊎◌}
 use Rattle.std.specs.Int.{w32}
-use Rattle.std.proofs.lemmas.Bool.{and_parts, and_from, or_cases, eqb-true, eq-eqb, ltb-true, lt-ltb, leb-true, le-leb}
+use Rattle.std.proofs.lemmas.Bool.{eqb-true}
 use Rattle.std.proofs.lemmas.List.{append-nil}
 use Rattle.long_names.specs.Record.{four_bytes}
 use Rattle.image_format.specs.declared.fault.Halt.{Halt}
 use Rattle.image_format.specs.declared.opening.Opening.{Opening}
 use Rattle.image_format.specs.declared.opening.State.{State}
 use Rattle.image_format.specs.declared.opening.ImageHead.{ImageHead}
-use Rattle.image_format.specs.Reading.{◌>>=◌, number_at}
+use Rattle.image_format.specs.Reading.{number_at}
 use Rattle.image_format.specs.Heads.{no_state, state_text, opening_text, stated_text, version_head_text, is_loom, is_version, is_count, is_next, is_state_word, is_tick, checked_at, opening_at, state_at, version_state_at, head_at}
 use Rattle.image_format.proofs.Numbers.{AreBytes, Takes, takes_then, bind_ok, ok_is, passed_ok, wide32, number_takes, number_again}
 

@@ -1,5 +1,5 @@
 -- Heads of both versions: what they state, their bytes, and how they are read.
-use Rattle.std.specs.Prelude.{ℕ, ◌%◌, ◌&&◌, ◌||◌, ◌==◌, nat_lt, nat_le, Bool, List, [], ◌++◌, codes, Result, Ok, Err, if◌then◌else◌}
+use Rattle.std.specs.Prelude.{ℕ, ◌%◌, ◌&&◌, ◌||◌, ◌==◌, nat_lt, nat_le, Bool, List, [], ◌++◌, codes, Result, Ok, if◌then◌else◌}
 use Rattle.std.specs.Int.{w32}
 use Rattle.long_names.specs.Record.{four_bytes}
 use Rattle.image_format.specs.declared.fault.Halt.{Halt}

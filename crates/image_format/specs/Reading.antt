@@ -1,5 +1,5 @@
 -- Reading a record from the left, field by field: what each field stands for, and where reading breaks off.
-use Rattle.std.specs.Prelude.{◌≡◌, ℕ, ℤ, zero, suc, ◌-◌, ◌%◌, ◌&&◌, Bool, true, List, [], ◌∷◌, length, take, drop, Option, Some, None, Result, Ok, Err, nat_lt, nat_le, ◌==◌, if◌then◌else◌}
+use Rattle.std.specs.Prelude.{ℕ, ℤ, zero, suc, ◌-◌, ◌%◌, ◌&&◌, Bool, true, List, [], ◌∷◌, length, take, drop, Option, Some, None, Result, Ok, Err, nat_lt, nat_le, ◌==◌, if◌then◌else◌}
 use Rattle.std.specs.Int.{Width, w16, w32, w64, byte_len, from_be_bytes}
 use Rattle.std.specs.List.{list_all}
 use Rattle.long_names.specs.declared.limits.TheConstants.{MOST_CODE}

@@ -1,9 +1,8 @@
 -- The rules of an image, each by its number, and the first that bytes break, with its place. The rules 1 to 9 and 13 are met as the bytes are read from the left; then 10, 11, 12 and 14 are judged, each over the whole image.
 use Rattle.std.specs.Prelude.{◌≡◌, ◌⊎◌, ℕ, zero, suc, ◌^◌, ◌<◌, ◌&&◌, ◌||◌, ◌==◌, nat_lt, Bool, true, List, [], ◌∷◌, ◌++◌, min, Option, Some, None, is_some, option_map, Result, Ok, Err, length, if◌then◌else◌}
-use Rattle.std.specs.List.{list_all, flat_map, sum_by}
+use Rattle.std.specs.List.{list_all, sum_by}
 use Rattle.long_names.specs.Names.{is_known, known_names}
-use Rattle.long_names.specs.Objects.{fields_of, holdings, IsRecord}
-use Rattle.long_names.specs.Record.{record_text}
+use Rattle.long_names.specs.Objects.{fields_of, holdings}
 use Rattle.long_names.specs.Heap.{Heap, Has, object_count}
 use Rattle.long_names.specs.declared.value.Value.{Value}
 use Rattle.long_names.specs.declared.value.Value.TheVariants.{Int, Ref}

@@ -3,7 +3,7 @@ use Rattle.long_names.specs.declared.object.Rec.{Rec}
 use Rattle.image_format.specs.declared.fault.RecFault.{RecFault}
 use Rattle.image_format.specs.Faults.{IsBad, IsPlaced}
 use Rattle.image_format.proofs.Numbers.{AreBytes}
-use Rattle.image_format.proofs.Found.{IsFound, found, only_that, never_halted, placed, near_halt}
+use Rattle.image_format.proofs.Found.{found, only_that, never_halted, placed, near_halt}
 use Rattle.image_format.proofs.decoding.decode_rec.Goals as goal
 
 pub refused-requires : goal.refused-requires
