@@ -1,5 +1,5 @@
 -- The base image: a small heap, its text by its bytes, and that it is valid. So the definitions say of it what they are to say, and there are valid images.
-use Rattle.std.proofs.Common.{◌≡◌, ℕ, zero, suc, ◌%◌, ◌^◌, ◌<◌, ◌≤◌, ◌&&◌, ◌||◌, Bool, true, false, cond, not, eqb, ltb, List, [], ◌∷◌, length, Option, Some, None, is_some, refl, sym, ap, subst, ◌∙◌, pos, negsuc, arith, inl, inr}
+use Rattle.std.proofs.Common.{◌≡◌, ℕ, zero, suc, ◌%◌, ◌^◌, ◌<◌, ◌≤◌, ◌&&◌, ◌||◌, Bool, true, false, cond, not, eqb, ltb, List, [], ◌∷◌, ◌++◌, length, take, drop, Option, Some, None, is_some, refl, sym, ap, subst, ◌∙◌, pos, negsuc, arith, inl, inr}
 use Rattle.std.specs.Prelude.{All}
 use Rattle.std.specs.List.{list_any, list_all}
 use Rattle.std.proofs.lemmas.Bool.{cases_lt, eq-eqb, eqb-true, ltb-true, le-ltb, and_parts, or_cases}
@@ -14,6 +14,9 @@ use Rattle.long_names.specs.declared.object.Body.TheVariants.{Pointers, Method}
 use Rattle.long_names.specs.declared.object.Object.{Object}
 use Rattle.long_names.specs.Record.{two_bytes, four_bytes, eight_bytes, record_text}
 use Rattle.image_format.specs.Text.{image_text}
+use Rattle.image_format.specs.Reading.{record_at, name_at, number_at, octets_at, kind_at, size_at, body_at, method_at, header_at, value_at, many_at, zeros_at}
+use Rattle.image_format.specs.Heads.{head_at, opening_at, state_at, checked_at}
+use Rattle.image_format.specs.Rules.{break, first_break, image_at, records_at, next_record_at}
 use Rattle.image_format.specs.Valid.{IsImageHeap, IsValid}
 use Rattle.image_format.proofs.Values.{chosen, none_is}
 use Rattle.image_format.proofs.Numbers.{some_is}
@@ -200,3 +203,35 @@ base_is = record {
 
 pub base_is_valid : IsValid base_bytes
 base_is_valid = record { heap = base; is = base_is; text = sym base_text }
+
+-- ---- rules that are broken where it is damaged
+
+-- without its last byte
+pub cut : first_break (take 651 base_bytes) ≡ Some (break 9 651)
+unfolding first_break image_at head_at opening_at state_at checked_at records_at next_record_at record_at name_at number_at octets_at kind_at size_at body_at method_at header_at value_at many_at zeros_at
+cut = refl
+
+-- its first three bytes
+pub cut_short : first_break (take 3 base_bytes) ≡ Some (break 9 3)
+unfolding first_break image_at head_at opening_at state_at checked_at records_at next_record_at record_at name_at number_at octets_at kind_at size_at body_at method_at header_at value_at many_at zeros_at
+cut_short = refl
+
+-- with a byte more
+pub longer : first_break (base_bytes ++ 0 ∷ []) ≡ Some (break 9 652)
+unfolding first_break image_at head_at opening_at state_at checked_at records_at next_record_at record_at name_at number_at octets_at kind_at size_at body_at method_at header_at value_at many_at zeros_at
+longer = refl
+
+-- with X as its first byte
+pub no_loom : first_break (88 ∷ drop 1 base_bytes) ≡ Some (break 1 0)
+unfolding first_break image_at head_at opening_at state_at checked_at records_at next_record_at record_at name_at number_at octets_at kind_at size_at body_at method_at header_at value_at many_at zeros_at
+no_loom = refl
+
+-- as version 3
+pub third_version : first_break (take 7 base_bytes ++ (3 ∷ drop 8 base_bytes)) ≡ Some (break 2 4)
+unfolding first_break image_at head_at opening_at state_at checked_at records_at next_record_at record_at name_at number_at octets_at kind_at size_at body_at method_at header_at value_at many_at zeros_at
+third_version = refl
+
+-- as version 2, with the display 69
+pub odd_display : first_break (take 7 base_bytes ++ (2 ∷ (take 8 (drop 8 base_bytes) ++ (0 ∷ 0 ∷ 0 ∷ 0 ∷ 0 ∷ 0 ∷ 0 ∷ 69 ∷ 0 ∷ 0 ∷ 0 ∷ 0 ∷ 0 ∷ 0 ∷ 0 ∷ 0 ∷ 0 ∷ 0 ∷ 0 ∷ 0 ∷ drop 16 base_bytes)))) ≡ Some (break 13 20)
+unfolding first_break image_at head_at opening_at state_at checked_at records_at next_record_at record_at name_at number_at octets_at kind_at size_at body_at method_at header_at value_at many_at zeros_at
+odd_display = refl

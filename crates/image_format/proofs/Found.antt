@@ -1,19 +1,18 @@
 -- What a decoded record is.
-use Rattle.std.proofs.Common.{◌≡◌, ℕ, ◌≤◌, List, ◌++◌, length, take, Some, Result, Ok, Err, sym, ap, ◌∙◌, arith}
-use Rattle.std.specs.Prelude.{IfOk}
+use Rattle.std.proofs.Common.{◌≡◌, ℕ, ◌≤◌, List, ◌++◌, length, take, Ok, Err, sym, ap, subst, ◌∙◌, arith}
 use Rattle.std.proofs.lemmas.List.{length-append, take_at}
-use Rattle.std.proofs.lemmas.Option.{some_pair_parts}
 use Rattle.long_names.specs.declared.object.Rec.{Rec}
-use Rattle.image_format.specs.declared.fault.RecFault.{RecFault}
-use Rattle.image_format.specs.declared.fault.RecFault.TheVariants.{Bad, Memory}
+use Rattle.image_format.specs.declared.fault.NoRecord.{NoRecord}
+use Rattle.image_format.specs.declared.fault.NoRecord.TheVariants.{Halted, Memory}
 use Rattle.long_names.specs.Objects.{IsRecord}
 use Rattle.long_names.specs.Record.{record_text}
-use Rattle.image_format.specs.Faults.{IsBad}
-use Rattle.image_format.specs.Inside.{record_at, Decodes}
-use Rattle.image_format.proofs.Numbers.{AreBytes}
-use Rattle.image_format.proofs.Values.{none_is}
-use Rattle.image_format.proofs.Records.{record_takes, record_again}
+use Rattle.image_format.specs.Reading.{record_at}
+use Rattle.image_format.specs.Inside.{Decodes, IsNear, refusal}
+use Rattle.image_format.specs.Faults.{IsBad, IsPlaced, told}
+use Rattle.image_format.proofs.Numbers.{AreBytes, never_ok}
+use Rattle.image_format.proofs.Records.{pair_is, record_takes, record_again}
 use Rattle.image_format.proofs.Lengths.{longest}
+use Rattle.image_format.proofs.Bounds.{IsIn, record_in}
 
 pub record IsFound (bytes : List ℕ) (x : Rec × ℕ) : Type 0 where
   pub text : take x.1 bytes ≡ record_text x.0
@@ -22,7 +21,7 @@ pub record IsFound (bytes : List ℕ) (x : Rec × ℕ) : Type 0 where
   pub longest : x.1 ≤ 262160
   pub is : IsRecord x.0
 
-found : (bytes : List ℕ) (x : Rec × ℕ) → AreBytes bytes → Decodes (Ok x) bytes → IsFound bytes x
+pub found : (bytes : List ℕ) (x : Rec × ℕ) → AreBytes bytes → Decodes (Ok x) bytes → IsFound bytes x
 found bytes x fits d =
     let t = record_takes bytes (x.0, d.0) fits d.1 in
     let len : length (record_text x.0) ≡ x.1 = omega (arith, ap length t.0, length-append (record_text x.0) d.0, d.2) in
@@ -34,22 +33,20 @@ found bytes x fits d =
       is = t.1;
     }
 
-pub all_found : (bytes : List ℕ) (result : Result (Rec × ℕ) RecFault) → AreBytes bytes → Decodes result bytes → IfOk result (IsFound bytes)
-all_found bytes (Ok x) fits d = found bytes x fits d
-all_found bytes (Err e) fits d = tt
+pub only_that : (bytes : List ℕ) (x : Rec × ℕ) (r : Rec) (rest : List ℕ) → Decodes (Ok x) bytes → IsRecord r → bytes ≡ record_text r ++ rest → x.0 ≡ r
+only_that bytes x r rest d is e = (pair_is x.0 r d.0 rest (sym d.1 ∙ ap record_at e ∙ record_again r rest is)).0
 
-pub if_ok : {A E : Type 0} {P Q : A → Type 0} (result : Result A E) → ((x : A) → P x → Q x) → IfOk result P → IfOk result Q
-if_ok (Ok x) f p = f x p
-if_ok (Err e) f p = tt
+-- where reading broke off, no record stands
+pub never_halted : (bytes : List ℕ) (f : NoRecord) (r : Rec) (rest : List ℕ) → Decodes (Err f) bytes → IsBad {A = Rec × ℕ} (Err (refusal (length bytes) f)) → IsRecord r → bytes ≡ record_text r ++ rest → ⊥
+never_halted bytes (Halted h) r rest d bad is e = never_ok h (r, rest) (sym d ∙ ap record_at e ∙ record_again r rest is)
+never_halted bytes Memory r rest d bad is e = bad
 
-pub only_that : (bytes : List ℕ) (result : Result (Rec × ℕ) RecFault) (r : Rec) (rest : List ℕ) → Decodes result bytes → IsRecord r → bytes ≡ record_text r ++ rest → IfOk result (λ x. x.0 ≡ r)
-only_that bytes (Ok x) r rest d is e =
-    let same : Some (x.0, d.0) ≡ Some (r, rest) = sym d.1 ∙ ap record_at e ∙ record_again r rest is in
-    (some_pair_parts x.0 r d.0 rest same).0
-only_that bytes (Err f) r rest d is e = tt
+-- the refusal says where
+pub placed : (bytes : List ℕ) (f : NoRecord) → Decodes (Err f) bytes → IsPlaced {A = Rec × ℕ} (Err (refusal (length bytes) f)) bytes
+placed bytes (Halted h) d = ap (told (length bytes)) d
+placed bytes Memory d = tt
 
-pub never_bad : (bytes : List ℕ) (result : Result (Rec × ℕ) RecFault) (r : Rec) (rest : List ℕ) → Decodes result bytes → IsBad result → IsRecord r → bytes ≡ record_text r ++ rest → ⊥
-never_bad bytes (Ok x) r rest d bad is e = bad
-never_bad bytes (Err (Bad rule at)) r rest d bad is e =
-    none_is (r, rest) (sym d.0 ∙ ap record_at e ∙ record_again r rest is)
-never_bad bytes (Err Memory) r rest d bad is e = bad
+-- and it isn't far from the start
+pub near_halt : (bytes : List ℕ) (f : NoRecord) → AreBytes bytes → Decodes (Err f) bytes → IsNear (length bytes) f
+near_halt bytes Memory fits d = tt
+near_halt bytes (Halted h) fits d = let i = subst (λ r. IsIn (length bytes) 262163 r) d (record_in bytes fits) in (i.0, omega (arith, i.1))

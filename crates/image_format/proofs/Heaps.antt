@@ -9,7 +9,6 @@ use Rattle.std.proofs.lemmas.Bool.{cases_lt, eq-eqb, ne_eqb}
 use Rattle.std.proofs.lemmas.Grind.{flat_map-append}
 use Rattle.std.proofs.lemmas.List.{append-nil, append_cancel_left, length-append}
 use Rattle.std.proofs.lemmas.List.Elements.{All-nil, All-cons, All-append, All-head, All-tail}
-use Rattle.std.proofs.lemmas.Option.{some_pair_parts}
 use Rattle.long_names.specs.Heap.{Heap, object_count, rec_of}
 use Rattle.long_names.specs.declared.object.Object.{Object}
 use Rattle.long_names.specs.declared.object.Rec.{Rec}
@@ -17,17 +16,17 @@ use Rattle.long_names.specs.Objects.{IsRecord}
 use Rattle.long_names.specs.Record.{four_bytes, record_text}
 use Rattle.image_format.specs.Text.{head_text, records_below, image_text}
 use Rattle.image_format.specs.Valid.{IsImageHeap}
-use Rattle.image_format.specs.Inside.{number_at}
+use Rattle.image_format.specs.Reading.{number_at}
 use Rattle.image_format.proofs.Numbers.{wide32, number_again}
-use Rattle.image_format.proofs.Records.{same_record}
+use Rattle.image_format.proofs.Records.{pair_is, same_record}
 use Rattle.image_format.proofs.Lengths.{length_record}
 use Rattle.image_format.proofs.Counts.{count_fits}
 
 -- the records as a list
-abbrev one_rec : Heap → ℕ → Option Object → List Rec
+abbrev pub one_rec : Heap → ℕ → Option Object → List Rec
 one_rec h n o = option_map_or (λ (x : Object). rec_of h n x ∷ []) o []
 
-abbrev recs_below : Heap → ℕ → List Rec
+abbrev pub recs_below : Heap → ℕ → List Rec
 recs_below h zero = []
 recs_below h (suc n) = recs_below h n ++ one_rec h n (h.at n)
 
@@ -35,7 +34,7 @@ one_text_at : (h : Heap) (n : ℕ) (o : Option Object) → option_map_or (λ (x 
 one_text_at h n None = refl
 one_text_at h n (Some o) = sym (append-nil (record_text (rec_of h n o)))
 
-texts_of : (h : Heap) (n : ℕ) → records_below h n ≡ flat_map record_text (recs_below h n)
+pub texts_of : (h : Heap) (n : ℕ) → records_below h n ≡ flat_map record_text (recs_below h n)
 texts_of h zero = refl
 texts_of h (suc n) =
     ap (λ (t : List ℕ). t ++ option_map_or (λ (x : Object). record_text (rec_of h n x)) (h.at n) []) (texts_of h n)
@@ -84,7 +83,7 @@ abbrev or_else : Option Object → Option Object → Option Object
 or_else None other = other
 or_else (Some o) other = Some o
 
-abbrev found_in : ℕ → List Rec → Option Object
+abbrev pub found_in : ℕ → List Rec → Option Object
 found_in q [] = None
 found_in q (r ∷ rs) = cond (eqb r.name q) (Some (object_of r)) (found_in q rs)
 
@@ -109,14 +108,14 @@ one_found : (h : Heap) (n : ℕ) (o : Option Object) → found_in n (one_rec h n
 one_found h n None = refl
 one_found h n (Some o) = let test : eqb n n ≡ true = eq-eqb n n refl in rw test refl
 
-none_past : (h : Heap) (n q : ℕ) → n ≤ q → found_in q (recs_below h n) ≡ None
+pub none_past : (h : Heap) (n q : ℕ) → n ≤ q → found_in q (recs_below h n) ≡ None
 none_past h zero q le = refl
 none_past h (suc n) q le =
     found_append q (recs_below h n) (one_rec h n (h.at n))
     ∙ ap (λ (o : Option Object). or_else o (found_in q (one_rec h n (h.at n)))) (none_past h n q (omega (arith, le)))
     ∙ one_other h n q (h.at n) (λ e. omega (arith, e, le))
 
-found_below : (h : Heap) (n q : ℕ) → q < n → found_in q (recs_below h n) ≡ h.at q
+pub found_below : (h : Heap) (n q : ℕ) → q < n → found_in q (recs_below h n) ≡ h.at q
 found_below h zero q lt = absurd (omega (arith, lt))
 found_below h (suc n) q lt =
     found_append q (recs_below h n) (one_rec h n (h.at n)) ∙ elim (cases_lt q n) [
@@ -139,12 +138,10 @@ same_heads g h is-g is-h e =
     let regrouped : (x : Heap) → head_text (object_count x) x.next ++ rest x ≡ codes "LOOM" ++ (four_bytes 1 ++ (four_bytes (object_count x) ++ (four_bytes x.next ++ rest x))) = λ x. simp append_assoc in
     let no_word = append_cancel_left (codes "LOOM") _ _ (sym (regrouped g) ∙ e ∙ regrouped h) in
     let no_version : four_bytes (object_count g) ++ (four_bytes g.next ++ rest g) ≡ four_bytes (object_count h) ++ (four_bytes h.next ++ rest h) = append_cancel_left (four_bytes 1) _ _ no_word in
-    let count : Some (object_count g, four_bytes g.next ++ rest g) ≡ Some (object_count h, four_bytes h.next ++ rest h)
-    = sym (number_again w32 (2 ^ 32) four_bytes wide32 (object_count g) (four_bytes g.next ++ rest g) (omega (arith, is-g.head.few))) ∙ ap (number_at w32) no_version ∙ number_again w32 (2 ^ 32) four_bytes wide32 (object_count h) (four_bytes h.next ++ rest h) (omega (arith, is-h.head.few)) in
-    let no_count = (some_pair_parts (object_count g) (object_count h) (four_bytes g.next ++ rest g) (four_bytes h.next ++ rest h) count).1 in
-    let next : Some (g.next, rest g) ≡ Some (h.next, rest h)
-    = sym (number_again w32 (2 ^ 32) four_bytes wide32 g.next (rest g) is-g.head.high) ∙ ap (number_at w32) no_count ∙ number_again w32 (2 ^ 32) four_bytes wide32 h.next (rest h) is-h.head.high in
-    some_pair_parts g.next h.next (rest g) (rest h) next
+    let no_count = (pair_is (object_count g) (object_count h) (four_bytes g.next ++ rest g) (four_bytes h.next ++ rest h)
+    (sym (number_again w32 (2 ^ 32) four_bytes wide32 (object_count g) (four_bytes g.next ++ rest g) (omega (arith, is-g.head.few))) ∙ ap (number_at w32) no_version ∙ number_again w32 (2 ^ 32) four_bytes wide32 (object_count h) (four_bytes h.next ++ rest h) (omega (arith, is-h.head.few)))).1 in
+    pair_is g.next h.next (rest g) (rest h)
+    (sym (number_again w32 (2 ^ 32) four_bytes wide32 g.next (rest g) is-g.head.high) ∙ ap (number_at w32) no_count ∙ number_again w32 (2 ^ 32) four_bytes wide32 h.next (rest h) is-h.head.high)
 
 pub same_heap : (g h : Heap) → IsImageHeap g → IsImageHeap h → image_text g ≡ image_text h → g ≡ h
 same_heap g h is-g is-h e =

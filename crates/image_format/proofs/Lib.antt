@@ -10,3 +10,8 @@ pub mod Counts
 pub mod Heaps
 pub mod Base
 pub mod Heads
+pub mod Bounds
+pub mod Openings
+pub mod ImageRecs
+pub mod Whole
+pub mod ImageLaws

@@ -1,11 +1,14 @@
 // What holds of the texts of records and of heaps, whatever reads or writes them.
-ghost use Rattle.std.specs.Prelude.{◌≡◌, ℕ, ◌≤◌, ◌%◌, ◌++◌, List, length};
+ghost use Rattle.std.specs.Prelude.{◌≡◌, ◌↔◌, ℕ, ◌<◌, ◌≤◌, ◌%◌, ◌^◌, ◌++◌, List, All, length, take, drop, None};
 ghost use Rattle.long_names.specs.declared.object.Rec.{Rec};
 ghost use Rattle.long_names.specs.Objects.{IsRecord};
-ghost use Rattle.long_names.specs.Record.{record_text};
+ghost use Rattle.long_names.specs.Record.{four_bytes, record_text};
 ghost use Rattle.long_names.specs.Heap.{Heap};
 ghost use Rattle.image_format.specs.Text.{image_text};
-ghost use Rattle.image_format.specs.Valid.{IsImageHeap};
+ghost use Rattle.image_format.specs.Valid.{IsImageHeap, IsValid};
+ghost use Rattle.image_format.specs.declared.head.TheConstants.{VERSION};
+ghost use Rattle.image_format.specs.declared.opening.ImageHead.{ImageHead};
+ghost use Rattle.image_format.specs.Rules.{first_break, IsHeadOf, text_under, IsValidImage};
 ghost use Rattle.long_names.specs.declared.limits.TheConstants.{LONGEST_RECORD};
 
 /// Each record has one text, and no text of a record begins another. So what was written is read again, whatever follows it.
@@ -22,4 +25,19 @@ pub fn longest_record()
 /// Valid bytes are the text of exactly one heap: two heaps with one text have the same objects and the same next name.
 pub fn one_heap()
     ensures { (g h : Heap) → IsImageHeap g → IsImageHeap h → image_text g ≡ image_text h → g ≡ h }
+{}
+
+/// No rule breaks exactly where the bytes are the text of a heap that an image may have, of version 1 or 2.
+pub fn no_rule_breaks()
+    ensures { (bytes : List ℕ) → All (λ b. b < 2 ^ 8) bytes → (first_break bytes ≡ None ↔ IsValidImage bytes) }
+{}
+
+/// Images of version 1 in which no rule breaks are those that are valid without a state.
+pub fn no_rule_breaks_in_version_1()
+    ensures { (bytes : List ℕ) → All (λ b. b < 2 ^ 8) bytes → (IsValid bytes ↔ (first_break bytes ≡ None) × (take 4 (drop 4 bytes) ≡ four_bytes VERSION)) }
+{}
+
+/// Bytes are the text of one heap, one version and one state.
+pub fn one_image()
+    ensures { (g h : Heap) (a b : ImageHead) → IsImageHeap g → IsImageHeap h → IsHeadOf g a → IsHeadOf h b → text_under a g ≡ text_under b h → (g ≡ h) × (a ≡ b) }
 {}

@@ -1,7 +1,7 @@
-use Rattle.std.proofs.Common.{◌≡◌, ◌-◌, ◌++◌, length, Some, arith}
+use Rattle.std.proofs.Common.{◌≡◌, ◌-◌, ◌++◌, length, Ok, arith}
 use Rattle.long_names.specs.declared.object.Rec.{Rec}
 use Rattle.long_names.specs.Record.{record_head, contents_text, padding}
-use Rattle.image_format.specs.Inside.{zeros_at}
+use Rattle.image_format.specs.Reading.{zeros_at}
 use Rattle.image_format.proofs.Numbers.{AreBytes}
 use Rattle.image_format.proofs.Records.{Steps, steps_take, with_zeros, record_from_steps, shorter}
 use Rattle.image_format.proofs.reading.record_of.Goals as goal
@@ -9,7 +9,7 @@ use Rattle.image_format.proofs.reading.record_of.Goals as goal
 pub overflow_sub-read : goal.overflow_sub-read
 overflow_sub-read c =
     let r : Rec = record { name = c.in_ok-name.name; class = c.in_ok-class.class; count = c.in_ok-count.count; body = c.in_ok-body.body } in
-    let steps : Steps r c.in_ok-kind.kind c.in_ok-size.size c.args.bytes.now c.take_name.new.self.rest.now c.take_name-2.new.self.rest.now c.take_u64.new.self.rest.now c.take_kind.new.self.rest.now c.take_u16.new.self.rest.now c.take_body.new.self.rest.now
+    let steps : Steps r c.in_ok-kind.kind c.in_ok-size.size c.args.bytes.now c.take_name.new.self.rest.now c.take_name-2.new.self.rest.now c.take_u64.new.self.rest.now c.take_kind.new.self.rest.now c.take_size.new.self.rest.now c.take_body.new.self.rest.now
     = record { name = c.in_ok-name.ensures; class = c.in_ok-class.ensures; count = c.in_ok-count.ensures; kind = c.in_ok-kind.ensures; size_is = c.in_ok-size.ensures; body = c.in_ok-body.ensures } in
     let fits : AreBytes c.args.bytes.now = record { below = λ i. omega (arith, c.type_inv.bytes i) } in
     shorter (steps_take r _ _ _ _ _ _ _ _ _ fits steps).0
@@ -17,16 +17,16 @@ overflow_sub-read c =
 pub overflow_sub-result : goal.overflow_sub-result
 overflow_sub-result c =
     let r : Rec = record { name = c.in_ok-name.name; class = c.in_ok-class.class; count = c.in_ok-count.count; body = c.in_ok-body.body } in
-    let steps : Steps r c.in_ok-kind.kind c.in_ok-size.size c.args.bytes.now c.take_name.new.self.rest.now c.take_name-2.new.self.rest.now c.take_u64.new.self.rest.now c.take_kind.new.self.rest.now c.take_u16.new.self.rest.now c.take_body.new.self.rest.now
+    let steps : Steps r c.in_ok-kind.kind c.in_ok-size.size c.args.bytes.now c.take_name.new.self.rest.now c.take_name-2.new.self.rest.now c.take_u64.new.self.rest.now c.take_kind.new.self.rest.now c.take_size.new.self.rest.now c.take_body.new.self.rest.now
     = record { name = c.in_ok-name.ensures; class = c.in_ok-class.ensures; count = c.in_ok-count.ensures; kind = c.in_ok-kind.ensures; size_is = c.in_ok-size.ensures; body = c.in_ok-body.ensures } in
     let fits : AreBytes c.args.bytes.now = record { below = λ i. omega (arith, c.type_inv.bytes i) } in
-    let zeros : zeros_at (padding (length c.args.bytes.now - length c.take_body.new.self.rest.now)) c.take_body.new.self.rest.now ≡ Some (tt, c.take_zeros.new.self.rest.now) = rw (← c.padding_of.ensures) c.in_ok-take_zeros.ensures in
+    let zeros : zeros_at (padding (length c.args.bytes.now - length c.take_body.new.self.rest.now)) c.take_body.new.self.rest.now ≡ Ok (tt, c.take_zeros.new.self.rest.now) = rw (← c.padding_of.ensures) c.in_ok-take_zeros.ensures in
     shorter (with_zeros (record_head r ++ contents_text r.body) _ _ _ (steps_take r _ _ _ _ _ _ _ _ _ fits steps).0 zeros)
 
 pub returns : goal.returns
 returns c =
     let r : Rec = record { name = c.in_ok-name.name; class = c.in_ok-class.class; count = c.in_ok-count.count; body = c.in_ok-body.body } in
-    let steps : Steps r c.in_ok-kind.kind c.in_ok-size.size c.args.bytes.now c.take_name.new.self.rest.now c.take_name-2.new.self.rest.now c.take_u64.new.self.rest.now c.take_kind.new.self.rest.now c.take_u16.new.self.rest.now c.take_body.new.self.rest.now
+    let steps : Steps r c.in_ok-kind.kind c.in_ok-size.size c.args.bytes.now c.take_name.new.self.rest.now c.take_name-2.new.self.rest.now c.take_u64.new.self.rest.now c.take_kind.new.self.rest.now c.take_size.new.self.rest.now c.take_body.new.self.rest.now
     = record { name = c.in_ok-name.ensures; class = c.in_ok-class.ensures; count = c.in_ok-count.ensures; kind = c.in_ok-kind.ensures; size_is = c.in_ok-size.ensures; body = c.in_ok-body.ensures } in
-    let zeros : zeros_at (padding (length c.args.bytes.now - length c.take_body.new.self.rest.now)) c.take_body.new.self.rest.now ≡ Some (tt, c.take_zeros.new.self.rest.now) = rw (← c.padding_of.ensures) c.in_ok-take_zeros.ensures in
+    let zeros : zeros_at (padding (length c.args.bytes.now - length c.take_body.new.self.rest.now)) c.take_body.new.self.rest.now ≡ Ok (tt, c.take_zeros.new.self.rest.now) = rw (← c.padding_of.ensures) c.in_ok-take_zeros.ensures in
     (c.take_zeros.new.self.rest.now, record_from_steps r _ _ _ _ _ _ _ _ _ _ steps zeros, omega (arith, overflow_sub-result c))

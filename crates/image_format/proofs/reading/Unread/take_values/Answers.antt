@@ -1,13 +1,7 @@
-use Rattle.std.proofs.Common.{arith, refl}
 use Rattle.std.proofs.lemmas.Result.{err_from_is_err_and}
-use Rattle.image_format.specs.Inside.{value_at, many_at}
-use Rattle.image_format.proofs.Loop.{goes_on, ends, is_done, few_for_values}
+use Rattle.image_format.specs.Reading.{value_at, many_at}
+use Rattle.image_format.proofs.Loop.{goes_on, ends, is_done}
 use Rattle.image_format.proofs.reading.Unread.take_values.Goals as goal
-
-pub returns-then-self-count : goal.returns-then-self-count
-returns-then-self-count c =
-    let none = few_for_values c.args.count c.args.self.now.rest.now (omega (arith, c.if-self-count.true)) in
-    rw c.bad.ensures (none, refl, refl)
 
 pub returns-in_err-value : goal.returns-in_err-value
 returns-in_err-value c =

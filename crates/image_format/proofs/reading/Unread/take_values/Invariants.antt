@@ -1,5 +1,5 @@
 use Rattle.std.proofs.Common.{◌≡◌, ◌-◌}
-use Rattle.image_format.specs.Inside.{value_at, many_at}
+use Rattle.image_format.specs.Reading.{value_at, many_at}
 use Rattle.image_format.proofs.Loop.{with_front}
 use Rattle.image_format.proofs.reading.Unread.take_values.Given as goal
 

@@ -1,14 +1,8 @@
-use Rattle.std.proofs.Common.{arith, refl}
 use Rattle.std.proofs.lemmas.Result.{err_from_is_err_and}
 use Rattle.std.specs.Int.{w16}
-use Rattle.image_format.specs.Inside.{number_at, many_at}
-use Rattle.image_format.proofs.Loop.{goes_on, ends, is_done, few_for_words}
+use Rattle.image_format.specs.Reading.{number_at, many_at}
+use Rattle.image_format.proofs.Loop.{goes_on, ends, is_done}
 use Rattle.image_format.proofs.reading.Unread.take_words.Goals as goal
-
-pub returns-then-self-count : goal.returns-then-self-count
-returns-then-self-count c =
-    let none = few_for_words c.args.count c.args.self.now.rest.now (omega (arith, c.if-self-count.true)) in
-    rw c.bad.ensures (none, refl, refl)
 
 pub returns-in_err-word : goal.returns-in_err-word
 returns-in_err-word c =

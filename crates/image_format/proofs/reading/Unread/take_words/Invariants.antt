@@ -1,6 +1,6 @@
 use Rattle.std.proofs.Common.{◌≡◌, ◌-◌}
 use Rattle.std.specs.Int.{w16}
-use Rattle.image_format.specs.Inside.{number_at, many_at}
+use Rattle.image_format.specs.Reading.{number_at, many_at}
 use Rattle.image_format.proofs.Loop.{with_front}
 use Rattle.image_format.proofs.reading.Unread.take_words.Given as goal
 
