@@ -1,15 +1,18 @@
 // Each cause of a refusal with its exact numbers, the row of a cache, and two objects that change places. The base image has 26 objects.
+ghost use Rattle.std.specs.Prelude.{◌≡◌, None};
 ghost use Rattle.object_memory.specs.Calls.{IsFit, KeepsFit};
+ghost use Rattle.object_memory.specs.Plain.{plain_told};
+ghost use Rattle.object_memory.specs.Told.{IsReady};
 ghost use Rattle.contexts.specs.Calls.{StaysFit};
 
 use crate::steps::{Object, Step, swap, take_all};
 use bounded_memory::BoundedMemory;
 use contexts::Stop;
-use contexts::parts::{class_of, field, known, make_bytes, make_pointers, size, store_field};
+use contexts::parts::{class_of, field, known, make_bytes, make_pointers, store_field};
 use long_names::{LAST_NAME, Name};
-use object_memory::{MemFault, Need, ObjectMemory, Reg, shape};
+use object_memory::{MemFault, Need, ObjectMemory, PlainMemory, Reg, shape};
 use sample_images::{NEXT, base, memory};
-use std::process::Abort;
+use std::alloc::Global;
 use std::test::Fail;
 
 /// The objects of the base image.
@@ -242,52 +245,79 @@ const ROWS: [Row; 21] = [
     },
 ];
 
+/// Why the steps of a row are refused.
+fn refusal(plain: PlainMemory, row: &Row) -> Option<Stop>
+    requires slots { (plain_told plain).slots ≡ (λ i. None) }
+    requires ready { IsReady (plain_told plain) }
+{
+    let (room, objects) = (u32::from(row.room), u32::from(OBJECTS));
+    let mut m = BoundedMemory::new(plain, row.core, row.entries, room, objects);
+    take_all(&mut m, row.steps).err()
+}
+
+/// Whether a row is refused as it says.
+fn is_right(alloc: Global, row: &Row) -> Result<bool, Fail> {
+    let plain = memory(alloc, &base(alloc)?, row.next)?;
+    Ok(refusal(plain, row) == row.refused.map(Stop::Mem))
+}
+
+/// The first row that comes out otherwise.
+fn first_wrong(alloc: Global) -> Result<Option<usize>, Fail> {
+    for (i, row) in ROWS.iter().enumerate() {
+        if !is_right(alloc, row)? {
+            return Ok(Some(i));
+        }
+    }
+    Ok(None)
+}
+
 // An object takes 4 words and one for each field, and an access 51 entries, beside 2 for each pinned object and one for each of its fields.
 #[test]
 fn each_cause(rt: HostRuntime) -> Result<(), Fail> {
-    for (i, row) in ROWS.iter().enumerate() {
-        let plain = memory(rt.alloc(), &base(rt.alloc())?, row.next)?;
-        let room = u32::from(row.room);
-        let mut m = BoundedMemory::new(plain, row.core, row.entries, room, u32::from(OBJECTS));
-        let refused = take_all(&mut m, row.steps).err();
-        assert_eq!(rt; refused, row.refused.map(Stop::Mem), "row {i}");
-        assert!(rt; m.transcript().is_empty());
-    }
+    assert_eq!(rt; first_wrong(rt.alloc())?, None);
     Ok(())
 }
 
-/// Marks the association on a new path, and puts it into the cache as the method of itself.
+/// The association.
+const R: Reg = Reg::R10;
+
+/// What is found. It is 0 before.
+const TO: Reg = Reg::R11;
+
+/// Puts the association into the cache as the method of itself, and begins a new path. Whether it was put there.
 fn cache<M: ObjectMemory>(m: &mut M) -> Result<bool, MemFault>
     requires fit { IsFit M.ObjectMemory m.old }
     ensures fit { KeepsFit M.ObjectMemory m.old m.new result }
 {
-    let r = Reg::R10;
-    m.known(r, Name::SCHEDULER_ASSOCIATION)?;
+    m.known(R, Name::SCHEDULER_ASSOCIATION)?;
     m.begin_path();
-    if !shape::is_name(m, r) {
+    if !shape::is_name(m, R) {
         return Ok(false);
     }
-    m.mark(r)?;
-    Ok(m.cache_put(r, r, r))
+    m.mark(R)?;
+    let put = m.cache_put(R, R, R);
+    m.begin_path();
+    Ok(put)
 }
 
-// A row is found until its object is stored into, also on a later path.
+/// Whether the association is found as the method of itself and this selector.
+fn finds<M: ObjectMemory>(m: &mut M, selector: Reg) -> bool
+    requires fit { IsFit M.ObjectMemory m.old }
+    ensures fit { IsFit M.ObjectMemory m.new }
+{
+    m.cache_find(TO, R, selector) && m.same(TO, R)
+}
+
+// A row is found on a later path, and no other, until its object is stored into.
 #[test]
 fn one_row(rt: HostRuntime) -> Result<(), Fail> {
     let plain = memory(rt.alloc(), &base(rt.alloc())?, NEXT)?;
     let mut m = BoundedMemory::new(plain, 65_536, 65_536, 26, 26);
-    let (r, to) = (Reg::R10, Reg::R11);
-    m.int(to, 0);
-    let put = cache(&mut m)?;
-    assert!(rt; put);
-    m.begin_path();
-    assert!(rt; !m.cache_find(to, r, to));
-    assert!(rt; m.cache_find(to, r, r));
-    assert!(rt; m.same(to, r));
-    store_field(&mut m, r, 0, r)?;
-    assert!(rt; !m.cache_find(to, r, r));
-    m.begin_path();
-    assert!(rt; !m.cache_find(to, r, r));
+    assert!(rt; cache(&mut m)?);
+    assert!(rt; !finds(&mut m, TO));
+    assert!(rt; finds(&mut m, R));
+    store_field(&mut m, R, 0, R)?;
+    assert!(rt; !finds(&mut m, R));
     Ok(())
 }
 
@@ -312,26 +342,29 @@ fn make_two<M: ObjectMemory>(m: &mut M) -> Result<(), Stop>
     store_field(m, C, 1, B)
 }
 
-/// They change places, with class and body: the field then names the Array itself.
-fn swap_two<M: ObjectMemory>(rt: &impl Abort, m: &mut M) -> Result<(), Stop>
+/// Once they have changed places, with class and body, the field names the Array itself.
+fn are_swapped<M: ObjectMemory>(m: &mut M) -> Result<bool, Stop>
+    requires fit { IsFit M.ObjectMemory m.old }
+{
+    class_of(m, A, C)?;
+    let is_string = m.is(A, Name::STRING);
+    field(m, A, B, 2, 1)?;
+    Ok(is_string && m.same(A, B))
+}
+
+fn swap_two<M: ObjectMemory>(m: &mut M) -> Result<bool, Stop>
     requires fit { IsFit M.ObjectMemory m.old }
 {
     make_two(m)?;
     swap(m, B, C)?;
-    assert_eq!(rt; size(m, B, 0)?, 2);
-    class_of(m, A, C)?;
-    assert!(rt; m.is(A, Name::STRING));
-    field(m, A, B, 0, 1)?;
-    assert!(rt; m.same(A, B));
-    Ok(())
+    are_swapped(m)
 }
 
+// Over the memory with bounds, which has the other do it.
 #[test]
 fn two_objects_change_places(rt: HostRuntime) -> Result<(), Fail> {
-    let mut m = memory(rt.alloc(), &base(rt.alloc())?, NEXT)?;
-    swap_two(&rt, &mut m)?;
     let plain = memory(rt.alloc(), &base(rt.alloc())?, NEXT)?;
     let mut m = BoundedMemory::new(plain, 65_536, 65_536, 28, 26);
-    swap_two(&rt, &mut m)?;
+    assert!(rt; swap_two(&mut m)?);
     Ok(())
 }

@@ -1,10 +1,15 @@
 // Whole runs over a memory with bounds: in the smallest core, in smaller ones, and with room for fewer objects than are made.
+ghost use Rattle.std.specs.Prelude.{◌≡◌, IfOk, None};
+ghost use Rattle.object_memory.specs.Plain.{plain_told};
+ghost use Rattle.object_memory.specs.Told.{IsReady};
+
 use bounded_memory::BoundedMemory;
 use contexts::Stop;
 use event_file::EventList;
 use loom_run::{Halted, Reason, whole_run};
-use object_memory::{MemFault, Need};
+use object_memory::{MemFault, Need, PlainMemory};
 use sample_images::{Header, METHOD, NEXT, add_method, base, memory, name};
+use std::alloc::Global;
 use std::test::Fail;
 
 /// The method of the base image: pushes the receiver, pops it, and jumps back.
@@ -159,33 +164,58 @@ const RUNS: [Run; 11] = [
     },
 ];
 
+/// The base image with this code in place of its method's.
+fn with_code(alloc: Global, code: &[u8]) -> Result<PlainMemory, Fail>
+    ensures slots { IfOk result (λ m. (plain_told m).slots ≡ (λ i. None)) }
+    ensures ready { IfOk result (λ m. IsReady (plain_told m)) }
+{
+    let mut builder = base(alloc)?;
+    add_method(alloc, &mut builder, name(METHOD), Header::PLAIN, &[], code)?;
+    Ok(memory(alloc, &builder, NEXT)?)
+}
+
+/// How many bytecodes of a run were run, or why no more.
+fn ran(alloc: Global, plain: PlainMemory, row: &Run) -> Result<u32, Halted>
+    requires slots { (plain_told plain).slots ≡ (λ i. None) }
+    requires ready { IsReady (plain_told plain) }
+{
+    let mut m = BoundedMemory::new(plain, row.core, row.entries, u32::from(row.room), 26);
+    let events = EventList::new(alloc);
+    let finished = whole_run(alloc, &mut m, &events, row.steps)?;
+    Ok(finished.ran)
+}
+
+fn wanted(row: &Run) -> Result<u32, Halted> {
+    match row.refused {
+        None => Ok(row.ran),
+        Some(fault) => Err(Halted {
+            why: Reason::ByStop(Stop::Mem(fault)),
+            ran: row.ran,
+        }),
+    }
+}
+
+/// Whether a run comes out as its row says.
+fn is_right(alloc: Global, row: &Run) -> Result<bool, Fail> {
+    let plain = with_code(alloc, row.code)?;
+    Ok(ran(alloc, plain, row) == wanted(row))
+}
+
+/// The first run that comes out otherwise.
+fn first_wrong(alloc: Global) -> Result<Option<usize>, Fail> {
+    for (i, row) in RUNS.iter().enumerate() {
+        if !is_right(alloc, row)? {
+            return Ok(Some(i));
+        }
+    }
+    Ok(None)
+}
+
 // The association 8 has 2 fields, the process 62 has 4, its context 66 has 18, and the method 64 takes 3 words. An object takes 4 words
 // more, and an access 51 entries, beside 2 for each pinned object and one for each of its fields. A start reads 8 to 62, then pins 66
 // and 64; a step needs both, and at the end 8 and 62 are read beside them.
 #[test]
 fn in_small_cores(rt: HostRuntime) -> Result<(), Fail> {
-    for (i, row) in RUNS.iter().enumerate() {
-        let mut builder = base(rt.alloc())?;
-        add_method(
-            rt.alloc(),
-            &mut builder,
-            name(METHOD),
-            Header::PLAIN,
-            &[],
-            row.code,
-        )?;
-        let plain = memory(rt.alloc(), &builder, NEXT)?;
-        let mut m = BoundedMemory::new(plain, row.core, row.entries, u32::from(row.room), 26);
-        let events = EventList::new(rt.alloc());
-        let run = whole_run(rt.alloc(), &mut m, &events, row.steps);
-        let wanted = match row.refused {
-            None => Ok(row.ran),
-            Some(fault) => Err(Halted {
-                why: Reason::ByStop(Stop::Mem(fault)),
-                ran: row.ran,
-            }),
-        };
-        assert_eq!(rt; run.map(|finished| finished.ran), wanted, "row {i}");
-    }
+    assert_eq!(rt; first_wrong(rt.alloc())?, None);
     Ok(())
 }

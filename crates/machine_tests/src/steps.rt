@@ -42,16 +42,33 @@ pub(crate) enum Step {
     Swap(Object, Object),
 }
 
-/// Pins the object that a register names. A number is Shape.
-fn pin<M: ObjectMemory>(m: &mut M, r: Reg) -> Result<(), Stop>
+/// Asks how many fields an object has.
+fn read<M: ObjectMemory>(m: &mut M, object: Object) -> Result<(), Stop>
     requires fit { IsFit M.ObjectMemory m.old }
     ensures fit { StaysFit M.ObjectMemory m.old m.new result }
 {
-    if !shape::is_name(m, r) {
-        return Err(Stop::Stuck(Cause::Shape));
-    }
-    m.pin(1, r)?;
+    known(m, Reg::R10, object.name())?;
+    size(m, Reg::R10, 0)?;
     Ok(())
+}
+
+/// Pins an object.
+fn pin<M: ObjectMemory>(m: &mut M, object: Object) -> Result<(), Stop>
+    requires fit { IsFit M.ObjectMemory m.old }
+    ensures fit { StaysFit M.ObjectMemory m.old m.new result }
+{
+    known(m, Reg::R10, object.name())?;
+    m.pin(1, Reg::R10)?;
+    Ok(())
+}
+
+/// Makes an object of 3 words.
+fn make<M: ObjectMemory>(m: &mut M) -> Result<(), Stop>
+    requires fit { IsFit M.ObjectMemory m.old }
+    ensures fit { StaysFit M.ObjectMemory m.old m.new result }
+{
+    known(m, Reg::R10, Name::DISPLAY_BITMAP)?;
+    make_words(m, Reg::R11, Reg::R10, 3)
 }
 
 /// Lets the objects that two registers name change places, once nothing is pinned. A number is Shape.
@@ -72,33 +89,35 @@ pub(crate) fn swap<M: ObjectMemory>(m: &mut M, a: Reg, b: Reg) -> Result<(), Sto
     Ok(())
 }
 
+/// Lets two objects change places.
+fn swap_objects<M: ObjectMemory>(m: &mut M, a: Object, b: Object) -> Result<(), Stop>
+    requires fit { IsFit M.ObjectMemory m.old }
+    ensures fit { StaysFit M.ObjectMemory m.old m.new result }
+{
+    known(m, Reg::R10, a.name())?;
+    known(m, Reg::R11, b.name())?;
+    swap(m, Reg::R10, Reg::R11)
+}
+
 /// Takes a step.
 fn take<M: ObjectMemory>(m: &mut M, step: Step) -> Result<(), Stop>
     requires fit { IsFit M.ObjectMemory m.old }
     ensures fit { StaysFit M.ObjectMemory m.old m.new result }
 {
     match step {
-        Step::Read(object) => {
-            known(m, Reg::R10, object.name())?;
-            size(m, Reg::R10, 0)?;
+        Step::Read(object) => read(m, object),
+        Step::Pin(object) => pin(m, object),
+        Step::Unpin => {
+            m.unpin(1);
+            Ok(())
         }
-        Step::Pin(object) => {
-            known(m, Reg::R10, object.name())?;
-            pin(m, Reg::R10)?;
+        Step::Make => make(m),
+        Step::Settle => {
+            m.settle()?;
+            Ok(())
         }
-        Step::Unpin => m.unpin(1),
-        Step::Make => {
-            known(m, Reg::R10, Name::DISPLAY_BITMAP)?;
-            make_words(m, Reg::R11, Reg::R10, 3)?;
-        }
-        Step::Settle => m.settle()?,
-        Step::Swap(a, b) => {
-            known(m, Reg::R10, a.name())?;
-            known(m, Reg::R11, b.name())?;
-            swap(m, Reg::R10, Reg::R11)?;
-        }
+        Step::Swap(a, b) => swap_objects(m, a, b),
     }
-    Ok(())
 }
 
 /// Takes steps in turn, up to the first that stops.
