@@ -9,3 +9,4 @@ pub mod FreeLaws
 pub mod GiveLaws
 pub mod DrainLaws
 pub mod NumberLaws
+pub mod RefLaws
