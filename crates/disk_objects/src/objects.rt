@@ -1,5 +1,5 @@
 // A disk: what stands in Work of a host stands for a map of objects and a list of pending names.
-ghost use Rattle.std.specs.Prelude.{◌≡◌, ◌≢◌, ◌<◌, ◌≤◌, ◌^◌, ℕ, List, [], ◌∷◌, length, min, Option, None, Some, IsOk, IsTrue, IfOk, IfErr, IsErr, OnOk, OnErr, option_map, ◌⊎◌, ◌+◌};
+ghost use Rattle.std.specs.Prelude.{◌≡◌, ◌≢◌, ◌<◌, ◌≤◌, ◌^◌, ℕ, List, [], ◌∷◌, length, min, Option, None, Some, IsOk, IsTrue, true, IfOk, IfErr, IsErr, OnOk, OnErr, option_map, ◌⊎◌, ◌+◌};
 ghost use Rattle.std.specs.FinMap as map;
 ghost use Rattle.loom_outside.specs.declared.outside.Role.{Role};
 ghost use Rattle.loom_outside.specs.Outside.{Attached, CanAttach, CanRead, CanWrite, HasCause, IsFresh, PutPrefix, SameBut, Took, TookSome, puts};
@@ -13,6 +13,7 @@ use loom_outside::{DiskFault, Failed, Host, Role, read_full, write_full};
 use object_record::RecordBuf;
 use std::alloc::Global;
 use work_directory::MOST_NAMES;
+use work_space::LAST_END;
 
 /// Objects in the work file of a host, which it holds until it is taken apart: a finite map from names to records with counts, and a
 /// list of pending names. After a fault nothing is known of the objects any more.
@@ -23,7 +24,7 @@ pub struct DiskObjects<'h, H: Host> {
 }
 
 impl<'h, H: Host> DiskObjects<'h, H> {
-    ghost use Rattle.disk_objects.specs.Calls.{AreHeldNames, CanChange, HoldsObjects, HoldsSuch, IsEitherFault, IsFault, IsGot, IsIdle, IsNamesFault, IsPutFault, TookFirst, changed_by, swapped};
+    ghost use Rattle.disk_objects.specs.Calls.{AreHeldNames, CanChange, HoldsObjects, HoldsSuch, IsEitherFault, IsFault, IsGot, IsHeldName, IsIdle, IsNamesFault, IsPutFault, TookFirst, changed_by, swapped};
     ghost use Rattle.disk_objects.specs.Function.{ChangesCount, IsFetched, KeepsObjects, PutsObject, RemovesObject, SwapsObjects, counts_of, disk_of};
     ghost use Rattle.disk_objects.specs.Places.{IsReadPlace, IsSlotPlace};
     ghost use Rattle.disk_objects.specs.Disk.{DiskObject, IsDisk, Objects, disk_first, disk_held, disk_room, link_to, object_of};
@@ -102,6 +103,22 @@ impl<'h, H: Host> DiskObjects<'h, H> {
         ensures fault { IfErr result (IsFault (H.tells Role.Work) (H.faults self.old.host.now Role.Work) (H.faults self.new.host.now Role.Work) (IsReadPlace self.old.rest) name) }
     {
         self.rest.get(self.host, name, buf)
+    }
+
+    /// Puts the record of a name that is held into the buffer, and answers the record's place in Work. After a fault the buffer may hold
+    /// anything.
+    pub fn get_held(&mut self, name: Name, buf: &mut RecordBuf) -> Result<u64, DiskFault>
+        requires stands { HoldsSuch H.Host self.old.host.now self.old.rest (IsHeldName name) }
+        ensures got { IsTrue (H.tells Role.Work) → (objects : Objects) (pending : List ℕ) →
+            IsDisk self.old.rest (work_of H.Host self.old.host.now) objects pending → OnOk result (IsGot buf.new (map.get objects name) true) }
+        ensures record { OnOk result (HasRecord buf.new × ((raw_of buf.new).name ≡ name)) }
+        ensures place { IfOk result (λ place. place ≤ LAST_END) }
+        ensures rest { self.new.rest ≡ self.old.rest }
+        ensures read { IsWorkRead H.Host self.old.host.now self.new.host.now }
+        ensures same_host { self.new.host.ghost_name ≡ self.old.host.ghost_name }
+        ensures fault { IfErr result (IsFault (H.tells Role.Work) (H.faults self.old.host.now Role.Work) (H.faults self.new.host.now Role.Work) (IsReadPlace self.old.rest) name) }
+    {
+        self.rest.get_held(self.host, name, buf)
     }
 
     /// Puts the buffer's record with a count, in place of what its name has. Full exactly where the name isn't held and as many are as

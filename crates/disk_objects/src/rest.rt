@@ -1,5 +1,5 @@
 // What is known of a disk without its host, and what each call does with a host.
-ghost use Rattle.std.specs.Prelude.{◌≡◌, ◌≢◌, ◌<◌, ◌≤◌, ◌^◌, ◌+ℤ◌, ℕ, List, [], ◌∷◌, pos, unsigned_abs, Option, None, Some, IsSome, IsTrue, IfSome, IfOk, IfErr, IsErr, OnOk, OnErr, option_map, ◌⊎◌, ◌+◌, ◌*◌};
+ghost use Rattle.std.specs.Prelude.{◌≡◌, ◌≢◌, ◌<◌, ◌≤◌, ◌^◌, ◌+ℤ◌, ℕ, List, [], ◌∷◌, pos, unsigned_abs, Option, None, Some, IsSome, IsTrue, true, IfSome, IfOk, IfErr, IsErr, OnOk, OnErr, option_map, ◌⊎◌, ◌+◌, ◌*◌};
 ghost use Rattle.std.specs.FinMap as map;
 ghost use Rattle.std.specs.Int.{FitsUnsigned, w64};
 ghost use Rattle.std.specs.Option.{SomeIff};
@@ -220,6 +220,25 @@ impl DiskRest {
         };
         read_record(host, held.place, held.head.size, name, buf)?;
         Ok(true)
+    }
+
+    pub(crate) fn get_held<H: Host>(
+        &self,
+        host: &mut H,
+        name: Name,
+        buf: &mut RecordBuf,
+    ) -> Result<u64, DiskFault>
+        requires stands { HoldsSuch H.Host host.old self.now (IsHeldName name) }
+        ensures got { IsTrue (H.tells Role.Work) → (objects : Objects) (pending : List ℕ) → IsDisk self.now (work_of H.Host host.old) objects pending →
+            OnOk result (IsGot buf.new (map.get objects name) true) }
+        ensures record { OnOk result (HasRecord buf.new × ((raw_of buf.new).name ≡ name)) }
+        ensures place { IfOk result (λ place. place ≤ LAST_END) }
+        ensures read { IsWorkRead H.Host host.old host.new }
+        ensures fault { IfErr result (IsFault (H.tells Role.Work) (H.faults host.old Role.Work) (H.faults host.new Role.Work) (IsReadPlace self.now) name) }
+    {
+        let held = self.look_held(host, name)?;
+        read_record(host, held.place, held.head.size, name, buf)?;
+        Ok(held.place)
     }
 
     pub(crate) fn count<H: Host>(&self, host: &mut H, name: Name) -> Result<Option<u64>, DiskFault>

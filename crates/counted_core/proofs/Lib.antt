@@ -1,0 +1,11 @@
+pub mod LevelLaws
+pub mod ChangeLaws
+pub mod QueueLaws
+pub mod DeadLaws
+pub mod FreeLaws
+pub mod CameLaws
+pub mod CanLaws
+pub mod EndLaws
+pub mod StoreLaws
+pub mod RingLaws
+pub mod NumberLaws

@@ -1,0 +1,12 @@
+use Rattle.counted_core.proofs.CanLaws.{raise-one}
+use Rattle.counted_core.proofs.ChangeLaws.{raised-sound, raised-heap}
+use Rattle.counted_core.proofs.laws.a_raise_is_owed.Goals as goal
+
+pub returns-clause-one : goal.returns-clause-one
+returns-clause-one c = raise-one
+
+pub returns-clause-sound : goal.returns-clause-sound
+returns-clause-sound c = raised-sound
+
+pub returns-clause-heap : goal.returns-clause-heap
+returns-clause-heap c = raised-heap

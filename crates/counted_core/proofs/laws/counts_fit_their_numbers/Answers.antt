@@ -1,0 +1,11 @@
+use Rattle.counted_core.proofs.CanLaws.{change-less, sum-fits, owed-stored}
+use Rattle.counted_core.proofs.laws.counts_fit_their_numbers.Goals as goal
+
+pub returns-clause-change : goal.returns-clause-change
+returns-clause-change c = change-less
+
+pub returns-clause-sum : goal.returns-clause-sum
+returns-clause-sum c = sum-fits
+
+pub returns-clause-stored : goal.returns-clause-stored
+returns-clause-stored c = owed-stored

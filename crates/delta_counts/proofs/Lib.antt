@@ -1,0 +1,12 @@
+pub mod PartLaws
+pub mod AtLaws
+pub mod StoredLaws
+pub mod LowerLaws
+pub mod FoldLaws
+pub mod WordLaws
+pub mod FaultLaws
+pub mod FreeLaws
+pub mod GiveLaws
+pub mod DrainLaws
+pub mod NumberLaws
+pub mod RefLaws

@@ -1,0 +1,4 @@
+pub mod Parts
+pub mod At
+pub mod Giving
+pub mod Faults
