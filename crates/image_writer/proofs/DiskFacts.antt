@@ -8,7 +8,7 @@ use Rattle.long_names.specs.declared.object.Object.{Object}
 use Rattle.loom_outside.specs.declared.outside.Host.{Ghosts}
 use Rattle.loom_outside.specs.declared.outside.Role.TheVariants.{Work}
 use Rattle.loom_outside.specs.Outside.{RoleState}
-use Rattle.loom_outside.specs.Work.{work_of, IsWorkRead}
+use Rattle.loom_outside.specs.Work.{work_of}
 use Rattle.work_directory.specs.Directory.{entries_of}
 use Rattle.work_directory.specs.Table.{Entry}
 use Rattle.disk_objects.specs.declared.rest.DiskRest.{DiskRest}

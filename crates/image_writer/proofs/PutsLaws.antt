@@ -1,6 +1,6 @@
 -- Bytes that are put one after the other.
-use Rattle.std.proofs.Common.{◌≡◌, ◌≢◌, ℕ, ◌+◌, ◌-◌, ◌^◌, ◌<◌, ◌≤◌, List, [], ◌++◌, length, take, drop, Some, Result, Ok, Err, IsErrAnd, IsTrue, refl, sym, ap, subst, ◌∙◌, append_assoc, length-append, take-append-drop, arith}
-use Rattle.std.specs.Prelude.{OnOk, OnErr, IfErr, IsErr, All, slice_get}
+use Rattle.std.proofs.Common.{◌≡◌, ℕ, ◌+◌, ◌≤◌, List, [], ◌++◌, length, take, drop, Some, Result, Ok, Err, IsErrAnd, IsTrue, refl, sym, ap, subst, ◌∙◌, append_assoc, length-append, take-append-drop, arith}
+use Rattle.std.specs.Prelude.{OnOk, OnErr, All, slice_get}
 use Rattle.std.specs.List.{flat_map}
 use Rattle.std.proofs.lemmas.List.{append-nil, take_at, take_all, take-append-le, flat_map_more}
 use Rattle.std.proofs.lemmas.List.Elements.{All-get_or}
@@ -8,16 +8,14 @@ use Rattle.std.proofs.lemmas.Option.{get_or_from_slice_get, slice_get_within}
 use Rattle.std.proofs.lemmas.Grind.{flat_map-append}
 use Rattle.long_names.specs.Counting.{Rose}
 use Rattle.loom_outside.specs.declared.outside.Host.{Ghosts}
-use Rattle.loom_outside.specs.declared.outside.Role.{Role}
 use Rattle.loom_outside.specs.declared.outside.Role.TheVariants.{Saved, Work}
-use Rattle.loom_outside.specs.declared.outside.DiskFault.{DiskFault}
 use Rattle.loom_outside.specs.declared.outside.DiskFault.TheVariants as disk
-use Rattle.loom_outside.specs.Outside.{RoleState, PutPrefix, SameBut, puts}
+use Rattle.loom_outside.specs.Outside.{RoleState, PutPrefix, puts}
 use Rattle.loom_outside.specs.Work.{IsWorkRead}
 use Rattle.image_format.proofs.Writing.{push_taken}
 use Rattle.image_writer.specs.declared.fault.SaveFault.{SaveFault}
 use Rattle.image_writer.specs.declared.fault.SaveFault.TheVariants.{Write, Disk, Memory}
-use Rattle.image_writer.specs.Puts.{IsDiskFault, IsSaveFault, Puts}
+use Rattle.image_writer.specs.Puts.{IsSaveFault, Puts}
 
 -- ---- one role
 

@@ -1,18 +1,16 @@
 -- The record of an object that a disk holds, with its count.
-use Rattle.std.proofs.Common.{◌≡◌, ℕ, ℤ, pos, negsuc, ◌+◌, ◌-◌, ◌*◌, ◌/◌, ◌%◌, ◌^◌, ◌<◌, ◌≤◌, Bool, true, false, cond, eqb, ltb, List, [], ◌∷◌, ◌++◌, length, take, drop, map, Option, Some, None, is_some, option_map, refl, sym, ap, ap₂, subst, ◌∙◌, append_assoc, arith, inl, inr}
+use Rattle.std.proofs.Common.{◌≡◌, ℕ, ℤ, ◌/◌, ◌%◌, ◌^◌, ◌<◌, ◌≤◌, Bool, true, false, cond, eqb, ltb, List, [], ◌∷◌, ◌++◌, length, take, drop, map, Option, Some, None, refl, sym, ap, ap₂, ◌∙◌, arith, inl, inr}
 use Rattle.std.specs.Prelude.{All}
 use Rattle.std.specs.Option.{option_map_or}
 use Rattle.std.proofs.lemmas.Bool.{cases_lt, lt-ltb, le-ltb, eq-eqb, ne_eqb}
-use Rattle.std.proofs.lemmas.List.{take_at, drop_at}
 use Rattle.std.proofs.lemmas.List.Elements.{All-head, All-tail}
 use Rattle.long_names.specs.Words.{long_word, value_of}
-use Rattle.long_names.specs.Heap.{Heap, Has, count_of, rec_of}
-use Rattle.long_names.specs.Record.{two_bytes, four_bytes, eight_bytes, record_text}
+use Rattle.long_names.specs.Heap.{Heap, count_of, rec_of}
+use Rattle.long_names.specs.Record.{four_bytes, eight_bytes, record_text}
 use Rattle.long_names.specs.declared.value.Value.{Value}
 use Rattle.long_names.specs.declared.value.Value.TheVariants.{Int, Ref}
 use Rattle.long_names.specs.declared.object.Object.{Object}
-use Rattle.long_names.specs.declared.object.Rec.{Rec}
-use Rattle.object_record.specs.Raw.{RawBody, RawPointers, RawWords, RawBytes, RawMethod, RawRecord, HasRawSize, HasRawRange, IsRawRecord, stated_by, raw_text, raw_body, raw_record}
+use Rattle.object_record.specs.Raw.{RawBody, RawPointers, RawWords, RawBytes, RawMethod, RawRecord, HasRawSize, HasRawRange, IsRawRecord, stated_by, raw_text, raw_body}
 use Rattle.object_record.specs.Objects.{int_in, value_in, body_of, object_in}
 use Rattle.object_record.proofs.Records.{same-text}
 use Rattle.disk_objects.specs.Disk.{with_count}

@@ -1,4 +1,4 @@
-use Rattle.std.proofs.Common.{◌≡◌, ℕ, List, ◌++◌, ap, ◌∙◌}
+use Rattle.std.proofs.Common.{ℕ, List, ◌++◌, ap, ◌∙◌}
 use Rattle.image_format.specs.Heads.{opening_text, state_text}
 use Rattle.disk_objects.specs.Disk.{disk_held}
 use Rattle.image_writer.specs.Inside.{opening_of}

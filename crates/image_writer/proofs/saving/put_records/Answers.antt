@@ -1,7 +1,6 @@
-use Rattle.std.proofs.Common.{◌≡◌, ℕ, ◌+◌, List, ◌++◌, take, drop, refl, sym, ap, ◌∙◌, arith}
+use Rattle.std.proofs.Common.{◌+◌, ◌++◌, take, drop, refl, ◌∙◌, arith}
 use Rattle.std.specs.List.{flat_map}
-use Rattle.long_names.specs.Heap.{Heap, Has}
-use Rattle.loom_outside.specs.declared.outside.Role.TheVariants.{Work}
+use Rattle.long_names.specs.Heap.{Has}
 use Rattle.image_writer.specs.Puts.{name_text}
 use Rattle.image_writer.proofs.DiskFacts.{still_holds, same_heap}
 use Rattle.image_writer.proofs.PutsLaws.{then_puts, stop_puts, puts_of, no_puts, more_text, rest_text, all_text, all_at}

@@ -1,4 +1,4 @@
-use Rattle.std.proofs.Common.{◌≡◌, ℕ, List, take, Ok, IsTrue}
+use Rattle.std.proofs.Common.{◌≡◌, take, Ok, IsTrue}
 use Rattle.std.specs.Prelude.{All}
 use Rattle.std.specs.List.{flat_map}
 use Rattle.long_names.specs.Heap.{Heap, Has}
