@@ -235,3 +235,68 @@ third_version = refl
 pub odd_display : first_break (take 7 base_bytes ++ (2 ∷ (take 8 (drop 8 base_bytes) ++ (0 ∷ 0 ∷ 0 ∷ 0 ∷ 0 ∷ 0 ∷ 0 ∷ 69 ∷ 0 ∷ 0 ∷ 0 ∷ 0 ∷ 0 ∷ 0 ∷ 0 ∷ 0 ∷ 0 ∷ 0 ∷ 0 ∷ 0 ∷ drop 16 base_bytes)))) ≡ Some (break 13 20)
 unfolding first_break image_at head_at opening_at state_at checked_at records_at next_record_at record_at name_at number_at octets_at kind_at size_at body_at method_at header_at value_at many_at zeros_at
 odd_display = refl
+
+-- with 21 objects
+pub few_objects : first_break (take 11 base_bytes ++ (21 ∷ drop 12 base_bytes)) ≡ Some (break 3 8)
+unfolding first_break image_at head_at opening_at state_at checked_at records_at next_record_at record_at name_at number_at octets_at kind_at size_at body_at method_at header_at value_at many_at zeros_at
+few_objects = refl
+
+-- with the next name 69
+pub odd_next : first_break (take 15 base_bytes ++ (69 ∷ drop 16 base_bytes)) ≡ Some (break 3 12)
+unfolding first_break image_at head_at opening_at state_at checked_at records_at next_record_at record_at name_at number_at octets_at kind_at size_at body_at method_at header_at value_at many_at zeros_at
+odd_next = refl
+
+-- the first object with the class 0
+pub no_class : first_break (take 23 base_bytes ++ (0 ∷ drop 24 base_bytes)) ≡ Some (break 6 20)
+unfolding first_break image_at head_at opening_at state_at checked_at records_at next_record_at record_at name_at number_at octets_at kind_at size_at body_at method_at header_at value_at many_at zeros_at
+no_class = refl
+
+-- the second object with the first one's name
+pub falling_name : first_break (take 39 base_bytes ++ (2 ∷ drop 40 base_bytes)) ≡ Some (break 4 36)
+unfolding first_break image_at head_at opening_at state_at checked_at records_at next_record_at record_at name_at number_at octets_at kind_at size_at body_at method_at header_at value_at many_at zeros_at
+falling_name = refl
+
+-- the first object with the kind 4
+pub fifth_kind : first_break (take 33 base_bytes ++ (4 ∷ drop 34 base_bytes)) ≡ Some (break 5 32)
+unfolding first_break image_at head_at opening_at state_at checked_at records_at next_record_at record_at name_at number_at octets_at kind_at size_at body_at method_at header_at value_at many_at zeros_at
+fifth_kind = refl
+
+-- with the field 0
+pub no_value : first_break (take 99 base_bytes ++ (0 ∷ drop 100 base_bytes)) ≡ Some (break 6 96)
+unfolding first_break image_at head_at opening_at state_at checked_at records_at next_record_at record_at name_at number_at octets_at kind_at size_at body_at method_at header_at value_at many_at zeros_at
+no_value = refl
+
+-- the method with 16,001 bytes of code
+pub long_code : first_break (take 546 base_bytes ++ (62 ∷ 129 ∷ drop 548 base_bytes)) ≡ Some (break 7 546)
+unfolding first_break image_at head_at opening_at state_at checked_at records_at next_record_at record_at name_at number_at octets_at kind_at size_at body_at method_at header_at value_at many_at zeros_at
+long_code = refl
+
+-- the method with one literal more than its header says
+pub other_header : first_break (take 551 base_bytes ++ (1 ∷ drop 552 base_bytes)) ≡ Some (break 7 552)
+unfolding first_break image_at head_at opening_at state_at checked_at records_at next_record_at record_at name_at number_at octets_at kind_at size_at body_at method_at header_at value_at many_at zeros_at
+other_header = refl
+
+-- the first object with a class that isn't there
+pub held_by_none : first_break (take 23 base_bytes ++ (10 ∷ drop 24 base_bytes)) ≡ Some (break 10 2)
+unfolding first_break image_at head_at opening_at state_at checked_at records_at next_record_at record_at name_at number_at octets_at kind_at size_at body_at method_at header_at value_at many_at zeros_at
+held_by_none = refl
+
+-- the first object with a count that is one too large
+pub miscounted : first_break (take 31 base_bytes ++ (20 ∷ drop 32 base_bytes)) ≡ Some (break 11 2)
+unfolding first_break image_at head_at opening_at state_at checked_at records_at next_record_at record_at name_at number_at octets_at kind_at size_at body_at method_at header_at value_at many_at zeros_at
+miscounted = refl
+
+-- without the object 58, and with the count of its class one less
+pub unknown_known : first_break (take 11 base_bytes ++ (25 ∷ (take 147 (drop 12 base_bytes) ++ (23 ∷ (take 284 (drop 160 base_bytes) ++ drop 464 base_bytes))))) ≡ Some (break 12 58)
+unfolding first_break image_at head_at opening_at state_at checked_at records_at next_record_at record_at name_at number_at octets_at kind_at size_at body_at method_at header_at value_at many_at zeros_at
+unknown_known = refl
+
+-- as version 2, with the display 10
+pub lost_display : first_break (take 7 base_bytes ++ (2 ∷ (take 8 (drop 8 base_bytes) ++ (0 ∷ 0 ∷ 0 ∷ 0 ∷ 0 ∷ 0 ∷ 0 ∷ 10 ∷ 0 ∷ 0 ∷ 0 ∷ 0 ∷ 0 ∷ 0 ∷ 0 ∷ 0 ∷ 0 ∷ 0 ∷ 0 ∷ 0 ∷ drop 16 base_bytes)))) ≡ Some (break 14 10)
+unfolding first_break image_at head_at opening_at state_at checked_at records_at next_record_at record_at name_at number_at octets_at kind_at size_at body_at method_at header_at value_at many_at zeros_at
+lost_display = refl
+
+-- the method with three bytes of code, so that its fourth is no zero
+pub no_zero : first_break (take 547 base_bytes ++ (3 ∷ drop 548 base_bytes)) ≡ Some (break 8 559)
+unfolding first_break image_at head_at opening_at state_at checked_at records_at next_record_at record_at name_at number_at octets_at kind_at size_at body_at method_at header_at value_at many_at zeros_at
+no_zero = refl

@@ -15,3 +15,4 @@ pub mod Openings
 pub mod ImageRecs
 pub mod Whole
 pub mod ImageLaws
+pub mod Windows

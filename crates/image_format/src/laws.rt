@@ -1,5 +1,5 @@
 // What holds of the texts of records and of heaps, whatever reads or writes them.
-ghost use Rattle.std.specs.Prelude.{◌≡◌, ◌↔◌, ℕ, ◌<◌, ◌≤◌, ◌%◌, ◌^◌, ◌++◌, List, All, length, take, drop, None};
+ghost use Rattle.std.specs.Prelude.{◌≡◌, ◌↔◌, ℕ, ◌<◌, ◌≤◌, ◌%◌, ◌^◌, ◌≢◌, ◌+◌, ◌++◌, List, All, length, take, drop, None, Ok, Err};
 ghost use Rattle.long_names.specs.declared.object.Rec.{Rec};
 ghost use Rattle.long_names.specs.Objects.{IsRecord};
 ghost use Rattle.long_names.specs.Record.{four_bytes, record_text};
@@ -8,6 +8,8 @@ ghost use Rattle.image_format.specs.Text.{image_text};
 ghost use Rattle.image_format.specs.Valid.{IsImageHeap, IsValid};
 ghost use Rattle.image_format.specs.declared.head.TheConstants.{VERSION};
 ghost use Rattle.image_format.specs.declared.opening.ImageHead.{ImageHead};
+ghost use Rattle.image_format.specs.declared.fault.Halt.{Halt};
+ghost use Rattle.image_format.specs.Reading.{halt, record_at};
 ghost use Rattle.image_format.specs.Rules.{first_break, IsHeadOf, text_under, IsValidImage};
 ghost use Rattle.long_names.specs.declared.limits.TheConstants.{LONGEST_RECORD};
 
@@ -40,4 +42,11 @@ pub fn no_rule_breaks_in_version_1()
 /// Bytes are the text of one heap, one version and one state.
 pub fn one_image()
     ensures { (g h : Heap) (a b : ImageHead) → IsImageHeap g → IsImageHeap h → IsHeadOf g a → IsHeadOf h b → text_under a g ≡ text_under b h → (g ≡ h) × (a ≡ b) }
+{}
+
+/// What stands at the front of a window is what stands at the front of the whole, unless the window ends first; and none that is longer than a record ends within one.
+pub fn a_window_decides()
+    ensures record { (bytes left : List ℕ) (x : Rec × List ℕ) → record_at bytes ≡ Ok x → record_at (bytes ++ left) ≡ Ok (x.0, x.1 ++ left) }
+    ensures broken { (bytes left : List ℕ) (h : Halt) → record_at bytes ≡ Err h → h.rule ≢ 9 → record_at (bytes ++ left) ≡ Err (halt h.rule (h.left + length left)) }
+    ensures long { (bytes : List ℕ) (h : Halt) → All (λ b. b < 2 ^ 8) bytes → LONGEST_RECORD + 4 ≤ length bytes → record_at bytes ≡ Err h → h.rule ≢ 9 }
 {}

@@ -1,0 +1,5 @@
+pub mod PutsLaws
+pub mod NameTexts
+pub mod RecordTexts
+pub mod DiskFacts
+pub mod SaveLaws

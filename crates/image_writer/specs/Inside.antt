@@ -1,0 +1,17 @@
+-- What the parts of saving speak of. No public clause stands on it.
+use Rattle.std.specs.Prelude.{◌≡◌, ℕ, Some}
+use Rattle.long_names.specs.Heap.{Heap, Has, count_of}
+use Rattle.loom_outside.specs.declared.outside.Host.{Ghosts}
+use Rattle.image_format.specs.declared.opening.TheConstants.{STATE_VERSION}
+use Rattle.image_format.specs.declared.opening.Opening.{Opening}
+use Rattle.disk_objects.specs.declared.rest.DiskRest.{DiskRest}
+use Rattle.disk_objects.specs.Function.{disk_of, counts_of}
+
+-- the disk holds the objects of a heap, with the heap's counts
+pub record IsHeapOf {H : Type 0} (host : Ghosts H) (now : H) (rest : DiskRest) (h : Heap) : Type 0 where
+  pub at : h.at ≡ disk_of host now rest
+  pub counts : (n : ℕ) → Has h n → counts_of host now rest n ≡ Some (count_of h n)
+
+-- the opening of version 2
+abbrev pub opening_of : ℕ → ℕ → Opening
+opening_of objects next = record { version = STATE_VERSION; objects = objects; next = next }

@@ -1,0 +1,20 @@
+//! A disk's objects as an image of version 2.
+//!
+//! `save` puts the head, with the machine's state, and then each record with its count, by rising name, to Saved. It reads record by
+//! record, so it takes memory for one record and for the names alone. Where Work tells what it holds, the bytes are the text of the
+//! disk's heap (`saved_text`); after a refusal a prefix of it was put.
+//!
+//! ```text
+//! disk.attach(Role::Saved, name)?;
+//! save(alloc, &mut disk, next, &state)?;
+//! ```
+//!
+//! Its condition is that the disk's counts are those of its heap. Read `specs/Saved.antt`.
+#![tactic(auto)]
+
+mod fault;
+mod pieces;
+mod saving;
+
+pub use fault::SaveFault;
+pub use saving::save;
