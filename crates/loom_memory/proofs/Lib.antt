@@ -10,3 +10,10 @@ pub mod LambdaLaws
 pub mod CallLaws
 pub mod BringLaws
 pub mod ReadLaws
+pub mod WordLaws
+pub mod BodyLaws
+pub mod SlotLaws
+pub mod RowLaws
+pub mod MarkingLaws
+pub mod EndLaws
+pub mod ClassLaws

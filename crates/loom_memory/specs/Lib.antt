@@ -1,3 +1,4 @@
 pub mod Cache
 pub mod Memory
 pub mod Calls
+pub mod Bodies

@@ -11,8 +11,13 @@
 //! `purger`.
 #![tactic(auto)]
 
+mod bodies;
 pub mod bring;
+pub mod cache;
+pub mod ends;
 pub mod ledger;
 pub mod load;
 pub mod memory;
 pub mod reads;
+pub mod registers;
+pub mod slots;
