@@ -1,5 +1,5 @@
 -- The words and bytes of a body, and why what an access asks for is there.
-use Rattle.std.proofs.Common.{zero, suc, ◌≡◌, ◌≢◌, ℕ, ℤ, ◌+◌, ◌*◌, ◌/◌, ◌%◌, ◌<◌, ◌≤◌, Bool, true, false, cond, eqb, List, [], ◌∷◌, length, take, drop, refl, sym, ◌∙◌, ap, subst, arith, Option, Some, None}
+use Rattle.std.proofs.Common.{zero, suc, ◌≡◌, ◌≢◌, ℕ, ℤ, ◌+◌, ◌/◌, ◌%◌, ◌<◌, ◌≤◌, Bool, true, false, cond, eqb, List, [], ◌∷◌, length, take, drop, refl, sym, ◌∙◌, ap, subst, arith, Option, Some, None}
 use Rattle.std.proofs.lemmas.Grind.{common_steps}
 use Rattle.std.specs.List.{slice_get}
 use Rattle.std.specs.Option.{option_and_then}
@@ -10,11 +10,10 @@ use Rattle.long_names.specs.declared.object.Kind.TheVariants as kind
 use Rattle.long_names.specs.declared.object.Body.{Body}
 use Rattle.long_names.specs.declared.object.Object.{Object}
 use Rattle.long_names.specs.Objects.{len_of, words_of, bytes_of, header_of, fields_of}
-use Rattle.long_names.specs.Heap.{Heap}
 use Rattle.long_names.specs.State.{part_at, object_at as object_of_value}
 use Rattle.object_table.specs.declared.entry.Entry.{Entry}
 use Rattle.object_table.specs.Entries.{place_of}
-use Rattle.core_view.specs.Words.{meant, bytes_in, code_in, literals_in, header_in, int_of_short, words_for, most_len, body_in}
+use Rattle.core_view.specs.Words.{meant, bytes_in, literals_in, header_in, int_of_short, words_for, most_len, body_in}
 use Rattle.core_view.specs.Core.{Core}
 use Rattle.core_view.specs.Held.{Disk, fields_there, object_at}
 use Rattle.core_view.specs.Kept.{IsCore}

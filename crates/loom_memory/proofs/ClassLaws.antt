@@ -1,6 +1,5 @@
 -- The class of an object in the core comes into a register.
-use Rattle.std.proofs.Common.{◌≡◌, ◌≢◌, ℕ, ◌||◌, Bool, true, cond, eqb, refl, sym, ◌∙◌, ap, subst, arith, Option, Some, None, Ok, IsTrue}
-use Rattle.std.proofs.lemmas.Grind.{common_steps}
+use Rattle.std.proofs.Common.{◌≡◌, ◌≢◌, ℕ, ◌||◌, Bool, true, refl, sym, ◌∙◌, ap, subst, arith, Option, Some, None, Ok, IsTrue}
 use Rattle.std.specs.Option.{option_and_then}
 use Rattle.long_names.specs.declared.value.Value.{Value}
 use Rattle.long_names.specs.declared.value.Value.TheVariants.{Int, Ref}

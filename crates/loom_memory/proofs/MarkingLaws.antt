@@ -1,5 +1,5 @@
 -- What is told, and what is kept, once a path began, an object was marked or a row was put.
-use Rattle.std.proofs.Common.{◌≡◌, ◌≢◌, inl, inr, ℕ, ◌+◌, ◌&&◌, ◌||◌, Bool, true, false, cond, eqb, List, [], refl, sym, ◌∙◌, ap, subst, arith, Option, Some, None, Ok, IsTrue, count_by}
+use Rattle.std.proofs.Common.{◌≡◌, ◌≢◌, ℕ, ◌&&◌, ◌||◌, Bool, true, false, cond, eqb, List, [], refl, sym, ◌∙◌, ap, subst, arith, Option, Some, None, Ok, IsTrue}
 use Rattle.std.proofs.lemmas.Grind.{common_steps}
 use Rattle.std.proofs.Math.Path.{fun_ext}
 use Rattle.long_names.specs.declared.value.Value.{Value}
@@ -12,9 +12,8 @@ use Rattle.long_names.proofs.ThinLemmas.{IsThinner-refl}
 use Rattle.loom_outside.specs.declared.outside.Host.{Ghosts}
 use Rattle.loom_outside.specs.declared.outside.Role.TheVariants.{Work}
 use Rattle.object_memory.specs.Told.{Told, Cache, Bounds, IsReady}
-use Rattle.object_memory.specs.Contract.{SameBounds, Raised, IfBounds, HasCore, Accessed, LeavesCache, IsKeptCache, no_names, with_mark, row_of_values, is_marked}
+use Rattle.object_memory.specs.Contract.{SameBounds, Raised, IfBounds, HasCore, Accessed, LeavesCache, no_names, with_mark, row_of_values, is_marked}
 use Rattle.object_table.specs.declared.entry.Entry.{Entry}
-use Rattle.object_table.specs.declared.entry.EntryState.{EntryState}
 use Rattle.object_table.specs.Entries.{put, is_short, is_used, place_of}
 use Rattle.core_segment.specs.Segment.{size_of}
 use Rattle.disk_objects.specs.declared.rest.DiskRest.{DiskRest}
@@ -24,7 +23,6 @@ use Rattle.core_view.specs.Words.{meant}
 use Rattle.core_view.specs.Held.{Disk, held}
 use Rattle.core_view.specs.Counts.{outside}
 use Rattle.core_view.specs.Kept.{IsCore, IsTight, IsBacked, IsValued}
-use Rattle.core_view.specs.Purge.{fresh_of}
 use Rattle.core_view.proofs.Core.{placed-used, meant-names}
 use Rattle.core_view.proofs.Words.{meant-short}
 use Rattle.leaf_lambda.specs.declared.parts.Parts.{Parts}
@@ -34,10 +32,10 @@ use Rattle.purger.specs.declared.room.Pinned.{Pinned}
 use Rattle.purger.specs.Marks.{AreHere}
 use Rattle.loom_memory.specs.declared.ledger.Ledger.{Ledger}
 use Rattle.loom_memory.specs.Cache.{has_mark, is_word_of, row_by, cache_of, with_its_mark, IsCached, IsFresh}
-use Rattle.loom_memory.specs.Memory.{told_of, pin_in, name_if, word_in, heap_if, IsPinned, IsKept, IsOver, IsQuiet, IsMarking}
+use Rattle.loom_memory.specs.Memory.{told_of, pin_in, name_if, word_in, IsPinned, IsKept, IsOver, IsQuiet, IsMarking}
 use Rattle.loom_memory.proofs.RegLaws.{heap-same, ready-put}
 use Rattle.loom_memory.proofs.CacheLaws.{and-both, both-and}
-use Rattle.loom_memory.proofs.RowLaws.{none-marked, row-is, fresh-path, marked-stays, marked-outside, marked-tight, marked-fresh, marked-here, marked-same, marking-kept, marking-cached, left-marked}
+use Rattle.loom_memory.proofs.RowLaws.{none-marked, row-is, fresh-path, marked-stays, marked-outside, marked-tight, marked-fresh, marked-here, marked-same, left-marked}
 
 -- ---- another cache in the ledger
 

@@ -1,9 +1,8 @@
 -- Marks that are set, and rows that come, of a core and of what is told.
-use Rattle.std.proofs.Common.{◌≡◌, ◌≢◌, ◌⊎◌, inl, inr, ℕ, ◌+◌, ◌%◌, ◌<◌, ◌≤◌, ◌&&◌, ◌||◌, Bool, true, false, cond, eqb, [], refl, sym, ◌∙◌, ap, subst, arith, Option, Some, None, Ok, IsTrue, ⊎_elim, count_by}
+use Rattle.std.proofs.Common.{◌≡◌, ◌≢◌, ◌⊎◌, inl, inr, ℕ, ◌+◌, ◌<◌, ◌&&◌, ◌||◌, Bool, true, false, eqb, [], refl, sym, ◌∙◌, ap, arith, Option, Some, None, ⊎_elim, count_by}
 use Rattle.std.proofs.lemmas.Bool.{cases_eq}
 use Rattle.std.proofs.lemmas.Grind.{common_steps}
 use Rattle.std.proofs.Math.Path.{fun_ext}
-use Rattle.long_names.specs.declared.value.Value.{Value}
 use Rattle.long_names.specs.declared.value.Value.TheVariants.{Int, Ref}
 use Rattle.object_table.specs.declared.entry.Entry.{Entry}
 use Rattle.object_table.specs.Entries.{put, is_short, is_used, place_of}
@@ -12,9 +11,8 @@ use Rattle.core_view.specs.Words.{meant, int_of_short}
 use Rattle.core_view.specs.Counts.{names, holders_in, holders, outside, marked_by, marked_of}
 use Rattle.core_view.specs.Kept.{IsCore, IsTight, Stays}
 use Rattle.core_view.specs.Purge.{fresh_by, fresh_of}
-use Rattle.core_view.proofs.Core.{placed-used}
 use Rattle.core_view.proofs.Words.{meant-short, meant-odd}
-use Rattle.core_view.proofs.Entries.{IsStep, at-entry, touch-step, touch-held, touch-backed, step-core, step-outside, step-names}
+use Rattle.core_view.proofs.Entries.{IsStep, at-entry, touch-step, touch-held, touch-backed, step-core, step-outside}
 use Rattle.core_view.proofs.Lists.{put-here, put-there}
 use Rattle.core_view.proofs.Steps.{entry-about}
 use Rattle.core_view.proofs.Tight.{entry-tight}
@@ -24,7 +22,7 @@ use Rattle.object_memory.specs.Contract.{LeavesCache, IsKeptCache, IsEmptied, no
 use Rattle.method_cache.specs.Found.{IsPut as IsPutRow}
 use Rattle.purger.specs.Marks.{AreHere}
 use Rattle.loom_memory.specs.Cache.{has_mark, is_word_of, row_by, cache_of, with_its_mark, IsCached, IsFresh}
-use Rattle.loom_memory.proofs.CacheLaws.{and-both, both-and, same-by, off-by, mark-name}
+use Rattle.loom_memory.proofs.CacheLaws.{and-both, both-and, off-by, mark-name}
 use Rattle.loom_memory.proofs.WordLaws.{odd-else}
 
 no-both : {A : Type 0} (b : Bool) → b ≡ true → b ≡ false → A

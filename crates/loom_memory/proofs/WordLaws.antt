@@ -1,9 +1,9 @@
 -- The words of registers, and what they mean.
-use Rattle.std.proofs.Common.{◌≡◌, ◌≢◌, ℕ, ℤ, ◌%◌, ◌<◌, ◌||◌, Bool, true, false, cond, eqb, [], refl, sym, ◌∙◌, ap, subst, arith, Option, Some, None}
+use Rattle.std.proofs.Common.{◌≡◌, ◌≢◌, ℕ, ℤ, ◌%◌, ◌||◌, Bool, true, false, cond, eqb, [], refl, sym, ◌∙◌, ap, subst, arith, Some, None}
 use Rattle.std.proofs.lemmas.Grind.{common_steps}
 use Rattle.long_names.specs.declared.value.Value.{Value}
-use Rattle.long_names.specs.declared.value.Value.TheVariants.{Int, Ref}
-use Rattle.long_names.specs.State.{name_at, IsRef}
+use Rattle.long_names.specs.declared.value.Value.TheVariants.{Int}
+use Rattle.long_names.specs.State.{IsRef}
 use Rattle.long_names.specs.Need.{is_pinned}
 use Rattle.object_table.specs.declared.entry.Entry.{Entry}
 use Rattle.object_table.specs.Entries.{is_short, is_used}
@@ -12,7 +12,7 @@ use Rattle.core_view.specs.Words.{meant, int_of_short}
 use Rattle.core_view.specs.Kept.{IsCore}
 use Rattle.core_view.specs.Room.{is_among}
 use Rattle.core_view.proofs.Core.{placed-used}
-use Rattle.core_view.proofs.Words.{meant-short, meant-odd}
+use Rattle.core_view.proofs.Words.{meant-odd}
 use Rattle.purger.specs.declared.room.Pinned.{Pinned}
 use Rattle.loom_memory.specs.Memory.{pin_in, name_if, IsPinned}
 use Rattle.loom_memory.proofs.NeedLaws.{names-eq}

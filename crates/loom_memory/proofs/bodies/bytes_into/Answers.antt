@@ -1,22 +1,13 @@
-use Rattle.std.proofs.Common.{ℕ, ◌≡◌, ◌+◌, ◌/◌, ◌<◌, ◌≤◌, List, Option, Some, None, MatchBool, true, false, length, take, drop, refl, sym, ◌∙◌, ap, subst, arith}
-use Rattle.std.specs.List.{slice_get}
-use Rattle.std.specs.Option.{option_and_then}
-use Rattle.long_names.specs.declared.object.Kind.{Kind}
-use Rattle.long_names.specs.declared.object.Kind.TheVariants as kind
+use Rattle.std.proofs.Common.{◌≡◌, ◌+◌, Some, MatchBool, true, false, length, take, drop, sym, ◌∙◌, ap, arith}
 use Rattle.long_names.specs.declared.object.Body.{Body}
-use Rattle.long_names.specs.Objects.{words_of, bytes_of, header_of}
+use Rattle.long_names.specs.Objects.{bytes_of}
 use Rattle.object_table.specs.declared.entry.Entry.{Entry}
-use Rattle.core_segment.specs.Segment.{chunk_at}
-use Rattle.core_view.specs.Words.{bytes_in, header_in, int_of_short}
-use Rattle.core_view.specs.Held.{object_at, fields_there}
+use Rattle.core_view.specs.Words.{bytes_in}
+use Rattle.core_view.specs.Held.{object_at}
 use Rattle.core_view.proofs.Core.{placed-used}
 use Rattle.leaf_lambda.specs.Parts.{core_of}
-use Rattle.leaf_lambda.specs.Records.{literals_for}
-use Rattle.leaf_lambda.proofs.CopyLaws.{method-some}
-use Rattle.leaf_lambda.proofs.MergeLaws.{bytes-get, drop-get, header-first, length-drop-of}
-use Rattle.leaf_lambda.proofs.WordLaws.{odd-small}
 use Rattle.loom_memory.specs.Bodies.{HasRun, LacksRun, bytes_from}
-use Rattle.loom_memory.proofs.BodyLaws.{of-body, words-at, no-words-at, words-as-long, bytes-at, no-bytes-at, bytes-room-at, bytes-count, byte-among, small-at, element-here, element-none, none-there, run-here, run-short, run-none, header-is, header-none}
+use Rattle.loom_memory.proofs.BodyLaws.{of-body, bytes-at, no-bytes-at, bytes-room-at, bytes-count, byte-among, small-at, run-here, run-short, run-none}
 use Rattle.loom_memory.proofs.bodies.bytes_into.Goals as goal
 
 pub entry-e-requires-clause-short : goal.entry-e-requires-clause-short

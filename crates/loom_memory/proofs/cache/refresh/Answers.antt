@@ -1,7 +1,7 @@
-use Rattle.std.proofs.Common.{◌≡◌, inl, inr, Bool, false, refl, sym, ◌∙◌, ap}
+use Rattle.std.proofs.Common.{inl, inr, Bool, refl, sym, ◌∙◌, ap}
 use Rattle.leaf_lambda.specs.Parts.{core_of}
 use Rattle.method_cache.specs.Found.{found}
-use Rattle.loom_memory.specs.Cache.{has_mark, cache_of}
+use Rattle.loom_memory.specs.Cache.{cache_of}
 use Rattle.loom_memory.proofs.RowLaws.{cache-cleared, cached-cleared}
 use Rattle.loom_memory.proofs.cache.refresh.Goals as goal
 

@@ -1,8 +1,8 @@
-use Rattle.std.proofs.Common.{◌≡◌, ℕ, ◌+◌, ◌*◌, true, refl, sym, ◌∙◌, ap, subst, arith}
+use Rattle.std.proofs.Common.{◌≡◌, ℕ, ◌+◌, ◌*◌, refl, sym, ◌∙◌, ap, subst, arith}
 use Rattle.object_table.specs.declared.entry.Entry.{Entry}
 use Rattle.object_table.specs.Entries.{put, is_used}
 use Rattle.object_table.specs.Table.{entry_at}
-use Rattle.core_view.specs.Core.{Core, with_entry}
+use Rattle.core_view.specs.Core.{with_entry}
 use Rattle.core_view.specs.Kept.{IsCore}
 use Rattle.core_view.proofs.Core.{placed-used}
 use Rattle.leaf_lambda.specs.Parts.{core_of}

@@ -1,23 +1,19 @@
-use Rattle.std.proofs.Common.{ℕ, ℤ, ◌≡◌, ◌<◌, List, Option, Some, None, IsTrue, length, take, drop, refl, sym, ◌∙◌, ap, subst}
+use Rattle.std.proofs.Common.{ℕ, Option, Some, refl, sym, ◌∙◌, ap}
 use Rattle.std.specs.List.{slice_get}
 use Rattle.std.specs.Option.{option_and_then}
-use Rattle.long_names.specs.Words.{literal_count}
 use Rattle.long_names.specs.declared.object.Body.{Body}
-use Rattle.long_names.specs.declared.object.Object.{Object}
-use Rattle.long_names.specs.Objects.{len_of, words_of, bytes_of, header_of, fields_of}
-use Rattle.long_names.specs.Access.{Length, Header, Word, Byte, ReadWords, ReadBytes, OfNumber, OfSigned, OfRun, answered}
-use Rattle.object_table.specs.declared.entry.Entry.{Entry}
-use Rattle.core_view.specs.Held.{fields_there, object_at}
+use Rattle.long_names.specs.Objects.{bytes_of}
+use Rattle.long_names.specs.Access.{Byte, OfNumber, answered}
+use Rattle.core_view.specs.Held.{object_at}
 use Rattle.core_view.proofs.Core.{placed-used}
 use Rattle.disk_objects.specs.Function.{disk_of}
 use Rattle.leaf_lambda.specs.Parts.{core_of}
 use Rattle.loom_memory.specs.Memory.{loom_told}
 use Rattle.loom_memory.proofs.AccessLaws.{quiet-ready, refused-is}
 use Rattle.loom_memory.proofs.FieldLaws.{told-tells}
-use Rattle.loom_memory.proofs.BodyLaws.{len-is, most-small, method-literals, part-told, part-here, part-still, element-there, run-answer}
+use Rattle.loom_memory.proofs.BodyLaws.{part-here, part-still, element-there}
 use Rattle.loom_memory.proofs.ReadLaws.{read-answered}
 use Rattle.loom_memory.proofs.memory.LoomMemory.byte.Goals as goal
-use Rattle.loom_memory.proofs.memory.LoomMemory.byte.Given as given
 
 pub byte_at-requires-clause-there : goal.byte_at-requires-clause-there
 byte_at-requires-clause-there g c = (c.in-Ok.ensures.loaded.at, c.in-Ok.ensures.loaded.place)

@@ -1,6 +1,6 @@
-use Rattle.std.proofs.Common.{◌≡◌, ℕ, ◌⊎◌, inl, inr, [], Bool, true, false, Some, None, refl, sym, ◌∙◌, ap, subst, ⊎_elim}
+use Rattle.std.proofs.Common.{◌≡◌, ℕ, inl, inr, [], true, false, Some, refl, sym, ◌∙◌, ap, subst, ⊎_elim}
 use Rattle.long_names.specs.declared.value.Value.TheVariants.{Ref}
-use Rattle.object_memory.specs.Told.{Told, IsReady}
+use Rattle.object_memory.specs.Told.{IsReady}
 use Rattle.object_memory.specs.Contract.{row_of_values, is_marked}
 use Rattle.object_table.specs.Entries.{is_short}
 use Rattle.core_view.specs.Words.{meant}
@@ -10,7 +10,7 @@ use Rattle.method_cache.specs.Found.{found}
 use Rattle.loom_memory.specs.Cache.{has_mark, cache_of}
 use Rattle.loom_memory.specs.Memory.{loom_told, loom_outside, word_in, IsSound}
 use Rattle.loom_memory.proofs.CacheLaws.{mark-name}
-use Rattle.loom_memory.proofs.RowLaws.{marked-word, last-lives, put-cached, put-rows}
+use Rattle.loom_memory.proofs.RowLaws.{marked-word, put-cached, put-rows}
 use Rattle.loom_memory.proofs.MarkingLaws.{ledger-kept, ledger-over, marked-means, put-row, path-marked, path-begins, unmarked-whole}
 use Rattle.loom_memory.proofs.memory.LoomMemory.cache_put.Goals as goal
 use Rattle.loom_memory.proofs.memory.LoomMemory.cache_put.Given as given

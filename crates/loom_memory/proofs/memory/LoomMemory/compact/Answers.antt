@@ -1,11 +1,11 @@
-use Rattle.std.proofs.Common.{◌≡◌, refl, sym, ap, subst, arith}
+use Rattle.std.proofs.Common.{refl, sym, subst, arith}
 use Rattle.core_view.specs.Held.{Disk}
 use Rattle.core_view.specs.Kept.{IsValued}
 use Rattle.disk_objects.specs.Function.{disk_of}
 use Rattle.leaf_lambda.specs.Parts.{core_of}
 use Rattle.purger.proofs.MarkLaws.{Marks-same}
 use Rattle.purger.proofs.RoomLaws.{work-refl}
-use Rattle.loom_memory.specs.Memory.{loom_told, loom_outside, told_of, IsCalm, IsQuiet}
+use Rattle.loom_memory.specs.Memory.{loom_told, loom_outside, IsCalm, IsQuiet}
 use Rattle.loom_memory.proofs.RegLaws.{kept-rooted}
 use Rattle.loom_memory.proofs.AccessLaws.{quiet-ready}
 use Rattle.loom_memory.proofs.CalmLaws.{purged-calm, calm-kept, quiet-is}

@@ -1,12 +1,8 @@
-use Rattle.std.proofs.Common.{ℕ, ℤ, ◌≡◌, ◌<◌, List, Option, Some, None, IsTrue, length, take, drop, refl, sym, ◌∙◌, ap, subst}
-use Rattle.std.specs.List.{slice_get}
-use Rattle.std.specs.Option.{option_and_then}
+use Rattle.std.proofs.Common.{ℤ, ◌≡◌, Option, Some, None, length, refl, sym, ◌∙◌, ap, subst}
 use Rattle.long_names.specs.Words.{literal_count}
 use Rattle.long_names.specs.declared.object.Body.{Body}
-use Rattle.long_names.specs.declared.object.Object.{Object}
-use Rattle.long_names.specs.Objects.{len_of, words_of, bytes_of, header_of, fields_of}
-use Rattle.long_names.specs.Access.{Length, Header, Word, Byte, ReadWords, ReadBytes, OfNumber, OfSigned, OfRun, answered}
-use Rattle.object_table.specs.declared.entry.Entry.{Entry}
+use Rattle.long_names.specs.Objects.{header_of, fields_of}
+use Rattle.long_names.specs.Access.{Header, OfSigned, answered}
 use Rattle.core_view.specs.Held.{fields_there, object_at}
 use Rattle.core_view.proofs.Core.{placed-used}
 use Rattle.disk_objects.specs.Function.{disk_of}
@@ -14,7 +10,7 @@ use Rattle.leaf_lambda.specs.Parts.{core_of}
 use Rattle.loom_memory.specs.Memory.{loom_told}
 use Rattle.loom_memory.proofs.AccessLaws.{quiet-ready, refused-is}
 use Rattle.loom_memory.proofs.FieldLaws.{told-tells}
-use Rattle.loom_memory.proofs.BodyLaws.{len-is, most-small, method-literals, part-told, part-here, part-still, element-there, run-answer}
+use Rattle.loom_memory.proofs.BodyLaws.{method-literals, part-told, part-here, part-still}
 use Rattle.loom_memory.proofs.ReadLaws.{read-answered}
 use Rattle.loom_memory.proofs.memory.LoomMemory.header.Goals as goal
 use Rattle.loom_memory.proofs.memory.LoomMemory.header.Given as given

@@ -1,6 +1,5 @@
-use Rattle.std.proofs.Common.{◌≡◌, ℕ, [], Some, true, refl, sym, ◌∙◌, ap, subst}
+use Rattle.std.proofs.Common.{◌≡◌, [], true, sym, ◌∙◌, ap}
 use Rattle.long_names.specs.State.{name_at}
-use Rattle.long_names.specs.declared.value.Value.{Value}
 use Rattle.core_view.specs.Words.{meant}
 use Rattle.core_view.proofs.Words.{meant-short}
 use Rattle.leaf_lambda.specs.Parts.{core_of}

@@ -1,4 +1,4 @@
-use Rattle.std.proofs.Common.{◌≡◌, ℕ, [], true, refl, sym, ◌∙◌, ap, subst}
+use Rattle.std.proofs.Common.{◌≡◌, [], refl, sym, ◌∙◌, ap}
 use Rattle.long_names.specs.declared.value.Value.TheVariants.{Ref}
 use Rattle.long_names.specs.Access.{Mark, Nothing}
 use Rattle.core_view.specs.Words.{meant}

@@ -1,13 +1,13 @@
-use Rattle.std.proofs.Common.{◌≡◌, ℕ, Some, true, refl, sym, ◌∙◌, ap, subst}
+use Rattle.std.proofs.Common.{◌≡◌, Some, true, refl, sym, ap, subst}
 use Rattle.object_table.specs.Entries.{is_used}
 use Rattle.object_memory.specs.Told.{Cache}
 use Rattle.object_memory.specs.Contract.{IsKeptCache, no_names, with_mark}
-use Rattle.core_view.specs.Core.{Core, with_entry}
+use Rattle.core_view.specs.Core.{Core}
 use Rattle.core_view.proofs.Core.{placed-used}
 use Rattle.leaf_lambda.specs.Parts.{core_of}
 use Rattle.method_cache.specs.Found.{found}
 use Rattle.loom_memory.specs.declared.ledger.Ledger.{Ledger}
-use Rattle.loom_memory.specs.Cache.{cache_of, with_its_mark, IsCached}
+use Rattle.loom_memory.specs.Cache.{cache_of, IsCached}
 use Rattle.loom_memory.specs.Memory.{loom_told, loom_outside}
 use Rattle.loom_memory.proofs.RowLaws.{marking-kept, marking-cached}
 use Rattle.loom_memory.proofs.MarkingLaws.{IsCaching, mark-told, mark-kept, mark-over}

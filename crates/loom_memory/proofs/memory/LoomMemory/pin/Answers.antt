@@ -1,4 +1,4 @@
-use Rattle.std.proofs.Common.{◌≡◌, ℕ, [], true, refl, sym, ◌∙◌, ap, subst}
+use Rattle.std.proofs.Common.{◌≡◌, [], true, refl, sym, ◌∙◌, ap, subst}
 use Rattle.long_names.specs.Access.{Pin, Nothing}
 use Rattle.object_memory.specs.Told.{Told, IsReady}
 use Rattle.object_table.specs.Entries.{is_short}

@@ -5,7 +5,7 @@ use Rattle.core_view.proofs.Steps.{Stays-trans, RefStep-trans}
 use Rattle.leaf_lambda.specs.Parts.{core_of}
 use Rattle.purger.specs.declared.room.Pinned.{Pinned}
 use Rattle.loom_memory.specs.Memory.{loom_told, loom_outside, told_of, pin_in, IsKept}
-use Rattle.loom_memory.proofs.RegLaws.{IsSwap, swapped, few-held, kept-rooted, over-then}
+use Rattle.loom_memory.proofs.RegLaws.{IsSwap, swapped, kept-rooted, over-then}
 use Rattle.loom_memory.proofs.SlotLaws.{pin-held, pinned-used, slot-told, slot-kept}
 use Rattle.loom_memory.proofs.memory.LoomMemory.put_slot.Goals as goal
 use Rattle.loom_memory.proofs.memory.LoomMemory.put_slot.Given as given

@@ -1,4 +1,4 @@
-use Rattle.std.proofs.Common.{◌≡◌, None, refl, sym, subst}
+use Rattle.std.proofs.Common.{None, refl, sym, subst}
 use Rattle.long_names.specs.State.{set_slot}
 use Rattle.object_memory.specs.Told.{Told, IsReady}
 use Rattle.object_memory.proofs.PlainLaws.{ready-unpin}

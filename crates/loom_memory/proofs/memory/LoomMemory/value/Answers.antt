@@ -1,4 +1,4 @@
-use Rattle.std.proofs.Common.{◌≡◌, ℕ, ◌<◌, [], true, refl, sym, ◌∙◌, ap, subst, arith}
+use Rattle.std.proofs.Common.{[], refl, sym, ◌∙◌, ap, subst, arith}
 use Rattle.long_names.specs.Words.{IsSmallInteger}
 use Rattle.object_memory.proofs.ShapeLaws.{small_number}
 use Rattle.long_names.specs.declared.value.Value.TheVariants.{Int, Ref}

@@ -1,4 +1,4 @@
-use Rattle.std.proofs.Common.{◌≡◌, ℕ, refl, sym, ◌∙◌}
+use Rattle.std.proofs.Common.{refl, sym, ◌∙◌}
 use Rattle.std.specs.List.{slice_index_or}
 use Rattle.core_view.proofs.Steps.{outside-used}
 use Rattle.leaf_lambda.specs.Parts.{core_of}
