@@ -20,16 +20,16 @@ and-both false b e = absurd (cc)
 pub both-and : (a b : Bool) → a ≡ true → b ≡ true → a && b ≡ true
 both-and a b e f = ap (λ (x : Bool). x && b) e ∙ f
 
-same-by : (a b : Bool) → (a ≡ true → b ≡ true) → (b ≡ true → a ≡ true) → a ≡ b
+pub same-by : (a b : Bool) → (a ≡ true → b ≡ true) → (b ≡ true → a ≡ true) → a ≡ b
 same-by true b f g = sym (f refl)
 same-by false true f g = g refl
 same-by false false f g = refl
 
-off-by : (a : Bool) → (a ≡ true → ⊥) → a ≡ false
+pub off-by : (a : Bool) → (a ≡ true → ⊥) → a ≡ false
 off-by false f = refl
 off-by true f = absurd (f refl)
 
-mark-name : (c : Core) (s : ℕ) → IsCore c → has_mark c s ≡ true → marked_of c (c.entries s).name ≡ true
+pub mark-name : (c : Core) (s : ℕ) → IsCore c → has_mark c s ≡ true → marked_of c (c.entries s).name ≡ true
 mark-name c s core has = let both = and-both (is_used (c.entries s).state) (c.entries s).flags.marked has in marked-at c s core both.0 ∙ both.1
 
 -- a marked entry keeps its mark and its name

@@ -169,10 +169,10 @@ purge-says t u (Pin slot of) f silent is = λ told. is
 purge-says t u (Mark of) f silent is = λ told. is
 purge-says t u (Swap k l) f silent is = λ told. is
 
-transcript-away : ◌≢◌ {A = Role} Transcript Work
+pub transcript-away : ◌≢◌ {A = Role} Transcript Work
 transcript-away = λ e. cc
 
-purge-left : (f : DiskFault) (r : MemFault) (P : Type 0) → IsRefusalOf f r → LeavesAll r P
+pub purge-left : (f : DiskFault) (r : MemFault) (P : Type 0) → IsRefusalOf f r → LeavesAll r P
 purge-left (fault.Work count) r P is = subst (λ (x : MemFault). LeavesAll x P) (sym is) tt
 purge-left (fault.Full held room) r P is = subst (λ (x : MemFault). LeavesAll x P) (sym is) tt
 purge-left (fault.Damaged place about) r P is = subst (λ (x : MemFault). LeavesAll x P) (sym is) tt

@@ -13,3 +13,10 @@ pub mod ReadLaws
 pub mod StoreLaws
 pub mod LastLaws
 pub mod SwapLaws
+pub mod WordLaws
+pub mod BodyLaws
+pub mod SlotLaws
+pub mod RowLaws
+pub mod MarkingLaws
+pub mod EndLaws
+pub mod ClassLaws

@@ -142,7 +142,7 @@ word-there [] r is = absurd (cc)
 word-there (x ∷ xs) zero is = refl
 word-there (x ∷ xs) (suc r) is = word-there xs r is
 
-register-means : (a d : Core) (regs : List ℕ) (pins : Pinned) (r w old : ℕ) → IsRooted a regs pins → IsSwap a d w old → meant d.entries [] 0 (word_in regs r) ≡ meant a.entries [] 0 (word_in regs r)
+pub register-means : (a d : Core) (regs : List ℕ) (pins : Pinned) (r w old : ℕ) → IsRooted a regs pins → IsSwap a d w old → meant d.entries [] 0 (word_in regs r) ≡ meant a.entries [] 0 (word_in regs r)
 register-means a d regs pins r w old root swap = meant-names a.entries d.entries [] 0 (word_in regs r) (λ is. (swap.live (word_in regs r) (outside-used a (word_in regs r) root.core (register-held a regs pins r (word_in regs r) root (word-there regs r is) is))).1)
 
 regs-then : (a d : Core) (regs : List ℕ) (pins : Pinned) (to w old : ℕ) → IsRooted a regs pins → IsSwap a d w old → to < length regs → (is_short w ≡ true → is_used (a.entries w).state ≡ true)

@@ -1,5 +1,5 @@
 -- The method cache of a core: its rows are short words, and count as long as marks are there.
-use Rattle.std.specs.Prelude.{◌≡◌, ℕ, ◌==◌, ◌&&◌, ◌||◌, Bool, true, false, Option, Some, None}
+use Rattle.std.specs.Prelude.{◌≡◌, ◌⊎◌, ℕ, ◌==◌, ◌&&◌, ◌||◌, Bool, true, false, Option, Some, None}
 use Rattle.object_table.specs.declared.entry.Entry.{Entry}
 use Rattle.object_table.specs.Entries.{is_used}
 use Rattle.core_view.specs.Core.{Core}
@@ -34,3 +34,11 @@ cache_of c found mark begun = record {
 pub record IsCached (c : Core) (found : ℕ → ℕ → Option ℕ) (mark : ℕ) : Type 0 where
   pub none : has_mark c mark ≡ false → (n : ℕ) → marked_of c n ≡ false
   pub rows : has_mark c mark ≡ true → (s t w : ℕ) → found s t ≡ Some w → (has_mark c s ≡ true) × (has_mark c t ≡ true) × (has_mark c w ≡ true)
+
+-- The entry that was marked last still is; or there is none, and nothing is found.
+abbrev pub IsFresh : Core → (ℕ → ℕ → Option ℕ) → ℕ → Type 0
+IsFresh c found mark = (has_mark c mark ≡ true) ⊎ ((mark ≡ 0) × ((s t : ℕ) → found s t ≡ None))
+
+-- an entry with its mark
+abbrev pub with_its_mark : Entry → Entry
+with_its_mark e = record e { flags = record e.flags { marked = true } }

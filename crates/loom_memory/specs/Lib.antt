@@ -2,3 +2,4 @@ pub mod Cache
 pub mod Memory
 pub mod Calls
 pub mod Stores
+pub mod Bodies

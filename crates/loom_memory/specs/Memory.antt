@@ -34,11 +34,11 @@ use Rattle.leaf_lambda.specs.Parts.{core_of, IsParts}
 use Rattle.loom_memory.specs.declared.ledger.Ledger.{Ledger}
 use Rattle.purger.specs.declared.room.Pinned.{Pinned}
 use Rattle.loom_memory.specs.declared.memory.LoomMemory.{LoomMemory}
-use Rattle.object_memory.specs.Contract.{SameBounds, Raised, Does, IsLater, Refuses, LeavesCache, no_names, touched_by, makes}
+use Rattle.object_memory.specs.Contract.{SameBounds, Raised, Does, IsLater, Refuses, LeavesCache, IsKeptCache, no_names, touched_by, with_mark, makes}
 use Rattle.method_cache.specs.Found.{found}
 use Rattle.purger.specs.declared.eviction.TheConstants.{NOWHERE}
 use Rattle.purger.specs.Marks.{AreHere, LeavesMarks}
-use Rattle.loom_memory.specs.Cache.{cache_of, IsCached}
+use Rattle.loom_memory.specs.Cache.{has_mark, cache_of, IsCached}
 use Rattle.core_view.specs.Kept.{IsTight}
 use Rattle.core_view.specs.Room.{in_hand, is_among, over_three, room_for, entries_for}
 use Rattle.disk_objects.specs.Function.{disk_of}
@@ -51,6 +51,10 @@ word_in regs r = slice_index_or regs r 1
 -- the word of a slot
 abbrev pub pin_in : Pinned → ℕ → ℕ
 pin_in pins i = if i == 0 then pins.a else (if i == 1 then pins.b else (if i == 2 then pins.d else 0))
+
+-- the slots with another word in one of them
+abbrev pub with_pin : Pinned → ℕ → ℕ → Pinned
+with_pin pins i w = if i == 0 then record pins { a = w } else (if i == 1 then record pins { b = w } else record pins { d = w })
 
 -- the name of a slot's word, 0 for none
 abbrev pub name_if : (ℕ → Entry) → ℕ → Option ℕ
@@ -147,6 +151,16 @@ pub record IsQuiet (old new : Told) : Type 0 where
   pub cache : LeavesCache no_names None old.cache old.cache new.cache
   pub bounds : SameBounds old.bounds new.bounds
   pub counts : Raised 0 old.bounds new.bounds
+
+-- an object was marked, and rows may have left
+pub record IsMarking (old new : Told) (n : ℕ) : Type 0 where
+  pub same : new ≡ (record old { cache = new.cache })
+  pub cache : IsKeptCache no_names old.cache (with_mark old.cache (Some n)) new.cache
+
+-- the method cache has the value of a register for the pair of two others
+pub record IsRemembered {H : Type 0} (m : LoomMemory H) (class selector method : ℕ) : Type 0 where
+  pub lives : has_mark (core_of m.parts) m.ledger.mark ≡ true
+  pub row : found m.ledger.rows (word_in m.regs class) (word_in m.regs selector) ≡ Some (word_in m.regs method)
 
 -- the words that the objects of the slots take beside one that isn't there
 abbrev pub words_beside : Core → Pinned → ℕ

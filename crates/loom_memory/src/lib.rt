@@ -1,5 +1,6 @@
 //! The memory of two levels: objects on a disk, and a core of those that are at hand. It is in the making: what it tells and keeps
-//! stands, and how the object of a register comes into the core; of the trait's calls `kind` alone.
+//! stands, how the object of a register comes into the core, and of the trait's calls those on registers, slots, fields, words, bytes and
+//! the cache, `swap`, `purge_all` and `compact`. Makings, `known`, the class of a number, `say` and `settle` are to come.
 //!
 //! `load` is the step that each access begins with: room is made beside the pinned objects, and the object is brought in where it is a
 //! leaf. Where the row of the access doesn't fit it answers CoreFull with that row's need (`full`), said of every access that names the
@@ -11,11 +12,16 @@
 //! `purger`.
 #![tactic(auto)]
 
+mod bodies;
 pub mod bring;
+pub mod cache;
+pub mod ends;
 pub mod fields;
 pub mod ledger;
 pub mod load;
 pub mod memory;
 pub mod reads;
+pub mod registers;
+pub mod slots;
 pub mod stores;
 pub mod swap;

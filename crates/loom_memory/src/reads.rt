@@ -1,16 +1,60 @@
 // What an object is, and its words and bytes.
-ghost use Rattle.std.specs.Prelude.{IfOk};
+ghost use Rattle.std.specs.Prelude.{◌≡◌, ◌<◌, ℕ, Some, true, IsTrue, IfOk, OnOk, length};
+ghost use Rattle.object_table.specs.Entries.{is_used};
+ghost use Rattle.leaf_lambda.specs.Parts.{core_of};
 
+use crate::bodies::{byte_at, bytes_into, header_at, word_at, words_into};
 use crate::memory::LoomMemory;
 use long_names::Kind;
 use loom_outside::Host;
 use object_memory::{MemFault, Reg};
+use object_table::Short;
+use purger::NOWHERE;
 
 impl<'h, H: Host> LoomMemory<'h, H> {
-    ghost use Rattle.long_names.specs.Access.{KindOf, OfKind};
-    ghost use Rattle.object_memory.specs.Contract.{Accessed, MayDo};
+    ghost use Rattle.long_names.specs.Words.{IsSmallInteger, literal_count};
+    ghost use Rattle.long_names.specs.Objects.{fields_of};
+    ghost use Rattle.long_names.specs.State.{part_at, IsRef};
+    ghost use Rattle.long_names.specs.Access.{Access, Class, KindOf, Length, Header, Word, Byte, ReadWords, ReadBytes, OfKind, OfNumber, OfSigned, OfRun, Nothing};
+    ghost use Rattle.object_memory.specs.Told.{Told, IsReady};
+    ghost use Rattle.object_memory.specs.Contract.{Accessed, LeavesAll, MayDo, makes};
     ghost use Rattle.object_memory.specs.Fit.{MayCall, StaysCallable};
-    ghost use Rattle.loom_memory.specs.Memory.{loom_told, loom_outside, loom_lender, IsSound};
+    ghost use Rattle.loom_memory.specs.Memory.{loom_told, loom_outside, loom_lender, IsSound, IsQuiet, IsSilent, IsRefused};
+
+    // Refuses: the object of an entry hasn't what an access asks for. Where the heap is told that can't be.
+    pub(crate) fn amiss(&mut self, s: Short) -> MemFault
+        requires sound { IsSound H.Host self.old }
+        requires used { is_used ((core_of self.old.parts).entries s.0).state ≡ true }
+        ensures sound { LeavesAll result (IsSound H.Host self.new) }
+        ensures err { (t : Told) (a : Access) → IsQuiet t (loom_told H.Host self.old) → IsReady t → IsSilent a → makes a ≡ 0 → (IsTrue t.tells → ⊥) → IsRefused t (loom_told H.Host self.new) a result }
+        ensures lender { self.new.disk.host.ghost_name ≡ self.old.disk.host.ghost_name }
+        ensures outside { loom_outside H.Host self.new ≡ loom_outside H.Host self.old }
+    {
+        let name = self.parts.names.table.entry(s).name.get();
+        self.refuse(MemFault::Damaged {
+            place: NOWHERE,
+            name,
+        })
+    }
+
+    // The class of an object comes into a register.
+    pub(crate) fn class_of_object(&mut self, to: Reg, of: Reg) -> Result<(), MemFault>
+        requires fit { MayCall (IsSound H.Host) (loom_told H.Host) self.old }
+        requires may { MayDo (loom_told H.Host self.old) (Class to of) }
+        requires object { IsRef ((loom_told H.Host self.old).regs of) }
+        ensures access { Accessed (loom_told H.Host self.old) (loom_told H.Host self.new) (Class to of) (λ _. Nothing) result }
+        ensures name { OnOk result (IsRef ((loom_told H.Host self.new).regs to)) }
+        ensures fit { StaysCallable (IsSound H.Host) (loom_told H.Host) loom_lender (loom_outside H.Host) self.old self.new result }
+    {
+        match self.load(of) {
+            Ok(s) => {
+                let e = self.parts.names.table.entry(s);
+                self.put_word(to, e.class.0);
+                Ok(())
+            }
+            Err(f) => Err(f),
+        }
+    }
 
     pub(crate) fn kind(&mut self, of: Reg) -> Result<Kind, MemFault>
         requires fit { MayCall (IsSound H.Host) (loom_told H.Host) self.old }
@@ -20,6 +64,100 @@ impl<'h, H: Host> LoomMemory<'h, H> {
     {
         match self.load(of) {
             Ok(s) => Ok(self.parts.names.table.entry(s).kind),
+            Err(f) => Err(f),
+        }
+    }
+
+    pub(crate) fn len(&mut self, of: Reg) -> Result<u32, MemFault>
+        requires fit { MayCall (IsSound H.Host) (loom_told H.Host) self.old }
+        requires may { MayDo (loom_told H.Host self.old) (Length of) }
+        ensures access { Accessed (loom_told H.Host self.old) (loom_told H.Host self.new) (Length of) OfNumber result }
+        ensures bound { IfOk result (λ n. n < 65536) }
+        ensures fit { StaysCallable (IsSound H.Host) (loom_told H.Host) loom_lender (loom_outside H.Host) self.old self.new result }
+    {
+        match self.load(of) {
+            Ok(s) => Ok(self.parts.names.table.entry(s).len),
+            Err(f) => Err(f),
+        }
+    }
+
+    pub(crate) fn header(&mut self, of: Reg) -> Result<i16, MemFault>
+        requires fit { MayCall (IsSound H.Host) (loom_told H.Host) self.old }
+        requires may { MayDo (loom_told H.Host self.old) (Header of) }
+        ensures access { Accessed (loom_told H.Host self.old) (loom_told H.Host self.new) (Header of) OfSigned result }
+        ensures range { IfOk result IsSmallInteger }
+        ensures literals { IfOk result (λ header. IsTrue (loom_told H.Host self.old).tells → part_at (loom_told H.Host self.old).heap ((loom_told H.Host self.old).regs of) (λ b. Some (length (fields_of b))) ≡ Some (literal_count header)) }
+        ensures fit { StaysCallable (IsSound H.Host) (loom_told H.Host) loom_lender (loom_outside H.Host) self.old self.new result }
+    {
+        match self.load(of) {
+            Ok(s) => match header_at(&self.parts, s) {
+                Some(header) => Ok(header),
+                None => Err(self.amiss(s)),
+            },
+            Err(f) => Err(f),
+        }
+    }
+
+    pub(crate) fn word(&mut self, of: Reg, i: u32) -> Result<u16, MemFault>
+        requires fit { MayCall (IsSound H.Host) (loom_told H.Host) self.old }
+        requires may { MayDo (loom_told H.Host self.old) (Word of i) }
+        ensures access { Accessed (loom_told H.Host self.old) (loom_told H.Host self.new) (Word of i) OfNumber result }
+        ensures fit { StaysCallable (IsSound H.Host) (loom_told H.Host) loom_lender (loom_outside H.Host) self.old self.new result }
+    {
+        match self.load(of) {
+            Ok(s) => match word_at(&self.parts, s, i) {
+                Some(w) => Ok(w),
+                None => Err(self.amiss(s)),
+            },
+            Err(f) => Err(f),
+        }
+    }
+
+    pub(crate) fn byte(&mut self, of: Reg, i: u32) -> Result<u8, MemFault>
+        requires fit { MayCall (IsSound H.Host) (loom_told H.Host) self.old }
+        requires may { MayDo (loom_told H.Host self.old) (Byte of i) }
+        ensures access { Accessed (loom_told H.Host self.old) (loom_told H.Host self.new) (Byte of i) OfNumber result }
+        ensures fit { StaysCallable (IsSound H.Host) (loom_told H.Host) loom_lender (loom_outside H.Host) self.old self.new result }
+    {
+        match self.load(of) {
+            Ok(s) => match byte_at(&self.parts, s, i) {
+                Some(b) => Ok(b),
+                None => Err(self.amiss(s)),
+            },
+            Err(f) => Err(f),
+        }
+    }
+
+    pub(crate) fn read_words(&mut self, of: Reg, at: u32, out: &mut [u16]) -> Result<(), MemFault>
+        requires fit { MayCall (IsSound H.Host) (loom_told H.Host) self.old }
+        requires may { MayDo (loom_told H.Host self.old) (ReadWords of at (length out.old)) }
+        ensures access { Accessed (loom_told H.Host self.old) (loom_told H.Host self.new) (ReadWords of at (length out.old)) (λ _. OfRun out.new) result }
+        ensures fit { StaysCallable (IsSound H.Host) (loom_told H.Host) loom_lender (loom_outside H.Host) self.old self.new result }
+    {
+        match self.load(of) {
+            Ok(s) => {
+                if words_into(&self.parts, s, at, out) {
+                    return Ok(());
+                }
+                Err(self.amiss(s))
+            }
+            Err(f) => Err(f),
+        }
+    }
+
+    pub(crate) fn read_bytes(&mut self, of: Reg, at: u32, out: &mut [u8]) -> Result<(), MemFault>
+        requires fit { MayCall (IsSound H.Host) (loom_told H.Host) self.old }
+        requires may { MayDo (loom_told H.Host self.old) (ReadBytes of at (length out.old)) }
+        ensures access { Accessed (loom_told H.Host self.old) (loom_told H.Host self.new) (ReadBytes of at (length out.old)) (λ _. OfRun out.new) result }
+        ensures fit { StaysCallable (IsSound H.Host) (loom_told H.Host) loom_lender (loom_outside H.Host) self.old self.new result }
+    {
+        match self.load(of) {
+            Ok(s) => {
+                if bytes_into(&self.parts, s, at, out) {
+                    return Ok(());
+                }
+                Err(self.amiss(s))
+            }
             Err(f) => Err(f),
         }
     }

@@ -1,0 +1,10 @@
+use Rattle.std.proofs.Common.{ℕ, ◌≡◌, ◌+◌, ◌<◌, length}
+use Rattle.std.specs.List.{slice_get}
+use Rattle.core_segment.specs.Segment.{chunk_at}
+use Rattle.loom_memory.proofs.bodies.copy_words.Given as goal
+
+abbrev pub invariant-loop-k : goal.invariant-loop-k
+invariant-loop-k l = record {
+  long : length l.out ≡ length l.fn.out;
+  done : (j : ℕ) → j < l.k → slice_get l.out j ≡ slice_get (chunk_at l.fn.g l.fn.at.place).words (l.fn.i + j);
+}

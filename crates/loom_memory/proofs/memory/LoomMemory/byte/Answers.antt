@@ -1,0 +1,56 @@
+use Rattle.std.proofs.Common.{ℕ, Option, Some, refl, sym, ◌∙◌, ap}
+use Rattle.std.specs.List.{slice_get}
+use Rattle.std.specs.Option.{option_and_then}
+use Rattle.long_names.specs.declared.object.Body.{Body}
+use Rattle.long_names.specs.Objects.{bytes_of}
+use Rattle.long_names.specs.Access.{Byte, OfNumber, answered}
+use Rattle.core_view.specs.Held.{object_at}
+use Rattle.core_view.proofs.Core.{placed-used}
+use Rattle.disk_objects.specs.Function.{disk_of}
+use Rattle.leaf_lambda.specs.Parts.{core_of}
+use Rattle.loom_memory.specs.Memory.{loom_told}
+use Rattle.loom_memory.proofs.AccessLaws.{quiet-ready, refused-is}
+use Rattle.loom_memory.proofs.FieldLaws.{told-tells}
+use Rattle.loom_memory.proofs.BodyLaws.{part-here, part-still, element-there}
+use Rattle.loom_memory.proofs.ReadLaws.{read-answered}
+use Rattle.loom_memory.proofs.memory.LoomMemory.byte.Goals as goal
+
+pub byte_at-requires-clause-there : goal.byte_at-requires-clause-there
+byte_at-requires-clause-there g c = (c.in-Ok.ensures.loaded.at, c.in-Ok.ensures.loaded.place)
+
+pub amiss-requires-clause-used : goal.amiss-requires-clause-used
+amiss-requires-clause-used g c = placed-used ((core_of c.load.new.self.parts).entries c.in-Ok.s.0).state c.in-Ok.ensures.loaded.at c.in-Ok.ensures.loaded.place
+
+pub returns-in-Some-clause-access : goal.returns-in-Some-clause-access
+returns-in-Some-clause-access g c =
+    let t = loom_told g.H.Host c.args.self.now in
+    let n = c.load.new.self in
+    let there = c.in-Ok.ensures.loaded in
+    let o = object_at (core_of n.parts) (disk_of g.H.Host n.disk.host.now n.disk.rest) ((core_of n.parts).entries c.in-Ok.s.0) there.at in
+    read-answered t (loom_told g.H.Host n) (Byte c.args.of c.args.i) OfNumber c.in-Some.b refl c.in-Ok.ensures.quiet
+    (λ told. ap (λ (x : Option ℕ). answered OfNumber x) (part-here (loom_told g.H.Host n) c.args.of o (λ (b : Body). option_and_then (λ xs. slice_get xs c.args.i) (bytes_of b)) (Some c.in-Some.b) (there.object (told-tells g.H.Host c.args.self.now told))
+    (sym (sym c.in-Some.is ∙ c.byte_at.ensures (disk_of g.H.Host n.disk.host.now n.disk.rest) there.at there.place))))
+    (c.in-Ok.ensures.core (Byte c.args.of c.args.i) refl refl)
+
+pub returns-in-None-clause-access : goal.returns-in-None-clause-access
+returns-in-None-clause-access g c =
+    let t = loom_told g.H.Host c.args.self.now in
+    let n = c.load.new.self in
+    let there = c.in-Ok.ensures.loaded in
+    let o = object_at (core_of n.parts) (disk_of g.H.Host n.disk.host.now n.disk.rest) ((core_of n.parts).entries c.in-Ok.s.0) there.at in
+    refused-is t (loom_told g.H.Host c.amiss.new.self) (Byte c.args.of c.args.i) OfNumber c.amiss.result
+    (c.amiss.ensures.err t (Byte c.args.of c.args.i) c.in-Ok.ensures.quiet c.requires.fit.ready tt refl
+    (λ told. let can = c.requires.may.heap told in
+    element-there (bytes_of o.body) can.0 c.args.i (part-still t (loom_told g.H.Host n) c.args.of o bytes_of (Some can.0) c.in-Ok.ensures.quiet (there.object (told-tells g.H.Host c.args.self.now told)) can.1) can.2
+    (sym (c.byte_at.ensures (disk_of g.H.Host n.disk.host.now n.disk.rest) there.at there.place) ∙ c.in-None.is)))
+
+pub returns-in-Err-clause-access : goal.returns-in-Err-clause-access
+returns-in-Err-clause-access g c = refused-is (loom_told g.H.Host c.args.self.now) (loom_told g.H.Host c.load.new.self) (Byte c.args.of c.args.i) OfNumber c.in-Err.f (c.in-Err.ensures.err (Byte c.args.of c.args.i) refl refl tt)
+
+pub returns-in-Some-clause-fit : goal.returns-in-Some-clause-fit
+returns-in-Some-clause-fit g c = record {
+  sound = c.in-Ok.ensures.sound;
+  ready = quiet-ready (loom_told g.H.Host c.args.self.now) (loom_told g.H.Host c.load.new.self) c.in-Ok.ensures.quiet c.requires.fit.ready;
+  lender = c.in-Ok.ensures.lender;
+  outside = c.in-Ok.ensures.outside;
+}

@@ -1,0 +1,84 @@
+use Rattle.std.proofs.Common.{◌≡◌, ◌≤◌, ℕ, [], Some, true, IsTrue, refl, sym, ◌∙◌, ap, subst}
+use Rattle.long_names.specs.declared.value.Value.{Value}
+use Rattle.long_names.specs.declared.value.Value.TheVariants.{Ref}
+use Rattle.long_names.specs.State.{set_register, class_at, IsRef}
+use Rattle.long_names.specs.Access.{Class, Nothing}
+use Rattle.loom_outside.specs.declared.outside.Role.TheVariants.{Work}
+use Rattle.object_memory.specs.Told.{Told, IsReady}
+use Rattle.object_table.specs.declared.entry.Entry.{Entry}
+use Rattle.object_table.specs.Entries.{is_short}
+use Rattle.core_view.specs.Counts.{uses}
+use Rattle.core_view.specs.Held.{object_at}
+use Rattle.core_view.proofs.Core.{placed-used, class-used, used-live}
+use Rattle.core_view.proofs.Words.{meant-short}
+use Rattle.disk_objects.specs.Function.{disk_of}
+use Rattle.leaf_lambda.specs.Parts.{core_of}
+use Rattle.loom_memory.specs.Memory.{loom_told}
+use Rattle.loom_memory.proofs.AccessLaws.{quiet-ready, refused-is}
+use Rattle.loom_memory.proofs.FieldLaws.{told-tells}
+use Rattle.loom_memory.proofs.MarkingLaws.{filled}
+use Rattle.loom_memory.proofs.ClassLaws.{class-there, class-access, ready-class, short-some}
+use Rattle.loom_memory.proofs.memory.LoomMemory.class_of_object.Goals as goal
+use Rattle.loom_memory.proofs.memory.LoomMemory.class_of_object.Given as given
+
+pub entry-e-requires-clause-within : goal.entry-e-requires-clause-within
+unfolding core_of
+entry-e-requires-clause-within g c = c.in-Ok.ensures.sound.kept.parts.core.within c.in-Ok.s.0 (placed-used ((core_of c.load.new.self.parts).entries c.in-Ok.s.0).state c.in-Ok.ensures.loaded.at c.in-Ok.ensures.loaded.place)
+
+pub entry-e-requires-clause-short : goal.entry-e-requires-clause-short
+entry-e-requires-clause-short g c = c.in-Ok.ensures.sound.kept.parts.core.short c.in-Ok.s.0 (placed-used ((core_of c.load.new.self.parts).entries c.in-Ok.s.0).state c.in-Ok.ensures.loaded.at c.in-Ok.ensures.loaded.place)
+
+class-same : (g : given.Over) (c : goal.After-put_word g) → c.entry-e.result.class.0 ≡ ((core_of c.load.new.self.parts).entries c.in-Ok.s.0).class.0
+unfolding core_of
+class-same g c = ap (λ (e : Entry). e.class.0) c.entry-e.ensures
+
+class-short : (g : given.Over) (c : goal.After-put_word g) → is_short c.entry-e.result.class.0 ≡ true
+class-short g c = subst (λ (w : ℕ). is_short w ≡ true) (sym (class-same g c)) (c.in-Ok.ensures.sound.kept.parts.core.classed c.in-Ok.s.0 c.in-Ok.ensures.loaded.at c.in-Ok.ensures.loaded.place)
+
+pub put_word-requires-clause-used : goal.put_word-requires-clause-used
+unfolding core_of
+put_word-requires-clause-used g c = λ is.
+    let x = core_of c.load.new.self.parts in
+    let core = c.in-Ok.ensures.sound.kept.parts.core in
+    used-live x core c.entry-e.result.class.0 (subst (λ (w : ℕ). 1 ≤ uses x w) (sym (ap (λ (e : Entry). e.class.0) c.entry-e.ensures)) (class-used x core c.in-Ok.s.0 c.in-Ok.ensures.loaded.at c.in-Ok.ensures.loaded.place))
+
+pub put_word-requires-clause-some : goal.put_word-requires-clause-some
+unfolding core_of
+put_word-requires-clause-some g c = short-some c.entry-e.result.class.0 (subst (λ (w : ℕ). is_short w ≡ true) (sym (ap (λ (e : Entry). e.class.0) c.entry-e.ensures)) (c.in-Ok.ensures.sound.kept.parts.core.classed c.in-Ok.s.0 c.in-Ok.ensures.loaded.at c.in-Ok.ensures.loaded.place))
+
+told-of : (g : given.Over) (c : goal.After-put_word g) → loom_told g.H.Host c.put_word.new.self ≡ record (loom_told g.H.Host c.load.new.self) { regs = set_register (loom_told g.H.Host c.load.new.self).regs c.args.to (Ref ((core_of c.load.new.self.parts).entries ((core_of c.load.new.self.parts).entries c.in-Ok.s.0).class.0).name) }
+told-of g c =
+    let n = c.load.new.self in
+    c.put_word.ensures.told ∙ ap (λ (v : Value). record (loom_told g.H.Host n) { regs = set_register (loom_told g.H.Host n).regs c.args.to v })
+    (meant-short (core_of n.parts).entries [] 0 c.entry-e.result.class.0 (class-short g c) ∙ ap (λ (w : ℕ). Ref ((core_of n.parts).entries w).name) (class-same g c))
+
+class-of : (g : given.Over) (c : goal.After-put_word g) → IsTrue (g.H.Host.tells Work) → class_at (loom_told g.H.Host c.load.new.self).heap ((loom_told g.H.Host c.load.new.self).regs c.args.of) ≡ Some ((core_of c.load.new.self.parts).entries ((core_of c.load.new.self.parts).entries c.in-Ok.s.0).class.0).name
+class-of g c told =
+    let n = c.load.new.self in
+    class-there (loom_told g.H.Host n).heap ((loom_told g.H.Host n).regs c.args.of) (object_at (core_of n.parts) (disk_of g.H.Host n.disk.host.now n.disk.rest) ((core_of n.parts).entries c.in-Ok.s.0) c.in-Ok.ensures.loaded.at) (c.in-Ok.ensures.loaded.object told)
+
+pub returns-in-Ok-clause-access : goal.returns-in-Ok-clause-access
+returns-in-Ok-clause-access g c =
+    let n = c.load.new.self in
+    class-access (loom_told g.H.Host c.args.self.now) (loom_told g.H.Host n) (loom_told g.H.Host c.put_word.new.self) c.args.to c.args.of ((core_of n.parts).entries ((core_of n.parts).entries c.in-Ok.s.0).class.0).name c.in-Ok.ensures.quiet (told-of g c)
+    (λ told. class-of g c (told-tells g.H.Host c.args.self.now told)) (c.in-Ok.ensures.core (Class c.args.to c.args.of) refl refl)
+
+pub returns-in-Ok-clause-name : goal.returns-in-Ok-clause-name
+returns-in-Ok-clause-name g c =
+    let n = c.load.new.self in
+    let class = ((core_of n.parts).entries ((core_of n.parts).entries c.in-Ok.s.0).class.0).name in
+    subst IsRef (sym (ap (λ (t : Told). t.regs c.args.to) (told-of g c) ∙ filled (loom_told g.H.Host n).regs c.args.to (Ref class))) tt
+
+pub returns-in-Ok-clause-fit : goal.returns-in-Ok-clause-fit
+returns-in-Ok-clause-fit g c =
+    let n = c.load.new.self in
+    record {
+      sound = c.put_word.ensures.sound;
+      ready = subst (λ (t : Told). IsReady t) (sym (told-of g c)) (ready-class (loom_told g.H.Host n) c.args.to c.args.of (object_at (core_of n.parts) (disk_of g.H.Host n.disk.host.now n.disk.rest) ((core_of n.parts).entries c.in-Ok.s.0) c.in-Ok.ensures.loaded.at)
+          (quiet-ready (loom_told g.H.Host c.args.self.now) (loom_told g.H.Host n) c.in-Ok.ensures.quiet c.requires.fit.ready) (λ told. c.in-Ok.ensures.loaded.object (told-tells g.H.Host n told)));
+      lender = c.put_word.ensures.lender ∙ c.in-Ok.ensures.lender;
+      outside = c.put_word.ensures.outside ∙ c.in-Ok.ensures.outside;
+    }
+
+pub returns-in-Err-clause-access : goal.returns-in-Err-clause-access
+returns-in-Err-clause-access g c = refused-is (loom_told g.H.Host c.args.self.now) (loom_told g.H.Host c.load.new.self) (Class c.args.to c.args.of) (λ _. Nothing) c.in-Err.f (c.in-Err.ensures.err (Class c.args.to c.args.of) refl refl tt)

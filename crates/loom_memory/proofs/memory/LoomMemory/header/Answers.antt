@@ -1,0 +1,76 @@
+use Rattle.std.proofs.Common.{ℤ, ◌≡◌, Option, Some, None, length, refl, sym, ◌∙◌, ap, subst}
+use Rattle.long_names.specs.Words.{literal_count}
+use Rattle.long_names.specs.declared.object.Body.{Body}
+use Rattle.long_names.specs.Objects.{header_of, fields_of}
+use Rattle.long_names.specs.Access.{Header, OfSigned, answered}
+use Rattle.core_view.specs.Held.{fields_there, object_at}
+use Rattle.core_view.proofs.Core.{placed-used}
+use Rattle.disk_objects.specs.Function.{disk_of}
+use Rattle.leaf_lambda.specs.Parts.{core_of}
+use Rattle.loom_memory.specs.Memory.{loom_told}
+use Rattle.loom_memory.proofs.AccessLaws.{quiet-ready, refused-is}
+use Rattle.loom_memory.proofs.FieldLaws.{told-tells}
+use Rattle.loom_memory.proofs.BodyLaws.{method-literals, part-told, part-here, part-still}
+use Rattle.loom_memory.proofs.ReadLaws.{read-answered}
+use Rattle.loom_memory.proofs.memory.LoomMemory.header.Goals as goal
+use Rattle.loom_memory.proofs.memory.LoomMemory.header.Given as given
+use Rattle.std.proofs.Common.{Ok, IfSome}
+use Rattle.std.specs.Int.{w16}
+use mir.Val.{to_z, of_z}
+use Rattle.long_names.specs.Words.{IsSmallInteger}
+use Rattle.object_memory.specs.Contract.{Accessed}
+use Rattle.object_memory.proofs.ShapeLaws.{small_number}
+
+number-of : (g : given.Over) (c : goal.In-Some g) → to_z w16 (of_z w16 c.in-Some.header) ≡ c.in-Some.header
+number-of g c = small_number c.in-Some.header (subst (λ (o : Option ℤ). IfSome o IsSmallInteger) c.in-Some.is c.header_at.ensures.range)
+
+pub header_at-requires-clause-there : goal.header_at-requires-clause-there
+header_at-requires-clause-there g c = (c.in-Ok.ensures.loaded.at, c.in-Ok.ensures.loaded.place)
+
+pub amiss-requires-clause-used : goal.amiss-requires-clause-used
+amiss-requires-clause-used g c = placed-used ((core_of c.load.new.self.parts).entries c.in-Ok.s.0).state c.in-Ok.ensures.loaded.at c.in-Ok.ensures.loaded.place
+
+pub returns-in-Some-clause-access : goal.returns-in-Some-clause-access
+returns-in-Some-clause-access g c =
+    let t = loom_told g.H.Host c.args.self.now in
+    let n = c.load.new.self in
+    let there = c.in-Ok.ensures.loaded in
+    let o = object_at (core_of n.parts) (disk_of g.H.Host n.disk.host.now n.disk.rest) ((core_of n.parts).entries c.in-Ok.s.0) there.at in
+    subst (λ (z : ℤ). Accessed {A = ℤ} t (loom_told g.H.Host n) (Header c.args.of) OfSigned (Ok z)) (sym (number-of g c)) (read-answered t (loom_told g.H.Host n) (Header c.args.of) OfSigned c.in-Some.header refl c.in-Ok.ensures.quiet
+    (λ told. ap (λ (x : Option ℤ). answered OfSigned x) (part-here (loom_told g.H.Host n) c.args.of o header_of (Some c.in-Some.header) (there.object (told-tells g.H.Host c.args.self.now told))
+    (sym (sym c.in-Some.is ∙ c.header_at.ensures.header (disk_of g.H.Host n.disk.host.now n.disk.rest) there.at there.place))))
+    (c.in-Ok.ensures.core (Header c.args.of) refl refl))
+
+pub returns-in-Some-clause-literals : goal.returns-in-Some-clause-literals
+returns-in-Some-clause-literals g c = λ told.
+    let t = loom_told g.H.Host c.args.self.now in
+    let n = c.load.new.self in
+    let there = c.in-Ok.ensures.loaded in
+    let o = object_at (core_of n.parts) (disk_of g.H.Host n.disk.host.now n.disk.rest) ((core_of n.parts).entries c.in-Ok.s.0) there.at in
+    let e = (core_of n.parts).entries c.in-Ok.s.0 in
+    part-told t (loom_told g.H.Host n) c.args.of o (λ (b : Body). Some (length (fields_of b))) (Some (literal_count c.in-Some.header)) c.in-Ok.ensures.quiet (there.object (told-tells g.H.Host c.args.self.now told))
+    (ap Some (method-literals (core_of n.parts).entries (fields_there (disk_of g.H.Host n.disk.host.now n.disk.rest e.name)) ((core_of n.parts).chunks there.at).words e.kind e.len c.in-Some.header (c.in-Ok.ensures.sound.kept.parts.core.long c.in-Ok.s.0 there.at there.place)
+    (sym (sym c.in-Some.is ∙ c.header_at.ensures.header (disk_of g.H.Host n.disk.host.now n.disk.rest) there.at there.place)))) ∙ ap (λ (z : ℤ). Some (literal_count z)) (sym (number-of g c))
+
+pub returns-in-None-clause-access : goal.returns-in-None-clause-access
+returns-in-None-clause-access g c =
+    let t = loom_told g.H.Host c.args.self.now in
+    let n = c.load.new.self in
+    let there = c.in-Ok.ensures.loaded in
+    let o = object_at (core_of n.parts) (disk_of g.H.Host n.disk.host.now n.disk.rest) ((core_of n.parts).entries c.in-Ok.s.0) there.at in
+    refused-is t (loom_told g.H.Host c.amiss.new.self) (Header c.args.of) OfSigned c.amiss.result
+    (c.amiss.ensures.err t (Header c.args.of) c.in-Ok.ensures.quiet c.requires.fit.ready tt refl
+    (λ told. let can = c.requires.may.heap told in
+    let there_ : Some can.0 ≡ None = sym (part-still t (loom_told g.H.Host n) c.args.of o header_of (Some can.0) c.in-Ok.ensures.quiet (there.object (told-tells g.H.Host c.args.self.now told)) can.1)
+    ∙ sym (c.header_at.ensures.header (disk_of g.H.Host n.disk.host.now n.disk.rest) there.at there.place) ∙ c.in-None.is in cc))
+
+pub returns-in-Err-clause-access : goal.returns-in-Err-clause-access
+returns-in-Err-clause-access g c = refused-is (loom_told g.H.Host c.args.self.now) (loom_told g.H.Host c.load.new.self) (Header c.args.of) OfSigned c.in-Err.f (c.in-Err.ensures.err (Header c.args.of) refl refl tt)
+
+pub returns-in-Some-clause-fit : goal.returns-in-Some-clause-fit
+returns-in-Some-clause-fit g c = record {
+  sound = c.in-Ok.ensures.sound;
+  ready = quiet-ready (loom_told g.H.Host c.args.self.now) (loom_told g.H.Host c.load.new.self) c.in-Ok.ensures.quiet c.requires.fit.ready;
+  lender = c.in-Ok.ensures.lender;
+  outside = c.in-Ok.ensures.outside;
+}

@@ -1,0 +1,42 @@
+use Rattle.std.proofs.Common.{◌≡◌, [], refl, sym, ◌∙◌, ap}
+use Rattle.long_names.specs.declared.value.Value.TheVariants.{Ref}
+use Rattle.long_names.specs.Access.{Mark, Nothing}
+use Rattle.core_view.specs.Words.{meant}
+use Rattle.core_view.proofs.Core.{placed-used}
+use Rattle.core_view.proofs.Words.{meant-short}
+use Rattle.leaf_lambda.specs.Parts.{core_of}
+use Rattle.loom_memory.specs.Memory.{loom_told}
+use Rattle.loom_memory.proofs.AccessLaws.{quiet-ready, refused-is}
+use Rattle.loom_memory.proofs.MarkingLaws.{mark-access, ready-mark, marked-name}
+use Rattle.loom_memory.proofs.memory.LoomMemory.mark.Goals as goal
+use Rattle.loom_memory.proofs.memory.LoomMemory.mark.Given as given
+
+name-of : (g : given.Over) (c : goal.After-note_mark g) → (loom_told g.H.Host c.load.new.self).regs c.args.r ≡ Ref ((core_of c.load.new.self.parts).entries c.in-Ok.s.0).name
+unfolding loom_told
+name-of g c =
+    let n = c.load.new.self in
+    ap (meant (core_of n.parts).entries [] 0) (sym c.in-Ok.ensures.word)
+    ∙ meant-short (core_of n.parts).entries [] 0 c.in-Ok.s.0 (c.in-Ok.ensures.sound.kept.parts.core.short c.in-Ok.s.0 (placed-used ((core_of n.parts).entries c.in-Ok.s.0).state c.in-Ok.ensures.loaded.at c.in-Ok.ensures.loaded.place))
+
+pub note_mark-requires-clause-there : goal.note_mark-requires-clause-there
+note_mark-requires-clause-there g c = (c.in-Ok.ensures.loaded.at, c.in-Ok.ensures.loaded.place)
+
+pub returns-in-Ok-clause-access : goal.returns-in-Ok-clause-access
+returns-in-Ok-clause-access g c =
+    mark-access (loom_told g.H.Host c.args.self.now) (loom_told g.H.Host c.load.new.self) (loom_told g.H.Host c.note_mark.new.self) c.args.r ((core_of c.load.new.self.parts).entries c.in-Ok.s.0).name c.in-Ok.ensures.quiet c.note_mark.ensures.marked (name-of g c)
+    (c.in-Ok.ensures.core (Mark c.args.r) refl refl)
+
+pub returns-in-Ok-clause-marked : goal.returns-in-Ok-clause-marked
+returns-in-Ok-clause-marked g c = marked-name (loom_told g.H.Host c.args.self.now) (loom_told g.H.Host c.load.new.self) (loom_told g.H.Host c.note_mark.new.self) c.args.r ((core_of c.load.new.self.parts).entries c.in-Ok.s.0).name c.in-Ok.ensures.quiet c.note_mark.ensures.marked (name-of g c)
+
+pub returns-in-Ok-clause-fit : goal.returns-in-Ok-clause-fit
+returns-in-Ok-clause-fit g c = record {
+  sound = c.note_mark.ensures.sound;
+  ready = ready-mark (loom_told g.H.Host c.load.new.self) (loom_told g.H.Host c.note_mark.new.self) c.args.r ((core_of c.load.new.self.parts).entries c.in-Ok.s.0).name c.note_mark.ensures.marked (name-of g c)
+      (quiet-ready (loom_told g.H.Host c.args.self.now) (loom_told g.H.Host c.load.new.self) c.in-Ok.ensures.quiet c.requires.fit.ready);
+  lender = c.note_mark.ensures.lender ∙ c.in-Ok.ensures.lender;
+  outside = c.note_mark.ensures.outside ∙ c.in-Ok.ensures.outside;
+}
+
+pub returns-in-Err-clause-access : goal.returns-in-Err-clause-access
+returns-in-Err-clause-access g c = refused-is (loom_told g.H.Host c.args.self.now) (loom_told g.H.Host c.load.new.self) (Mark c.args.r) (λ _. Nothing) c.in-Err.f (c.in-Err.ensures.err (Mark c.args.r) refl refl tt)

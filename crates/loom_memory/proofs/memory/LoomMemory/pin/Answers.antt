@@ -1,0 +1,43 @@
+use Rattle.std.proofs.Common.{◌≡◌, [], true, refl, sym, ◌∙◌, ap, subst}
+use Rattle.long_names.specs.Access.{Pin, Nothing}
+use Rattle.object_memory.specs.Told.{Told, IsReady}
+use Rattle.object_table.specs.Entries.{is_short}
+use Rattle.core_view.specs.Words.{meant}
+use Rattle.core_view.proofs.Core.{placed-used}
+use Rattle.leaf_lambda.specs.Parts.{core_of}
+use Rattle.loom_memory.specs.Memory.{loom_told, name_if}
+use Rattle.loom_memory.proofs.AccessLaws.{quiet-ready, refused-is}
+use Rattle.loom_memory.proofs.SlotLaws.{pin-name, pin-access, pin-has, ready-pin}
+use Rattle.loom_memory.proofs.memory.LoomMemory.pin.Goals as goal
+use Rattle.loom_memory.proofs.memory.LoomMemory.pin.Given as given
+
+short-of : (g : given.Over) (c : goal.After-put_slot g) → is_short c.in-Ok.s.0 ≡ true
+short-of g c = c.in-Ok.ensures.sound.kept.parts.core.short c.in-Ok.s.0 (placed-used ((core_of c.load.new.self.parts).entries c.in-Ok.s.0).state c.in-Ok.ensures.loaded.at c.in-Ok.ensures.loaded.place)
+
+value-of : (g : given.Over) (c : goal.After-put_slot g) → (loom_told g.H.Host c.load.new.self).regs c.args.r ≡ meant (core_of c.load.new.self.parts).entries [] 0 c.in-Ok.s.0
+unfolding loom_told
+value-of g c = ap (meant (core_of c.load.new.self.parts).entries [] 0) (sym c.in-Ok.ensures.word)
+
+pub put_slot-requires-clause-body : goal.put_slot-requires-clause-body
+put_slot-requires-clause-body g c = λ some. (c.in-Ok.ensures.sound.kept.parts.core.short c.in-Ok.s.0 (placed-used ((core_of c.load.new.self.parts).entries c.in-Ok.s.0).state c.in-Ok.ensures.loaded.at c.in-Ok.ensures.loaded.place), (c.in-Ok.ensures.loaded.at, c.in-Ok.ensures.loaded.place))
+
+pub returns-in-Ok-clause-access : goal.returns-in-Ok-clause-access
+returns-in-Ok-clause-access g c =
+    let n = c.load.new.self in
+    pin-access (loom_told g.H.Host c.args.self.now) (loom_told g.H.Host n) (loom_told g.H.Host c.put_slot.new.self) c.args.slot c.args.r (name_if (core_of n.parts).entries c.in-Ok.s.0) c.in-Ok.ensures.quiet
+    (pin-name (core_of n.parts) c.in-Ok.s.0 ((loom_told g.H.Host n).regs c.args.r) (short-of g c) (value-of g c)) c.put_slot.ensures.told (c.in-Ok.ensures.core (Pin c.args.slot c.args.r) refl refl)
+
+pub returns-in-Ok-clause-fit : goal.returns-in-Ok-clause-fit
+returns-in-Ok-clause-fit g c =
+    let n = c.load.new.self in
+    let ready = quiet-ready (loom_told g.H.Host c.args.self.now) (loom_told g.H.Host n) c.in-Ok.ensures.quiet c.requires.fit.ready in
+    record {
+      sound = c.put_slot.ensures.sound;
+      ready = subst (λ (t : Told). IsReady t) (sym c.put_slot.ensures.told) (ready-pin (loom_told g.H.Host n) c.args.slot (name_if (core_of n.parts).entries c.in-Ok.s.0)
+          (λ k e told. pin-has (loom_told g.H.Host n) (core_of n.parts) c.args.r c.in-Ok.s.0 k ready (short-of g c) (value-of g c) e told) ready);
+      lender = c.put_slot.ensures.lender ∙ c.in-Ok.ensures.lender;
+      outside = c.put_slot.ensures.outside ∙ c.in-Ok.ensures.outside;
+    }
+
+pub returns-in-Err-clause-access : goal.returns-in-Err-clause-access
+returns-in-Err-clause-access g c = refused-is (loom_told g.H.Host c.args.self.now) (loom_told g.H.Host c.load.new.self) (Pin c.args.slot c.args.r) (λ _. Nothing) c.in-Err.f (c.in-Err.ensures.err (Pin c.args.slot c.args.r) refl refl tt)

@@ -1,0 +1,51 @@
+use Rattle.std.proofs.Common.{◌≡◌, ℕ, ◌≤◌, true, refl, sym, ◌∙◌, ap, subst, arith}
+use Rattle.object_table.specs.Entries.{is_short}
+use Rattle.core_view.specs.Counts.{outside}
+use Rattle.core_view.proofs.Steps.{Stays-trans, RefStep-trans}
+use Rattle.leaf_lambda.specs.Parts.{core_of}
+use Rattle.purger.specs.declared.room.Pinned.{Pinned}
+use Rattle.loom_memory.specs.Memory.{loom_told, loom_outside, told_of, pin_in, IsKept}
+use Rattle.loom_memory.proofs.RegLaws.{IsSwap, swapped, kept-rooted, over-then}
+use Rattle.loom_memory.proofs.SlotLaws.{pin-held, pinned-used, slot-told, slot-kept}
+use Rattle.loom_memory.proofs.memory.LoomMemory.put_slot.Goals as goal
+use Rattle.loom_memory.proofs.memory.LoomMemory.put_slot.Given as given
+
+pub hold_word-requires-clause-used : goal.hold_word-requires-clause-used
+hold_word-requires-clause-used g c = pinned-used (core_of c.args.self.now.parts) c.args.w c.requires.body
+
+pub drop_word-requires-clause-held : goal.drop_word-requires-clause-held
+drop_word-requires-clause-held g c = λ is.
+    let m = c.args.self.now in
+    let at = c.pin_at-old.ensures in
+    let out : 1 ≤ outside (core_of m.parts) c.pin_at-old.result = subst (λ (w : ℕ). 1 ≤ outside (core_of m.parts) w) (sym at)
+    (pin-held (core_of m.parts) m.regs m.pinned c.args.slot (kept-rooted m.parts m.regs m.pinned m.ledger c.requires.sound.kept) c.requires.slot (subst (λ (w : ℕ). is_short w ≡ true) at is)) in
+    let more = c.hold_word.ensures.held.one_more c.pin_at-old.result in
+    omega arith
+
+swap-of : (g : given.Over) (c : goal.After-drop_word g) → IsSwap (core_of c.args.self.now.parts) (core_of c.drop_word.new.p) c.args.w (pin_in c.args.self.now.pinned c.args.slot)
+swap-of g c = subst (λ (w : ℕ). IsSwap (core_of c.args.self.now.parts) (core_of c.drop_word.new.p) c.args.w w) c.pin_at-old.ensures
+    (swapped (core_of c.args.self.now.parts) (core_of c.hold_word.new.p) (core_of c.drop_word.new.p) c.args.w c.pin_at-old.result c.requires.sound.kept.parts.core c.drop_word.ensures.parts.core
+    (Stays-trans (core_of c.args.self.now.parts) (core_of c.hold_word.new.p) (core_of c.drop_word.new.p) c.hold_word.ensures.held.stays c.drop_word.ensures.dropped.stays)
+    (RefStep-trans (core_of c.args.self.now.parts) (core_of c.hold_word.new.p) (core_of c.drop_word.new.p) c.hold_word.ensures.held.step c.drop_word.ensures.dropped.step)
+    c.hold_word.ensures.held c.drop_word.ensures.dropped)
+
+pub returns-clause-told : goal.returns-clause-told
+unfolding loom_told
+returns-clause-told g c =
+    let m = c.args.self.now in
+    ap (λ (x : Pinned). told_of g.H.Host m.disk.host.now m.disk.rest (core_of c.drop_word.new.p) m.regs x m.ledger) c.put_pin.ensures
+    ∙ slot-told g.H.Host m.disk.host.now m.disk.rest (core_of m.parts) (core_of c.drop_word.new.p) m.regs m.pinned m.ledger c.args.slot c.args.w
+    (kept-rooted m.parts m.regs m.pinned m.ledger c.requires.sound.kept) c.drop_word.ensures.parts.core c.requires.sound.kept.cached (swap-of g c) c.requires.slot c.requires.body c.requires.sound.over.backed
+
+pub returns-clause-sound : goal.returns-clause-sound
+returns-clause-sound g c =
+    let m = c.args.self.now in
+    record {
+      kept = subst (λ (x : Pinned). IsKept c.drop_word.new.p m.regs x m.ledger) (sym c.put_pin.ensures)
+          (slot-kept m.parts c.drop_word.new.p m.regs m.pinned m.ledger c.args.slot c.args.w c.requires.sound.kept c.drop_word.ensures.parts (swap-of g c) c.requires.slot c.requires.body (c.drop_word.ensures.segment ∙ c.hold_word.ensures.segment));
+      over = over-then g.H.Host m.disk.host.now m.disk.rest (core_of m.parts) (core_of c.drop_word.new.p) m.ledger (swap-of g c).stays (swap-of g c).step c.requires.sound.over;
+    }
+
+pub returns-clause-outside : goal.returns-clause-outside
+unfolding loom_outside
+returns-clause-outside g c = refl

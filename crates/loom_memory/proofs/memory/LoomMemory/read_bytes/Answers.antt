@@ -1,0 +1,55 @@
+use Rattle.std.proofs.Common.{Bool, MatchBool, ℕ, List, Option, Some, length, take, drop, refl, sym, ◌∙◌, ap, subst}
+use Rattle.std.specs.Option.{option_and_then}
+use Rattle.long_names.specs.Objects.{bytes_of}
+use Rattle.long_names.specs.Access.{ReadBytes, OfRun}
+use Rattle.core_view.specs.Held.{object_at}
+use Rattle.core_view.proofs.Core.{placed-used}
+use Rattle.disk_objects.specs.Function.{disk_of}
+use Rattle.leaf_lambda.specs.Parts.{core_of}
+use Rattle.loom_memory.specs.Memory.{loom_told}
+use Rattle.loom_memory.specs.Bodies.{HasRun, LacksRun}
+use Rattle.loom_memory.proofs.AccessLaws.{quiet-ready, refused-is}
+use Rattle.loom_memory.proofs.FieldLaws.{told-tells}
+use Rattle.loom_memory.proofs.BodyLaws.{part-here, part-still}
+use Rattle.loom_memory.proofs.ReadLaws.{read-answered}
+use Rattle.loom_memory.proofs.memory.LoomMemory.read_bytes.Goals as goal
+
+pub bytes_into-requires-clause-there : goal.bytes_into-requires-clause-there
+bytes_into-requires-clause-there g c = (c.in-Ok.ensures.loaded.at, c.in-Ok.ensures.loaded.place)
+
+pub amiss-requires-clause-used : goal.amiss-requires-clause-used
+amiss-requires-clause-used g c = placed-used ((core_of c.load.new.self.parts).entries c.in-Ok.s.0).state c.in-Ok.ensures.loaded.at c.in-Ok.ensures.loaded.place
+
+pub returns-then-bytes_into-clause-access : goal.returns-then-bytes_into-clause-access
+returns-then-bytes_into-clause-access g c =
+    let t = loom_told g.H.Host c.args.self.now in
+    let n = c.load.new.self in
+    let there = c.in-Ok.ensures.loaded in
+    let o = object_at (core_of n.parts) (disk_of g.H.Host n.disk.host.now n.disk.rest) ((core_of n.parts).entries c.in-Ok.s.0) there.at in
+    let has : HasRun (bytes_of o.body) c.args.at (length c.args.out.now) c.bytes_into.new.out = subst (λ (b : Bool). MatchBool b (HasRun (bytes_of o.body) c.args.at (length c.args.out.now) c.bytes_into.new.out) (LacksRun (bytes_of o.body) c.args.at (length c.args.out.now))) c.if-bytes_into.true (c.bytes_into.ensures (disk_of g.H.Host n.disk.host.now n.disk.rest) there.at there.place) in
+    read-answered {A = Unit {0}} t (loom_told g.H.Host n) (ReadBytes c.args.of c.args.at (length c.args.out.now)) (λ _. OfRun c.bytes_into.new.out) tt refl c.in-Ok.ensures.quiet
+    (λ told. ap (λ (x : Option (List ℕ)). option_and_then (λ xs. Some (OfRun (take (length c.args.out.now) (drop c.args.at xs)))) x) (part-here (loom_told g.H.Host n) c.args.of o bytes_of (Some has.0) (there.object (told-tells g.H.Host c.args.self.now told)) has.1) ∙ ap (λ (r : List ℕ). Some (OfRun r)) (sym has.2))
+    (c.in-Ok.ensures.core (ReadBytes c.args.of c.args.at (length c.args.out.now)) refl refl)
+
+pub returns-else-bytes_into-clause-access : goal.returns-else-bytes_into-clause-access
+returns-else-bytes_into-clause-access g c =
+    let t = loom_told g.H.Host c.args.self.now in
+    let n = c.load.new.self in
+    let there = c.in-Ok.ensures.loaded in
+    let o = object_at (core_of n.parts) (disk_of g.H.Host n.disk.host.now n.disk.rest) ((core_of n.parts).entries c.in-Ok.s.0) there.at in
+    let lacks : LacksRun (bytes_of o.body) c.args.at (length c.args.out.now) = subst (λ (b : Bool). MatchBool b (HasRun (bytes_of o.body) c.args.at (length c.args.out.now) c.bytes_into.new.out) (LacksRun (bytes_of o.body) c.args.at (length c.args.out.now))) c.if-bytes_into.false (c.bytes_into.ensures (disk_of g.H.Host n.disk.host.now n.disk.rest) there.at there.place) in
+    refused-is {A = Unit {0}} t (loom_told g.H.Host c.amiss.new.self) (ReadBytes c.args.of c.args.at (length c.args.out.now)) (λ _. OfRun c.bytes_into.new.out) c.amiss.result
+    (c.amiss.ensures.err t (ReadBytes c.args.of c.args.at (length c.args.out.now)) c.in-Ok.ensures.quiet c.requires.fit.ready tt refl
+    (λ told. let can = c.requires.may.heap told in
+    lacks can.0 (part-still t (loom_told g.H.Host n) c.args.of o bytes_of (Some can.0) c.in-Ok.ensures.quiet (there.object (told-tells g.H.Host c.args.self.now told)) can.1) can.2))
+
+pub returns-in-Err-clause-access : goal.returns-in-Err-clause-access
+returns-in-Err-clause-access g c = refused-is {A = Unit {0}} (loom_told g.H.Host c.args.self.now) (loom_told g.H.Host c.load.new.self) (ReadBytes c.args.of c.args.at (length c.args.out.now)) (λ _. OfRun c.args.out.now) c.in-Err.f (c.in-Err.ensures.err (ReadBytes c.args.of c.args.at (length c.args.out.now)) refl refl tt)
+
+pub returns-then-bytes_into-clause-fit : goal.returns-then-bytes_into-clause-fit
+returns-then-bytes_into-clause-fit g c = record {
+  sound = c.in-Ok.ensures.sound;
+  ready = quiet-ready (loom_told g.H.Host c.args.self.now) (loom_told g.H.Host c.load.new.self) c.in-Ok.ensures.quiet c.requires.fit.ready;
+  lender = c.in-Ok.ensures.lender;
+  outside = c.in-Ok.ensures.outside;
+}

@@ -1,0 +1,106 @@
+// Values in registers.
+ghost use Rattle.std.specs.Prelude.{◌≡◌, ◌≢◌, ◌/◌, ◌↔◌, true, IsTrue, IfSome};
+ghost use Rattle.object_table.specs.Entries.{is_short, is_used};
+ghost use Rattle.leaf_lambda.specs.Parts.{core_of};
+
+use crate::memory::LoomMemory;
+use leaf_lambda::fields::is_name;
+use leaf_lambda::numbers::{int_short, short_int};
+use long_names::{Name, Value};
+use loom_outside::Host;
+use object_memory::Reg;
+use object_table::Short;
+
+impl<'h, H: Host> LoomMemory<'h, H> {
+    ghost use Rattle.long_names.specs.Objects.{is_ref, int_of};
+    ghost use Rattle.long_names.specs.State.{set_register, name_at, IsRef};
+    ghost use Rattle.long_names.specs.Words.{IsSmallInteger, IsValue};
+    ghost use Rattle.long_names.specs.declared.value.Value.TheVariants.{Int};
+    ghost use Rattle.object_memory.specs.Told.{has_slot};
+    ghost use Rattle.object_memory.specs.Fit.{KeepsCallable};
+    ghost use Rattle.loom_memory.specs.Memory.{loom_told, loom_outside, loom_lender, word_in, IsSound};
+
+    // The word of a register: a number, or the short word of an entry.
+    pub(crate) fn word_of(&self, r: Reg) -> u16
+        requires { IsSound H.Host self.now }
+        ensures word { result ≡ word_in self.now.regs r }
+        ensures some { result ≢ 0 }
+        ensures used { is_short result ≡ true → is_used ((core_of self.now.parts).entries result).state ≡ true }
+    {
+        self.regs[r.index()]
+    }
+
+    // The value of a register.
+    fn value(&self, r: Reg) -> Value
+        requires { IsSound H.Host self.now }
+        ensures value { result ≡ (loom_told H.Host self.now).regs r }
+        ensures range { IsValue result }
+    {
+        let w = self.word_of(r);
+        if is_name(w) {
+            return Value::from(self.parts.names.table.entry(Short(w)).name);
+        }
+        Value::Int(int_short(w))
+    }
+
+    pub(crate) fn int(&mut self, to: Reg, v: i16)
+        requires sound { IsSound H.Host self.old }
+        requires range { IsSmallInteger v }
+        ensures told { loom_told H.Host self.new ≡ record (loom_told H.Host self.old) { regs = set_register (loom_told H.Host self.old).regs to (Int v) } }
+        ensures fit { KeepsCallable (IsSound H.Host) (loom_told H.Host) loom_lender (loom_outside H.Host) self.old self.new }
+    {
+        self.put_word(to, short_int(v));
+    }
+
+    pub(crate) fn copy(&mut self, to: Reg, from: Reg)
+        requires { IsSound H.Host self.old }
+        ensures told { loom_told H.Host self.new ≡ record (loom_told H.Host self.old) { regs = set_register (loom_told H.Host self.old).regs to ((loom_told H.Host self.old).regs from) } }
+        ensures fit { KeepsCallable (IsSound H.Host) (loom_told H.Host) loom_lender (loom_outside H.Host) self.old self.new }
+    {
+        let w = self.word_of(from);
+        self.put_word(to, w);
+    }
+
+    pub(crate) fn is(&self, r: Reg, name: Name) -> bool
+        requires { IsSound H.Host self.now }
+        ensures { result ≡ is_ref name ((loom_told H.Host self.now).regs r) }
+    {
+        self.value(r) == Value::Ref(name)
+    }
+
+    pub(crate) fn same(&self, a: Reg, b: Reg) -> bool
+        requires { IsSound H.Host self.now }
+        ensures { IsTrue result ↔ ((loom_told H.Host self.now).regs a ≡ (loom_told H.Host self.now).regs b) }
+    {
+        self.value(a) == self.value(b)
+    }
+
+    pub(crate) fn as_int(&self, r: Reg) -> Option<i16>
+        requires { IsSound H.Host self.now }
+        ensures number { result ≡ int_of ((loom_told H.Host self.now).regs r) }
+        ensures range { IfSome result IsSmallInteger }
+    {
+        self.value(r).number()
+    }
+
+    pub(crate) fn hash(&self, r: Reg) -> u32
+        requires sound { IsSound H.Host self.now }
+        requires name { IsRef ((loom_told H.Host self.now).regs r) }
+        ensures { result ≡ name_at ((loom_told H.Host self.now).regs r) / 2 }
+    {
+        let Some(name) = self.value(r).name() else {
+            unreachable!()
+        };
+        name.index()
+    }
+
+    // Whether a slot has the name in the register.
+    pub(crate) fn is_pinned(&self, r: Reg) -> bool
+        requires sound { IsSound H.Host self.now }
+        requires name { IsRef ((loom_told H.Host self.now).regs r) }
+        ensures { result ≡ has_slot (loom_told H.Host self.now).slots (name_at ((loom_told H.Host self.now).regs r)) }
+    {
+        let w = self.word_of(r);
+        self.pinned.has(Short(w))
+    }
+}

@@ -1,0 +1,83 @@
+// Slots: what they name stays in the core.
+ghost use Rattle.std.specs.Prelude.{◌≡◌, ◌<◌, ℕ, None};
+ghost use Rattle.leaf_lambda.specs.Parts.{core_of};
+ghost use Rattle.loom_memory.specs.Memory.{pin_in, with_pin};
+
+use crate::memory::LoomMemory;
+use leaf_lambda::fields::{drop_word, hold_word};
+use loom_outside::Host;
+use object_memory::{MemFault, Reg};
+use purger::Pinned;
+
+// The word of a slot.
+fn pin_at(pins: &Pinned, slot: u8) -> u16
+    requires { slot < 3 }
+    ensures { result ≡ pin_in pins.now slot }
+{
+    match slot {
+        0 => pins.a,
+        1 => pins.b,
+        _ => pins.d,
+    }
+}
+
+// Another word in a slot.
+fn put_pin(pins: &mut Pinned, slot: u8, w: u16)
+    requires { slot < 3 }
+    ensures { pins.new ≡ with_pin pins.old slot w }
+{
+    match slot {
+        0 => pins.a = w,
+        1 => pins.b = w,
+        _ => pins.d = w,
+    }
+}
+
+impl<'h, H: Host> LoomMemory<'h, H> {
+    ghost use Rattle.long_names.specs.State.{set_slot};
+    ghost use Rattle.long_names.specs.Access.{Pin, Nothing};
+    ghost use Rattle.object_memory.specs.Contract.{Accessed, MayDo};
+    ghost use Rattle.object_memory.specs.Fit.{KeepsCallable, MayCall, StaysCallable};
+    ghost use Rattle.loom_memory.specs.Memory.{loom_told, loom_outside, loom_lender, name_if, IsPinned, IsSound};
+
+    // Puts the word of an entry with a body into a slot, or 0.
+    fn put_slot(&mut self, slot: u8, w: u16)
+        requires sound { IsSound H.Host self.old }
+        requires slot { slot < 3 }
+        requires body { IsPinned (core_of self.old.parts) w }
+        ensures told { loom_told H.Host self.new ≡ record (loom_told H.Host self.old) { slots = set_slot (loom_told H.Host self.old).slots slot (name_if (core_of self.old.parts).entries w) } }
+        ensures sound { IsSound H.Host self.new }
+        ensures lender { self.new.disk.host.ghost_name ≡ self.old.disk.host.ghost_name }
+        ensures outside { loom_outside H.Host self.new ≡ loom_outside H.Host self.old }
+    {
+        hold_word(&mut self.parts, w);
+        let old = pin_at(&self.pinned, slot);
+        put_pin(&mut self.pinned, slot, w);
+        drop_word(&mut self.parts, old);
+    }
+
+    pub(crate) fn unpin(&mut self, slot: u8)
+        requires sound { IsSound H.Host self.old }
+        requires slot { slot < 3 }
+        ensures told { loom_told H.Host self.new ≡ record (loom_told H.Host self.old) { slots = set_slot (loom_told H.Host self.old).slots slot None } }
+        ensures fit { KeepsCallable (IsSound H.Host) (loom_told H.Host) loom_lender (loom_outside H.Host) self.old self.new }
+    {
+        self.put_slot(slot, 0);
+    }
+
+    pub(crate) fn pin(&mut self, slot: u8, r: Reg) -> Result<(), MemFault>
+        requires fit { MayCall (IsSound H.Host) (loom_told H.Host) self.old }
+        requires may { MayDo (loom_told H.Host self.old) (Pin slot r) }
+        requires slot { slot < 3 }
+        ensures access { Accessed (loom_told H.Host self.old) (loom_told H.Host self.new) (Pin slot r) (λ _. Nothing) result }
+        ensures fit { StaysCallable (IsSound H.Host) (loom_told H.Host) loom_lender (loom_outside H.Host) self.old self.new result }
+    {
+        match self.load(r) {
+            Ok(s) => {
+                self.put_slot(slot, s.0);
+                Ok(())
+            }
+            Err(f) => Err(f),
+        }
+    }
+}
