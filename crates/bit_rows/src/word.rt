@@ -3,10 +3,14 @@ ghost use Rattle.std.specs.Prelude.{◌≡◌, ◌+◌, ◌*◌, ◌/◌, ◌<�
 ghost use Rattle.blue_model.specs.Forms.{left_bit, bit};
 ghost use Rattle.blue_model.specs.BitBlt.{rule_bit};
 ghost use Rattle.bit_rows.specs.Rows.{within};
+ghost use Rattle.bit_rows.specs.declared.word.TheConstants.{COMBINATION_RULES};
+
+/// There are so many rules, numbered from 0 on.
+pub const COMBINATION_RULES: u8 = 16;
 
 /// What a rule makes of a source word and a destination word, bit by bit.
 pub fn combine(rule: u8, s: u16, d: u16) -> u16
-    requires { rule < 16 }
+    requires { rule < COMBINATION_RULES }
     ensures { (j : ℕ) → j < 16 → left_bit result j ≡ rule_bit rule (left_bit s j) (left_bit d j) }
 {
     match rule {
@@ -56,7 +60,7 @@ pub fn mask(low: u8, high: u8) -> u16
 
 /// The rule from one bit up to another, and the old bits elsewhere.
 pub fn blend(rule: u8, s: u16, d: u16, low: u8, high: u8) -> u16
-    requires rule { rule < 16 }
+    requires rule { rule < COMBINATION_RULES }
     requires ordered { low ≤ high }
     requires fits { high ≤ 16 }
     ensures { (j : ℕ) → j < 16 → left_bit result j ≡ (if within low high j then rule_bit rule (left_bit s j) (left_bit d j) else left_bit d j) }

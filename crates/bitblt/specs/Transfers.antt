@@ -5,6 +5,7 @@ use Rattle.long_names.specs.Kept.{any_below}
 use Rattle.blue_model.specs.Forms.{bit, number_of}
 use Rattle.blue_model.specs.BitBlt.{rule_bit, halftone_pixel}
 use Rattle.bit_rows.specs.Rows.{within}
+use Rattle.bit_rows.specs.declared.word.TheConstants.{COMBINATION_RULES}
 use Rattle.bitblt.specs.declared.transfer.Transfer.{Transfer}
 
 -- the pixel in column x and row y of a form whose rows have so many words
@@ -56,7 +57,7 @@ pub record HasSource (t : Transfer) : Type 0 where
 
 -- the changed pixels lie within both forms, and there are some
 pub record Fits (t : Transfer) : Type 0 where
-  pub rule : t.rule < 16
+  pub rule : t.rule < COMBINATION_RULES
   pub columns : t.left < t.right
   pub rows : t.top ≤ t.bottom
   pub wide : t.right ≤ 16 * t.stride

@@ -14,6 +14,7 @@ ghost use Rattle.contexts.specs.Keeping.{NeverKeeps};
 
 use crate::numbers::{extension_arguments, fits, flag_arguments};
 use crate::parts::array_length;
+use blue_model::limits::EXTENSION_FLAG;
 use contexts::parts::{class_of, extension, field, header, size};
 use contexts::{Answer, Cpu, Stop, pop, push, put_stack, set_arguments, stack};
 use object_memory::{ObjectMemory, Reg, shape};
@@ -28,7 +29,7 @@ fn arguments_of<M: ObjectMemory>(m: &mut M) -> Result<u32, Stop>
     ensures fit { StaysFit M.ObjectMemory m.old m.new result }
 {
     let header = header(m, Reg::R22)?;
-    if flag(header) == 7 {
+    if flag(header) == EXTENSION_FLAG {
         let extension = extension(m, Reg::R19, Reg::R22)?;
         return Ok(extension_arguments(extension));
     }

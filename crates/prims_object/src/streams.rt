@@ -1,6 +1,7 @@
 // The stream primitives 65 to 67 (chapter 29). The stream is in R10, the value in R12, the stream's array in R13.
 ghost use Rattle.std.specs.Prelude.{◌≡◌, ◌<◌, ◌+◌, ℕ, ℤ, pos, nat_lt, [], ◌∷◌, OnOk, IfOk, IfSome, Bool};
 ghost use Rattle.std.specs.Int.Signed.{lt_z};
+ghost use Rattle.long_names.specs.declared.limits.TheConstants.{SMALL_INTEGERS};
 ghost use Rattle.long_names.specs.declared.value.Value.{Value};
 ghost use Rattle.long_names.specs.Words.{IsSmallInteger};
 ghost use Rattle.object_memory.specs.Told.{IsReady};
@@ -47,7 +48,7 @@ struct Stream {
 impl Stream {
     /// Whether the index is below the limit.
     fn is_open(&self) -> bool
-        requires index { self.now.index < 16384 }
+        requires index { self.now.index < SMALL_INTEGERS }
         requires limit { IsSmallInteger self.now.limit }
         ensures { result ≡ lt_z (pos self.now.index) self.now.limit }
     {
@@ -56,7 +57,7 @@ impl Stream {
 
     /// Whether the index is at the limit, or at the end of an array of so many elements.
     fn has_ended(&self, len: u32) -> bool
-        requires index { self.now.index < 16384 }
+        requires index { self.now.index < SMALL_INTEGERS }
         requires limit { IsSmallInteger self.now.limit }
         ensures { result ≡ numbers.has_ended self.now.index self.now.limit len }
     {
@@ -65,7 +66,7 @@ impl Stream {
 
     /// The number of the next element.
     fn next(&self) -> i32
-        requires { self.now.index < 16384 }
+        requires { self.now.index < SMALL_INTEGERS }
         ensures next { result ≡ pos (self.now.index + 1) }
         ensures range { IsIndex result }
     {
@@ -74,8 +75,8 @@ impl Stream {
 
     /// Whether the index can grow.
     fn can_grow(&self) -> bool
-        requires { self.now.index < 16384 }
-        ensures { result ≡ nat_lt (self.now.index + 1) 16384 }
+        requires { self.now.index < SMALL_INTEGERS }
+        ensures { result ≡ nat_lt (self.now.index + 1) SMALL_INTEGERS }
     {
         self.index + 1 < SMALL_INTEGERS
     }
@@ -121,7 +122,7 @@ fn numbers_of<M: ObjectMemory>(m: &mut M, text: bool, limit: u32) -> Result<Opti
     ensures leads { (cpu : Numbers) → Leads (M.told m.old) cpu (M.told m.new) (rules.of_numbers limit ((M.told m.old).regs 10)) (λ stream (rest : ℕ → ℤ → Rule Answers). rest stream.index stream.limit) result }
     ensures text { IfOk result (λ found. IfSome found (λ stream. stream.text ≡ text)) }
     ensures looks { OnOk result (Looks (19 ∷ []) (M.told m.old) (M.told m.new)) }
-    ensures index { IfOk result (λ found. IfSome found (λ stream. stream.index < 16384)) }
+    ensures index { IfOk result (λ found. IfSome found (λ stream. stream.index < SMALL_INTEGERS)) }
     ensures limit { IfOk result (λ found. IfSome found (λ stream. IsSmallInteger stream.limit)) }
     ensures fit { StaysFit M.ObjectMemory m.old m.new result }
 {
@@ -143,7 +144,7 @@ fn open<M: ObjectMemory>(m: &mut M, limit: u32) -> Result<Option<Stream>, Stop>
     requires fit { IsFit M.ObjectMemory m.old }
     ensures leads { (cpu : Numbers) → Leads (M.told m.old) cpu (M.told m.new) (model.of_stream limit ((M.told m.old).regs 10)) (λ stream (rest : Value → Bool → ℕ → ℤ → Rule Answers). rest ((M.told m.new).regs 13) stream.text stream.index stream.limit) result }
     ensures looks { OnOk result (Looks (13 ∷ 19 ∷ []) (M.told m.old) (M.told m.new)) }
-    ensures index { IfOk result (λ found. IfSome found (λ stream. stream.index < 16384)) }
+    ensures index { IfOk result (λ found. IfSome found (λ stream. stream.index < SMALL_INTEGERS)) }
     ensures limit { IfOk result (λ found. IfSome found (λ stream. IsSmallInteger stream.limit)) }
     ensures fit { StaysFit M.ObjectMemory m.old m.new result }
 {
@@ -160,11 +161,11 @@ fn open<M: ObjectMemory>(m: &mut M, limit: u32) -> Result<Option<Stream>, Stop>
 /// can't grow. R19 is used.
 fn next_spot<M: ObjectMemory>(m: &mut M, stream: &Stream) -> Result<Option<Spot>, Stop>
     requires fit { IsFit M.ObjectMemory m.old }
-    requires index { stream.now.index < 16384 }
+    requires index { stream.now.index < SMALL_INTEGERS }
     requires limit { IsSmallInteger stream.now.limit }
     ensures leads { (cpu : Numbers) → Leads (M.told m.old) cpu (M.told m.new) (model.next_spot ((M.told m.old).regs 13) stream.now.index stream.now.limit) (λ spot rest. rest spot) result }
     ensures looks { OnOk result (Looks (19 ∷ []) (M.told m.old) (M.told m.new)) }
-    ensures grows { IfOk result (λ found. IfSome found (λ spot. stream.now.index + 1 < 16384)) }
+    ensures grows { IfOk result (λ found. IfSome found (λ spot. stream.now.index + 1 < SMALL_INTEGERS)) }
     ensures fit { StaysFit M.ObjectMemory m.old m.new result }
 {
     if !stream.is_open() {
@@ -182,7 +183,7 @@ fn next_spot<M: ObjectMemory>(m: &mut M, stream: &Stream) -> Result<Option<Spot>
 /// The index of the stream in R10 grows by 1. R19 is used.
 fn advance<M: ObjectMemory>(m: &mut M, index: u32) -> Result<(), Stop>
     requires fit { IsFit M.ObjectMemory m.old }
-    requires few { index + 1 < 16384 }
+    requires few { index + 1 < SMALL_INTEGERS }
     ensures serves { (cpu : Numbers) → Serves (M.told m.old) cpu (M.told m.new) cpu (model.advance ((M.told m.old).regs 10) index) result }
     ensures regs { OnOk result ((r : ℕ) → (r ≡ 19 → ⊥) → (M.told m.new).regs r ≡ (M.told m.old).regs r) }
     ensures fit { StaysFit M.ObjectMemory m.old m.new result }

@@ -5,14 +5,14 @@ ghost use Rattle.blue_model.specs.Messages as model;
 ghost use Rattle.blue_model.specs.declared.indexes.TheConstants.{LARGE_CONTEXT_SIZE};
 
 use blue_model::indexes::{LARGE_CONTEXT_SIZE, SMALL_CONTEXT_SIZE};
-use long_names::literal_count;
+use long_names::{SMALL_INTEGERS, literal_count};
 
 /// The fifteen bits of a SmallInteger.
-fn bits(header: i16) -> u32
-    requires { IsSmallInteger header }
-    ensures { result ≡ unsigned_of header }
+pub fn bits(number: i16) -> u32
+    requires { IsSmallInteger number }
+    ensures { result ≡ unsigned_of number }
 {
-    (header as i32).rem_euclid(32768) as u32
+    (number as i32).rem_euclid(2 * SMALL_INTEGERS as i32) as u32
 }
 
 /// How a method is executed: 0 to 4 say so many arguments and no primitive; 5 answers self, 6 a field of the receiver; 7 has a header
