@@ -16,7 +16,9 @@ use Rattle.blue_model.specs.Alike.{Lost, IsKept, IsKeptMaybe, IsPlain, Lawful}
 use Rattle.blue_model.specs.declared.answer.Answer.{Answer}
 use Rattle.blue_model.specs.Trials.{◌>>?◌, where_some}
 use Rattle.blue_model.proofs.RuleLaws.{law-stack, law-pop, law-signal, law-number_object, law-answer}
-use Rattle.blue_model.proofs.LawSteps.{lawful, trying, then_plain, then_value, within_field, try_plain, law_pick, law_done, law_numbers, law_failed, law_part, kept_int, law_peek, done_plain, law_then, law_peek_value, law_register, law_given, law_put_register, law_put_words, then_maybe, try_value}
+use Rattle.blue_model.proofs.LawSteps.{lawful, trying, then_plain, then_value, try_plain, law_pick, law_done, law_numbers, law_failed, law_part, law_peek, done_plain, law_then, law_peek_value, law_register, law_given, law_put_register, law_put_words, then_maybe, try_value}
+use Rattle.blue_model.proofs.AlikeLaws.{kept_int}
+use Rattle.blue_model.proofs.WithinLaws.{within_field}
 
 -- ---- forms
 

@@ -1,6 +1,6 @@
 -- The law of thinning, for each combinator.
 use Rattle.blue_model.specs.BitBlt.{put_words}
-use Rattle.std.proofs.Common.{◌≡◌, ℕ, ℤ, pos, ◌+◌, ◌-◌, ◌≤◌, zero, suc, Bool, true, false, cond, nat_lt, nat_le, eqb, ◌&&◌, List, [], ◌∷◌, ◌++◌, length, Option, Some, None, is_some, refl, sym, ◌∙◌, ap, ap₂, subst, subst₂, arith}
+use Rattle.std.proofs.Common.{◌≡◌, ℕ, pos, ◌+◌, ◌≤◌, zero, suc, Bool, true, false, cond, nat_lt, eqb, ◌&&◌, List, [], ◌∷◌, ◌++◌, Option, Some, None, is_some, refl, sym, ◌∙◌, ap, ap₂, subst, subst₂, arith}
 use Rattle.std.specs.List.{slice_get}
 use Rattle.std.specs.Option.{option_map_or, option_and_then}
 use Rattle.std.proofs.lemmas.Grind.{common_steps}
@@ -8,77 +8,24 @@ use Rattle.long_names.specs.declared.value.Value.{Value}
 use Rattle.long_names.specs.declared.value.Value.TheVariants.{Int, Ref}
 use Rattle.long_names.specs.declared.object.Object.{Object}
 use Rattle.long_names.specs.declared.object.Body.{Body}
-use Rattle.long_names.specs.declared.object.Body.TheVariants.{Pointers, Words, Bytes, Method}
 use Rattle.long_names.specs.Names.{is_known, NIL, SMALL_INTEGER}
 use Rattle.long_names.specs.declared.limits.TheConstants.{LAST_NAME}
-use Rattle.long_names.specs.Objects.{Making, holds, fields_of, field_of, pointers_of, literals_of, words_of, bytes_of, with_field, with_words, with_bytes, text_of}
+use Rattle.long_names.specs.Objects.{Making, holds, fields_of, field_of, words_of, bytes_of, with_field, with_words, with_bytes, text_of}
 use Rattle.long_names.specs.Heap.{Heap, Has, IsBounded, put_object, add_object}
 use Rattle.long_names.specs.State.{set_register, set_slot, object_at, name_at, class_at, part_at}
 use Rattle.long_names.specs.Access.{Make, with_body, with_swapped}
-use Rattle.long_names.specs.Need.{Row}
 use Rattle.long_names.specs.Thin.{IsThinner, IsWhole}
-use Rattle.long_names.proofs.ThinLemmas.{IsThinner-add_object, IsBounded-add_object, IsThinner-swap_objects, IsBounded-swap_objects, IsWhole-swap_objects, swap_at, swapped_apart, IsWhole-regs, IsWhole-set, IsWhole-slots, IsWhole-pin, IsWhole-with_field, IsWhole-same_fields, fields-with_words, fields-with_bytes, has_put, holds-class, holds-field, both}
-use Rattle.long_names.proofs.AccessLaws.{words_of_row-same, entries_of_row-same, another, IsThinner-with_body, IsBounded-with_body, IsWhole-with_body, whole-heap}
+use Rattle.long_names.proofs.ThinLemmas.{IsThinner-add_object, IsBounded-add_object, IsThinner-swap_objects, IsBounded-swap_objects, IsWhole-swap_objects, swap_at, swapped_apart, IsWhole-regs, IsWhole-set, IsWhole-slots, IsWhole-pin, IsWhole-with_field, IsWhole-same_fields, fields-with_words, fields-with_bytes, has_put, holds-class, both}
+use Rattle.long_names.proofs.AccessLaws.{another, IsThinner-with_body, IsBounded-with_body, IsWhole-with_body, whole-heap}
 use Rattle.blue_model.specs.declared.cause.Cause.{Cause}
 use Rattle.blue_model.specs.declared.cpu.Cpu.{Cpu}
-use Rattle.blue_model.specs.declared.indexes.TheConstants.{METHOD_INDEX, HOME_INDEX}
-use Rattle.blue_model.specs.Machine.{Machine, MACHINE_REGISTERS, LogRow, logged, row_of, making_row, Outcome, Go, Halt, Spent, Rule, after, then_do, ◌>>=◌, done, halt, given, pick, is_there, register, placed, put_register, clear, numbers, set_numbers, rows_at, looked, look, part, known, classed, class_of, stored, store, changed, store_word, store_byte, is_unpinned, is_free, swapped, swap, object_made, added, made, make, unpinned, unpin_all, with_pin, pinned, pin, spoken, say, times, each}
+use Rattle.blue_model.specs.Machine.{Machine, MACHINE_REGISTERS, LogRow, logged, making_row, Outcome, Go, Halt, Spent, Rule, after, then_do, ◌>>=◌, done, halt, given, pick, is_there, register, placed, put_register, clear, numbers, set_numbers, looked, look, part, known, classed, class_of, stored, store, changed, store_word, store_byte, is_unpinned, is_free, swapped, swap, object_made, added, made, make, unpinned, unpin_all, with_pin, pinned, pin, spoken, say, times, each}
 use Rattle.blue_model.specs.declared.answer.Answer.{Answer}
-use Rattle.blue_model.specs.Parts.{at_least, shaped, field, home_by, home_in, home_of, literal}
-use Rattle.blue_model.specs.Messages.{last_literal}
 use Rattle.blue_model.specs.Trials.{failed, where_some, where_true, ◌>>?◌, peek}
 use Rattle.blue_model.specs.Law.{IsThinned, Agree, RespectsThinning}
 use Rattle.blue_model.specs.Alike.{Lost, IsAlike, IsKept, IsKeptMaybe, IsHeld, IsPlain, IsWithin, Agrees, Lawful}
-
--- ---- what is there and what is lost
-
--- what is there is not lost
-pub not_lost : (w : Lost) (m s : Machine) → IsAlike w m s → (n : ℕ) → Has s.heap n → w.lost n ≡ false
-not_lost w m s h n there = go (w.lost n) refl
-  where
-    go : (b : Bool) → w.lost n ≡ b → w.lost n ≡ false
-    go false e = e
-    go true e = let gone = h.gone n e in absurd (cc)
-
-pub kept_int : {w : Lost} (z : ℤ) → IsKept w (Int z)
-kept_int z = record { kept = λ n e. (cc) }
-
-kept_ref : (w : Lost) (n : ℕ) → w.lost n ≡ false → IsKept w (Ref n)
-kept_ref w n e = record { kept = λ k f. let same : n ≡ k = cc in subst (λ j. w.lost j ≡ false) same e }
-
-pub kept_known : {w : Lost} (n : ℕ) → is_known n ≡ true → IsKept w (Ref n)
-kept_known {w} n e = kept_ref w n (w.known n e)
-
--- and so is the class of SmallIntegers
-name_kept : (w : Lost) (v : Value) → IsKept w v → w.lost (name_at v) ≡ false
-name_kept w (Int z) k = w.known SMALL_INTEGER refl
-name_kept w (Ref n) k = k.kept n refl
-
-object_alike : (w : Lost) (m s : Machine) → IsAlike w m s → (v : Value) → IsKept w v → object_at s.heap v ≡ object_at m.heap v
-object_alike w m s h (Int z) k = refl
-object_alike w m s h (Ref n) k = h.same n (k.kept n refl)
-
-there_alike : (w : Lost) (m s : Machine) → IsAlike w m s → (v : Value) → IsKept w v → is_there s.heap v ≡ is_there m.heap v
-there_alike w m s h (Int z) k = refl
-there_alike w m s h (Ref n) k = ap is_some (h.same n (k.kept n refl))
-
-there_has : (h : Heap) (v : Value) → is_there h v ≡ true → (n : ℕ) → v ≡ Ref n → Has h n
-there_has h (Int z) e n f = cc
-there_has h (Ref k) e n f = subst (λ x. is_there h x ≡ true) f e
-
--- ---- rows
-
-logged-same : (h s : Heap) (r : Row) (makes : Bool) → h.at r.object ≡ s.at r.object → ((i k : ℕ) → r.slots i ≡ Some k → h.at k ≡ s.at k) → logged h r makes ≡ logged s r makes
-logged-same h s r makes object pins = λ i. record { object = r.object; words = words_of_row-same h s r object pins i; entries = entries_of_row-same h s r pins i; makes = makes }
-
-pub row_alike : (w : Lost) (m s : Machine) (n : ℕ) → IsAlike w m s → w.lost n ≡ false → row_of m n ≡ row_of s n
-row_alike w m s n h kept =
-    ap (λ (z : ℕ → Option ℕ). logged m.heap (record { object = n; slots = z }) false) (sym h.thinned.slots)
-    ∙ logged-same m.heap s.heap (record { object = n; slots = s.slots }) false (sym (h.same n kept)) (λ i k e. sym (h.same k (not_lost w m s h k (h.thinned.thinning.whole.pinned i k e))))
-
-rows_alike : (w : Lost) (m s : Machine) (v : Value) → IsAlike w m s → IsKept w v → rows_at m v ≡ rows_at s v
-rows_alike w m s (Int z) h k = refl
-rows_alike w m s (Ref n) h k = ap (λ r. r ∷ []) (row_alike w m s n h (k.kept n refl))
+use Rattle.blue_model.proofs.AlikeLaws.{not_lost, kept_int, kept_ref, kept_known, name_kept, object_alike, there_alike, there_has, logged-same, row_alike, rows_alike}
+use Rattle.blue_model.proofs.WithinLaws.{within_field, within_literal, within_last_literal, within_home_of}
 
 -- ---- in a row
 
@@ -619,77 +566,6 @@ law_say {w} v k = record {
         fresh = h.fresh;
       },
     )
-
--- ---- what is taken out of objects
-
--- the values of an object of pointers are its fields
-pub shaped_fields : (least : ℕ) (o : Object) (values : List Value) → shaped least o ≡ Some values → fields_of o.body ≡ values
-shaped_fields least o values e = go o.body e
-  where
-    long : (vs : List Value) (b : Bool) → cond b (Some vs) None ≡ Some values → vs ≡ values
-    long vs true f = cc
-    long vs false f = let no : ◌≡◌ {A = Option (List Value)} None (Some values) = f in absurd (cc)
-
-    go : (b : Body) → option_and_then (at_least least) (pointers_of b) ≡ Some values → fields_of b ≡ values
-    go (Pointers vs) f = long vs (nat_le least (length vs)) f
-    go (Words words) f = let no : ◌≡◌ {A = Option (List Value)} None (Some values) = f in absurd (cc)
-    go (Bytes bytes) f = let no : ◌≡◌ {A = Option (List Value)} None (Some values) = f in absurd (cc)
-    go (Method header literals code) f = let no : ◌≡◌ {A = Option (List Value)} None (Some values) = f in absurd (cc)
-
-field_kept : (w : Lost) (o : Object) → IsHeld w o → (i : ℕ) (v : Value) → field_of o.body i ≡ Some v → IsKept w v
-field_kept w o h i v e = record { kept = λ n f. h.held n (holds-field o i n (e ∙ ap (λ x. Some x) f)) }
-
-value_kept : (w : Lost) (o : Object) → IsHeld w o → (least : ℕ) (values : List Value) → shaped least o ≡ Some values → (i : ℕ) (v : Value) → slice_get values i ≡ Some v → IsKept w v
-value_kept w o h least values e i v f = field_kept w o h i v (ap (λ vs. slice_get vs i) (shaped_fields least o values e) ∙ f)
-
-pub within_field : {w : Lost} (least i : ℕ) → IsWithin w (field least i)
-unfolding field
-within_field {w} least i = record { within = λ o v h e. go o v h (shaped least o) refl e }
-  where
-    go : (o : Object) (v : Value) → IsHeld w o → (x : Option (List Value)) → shaped least o ≡ x → option_and_then (λ (values : List Value). slice_get values i) x ≡ Some v → IsKept w v
-    go o v h None e f = let no : ◌≡◌ {A = Option Value} None (Some v) = f in absurd (cc)
-    go o v h (Some values) e f = value_kept w o h least values e i v f
-
-pub within_literal : {w : Lost} (i : ℕ) → IsWithin w (literal i)
-unfolding literal
-within_literal {w} i = record { within = λ o v h e. field_kept w o h i v (go o.body v e) }
-  where
-    go : (b : Body) (v : Value) → option_and_then (λ (literals : List Value). slice_get literals i) (literals_of b) ≡ Some v → field_of b i ≡ Some v
-    go (Pointers values) v e = let no : ◌≡◌ {A = Option Value} None (Some v) = e in absurd (cc)
-    go (Words words) v e = let no : ◌≡◌ {A = Option Value} None (Some v) = e in absurd (cc)
-    go (Bytes bytes) v e = let no : ◌≡◌ {A = Option Value} None (Some v) = e in absurd (cc)
-    go (Method header literals code) v e = e
-
-literals_kept : (w : Lost) (o : Object) → IsHeld w o → (literals : List Value) → literals_of o.body ≡ Some literals → (i : ℕ) (v : Value) → slice_get literals i ≡ Some v → IsKept w v
-literals_kept w o h literals e i v f = field_kept w o h i v (go o.body e)
-  where
-    go : (b : Body) → literals_of b ≡ Some literals → field_of b i ≡ Some v
-    go (Pointers values) g = let no : ◌≡◌ {A = Option (List Value)} None (Some literals) = g in absurd (cc)
-    go (Words words) g = let no : ◌≡◌ {A = Option (List Value)} None (Some literals) = g in absurd (cc)
-    go (Bytes bytes) g = let no : ◌≡◌ {A = Option (List Value)} None (Some literals) = g in absurd (cc)
-    go (Method header all code) g = let same : all ≡ literals = cc in ap (λ vs. slice_get vs i) same ∙ f
-
-pub within_last_literal : {w : Lost} → IsWithin w last_literal
-unfolding last_literal
-within_last_literal {w} = record { within = λ o v h e. go o v h (literals_of o.body) refl e }
-  where
-    go : (o : Object) (v : Value) → IsHeld w o → (x : Option (List Value)) → literals_of o.body ≡ x → option_and_then (λ (literals : List Value). slice_get literals (length literals - 1)) x ≡ Some v → IsKept w v
-    go o v h None e f = let no : ◌≡◌ {A = Option Value} None (Some v) = f in absurd (cc)
-    go o v h (Some literals) e f = literals_kept w o h literals e (length literals - 1) v f
-
--- the home is the context itself or in a field
-pub within_home_of : {w : Lost} (context : Value) → IsKept w context → IsWithin w (home_of context)
-unfolding home_of
-within_home_of {w} context k = record { within = λ o v h e. go o v h (shaped 6 o) refl e }
-  where
-    by : (third fifth : Option Value) (v : Value) → ((u : Value) → fifth ≡ Some u → IsKept w u) → home_by context third fifth ≡ Some v → IsKept w v
-    by None fifth v h e = let no : ◌≡◌ {A = Option Value} None (Some v) = e in absurd (cc)
-    by (Some (Int z)) fifth v h e = h v e
-    by (Some (Ref n)) fifth v h e = let same : context ≡ v = cc in subst (λ u. IsKept w u) same k
-
-    go : (o : Object) (v : Value) → IsHeld w o → (x : Option (List Value)) → shaped 6 o ≡ x → option_and_then (home_in context) x ≡ Some v → IsKept w v
-    go o v h None e f = let no : ◌≡◌ {A = Option Value} None (Some v) = f in absurd (cc)
-    go o v h (Some values) e f = by (slice_get values METHOD_INDEX) (slice_get values HOME_INDEX) v (λ u g. value_kept w o h 6 values e HOME_INDEX u g) f
 
 -- ---- the law of a rule
 

@@ -25,7 +25,7 @@ use Rattle.blue_model.specs.Cycle.{Stopping, Run, Ran, Stopped, run_of, one_more
 use Rattle.blue_model.specs.Loaded.{start_on_kept, loaded}
 use Rattle.blue_model.specs.Law.{IsWholeMachine, HasPins}
 use Rattle.blue_model.specs.Alike.{IsPlain}
-use Rattle.blue_model.proofs.LawSteps.{shaped_fields}
+use Rattle.blue_model.proofs.WithinLaws.{shaped_fields}
 use Rattle.blue_model.proofs.ComesLaws.{Comes, comes_then, comes_weaker, comes_set_numbers, given_then, numbers_then, answers-part}
 use Rattle.blue_model.proofs.BeginLaws.{register_then, part_then, named, unpin_then, need_then, put_context_comes, with_context}
 use Rattle.blue_model.proofs.KeepSteps.{Kept, Keeps, keeps_done, keeps_plain, keeps_known, keeps_put_register, keeping}

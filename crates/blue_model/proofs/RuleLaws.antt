@@ -19,7 +19,9 @@ use Rattle.blue_model.specs.Arithmetic.{of_numbers, arithmetic, comparison, make
 use Rattle.blue_model.specs.LargeInts.{large_operand, put_bytes, make_large_integer, large_answer, of_large, of_shift, answer_result, large_result, large_arithmetic, large_comparison, large_shift}
 use Rattle.blue_model.specs.Elements.{index_argument, make_large, number_object, specification_of, fixed_of, spot_at, element_of, variable_of, element_at, put_element, character_of, byte_of_character}
 use Rattle.blue_model.specs.Storage.{at, at_put, size_of, string_at, string_at_put, streamed_by, streamed, of_stream, next_spot, advance, streamed_element, next, put_streamed, next_put, at_end, method_object, object_at_index, object_at_put, new, new_with_size, new_method, instance_variable_at, instance_variable_at_put, hash, equivalent, class, become}
-use Rattle.blue_model.proofs.LawSteps.{lawful, trying, then_plain, then_value, law_part_value, within_field, try_plain, law_pick, law_done, law_store, law_store_word, law_store_byte, law_each, law_where_some, kept_int, law_peek, done_plain}
+use Rattle.blue_model.proofs.LawSteps.{lawful, trying, then_plain, then_value, law_part_value, try_plain, law_pick, law_done, law_store, law_store_word, law_store_byte, law_each, law_where_some, law_peek, done_plain}
+use Rattle.blue_model.proofs.AlikeLaws.{kept_int}
+use Rattle.blue_model.proofs.WithinLaws.{within_field}
 
 -- ---- contexts
 

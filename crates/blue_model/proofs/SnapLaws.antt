@@ -22,7 +22,7 @@ use Rattle.blue_model.specs.State.{begin, restore, state_in, no_state}
 use Rattle.blue_model.specs.Cycle.{cycle, turn, step, count_bytecode}
 use Rattle.blue_model.specs.Base.{SCHEDULER, PROCESS, CODE, CONTEXT, context_at}
 use Rattle.blue_model.specs.Loaded.{loaded}
-use Rattle.blue_model.specs.Guarded.{guarded_on, guarded, kept_under, allowed}
+use Rattle.blue_model.specs.Guarded.{guarded_on, guarded, kept_after, allowed}
 use Rattle.blue_model.proofs.LoadedLaws.{loaded_starts}
 use Rattle.blue_model.specs.Snaps.{DICTIONARY, METHODS, SNAP, SNAPPING, SUBJECT, snapping_heap, snapped, seen_in}
 
@@ -36,7 +36,7 @@ machine_of (Spent log) = at_rest snapping_heap
 sent : Machine
 sent = machine_of (cycle [] (machine_of (cycle [] (allowed 0 (machine_of (begin no_state (at_rest snapping_heap)))))))
 
-snap_sends : snapped 2 ≡ kept_under 1 sent (loaded sent)
+snap_sends : snapped 2 ≡ kept_after 0 sent (loaded sent)
 unfolding sent begin restore ◌>>=◌ guarded guarded_on cycle turn step count_bytecode start need_method put_context load_home load fetch scheduler active_process check_switch due events_due check_timer then_next bytecode bytecodes push_of literal_constant push pop store_field store part look known given pick register put_register numbers set_numbers clear pin unpin_all done halt field number size home_of code_of byte_of literal send_literal send send_from stack class_of set_arguments find_or_tell find find_from find_in found_or put_found method_at slot_of execute execute_method execute_extended heading extension literal_before_last primitive with_arguments where_true keep_machine device_primitives
 snap_sends = refl
 
@@ -109,9 +109,9 @@ parks : park sent ≡ Go tt parked (rows_of (park sent))
 unfolding parked
 parks = gone (park sent) park_goes
 
-seen : seen_in (kept_under 1 sent (after (rows_of (park sent)) begun)) ≡ Some (record { serial = 1; ran = 2; context = context_at 9 1 (Ref SUBJECT) })
+seen : seen_in (kept_after 0 sent (after (rows_of (park sent)) begun)) ≡ Some (record { serial = 1; ran = 2; context = context_at 9 1 (Ref SUBJECT) })
 unfolding sent begin restore ◌>>=◌ cycle turn step count_bytecode start need_method put_context load_home load fetch scheduler active_process check_switch due events_due check_timer then_next bytecode bytecodes push_of literal_constant push pop store_field store part look known given pick register put_register numbers set_numbers clear pin unpin_all done halt field number size home_of code_of byte_of literal send_literal send send_from stack class_of set_arguments find_or_tell find find_from find_in found_or put_found method_at slot_of execute execute_method execute_extended heading extension literal_before_last primitive with_arguments where_true keep_machine device_primitives park store_registers park_new parked rows_of begun
 seen = refl
 
 pub snap_kept : seen_in (snapped 2) ≡ Some (record { serial = 1; ran = 2; context = context_at 9 1 (Ref SUBJECT) })
-snap_kept = ap seen_in snap_sends ∙ ap (λ (o : Outcome (Unit {0})). seen_in (kept_under 1 sent o)) (loaded_starts sent parked (rows_of (park sent)) parks ∙ ap (after (rows_of (park sent))) starts) ∙ seen
+snap_kept = ap seen_in snap_sends ∙ ap (λ (o : Outcome (Unit {0})). seen_in (kept_after 0 sent o)) (loaded_starts sent parked (rows_of (park sent)) parks ∙ ap (after (rows_of (park sent))) starts) ∙ seen

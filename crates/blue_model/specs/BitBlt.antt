@@ -12,6 +12,7 @@ use Rattle.blue_model.specs.declared.answer.Answer.{Answer}
 use Rattle.blue_model.specs.declared.answer.Answer.TheVariants.{Done}
 use Rattle.blue_model.specs.declared.cause.Cause.TheVariants.{Shape}
 use Rattle.blue_model.specs.declared.indexes.TheConstants.{BITBLT_SIZE, DEST_FORM_INDEX, SOURCE_FORM_INDEX, HALFTONE_FORM_INDEX, COMBINATION_RULE_INDEX, DEST_X_INDEX, DEST_Y_INDEX, BLIT_WIDTH_INDEX, BLIT_HEIGHT_INDEX, SOURCE_X_INDEX, SOURCE_Y_INDEX, CLIP_X_INDEX, CLIP_Y_INDEX, CLIP_WIDTH_INDEX, CLIP_HEIGHT_INDEX}
+use Rattle.blue_model.specs.declared.limits.TheConstants.{COMBINATION_RULES}
 use Rattle.blue_model.specs.Machine.{Rule, ◌>>=◌, ◌>>◌, done, pick, changed, part}
 use Rattle.blue_model.specs.Parts.{is_nil, field, number}
 use Rattle.blue_model.specs.Contexts.{stack}
@@ -134,7 +135,7 @@ copied_words q dest source words from tone = map (copied_word q dest source word
 
 -- the number of a rule
 abbrev pub rule_number : ℤ → Option ℕ
-rule_number (pos n) = if nat_lt n 16 then Some n else None
+rule_number (pos n) = if nat_lt n COMBINATION_RULES then Some n else None
 rule_number (negsuc n) = None
 
 unfoldable pub blit_number : ℕ → Object → Option ℤ

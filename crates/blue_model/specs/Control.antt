@@ -12,7 +12,7 @@ use Rattle.blue_model.specs.declared.answer.Answer.{Answer}
 use Rattle.blue_model.specs.declared.answer.Answer.TheVariants.{Done, Execute, Quit}
 use Rattle.blue_model.specs.declared.cause.Cause.TheVariants.{Pointer, Shape}
 use Rattle.blue_model.specs.declared.indexes.TheConstants.{INSTRUCTION_POINTER_INDEX, STACK_POINTER_INDEX, CALLER_INDEX, BLOCK_ARGUMENT_COUNT_INDEX, INITIAL_IP_INDEX, HOME_INDEX, TEMP_FRAME_START}
-use Rattle.blue_model.specs.declared.limits.TheConstants.{FULL_STACK}
+use Rattle.blue_model.specs.declared.limits.TheConstants.{FULL_STACK, MOST_ARGUMENTS}
 use Rattle.blue_model.specs.Machine.{Rule, ◌>>=◌, ◌>>◌, done, given, pick, each, register, put_register, numbers, part, known, class_of, make}
 use Rattle.blue_model.specs.Parts.{size, field, number, home_of}
 use Rattle.blue_model.specs.Contexts.{store_field, push, stack, pop, stated, enter}
@@ -124,7 +124,7 @@ is_name (Ref n) = true
 -- a method that takes so many arguments. None takes 256 or more, and then it isn't asked
 unfoldable pub taking : ℕ → Option Value → Rule (Option Value)
 taking n None = done None
-taking n (Some method) = pick (nat_lt n 256) (arguments_of method >>= λ k. done (if k == n then Some method else None)) (done None)
+taking n (Some method) = pick (nat_lt n (MOST_ARGUMENTS + 1)) (arguments_of method >>= λ k. done (if k == n then Some method else None)) (done None)
 
 -- the method for n arguments that a receiver's class has for a selector. Only the end of the chain fails in the lookup
 unfoldable pub method_for : Value → Value → ℕ → Rule (Option Value)

@@ -16,6 +16,7 @@ use Rattle.blue_model.specs.declared.event.Event.{Event}
 use Rattle.blue_model.specs.declared.event.Event.TheVariants.{Word, Purge, Compact}
 use Rattle.blue_model.specs.declared.event.Line.{Line}
 use Rattle.blue_model.specs.declared.indexes.TheConstants.{SEMAPHORE_SIZE}
+use Rattle.blue_model.specs.declared.limits.TheConstants.{GREATEST_COUNT}
 use Rattle.blue_model.specs.Machine.{Rule, ◌>>=◌, ◌>>◌, done, given, pick, register, put_register, numbers, set_numbers, part, class_of, store_byte, say}
 use Rattle.blue_model.specs.Parts.{is_nil, size}
 use Rattle.blue_model.specs.Contexts.{stack, pop}
@@ -42,7 +43,7 @@ put_semaphore r v there = put_register r (if there then v else Int (pos 0))
 
 -- a count of lines or words, which stands still at the greatest number
 abbrev pub raised : ℕ → ℕ
-raised n = min (n + 1) 4294967295
+raised n = min (n + 1) GREATEST_COUNT
 
 -- the words of an event list, in order
 abbrev pub words_before : Event → List ℕ → List ℕ
@@ -89,7 +90,7 @@ input_word events = do
 
 -- the bytecodes of earlier runs, and those of this one, which stand still at the greatest number
 abbrev pub clock : Cpu → ℕ
-clock cpu = min (cpu.base + cpu.ran) 4294967295
+clock cpu = min (cpu.base + cpu.ran) GREATEST_COUNT
 
 abbrev pub four_bytes : List ℕ → Option ℕ
 four_bytes (a ∷ b ∷ c ∷ d ∷ rest) = Some (a + 256 * b + 65536 * c + 16777216 * d)

@@ -15,6 +15,7 @@ use Rattle.blue_model.specs.declared.cause.Cause.TheVariants.{Shape}
 use Rattle.blue_model.specs.declared.spot.Spot.{Spot}
 use Rattle.blue_model.specs.declared.spot.Spot.TheVariants.{Field, Word, Byte}
 use Rattle.blue_model.specs.declared.indexes.TheConstants.{CLASS_SIZE, INSTANCE_SPECIFICATION_INDEX, CHARACTER_VALUE_INDEX}
+use Rattle.blue_model.specs.declared.limits.TheConstants.{POINTERS_BIT, WORDS_BIT, INDEXABLE_BIT, FIXED_FIELDS}
 use Rattle.blue_model.specs.Machine.{Rule, ◌>>=◌, ◌>>◌, done, pick, part, known, class_of, store, store_word, store_byte, make}
 use Rattle.blue_model.specs.Parts.{field, number}
 use Rattle.blue_model.specs.Trials.{where_some, ◌>>?◌, peek}
@@ -68,16 +69,16 @@ number_object n = pick (nat_lt n SMALL_INTEGERS) (done (Int (pos n))) (make_larg
 -- ---- instance specifications (chapter 27, classes)
 
 abbrev pub has_pointers : ℤ → Bool
-has_pointers specification = unsigned_of specification / 16384 == 1
+has_pointers specification = unsigned_of specification / POINTERS_BIT == 1
 
 abbrev pub has_words : ℤ → Bool
-has_words specification = unsigned_of specification / 8192 % 2 == 1
+has_words specification = unsigned_of specification / WORDS_BIT % 2 == 1
 
 abbrev pub is_indexable : ℤ → Bool
-is_indexable specification = unsigned_of specification / 4096 % 2 == 1
+is_indexable specification = unsigned_of specification / INDEXABLE_BIT % 2 == 1
 
 abbrev pub fixed_fields : ℤ → ℕ
-fixed_fields specification = unsigned_of specification % 2048
+fixed_fields specification = unsigned_of specification % FIXED_FIELDS
 
 -- of what has a class's shape, and a SmallInteger there
 unfoldable pub specification_of : Value → Rule (Option ℤ)

@@ -1,5 +1,5 @@
 -- What stands in the logs of a whole run: the rows of each of its bytecodes, the objects that it makes, and how many objects live then.
-use Rattle.std.specs.Prelude.{zero, suc, ◌≡◌, ℕ, ◌+◌, ◌==◌, ◌||◌, Bool, nat_lt, List, [], ◌∷◌, ◌++◌, slice_get, Some, if◌then◌else◌}
+use Rattle.std.specs.Prelude.{zero, suc, ◌≡◌, ℕ, ◌+◌, ◌==◌, ◌||◌, Bool, nat_lt, nat_le, List, [], ◌∷◌, ◌++◌, slice_get, Some, if◌then◌else◌}
 use Rattle.long_names.specs.Heap.{Heap, object_count}
 use Rattle.long_names.specs.Kept.{any_below, kept}
 use Rattle.long_names.specs.Need.{is_pinned}
@@ -49,11 +49,11 @@ IsLive live makings = (i : ℕ) × (slice_get makings i ≡ Some live)
 -- ---- the bytecodes of a whole run of at most so many
 
 -- the rows of bytecode k + 1, by what the run came to in k cycles: those of its cycle, or after the last bytecode those of park and the
--- picture
+-- picture. A bytecode past those of the run has none
 abbrev pub rows_after : List Line → ℕ → ℕ → Run → List LogRow
 rows_after events steps k (Ran Next m) = if nat_lt k steps then log_of (cycle events m) else (if k == steps then log_of (park_and_draw m) else [])
-rows_after events steps k (Ran Quit m) = if k == m.cpu.ran then log_of (park_and_draw m) else []
-rows_after events steps k (Ran Keep m) = if k == m.cpu.ran then log_of (park_and_draw m) else []
+rows_after events steps k (Ran Quit m) = if nat_le k steps then (if k == m.cpu.ran then log_of (park_and_draw m) else []) else []
+rows_after events steps k (Ran Keep m) = if nat_le k steps then (if k == m.cpu.ran then log_of (park_and_draw m) else []) else []
 rows_after events steps k (Stopped m why log) = []
 
 -- the rows of what comes before the first bytecode stand as rows of that

@@ -12,7 +12,7 @@ use Rattle.long_names.specs.Objects.{OfPointers, int_of, is_ref, literals_of}
 use Rattle.long_names.specs.State.{ACTIVE_CONTEXT, SELECTOR, NEW_METHOD}
 use Rattle.blue_model.specs.declared.cause.Cause.TheVariants.{Stack, Shape, NotUnderstood}
 use Rattle.blue_model.specs.declared.indexes.TheConstants.{SENDER_INDEX, INSTRUCTION_POINTER_INDEX, STACK_POINTER_INDEX, METHOD_INDEX, RECEIVER_INDEX, SMALL_CONTEXT_SIZE, LARGE_CONTEXT_SIZE, MESSAGE_SELECTOR_INDEX, MESSAGE_ARGUMENTS_INDEX, MESSAGE_SIZE}
-use Rattle.blue_model.specs.declared.limits.TheConstants.{SELF_FLAG, EXTENSION_FLAG}
+use Rattle.blue_model.specs.declared.limits.TheConstants.{SELF_FLAG, EXTENSION_FLAG, FLAG_UNIT, TEMPORARIES_UNIT, LARGE_CONTEXT_BIT}
 use Rattle.blue_model.specs.Machine.{Rule, ◌>>=◌, ◌>>◌, done, halt, given, pick, each, register, put_register, numbers, set_numbers, part, known, make}
 use Rattle.blue_model.specs.Parts.{size, heading}
 use Rattle.blue_model.specs.Contexts.{stack_place, store_field, push, stack, pop, enter}
@@ -22,15 +22,15 @@ use Rattle.blue_model.specs.Lookup.{find}
 
 -- below `SELF_FLAG` so many arguments, and no primitive; the method answers self, or a field of the receiver, or it has an extension
 abbrev pub flag_of : ℤ → ℕ
-flag_of header = unsigned_of header / 4096
+flag_of header = unsigned_of header / FLAG_UNIT
 
 -- how many temporaries, arguments among them; with `FIELD_FLAG` the number of the field
 abbrev pub temporaries_of : ℤ → ℕ
-temporaries_of header = unsigned_of header / 128 % 32
+temporaries_of header = unsigned_of header / TEMPORARIES_UNIT % 32
 
 -- how many fields its context has
 abbrev pub context_size : ℤ → ℕ
-context_size header = if unsigned_of header / 64 % 2 == 1 then LARGE_CONTEXT_SIZE else SMALL_CONTEXT_SIZE
+context_size header = if unsigned_of header / LARGE_CONTEXT_BIT % 2 == 1 then LARGE_CONTEXT_SIZE else SMALL_CONTEXT_SIZE
 
 -- field 1 of its context at first: its header and literals take two bytes each, and the pointer is counted from 1
 abbrev pub first_pointer : ℤ → ℤ

@@ -10,7 +10,7 @@ use Rattle.blue_model.specs.declared.cause.Cause.TheVariants.{Shape}
 use Rattle.blue_model.specs.declared.event.Line.{Line}
 use Rattle.blue_model.specs.declared.step.Step.{Step}
 use Rattle.blue_model.specs.declared.indexes.TheConstants.{VALUE_INDEX, ASSOCIATION_SIZE, INSTRUCTION_POINTER_INDEX, SUPERCLASS_INDEX}
-use Rattle.blue_model.specs.declared.limits.TheConstants.{SELF_FLAG, FIELD_FLAG, EXTENSION_FLAG}
+use Rattle.blue_model.specs.declared.limits.TheConstants.{SELF_FLAG, FIELD_FLAG, EXTENSION_FLAG, MOST_ARGUMENTS}
 use Rattle.blue_model.specs.Machine.{Rule, ◌>>=◌, ◌>>◌, done, given, pick, register, put_register, numbers, part, known, class_of}
 use Rattle.blue_model.specs.Parts.{is_nil, field, number, heading}
 use Rattle.blue_model.specs.Contexts.{push, stack, back_with}
@@ -83,7 +83,7 @@ send_super events selector n = do
 
 -- how many arguments a special selector has
 abbrev pub argument_count : ℤ → Option ℕ
-argument_count (pos n) = if nat_lt n 256 then Some n else None
+argument_count (pos n) = if nat_lt n (MOST_ARGUMENTS + 1) then Some n else None
 argument_count (negsuc n) = None
 
 -- the special selectors stand in an array with their numbers of arguments

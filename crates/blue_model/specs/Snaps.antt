@@ -9,7 +9,7 @@ use Rattle.blue_model.specs.Machine.{Outcome, Go, Halt, Spent, at_rest}
 use Rattle.blue_model.specs.Cycle.{ByCause, BySpentNames}
 use Rattle.blue_model.specs.State.{no_state, begin}
 use Rattle.blue_model.specs.Base.{nil, array, SCHEDULER, PROCESS, CODE, CONTEXT, context_at}
-use Rattle.blue_model.specs.Guarded.{Guarded, Going, Broken, guarded}
+use Rattle.blue_model.specs.Guarded.{Guarded, Going, Broken, AtStart, guarded}
 
 -- the class Array has one method: snap, of primitive 97
 abbrev pub DICTIONARY : ℕ
@@ -56,8 +56,8 @@ snapping_heap = record {
 
 abbrev pub guarded_from : ℕ → Outcome (Unit {0}) → Guarded
 guarded_from k (Go a m log) = guarded [] k 0 m
-guarded_from k (Halt c log) = Broken (at_rest snapping_heap) (ByCause c) log
-guarded_from k (Spent log) = Broken (at_rest snapping_heap) BySpentNames log
+guarded_from k (Halt c log) = Broken AtStart (at_rest snapping_heap) 0 (ByCause c) log
+guarded_from k (Spent log) = Broken AtStart (at_rest snapping_heap) 0 BySpentNames log
 
 -- so many cycles of it, guarded from the start
 abbrev pub snapped : ℕ → Guarded
@@ -71,4 +71,4 @@ pub record Seen : Type 0 where
 
 abbrev pub seen_in : Guarded → Option Seen
 seen_in (Going end m serial rows) = Some (record { serial = serial; ran = m.cpu.ran; context = m.heap.at CONTEXT })
-seen_in (Broken m why log) = None
+seen_in (Broken stage m serial why log) = None

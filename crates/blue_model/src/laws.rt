@@ -194,12 +194,9 @@ pub fn a_large_answer_is_its_number()
 /// Large integers that operations give, or not.
 pub fn worked_large_integers()
     ensures carried { large_result sum (pos 18446744073709551615) (pos 1) ≡ Some (pos 18446744073709551616) }
-    ensures past_the_end { large_result sum (pos 170141183460469231731687303715884105727) (pos 1) ≡ None }
     ensures down { large_result (divided quotient_down) (minus 32768) (pos 3) ≡ Some (minus 10923) }
     ensures to_zero { large_result (divided quotient_to_zero) (minus 32768) (pos 3) ≡ Some (minus 10922) }
     ensures left_over { large_result (divided remainder_down) (minus 32768) (pos 3) ≡ Some (pos 1) }
-    ensures lowest_down { large_result (divided quotient_down) (minus (2 ^ 127)) (minus 1) ≡ None }
-    ensures lowest_left { large_result (divided remainder_down) (minus (2 ^ 127)) (minus 1) ≡ Some (pos 0) }
     ensures bits { large_result large_and (minus 32768) (pos 65535) ≡ Some (pos 32768) }
     ensures shifted_right { large_result shifted (minus (2 ^ 127)) (minus 16384) ≡ Some (minus 1) }
     ensures shifted_left { large_result shifted (pos 1) (pos 127) ≡ None }
@@ -207,6 +204,19 @@ pub fn worked_large_integers()
     ensures bytes { fewest_bytes 32768 ≡ 0 ∷ 128 ∷ [] }
     ensures zeros { large_value (record { class = LARGE_NEGATIVE_INTEGER; body = Bytes (5 ∷ 0 ∷ 0 ∷ []) }) ≡ Some (minus 5) }
     ensures too_long { large_value (record { class = LARGE_POSITIVE_INTEGER; body = Bytes (replicate 17 0) }) ≡ None }
+{}
+
+/// The two ends of the range of large integers, as operand and as answer: one past each is none. The lowest value by -1 has no quotient,
+/// and nothing is left of it.
+pub fn worked_ends_of_the_range()
+    ensures highest { large_value (record { class = LARGE_POSITIVE_INTEGER; body = Bytes (replicate 15 255 ++ 127 ∷ []) }) ≡ Some (pos (2 ^ 127 - 1)) }
+    ensures past_the_highest { large_value (record { class = LARGE_POSITIVE_INTEGER; body = Bytes (replicate 15 0 ++ 128 ∷ []) }) ≡ None }
+    ensures lowest { large_value (record { class = LARGE_NEGATIVE_INTEGER; body = Bytes (replicate 15 0 ++ 128 ∷ []) }) ≡ Some (minus (2 ^ 127)) }
+    ensures past_the_lowest { large_value (record { class = LARGE_NEGATIVE_INTEGER; body = Bytes (1 ∷ replicate 14 0 ++ 128 ∷ []) }) ≡ None }
+    ensures up { (large_result sum (pos (2 ^ 127 - 2)) (pos 1) ≡ Some (pos (2 ^ 127 - 1))) × (large_result sum (pos (2 ^ 127 - 1)) (pos 1) ≡ None) }
+    ensures down { (large_result sum (minus (2 ^ 127 - 1)) (minus 1) ≡ Some (minus (2 ^ 127))) × (large_result sum (minus (2 ^ 127)) (minus 1) ≡ None) }
+    ensures bytes { (fewest_bytes (2 ^ 127 - 1) ≡ replicate 15 255 ++ 127 ∷ []) × (fewest_bytes (2 ^ 127) ≡ replicate 15 0 ++ 128 ∷ []) }
+    ensures negated { (large_result (divided exact_quotient) (minus (2 ^ 127)) (minus 1) ≡ None) × (large_result (divided quotient_down) (minus (2 ^ 127)) (minus 1) ≡ None) × (large_result (divided quotient_to_zero) (minus (2 ^ 127)) (minus 1) ≡ None) × (large_result (divided remainder_down) (minus (2 ^ 127)) (minus 1) ≡ Some (pos 0)) }
 {}
 
 /// The heaps of the worked values below are whole: their laws speak of something.

@@ -18,6 +18,15 @@ pub const LARGE_BITS: u32 = 127;
 /// The serial number under which nothing more is kept: the last one of a checkpoint.
 pub const LAST_SERIAL: u64 = 4_611_686_018_427_387_903;
 
+/// The greatest count of lines, words or bytecodes: what has counted so far stands still at it.
+pub const GREATEST_COUNT: u32 = 4_294_967_295;
+
+/// The most arguments of a message.
+pub const MOST_ARGUMENTS: u32 = 255;
+
+/// How many combination rules there are (chapter 18).
+pub const COMBINATION_RULES: u32 = 16;
+
 // ---- the flag of a method's header (chapter 27, compiled methods). Below these it is the number of arguments
 
 /// The method answers its receiver.
@@ -28,3 +37,28 @@ pub const FIELD_FLAG: u32 = 6;
 
 /// The literal before the last is the header extension.
 pub const EXTENSION_FLAG: u32 = 7;
+
+// ---- the parts of a method's header
+
+/// The flag counts so many.
+pub const FLAG_UNIT: u32 = 4096;
+
+/// The number of temporaries counts so many.
+pub const TEMPORARIES_UNIT: u32 = 128;
+
+/// A method whose context is large has this bit.
+pub const LARGE_CONTEXT_BIT: u32 = 64;
+
+// ---- the instance specification of a class (chapter 27, classes)
+
+/// The instances have pointers.
+pub const POINTERS_BIT: u32 = 16_384;
+
+/// Elements that aren't pointers are words, and not bytes.
+pub const WORDS_BIT: u32 = 8192;
+
+/// The instances have indexable elements.
+pub const INDEXABLE_BIT: u32 = 4096;
+
+/// How many fixed fields there are is below this number.
+pub const FIXED_FIELDS: u32 = 2048;

@@ -1,5 +1,5 @@
 -- The bytes of a method's code.
-use Rattle.std.proofs.Common.{◌≡◌, ℕ, ℤ, pos, negsuc, ◌+◌, ◌-◌, ◌*◌, ◌^◌, ◌<◌, Bool, true, false, ◌&&◌, cond, if◌then◌else◌, nat_le, nat_lt, List, length, Option, Some, None, Ok, Err, IsTrue, refl, sym, ◌∙◌, ap, subst, arith}
+use Rattle.std.proofs.Common.{◌≡◌, ℕ, ℤ, pos, negsuc, ◌+◌, ◌-◌, ◌*◌, ◌^◌, ◌<◌, Bool, true, false, ◌&&◌, cond, if◌then◌else◌, nat_le, nat_lt, List, length, Option, Some, None, Ok, Err, IsTrue, is_some, refl, sym, ◌∙◌, ap, subst, arith}
 use borrow.Author.Tests.{ltb-false}
 use Rattle.std.specs.List.{slice_get}
 use Rattle.std.specs.Option.{option_and_then, option_map}
@@ -11,7 +11,9 @@ use lib.Signed.{mag}
 use Rattle.long_names.specs.declared.value.Value.{Value}
 use Rattle.long_names.specs.declared.object.Object.{Object}
 use Rattle.long_names.specs.Heap.{Heap}
-use Rattle.long_names.specs.Objects.{bytes_of}
+use Rattle.long_names.specs.declared.object.Body.{Body}
+use Rattle.long_names.specs.declared.object.Body.TheVariants.{Pointers, Words, Bytes, Method}
+use Rattle.long_names.specs.Objects.{bytes_of, len_of}
 use Rattle.long_names.specs.State.{object_at, part_at}
 use Rattle.object_memory.specs.Told.{Told, IsReady}
 use Rattle.object_memory.specs.Shape.{IsPartAt, byte_count, literals_count}
@@ -96,6 +98,23 @@ byte_in h v code i byte e answer = go (object_at h v) e answer
     go None f a = let no : ◌≡◌ {A = Option (List ℕ)} None (Some code) = f in absurd (cc)
     go (Some o) f a = subst (λ y. option_and_then (λ (bytes : List ℕ). slice_get bytes i) y ≡ Some byte) f a
 
+-- the length of a method is that of its code
+code_sized : (h : Heap) (v : Value) (n len : ℕ) → part_at h v literals_count ≡ Some n → part_at h v (λ b. Some (len_of b)) ≡ Some len → part_at h v byte_count ≡ Some len
+code_sized h v n len e f = go (object_at h v) e f
+  where
+    of_body : (b : Body) → literals_count b ≡ Some n → ◌≡◌ {A = Option ℕ} (Some (len_of b)) (Some len) → byte_count b ≡ Some len
+    of_body (Pointers values) x y = let no : ◌≡◌ {A = Option ℕ} None (Some n) = x in absurd (cc)
+    of_body (Words words) x y = let no : ◌≡◌ {A = Option ℕ} None (Some n) = x in absurd (cc)
+    of_body (Bytes bytes) x y = let no : ◌≡◌ {A = Option ℕ} None (Some n) = x in absurd (cc)
+    of_body (Method header literals code) x y = y
+
+    go : (o : Option Object) → option_and_then (λ (o : Object). literals_count o.body) o ≡ Some n → option_and_then (λ (o : Object). Some (len_of o.body)) o ≡ Some len → option_and_then (λ (o : Object). byte_count o.body) o ≡ Some len
+    go None x y = let no : ◌≡◌ {A = Option ℕ} None (Some n) = x in absurd (cc)
+    go (Some o) x y = of_body o.body x y
+
+pub length_is : {t : Told} {r : ℕ} {some : Option ℕ} (n len : ℕ) → IsPartAt t r literals_count some → some ≡ Some n → (IsTrue t.tells → part_at t.heap (t.regs r) (λ b. Some (len_of b)) ≡ Some len) → IsPartAt t r byte_count (Some len)
+length_is {t} {r} {some} n len literals is answer = record { name = λ found. literals.name (ap is_some is); there = λ told. code_sized t.heap (t.regs r) n len (literals.there told ∙ is) (answer told) }
+
 -- ---- the rule of a byte, where it was found which literals and bytes the method has
 
 pub byte_serves : {t : Told} {cpu : Cpu} {some : Option ℕ} (r : ℕ) (ip : ℤ) (place : Option ℕ) (n len i byte : ℕ) → IsReady t → IsPartAt t r literals_count some → some ≡ Some n → place ≡ code_place ip → Some i ≡ code_index n len place → (IsTrue t.tells → part_at t.heap (t.regs r) (λ b. option_and_then (λ (bytes : List ℕ). slice_get bytes i) (bytes_of b)) ≡ Some byte) → Serves t cpu t cpu (byte_of ip (t.regs r)) (Ok byte)
@@ -119,13 +138,6 @@ byte_past {t} {cpu} {some} {counted} r ip place n len ready literals is bytes co
 pub byte_none : {t : Told} {cpu : Cpu} {found : Option ℕ} (r : ℕ) (ip : ℤ) → IsReady t → IsPartAt t r literals_count found → found ≡ None → Serves t cpu t cpu (byte_of ip (t.regs r)) (Err (Stuck Shape))
 unfolding byte_of
 byte_none r ip ready literals none = serves_stop (λ x. given Pointer (byte_at ip x)) (part_stuck code_of r ready (code_none literals none))
-
--- a method has bytes
-pub byte_absurd : {t : Told} {cpu : Cpu} {some counted : Option ℕ} (r : ℕ) (ip : ℤ) (n : ℕ) → IsPartAt t r literals_count some → some ≡ Some n → IsPartAt t r byte_count counted → counted ≡ None → Serves t cpu t cpu (byte_of ip (t.regs r)) (Err (Stuck Shape))
-byte_absurd {t} {cpu} {some} {counted} r ip n literals is bytes none = told_stuck (λ told. (
-    let code = code_is n literals is told in
-    let no : ◌≡◌ {A = Option ℕ} (Some (length code.0)) None = sym (counted_bytes t.heap (t.regs r) code.0 code.2) ∙ bytes.there told ∙ none in
-    absurd (cc)))
 
 -- where the number of a byte comes from
 pub place_is : (z : ℤ) (n : ℕ) → Some n ≡ code_place z → pos n ≡ z

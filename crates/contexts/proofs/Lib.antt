@@ -9,6 +9,7 @@ pub mod PeekLaws
 pub mod PeekPairs
 pub mod ReadLaws
 pub mod RegisterLaws
+pub mod RoomLaws
 pub mod ServesLaws
 pub mod SpeaksLaws
 pub mod Steps

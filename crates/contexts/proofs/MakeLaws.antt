@@ -106,7 +106,7 @@ unfolding make
 make_refused {Z} {old} {new} {cpu} {f} to class what ready x = record {
   later = x.later;
   ready = tt;
-  reason = refused_reason old new (Make to class what) f x.err;
+  reason = refused_reason old new (Make to class what) f ready x.later x.err;
   counts = tt;
   vault = tt;
   silent = refused_silent old new (Make to class what) f (λ says. says) x.err.transcript;

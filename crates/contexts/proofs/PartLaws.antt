@@ -210,6 +210,10 @@ field_tested {t} {r} i known told =
       value.1,
     )
 
+-- or whose length was found,
+pub sized_within : {t : Told} {r : ℕ} (len i : ℕ) → i < len → HasPartAt t r pointers_of (λ xs. length xs ≡ len) → HasPartAt t r pointers_of (λ xs. i < length xs)
+sized_within {t} {r} len i low known = record { name = known.name; there = λ told. (let it = known.there told in let long = it.2 in (it.0, it.1, (omega arith))) }
+
 -- or to lack it
 pub field_lacking : {t : Told} {r : ℕ} {answer : Bool} (i : ℕ) → IsTestAt t r pointers_of (λ xs. i < length xs) answer → answer ≡ false → IsTrue t.tells → option_and_then (field 0 i) (object_at t.heap (t.regs r)) ≡ None
 unfolding field

@@ -1,5 +1,5 @@
 -- Reads of one object: a part of it that is there, one that isn't, and an access to it that was refused.
-use Rattle.std.proofs.Common.{◌≡◌, ℕ, ◌≤◌, nat_le, true, false, ◌&&◌, ◌||◌, eqb, List, [], ◌∷◌, ◌++◌, Option, Some, None, Result, Ok, Err, IsTrue, inl, inr, refl, sym, ◌∙◌, ap, ap₂, subst, arith}
+use Rattle.std.proofs.Common.{◌≡◌, ℕ, ◌≤◌, nat_le, true, false, ◌&&◌, ◌||◌, eqb, List, [], ◌∷◌, ◌++◌, Option, Some, None, Result, Ok, Err, IsTrue, inl, refl, sym, ◌∙◌, ap, ap₂, subst, arith}
 use borrow.Author.Tests.{le-leb}
 use Rattle.std.specs.Option.{option_and_then, option_map_or}
 use Rattle.std.specs.List.{list_all}
@@ -20,8 +20,8 @@ use Rattle.long_names.proofs.AccessLaws.{words_of_row-same, entries_of_row-same}
 use Rattle.object_memory.specs.declared.fault.Need.{Need}
 use Rattle.object_memory.specs.declared.fault.MemFault.{MemFault}
 use Rattle.object_memory.specs.declared.fault.MemFault.TheVariants.{CoreFull, WorkFull, WorkFault, Damaged, NamesSpent, Said, Memory}
-use Rattle.object_memory.specs.Told.{Told, Bounds, IsReady, need_of}
-use Rattle.object_memory.specs.Contract.{Does, ForBounds, Lives, IsMaking, IsSaying, HasCause, SaysRefused, Refuses, Called, IsNeedOf, need_of_access}
+use Rattle.object_memory.specs.Told.{Told, IsReady, need_of}
+use Rattle.object_memory.specs.Contract.{Does, IsLater, IsMaking, IsSaying, HasCause, SaysRefused, Refuses, Called, IsNeedOf, need_of_access}
 use Rattle.object_memory.specs.Shape.{is_among, Looks, ReadsObject}
 use Rattle.object_memory.proofs.LaterLaws.{IsLater-refl}
 use Rattle.object_memory.proofs.LooksLaws.{neither, Looks-trans, Looks-weaker, Looks-access, part_looked}
@@ -31,7 +31,8 @@ use Rattle.blue_model.specs.declared.cpu.Cpu.{Cpu}
 use Rattle.blue_model.specs.Machine.{Machine, MACHINE_REGISTERS, LogRow, Outcome, Go, Halt, Rule, row_of, rows_at, looked, log_of, then_do, ◌>>=◌, done, halt, given, look, part, known}
 use Rattle.contexts.specs.declared.stop.Stop.{Stop}
 use Rattle.contexts.specs.declared.stop.Stop.TheVariants.{Stuck, Mem}
-use Rattle.contexts.specs.Serves.{Stands, HasNeed, IsLogged, Allows, Gives, GivesAs, WasFull, IsCaused, IsRefused, ServesAs, Serves, with_value}
+use Rattle.contexts.proofs.RoomLaws.{kept_left, lives_left}
+use Rattle.contexts.specs.Serves.{Stands, HasNeed, IsLogged, Allows, Gives, GivesAs, IsCaused, IsRefused, ServesAs, Serves, with_value}
 use Rattle.contexts.proofs.CacheLaws.{sound_looked}
 use Rattle.contexts.proofs.ServesLaws.{IsCounted-refl, Gives-after, serves_stop}
 use Rattle.contexts.proofs.Steps.{IsQuiet, quiet_looked, read_first, read_last, stuck_last}
@@ -209,24 +210,21 @@ reached_saying _ of e saying = saying
 
 -- ---- refusals
 
--- how full a memory was at a making
-full_here : (t : Told) (b : Option Bounds) (live : ℕ) → ForBounds b (λ b. Lives t b live) → ForBounds b (WasFull 0 live)
-full_here t None live h = h
-full_here t (Some b) live (inl h) = inl (h.0, h.1, (let lives = h.2 in omega arith))
-full_here t (Some b) live (inr h) = inr (let many = h.0 in omega arith)
-
 -- why an access was refused, as far as no row is named
-pub refused_caused : (old new : Told) (a : Access) (f : MemFault) → Refuses old new (Does a) f → IsCaused old new f
-refused_caused old new a (CoreFull need) x = x.cause.0
-refused_caused old new a (WorkFull live room) x = (x.cause.0, (0, record { counts = x.counts; next = λ told. (let same = (x.left.heap told).next in omega arith) }, full_here old old.bounds live x.cause.1))
-refused_caused old new a (WorkFault count) x = x.cause
-refused_caused old new a (Damaged place name) x = x.cause
-refused_caused old new a NamesSpent x = tt
-refused_caused old new a (Said count) x = (x.cause.0, x.cause.1)
-refused_caused old new a Memory x = x.cause.0
+pub refused_caused : (old new : Told) (a : Access) (f : MemFault) → IsReady old → IsLater old new → Refuses old new (Does a) f → IsCaused old new f
+refused_caused old new a (CoreFull need) ready later x = x.cause.0
+refused_caused old new a (WorkFull live room) ready later x = (
+  lives_left old new old.bounds new.bounds live room x.counts (λ now. kept_left old new ready x.left later (sym later.tells ∙ now)) (λ now. sym later.tells ∙ now) x.cause.0 x.cause.1,
+  (0, record { counts = x.counts; next = λ told. (let same = (x.left.heap told).next in omega arith) }),
+)
+refused_caused old new a (WorkFault count) ready later x = x.cause
+refused_caused old new a (Damaged place name) ready later x = x.cause
+refused_caused old new a NamesSpent ready later x = tt
+refused_caused old new a (Said count) ready later x = (x.cause.0, x.cause.1)
+refused_caused old new a Memory ready later x = x.cause.0
 
-pub refused_reason : (old new : Told) (a : Access) (f : MemFault) → Refuses old new (Does a) f → IsRefused old new f
-refused_reason old new a f x = record { rose = x.rose; last = x.last; cause = refused_caused old new a f x }
+pub refused_reason : (old new : Told) (a : Access) (f : MemFault) → IsReady old → IsLater old new → Refuses old new (Does a) f → IsRefused old new f
+refused_reason old new a f ready later x = record { rose = x.rose; last = x.last; cause = refused_caused old new a f ready later x }
 
 -- it said nothing
 pub refused_silent : (old new : Told) (a : Access) (f : MemFault) → (IsSaying (Does a) → ⊥) → SaysRefused (Does a) old new f → IsTrue old.speaks → new.transcript ≡ old.transcript
@@ -267,7 +265,7 @@ pub row_refused : {A B : Type 0} {old new : Told} {cpu : Cpu} {rule : Rule B} {f
 row_refused {A} {B} {old} {new} {cpu} {rule} {f} v a rows one makes says need ready there x = record {
   later = x.later;
   ready = tt;
-  reason = refused_reason old new a f x.err;
+  reason = refused_reason old new a f ready x.later x.err;
   counts = tt;
   vault = tt;
   silent = refused_silent old new a f says x.err.transcript;

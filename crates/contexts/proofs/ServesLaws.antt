@@ -7,13 +7,13 @@ use Rattle.object_memory.specs.declared.fault.Need.{Need}
 use Rattle.object_memory.specs.declared.fault.MemFault.{MemFault}
 use Rattle.object_memory.specs.declared.fault.MemFault.TheVariants.{CoreFull, WorkFull, WorkFault, Damaged, NamesSpent, Said, Memory}
 use Rattle.object_memory.specs.Told.{Told, Bounds}
-use Rattle.object_memory.specs.Contract.{ForBounds, SameBounds, IsLater, Raised, work_faults, said_faults}
+use Rattle.object_memory.specs.Contract.{SameBounds, IsLater, work_faults, said_faults}
 use Rattle.object_memory.proofs.LaterLaws.{IsLater-trans, Raised-refl, Raised-then}
 use Rattle.blue_model.specs.declared.cpu.Cpu.{Cpu}
 use Rattle.blue_model.specs.Machine.{Machine, LogRow, Outcome, Go, Halt, Spent, Rule, log_of, after, then_do, ◌>>=◌}
 use Rattle.contexts.specs.declared.stop.Stop.{Stop}
 use Rattle.contexts.specs.declared.stop.Stop.TheVariants.{Stuck, Mem}
-use Rattle.contexts.specs.Serves.{Stands, IsLogged, HasMaking, IsGo, MaySay, Allows, AllowsAs, Gives, GivesAs, WasFull, IsCounted, IsCaused, HasReason, SaidNothing, Says, ServesAs, Serves}
+use Rattle.contexts.specs.Serves.{Stands, IsLogged, HasMaking, IsGo, MaySay, Allows, AllowsAs, Gives, GivesAs, IsCounted, IsCaused, HasReason, SaidNothing, Says, ServesAs, Serves}
 
 -- ---- counts
 
@@ -46,17 +46,9 @@ faults_later (Some a) (Some b) l = (l.3, l.4)
 Rose-earlier : (a b c : ℕ) → a ≤ b → Rose b c → Rose a c
 Rose-earlier a b c p q = omega arith
 
--- makings that came before the ones after which there was no room
-full_earlier : (a b : Option Bounds) (j k live : ℕ) → Raised j a b → ForBounds b (WasFull k live) → ForBounds a (WasFull (j + k) live)
-full_earlier None None j k live p q = q
-full_earlier None (Some y) j k live p q = absurd p
-full_earlier (Some x) None j k live p q = absurd p
-full_earlier (Some x) (Some y) j k live p (inl q) = inl (q.0, sym p.0 ∙ q.1, (let made = p.1 in let lives = q.2 in omega arith))
-full_earlier (Some x) (Some y) j k live p (inr q) = inr (let made = p.1 in omega arith)
-
 IsCaused-earlier : (a b c : Told) (f : MemFault) → IsLater a b → HasCounted a b → IsCaused b c f → IsCaused a c f
 IsCaused-earlier a b c (CoreFull need) l n q = q
-IsCaused-earlier a b c (WorkFull live room) l n q = (q.0, (n.0 + q.1.0, IsCounted-trans n.0 q.1.0 a b c l n.1 q.1.1, full_earlier a.bounds b.bounds n.0 q.1.0 live n.1.counts q.1.2))
+IsCaused-earlier a b c (WorkFull live room) l n q = (q.0, (n.0 + q.1.0, IsCounted-trans n.0 q.1.0 a b c l n.1 q.1.1))
 IsCaused-earlier a b c (WorkFault count) l n q = (q.0, Rose-earlier (work_faults a.bounds) (work_faults b.bounds) (work_faults c.bounds) (faults_later a.bounds b.bounds l.bounds).0 q.1)
 IsCaused-earlier a b c (Damaged place name) l n q = λ told. q (l.tells ∙ told)
 IsCaused-earlier a b c NamesSpent l n q = tt

@@ -201,7 +201,7 @@ unfolding say
 say_refused {Z} {old} {new} {cpu} {f} of ready may x = record {
   later = x.later;
   ready = tt;
-  reason = refused_reason old new (Say of) f x.err;
+  reason = refused_reason old new (Say of) f ready x.later x.err;
   counts = tt;
   vault = tt;
   silent = silent f x.err.transcript;

@@ -1,5 +1,5 @@
 -- Objects that change places.
-use Rattle.std.proofs.Common.{◌≡◌, ℕ, ◌<◌, ◌≤◌, Bool, true, false, ◌&&◌, cond, ◌++◌, Option, Some, Ok, Err, IsTrue, inl, inr, refl, sym, ◌∙◌, ap, ap₂, subst, arith}
+use Rattle.std.proofs.Common.{◌≡◌, ℕ, ◌≤◌, Bool, true, false, ◌&&◌, cond, ◌++◌, Option, Ok, Err, IsTrue, inl, inr, refl, sym, ◌∙◌, ap, ap₂, subst, arith}
 use Rattle.std.proofs.lemmas.Grind.{common_steps}
 use Rattle.long_names.specs.declared.value.Value.{Value}
 use Rattle.long_names.specs.declared.value.Value.TheVariants.{Int, Ref}
@@ -17,7 +17,7 @@ use Rattle.object_memory.proofs.LaterLaws.{IsLater-refl}
 use Rattle.object_memory.proofs.LeftLaws.{heap_over}
 use Rattle.blue_model.specs.declared.cause.Cause.TheVariants.{Shape}
 use Rattle.blue_model.specs.declared.cpu.Cpu.{Cpu}
-use Rattle.blue_model.specs.Machine.{Machine, Outcome, rows_at, log_of, is_there, is_unpinned, is_free, swapped, swap}
+use Rattle.blue_model.specs.Machine.{Machine, Outcome, rows_at, log_of, is_unpinned, is_free, swapped, swap}
 use Rattle.blue_model.proofs.LawSteps.{next_swapped}
 use Rattle.contexts.specs.declared.stop.Stop.TheVariants.{Stuck, Mem}
 use Rattle.contexts.specs.Serves.{Stands, IsLogged, Gives, Allows, Serves}
@@ -122,7 +122,7 @@ unfolding swap
 swap_refused {Z} {old} {new} {cpu} {f} a b ready first second x = record {
   later = x.later;
   ready = tt;
-  reason = refused_reason old new (Swap a b) f x.err;
+  reason = refused_reason old new (Swap a b) f ready x.later x.err;
   counts = tt;
   vault = tt;
   silent = refused_silent old new (Swap a b) f (λ says. says) x.err.transcript;

@@ -9,8 +9,8 @@ use Rattle.long_names.specs.Thin.{IsThinner}
 use Rattle.object_memory.specs.declared.fault.Need.{Need}
 use Rattle.object_memory.specs.declared.fault.MemFault.{MemFault}
 use Rattle.object_memory.specs.declared.fault.MemFault.TheVariants.{CoreFull, WorkFull, WorkFault, Damaged, NamesSpent, Said, Memory}
-use Rattle.object_memory.specs.Told.{Told, Bounds, IsReady}
-use Rattle.object_memory.specs.Contract.{ForBounds, NoBounds, IsLater, Raised, work_faults, said_faults, LeavesAll}
+use Rattle.object_memory.specs.Told.{Told, IsReady}
+use Rattle.object_memory.specs.Contract.{ForBounds, NoBounds, IsLater, Raised, Lives, work_faults, said_faults, LeavesAll}
 use Rattle.blue_model.specs.declared.cpu.Cpu.{Cpu}
 use Rattle.blue_model.specs.Cycle.{is_message}
 use Rattle.blue_model.specs.Machine.{Machine, MACHINE_REGISTERS, LogRow, Outcome, Go, Halt, Spent, Rule, log_of}
@@ -102,19 +102,15 @@ Gives new now answer o = GivesAs None new now answer o
 
 -- ---- why a memory refused, as far as no row is named
 
--- So many makings came before one that found no room for so many living objects: they are counted from the last settling, or are
--- eight or more.
-abbrev pub WasFull : ℕ → ℕ → Bounds → Type 0
-WasFull makings live b = ((base : ℕ) × (b.base ≡ Some base) × (live ≡ base + b.made + makings + 1)) ⊎ (8 ≤ b.made + makings)
-
 -- base stays, made rises by so many makings, and the next name by two for each
 pub record IsCounted (makings : ℕ) (old new : Told) : Type 0 where
   pub counts : Raised makings old.bounds new.bounds
   pub next : IsTrue old.tells → new.heap.next ≡ old.heap.next + 2 * makings
 
+-- Where there was no room, the objects that live are counted in what the refused making left, and so many makings came before it.
 abbrev pub IsCaused : Told → Told → MemFault → Type 0
 IsCaused old new (CoreFull need) = ForBounds new.bounds (λ b. Fits b.core b.entries need.words need.entries → ⊥)
-IsCaused old new (WorkFull live room) = ForBounds new.bounds (λ b. (b.room ≡ room) × (room < live)) × ((makings : ℕ) × IsCounted makings old new × ForBounds old.bounds (WasFull makings live))
+IsCaused old new (WorkFull live room) = ForBounds new.bounds (λ b. (b.room ≡ room) × (room < live) × Lives new b live) × ((makings : ℕ) × IsCounted makings old new)
 IsCaused old new (WorkFault count) = ForBounds new.bounds (λ b. b.work_faults ≡ count) × Rose (work_faults old.bounds) (work_faults new.bounds)
 IsCaused old new (Damaged place name) = IsTrue old.tells → ⊥
 IsCaused old new NamesSpent = Unit {0}

@@ -61,6 +61,19 @@ pub fn field<M: ObjectMemory>(m: &mut M, to: Reg, of: Reg, least: u32, i: u32) -
     Ok(())
 }
 
+/// Loads field i of an object of pointers that was asked for its length, and has the field.
+pub(crate) fn field_within<M: ObjectMemory>(m: &mut M, to: Reg, of: Reg, i: u32) -> Result<(), Stop>
+    requires fit { IsFit M.ObjectMemory m.old }
+    requires scratch { MACHINE_REGISTERS ≤ to }
+    requires within { HasPartAt (M.told m.old) of pointers_of (λ xs. i < length xs) }
+    ensures serves { (cpu : Numbers) → Serves (M.told m.old) cpu (M.told m.new) cpu (part Shape (field 0 i) ((M.told m.old).regs of)) (with_value result ((M.told m.new).regs to)) }
+    ensures looks { OnOk result (Looks (to ∷ []) (M.told m.old) (M.told m.new)) }
+    ensures fit { StaysFit M.ObjectMemory m.old m.new result }
+{
+    m.field(to, of, i)?;
+    Ok(())
+}
+
 /// The number in field i of the object of pointers that a register names. It has at least so many fields. The field is loaded into a
 /// scratch register.
 pub fn number<M: ObjectMemory>(m: &mut M, to: Reg, of: Reg, least: u32, i: u32) -> Result<i16, Stop>
@@ -233,6 +246,23 @@ pub fn store_field<M: ObjectMemory>(m: &mut M, of: Reg, i: u32, from: Reg) -> Re
     if !shape::has_field(m, of, i)? {
         return Err(Stop::Stuck(Cause::Shape));
     }
+    m.set_field(of, i, from)?;
+    Ok(())
+}
+
+/// Stores into field i of an object of pointers that was asked for its length, and has the field.
+pub(crate) fn store_within<M: ObjectMemory>(
+    m: &mut M,
+    of: Reg,
+    i: u32,
+    from: Reg,
+) -> Result<(), Stop>
+    requires fit { IsFit M.ObjectMemory m.old }
+    requires within { HasPartAt (M.told m.old) of pointers_of (λ xs. i < length xs) }
+    ensures serves { (cpu : Numbers) → Serves (M.told m.old) cpu (M.told m.new) cpu (store_field ((M.told m.old).regs of) i ((M.told m.old).regs from)) result }
+    ensures regs { OnOk result ((M.told m.new).regs ≡ (M.told m.old).regs) }
+    ensures fit { StaysFit M.ObjectMemory m.old m.new result }
+{
     m.set_field(of, i, from)?;
     Ok(())
 }

@@ -10,7 +10,7 @@ ghost use Rattle.object_memory.specs.Calls.{IsFit};
 ghost use Rattle.contexts.specs.Calls.{StaysFit};
 
 use crate::numbers::{lower, place_above, place_at, raise};
-use crate::parts::{field, size, store_field};
+use crate::parts::{field_within, size, store_within};
 use crate::stop::Stop;
 use blue_model::{Cause, Cpu};
 use object_memory::{ObjectMemory, Reg};
@@ -27,7 +27,7 @@ pub fn push<M: ObjectMemory>(m: &mut M, cpu: &mut Cpu, from: Reg) -> Result<(), 
     let Some(place) = place_above(cpu, len) else {
         return Err(Stop::Stuck(Cause::Stack));
     };
-    store_field(m, Reg::ACTIVE_CONTEXT, place, from)?;
+    store_within(m, Reg::ACTIVE_CONTEXT, place, from)?;
     raise(cpu);
     Ok(())
 }
@@ -45,7 +45,7 @@ pub fn stack<M: ObjectMemory>(m: &mut M, cpu: &Cpu, to: Reg, depth: u32) -> Resu
     let Some(place) = place_at(cpu, depth, len) else {
         return Err(Stop::Stuck(Cause::Stack));
     };
-    field(m, to, Reg::ACTIVE_CONTEXT, 0, place)?;
+    field_within(m, to, Reg::ACTIVE_CONTEXT, place)?;
     Ok(())
 }
 
@@ -60,7 +60,7 @@ pub fn put_stack<M: ObjectMemory>(m: &mut M, cpu: &Cpu, depth: u32, from: Reg) -
     let Some(place) = place_at(cpu, depth, len) else {
         return Err(Stop::Stuck(Cause::Stack));
     };
-    store_field(m, Reg::ACTIVE_CONTEXT, place, from)?;
+    store_within(m, Reg::ACTIVE_CONTEXT, place, from)?;
     Ok(())
 }
 

@@ -1,9 +1,12 @@
 use Rattle.std.proofs.Common.{refl}
-use Rattle.blue_model.proofs.GuardLaws.{guarded_serial, guarded_vault, guarded_counts}
+use Rattle.blue_model.proofs.GuardLaws.{guarded_serial, broken_serial, guarded_vault, guarded_counts}
 use Rattle.blue_model.proofs.checkpoint_laws.a_guarded_run_counts_its_checkpoints.Goals as goal
 
 pub returns-clause-serial : goal.returns-clause-serial
 returns-clause-serial c = guarded_serial
+
+pub returns-clause-broken : goal.returns-clause-broken
+returns-clause-broken c = broken_serial
 
 pub returns-clause-vault : goal.returns-clause-vault
 returns-clause-vault c = guarded_vault

@@ -3,6 +3,7 @@ use Rattle.object_memory.proofs.LooksLaws.{regs_looked}
 use Rattle.blue_model.specs.Contexts.{push}
 use Rattle.contexts.proofs.ServesLaws.{serves_then, serves_exit}
 use Rattle.contexts.proofs.Steps.{register_then, numbers_then, given_then, given_stuck, set_numbers_at}
+use Rattle.contexts.proofs.PartLaws.{sized_within}
 use Rattle.contexts.proofs.stacks.push.Goals as goal
 
 pub returns-in_err-len-clause-serves : goal.returns-in_err-len-clause-serves
@@ -13,16 +14,19 @@ pub returns-in_default-clause-serves : goal.returns-in_default-clause-serves
 unfolding push
 returns-in_default-clause-serves g c = numbers_then _ (register_then _ _ refl (serves_then _ (c.in_ok-len.ensures.serves _) (given_stuck _ _ (λ told. sym c.in_default.ensures.place))))
 
-pub returns-in_err-store_field-clause-serves : goal.returns-in_err-store_field-clause-serves
+pub store_within-requires-clause-within : goal.store_within-requires-clause-within
+store_within-requires-clause-within g c = sized_within c.in_ok-len.len c.in-Some.place c.in-Some.ensures.within c.in_ok-len.ensures.there
+
+pub returns-in_err-store_within-clause-serves : goal.returns-in_err-store_within-clause-serves
 unfolding push
-returns-in_err-store_field-clause-serves g c =
+returns-in_err-store_within-clause-serves g c =
     let same = regs_looked _ _ c.in_ok-len.ensures.looks in
     numbers_then _ (register_then _ _ refl (serves_then _ (c.in_ok-len.ensures.serves _) (given_then _ _ _ _ (λ told. sym c.in-Some.ensures.place)
-    (serves_exit _ _ (rw same at c.in_err-store_field.ensures.serves _) c.from_residual-in_err-store_field.ensures.1))))
+    (serves_exit _ _ (rw same at c.in_err-store_within.ensures.serves _) c.from_residual-in_err-store_within.ensures.1))))
 
 pub returns-clause-serves : goal.returns-clause-serves
 unfolding push
 returns-clause-serves g c =
     let same = regs_looked _ _ c.in_ok-len.ensures.looks in
     numbers_then _ (register_then _ _ refl (serves_then _ (c.in_ok-len.ensures.serves _) (given_then _ _ _ _ (λ told. sym c.in-Some.ensures.place)
-    (serves_then _ (rw same at c.in_ok-store_field.ensures.serves _) (set_numbers_at _ c.raise.ensures (λ may. may) c.in_ok-store_field.ensures.fit.ready)))))
+    (serves_then _ (rw same at c.in_ok-store_within.ensures.serves _) (set_numbers_at _ c.raise.ensures (λ may. may) c.in_ok-store_within.ensures.fit.ready)))))

@@ -4,6 +4,7 @@ use Rattle.blue_model.specs.Contexts.{stack}
 use Rattle.contexts.proofs.ServesLaws.{serves_then, serves_stop}
 use Rattle.contexts.proofs.ReadLaws.{exits_with}
 use Rattle.contexts.proofs.Steps.{register_then, numbers_then, given_then, given_stuck}
+use Rattle.contexts.proofs.PartLaws.{sized_within}
 use Rattle.contexts.proofs.stacks.stack.Goals as goal
 
 pub returns-in_err-len-clause-serves : goal.returns-in_err-len-clause-serves
@@ -14,17 +15,20 @@ pub returns-in_default-clause-serves : goal.returns-in_default-clause-serves
 unfolding stack
 returns-in_default-clause-serves g c = numbers_then _ (register_then _ _ refl (serves_then _ (c.in_ok-len.ensures.serves _) (given_stuck _ _ (λ told. sym c.in_default.ensures.place))))
 
-pub returns-in_err-field-clause-serves : goal.returns-in_err-field-clause-serves
+pub field_within-requires-clause-within : goal.field_within-requires-clause-within
+field_within-requires-clause-within g c = sized_within c.in_ok-len.len c.in-Some.place c.in-Some.ensures.within c.in_ok-len.ensures.there
+
+pub returns-in_err-field_within-clause-serves : goal.returns-in_err-field_within-clause-serves
 unfolding stack
-returns-in_err-field-clause-serves g c =
+returns-in_err-field_within-clause-serves g c =
     let same = regs_looked _ _ c.in_ok-len.ensures.looks in
-    exits_with _ _ c.from_residual-in_err-field.ensures.1 (numbers_then _ (register_then _ _ refl (serves_then _ (c.in_ok-len.ensures.serves _) (given_then _ _ _ _ (λ told. sym c.in-Some.ensures.place) (rw same at c.in_err-field.ensures.serves _)))))
+    exits_with _ _ c.from_residual-in_err-field_within.ensures.1 (numbers_then _ (register_then _ _ refl (serves_then _ (c.in_ok-len.ensures.serves _) (given_then _ _ _ _ (λ told. sym c.in-Some.ensures.place) (rw same at c.in_err-field_within.ensures.serves _)))))
 
 pub returns-clause-serves : goal.returns-clause-serves
 unfolding stack
 returns-clause-serves g c =
     let same = regs_looked _ _ c.in_ok-len.ensures.looks in
-    numbers_then _ (register_then _ _ refl (serves_then _ (c.in_ok-len.ensures.serves _) (given_then _ _ _ _ (λ told. sym c.in-Some.ensures.place) (rw same at c.in_ok-field.ensures.serves _))))
+    numbers_then _ (register_then _ _ refl (serves_then _ (c.in_ok-len.ensures.serves _) (given_then _ _ _ _ (λ told. sym c.in-Some.ensures.place) (rw same at c.in_ok-field_within.ensures.serves _))))
 
 pub returns-clause-looks : goal.returns-clause-looks
-returns-clause-looks g c = Looks-trans [] (c.args.to ∷ []) _ _ _ c.in_ok-len.ensures.fit.ready c.in_ok-len.ensures.looks c.in_ok-field.ensures.looks
+returns-clause-looks g c = Looks-trans [] (c.args.to ∷ []) _ _ _ c.in_ok-len.ensures.fit.ready c.in_ok-len.ensures.looks c.in_ok-field_within.ensures.looks
