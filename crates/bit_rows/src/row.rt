@@ -1,8 +1,8 @@
 // One row between distinct lists of words.
 ghost use Rattle.std.specs.Prelude.{◌≡◌, ◌+◌, ◌-◌, ◌*◌, ◌/◌, ◌^◌, ◌<◌, ◌≤◌, ℕ, length, min, slice_index};
 ghost use Rattle.long_names.specs.declared.limits.TheConstants.{MOST_FIELDS};
+ghost use Rattle.blue_model.specs.declared.limits.TheConstants.{COMBINATION_RULES};
 ghost use Rattle.blue_model.specs.Forms.{left_bit, bit};
-ghost use Rattle.bit_rows.specs.declared.word.TheConstants.{COMBINATION_RULES};
 ghost use Rattle.bit_rows.specs.Rows.{row_bit};
 
 use crate::word::{blend, source_word};

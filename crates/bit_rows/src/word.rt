@@ -1,12 +1,9 @@
 // One word of a row: the rule, the mask, and a source word put together from two.
 ghost use Rattle.std.specs.Prelude.{◌≡◌, ◌+◌, ◌*◌, ◌/◌, ◌<◌, ◌≤◌, ℕ, [], ◌∷◌, if◌then◌else◌, nat_lt};
+ghost use Rattle.blue_model.specs.declared.limits.TheConstants.{COMBINATION_RULES};
 ghost use Rattle.blue_model.specs.Forms.{left_bit, bit};
 ghost use Rattle.blue_model.specs.BitBlt.{rule_bit};
 ghost use Rattle.bit_rows.specs.Rows.{within};
-ghost use Rattle.bit_rows.specs.declared.word.TheConstants.{COMBINATION_RULES};
-
-/// There are so many rules, numbered from 0 on.
-pub const COMBINATION_RULES: u8 = 16;
 
 /// What a rule makes of a source word and a destination word, bit by bit.
 pub fn combine(rule: u8, s: u16, d: u16) -> u16

@@ -2,10 +2,10 @@
 use Rattle.std.specs.Prelude.{ℕ, Bool, true, false, ◌≡◌, ◌+◌, ◌-◌, ◌*◌, ◌/◌, ◌%◌, ◌<◌, ◌≤◌, ◌&&◌, ◌||◌, List, Option, Some, None, length, map, min, slice_index, nat_lt, if◌then◌else◌}
 use Rattle.std.specs.List.{range_with_len}
 use Rattle.long_names.specs.Kept.{any_below}
+use Rattle.blue_model.specs.declared.limits.TheConstants.{COMBINATION_RULES}
 use Rattle.blue_model.specs.Forms.{bit, number_of}
 use Rattle.blue_model.specs.BitBlt.{rule_bit, halftone_pixel}
 use Rattle.bit_rows.specs.Rows.{within}
-use Rattle.bit_rows.specs.declared.word.TheConstants.{COMBINATION_RULES}
 use Rattle.bitblt.specs.declared.transfer.Transfer.{Transfer}
 
 -- the pixel in column x and row y of a form whose rows have so many words

@@ -3,20 +3,20 @@ ghost use Rattle.std.specs.Prelude.{◌≡◌, ◌+◌, [], ◌∷◌, OnOk, IfO
 ghost use Rattle.object_memory.specs.Told.{IsReady};
 ghost use Rattle.object_memory.specs.Shape.{Looks};
 ghost use Rattle.blue_model.specs.declared.indexes.TheConstants.{BITBLT_SIZE};
+ghost use Rattle.blue_model.specs.declared.limits.TheConstants.{COMBINATION_RULES};
 ghost use Rattle.blue_model.specs.declared.cpu.Cpu.{Cpu as Numbers};
 ghost use Rattle.blue_model.specs.Trials.{peek};
 ghost use Rattle.blue_model.specs.BitBlt as model;
-ghost use Rattle.bit_rows.specs.declared.word.TheConstants.{COMBINATION_RULES};
 ghost use Rattle.contexts.specs.Serves.{Serves, StaysSound};
 ghost use Rattle.bitblt.specs.Asking.{place_at, places_found, asked_found};
 ghost use Rattle.object_memory.specs.Calls.{IsFit};
 ghost use Rattle.contexts.specs.Calls.{StaysFit};
 
-use bit_rows::COMBINATION_RULES;
 use blue_model::indexes::{
     BITBLT_SIZE, BLIT_WIDTH_INDEX, CLIP_WIDTH_INDEX, CLIP_X_INDEX, COMBINATION_RULE_INDEX, DEST_X_INDEX,
     SOURCE_X_INDEX,
 };
+use blue_model::limits::COMBINATION_RULES;
 use contexts::Stop;
 use contexts::peeks::peek_number;
 use object_memory::{ObjectMemory, Reg};
@@ -61,7 +61,7 @@ fn rule_number(z: i16) -> Option<u8>
     ensures number { result ≡ model.rule_number z }
     ensures range { IfSome result (λ rule. rule < COMBINATION_RULES) }
 {
-    if 0 <= z && z < i16::from(COMBINATION_RULES) {
+    if 0 <= z && z < COMBINATION_RULES as i16 {
         Some(z as u8)
     } else {
         None

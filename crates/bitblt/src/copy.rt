@@ -3,12 +3,12 @@ ghost use Rattle.std.specs.Prelude.{◌≡◌, ◌≤◌, ◌<◌, true, false, 
 ghost use Rattle.long_names.specs.Objects.{words_of};
 ghost use Rattle.object_memory.specs.Told.{IsReady};
 ghost use Rattle.object_memory.specs.Shape.{Looks, HasPartAt};
+ghost use Rattle.blue_model.specs.declared.limits.TheConstants.{COMBINATION_RULES};
 ghost use Rattle.blue_model.specs.declared.cpu.Cpu.{Cpu as Numbers};
 ghost use Rattle.blue_model.specs.Forms as forms;
 ghost use Rattle.bitblt.specs.Blits.{look_at_source};
 ghost use Rattle.blue_model.specs.BitBlt as model;
 ghost use Rattle.contexts.specs.Serves.{Serves, StaysSound};
-ghost use Rattle.bit_rows.specs.declared.word.TheConstants.{COMBINATION_RULES};
 ghost use Rattle.forms.specs.declared.form.TheConstants.{HALFTONE_WORDS};
 ghost use Rattle.forms.specs.declared.form.Extent.{Extent};
 ghost use Rattle.bitblt.specs.declared.copy.TheConstants.{BLACK};

@@ -4,6 +4,7 @@ ghost use Rattle.long_names.specs.declared.limits.TheConstants.{SMALL_INTEGERS, 
 ghost use Rattle.long_names.specs.Words.{IsSmallInteger};
 ghost use Rattle.object_memory.specs.Told.{IsReady};
 ghost use Rattle.object_memory.specs.Shape.{Looks};
+ghost use Rattle.blue_model.specs.declared.limits.TheConstants.{MOST_ARGUMENTS};
 ghost use Rattle.blue_model.specs.declared.cpu.Cpu.{Cpu as Numbers};
 ghost use Rattle.blue_model.specs.Machine.{each};
 ghost use Rattle.blue_model.specs.Control as model;
@@ -90,7 +91,7 @@ fn enter_block<M: ObjectMemory>(m: &mut M, cpu: &mut Cpu, n: u32, ip: i16) -> Re
 fn pass_argument<M: ObjectMemory>(m: &mut M, cpu: &Cpu, n: u32, k: u32) -> Result<(), Stop>
     requires fit { IsFit M.ObjectMemory m.old }
     requires argument { k < n }
-    requires few { n < 256 }
+    requires few { n ≤ MOST_ARGUMENTS }
     ensures serves { Serves (M.told m.old) cpu.now (M.told m.new) cpu.now (model.pass_argument n ((M.told m.old).regs 10) k) result }
     ensures regs { OnOk result ((r : ℕ) → (r ≡ 19 → ⊥) → (M.told m.new).regs r ≡ (M.told m.old).regs r) }
     ensures fit { StaysFit M.ObjectMemory m.old m.new result }
@@ -103,7 +104,7 @@ fn pass_argument<M: ObjectMemory>(m: &mut M, cpu: &Cpu, n: u32, k: u32) -> Resul
 /// Copies the n arguments, in order, to the stack of the block in R10.
 fn pass_arguments<M: ObjectMemory>(m: &mut M, cpu: &Cpu, n: u32) -> Result<(), Stop>
     requires fit { IsFit M.ObjectMemory m.old }
-    requires few { n < 256 }
+    requires few { n ≤ MOST_ARGUMENTS }
     ensures serves { Serves (M.told m.old) cpu.now (M.told m.new) cpu.now (each (model.pass_argument n ((M.told m.old).regs 10)) n) result }
     ensures regs { OnOk result ((r : ℕ) → (r ≡ 19 → ⊥) → (M.told m.new).regs r ≡ (M.told m.old).regs r) }
     ensures fit { StaysFit M.ObjectMemory m.old m.new result }

@@ -13,7 +13,8 @@ ghost use Rattle.object_memory.specs.Calls.{IsFit};
 ghost use Rattle.contexts.specs.Calls.{StaysFit};
 ghost use Rattle.contexts.specs.Keeping.{NeverKeeps};
 
-use crate::elements::{element_at, store_element};
+use crate::elements::element_at;
+use crate::endings::store_and_answer;
 use crate::indexes::natural_argument;
 use crate::operands::{one_argument, two_arguments, variable_place};
 use crate::specifications::{
@@ -143,8 +144,5 @@ pub(crate) fn instance_variable_at_put<M: ObjectMemory>(
     let Some(spot) = variable_place(m)? else {
         return Ok(Answer::Failed);
     };
-    if !store_element(m, Reg::R10, spot, Reg::R12)? {
-        return Ok(Answer::Failed);
-    }
-    answer(m, cpu, 2, Reg::R12)
+    store_and_answer(m, cpu, spot)
 }

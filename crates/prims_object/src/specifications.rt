@@ -5,30 +5,19 @@ ghost use Rattle.long_names.specs.Words.{IsSmallInteger, unsigned_of};
 ghost use Rattle.object_memory.specs.Told.{IsReady};
 ghost use Rattle.object_memory.specs.Shape.{Looks};
 ghost use Rattle.blue_model.specs.declared.cpu.Cpu.{Cpu as Numbers};
+ghost use Rattle.blue_model.specs.declared.limits.TheConstants.{FIXED_FIELDS};
 ghost use Rattle.blue_model.specs.Elements as model;
 ghost use Rattle.contexts.specs.Serves.{Serves, StaysSound};
 ghost use Rattle.object_memory.specs.Calls.{IsFit};
 ghost use Rattle.contexts.specs.Calls.{StaysFit};
-ghost use Rattle.prims_object.specs.declared.specifications.TheConstants.{FIXED_FIELDS};
 
 use blue_model::indexes::{CLASS_SIZE, INSTANCE_SPECIFICATION_INDEX};
+use blue_model::limits::{FIXED_FIELDS, INDEXABLE_BIT, POINTERS_BIT, WORDS_BIT};
 use contexts::Stop;
 use contexts::parts::class_of;
 use contexts::peeks::peek_number;
 use long_names::SMALL_INTEGERS;
 use object_memory::{ObjectMemory, Reg, shape};
-
-/// Of an instance specification: instances are objects of values.
-const POINTERS_BIT: u32 = 16_384;
-
-/// Instances that have no values have words.
-const WORDS_BIT: u32 = 8_192;
-
-/// Instances have elements behind their fixed fields.
-const INDEXABLE_BIT: u32 = 4_096;
-
-/// The number of fixed fields is below this number.
-const FIXED_FIELDS: u32 = 2_048;
 
 /// The fifteen bits of a SmallInteger.
 fn bits(specification: i16) -> u32

@@ -1,5 +1,5 @@
 // The stream primitives 65 to 67 (chapter 29). The stream is in R10, the value in R12, the stream's array in R13.
-ghost use Rattle.std.specs.Prelude.{◌≡◌, ◌<◌, ◌+◌, ℕ, ℤ, pos, nat_lt, [], ◌∷◌, OnOk, IfOk, IfSome, Bool};
+ghost use Rattle.std.specs.Prelude.{◌≡◌, ◌<◌, ◌≤◌, ◌+◌, ℕ, ℤ, pos, nat_lt, [], ◌∷◌, OnOk, IfOk, IfSome, Bool};
 ghost use Rattle.std.specs.Int.Signed.{lt_z};
 ghost use Rattle.long_names.specs.declared.limits.TheConstants.{SMALL_INTEGERS};
 ghost use Rattle.long_names.specs.declared.value.Value.{Value};
@@ -8,7 +8,9 @@ ghost use Rattle.object_memory.specs.Told.{IsReady};
 ghost use Rattle.object_memory.specs.Shape.{Looks};
 ghost use Rattle.blue_model.specs.declared.answer.Answer.{Answer as Answers};
 ghost use Rattle.blue_model.specs.declared.cpu.Cpu.{Cpu as Numbers};
-ghost use Rattle.blue_model.specs.Machine.{Rule};
+ghost use Rattle.blue_model.specs.declared.limits.TheConstants.{MOST_ARGUMENTS};
+ghost use Rattle.blue_model.specs.Machine.{Rule, ◌>>◌};
+ghost use Rattle.blue_model.specs.Trials.{answer as answer_rule};
 ghost use Rattle.blue_model.specs.Storage as model;
 ghost use Rattle.contexts.specs.Serves.{Serves, StaysSound, with_found};
 ghost use Rattle.prims_object.specs.Leads.{Leads};
@@ -224,6 +226,24 @@ fn put_streamed<M: ObjectMemory>(m: &mut M, text: bool, spot: Spot) -> Result<bo
     store_element(m, Reg::R13, spot, Reg::R12)
 }
 
+/// One element more of the stream in R10 was read or written, and the value in R12 is answered to a message of n arguments.
+fn advance_and_answer<M: ObjectMemory>(
+    m: &mut M,
+    cpu: &mut Cpu,
+    index: u32,
+    n: u32,
+) -> Result<Answer, Stop>
+    requires fit { IsFit M.ObjectMemory m.old }
+    requires few { index + 1 < SMALL_INTEGERS }
+    requires arguments { n ≤ MOST_ARGUMENTS }
+    ensures serves { Serves (M.told m.old) cpu.old (M.told m.new) cpu.new (model.advance ((M.told m.old).regs 10) index >> answer_rule n ((M.told m.old).regs 12)) result }
+    ensures never_keeps { NeverKeeps result }
+    ensures fit { StaysFit M.ObjectMemory m.old m.new result }
+{
+    advance(m, index)?;
+    answer(m, cpu, n, Reg::R12)
+}
+
 /// Answers the next element of a stream (primitiveNext).
 pub(crate) fn next<M: ObjectMemory>(m: &mut M, cpu: &mut Cpu) -> Result<Answer, Stop>
     requires fit { IsFit M.ObjectMemory m.old }
@@ -241,8 +261,7 @@ pub(crate) fn next<M: ObjectMemory>(m: &mut M, cpu: &mut Cpu) -> Result<Answer, 
     if !streamed_element(m, stream.text, spot)? {
         return Ok(Answer::Failed);
     }
-    advance(m, stream.index)?;
-    answer(m, cpu, 0, Reg::R12)
+    advance_and_answer(m, cpu, stream.index, 0)
 }
 
 /// Stores the next element of a stream, and answers it (primitiveNextPut).
@@ -263,8 +282,7 @@ pub(crate) fn next_put<M: ObjectMemory>(m: &mut M, cpu: &mut Cpu) -> Result<Answ
     if !put_streamed(m, stream.text, spot)? {
         return Ok(Answer::Failed);
     }
-    advance(m, stream.index)?;
-    answer(m, cpu, 1, Reg::R12)
+    advance_and_answer(m, cpu, stream.index, 1)
 }
 
 /// Answers whether a stream is at its limit, or at the end of its array (primitiveAtEnd).

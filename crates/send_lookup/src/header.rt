@@ -5,6 +5,7 @@ ghost use Rattle.blue_model.specs.Messages as model;
 ghost use Rattle.blue_model.specs.declared.indexes.TheConstants.{LARGE_CONTEXT_SIZE};
 
 use blue_model::indexes::{LARGE_CONTEXT_SIZE, SMALL_CONTEXT_SIZE};
+use blue_model::limits::{FLAG_UNIT, LARGE_CONTEXT_BIT, TEMPORARIES_UNIT};
 use long_names::{SMALL_INTEGERS, literal_count};
 
 /// The fifteen bits of a SmallInteger.
@@ -22,7 +23,7 @@ pub fn flag(header: i16) -> u32
     ensures flag { result ≡ model.flag_of header }
     ensures few { result < 8 }
 {
-    bits(header) / 4096
+    bits(header) / FLAG_UNIT
 }
 
 /// How many temporaries a method has, arguments among them; of a method that answers a field, the field's number.
@@ -31,7 +32,7 @@ pub fn temporaries(header: i16) -> u32
     ensures temporaries { result ≡ model.temporaries_of header }
     ensures few { result < 32 }
 {
-    bits(header) / 128 % 32
+    bits(header) / TEMPORARIES_UNIT % 32
 }
 
 /// How many fields a method's context has.
@@ -40,7 +41,7 @@ pub(crate) fn context_size(header: i16) -> u32
     ensures size { result ≡ model.context_size header }
     ensures few { result ≤ LARGE_CONTEXT_SIZE }
 {
-    if bits(header) / 64 % 2 == 1 {
+    if bits(header) / LARGE_CONTEXT_BIT % 2 == 1 {
         LARGE_CONTEXT_SIZE
     } else {
         SMALL_CONTEXT_SIZE
