@@ -13,8 +13,8 @@ ghost use Rattle.object_memory.specs.Calls.{IsFit};
 ghost use Rattle.contexts.specs.Calls.{StaysFit};
 
 use blue_model::indexes::{
-    BITBLT_SIZE, BLIT_WIDTH_INDEX, CLIP_WIDTH_INDEX, CLIP_X_INDEX, COMBINATION_RULE_INDEX, DEST_X_INDEX,
-    SOURCE_X_INDEX,
+    BITBLT_SIZE, BLIT_WIDTH_INDEX, CLIP_WIDTH_INDEX, CLIP_X_INDEX, COMBINATION_RULE_INDEX,
+    DEST_X_INDEX, SOURCE_X_INDEX,
 };
 use blue_model::limits::COMBINATION_RULES;
 use contexts::Stop;

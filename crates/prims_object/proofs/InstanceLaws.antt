@@ -1,5 +1,5 @@
 -- What classes and numbers that are passed by value say of new objects.
-use Rattle.std.proofs.Common.{◌≡◌, ℕ, ℤ, ◌+◌, ◌<◌, ◌≤◌, Bool, true, false, nat_lt, Result, sym, ◌∙◌, ap, subst}
+use Rattle.std.proofs.Common.{◌≡◌, ℕ, ℤ, ◌+◌, ◌<◌, ◌≤◌, Bool, true, false, nat_lt, Result, sym, ◌∙◌, ap, subst, arith}
 use Rattle.std.specs.Prelude.{if◌then◌else◌}
 use borrow.Author.Tests.{lt-ltb, le-ltb}
 use Rattle.long_names.specs.declared.limits.TheConstants.{MOST_FIELDS}
@@ -69,4 +69,4 @@ pub too_many : (y z : ℤ) (elements fixed : ℕ) → y ≡ z → fixed ≡ fixe
 too_many y z elements fixed e count many = subst (λ k. nat_lt (elements + k) (MOST_FIELDS + 1) ≡ false) (count ∙ ap (λ k. fixed_fields k) e) (le-ltb (elements + fixed) (MOST_FIELDS + 1) many)
 
 pub few_enough : (y z : ℤ) (elements fixed : ℕ) → y ≡ z → fixed ≡ fixed_fields y → elements + fixed ≤ MOST_FIELDS → nat_lt (elements + fixed_fields z) (MOST_FIELDS + 1) ≡ true
-few_enough y z elements fixed e count few = subst (λ k. nat_lt (elements + k) (MOST_FIELDS + 1) ≡ true) (count ∙ ap (λ k. fixed_fields k) e) (lt-ltb (elements + fixed) (MOST_FIELDS + 1) few)
+few_enough y z elements fixed e count few = subst (λ k. nat_lt (elements + k) (MOST_FIELDS + 1) ≡ true) (count ∙ ap (λ k. fixed_fields k) e) (lt-ltb (elements + fixed) (MOST_FIELDS + 1) (omega (arith, few)))

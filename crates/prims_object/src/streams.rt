@@ -9,8 +9,7 @@ ghost use Rattle.object_memory.specs.Shape.{Looks};
 ghost use Rattle.blue_model.specs.declared.answer.Answer.{Answer as Answers};
 ghost use Rattle.blue_model.specs.declared.cpu.Cpu.{Cpu as Numbers};
 ghost use Rattle.blue_model.specs.declared.limits.TheConstants.{MOST_ARGUMENTS};
-ghost use Rattle.blue_model.specs.Machine.{Rule, ◌>>◌};
-ghost use Rattle.blue_model.specs.Trials.{answer as answer_rule};
+ghost use Rattle.blue_model.specs.Machine.{Rule};
 ghost use Rattle.blue_model.specs.Storage as model;
 ghost use Rattle.contexts.specs.Serves.{Serves, StaysSound, with_found};
 ghost use Rattle.prims_object.specs.Leads.{Leads};
@@ -236,7 +235,7 @@ fn advance_and_answer<M: ObjectMemory>(
     requires fit { IsFit M.ObjectMemory m.old }
     requires few { index + 1 < SMALL_INTEGERS }
     requires arguments { n ≤ MOST_ARGUMENTS }
-    ensures serves { Serves (M.told m.old) cpu.old (M.told m.new) cpu.new (model.advance ((M.told m.old).regs 10) index >> answer_rule n ((M.told m.old).regs 12)) result }
+    ensures serves { Serves (M.told m.old) cpu.old (M.told m.new) cpu.new (rules.advanced ((M.told m.old).regs 10) index n ((M.told m.old).regs 12)) result }
     ensures never_keeps { NeverKeeps result }
     ensures fit { StaysFit M.ObjectMemory m.old m.new result }
 {

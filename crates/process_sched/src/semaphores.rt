@@ -23,7 +23,11 @@ fn one_more(excess: i16) -> i16
     ensures number { result ≡ model.one_more excess }
     ensures range { IsSmallInteger result }
 {
-    if excess < SMALL_INTEGERS as i16 - 1 { excess + 1 } else { excess }
+    if excess < SMALL_INTEGERS as i16 - 1 {
+        excess + 1
+    } else {
+        excess
+    }
 }
 
 /// The semaphore has one signal more that nobody waited for.
