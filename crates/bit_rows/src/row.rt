@@ -1,5 +1,7 @@
 // One row between distinct lists of words.
 ghost use Rattle.std.specs.Prelude.{◌≡◌, ◌+◌, ◌-◌, ◌*◌, ◌/◌, ◌^◌, ◌<◌, ◌≤◌, ℕ, length, min, slice_index};
+ghost use Rattle.long_names.specs.declared.limits.TheConstants.{MOST_FIELDS};
+ghost use Rattle.blue_model.specs.declared.limits.TheConstants.{COMBINATION_RULES};
 ghost use Rattle.blue_model.specs.Forms.{left_bit, bit};
 ghost use Rattle.bit_rows.specs.Rows.{row_bit};
 
@@ -31,10 +33,10 @@ fn row_word(
     halftone: u16,
     rule: u8,
 ) -> u16
-    requires rule { rule < 16 }
+    requires rule { rule < COMBINATION_RULES }
     requires ordered { from ≤ to }
     requires place { i < length row.now }
-    requires small { length row.now ≤ 65536 }
+    requires small { length row.now ≤ MOST_FIELDS }
     requires room { skip / 16 + length row.now < length source.now }
     ensures { (j : ℕ) → j < 16 → left_bit result j ≡ row_bit rule source.now skip halftone from to row.now (16 * i + j) }
 {
@@ -59,11 +61,11 @@ pub fn blend_row(
     halftone: u16,
     rule: u8,
 )
-    requires rule { rule < 16 }
+    requires rule { rule < COMBINATION_RULES }
     requires ordered { from ≤ to }
-    requires small { length row.old ≤ 65536 }
+    requires small { length row.old ≤ MOST_FIELDS }
     requires room { skip / 16 + length row.old < length source.now }
-    ensures fits { (k : ℕ) → slice_index row.new k < 65536 }
+    ensures fits { (k : ℕ) → slice_index row.new k < 2 ^ 16 }
     ensures bits { (n : ℕ) → n < 16 * length row.old → bit row.new n ≡ row_bit rule source.now skip halftone from to row.old n }
 {
     for i in 0..row.len() {

@@ -1,12 +1,13 @@
 // One word of a row: the rule, the mask, and a source word put together from two.
 ghost use Rattle.std.specs.Prelude.{◌≡◌, ◌+◌, ◌*◌, ◌/◌, ◌<◌, ◌≤◌, ℕ, [], ◌∷◌, if◌then◌else◌, nat_lt};
+ghost use Rattle.blue_model.specs.declared.limits.TheConstants.{COMBINATION_RULES};
 ghost use Rattle.blue_model.specs.Forms.{left_bit, bit};
 ghost use Rattle.blue_model.specs.BitBlt.{rule_bit};
 ghost use Rattle.bit_rows.specs.Rows.{within};
 
 /// What a rule makes of a source word and a destination word, bit by bit.
 pub fn combine(rule: u8, s: u16, d: u16) -> u16
-    requires { rule < 16 }
+    requires { rule < COMBINATION_RULES }
     ensures { (j : ℕ) → j < 16 → left_bit result j ≡ rule_bit rule (left_bit s j) (left_bit d j) }
 {
     match rule {
@@ -56,7 +57,7 @@ pub fn mask(low: u8, high: u8) -> u16
 
 /// The rule from one bit up to another, and the old bits elsewhere.
 pub fn blend(rule: u8, s: u16, d: u16, low: u8, high: u8) -> u16
-    requires rule { rule < 16 }
+    requires rule { rule < COMBINATION_RULES }
     requires ordered { low ≤ high }
     requires fits { high ≤ 16 }
     ensures { (j : ℕ) → j < 16 → left_bit result j ≡ (if within low high j then rule_bit rule (left_bit s j) (left_bit d j) else left_bit d j) }

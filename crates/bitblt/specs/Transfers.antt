@@ -2,6 +2,7 @@
 use Rattle.std.specs.Prelude.{ℕ, Bool, true, false, ◌≡◌, ◌+◌, ◌-◌, ◌*◌, ◌/◌, ◌%◌, ◌<◌, ◌≤◌, ◌&&◌, ◌||◌, List, Option, Some, None, length, map, min, slice_index, nat_lt, if◌then◌else◌}
 use Rattle.std.specs.List.{range_with_len}
 use Rattle.long_names.specs.Kept.{any_below}
+use Rattle.blue_model.specs.declared.limits.TheConstants.{COMBINATION_RULES}
 use Rattle.blue_model.specs.Forms.{bit, number_of}
 use Rattle.blue_model.specs.BitBlt.{rule_bit, halftone_pixel}
 use Rattle.bit_rows.specs.Rows.{within}
@@ -56,7 +57,7 @@ pub record HasSource (t : Transfer) : Type 0 where
 
 -- the changed pixels lie within both forms, and there are some
 pub record Fits (t : Transfer) : Type 0 where
-  pub rule : t.rule < 16
+  pub rule : t.rule < COMBINATION_RULES
   pub columns : t.left < t.right
   pub rows : t.top ≤ t.bottom
   pub wide : t.right ≤ 16 * t.stride

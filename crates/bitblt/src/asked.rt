@@ -2,6 +2,8 @@
 ghost use Rattle.std.specs.Prelude.{◌≡◌, ◌+◌, [], ◌∷◌, OnOk, IfOk, IfSome, ◌<◌};
 ghost use Rattle.object_memory.specs.Told.{IsReady};
 ghost use Rattle.object_memory.specs.Shape.{Looks};
+ghost use Rattle.blue_model.specs.declared.indexes.TheConstants.{BITBLT_SIZE};
+ghost use Rattle.blue_model.specs.declared.limits.TheConstants.{COMBINATION_RULES};
 ghost use Rattle.blue_model.specs.declared.cpu.Cpu.{Cpu as Numbers};
 ghost use Rattle.blue_model.specs.Trials.{peek};
 ghost use Rattle.blue_model.specs.BitBlt as model;
@@ -10,7 +12,11 @@ ghost use Rattle.bitblt.specs.Asking.{place_at, places_found, asked_found};
 ghost use Rattle.object_memory.specs.Calls.{IsFit};
 ghost use Rattle.contexts.specs.Calls.{StaysFit};
 
-use blue_model::indexes::{BITBLT_SIZE, COMBINATION_RULE_INDEX};
+use blue_model::indexes::{
+    BITBLT_SIZE, BLIT_WIDTH_INDEX, CLIP_WIDTH_INDEX, CLIP_X_INDEX, COMBINATION_RULE_INDEX,
+    DEST_X_INDEX, SOURCE_X_INDEX,
+};
+use blue_model::limits::COMBINATION_RULES;
 use contexts::Stop;
 use contexts::peeks::peek_number;
 use object_memory::{ObjectMemory, Reg};
@@ -36,7 +42,7 @@ pub struct Asked {
 /// The numbers in a field and in the next one.
 fn read_place<M: ObjectMemory>(m: &mut M, i: u32) -> Result<Option<Place>, Stop>
     requires fit { IsFit M.ObjectMemory m.old }
-    requires field { i < 13 }
+    requires field { i + 1 < BITBLT_SIZE }
     ensures serves { (cpu : Numbers) → Serves (M.told m.old) cpu (M.told m.new) cpu (peek (place_at i) ((M.told m.old).regs 10)) (places_found result) }
     ensures looks { OnOk result (Looks (12 ∷ []) (M.told m.old) (M.told m.new)) }
     ensures fit { StaysFit M.ObjectMemory m.old m.new result }
@@ -50,12 +56,12 @@ fn read_place<M: ObjectMemory>(m: &mut M, i: u32) -> Result<Option<Place>, Stop>
     Ok(Some(Place { x, y }))
 }
 
-/// The number of a rule, from 0 to 15.
+/// The number of a rule.
 fn rule_number(z: i16) -> Option<u8>
     ensures number { result ≡ model.rule_number z }
-    ensures range { IfSome result (λ rule. rule < 16) }
+    ensures range { IfSome result (λ rule. rule < COMBINATION_RULES) }
 {
-    if 0 <= z && z < 16 {
+    if 0 <= z && z < COMBINATION_RULES as i16 {
         Some(z as u8)
     } else {
         None
@@ -67,7 +73,7 @@ pub(crate) fn read_asked<M: ObjectMemory>(m: &mut M) -> Result<Option<Asked>, St
     requires fit { IsFit M.ObjectMemory m.old }
     ensures serves { (cpu : Numbers) → Serves (M.told m.old) cpu (M.told m.new) cpu (peek model.asked_of ((M.told m.old).regs 10)) (asked_found result) }
     ensures looks { OnOk result (Looks (12 ∷ []) (M.told m.old) (M.told m.new)) }
-    ensures rule { IfOk result (λ asked. IfSome asked (λ q. q.rule < 16)) }
+    ensures rule { IfOk result (λ asked. IfSome asked (λ q. q.rule < COMBINATION_RULES)) }
     ensures fit { StaysFit M.ObjectMemory m.old m.new result }
 {
     let Some(z) = peek_number(m, Reg::R12, Reg::R10, BITBLT_SIZE, COMBINATION_RULE_INDEX)? else {
@@ -76,19 +82,19 @@ pub(crate) fn read_asked<M: ObjectMemory>(m: &mut M) -> Result<Option<Asked>, St
     let Some(rule) = rule_number(z) else {
         return Ok(None);
     };
-    let Some(dest) = read_place(m, 4)? else {
+    let Some(dest) = read_place(m, DEST_X_INDEX)? else {
         return Ok(None);
     };
-    let Some(extent) = read_place(m, 6)? else {
+    let Some(extent) = read_place(m, BLIT_WIDTH_INDEX)? else {
         return Ok(None);
     };
-    let Some(source) = read_place(m, 8)? else {
+    let Some(source) = read_place(m, SOURCE_X_INDEX)? else {
         return Ok(None);
     };
-    let Some(clip) = read_place(m, 10)? else {
+    let Some(clip) = read_place(m, CLIP_X_INDEX)? else {
         return Ok(None);
     };
-    let Some(clip_extent) = read_place(m, 12)? else {
+    let Some(clip_extent) = read_place(m, CLIP_WIDTH_INDEX)? else {
         return Ok(None);
     };
     Ok(Some(Asked {

@@ -1,5 +1,5 @@
 // Clipping, one axis at a time.
-ghost use Rattle.std.specs.Prelude.{◌≡◌, ℕ, ◌&&◌, pos, ◌+ℤ◌, ◌-ℤ◌, ◌≤ℤ◌, Some};
+ghost use Rattle.std.specs.Prelude.{◌≡◌, ℕ, ◌&&◌, ◌^◌, pos, ◌+ℤ◌, ◌-ℤ◌, ◌≤ℤ◌, Some};
 ghost use Rattle.blue_model.specs.BitBlt.{spans, is_changed_place};
 ghost use Rattle.bitblt.specs.Clip.{covers, IsClipped, IsSpanOf};
 
@@ -82,7 +82,7 @@ fn in_form(at: i16, extent: i16, clip_at: i16, clip_extent: i16, form: u16) -> R
 fn span_of(r: Range, start: i32) -> Option<Span>
     requires low { pos 0 ≤ℤ r.low }
     requires start { start ≤ℤ r.low }
-    requires small { r.low ≤ℤ (start +ℤ pos 65535) }
+    requires small { r.low ≤ℤ (start +ℤ pos (2 ^ 16)) }
     ensures { IsSpanOf r start result }
 {
     if r.low < r.high {

@@ -3,15 +3,18 @@ ghost use Rattle.std.specs.Prelude.{◌≡◌, ◌≤◌, ◌<◌, true, false, 
 ghost use Rattle.long_names.specs.Objects.{words_of};
 ghost use Rattle.object_memory.specs.Told.{IsReady};
 ghost use Rattle.object_memory.specs.Shape.{Looks, HasPartAt};
+ghost use Rattle.blue_model.specs.declared.limits.TheConstants.{COMBINATION_RULES};
 ghost use Rattle.blue_model.specs.declared.cpu.Cpu.{Cpu as Numbers};
 ghost use Rattle.blue_model.specs.Forms as forms;
 ghost use Rattle.bitblt.specs.Blits.{look_at_source};
 ghost use Rattle.blue_model.specs.BitBlt as model;
 ghost use Rattle.contexts.specs.Serves.{Serves, StaysSound};
+ghost use Rattle.forms.specs.declared.form.TheConstants.{HALFTONE_WORDS};
 ghost use Rattle.forms.specs.declared.form.Extent.{Extent};
+ghost use Rattle.bitblt.specs.declared.copy.TheConstants.{BLACK};
 ghost use Rattle.bitblt.specs.Clip.{IsClipped, IsSpan};
 ghost use Rattle.bitblt.specs.Asking.{asked_by};
-ghost use Rattle.forms.specs.Shapes.{IsExtent, form_by, least_words};
+ghost use Rattle.forms.specs.Shapes.{FitsAnObject, form_by, least_words};
 ghost use Rattle.bitblt.specs.Shapes.{optional_by, OptionalRoom};
 ghost use Rattle.bitblt.specs.Transfers.{Fits};
 ghost use Rattle.bitblt.specs.Plans.{widths, heights, is_column, is_row, tone_words, IsPlanOf};
@@ -23,8 +26,11 @@ use crate::clip::{Span, clip_axis};
 use crate::rows::blend_rows;
 use crate::transfer::Transfer;
 use contexts::Stop;
-use forms::{Extent, row_words};
+use forms::{Extent, HALFTONE_WORDS, row_words};
 use object_memory::{ObjectMemory, Reg};
+
+/// The word of sixteen black pixels.
+const BLACK: u16 = 0xFFFF;
 
 /// The source's width, if there is a source.
 fn width_of(source: Option<Extent>) -> Option<u16>
@@ -90,9 +96,9 @@ fn source_stride(source: Option<Extent>) -> usize
 
 /// The transfer that changes these columns and rows.
 fn plan(q: &Asked, dest: Extent, source: Option<Extent>, x: Span, y: Span) -> Transfer
-    requires rule { q.now.rule < 16 }
-    requires dest { IsExtent dest × (least_words false dest < 65536) }
-    requires source { IfSome source (λ e. IsExtent e × (least_words false e < 65536)) }
+    requires rule { q.now.rule < COMBINATION_RULES }
+    requires dest { FitsAnObject false dest }
+    requires source { IfSome source (FitsAnObject false) }
     requires columns { IsSpan q.now.dest.x q.now.source.x dest.width (widths source) (is_column q.now dest source) x }
     requires rows { IsSpan q.now.dest.y q.now.source.y dest.height (heights source) (is_row q.now dest source) y }
     ensures plan { IsPlanOf q.now dest source result }
@@ -112,7 +118,7 @@ fn plan(q: &Asked, dest: Extent, source: Option<Extent>, x: Span, y: Span) -> Tr
     }
 }
 
-/// Reads the first 16 words of the halftone, if there is a halftone. Without one they stay.
+/// Reads the first words of the halftone, if there is a halftone. Without one they stay.
 fn read_halftone<M: ObjectMemory>(
     m: &mut M,
     halftone: Option<Extent>,
@@ -120,11 +126,11 @@ fn read_halftone<M: ObjectMemory>(
 ) -> Result<(), Stop>
     requires fit { IsFit M.ObjectMemory m.old }
     requires room { OptionalRoom (M.told m.old) 15 true halftone }
-    requires out { length out.old ≡ 16 }
-    requires black { (k : ℕ) → k < 16 → slice_index out.old k ≡ 65535 }
+    requires out { length out.old ≡ HALFTONE_WORDS }
+    requires black { (k : ℕ) → k < HALFTONE_WORDS → slice_index out.old k ≡ BLACK }
     ensures serves { (cpu : Numbers) → Serves (M.told m.old) cpu (M.told m.new) cpu (look_at_source (is_some halftone) ((M.told m.old).regs 15)) result }
     ensures looks { OnOk result (Looks [] (M.told m.old) (M.told m.new)) }
-    ensures words { OnOk result (IsTrue (M.told m.old).tells → (k : ℕ) → k < 16 → slice_index out.new k ≡ slice_index (tone_words halftone (M.told m.old)) k) }
+    ensures words { OnOk result (IsTrue (M.told m.old).tells → (k : ℕ) → k < HALFTONE_WORDS → slice_index out.new k ≡ slice_index (tone_words halftone (M.told m.old)) k) }
     ensures fit { StaysFit M.ObjectMemory m.old m.new result }
 {
     if halftone.is_some() {
@@ -142,9 +148,9 @@ pub(crate) fn copy_pixels<M: ObjectMemory>(
     halftone: Option<Extent>,
 ) -> Result<(), Stop>
     requires fit { IsFit M.ObjectMemory m.old }
-    requires rule { q.now.rule < 16 }
-    requires dest { IsExtent dest × (least_words false dest < 65536) }
-    requires source { IfSome source (λ e. IsExtent e × (least_words false e < 65536)) }
+    requires rule { q.now.rule < COMBINATION_RULES }
+    requires dest { FitsAnObject false dest }
+    requires source { IfSome source (FitsAnObject false) }
     requires dest_room { HasPartAt (M.told m.old) 13 words_of (λ words. least_words false dest ≤ length words) }
     requires source_room { OptionalRoom (M.told m.old) 14 false source }
     requires halftone_room { OptionalRoom (M.told m.old) 15 true halftone }
@@ -157,7 +163,7 @@ pub(crate) fn copy_pixels<M: ObjectMemory>(
     let Some(y) = rows(q, dest, source) else {
         return Ok(());
     };
-    let mut words = [0xFFFFu16; 16];
+    let mut words = [BLACK; HALFTONE_WORDS as usize];
     read_halftone(m, halftone, &mut words)?;
     let t = plan(q, dest, source, x, y);
     blend_rows(m, &t, &words)

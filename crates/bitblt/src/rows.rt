@@ -6,6 +6,8 @@ ghost use Rattle.blue_model.specs.declared.cpu.Cpu.{Cpu as Numbers};
 ghost use Rattle.blue_model.specs.Forms.{bit};
 ghost use Rattle.blue_model.specs.BitBlt.{put_words};
 ghost use Rattle.contexts.specs.Serves.{Serves, StaysSound};
+ghost use Rattle.forms.specs.declared.form.TheConstants.{HALFTONE_WORDS};
+ghost use Rattle.bitblt.specs.declared.rows.TheConstants.{BUFFER_WORDS};
 ghost use Rattle.bitblt.specs.Transfers.{Fits, source_pixel, skip_of, run_length, row_words, words_after};
 ghost use Rattle.bitblt.specs.Transfers as transfers;
 ghost use Rattle.bitblt.specs.Blits.{dest_words, source_words, HasRooms, look_at_source, blit_words, IsWritten};
@@ -15,6 +17,7 @@ ghost use Rattle.contexts.specs.Calls.{StaysFit};
 use crate::transfer::Transfer;
 use bit_rows::blend_row;
 use contexts::Stop;
+use forms::HALFTONE_WORDS;
 use object_memory::{ObjectMemory, Reg};
 
 /// The most words of a row of the source, with a free word before them and one behind.
@@ -35,7 +38,7 @@ fn read_source<M: ObjectMemory>(
     requires rooms { HasRooms t.now (M.told m.old) }
     requires row { t.now.top ≤ y }
     requires below { y < t.now.bottom }
-    requires room { length out.old ≡ 1027 }
+    requires room { length out.old ≡ BUFFER_WORDS }
     ensures serves { (cpu : Numbers) → Serves (M.told m.old) cpu (M.told m.new) cpu (look_at_source t.now.has_source ((M.told m.old).regs 14)) result }
     ensures looks { OnOk result (Looks [] (M.told m.old) (M.told m.new)) }
     ensures pixels { OnOk result (IsTrue (M.told m.old).tells → (x : ℕ) → t.now.left ≤ x → x < t.now.right → bit out.new (skip_of t.now + (x - 16 * (t.now.left / 16))) ≡ source_pixel t.now (source_words t.now.has_source (M.told m.old)) x y) }
@@ -66,8 +69,8 @@ fn blend_run<M: ObjectMemory>(
     requires rooms { HasRooms t.now (M.told m.old) }
     requires row { t.now.top ≤ y }
     requires below { y < t.now.bottom }
-    requires halftone { length halftone.now ≡ 16 }
-    requires room { length source.now ≡ 1027 }
+    requires halftone { length halftone.now ≡ HALFTONE_WORDS }
+    requires room { length source.now ≡ BUFFER_WORDS }
     requires run { length run.old ≡ run_length t.now }
     requires pixels { IsTrue (M.told m.old).tells → (x : ℕ) → t.now.left ≤ x → x < t.now.right → bit source.now (skip_of t.now + (x - 16 * (t.now.left / 16))) ≡ source_pixel t.now (source_words t.now.has_source (M.told m.old)) x y }
     ensures serves { (cpu : Numbers) → Serves (M.told m.old) cpu (M.told m.new) cpu (put_words ((M.told m.old).regs 13) (row_words t.now (source_words t.now.has_source (M.told m.old)) halftone.now (dest_words (M.told m.old)) y)) result }
@@ -84,7 +87,7 @@ fn blend_run<M: ObjectMemory>(
         skip,
         t.left - 16 * first,
         t.right - 16 * first,
-        halftone[y % 16],
+        halftone[y % HALFTONE_WORDS as usize],
         t.rule,
     );
     m.write_words(Reg::R13, at, run)?;
@@ -103,7 +106,7 @@ fn blend_one<M: ObjectMemory>(
     requires rooms { HasRooms t.now (M.told m.old) }
     requires row { t.now.top ≤ y }
     requires below { y < t.now.bottom }
-    requires halftone { length halftone.now ≡ 16 }
+    requires halftone { length halftone.now ≡ HALFTONE_WORDS }
     ensures serves { (cpu : Numbers) → Serves (M.told m.old) cpu (M.told m.new) cpu (blit_words t.now.has_source ((M.told m.old).regs 14) ((M.told m.old).regs 13) (row_words t.now (source_words t.now.has_source (M.told m.old)) halftone.now (dest_words (M.told m.old)) y)) result }
     ensures written { OnOk result (IsWritten t.now (M.told m.old) (M.told m.new) (row_words t.now (source_words t.now.has_source (M.told m.old)) halftone.now (dest_words (M.told m.old)) y)) }
     ensures fit { StaysFit M.ObjectMemory m.old m.new result }
@@ -141,7 +144,7 @@ pub(crate) fn blend_rows<M: ObjectMemory>(
     requires fit { IsFit M.ObjectMemory m.old }
     requires fits { Fits t.now }
     requires rooms { HasRooms t.now (M.told m.old) }
-    requires halftone { length halftone.now ≡ 16 }
+    requires halftone { length halftone.now ≡ HALFTONE_WORDS }
     ensures serves { (cpu : Numbers) → Serves (M.told m.old) cpu (M.told m.new) cpu (blit_words t.now.has_source ((M.told m.old).regs 14) ((M.told m.old).regs 13) (words_after t.now (source_words t.now.has_source (M.told m.old)) halftone.now (dest_words (M.told m.old)))) result }
     ensures regs { OnOk result ((M.told m.new).regs ≡ (M.told m.old).regs) }
     ensures fit { StaysFit M.ObjectMemory m.old m.new result }

@@ -16,6 +16,7 @@ ghost use Rattle.contexts.specs.Keeping.{KeepsBy, NeverKeeps, StepsBy};
 
 use crate::tries::{has_failed, is_execute, is_perform, step_of, try_primitive};
 use blue_model::Step;
+use blue_model::limits::{EXTENSION_FLAG, FIELD_FLAG, SELF_FLAG};
 use contexts::parts::{extension, field, header};
 use contexts::{Answer, Cpu, Stop, put_stack, stack};
 use event_file::EventList;
@@ -103,12 +104,12 @@ fn execute_method<M: ObjectMemory>(
 {
     let header = header(m, Reg::NEW_METHOD)?;
     match flag(header) {
-        5 => Ok(Answer::Done),
-        6 => {
+        SELF_FLAG => Ok(Answer::Done),
+        FIELD_FLAG => {
             answer_field(m, cpu, temporaries(header))?;
             Ok(Answer::Done)
         }
-        7 => execute_extended(m, cpu, events, performed),
+        EXTENSION_FLAG => execute_extended(m, cpu, events, performed),
         _ => activated(m, cpu),
     }
 }

@@ -10,7 +10,7 @@ ghost use Rattle.bytecodes.specs.Variables.{loads, stores, kind_of};
 ghost use Rattle.object_memory.specs.Calls.{IsFit};
 ghost use Rattle.contexts.specs.Calls.{StaysFit};
 
-use blue_model::indexes::{ASSOCIATION_SIZE, VALUE_INDEX};
+use blue_model::indexes::{ASSOCIATION_SIZE, TEMP_FRAME_START, VALUE_INDEX};
 use contexts::parts::{field, literal, size, store_field};
 use contexts::{Cause, Stop};
 use object_memory::{ObjectMemory, Reg};
@@ -48,7 +48,11 @@ fn temporary_place(i: u32, len: u32) -> Option<u32>
     ensures place { result ≡ model.temporary_place i len }
     ensures within { IfSome result (λ place. place < len) }
 {
-    if 6 + i < len { Some(6 + i) } else { None }
+    if TEMP_FRAME_START + i < len {
+        Some(TEMP_FRAME_START + i)
+    } else {
+        None
+    }
 }
 
 /// Loads a receiver variable, which a receiver of pointers has.

@@ -1,5 +1,6 @@
 -- What calls found, as the rules of the model say it, and rows that are read.
 use Rattle.std.specs.Prelude.{◌==◌, ◌+◌, ℕ, Bool, false, nat_le, ◌<◌, ◌≤◌, ◌*◌, length, List, [], ◌∷◌, take, drop, Option, Some, None, unwrap_or, Result, Ok, Err}
+use Rattle.long_names.specs.declared.limits.TheConstants.{SMALL_INTEGERS}
 use Rattle.long_names.specs.declared.value.Value.{Value}
 use Rattle.long_names.specs.declared.object.Kind.{Kind}
 use Rattle.long_names.specs.declared.object.Kind.TheVariants as kind
@@ -54,7 +55,7 @@ form_found (Err stop) bits = Err stop
 
 -- columns and rows that a SmallInteger says
 abbrev pub IsSmall : ℕ × ℕ → Type 0
-IsSmall e = (e.0 < 16384) × (e.1 < 16384)
+IsSmall e = (e.0 < SMALL_INTEGERS) × (e.1 < SMALL_INTEGERS)
 
 -- the words in a register have all rows
 abbrev pub HasRows : Told → ℕ → ℕ × ℕ → Type 0

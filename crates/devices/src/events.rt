@@ -1,6 +1,7 @@
 // What comes before a bytecode: the lines of the event list that are due, and then the timer.
 ghost use Rattle.std.specs.Prelude.{◌≡◌, ◌<◌, IsTrue, OnOk, length};
 ghost use Rattle.object_memory.specs.Told.{IsReady};
+ghost use Rattle.event_file.specs.declared.limits.TheConstants.{MOST_LINES};
 ghost use Rattle.blue_model.specs.declared.cpu.Cpu.{Cpu as Numbers};
 ghost use Rattle.blue_model.specs.Devices as model;
 ghost use Rattle.contexts.specs.Serves.{Serves, StaysSound};
@@ -61,7 +62,7 @@ fn take_line<M: ObjectMemory>(m: &mut M, cpu: &mut Cpu, line: Line) -> Result<()
 fn is_due(events: &EventList, place: usize, count: u32) -> bool
     ensures due { result ≡ due_at events.now place count }
     ensures there { IsTrue result → place < length events.now }
-    ensures few { IsTrue result → place < 65535 }
+    ensures few { IsTrue result → place < MOST_LINES }
 {
     place < events.len() && events.item(place).count == count
 }

@@ -29,6 +29,7 @@ pub use contexts::{Answer, Cpu, Stop};
 pub use drawing::{picture, picture_row, picture_size};
 pub use events::due;
 pub use fault::PictureFault;
+pub use pixels::MOST_ROW_BYTES;
 pub use state::restore;
 pub use table::run;
 pub use ticks::clock;

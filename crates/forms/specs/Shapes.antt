@@ -1,5 +1,6 @@
 -- Forms, as the code reads them.
-use Rattle.std.specs.Prelude.{ℕ, ◌*◌, ◌<◌, Bool, true, false, Option, Result}
+use Rattle.std.specs.Prelude.{ℕ, ◌*◌, ◌<◌, ◌≤◌, Bool, true, false, Option, Result}
+use Rattle.long_names.specs.declared.limits.TheConstants.{SMALL_INTEGERS, MOST_FIELDS}
 use Rattle.long_names.specs.declared.value.Value.{Value}
 use Rattle.blue_model.specs.Forms.{row_words, has_rows}
 use Rattle.blue_model.specs.Forms as model
@@ -7,13 +8,14 @@ use Rattle.blue_model.specs.BitBlt.{has_sixteen}
 use Rattle.contexts.specs.declared.stop.Stop.{Stop}
 use Rattle.contexts.specs.Serves.{found_by}
 use Rattle.forms.specs.declared.form.Extent.{Extent}
+use Rattle.forms.specs.declared.form.TheConstants.{HALFTONE_WORDS}
 
 -- numbers that a SmallInteger can say, 1 or more
 pub record IsExtent (e : Extent) : Type 0 where
   pub wide : 0 < e.width
-  pub narrow : e.width < 16384
+  pub narrow : e.width < SMALL_INTEGERS
   pub tall : 0 < e.height
-  pub low : e.height < 16384
+  pub low : e.height < SMALL_INTEGERS
 
 -- the model's records of the same numbers
 abbrev pub extent_by : Extent → model.Extent
@@ -35,5 +37,9 @@ enough true = has_sixteen
 enough false = has_rows
 
 abbrev pub least_words : Bool → Extent → ℕ
-least_words true e = 16
+least_words true e = HALFTONE_WORDS
 least_words false e = row_words e.width * e.height
+
+-- an object of words has room for as many words as are enough
+abbrev pub FitsAnObject : Bool → Extent → Type 0
+FitsAnObject halftone e = IsExtent e × (least_words halftone e ≤ MOST_FIELDS)

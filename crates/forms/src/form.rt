@@ -7,7 +7,7 @@ ghost use Rattle.blue_model.specs.declared.cpu.Cpu.{Cpu as Numbers};
 ghost use Rattle.blue_model.specs.Trials.{peek};
 ghost use Rattle.blue_model.specs.Forms as model;
 ghost use Rattle.contexts.specs.Serves.{Serves, StaysSound};
-ghost use Rattle.forms.specs.Shapes.{IsExtent, extents_found, enough, forms_found};
+ghost use Rattle.forms.specs.Shapes.{IsExtent, FitsAnObject, extents_found, enough, forms_found};
 ghost use Rattle.forms.specs.Shapes as shapes;
 ghost use Rattle.object_memory.specs.Calls.{IsFit};
 ghost use Rattle.contexts.specs.Calls.{StaysFit};
@@ -16,6 +16,9 @@ use blue_model::indexes::{BITS_INDEX, FORM_SIZE, HEIGHT_INDEX, WIDTH_INDEX};
 use contexts::Stop;
 use contexts::peeks::{peek_field, peek_number};
 use object_memory::{ObjectMemory, Reg, shape};
+
+/// A halftone has so many words at least, one for each row.
+pub const HALFTONE_WORDS: u32 = 16;
 
 /// How many columns and rows a form has.
 #[derive(Clone, Copy)]
@@ -61,19 +64,19 @@ pub fn row_words(width: u16) -> u32
     (width as u32 + 15) / 16
 }
 
-/// So many words are enough: 16 for a halftone, and all rows for another form.
+/// So many words are enough: HALFTONE_WORDS for a halftone, and all rows for another form.
 fn least_words(halftone: bool, extent: Extent) -> u32
     requires { IsExtent extent }
     ensures { result ≡ shapes.least_words halftone extent }
 {
     if halftone {
-        16
+        HALFTONE_WORDS
     } else {
         row_words(extent.width) * extent.height as u32
     }
 }
 
-/// Loads the bits of the form into a register. None where it has no form's shape, or where a halftone has fewer than 16 words.
+/// Loads the bits of the form into a register. None where it has no form's shape, or where a halftone has too few words.
 pub fn read_form<M: ObjectMemory>(
     m: &mut M,
     bits: Reg,
@@ -84,7 +87,7 @@ pub fn read_form<M: ObjectMemory>(
     ensures serves { (cpu : Numbers) → Serves (M.told m.old) cpu (M.told m.new) cpu (model.form_where (enough halftone) ((M.told m.old).regs 11)) (forms_found result ((M.told m.new).regs bits)) }
     ensures looks { OnOk result (Looks (bits ∷ 12 ∷ []) (M.told m.old) (M.told m.new)) }
     ensures room { IfOk result (λ found. IfSome found (λ e. HasPartAt (M.told m.new) bits words_of (λ words. shapes.least_words halftone e ≤ length words))) }
-    ensures extent { IfOk result (λ found. IfSome found (λ e. IsExtent e × (shapes.least_words halftone e < 65536))) }
+    ensures extent { IfOk result (λ found. IfSome found (λ e. FitsAnObject halftone e)) }
     ensures fit { StaysFit M.ObjectMemory m.old m.new result }
 {
     if !peek_field(m, bits, Reg::R11, FORM_SIZE, BITS_INDEX)? {

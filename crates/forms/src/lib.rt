@@ -13,4 +13,4 @@
 
 mod form;
 
-pub use form::{Extent, read_form, row_words};
+pub use form::{Extent, HALFTONE_WORDS, read_form, row_words};

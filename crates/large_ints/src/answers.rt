@@ -6,6 +6,7 @@ ghost use Rattle.long_names.specs.State.{IsRef};
 ghost use Rattle.long_names.specs.Words.{IsSmallInteger};
 ghost use Rattle.object_memory.specs.Shape.{HasPartAt};
 ghost use Rattle.object_memory.specs.Calls.{IsFit};
+ghost use Rattle.blue_model.specs.declared.limits.TheConstants.{LARGE_BYTES};
 ghost use Rattle.blue_model.specs.declared.cpu.Cpu.{Cpu as Numbers};
 ghost use Rattle.blue_model.specs.Machine.{store_byte};
 ghost use Rattle.blue_model.specs.Contexts.{stated};
@@ -16,13 +17,13 @@ ghost use Rattle.large_ints.specs.Answers.{make_bytes_of};
 
 use contexts::Stop;
 use contexts::parts::known;
-use long_names::Name;
+use long_names::{Name, SMALL_INTEGERS};
 use object_memory::{ObjectMemory, Reg};
 
 /// How many bytes a number has.
 fn byte_count(n: u128) -> u32
     ensures count { result ≡ length (model.fewest_bytes n) }
-    ensures few { result ≤ 16 }
+    ensures few { result ≤ LARGE_BYTES }
 {
     let mut rest = n;
     let mut count = 0;
@@ -104,7 +105,7 @@ fn small(z: i128) -> Option<i16>
     ensures small { result ≡ stated z }
     ensures range { IfSome result IsSmallInteger }
 {
-    if z < -16384 || z > 16383 {
+    if z < -i128::from(SMALL_INTEGERS) || z >= i128::from(SMALL_INTEGERS) {
         None
     } else {
         Some(z as i16)

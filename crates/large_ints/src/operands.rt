@@ -6,6 +6,7 @@ ghost use Rattle.long_names.specs.Words.{IsSmallInteger};
 ghost use Rattle.long_names.specs.State.{IsRef};
 ghost use Rattle.object_memory.specs.Shape.{Looks};
 ghost use Rattle.object_memory.specs.Calls.{IsFit};
+ghost use Rattle.blue_model.specs.declared.limits.TheConstants.{LARGE_BYTES};
 ghost use Rattle.blue_model.specs.declared.cpu.Cpu.{Cpu as Numbers};
 ghost use Rattle.blue_model.specs.Trials.{peek};
 ghost use Rattle.blue_model.specs.LargeInts as model;
@@ -23,7 +24,7 @@ use object_memory::{ObjectMemory, Reg, shape};
 
 /// The number that at most 16 bytes are, the lowest first.
 fn magnitude(bytes: &[u8]) -> u128
-    requires few { length bytes.now ≤ 16 }
+    requires few { length bytes.now ≤ LARGE_BYTES }
     ensures { result ≡ model.magnitude bytes.now }
 {
     let mut n = 0;
@@ -38,7 +39,7 @@ fn magnitude(bytes: &[u8]) -> u128
 /// How many bytes an object of this kind and length has, where it is one of bytes and has at most 16.
 fn few_bytes(found: Option<(Kind, u32)>) -> Option<u32>
     ensures few { result ≡ operands.few_bytes found }
-    ensures bound { IfSome result (λ n. n ≤ 16) }
+    ensures bound { IfSome result (λ n. n ≤ LARGE_BYTES) }
 {
     match found {
         Some((Kind::Bytes, len)) if len <= LARGE_BYTES => Some(len),

@@ -2,6 +2,7 @@
 ghost use Rattle.std.specs.Prelude.{◌≡◌, ◌<◌, ◌≤◌, ◌^◌, ◌-ℤ◌, ◌*ℤ◌, pos, negsuc, IfSome};
 ghost use Rattle.std.specs.Int.{w128, int_div_euclid};
 ghost use Rattle.std.specs.Int.RustNames.{FitsSigned};
+ghost use Rattle.blue_model.specs.declared.limits.TheConstants.{LARGE_BITS};
 ghost use Rattle.blue_model.specs.Arithmetic as model;
 ghost use Rattle.blue_model.specs.LargeInts.{in_range, large_and, large_or, large_xor, large_result};
 ghost use Rattle.large_ints.specs.Operations.{with_sign, is_below, differ};
@@ -13,7 +14,7 @@ const PAST: u128 = 1 << LARGE_BITS;
 
 /// -1 less a number: the number with all its bits turned.
 fn turned(n: u128) -> i128
-    requires { n < 2 ^ 127 }
+    requires { n < 2 ^ LARGE_BITS }
     ensures { result ≡ negsuc n }
 {
     -1 - n as i128

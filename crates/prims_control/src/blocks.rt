@@ -1,6 +1,7 @@
 // New blocks (chapter 29, primitiveBlockCopy). The context is in R10, the number argument in R11, the home in R12, the
 // block in R13.
-ghost use Rattle.std.specs.Prelude.{◌≡◌, ◌<◌, OnOk, IfSome};
+ghost use Rattle.std.specs.Prelude.{◌≡◌, ◌<◌, ◌≤◌, OnOk, IfSome};
+ghost use Rattle.long_names.specs.declared.limits.TheConstants.{SMALL_INTEGERS, MOST_FIELDS};
 ghost use Rattle.object_memory.specs.Told.{IsReady};
 ghost use Rattle.blue_model.specs.Control as model;
 ghost use Rattle.contexts.specs.Serves.{Serves, StaysSound, with_value};
@@ -24,8 +25,8 @@ use object_memory::{ObjectMemory, Reg};
 /// instruction pointer can't be stated.
 fn make_block<M: ObjectMemory>(m: &mut M, cpu: &Cpu, len: u32, n: u32) -> Result<(), Stop>
     requires fit { IsFit M.ObjectMemory m.old }
-    requires fields { len < 65536 }
-    requires few { n < 16384 }
+    requires fields { len ≤ MOST_FIELDS }
+    requires few { n < SMALL_INTEGERS }
     ensures serves { Serves (M.told m.old) cpu.now (M.told m.new) cpu.now (model.make_block ((M.told m.old).regs 12) len n) (with_value result ((M.told m.new).regs 13)) }
     ensures fit { StaysFit M.ObjectMemory m.old m.new result }
 {
@@ -46,7 +47,7 @@ fn make_block<M: ObjectMemory>(m: &mut M, cpu: &Cpu, len: u32, n: u32) -> Result
 fn argument_number<M: ObjectMemory>(m: &M) -> Option<u32>
     requires { M.sound m.now }
     ensures number { result ≡ model.argument_number ((M.told m.now).regs 11) }
-    ensures few { IfSome result (λ n. n < 16384) }
+    ensures few { IfSome result (λ n. n < SMALL_INTEGERS) }
 {
     let number = m.as_int(Reg::R11)?;
     natural(number)

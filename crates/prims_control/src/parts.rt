@@ -1,6 +1,7 @@
 // Parts of contexts and arrays. In this crate the receiver, a context or block among them, is in R10, a selector or number in
 // R11, a home or array in R12, and a new block in R13. R19 is what is read into on the way.
-ghost use Rattle.std.specs.Prelude.{◌≡◌, ◌<◌, ℕ, [], ◌∷◌, OnOk, IfOk, IfSome};
+ghost use Rattle.std.specs.Prelude.{◌≡◌, ◌<◌, ◌≤◌, ℕ, [], ◌∷◌, OnOk, IfOk, IfSome};
+ghost use Rattle.long_names.specs.declared.limits.TheConstants.{MOST_FIELDS};
 ghost use Rattle.long_names.specs.declared.value.Value.TheVariants.{Int};
 ghost use Rattle.long_names.specs.Words.{IsSmallInteger};
 ghost use Rattle.object_memory.specs.Told.{IsReady};
@@ -40,7 +41,7 @@ pub(crate) fn array_length<M: ObjectMemory>(m: &mut M) -> Result<Option<u32>, St
     requires fit { IsFit M.ObjectMemory m.old }
     ensures serves { (cpu : Numbers) → Serves (M.told m.old) cpu (M.told m.new) cpu (model.array_length ((M.told m.old).regs 12)) result }
     ensures looks { OnOk result (Looks (19 ∷ []) (M.told m.old) (M.told m.new)) }
-    ensures few { IfOk result (λ found. IfSome found (λ n. n < 65536)) }
+    ensures few { IfOk result (λ found. IfSome found (λ n. n ≤ MOST_FIELDS)) }
     ensures fit { StaysFit M.ObjectMemory m.old m.new result }
 {
     class_of(m, Reg::R19, Reg::R12)?;

@@ -1,8 +1,9 @@
 // Messages whose selector is on the stack (chapter 29, primitivePerform and primitivePerformWithArgs). The receiver is in R10, the
 // selector in R11, the array in R12, the method that was found in R22.
-ghost use Rattle.std.specs.Prelude.{◌≡◌, ◌<◌, ℕ, [], ◌∷◌, Ok, OnOk, IfOk, IsTrue};
+ghost use Rattle.std.specs.Prelude.{◌≡◌, ◌<◌, ◌≤◌, ℕ, [], ◌∷◌, Ok, OnOk, IfOk, IsTrue};
 ghost use Rattle.object_memory.specs.Told.{IsReady};
 ghost use Rattle.object_memory.specs.Shape.{Looks};
+ghost use Rattle.blue_model.specs.declared.limits.TheConstants.{MOST_ARGUMENTS};
 ghost use Rattle.blue_model.specs.declared.cpu.Cpu.{Cpu as Numbers};
 ghost use Rattle.blue_model.specs.Machine.{each};
 ghost use Rattle.blue_model.specs.Messages.{arguments_of as arguments_rule};
@@ -14,6 +15,7 @@ ghost use Rattle.contexts.specs.Keeping.{NeverKeeps};
 
 use crate::numbers::{extension_arguments, fits, flag_arguments};
 use crate::parts::array_length;
+use blue_model::limits::{EXTENSION_FLAG, MOST_ARGUMENTS};
 use contexts::parts::{class_of, extension, field, header, size};
 use contexts::{Answer, Cpu, Stop, pop, push, put_stack, set_arguments, stack};
 use object_memory::{ObjectMemory, Reg, shape};
@@ -28,7 +30,7 @@ fn arguments_of<M: ObjectMemory>(m: &mut M) -> Result<u32, Stop>
     ensures fit { StaysFit M.ObjectMemory m.old m.new result }
 {
     let header = header(m, Reg::R22)?;
-    if flag(header) == 7 {
+    if flag(header) == EXTENSION_FLAG {
         let extension = extension(m, Reg::R19, Reg::R22)?;
         return Ok(extension_arguments(extension));
     }
@@ -41,14 +43,14 @@ fn method_for<M: ObjectMemory>(m: &mut M, n: u32) -> Result<bool, Stop>
     requires fit { IsFit M.ObjectMemory m.old }
     ensures serves { (cpu : Numbers) → Serves (M.told m.old) cpu (M.told m.new) cpu (model.method_for ((M.told m.old).regs 10) ((M.told m.old).regs 11) n) (with_found result ((M.told m.new).regs 22)) }
     ensures regs { OnOk result ((r : ℕ) → r < 19 → (M.told m.new).regs r ≡ (M.told m.old).regs r) }
-    ensures few { IfOk result (λ found. IsTrue found → n < 256) }
+    ensures few { IfOk result (λ found. IsTrue found → n ≤ MOST_ARGUMENTS) }
     ensures fit { StaysFit M.ObjectMemory m.old m.new result }
 {
     class_of(m, Reg::R19, Reg::R10)?;
     if !look_up(m, Reg::R11, Reg::R19)? {
         return Ok(false);
     }
-    if n >= 256 {
+    if n > MOST_ARGUMENTS {
         return Ok(false);
     }
     let count = arguments_of(m)?;

@@ -1,8 +1,10 @@
 // Blocks that are entered (chapter 29, primitiveValue and primitiveValueWithArgs). The block is in R10, the array in R12.
-ghost use Rattle.std.specs.Prelude.{◌≡◌, ◌<◌, ℕ, [], ◌∷◌, OnOk, IfOk, IfSome, IsSome};
+ghost use Rattle.std.specs.Prelude.{◌≡◌, ◌<◌, ◌≤◌, ℕ, [], ◌∷◌, OnOk, IfOk, IfSome, IsSome};
+ghost use Rattle.long_names.specs.declared.limits.TheConstants.{SMALL_INTEGERS, MOST_FIELDS};
 ghost use Rattle.long_names.specs.Words.{IsSmallInteger};
 ghost use Rattle.object_memory.specs.Told.{IsReady};
 ghost use Rattle.object_memory.specs.Shape.{Looks};
+ghost use Rattle.blue_model.specs.declared.limits.TheConstants.{MOST_ARGUMENTS};
 ghost use Rattle.blue_model.specs.declared.cpu.Cpu.{Cpu as Numbers};
 ghost use Rattle.blue_model.specs.Machine.{each};
 ghost use Rattle.blue_model.specs.Control as model;
@@ -14,7 +16,8 @@ ghost use Rattle.contexts.specs.Keeping.{NeverKeeps};
 use crate::numbers::states;
 use crate::parts::{array_length, store_number};
 use blue_model::indexes::{
-    BLOCK_ARGUMENT_COUNT_INDEX, CALLER_INDEX, INITIAL_IP_INDEX, TEMP_FRAME_START,
+    BLOCK_ARGUMENT_COUNT_INDEX, CALLER_INDEX, INITIAL_IP_INDEX, INSTRUCTION_POINTER_INDEX,
+    STACK_POINTER_INDEX, TEMP_FRAME_START,
 };
 use contexts::parts::{class_of, field, store_field};
 use contexts::peeks::peek_number;
@@ -25,11 +28,11 @@ use object_memory::{ObjectMemory, Reg};
 /// The first instruction pointer of what is in R10, where it has room for n arguments and states that it takes as many.
 fn pointer_for<M: ObjectMemory>(m: &mut M, n: u32) -> Result<Option<i16>, Stop>
     requires fit { IsFit M.ObjectMemory m.old }
-    requires few { n < 65536 }
+    requires few { n ≤ MOST_FIELDS }
     ensures serves { (cpu : Numbers) → Serves (M.told m.old) cpu (M.told m.new) cpu (model.pointer_for ((M.told m.old).regs 10) n) result }
     ensures looks { OnOk result (Looks (19 ∷ []) (M.told m.old) (M.told m.new)) }
     ensures range { IfOk result (λ found. IfSome found IsSmallInteger) }
-    ensures few { IfOk result (λ found. IsSome found → n < 16384) }
+    ensures few { IfOk result (λ found. IsSome found → n < SMALL_INTEGERS) }
     ensures fit { StaysFit M.ObjectMemory m.old m.new result }
 {
     let count = peek_number(
@@ -54,11 +57,11 @@ fn pointer_for<M: ObjectMemory>(m: &mut M, n: u32) -> Result<Option<i16>, Stop>
 /// The same of a block. None where there is no block in R10.
 fn block_start<M: ObjectMemory>(m: &mut M, n: u32) -> Result<Option<i16>, Stop>
     requires fit { IsFit M.ObjectMemory m.old }
-    requires few { n < 65536 }
+    requires few { n ≤ MOST_FIELDS }
     ensures serves { (cpu : Numbers) → Serves (M.told m.old) cpu (M.told m.new) cpu (model.block_start ((M.told m.old).regs 10) n) result }
     ensures looks { OnOk result (Looks (19 ∷ []) (M.told m.old) (M.told m.new)) }
     ensures range { IfOk result (λ found. IfSome found IsSmallInteger) }
-    ensures few { IfOk result (λ found. IsSome found → n < 16384) }
+    ensures few { IfOk result (λ found. IsSome found → n < SMALL_INTEGERS) }
     ensures fit { StaysFit M.ObjectMemory m.old m.new result }
 {
     class_of(m, Reg::R19, Reg::R10)?;
@@ -71,14 +74,14 @@ fn block_start<M: ObjectMemory>(m: &mut M, n: u32) -> Result<Option<i16>, Stop>
 /// Enters the block in R10 as new, with n values on its stack. The active context becomes its caller.
 fn enter_block<M: ObjectMemory>(m: &mut M, cpu: &mut Cpu, n: u32, ip: i16) -> Result<Answer, Stop>
     requires fit { IsFit M.ObjectMemory m.old }
-    requires few { n < 16384 }
+    requires few { n < SMALL_INTEGERS }
     requires range { IsSmallInteger ip }
     ensures serves { Serves (M.told m.old) cpu.old (M.told m.new) cpu.new (model.enter_block ((M.told m.old).regs 10) n ip) result }
     ensures never_keeps { NeverKeeps result }
     ensures fit { StaysFit M.ObjectMemory m.old m.new result }
 {
-    store_number(m, Reg::R10, 1, ip)?;
-    store_number(m, Reg::R10, 2, n as i16)?;
+    store_number(m, Reg::R10, INSTRUCTION_POINTER_INDEX, ip)?;
+    store_number(m, Reg::R10, STACK_POINTER_INDEX, n as i16)?;
     store_field(m, Reg::R10, CALLER_INDEX, Reg::ACTIVE_CONTEXT)?;
     enter(m, cpu, Reg::R10)?;
     Ok(Answer::Done)
@@ -88,7 +91,7 @@ fn enter_block<M: ObjectMemory>(m: &mut M, cpu: &mut Cpu, n: u32, ip: i16) -> Re
 fn pass_argument<M: ObjectMemory>(m: &mut M, cpu: &Cpu, n: u32, k: u32) -> Result<(), Stop>
     requires fit { IsFit M.ObjectMemory m.old }
     requires argument { k < n }
-    requires few { n < 256 }
+    requires few { n ≤ MOST_ARGUMENTS }
     ensures serves { Serves (M.told m.old) cpu.now (M.told m.new) cpu.now (model.pass_argument n ((M.told m.old).regs 10) k) result }
     ensures regs { OnOk result ((r : ℕ) → (r ≡ 19 → ⊥) → (M.told m.new).regs r ≡ (M.told m.old).regs r) }
     ensures fit { StaysFit M.ObjectMemory m.old m.new result }
@@ -101,7 +104,7 @@ fn pass_argument<M: ObjectMemory>(m: &mut M, cpu: &Cpu, n: u32, k: u32) -> Resul
 /// Copies the n arguments, in order, to the stack of the block in R10.
 fn pass_arguments<M: ObjectMemory>(m: &mut M, cpu: &Cpu, n: u32) -> Result<(), Stop>
     requires fit { IsFit M.ObjectMemory m.old }
-    requires few { n < 256 }
+    requires few { n ≤ MOST_ARGUMENTS }
     ensures serves { Serves (M.told m.old) cpu.now (M.told m.new) cpu.now (each (model.pass_argument n ((M.told m.old).regs 10)) n) result }
     ensures regs { OnOk result ((r : ℕ) → (r ≡ 19 → ⊥) → (M.told m.new).regs r ≡ (M.told m.old).regs r) }
     ensures fit { StaysFit M.ObjectMemory m.old m.new result }
@@ -132,7 +135,7 @@ pub(crate) fn value<M: ObjectMemory>(m: &mut M, cpu: &mut Cpu) -> Result<Answer,
 /// Copies element k of the array in R12 to the stack of the block in R10.
 fn pass_element<M: ObjectMemory>(m: &mut M, k: u32) -> Result<(), Stop>
     requires fit { IsFit M.ObjectMemory m.old }
-    requires few { k < 65536 }
+    requires few { k ≤ MOST_FIELDS }
     ensures serves { (cpu : Numbers) → Serves (M.told m.old) cpu (M.told m.new) cpu (model.pass_element ((M.told m.old).regs 12) ((M.told m.old).regs 10) k) result }
     ensures regs { OnOk result ((r : ℕ) → (r ≡ 19 → ⊥) → (M.told m.new).regs r ≡ (M.told m.old).regs r) }
     ensures fit { StaysFit M.ObjectMemory m.old m.new result }
@@ -145,7 +148,7 @@ fn pass_element<M: ObjectMemory>(m: &mut M, k: u32) -> Result<(), Stop>
 /// Copies the first n elements of the array in R12 to the stack of the block in R10.
 fn pass_elements<M: ObjectMemory>(m: &mut M, n: u32) -> Result<(), Stop>
     requires fit { IsFit M.ObjectMemory m.old }
-    requires few { n < 65536 }
+    requires few { n ≤ MOST_FIELDS }
     ensures serves { (cpu : Numbers) → Serves (M.told m.old) cpu (M.told m.new) cpu (each (model.pass_element ((M.told m.old).regs 12) ((M.told m.old).regs 10)) n) result }
     ensures regs { OnOk result ((r : ℕ) → (r ≡ 19 → ⊥) → (M.told m.new).regs r ≡ (M.told m.old).regs r) }
     ensures fit { StaysFit M.ObjectMemory m.old m.new result }

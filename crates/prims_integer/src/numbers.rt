@@ -5,13 +5,19 @@ ghost use Rattle.std.specs.Option.{option_and_then};
 ghost use Rattle.long_names.specs.Words.{IsSmallInteger};
 ghost use Rattle.blue_model.specs.Contexts.{stated};
 ghost use Rattle.blue_model.specs.Arithmetic as model;
+ghost use Rattle.prims_integer.specs.declared.numbers.TheConstants.{SMALL_BITS};
+
+use long_names::SMALL_INTEGERS;
+
+/// A SmallInteger has so many bits.
+const SMALL_BITS: u32 = 15;
 
 /// The number, where it is a SmallInteger.
 pub(crate) fn small(z: i32) -> Option<i16>
     ensures small { result ≡ stated z }
     ensures range { IfSome result IsSmallInteger }
 {
-    if z < -16384 || z > 16383 {
+    if z < -(SMALL_INTEGERS as i32) || z >= SMALL_INTEGERS as i32 {
         None
     } else {
         Some(z as i16)
@@ -150,7 +156,7 @@ pub(crate) fn bits_xor(a: i16, b: i16) -> Option<i16>
 
 /// 2 to the power n.
 fn power(n: u32) -> i32
-    requires { n ≤ 15 }
+    requires { n ≤ SMALL_BITS }
     ensures { result ≡ pos (2 ^ n) }
 {
     1 << n
@@ -162,7 +168,7 @@ fn shifted_left(a: i16, n: u32) -> Option<i16>
     ensures shifted { result ≡ stated (a *ℤ pos (2 ^ n)) }
     ensures range { IfSome result IsSmallInteger }
 {
-    small(i32::from(a) * power(n.min(15)))
+    small(i32::from(a) * power(n.min(SMALL_BITS)))
 }
 
 /// Divided by 2 to the power n, rounded down. From 15 places on nothing is left but the sign.
@@ -170,7 +176,7 @@ fn shifted_right(a: i16, n: u32) -> i32
     requires { IsSmallInteger a }
     ensures { result ≡ int_div_euclid a (pos (2 ^ n)) }
 {
-    i32::from(a).div_euclid(power(n.min(15)))
+    i32::from(a).div_euclid(power(n.min(SMALL_BITS)))
 }
 
 /// Times 2 to the power of the argument, rounded down (bitShift:).

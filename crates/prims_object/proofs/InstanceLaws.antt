@@ -1,7 +1,8 @@
 -- What classes and numbers that are passed by value say of new objects.
-use Rattle.std.proofs.Common.{◌≡◌, ℕ, ℤ, ◌+◌, ◌<◌, ◌≤◌, Bool, true, false, nat_lt, Result, sym, ◌∙◌, ap, subst}
+use Rattle.std.proofs.Common.{◌≡◌, ℕ, ℤ, ◌+◌, ◌<◌, ◌≤◌, Bool, true, false, nat_lt, Result, sym, ◌∙◌, ap, subst, arith}
 use Rattle.std.specs.Prelude.{if◌then◌else◌}
 use borrow.Author.Tests.{lt-ltb, le-ltb}
+use Rattle.long_names.specs.declared.limits.TheConstants.{MOST_FIELDS}
 use Rattle.long_names.specs.declared.value.Value.{Value}
 use Rattle.long_names.specs.Objects.{Making, OfPointers, OfWords, OfBytes}
 use Rattle.object_memory.specs.Told.{Told}
@@ -64,8 +65,8 @@ sized_made {old} {new} {cpu} {now} {answer} v w y z elements fixed e f count s =
     let there = subst (λ k. Serves old cpu new now (make w (sized_making k (elements + fixed))) answer) f here in
     subst (λ k. Serves old cpu new now (make w (sized_making z (elements + k))) answer) (count ∙ ap (λ k. fixed_fields k) f) there
 
-pub too_many : (y z : ℤ) (elements fixed : ℕ) → y ≡ z → fixed ≡ fixed_fields y → 65536 ≤ elements + fixed → nat_lt (elements + fixed_fields z) 65536 ≡ false
-too_many y z elements fixed e count many = subst (λ k. nat_lt (elements + k) 65536 ≡ false) (count ∙ ap (λ k. fixed_fields k) e) (le-ltb (elements + fixed) 65536 many)
+pub too_many : (y z : ℤ) (elements fixed : ℕ) → y ≡ z → fixed ≡ fixed_fields y → MOST_FIELDS < elements + fixed → nat_lt (elements + fixed_fields z) (MOST_FIELDS + 1) ≡ false
+too_many y z elements fixed e count many = subst (λ k. nat_lt (elements + k) (MOST_FIELDS + 1) ≡ false) (count ∙ ap (λ k. fixed_fields k) e) (le-ltb (elements + fixed) (MOST_FIELDS + 1) many)
 
-pub few_enough : (y z : ℤ) (elements fixed : ℕ) → y ≡ z → fixed ≡ fixed_fields y → elements + fixed < 65536 → nat_lt (elements + fixed_fields z) 65536 ≡ true
-few_enough y z elements fixed e count few = subst (λ k. nat_lt (elements + k) 65536 ≡ true) (count ∙ ap (λ k. fixed_fields k) e) (lt-ltb (elements + fixed) 65536 few)
+pub few_enough : (y z : ℤ) (elements fixed : ℕ) → y ≡ z → fixed ≡ fixed_fields y → elements + fixed ≤ MOST_FIELDS → nat_lt (elements + fixed_fields z) (MOST_FIELDS + 1) ≡ true
+few_enough y z elements fixed e count few = subst (λ k. nat_lt (elements + k) (MOST_FIELDS + 1) ≡ true) (count ∙ ap (λ k. fixed_fields k) e) (lt-ltb (elements + fixed) (MOST_FIELDS + 1) (omega (arith, few)))

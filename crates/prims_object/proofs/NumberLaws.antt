@@ -7,6 +7,7 @@ use Rattle.std.specs.Option.{option_and_then}
 use mir.Val.{hbits, of_z, to_z}
 use mir.Syntax.{w16, w32}
 use lib.Signed.{mag}
+use Rattle.long_names.specs.declared.limits.TheConstants.{SMALL_INTEGERS}
 use Rattle.long_names.specs.declared.value.Value.{Value}
 use Rattle.long_names.specs.declared.value.Value.TheVariants.{Int, Ref}
 use Rattle.long_names.specs.Words.{IsSmallInteger}
@@ -198,10 +199,10 @@ index_object {old} {new} {cpu} {now} {answer} v none s = subst (λ o. Serves old
 
 -- ---- numbers as answers
 
-pub is_small : (n : ℕ) → n < 16384 → nat_lt n 16384 ≡ true
+pub is_small : (n : ℕ) → n < SMALL_INTEGERS → nat_lt n SMALL_INTEGERS ≡ true
 is_small n low = grind (arith, nat_tests)
 
-pub is_large : (n : ℕ) → 16384 ≤ n → nat_lt n 16384 ≡ false
+pub is_large : (n : ℕ) → SMALL_INTEGERS ≤ n → nat_lt n SMALL_INTEGERS ≡ false
 is_large n high = grind (arith, nat_tests)
 
 -- A number came into a scratch register, and is the answer.

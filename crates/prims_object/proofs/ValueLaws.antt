@@ -6,6 +6,7 @@ use Rattle.std.proofs.lemmas.Bool.Decides.{Decides-int_eq, Decides-eqb, same_fro
 use Rattle.std.proofs.lemmas.Int.{to_z_pos}
 use mir.Val.{to_z}
 use mir.Syntax.{w16}
+use Rattle.long_names.specs.declared.limits.TheConstants.{SMALL_INTEGERS}
 use Rattle.long_names.specs.declared.value.Value.{Value}
 use Rattle.long_names.specs.declared.value.Value.TheVariants.{Int, Ref}
 use Rattle.long_names.specs.Objects.{name_of, int_of}
@@ -31,8 +32,8 @@ its_name v w e named = subst (λ x. name_of x ≡ Some (name_at x)) e (here v na
     here (Ref n) named = refl
 
 -- the index of a name as a number that is passed by value
-pub index_passed : (n k : ℕ) → n ≡ k → to_z w16 (n % 16384) ≡ pos (k % 16384)
-index_passed n k e = to_z_pos w16 (n % 16384) (omega arith) ∙ ap (λ x. pos (x % 16384)) e
+pub index_passed : (n k : ℕ) → n ≡ k → to_z w16 (n % SMALL_INTEGERS) ≡ pos (k % SMALL_INTEGERS)
+index_passed n k e = to_z_pos w16 (n % SMALL_INTEGERS) (omega arith) ∙ ap (λ x. pos (x % SMALL_INTEGERS)) e
 
 -- ---- whether two values are the same
 

@@ -1,11 +1,12 @@
 -- The numbers that index arguments are.
-use Rattle.std.specs.Prelude.{ℕ, ℤ, pos, negsuc, ◌<◌, ◌==◌, ◌||◌, nat_lt, nat_le, Bool, true, false, Option, Some, None, if◌then◌else◌}
+use Rattle.std.specs.Prelude.{ℕ, ℤ, pos, negsuc, ◌<◌, ◌≤◌, ◌==◌, ◌||◌, nat_lt, nat_le, Bool, true, false, Option, Some, None, if◌then◌else◌}
 use Rattle.std.specs.Int.Signed.{lt_z}
+use Rattle.long_names.specs.declared.limits.TheConstants.{SMALL_INTEGERS, MOST_FIELDS}
 
 -- a number of a SmallInteger, or of two bytes
 abbrev pub IsIndex : ℤ → Type 0
-IsIndex (pos n) = n < 65536
-IsIndex (negsuc n) = n < 16384
+IsIndex (pos n) = n ≤ MOST_FIELDS
+IsIndex (negsuc n) = n < SMALL_INTEGERS
 
 -- there are two
 abbrev pub is_pair : Option ℕ → Bool

@@ -1,15 +1,16 @@
--- What rules of primitives begin with.
-use Rattle.std.specs.Prelude.{ℕ, ℤ, Bool}
+-- What rules of primitives begin with, and what those end with that store text or use streams.
+use Rattle.std.specs.Prelude.{ℕ, ℤ, pos, Bool}
 use Rattle.long_names.specs.declared.value.Value.{Value}
+use Rattle.long_names.specs.declared.value.Value.TheVariants.{Int}
 use Rattle.blue_model.specs.declared.answer.Answer.{Answer}
 use Rattle.blue_model.specs.declared.spot.Spot.{Spot}
 use Rattle.blue_model.specs.declared.indexes.TheConstants.{STREAM_ARRAY_INDEX, STREAM_INDEX_INDEX, STREAM_SIZE}
-use Rattle.blue_model.specs.Machine.{Rule, ◌>>=◌}
+use Rattle.blue_model.specs.Machine.{Rule, ◌>>=◌, ◌>>◌}
 use Rattle.blue_model.specs.Parts.{size, field, number}
 use Rattle.blue_model.specs.Contexts.{stack}
-use Rattle.blue_model.specs.Trials.{◌>>?◌, peek, where_some}
-use Rattle.blue_model.specs.Elements.{natural, index_argument, element_of, variable_of}
-use Rattle.blue_model.specs.Storage.{streamed}
+use Rattle.blue_model.specs.Trials.{◌>>?◌, peek, where_some, answer}
+use Rattle.blue_model.specs.Elements.{natural, index_argument, element_of, variable_of, text_at, byte_of_character, put_element}
+use Rattle.blue_model.specs.Storage.{streamed, advance}
 
 -- the receiver and one argument,
 abbrev pub of_one : (Value → Value → Rule Answer) → Rule Answer
@@ -41,3 +42,11 @@ of_array stream rest = peek (field STREAM_SIZE STREAM_ARRAY_INDEX) stream >>? λ
 -- and its index and one of its limits
 abbrev pub of_numbers : ℕ → Value → (ℕ → ℤ → Rule Answer) → Rule Answer
 of_numbers limit stream rest = peek (number STREAM_SIZE STREAM_INDEX_INDEX) stream >>? λ z. peek (number STREAM_SIZE limit) stream >>? λ bound. where_some (natural z) (λ index. rest index bound)
+
+-- a character's byte is stored there in text
+abbrev pub put_character : Value → Spot → Value → Rule Answer → Rule Answer
+put_character receiver spot v rest = peek (text_at spot) receiver >>? λ old. byte_of_character v >>? λ byte. put_element receiver spot (Int (pos byte)) rest
+
+-- one element more of a stream was read or written, and a value is answered to a message of n arguments
+abbrev pub advanced : Value → ℕ → ℕ → Value → Rule Answer
+advanced stream index n v = advance stream index >> answer n v

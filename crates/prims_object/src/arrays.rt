@@ -7,8 +7,9 @@ ghost use Rattle.object_memory.specs.Calls.{IsFit};
 ghost use Rattle.contexts.specs.Calls.{StaysFit};
 ghost use Rattle.contexts.specs.Keeping.{NeverKeeps};
 
-use crate::characters::{character_of, store_character, text_at};
-use crate::elements::{element_at, store_element};
+use crate::characters::{character_of, text_at};
+use crate::elements::element_at;
+use crate::endings::{store_and_answer, store_character_and_answer};
 use crate::extents::size_behind;
 use crate::indexes::number_object;
 use crate::operands::{element_place, one_argument, two_arguments};
@@ -42,10 +43,7 @@ pub(crate) fn at_put<M: ObjectMemory>(m: &mut M, cpu: &mut Cpu) -> Result<Answer
     let Some(spot) = element_place(m)? else {
         return Ok(Answer::Failed);
     };
-    if !store_element(m, Reg::R10, spot, Reg::R12)? {
-        return Ok(Answer::Failed);
-    }
-    answer(m, cpu, 2, Reg::R12)
+    store_and_answer(m, cpu, spot)
 }
 
 /// Answers how many elements there are (primitiveSize).
@@ -97,11 +95,5 @@ pub(crate) fn string_at_put<M: ObjectMemory>(m: &mut M, cpu: &mut Cpu) -> Result
     let Some(spot) = element_place(m)? else {
         return Ok(Answer::Failed);
     };
-    let Some(_) = text_at(m, Reg::R10, spot)? else {
-        return Ok(Answer::Failed);
-    };
-    if !store_character(m, Reg::R10, spot)? {
-        return Ok(Answer::Failed);
-    }
-    answer(m, cpu, 2, Reg::R12)
+    store_character_and_answer(m, cpu, spot)
 }

@@ -1,6 +1,7 @@
 // How many elements an object has, of which kind, and where they stand (chapter 29, lengthOf:).
-ghost use Rattle.std.specs.Prelude.{◌≡◌, ◌<◌, ◌≤◌, [], OnOk, IfOk, IfSome};
+ghost use Rattle.std.specs.Prelude.{◌≡◌, ◌≤◌, ◌+◌, ◌*◌, [], OnOk, IfOk, IfSome};
 ghost use Rattle.std.specs.Option.{option_and_then};
+ghost use Rattle.long_names.specs.declared.limits.TheConstants.{MOST_FIELDS, MOST_LITERALS};
 ghost use Rattle.object_memory.specs.Told.{IsReady};
 ghost use Rattle.object_memory.specs.Shape.{Looks};
 ghost use Rattle.blue_model.specs.declared.cpu.Cpu.{Cpu as Numbers};
@@ -30,8 +31,8 @@ pub(crate) struct Extent {
 impl Extent {
     /// How many elements there are, what stands before a method's code among them.
     fn length(&self) -> u32
-        requires start { self.now.start < 256 }
-        requires len { self.now.len < 65536 }
+        requires start { self.now.start ≤ 2 * (MOST_LITERALS + 1) }
+        requires len { self.now.len ≤ MOST_FIELDS }
         ensures { result ≡ extents.length_by self.now }
     {
         self.start + self.len
@@ -39,10 +40,10 @@ impl Extent {
 
     /// How many are behind so many fixed fields, where there are as many.
     fn behind(&self, fixed: u32) -> Option<u32>
-        requires start { self.now.start < 256 }
-        requires len { self.now.len < 65536 }
+        requires start { self.now.start ≤ 2 * (MOST_LITERALS + 1) }
+        requires len { self.now.len ≤ MOST_FIELDS }
         ensures behind { result ≡ extents.behind fixed self.now }
-        ensures few { IfSome result (λ n. n < 131072) }
+        ensures few { IfSome result (λ n. n ≤ 2 * (MOST_LITERALS + 1) + MOST_FIELDS) }
     {
         let length = self.length();
         if fixed <= length {
@@ -54,8 +55,8 @@ impl Extent {
 
     /// Where element e stands, e from 1 on.
     fn spot(&self, e: u32) -> Option<Spot>
-        requires start { self.now.start < 256 }
-        requires len { self.now.len < 65536 }
+        requires start { self.now.start ≤ 2 * (MOST_LITERALS + 1) }
+        requires len { self.now.len ≤ MOST_FIELDS }
         requires first { 1 ≤ e }
         ensures { result ≡ extents.spot_by e self.now }
     {
@@ -84,9 +85,9 @@ impl Extent {
 
 /// How many bytes a method's header and literals take; none where there are no literals.
 fn code_start(literals: Option<u32>) -> u32
-    requires { IfSome literals (λ n. n < 64) }
+    requires { IfSome literals (λ n. n ≤ MOST_LITERALS) }
     ensures start { result ≡ extents.start_by literals }
-    ensures few { result < 256 }
+    ensures few { result ≤ 2 * (MOST_LITERALS + 1) }
 {
     match literals {
         Some(count) => 2 * (count + 1),
@@ -99,8 +100,8 @@ fn extent_of<M: ObjectMemory>(m: &mut M, of: Reg) -> Result<Option<Extent>, Stop
     requires fit { IsFit M.ObjectMemory m.old }
     ensures serves { (cpu : Numbers) → Serves (M.told m.old) cpu (M.told m.new) cpu (peek extents.extent_of ((M.told m.old).regs of)) result }
     ensures looks { OnOk result (Looks [] (M.told m.old) (M.told m.new)) }
-    ensures start { IfOk result (λ found. IfSome found (λ x. x.start < 256)) }
-    ensures len { IfOk result (λ found. IfSome found (λ x. x.len < 65536)) }
+    ensures start { IfOk result (λ found. IfSome found (λ x. x.start ≤ 2 * (MOST_LITERALS + 1))) }
+    ensures len { IfOk result (λ found. IfSome found (λ x. x.len ≤ MOST_FIELDS)) }
     ensures fit { StaysFit M.ObjectMemory m.old m.new result }
 {
     let Some((kind, len)) = shape::shape(m, of)? else {

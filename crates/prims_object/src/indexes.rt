@@ -1,7 +1,8 @@
 // Index arguments and numbers as answers (chapter 29, positive16BitValueOf: and positive16BitIntegerFor:). R19 is what they read
 // into.
-ghost use Rattle.std.specs.Prelude.{◌≡◌, ◌<◌, ◌≤◌, ◌+◌, ◌*◌, ℕ, pos, [], ◌∷◌, OnOk, IfOk, IfSome};
+ghost use Rattle.std.specs.Prelude.{◌≡◌, ◌<◌, ◌≤◌, ◌+◌, ◌*◌, ◌^◌, ℕ, pos, [], ◌∷◌, OnOk, IfOk, IfSome};
 ghost use Rattle.std.specs.Option.{option_and_then};
+ghost use Rattle.long_names.specs.declared.limits.TheConstants.{MOST_FIELDS};
 ghost use Rattle.long_names.specs.Objects.{text_of};
 ghost use Rattle.long_names.specs.State.{IsRef};
 ghost use Rattle.object_memory.specs.Told.{IsReady};
@@ -20,7 +21,7 @@ use crate::extents::text_length;
 use contexts::Stop;
 use contexts::data::{byte, store_byte};
 use contexts::parts::{class_of, known, make_bytes};
-use long_names::Name;
+use long_names::{Name, SMALL_INTEGERS};
 use object_memory::{ObjectMemory, Reg};
 
 /// Whether there are two.
@@ -98,7 +99,7 @@ pub(crate) fn natural(number: i32) -> Option<u32>
 /// A number from 1 on.
 pub(crate) fn positive(number: i32) -> Option<u32>
     ensures number { result ≡ numbers.positive number }
-    ensures few { IfSome result (λ n. n < 2147483648) }
+    ensures few { IfSome result (λ n. n < 2 ^ 31) }
     ensures first { IfSome result (λ n. 1 ≤ n) }
 {
     if number < 1 {
@@ -121,7 +122,7 @@ pub(crate) fn natural_argument<M: ObjectMemory>(m: &mut M, of: Reg) -> Result<Op
     requires low { of < 19 }
     ensures leads { (cpu : Numbers) → Leads (M.told m.old) cpu (M.told m.new) (λ rest. model.index_argument ((M.told m.old).regs of) >>? λ z. where_some (model.natural z) rest) (λ n rest. rest n) result }
     ensures looks { OnOk result (Looks (19 ∷ []) (M.told m.old) (M.told m.new)) }
-    ensures few { IfOk result (λ found. IfSome found (λ n. n < 65536)) }
+    ensures few { IfOk result (λ found. IfSome found (λ n. n ≤ MOST_FIELDS)) }
     ensures fit { StaysFit M.ObjectMemory m.old m.new result }
 {
     let Some(number) = index_argument(m, of)? else {
@@ -151,7 +152,7 @@ pub fn number_object<M: ObjectMemory>(m: &mut M, n: u32) -> Result<(), Stop>
     ensures regs { OnOk result ((r : ℕ) → (r ≡ 12 → ⊥) → (r ≡ 19 → ⊥) → (M.told m.new).regs r ≡ (M.told m.old).regs r) }
     ensures fit { StaysFit M.ObjectMemory m.old m.new result }
 {
-    if n < 16384 {
+    if n < SMALL_INTEGERS {
         m.int(Reg::R12, n as i16);
         return Ok(());
     }

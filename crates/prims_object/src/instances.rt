@@ -1,6 +1,7 @@
 // New objects, and the variables of any object: the primitives 70, 71, 73 and 74 (chapter 29). The class or the object is in R10, the
 // size or index argument in R11, the value in R12.
-ghost use Rattle.std.specs.Prelude.{◌≡◌, ◌<◌, ℕ, OnOk};
+ghost use Rattle.std.specs.Prelude.{◌≡◌, ◌≤◌, ℕ, OnOk};
+ghost use Rattle.long_names.specs.declared.limits.TheConstants.{MOST_FIELDS};
 ghost use Rattle.long_names.specs.State.{IsRef};
 ghost use Rattle.long_names.specs.Words.{IsSmallInteger};
 ghost use Rattle.object_memory.specs.Told.{IsReady};
@@ -12,7 +13,8 @@ ghost use Rattle.object_memory.specs.Calls.{IsFit};
 ghost use Rattle.contexts.specs.Calls.{StaysFit};
 ghost use Rattle.contexts.specs.Keeping.{NeverKeeps};
 
-use crate::elements::{element_at, store_element};
+use crate::elements::element_at;
+use crate::endings::store_and_answer;
 use crate::indexes::natural_argument;
 use crate::operands::{one_argument, two_arguments, variable_place};
 use crate::specifications::{
@@ -20,7 +22,7 @@ use crate::specifications::{
 };
 use contexts::parts::{make_bytes, make_pointers, make_words};
 use contexts::{Answer, Cpu, Stop, answer, stack};
-use long_names::Name;
+use long_names::{MOST_FIELDS, Name};
 use object_memory::{ObjectMemory, Reg};
 
 /// Whether new or new: makes instances of the class in R10, which has this specification: new of a class that isn't indexable, new:
@@ -54,7 +56,7 @@ fn make_sized<M: ObjectMemory>(m: &mut M, specification: i16, n: u32) -> Result<
     requires fit { IsFit M.ObjectMemory m.old }
     requires class { IsRef ((M.told m.old).regs 10) }
     requires range { IsSmallInteger specification }
-    requires few { n < 65536 }
+    requires few { n ≤ MOST_FIELDS }
     ensures serves { (cpu : Numbers) → Serves (M.told m.old) cpu (M.told m.new) cpu (make ((M.told m.old).regs 10) (model.sized_making specification n)) (with_value result ((M.told m.new).regs 12)) }
     ensures fit { StaysFit M.ObjectMemory m.old m.new result }
 {
@@ -103,7 +105,7 @@ pub(crate) fn new_with_size<M: ObjectMemory>(m: &mut M, cpu: &mut Cpu) -> Result
         return Ok(Answer::Failed);
     };
     let n = elements + fixed_fields(specification);
-    if n >= 65536 {
+    if n > MOST_FIELDS {
         return Ok(Answer::Failed);
     }
     make_sized(m, specification, n)?;
@@ -142,8 +144,5 @@ pub(crate) fn instance_variable_at_put<M: ObjectMemory>(
     let Some(spot) = variable_place(m)? else {
         return Ok(Answer::Failed);
     };
-    if !store_element(m, Reg::R10, spot, Reg::R12)? {
-        return Ok(Answer::Failed);
-    }
-    answer(m, cpu, 2, Reg::R12)
+    store_and_answer(m, cpu, spot)
 }

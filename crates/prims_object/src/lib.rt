@@ -13,6 +13,7 @@ mod arrays;
 mod becomes;
 mod characters;
 mod elements;
+mod endings;
 mod extents;
 mod indexes;
 mod instances;

@@ -5,15 +5,18 @@ ghost use Rattle.long_names.specs.Words.{IsSmallInteger, unsigned_of};
 ghost use Rattle.object_memory.specs.Told.{IsReady};
 ghost use Rattle.object_memory.specs.Shape.{Looks};
 ghost use Rattle.blue_model.specs.declared.cpu.Cpu.{Cpu as Numbers};
+ghost use Rattle.blue_model.specs.declared.limits.TheConstants.{FIXED_FIELDS};
 ghost use Rattle.blue_model.specs.Elements as model;
 ghost use Rattle.contexts.specs.Serves.{Serves, StaysSound};
 ghost use Rattle.object_memory.specs.Calls.{IsFit};
 ghost use Rattle.contexts.specs.Calls.{StaysFit};
 
 use blue_model::indexes::{CLASS_SIZE, INSTANCE_SPECIFICATION_INDEX};
+use blue_model::limits::{FIXED_FIELDS, INDEXABLE_BIT, POINTERS_BIT, WORDS_BIT};
 use contexts::Stop;
 use contexts::parts::class_of;
 use contexts::peeks::peek_number;
+use long_names::SMALL_INTEGERS;
 use object_memory::{ObjectMemory, Reg, shape};
 
 /// The fifteen bits of a SmallInteger.
@@ -21,7 +24,7 @@ fn bits(specification: i16) -> u32
     requires { IsSmallInteger specification }
     ensures { result ≡ unsigned_of specification }
 {
-    (specification as i32).rem_euclid(32768) as u32
+    (specification as i32).rem_euclid(2 * SMALL_INTEGERS as i32) as u32
 }
 
 /// Whether instances are objects of values.
@@ -29,7 +32,7 @@ pub(crate) fn has_pointers(specification: i16) -> bool
     requires { IsSmallInteger specification }
     ensures { result ≡ model.has_pointers specification }
 {
-    bits(specification) / 16384 == 1
+    bits(specification) / POINTERS_BIT == 1
 }
 
 /// Whether instances that have no values have words, and not bytes.
@@ -37,7 +40,7 @@ pub(crate) fn has_words(specification: i16) -> bool
     requires { IsSmallInteger specification }
     ensures { result ≡ model.has_words specification }
 {
-    bits(specification) / 8192 % 2 == 1
+    bits(specification) / WORDS_BIT % 2 == 1
 }
 
 /// Whether instances have elements behind their fixed fields.
@@ -45,16 +48,16 @@ pub(crate) fn is_indexable(specification: i16) -> bool
     requires { IsSmallInteger specification }
     ensures { result ≡ model.is_indexable specification }
 {
-    bits(specification) / 4096 % 2 == 1
+    bits(specification) / INDEXABLE_BIT % 2 == 1
 }
 
 /// How many fixed fields instances have.
 pub(crate) fn fixed_fields(specification: i16) -> u32
     requires { IsSmallInteger specification }
     ensures fixed { result ≡ model.fixed_fields specification }
-    ensures few { result < 2048 }
+    ensures few { result < FIXED_FIELDS }
 {
-    bits(specification) % 2048
+    bits(specification) % FIXED_FIELDS
 }
 
 /// The instance specification of the class that a register names. None where it names nothing of a class's shape, or where no number
@@ -79,7 +82,7 @@ pub(crate) fn fixed_of<M: ObjectMemory>(m: &mut M, of: Reg) -> Result<Option<u32
     requires fit { IsFit M.ObjectMemory m.old }
     ensures serves { (cpu : Numbers) → Serves (M.told m.old) cpu (M.told m.new) cpu (model.fixed_of ((M.told m.old).regs of)) result }
     ensures looks { OnOk result (Looks (19 ∷ []) (M.told m.old) (M.told m.new)) }
-    ensures few { IfOk result (λ found. IfSome found (λ n. n < 2048)) }
+    ensures few { IfOk result (λ found. IfSome found (λ n. n < FIXED_FIELDS)) }
     ensures fit { StaysFit M.ObjectMemory m.old m.new result }
 {
     if !shape::is_name(m, of) {

@@ -1,12 +1,14 @@
 // The stream primitives 65 to 67 (chapter 29). The stream is in R10, the value in R12, the stream's array in R13.
-ghost use Rattle.std.specs.Prelude.{◌≡◌, ◌<◌, ◌+◌, ℕ, ℤ, pos, nat_lt, [], ◌∷◌, OnOk, IfOk, IfSome, Bool};
+ghost use Rattle.std.specs.Prelude.{◌≡◌, ◌<◌, ◌≤◌, ◌+◌, ℕ, ℤ, pos, nat_lt, [], ◌∷◌, OnOk, IfOk, IfSome, Bool};
 ghost use Rattle.std.specs.Int.Signed.{lt_z};
+ghost use Rattle.long_names.specs.declared.limits.TheConstants.{SMALL_INTEGERS};
 ghost use Rattle.long_names.specs.declared.value.Value.{Value};
 ghost use Rattle.long_names.specs.Words.{IsSmallInteger};
 ghost use Rattle.object_memory.specs.Told.{IsReady};
 ghost use Rattle.object_memory.specs.Shape.{Looks};
 ghost use Rattle.blue_model.specs.declared.answer.Answer.{Answer as Answers};
 ghost use Rattle.blue_model.specs.declared.cpu.Cpu.{Cpu as Numbers};
+ghost use Rattle.blue_model.specs.declared.limits.TheConstants.{MOST_ARGUMENTS};
 ghost use Rattle.blue_model.specs.Machine.{Rule};
 ghost use Rattle.blue_model.specs.Storage as model;
 ghost use Rattle.contexts.specs.Serves.{Serves, StaysSound, with_found};
@@ -47,7 +49,7 @@ struct Stream {
 impl Stream {
     /// Whether the index is below the limit.
     fn is_open(&self) -> bool
-        requires index { self.now.index < 16384 }
+        requires index { self.now.index < SMALL_INTEGERS }
         requires limit { IsSmallInteger self.now.limit }
         ensures { result ≡ lt_z (pos self.now.index) self.now.limit }
     {
@@ -56,7 +58,7 @@ impl Stream {
 
     /// Whether the index is at the limit, or at the end of an array of so many elements.
     fn has_ended(&self, len: u32) -> bool
-        requires index { self.now.index < 16384 }
+        requires index { self.now.index < SMALL_INTEGERS }
         requires limit { IsSmallInteger self.now.limit }
         ensures { result ≡ numbers.has_ended self.now.index self.now.limit len }
     {
@@ -65,7 +67,7 @@ impl Stream {
 
     /// The number of the next element.
     fn next(&self) -> i32
-        requires { self.now.index < 16384 }
+        requires { self.now.index < SMALL_INTEGERS }
         ensures next { result ≡ pos (self.now.index + 1) }
         ensures range { IsIndex result }
     {
@@ -74,8 +76,8 @@ impl Stream {
 
     /// Whether the index can grow.
     fn can_grow(&self) -> bool
-        requires { self.now.index < 16384 }
-        ensures { result ≡ nat_lt (self.now.index + 1) 16384 }
+        requires { self.now.index < SMALL_INTEGERS }
+        ensures { result ≡ nat_lt (self.now.index + 1) SMALL_INTEGERS }
     {
         self.index + 1 < SMALL_INTEGERS
     }
@@ -121,7 +123,7 @@ fn numbers_of<M: ObjectMemory>(m: &mut M, text: bool, limit: u32) -> Result<Opti
     ensures leads { (cpu : Numbers) → Leads (M.told m.old) cpu (M.told m.new) (rules.of_numbers limit ((M.told m.old).regs 10)) (λ stream (rest : ℕ → ℤ → Rule Answers). rest stream.index stream.limit) result }
     ensures text { IfOk result (λ found. IfSome found (λ stream. stream.text ≡ text)) }
     ensures looks { OnOk result (Looks (19 ∷ []) (M.told m.old) (M.told m.new)) }
-    ensures index { IfOk result (λ found. IfSome found (λ stream. stream.index < 16384)) }
+    ensures index { IfOk result (λ found. IfSome found (λ stream. stream.index < SMALL_INTEGERS)) }
     ensures limit { IfOk result (λ found. IfSome found (λ stream. IsSmallInteger stream.limit)) }
     ensures fit { StaysFit M.ObjectMemory m.old m.new result }
 {
@@ -143,7 +145,7 @@ fn open<M: ObjectMemory>(m: &mut M, limit: u32) -> Result<Option<Stream>, Stop>
     requires fit { IsFit M.ObjectMemory m.old }
     ensures leads { (cpu : Numbers) → Leads (M.told m.old) cpu (M.told m.new) (model.of_stream limit ((M.told m.old).regs 10)) (λ stream (rest : Value → Bool → ℕ → ℤ → Rule Answers). rest ((M.told m.new).regs 13) stream.text stream.index stream.limit) result }
     ensures looks { OnOk result (Looks (13 ∷ 19 ∷ []) (M.told m.old) (M.told m.new)) }
-    ensures index { IfOk result (λ found. IfSome found (λ stream. stream.index < 16384)) }
+    ensures index { IfOk result (λ found. IfSome found (λ stream. stream.index < SMALL_INTEGERS)) }
     ensures limit { IfOk result (λ found. IfSome found (λ stream. IsSmallInteger stream.limit)) }
     ensures fit { StaysFit M.ObjectMemory m.old m.new result }
 {
@@ -160,11 +162,11 @@ fn open<M: ObjectMemory>(m: &mut M, limit: u32) -> Result<Option<Stream>, Stop>
 /// can't grow. R19 is used.
 fn next_spot<M: ObjectMemory>(m: &mut M, stream: &Stream) -> Result<Option<Spot>, Stop>
     requires fit { IsFit M.ObjectMemory m.old }
-    requires index { stream.now.index < 16384 }
+    requires index { stream.now.index < SMALL_INTEGERS }
     requires limit { IsSmallInteger stream.now.limit }
     ensures leads { (cpu : Numbers) → Leads (M.told m.old) cpu (M.told m.new) (model.next_spot ((M.told m.old).regs 13) stream.now.index stream.now.limit) (λ spot rest. rest spot) result }
     ensures looks { OnOk result (Looks (19 ∷ []) (M.told m.old) (M.told m.new)) }
-    ensures grows { IfOk result (λ found. IfSome found (λ spot. stream.now.index + 1 < 16384)) }
+    ensures grows { IfOk result (λ found. IfSome found (λ spot. stream.now.index + 1 < SMALL_INTEGERS)) }
     ensures fit { StaysFit M.ObjectMemory m.old m.new result }
 {
     if !stream.is_open() {
@@ -182,7 +184,7 @@ fn next_spot<M: ObjectMemory>(m: &mut M, stream: &Stream) -> Result<Option<Spot>
 /// The index of the stream in R10 grows by 1. R19 is used.
 fn advance<M: ObjectMemory>(m: &mut M, index: u32) -> Result<(), Stop>
     requires fit { IsFit M.ObjectMemory m.old }
-    requires few { index + 1 < 16384 }
+    requires few { index + 1 < SMALL_INTEGERS }
     ensures serves { (cpu : Numbers) → Serves (M.told m.old) cpu (M.told m.new) cpu (model.advance ((M.told m.old).regs 10) index) result }
     ensures regs { OnOk result ((r : ℕ) → (r ≡ 19 → ⊥) → (M.told m.new).regs r ≡ (M.told m.old).regs r) }
     ensures fit { StaysFit M.ObjectMemory m.old m.new result }
@@ -223,6 +225,24 @@ fn put_streamed<M: ObjectMemory>(m: &mut M, text: bool, spot: Spot) -> Result<bo
     store_element(m, Reg::R13, spot, Reg::R12)
 }
 
+/// One element more of the stream in R10 was read or written, and the value in R12 is answered to a message of n arguments.
+fn advance_and_answer<M: ObjectMemory>(
+    m: &mut M,
+    cpu: &mut Cpu,
+    index: u32,
+    n: u32,
+) -> Result<Answer, Stop>
+    requires fit { IsFit M.ObjectMemory m.old }
+    requires few { index + 1 < SMALL_INTEGERS }
+    requires arguments { n ≤ MOST_ARGUMENTS }
+    ensures serves { Serves (M.told m.old) cpu.old (M.told m.new) cpu.new (rules.advanced ((M.told m.old).regs 10) index n ((M.told m.old).regs 12)) result }
+    ensures never_keeps { NeverKeeps result }
+    ensures fit { StaysFit M.ObjectMemory m.old m.new result }
+{
+    advance(m, index)?;
+    answer(m, cpu, n, Reg::R12)
+}
+
 /// Answers the next element of a stream (primitiveNext).
 pub(crate) fn next<M: ObjectMemory>(m: &mut M, cpu: &mut Cpu) -> Result<Answer, Stop>
     requires fit { IsFit M.ObjectMemory m.old }
@@ -240,8 +260,7 @@ pub(crate) fn next<M: ObjectMemory>(m: &mut M, cpu: &mut Cpu) -> Result<Answer, 
     if !streamed_element(m, stream.text, spot)? {
         return Ok(Answer::Failed);
     }
-    advance(m, stream.index)?;
-    answer(m, cpu, 0, Reg::R12)
+    advance_and_answer(m, cpu, stream.index, 0)
 }
 
 /// Stores the next element of a stream, and answers it (primitiveNextPut).
@@ -262,8 +281,7 @@ pub(crate) fn next_put<M: ObjectMemory>(m: &mut M, cpu: &mut Cpu) -> Result<Answ
     if !put_streamed(m, stream.text, spot)? {
         return Ok(Answer::Failed);
     }
-    advance(m, stream.index)?;
-    answer(m, cpu, 1, Reg::R12)
+    advance_and_answer(m, cpu, stream.index, 1)
 }
 
 /// Answers whether a stream is at its limit, or at the end of its array (primitiveAtEnd).

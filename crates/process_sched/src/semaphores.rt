@@ -14,7 +14,7 @@ use crate::switches::{current_process, resume, suspend_active};
 use blue_model::indexes::{EXCESS_SIGNALS_INDEX, FIRST_LINK_INDEX};
 use contexts::parts::{field, number, store_field};
 use contexts::{Cpu, Stop};
-use long_names::Name;
+use long_names::{Name, SMALL_INTEGERS};
 use object_memory::{ObjectMemory, Reg};
 
 /// One signal more that nobody waited for, as far as a SmallInteger can say.
@@ -23,7 +23,11 @@ fn one_more(excess: i16) -> i16
     ensures number { result ≡ model.one_more excess }
     ensures range { IsSmallInteger result }
 {
-    if excess < 16383 { excess + 1 } else { excess }
+    if excess < SMALL_INTEGERS as i16 - 1 {
+        excess + 1
+    } else {
+        excess
+    }
 }
 
 /// The semaphore has one signal more that nobody waited for.

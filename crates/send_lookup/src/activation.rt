@@ -3,6 +3,7 @@ ghost use Rattle.std.specs.Prelude.{◌≡◌, ◌≤◌, ◌<◌, ◌+◌, ℕ,
 ghost use Rattle.long_names.specs.State.{NEW_METHOD};
 ghost use Rattle.long_names.specs.Words.{IsSmallInteger};
 ghost use Rattle.object_memory.specs.Told.{IsReady};
+ghost use Rattle.blue_model.specs.declared.limits.TheConstants.{MOST_ARGUMENTS};
 ghost use Rattle.blue_model.specs.declared.cpu.Cpu.{Cpu as Numbers};
 ghost use Rattle.blue_model.specs.Machine.{each};
 ghost use Rattle.blue_model.specs.Messages as model;
@@ -24,7 +25,7 @@ use object_memory::{ObjectMemory, Reg};
 fn pass<M: ObjectMemory>(m: &mut M, cpu: &Cpu, n: u32, len: u32, k: u32) -> Result<(), Stop>
     requires fit { IsFit M.ObjectMemory m.old }
     requires number { k ≤ n }
-    requires few { n < 256 }
+    requires few { n ≤ MOST_ARGUMENTS }
     ensures serves { Serves (M.told m.old) cpu.now (M.told m.new) cpu.now (model.pass n len ((M.told m.old).regs 16) k) result }
     ensures regs { OnOk result ((r : ℕ) → (r ≡ 15 → ⊥) → (M.told m.new).regs r ≡ (M.told m.old).regs r) }
     ensures fit { StaysFit M.ObjectMemory m.old m.new result }
@@ -40,7 +41,7 @@ fn pass<M: ObjectMemory>(m: &mut M, cpu: &Cpu, n: u32, len: u32, k: u32) -> Resu
 /// Copies the receiver and the n arguments, in order, into the new context in R16.
 fn pass_all<M: ObjectMemory>(m: &mut M, cpu: &Cpu, n: u32, len: u32) -> Result<(), Stop>
     requires fit { IsFit M.ObjectMemory m.old }
-    requires few { n < 256 }
+    requires few { n ≤ MOST_ARGUMENTS }
     ensures serves { Serves (M.told m.old) cpu.now (M.told m.new) cpu.now (each (model.pass n len ((M.told m.old).regs 16)) (n + 1)) result }
     ensures regs { OnOk result ((r : ℕ) → (r ≡ 15 → ⊥) → (M.told m.new).regs r ≡ (M.told m.old).regs r) }
     ensures fit { StaysFit M.ObjectMemory m.old m.new result }
@@ -73,7 +74,7 @@ fn fill_context<M: ObjectMemory>(m: &mut M, header: i16) -> Result<(), Stop>
 fn make_context<M: ObjectMemory>(m: &mut M, cpu: &Cpu, header: i16, n: u32) -> Result<(), Stop>
     requires fit { IsFit M.ObjectMemory m.old }
     requires header { IsSmallInteger header }
-    requires few { n < 256 }
+    requires few { n ≤ MOST_ARGUMENTS }
     ensures serves { Serves (M.told m.old) cpu.now (M.told m.new) cpu.now (model.make_context ((M.told m.old).regs NEW_METHOD) header n) (with_value result ((M.told m.new).regs 16)) }
     ensures fit { StaysFit M.ObjectMemory m.old m.new result }
 {

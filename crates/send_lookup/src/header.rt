@@ -5,14 +5,15 @@ ghost use Rattle.blue_model.specs.Messages as model;
 ghost use Rattle.blue_model.specs.declared.indexes.TheConstants.{LARGE_CONTEXT_SIZE};
 
 use blue_model::indexes::{LARGE_CONTEXT_SIZE, SMALL_CONTEXT_SIZE};
-use long_names::literal_count;
+use blue_model::limits::{FLAG_UNIT, LARGE_CONTEXT_BIT, TEMPORARIES_UNIT};
+use long_names::{SMALL_INTEGERS, literal_count};
 
 /// The fifteen bits of a SmallInteger.
-fn bits(header: i16) -> u32
-    requires { IsSmallInteger header }
-    ensures { result ≡ unsigned_of header }
+pub fn bits(number: i16) -> u32
+    requires { IsSmallInteger number }
+    ensures { result ≡ unsigned_of number }
 {
-    (header as i32).rem_euclid(32768) as u32
+    (number as i32).rem_euclid(2 * SMALL_INTEGERS as i32) as u32
 }
 
 /// How a method is executed: 0 to 4 say so many arguments and no primitive; 5 answers self, 6 a field of the receiver; 7 has a header
@@ -22,7 +23,7 @@ pub fn flag(header: i16) -> u32
     ensures flag { result ≡ model.flag_of header }
     ensures few { result < 8 }
 {
-    bits(header) / 4096
+    bits(header) / FLAG_UNIT
 }
 
 /// How many temporaries a method has, arguments among them; of a method that answers a field, the field's number.
@@ -31,7 +32,7 @@ pub fn temporaries(header: i16) -> u32
     ensures temporaries { result ≡ model.temporaries_of header }
     ensures few { result < 32 }
 {
-    bits(header) / 128 % 32
+    bits(header) / TEMPORARIES_UNIT % 32
 }
 
 /// How many fields a method's context has.
@@ -40,7 +41,7 @@ pub(crate) fn context_size(header: i16) -> u32
     ensures size { result ≡ model.context_size header }
     ensures few { result ≤ LARGE_CONTEXT_SIZE }
 {
-    if bits(header) / 64 % 2 == 1 {
+    if bits(header) / LARGE_CONTEXT_BIT % 2 == 1 {
         LARGE_CONTEXT_SIZE
     } else {
         SMALL_CONTEXT_SIZE

@@ -1,7 +1,8 @@
 // The lookup along the superclass chain, and the method cache in front of it.
-ghost use Rattle.std.specs.Prelude.{◌≡◌, ◌<◌, [], ◌∷◌, OnOk, IfOk, IsTrue};
+ghost use Rattle.std.specs.Prelude.{◌≡◌, ◌<◌, [], ◌∷◌, Ok, OnOk, IfOk, IsTrue, MatchBool};
 ghost use Rattle.long_names.specs.State.{SELECTOR, NEW_METHOD};
 ghost use Rattle.object_memory.specs.Calls.{IsFit};
+ghost use Rattle.object_memory.specs.Contract.{IsFound, IsUnknown};
 ghost use Rattle.blue_model.specs.declared.cpu.Cpu.{Cpu as Numbers};
 ghost use Rattle.blue_model.specs.Lookup as model;
 ghost use Rattle.contexts.specs.Serves.{Serves, with_found};
@@ -63,6 +64,15 @@ fn look_up_whole<M: ObjectMemory>(m: &mut M, selector: Reg, class: Reg) -> Resul
     Ok(true)
 }
 
+/// Whether the cache has the pair of a class and a selector in two registers. Where it has, the method is in a third.
+fn ask_cache<M: ObjectMemory>(m: &mut M, to: Reg, class: Reg, selector: Reg) -> bool
+    requires fit { IsFit M.ObjectMemory m.old }
+    ensures found { MatchBool result (IsFound (M.told m.old) (M.told m.new) to class selector) (IsUnknown (M.told m.old) (M.told m.new) class selector) }
+    ensures fit { StaysFit M.ObjectMemory m.old m.new (Ok result) }
+{
+    m.cache_find(to, class, selector)
+}
+
 /// Loads the method that the class in a register, or the first class above it that has one, has for the selector in another into
 /// R22: the cached one, where the cache has the pair. False where the chain ends before. The scratch registers from 19 on are used.
 pub fn look_up<M: ObjectMemory>(m: &mut M, selector: Reg, class: Reg) -> Result<bool, Stop>
@@ -73,7 +83,7 @@ pub fn look_up<M: ObjectMemory>(m: &mut M, selector: Reg, class: Reg) -> Result<
     ensures others { OnOk result (KeepsBelow 19 (M.told m.old) (M.told m.new)) }
     ensures fit { StaysFit M.ObjectMemory m.old m.new result }
 {
-    if m.cache_find(Reg::R22, class, selector) {
+    if ask_cache(m, Reg::R22, class, selector) {
         return Ok(true);
     }
     look_up_whole(m, selector, class)
@@ -90,7 +100,7 @@ pub fn find<M: ObjectMemory>(m: &mut M, class: Reg) -> Result<bool, Stop>
     ensures others { OnOk result (KeepsButMethod 19 (M.told m.old) (M.told m.new)) }
     ensures fit { StaysFit M.ObjectMemory m.old m.new result }
 {
-    if m.cache_find(Reg::NEW_METHOD, class, Reg::SELECTOR) {
+    if ask_cache(m, Reg::NEW_METHOD, class, Reg::SELECTOR) {
         return Ok(true);
     }
     if !look_up_whole(m, Reg::SELECTOR, class)? {

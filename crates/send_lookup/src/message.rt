@@ -1,7 +1,8 @@
 // Messages that no class of the chain has a method for (chapter 28, doesNotUnderstand:).
-ghost use Rattle.std.specs.Prelude.{◌≡◌, ◌<◌, ℕ, OnOk};
+ghost use Rattle.std.specs.Prelude.{◌≡◌, ◌<◌, ◌≤◌, ℕ, OnOk};
 ghost use Rattle.long_names.specs.State.{SELECTOR, NEW_METHOD};
 ghost use Rattle.object_memory.specs.Told.{IsReady};
+ghost use Rattle.blue_model.specs.declared.limits.TheConstants.{MOST_ARGUMENTS};
 ghost use Rattle.blue_model.specs.declared.cpu.Cpu.{Cpu as Numbers};
 ghost use Rattle.blue_model.specs.Machine.{each};
 ghost use Rattle.blue_model.specs.Messages as model;
@@ -22,7 +23,7 @@ use object_memory::{ObjectMemory, Reg};
 fn copy_argument<M: ObjectMemory>(m: &mut M, cpu: &Cpu, n: u32, i: u32) -> Result<(), Stop>
     requires fit { IsFit M.ObjectMemory m.old }
     requires argument { i < n }
-    requires few { n < 256 }
+    requires few { n ≤ MOST_ARGUMENTS }
     ensures serves { Serves (M.told m.old) cpu.now (M.told m.new) cpu.now (model.copy_argument n ((M.told m.old).regs 16) i) result }
     ensures regs { OnOk result ((r : ℕ) → (r ≡ 17 → ⊥) → (M.told m.new).regs r ≡ (M.told m.old).regs r) }
     ensures fit { StaysFit M.ObjectMemory m.old m.new result }
@@ -35,7 +36,7 @@ fn copy_argument<M: ObjectMemory>(m: &mut M, cpu: &Cpu, n: u32, i: u32) -> Resul
 /// Copies the n arguments, in order, into the array in R16.
 fn copy_arguments<M: ObjectMemory>(m: &mut M, cpu: &Cpu, n: u32) -> Result<(), Stop>
     requires fit { IsFit M.ObjectMemory m.old }
-    requires few { n < 256 }
+    requires few { n ≤ MOST_ARGUMENTS }
     ensures serves { Serves (M.told m.old) cpu.now (M.told m.new) cpu.now (each (model.copy_argument n ((M.told m.old).regs 16)) n) result }
     ensures regs { OnOk result ((r : ℕ) → (r ≡ 17 → ⊥) → (M.told m.new).regs r ≡ (M.told m.old).regs r) }
     ensures fit { StaysFit M.ObjectMemory m.old m.new result }
@@ -49,7 +50,7 @@ fn copy_arguments<M: ObjectMemory>(m: &mut M, cpu: &Cpu, n: u32) -> Result<(), S
 /// Makes an array of the n arguments, in R16.
 fn make_arguments<M: ObjectMemory>(m: &mut M, cpu: &Cpu, n: u32) -> Result<(), Stop>
     requires fit { IsFit M.ObjectMemory m.old }
-    requires few { n < 256 }
+    requires few { n ≤ MOST_ARGUMENTS }
     ensures serves { Serves (M.told m.old) cpu.now (M.told m.new) cpu.now (model.make_arguments n) (with_value result ((M.told m.new).regs 16)) }
     ensures regs { OnOk result ((r : ℕ) → r < 15 → (M.told m.new).regs r ≡ (M.told m.old).regs r) }
     ensures fit { StaysFit M.ObjectMemory m.old m.new result }

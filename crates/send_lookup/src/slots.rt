@@ -1,10 +1,12 @@
 // The slots of a method dictionary. They follow its two first fields.
 ghost use Rattle.std.specs.Prelude.{◌≡◌, ◌<◌, ◌≤◌, [], ◌∷◌, OnOk, IfOk, IfSome, length};
+ghost use Rattle.long_names.specs.declared.limits.TheConstants.{MOST_FIELDS};
 ghost use Rattle.long_names.specs.Objects.{pointers_of};
 ghost use Rattle.long_names.specs.State.{IsRef};
 ghost use Rattle.object_memory.specs.Told.{IsReady};
 ghost use Rattle.object_memory.specs.Shape.{HasPartAt, Looks};
 ghost use Rattle.blue_model.specs.declared.cause.Cause.TheVariants.{Shape};
+ghost use Rattle.blue_model.specs.declared.indexes.TheConstants.{DICTIONARY_SIZE};
 ghost use Rattle.blue_model.specs.declared.cpu.Cpu.{Cpu as Numbers};
 ghost use Rattle.blue_model.specs.Machine.{part};
 ghost use Rattle.blue_model.specs.Lookup.{slot_of, turned_back};
@@ -21,7 +23,7 @@ use object_memory::{ObjectMemory, Reg};
 fn slot_at(first: u32, slots: u32, place: u32) -> u32
     requires first { first < slots }
     requires place { place < slots }
-    requires few { slots < 65536 }
+    requires few { slots ≤ MOST_FIELDS }
     ensures slot { result ≡ turned_back first slots place }
     ensures within { result < slots }
 {
@@ -34,8 +36,8 @@ fn slot_at(first: u32, slots: u32, place: u32) -> u32
 pub(crate) fn find_slot<M: ObjectMemory>(m: &mut M, fields: u32) -> Result<Option<u32>, Stop>
     requires fit { IsFit M.ObjectMemory m.old }
     requires selector { IsRef ((M.told m.old).regs 23) }
-    requires some { 3 ≤ fields }
-    requires few { fields < 65536 }
+    requires some { DICTIONARY_SIZE ≤ fields }
+    requires few { fields ≤ MOST_FIELDS }
     requires there { HasPartAt (M.told m.old) 21 pointers_of (λ xs. length xs ≡ fields) }
     ensures serves { (cpu : Numbers) → Serves (M.told m.old) cpu (M.told m.new) cpu (part Shape (slot_of ((M.told m.old).regs 23)) ((M.told m.old).regs 21)) result }
     ensures looks { OnOk result (Looks (22 ∷ []) (M.told m.old) (M.told m.new)) }

@@ -1,10 +1,10 @@
-use Rattle.std.proofs.Common.{false, Option, Ok, length, ◌≤◌, ◌<◌, subst}
+use Rattle.std.proofs.Common.{false, Option, Ok, length, ◌≤◌, subst}
 use Rattle.long_names.specs.Objects.{words_of}
 use Rattle.object_memory.specs.Shape.{HasPartAt}
 use Rattle.blue_model.specs.Forms.{Form, form_of}
 use Rattle.contexts.specs.Serves.{Serves}
 use Rattle.contexts.proofs.PeekPairs.{of_some}
-use Rattle.forms.specs.Shapes.{IsExtent, least_words}
+use Rattle.forms.specs.Shapes.{FitsAnObject, least_words}
 use Rattle.devices.proofs.FormLaws.{form_none, form_some, exits_form}
 use Rattle.devices.proofs.display.form_of.Goals as goal
 
@@ -32,5 +32,5 @@ returns-clause-rows g c =
 
 pub returns-clause-small : goal.returns-clause-small
 returns-clause-small g c =
-    let e = of_some (λ e. IsExtent e × (least_words false e < 65536)) _ _ c.in-Some.is c.in_ok-extent.ensures.extent in
+    let e = of_some (λ e. FitsAnObject false e) _ _ c.in-Some.is c.in_ok-extent.ensures.extent in
     (e.0.narrow, e.0.low)

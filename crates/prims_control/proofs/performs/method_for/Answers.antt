@@ -1,5 +1,6 @@
-use Rattle.std.proofs.Common.{refl}
+use Rattle.std.proofs.Common.{◌+◌, refl, arith}
 use borrow.Author.Tests.{lt-ltb, le-ltb}
+use Rattle.blue_model.specs.declared.limits.TheConstants.{MOST_ARGUMENTS}
 use Rattle.blue_model.specs.Control.{method_for, taking}
 use Rattle.contexts.proofs.ServesLaws.{serves_then, serves_stop}
 use Rattle.contexts.proofs.Steps.{pick_true, pick_false, done_serves}
@@ -29,7 +30,7 @@ unfolding method_for taking
 returns-in_err-count-clause-serves g c = λ cpu.
     let selector = c.in_ok-class_of.ensures.looks.regs 11 refl in
     exits_found _ _ c.from_residual-in_err-count.ensures.1 (serves_then _ (c.in_ok-class_of.ensures.serves cpu)
-    (serves_then _ (rw (selector, c.if-not-branch.false) at (c.in_ok-look_up.ensures.serves cpu)) (pick_true _ _ _ (lt-ltb _ 256 c.if-n-ge256.false) (serves_stop _ (c.in_err-count.ensures.serves cpu)))))
+    (serves_then _ (rw (selector, c.if-not-branch.false) at (c.in_ok-look_up.ensures.serves cpu)) (pick_true _ _ _ (lt-ltb _ (MOST_ARGUMENTS + 1) (omega (arith, c.if-n-gt-MOST_ARGUMENTS.false))) (serves_stop _ (c.in_err-count.ensures.serves cpu)))))
 
 pub returns-clause-serves : goal.returns-clause-serves
 unfolding method_for taking
@@ -38,12 +39,12 @@ returns-clause-serves g c = λ cpu.
     let method = c.in_ok-count.ensures.looks.regs 22 refl in
     serves_then _ (c.in_ok-class_of.ensures.serves cpu)
     (serves_then _ (rw (selector, c.if-not-branch.false) at (c.in_ok-look_up.ensures.serves cpu))
-    (pick_true _ _ _ (lt-ltb _ 256 c.if-n-ge256.false) (serves_then _ (c.in_ok-count.ensures.serves cpu) (taken _ _ _ _ method c.in_ok-count.ensures.fit.ready))))
+    (pick_true _ _ _ (lt-ltb _ (MOST_ARGUMENTS + 1) (omega (arith, c.if-n-gt-MOST_ARGUMENTS.false))) (serves_then _ (c.in_ok-count.ensures.serves cpu) (taken _ _ _ _ method c.in_ok-count.ensures.fit.ready))))
 
-pub returns-then-n-ge256-clause-serves : goal.returns-then-n-ge256-clause-serves
+pub returns-then-n-gt-MOST_ARGUMENTS-clause-serves : goal.returns-then-n-gt-MOST_ARGUMENTS-clause-serves
 unfolding method_for taking
-returns-then-n-ge256-clause-serves g c = λ cpu.
+returns-then-n-gt-MOST_ARGUMENTS-clause-serves g c = λ cpu.
     let selector = c.in_ok-class_of.ensures.looks.regs 11 refl in
     serves_then _ (c.in_ok-class_of.ensures.serves cpu)
     (serves_then _ (rw (selector, c.if-not-branch.false) at (c.in_ok-look_up.ensures.serves cpu))
-    (pick_false _ _ _ (le-ltb _ 256 c.if-n-ge256.true) (done_serves c.in_ok-look_up.ensures.fit.ready)))
+    (pick_false _ _ _ (le-ltb _ (MOST_ARGUMENTS + 1) (omega (arith, c.if-n-gt-MOST_ARGUMENTS.true))) (done_serves c.in_ok-look_up.ensures.fit.ready)))

@@ -56,9 +56,9 @@ returns-in_default-2-clause-serves g c =
     (true_then _ _ (λ told. by_new _ _ _ _ _ _ _ still z c.is_made_by_new.ensures c.if-not-is_made_by_new.false)
     (natural_fails _ _ _ _ argument c.in_default-2.is (c.in_ok-elements.ensures.leads _))))
 
-pub returns-then-n-ge65536-clause-serves : goal.returns-then-n-ge65536-clause-serves
+pub returns-then-n-gt-MOST_FIELDS-clause-serves : goal.returns-then-n-gt-MOST_FIELDS-clause-serves
 unfolding new_with_size
-returns-then-n-ge65536-clause-serves g c =
+returns-then-n-gt-MOST_FIELDS-clause-serves g c =
     let still = c.in_ok-specification.ensures.looks.regs 10 refl in
     let argument = c.in_ok-specification.ensures.looks.regs 11 refl in
     let z = small_number _ (of_some IsSmallInteger _ c.in-Some.is c.in_ok-specification.ensures.range) in
@@ -66,7 +66,7 @@ returns-then-n-ge65536-clause-serves g c =
     (found_then _ c.in-Some.is (c.in_ok-specification.ensures.serves c.args.cpu.now)
     (true_then _ _ (λ told. by_new _ _ _ _ _ _ _ still z c.is_made_by_new.ensures c.if-not-is_made_by_new.false)
     (natural_then _ _ _ _ _ argument c.in-Some-2.is (c.in_ok-elements.ensures.leads _)
-    (false_fails _ _ c.in_ok-elements.ensures.fit.ready (λ told. too_many _ _ _ _ z c.fixed_fields.ensures.fixed c.if-n-ge65536.true)))))
+    (false_fails _ _ c.in_ok-elements.ensures.fit.ready (λ told. too_many _ _ _ _ z c.fixed_fields.ensures.fixed c.if-n-gt-MOST_FIELDS.true)))))
 
 pub returns-in_err-make_sized-clause-serves : goal.returns-in_err-make_sized-clause-serves
 unfolding new_with_size
@@ -79,7 +79,7 @@ returns-in_err-make_sized-clause-serves g c =
     (found_then _ c.in-Some.is (c.in_ok-specification.ensures.serves c.args.cpu.now)
     (true_then _ _ (λ told. by_new _ _ _ _ _ _ _ still z c.is_made_by_new.ensures c.if-not-is_made_by_new.false)
     (natural_then _ _ _ _ _ argument c.in-Some-2.is (c.in_ok-elements.ensures.leads _)
-    (true_then _ _ (λ told. few_enough _ _ _ _ z c.fixed_fields.ensures.fixed c.if-n-ge65536.false)
+    (true_then _ _ (λ told. few_enough _ _ _ _ z c.fixed_fields.ensures.fixed c.if-n-gt-MOST_FIELDS.false)
     (serves_exit _ _ (sized_made _ _ _ _ _ _ made z c.fixed_fields.ensures.fixed (c.in_err-make_sized.ensures.serves _)) c.from_residual-in_err-make_sized.ensures.1)))))
 
 pub returns-clause-serves : goal.returns-clause-serves
@@ -93,5 +93,5 @@ returns-clause-serves g c =
     (found_then _ c.in-Some.is (c.in_ok-specification.ensures.serves c.args.cpu.now)
     (true_then _ _ (λ told. by_new _ _ _ _ _ _ _ still z c.is_made_by_new.ensures c.if-not-is_made_by_new.false)
     (natural_then _ _ _ _ _ argument c.in-Some-2.is (c.in_ok-elements.ensures.leads _)
-    (true_then _ _ (λ told. few_enough _ _ _ _ z c.fixed_fields.ensures.fixed c.if-n-ge65536.false)
+    (true_then _ _ (λ told. few_enough _ _ _ _ z c.fixed_fields.ensures.fixed c.if-n-gt-MOST_FIELDS.false)
     (serves_then _ (sized_made _ _ _ _ _ _ made z c.fixed_fields.ensures.fixed (c.in_ok-make_sized.ensures.serves _)) c.answer.ensures.serves)))))

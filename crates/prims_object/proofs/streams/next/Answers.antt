@@ -52,26 +52,13 @@ returns-then-not-branch-clause-serves g c =
     ((rw c.in-Some-2.is at c.in_ok-spot.ensures.leads _) _ _ _ _
     ((rw (c.if-not-branch.true, array) at c.in_ok-streamed_element.ensures.leads _) _)))
 
-pub returns-in_err-advance-clause-serves : goal.returns-in_err-advance-clause-serves
-unfolding next
-returns-in_err-advance-clause-serves g c =
-    let array = c.in_ok-spot.ensures.looks.regs 13 refl in
-    let stream = c.in_ok-streamed_element.ensures.regs 10 (unequal 10 12 refl) (unequal 10 19 refl) ∙ c.in_ok-spot.ensures.looks.regs 10 refl ∙ c.in_ok-stream.ensures.looks.regs 10 refl in
-    serves_then _ c.in_ok-stack.ensures.serves
-    ((rw c.in-Some.is at c.in_ok-stream.ensures.leads _) _ _ _ _
-    ((rw c.in-Some-2.is at c.in_ok-spot.ensures.leads _) _ _ _ _
-    ((rw (c.if-not-branch.false, array) at c.in_ok-streamed_element.ensures.leads _) _ _ _ _
-    (serves_exit _ _ (rw stream at c.in_err-advance.ensures.serves _) c.from_residual-in_err-advance.ensures.1))))
-
 pub returns-clause-serves : goal.returns-clause-serves
 unfolding next
 returns-clause-serves g c =
     let array = c.in_ok-spot.ensures.looks.regs 13 refl in
     let stream = c.in_ok-streamed_element.ensures.regs 10 (unequal 10 12 refl) (unequal 10 19 refl) ∙ c.in_ok-spot.ensures.looks.regs 10 refl ∙ c.in_ok-stream.ensures.looks.regs 10 refl in
-    let value = c.in_ok-advance.ensures.regs 12 (unequal 12 19 refl) in
     serves_then _ c.in_ok-stack.ensures.serves
     ((rw c.in-Some.is at c.in_ok-stream.ensures.leads _) _ _ _ _
     ((rw c.in-Some-2.is at c.in_ok-spot.ensures.leads _) _ _ _ _
     ((rw (c.if-not-branch.false, array) at c.in_ok-streamed_element.ensures.leads _) _ _ _ _
-    (serves_then _ (rw stream at c.in_ok-advance.ensures.serves _)
-    (rw value at c.answer.ensures.serves)))))
+    (rw stream at c.advance_and_answer.ensures.serves))))

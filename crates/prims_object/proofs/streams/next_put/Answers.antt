@@ -72,32 +72,17 @@ returns-then-not-branch-clause-serves g c =
     ((rw c.in-Some-2.is at c.in_ok-spot.ensures.leads _) _ _ _ _
     ((rw (c.if-not-branch.true, array, value) at c.in_ok-put_streamed.ensures.leads _) _))))
 
-pub returns-in_err-advance-clause-serves : goal.returns-in_err-advance-clause-serves
-unfolding next_put
-returns-in_err-advance-clause-serves g c =
-    let stream = c.in_ok-stack-2.ensures.looks.regs 10 refl in
-    let array = c.in_ok-spot.ensures.looks.regs 13 refl in
-    let value = c.in_ok-spot.ensures.looks.regs 12 refl ∙ c.in_ok-stream.ensures.looks.regs 12 refl in
-    let stream-5 = c.in_ok-put_streamed.ensures.regs 10 (unequal 10 18 refl) (unequal 10 19 refl) ∙ c.in_ok-spot.ensures.looks.regs 10 refl ∙ c.in_ok-stream.ensures.looks.regs 10 refl ∙ c.in_ok-stack-2.ensures.looks.regs 10 refl in
-    serves_then _ c.in_ok-stack.ensures.serves
-    (serves_then _ c.in_ok-stack-2.ensures.serves
-    ((rw (c.in-Some.is, stream) at c.in_ok-stream.ensures.leads _) _ _ _ _
-    ((rw c.in-Some-2.is at c.in_ok-spot.ensures.leads _) _ _ _ _
-    ((rw (c.if-not-branch.false, array, value) at c.in_ok-put_streamed.ensures.leads _) _ _ _ _
-    (serves_exit _ _ (rw stream-5 at c.in_err-advance.ensures.serves _) c.from_residual-in_err-advance.ensures.1)))))
-
 pub returns-clause-serves : goal.returns-clause-serves
 unfolding next_put
 returns-clause-serves g c =
     let stream = c.in_ok-stack-2.ensures.looks.regs 10 refl in
     let array = c.in_ok-spot.ensures.looks.regs 13 refl in
     let value = c.in_ok-spot.ensures.looks.regs 12 refl ∙ c.in_ok-stream.ensures.looks.regs 12 refl in
-    let stream-5 = c.in_ok-put_streamed.ensures.regs 10 (unequal 10 18 refl) (unequal 10 19 refl) ∙ c.in_ok-spot.ensures.looks.regs 10 refl ∙ c.in_ok-stream.ensures.looks.regs 10 refl ∙ c.in_ok-stack-2.ensures.looks.regs 10 refl in
-    let value-6 = c.in_ok-advance.ensures.regs 12 (unequal 12 19 refl) ∙ c.in_ok-put_streamed.ensures.regs 12 (unequal 12 18 refl) (unequal 12 19 refl) ∙ c.in_ok-spot.ensures.looks.regs 12 refl ∙ c.in_ok-stream.ensures.looks.regs 12 refl in
+    let stream-5 = c.in_ok-put_streamed.ensures.regs 10 (unequal 10 18 refl) (unequal 10 19 refl) ∙ c.in_ok-spot.ensures.looks.regs 10 refl ∙ c.in_ok-stream.ensures.looks.regs 10 refl ∙ stream in
+    let value-5 = c.in_ok-put_streamed.ensures.regs 12 (unequal 12 18 refl) (unequal 12 19 refl) ∙ value in
     serves_then _ c.in_ok-stack.ensures.serves
     (serves_then _ c.in_ok-stack-2.ensures.serves
     ((rw (c.in-Some.is, stream) at c.in_ok-stream.ensures.leads _) _ _ _ _
     ((rw c.in-Some-2.is at c.in_ok-spot.ensures.leads _) _ _ _ _
     ((rw (c.if-not-branch.false, array, value) at c.in_ok-put_streamed.ensures.leads _) _ _ _ _
-    (serves_then _ (rw stream-5 at c.in_ok-advance.ensures.serves _)
-    (rw value-6 at c.answer.ensures.serves))))))
+    (rw (stream-5, value-5) at c.advance_and_answer.ensures.serves)))))

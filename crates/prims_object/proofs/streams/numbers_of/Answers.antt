@@ -1,4 +1,4 @@
-use Rattle.std.proofs.Common.{[], ◌∷◌, sym, ◌∙◌, ap, refl}
+use Rattle.std.proofs.Common.{sym, ◌∙◌, ap, refl}
 use Rattle.long_names.specs.Words.{IsSmallInteger}
 use Rattle.object_memory.proofs.ShapeLaws.{small_number}
 use Rattle.blue_model.specs.Elements.{natural}

@@ -1,5 +1,4 @@
-use Rattle.std.proofs.Common.{[], ◌∷◌, ◌≡◌, refl}
-use Rattle.contexts.proofs.ReadLaws.{looks_again}
+use Rattle.std.proofs.Common.{◌≡◌, refl}
 use Rattle.blue_model.specs.Storage.{of_stream}
 use Rattle.prims_object.proofs.LeadLaws.{leads_exit}
 use Rattle.prims_object.proofs.TestLaws.{of_some, looks_more}
