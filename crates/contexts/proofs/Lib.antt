@@ -1,6 +1,7 @@
 pub mod CacheLaws
 pub mod ClassLaws
 pub mod CodeLaws
+pub mod ExitLaws
 pub mod Frames
 pub mod LookupLaws
 pub mod MakeLaws

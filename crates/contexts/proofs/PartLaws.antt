@@ -198,6 +198,9 @@ pub field_none : {t : Told} {r : ℕ} {found : Option ℕ} (least i : ℕ) → I
 unfolding field
 field_none {t} {r} {found} least i is e told = shaped_none t.heap (t.regs r) least (option_and_then (λ (values : List Value). slice_get values i)) refl (is.there told ∙ e)
 
+pub value_in : {t : Told} {r least : ℕ} (i : ℕ) → HasPartAt t r pointers_of (λ xs. (least ≤ length xs) × (i < length xs)) → HasPartAt t r pointers_of (λ xs. i < length xs)
+value_in i known = record { name = known.name; there = λ told. (let it = known.there told in (it.0, it.1, it.2.1)) }
+
 -- a field of an object of pointers that was tested to have it,
 pub field_tested : {t : Told} {r : ℕ} (i : ℕ) → HasPartAt t r pointers_of (λ xs. i < length xs) → IsTrue t.tells → (v : Value) × (option_and_then (field 0 i) (object_at t.heap (t.regs r)) ≡ Some v) × (part_at t.heap (t.regs r) (λ b. field_of b i) ≡ Some v)
 unfolding field
@@ -209,6 +212,39 @@ field_tested {t} {r} i known told =
       shaped_is t.heap (t.regs r) 0 (length has.0) (option_and_then (λ (values : List Value). slice_get values i)) (omega arith) x ∙ sym (field_found t.heap (t.regs r) (length has.0) i x) ∙ value.1,
       value.1,
     )
+
+-- with at least so many fields,
+pub field_in : {t : Told} {r : ℕ} (least i : ℕ) → HasPartAt t r pointers_of (λ xs. (least ≤ length xs) × (i < length xs)) → IsTrue t.tells → (v : Value) × (option_and_then (field least i) (object_at t.heap (t.regs r)) ≡ Some v) × (part_at t.heap (t.regs r) (λ b. field_of b i) ≡ Some v)
+unfolding field
+field_in {t} {r} least i known told =
+    let has = known.there told in
+    let value = (field_there t r i (value_in i known)).there told in
+    let x = has_fields t.heap (t.regs r) (length has.0) (counted t.heap (t.regs r) has.0 has.1) in (
+      value.0,
+      shaped_is t.heap (t.regs r) least (length has.0) (option_and_then (λ (values : List Value). slice_get values i)) has.2.0 x ∙ sym (field_found t.heap (t.regs r) (length has.0) i x) ∙ value.1,
+      value.1,
+    )
+
+-- where the number of fields was found,
+pub sized_both : {t : Told} {r len : ℕ} (least i : ℕ) → least ≤ len → i < len → HasPartAt t r pointers_of (λ xs. length xs ≡ len) → HasPartAt t r pointers_of (λ xs. (least ≤ length xs) × (i < length xs))
+sized_both {t} {r} {len} least i low within known = record { name = known.name; there = λ told. (let it = known.there told in let long = it.2 in (it.0, it.1, ((omega arith), (omega arith)))) }
+
+pub sized_least : {t : Told} {r len : ℕ} (least : ℕ) → least ≤ len → HasPartAt t r pointers_of (λ xs. length xs ≡ len) → HasPartAt t r pointers_of (λ xs. least ≤ length xs)
+sized_least {t} {r} {len} least low known = record { name = known.name; there = λ told. (let it = known.there told in let long = it.2 in (it.0, it.1, (omega arith))) }
+
+pub sized_more : {t : Told} {r : ℕ} (least i : ℕ) → i < least → HasPartAt t r pointers_of (λ xs. least ≤ length xs) → HasPartAt t r pointers_of (λ xs. i < length xs)
+sized_more {t} {r} least i low known = record { name = known.name; there = λ told. (let it = known.there told in let long = it.2 in (it.0, it.1, (omega arith))) }
+
+-- the number of fields, as what was found
+sized_part : {t : Told} {r : ℕ} (P : List Value → Type 0) (known : HasPartAt t r pointers_of P) (told : IsTrue t.tells) → IsPartAt t r field_count (Some (length (known.there told).0))
+sized_part {t} {r} P known told = record { name = λ found. known.name; there = λ now. (let it = known.there told in counted t.heap (t.regs r) it.0 it.1) }
+
+-- no field is past them
+pub field_beyond : {t : Told} {r : ℕ} (len i : ℕ) → HasPartAt t r pointers_of (λ xs. length xs ≡ len) → len ≤ i → IsTrue t.tells → option_and_then (field 0 i) (object_at t.heap (t.regs r)) ≡ None
+field_beyond {t} {r} len i known past told =
+    let it = known.there told in
+    let long = it.2 in
+    field_past 0 i (length it.0) (sized_part (λ xs. length xs ≡ len) known told) refl (omega arith) told
 
 -- or whose length was found,
 pub sized_within : {t : Told} {r : ℕ} (len i : ℕ) → i < len → HasPartAt t r pointers_of (λ xs. length xs ≡ len) → HasPartAt t r pointers_of (λ xs. i < length xs)
@@ -240,6 +276,10 @@ home_is {t} {r} {found} context n is e low told =
     shaped_is t.heap (t.regs r) TEMP_FRAME_START n (home_here context) low x
     ∙ ap (λ (y : Option Value). home_by context y (slice_get x.values HOME_INDEX)) (sym (field_found t.heap (t.regs r) n METHOD_INDEX x))
     ∙ ap (λ (y : Option Value). home_by context (part_at t.heap (t.regs r) (λ b. field_of b METHOD_INDEX)) y) (sym (field_found t.heap (t.regs r) n HOME_INDEX x))
+
+-- of a context that was tested to have the fields of one
+pub home_tested : {t : Told} {r : ℕ} (context : Value) → HasPartAt t r pointers_of (λ xs. TEMP_FRAME_START ≤ length xs) → IsTrue t.tells → option_and_then (home_of context) (object_at t.heap (t.regs r)) ≡ home_by context (part_at t.heap (t.regs r) (λ b. field_of b METHOD_INDEX)) (part_at t.heap (t.regs r) (λ b. field_of b HOME_INDEX))
+home_tested {t} {r} context known told = home_is context (length (known.there told).0) (sized_part (λ xs. TEMP_FRAME_START ≤ length xs) known told) refl (known.there told).2 told
 
 pub home_few : {t : Told} {r : ℕ} {found : Option ℕ} (context : Value) (n : ℕ) → IsPartAt t r field_count found → found ≡ Some n → n < TEMP_FRAME_START → IsTrue t.tells → option_and_then (home_of context) (object_at t.heap (t.regs r)) ≡ None
 unfolding home_of

@@ -11,7 +11,9 @@ ghost use Rattle.object_memory.specs.Calls.{IsFit};
 ghost use Rattle.contexts.specs.Calls.{StaysFit};
 
 use crate::numbers::{stated_depth, stated_ip, take_stated};
-use crate::parts::{field, home, known, need_method, number, store_field};
+use crate::parts::{
+    field, home_within, known, need_method, number_within, size, store_below, store_field,
+};
 use crate::registers::{clear, pin, put_context, unpin_all};
 use crate::stop::Stop;
 use blue_model::indexes::{
@@ -64,15 +66,16 @@ fn load<M: ObjectMemory>(m: &mut M, cpu: &mut Cpu, context: Reg) -> Result<(), S
 {
     unpin_all(m);
     pin(m, 0, context)?;
-    let ip = number(
+    size(m, context, TEMP_FRAME_START)?;
+    let ip = number_within(
         m,
         Reg::R20,
         context,
         TEMP_FRAME_START,
         INSTRUCTION_POINTER_INDEX,
     )?;
-    let depth = number(m, Reg::R20, context, TEMP_FRAME_START, STACK_POINTER_INDEX)?;
-    home(m, Reg::R21, context)?;
+    let depth = number_within(m, Reg::R20, context, TEMP_FRAME_START, STACK_POINTER_INDEX)?;
+    home_within(m, Reg::R21, context)?;
     load_home(m, cpu, context, &ip, &depth)?;
     Ok(())
 }
@@ -90,10 +93,17 @@ fn store_registers<M: ObjectMemory>(m: &mut M, cpu: &Cpu) -> Result<(), Stop>
     let Some(depth) = stated_depth(cpu) else {
         return Err(Stop::Stuck(Cause::Stack));
     };
+    let len = size(m, Reg::ACTIVE_CONTEXT, 0)?;
     m.int(Reg::R20, ip);
-    store_field(m, Reg::ACTIVE_CONTEXT, INSTRUCTION_POINTER_INDEX, Reg::R20)?;
+    store_below(
+        m,
+        Reg::ACTIVE_CONTEXT,
+        len,
+        INSTRUCTION_POINTER_INDEX,
+        Reg::R20,
+    )?;
     m.int(Reg::R20, depth);
-    store_field(m, Reg::ACTIVE_CONTEXT, STACK_POINTER_INDEX, Reg::R20)?;
+    store_below(m, Reg::ACTIVE_CONTEXT, len, STACK_POINTER_INDEX, Reg::R20)?;
     Ok(())
 }
 
@@ -118,8 +128,15 @@ fn nil_context<M: ObjectMemory>(m: &mut M) -> Result<(), Stop>
     ensures fit { StaysFit M.ObjectMemory m.old m.new result }
 {
     known(m, Reg::R20, Name::NIL)?;
-    store_field(m, Reg::ACTIVE_CONTEXT, SENDER_INDEX, Reg::R20)?;
-    store_field(m, Reg::ACTIVE_CONTEXT, INSTRUCTION_POINTER_INDEX, Reg::R20)?;
+    let len = size(m, Reg::ACTIVE_CONTEXT, 0)?;
+    store_below(m, Reg::ACTIVE_CONTEXT, len, SENDER_INDEX, Reg::R20)?;
+    store_below(
+        m,
+        Reg::ACTIVE_CONTEXT,
+        len,
+        INSTRUCTION_POINTER_INDEX,
+        Reg::R20,
+    )?;
     Ok(())
 }
 

@@ -9,6 +9,7 @@ ghost use Rattle.long_names.specs.declared.value.Value.TheVariants.{Ref};
 ghost use Rattle.object_memory.specs.Told.{IsReady};
 ghost use Rattle.object_memory.specs.Shape.{HasPartAt, Looks};
 ghost use Rattle.blue_model.specs.declared.cause.Cause.TheVariants.{Shape};
+ghost use Rattle.blue_model.specs.declared.indexes.TheConstants.{TEMP_FRAME_START as CONTEXT_FIELDS};
 ghost use Rattle.blue_model.specs.declared.cpu.Cpu.{Cpu as Numbers};
 ghost use Rattle.blue_model.specs.Machine.{MACHINE_REGISTERS, part, known, class_of, make, store, is_unpinned, swap};
 ghost use Rattle.blue_model.specs.Messages.{last_literal, literal_before_last, extension};
@@ -61,12 +62,18 @@ pub fn field<M: ObjectMemory>(m: &mut M, to: Reg, of: Reg, least: u32, i: u32) -
     Ok(())
 }
 
-/// Loads field i of an object of pointers that was asked for its length, and has the field.
-pub(crate) fn field_within<M: ObjectMemory>(m: &mut M, to: Reg, of: Reg, i: u32) -> Result<(), Stop>
+/// Loads field i of an object of pointers that was asked for its length: it has at least so many fields, and this one.
+pub(crate) fn field_within<M: ObjectMemory>(
+    m: &mut M,
+    to: Reg,
+    of: Reg,
+    least: u32,
+    i: u32,
+) -> Result<(), Stop>
     requires fit { IsFit M.ObjectMemory m.old }
     requires scratch { MACHINE_REGISTERS ≤ to }
-    requires within { HasPartAt (M.told m.old) of pointers_of (λ xs. i < length xs) }
-    ensures serves { (cpu : Numbers) → Serves (M.told m.old) cpu (M.told m.new) cpu (part Shape (field 0 i) ((M.told m.old).regs of)) (with_value result ((M.told m.new).regs to)) }
+    requires within { HasPartAt (M.told m.old) of pointers_of (λ xs. (least ≤ length xs) × (i < length xs)) }
+    ensures serves { (cpu : Numbers) → Serves (M.told m.old) cpu (M.told m.new) cpu (part Shape (field least i) ((M.told m.old).regs of)) (with_value result ((M.told m.new).regs to)) }
     ensures looks { OnOk result (Looks (to ∷ []) (M.told m.old) (M.told m.new)) }
     ensures fit { StaysFit M.ObjectMemory m.old m.new result }
 {
@@ -85,6 +92,30 @@ pub fn number<M: ObjectMemory>(m: &mut M, to: Reg, of: Reg, least: u32, i: u32) 
     ensures fit { StaysFit M.ObjectMemory m.old m.new result }
 {
     field(m, to, of, least, i)?;
+    let Some(number) = m.as_int(to) else {
+        return Err(Stop::Stuck(Cause::Shape));
+    };
+    Ok(number)
+}
+
+/// The number in field i of an object of pointers that was asked for its length: it has at least so many fields, and this one. The field
+/// is loaded into a scratch register.
+pub(crate) fn number_within<M: ObjectMemory>(
+    m: &mut M,
+    to: Reg,
+    of: Reg,
+    least: u32,
+    i: u32,
+) -> Result<i16, Stop>
+    requires fit { IsFit M.ObjectMemory m.old }
+    requires scratch { MACHINE_REGISTERS ≤ to }
+    requires within { HasPartAt (M.told m.old) of pointers_of (λ xs. (least ≤ length xs) × (i < length xs)) }
+    ensures serves { (cpu : Numbers) → Serves (M.told m.old) cpu (M.told m.new) cpu (part Shape (number least i) ((M.told m.old).regs of)) result }
+    ensures looks { OnOk result (Looks (to ∷ []) (M.told m.old) (M.told m.new)) }
+    ensures range { IfOk result IsSmallInteger }
+    ensures fit { StaysFit M.ObjectMemory m.old m.new result }
+{
+    field_within(m, to, of, least, i)?;
     let Some(number) = m.as_int(to) else {
         return Err(Stop::Stuck(Cause::Shape));
     };
@@ -207,12 +238,21 @@ pub fn home<M: ObjectMemory>(m: &mut M, to: Reg, context: Reg) -> Result<(), Sto
     ensures looks { OnOk result (Looks (to ∷ []) (M.told m.old) (M.told m.new)) }
     ensures fit { StaysFit M.ObjectMemory m.old m.new result }
 {
-    let Some(len) = shape::fields(m, context)? else {
-        return Err(Stop::Stuck(Cause::Shape));
-    };
-    if len < TEMP_FRAME_START {
-        return Err(Stop::Stuck(Cause::Shape));
-    }
+    size(m, context, TEMP_FRAME_START)?;
+    home_within(m, to, context)?;
+    Ok(())
+}
+
+/// The same of a context that was asked for its length, and has the fields of one.
+pub(crate) fn home_within<M: ObjectMemory>(m: &mut M, to: Reg, context: Reg) -> Result<(), Stop>
+    requires fit { IsFit M.ObjectMemory m.old }
+    requires scratch { MACHINE_REGISTERS ≤ to }
+    requires apart { to ≡ context → ⊥ }
+    requires within { HasPartAt (M.told m.old) context pointers_of (λ xs. CONTEXT_FIELDS ≤ length xs) }
+    ensures serves { (cpu : Numbers) → Serves (M.told m.old) cpu (M.told m.new) cpu (part Shape (home_of ((M.told m.old).regs context)) ((M.told m.old).regs context)) (with_value result ((M.told m.new).regs to)) }
+    ensures looks { OnOk result (Looks (to ∷ []) (M.told m.old) (M.told m.new)) }
+    ensures fit { StaysFit M.ObjectMemory m.old m.new result }
+{
     m.field(to, context, METHOD_INDEX)?;
     if m.as_int(to).is_some() {
         m.field(to, context, HOME_INDEX)?;
@@ -261,9 +301,32 @@ pub(crate) fn store_within<M: ObjectMemory>(
     requires within { HasPartAt (M.told m.old) of pointers_of (λ xs. i < length xs) }
     ensures serves { (cpu : Numbers) → Serves (M.told m.old) cpu (M.told m.new) cpu (store_field ((M.told m.old).regs of) i ((M.told m.old).regs from)) result }
     ensures regs { OnOk result ((M.told m.new).regs ≡ (M.told m.old).regs) }
+    ensures counted { OnOk result ((n : ℕ) → HasPartAt (M.told m.old) of pointers_of (λ xs. length xs ≡ n) → HasPartAt (M.told m.new) of pointers_of (λ xs. length xs ≡ n)) }
     ensures fit { StaysFit M.ObjectMemory m.old m.new result }
 {
     m.set_field(of, i, from)?;
+    Ok(())
+}
+
+/// Stores into field i of an object of pointers that was asked for its length, and has so many fields.
+pub(crate) fn store_below<M: ObjectMemory>(
+    m: &mut M,
+    of: Reg,
+    len: u32,
+    i: u32,
+    from: Reg,
+) -> Result<(), Stop>
+    requires fit { IsFit M.ObjectMemory m.old }
+    requires counted { HasPartAt (M.told m.old) of pointers_of (λ xs. length xs ≡ len) }
+    ensures serves { (cpu : Numbers) → Serves (M.told m.old) cpu (M.told m.new) cpu (store_field ((M.told m.old).regs of) i ((M.told m.old).regs from)) result }
+    ensures regs { OnOk result ((M.told m.new).regs ≡ (M.told m.old).regs) }
+    ensures counted { OnOk result (HasPartAt (M.told m.new) of pointers_of (λ xs. length xs ≡ len)) }
+    ensures fit { StaysFit M.ObjectMemory m.old m.new result }
+{
+    if len <= i {
+        return Err(Stop::Stuck(Cause::Shape));
+    }
+    store_within(m, of, i, from)?;
     Ok(())
 }
 

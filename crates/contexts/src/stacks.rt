@@ -45,7 +45,7 @@ pub fn stack<M: ObjectMemory>(m: &mut M, cpu: &Cpu, to: Reg, depth: u32) -> Resu
     let Some(place) = place_at(cpu, depth, len) else {
         return Err(Stop::Stuck(Cause::Stack));
     };
-    field_within(m, to, Reg::ACTIVE_CONTEXT, place)?;
+    field_within(m, to, Reg::ACTIVE_CONTEXT, 0, place)?;
     Ok(())
 }
 

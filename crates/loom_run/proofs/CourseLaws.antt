@@ -1,7 +1,7 @@
 -- What a whole run of the model comes to, at a cycle, at its start and at its end.
 -- `course` begins with no state, which is a start (`course_started`). `course_from` has it by what the start came to. The laws here say what its said, rows
 -- and lives are at the bytecode where a run over a memory stopped.
-use Rattle.std.proofs.Common.{suc, ◌≡◌, ℕ, ◌+◌, ◌<◌, ◌≤◌, nat_lt, Bool, true, false, cond, eqb, List, [], ◌∷◌, ◌++◌, inl, inr, refl, ◌∙◌, ap, arith}
+use Rattle.std.proofs.Common.{zero, suc, ◌≡◌, ℕ, ◌+◌, ◌<◌, ◌≤◌, nat_lt, nat_le, Bool, true, false, cond, eqb, List, [], ◌∷◌, ◌++◌, inl, inr, refl, ◌∙◌, ap, arith, le-leb}
 use borrow.Author.Tests.{ltb-true, ltb-false}
 use Rattle.std.proofs.lemmas.Grind.{common_steps}
 use Rattle.long_names.specs.Heap.{Heap}
@@ -72,6 +72,12 @@ next_cycle events k m n e = ap (λ i. run events i m) (next k) ∙ ap (one_more 
     next : (k : ℕ) → k + 1 ≡ suc k
     next k = omega arith
 
+-- so many cycles, and then more
+pub run_on : (events : List Line) (j k : ℕ) (m n : Machine) → run events j m ≡ Ran Next n → run events (j + k) m ≡ run events k n
+unfolding run
+run_on events j zero m n e = ap (λ i. run events i m) (let none : j + 0 ≡ j = omega arith in none) ∙ e
+run_on events j (suc k) m n e = ap (λ i. run events i m) (let next : j + suc k ≡ suc (j + k) = omega arith in next) ∙ ap (one_more events) (run_on events j k m n e)
+
 -- ---- at the start
 
 pub said_at_start : (events : List Line) (h : Heap) → said_from events 0 (start (at_rest h)) ≡ []
@@ -93,6 +99,12 @@ rows_at_start events steps (Spent log) need h = h
 pub rows_at_end : (events : List Line) (steps : ℕ) (end : Step) (m n : Machine) → m.cpu.ran ≡ 0 → run events steps m ≡ Ran end n → rows_after events steps n.cpu.ran (run events n.cpu.ran m) ≡ log_of (park_and_draw n)
 rows_at_end events steps end m n fresh e = ap (rows_after events steps n.cpu.ran) (came_at events steps end m n fresh e).1 ∙ go end e
   where
+    few : nat_le n.cpu.ran steps ≡ true
+    few = le-leb n.cpu.ran steps (came_at events steps end m n fresh e).0
+
+    last : cond (nat_le n.cpu.ran steps) (cond (eqb n.cpu.ran n.cpu.ran) (log_of (park_and_draw n)) []) [] ≡ log_of (park_and_draw n)
+    last = ap (λ b. cond b (cond (eqb n.cpu.ran n.cpu.ran) (log_of (park_and_draw n)) []) []) few ∙ ap (λ b. cond b (log_of (park_and_draw n)) []) (same_by n.cpu.ran)
+
     go : (end : Step) → run events steps m ≡ Ran end n → rows_after events steps n.cpu.ran (Ran end n) ≡ log_of (park_and_draw n)
     go Next f =
         let all = runs_count events steps m n f in
@@ -100,8 +112,8 @@ rows_at_end events steps end m n fresh e = ap (rows_after events steps n.cpu.ran
         ap (λ k. rows_after events steps k (Ran Next n)) same
         ∙ ap (λ b. cond b (log_of (cycle events n)) (cond (eqb steps steps) (log_of (park_and_draw n)) [])) (above_by steps steps (omega arith))
         ∙ ap (λ b. cond b (log_of (park_and_draw n)) []) (same_by steps)
-    go Quit f = ap (λ b. cond b (log_of (park_and_draw n)) []) (same_by n.cpu.ran)
-    go Keep f = ap (λ b. cond b (log_of (park_and_draw n)) []) (same_by n.cpu.ran)
+    go Quit f = last
+    go Keep f = last
 
 pub said_at_end : (events : List Line) (k : ℕ) (end : Step) (m n : Machine) → m.cpu.ran ≡ 0 → run events k m ≡ Ran end n → said_by (run events n.cpu.ran m) ≡ n.transcript
 said_at_end events k end m n fresh e = ap said_by (came_at events k end m n fresh e).1

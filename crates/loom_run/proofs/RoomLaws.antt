@@ -3,12 +3,11 @@
 use Rattle.std.proofs.Common.{zero, suc, ◌≡◌, ℕ, pos, ◌+◌, ◌*◌, ◌<◌, ◌≤◌, nat_lt, Bool, true, false, ◌||◌, cond, List, [], ◌∷◌, length, Option, Some, None, IsTrue, inl, inr, ◌⊎◌, is_some, refl, sym, ◌∙◌, ap, ap₂, arith}
 use borrow.Author.Tests.{ltb-true, ltb-false}
 use Rattle.std.proofs.Math.Path.{fun_ext}
-use Rattle.std.proofs.lemmas.Grind.{common_steps}
 use Rattle.std.specs.List.{slice_get}
 use Rattle.std.specs.Option.{option_map_or}
 use Rattle.long_names.specs.declared.object.Object.{Object}
 use Rattle.long_names.specs.declared.value.Value.{Value}
-use Rattle.long_names.specs.declared.value.Value.TheVariants.{Int, Ref}
+use Rattle.long_names.specs.declared.value.Value.TheVariants.{Int}
 use Rattle.long_names.specs.Names.{is_known}
 use Rattle.long_names.specs.Objects.{holds, is_ref}
 use Rattle.long_names.specs.Heap.{Heap, Has, IsBounded, objects_below, object_count}
@@ -16,10 +15,10 @@ use Rattle.long_names.specs.Kept.{any_below, holds_at, is_left, sweeps, kept}
 use Rattle.long_names.specs.Need.{is_pinned}
 use Rattle.long_names.specs.State.{REGISTERS, SLOTS}
 use Rattle.long_names.specs.Thin.{IsThinner, IsClosed}
-use Rattle.long_names.proofs.ThinLemmas.{IsWhole-bounded, below, or_cases}
-use Rattle.long_names.proofs.KeptLaws.{any_below-at, kept-thinner}
+use Rattle.long_names.proofs.ThinLemmas.{IsWhole-bounded, below}
+use Rattle.long_names.proofs.KeptLaws.{kept-thinner}
 use Rattle.object_memory.specs.Told.{Told, Bounds, IsReady, is_root}
-use Rattle.object_memory.specs.Contract.{ForBounds, IfBounds, CountsKept}
+use Rattle.object_memory.specs.Contract.{ForBounds, IfBounds, CountsKept, Lives, Raised}
 use Rattle.object_memory.specs.declared.fault.MemFault.TheVariants.{WorkFull}
 use Rattle.blue_model.specs.declared.cpu.Cpu.{Cpu}
 use Rattle.blue_model.specs.declared.event.Line.{Line}
@@ -29,7 +28,8 @@ use Rattle.blue_model.specs.Logs.{made_in, names_from, living, lives_after, live
 use Rattle.blue_model.specs.Logs as model
 use Rattle.blue_model.proofs.LiveLaws.{few_made, lives_at}
 use Rattle.blue_model.proofs.MakingTurns.{few-cycle}
-use Rattle.contexts.specs.Serves.{Stands, HasRest, HasMaking, WasFull, IsCaused}
+use Rattle.contexts.specs.Serves.{Stands, HasRest, HasMaking, IsCaused}
+use Rattle.contexts.proofs.RoomLaws.{root_there}
 use Rattle.loom_run.specs.Run.{IsSettled}
 
 -- ---- a heap below its next name
@@ -140,21 +140,6 @@ roots_stand t cpu m rest st = fun_ext (λ n. ap₂ (λ a b. a || b) (registers n
     registers : (n : ℕ) → any_below REGISTERS (λ r. is_ref n (t.regs r)) ≡ any_below MACHINE_REGISTERS (λ r. is_ref n (m.regs r))
     registers n = any_drop REGISTERS MACHINE_REGISTERS (λ r. is_ref n (t.regs r)) (omega arith) (λ r high low. number n (t.regs r) (rest.scratch r high low)) ∙ same_below MACHINE_REGISTERS (λ r. is_ref n (t.regs r)) (λ r. is_ref n (m.regs r)) (λ r low. ap (is_ref n) (sym (st.regs r low)))
 
-root_there : (t : Told) → IsReady t → IsTrue t.tells → (n : ℕ) → is_root t n ≡ true → Has t.heap n
-root_there t ready told n e = go (or_cases _ _ e)
-  where
-    of_value : (v : Value) → is_ref n v ≡ true → v ≡ Ref n
-    of_value (Int z) f = absurd (cc)
-    of_value (Ref k) f = let same : k ≡ n = grind (arith, common_steps, f) in ap (λ j. Ref j) same
-
-    of_slot : (x : Option ℕ) → is_pinned n x ≡ true → x ≡ Some n
-    of_slot None f = absurd (cc)
-    of_slot (Some k) f = let same : k ≡ n = grind (arith, common_steps, f) in ap (λ j. Some j) same
-
-    go : (any_below REGISTERS (λ r. is_ref n (t.regs r)) ≡ true) ⊎ (any_below SLOTS (λ i. is_pinned n (t.slots i)) ≡ true) → Has t.heap n
-    go (inl f) = let at = any_below-at REGISTERS (λ r. is_ref n (t.regs r)) f in (ready.whole told).rooted at.0 n (of_value (t.regs at.0) at.1)
-    go (inr f) = let at = any_below-at SLOTS (λ i. is_pinned n (t.slots i)) f in (ready.whole told).pinned at.0 n (of_slot (t.slots at.0) at.1)
-
 -- what a memory keeps with its registers and slots as roots is as much as the machine that it stands for
 pub living_stands : (t : Told) (cpu : Cpu) (m : Machine) → IsTrue t.tells → IsReady t → HasRest t → Stands t cpu m → object_count (kept t.heap (is_root t)) ≡ living m
 unfolding living
@@ -198,7 +183,7 @@ unmade n log e h =
 -- since then can't be, since a cycle makes three at most.
 pub full_lives : (events : List Line) (mid new : Told) (cpu : Cpu) (m : Machine) (live room : ℕ) → IsTrue mid.tells → IsReady mid → HasRest mid → Stands mid cpu m → IsSettled mid → IsCaused mid new (WorkFull live room) → HasMaking new.heap.next (log_of (cycle events m)) → IsLive live (lives events m)
 unfolding lives
-full_lives events mid new cpu m live room told ready rest st settled cause making = go mid.bounds settled cause.1.2
+full_lives events mid new cpu m live room told ready rest st settled cause making = go mid.bounds new.bounds settled cause.1.1.counts cause.0
   where
     few : (k : ℕ) × (k ≤ 3) × (made_in (log_of (cycle events m)) ≡ names_from m.heap.next k)
     few = few_made 3 (cycle events) m (few-cycle events)
@@ -219,13 +204,18 @@ full_lives events mid new cpu m live room told ready rest st settled cause makin
     kept_here base None e c = let no : ◌≡◌ {A = Option ℕ} None (Some base) = e in absurd (cc)
     kept_here base (Some x) e c = let same : x ≡ base = cc in sym same ∙ c told ∙ living_stands mid cpu m told ready rest st
 
-    go : (b : Option Bounds) → IfBounds b (λ x. (x.made ≡ 0) × CountsKept mid x.base) → ForBounds b (WasFull cause.1.0 live) → IsLive live (lives_after (living m) (log_of (cycle events m)))
-    go None s full = absurd full
-    go (Some b) s (inl full) =
-        let base = kept_here full.0 b.base full.1 s.1 in
+    lives_so : (x y : Bounds) → (x.made ≡ 0) × CountsKept mid x.base → (y.base ≡ x.base) × (y.made ≡ x.made + cause.1.0) → Lives new y live → IsLive live (lives_after (living m) (log_of (cycle events m)))
+    lives_so x y s r (inl full) =
+        let base = kept_here full.0 x.base (sym r.0 ∙ full.1) s.1 in
         let none = s.0 in
+        let made = r.1 in
         let same = before in
         let lives = full.2 in
         let sum : living m + at.0 + 1 ≡ live = omega arith in
         (at.0, lives_at (living m) at.0 (log_of (cycle events m)) inside_log ∙ ap (λ (k : ℕ). Some k) sum)
-    go (Some b) s (inr full) = let none = s.0 in let same = before in let low = is.1 in let three = few.1 in let many = full in absurd (omega arith)
+    lives_so x y s r (inr full) = let none = s.0 in let made = r.1 in let same = before in let low = is.1 in let three = few.1 in let many = full.0 in absurd (omega arith)
+
+    go : (a b : Option Bounds) → IfBounds a (λ x. (x.made ≡ 0) × CountsKept mid x.base) → Raised cause.1.0 a b → ForBounds b (λ y. (y.room ≡ room) × (room < live) × Lives new y live) → IsLive live (lives_after (living m) (log_of (cycle events m)))
+    go a None s r full = absurd full
+    go None (Some y) s r full = absurd r
+    go (Some x) (Some y) s r full = lives_so x y s r full.2

@@ -1,10 +1,10 @@
 -- Runs over a memory, and runs of the model.
 -- `RunsAs` says in which cycle of the model a run stands or stopped. The loop keeps `Reaches`, and one law makes each exit:
--- `reaches_more`, `stops_in`, `stops_after` for a cycle and for the settling, `goes_start`, `goes_run`, `goes_park`,
+-- `stops_in`, `stops_after` for a cycle and for the settling, `reaches_on`, `stops_on` behind others, `goes_start`, `goes_run`, `goes_park`,
 -- `goes_through` for a whole run. `halts` is the one law of stops: what an outcome's stop is, the ending's is, what was said, and
 -- which row or making a refusal names. That a model's run stopped there for good is `run_stopped`; what the course of a run is at
 -- that bytecode stands in `CourseLaws`, and how many objects live in `RoomLaws`.
-use Rattle.std.proofs.Common.{suc, ◌≡◌, ℕ, ◌+◌, ◌<◌, ◌≤◌, nat_lt, Bool, true, false, cond, eqb, ◌⊎◌, List, [], ◌++◌, Option, Some, None, Result, Ok, Err, IsTrue, IfErr, inl, inr, refl, sym, ◌∙◌, ap, subst, arith}
+use Rattle.std.proofs.Common.{suc, ◌≡◌, ℕ, ◌+◌, ◌<◌, ◌≤◌, nat_lt, Bool, true, false, cond, eqb, ◌⊎◌, List, [], ◌++◌, Option, Some, None, Result, Ok, Err, IsTrue, OnOk, IfErr, inl, inr, refl, sym, ◌∙◌, ap, subst, arith}
 use borrow.Author.Tests.{ltb-true, ltb-false}
 use Rattle.std.proofs.Math.Path.{fun_ext}
 use Rattle.std.specs.Result.{IsErrAnd}
@@ -43,7 +43,7 @@ use Rattle.contexts.proofs.SpeaksLaws.{GoesOn, goes_done, goes_then, goes_number
 use Rattle.contexts.proofs.ServesLaws.{Gives-after, serves_stop, says_quietly}
 use Rattle.contexts.proofs.CacheLaws.{sound_follows}
 use Rattle.loom_run.specs.Run.{Reaches, IsSettled, IsFullIn, StopsIn, IsWorkFault, StopsAfter, RunsAs, HasFault, FaultsBy, CountsAll, Begins, HasSaid, IsHalt, Awaits, GoesThrough, GoesAs, DrawsAs, HaltsAs}
-use Rattle.loom_run.proofs.CourseLaws.{course_from, course_started, logged_behind, rows_at_cycle, lives_at_cycle, next_cycle, said_at_start, rows_at_start, rows_at_end, said_at_end}
+use Rattle.loom_run.proofs.CourseLaws.{course_from, run_on, course_started, logged_behind, rows_at_cycle, lives_at_cycle, next_cycle, said_at_start, rows_at_start, rows_at_end, said_at_end}
 use Rattle.loom_run.proofs.RoomLaws.{living_stands, full_lives, unmade}
 use Rattle.object_memory.specs.declared.fault.Need.{Need}
 use Rattle.blue_model.specs.Endings.{OnParked, OnDrawn, IsParkedBy, IsStuckBy, HasCounted, is_last, said_in}
@@ -118,7 +118,7 @@ settling_faulted old new f x = record { rose = x.err.rose; last = x.err.last; ca
   where
     go : (f : MemFault) → HasCause old new Settles f → HasFault old new f
     go (CoreFull need) h = h.0
-    go (WorkFull live room) h = h.0
+    go (WorkFull live room) h = absurd h.2
     go (WorkFault count) h = h
     go (Damaged place name) h = h
     go NamesSpent h = tt
@@ -188,50 +188,105 @@ after_settling old new x = go old.bounds new.bounds x.counts x.base
     go None (Some y) s c = absurd s
     go (Some x) (Some y) s c = (s, c)
 
--- no room for an object: the memory before this cycle is that before the run, or has settled
-full_in : (events : List Line) (old mid new : Told) (between now : Cpu) (k : ℕ) (m : Machine) (e : Stop) → IsTrue mid.tells → IsReady mid → HasRest mid → (k ≡ 0 → mid ≡ old) → (0 < k → IsSettled mid) → Stands mid between m → Speaks Next mid between new now (cycle events) (Err e) → IsFullIn events old new e k m
-full_in events old mid new between now k m (Mem (WorkFull live room)) told ready rest first settled st s = (
-  λ none. subst (λ x. IsCaused x new (WorkFull live room)) (first none) s.reason.cause,
-  λ is. full_lives events mid new between m live room told ready rest st (at is) s.reason.cause (s.model told m st),
+pub settled_by : {Z : Type 0} (old new : Told) (r : Result Z MemFault) → Called old new Settles r → OnOk r (IsSettled new)
+settled_by old new (Ok z) x = after_settling old new x.ok
+settled_by old new (Err f) x = tt
+
+-- the memory before a cycle is that before the run, or has settled
+settled_before : (old mid : Told) (k : ℕ) → (k ≡ 0 → mid ≡ old) → (0 < k → IsSettled mid) → (0 < k) ⊎ IsSettled old → IsSettled mid
+settled_before old mid k first settled (inl more) = settled more
+settled_before old mid k first settled (inr is) = go (nat_lt 0 k) refl
+  where
+    go : (b : Bool) → nat_lt 0 k ≡ b → IsSettled mid
+    go true g = settled (ltb-true 0 k g)
+    go false g = let none = ltb-false 0 k g in subst IsSettled (sym (first (omega arith))) is
+
+-- no room for an object
+full_in : (events : List Line) (old new : Told) (between now : Cpu) (m : Machine) (e : Stop) → IsTrue old.tells → IsReady old → HasRest old → Stands old between m → Speaks Next old between new now (cycle events) (Err e) → IsFullIn events old new e 0 m
+full_in events old new between now m (Mem (WorkFull live room)) told ready rest st s = (
+  λ none. s.reason.cause,
+  λ is. full_lives events old new between m live room told ready rest st (at is) s.reason.cause (s.model told m st),
 )
   where
-    at : (0 < k) ⊎ IsSettled old → IsSettled mid
-    at (inl more) = settled more
-    at (inr is) = go (nat_lt 0 k) refl
-      where
-        go : (b : Bool) → nat_lt 0 k ≡ b → IsSettled mid
-        go true g = settled (ltb-true 0 k g)
-        go false g = let none = ltb-false 0 k g in subst IsSettled (sym (first (omega arith))) is
-full_in events old mid new between now k m (Stuck c) told ready rest first settled st s = tt
-full_in events old mid new between now k m (Mem (CoreFull need)) told ready rest first settled st s = tt
-full_in events old mid new between now k m (Mem (WorkFault count)) told ready rest first settled st s = tt
-full_in events old mid new between now k m (Mem (Damaged place name)) told ready rest first settled st s = tt
-full_in events old mid new between now k m (Mem NamesSpent) told ready rest first settled st s = tt
-full_in events old mid new between now k m (Mem (Said count)) told ready rest first settled st s = tt
-full_in events old mid new between now k m (Mem Memory) told ready rest first settled st s = tt
+    at : (0 < 0) ⊎ IsSettled old → IsSettled old
+    at (inl more) = absurd (omega arith)
+    at (inr is) = is
+full_in events old new between now m (Stuck c) told ready rest st s = tt
+full_in events old new between now m (Mem (CoreFull need)) told ready rest st s = tt
+full_in events old new between now m (Mem (WorkFault count)) told ready rest st s = tt
+full_in events old new between now m (Mem (Damaged place name)) told ready rest st s = tt
+full_in events old new between now m (Mem NamesSpent) told ready rest st s = tt
+full_in events old new between now m (Mem (Said count)) told ready rest st s = tt
+full_in events old new between now m (Mem Memory) told ready rest st s = tt
 
-pub stops_in : (events : List Line) (old mid new : Told) (between now : Cpu) (k steps : ℕ) (m : Machine) (e : Stop) → IsTrue mid.tells → IsReady mid → HasRest mid → (k ≡ 0 → mid ≡ old) → (0 < k → IsSettled mid) → k < steps → now.ran ≡ between.ran → Reaches events mid between Next k m → Speaks Next mid between new now (cycle events) (Err e) → StopsIn events old new now e steps m
-stops_in events old mid new between now k steps m e told ready rest first settled few same x s = record {
-  done = k;
-  machine = x.machine;
-  few = few;
-  ran = x.ran;
-  count = ap (λ (c : Cpu). c.ran) x.stands.numbers ∙ sym same;
-  said = λ speaks. (let spoke = sym s.later.speaks ∙ speaks in has_said e mid new x.machine.transcript spoke (x.stands.transcript spoke) s.silent);
-  gives = s.model told x.machine x.stands;
-  full = full_in events old mid new between now k x.machine e told ready rest first settled x.stands s;
+pub stops_in : (events : List Line) (old new : Told) (between now : Cpu) (m : Machine) (e : Stop) → IsTrue old.tells → IsReady old → HasRest old → now.ran ≡ between.ran → Stands old between m → Speaks Next old between new now (cycle events) (Err e) → StopsIn events old new now e 1 m
+unfolding run
+stops_in events old new between now m e told ready rest same st s = record {
+  done = 0;
+  machine = m;
+  few = omega arith;
+  ran = refl;
+  count = ap (λ (c : Cpu). c.ran) st.numbers ∙ sym same;
+  said = λ speaks. (let spoke = sym s.later.speaks ∙ speaks in has_said e old new m.transcript spoke (st.transcript spoke) s.silent);
+  gives = s.model told m st;
+  full = full_in events old new between now m e told ready rest st s;
 }
 
-pub stops_after : {Z : Type 0} (events : List Line) (mid new : Told) (now : Cpu) (end : Step) (k steps : ℕ) (m : Machine) (f : MemFault) → IsTrue mid.tells → k ≤ steps → Reaches events mid now end k m → Called {A = Z} mid new Settles (Err f) → StopsAfter events new now (Mem f) steps m
-stops_after events mid new now end k steps m f told few x c = record {
-  done = k;
+pub stops_after : {Z : Type 0} (events : List Line) (mid new : Told) (now : Cpu) (end : Step) (m : Machine) (f : MemFault) → IsTrue mid.tells → Reaches events mid now end 1 m → Called {A = Z} mid new Settles (Err f) → StopsAfter events new now (Mem f) 1 m
+stops_after events mid new now end m f told x c = record {
+  done = 1;
   end = end;
   machine = x.machine;
-  few = few;
+  few = omega arith;
   ran = x.ran;
   count = ap (λ (c : Cpu). c.ran) x.stands.numbers;
   said = λ speaks. (let spoke = sym c.later.speaks ∙ speaks in c.err.transcript spoke ∙ x.stands.transcript spoke);
   fault = settling_fails mid new f told c;
+}
+
+-- ---- one cycle and its settling, behind others
+
+pub reaches_on : (events : List Line) (mid new : Told) (between now : Cpu) (end : Step) (k : ℕ) (m : Machine) (x : Reaches events mid between Next k m) → Reaches events new now end 1 x.machine → Reaches events new now end (k + 1) m
+reaches_on events mid new between now end k m x y = record { machine = y.machine; ran = run_on events k 1 m x.machine x.ran ∙ y.ran; stands = y.stands }
+
+-- no room in a first cycle that has others before it
+full_on : (events : List Line) (old mid new : Told) (k : ℕ) (m : Machine) (e : Stop) → (k ≡ 0 → mid ≡ old) → (0 < k → IsSettled mid) → IsFullIn events mid new e 0 m → IsFullIn events old new e k m
+full_on events old mid new k m (Mem (WorkFull live room)) first settled full = (
+  λ none. subst (λ x. IsCaused x new (WorkFull live room)) (first none) (full.0 refl),
+  λ is. full.1 (inr (settled_before old mid k first settled is)),
+)
+full_on events old mid new k m (Stuck c) first settled full = tt
+full_on events old mid new k m (Mem (CoreFull need)) first settled full = tt
+full_on events old mid new k m (Mem (WorkFault count)) first settled full = tt
+full_on events old mid new k m (Mem (Damaged place name)) first settled full = tt
+full_on events old mid new k m (Mem NamesSpent) first settled full = tt
+full_on events old mid new k m (Mem (Said count)) first settled full = tt
+full_on events old mid new k m (Mem Memory) first settled full = tt
+
+-- it stopped in the cycle or in the settling
+pub stops_on : (events : List Line) (old mid new : Told) (between now : Cpu) (k steps : ℕ) (m : Machine) (e : Stop) → (k ≡ 0 → mid ≡ old) → (0 < k → IsSettled mid) → k < steps → (x : Reaches events mid between Next k m) → RunsAs events mid new now 1 x.machine (Err e) → RunsAs events old new now steps m (Err e)
+stops_on events old mid new between now k steps m e first settled few x (inl y) =
+    let low = y.few in
+    let none : y.done ≡ 0 = omega arith in
+    inl record {
+      done = k;
+      machine = y.machine;
+      few = few;
+      ran = ap (λ j. run events j m) (let at : k ≡ k + y.done = omega arith in at) ∙ run_on events k y.done m x.machine x.ran ∙ y.ran;
+      count = y.count;
+      said = y.said;
+      gives = y.gives;
+      full = full_on events old mid new k y.machine e first settled (subst (λ j. IsFullIn events mid new e j y.machine) none y.full);
+    }
+stops_on events old mid new between now k steps m e first settled few x (inr y) = inr record {
+  done = k + y.done;
+  end = y.end;
+  machine = y.machine;
+  few = (let low = y.few in omega arith);
+  ran = run_on events k y.done m x.machine x.ran ∙ y.ran;
+  count = y.count;
+  said = y.said;
+  fault = y.fault;
 }
 
 -- the answer of a `?`

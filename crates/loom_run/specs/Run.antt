@@ -7,7 +7,7 @@ use Rattle.long_names.specs.Need.{Fits}
 use Rattle.long_names.specs.Thin.{IsThinner}
 use Rattle.object_memory.specs.Told.{Told, IsReady}
 use Rattle.object_memory.specs.declared.memory.ObjectMemory.{Ghosts}
-use Rattle.object_memory.specs.Contract.{IsLater, ForBounds, IfBounds, NoBounds, CountsKept, work_faults, said_faults}
+use Rattle.object_memory.specs.Contract.{IsLater, ForBounds, IfBounds, NoBounds, CountsKept, Lives, work_faults, said_faults}
 use Rattle.object_memory.specs.declared.fault.Need.{Need}
 use Rattle.object_memory.specs.declared.fault.MemFault.{MemFault}
 use Rattle.object_memory.specs.declared.fault.MemFault.TheVariants.{CoreFull, WorkFull, WorkFault, Damaged, NamesSpent, Said, Memory}
@@ -90,7 +90,7 @@ RunsAs events old new now cycles m (Err stop) = StopsIn events old new now stop 
 
 abbrev pub HasFault : Told → Told → MemFault → Type 0
 HasFault old new (CoreFull need) = ForBounds new.bounds (λ b. Fits b.core b.entries need.words need.entries → ⊥)
-HasFault old new (WorkFull live room) = ForBounds new.bounds (λ b. (b.room ≡ room) × (room < live))
+HasFault old new (WorkFull live room) = ForBounds new.bounds (λ b. (b.room ≡ room) × (room < live) × Lives new b live)
 HasFault old new (WorkFault count) = ForBounds new.bounds (λ b. b.work_faults ≡ count) × Rose (work_faults old.bounds) (work_faults new.bounds)
 HasFault old new (Damaged place name) = IsTrue old.tells → ⊥
 HasFault old new NamesSpent = Unit {0}

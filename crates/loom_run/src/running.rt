@@ -2,7 +2,7 @@
 ghost use Rattle.std.specs.Prelude.{◌≡◌, ◌≤◌, ◌<◌, ◌+◌, ◌^◌, false, IfErr, IfOk, IsTrue, OnOk, OnErr};
 ghost use Rattle.long_names.specs.Heap.{Heap};
 ghost use Rattle.object_memory.specs.Told.{IsReady};
-ghost use Rattle.object_memory.specs.Contract.{IsLater};
+ghost use Rattle.object_memory.specs.Contract.{Called, IsLater, Settles};
 ghost use Rattle.blue_model.specs.Machine.{Machine};
 ghost use Rattle.blue_model.specs.Processes.{check_switch as check_switch_rule};
 ghost use Rattle.blue_model.specs.Cycle.{cycle as cycle_rule, turn as turn_rule};
@@ -13,7 +13,7 @@ ghost use Rattle.blue_model.specs.State.{no_state};
 ghost use Rattle.blue_model.specs.Logs.{course};
 ghost use Rattle.contexts.specs.Keeping.{StepsBy, is_kept};
 ghost use Rattle.loom_run.specs.Run.{Begins, DrawsAs, EndsAs, DrawsFit, EndsFit, FaultsBy, GoesAs, HaltsBy, IsSettled, RunsAs};
-ghost use Rattle.object_memory.specs.Calls.{IsFit};
+ghost use Rattle.object_memory.specs.Calls.{IsFit, KeepsFit};
 ghost use Rattle.contexts.specs.Calls.{StaysFit};
 
 use bytecodes::{Step, step};
@@ -21,7 +21,7 @@ use contexts::{Cpu, Stop, park, start};
 use devices::{PictureFault, due, picture};
 use event_file::EventList;
 use long_names::Octets;
-use object_memory::ObjectMemory;
+use object_memory::{MemFault, ObjectMemory};
 use process_sched::switch;
 use std::alloc::Global;
 
@@ -74,6 +74,42 @@ fn cycle<M: ObjectMemory>(m: &mut M, cpu: &mut Cpu, events: &EventList) -> Resul
     }
 }
 
+/// The end of a bytecode: what nothing holds any more may go, and no making is counted then.
+#[tactic(auto, using(crate::proofs::RunningLaws::settled_by))]
+fn settle<M: ObjectMemory>(m: &mut M) -> Result<(), MemFault>
+    requires fit { IsFit M.ObjectMemory m.old }
+    ensures called { Called (M.told m.old) (M.told m.new) Settles result }
+    ensures settled { OnOk result (IsSettled (M.told m.new)) }
+    ensures fit { KeepsFit M.ObjectMemory m.old m.new result }
+{
+    m.settle()
+}
+
+/// One cycle of the machine, and the settling behind it.
+fn settled_cycle<M: ObjectMemory>(
+    m: &mut M,
+    cpu: &mut Cpu,
+    events: &EventList,
+) -> Result<Step, Stop>
+    requires fit { IsFit M.ObjectMemory m.old }
+    requires rest { HasRest (M.told m.old) }
+    requires room { cpu.old.ran + 1 < 2 ^ 32 }
+    ensures runs { IsTrue (M.told m.old).tells → (machine : Machine) → Stands (M.told m.old) cpu.old machine → RunsAs events.now (M.told m.old) (M.told m.new) cpu.new 1 machine result }
+    ensures fault { IfErr result (FaultsBy (M.told m.old) (M.told m.new)) }
+    ensures counted { OnOk result (cpu.new.ran ≡ cpu.old.ran + 1) }
+    ensures few { cpu.new.ran ≤ cpu.old.ran + 1 }
+    ensures settled { OnOk result (IsSettled (M.told m.new)) }
+    ensures vault { OnOk result (IsTrue cpu.new.vault → IsTrue cpu.old.vault) }
+    ensures keeps { StepsBy cpu.old.vault result }
+    ensures later { IsLater (M.told m.old) (M.told m.new) }
+    ensures rest { OnOk result (HasRest (M.told m.new)) }
+    ensures fit { StaysFit M.ObjectMemory m.old m.new result }
+{
+    let step = cycle(m, cpu, events)?;
+    settle(m)?;
+    Ok(step)
+}
+
 /// Whether no bytecode follows: the machine ended, or is to be kept.
 fn is_last(step: Step) -> bool
     ensures { result ≡ is_last_step step }
@@ -107,8 +143,7 @@ pub fn run<M: ObjectMemory>(
     ensures fit { StaysFit M.ObjectMemory m.old m.new result }
 {
     for turn in 0..steps {
-        let step = cycle(m, cpu, events)?;
-        m.settle()?;
+        let step = settled_cycle(m, cpu, events)?;
         if is_last(step) {
             return Ok(step);
         }

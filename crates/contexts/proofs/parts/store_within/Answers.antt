@@ -1,4 +1,7 @@
+use Rattle.std.proofs.Common.{◌≡◌, refl}
+use Rattle.long_names.specs.Access.{SetField}
 use Rattle.object_memory.proofs.Callers.{may_store}
+use Rattle.object_memory.proofs.LeftLaws.{fields_stored}
 use Rattle.blue_model.specs.declared.cause.Cause.TheVariants.{Shape}
 use Rattle.blue_model.specs.Parts.{field}
 use Rattle.blue_model.specs.Contexts.{store_field}
@@ -24,3 +27,6 @@ returns-clause-serves g c = λ cpu.
     let stored = c.in_ok-set_field.ensures in
     part_first Shape (field 0 c.args.i) c.args.of (λ told. (let it = field_tested c.args.i c.requires.within told in (it.0, it.1)))
     (store_serves c.args.of c.args.i c.args.from c.requires.fit.ready stored.fit.ready (may_store _ c.args.of c.args.i c.args.from c.requires.within) stored.access.called)
+
+pub returns-clause-counted : goal.returns-clause-counted
+returns-clause-counted g c = λ n known. fields_stored _ _ (SetField c.args.of c.args.i c.args.from) c.args.of c.args.of (λ k. k ≡ n) refl refl (may_store _ c.args.of c.args.i c.args.from c.requires.within) c.in_ok-set_field.ensures.fit.ready c.in_ok-set_field.ensures.access.called known

@@ -1,10 +1,10 @@
-use Rattle.std.proofs.Common.{refl, sym, [], ◌∷◌}
+use Rattle.std.proofs.Common.{refl, sym, [], ◌∷◌, arith}
 use Rattle.object_memory.proofs.LooksLaws.{regs_looked, Looks-trans}
 use Rattle.blue_model.specs.Contexts.{stack}
 use Rattle.contexts.proofs.ServesLaws.{serves_then, serves_stop}
 use Rattle.contexts.proofs.ReadLaws.{exits_with}
 use Rattle.contexts.proofs.Steps.{register_then, numbers_then, given_then, given_stuck}
-use Rattle.contexts.proofs.PartLaws.{sized_within}
+use Rattle.contexts.proofs.PartLaws.{sized_both}
 use Rattle.contexts.proofs.stacks.stack.Goals as goal
 
 pub returns-in_err-len-clause-serves : goal.returns-in_err-len-clause-serves
@@ -16,7 +16,7 @@ unfolding stack
 returns-in_default-clause-serves g c = numbers_then _ (register_then _ _ refl (serves_then _ (c.in_ok-len.ensures.serves _) (given_stuck _ _ (λ told. sym c.in_default.ensures.place))))
 
 pub field_within-requires-clause-within : goal.field_within-requires-clause-within
-field_within-requires-clause-within g c = sized_within c.in_ok-len.len c.in-Some.place c.in-Some.ensures.within c.in_ok-len.ensures.there
+field_within-requires-clause-within g c = sized_both 0 c.in-Some.place (omega arith) c.in-Some.ensures.within c.in_ok-len.ensures.there
 
 pub returns-in_err-field_within-clause-serves : goal.returns-in_err-field_within-clause-serves
 unfolding stack
