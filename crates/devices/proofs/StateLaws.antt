@@ -1,12 +1,11 @@
 -- Names that stay while others are loaded, and a name that goes into a register of the machine.
-use Rattle.std.proofs.Common.{◌≡◌, ℕ, pos, ◌<◌, ◌≤◌, nat_lt, Bool, true, false, cond, eqb, ◌∷◌, ◌++◌, [], List, Option, Some, None, is_some, zero, suc, Result, Ok, Err, IsTrue, refl, sym, ◌∙◌, ap, subst, arith}
+use Rattle.std.proofs.Common.{◌≡◌, ℕ, ◌<◌, ◌≤◌, nat_lt, Bool, true, false, cond, eqb, ◌++◌, [], Option, Some, None, is_some, zero, suc, Ok, Err, IsTrue, refl, sym, ◌∙◌, ap, subst, arith}
 use Rattle.std.proofs.lemmas.Bool.Decides.{nat_tests}
 use Rattle.long_names.specs.declared.value.Value.{Value}
-use Rattle.long_names.specs.declared.value.Value.TheVariants.{Int, Ref}
+use Rattle.long_names.specs.declared.value.Value.TheVariants.{Ref}
 use Rattle.long_names.specs.declared.object.Object.{Object}
-use Rattle.long_names.specs.Heap.{Heap, Has, IsBounded}
-use Rattle.long_names.specs.Kept.{kept, no_roots, is_left}
-use Rattle.long_names.specs.Thin.{IsThinner}
+use Rattle.long_names.specs.Heap.{Heap, Has}
+use Rattle.long_names.specs.Kept.{kept, no_roots}
 use Rattle.long_names.specs.State.{set_register, INPUT_SEMAPHORE, TIMER_SEMAPHORE, DISPLAY}
 use Rattle.long_names.specs.Access.{Known}
 use Rattle.long_names.proofs.ThinLemmas.{has, IsWhole-bounded}
@@ -16,8 +15,8 @@ use Rattle.object_memory.specs.Told.{Told, IsReady}
 use Rattle.object_memory.specs.Contract.{Does, MayDo, Called}
 use Rattle.object_memory.proofs.LeftLaws.{heap_over}
 use Rattle.blue_model.specs.declared.cpu.Cpu.{Cpu}
-use Rattle.blue_model.specs.Machine.{Machine, MACHINE_REGISTERS, Outcome, Go, rows_at, then_do, ◌>>=◌, ◌>>◌, Rule, done, looked, look, known, placed, put_register, numbers, set_numbers}
-use Rattle.blue_model.specs.State.{State, name_in, hold, restore}
+use Rattle.blue_model.specs.Machine.{Machine, MACHINE_REGISTERS, rows_at, then_do, ◌>>=◌, done, looked, look, known, placed, put_register}
+use Rattle.blue_model.specs.State.{name_in, hold}
 use Rattle.blue_model.specs.Devices.{timer_at}
 use Rattle.blue_model.specs.Cycle.{is_message}
 use Rattle.contexts.specs.declared.stop.Stop.TheVariants.{Mem}
@@ -26,7 +25,7 @@ use Rattle.contexts.proofs.CacheLaws.{sound_follows}
 use Rattle.contexts.proofs.ServesLaws.{Gives-after, serves_stop}
 use Rattle.contexts.proofs.ReadLaws.{look_refused}
 use Rattle.contexts.proofs.Steps.{done_serves}
-use Rattle.devices.specs.States.{word_by, state_by, StaysThere}
+use Rattle.devices.specs.States.{word_by, StaysThere}
 
 -- ---- what stays
 
