@@ -14,7 +14,8 @@ use crate::stop::Stop;
 use blue_model::{Cause, Cpu};
 use object_memory::{ObjectMemory, Reg, shape};
 
-/// The byte of a number of the method that a register names, whose length is that of its code. Stuck with Pointer where the method has none, or there is no number.
+/// The byte of a number of the method that a register names, whose length is that of its code. Stuck with Pointer where the method has
+/// none, or there is no number.
 fn byte_of<M: ObjectMemory>(m: &mut M, method: Reg, place: Option<u32>) -> Result<u8, Stop>
     requires fit { IsFit M.ObjectMemory m.old }
     ensures serves { (cpu : Numbers) (ip : ℤ) → place ≡ code_place ip → Serves (M.told m.old) cpu (M.told m.new) cpu (model.byte_of ip ((M.told m.old).regs method)) result }
