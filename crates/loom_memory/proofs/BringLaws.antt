@@ -2,7 +2,7 @@
 use Rattle.std.proofs.Common.{◌≡◌, ◌≢◌, ℕ, ◌+◌, ◌%◌, ◌≤◌, Bool, true, false, cond, eqb, List, [], refl, sym, ◌∙◌, ap, subst, add-zero, arith, None, Result, Ok, Err, IsTrue}
 use Rattle.std.proofs.lemmas.Grind.{common_steps}
 use Rattle.std.specs.Prelude.{nat_lt, pos}
-use Rattle.std.specs.Result.{OnOk, IfErr}
+use Rattle.std.specs.Result.{OnOk, IfOk, IfErr}
 use Rattle.long_names.specs.declared.value.Value.TheVariants.{Int, Ref}
 use Rattle.long_names.specs.declared.object.Object.{Object}
 use Rattle.long_names.specs.Objects.{body_words}
@@ -103,6 +103,11 @@ err-at {T} (Err f) t u v n k same quiet is = subst (λ (z : ℕ). IsRefusedAt t 
 
 pub short-same : (p q : Parts) (x y : Pinned) (words entries : ℕ) → q ≡ p → y ≡ x → IsShort p x.a x.b x.d words entries → IsShort q y.a y.b y.d words entries
 short-same p q x y words entries same pins is = subst (λ (z : Parts). IsShort z y.a y.b y.d words entries) (sym same) (subst (λ (z : Pinned). IsShort p z.a z.b z.d words entries) (sym pins) is)
+
+-- what was read of a name is of the entry that has it
+pub sized-name : (r : Result ℕ MemFault) (told : Bool) (disk : Disk) (p q : Parts) (s n : ℕ) → n ≡ ((core_of p).entries s).name → OnOk r (q ≡ p) → IfOk r (λ words. IsSized told (disk n) words) → IfOk r (λ words. IsSized told (disk ((core_of q).entries s).name) words)
+sized-name (Ok words) told disk p q s n is same sized = subst (λ (k : ℕ). IsSized told (disk k) words) (is ∙ ap (λ (z : Parts). ((core_of z).entries s).name) (sym same)) sized
+sized-name (Err f) told disk p q s n is same sized = tt
 
 -- a leaf that is held from outside is the same leaf after room was made
 pub record IsLeafStill (x y : Core) (s : ℕ) : Type 0 where

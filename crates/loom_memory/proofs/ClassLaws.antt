@@ -18,7 +18,7 @@ use Rattle.loom_memory.specs.Memory.{IsQuiet}
 use Rattle.loom_memory.proofs.RegLaws.{ready-put}
 use Rattle.loom_memory.proofs.MarkingLaws.{filled, eq-self}
 
-class-answered : (t : Told) (b : Option Bounds) (c : Cache) (to of : ℕ) (v : Value) → SameBounds t.bounds b → Raised 0 t.bounds b → LeavesCache no_names None t.cache t.cache c → (IsTrue t.tells → brought t.heap t.regs (Class to of) ≡ Some v) → IfBounds t.bounds (HasCore t (Class to of))
+pub class-answered : (t : Told) (b : Option Bounds) (c : Cache) (to of : ℕ) (v : Value) → SameBounds t.bounds b → Raised 0 t.bounds b → LeavesCache no_names None t.cache t.cache c → (IsTrue t.tells → brought t.heap t.regs (Class to of) ≡ Some v) → IfBounds t.bounds (HasCore t (Class to of))
     → Accessed {A = Unit {0}} t (record t { bounds = b; cache = c; regs = set_register t.regs to v }) (Class to of) (λ _. Nothing) (Ok tt)
 class-answered t b c to of v same counts left brings core = record {
   called = record {

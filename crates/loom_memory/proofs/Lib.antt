@@ -20,3 +20,7 @@ pub mod RowLaws
 pub mod MarkingLaws
 pub mod EndLaws
 pub mod ClassLaws
+pub mod SayLaws
+pub mod KnownLaws
+pub mod ResidentLaws
+pub mod LentLaws

@@ -3,3 +3,7 @@ pub mod Memory
 pub mod Calls
 pub mod Stores
 pub mod Bodies
+pub mod Says
+pub mod Known
+pub mod Residents
+pub mod Lent

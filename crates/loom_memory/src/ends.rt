@@ -1,24 +1,43 @@
 // Objects leave the core, or lie together in it.
+ghost use Rattle.std.specs.Prelude.{◌<◌, ℕ, IsTrue, OnOk};
+ghost use Rattle.object_table.specs.Table.{entries_of};
+
 use crate::bring::refusal_of;
 use crate::memory::LoomMemory;
+use leaf_lambda::Parts;
 use loom_outside::Host;
 use object_memory::MemFault;
+use object_table::laws::entries_are_counted;
 use purger::{RoomFault, compact};
+
+// More entries than there are.
+fn too_many(p: &Parts) -> u16
+    ensures { entries_of p.now.names.table < result }
+{
+    p.names.table.entries() + 1
+}
 
 impl<'h, H: Host> LoomMemory<'h, H> {
     ghost use Rattle.std.specs.Prelude.{Ok};
+    ghost use Rattle.object_memory.specs.Told.{has_slot};
     ghost use Rattle.object_memory.specs.Contract.{Called, Follows, IsLater, Thins};
     ghost use Rattle.object_memory.specs.Fit.{MayCall, StaysCallable};
     ghost use Rattle.loom_memory.specs.Memory.{loom_told, loom_outside, loom_lender, IsSound};
+    ghost use Rattle.loom_memory.specs.Residents.{is_resident};
 
-    // More words are asked for than any core has, so everything leaves that may. That there are fewer is no refusal.
+    // More entries are asked for than there are, so everything leaves that may. That there are fewer is no refusal.
     pub(crate) fn purge_all(&mut self) -> Result<(), MemFault>
         requires fit { MayCall (IsSound H.Host) (loom_told H.Host) self.old }
         ensures called { Called (loom_told H.Host self.old) (loom_told H.Host self.new) Thins result }
+        ensures pinned { OnOk result ((n : ℕ) → IsTrue (is_resident self.new n) → IsTrue (has_slot (loom_told H.Host self.new).slots n)) }
         ensures fit { StaysCallable (IsSound H.Host) (loom_told H.Host) loom_lender (loom_outside H.Host) self.old self.new result }
     {
-        match self.room(u32::MAX) {
-            Ok(()) => Ok(()),
+        let entries = too_many(&self.parts);
+        match self.room(0, entries) {
+            Ok(()) => {
+                entries_are_counted(&self.parts.names.table);
+                Ok(())
+            }
             Err(f) => match f {
                 RoomFault::Short => Ok(()),
                 RoomFault::Disk(f) => {

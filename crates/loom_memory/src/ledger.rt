@@ -26,6 +26,13 @@ pub struct Ledger {
 }
 
 impl Ledger {
+    /// Counts an object that was brought in.
+    pub fn count_fetch(&mut self)
+        ensures { self.new ≡ record self.old { fetches = counted self.old.fetches } }
+    {
+        self.fetches = self.fetches.saturating_add(1);
+    }
+
     /// Counts a refusal.
     pub fn refuse(&mut self, f: MemFault)
         ensures refused { self.new ≡ record self.old { refusals = counted self.old.refusals; last = Some f } }

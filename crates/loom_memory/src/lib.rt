@@ -1,6 +1,5 @@
 //! The memory of two levels: objects on a disk, and a core of those that are at hand. It is in the making: what it tells and keeps
-//! stands, how the object of a register comes into the core, and of the trait's calls those on registers, slots, fields, words, bytes and
-//! the cache, `swap`, `purge_all` and `compact`. Makings, `known`, the class of a number, `say` and `settle` are to come.
+//! stands, how the object of a register comes into the core, and of the trait's calls all but the makings, `say` and `settle`.
 //!
 //! `load` is the step that each access begins with: room is made beside the pinned objects, and the object is brought in where it is a
 //! leaf. Where the row of the access doesn't fit it answers CoreFull with that row's need (`full`), said of every access that names the
@@ -17,11 +16,15 @@ pub mod bring;
 pub mod cache;
 pub mod ends;
 pub mod fields;
+pub mod known;
 pub mod ledger;
+pub mod lent;
 pub mod load;
 pub mod memory;
 pub mod reads;
 pub mod registers;
+pub mod residents;
+pub mod says;
 pub mod slots;
 pub mod stores;
 pub mod swap;

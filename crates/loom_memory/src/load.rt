@@ -18,6 +18,7 @@ use core_segment::laws::chunks_never_overlap;
 use leaf_lambda::Parts;
 use leaf_lambda::bodies::words_of;
 use leaf_lambda::leaving::{body_total, field_total};
+use long_names::Name;
 use loom_outside::{Host, Role};
 use object_memory::{MemFault, Need, Reg};
 use object_table::Short;
@@ -55,7 +56,7 @@ fn leaves_of(p: &Parts, s: Short) -> u32
 }
 
 // The same of the word of a slot.
-fn room_of_word(p: &Parts, w: u16) -> u32
+pub(crate) fn room_of_word(p: &Parts, w: u16) -> u32
     requires parts { IsParts p.now }
     requires used { w ≢ 0 → is_used ((core_of p.now).entries w).state ≡ true }
     ensures words { result ≡ room_for (core_of p.now) w }
@@ -67,7 +68,7 @@ fn room_of_word(p: &Parts, w: u16) -> u32
     room_of(p, Short(w))
 }
 
-fn leaves_of_word(p: &Parts, w: u16) -> u32
+pub(crate) fn leaves_of_word(p: &Parts, w: u16) -> u32
     requires parts { IsParts p.now }
     requires used { w ≢ 0 → is_used ((core_of p.now).entries w).state ≡ true }
     ensures leaves { result ≡ entries_for (core_of p.now) w }
@@ -79,14 +80,14 @@ fn leaves_of_word(p: &Parts, w: u16) -> u32
     leaves_of(p, Short(w))
 }
 
-fn either(x: bool, y: bool) -> bool
+pub(crate) fn either(x: bool, y: bool) -> bool
     ensures { result ≡ x || y }
 {
     x || y
 }
 
 // A number, or 0.
-fn unless(skip: bool, n: u32) -> u32
+pub(crate) fn unless(skip: bool, n: u32) -> u32
     ensures is { result ≡ (if skip then 0 else n) }
     ensures most { result ≤ n }
 {
@@ -101,7 +102,9 @@ impl<'h, H: Host> LoomMemory<'h, H> {
     ghost use Rattle.object_memory.specs.declared.fault.Need.{Need as Wanted};
     ghost use Rattle.long_names.specs.State.{IsRef};
     ghost use Rattle.object_memory.specs.Contract.{Does, HasCore, IfBounds, IsLater, KeepsSound, LeavesAll, Refuses, makes};
+    ghost use Rattle.long_names.specs.Counting.{counted};
     ghost use Rattle.loom_memory.specs.Calls.{IsLoaded};
+    ghost use Rattle.loom_memory.specs.Residents.{fetched};
     ghost use Rattle.disk_objects.specs.Function.{disk_of};
     ghost use Rattle.purger.specs.Purge.{IsShort};
     ghost use Rattle.loom_memory.specs.Memory.{loom_told, loom_outside, word_in, words_in_row, IsNeed, IsSized, IsSound, IsQuiet, IsCalm, IsSilent, IsRefused, IsRefusedAt};
@@ -119,12 +122,16 @@ impl<'h, H: Host> LoomMemory<'h, H> {
         ensures regs { OnOk result (self.new.regs ≡ self.old.regs) }
         ensures there { OnOk result ((at : ℕ) × (place_of ((core_of self.new.parts).entries s.0).state ≡ Some at)) }
         ensures spare { OnOk result (26 ≤ spare_of self.new.parts) }
+        ensures counted { OnOk result (fetched self.new ≡ counted (fetched self.old)) }
         ensures err { IfErr result (λ f. (a : Access) → IsSilent a → makes a ≡ 0 → IsRefused (loom_told H.Host self.old) (loom_told H.Host self.new) a f) }
         ensures lender { self.new.disk.host.ghost_name ≡ self.old.disk.host.ghost_name }
         ensures outside { loom_outside H.Host self.new ≡ loom_outside H.Host self.old }
     {
         match bring_in(&mut self.parts, &mut self.disk, &mut self.buf, s, words) {
-            Ok(()) => Ok(()),
+            Ok(()) => {
+                self.ledger.count_fetch();
+                Ok(())
+            }
             Err(f) => {
                 let f = refusal_of(f);
                 Err(self.refuse(f))
@@ -132,7 +139,40 @@ impl<'h, H: Host> LoomMemory<'h, H> {
         }
     }
 
-    // The words that the object of a leaf takes, from its record, which stays in the buffer.
+    // The words that the object of a name takes, from its record, which stays in the buffer.
+    pub(crate) fn look_up(&mut self, name: Name) -> Result<u32, MemFault>
+        requires sound { IsSound H.Host self.old }
+        requires ready { IsReady (loom_told H.Host self.old) }
+        requires there { IsTrue (H.tells Role.Work) → disk_of H.Host self.old.disk.host.now self.old.disk.rest name ≡ None → ⊥ }
+        ensures quiet { OnOk result (IsQuiet (loom_told H.Host self.old) (loom_told H.Host self.new)) }
+        ensures sound { KeepsSound result (IsSound H.Host self.new) }
+        ensures parts { OnOk result (self.new.parts ≡ self.old.parts) }
+        ensures regs { OnOk result (self.new.regs ≡ self.old.regs) }
+        ensures pins { OnOk result (self.new.pinned ≡ self.old.pinned) }
+        ensures sized { IfOk result (λ words. IsSized (H.tells Role.Work) (disk_of H.Host self.new.disk.host.now self.new.disk.rest name) words) }
+        ensures small { IfOk result (λ words. words < 2 ^ 18) }
+        ensures err { IfErr result (λ f. (a : Access) → IsSilent a → makes a ≡ 0 → IsRefused (loom_told H.Host self.old) (loom_told H.Host self.new) a f) }
+        ensures lender { self.new.disk.host.ghost_name ≡ self.old.disk.host.ghost_name }
+        ensures outside { loom_outside H.Host self.new ≡ loom_outside H.Host self.old }
+    {
+        match fetch(&mut self.disk, name, &mut self.buf) {
+            Ok(held) => {
+                if held {
+                    return Ok(words_of(&self.buf) + 4);
+                }
+                Err(self.refuse(MemFault::Damaged {
+                    place: NOWHERE,
+                    name: name.get(),
+                }))
+            }
+            Err(f) => {
+                let f = refusal_of(f);
+                Err(self.refuse(f))
+            }
+        }
+    }
+
+    // The same of the object of a leaf.
     fn look(&mut self, s: Short) -> Result<u32, MemFault>
         requires sound { IsSound H.Host self.old }
         requires ready { IsReady (loom_told H.Host self.old) }
@@ -150,21 +190,7 @@ impl<'h, H: Host> LoomMemory<'h, H> {
         ensures outside { loom_outside H.Host self.new ≡ loom_outside H.Host self.old }
     {
         let name = self.parts.names.table.entry(s).name;
-        match fetch(&mut self.disk, name, &mut self.buf) {
-            Ok(held) => {
-                if held {
-                    return Ok(words_of(&self.buf) + 4);
-                }
-                Err(self.refuse(MemFault::Damaged {
-                    place: NOWHERE,
-                    name: name.get(),
-                }))
-            }
-            Err(f) => {
-                let f = refusal_of(f);
-                Err(self.refuse(f))
-            }
-        }
+        self.look_up(name)
     }
 
     // `room`, whose want is no refusal.
@@ -183,7 +209,7 @@ impl<'h, H: Host> LoomMemory<'h, H> {
         ensures lender { self.new.disk.host.ghost_name ≡ self.old.disk.host.ghost_name }
         ensures outside { loom_outside H.Host self.new ≡ loom_outside H.Host self.old }
     {
-        match self.room(words) {
+        match self.room(words, 27) {
             Ok(()) => Ok(true),
             Err(f) => match f {
                 RoomFault::Short => Ok(false),

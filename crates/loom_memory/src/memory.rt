@@ -63,8 +63,8 @@ impl<'h, H: Host> LoomMemory<'h, H> {
     ghost use Rattle.object_memory.specs.Contract.{Does, IsLater, KeepsSound, Refuses, makes};
     ghost use Rattle.loom_memory.specs.Memory.{loom_told, loom_outside, word_in, IsSound, IsQuiet, IsCalm, IsSilent};
 
-    // Makes room for so many words, and for 27 entries, beside the objects of the slots.
-    pub(crate) fn room(&mut self, words: u32) -> Result<(), RoomFault>
+    // Makes room for so many words and entries, beside the objects of the slots.
+    pub(crate) fn room(&mut self, words: u32, entries: u16) -> Result<(), RoomFault>
         requires sound { IsSound H.Host self.old }
         ensures quiet { Undisturbed result (IsQuiet (loom_told H.Host self.old) (loom_told H.Host self.new)) }
         ensures sound { Undisturbed result (IsSound H.Host self.new) }
@@ -72,8 +72,8 @@ impl<'h, H: Host> LoomMemory<'h, H> {
         ensures regs { self.new.regs ≡ self.old.regs }
         ensures pins { self.new.pinned ≡ self.old.pinned }
         ensures ledger { self.new.ledger ≡ self.old.ledger }
-        ensures room { OnOk result ((words ≤ largest_of self.new.parts.segment) × (27 ≤ spare_of self.new.parts)) }
-        ensures short { IfErr result (λ f. OnShort f (IsShort self.new.parts self.old.pinned.a self.old.pinned.b self.old.pinned.d words 27)) }
+        ensures room { OnOk result ((words ≤ largest_of self.new.parts.segment) × (entries ≤ spare_of self.new.parts)) }
+        ensures short { IfErr result (λ f. OnShort f (IsShort self.new.parts self.old.pinned.a self.old.pinned.b self.old.pinned.d words entries)) }
         ensures fault { IfErr result (λ f. OnDisk f (IsPurgeFault H.Host self.old.disk.host.now self.new.disk.host.now)) }
         ensures leaves { (t : ℕ) → place_of ((core_of self.old.parts).entries t).state ≡ None → place_of ((core_of self.new.parts).entries t).state ≡ None }
         ensures work { IsWorkOnly H.Host self.old.disk.host.now self.new.disk.host.now }
@@ -86,7 +86,7 @@ impl<'h, H: Host> LoomMemory<'h, H> {
             &mut self.disk,
             &mut self.out,
             words,
-            27,
+            entries,
             &self.pinned,
         )
     }

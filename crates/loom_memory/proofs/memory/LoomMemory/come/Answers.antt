@@ -10,11 +10,14 @@ use Rattle.object_memory.specs.declared.fault.MemFault.{MemFault}
 use Rattle.object_table.specs.Entries.{is_used, place_of}
 use Rattle.loom_outside.specs.Work.{IsWorkRead}
 use Rattle.leaf_lambda.specs.declared.parts.Parts.{Parts}
+use Rattle.loom_memory.specs.declared.ledger.Ledger.{Ledger}
 use Rattle.loom_memory.specs.declared.memory.LoomMemory.{LoomMemory}
 use Rattle.leaf_lambda.specs.Parts.{core_of, IsParts, IsWithin}
 use Rattle.disk_objects.specs.Function.{disk_of}
 use Rattle.loom_memory.specs.Memory.{loom_told, loom_outside, told_of, IsSound, IsQuiet, IsRefused}
+use Rattle.loom_memory.specs.Residents.{fetched}
 use Rattle.core_view.specs.Kept.{IsValued}
+use Rattle.loom_memory.proofs.ResidentLaws.{fetched-kept, fetched-over}
 use Rattle.loom_memory.proofs.RegLaws.{kept-rooted, few-held}
 use Rattle.loom_memory.proofs.CalmLaws.{within-calm, calm-kept, quiet-is, work-outside}
 use Rattle.loom_memory.proofs.AccessLaws.{refused-quiet}
@@ -34,7 +37,14 @@ quiet-by {H} host m q new now s sound parts within used leaf read rest same keep
 
 pub returns-in-Ok-clause-quiet : goal.returns-in-Ok-clause-quiet
 unfolding loom_told
-returns-in-Ok-clause-quiet g c = quiet-by g.H.Host c.args.self.now c.bring_in.new.p c.bring_in.new.disk.host.now c.bring_in.new.disk.rest c.args.s.0 c.requires.sound c.bring_in.ensures.parts c.bring_in.ensures.within c.requires.leaf.0 c.requires.leaf.1 c.bring_in.ensures.read c.bring_in.ensures.rest c.bring_in.ensures.same c.bring_in.ensures.keeps
+returns-in-Ok-clause-quiet g c =
+    let m = c.args.self.now in
+    subst (λ (k : Ledger). IsQuiet (loom_told g.H.Host m) (told_of g.H.Host c.bring_in.new.disk.host.now c.bring_in.new.disk.rest (core_of c.bring_in.new.p) m.regs m.pinned k)) (sym c.count_fetch.ensures)
+    (quiet-by g.H.Host m c.bring_in.new.p c.bring_in.new.disk.host.now c.bring_in.new.disk.rest c.args.s.0 c.requires.sound c.bring_in.ensures.parts c.bring_in.ensures.within c.requires.leaf.0 c.requires.leaf.1 c.bring_in.ensures.read c.bring_in.ensures.rest c.bring_in.ensures.same c.bring_in.ensures.keeps)
+
+pub returns-in-Ok-clause-counted : goal.returns-in-Ok-clause-counted
+unfolding fetched
+returns-in-Ok-clause-counted g c = ap (λ (k : Ledger). k.fetches) c.count_fetch.ensures
 
 pub returns-in-Err-clause-err : goal.returns-in-Err-clause-err
 unfolding loom_told
@@ -61,8 +71,8 @@ pub returns-in-Ok-clause-sound : goal.returns-in-Ok-clause-sound
 returns-in-Ok-clause-sound g c =
     let m = c.args.self.now in
     record {
-      kept = calm-kept m.parts c.bring_in.new.p m.regs m.pinned m.ledger c.requires.sound.kept (within-calm m.pinned c.args.s.0 (core_of m.parts) (core_of c.bring_in.new.p) c.requires.sound.kept.parts.core c.bring_in.ensures.parts.core c.bring_in.ensures.within c.requires.leaf.0 c.requires.leaf.1) c.bring_in.ensures.parts c.bring_in.ensures.tight c.bring_in.ensures.size;
-      over = record {
+      kept = fetched-kept c.bring_in.new.p m.regs m.pinned m.ledger c.count_fetch.new.self _ c.count_fetch.ensures (calm-kept m.parts c.bring_in.new.p m.regs m.pinned m.ledger c.requires.sound.kept (within-calm m.pinned c.args.s.0 (core_of m.parts) (core_of c.bring_in.new.p) c.requires.sound.kept.parts.core c.bring_in.ensures.parts.core c.bring_in.ensures.within c.requires.leaf.0 c.requires.leaf.1) c.bring_in.ensures.parts c.bring_in.ensures.tight c.bring_in.ensures.size);
+      over = fetched-over g.H.Host c.bring_in.new.disk.host.now c.bring_in.new.disk.rest (core_of c.bring_in.new.p) m.ledger c.count_fetch.new.self _ c.count_fetch.ensures record {
         stands = c.bring_in.ensures.stands;
         backed = λ told. subst (λ (k : Disk). IsBacked (core_of c.bring_in.new.p) k) (sym c.bring_in.ensures.same) (c.bring_in.ensures.keeps told).backed;
         counted = λ told.

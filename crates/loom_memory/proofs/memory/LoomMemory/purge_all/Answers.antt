@@ -1,9 +1,13 @@
-use Rattle.std.proofs.Common.{subst}
+use Rattle.std.proofs.Common.{◌≡◌, ℕ, refl, ap, subst, arith}
 use Rattle.purger.specs.declared.room.RoomFault.{RoomFault}
-use Rattle.purger.specs.Purge.{OnDisk, OnShort, IsPurgeFault}
+use Rattle.purger.specs.Purge.{OnDisk, OnShort, IsPurgeFault, IsShort}
+use Rattle.leaf_lambda.specs.Parts.{core_of}
+use Rattle.loom_memory.specs.declared.ledger.Ledger.{Ledger}
 use Rattle.loom_memory.specs.Memory.{loom_told, IsSound, IsQuiet}
 use Rattle.loom_memory.proofs.AccessLaws.{quiet-ready}
 use Rattle.loom_memory.proofs.EndLaws.{thins-refused}
+use Rattle.loom_memory.proofs.KnownLaws.{bare-then}
+use Rattle.loom_memory.proofs.ResidentLaws.{only-pinned}
 use Rattle.loom_memory.proofs.memory.LoomMemory.purge_all.Goals as goal
 
 pub returns-in-Disk-clause-called : goal.returns-in-Disk-clause-called
@@ -29,3 +33,20 @@ returns-in-Short-clause-fit g c = record {
   lender = c.room.ensures.lender;
   outside = c.room.ensures.outside;
 }
+
+pub returns-in-Ok-clause-pinned : goal.returns-in-Ok-clause-pinned
+returns-in-Ok-clause-pinned g c = λ n here.
+    let all = c.entries_are_counted.ensures in
+    let now = c.in-Ok.ensures.sound.kept.entries in
+    let was = c.requires.fit.sound.kept.entries in
+    let same = ap (λ (k : Ledger). k.entries) c.room.ensures.ledger in
+    let past = c.too_many-entries.ensures in
+    let asked = c.in-Ok.ensures.room.1 in
+    absurd (omega (arith, all, now, was, same, past, asked))
+
+pub returns-in-Short-clause-pinned : goal.returns-in-Short-clause-pinned
+returns-in-Short-clause-pinned g c = λ n.
+    let m = c.args.self.now in
+    let u = c.room.new.self in
+    only-pinned g.H.Host u n (subst (λ (z : RoomFault). OnShort z (IsSound g.H.Host u)) c.in-Short.is c.in-Err.ensures.sound)
+    (bare-then (core_of u.parts) (core_of u.parts) m.pinned u.pinned (subst (λ (z : RoomFault). OnShort z (IsShort u.parts m.pinned.a m.pinned.b m.pinned.d 0 c.too_many-entries.result)) c.in-Short.is c.in-Err.ensures.short).bare refl c.room.ensures.pins)

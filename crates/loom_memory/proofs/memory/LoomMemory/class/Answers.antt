@@ -1,0 +1,55 @@
+use Rattle.std.proofs.Common.{◌≡◌, [], refl, sym, ◌∙◌, ap, subst}
+use Rattle.long_names.specs.Names.{SMALL_INTEGER}
+use Rattle.long_names.specs.State.{IsRef}
+use Rattle.long_names.specs.declared.value.Value.TheVariants.{Int, Ref}
+use Rattle.core_view.specs.Words.{meant, int_of_short}
+use Rattle.core_view.proofs.Words.{meant-short}
+use Rattle.leaf_lambda.specs.Parts.{core_of}
+use Rattle.loom_memory.specs.Memory.{loom_told}
+use Rattle.loom_memory.proofs.WordLaws.{odd-else, number-means}
+use Rattle.loom_memory.proofs.KnownLaws.{number-access, number-came, no-number, name-came, named-ref, ready-named}
+use Rattle.loom_memory.proofs.memory.LoomMemory.class.Goals as goal
+use Rattle.loom_memory.proofs.memory.LoomMemory.class.Given as given
+
+name-is : (g : given.Over) (c : goal.After-class_of_object g) → (loom_told g.H.Host c.args.self.now).regs c.args.of ≡ Ref ((core_of c.args.self.now.parts).entries c.word_of-w.result).name
+unfolding loom_told
+name-is g c =
+    let m = c.args.self.now in
+    ap (meant (core_of m.parts).entries [] 0) (sym c.word_of-w.ensures.word) ∙ meant-short (core_of m.parts).entries [] 0 c.word_of-w.result (sym c.is_name.ensures ∙ c.if-is_name.true)
+
+pub class_of_object-requires-clause-object : goal.class_of_object-requires-clause-object
+unfolding loom_told
+class_of_object-requires-clause-object g c =
+    let m = c.args.self.now in
+    subst IsRef (sym (ap (meant (core_of m.parts).entries [] 0) (sym c.word_of-w.ensures.word) ∙ meant-short (core_of m.parts).entries [] 0 c.word_of-w.result (sym c.is_name.ensures ∙ c.if-is_name.true))) tt
+
+pub returns-then-is_name-clause-number : goal.returns-then-is_name-clause-number
+returns-then-is_name-clause-number g c = no-number c.class_of_object.result ((loom_told g.H.Host c.args.self.now).regs c.args.of) ((core_of c.args.self.now.parts).entries c.word_of-w.result).name _ (name-is g c)
+
+number-is : (g : given.Over) (c : goal.After-put_name g) → (loom_told g.H.Host c.args.self.now).regs c.args.of ≡ Int (int_of_short c.word_of-w.result)
+unfolding loom_told
+number-is g c =
+    let m = c.args.self.now in
+    ap (meant (core_of m.parts).entries [] 0) (sym c.word_of-w.ensures.word)
+    ∙ number-means (core_of m.parts).entries c.word_of-w.result (int_of_short c.word_of-w.result) (odd-else c.word_of-w.result c.word_of-w.ensures.some (sym c.is_name.ensures ∙ c.if-is_name.false)) refl
+
+pub put_name-requires-clause-has : goal.put_name-requires-clause-has
+unfolding loom_told
+put_name-requires-clause-has g c = λ told. (c.requires.fit.ready.whole told).known SMALL_INTEGER refl
+
+pub returns-clause-access : goal.returns-clause-access
+returns-clause-access g c = number-access c.put_name.result (loom_told g.H.Host c.args.self.now) (loom_told g.H.Host c.put_name.new.self) c.args.to c.args.of (int_of_short c.word_of-w.result) (number-is g c) c.put_name.ensures.naming c.put_name.ensures.err
+
+pub returns-clause-name : goal.returns-clause-name
+returns-clause-name g c = named-ref c.put_name.result ((loom_told g.H.Host c.put_name.new.self).regs c.args.to) SMALL_INTEGER (name-came c.put_name.result (loom_told g.H.Host c.args.self.now) (loom_told g.H.Host c.put_name.new.self) c.args.to SMALL_INTEGER c.put_name.ensures.naming)
+
+pub returns-clause-number : goal.returns-clause-number
+returns-clause-number g c = number-came c.put_name.result _ _ (name-came c.put_name.result (loom_told g.H.Host c.args.self.now) (loom_told g.H.Host c.put_name.new.self) c.args.to SMALL_INTEGER c.put_name.ensures.naming)
+
+pub returns-clause-fit : goal.returns-clause-fit
+returns-clause-fit g c = record {
+  sound = c.put_name.ensures.sound;
+  ready = ready-named c.put_name.result (loom_told g.H.Host c.args.self.now) (loom_told g.H.Host c.put_name.new.self) c.args.to SMALL_INTEGER c.put_name.ensures.naming (λ told. (c.requires.fit.ready.whole told).known SMALL_INTEGER refl) c.requires.fit.ready;
+  lender = c.put_name.ensures.lender;
+  outside = c.put_name.ensures.outside;
+}

@@ -1,0 +1,45 @@
+use Rattle.core_segment.specs.Segment.{size_of}
+use Rattle.std.proofs.Common.{refl, ap}
+use Rattle.core_view.proofs.Tight.{ref-tight}
+use Rattle.leaf_lambda.specs.Parts.{core_of, spare_of}
+use Rattle.disk_objects.specs.Function.{disk_of}
+use Rattle.loom_memory.specs.Memory.{loom_told, loom_outside}
+use Rattle.loom_memory.proofs.RegLaws.{kept-rooted, over-then}
+use Rattle.loom_memory.proofs.CalmLaws.{calm-kept}
+use Rattle.loom_memory.proofs.LastLaws.{told-still, leaf-keeps}
+use Rattle.loom_memory.proofs.LambdaLaws.{leaf-calm}
+use Rattle.loom_memory.proofs.KnownLaws.{entry-found, none-spent, none-same}
+use Rattle.loom_memory.proofs.memory.LoomMemory.entry_for.Goals as goal
+
+pub returns-clause-told : goal.returns-clause-told
+unfolding loom_told
+returns-clause-told g c =
+    let m = c.args.self.now in
+    let step = c.find_or_leaf.ensures.step in
+    let core = c.requires.kept.parts.core in
+    let now = c.find_or_leaf.ensures.parts.core in
+    told-still g.H.Host m.disk.host.now m.disk.rest (core_of m.parts) (core_of c.find_or_leaf.new.p) m.regs m.pinned m.ledger (kept-rooted m.parts m.regs m.pinned m.ledger c.requires.kept) now c.requires.kept.cached
+    (leaf-calm m.pinned (core_of m.parts) (core_of c.find_or_leaf.new.p) core now step) (leaf-keeps (core_of m.parts) (core_of c.find_or_leaf.new.p) core now step)
+    (λ told. (step.stays (disk_of g.H.Host m.disk.host.now m.disk.rest) (c.requires.over.backed told)).held)
+
+pub returns-clause-sound : goal.returns-clause-sound
+returns-clause-sound g c =
+    let m = c.args.self.now in
+    let step = c.find_or_leaf.ensures.step in
+    record {
+      kept = calm-kept m.parts c.find_or_leaf.new.p m.regs m.pinned m.ledger c.requires.kept (leaf-calm m.pinned (core_of m.parts) (core_of c.find_or_leaf.new.p) c.requires.kept.parts.core c.find_or_leaf.ensures.parts.core step) c.find_or_leaf.ensures.parts (ref-tight (core_of m.parts) (core_of c.find_or_leaf.new.p) step.step c.requires.kept.tight) (ap size_of c.find_or_leaf.ensures.segment);
+      over = over-then g.H.Host m.disk.host.now m.disk.rest (core_of m.parts) (core_of c.find_or_leaf.new.p) m.ledger step.stays step.step c.requires.over;
+    }
+
+pub returns-clause-found : goal.returns-clause-found
+returns-clause-found g c = entry-found c.find_or_leaf.result (core_of c.find_or_leaf.new.p) c.args.name c.find_or_leaf.ensures.parts.core c.find_or_leaf.ensures.found
+
+pub returns-clause-none : goal.returns-clause-none
+returns-clause-none g c = none-spent c.find_or_leaf.result (core_of c.args.self.now.parts) (spare_of c.args.self.now.parts) c.args.name c.find_or_leaf.ensures.none
+
+pub returns-clause-same : goal.returns-clause-same
+returns-clause-same g c = none-same c.find_or_leaf.result (core_of c.args.self.now.parts) (core_of c.find_or_leaf.new.p) (spare_of c.args.self.now.parts) (spare_of c.find_or_leaf.new.p) c.args.name c.find_or_leaf.ensures.none c.find_or_leaf.ensures.few c.find_or_leaf.ensures.cost.0
+
+pub returns-clause-outside : goal.returns-clause-outside
+unfolding loom_outside
+returns-clause-outside g c = refl

@@ -1,0 +1,36 @@
+use Rattle.std.proofs.Common.{sym, ap, subst}
+use Rattle.core_segment.specs.Segment.{largest_of}
+use Rattle.long_names.specs.Heap.{Has}
+use Rattle.object_memory.specs.Told.{Told}
+use Rattle.leaf_lambda.specs.Parts.{core_of, spare_of}
+use Rattle.loom_memory.specs.Memory.{loom_told, IsQuiet}
+use Rattle.loom_memory.proofs.AccessLaws.{quiet-ready}
+use Rattle.loom_memory.proofs.KnownLaws.{spent-then, bare-by, bare-then, refused-of}
+use Rattle.loom_memory.proofs.memory.LoomMemory.free_entry.Goals as goal
+use Rattle.loom_memory.proofs.memory.LoomMemory.free_entry.Given as given
+
+pub returns-in-Some-clause-quiet : goal.returns-in-Some-clause-quiet
+returns-in-Some-clause-quiet g c = subst (λ (t : Told). IsQuiet (loom_told g.H.Host c.args.self.now) t) (sym c.entry_for.ensures.told) c.in-Ok.ensures.quiet
+
+pub lack-requires-clause-ready : goal.lack-requires-clause-ready
+lack-requires-clause-ready g c = quiet-ready (loom_told g.H.Host c.args.self.now) (loom_told g.H.Host c.entry_for.new.self) (subst (λ (t : Told). IsQuiet (loom_told g.H.Host c.args.self.now) t) (sym c.entry_for.ensures.told) c.in-Ok.ensures.quiet) c.requires.ready
+
+pub lack-requires-clause-has : goal.lack-requires-clause-has
+lack-requires-clause-has g c = λ told.
+    let quiet = subst (λ (t : Told). IsQuiet (loom_told g.H.Host c.args.self.now) t) (sym c.entry_for.ensures.told) c.in-Ok.ensures.quiet in
+    subst (λ (t : Told). Has t.heap c.args.name) (sym quiet.same) (c.requires.has told)
+
+pub lack-requires-clause-spent : goal.lack-requires-clause-spent
+lack-requires-clause-spent g c = spent-then (core_of c.clear.new.self.parts) (core_of c.entry_for.new.self.parts) (spare_of c.clear.new.self.parts) (spare_of c.entry_for.new.self.parts) c.args.name c.in-None.ensures.none c.in-None.ensures.same.0 c.in-None.ensures.same.1
+
+pub lack-requires-clause-bare : goal.lack-requires-clause-bare
+lack-requires-clause-bare g c =
+    let n = c.clear.new.self in
+    bare-then (core_of n.parts) (core_of c.entry_for.new.self.parts) n.pinned c.entry_for.new.self.pinned (bare-by c.in-Ok.enough n.parts n.pinned (largest_of n.parts.segment) c.in-Ok.ensures.room c.in-Ok.ensures.short c.in-None.ensures.none.none) c.in-None.ensures.same.0 c.entry_for.ensures.pins
+
+pub returns-in-None-clause-err : goal.returns-in-None-clause-err
+returns-in-None-clause-err g c = refused-of (loom_told g.H.Host c.args.self.now) (loom_told g.H.Host c.entry_for.new.self) (loom_told g.H.Host c.lack.new.self) c.args.name c.lack.result
+    (subst (λ (t : Told). IsQuiet (loom_told g.H.Host c.args.self.now) t) (sym c.entry_for.ensures.told) c.in-Ok.ensures.quiet) c.lack.ensures.err
+
+pub returns-in-Err-clause-err : goal.returns-in-Err-clause-err
+returns-in-Err-clause-err g c = λ a row silent none. c.in-Err.ensures.err a silent none

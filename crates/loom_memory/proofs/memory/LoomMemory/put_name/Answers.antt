@@ -1,0 +1,22 @@
+use Rattle.std.proofs.Common.{[], ◌∙◌, ap}
+use Rattle.long_names.specs.State.{set_register}
+use Rattle.long_names.specs.declared.value.Value.{Value}
+use Rattle.long_names.specs.declared.value.Value.TheVariants.{Ref}
+use Rattle.core_view.proofs.Words.{meant-short}
+use Rattle.leaf_lambda.specs.Parts.{core_of}
+use Rattle.loom_memory.specs.Memory.{loom_told}
+use Rattle.loom_memory.proofs.ClassLaws.{short-some}
+use Rattle.loom_memory.proofs.KnownLaws.{naming-is}
+use Rattle.loom_memory.proofs.memory.LoomMemory.put_name.Goals as goal
+
+pub put_word-requires-clause-used : goal.put_word-requires-clause-used
+put_word-requires-clause-used g c = λ short. c.in-Ok.ensures.found.used
+
+pub put_word-requires-clause-some : goal.put_word-requires-clause-some
+put_word-requires-clause-some g c = short-some c.in-Ok.s.0 c.in-Ok.ensures.found.short
+
+pub returns-in-Ok-clause-naming : goal.returns-in-Ok-clause-naming
+returns-in-Ok-clause-naming g c =
+    let n = c.entry_of.new.self in
+    naming-is (loom_told g.H.Host c.args.self.now) (loom_told g.H.Host n) (loom_told g.H.Host c.put_word.new.self) c.args.to c.args.name c.in-Ok.ensures.quiet
+    (c.put_word.ensures.told ∙ ap (λ (v : Value). record (loom_told g.H.Host n) { regs = set_register (loom_told g.H.Host n).regs c.args.to v }) (meant-short (core_of n.parts).entries [] 0 c.in-Ok.s.0 c.in-Ok.ensures.found.short ∙ ap Ref c.in-Ok.ensures.found.named))

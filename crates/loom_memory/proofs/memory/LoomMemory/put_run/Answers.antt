@@ -1,0 +1,45 @@
+use Rattle.std.proofs.Common.{◌≡◌, List, take, IsTrue, refl, sym, ap}
+use Rattle.loom_outside.specs.Outside.{RoleState}
+use Rattle.loom_outside.specs.declared.outside.Role.TheVariants.{Transcript}
+use Rattle.loom_memory.specs.Memory.{loom_told, loom_outside}
+use Rattle.loom_memory.proofs.SayLaws.{put-told, put-sound, put-outside, put-part}
+use Rattle.loom_memory.proofs.memory.LoomMemory.put_run.Goals as goal
+
+pub returns-in-Ok-clause-put : goal.returns-in-Ok-clause-put
+unfolding loom_told
+returns-in-Ok-clause-put g c = put-told g.H.Host c.args.self.now c.write_to.new.self.host.now c.write_to.new.self.rest c.args.run.now c.write_to.ensures.rest c.write_to.ensures.work c.write_to.ensures.other_faults c.write_to.ensures.cause.later (λ told. ap (λ (s : RoleState). s.put) (c.in-Ok.ensures.put told))
+
+pub returns-in-Ok-clause-sound : goal.returns-in-Ok-clause-sound
+returns-in-Ok-clause-sound g c = record {
+  kept = c.requires.sound.kept;
+  over = put-sound g.H.Host c.args.self.now c.write_to.new.self.host.now c.write_to.new.self.rest c.requires.sound c.write_to.ensures.rest c.write_to.ensures.work (λ told. (c.write_to.ensures.keeps c.requires.sound.over.stands told).stands told);
+}
+
+pub returns-in-Ok-clause-outside : goal.returns-in-Ok-clause-outside
+unfolding loom_outside
+returns-in-Ok-clause-outside g c = put-outside g.H.Host c.args.self.now.disk.host.now c.write_to.new.self.host.now c.write_to.ensures.others c.write_to.ensures.other_faults
+
+pub returns-in-Err-clause-part : goal.returns-in-Err-clause-part
+unfolding loom_told
+returns-in-Err-clause-part g c =
+    let m = c.args.self.now in
+    let part = put-part (g.H.Host.tells Transcript) c.args.run.now (g.H.Host.roles m.disk.host.now Transcript) (g.H.Host.roles c.write_to.new.self.host.now Transcript) c.in-Err.ensures.failed in
+    (part.0, put-told g.H.Host m c.write_to.new.self.host.now c.write_to.new.self.rest (take part.0 c.args.run.now) c.write_to.ensures.rest c.write_to.ensures.work c.write_to.ensures.other_faults c.write_to.ensures.cause.later part.1)
+
+pub returns-in-Err-clause-count : goal.returns-in-Err-clause-count
+unfolding loom_told
+returns-in-Err-clause-count g c = sym c.fault_count.ensures
+
+pub returns-in-Err-clause-rose : goal.returns-in-Err-clause-rose
+unfolding loom_told
+returns-in-Err-clause-rose g c = c.in-Err.ensures.cause.rose refl
+
+pub returns-in-Err-clause-sound : goal.returns-in-Err-clause-sound
+returns-in-Err-clause-sound g c = record {
+  kept = c.requires.sound.kept;
+  over = put-sound g.H.Host c.args.self.now c.write_to.new.self.host.now c.write_to.new.self.rest c.requires.sound c.write_to.ensures.rest c.write_to.ensures.work (λ told. (c.write_to.ensures.keeps c.requires.sound.over.stands told).stands told);
+}
+
+pub returns-in-Err-clause-outside : goal.returns-in-Err-clause-outside
+unfolding loom_outside
+returns-in-Err-clause-outside g c = put-outside g.H.Host c.args.self.now.disk.host.now c.write_to.new.self.host.now c.write_to.ensures.others c.write_to.ensures.other_faults

@@ -1,0 +1,51 @@
+use Rattle.std.proofs.Common.{◌≡◌, sym, ap, subst}
+use Rattle.std.specs.Result.{OnOk, OnErr}
+use Rattle.loom_outside.specs.Outside.{RoleState, PutPrefix, HasCause, puts}
+use Rattle.loom_memory.specs.Memory.{loom_told, loom_outside, Others, others_of}
+use Rattle.loom_memory.proofs.SayLaws.{put-sound}
+use Rattle.loom_memory.proofs.LentLaws.{lent-write, lent-others, lent-told, others-lent}
+use Rattle.loom_memory.proofs.memory.LoomMemory.write_to.Goals as goal
+
+pub write_to-requires : goal.write_to-requires
+write_to-requires g c = lent-write c.args.role c.requires.role
+
+pub returns-clause-told : goal.returns-clause-told
+unfolding loom_told
+returns-clause-told g c = lent-told g.H.Host c.args.self.now c.write_to.new.self.host.now c.write_to.new.self.rest c.args.role c.requires.role c.write_to.ensures.rest c.write_to.ensures.others c.write_to.ensures.other_faults
+
+pub returns-clause-sound : goal.returns-clause-sound
+returns-clause-sound g c = record {
+  kept = c.requires.sound.kept;
+  over = put-sound g.H.Host c.args.self.now c.write_to.new.self.host.now c.write_to.new.self.rest c.requires.sound c.write_to.ensures.rest c.write_to.ensures.work (λ told. (c.write_to.ensures.keeps c.requires.sound.over.stands told).stands told);
+}
+
+pub returns-clause-put : goal.returns-clause-put
+unfolding loom_outside
+returns-clause-put g c = λ told.
+    let m = c.args.self.now in
+    let old = ap (λ (o : Others). o.role) (lent-others c.args.role (g.H.Host.roles m.disk.host.now c.args.role) (g.H.Host.faults m.disk.host.now c.args.role) c.requires.role) in
+    let new = ap (λ (o : Others). o.role) (lent-others c.args.role (g.H.Host.roles c.write_to.new.self.host.now c.args.role) (g.H.Host.faults c.write_to.new.self.host.now c.args.role) c.requires.role) in
+    subst (λ (s : RoleState). OnOk c.write_to.result (s ≡ puts c.args.buf.now (others_of c.args.role (g.H.Host.roles m.disk.host.now c.args.role) (g.H.Host.faults m.disk.host.now c.args.role)).role)) (sym new)
+    (subst (λ (s : RoleState). OnOk c.write_to.result (g.H.Host.roles c.write_to.new.self.host.now c.args.role ≡ puts c.args.buf.now s)) (sym old) (c.write_to.ensures.put told))
+
+pub returns-clause-failed : goal.returns-clause-failed
+unfolding loom_outside
+returns-clause-failed g c = λ told.
+    let m = c.args.self.now in
+    let old = ap (λ (o : Others). o.role) (lent-others c.args.role (g.H.Host.roles m.disk.host.now c.args.role) (g.H.Host.faults m.disk.host.now c.args.role) c.requires.role) in
+    let new = ap (λ (o : Others). o.role) (lent-others c.args.role (g.H.Host.roles c.write_to.new.self.host.now c.args.role) (g.H.Host.faults c.write_to.new.self.host.now c.args.role) c.requires.role) in
+    subst (λ (s : RoleState). OnErr c.write_to.result (PutPrefix c.args.buf.now (others_of c.args.role (g.H.Host.roles m.disk.host.now c.args.role) (g.H.Host.faults m.disk.host.now c.args.role)).role s)) (sym new)
+    (subst (λ (s : RoleState). OnErr c.write_to.result (PutPrefix c.args.buf.now s (g.H.Host.roles c.write_to.new.self.host.now c.args.role))) (sym old) (c.write_to.ensures.failed told))
+
+pub returns-clause-cause : goal.returns-clause-cause
+unfolding loom_outside
+returns-clause-cause g c =
+    let m = c.args.self.now in
+    let old = ap (λ (o : Others). o.faults) (lent-others c.args.role (g.H.Host.roles m.disk.host.now c.args.role) (g.H.Host.faults m.disk.host.now c.args.role) c.requires.role) in
+    let new = ap (λ (o : Others). o.faults) (lent-others c.args.role (g.H.Host.roles c.write_to.new.self.host.now c.args.role) (g.H.Host.faults c.write_to.new.self.host.now c.args.role) c.requires.role) in
+    subst (λ n. HasCause (others_of c.args.role (g.H.Host.roles m.disk.host.now c.args.role) (g.H.Host.faults m.disk.host.now c.args.role)).faults n c.write_to.result) (sym new)
+    (subst (λ n. HasCause n (g.H.Host.faults c.write_to.new.self.host.now c.args.role) c.write_to.result) (sym old) c.write_to.ensures.cause)
+
+pub returns-clause-others : goal.returns-clause-others
+unfolding loom_outside
+returns-clause-others g c = others-lent g.H.Host c.args.self.now.disk.host.now c.write_to.new.self.host.now c.args.role c.write_to.ensures.others c.write_to.ensures.other_faults

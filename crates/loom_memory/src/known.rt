@@ -1,0 +1,172 @@
+// Names that come into registers without their objects.
+ghost use Rattle.std.specs.Prelude.{◌≡◌, ◌≤◌, ◌<◌, ◌^◌, ℕ, Some, None, Ok, IsTrue, IsSome, IfSome, IfNone, OnOk, IfOk, IfErr};
+ghost use Rattle.leaf_lambda.specs.Parts.{core_of, spare_of};
+ghost use Rattle.core_view.specs.Room.{IsBare};
+
+use crate::load::{either, leaves_of_word, room_of_word, unless};
+use crate::memory::LoomMemory;
+use leaf_lambda::fields::is_name;
+use leaf_lambda::steps::find_or_leaf;
+use long_names::Name;
+use loom_outside::{Host, Role};
+use object_memory::{MemFault, Need, Reg};
+use object_table::Short;
+use object_table::laws::entries_are_counted;
+
+impl<'h, H: Host> LoomMemory<'h, H> {
+    ghost use Rattle.long_names.specs.Names.{SMALL_INTEGER};
+    ghost use Rattle.long_names.specs.Heap.{Has};
+    ghost use Rattle.long_names.specs.State.{IsRef};
+    ghost use Rattle.long_names.specs.Objects.{int_of};
+    ghost use Rattle.long_names.specs.Access.{Known, Class, Nothing};
+    ghost use Rattle.long_names.specs.declared.value.Value.TheVariants.{Ref};
+    ghost use Rattle.object_memory.specs.Told.{IsReady};
+    ghost use Rattle.object_memory.specs.Contract.{Accessed, KeepsSound, LeavesAll, MayDo};
+    ghost use Rattle.object_memory.specs.Fit.{MayCall, StaysCallable};
+    ghost use Rattle.loom_memory.specs.Memory.{loom_told, loom_outside, loom_lender, IsSound, IsQuiet};
+    ghost use Rattle.loom_memory.specs.Known.{IsEntryOf, IsSpent, IsNeedBeside, IsRefusedOf, IsNaming};
+
+    // The entry of a name, which gets one where one is free.
+    fn entry_for(&mut self, name: Name) -> Option<Short>
+        requires { IsSound H.Host self.old }
+        ensures told { loom_told H.Host self.new ≡ loom_told H.Host self.old }
+        ensures sound { IsSound H.Host self.new }
+        ensures found { IfSome result (λ s. IsEntryOf (core_of self.new.parts) s.0 name) }
+        ensures none { IfNone result (IsSpent (core_of self.old.parts) (spare_of self.old.parts) name) }
+        ensures same { IfNone result ((core_of self.new.parts ≡ core_of self.old.parts) × (spare_of self.new.parts ≤ spare_of self.old.parts)) }
+        ensures pins { self.new.pinned ≡ self.old.pinned }
+        ensures lender { self.new.disk.host.ghost_name ≡ self.old.disk.host.ghost_name }
+        ensures outside { loom_outside H.Host self.new ≡ loom_outside H.Host self.old }
+    {
+        find_or_leaf(&mut self.parts, name, 0)
+    }
+
+    // The need of an access to an object that has no entry, of so many words.
+    fn need_beside(&self, name: Name, words: u32) -> Need
+        requires sound { IsSound H.Host self.now }
+        requires small { words < 2 ^ 18 }
+        ensures { IsNeedBeside (core_of self.now.parts) self.now.pinned name words result }
+    {
+        let p = &self.parts;
+        let a = self.pinned.a;
+        let b = self.pinned.b;
+        let d = self.pinned.d;
+        let first = room_of_word(p, a);
+        let second = unless(b == a, room_of_word(p, b));
+        let third = unless(either(d == a, d == b), room_of_word(p, d));
+        let one = leaves_of_word(p, a);
+        let two = unless(b == a, leaves_of_word(p, b));
+        let three = unless(either(d == a, d == b), leaves_of_word(p, d));
+        Need {
+            object: name.get(),
+            words: words + (first + second + third),
+            entries: 51 + (one + two + three),
+        }
+    }
+
+    // Refuses: a name has no entry, and nothing more can go. Its record tells how many words its object takes.
+    fn lack(&mut self, name: Name) -> MemFault
+        requires sound { IsSound H.Host self.old }
+        requires ready { IsReady (loom_told H.Host self.old) }
+        requires has { IsTrue (H.tells Role.Work) → Has (loom_told H.Host self.old).heap name }
+        requires spent { IsSpent (core_of self.old.parts) (spare_of self.old.parts) name }
+        requires bare { IsBare self.old.pinned.a self.old.pinned.b self.old.pinned.d (core_of self.old.parts) }
+        ensures sound { LeavesAll result (IsSound H.Host self.new) }
+        ensures err { IsRefusedOf (loom_told H.Host self.old) (loom_told H.Host self.new) name result }
+        ensures lender { self.new.disk.host.ghost_name ≡ self.old.disk.host.ghost_name }
+        ensures outside { loom_outside H.Host self.new ≡ loom_outside H.Host self.old }
+    {
+        entries_are_counted(&self.parts.names.table);
+        match self.look_up(name) {
+            Ok(words) => {
+                let need = self.need_beside(name, words);
+                self.refuse(MemFault::CoreFull(need))
+            }
+            Err(f) => f,
+        }
+    }
+
+    // The entry of a name whose object is held, once room was made, or a refusal.
+    fn free_entry(&mut self, name: Name) -> Result<Short, MemFault>
+        requires sound { IsSound H.Host self.old }
+        requires ready { IsReady (loom_told H.Host self.old) }
+        requires has { IsTrue (H.tells Role.Work) → Has (loom_told H.Host self.old).heap name }
+        ensures quiet { OnOk result (IsQuiet (loom_told H.Host self.old) (loom_told H.Host self.new)) }
+        ensures sound { KeepsSound result (IsSound H.Host self.new) }
+        ensures found { IfOk result (λ s. IsEntryOf (core_of self.new.parts) s.0 name) }
+        ensures err { IfErr result (IsRefusedOf (loom_told H.Host self.old) (loom_told H.Host self.new) name) }
+        ensures lender { self.new.disk.host.ghost_name ≡ self.old.disk.host.ghost_name }
+        ensures outside { loom_outside H.Host self.new ≡ loom_outside H.Host self.old }
+    {
+        match self.clear(0) {
+            Ok(enough) => match self.entry_for(name) {
+                Some(s) => Ok(s),
+                None => Err(self.lack(name)),
+            },
+            Err(f) => Err(f),
+        }
+    }
+
+    // The entry of a name whose object is held, or a refusal.
+    fn entry_of(&mut self, name: Name) -> Result<Short, MemFault>
+        requires sound { IsSound H.Host self.old }
+        requires ready { IsReady (loom_told H.Host self.old) }
+        requires has { IsTrue (H.tells Role.Work) → Has (loom_told H.Host self.old).heap name }
+        ensures quiet { OnOk result (IsQuiet (loom_told H.Host self.old) (loom_told H.Host self.new)) }
+        ensures sound { KeepsSound result (IsSound H.Host self.new) }
+        ensures found { IfOk result (λ s. IsEntryOf (core_of self.new.parts) s.0 name) }
+        ensures err { IfErr result (IsRefusedOf (loom_told H.Host self.old) (loom_told H.Host self.new) name) }
+        ensures lender { self.new.disk.host.ghost_name ≡ self.old.disk.host.ghost_name }
+        ensures outside { loom_outside H.Host self.new ≡ loom_outside H.Host self.old }
+    {
+        match self.entry_for(name) {
+            Some(s) => Ok(s),
+            None => self.free_entry(name),
+        }
+    }
+
+    // A name whose object is held comes into a register.
+    fn put_name(&mut self, to: Reg, name: Name) -> Result<(), MemFault>
+        requires sound { IsSound H.Host self.old }
+        requires ready { IsReady (loom_told H.Host self.old) }
+        requires has { IsTrue (H.tells Role.Work) → Has (loom_told H.Host self.old).heap name }
+        ensures naming { OnOk result (IsNaming (loom_told H.Host self.old) (loom_told H.Host self.new) to name) }
+        ensures sound { KeepsSound result (IsSound H.Host self.new) }
+        ensures err { IfErr result (IsRefusedOf (loom_told H.Host self.old) (loom_told H.Host self.new) name) }
+        ensures lender { self.new.disk.host.ghost_name ≡ self.old.disk.host.ghost_name }
+        ensures outside { loom_outside H.Host self.new ≡ loom_outside H.Host self.old }
+    {
+        match self.entry_of(name) {
+            Ok(s) => {
+                self.put_word(to, s.0);
+                Ok(())
+            }
+            Err(f) => Err(f),
+        }
+    }
+
+    pub(crate) fn known(&mut self, to: Reg, name: Name) -> Result<(), MemFault>
+        requires fit { MayCall (IsSound H.Host) (loom_told H.Host) self.old }
+        requires may { MayDo (loom_told H.Host self.old) (Known to name) }
+        ensures access { Accessed (loom_told H.Host self.old) (loom_told H.Host self.new) (Known to name) (λ _. Nothing) result }
+        ensures name { OnOk result ((loom_told H.Host self.new).regs to ≡ Ref name) }
+        ensures fit { StaysCallable (IsSound H.Host) (loom_told H.Host) loom_lender (loom_outside H.Host) self.old self.new result }
+    {
+        self.put_name(to, name)
+    }
+
+    pub(crate) fn class(&mut self, to: Reg, of: Reg) -> Result<(), MemFault>
+        requires fit { MayCall (IsSound H.Host) (loom_told H.Host) self.old }
+        requires may { MayDo (loom_told H.Host self.old) (Class to of) }
+        ensures access { Accessed (loom_told H.Host self.old) (loom_told H.Host self.new) (Class to of) (λ _. Nothing) result }
+        ensures name { OnOk result (IsRef ((loom_told H.Host self.new).regs to)) }
+        ensures number { OnOk result (IsSome (int_of ((loom_told H.Host self.old).regs of)) → (loom_told H.Host self.new).regs to ≡ Ref SMALL_INTEGER) }
+        ensures fit { StaysCallable (IsSound H.Host) (loom_told H.Host) loom_lender (loom_outside H.Host) self.old self.new result }
+    {
+        let w = self.word_of(of);
+        if is_name(w) {
+            return self.class_of_object(to, of);
+        }
+        self.put_name(to, Name::SMALL_INTEGER)
+    }
+}

@@ -1,0 +1,33 @@
+// The host's roles that a memory leaves to its caller.
+ghost use Rattle.std.specs.Prelude.{◌≡◌, IsTrue, OnOk, OnErr};
+ghost use Rattle.loom_outside.specs.Outside.{SameBut, PutPrefix, HasCause, puts};
+
+use crate::memory::LoomMemory;
+use loom_outside::{Failed, Host, Role};
+
+impl<'h, H: Host> LoomMemory<'h, H> {
+    ghost use Rattle.loom_memory.specs.Memory.{loom_told, loom_outside, IsSound};
+    ghost use Rattle.loom_memory.specs.Lent.{faults_of, IsLent};
+
+    /// Puts a whole piece to Saved or to Notes. What is told of the memory stays.
+    pub fn write_to(&mut self, role: Role, buf: &[u8]) -> Result<(), Failed>
+        requires sound { IsSound H.Host self.old }
+        requires role { IsLent role }
+        ensures told { loom_told H.Host self.new ≡ loom_told H.Host self.old }
+        ensures sound { IsSound H.Host self.new }
+        ensures put { IsTrue (H.tells role) → OnOk result ((loom_outside H.Host self.new role).role ≡ puts buf.now (loom_outside H.Host self.old role).role) }
+        ensures failed { IsTrue (H.tells role) → OnErr result (PutPrefix buf.now (loom_outside H.Host self.old role).role (loom_outside H.Host self.new role).role) }
+        ensures cause { HasCause (loom_outside H.Host self.old role).faults (loom_outside H.Host self.new role).faults result }
+        ensures others { SameBut role (loom_outside H.Host self.old) (loom_outside H.Host self.new) }
+        ensures lender { self.new.disk.host.ghost_name ≡ self.old.disk.host.ghost_name }
+    {
+        self.disk.write_to(role, buf)
+    }
+
+    /// How often calls on this role failed, up to the greatest u64.
+    pub fn fault_count(&self, role: Role) -> u64
+        ensures { result ≡ faults_of H.Host self.now role }
+    {
+        self.disk.fault_count(role)
+    }
+}
