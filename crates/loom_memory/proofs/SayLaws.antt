@@ -1,5 +1,5 @@
 -- What an object says: pieces that join the transcript one after the other, and what a refusal leaves of them.
-use Rattle.std.proofs.Common.{zero, suc, ◌≡◌, ◌≢◌, ℕ, ◌+◌, ◌≤◌, Bool, true, false, List, [], ◌∷◌, ◌++◌, length, take, drop, Option, Some, None, Ok, Err, IsTrue, refl, sym, ◌∙◌, ap, subst, add-zero, arith}
+use Rattle.std.proofs.Common.{zero, suc, ◌≡◌, ◌≢◌, ℕ, ◌+◌, ◌≤◌, Bool, true, false, List, [], ◌∷◌, ◌++◌, length, take, drop, Option, Some, None, Ok, IsTrue, refl, sym, ◌∙◌, ap, subst, add-zero, arith}
 use Rattle.std.proofs.Math.Path.{fun_ext}
 use Rattle.std.proofs.Math.Seq.{take-add}
 use Rattle.std.proofs.lemmas.List.{append_assoc, append-nil, take-append-drop}
@@ -27,7 +27,7 @@ use Rattle.core_view.specs.Purge.{fresh_of}
 use Rattle.leaf_lambda.specs.Parts.{core_of}
 use Rattle.loom_memory.specs.declared.memory.LoomMemory.{LoomMemory}
 use Rattle.loom_memory.specs.Memory.{heap_if, told_of, others_of, Others, IsOver, IsSound, IsQuiet, IsRefused}
-use Rattle.loom_memory.specs.Says.{HasSaid, IsSaid, IsPut}
+use Rattle.loom_memory.specs.Says.{IsSaid, IsPut}
 use Rattle.loom_memory.proofs.AccessLaws.{same-trans, raised-trans, left-ready}
 
 -- ---- pieces

@@ -1,4 +1,4 @@
-use Rattle.std.proofs.Common.{sym, ap, subst}
+use Rattle.std.proofs.Common.{sym, subst}
 use Rattle.core_segment.specs.Segment.{largest_of}
 use Rattle.long_names.specs.Heap.{Has}
 use Rattle.object_memory.specs.Told.{Told}
@@ -7,7 +7,6 @@ use Rattle.loom_memory.specs.Memory.{loom_told, IsQuiet}
 use Rattle.loom_memory.proofs.AccessLaws.{quiet-ready}
 use Rattle.loom_memory.proofs.KnownLaws.{spent-then, bare-by, bare-then, refused-of}
 use Rattle.loom_memory.proofs.memory.LoomMemory.free_entry.Goals as goal
-use Rattle.loom_memory.proofs.memory.LoomMemory.free_entry.Given as given
 
 pub returns-in-Some-clause-quiet : goal.returns-in-Some-clause-quiet
 returns-in-Some-clause-quiet g c = subst (λ (t : Told). IsQuiet (loom_told g.H.Host c.args.self.now) t) (sym c.entry_for.ensures.told) c.in-Ok.ensures.quiet

@@ -1,4 +1,4 @@
-use Rattle.std.proofs.Common.{◌≡◌, ℕ, refl, ap, subst, arith}
+use Rattle.std.proofs.Common.{refl, ap, subst, arith}
 use Rattle.purger.specs.declared.room.RoomFault.{RoomFault}
 use Rattle.purger.specs.Purge.{OnDisk, OnShort, IsPurgeFault, IsShort}
 use Rattle.leaf_lambda.specs.Parts.{core_of}

@@ -1,4 +1,4 @@
-use Rattle.std.proofs.Common.{◌≡◌, List, take, IsTrue, refl, sym, ap}
+use Rattle.std.proofs.Common.{take, refl, sym, ap}
 use Rattle.loom_outside.specs.Outside.{RoleState}
 use Rattle.loom_outside.specs.declared.outside.Role.TheVariants.{Transcript}
 use Rattle.loom_memory.specs.Memory.{loom_told, loom_outside}

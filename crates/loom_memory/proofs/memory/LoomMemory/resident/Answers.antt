@@ -1,4 +1,4 @@
-use Rattle.std.proofs.Common.{◌≡◌, ℕ, Option, sym, ◌∙◌, ap}
+use Rattle.std.proofs.Common.{ℕ, Option, sym, ◌∙◌, ap}
 use Rattle.std.specs.Option.{is_some}
 use Rattle.object_table.specs.declared.entry.Entry.{Entry}
 use Rattle.object_table.specs.Entries.{place_of}

@@ -1,4 +1,4 @@
-use Rattle.std.proofs.Common.{◌≡◌, ℕ, ◌+◌, ◌≤◌, length, take, drop, sym, ◌∙◌, ap, subst}
+use Rattle.std.proofs.Common.{◌≡◌, ◌+◌, ◌≤◌, length, take, drop, sym, ◌∙◌, ap, subst}
 use Rattle.long_names.specs.Counting.{counted}
 use Rattle.long_names.specs.Access.{Say, said_by}
 use Rattle.object_memory.specs.declared.fault.MemFault.{MemFault}
