@@ -9,7 +9,7 @@ use Rattle.long_names.specs.declared.object.Object.{Object}
 use Rattle.long_names.specs.Names.{STRING, ARRAY, COMPILED_METHOD}
 use Rattle.long_names.specs.Objects.{Making, OfPointers, OfWords, OfBytes, OfMethod, name_of, int_of, is_ref, pointers_of, text_of}
 use Rattle.long_names.specs.State.{ACTIVE_CONTEXT, HOME, METHOD}
-use Rattle.long_names.specs.declared.limits.TheConstants.{MOST_CODE, SMALL_INTEGERS}
+use Rattle.long_names.specs.declared.limits.TheConstants.{MOST_CODE, MOST_FIELDS, SMALL_INTEGERS}
 use Rattle.blue_model.specs.declared.answer.Answer.{Answer}
 use Rattle.blue_model.specs.declared.answer.Answer.TheVariants.{Done}
 use Rattle.blue_model.specs.declared.spot.Spot.{Spot}
@@ -163,7 +163,7 @@ unfoldable pub new_with_size : Rule Answer
 new_with_size = do
   class ← stack 1
   argument ← stack 0
-  specification_of class >>? λ specification. where_true (is_made_by_new class specification true) (index_argument argument >>? λ z. where_some (natural z) (λ n. where_true (nat_lt (n + fixed_fields specification) 65536) (make class (sized_making specification (n + fixed_fields specification)) >>= answer 1)))
+  specification_of class >>? λ specification. where_true (is_made_by_new class specification true) (index_argument argument >>? λ z. where_some (natural z) (λ n. where_true (nat_lt (n + fixed_fields specification) (MOST_FIELDS + 1)) (make class (sized_making specification (n + fixed_fields specification)) >>= answer 1)))
 
 abbrev pub code_size : ℤ → Option ℕ
 code_size z = option_and_then (λ n. if nat_le n MOST_CODE then Some n else None) (natural z)

@@ -1,5 +1,6 @@
 -- What the kept sizes of pinned objects say of a row.
 use Rattle.std.specs.Prelude.{ℕ, ◌+◌, ◌==◌, ◌||◌, Bool, false, if◌then◌else◌, Option, Some, None, slice_index_or}
+use Rattle.long_names.specs.declared.limits.TheConstants.{ENTRIES_OF_A_CALL}
 use Rattle.bounded_memory.specs.declared.pins.Pin.{Pin}
 use Rattle.bounded_memory.specs.declared.pins.Pins.{Pins}
 
@@ -37,7 +38,7 @@ words_with pins object words =
 -- the entries of a call and of the distinct pinned objects
 abbrev pub entries_with : Pins → ℕ
 entries_with pins =
-    51
+    ENTRIES_OF_A_CALL
     + entries_unless (pin_at pins 0) false
     + entries_unless (pin_at pins 1) (is_same_pin (pin_at pins 0) (pin_at pins 1))
     + entries_unless (pin_at pins 2) (is_same_pin (pin_at pins 0) (pin_at pins 2) || is_same_pin (pin_at pins 1) (pin_at pins 2))

@@ -71,8 +71,8 @@ impl BoundedMemory {
         objects: u32,
     ) -> BoundedMemory
         requires slots { (plain_told memory).slots ≡ (λ i. None) }
-        requires room { room < 4294967295 }
-        requires objects { objects < 4294967295 }
+        requires room { room < LAST_NAME + 1 }
+        requires objects { objects < LAST_NAME + 1 }
         ensures told { bounded_told result ≡ over (plain_told memory) 0 None (record { core = core; entries = entries; room = room; base = Some objects; made = 0; work_faults = 0; said_faults = 0 }) }
         ensures ready { IsReady (plain_told memory) → IsReady (bounded_told result) }
         ensures sound { IsSound result }

@@ -1,6 +1,7 @@
 // The bounds of a memory.
 ghost use Rattle.std.specs.Prelude.{◌≡◌, ◌+◌, ◌<◌, ◌≤◌, Some};
 ghost use Rattle.long_names.specs.Counting.{counted};
+ghost use Rattle.long_names.specs.declared.limits.TheConstants.{LAST_NAME};
 
 /// The words and entries of the core, the objects for which there is room, how many lived at the last settling, how many were made
 /// since then, and how often a call on Work failed.
@@ -12,16 +13,16 @@ pub(crate) struct Limits {
     base: u32,
     made: u32,
     work_faults: u64,
-    ghost counted_up: { base + made < 4294967295 },
-    ghost roomy: { room < 4294967295 },
+    ghost counted_up: { base + made < LAST_NAME + 1 },
+    ghost roomy: { room < LAST_NAME + 1 },
 }
 
 impl Limits {
     ghost use Rattle.bounded_memory.specs.Limits.{bounds_of};
 
     pub(crate) fn new(core: u32, entries: u32, room: u32, objects: u32) -> Limits
-        requires room { room < 4294967295 }
-        requires objects { objects < 4294967295 }
+        requires room { room < LAST_NAME + 1 }
+        requires objects { objects < LAST_NAME + 1 }
         ensures { bounds_of result ≡ (record { core = core; entries = entries; room = room; base = Some objects; made = 0; work_faults = 0; said_faults = 0 }) }
     {
         Limits {
@@ -51,7 +52,7 @@ impl Limits {
 
     /// Counts anew from here, where so many objects live.
     pub(crate) fn settle(&mut self, objects: u32)
-        requires { objects < 4294967295 }
+        requires { objects < LAST_NAME + 1 }
         ensures { bounds_of self.new ≡ record (bounds_of self.old) { base = Some objects; made = 0 } }
     {
         self.base = objects;

@@ -1,7 +1,9 @@
 // The sizes of pinned objects.
-ghost use Rattle.std.specs.Prelude.{◌≡◌, ◌<◌, ◌≤◌, ◌==◌, if◌then◌else◌, None, length};
+ghost use Rattle.std.specs.Prelude.{◌≡◌, ◌+◌, ◌<◌, ◌≤◌, ◌==◌, if◌then◌else◌, None, length};
+ghost use Rattle.long_names.specs.declared.limits.TheConstants.{MOST_FIELDS};
 
 use crate::size::Size;
+use long_names::ENTRIES_OF_A_CALL;
 use object_memory::Need;
 
 /// A pinned object: its name and its size.
@@ -35,7 +37,7 @@ impl Pin {
     /// Its words, unless they are counted already.
     fn words_unless(pin: &Option<Pin>, counted: bool) -> u32
         ensures value { result ≡ words_unless pin.now counted }
-        ensures bound { result ≤ 65539 }
+        ensures bound { result ≤ MOST_FIELDS + 4 }
     {
         match pin {
             Some(pin) if !counted => pin.size.words,
@@ -46,7 +48,7 @@ impl Pin {
     /// Its entries, unless they are counted already.
     fn entries_unless(pin: &Option<Pin>, counted: bool) -> u32
         ensures value { result ≡ entries_unless pin.now counted }
-        ensures bound { result ≤ 65537 }
+        ensures bound { result ≤ MOST_FIELDS + 2 }
     {
         match pin {
             Some(pin) if !counted => pin.size.entries,
@@ -81,7 +83,7 @@ impl Pins {
 
     /// What an object of so many words needs of a core, with the pinned objects beside it.
     pub(crate) fn need(&self, object: u32, words: u32) -> Need
-        requires { words ≤ 65539 }
+        requires { words ≤ MOST_FIELDS + 4 }
         ensures { result ≡ (record { object = object; words = words_with self.now object words; entries = entries_with self.now }) }
     {
         Need {
@@ -93,7 +95,7 @@ impl Pins {
 
     /// The words of the object and of the distinct pinned objects.
     fn words(&self, object: u32, words: u32) -> u32
-        requires { words ≤ 65539 }
+        requires { words ≤ MOST_FIELDS + 4 }
         ensures { result ≡ words_with self.now object words }
     {
         let first = &self.slots[0];
@@ -116,7 +118,8 @@ impl Pins {
         let first = &self.slots[0];
         let second = &self.slots[1];
         let third = &self.slots[2];
-        51 + Pin::entries_unless(first, false)
+        ENTRIES_OF_A_CALL
+            + Pin::entries_unless(first, false)
             + Pin::entries_unless(second, Pin::is_same(first, second))
             + Pin::entries_unless(
                 third,

@@ -1,5 +1,6 @@
 // The sizes of objects in a core.
-ghost use Rattle.std.specs.Prelude.{◌≡◌, ◌<◌, ◌≤◌};
+ghost use Rattle.std.specs.Prelude.{◌≡◌, ◌+◌, ◌<◌, ◌≤◌};
+ghost use Rattle.long_names.specs.declared.limits.TheConstants.{MOST_FIELDS, MOST_LITERALS};
 ghost use Rattle.bounded_memory.specs.Sizes.{words_for, entries_for};
 
 use long_names::Kind;
@@ -10,15 +11,15 @@ use long_names::Kind;
 pub(crate) struct Size {
     pub(crate) words: u32,
     pub(crate) entries: u32,
-    ghost few_words: { words ≤ 65539 },
-    ghost few_entries: { entries ≤ 65537 },
+    ghost few_words: { words ≤ MOST_FIELDS + 4 },
+    ghost few_entries: { entries ≤ MOST_FIELDS + 2 },
 }
 
 impl Size {
     /// The size of an object of this kind and length. Only of a method do the literals count.
     pub(crate) fn new(kind: Kind, len: u32, literals: u32) -> Size
-        requires len { len < 65536 }
-        requires literals { literals < 64 }
+        requires len { len < MOST_FIELDS + 1 }
+        requires literals { literals < MOST_LITERALS + 1 }
         ensures words { result.words ≡ words_for kind len literals }
         ensures entries { result.entries ≡ entries_for kind len literals }
     {

@@ -1,18 +1,19 @@
 -- What a builder keeps at every moment.
-use Rattle.std.specs.Prelude.{◌≡◌, ℕ, ◌<◌, length, Some}
+use Rattle.std.specs.Prelude.{◌≡◌, ℕ, ◌+◌, ◌<◌, length, Some}
 use Rattle.std.specs.Ordering.{nat_cmp}
 use Rattle.std.specs.BTreeMap.{BTreeMap, get, keys, IsOrdered}
 use Rattle.std.specs.Coded.{Π_prop, Unit-prop, le_prop}
 use Rattle.std.proofs.lemmas.Map.Keys.{IsStrictlySortedBy-prop}
+use Rattle.long_names.specs.declared.limits.TheConstants.{MOST_FIELDS}
 use Rattle.long_names.specs.declared.object.Body.{Body}
 use Rattle.long_names.specs.declared.object.Body.TheVariants.{Pointers, Words, Bytes, Method}
 use Rattle.long_names.specs.declared.object.Object.{Object}
 
 -- an object of pointers, words or bytes has at most 65,535 of them; what a method has is judged
 abbrev pub Fits : Body → Type 0
-Fits (Pointers values) = length values < 65536
-Fits (Words words) = length words < 65536
-Fits (Bytes bytes) = length bytes < 65536
+Fits (Pointers values) = length values < MOST_FIELDS + 1
+Fits (Words words) = length words < MOST_FIELDS + 1
+Fits (Bytes bytes) = length bytes < MOST_FIELDS + 1
 Fits (Method header literals code) = Unit {0}
 
 Fits-prop : (body : Body) → IsProp (Fits body)

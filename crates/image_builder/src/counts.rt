@@ -3,6 +3,7 @@ ghost use Rattle.std.specs.Prelude.{◌≡◌, ◌+◌, ◌<◌, ◌^◌, ◌==�
 ghost use Rattle.std.specs.Ordering.{nat_cmp};
 ghost use Rattle.std.specs.BTreeMap.{get};
 ghost use Rattle.std.specs.Map.{count_at};
+ghost use Rattle.long_names.specs.declared.limits.TheConstants.{MOST_FIELDS};
 
 use long_names::{Body, Name, Object, Value, Values};
 use std::alloc::{AllocError, Global};
@@ -63,7 +64,7 @@ impl Counts {
 
     /// Counts the words of an object: its class word, and its fields.
     pub(crate) fn add_object(&mut self, object: &Object) -> Result<(), AllocError>
-        requires room { (q : ℕ) → count_in self.old q + 65536 < 2 ^ 64 }
+        requires room { (q : ℕ) → count_in self.old q + (MOST_FIELDS + 1) < 2 ^ 64 }
         requires body { IsBody object.now.body }
         ensures { OnOk result ((q : ℕ) → count_in self.new q ≡ count_in self.old q + holdings object.now q) }
     {

@@ -1,6 +1,7 @@
 -- What a core has to hold for an access.
 use Rattle.std.specs.Prelude.{ℕ, ◌+◌, ◌≤◌, ◌==◌, ◌||◌, Bool, false, if◌then◌else◌, length, Option, Some, None}
 use Rattle.std.specs.Option.{option_map_or}
+use Rattle.long_names.specs.declared.limits.TheConstants.{ENTRIES_OF_A_CALL}
 use Rattle.long_names.specs.declared.value.Value.{Value}
 use Rattle.long_names.specs.declared.value.Value.TheVariants.{Int, Ref}
 use Rattle.long_names.specs.declared.object.Object.{Object}
@@ -40,11 +41,10 @@ words_of_row h r =
     + added (words_at h) (λ k. (k == r.object) || is_pinned k (r.slots 0)) (r.slots 1)
     + added (words_at h) (λ k. (k == r.object) || (is_pinned k (r.slots 0) || is_pinned k (r.slots 1))) (r.slots 2)
 
--- Entries: 24 for registers, 2 for the object and its class, 25 for what a call holds on its way, and for each distinct pinned
--- object 2 and its fields.
+-- Entries: those of a call, and for each distinct pinned object 2 and its fields.
 unfoldable pub entries_of_row : Heap → Row → ℕ
 entries_of_row h r =
-    51
+    ENTRIES_OF_A_CALL
     + added (entries_at h) (λ k. false) (r.slots 0)
     + added (entries_at h) (λ k. is_pinned k (r.slots 0)) (r.slots 1)
     + added (entries_at h) (λ k. is_pinned k (r.slots 0) || is_pinned k (r.slots 1)) (r.slots 2)

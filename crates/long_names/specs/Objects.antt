@@ -11,7 +11,7 @@ use Rattle.long_names.specs.declared.object.Body.{Body}
 use Rattle.long_names.specs.declared.object.Body.TheVariants.{Pointers, Words, Bytes, Method}
 use Rattle.long_names.specs.declared.object.Object.{Object}
 use Rattle.long_names.specs.declared.object.Rec.{Rec}
-pub use Rattle.long_names.specs.declared.limits.TheConstants.{MOST_CODE}
+pub use Rattle.long_names.specs.declared.limits.TheConstants.{MOST_CODE, MOST_FIELDS}
 
 -- ---- values
 
@@ -56,9 +56,9 @@ fields_of (Method header literals code) = literals
 
 -- an object of pointers has at most 65,535 values, one of words or bytes as many; a method has as many literals as its header says, and at most 16,000 bytes of code
 abbrev pub HasSize : Body → Type 0
-HasSize (Pointers values) = length values < 65536
-HasSize (Words words) = length words < 65536
-HasSize (Bytes bytes) = length bytes < 65536
+HasSize (Pointers values) = length values < MOST_FIELDS + 1
+HasSize (Words words) = length words < MOST_FIELDS + 1
+HasSize (Bytes bytes) = length bytes < MOST_FIELDS + 1
 HasSize (Method header literals code) = IsSmallInteger header × (length literals ≡ literal_count header) × (length code ≤ MOST_CODE)
 
 -- words have 16 bits, and bytes 8
@@ -173,9 +173,9 @@ body_made (OfMethod header code) = Method header (replicate (literal_count heade
 
 -- the sizes of objects
 abbrev pub CanMake : Making → Type 0
-CanMake (OfPointers size) = size < 65536
-CanMake (OfWords size) = size < 65536
-CanMake (OfBytes size) = size < 65536
+CanMake (OfPointers size) = size < MOST_FIELDS + 1
+CanMake (OfWords size) = size < MOST_FIELDS + 1
+CanMake (OfBytes size) = size < MOST_FIELDS + 1
 CanMake (OfMethod header code) = IsSmallInteger header × (code ≤ MOST_CODE)
 
 -- ---- sizes, and what an object holds

@@ -6,6 +6,7 @@ ghost use Rattle.object_memory.specs.Shape.{Looks};
 ghost use Rattle.object_memory.specs.Caller.{IsBumped};
 
 use crate::{MemFault, ObjectMemory, Reg, shape};
+use long_names::SMALL_INTEGERS;
 
 /// The next SmallInteger.
 fn next_number(number: i16) -> Option<i16>
@@ -13,7 +14,7 @@ fn next_number(number: i16) -> Option<i16>
     ensures next { IfSome result (λ n. n ≡ number +ℤ pos 1) }
     ensures range { IfSome result IsSmallInteger }
 {
-    if number == 16383 {
+    if number == SMALL_INTEGERS as i16 - 1 {
         None
     } else {
         Some(number + 1)

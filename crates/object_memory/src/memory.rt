@@ -1,5 +1,5 @@
 // The trait of an object memory (chapter 30 of the Blue Book, the object memory interface; the LOOM paper).
-ghost use Rattle.std.specs.Prelude.{◌≡◌, ◌/◌, ◌<◌, ◌↔◌, ℕ};
+ghost use Rattle.std.specs.Prelude.{◌≡◌, ◌/◌, ◌+◌, ◌<◌, ◌↔◌, ℕ};
 
 use crate::fault::MemFault;
 use crate::reg::Reg;
@@ -11,6 +11,7 @@ pub trait ObjectMemory {
     ghost use Rattle.std.specs.Prelude.{MatchBool, IfOk, IfSome, IsSome, OnOk, IsTrue, true, Some, None, Ok, length};
     ghost use Rattle.long_names.specs.Names.{SMALL_INTEGER};
     ghost use Rattle.long_names.specs.Words.{IsSmallInteger, literal_count};
+    ghost use Rattle.long_names.specs.declared.limits.TheConstants.{MOST_FIELDS};
     ghost use Rattle.long_names.specs.Objects.{is_ref, int_of, fields_of, OfPointers, OfWords, OfBytes, OfMethod};
     ghost use Rattle.long_names.specs.Access.{Known, Class, KindOf, Length, Header, Field, SetField, Word, SetWord, Byte, SetByte, ReadWords, WriteWords, ReadBytes, Make, Pin, Mark, Say, Swap, Nothing, OfKind, OfNumber, OfSigned, OfRun};
     ghost use Rattle.long_names.specs.State.{set_register, set_slot, name_at, part_at, IsRef};
@@ -104,7 +105,7 @@ pub trait ObjectMemory {
         requires fit { MayCall sound told self.old }
         requires may { MayDo (told self.old) (Length of) }
         ensures access { Accessed (told self.old) (told self.new) (Length of) OfNumber result }
-        ensures bound { IfOk result (λ n. n < 65536) }
+        ensures bound { IfOk result (λ n. n < MOST_FIELDS + 1) }
         ensures fit { StaysCallable sound told lender outside self.old self.new result };
 
     /// A method's header. The method has as many literals as it says.

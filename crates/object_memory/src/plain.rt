@@ -6,7 +6,7 @@ ghost use Rattle.long_names.specs.Words.{IsSmallInteger, literal_count};
 ghost use Rattle.long_names.specs.Heap.{Has, add_object, object_count};
 ghost use Rattle.long_names.specs.Kept.{kept, no_roots};
 ghost use Rattle.long_names.specs.Names.{IsLongName};
-ghost use Rattle.long_names.specs.declared.limits.TheConstants.{LAST_NAME};
+ghost use Rattle.long_names.specs.declared.limits.TheConstants.{LAST_NAME, MOST_FIELDS};
 ghost use Rattle.long_names.specs.State.{object_at, class_at, part_at, name_at, set_register, IsRef};
 ghost use Rattle.long_names.specs.declared.value.Value.TheVariants.{Ref};
 ghost use Rattle.long_names.specs.declared.object.Object.{Object};
@@ -118,7 +118,7 @@ impl PlainMemory {
     /// How many objects are kept with the registers and slots as roots.
     pub fn kept_count(&self) -> Result<u32, AllocError>
         ensures kept { IfOk result (λ n. n ≡ object_count (kept (plain_told self.now).heap (is_root (plain_told self.now)))) }
-        ensures below { IfOk result (λ n. n < 4294967295) }
+        ensures below { IfOk result (λ n. n < LAST_NAME + 1) }
     {
         let mut roots = Counts::new(self.alloc);
         self.registers.count(&mut roots)?;
@@ -264,7 +264,7 @@ impl ObjectMemory for PlainMemory {
         requires fit { IsPlainFit self.old }
         requires may { MayDo (plain_told self.old) (Length of) }
         ensures access { Accessed (plain_told self.old) (plain_told self.new) (Length of) OfNumber result }
-        ensures bound { IfOk result (λ n. n < 65536) }
+        ensures bound { IfOk result (λ n. n < MOST_FIELDS + 1) }
         ensures fit { StaysPlainFit self.old self.new result }
         ensures answered { IsOk result }
         ensures kept { plain_told self.new ≡ plain_told self.old }

@@ -1,6 +1,7 @@
 // Calls that ask what object a register names. They only read: each is, put together, a call that asks for the kind of that object,
 // answered or refused.
 ghost use Rattle.std.specs.Prelude.{◌≡◌, ◌↔◌, ◌+◌, ◌<◌, ◌≤◌, IsTrue, IsSome, IfOk, IfSome, Some, length};
+ghost use Rattle.long_names.specs.declared.limits.TheConstants.{MOST_FIELDS, MOST_LITERALS};
 ghost use Rattle.long_names.specs.Objects.{kind_of, pointers_of, literals_of, words_of, bytes_of, text_of};
 ghost use Rattle.long_names.specs.State.{IsRef};
 ghost use Rattle.object_memory.specs.Calls.{IsFit, KeepsFit};
@@ -54,7 +55,7 @@ pub fn shape<M: ObjectMemory>(m: &mut M, of: Reg) -> Result<Option<(Kind, u32)>,
     ensures read { ReadsObject (M.told m.old) (M.told m.new) of result }
     ensures named { IfOk result (λ shape. IsSome shape ↔ IsRef ((M.told m.old).regs of)) }
     ensures shape { IfOk result (FindsPart (M.told m.old) (M.told m.new) of shape_of) }
-    ensures bound { IfOk result (λ shape. IfSome shape (λ s. s.1 < 65536)) }
+    ensures bound { IfOk result (λ shape. IfSome shape (λ s. s.1 < MOST_FIELDS + 1)) }
     ensures fit { KeepsFit M.ObjectMemory m.old m.new result }
 {
     let Some(kind) = kind_of(m, of)? else {
@@ -99,7 +100,7 @@ pub fn fields<M: ObjectMemory>(m: &mut M, of: Reg) -> Result<Option<u32>, MemFau
     requires fit { IsFit M.ObjectMemory m.old }
     ensures read { ReadsObject (M.told m.old) (M.told m.new) of result }
     ensures fields { IfOk result (FindsPart (M.told m.old) (M.told m.new) of field_count) }
-    ensures bound { IfOk result (λ len. IfSome len (λ n. n < 65536)) }
+    ensures bound { IfOk result (λ len. IfSome len (λ n. n < MOST_FIELDS + 1)) }
     ensures fit { KeepsFit M.ObjectMemory m.old m.new result }
 {
     let Some((kind, len)) = shape(m, of)? else {
@@ -113,7 +114,7 @@ pub fn words<M: ObjectMemory>(m: &mut M, of: Reg) -> Result<Option<u32>, MemFaul
     requires fit { IsFit M.ObjectMemory m.old }
     ensures read { ReadsObject (M.told m.old) (M.told m.new) of result }
     ensures words { IfOk result (FindsPart (M.told m.old) (M.told m.new) of word_count) }
-    ensures bound { IfOk result (λ len. IfSome len (λ n. n < 65536)) }
+    ensures bound { IfOk result (λ len. IfSome len (λ n. n < MOST_FIELDS + 1)) }
     ensures fit { KeepsFit M.ObjectMemory m.old m.new result }
 {
     let Some((kind, len)) = shape(m, of)? else {
@@ -127,7 +128,7 @@ pub fn bytes<M: ObjectMemory>(m: &mut M, of: Reg) -> Result<Option<u32>, MemFaul
     requires fit { IsFit M.ObjectMemory m.old }
     ensures read { ReadsObject (M.told m.old) (M.told m.new) of result }
     ensures bytes { IfOk result (FindsPart (M.told m.old) (M.told m.new) of byte_count) }
-    ensures bound { IfOk result (λ len. IfSome len (λ n. n < 65536)) }
+    ensures bound { IfOk result (λ len. IfSome len (λ n. n < MOST_FIELDS + 1)) }
     ensures fit { KeepsFit M.ObjectMemory m.old m.new result }
 {
     let Some((kind, len)) = shape(m, of)? else {
@@ -141,7 +142,7 @@ pub fn literals<M: ObjectMemory>(m: &mut M, of: Reg) -> Result<Option<u32>, MemF
     requires fit { IsFit M.ObjectMemory m.old }
     ensures read { ReadsObject (M.told m.old) (M.told m.new) of result }
     ensures literals { IfOk result (FindsPart (M.told m.old) (M.told m.new) of literals_count) }
-    ensures bound { IfOk result (λ len. IfSome len (λ n. n < 64)) }
+    ensures bound { IfOk result (λ len. IfSome len (λ n. n < MOST_LITERALS + 1)) }
     ensures fit { KeepsFit M.ObjectMemory m.old m.new result }
 {
     let kind = kind_of(m, of)?;

@@ -1,5 +1,6 @@
 // Messages whose methods have a primitive.
-ghost use Rattle.std.specs.Prelude.{◌<◌, ◌≤◌, length};
+ghost use Rattle.std.specs.Prelude.{◌+◌, ◌<◌, ◌≤◌, length};
+ghost use Rattle.long_names.specs.declared.limits.TheConstants.{MOST_FIELDS};
 
 use crate::notation::{Header, NIL, add_bytes, add_method, name};
 use image_builder::Builder;
@@ -34,7 +35,7 @@ impl Message {
         method: Name,
     ) -> Result<(), AllocError>
         requires arguments { self.now.arguments ≤ 4 }
-        requires text { length self.now.selector.now < 65536 }
+        requires text { length self.now.selector.now < MOST_FIELDS + 1 }
     {
         add_bytes(
             alloc,

@@ -1,5 +1,6 @@
 // Objects as they are added to a builder.
-ghost use Rattle.std.specs.Prelude.{◌≡◌, ◌<◌, ◌==◌, ℕ, length, OnOk, OnErr, Some, if◌then◌else◌};
+ghost use Rattle.std.specs.Prelude.{◌≡◌, ◌+◌, ◌<◌, ◌==◌, ℕ, length, OnOk, OnErr, Some, if◌then◌else◌};
+ghost use Rattle.long_names.specs.declared.limits.TheConstants.{MOST_FIELDS};
 ghost use Rattle.long_names.specs.Names.{IsLongName, COMPILED_METHOD};
 ghost use Rattle.long_names.specs.declared.object.Body.TheVariants.{Pointers, Words, Bytes, Method};
 ghost use Rattle.image_builder.specs.Builder.{objects_of, object_at};
@@ -40,7 +41,7 @@ pub fn add_pointers(
     class: Name,
     fields: &[Value],
 ) -> Result<(), AllocError>
-    requires { length fields.now < 65536 }
+    requires { length fields.now < MOST_FIELDS + 1 }
     ensures ok { OnOk result ((n : ℕ) → object_at builder.new n ≡ (if n == name then Some record { class = class; body = Pointers fields.now } else object_at builder.old n)) }
     ensures err { OnErr result (objects_of builder.new ≡ objects_of builder.old) }
 {
@@ -56,7 +57,7 @@ pub fn add_words(
     class: Name,
     words: &[u16],
 ) -> Result<(), AllocError>
-    requires { length words.now < 65536 }
+    requires { length words.now < MOST_FIELDS + 1 }
     ensures ok { OnOk result ((n : ℕ) → object_at builder.new n ≡ (if n == name then Some record { class = class; body = Words words.now } else object_at builder.old n)) }
     ensures err { OnErr result (objects_of builder.new ≡ objects_of builder.old) }
 {
@@ -72,7 +73,7 @@ pub fn add_bytes(
     class: Name,
     bytes: &[u8],
 ) -> Result<(), AllocError>
-    requires { length bytes.now < 65536 }
+    requires { length bytes.now < MOST_FIELDS + 1 }
     ensures ok { OnOk result ((n : ℕ) → object_at builder.new n ≡ (if n == name then Some record { class = class; body = Bytes bytes.now } else object_at builder.old n)) }
     ensures err { OnErr result (objects_of builder.new ≡ objects_of builder.old) }
 {

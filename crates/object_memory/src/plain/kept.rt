@@ -1,5 +1,6 @@
 // Kept objects: what reference counting leaves in the end (chapter 30 of the Blue Book).
 ghost use Rattle.std.specs.Prelude.{◌≡◌, ◌+◌, ◌<◌, ◌≤◌, ◌^◌, ◌==◌, if◌then◌else◌, ℕ, [], ◌∷◌, ◌++◌, nat_lt, All, OnOk, IfOk, is_some, count_by, length};
+ghost use Rattle.long_names.specs.declared.limits.TheConstants.{MOST_FIELDS};
 ghost use Rattle.long_names.specs.Objects.{is_ref, holdings, IsObject, IsRecord};
 ghost use Rattle.long_names.specs.Heap.{count_of, without};
 ghost use Rattle.long_names.specs.Kept.{kept};
@@ -28,7 +29,7 @@ fn count_values(counts: &mut Counts, values: &Values) -> Result<(), AllocError>
 
 /// Counts the words of an object: its class word, and its fields.
 fn count_object(counts: &mut Counts, object: &Object) -> Result<(), AllocError>
-    requires room { (q : ℕ) → count_in counts.old q + 65536 < 2 ^ 64 }
+    requires room { (q : ℕ) → count_in counts.old q + (MOST_FIELDS + 1) < 2 ^ 64 }
     requires object { IsObject object.now }
     ensures { OnOk result ((q : ℕ) → count_in counts.new q ≡ count_in counts.old q + holdings object.now q) }
 {
@@ -42,7 +43,7 @@ fn count_object(counts: &mut Counts, object: &Object) -> Result<(), AllocError>
 
 /// Counts the words of all objects.
 fn count_words(counts: &mut Counts, heap: &Objects) -> Result<(), AllocError>
-    requires { (q : ℕ) → count_in counts.old q < 65536 }
+    requires { (q : ℕ) → count_in counts.old q < 2 ^ 16 }
     ensures { OnOk result ((q : ℕ) → count_in counts.new q ≡ count_in counts.old q + count_of (heap_of heap.now) q) }
 {
     for (_, object) in &heap.objects {
@@ -101,7 +102,7 @@ fn count_down_object(
     requires counted { (q : ℕ) → holdings object.now q ≤ count_in counts.old q }
     requires object { IsObject object.now }
     ensures { OnOk result
-        (CountsDown (holdings object.now) 65536 counts.old dead.old.items counts.new dead.new.items) }
+        (CountsDown (holdings object.now) (MOST_FIELDS + 1) counts.old dead.old.items counts.new dead.new.items) }
 {
     count_down(counts, dead, object.class)?;
     match &object.body {
@@ -123,7 +124,7 @@ fn free(
         ((outside : ℕ → ℕ) → IsFreeing outside (heap_of heap.old) counts.old (dead.old.items ++ name ∷ []) → IsFreeing outside (heap_of heap.new) counts.new dead.new.items) }
     ensures heap { OnOk result (heap_of heap.new ≡ without (heap_of heap.old) name) }
     ensures short { OnOk result
-        (length dead.new.items ≤ length dead.old.items + (if is_some ((heap_of heap.old).at name) then 65536 else 0)) }
+        (length dead.new.items ≤ length dead.old.items + (if is_some ((heap_of heap.old).at name) then MOST_FIELDS + 1 else 0)) }
 {
     let Some(object) = heap.remove(name) else {
         return Ok(());
@@ -139,7 +140,7 @@ pub(crate) fn keep(
     heap: &mut Objects,
     mut counts: Counts,
 ) -> Result<Counts, AllocError>
-    requires { (q : ℕ) → count_in counts q < 65536 }
+    requires { (q : ℕ) → count_in counts q < 2 ^ 16 }
     ensures kept { OnOk result (heap_of heap.new ≡ kept (heap_of heap.old) (λ q. nat_lt 0 (count_in counts q))) }
     ensures counts { IfOk result (λ now. (q : ℕ) → count_in now q ≡ count_in counts q + count_of (heap_of heap.new) q) }
 {

@@ -1,9 +1,9 @@
 // The slots for pinned objects.
-ghost use Rattle.std.specs.Prelude.{◌≡◌, ◌<◌, ◌≤◌, ◌||◌, ℕ, nat_lt, None, OnOk};
+ghost use Rattle.std.specs.Prelude.{◌≡◌, ◌+◌, ◌<◌, ◌≤◌, ◌||◌, ℕ, nat_lt, None, OnOk};
 ghost use Rattle.long_names.specs.Kept.{any_below};
 ghost use Rattle.long_names.specs.Need.{is_pinned};
 ghost use Rattle.object_memory.specs.Counts.{count_in};
-ghost use Rattle.long_names.specs.State.{set_slot};
+ghost use Rattle.long_names.specs.State.{REGISTERS, SLOTS, set_slot};
 ghost use Rattle.object_memory.specs.Plain.{names_of};
 ghost use Rattle.object_memory.specs.Told.{has_slot};
 
@@ -53,9 +53,9 @@ impl Slots {
 
     /// Counts the names in them, beside those of the registers.
     pub(crate) fn count(&self, counts: &mut Counts) -> Result<(), AllocError>
-        requires { (q : ℕ) → count_in counts.old q ≤ 24 }
+        requires { (q : ℕ) → count_in counts.old q ≤ REGISTERS }
         ensures roots { OnOk result ((q : ℕ) → nat_lt 0 (count_in counts.new q) ≡ (nat_lt 0 (count_in counts.old q) || any_below 3 (λ i. is_pinned q (names_of self.now i)))) }
-        ensures few { OnOk result ((q : ℕ) → count_in counts.new q ≤ 27) }
+        ensures few { OnOk result ((q : ℕ) → count_in counts.new q ≤ REGISTERS + SLOTS) }
     {
         for i in 0..3 {
             counts.add_some(self.names[i])?;
