@@ -1,6 +1,7 @@
 -- What a transfer makes of a destination's words, by pixels.
 use Rattle.std.specs.Prelude.{ℕ, Bool, true, false, ◌≡◌, ◌+◌, ◌-◌, ◌*◌, ◌/◌, ◌%◌, ◌<◌, ◌≤◌, ◌&&◌, ◌||◌, List, Option, Some, None, length, map, min, slice_index, nat_lt, if◌then◌else◌}
 use Rattle.std.specs.List.{range_with_len}
+use Rattle.long_names.specs.declared.limits.TheConstants.{MOST_FIELDS}
 use Rattle.long_names.specs.Kept.{any_below}
 use Rattle.blue_model.specs.declared.limits.TheConstants.{COMBINATION_RULES}
 use Rattle.blue_model.specs.Forms.{bit, number_of}
@@ -52,7 +53,7 @@ words_after t source halftone words = map (word_after t source halftone words) (
 -- the source's rows and columns that are read lie in its words
 pub record HasSource (t : Transfer) : Type 0 where
   pub wide : t.source_left + (t.right - t.left) ≤ 16 * t.source_stride
-  pub tall : t.source_stride * (t.source_top + (t.bottom - t.top)) ≤ 65535
+  pub tall : t.source_stride * (t.source_top + (t.bottom - t.top)) ≤ MOST_FIELDS
   pub narrow : t.source_stride ≤ 1024
 
 -- the changed pixels lie within both forms, and there are some
@@ -61,7 +62,7 @@ pub record Fits (t : Transfer) : Type 0 where
   pub columns : t.left < t.right
   pub rows : t.top ≤ t.bottom
   pub wide : t.right ≤ 16 * t.stride
-  pub tall : t.stride * t.bottom ≤ 65535
+  pub tall : t.stride * t.bottom ≤ MOST_FIELDS
   pub narrow : t.stride ≤ 1024
   pub source : t.has_source ≡ true → HasSource t
 

@@ -3,11 +3,11 @@ ghost use Rattle.std.specs.Prelude.{◌≡◌, ◌≤◌, List, Ok, OnOk};
 ghost use Rattle.object_memory.specs.Told.{IsReady};
 ghost use Rattle.blue_model.specs.declared.event.Line.{Line};
 ghost use Rattle.blue_model.specs.declared.step.Step.TheVariants.{Next};
-ghost use Rattle.blue_model.specs.Bytecodes.{bytecode as bytecode_rule};
-ghost use Rattle.blue_model.specs.Cycle.{step as step_rule, is_message};
+ghost use Rattle.blue_model.specs.Bytecodes as model;
+ghost use Rattle.blue_model.specs.Cycle as cycle;
 ghost use Rattle.contexts.specs.Serves.{Serves, Speaks, StaysSound, HasRest};
 ghost use Rattle.blue_model.specs.declared.cpu.Cpu.{Cpu as Numbers};
-ghost use Rattle.blue_model.specs.Machine.{clear as clear_rule};
+ghost use Rattle.blue_model.specs.Machine as machine;
 ghost use Rattle.bytecodes.specs.Steps.{next_by};
 ghost use Rattle.object_memory.specs.Calls.{IsFit};
 ghost use Rattle.contexts.specs.Calls.{StaysFit};
@@ -48,7 +48,7 @@ pub(crate) fn bytecode<M: ObjectMemory>(
     byte: u8,
 ) -> Result<Step, Stop>
     requires fit { IsFit M.ObjectMemory m.old }
-    ensures serves { Speaks Next (M.told m.old) cpu.old (M.told m.new) cpu.new (bytecode_rule events.now byte) result }
+    ensures serves { Speaks Next (M.told m.old) cpu.old (M.told m.new) cpu.new (model.bytecode events.now byte) result }
     ensures keeps { StepsBy cpu.old.vault result }
     ensures fit { StaysFit M.ObjectMemory m.old m.new result }
 {
@@ -170,7 +170,7 @@ pub(crate) fn bytecode<M: ObjectMemory>(
 /// No message is left in its registers, and no value in a scratch register.
 fn rest<M: ObjectMemory>(m: &mut M)
     requires fit { IsFit M.ObjectMemory m.old }
-    ensures serves { (cpu : Numbers) → Serves (M.told m.old) cpu (M.told m.new) cpu (clear_rule is_message) (Ok tt) }
+    ensures serves { (cpu : Numbers) → Serves (M.told m.old) cpu (M.told m.new) cpu (machine.clear cycle.is_message) (Ok tt) }
     ensures rest { HasRest (M.told m.new) }
     ensures fit { StaysFit M.ObjectMemory m.old m.new (Ok result) }
 {
@@ -182,7 +182,7 @@ fn rest<M: ObjectMemory>(m: &mut M)
 /// It ends with Keep only where a checkpoint may be made.
 pub fn step<M: ObjectMemory>(m: &mut M, cpu: &mut Cpu, events: &EventList) -> Result<Step, Stop>
     requires fit { IsFit M.ObjectMemory m.old }
-    ensures serves { Speaks Next (M.told m.old) cpu.old (M.told m.new) cpu.new (step_rule events.now) result }
+    ensures serves { Speaks Next (M.told m.old) cpu.old (M.told m.new) cpu.new (cycle.step events.now) result }
     ensures rest { OnOk result (HasRest (M.told m.new)) }
     ensures keeps { StepsBy cpu.old.vault result }
     ensures fit { StaysFit M.ObjectMemory m.old m.new result }

@@ -6,7 +6,7 @@ ghost use Rattle.object_memory.specs.Told.{IsReady};
 ghost use Rattle.blue_model.specs.declared.answer.Answer.TheVariants.{Done};
 ghost use Rattle.blue_model.specs.declared.step.Step.TheVariants.{Next};
 ghost use Rattle.blue_model.specs.Messages.{primitive_of};
-ghost use Rattle.blue_model.specs.Primitives.{is_perform as is_perform_rule};
+ghost use Rattle.blue_model.specs.Primitives as primitives;
 ghost use Rattle.blue_model.specs.Sends as model;
 ghost use Rattle.bytecodes.specs.Steps.{activation};
 ghost use Rattle.contexts.specs.Serves.{Serves, Speaks, StaysSound};
@@ -48,7 +48,7 @@ fn primitive(extension: i16) -> u8
 
 /// Whether nothing is tried: primitive 0 is none, and a perform isn't tried of a method that a perform found.
 fn is_none(index: u8, performed: bool) -> bool
-    ensures { result ≡ ((index == 0) || (performed && is_perform_rule index)) }
+    ensures { result ≡ ((index == 0) || (performed && primitives.is_perform index)) }
 {
     index == 0 || (performed && is_perform(index))
 }

@@ -3,7 +3,7 @@ ghost use Rattle.std.specs.Prelude.{◌≡◌, ◌<◌, ◌-ℤ◌, ◌+◌, ◌
 ghost use Rattle.object_memory.specs.Told.{IsReady};
 ghost use Rattle.blue_model.specs.declared.step.Step.TheVariants.{Next};
 ghost use Rattle.blue_model.specs.Bytecodes as model;
-ghost use Rattle.blue_model.specs.Contexts.{jump as jump_rule};
+ghost use Rattle.blue_model.specs.Contexts as contexts;
 ghost use Rattle.contexts.specs.Serves.{Serves, Speaks, StaysSound};
 ghost use Rattle.object_memory.specs.Calls.{IsFit};
 ghost use Rattle.contexts.specs.Calls.{StaysFit};
@@ -69,7 +69,7 @@ pub(crate) fn short_jump<M: ObjectMemory>(
 ) -> Result<(), Stop>
     requires fit { IsFit M.ObjectMemory m.old }
     requires distance { distance < 1024 }
-    ensures serves { Serves (M.told m.old) cpu.old (M.told m.new) cpu.new (jump_rule (pos distance)) result }
+    ensures serves { Serves (M.told m.old) cpu.old (M.told m.new) cpu.new (contexts.jump (pos distance)) result }
     ensures fit { StaysFit M.ObjectMemory m.old m.new result }
 {
     jump(m, cpu, distance as i32)?;

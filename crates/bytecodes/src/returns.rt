@@ -4,9 +4,9 @@ ghost use Rattle.long_names.specs.Names.{is_known};
 ghost use Rattle.object_memory.specs.Told.{IsReady};
 ghost use Rattle.blue_model.specs.declared.step.Step.TheVariants.{Next};
 ghost use Rattle.blue_model.specs.Bytecodes as model;
-ghost use Rattle.blue_model.specs.Contexts.{back_with, pop_top as pop_rule};
+ghost use Rattle.blue_model.specs.Contexts as contexts;
 ghost use Rattle.blue_model.specs.Sends.{return_to};
-ghost use Rattle.blue_model.specs.Machine.{register, known as known_rule};
+ghost use Rattle.blue_model.specs.Machine as machine;
 ghost use Rattle.long_names.specs.State.{RECEIVER};
 ghost use Rattle.contexts.specs.Serves.{Serves, Speaks, StaysSound};
 ghost use Rattle.object_memory.specs.Calls.{IsFit};
@@ -25,7 +25,7 @@ use object_memory::{ObjectMemory, Reg};
 /// Goes back to a context, and pushes a value there. Both stand in the first scratch registers.
 pub(crate) fn back_with<M: ObjectMemory>(m: &mut M, cpu: &mut Cpu) -> Result<(), Stop>
     requires fit { IsFit M.ObjectMemory m.old }
-    ensures serves { Serves (M.told m.old) cpu.old (M.told m.new) cpu.new (back_with ((M.told m.old).regs 11) ((M.told m.old).regs 10)) result }
+    ensures serves { Serves (M.told m.old) cpu.old (M.told m.new) cpu.new (contexts.back_with ((M.told m.old).regs 11) ((M.told m.old).regs 10)) result }
     ensures fit { StaysFit M.ObjectMemory m.old m.new result }
 {
     back(m, cpu, Reg::R11)?;
@@ -78,7 +78,7 @@ pub(crate) fn return_receiver<M: ObjectMemory>(
     events: &EventList,
 ) -> Result<Step, Stop>
     requires fit { IsFit M.ObjectMemory m.old }
-    ensures serves { Speaks Next (M.told m.old) cpu.old (M.told m.new) cpu.new (model.return_of events.now (register RECEIVER)) result }
+    ensures serves { Speaks Next (M.told m.old) cpu.old (M.told m.new) cpu.new (model.return_of events.now (machine.register RECEIVER)) result }
     ensures keeps { StepsBy cpu.old.vault result }
     ensures fit { StaysFit M.ObjectMemory m.old m.new result }
 {
@@ -95,7 +95,7 @@ pub(crate) fn return_known<M: ObjectMemory>(
 ) -> Result<Step, Stop>
     requires fit { IsFit M.ObjectMemory m.old }
     requires name { is_known name ≡ true }
-    ensures serves { Speaks Next (M.told m.old) cpu.old (M.told m.new) cpu.new (model.return_of events.now (known_rule name)) result }
+    ensures serves { Speaks Next (M.told m.old) cpu.old (M.told m.new) cpu.new (model.return_of events.now (machine.known name)) result }
     ensures keeps { StepsBy cpu.old.vault result }
     ensures fit { StaysFit M.ObjectMemory m.old m.new result }
 {
@@ -110,7 +110,7 @@ pub(crate) fn return_top<M: ObjectMemory>(
     events: &EventList,
 ) -> Result<Step, Stop>
     requires fit { IsFit M.ObjectMemory m.old }
-    ensures serves { Speaks Next (M.told m.old) cpu.old (M.told m.new) cpu.new (model.return_of events.now pop_rule) result }
+    ensures serves { Speaks Next (M.told m.old) cpu.old (M.told m.new) cpu.new (model.return_of events.now contexts.pop_top) result }
     ensures keeps { StepsBy cpu.old.vault result }
     ensures fit { StaysFit M.ObjectMemory m.old m.new result }
 {

@@ -3,7 +3,7 @@ ghost use Rattle.std.specs.Prelude.{◌≡◌, ◌<◌, ◌≤◌, OnOk};
 ghost use Rattle.object_memory.specs.Told.{IsReady};
 ghost use Rattle.blue_model.specs.declared.step.Step.TheVariants.{Next};
 ghost use Rattle.blue_model.specs.Sends as model;
-ghost use Rattle.blue_model.specs.Bytecodes as table;
+ghost use Rattle.blue_model.specs.Bytecodes as bytecodes;
 ghost use Rattle.contexts.specs.Serves.{Serves, Speaks, StaysSound};
 ghost use Rattle.std.specs.List.{slice_index_or};
 ghost use Rattle.object_memory.specs.Calls.{IsFit};
@@ -148,7 +148,7 @@ pub(crate) fn send_literal<M: ObjectMemory>(
 ) -> Result<Step, Stop>
     requires fit { IsFit M.ObjectMemory m.old }
     requires number { i < 256 }
-    ensures serves { Speaks Next (M.told m.old) cpu.old (M.told m.new) cpu.new (table.send_literal events.now i n) result }
+    ensures serves { Speaks Next (M.told m.old) cpu.old (M.told m.new) cpu.new (bytecodes.send_literal events.now i n) result }
     ensures keeps { StepsBy cpu.old.vault result }
     ensures fit { StaysFit M.ObjectMemory m.old m.new result }
 {
@@ -166,7 +166,7 @@ pub(crate) fn send_literal_super<M: ObjectMemory>(
 ) -> Result<Step, Stop>
     requires fit { IsFit M.ObjectMemory m.old }
     requires number { i < 256 }
-    ensures serves { Speaks Next (M.told m.old) cpu.old (M.told m.new) cpu.new (table.send_literal_super events.now i n) result }
+    ensures serves { Speaks Next (M.told m.old) cpu.old (M.told m.new) cpu.new (bytecodes.send_literal_super events.now i n) result }
     ensures keeps { StepsBy cpu.old.vault result }
     ensures fit { StaysFit M.ObjectMemory m.old m.new result }
 {
@@ -181,7 +181,7 @@ pub(crate) fn single_extended_send<M: ObjectMemory>(
     events: &EventList,
 ) -> Result<Step, Stop>
     requires fit { IsFit M.ObjectMemory m.old }
-    ensures serves { Speaks Next (M.told m.old) cpu.old (M.told m.new) cpu.new (table.single_extended (table.send_literal events.now)) result }
+    ensures serves { Speaks Next (M.told m.old) cpu.old (M.told m.new) cpu.new (bytecodes.single_extended (bytecodes.send_literal events.now)) result }
     ensures keeps { StepsBy cpu.old.vault result }
     ensures fit { StaysFit M.ObjectMemory m.old m.new result }
 {
@@ -196,7 +196,7 @@ pub(crate) fn double_extended_send<M: ObjectMemory>(
     events: &EventList,
 ) -> Result<Step, Stop>
     requires fit { IsFit M.ObjectMemory m.old }
-    ensures serves { Speaks Next (M.told m.old) cpu.old (M.told m.new) cpu.new (table.double_extended (table.send_literal events.now)) result }
+    ensures serves { Speaks Next (M.told m.old) cpu.old (M.told m.new) cpu.new (bytecodes.double_extended (bytecodes.send_literal events.now)) result }
     ensures keeps { StepsBy cpu.old.vault result }
     ensures fit { StaysFit M.ObjectMemory m.old m.new result }
 {
@@ -212,7 +212,7 @@ pub(crate) fn single_extended_super<M: ObjectMemory>(
     events: &EventList,
 ) -> Result<Step, Stop>
     requires fit { IsFit M.ObjectMemory m.old }
-    ensures serves { Speaks Next (M.told m.old) cpu.old (M.told m.new) cpu.new (table.single_extended (table.send_literal_super events.now)) result }
+    ensures serves { Speaks Next (M.told m.old) cpu.old (M.told m.new) cpu.new (bytecodes.single_extended (bytecodes.send_literal_super events.now)) result }
     ensures keeps { StepsBy cpu.old.vault result }
     ensures fit { StaysFit M.ObjectMemory m.old m.new result }
 {
@@ -227,7 +227,7 @@ pub(crate) fn double_extended_super<M: ObjectMemory>(
     events: &EventList,
 ) -> Result<Step, Stop>
     requires fit { IsFit M.ObjectMemory m.old }
-    ensures serves { Speaks Next (M.told m.old) cpu.old (M.told m.new) cpu.new (table.double_extended (table.send_literal_super events.now)) result }
+    ensures serves { Speaks Next (M.told m.old) cpu.old (M.told m.new) cpu.new (bytecodes.double_extended (bytecodes.send_literal_super events.now)) result }
     ensures keeps { StepsBy cpu.old.vault result }
     ensures fit { StaysFit M.ObjectMemory m.old m.new result }
 {
@@ -247,7 +247,7 @@ pub(crate) fn tried_for<M: ObjectMemory>(
 ) -> Result<Step, Stop>
     requires fit { IsFit M.ObjectMemory m.old }
     requires number { s < 32 }
-    ensures serves { Speaks Next (M.told m.old) cpu.old (M.told m.new) cpu.new (table.tried_for events.now index n s) result }
+    ensures serves { Speaks Next (M.told m.old) cpu.old (M.told m.new) cpu.new (bytecodes.tried_for events.now index n s) result }
     ensures keeps { StepsBy cpu.old.vault result }
     ensures fit { StaysFit M.ObjectMemory m.old m.new result }
 {
@@ -265,7 +265,7 @@ const ARITHMETIC: [u8; 16] = [1, 2, 3, 4, 5, 6, 7, 8, 9, 10, 11, 18, 17, 12, 14,
 /// The primitive of an arithmetic special selector.
 fn arithmetic_primitive(s: u32) -> u8
     requires { s < 16 }
-    ensures { result ≡ slice_index_or table.arithmetic_primitives s 0 }
+    ensures { result ≡ slice_index_or bytecodes.arithmetic_primitives s 0 }
 {
     ARITHMETIC[s as usize]
 }
@@ -279,7 +279,7 @@ pub(crate) fn arithmetic_send<M: ObjectMemory>(
 ) -> Result<Step, Stop>
     requires fit { IsFit M.ObjectMemory m.old }
     requires number { s < 16 }
-    ensures serves { Speaks Next (M.told m.old) cpu.old (M.told m.new) cpu.new (table.arithmetic_send events.now s) result }
+    ensures serves { Speaks Next (M.told m.old) cpu.old (M.told m.new) cpu.new (bytecodes.arithmetic_send events.now s) result }
     ensures keeps { StepsBy cpu.old.vault result }
     ensures fit { StaysFit M.ObjectMemory m.old m.new result }
 {
@@ -297,7 +297,7 @@ pub(crate) fn context_send<M: ObjectMemory>(
     events: &EventList,
 ) -> Result<Step, Stop>
     requires fit { IsFit M.ObjectMemory m.old }
-    ensures serves { Speaks Next (M.told m.old) cpu.old (M.told m.new) cpu.new (table.block_send events.now 80 1 table.is_context_class 24) result }
+    ensures serves { Speaks Next (M.told m.old) cpu.old (M.told m.new) cpu.new (bytecodes.block_send events.now 80 1 bytecodes.is_context_class 24) result }
     ensures keeps { StepsBy cpu.old.vault result }
     ensures fit { StaysFit M.ObjectMemory m.old m.new result }
 {
@@ -319,7 +319,7 @@ pub(crate) fn block_send<M: ObjectMemory>(
 ) -> Result<Step, Stop>
     requires fit { IsFit M.ObjectMemory m.old }
     requires number { s < 32 }
-    ensures serves { Speaks Next (M.told m.old) cpu.old (M.told m.new) cpu.new (table.block_send events.now 81 n table.is_block_class s) result }
+    ensures serves { Speaks Next (M.told m.old) cpu.old (M.told m.new) cpu.new (bytecodes.block_send events.now 81 n bytecodes.is_block_class s) result }
     ensures keeps { StepsBy cpu.old.vault result }
     ensures fit { StaysFit M.ObjectMemory m.old m.new result }
 {

@@ -3,7 +3,7 @@ ghost use Rattle.std.specs.Prelude.{◌≡◌, OnOk};
 ghost use Rattle.object_memory.specs.Told.{IsReady};
 ghost use Rattle.blue_model.specs.declared.answer.Answer.TheVariants.{Done};
 ghost use Rattle.blue_model.specs.Primitives as model;
-ghost use Rattle.blue_model.specs.Sends.{is_execute as is_execute_rule};
+ghost use Rattle.blue_model.specs.Sends as sends;
 ghost use Rattle.contexts.specs.Serves.{Serves, Speaks, StaysSound};
 ghost use Rattle.object_memory.specs.Calls.{IsFit};
 ghost use Rattle.contexts.specs.Calls.{StaysFit};
@@ -68,7 +68,7 @@ pub(crate) fn has_failed(answer: Answer) -> bool
 
 /// Whether a method that a primitive found is to be executed.
 pub(crate) fn is_execute(answer: Answer) -> bool
-    ensures { result ≡ is_execute_rule answer }
+    ensures { result ≡ sends.is_execute answer }
 {
     match answer {
         Answer::Execute => true,

@@ -2,6 +2,7 @@
 ghost use Rattle.std.specs.Prelude.{◌≡◌, ◌+ℤ◌, ◌-ℤ◌, ◌<ℤ◌, ◌≤ℤ◌, ◌<◌, ◌≤◌, ◌+◌, pos, Some, None, IfSome, OnSome, MatchBool};
 ghost use Rattle.std.specs.Bool.{OnFalse};
 ghost use Rattle.long_names.specs.Words.{IsSmallInteger};
+ghost use Rattle.long_names.specs.declared.limits.TheConstants.{MOST_LITERALS};
 ghost use Rattle.blue_model.specs.declared.limits.TheConstants.{FULL_STACK, LAST_BYTE};
 ghost use Rattle.blue_model.specs.declared.indexes.TheConstants.{EMPTY_STACK};
 ghost use Rattle.blue_model.specs.Contexts.{stack_place, lowered, stated, stack_pointer};
@@ -10,6 +11,7 @@ ghost use Rattle.contexts.specs.Places.{code_place, code_index};
 use blue_model::Cpu;
 use blue_model::indexes::{EMPTY_STACK, TEMP_FRAME_START};
 use blue_model::limits::{FULL_STACK, LAST_BYTE};
+use long_names::SMALL_INTEGERS;
 
 /// The field above the top of the stack, of a context with so many fields, if it is one of the stack.
 pub(crate) fn place_above(cpu: &Cpu, len: u32) -> Option<u32>
@@ -86,7 +88,7 @@ pub(crate) fn place_from(cpu: &Cpu, distance: &i32) -> Option<u32>
 
 /// The index in a method's code of the byte of a number, if there is one: of a method with so many literals and bytes.
 pub(crate) fn index_of(place: Option<u32>, literals: u32, len: u32) -> Option<u32>
-    requires { literals < 64 }
+    requires { literals < MOST_LITERALS + 1 }
     ensures index { result ≡ code_index literals len place }
     ensures within { IfSome result (λ i. i < len) }
 {
@@ -132,7 +134,7 @@ pub(crate) fn stated_ip(cpu: &Cpu) -> Option<i16>
     ensures value { result ≡ stated (cpu.now.ip +ℤ pos 1) }
     ensures range { IfSome result IsSmallInteger }
 {
-    if cpu.ip < -16385 || cpu.ip > 16382 {
+    if cpu.ip < -(SMALL_INTEGERS as i32) - 1 || cpu.ip >= SMALL_INTEGERS as i32 - 1 {
         None
     } else {
         Some((cpu.ip + 1) as i16)
@@ -144,7 +146,7 @@ pub(crate) fn stated_depth(cpu: &Cpu) -> Option<i16>
     ensures value { result ≡ stated (cpu.now.sp -ℤ pos EMPTY_STACK) }
     ensures range { IfSome result IsSmallInteger }
 {
-    if cpu.sp < -16379 || cpu.sp > 16388 {
+    if cpu.sp < EMPTY_STACK as i32 - SMALL_INTEGERS as i32 || cpu.sp > FULL_STACK as i32 {
         None
     } else {
         Some((cpu.sp - EMPTY_STACK as i32) as i16)

@@ -1,8 +1,8 @@
 // Parts of objects that rules read, and the store into a field.
-ghost use Rattle.std.specs.Prelude.{◌≡◌, ◌≤◌, ◌<◌, ℕ, [], ◌∷◌, OnOk, IfOk, length, true};
+ghost use Rattle.std.specs.Prelude.{◌≡◌, ◌+◌, ◌≤◌, ◌<◌, ℕ, [], ◌∷◌, OnOk, IfOk, length, true};
 ghost use Rattle.long_names.specs.Names.{is_known};
 ghost use Rattle.long_names.specs.Objects.{pointers_of, OfPointers, OfWords, OfBytes, OfMethod};
-ghost use Rattle.long_names.specs.declared.limits.TheConstants.{MOST_CODE};
+ghost use Rattle.long_names.specs.declared.limits.TheConstants.{MOST_CODE, MOST_FIELDS};
 ghost use Rattle.long_names.specs.State.{IsRef};
 ghost use Rattle.long_names.specs.Words.{IsSmallInteger};
 ghost use Rattle.long_names.specs.declared.value.Value.TheVariants.{Ref};
@@ -32,7 +32,7 @@ pub fn size<M: ObjectMemory>(m: &mut M, of: Reg, least: u32) -> Result<u32, Stop
     ensures looks { OnOk result (Looks [] (M.told m.old) (M.told m.new)) }
     ensures there { IfOk result (λ len. HasPartAt (M.told m.new) of pointers_of (λ xs. length xs ≡ len)) }
     ensures least { IfOk result (λ len. least ≤ len) }
-    ensures bound { IfOk result (λ len. len < 65536) }
+    ensures bound { IfOk result (λ len. len < MOST_FIELDS + 1) }
     ensures fit { StaysFit M.ObjectMemory m.old m.new result }
 {
     let Some(len) = shape::fields(m, of)? else {
@@ -371,7 +371,7 @@ pub fn make_pointers<M: ObjectMemory>(m: &mut M, to: Reg, class: Reg, n: u32) ->
     requires fit { IsFit M.ObjectMemory m.old }
     requires scratch { MACHINE_REGISTERS ≤ to }
     requires class { IsRef ((M.told m.old).regs class) }
-    requires few { n < 65536 }
+    requires few { n < MOST_FIELDS + 1 }
     ensures serves { (cpu : Numbers) → Serves (M.told m.old) cpu (M.told m.new) cpu (make ((M.told m.old).regs class) (OfPointers n)) (with_value result ((M.told m.new).regs to)) }
     ensures regs { OnOk result ((r : ℕ) → (r ≡ to → ⊥) → (M.told m.new).regs r ≡ (M.told m.old).regs r) }
     ensures fit { StaysFit M.ObjectMemory m.old m.new result }
@@ -385,7 +385,7 @@ pub fn make_words<M: ObjectMemory>(m: &mut M, to: Reg, class: Reg, n: u32) -> Re
     requires fit { IsFit M.ObjectMemory m.old }
     requires scratch { MACHINE_REGISTERS ≤ to }
     requires class { IsRef ((M.told m.old).regs class) }
-    requires few { n < 65536 }
+    requires few { n < MOST_FIELDS + 1 }
     ensures serves { (cpu : Numbers) → Serves (M.told m.old) cpu (M.told m.new) cpu (make ((M.told m.old).regs class) (OfWords n)) (with_value result ((M.told m.new).regs to)) }
     ensures regs { OnOk result ((r : ℕ) → (r ≡ to → ⊥) → (M.told m.new).regs r ≡ (M.told m.old).regs r) }
     ensures fit { StaysFit M.ObjectMemory m.old m.new result }
@@ -399,7 +399,7 @@ pub fn make_bytes<M: ObjectMemory>(m: &mut M, to: Reg, class: Reg, n: u32) -> Re
     requires fit { IsFit M.ObjectMemory m.old }
     requires scratch { MACHINE_REGISTERS ≤ to }
     requires class { IsRef ((M.told m.old).regs class) }
-    requires few { n < 65536 }
+    requires few { n < MOST_FIELDS + 1 }
     ensures serves { (cpu : Numbers) → Serves (M.told m.old) cpu (M.told m.new) cpu (make ((M.told m.old).regs class) (OfBytes n)) (with_value result ((M.told m.new).regs to)) }
     ensures regs { OnOk result ((r : ℕ) → (r ≡ to → ⊥) → (M.told m.new).regs r ≡ (M.told m.old).regs r) }
     ensures fit { StaysFit M.ObjectMemory m.old m.new result }

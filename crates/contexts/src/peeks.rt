@@ -1,6 +1,7 @@
 // Parts of objects that a primitive looks for: where the object hasn't the part, nothing is stuck. A number is no object, and isn't
 // looked at.
-ghost use Rattle.std.specs.Prelude.{◌≡◌, ◌≤◌, ◌<◌, [], ◌∷◌, OnOk, IfOk, IfSome};
+ghost use Rattle.std.specs.Prelude.{◌≡◌, ◌+◌, ◌≤◌, ◌<◌, [], ◌∷◌, OnOk, IfOk, IfSome};
+ghost use Rattle.long_names.specs.declared.limits.TheConstants.{MOST_FIELDS};
 ghost use Rattle.long_names.specs.Words.{IsSmallInteger};
 ghost use Rattle.object_memory.specs.Told.{IsReady};
 ghost use Rattle.object_memory.specs.Shape.{Looks};
@@ -20,7 +21,7 @@ pub fn peek_size<M: ObjectMemory>(m: &mut M, of: Reg, least: u32) -> Result<Opti
     requires fit { IsFit M.ObjectMemory m.old }
     ensures serves { (cpu : Numbers) → Serves (M.told m.old) cpu (M.told m.new) cpu (peek (size least) ((M.told m.old).regs of)) result }
     ensures looks { OnOk result (Looks [] (M.told m.old) (M.told m.new)) }
-    ensures bound { IfOk result (λ len. IfSome len (λ n. n < 65536)) }
+    ensures bound { IfOk result (λ len. IfSome len (λ n. n < MOST_FIELDS + 1)) }
     ensures fit { StaysFit M.ObjectMemory m.old m.new result }
 {
     let Some(len) = shape::fields(m, of)? else {

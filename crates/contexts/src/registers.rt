@@ -3,9 +3,9 @@ ghost use Rattle.std.specs.Prelude.{◌≡◌, ◌≤◌, ◌<◌, ◌&&◌, ℕ
 ghost use Rattle.long_names.specs.declared.value.Value.TheVariants.{Int};
 ghost use Rattle.object_memory.specs.Told.{Told, IsReady};
 ghost use Rattle.blue_model.specs.declared.cpu.Cpu.{Cpu as Numbers};
-ghost use Rattle.blue_model.specs.Machine.{pin as pin_rule, unpin_all as unpin_rule, MACHINE_REGISTERS};
-ghost use Rattle.blue_model.specs.Contexts.{put_context as put_rule};
-ghost use Rattle.blue_model.specs.Messages.{set_arguments as set_rule};
+ghost use Rattle.blue_model.specs.Machine as model;
+ghost use Rattle.blue_model.specs.Contexts as contexts;
+ghost use Rattle.blue_model.specs.Messages as messages;
 ghost use Rattle.contexts.specs.Serves.{Serves, StaysSound};
 ghost use Rattle.std.specs.Prelude.{Ok};
 ghost use Rattle.long_names.specs.State.{RECEIVER};
@@ -31,7 +31,7 @@ pub fn clear<M: ObjectMemory>(m: &mut M, from: u8, to: u8)
 
 /// The message that is sent has so many arguments.
 pub fn set_arguments(cpu: &mut Cpu, n: u8)
-    ensures serves { (t : Told) → IsReady t → Serves t cpu.old t cpu.new (set_rule n) (Ok tt) }
+    ensures serves { (t : Told) → IsReady t → Serves t cpu.old t cpu.new (messages.set_arguments n) (Ok tt) }
     ensures numbers { cpu.new ≡ record cpu.old { args = n } }
 {
     cpu.args = n;
@@ -40,7 +40,7 @@ pub fn set_arguments(cpu: &mut Cpu, n: u8)
 /// No object is pinned any more.
 pub(crate) fn unpin_all<M: ObjectMemory>(m: &mut M)
     requires fit { IsFit M.ObjectMemory m.old }
-    ensures serves { (cpu : Numbers) → Serves (M.told m.old) cpu (M.told m.new) cpu unpin_rule (Ok tt) }
+    ensures serves { (cpu : Numbers) → Serves (M.told m.old) cpu (M.told m.new) cpu model.unpin_all (Ok tt) }
     ensures regs { (M.told m.new).regs ≡ (M.told m.old).regs }
     ensures fit { StaysFit M.ObjectMemory m.old m.new (Ok result) }
 {
@@ -53,7 +53,7 @@ pub(crate) fn unpin_all<M: ObjectMemory>(m: &mut M)
 pub(crate) fn pin<M: ObjectMemory>(m: &mut M, slot: u8, of: Reg) -> Result<(), Stop>
     requires fit { IsFit M.ObjectMemory m.old }
     requires slot { slot < 3 }
-    ensures serves { (cpu : Numbers) → Serves (M.told m.old) cpu (M.told m.new) cpu (pin_rule slot ((M.told m.old).regs of)) result }
+    ensures serves { (cpu : Numbers) → Serves (M.told m.old) cpu (M.told m.new) cpu (model.pin slot ((M.told m.old).regs of)) result }
     ensures regs { OnOk result ((M.told m.new).regs ≡ (M.told m.old).regs) }
     ensures fit { StaysFit M.ObjectMemory m.old m.new result }
 {
@@ -67,7 +67,7 @@ pub(crate) fn pin<M: ObjectMemory>(m: &mut M, slot: u8, of: Reg) -> Result<(), S
 /// The four registers of the active context hold it, its home, its method and its receiver, which stand in scratch registers.
 pub(crate) fn put_context<M: ObjectMemory>(m: &mut M, context: Reg)
     requires fit { IsFit M.ObjectMemory m.old }
-    ensures serves { (cpu : Numbers) → Serves (M.told m.old) cpu (M.told m.new) cpu (put_rule ((M.told m.old).regs context) ((M.told m.old).regs 21) ((M.told m.old).regs 22) ((M.told m.old).regs 23)) (Ok tt) }
+    ensures serves { (cpu : Numbers) → Serves (M.told m.old) cpu (M.told m.new) cpu (contexts.put_context ((M.told m.old).regs context) ((M.told m.old).regs 21) ((M.told m.old).regs 22) ((M.told m.old).regs 23)) (Ok tt) }
     ensures others { (r : ℕ) → RECEIVER < r → (M.told m.new).regs r ≡ (M.told m.old).regs r }
     ensures fit { StaysFit M.ObjectMemory m.old m.new (Ok result) }
 {

@@ -4,7 +4,7 @@ ghost use Rattle.object_memory.specs.Told.{Told, IsReady};
 ghost use Rattle.object_memory.specs.Shape.{Looks};
 ghost use Rattle.blue_model.specs.Machine.{MACHINE_REGISTERS};
 ghost use Rattle.blue_model.specs.Contexts as model;
-ghost use Rattle.blue_model.specs.Messages.{put_stack as put_rule};
+ghost use Rattle.blue_model.specs.Messages as messages;
 ghost use Rattle.contexts.specs.Serves.{Serves, StaysSound, with_value};
 ghost use Rattle.object_memory.specs.Calls.{IsFit};
 ghost use Rattle.contexts.specs.Calls.{StaysFit};
@@ -52,7 +52,7 @@ pub fn stack<M: ObjectMemory>(m: &mut M, cpu: &Cpu, to: Reg, depth: u32) -> Resu
 /// Puts the value of a register so much below the top of the stack. Stuck with Stack where that field is none of the stack.
 pub fn put_stack<M: ObjectMemory>(m: &mut M, cpu: &Cpu, depth: u32, from: Reg) -> Result<(), Stop>
     requires fit { IsFit M.ObjectMemory m.old }
-    ensures serves { Serves (M.told m.old) cpu.now (M.told m.new) cpu.now (put_rule depth ((M.told m.old).regs from)) result }
+    ensures serves { Serves (M.told m.old) cpu.now (M.told m.new) cpu.now (messages.put_stack depth ((M.told m.old).regs from)) result }
     ensures regs { OnOk result ((M.told m.new).regs ≡ (M.told m.old).regs) }
     ensures fit { StaysFit M.ObjectMemory m.old m.new result }
 {

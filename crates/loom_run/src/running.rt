@@ -4,8 +4,8 @@ ghost use Rattle.long_names.specs.Heap.{Heap};
 ghost use Rattle.object_memory.specs.Told.{IsReady};
 ghost use Rattle.object_memory.specs.Contract.{Called, IsLater, Settles};
 ghost use Rattle.blue_model.specs.Machine.{Machine};
-ghost use Rattle.blue_model.specs.Processes.{check_switch as check_switch_rule};
-ghost use Rattle.blue_model.specs.Cycle.{cycle as cycle_rule, turn as turn_rule};
+ghost use Rattle.blue_model.specs.Processes as processes;
+ghost use Rattle.blue_model.specs.Cycle as model;
 ghost use Rattle.blue_model.specs.declared.step.Step.TheVariants as step;
 ghost use Rattle.contexts.specs.Serves.{Serves, Speaks, Stands, HasRest};
 ghost use Rattle.blue_model.specs.Endings.{HasCounted, is_last as is_last_step};
@@ -28,7 +28,7 @@ use std::alloc::Global;
 /// A process switch, where one waits (checkProcessSwitch, chapter 28).
 fn check_switch<M: ObjectMemory>(m: &mut M, cpu: &mut Cpu) -> Result<(), Stop>
     requires fit { IsFit M.ObjectMemory m.old }
-    ensures serves { Serves (M.told m.old) cpu.old (M.told m.new) cpu.new check_switch_rule result }
+    ensures serves { Serves (M.told m.old) cpu.old (M.told m.new) cpu.new processes.check_switch result }
     ensures fit { StaysFit M.ObjectMemory m.old m.new result }
 {
     if cpu.waiting {
@@ -40,7 +40,7 @@ fn check_switch<M: ObjectMemory>(m: &mut M, cpu: &mut Cpu) -> Result<(), Stop>
 /// The lines that are due, the timer, a process switch where one waits, and one bytecode.
 fn turn<M: ObjectMemory>(m: &mut M, cpu: &mut Cpu, events: &EventList) -> Result<Step, Stop>
     requires fit { IsFit M.ObjectMemory m.old }
-    ensures serves { Speaks step.Next (M.told m.old) cpu.old (M.told m.new) cpu.new (turn_rule events.now) result }
+    ensures serves { Speaks step.Next (M.told m.old) cpu.old (M.told m.new) cpu.new (model.turn events.now) result }
     ensures rest { OnOk result (HasRest (M.told m.new)) }
     ensures keeps { StepsBy cpu.old.vault result }
     ensures fit { StaysFit M.ObjectMemory m.old m.new result }
@@ -54,7 +54,7 @@ fn turn<M: ObjectMemory>(m: &mut M, cpu: &mut Cpu, events: &EventList) -> Result
 fn cycle<M: ObjectMemory>(m: &mut M, cpu: &mut Cpu, events: &EventList) -> Result<Step, Stop>
     requires fit { IsFit M.ObjectMemory m.old }
     requires room { cpu.old.ran + 1 < 2 ^ 32 }
-    ensures serves { Speaks step.Next (M.told m.old) cpu.old (M.told m.new) cpu.new (cycle_rule events.now) result }
+    ensures serves { Speaks step.Next (M.told m.old) cpu.old (M.told m.new) cpu.new (model.cycle events.now) result }
     ensures counted { OnOk result (cpu.new.ran ≡ cpu.old.ran + 1) }
     ensures kept { OnErr result (cpu.new.ran ≡ cpu.old.ran) }
     ensures rest { OnOk result (HasRest (M.told m.new)) }

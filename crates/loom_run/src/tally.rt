@@ -1,6 +1,7 @@
 // How many words hold each of the names of an image's objects.
 ghost use Rattle.std.specs.Prelude.{◌≡◌, ◌+◌, ◌<◌, ◌^◌, ◌==◌, ◌↔◌, ℕ, All, IfOk, IsTrue, is_some, true, count_by, length, if◌then◌else◌};
 ghost use Rattle.std.specs.List.{list_all, list_any};
+ghost use Rattle.long_names.specs.declared.limits.TheConstants.{MOST_FIELDS};
 ghost use Rattle.long_names.specs.Names.{known_names};
 ghost use Rattle.long_names.specs.Objects.{is_ref, holdings, IsRecord};
 ghost use Rattle.object_memory.specs.Records.{object_of_rec};
@@ -73,7 +74,7 @@ impl Tally {
 
     /// Counts the words of a record's object, its class word and its fields, until one holds a name that is no object's.
     fn count_rec(&mut self, rec: &Rec) -> bool
-        requires room { HasRoom 65536 self.old }
+        requires room { HasRoom (MOST_FIELDS + 1) self.old }
         requires record { IsRecord rec.now }
         ensures there { IsTrue result ↔ IsCountable self.old rec.now }
         ensures more { IsTrue result → Raises (holdings (object_of_rec rec.now)) self.old self.new }

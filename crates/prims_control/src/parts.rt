@@ -8,7 +8,7 @@ ghost use Rattle.object_memory.specs.Told.{IsReady};
 ghost use Rattle.object_memory.specs.Shape.{Looks};
 ghost use Rattle.blue_model.specs.declared.cpu.Cpu.{Cpu as Numbers};
 ghost use Rattle.blue_model.specs.Parts.{home_of};
-ghost use Rattle.blue_model.specs.Contexts.{store_field as store_rule};
+ghost use Rattle.blue_model.specs.Contexts as contexts;
 ghost use Rattle.blue_model.specs.Trials.{peek};
 ghost use Rattle.blue_model.specs.Control as model;
 ghost use Rattle.contexts.specs.Serves.{Serves, StaysSound, with_found};
@@ -61,7 +61,7 @@ pub(crate) fn store_number<M: ObjectMemory>(
     requires fit { IsFit M.ObjectMemory m.old }
     requires low { of < 19 }
     requires range { IsSmallInteger number }
-    ensures serves { (cpu : Numbers) → Serves (M.told m.old) cpu (M.told m.new) cpu (store_rule ((M.told m.old).regs of) i (Int number)) result }
+    ensures serves { (cpu : Numbers) → Serves (M.told m.old) cpu (M.told m.new) cpu (contexts.store_field ((M.told m.old).regs of) i (Int number)) result }
     ensures regs { OnOk result ((r : ℕ) → (r ≡ 19 → ⊥) → (M.told m.new).regs r ≡ (M.told m.old).regs r) }
     ensures fit { StaysFit M.ObjectMemory m.old m.new result }
 {

@@ -6,7 +6,7 @@ ghost use Rattle.object_memory.specs.Shape.{Looks};
 ghost use Rattle.blue_model.specs.declared.limits.TheConstants.{MOST_ARGUMENTS};
 ghost use Rattle.blue_model.specs.declared.cpu.Cpu.{Cpu as Numbers};
 ghost use Rattle.blue_model.specs.Machine.{each};
-ghost use Rattle.blue_model.specs.Messages.{arguments_of as arguments_rule};
+ghost use Rattle.blue_model.specs.Messages as messages;
 ghost use Rattle.blue_model.specs.Control as model;
 ghost use Rattle.contexts.specs.Serves.{Serves, StaysSound, with_found};
 ghost use Rattle.object_memory.specs.Calls.{IsFit};
@@ -25,7 +25,7 @@ use send_lookup::look_up;
 /// How many arguments the method in R22 takes (argumentCountOf:, chapter 28).
 fn arguments_of<M: ObjectMemory>(m: &mut M) -> Result<u32, Stop>
     requires fit { IsFit M.ObjectMemory m.old }
-    ensures serves { (cpu : Numbers) → Serves (M.told m.old) cpu (M.told m.new) cpu (arguments_rule ((M.told m.old).regs 22)) result }
+    ensures serves { (cpu : Numbers) → Serves (M.told m.old) cpu (M.told m.new) cpu (messages.arguments_of ((M.told m.old).regs 22)) result }
     ensures looks { OnOk result (Looks (19 ∷ []) (M.told m.old) (M.told m.new)) }
     ensures fit { StaysFit M.ObjectMemory m.old m.new result }
 {

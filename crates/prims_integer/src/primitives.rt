@@ -5,7 +5,8 @@ ghost use Rattle.object_memory.specs.Told.{IsReady};
 ghost use Rattle.blue_model.specs.Trials.{primitive_in};
 ghost use Rattle.blue_model.specs.Arithmetic as model;
 ghost use Rattle.contexts.specs.Serves.{Serves, StaysSound};
-ghost use Rattle.prims_integer.specs.Operations.{two_numbers as numbers_rule, result_of, truth_of, AreSmall};
+ghost use Rattle.prims_integer.specs.Operations.{result_of, truth_of, AreSmall};
+ghost use Rattle.prims_integer.specs.Operations as rules;
 ghost use Rattle.object_memory.specs.Calls.{IsFit};
 ghost use Rattle.contexts.specs.Calls.{StaysFit};
 ghost use Rattle.contexts.specs.Keeping.{NeverKeeps};
@@ -18,7 +19,7 @@ use object_memory::{ObjectMemory, Reg};
 /// The receiver and the argument on the stack, where both are SmallIntegers.
 fn two_numbers<M: ObjectMemory>(m: &mut M, cpu: &Cpu) -> Result<Option<(i16, i16)>, Stop>
     requires fit { IsFit M.ObjectMemory m.old }
-    ensures serves { Serves (M.told m.old) cpu.now (M.told m.new) cpu.now numbers_rule result }
+    ensures serves { Serves (M.told m.old) cpu.now (M.told m.new) cpu.now rules.two_numbers result }
     ensures range { IfOk result (λ found. IfSome found AreSmall) }
     ensures fit { StaysFit M.ObjectMemory m.old m.new result }
 {

@@ -1,7 +1,7 @@
 // What primitives end with that store: the value in R12 is stored into the receiver in R10, and answered. R18 and R19 are used.
 ghost use Rattle.std.specs.Prelude.{◌≡◌};
 ghost use Rattle.blue_model.specs.Elements as model;
-ghost use Rattle.blue_model.specs.Trials.{answer as answer_rule};
+ghost use Rattle.blue_model.specs.Trials as trials;
 ghost use Rattle.contexts.specs.Serves.{Serves};
 ghost use Rattle.object_memory.specs.Calls.{IsFit};
 ghost use Rattle.contexts.specs.Calls.{StaysFit};
@@ -21,7 +21,7 @@ pub(crate) fn store_and_answer<M: ObjectMemory>(
     spot: Spot,
 ) -> Result<Answer, Stop>
     requires fit { IsFit M.ObjectMemory m.old }
-    ensures serves { Serves (M.told m.old) cpu.old (M.told m.new) cpu.new (model.put_element ((M.told m.old).regs 10) spot ((M.told m.old).regs 12) (answer_rule 2 ((M.told m.old).regs 12))) result }
+    ensures serves { Serves (M.told m.old) cpu.old (M.told m.new) cpu.new (model.put_element ((M.told m.old).regs 10) spot ((M.told m.old).regs 12) (trials.answer 2 ((M.told m.old).regs 12))) result }
     ensures never_keeps { NeverKeeps result }
     ensures fit { StaysFit M.ObjectMemory m.old m.new result }
 {
@@ -38,7 +38,7 @@ pub(crate) fn store_character_and_answer<M: ObjectMemory>(
     spot: Spot,
 ) -> Result<Answer, Stop>
     requires fit { IsFit M.ObjectMemory m.old }
-    ensures serves { Serves (M.told m.old) cpu.old (M.told m.new) cpu.new (rules.put_character ((M.told m.old).regs 10) spot ((M.told m.old).regs 12) (answer_rule 2 ((M.told m.old).regs 12))) result }
+    ensures serves { Serves (M.told m.old) cpu.old (M.told m.new) cpu.new (rules.put_character ((M.told m.old).regs 10) spot ((M.told m.old).regs 12) (trials.answer 2 ((M.told m.old).regs 12))) result }
     ensures never_keeps { NeverKeeps result }
     ensures fit { StaysFit M.ObjectMemory m.old m.new result }
 {

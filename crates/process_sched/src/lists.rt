@@ -6,7 +6,7 @@ ghost use Rattle.object_memory.specs.Told.{IsReady};
 ghost use Rattle.blue_model.specs.declared.cpu.Cpu.{Cpu as Numbers};
 ghost use Rattle.blue_model.specs.Machine.{pick};
 ghost use Rattle.blue_model.specs.Parts.{is_nil};
-ghost use Rattle.blue_model.specs.Contexts.{store_field as store_rule};
+ghost use Rattle.blue_model.specs.Contexts as contexts;
 ghost use Rattle.blue_model.specs.Storage.{is_same};
 ghost use Rattle.blue_model.specs.Processes as model;
 ghost use Rattle.contexts.specs.Serves.{Serves, StaysSound, with_value};
@@ -36,7 +36,7 @@ fn link_behind<M: ObjectMemory>(m: &mut M) -> Result<(), Stop>
 /// The process becomes the first of a list that is empty, as its first process in R12 says, or the next of the last.
 fn link<M: ObjectMemory>(m: &mut M) -> Result<(), Stop>
     requires fit { IsFit M.ObjectMemory m.old }
-    ensures serves { (cpu : Numbers) → Serves (M.told m.old) cpu (M.told m.new) cpu (pick (is_nil ((M.told m.old).regs 12)) (store_rule ((M.told m.old).regs 11) 0 ((M.told m.old).regs 10)) (model.link_behind ((M.told m.old).regs 10) ((M.told m.old).regs 11))) result }
+    ensures serves { (cpu : Numbers) → Serves (M.told m.old) cpu (M.told m.new) cpu (pick (is_nil ((M.told m.old).regs 12)) (contexts.store_field ((M.told m.old).regs 11) 0 ((M.told m.old).regs 10)) (model.link_behind ((M.told m.old).regs 10) ((M.told m.old).regs 11))) result }
     ensures process { OnOk result ((M.told m.new).regs 10 ≡ (M.told m.old).regs 10) }
     ensures list { OnOk result ((M.told m.new).regs 11 ≡ (M.told m.old).regs 11) }
     ensures other { OnOk result ((M.told m.new).regs 17 ≡ (M.told m.old).regs 17) }
