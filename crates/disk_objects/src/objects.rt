@@ -24,6 +24,8 @@ pub struct DiskObjects<'h, H: Host> {
 }
 
 impl<'h, H: Host> DiskObjects<'h, H> {
+    ghost use Rattle.work_directory.specs.Directory.{entries_of};
+    ghost use Rattle.work_directory.specs.Table.{Entry};
     ghost use Rattle.disk_objects.specs.Calls.{AreHeldNames, CanChange, HoldsObjects, HoldsSuch, IsEitherFault, IsFault, IsGot, IsHeldName, IsIdle, IsNamesFault, IsPutFault, TookFirst, changed_by, swapped};
     ghost use Rattle.disk_objects.specs.Function.{ChangesCount, IsFetched, KeepsObjects, PutsObject, RemovesObject, SwapsObjects, counts_of, disk_of};
     ghost use Rattle.disk_objects.specs.Places.{IsReadPlace, IsSlotPlace};
@@ -36,6 +38,7 @@ impl<'h, H: Host> DiskObjects<'h, H> {
         requires empty { IsTrue (H.tells Role.Work) → work_of H.Host host.old ≡ [] }
         ensures disk { IsTrue (H.tells Role.Work) → IsDisk result.rest (work_of H.Host result.host.now) map.empty [] }
         ensures room { disk_room result.rest ≡ room }
+        ensures none { disk_held result.rest ≡ 0 }
         ensures host { result.host.ghost_name ≡ host.entry.ghost_name }
         ensures now { result.host.now ≡ host.old }
     {
@@ -112,6 +115,7 @@ impl<'h, H: Host> DiskObjects<'h, H> {
         ensures got { IsTrue (H.tells Role.Work) → (objects : Objects) (pending : List ℕ) →
             IsDisk self.old.rest (work_of H.Host self.old.host.now) objects pending → OnOk result (IsGot buf.new (map.get objects name) true) }
         ensures record { OnOk result (HasRecord buf.new × ((raw_of buf.new).name ≡ name)) }
+        ensures at { IsTrue (H.tells Role.Work) → IfOk result (λ place. option_map (λ (e : Entry). e.place) (map.get (entries_of self.old.rest.directory (work_of H.Host self.old.host.now)) name) ≡ Some place) }
         ensures place { IfOk result (λ place. place ≤ LAST_END) }
         ensures rest { self.new.rest ≡ self.old.rest }
         ensures read { IsWorkRead H.Host self.old.host.now self.new.host.now }

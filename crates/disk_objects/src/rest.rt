@@ -9,7 +9,7 @@ ghost use Rattle.object_record.specs.Buffer.{HasRecord, raw_of};
 ghost use Rattle.disk_objects.specs.Disk.{link_to};
 ghost use Rattle.disk_objects.specs.Inside.{found_slot, held_slot};
 ghost use Rattle.work_directory.specs.Directory.{Holds, HoldsDirectory, IsChanged, entries_of, slots_of};
-ghost use Rattle.work_directory.specs.Table.{entry_of};
+ghost use Rattle.work_directory.specs.Table.{Entry, entry_of};
 ghost use Rattle.loom_outside.specs.Work.{IsWorkOnly, IsWorkRead, work_of};
 
 use crate::record::{
@@ -116,6 +116,7 @@ impl DiskRest {
         requires most { room ≤ MOST_NAMES }
         ensures disk { IsDisk result [] map.empty [] }
         ensures room { disk_room result ≡ room }
+        ensures none { disk_held result ≡ 0 }
     {
         let directory = Directory::new(room);
         let space = Space::new(directory.end());
@@ -232,6 +233,7 @@ impl DiskRest {
         ensures got { IsTrue (H.tells Role.Work) → (objects : Objects) (pending : List ℕ) → IsDisk self.now (work_of H.Host host.old) objects pending →
             OnOk result (IsGot buf.new (map.get objects name) true) }
         ensures record { OnOk result (HasRecord buf.new × ((raw_of buf.new).name ≡ name)) }
+        ensures at { IsTrue (H.tells Role.Work) → IfOk result (λ place. option_map (λ (e : Entry). e.place) (map.get (entries_of self.now.directory (work_of H.Host host.old)) name) ≡ Some place) }
         ensures place { IfOk result (λ place. place ≤ LAST_END) }
         ensures read { IsWorkRead H.Host host.old host.new }
         ensures fault { IfErr result (IsFault (H.tells Role.Work) (H.faults host.old Role.Work) (H.faults host.new Role.Work) (IsReadPlace self.now) name) }

@@ -1,4 +1,6 @@
-use Rattle.std.proofs.Common.{inr, ℕ, List, sym, subst, ◌∙◌}
+use Rattle.std.proofs.Common.{inr, ℕ, List, Option, sym, subst, ap, ◌∙◌}
+use Rattle.std.specs.Option.{option_map}
+use Rattle.work_directory.specs.Table.{Entry}
 use Rattle.loom_outside.specs.declared.outside.Role.TheVariants.{Work}
 use Rattle.loom_outside.specs.Work.{work_of}
 use Rattle.disk_objects.specs.Calls.{IsFault}
@@ -44,3 +46,6 @@ returns-clause-got g c told objects pending k =
 
 pub returns-clause-place : goal.returns-clause-place
 returns-clause-place g c = c.in_ok-held.ensures.sized.place
+
+pub returns-clause-at : goal.returns-clause-at
+returns-clause-at g c told = ap (λ (o : Option Entry). option_map (λ (e : Entry). e.place) o) (c.in_ok-held.ensures.found told).entry
