@@ -3,13 +3,15 @@
 //! They are over public calls and `LyingHost`, a host that tells nothing of Work: there any call may be made at any time, over calls on
 //! Work that fail and over bytes that no disk wrote, and Work shows what it holds, byte by byte. What holds over a host that tells Work
 //! is proved. There is one file for each crate: `directories` for `work_directory`, `spaces` for `work_space`, `objects` for
-//! `disk_objects`. The crate has no function of its own.
+//! `disk_objects`, `images` for `image_reader`. The crate has no function of its own.
 #![tactic(auto)]
 
 #[cfg(test)]
 mod directories;
 #[cfg(test)]
 mod hosts;
+#[cfg(test)]
+mod images;
 #[cfg(test)]
 mod objects;
 #[cfg(test)]

@@ -1,0 +1,11 @@
+pub mod Frames
+pub mod Next
+pub mod Stored
+pub mod Reading
+pub mod Takes
+pub mod Heads
+pub mod TallyLaws
+pub mod JudgeLaws
+pub mod LoadLaws
+pub mod LookLaws
+pub mod HeapLaws

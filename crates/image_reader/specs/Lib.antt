@@ -1,0 +1,7 @@
+pub mod Window
+pub mod Names
+pub mod Frames
+pub mod Loaded
+pub mod Inside
+pub mod Tally
+pub mod Judged

@@ -1,0 +1,25 @@
+//! An image as a disk's objects.
+//!
+//! `load` reads Image by a window, tests each field before it believes it, and puts each record to the disk with the count that it
+//! states; then it judges the rules of the whole image over the names. Where the host tells Image and Work, Bad has the first rule that
+//! breaks, with its place (`first_break`), and after Ok the disk holds the image's objects with exact counts, and nothing is pending. It
+//! takes memory for one record, a window of the file, and the names with a count each, never for the image.
+//!
+//! ```text
+//! disk.attach(Role::Image, name)?;
+//! let loaded = load(alloc, &mut disk, room)?;
+//! ```
+//!
+//! Its condition is that the disk is empty and has this room. Read `specs/Loaded.antt`.
+#![tactic(auto)]
+
+mod fault;
+mod head;
+mod judging;
+mod loading;
+mod records;
+mod tally;
+mod window;
+
+pub use fault::LoadFault;
+pub use loading::{Loaded, load};
