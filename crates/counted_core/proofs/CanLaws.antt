@@ -1,6 +1,6 @@
 -- Sums that fit their numbers.
-use Rattle.std.proofs.Common.{◌≡◌, ℕ, pos, ◌+ℤ◌, ◌+◌, ◌-◌, ◌<◌, ◌≤◌, Bool, true, false, cond, List, [], ◌∷◌, length, Option, Some, None, refl, sym, ◌∙◌, ap, arith}
-use Rattle.std.specs.Prelude.{negsuc, ◌^◌, ◌≤ℤ◌}
+use Rattle.std.proofs.Common.{zero, suc, ◌≡◌, ℕ, pos, ◌+ℤ◌, ◌+◌, ◌-◌, ◌<◌, ◌≤◌, Bool, true, false, cond, List, [], ◌∷◌, length, Option, Some, None, refl, sym, ◌∙◌, ap, arith}
+use Rattle.std.specs.Prelude.{negsuc, ◌^◌, ◌≤ℤ◌, ◌++◌, replicate}
 use Rattle.std.specs.Int.{w64, FitsUnsigned}
 use Rattle.std.proofs.lemmas.Int.{ints}
 use Rattle.long_names.specs.declared.value.Value.{Value}
@@ -77,6 +77,38 @@ raise-one t s owed x used few = raised-sound t s (pos 1) owed (Ref n ∷ owed) x
   where
     n : ℕ
     n = (t.core.entries s).name
+
+-- ---- many words more
+
+words-many : (n m : ℕ) (owed : List Value) → words (replicate n (Ref m) ++ owed) m ≡ n + words owed m
+words-many zero m owed = let none : words (replicate 0 (Ref m) ++ owed) m ≡ words owed m = refl in omega arith
+words-many (suc n) m owed = let rest = words-many n m owed in let a = words-cons (Ref m) (replicate n (Ref m) ++ owed) m in let b = word-here m in omega arith
+
+words-away : (n m q : ℕ) (owed : List Value) → (q ≡ m → ⊥) → words (replicate n (Ref m) ++ owed) q ≡ words owed q
+words-away zero m q owed away = refl
+words-away (suc n) m q owed away = let rest = words-away n m q owed away in let a = words-cons (Ref m) (replicate n (Ref m) ++ owed) q in let b = word-other m q away in omega arith
+
+pub raise-many : (t : Levels) (s n : ℕ) (owed : List Value) → IsSound t owed → is_used (t.core.entries s).state ≡ true → count_of (heap_of t) (t.core.entries s).name + words owed (t.core.entries s).name + n ≤ 2 ^ 62
+    → IsSound (raised_by t s (pos n)) (replicate n (Ref (t.core.entries s).name) ++ owed)
+raise-many t s n owed x used few = raised-sound t s (pos n) owed (replicate n (Ref m) ++ owed) x used
+    (λ q away. words-away n m q owed away)
+    (let a = words-many n m owed in omega (arith, ints))
+    (by_name {P = λ q. count_of (heap_of t) q + words (replicate n (Ref m) ++ owed) q ≤ 2 ^ 62} m
+    (let a = words-many n m owed in let b = few in omega arith)
+    (λ q away. let a = words-away n m q owed away in let c = x.small.counts q in omega arith))
+    (by_name {P = λ q. 0 < words (replicate n (Ref m) ++ owed) q → Has (heap_of t) q} m
+    (λ some. x.counted.entered m s (x.core.found s used))
+    (λ q away some. x.counted.named q (let a = words-away n m q owed away in omega arith)))
+  where
+    m : ℕ
+    m = (t.core.entries s).name
+
+pub change-more : (t : Levels) (s n : ℕ) (owed : List Value) → IsSound t owed → is_used (t.core.entries s).state ≡ true → n < 2 ^ 62 → (negsuc (2 ^ 63 - 1) ≤ℤ ((t.core.entries s).change +ℤ pos n)) × (((t.core.entries s).change +ℤ pos n) ≤ℤ pos (2 ^ 63 - 1))
+change-more t s n owed x used few =
+    let e = sum-is t s owed x used in
+    let a = count-small t (t.core.entries s).name owed x in
+    let b = x.small.counts (t.core.entries s).name in
+    (omega (arith, ints), omega (arith, ints))
 
 -- ---- the counts of a heap
 

@@ -9,3 +9,5 @@ pub mod EndLaws
 pub mod StoreLaws
 pub mod RingLaws
 pub mod NumberLaws
+pub mod SwapLaws
+pub mod BeginLaws

@@ -1,13 +1,17 @@
 -- Steps of the two levels, and what they do to counts.
-use Rattle.std.specs.Prelude.{◌≡◌, ◌≢◌, ℕ, ℤ, pos, negsuc, ◌+ℤ◌, ◌+◌, ◌-◌, ◌≤◌, List, ◌∷◌, Option, Some, None, if◌then◌else◌, option_map}
+use Rattle.std.specs.Prelude.{◌≡◌, ◌≢◌, ℕ, ℤ, pos, negsuc, ◌+ℤ◌, ◌+◌, ◌-◌, ◌≤◌, ◌^◌, true, List, [], ◌∷◌, Option, Some, None, if◌then◌else◌, option_map}
 use Rattle.long_names.specs.Names.{is_known}
+use Rattle.long_names.specs.Heap.{Heap, count_of}
 use Rattle.object_table.specs.declared.entry.Entry.{Entry}
 use Rattle.object_table.specs.Entries.{put}
 use Rattle.core_view.specs.Core.{Core, with_entry, without_leaf}
 use Rattle.core_view.specs.Counts.{uses, change_of}
 use Rattle.core_view.specs.Held.{object_at}
+use Rattle.core_view.specs.Kept.{IsCore}
 use Rattle.core_view.specs.Steps.{touched, written}
 use Rattle.counted_core.specs.Levels.{Stored, Levels, count_in, records_of, waits, sum_of}
+use Rattle.counted_core.specs.Counted.{IsHeld}
+use Rattle.counted_core.specs.Dead.{IsImage}
 
 -- ---- steps of counts
 
@@ -102,3 +106,23 @@ pub record IsMaking (old new : Core) (n s : ℕ) : Type 0 where
   pub changes : (m : ℕ) → change_of new m ≡ change_of old m
   pub found : new.find n ≡ Some s
   pub others : (m : ℕ) → m ≢ n → new.find m ≡ old.find m
+
+-- the objects of two names, which have these records, in each other's place on disk; counts stay with the names
+abbrev pub swapped : Levels → ℕ → ℕ → Stored → Stored → Levels
+swapped t a b r k = record {
+  core = t.core;
+  stored = put (put t.stored a (Some (recounted r.count k))) b (Some (recounted k.count r));
+  pending = t.pending;
+  next = t.next;
+}
+
+-- No name has an entry, the disk has just the objects of a heap with their exact counts, none is pending, and only known names have count 0.
+pub record IsBegun (t : Levels) (h : Heap) : Type 0 where
+  pub core : IsCore t.core
+  pub empty : (q : ℕ) → t.core.find q ≡ None
+  pub image : IsImage t.stored h
+  pub next : t.next ≡ h.next
+  pub none : t.pending ≡ []
+  pub uncounted : (q : ℕ) (r : Stored) → t.stored q ≡ Some r → r.count ≡ 0 → is_known q ≡ true
+  pub held : IsHeld h
+  pub few : (q : ℕ) → count_of h q ≤ 2 ^ 62

@@ -1,11 +1,11 @@
 //! Laws of exact counts. No code calls these functions: what each of them ensures is the law.
-ghost use Rattle.std.specs.Prelude.{◌≡◌, ◌≢◌, ◌≤◌, ◌<◌, ◌≤ℤ◌, ◌+◌, ◌+ℤ◌, ◌^◌, ℕ, ℤ, pos, negsuc, ◌-◌, length, List, [], ◌∷◌, Some, None, true, false, All};
+ghost use Rattle.std.specs.Prelude.{◌≡◌, ◌≢◌, ◌≤◌, ◌<◌, ◌≤ℤ◌, ◌+◌, ◌+ℤ◌, ◌^◌, ℕ, ℤ, pos, negsuc, ◌-◌, length, List, [], ◌∷◌, ◌++◌, replicate, Some, None, true, false, All};
 ghost use Rattle.std.specs.Int.{w64, FitsUnsigned};
 ghost use Rattle.long_names.specs.declared.value.Value.{Value};
 ghost use Rattle.long_names.specs.declared.value.Value.TheVariants.{Ref};
 ghost use Rattle.long_names.specs.declared.limits.TheConstants.{MOST_FIELDS};
 ghost use Rattle.long_names.specs.declared.object.Object.{Object};
-ghost use Rattle.long_names.specs.Heap.{Heap, Has, IsBounded, count_of, object_count, without};
+ghost use Rattle.long_names.specs.Heap.{Heap, Has, IsBounded, count_of, object_count, swap_objects, without};
 ghost use Rattle.long_names.specs.Kept.{kept};
 ghost use Rattle.long_names.specs.Names.{is_known, IsLongName};
 ghost use Rattle.long_names.specs.Objects.{field_of, fields_of, with_field};
@@ -19,15 +19,18 @@ ghost use Rattle.core_view.specs.Purge.{fresh_of};
 ghost use Rattle.core_view.specs.Steps.{IsIdle, IsSpare};
 ghost use Rattle.counted_core.specs.Levels.{Levels, Stored, count_in, heap_of, is_waiting, records_of};
 ghost use Rattle.counted_core.specs.Counted.{IsHeld, IsSound, words, words_of};
-ghost use Rattle.counted_core.specs.Dead.{CanGo, HasCount, IsImage, IsLoose, NoneBareDead, NoneDead, NoneIdle, is_root};
+ghost use Rattle.counted_core.specs.Dead.{CanGo, HasCount, IsBare, IsImage, IsLoose, NoneBareDead, NoneDead, NoneIdle, is_root};
 ghost use Rattle.counted_core.specs.Numbers.{stored_count};
-ghost use Rattle.counted_core.specs.Steps.{IsMaking, IsUncounted, folded, given, lowered, made, raised_by, removed, with_core, written_at};
+ghost use Rattle.counted_core.specs.Steps.{IsBegun, IsMaking, IsUncounted, folded, given, lowered, made, raised_by, removed, swapped, with_core, written_at};
 
 /// Where the count of an entry's name is raised, a word more of it is owed; by any number, so many words more or less.
 pub fn a_raise_is_owed()
     ensures one { (t : Levels) (s : ℕ) (owed : List Value) → IsSound t owed → is_used (t.core.entries s).state ≡ true
         → count_of (heap_of t) (t.core.entries s).name + words owed (t.core.entries s).name < 2 ^ 62
         → IsSound (raised_by t s (pos 1)) (Ref (t.core.entries s).name ∷ owed) }
+    ensures many { (t : Levels) (s n : ℕ) (owed : List Value) → IsSound t owed → is_used (t.core.entries s).state ≡ true
+        → count_of (heap_of t) (t.core.entries s).name + words owed (t.core.entries s).name + n ≤ 2 ^ 62
+        → IsSound (raised_by t s (pos n)) (replicate n (Ref (t.core.entries s).name) ++ owed) }
     ensures sound { (t : Levels) (s : ℕ) (d : ℤ) (owed now : List Value) → IsSound t owed → is_used (t.core.entries s).state ≡ true
         → ((q : ℕ) → q ≢ (t.core.entries s).name → words now q ≡ words owed q)
         → pos (words now (t.core.entries s).name) ≡ pos (words owed (t.core.entries s).name) +ℤ d
@@ -97,6 +100,20 @@ pub fn an_object_is_written()
         → IsSound (written_at t s p) owed × (heap_of (written_at t s p) ≡ heap_of t) }
 {}
 
+/// Two objects that have no body in core change places on disk, and counts stay with their names: the heap has them exchanged.
+pub fn two_objects_change_places()
+    ensures sound { (t : Levels) (a b : ℕ) (r k : Stored) (owed : List Value) → IsSound t owed → IsBare t a → IsBare t b → t.stored a ≡ Some r
+        → t.stored b ≡ Some k → IsSound (swapped t a b r k) owed }
+    ensures heap { (t : Levels) (a b : ℕ) (r k : Stored) → IsCore t.core → IsBare t a → IsBare t b → t.stored a ≡ Some r
+        → t.stored b ≡ Some k → heap_of (swapped t a b r k) ≡ swap_objects (heap_of t) a b }
+{}
+
+/// A core without entries over a disk that has just a heap's objects with their exact counts is sound, and that heap is the held one.
+pub fn a_disk_begins()
+    ensures sound { (t : Levels) (h : Heap) → IsBegun t h → IsSound t [] }
+    ensures heap { (t : Levels) (h : Heap) → IsBegun t h → heap_of t ≡ h }
+{}
+
 /// What a body uses is counted, and has its object.
 pub fn what_is_used_is_counted()
     ensures counted { (t : Levels) (s : ℕ) → IsCore t.core → IsHeld (heap_of t) → 1 ≤ uses t.core s → 0 < count_of (heap_of t) (t.core.entries s).name }
@@ -132,11 +149,13 @@ pub fn counts_are_small()
         → count_of h q ≤ 2 ^ 48 }
 {}
 
-/// No count leaves its number: one word less of an entry's name is a change of 64 bits, and so is the sum that is folded on disk. A name
-/// without an entry of which a word is owed has a count on disk that may be lowered.
+/// No count leaves its number: one word less of an entry's name, or so many more, is a change of 64 bits, and so is the sum that is folded
+/// on disk. A name without an entry of which a word is owed has a count on disk that may be lowered.
 pub fn counts_fit_their_numbers()
     ensures change { (t : Levels) (s : ℕ) (owed : List Value) → IsSound t owed → is_used (t.core.entries s).state ≡ true
         → (negsuc (2 ^ 63 - 1) ≤ℤ ((t.core.entries s).change +ℤ negsuc 0)) × (((t.core.entries s).change +ℤ negsuc 0) ≤ℤ pos (2 ^ 63 - 1)) }
+    ensures more { (t : Levels) (s n : ℕ) (owed : List Value) → IsSound t owed → is_used (t.core.entries s).state ≡ true → n < 2 ^ 62
+        → (negsuc (2 ^ 63 - 1) ≤ℤ ((t.core.entries s).change +ℤ pos n)) × (((t.core.entries s).change +ℤ pos n) ≤ℤ pos (2 ^ 63 - 1)) }
     ensures sum { (t : Levels) (s : ℕ) (owed : List Value) → IsSound t owed → is_used (t.core.entries s).state ≡ true
         → FitsUnsigned w64 (pos (count_in (t.stored (t.core.entries s).name)) +ℤ (t.core.entries s).change) }
     ensures stored { (t : Levels) (n : ℕ) (owed : List Value) → IsSound t (Ref n ∷ owed) → t.core.find n ≡ None → HasCount t.stored t.pending n }

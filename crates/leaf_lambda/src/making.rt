@@ -3,6 +3,7 @@ ghost use Rattle.std.specs.Prelude.{◌≡◌, ◌≢◌, ◌+◌, ◌*◌, ◌<
 ghost use Rattle.long_names.specs.Names.{NIL};
 ghost use Rattle.long_names.specs.Objects.{body_made, OfPointers};
 ghost use Rattle.long_names.specs.Words.{literal_count};
+ghost use Rattle.long_names.specs.declared.limits.TheConstants.{MOST_FIELDS};
 ghost use Rattle.long_names.specs.declared.object.Kind.TheVariants as sort;
 ghost use Rattle.object_table.specs.Entries.{put, is_short, is_used, place_of};
 ghost use Rattle.core_segment.specs.Chunks.{with_chunk};
@@ -235,7 +236,7 @@ fn one_making(p: &mut Parts, name: Name, class: Short, nil: Short, len: u32) -> 
     requires absent { (core_of p.old).find name ≡ None }
     requires class { is_used ((core_of p.old).entries class.0).state ≡ true }
     requires nil { (is_used ((core_of p.old).entries nil.0).state ≡ true) × (((core_of p.old).entries nil.0).name ≡ NIL) }
-    requires len { len < 65536 }
+    requires len { len < MOST_FIELDS + 1 }
     requires room { len + HEADER ≤ largest_of p.old.segment }
     ensures held { IfSome result (λ s. (disk : Store) → IsBacked (core_of p.old) disk →
         held (core_of p.new) disk ≡ put (held (core_of p.old) disk) name (Some (record {

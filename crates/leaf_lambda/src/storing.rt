@@ -92,6 +92,7 @@ pub fn put_byte(p: &mut Parts, s: Short, at: Addr, i: u32, b: u8)
     requires within { i < ((core_of p.old).entries s.0).len }
     ensures parts { IsParts p.new }
     ensures within { IsWithin s.0 (core_of p.old) (core_of p.new) }
+    ensures find { (core_of p.new).find ≡ (core_of p.old).find }
     ensures entry { (core_of p.new).entries s.0 ≡ marked_changed ((core_of p.old).entries s.0) }
     ensures backed { (disk : Store) → IsBacked (core_of p.old) disk → IsBacked (core_of p.new) disk }
     ensures held { (disk : Store) (o : Item) → IsBacked (core_of p.old) disk

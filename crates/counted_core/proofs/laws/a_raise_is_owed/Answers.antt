@@ -1,9 +1,12 @@
-use Rattle.counted_core.proofs.CanLaws.{raise-one}
+use Rattle.counted_core.proofs.CanLaws.{raise-one, raise-many}
 use Rattle.counted_core.proofs.ChangeLaws.{raised-sound, raised-heap}
 use Rattle.counted_core.proofs.laws.a_raise_is_owed.Goals as goal
 
 pub returns-clause-one : goal.returns-clause-one
 returns-clause-one c = raise-one
+
+pub returns-clause-many : goal.returns-clause-many
+returns-clause-many c = raise-many
 
 pub returns-clause-sound : goal.returns-clause-sound
 returns-clause-sound c = raised-sound

@@ -1,8 +1,11 @@
-use Rattle.counted_core.proofs.CanLaws.{change-less, sum-fits, owed-stored}
+use Rattle.counted_core.proofs.CanLaws.{change-less, change-more, sum-fits, owed-stored}
 use Rattle.counted_core.proofs.laws.counts_fit_their_numbers.Goals as goal
 
 pub returns-clause-change : goal.returns-clause-change
 returns-clause-change c = change-less
+
+pub returns-clause-more : goal.returns-clause-more
+returns-clause-more c = change-more
 
 pub returns-clause-sum : goal.returns-clause-sum
 returns-clause-sum c = sum-fits

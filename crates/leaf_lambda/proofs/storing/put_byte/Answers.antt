@@ -4,7 +4,7 @@ use Rattle.long_names.specs.Objects.{with_bytes}
 use Rattle.core_segment.specs.declared.segment.Segment.{Segment}
 use Rattle.core_segment.specs.Chunks.{with_chunk}
 use Rattle.core_segment.specs.Segment.{chunk_at}
-use Rattle.core_view.specs.Core.{with_words}
+use Rattle.core_view.specs.Core.{Core, with_words}
 use Rattle.core_view.proofs.Core.{placed-used, held-at}
 use Rattle.leaf_lambda.specs.Parts.{core_of}
 use Rattle.leaf_lambda.specs.Making.{byte_written, first_byte}
@@ -49,6 +49,9 @@ returns-clause-within c = rewritten-within (core_of c.args.p.now) (core_of c.mar
 
 pub returns-clause-entry : goal.returns-clause-entry
 returns-clause-entry c = rewritten-entry (core_of c.args.p.now) (core_of c.mark_changed.new.p) (core_of (record { segment = c.set_word.new.self; names = c.mark_changed.new.p.names })) c.args.s.0 c.args.at.place (byte_written ((core_of c.args.p.now).entries c.args.s.0).kind ((core_of c.args.p.now).chunks c.args.at.place).words c.args.i c.word-w.result c.args.b) (run c)
+
+pub returns-clause-find : goal.returns-clause-find
+returns-clause-find c = ap (λ (d : Core). d.find) (run c).write ∙ ap (λ (d : Core). d.find) (run c).mark
 
 pub returns-clause-backed : goal.returns-clause-backed
 returns-clause-backed c = λ disk. rewritten-backed (core_of c.args.p.now) (core_of c.mark_changed.new.p) (core_of (record { segment = c.set_word.new.self; names = c.mark_changed.new.p.names })) c.args.s.0 c.args.at.place (byte_written ((core_of c.args.p.now).entries c.args.s.0).kind ((core_of c.args.p.now).chunks c.args.at.place).words c.args.i c.word-w.result c.args.b) disk (run c) (byte-as-long (core_of c.args.p.now) c.args.s.0 c.args.at.place c.args.i c.word-w.result c.args.b c.requires.parts.core c.requires.place c.requires.kind)
