@@ -1,6 +1,6 @@
 -- One dead name is freed, or none is dead without a body.
 use Rattle.std.proofs.Common.{◌≡◌, inl, ℕ, Bool, true, false, None, [], Result, Ok, Err, IfOk, sym, ◌∙◌, ap, subst, arith}
-use Rattle.long_names.specs.Heap.{without, count_of}
+use Rattle.long_names.specs.Heap.{Has, without, count_of}
 use Rattle.loom_outside.specs.declared.outside.Host.{Ghosts}
 use Rattle.object_table.specs.Table.{entries_of}
 use Rattle.disk_objects.specs.declared.rest.DiskRest.{DiskRest}
@@ -28,6 +28,7 @@ counting-giving p q c = record {
   entries = λ s. inl (c.entries s);
   bodies = λ s at e. c.entries s;
   sum = let a = ap held_of c.resident in let b = c.free in omega arith;
+  more = let b = c.free in omega arith;
   room = ap room_of c.resident;
   bound = c.bound;
 }
@@ -43,6 +44,7 @@ first-one host chunks p now rest t true x e d = record {
   levels = d.3.levels;
   at = d.3.at;
   sound = d.3.sound;
+  held = d.1.held;
   unknown = d.1.unknown;
   uncounted = d.1.uncounted;
   free = d.1.free;
@@ -72,6 +74,7 @@ then-one host chunks m q p was mid now before between rest t u true at to g y sa
   levels = d.3.levels;
   at = d.3.at;
   sound = d.3.sound;
+  held = subst (λ h. Has h d.0) same d.1.held;
   unknown = d.1.unknown;
   uncounted = uncounted;
   free = given-free host chunks m q was mid before between t u d.0 at to y g d.2;

@@ -23,7 +23,7 @@ use Rattle.core_view.specs.Kept.{IsCore, IsTight, Stays}
 use Rattle.core_view.specs.Steps.{IsIdle}
 use Rattle.core_view.proofs.Core.{held-leaf}
 use Rattle.core_view.proofs.Entries.{at-entry}
-use Rattle.core_view.proofs.Lists.{put-here}
+use Rattle.core_view.proofs.Lists.{put-here, put-there}
 use Rattle.core_view.proofs.Leaves.{idle-core, idle-outside}
 use Rattle.core_view.proofs.Steps.{idle-stays, Stays-refl, Stays-trans}
 use Rattle.resident_table.specs.Resident.{short_of, held_of, room_of}
@@ -42,7 +42,7 @@ use Rattle.delta_counts.proofs.LowerLaws.{not-joined, is-joined}
 
 -- ---- what may be folded
 
-leaf-stored : (t : Levels) (s : ℕ) → IsSound t [] → is_used (t.core.entries s).state ≡ true → place_of (t.core.entries s).state ≡ None → (r : Stored) × (t.stored (t.core.entries s).name ≡ Some r)
+pub leaf-stored : (t : Levels) (s : ℕ) → IsSound t [] → is_used (t.core.entries s).state ≡ true → place_of (t.core.entries s).state ≡ None → (r : Stored) × (t.stored (t.core.entries s).name ≡ Some r)
 leaf-stored t s x used leaf = go (t.stored (t.core.entries s).name) refl
   where
     n : ℕ
@@ -55,15 +55,19 @@ leaf-stored t s x used leaf = go (t.stored (t.core.entries s).name) refl
     go None e = let none : is_some (record_in (t.stored n)) ≡ true = sym (ap is_some (held-leaf t.core (records_of t) n s (x.core.found s used) leaf)) ∙ has in absurd (cc)
     go (Some r) e = (r, e)
 
-pub idle-can : (t : Levels) (s : ℕ) → IsSound t [] → IsIdleEntry (t.core.entries s) → CanFold s t
-idle-can t s x idle =
-    let r = leaf-stored t s x idle.used idle.leaf in
+-- the change of a leaf
+pub leaf-can : (t : Levels) (s : ℕ) → IsSound t [] → is_used (t.core.entries s).state ≡ true → place_of (t.core.entries s).state ≡ None → CanFold s t
+leaf-can t s x used leaf =
+    let r = leaf-stored t s x used leaf in
     record {
       stored = r.0;
       there = r.1;
-      found = x.core.found s idle.used;
-      fits = subst (λ k. FitsUnsigned w64 (pos k +ℤ (t.core.entries s).change)) (ap count_in r.1) (sum-fits t s [] x idle.used);
+      found = x.core.found s used;
+      fits = subst (λ k. FitsUnsigned w64 (pos k +ℤ (t.core.entries s).change)) (ap count_in r.1) (sum-fits t s [] x used);
     }
+
+pub idle-can : (t : Levels) (s : ℕ) → IsSound t [] → IsIdleEntry (t.core.entries s) → CanFold s t
+idle-can t s x idle = leaf-can t s x idle.used idle.leaf
 
 pub idle-at : {H : Type 0} (host : Ghosts H) (chunks : ℕ → Chunk) (p : Parts2) (now : H) (rest : DiskRest) (t : Levels) (s : ℕ) → IsAt host chunks p now rest t → IsIdleEntry (entry_at p.table s) → IsIdleEntry (t.core.entries s)
 idle-at host chunks p now rest t s at idle = subst (λ (e : Entry). IsIdleEntry e) (sym (entry-is host chunks p now rest t s at)) idle
@@ -174,6 +178,7 @@ gone-giving p m q s c idle entries size find held free room = record {
   bodies = λ r a at. subst (λ (f : ℕ → Entry). f r ≡ with_change (entry_at p.table r) (f r).change) (sym entries)
       (at-entry (entry_at m.table) s free_entry (λ k e. place_of (entry_at p.table k).state ≡ Some a → e ≡ with_change (entry_at p.table k) e.change) (λ there. let z : None ≡ Some a = sym idle.leaf ∙ there in absurd (cc)) (λ k away there. c.entries k) r at);
   sum = let a = ap held_of c.resident in let b = c.free in omega arith;
+  more = let b = c.free in omega arith;
   room = room ∙ ap room_of c.resident;
   bound = ap (λ (k : ℕ). 2 * k + 2) size ∙ c.bound;
 }
@@ -183,6 +188,9 @@ gone-giving p m q s c idle entries size find held free room = record {
 
     is : (chunks : ℕ → Chunk) → core_with chunks q ≡ without_leaf (core_with chunks m) s n
     is chunks = gone-core m q s n chunks entries size find
+
+pub others-stay : (p m q : Parts2) (s : ℕ) → IsCounting p m → entry_at q.table ≡ put (entry_at m.table) s free_entry → (r : ℕ) → r ≢ s → entry_at q.table r ≡ with_change (entry_at p.table r) (entry_at q.table r).change
+others-stay p m q s c entries r away = subst (λ (e : Entry). e ≡ with_change (entry_at p.table r) e.change) (sym (ap (λ (f : ℕ → Entry). f r) entries ∙ put-there (entry_at m.table) s free_entry r away)) (c.entries r)
 
 pub idle-found : (p m : Parts2) (s : ℕ) → IsNames p → IsCounting p m → is_used (entry_at p.table s).state ≡ true → IsSome (short_of m.resident (entry_at p.table s).name)
 unfolding core_with
@@ -212,6 +220,7 @@ giving-refl p = record {
   entries = λ s. inl refl;
   bodies = λ s at e. refl;
   sum = refl;
+  more = omega arith;
   room = refl;
   bound = refl;
 }
@@ -224,6 +233,7 @@ giving-trans p q r a b = record {
   entries = λ s. both s (a.entries s) (b.entries s);
   bodies = λ s at e. b.bodies s at (ap (λ (z : Entry). place_of z.state) (a.bodies s at e) ∙ e) ∙ ap (λ (z : Entry). with_change z (entry_at r.table s).change) (a.bodies s at e);
   sum = b.sum ∙ a.sum;
+  more = let first = a.more in let then = b.more in omega arith;
   room = b.room ∙ a.room;
   bound = b.bound ∙ a.bound;
 }

@@ -10,3 +10,4 @@ pub mod GiveLaws
 pub mod DrainLaws
 pub mod NumberLaws
 pub mod RefLaws
+pub mod SwapLaws

@@ -7,7 +7,7 @@ use Rattle.std.specs.FinMap as map
 use Rattle.std.specs.Int.{w64, FitsUnsigned}
 use Rattle.long_names.specs.declared.value.Value.{Value}
 use Rattle.long_names.specs.Names.{is_known}
-use Rattle.long_names.specs.Heap.{without, count_of}
+use Rattle.long_names.specs.Heap.{Has, without, count_of}
 use Rattle.long_names.specs.Thin.{IsThinner}
 use Rattle.loom_outside.specs.declared.outside.Host.{Ghosts}
 use Rattle.loom_outside.specs.declared.outside.Role.TheVariants.{Work}
@@ -117,6 +117,7 @@ pub record IsOneFreed {H : Type 0} (host : Ghosts H) (chunks : ℕ → Chunk) (p
   pub levels : Levels
   pub at : IsAt host chunks p now rest levels
   pub sound : IsSound levels []
+  pub held : Has (heap_of t) name
   pub unknown : is_known name ≡ false
   pub uncounted : count_of (heap_of t) name ≡ 0
   pub free : roots_of t name ≡ 0

@@ -1,5 +1,5 @@
 -- Leaves to which nothing refers, and what is left of parts when they are given up.
-use Rattle.std.specs.Prelude.{◌≡◌, ◌⊎◌, ℕ, ◌+◌, ◌*◌, ◌<◌, true, false, None, Some}
+use Rattle.std.specs.Prelude.{◌≡◌, ◌⊎◌, ℕ, ◌+◌, ◌*◌, ◌<◌, ◌≤◌, true, false, None, Some}
 use Rattle.object_table.specs.declared.entry.Entry.{Entry}
 use Rattle.object_table.specs.Entries.{is_used, place_of}
 use Rattle.object_table.specs.Table.{entry_at, bound_of, free_of}
@@ -24,6 +24,7 @@ pub record IsGiving (old new : Parts2) : Type 0 where
   pub entries : (s : ℕ) → (entry_at new.table s ≡ with_change (entry_at old.table s) (entry_at new.table s).change) ⊎ (is_used (entry_at new.table s).state ≡ false)
   pub bodies : (s p : ℕ) → place_of (entry_at old.table s).state ≡ Some p → entry_at new.table s ≡ with_change (entry_at old.table s) (entry_at new.table s).change
   pub sum : held_of new.resident + free_of new.table ≡ held_of old.resident + free_of old.table
+  pub more : free_of old.table ≤ free_of new.table
   pub room : room_of new.resident ≡ room_of old.resident
   pub bound : bound_of new.table ≡ bound_of old.table
 

@@ -38,6 +38,8 @@ pub fn add_change(p: &mut Parts2, s: Short, by: i64)
     requires used { is_used (entry_at p.old.table s.0).state ≡ true }
     ensures changed { (chunks : ℕ → Chunk) → IsChange ((entry_at p.old.table s.0).change +ℤ by)
         → core_with chunks p.new ≡ changed_at (core_with chunks p.old) s.0 ((entry_at p.old.table s.0).change +ℤ by) }
+    ensures still { (chunks : ℕ → Chunk) → (IsChange ((entry_at p.old.table s.0).change +ℤ by) → ⊥)
+        → core_with chunks p.new ≡ changed_at (core_with chunks p.old) s.0 (entry_at p.old.table s.0).change }
     ensures counting { IsCounting p.old p.new }
 {
     let change = p.table.entry(s).change;

@@ -1,5 +1,5 @@
 // One dead name is freed.
-ghost use Rattle.std.specs.Prelude.{◌≡◌, ◌+◌, ℕ, [], IsTrue, OnOk, IfOk, IfErr};
+ghost use Rattle.std.specs.Prelude.{◌≡◌, ◌+◌, ℕ, [], IsTrue, IfOk, IfErr};
 ghost use Rattle.loom_outside.specs.declared.outside.Role.{Role};
 ghost use Rattle.core_segment.specs.Chunks.{Chunk};
 ghost use Rattle.loom_outside.specs.Work.{IsWorkOnly};
@@ -30,7 +30,7 @@ pub fn drain_one<H: Host>(
     ensures drained { IsTrue (H.tells Role.Work) → (chunks : ℕ → Chunk) (t : Levels) →
         IsAt H.Host chunks p.old disk.old.host.now disk.old.rest t → IsSound t [] →
         IfOk result (DrainsOne H.Host chunks p.new disk.new.host.now disk.new.rest t) }
-    ensures giving { OnOk result (IsGiving p.old p.new) }
+    ensures giving { IsGiving p.old p.new }
     ensures held { IfOk result (λ found. IsTrue found → disk_held disk.new.rest + 1 ≡ disk_held disk.old.rest) }
     ensures room { disk_room disk.new.rest ≡ disk_room disk.old.rest }
     ensures work { IsWorkOnly H.Host disk.old.host.now disk.new.host.now }

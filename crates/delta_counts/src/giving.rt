@@ -1,5 +1,5 @@
 // Leaves to which nothing refers: their entries are given up.
-ghost use Rattle.std.specs.Prelude.{◌≡◌, ◌<◌, ◌↔◌, ℕ, true, [], IsTrue, OnOk, IfErr};
+ghost use Rattle.std.specs.Prelude.{◌≡◌, ◌≢◌, ◌<◌, ◌↔◌, ℕ, true, [], IsTrue, OnOk, IfErr};
 ghost use Rattle.loom_outside.specs.declared.outside.Role.{Role};
 ghost use Rattle.object_table.specs.Entries.{is_short, free_entry};
 ghost use Rattle.object_table.specs.Table.{entry_at, entries_of, bound_of};
@@ -10,6 +10,7 @@ ghost use Rattle.disk_objects.specs.Places.{IsSlotPlace};
 ghost use Rattle.disk_objects.specs.Disk.{disk_room, disk_held};
 ghost use Rattle.counted_core.specs.Levels.{Levels};
 ghost use Rattle.counted_core.specs.Counted.{IsSound};
+ghost use Rattle.counted_core.specs.Steps.{with_change};
 ghost use Rattle.delta_counts.specs.Parts.{IsNames};
 ghost use Rattle.delta_counts.specs.At.{IsAt, AtSome, IsReached, IsSoundWith};
 ghost use Rattle.delta_counts.specs.Giving.{IsIdleEntry, IsGiving, NoneIdleBelow};
@@ -49,7 +50,8 @@ pub fn give_up<H: Host>(
     ensures given { IsTrue (H.tells Role.Work) → (chunks : ℕ → Chunk) (t : Levels) →
         IsAt H.Host chunks p.old disk.old.host.now disk.old.rest t → IsSound t [] →
         OnOk result (IsReached H.Host chunks p.new disk.new.host.now disk.new.rest t []) }
-    ensures giving { OnOk result (IsGiving p.old p.new) }
+    ensures giving { IsGiving p.old p.new }
+    ensures others { (q : ℕ) → q ≢ s.0 → entry_at p.new.table q ≡ with_change (entry_at p.old.table q) (entry_at p.new.table q).change }
     ensures gone { OnOk result (entry_at p.new.table s.0 ≡ free_entry) }
     ensures held { disk_held disk.new.rest ≡ disk_held disk.old.rest }
     ensures room { disk_room disk.new.rest ≡ disk_room disk.old.rest }
@@ -83,7 +85,7 @@ fn give_idle_at<H: Host>(
     ensures given { IsTrue (H.tells Role.Work) → (chunks : ℕ → Chunk) (t : Levels) →
         IsAt H.Host chunks p.old disk.old.host.now disk.old.rest t → IsSound t [] →
         OnOk result (IsReached H.Host chunks p.new disk.new.host.now disk.new.rest t []) }
-    ensures giving { OnOk result (IsGiving p.old p.new) }
+    ensures giving { IsGiving p.old p.new }
     ensures gone { OnOk result (IsIdleEntry (entry_at p.new.table s.0) → ⊥) }
     ensures held { disk_held disk.new.rest ≡ disk_held disk.old.rest }
     ensures room { disk_room disk.new.rest ≡ disk_room disk.old.rest }
@@ -104,7 +106,7 @@ pub fn give_idle<H: Host>(p: &mut Parts2, disk: &mut DiskObjects<'_, H>) -> Resu
     ensures given { IsTrue (H.tells Role.Work) → (chunks : ℕ → Chunk) (t : Levels) →
         IsAt H.Host chunks p.old disk.old.host.now disk.old.rest t → IsSound t [] →
         OnOk result (IsReached H.Host chunks p.new disk.new.host.now disk.new.rest t []) }
-    ensures giving { OnOk result (IsGiving p.old p.new) }
+    ensures giving { IsGiving p.old p.new }
     ensures none { OnOk result (NoneIdleBelow (entries_of p.old.table) p.new) }
     ensures held { disk_held disk.new.rest ≡ disk_held disk.old.rest }
     ensures room { disk_room disk.new.rest ≡ disk_room disk.old.rest }

@@ -11,8 +11,8 @@
 //!
 //! What the counts mean stands in `counted_core`: `IsSound t owed` says that they are exact but for the words that are owed. Here `IsAt` says
 //! that parts and a disk stand for such levels, and each call says what it makes of them where the host tells Work. Read `specs/At.antt` first,
-//! then `Parts.antt` and `Giving.antt`. Bodies are never touched: the layer above evicts the dead objects that have one, and asks for each word
-//! which entry it names.
+//! then `Parts.antt` and `Giving.antt`. Bodies are never touched: the layer above frees the dead objects that have one, whose words `lower_words`
+//! lowers from the record that it makes of them.
 #![tactic(auto)]
 
 mod changes;
@@ -31,3 +31,4 @@ pub use folding::fold;
 pub use freeing::drain_all;
 pub use giving::{give_idle, give_up};
 pub use references::{hold, release};
+pub use words::lower_words;

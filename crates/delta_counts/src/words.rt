@@ -129,8 +129,9 @@ fn lower_class<H: Host>(
     lower(p, disk, buf.class())
 }
 
-// One word less for the class and for each name among the fields of the record, which stands at this place.
-pub(crate) fn lower_words<H: Host>(
+/// One word less for the class and for each name among the fields of the record. Damage in a field is told with this place and the
+/// record's name.
+pub fn lower_words<H: Host>(
     p: &mut Parts2,
     disk: &mut DiskObjects<'_, H>,
     buf: &RecordBuf,

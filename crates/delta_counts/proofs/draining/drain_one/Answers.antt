@@ -1,6 +1,5 @@
 use Rattle.std.proofs.Common.{◌∙◌, arith}
 use Rattle.delta_counts.proofs.PartLaws.{counting-names}
-use Rattle.delta_counts.proofs.LowerLaws.{ok-of}
 use Rattle.delta_counts.proofs.GiveLaws.{giving-trans, giving-names}
 use Rattle.delta_counts.proofs.DrainLaws.{counting-giving, first-one, first-none, none-core, then-one, if-map}
 use Rattle.loom_outside.proofs.WorkLaws.{exits}
@@ -42,9 +41,14 @@ returns-clause-drained g c = λ told chunks t was x.
     (c.drain_pending-2.ensures.drained told chunks r.levels r.at r.sound)
 
 pub returns-clause-giving : goal.returns-clause-giving
-returns-clause-giving g c = ok-of c.drain_pending-2.result
-    (giving-trans c.args.p.now c.give_idle.new.p c.drain_pending-2.new.p (giving-trans c.args.p.now c.drain_pending.new.p c.give_idle.new.p (counting-giving c.args.p.now c.drain_pending.new.p c.drain_pending.ensures.counting) c.in_ok-give_idle.ensures.giving)
-    (counting-giving c.give_idle.new.p c.drain_pending-2.new.p c.drain_pending-2.ensures.counting))
+returns-clause-giving g c = giving-trans c.args.p.now c.give_idle.new.p c.drain_pending-2.new.p (giving-trans c.args.p.now c.drain_pending.new.p c.give_idle.new.p (counting-giving c.args.p.now c.drain_pending.new.p c.drain_pending.ensures.counting) c.give_idle.ensures.giving)
+    (counting-giving c.give_idle.new.p c.drain_pending-2.new.p c.drain_pending-2.ensures.counting)
+
+pub returns-in_err-drain_pending-clause-giving : goal.returns-in_err-drain_pending-clause-giving
+returns-in_err-drain_pending-clause-giving g c = counting-giving c.args.p.now c.drain_pending.new.p c.drain_pending.ensures.counting
+
+pub returns-in_err-give_idle-clause-giving : goal.returns-in_err-give_idle-clause-giving
+returns-in_err-give_idle-clause-giving g c = giving-trans c.args.p.now c.drain_pending.new.p c.give_idle.new.p (counting-giving c.args.p.now c.drain_pending.new.p c.drain_pending.ensures.counting) c.give_idle.ensures.giving
 
 pub returns-clause-held : goal.returns-clause-held
 returns-clause-held g c = if-map c.drain_pending-2.result (λ b f is. f is ∙ c.give_idle.ensures.held ∙ c.in_ok-drain_pending.ensures.held_still c.if-branch.false) c.drain_pending-2.ensures.held

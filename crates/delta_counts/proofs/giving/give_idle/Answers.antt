@@ -52,3 +52,6 @@ returns-in_err-give_idle_at-clause-fault g c =
     (IsSlotsFault (h.tells Work) (h.faults c.args.disk.now.host.now Work) (h.faults c.give_idle_at.new.disk.host.now Work) c.args.disk.now.rest)
     c.from_residual.ensures.1
     (slots-again _ _ _ _ c.args.disk.now.rest c.loop-k.disk.rest c.in_err-give_idle_at.field-0.0 c.loop-k.invariant.work.later c.loop-k.invariant.room c.in_err-give_idle_at.ensures.fault)
+
+pub returns-in_err-give_idle_at-clause-giving : goal.returns-in_err-give_idle_at-clause-giving
+returns-in_err-give_idle_at-clause-giving g c = giving-trans c.args.p.now c.loop-k.p c.give_idle_at.new.p c.loop-k.invariant.giving c.give_idle_at.ensures.giving

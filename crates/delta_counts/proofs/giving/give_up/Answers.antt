@@ -5,8 +5,9 @@ use Rattle.resident_table.specs.declared.Parts2.{Parts2}
 use Rattle.object_table.specs.declared.entry.Entry.{Entry}
 use Rattle.object_table.specs.Entries.{put}
 use Rattle.delta_counts.proofs.PartLaws.{names-short, names-within}
-use Rattle.delta_counts.proofs.LowerLaws.{ok-map, ok-of, positive, is-known, is-none}
-use Rattle.delta_counts.proofs.GiveLaws.{some-can, idle-can, idle-at, name-is, still-named, joins-named, idle-named, gone-core, gone-giving, idle-found}
+use Rattle.delta_counts.proofs.LowerLaws.{ok-map, positive, is-known, is-none}
+use Rattle.delta_counts.proofs.DrainLaws.{counting-giving}
+use Rattle.delta_counts.proofs.GiveLaws.{some-can, idle-can, idle-at, name-is, still-named, joins-named, idle-named, gone-core, gone-giving, others-stay, idle-found}
 use Rattle.delta_counts.proofs.FaultLaws.{err-map, fault-again}
 use Rattle.delta_counts.proofs.giving.give_up.Goals as goal
 
@@ -80,9 +81,24 @@ returns-clause-given g c = λ told chunks t at x.
     (c.put_pending.ensures.put told f.at.disk.objects t.pending f.at.disk.disk (idle-named g.H.Host chunks c.fold.new.p c.fold.new.disk.host.now c.fold.new.disk.rest t c.args.s.0 c.in_ok-count.count c.entry-name.result.name name x idle f))
 
 pub returns-clause-giving : goal.returns-clause-giving
-returns-clause-giving g c = ok-of c.put_pending.result (gone-giving c.args.p.now c.fold.new.p (record { table = c.give.new.self; resident = c.remove.new.self }) c.args.s.0 c.fold.ensures.counting c.requires.idle c.give.ensures.entry c.give.ensures.entries
-    (c.remove.ensures.find ∙ ap (λ (e : Entry). put (short_of c.fold.new.p.resident) e.name None) c.entry-name.ensures) c.remove.ensures.held c.give.ensures.free c.remove.ensures.room)
+returns-clause-giving g c = gone-giving c.args.p.now c.fold.new.p (record { table = c.give.new.self; resident = c.remove.new.self }) c.args.s.0 c.fold.ensures.counting c.requires.idle c.give.ensures.entry c.give.ensures.entries
+    (c.remove.ensures.find ∙ ap (λ (e : Entry). put (short_of c.fold.new.p.resident) e.name None) c.entry-name.ensures) c.remove.ensures.held c.give.ensures.free c.remove.ensures.room
+
+pub returns-in_err-count-clause-giving : goal.returns-in_err-count-clause-giving
+returns-in_err-count-clause-giving g c = counting-giving c.args.p.now c.fold.new.p c.fold.ensures.counting
 
 pub returns-clause-fault : goal.returns-clause-fault
 returns-clause-fault g c = err-map c.put_pending.result
     (λ f x. fault-again _ _ _ _ c.args.disk.now.rest c.fold.new.disk.rest c.entry-name.result.name _ f c.fold.ensures.work.later c.fold.ensures.room (ap (λ (e : Entry). e.name) c.entry-name.ensures) x) c.put_pending.ensures.fault
+
+pub returns-then-count-gt0-clause-others : goal.returns-then-count-gt0-clause-others
+returns-then-count-gt0-clause-others g c = others-stay c.args.p.now c.fold.new.p (record { table = c.give.new.self; resident = c.remove.new.self }) c.args.s.0 c.fold.ensures.counting c.give.ensures.entry
+
+pub returns-then-is_known-clause-others : goal.returns-then-is_known-clause-others
+returns-then-is_known-clause-others g c = others-stay c.args.p.now c.fold.new.p (record { table = c.give.new.self; resident = c.remove.new.self }) c.args.s.0 c.fold.ensures.counting c.give.ensures.entry
+
+pub returns-clause-others : goal.returns-clause-others
+returns-clause-others g c = others-stay c.args.p.now c.fold.new.p (record { table = c.give.new.self; resident = c.remove.new.self }) c.args.s.0 c.fold.ensures.counting c.give.ensures.entry
+
+pub returns-in_err-count-clause-others : goal.returns-in_err-count-clause-others
+returns-in_err-count-clause-others g c = λ q away. c.fold.ensures.counting.entries q
