@@ -1,3 +1,10 @@
 pub mod MarkLaws
+pub mod NamingLaws
+pub mod SoundLaws
+pub mod GivingLaws
 pub mod EvictLaws
 pub mod RoomLaws
+pub mod ThinLaws
+pub mod ForgetLaws
+pub mod DrainLaws
+pub mod CloseLaws

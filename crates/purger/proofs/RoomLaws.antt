@@ -1,6 +1,5 @@
 -- What making room puts together.
-use Rattle.std.proofs.Common.{◌≡◌, ◌≢◌, ℕ, ◌+◌, ◌*◌, ◌<◌, ◌≤◌, IsTrue, Result, Ok, Err, Bool, true, false, refl, sym, ◌∙◌, ap, subst, arith, Option, Some, None, is_some, ⊎_elim}
-use Rattle.std.proofs.lemmas.Bool.{cases_eq}
+use Rattle.std.proofs.Common.{◌≡◌, ℕ, ◌+◌, ◌≤◌, IsTrue, Result, Ok, Err, Bool, true, false, refl, sym, ◌∙◌, ap, arith, Option, Some, None, is_some}
 use Rattle.std.proofs.lemmas.Grind.{common_steps}
 use Rattle.std.specs.Result.{IfErr}
 use Rattle.loom_outside.specs.declared.outside.DiskFault.{DiskFault}
@@ -13,19 +12,24 @@ use Rattle.object_table.specs.declared.entry.Entry.{Entry}
 use Rattle.object_table.specs.Entries.{is_used, place_of}
 use Rattle.object_table.specs.Table.{entries_of}
 use Rattle.disk_objects.specs.declared.rest.DiskRest.{DiskRest}
+use Rattle.disk_objects.specs.Calls.{HoldsObjects}
 use Rattle.disk_objects.specs.Disk.{disk_held, disk_room}
 use Rattle.core_view.specs.Core.{Core}
-use Rattle.core_view.specs.Held.{Disk}
+use Rattle.core_view.specs.Held.{Disk as Store}
 use Rattle.core_view.specs.Kept.{IsCore, IsBacked, KeepsOver}
-use Rattle.core_view.specs.Purge.{IsPurged, IsFreed, fresh_of}
+use Rattle.core_view.specs.Purge.{IsPurged, fresh_of}
 use Rattle.core_view.specs.Room.{is_among}
 use Rattle.core_view.proofs.Purge.{fresh-least}
 use Rattle.leaf_lambda.specs.declared.parts.Parts.{Parts}
 use Rattle.leaf_lambda.specs.Parts.{core_of}
-use Rattle.purger.proofs.MarkLaws.{odd-short, low-short}
-use Rattle.purger.specs.Purge.{IsEvictFault, IsPurgeFault, KeepsBodies}
+use Rattle.purger.specs.Counts.{HasSound, KeepsSound}
+use Rattle.purger.specs.Purge.{IsEvictFault, IsPurgeFault, KeepsBodies, OnDisk, Undisturbed}
+use Rattle.purger.specs.declared.room.RoomFault.{RoomFault}
+use Rattle.purger.specs.declared.room.RoomFault.TheVariants.{Short, Disk}
+use Rattle.purger.proofs.GivingLaws.{purge-later}
+use Rattle.purger.proofs.SoundLaws.{has-after, has-objects}
 
-pub over-refl : (c : Core) (disk : Disk) → IsBacked c disk → KeepsOver c disk c disk
+pub over-refl : (c : Core) (disk : Store) → IsBacked c disk → KeepsOver c disk c disk
 over-refl c disk backed = record { backed = backed; held = refl }
 
 purge-fault : {H : Type 0} (host : Ghosts H) (old new : H) (rest : DiskRest) (c : Core) (s p : ℕ) (f : DiskFault) → IsCore c → place_of (c.entries s).state ≡ Some p → (IsTrue (host.tells Work) → disk_held rest + fresh_of c ≤ disk_room rest)
@@ -88,14 +92,25 @@ all-pinned c d purged s p at = (purged s s s).pinned s p (self s) at
 
 -- ---- entry by entry
 
-pub idle-first : {A : Type 0} (c : Core) (s : ℕ) → IsCore c → s < 2 → is_used (c.entries s).state ≡ true → A
-idle-first {A} c s core low on = let both : true ≡ false = sym (core.short s on) ∙ low-short s low in absurd (cc)
+pub gone-purged : (a b k : ℕ) (c d : Core) (s p : ℕ) → IsPurged a b k c d → place_of (c.entries s).state ≡ None → place_of (d.entries s).state ≡ Some p → ⊥
+gone-purged a b k c d s p purged gone at = let both : None ≡ Some p = sym (purged.leaves s gone) ∙ at in cc
 
-pub idle-more : (c d : Core) (i s : ℕ) → IsCore d → IsFreed c d → ((s : ℕ) → s < 2 * i + 2 → is_used (c.entries s).state ≡ true → place_of (c.entries s).state ≡ None → 1 ≤ (c.entries s).refs)
-    → (is_used (d.entries (2 * i + 2)).state ≡ true → place_of (d.entries (2 * i + 2)).state ≡ None → 1 ≤ (d.entries (2 * i + 2)).refs) → s < 2 * (i + 1) + 2 → is_used (d.entries s).state ≡ true → place_of (d.entries s).state ≡ None → 1 ≤ (d.entries s).refs
-idle-more c d i s core freed before here low on leaf = ⊎_elim (λ (e : s ≡ 2 * i + 2). subst (λ (k : ℕ). 1 ≤ (d.entries k).refs) (sym e) (here (ap (λ (k : ℕ). is_used (d.entries k).state) (sym e) ∙ on) (ap (λ (k : ℕ). place_of (d.entries k).state) (sym e) ∙ leaf)))
-    (λ (e : s ≢ 2 * i + 2). ⊎_elim (λ (f : s ≡ 2 * i + 3). absurd (let both : true ≡ false = sym (core.short s on) ∙ odd-short s i f in cc))
-    (λ (f : s ≢ 2 * i + 3). let same = freed.same s on in subst (λ (x : Entry). 1 ≤ x.refs) (sym same) (before s (omega arith) (ap (λ (x : Entry). is_used x.state) (sym same) ∙ on) (ap (λ (x : Entry). place_of x.state) (sym same) ∙ leaf))) (cases_eq s (2 * i + 3))) (cases_eq s (2 * i + 2))
+-- ---- by the answer of a call that makes room
 
-pub gone-freed : (c d : Core) (s p : ℕ) → IsFreed c d → place_of (c.entries s).state ≡ None → place_of (d.entries s).state ≡ Some p → ⊥
-gone-freed c d s p freed gone at = let both : None ≡ Some p = sym (freed.leaves s gone) ∙ at in cc
+pub undisturbed-map : {T : Type 0} (r : Result T RoomFault) {A B : Type 0} → (A → B) → Undisturbed r A → Undisturbed r B
+undisturbed-map {T} (Ok v) f x = f x
+undisturbed-map {T} (Err Short) f x = f x
+undisturbed-map {T} (Err (Disk e)) f x = tt
+
+pub stands-undisturbed : {T H : Type 0} (host : Ghosts H) (r : Result T RoomFault) (p q : Parts) (was now : H) (before rest : DiskRest) → HasSound host p was before → (IsTrue (host.tells Work) → Undisturbed r (KeepsSound host p was before q now rest)) → Undisturbed r (HoldsObjects host now rest)
+stands-undisturbed {T} {H} host (Ok v) p q was now before rest has f = has-objects host q now rest (has-after host p q was now before rest has f)
+stands-undisturbed {T} {H} host (Err Short) p q was now before rest has f = has-objects host q now rest (has-after host p q was now before rest has f)
+stands-undisturbed {T} {H} host (Err (Disk e)) p q was now before rest has f = tt
+
+disk-once : {H : Type 0} (host : Ghosts H) (old mid new : H) (f : RoomFault) → host.faults old Work ≤ host.faults mid Work → OnDisk f (IsPurgeFault host mid new) → OnDisk f (IsPurgeFault host old new)
+disk-once {H} host old mid new Short low x = tt
+disk-once {H} host old mid new (Disk f) low x = purge-later host old mid new f low x
+
+pub disk-later : {T H : Type 0} (host : Ghosts H) (old mid new : H) (r : Result T RoomFault) → host.faults old Work ≤ host.faults mid Work → IfErr r (λ f. OnDisk f (IsPurgeFault host mid new)) → IfErr r (λ f. OnDisk f (IsPurgeFault host old new))
+disk-later {T} {H} host old mid new (Ok v) low x = tt
+disk-later {T} {H} host old mid new (Err f) low x = disk-once host old mid new f low x

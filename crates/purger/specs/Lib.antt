@@ -1,2 +1,5 @@
 pub mod Marks
 pub mod Purge
+pub mod Counts
+pub mod Draining
+pub mod Closing

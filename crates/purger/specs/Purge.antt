@@ -17,7 +17,7 @@ use Rattle.leaf_lambda.specs.Parts.{core_of, spare_of}
 use Rattle.purger.specs.declared.room.RoomFault.{RoomFault}
 use Rattle.purger.specs.declared.room.RoomFault.TheVariants.{Short, Disk}
 
--- Why a read of a record failed: faults of Work rose, or what was read can't be so, over a host that doesn't tell Work.
+-- Why a call on one record or its count failed: faults of Work rose, or what was read can't be so, over a host that doesn't tell Work.
 abbrev pub IsReadFault : Bool → ℕ → ℕ → DiskFault → Type 0
 IsReadFault tells before now (fault.Work count) = (count ≡ now) × Rose before now
 IsReadFault tells before now (fault.Full held room) = ⊥

@@ -1,14 +1,14 @@
 // One object is written back and leaves the core.
-ghost use Rattle.std.specs.Prelude.{◌≡◌, ◌+◌, ◌≤◌, ◌<◌, ℕ, Some, None, true, false, IsTrue, IfOk, IfErr, OnOk, is_some, if◌then◌else◌};
+ghost use Rattle.std.specs.Prelude.{◌≡◌, ◌≢◌, ◌+◌, ◌≤◌, ◌<◌, ℕ, pos, List, Option, Some, None, true, false, IsTrue, IfOk, IfErr, OnOk, is_some, if◌then◌else◌};
 ghost use Rattle.loom_outside.specs.Work.{IsWorkOnly, IsWorkRead};
 ghost use Rattle.object_record.specs.Buffer.{raw_of, HasRecord};
 ghost use Rattle.object_record.specs.Objects.{object_in};
 ghost use Rattle.object_table.specs.Entries.{put, is_used, place_of};
+ghost use Rattle.object_table.specs.Table.{entry_at};
 ghost use Rattle.disk_objects.specs.Calls.{HoldsObjects};
 ghost use Rattle.disk_objects.specs.Disk.{disk_held, disk_room};
 ghost use Rattle.disk_objects.specs.Function.{disk_of, IsFetched};
-ghost use Rattle.core_segment.specs.Segment.{size_of};
-ghost use Rattle.core_view.specs.Counts.{change_of};
+ghost use Rattle.core_segment.specs.Segment.{free_of, size_of};
 ghost use Rattle.core_view.specs.Kept.{IsTight, IsBacked, KeepsOver};
 ghost use Rattle.core_view.specs.Core.{with_entry};
 ghost use Rattle.core_view.specs.Purge.{fresh_of, IsPurged};
@@ -16,11 +16,17 @@ ghost use Rattle.core_view.specs.Room.{is_among};
 ghost use Rattle.core_view.specs.Steps.{written};
 ghost use Rattle.leaf_lambda.specs.Parts.{core_of, spare_of, IsParts, IsWithin};
 ghost use Rattle.leaf_lambda.specs.Records.{IsCopy};
+ghost use Rattle.counted_core.specs.Levels.{Stored, count_in};
+ghost use Rattle.counted_core.specs.Steps.{with_change};
+ghost use Rattle.delta_counts.specs.At.{IsStoredAt};
+ghost use Rattle.delta_counts.specs.Giving.{IsGiving};
+ghost use Rattle.purger.specs.Counts.{HasSound, KeepsSound, stored_as};
 ghost use Rattle.purger.specs.Marks.{AreHere, LeavesMarks};
 ghost use Rattle.purger.specs.Purge.{IsReadFault, IsEvictFault};
 
 use crate::marks::unmark_for;
 use core_segment::Addr;
+use delta_counts::{fold, give_up};
 use disk_objects::DiskObjects;
 use disk_objects::laws::a_disk_is_its_objects;
 use leaf_lambda::laws::own_record_is_like;
@@ -102,15 +108,29 @@ pub fn read_copy<H: Host>(
     Err(damaged(e.name))
 }
 
-// Writes a record, with no count.
+// The count of a name on disk: 0 where it has no record.
+pub(crate) fn count_of<H: Host>(disk: &mut DiskObjects<'_, H>, name: Name) -> Result<u64, DiskFault>
+    requires stands { HoldsObjects H.Host disk.old.host.now disk.old.rest }
+    ensures count { IsTrue (H.tells Role.Work) → (stored : ℕ → Option Stored) (pending : List ℕ) →
+        IsStoredAt H.Host disk.old.host.now disk.old.rest stored pending → IfOk result (λ n. n ≡ count_in (stored name)) }
+    ensures rest { disk.new.rest ≡ disk.old.rest }
+    ensures read { IsWorkRead H.Host disk.old.host.now disk.new.host.now }
+    ensures same_host { disk.new.host.ghost_name ≡ disk.old.host.ghost_name }
+    ensures fault { IfErr result (IsReadFault (H.tells Role.Work) (H.faults disk.old.host.now Role.Work) (H.faults disk.new.host.now Role.Work)) }
+{
+    let Some(held) = disk.count(name)? else {
+        return Ok(0);
+    };
+    Ok(held)
+}
+
+// Writes a record, with the count that its name has on disk, or 0 where it is the first.
 fn store<H: Host>(disk: &mut DiskObjects<'_, H>, buf: &RecordBuf) -> Result<(), DiskFault>
     requires record { HasRecord buf.now }
     requires stands { HoldsObjects H.Host disk.old.host.now disk.old.rest }
-    ensures stored { IsTrue (H.tells Role.Work) → OnOk result (disk_of H.Host disk.new.host.now disk.new.rest
-        ≡ put (disk_of H.Host disk.old.host.now disk.old.rest) (raw_of buf.now).name (Some (object_in (raw_of buf.now)))) }
-    ensures held { IsTrue (H.tells Role.Work) → OnOk result (disk_held disk.new.rest
-        ≡ disk_held disk.old.rest + (if is_some (disk_of H.Host disk.old.host.now disk.old.rest (raw_of buf.now).name) then 0 else 1)) }
-    ensures stands { OnOk result (HoldsObjects H.Host disk.new.host.now disk.new.rest) }
+    ensures stored { IsTrue (H.tells Role.Work) → (stored : ℕ → Option Stored) (pending : List ℕ) →
+        IsStoredAt H.Host disk.old.host.now disk.old.rest stored pending → OnOk result (IsStoredAt H.Host disk.new.host.now disk.new.rest
+        (put stored (raw_of buf.now).name (Some (stored_as (object_in (raw_of buf.now)) (count_in (stored (raw_of buf.now).name))))) pending) }
     ensures room { disk_room disk.new.rest ≡ disk_room disk.old.rest }
     ensures work { IsWorkOnly H.Host disk.old.host.now disk.new.host.now }
     ensures same_host { disk.new.host.ghost_name ≡ disk.old.host.ghost_name }
@@ -118,10 +138,12 @@ fn store<H: Host>(disk: &mut DiskObjects<'_, H>, buf: &RecordBuf) -> Result<(), 
 {
     // Full says that the map has no such name
     a_disk_is_its_objects();
-    disk.put(buf, 0)
+    let own = buf.name();
+    let count = count_of(disk, own)?;
+    disk.put(buf, count)
 }
 
-// Writes the object of a body over its record, or as a new one.
+// Writes the object of a body over its record, which keeps its count, or as a new one, whose count is 0.
 fn write_back<H: Host>(
     p: &mut Parts,
     disk: &mut DiskObjects<'_, H>,
@@ -130,17 +152,14 @@ fn write_back<H: Host>(
 ) -> Result<(), DiskFault>
     requires parts { IsParts p.old }
     requires body { (at : ℕ) × (place_of ((core_of p.old).entries s.0).state ≡ Some at) }
-    requires stands { HoldsObjects H.Host disk.old.host.now disk.old.rest }
-    requires backed { IsTrue (H.tells Role.Work) → IsBacked (core_of p.old) (disk_of H.Host disk.old.host.now disk.old.rest) }
+    requires sound { HasSound H.Host p.old disk.old.host.now disk.old.rest }
     ensures parts { IsParts p.new }
     ensures core { OnOk result (core_of p.new ≡ with_entry (core_of p.old) s.0 (written ((core_of p.old).entries s.0))) }
     ensures err { IfErr result (λ f. p.new ≡ p.old) }
     ensures within { IsWithin s.0 (core_of p.old) (core_of p.new) }
-    ensures keeps { IsTrue (H.tells Role.Work) → OnOk result (KeepsOver (core_of p.old) (disk_of H.Host disk.old.host.now disk.old.rest) (core_of p.new) (disk_of H.Host disk.new.host.now disk.new.rest)) }
-    ensures counted { IsTrue (H.tells Role.Work) → OnOk result (disk_held disk.new.rest + fresh_of (core_of p.new) ≡ disk_held disk.old.rest + fresh_of (core_of p.old)) }
+    ensures sound { IsTrue (H.tells Role.Work) → OnOk result (KeepsSound H.Host p.old disk.old.host.now disk.old.rest p.new disk.new.host.now disk.new.rest) }
     ensures spare { spare_of p.new ≡ spare_of p.old }
     ensures segment { p.new.segment ≡ p.old.segment }
-    ensures stands { OnOk result (HoldsObjects H.Host disk.new.host.now disk.new.rest) }
     ensures room { disk_room disk.new.rest ≡ disk_room disk.old.rest }
     ensures work { IsWorkOnly H.Host disk.old.host.now disk.new.host.now }
     ensures same_host { disk.new.host.ghost_name ≡ disk.old.host.ghost_name }
@@ -176,18 +195,15 @@ fn clean<H: Host>(
 ) -> Result<(), DiskFault>
     requires parts { IsParts p.old }
     requires body { (at : ℕ) × (place_of ((core_of p.old).entries s.0).state ≡ Some at) }
-    requires stands { HoldsObjects H.Host disk.old.host.now disk.old.rest }
-    requires backed { IsTrue (H.tells Role.Work) → IsBacked (core_of p.old) (disk_of H.Host disk.old.host.now disk.old.rest) }
+    requires sound { HasSound H.Host p.old disk.old.host.now disk.old.rest }
     ensures parts { IsParts p.new }
     ensures clean { OnOk result ((((core_of p.new).entries s.0).flags.fresh ≡ false) × (((core_of p.new).entries s.0).flags.changed ≡ false)) }
     ensures body { (place_of ((core_of p.new).entries s.0).state ≡ place_of ((core_of p.old).entries s.0).state) }
     ensures mark { ((core_of p.new).entries s.0).flags.marked ≡ ((core_of p.old).entries s.0).flags.marked }
     ensures within { IsWithin s.0 (core_of p.old) (core_of p.new) }
-    ensures keeps { IsTrue (H.tells Role.Work) → OnOk result (KeepsOver (core_of p.old) (disk_of H.Host disk.old.host.now disk.old.rest) (core_of p.new) (disk_of H.Host disk.new.host.now disk.new.rest)) }
-    ensures counted { IsTrue (H.tells Role.Work) → OnOk result (disk_held disk.new.rest + fresh_of (core_of p.new) ≡ disk_held disk.old.rest + fresh_of (core_of p.old)) }
+    ensures sound { IsTrue (H.tells Role.Work) → OnOk result (KeepsSound H.Host p.old disk.old.host.now disk.old.rest p.new disk.new.host.now disk.new.rest) }
     ensures spare { spare_of p.new ≡ spare_of p.old }
     ensures segment { p.new.segment ≡ p.old.segment }
-    ensures stands { OnOk result (HoldsObjects H.Host disk.new.host.now disk.new.rest) }
     ensures room { disk_room disk.new.rest ≡ disk_room disk.old.rest }
     ensures work { IsWorkOnly H.Host disk.old.host.now disk.new.host.now }
     ensures same_host { disk.new.host.ghost_name ≡ disk.old.host.ghost_name }
@@ -209,17 +225,15 @@ fn evict_unmarked<H: Host>(
     requires parts { IsParts p.old }
     requires body { (at : ℕ) × (place_of ((core_of p.old).entries s.0).state ≡ Some at) }
     requires unmarked { ((core_of p.old).entries s.0).flags.marked ≡ false }
-    requires stands { HoldsObjects H.Host disk.old.host.now disk.old.rest }
-    requires backed { IsTrue (H.tells Role.Work) → IsBacked (core_of p.old) (disk_of H.Host disk.old.host.now disk.old.rest) }
+    requires sound { HasSound H.Host p.old disk.old.host.now disk.old.rest }
     ensures parts { IsParts p.new }
     ensures gone { OnOk result (place_of ((core_of p.new).entries s.0).state ≡ None) }
     ensures within { IsWithin s.0 (core_of p.old) (core_of p.new) }
     ensures mark { ((core_of p.new).entries s.0).flags.marked ≡ false }
-    ensures keeps { IsTrue (H.tells Role.Work) → OnOk result (KeepsOver (core_of p.old) (disk_of H.Host disk.old.host.now disk.old.rest) (core_of p.new) (disk_of H.Host disk.new.host.now disk.new.rest)) }
-    ensures counted { IsTrue (H.tells Role.Work) → OnOk result (disk_held disk.new.rest + fresh_of (core_of p.new) ≡ disk_held disk.old.rest + fresh_of (core_of p.old)) }
+    ensures sound { IsTrue (H.tells Role.Work) → OnOk result (KeepsSound H.Host p.old disk.old.host.now disk.old.rest p.new disk.new.host.now disk.new.rest) }
     ensures spare { spare_of p.new ≡ spare_of p.old }
     ensures size { size_of p.new.segment ≡ size_of p.old.segment }
-    ensures stands { OnOk result (HoldsObjects H.Host disk.new.host.now disk.new.rest) }
+    ensures wider { OnOk result (free_of p.old.segment < free_of p.new.segment) }
     ensures room { disk_room disk.new.rest ≡ disk_room disk.old.rest }
     ensures work { IsWorkOnly H.Host disk.old.host.now disk.new.host.now }
     ensures same_host { disk.new.host.ghost_name ≡ disk.old.host.ghost_name }
@@ -230,8 +244,65 @@ fn evict_unmarked<H: Host>(
     Ok(())
 }
 
-/// Evicts an object: where it differs from its record or has none it is written, with its lambdas as the old record has them; then its
-/// body goes. If it was marked, all marks go. Full only where it has no record and there is no room for one more.
+// The change of a leaf's count joins the count on disk, unless there is none.
+fn fold_change<H: Host>(
+    p: &mut Parts,
+    disk: &mut DiskObjects<'_, H>,
+    s: Short,
+) -> Result<(), DiskFault>
+    requires parts { IsParts p.old }
+    requires used { is_used ((core_of p.old).entries s.0).state ≡ true }
+    requires leaf { place_of ((core_of p.old).entries s.0).state ≡ None }
+    requires sound { HasSound H.Host p.old disk.old.host.now disk.old.rest }
+    ensures giving { IsGiving p.old.names p.new.names }
+    ensures others { (q : ℕ) → q ≢ s.0 → entry_at p.new.names.table q ≡ with_change (entry_at p.old.names.table q) (entry_at p.new.names.table q).change }
+    ensures sound { IsTrue (H.tells Role.Work) → OnOk result (KeepsSound H.Host p.old disk.old.host.now disk.old.rest p.new disk.new.host.now disk.new.rest) }
+    ensures folded { IsTrue (H.tells Role.Work) → OnOk result (((core_of p.new).entries s.0).change ≡ pos 0) }
+    ensures segment { p.new.segment ≡ p.old.segment }
+    ensures room { disk_room disk.new.rest ≡ disk_room disk.old.rest }
+    ensures work { IsWorkOnly H.Host disk.old.host.now disk.new.host.now }
+    ensures same_host { disk.new.host.ghost_name ≡ disk.old.host.ghost_name }
+    ensures fault { IfErr result (IsReadFault (H.tells Role.Work) (H.faults disk.old.host.now Role.Work) (H.faults disk.new.host.now Role.Work)) }
+{
+    let e = p.names.table.entry(s);
+    if e.change == 0 {
+        return Ok(());
+    }
+    fold(&mut p.names, disk, s)?;
+    Ok(())
+}
+
+// Folds the change of a leaf's count, and gives its entry up where nothing refers to it.
+fn fold_leaf<H: Host>(
+    p: &mut Parts,
+    disk: &mut DiskObjects<'_, H>,
+    s: Short,
+) -> Result<(), DiskFault>
+    requires parts { IsParts p.old }
+    requires used { is_used ((core_of p.old).entries s.0).state ≡ true }
+    requires leaf { place_of ((core_of p.old).entries s.0).state ≡ None }
+    requires sound { HasSound H.Host p.old disk.old.host.now disk.old.rest }
+    ensures giving { IsGiving p.old.names p.new.names }
+    ensures others { (q : ℕ) → q ≢ s.0 → entry_at p.new.names.table q ≡ with_change (entry_at p.old.names.table q) (entry_at p.new.names.table q).change }
+    ensures sound { IsTrue (H.tells Role.Work) → OnOk result (KeepsSound H.Host p.old disk.old.host.now disk.old.rest p.new disk.new.host.now disk.new.rest) }
+    ensures none { OnOk result (is_used ((core_of p.new).entries s.0).state ≡ true → 1 ≤ ((core_of p.new).entries s.0).refs) }
+    ensures folded { IsTrue (H.tells Role.Work) → OnOk result (((core_of p.new).entries s.0).change ≡ pos 0) }
+    ensures segment { p.new.segment ≡ p.old.segment }
+    ensures room { disk_room disk.new.rest ≡ disk_room disk.old.rest }
+    ensures work { IsWorkOnly H.Host disk.old.host.now disk.new.host.now }
+    ensures same_host { disk.new.host.ghost_name ≡ disk.old.host.ghost_name }
+    ensures fault { IfErr result (IsReadFault (H.tells Role.Work) (H.faults disk.old.host.now Role.Work) (H.faults disk.new.host.now Role.Work)) }
+{
+    let e = p.names.table.entry(s);
+    if e.refs == 0 {
+        return give_up(&mut p.names, disk, s);
+    }
+    fold_change(p, disk, s)
+}
+
+/// Evicts an object: where it differs from its record or has none it is written, with its lambdas as the old record has them and with the
+/// count that its name has on disk; then its body goes, and its change joins that count. Its entry goes too where nothing refers to it. If it
+/// was marked, all marks go. Full only where it has no record and there is no room for one more.
 pub fn evict<H: Host>(
     p: &mut Parts,
     disk: &mut DiskObjects<'_, H>,
@@ -240,18 +311,21 @@ pub fn evict<H: Host>(
 ) -> Result<(), DiskFault>
     requires parts { IsParts p.old }
     requires body { (at : ℕ) × (place_of ((core_of p.old).entries s.0).state ≡ Some at) }
-    requires stands { HoldsObjects H.Host disk.old.host.now disk.old.rest }
-    requires backed { IsTrue (H.tells Role.Work) → IsBacked (core_of p.old) (disk_of H.Host disk.old.host.now disk.old.rest) }
+    requires sound { HasSound H.Host p.old disk.old.host.now disk.old.rest }
     ensures parts { IsParts p.new }
     ensures gone { OnOk result (place_of ((core_of p.new).entries s.0).state ≡ None) }
+    ensures none { OnOk result (is_used ((core_of p.new).entries s.0).state ≡ true → 1 ≤ ((core_of p.new).entries s.0).refs) }
     ensures purged { (a b d : ℕ) → is_among a b d s.0 ≡ false → IsPurged a b d (core_of p.old) (core_of p.new) }
     ensures keeps { IsTrue (H.tells Role.Work) → OnOk result (KeepsOver (core_of p.old) (disk_of H.Host disk.old.host.now disk.old.rest) (core_of p.new) (disk_of H.Host disk.new.host.now disk.new.rest)) }
+    ensures sound { IsTrue (H.tells Role.Work) → OnOk result (KeepsSound H.Host p.old disk.old.host.now disk.old.rest p.new disk.new.host.now disk.new.rest) }
     ensures counted { IsTrue (H.tells Role.Work) → OnOk result (disk_held disk.new.rest + fresh_of (core_of p.new) ≡ disk_held disk.old.rest + fresh_of (core_of p.old)) }
+    ensures folded { IsTrue (H.tells Role.Work) → OnOk result (((core_of p.new).entries s.0).change ≡ pos 0) }
     ensures marks { LeavesMarks (core_of p.old) (core_of p.new) }
     ensures here { AreHere (core_of p.old) → AreHere (core_of p.new) }
     ensures tight { IsTight (core_of p.old) → IsTight (core_of p.new) }
-    ensures spare { spare_of p.new ≡ spare_of p.old }
+    ensures spare { spare_of p.old ≤ spare_of p.new }
     ensures size { size_of p.new.segment ≡ size_of p.old.segment }
+    ensures wider { OnOk result (free_of p.old.segment < free_of p.new.segment) }
     ensures stands { OnOk result (HoldsObjects H.Host disk.new.host.now disk.new.rest) }
     ensures room { disk_room disk.new.rest ≡ disk_room disk.old.rest }
     ensures work { IsWorkOnly H.Host disk.old.host.now disk.new.host.now }
@@ -259,5 +333,6 @@ pub fn evict<H: Host>(
     ensures fault { IfErr result (IsEvictFault H.Host disk.old.host.now disk.new.host.now disk.old.rest ((core_of p.old).entries s.0).flags.fresh) }
 {
     unmark_for(p, s);
-    evict_unmarked(p, disk, buf, s)
+    evict_unmarked(p, disk, buf, s)?;
+    fold_leaf(p, disk, s)
 }

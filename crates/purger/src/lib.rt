@@ -1,20 +1,33 @@
-//! Room in a core: objects are evicted until so many words and entries are free.
+//! Room in a core: objects are evicted until so many words and entries are free, and what is dead is freed.
 //!
-//! `evict` writes an object back where it differs from its record, and takes its body. `make_room` evicts objects in the order of the table
-//! while room is wanting, frees each leaf to which nothing refers, and moves bodies together; three pinned objects stay. Where there is
-//! room, nothing goes. It answers `Short` only where nothing but pinned objects is left and that isn't enough.
+//! `evict` writes an object back where it differs from its record, takes its body, and folds its change of count. `make_room` evicts objects in
+//! the order of the table while room is wanting, gives up each leaf to which nothing refers, and moves bodies together; three pinned objects
+//! stay. Where there is room, nothing goes. It answers `Short` only where nothing but pinned objects is left and that isn't enough.
 //!
 //!     make_room(&mut parts, &mut disk, &mut buf, words, entries, &pinned)?;
 //!
 //! Each call keeps the held heap over what the disk has then (`keeps`), and references from outside, pinned bodies and the names of what is
 //! named from outside (`purged`, the record `IsPurged` of core_view). Marks stay, or all go at once, where a marked object is evicted
-//! (`LeavesMarks`). How many words and entries are free afterwards is not told but by `room`; by how much there was too little, core_view's
-//! `what_is_left_is_pinned` says. Read `specs/Purge.antt`, then `specs/Marks.antt`. What moves one body is leaf_lambda's.
+//! (`LeavesMarks`). Counts stay exact (`sound`): from all sound levels that the parts and the disk stand for, sound ones are reached, with the
+//! same heap (`KeepsSound`). How many words and entries are free afterwards is not told but by `room`; by how much there was too little,
+//! core_view's `what_is_left_is_pinned` says.
+//!
+//! `drain` frees what is dead, in the core and on disk, until nothing is: the heap is thinner by it, what stays keeps its body, and no dead object
+//! is written (`DrainsDead`). `close` lets everything leave a core from which nothing is named: the disk has just the kept objects then, with
+//! their exact counts (`HasKept`).
+//!
+//! Read `specs/Purge.antt`, then `Counts.antt`, `Marks.antt`, `Draining.antt` and `Closing.antt`. What moves one body is leaf_lambda's, and what
+//! joins its calls with counts stands in `laws`.
 #![tactic(auto)]
 
+pub mod closing;
+pub mod draining;
 pub mod eviction;
+pub mod laws;
 pub mod marks;
 pub mod room;
 
+pub use closing::close;
+pub use draining::drain;
 pub use eviction::{NOWHERE, evict};
 pub use room::{Pinned, RoomFault, compact, make_room};

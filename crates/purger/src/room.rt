@@ -7,18 +7,19 @@ ghost use Rattle.core_segment.specs.Segment.{free_of, largest_of, size_of};
 ghost use Rattle.disk_objects.specs.Calls.{HoldsObjects};
 ghost use Rattle.disk_objects.specs.Disk.{disk_held, disk_room};
 ghost use Rattle.disk_objects.specs.Function.{disk_of};
-ghost use Rattle.core_view.specs.Kept.{IsTight, IsBacked, KeepsOver, Stays};
-ghost use Rattle.core_view.specs.Purge.{fresh_of, IsPurged, HasNoIdle, IsFreed};
+ghost use Rattle.core_view.specs.Kept.{IsTight, KeepsOver, Stays};
+ghost use Rattle.core_view.specs.Purge.{fresh_of, IsPurged, HasNoIdle};
 ghost use Rattle.core_view.specs.Room.{is_among};
 ghost use Rattle.leaf_lambda.specs.Parts.{core_of, spare_of, IsParts};
+ghost use Rattle.purger.specs.Counts.{HasSound, KeepsCounts, KeepsSound};
 ghost use Rattle.purger.specs.Marks.{AreHere, KeepsMarks, LeavesMarks};
 ghost use Rattle.purger.specs.Purge.{HasRoom, IsShort, KeepsBodies, OnShort, OnDisk, Undisturbed, IsPurgeFault};
 
 use crate::eviction::evict;
+use delta_counts::give_idle;
 use disk_objects::DiskObjects;
 use leaf_lambda::Parts;
 use leaf_lambda::moving::compact_one;
-use leaf_lambda::steps::free_leaf;
 use loom_outside::{DiskFault, Host, Role};
 use object_record::RecordBuf;
 use object_table::Short;
@@ -57,6 +58,7 @@ pub fn compact(p: &mut Parts)
     ensures purged { (a b d : ℕ) → IsPurged a b d (core_of p.old) (core_of p.new) }
     ensures fresh { fresh_of (core_of p.new) ≡ fresh_of (core_of p.old) }
     ensures marks { KeepsMarks (core_of p.old) (core_of p.new) }
+    ensures counts { KeepsCounts (core_of p.old) (core_of p.new) }
     ensures here { AreHere (core_of p.old) → AreHere (core_of p.new) }
     ensures room { largest_of p.new.segment ≡ free_of p.old.segment }
     ensures size { size_of p.new.segment ≡ size_of p.old.segment }
@@ -65,51 +67,26 @@ pub fn compact(p: &mut Parts)
     while compact_one(p) {}
 }
 
-// Frees a leaf to which nothing refers.
-fn free_if_idle(p: &mut Parts, s: Short)
+// Gives up the entries of all leaves to which nothing refers: their changes join the counts on disk.
+fn free_idle<H: Host>(p: &mut Parts, disk: &mut DiskObjects<'_, H>) -> Result<(), DiskFault>
     requires parts { IsParts p.old }
     requires tight { IsTight (core_of p.old) }
     requires marks { AreHere (core_of p.old) }
-    requires short { is_short s.0 ≡ true }
-    requires within { s.0 < bound_of p.old.names.table }
+    requires sound { HasSound H.Host p.old disk.old.host.now disk.old.rest }
     ensures parts { IsParts p.new }
     ensures tight { IsTight (core_of p.new) }
-    ensures stays { Stays (core_of p.old) (core_of p.new) }
-    ensures freed { IsFreed (core_of p.old) (core_of p.new) }
-    ensures here { is_used ((core_of p.new).entries s.0).state ≡ true → place_of ((core_of p.new).entries s.0).state ≡ None → 1 ≤ ((core_of p.new).entries s.0).refs }
-    ensures marks { KeepsMarks (core_of p.old) (core_of p.new) }
-    ensures entries { entries_of p.new.names.table ≡ entries_of p.old.names.table }
-    ensures segment { p.new.segment ≡ p.old.segment }
-{
-    let e = p.names.table.entry(s);
-    if !e.is_used() {
-        return;
-    }
-    if e.place().is_some() {
-        return;
-    }
-    if e.refs == 0 {
-        free_leaf(p, s);
-    }
-}
-
-// Frees all leaves to which nothing refers.
-fn free_idle(p: &mut Parts)
-    requires parts { IsParts p.old }
-    requires tight { IsTight (core_of p.old) }
-    requires marks { AreHere (core_of p.old) }
-    ensures parts { IsParts p.new }
-    ensures tight { IsTight (core_of p.new) }
-    ensures stays { Stays (core_of p.old) (core_of p.new) }
-    ensures freed { IsFreed (core_of p.old) (core_of p.new) }
-    ensures idle { HasNoIdle (core_of p.new) }
+    ensures purged { (a b d : ℕ) → IsPurged a b d (core_of p.old) (core_of p.new) }
+    ensures idle { OnOk result (HasNoIdle (core_of p.new)) }
+    ensures sound { IsTrue (H.tells Role.Work) → OnOk result (KeepsSound H.Host p.old disk.old.host.now disk.old.rest p.new disk.new.host.now disk.new.rest) }
     ensures marks { KeepsMarks (core_of p.old) (core_of p.new) }
     ensures here { AreHere (core_of p.new) }
     ensures segment { p.new.segment ≡ p.old.segment }
+    ensures limit { disk_room disk.new.rest ≡ disk_room disk.old.rest }
+    ensures work { IsWorkOnly H.Host disk.old.host.now disk.new.host.now }
+    ensures same_host { disk.new.host.ghost_name ≡ disk.old.host.ghost_name }
+    ensures fault { IfErr result (IsPurgeFault H.Host disk.old.host.now disk.new.host.now) }
 {
-    for i in 0..p.names.table.entries() {
-        free_if_idle(p, Short(2 * i + 2));
-    }
+    give_idle(&mut p.names, disk)
 }
 
 /// Whether so many words and entries are free.
@@ -144,6 +121,7 @@ fn gather(p: &mut Parts, words: u32)
     ensures purged { (a b d : ℕ) → IsPurged a b d (core_of p.old) (core_of p.new) }
     ensures fresh { fresh_of (core_of p.new) ≡ fresh_of (core_of p.old) }
     ensures marks { KeepsMarks (core_of p.old) (core_of p.new) }
+    ensures counts { KeepsCounts (core_of p.old) (core_of p.new) }
     ensures here { AreHere (core_of p.old) → AreHere (core_of p.new) }
     ensures room { words ≤ largest_of p.new.segment }
     ensures size { size_of p.new.segment ≡ size_of p.old.segment }
@@ -181,18 +159,15 @@ fn leave<H: Host>(
     requires tight { IsTight (core_of p.old) }
     requires marks { AreHere (core_of p.old) }
     requires body { (at : ℕ) × (place_of ((core_of p.old).entries s.0).state ≡ Some at) }
-    requires stands { HoldsObjects H.Host disk.old.host.now disk.old.rest }
-    requires backed { IsTrue (H.tells Role.Work) → IsBacked (core_of p.old) (disk_of H.Host disk.old.host.now disk.old.rest) }
+    requires sound { HasSound H.Host p.old disk.old.host.now disk.old.rest }
     requires counted { IsTrue (H.tells Role.Work) → disk_held disk.old.rest + fresh_of (core_of p.old) ≤ disk_room disk.old.rest }
     ensures parts { IsParts p.new }
     ensures tight { IsTight (core_of p.new) }
     ensures gone { OnOk result (place_of ((core_of p.new).entries s.0).state ≡ None) }
     ensures purged { (a b d : ℕ) → is_among a b d s.0 ≡ false → IsPurged a b d (core_of p.old) (core_of p.new) }
-    ensures keeps { IsTrue (H.tells Role.Work) → OnOk result (KeepsOver (core_of p.old) (disk_of H.Host disk.old.host.now disk.old.rest) (core_of p.new) (disk_of H.Host disk.new.host.now disk.new.rest)) }
-    ensures counted { IsTrue (H.tells Role.Work) → OnOk result (disk_held disk.new.rest + fresh_of (core_of p.new) ≡ disk_held disk.old.rest + fresh_of (core_of p.old)) }
+    ensures sound { IsTrue (H.tells Role.Work) → OnOk result (KeepsSound H.Host p.old disk.old.host.now disk.old.rest p.new disk.new.host.now disk.new.rest) }
     ensures marks { LeavesMarks (core_of p.old) (core_of p.new) }
     ensures here { AreHere (core_of p.new) }
-    ensures stands { OnOk result (HoldsObjects H.Host disk.new.host.now disk.new.rest) }
     ensures size { size_of p.new.segment ≡ size_of p.old.segment }
     ensures limit { disk_room disk.new.rest ≡ disk_room disk.old.rest }
     ensures work { IsWorkOnly H.Host disk.old.host.now disk.new.host.now }
@@ -202,7 +177,7 @@ fn leave<H: Host>(
     evict(p, disk, buf, s)
 }
 
-// Evicts an object that may leave, unless there is room, and frees the leaves to which nothing refers then.
+// Evicts an object that may leave, unless there is room, and gives up the leaves to which nothing refers then.
 fn evict_more<H: Host>(
     p: &mut Parts,
     disk: &mut DiskObjects<'_, H>,
@@ -218,8 +193,7 @@ fn evict_more<H: Host>(
     requires short { is_short s.0 ≡ true }
     requires within { s.0 < bound_of p.old.names.table }
     requires idle { HasNoIdle (core_of p.old) }
-    requires stands { HoldsObjects H.Host disk.old.host.now disk.old.rest }
-    requires backed { IsTrue (H.tells Role.Work) → IsBacked (core_of p.old) (disk_of H.Host disk.old.host.now disk.old.rest) }
+    requires sound { HasSound H.Host p.old disk.old.host.now disk.old.rest }
     requires counted { IsTrue (H.tells Role.Work) → disk_held disk.old.rest + fresh_of (core_of p.old) ≤ disk_room disk.old.rest }
     ensures parts { IsParts p.new }
     ensures tight { IsTight (core_of p.new) }
@@ -228,11 +202,9 @@ fn evict_more<H: Host>(
     ensures gone { OnOk result (HasRoom p.new words entries
         ⊎ ((at : ℕ) → place_of ((core_of p.new).entries s.0).state ≡ Some at → is_among pinned.now.a pinned.now.b pinned.now.d s.0 ≡ true)) }
     ensures enough { HasRoom p.old words entries → HasRoom p.new words entries }
-    ensures keeps { IsTrue (H.tells Role.Work) → OnOk result (KeepsOver (core_of p.old) (disk_of H.Host disk.old.host.now disk.old.rest) (core_of p.new) (disk_of H.Host disk.new.host.now disk.new.rest)) }
-    ensures counted { IsTrue (H.tells Role.Work) → OnOk result (disk_held disk.new.rest + fresh_of (core_of p.new) ≡ disk_held disk.old.rest + fresh_of (core_of p.old)) }
+    ensures sound { IsTrue (H.tells Role.Work) → OnOk result (KeepsSound H.Host p.old disk.old.host.now disk.old.rest p.new disk.new.host.now disk.new.rest) }
     ensures marks { LeavesMarks (core_of p.old) (core_of p.new) }
     ensures here { AreHere (core_of p.new) }
-    ensures stands { OnOk result (HoldsObjects H.Host disk.new.host.now disk.new.rest) }
     ensures size { size_of p.new.segment ≡ size_of p.old.segment }
     ensures limit { disk_room disk.new.rest ≡ disk_room disk.old.rest }
     ensures work { IsWorkOnly H.Host disk.old.host.now disk.new.host.now }
@@ -246,11 +218,10 @@ fn evict_more<H: Host>(
         return Ok(());
     }
     leave(p, disk, buf, s)?;
-    free_idle(p);
-    Ok(())
+    free_idle(p, disk)
 }
 
-// Makes room where there is none.
+// Makes room where there is none, and no leaf is idle.
 fn purge<H: Host>(
     p: &mut Parts,
     disk: &mut DiskObjects<'_, H>,
@@ -262,26 +233,23 @@ fn purge<H: Host>(
     requires parts { IsParts p.old }
     requires tight { IsTight (core_of p.old) }
     requires marks { AreHere (core_of p.old) }
-    requires stands { HoldsObjects H.Host disk.old.host.now disk.old.rest }
-    requires backed { IsTrue (H.tells Role.Work) → IsBacked (core_of p.old) (disk_of H.Host disk.old.host.now disk.old.rest) }
+    requires idle { HasNoIdle (core_of p.old) }
+    requires sound { HasSound H.Host p.old disk.old.host.now disk.old.rest }
     requires counted { IsTrue (H.tells Role.Work) → disk_held disk.old.rest + fresh_of (core_of p.old) ≤ disk_room disk.old.rest }
     ensures parts { IsParts p.new }
     ensures tight { IsTight (core_of p.new) }
     ensures purged { IsPurged pinned.now.a pinned.now.b pinned.now.d (core_of p.old) (core_of p.new) }
     ensures room { OnOk result ((words ≤ largest_of p.new.segment) × (entries ≤ spare_of p.new)) }
     ensures short { IfErr result (λ f. OnShort f (IsShort p.new pinned.now.a pinned.now.b pinned.now.d words entries)) }
-    ensures keeps { IsTrue (H.tells Role.Work) → Undisturbed result (KeepsOver (core_of p.old) (disk_of H.Host disk.old.host.now disk.old.rest) (core_of p.new) (disk_of H.Host disk.new.host.now disk.new.rest)) }
-    ensures counted { IsTrue (H.tells Role.Work) → Undisturbed result (disk_held disk.new.rest + fresh_of (core_of p.new) ≡ disk_held disk.old.rest + fresh_of (core_of p.old)) }
+    ensures sound { IsTrue (H.tells Role.Work) → Undisturbed result (KeepsSound H.Host p.old disk.old.host.now disk.old.rest p.new disk.new.host.now disk.new.rest) }
     ensures marks { LeavesMarks (core_of p.old) (core_of p.new) }
     ensures here { AreHere (core_of p.new) }
-    ensures stands { Undisturbed result (HoldsObjects H.Host disk.new.host.now disk.new.rest) }
     ensures size { size_of p.new.segment ≡ size_of p.old.segment }
     ensures limit { disk_room disk.new.rest ≡ disk_room disk.old.rest }
     ensures work { IsWorkOnly H.Host disk.old.host.now disk.new.host.now }
     ensures same_host { disk.new.host.ghost_name ≡ disk.old.host.ghost_name }
     ensures fault { IfErr result (λ f. OnDisk f (IsPurgeFault H.Host disk.old.host.now disk.new.host.now)) }
 {
-    free_idle(p);
     for i in 0..p.names.table.entries() {
         match evict_more(p, disk, buf, Short(2 * i + 2), words, entries, pinned) {
             Ok(()) => {}
@@ -309,8 +277,7 @@ pub fn make_room<H: Host>(
     requires parts { IsParts p.old }
     requires tight { IsTight (core_of p.old) }
     requires marks { AreHere (core_of p.old) }
-    requires stands { HoldsObjects H.Host disk.old.host.now disk.old.rest }
-    requires backed { IsTrue (H.tells Role.Work) → IsBacked (core_of p.old) (disk_of H.Host disk.old.host.now disk.old.rest) }
+    requires sound { HasSound H.Host p.old disk.old.host.now disk.old.rest }
     requires counted { IsTrue (H.tells Role.Work) → disk_held disk.old.rest + fresh_of (core_of p.old) ≤ disk_room disk.old.rest }
     ensures parts { IsParts p.new }
     ensures tight { IsTight (core_of p.new) }
@@ -320,6 +287,7 @@ pub fn make_room<H: Host>(
     ensures needless { HasRoom p.old words entries → KeepsBodies (core_of p.old) (core_of p.new)
         × (disk.new.host.now ≡ disk.old.host.now) × (disk.new.rest ≡ disk.old.rest) }
     ensures keeps { IsTrue (H.tells Role.Work) → Undisturbed result (KeepsOver (core_of p.old) (disk_of H.Host disk.old.host.now disk.old.rest) (core_of p.new) (disk_of H.Host disk.new.host.now disk.new.rest)) }
+    ensures sound { IsTrue (H.tells Role.Work) → Undisturbed result (KeepsSound H.Host p.old disk.old.host.now disk.old.rest p.new disk.new.host.now disk.new.rest) }
     ensures counted { IsTrue (H.tells Role.Work) → Undisturbed result (disk_held disk.new.rest + fresh_of (core_of p.new) ≡ disk_held disk.old.rest + fresh_of (core_of p.old)) }
     ensures marks { LeavesMarks (core_of p.old) (core_of p.new) }
     ensures here { AreHere (core_of p.new) }
@@ -334,5 +302,8 @@ pub fn make_room<H: Host>(
         gather(p, words);
         return Ok(());
     }
-    purge(p, disk, buf, words, entries, pinned)
+    match free_idle(p, disk) {
+        Ok(()) => purge(p, disk, buf, words, entries, pinned),
+        Err(f) => Err(RoomFault::Disk(f)),
+    }
 }

@@ -1,4 +1,4 @@
-use Rattle.std.proofs.Common.{refl, sym, ◌∙◌, ap}
+use Rattle.std.proofs.Common.{sym, ◌∙◌, ap}
 use Rattle.object_table.specs.declared.entry.Entry.{Entry}
 use Rattle.core_view.proofs.Steps.{Stays-refl}
 use Rattle.leaf_lambda.specs.Parts.{core_of}

@@ -1,48 +1,52 @@
-use Rattle.std.proofs.Common.{◌∙◌, arith, refl}
-use Rattle.core_view.proofs.Purge.{Freed-refl, Freed-trans}
-use Rattle.core_view.proofs.Steps.{Stays-refl, Stays-trans}
+use Rattle.std.proofs.Common.{refl, arith}
+use Rattle.core_segment.specs.Segment.{chunk_at}
+use Rattle.leaf_lambda.specs.declared.parts.Parts.{Parts}
 use Rattle.leaf_lambda.specs.Parts.{core_of}
-use Rattle.purger.proofs.MarkLaws.{freed-here, Kept-refl, Kept-trans}
-use Rattle.purger.proofs.RoomLaws.{idle-first, idle-more}
+use Rattle.delta_counts.proofs.LowerLaws.{ok-map}
+use Rattle.purger.proofs.SoundLaws.{parts-names, names-ok}
+use Rattle.purger.proofs.GivingLaws.{giving-parts, giving-up, given-purged, given-tight, given-here, given-marks, given-idle, slots-purge-if}
 use Rattle.purger.proofs.room.free_idle.Goals as goal
 
-pub loop-i-init : goal.loop-i-init
-loop-i-init c = record {
-  parts = c.requires.parts;
-  tight = c.requires.tight;
-  stays = Stays-refl (core_of c.args.p.now);
-  freed = Freed-refl (core_of c.args.p.now);
-  idle = λ s low on leaf. idle-first (core_of c.args.p.now) s c.requires.parts.core (omega arith) on;
-  marks = Kept-refl (core_of c.args.p.now);
-  here = c.requires.marks;
-  entries = refl;
-  segment = refl;
-}
+pub give_idle-requires-clause-names : goal.give_idle-requires-clause-names
+give_idle-requires-clause-names g c = parts-names c.args.p.now c.requires.parts
 
-pub free_if_idle-requires-clause-within : goal.free_if_idle-requires-clause-within
-free_if_idle-requires-clause-within c = let low = c.loop-i-test.true in let all = c.entries-i-end.ensures.entries in let same = c.loop-i.invariant.entries in omega arith
+pub give_idle-requires-clause-sound : goal.give_idle-requires-clause-sound
+give_idle-requires-clause-sound g c = λ told. let x = c.requires.sound told in (chunk_at c.args.p.now.segment, x.0, x.1, x.2)
 
-pub loop-i-preserved : goal.loop-i-preserved
-loop-i-preserved c =
-    let i = c.loop-i.invariant in
-    let r = c.free_if_idle.ensures in
-    record {
-      parts = r.parts;
-      tight = r.tight;
-      stays = Stays-trans (core_of c.args.p.now) (core_of c.loop-i.p) (core_of c.free_if_idle.new.p) i.stays r.stays;
-      freed = Freed-trans (core_of c.args.p.now) (core_of c.loop-i.p) (core_of c.free_if_idle.new.p) i.freed r.freed;
-      idle = λ s low on leaf. idle-more (core_of c.loop-i.p) (core_of c.free_if_idle.new.p) c.loop-i.i s r.parts.core r.freed i.idle r.here low on leaf;
-      marks = Kept-trans (core_of c.args.p.now) (core_of c.loop-i.p) (core_of c.free_if_idle.new.p) i.marks r.marks;
-      here = freed-here (core_of c.loop-i.p) (core_of c.free_if_idle.new.p) r.freed i.here;
-      entries = r.entries ∙ i.entries;
-      segment = r.segment ∙ i.segment;
-    }
+pub returns-clause-parts : goal.returns-clause-parts
+returns-clause-parts g c =
+    let q : Parts = record { segment = c.args.p.now.segment; names = c.give_idle.new.p } in
+    giving-parts c.args.p.now q c.requires.parts refl c.give_idle.ensures.giving
+
+pub returns-clause-tight : goal.returns-clause-tight
+returns-clause-tight g c =
+    let q : Parts = record { segment = c.args.p.now.segment; names = c.give_idle.new.p } in
+    given-tight (core_of c.args.p.now) (core_of q) (giving-up c.args.p.now q c.requires.parts refl c.give_idle.ensures.giving) c.requires.tight
+
+pub returns-clause-purged : goal.returns-clause-purged
+returns-clause-purged g c = λ a b k.
+    let q : Parts = record { segment = c.args.p.now.segment; names = c.give_idle.new.p } in
+    given-purged a b k (core_of c.args.p.now) (core_of q) (giving-parts c.args.p.now q c.requires.parts refl c.give_idle.ensures.giving).core (giving-up c.args.p.now q c.requires.parts refl c.give_idle.ensures.giving)
 
 pub returns-clause-idle : goal.returns-clause-idle
-unfolding core_of
-returns-clause-idle c = λ s on leaf.
-    let low = c.loop-i.invariant.parts.core.within s on in
-    let same = c.loop-i.invariant.entries in
-    let end = c.loop-i-test.false in
-    let all = c.entries-i-end.ensures.entries in
-    c.loop-i.invariant.idle s (omega arith) on leaf
+returns-clause-idle g c =
+    let q : Parts = record { segment = c.args.p.now.segment; names = c.give_idle.new.p } in
+    ok-map c.give_idle.result (λ none. given-idle c.args.p.now q (giving-parts c.args.p.now q c.requires.parts refl c.give_idle.ensures.giving) c.give_idle.ensures.giving none) c.give_idle.ensures.none
+
+pub returns-clause-sound : goal.returns-clause-sound
+returns-clause-sound g c = λ told.
+    let q : Parts = record { segment = c.args.p.now.segment; names = c.give_idle.new.p } in
+    names-ok g.H.Host c.give_idle.result c.args.p.now q c.args.disk.now.host.now c.give_idle.new.disk.host.now c.args.disk.now.rest c.give_idle.new.disk.rest refl (λ chunks t at x. c.give_idle.ensures.given told chunks t at x)
+
+pub returns-clause-marks : goal.returns-clause-marks
+returns-clause-marks g c =
+    let q : Parts = record { segment = c.args.p.now.segment; names = c.give_idle.new.p } in
+    given-marks (core_of c.args.p.now) (core_of q) c.requires.parts.core (giving-parts c.args.p.now q c.requires.parts refl c.give_idle.ensures.giving).core (giving-up c.args.p.now q c.requires.parts refl c.give_idle.ensures.giving) c.requires.marks
+
+pub returns-clause-here : goal.returns-clause-here
+returns-clause-here g c =
+    let q : Parts = record { segment = c.args.p.now.segment; names = c.give_idle.new.p } in
+    given-here (core_of c.args.p.now) (core_of q) (giving-up c.args.p.now q c.requires.parts refl c.give_idle.ensures.giving) c.requires.marks
+
+pub returns-clause-fault : goal.returns-clause-fault
+returns-clause-fault g c = slots-purge-if g.H.Host c.args.disk.now.host.now c.args.disk.now.host.now c.give_idle.new.disk.host.now c.args.disk.now.rest c.give_idle.result (omega arith) c.give_idle.ensures.fault

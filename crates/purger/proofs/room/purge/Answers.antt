@@ -1,44 +1,37 @@
-use Rattle.std.proofs.Common.{inl, inr, refl, ◌∙◌, ap, arith, ⊎_elim}
-use Rattle.core_segment.specs.Segment.{size_of}
-use Rattle.disk_objects.specs.Function.{disk_of}
+use Rattle.std.proofs.Common.{inl, inr, refl, ◌∙◌, arith, ⊎_elim}
 use Rattle.core_view.proofs.Core.{placed-used}
-use Rattle.core_view.proofs.Purge.{freed-purged, Purged-trans, freed-fresh, gone-first, gone-more}
-use Rattle.core_view.proofs.Steps.{KeepsOver-stays, KeepsOver-trans}
+use Rattle.core_view.proofs.Purge.{Purged-refl, Purged-trans, gone-first, gone-more}
 use Rattle.leaf_lambda.specs.Parts.{core_of}
-use Rattle.purger.proofs.MarkLaws.{Marks-trans, Marks-same}
-use Rattle.purger.proofs.RoomLaws.{over-refl, bound-entries, work-refl, work-trans}
+use Rattle.purger.proofs.MarkLaws.{Marks-trans, Marks-same, Kept-refl}
+use Rattle.purger.proofs.RoomLaws.{bound-entries, work-refl, work-trans}
+use Rattle.purger.proofs.SoundLaws.{has-after, has-number, quiet-keeps, sound-refl, sound-trans}
 use Rattle.purger.proofs.room.purge.Goals as goal
 
 pub loop-i-init : goal.loop-i-init
-loop-i-init g c =
-    let r = c.free_idle.ensures in
-    record {
-      parts = r.parts;
-      tight = r.tight;
-      purged = freed-purged c.args.pinned.now.a c.args.pinned.now.b c.args.pinned.now.d (core_of c.args.p.now) (core_of c.free_idle.new.p) r.parts.core r.freed;
-      idle = r.idle;
-      gone = inr (λ s at low place. gone-first (core_of c.free_idle.new.p) c.args.pinned.now.a c.args.pinned.now.b c.args.pinned.now.d s at r.parts.core (omega arith) place);
-      keeps = λ told. KeepsOver-stays (core_of c.args.p.now) (core_of c.args.p.now) (core_of c.free_idle.new.p) (disk_of g.H.Host c.args.disk.now.host.now c.args.disk.now.rest) (disk_of g.H.Host c.args.disk.now.host.now c.args.disk.now.rest)
-          (over-refl (core_of c.args.p.now) (disk_of g.H.Host c.args.disk.now.host.now c.args.disk.now.rest) (c.requires.backed told)) r.stays;
-      counted = λ told. let same = freed-fresh (core_of c.args.p.now) (core_of c.free_idle.new.p) r.freed in omega arith;
-      marks = Marks-same (core_of c.args.p.now) (core_of c.free_idle.new.p) r.marks;
-      here = r.here;
-      stands = c.requires.stands;
-      size = ap size_of r.segment;
-      entries = bound-entries c.args.p.now c.free_idle.new.p r.freed.bound;
-      limit = refl;
-      work = work-refl g.H.Host c.args.disk.now.host.now;
-      same_host = refl;
-    }
+loop-i-init g c = record {
+  parts = c.requires.parts;
+  tight = c.requires.tight;
+  purged = Purged-refl c.args.pinned.now.a c.args.pinned.now.b c.args.pinned.now.d (core_of c.args.p.now);
+  idle = c.requires.idle;
+  gone = inr (λ s at low place. gone-first (core_of c.args.p.now) c.args.pinned.now.a c.args.pinned.now.b c.args.pinned.now.d s at c.requires.parts.core (omega arith) place);
+  sound = λ told. sound-refl g.H.Host c.args.p.now c.args.disk.now.host.now c.args.disk.now.rest;
+  marks = Marks-same (core_of c.args.p.now) (core_of c.args.p.now) (Kept-refl (core_of c.args.p.now));
+  here = c.requires.marks;
+  size = refl;
+  entries = refl;
+  limit = refl;
+  work = work-refl g.H.Host c.args.disk.now.host.now;
+  same_host = refl;
+}
 
 pub evict_more-requires-clause-within : goal.evict_more-requires-clause-within
-evict_more-requires-clause-within g c = let low = c.loop-i-test.true in let all = c.entries-i-end.ensures.entries in let same = c.loop-i.invariant.entries in let first = bound-entries c.args.p.now c.free_idle.new.p c.free_idle.ensures.freed.bound in omega arith
+evict_more-requires-clause-within g c = let low = c.loop-i-test.true in let all = c.entries-i-end.ensures.entries in let same = c.loop-i.invariant.entries in omega arith
 
-pub evict_more-requires-clause-backed : goal.evict_more-requires-clause-backed
-evict_more-requires-clause-backed g c = λ told. (c.loop-i.invariant.keeps told).backed
+pub evict_more-requires-clause-sound : goal.evict_more-requires-clause-sound
+evict_more-requires-clause-sound g c = has-after g.H.Host c.args.p.now c.loop-i.p c.args.disk.now.host.now c.loop-i.disk.host.now c.args.disk.now.rest c.loop-i.disk.rest c.requires.sound c.loop-i.invariant.sound
 
 pub evict_more-requires-clause-counted : goal.evict_more-requires-clause-counted
-evict_more-requires-clause-counted g c = λ told. let same = c.loop-i.invariant.counted told in let room = c.loop-i.invariant.limit in let most = c.requires.counted told in omega arith
+evict_more-requires-clause-counted g c = λ told. let same = has-number g.H.Host c.args.p.now c.loop-i.p c.args.disk.now.host.now c.loop-i.disk.host.now c.args.disk.now.rest c.loop-i.disk.rest c.requires.sound told (c.loop-i.invariant.sound told) in let room = c.loop-i.invariant.limit in let most = c.requires.counted told in omega arith
 
 pub returns-in-Err-clause-purged : goal.returns-in-Err-clause-purged
 returns-in-Err-clause-purged g c = Purged-trans c.args.pinned.now.a c.args.pinned.now.b c.args.pinned.now.d (core_of c.args.p.now) (core_of c.loop-i.p) (core_of c.evict_more.new.p) c.loop-i.invariant.purged c.evict_more.ensures.purged
@@ -60,11 +53,9 @@ loop-i-preserved g c =
       purged = Purged-trans c.args.pinned.now.a c.args.pinned.now.b c.args.pinned.now.d (core_of c.args.p.now) (core_of c.loop-i.p) (core_of c.evict_more.new.p) i.purged e.purged;
       idle = r.idle;
       gone = ⊎_elim (λ has. inl (e.enough has)) (λ before. ⊎_elim (λ has. inl has) (λ here. inr (λ s at low place. gone-more c.args.pinned.now.a c.args.pinned.now.b c.args.pinned.now.d c.loop-i.i s at (core_of c.loop-i.p) (core_of c.evict_more.new.p) e.parts.core e.purged before here low place)) r.gone) i.gone;
-      keeps = λ told. KeepsOver-trans (core_of c.args.p.now) (core_of c.loop-i.p) (core_of c.evict_more.new.p) (disk_of g.H.Host c.args.disk.now.host.now c.args.disk.now.rest) (disk_of g.H.Host c.loop-i.disk.host.now c.loop-i.disk.rest) (disk_of g.H.Host c.evict_more.new.disk.host.now c.evict_more.new.disk.rest) (i.keeps told) (r.keeps told);
-      counted = λ told. r.counted told ∙ i.counted told;
+      sound = λ told. sound-trans g.H.Host c.args.p.now c.loop-i.p c.evict_more.new.p c.args.disk.now.host.now c.loop-i.disk.host.now c.evict_more.new.disk.host.now c.args.disk.now.rest c.loop-i.disk.rest c.evict_more.new.disk.rest (i.sound told) (r.sound told);
       marks = Marks-trans (core_of c.args.p.now) (core_of c.loop-i.p) (core_of c.evict_more.new.p) i.marks e.marks;
       here = e.here;
-      stands = r.stands;
       size = e.size ∙ i.size;
       entries = bound-entries c.loop-i.p c.evict_more.new.p e.purged.bound ∙ i.entries;
       limit = e.limit ∙ i.limit;
@@ -75,21 +66,21 @@ loop-i-preserved g c =
 pub returns-then-has_room-clause-purged : goal.returns-then-has_room-clause-purged
 returns-then-has_room-clause-purged g c = Purged-trans c.args.pinned.now.a c.args.pinned.now.b c.args.pinned.now.d (core_of c.args.p.now) (core_of c.loop-i.p) (core_of c.gather.new.p) c.loop-i.invariant.purged (c.gather.ensures.purged c.args.pinned.now.a c.args.pinned.now.b c.args.pinned.now.d)
 
-pub returns-then-has_room-clause-keeps : goal.returns-then-has_room-clause-keeps
-returns-then-has_room-clause-keeps g c = λ told. KeepsOver-stays (core_of c.args.p.now) (core_of c.loop-i.p) (core_of c.gather.new.p) (disk_of g.H.Host c.args.disk.now.host.now c.args.disk.now.rest) (disk_of g.H.Host c.loop-i.disk.host.now c.loop-i.disk.rest) (c.loop-i.invariant.keeps told) c.gather.ensures.stays
-
-pub returns-then-has_room-clause-counted : goal.returns-then-has_room-clause-counted
-returns-then-has_room-clause-counted g c = λ told. let was = c.loop-i.invariant.counted told in let same = c.gather.ensures.fresh in omega (arith, was, same)
+pub returns-then-has_room-clause-sound : goal.returns-then-has_room-clause-sound
+returns-then-has_room-clause-sound g c = λ told. sound-trans g.H.Host c.args.p.now c.loop-i.p c.gather.new.p c.args.disk.now.host.now c.loop-i.disk.host.now c.loop-i.disk.host.now c.args.disk.now.rest c.loop-i.disk.rest c.loop-i.disk.rest (c.loop-i.invariant.sound told) (quiet-keeps g.H.Host c.loop-i.p c.gather.new.p c.loop-i.disk.host.now c.loop-i.disk.rest c.gather.ensures.parts c.gather.ensures.stays c.gather.ensures.counts)
 
 pub returns-then-has_room-clause-marks : goal.returns-then-has_room-clause-marks
 returns-then-has_room-clause-marks g c = Marks-trans (core_of c.args.p.now) (core_of c.loop-i.p) (core_of c.gather.new.p) c.loop-i.invariant.marks (Marks-same (core_of c.loop-i.p) (core_of c.gather.new.p) c.gather.ensures.marks)
+
+pub returns-else-has_room-clause-sound : goal.returns-else-has_room-clause-sound
+returns-else-has_room-clause-sound g c = c.loop-i.invariant.sound
 
 pub returns-else-has_room-clause-short : goal.returns-else-has_room-clause-short
 unfolding core_of
 returns-else-has_room-clause-short g c = record {
   bare = record {
     pinned = λ s p at. ⊎_elim (λ has. absurd (c.has_room.ensures.lacks c.if-has_room.false has))
-        (λ gone. gone s p (let low = c.loop-i.invariant.parts.core.within s (placed-used ((core_of c.loop-i.p).entries s).state p at) in let end = c.loop-i-test.false in let all = c.entries-i-end.ensures.entries in let same = c.loop-i.invariant.entries in let first = bound-entries c.args.p.now c.free_idle.new.p c.free_idle.ensures.freed.bound in omega arith) at) c.loop-i.invariant.gone;
+        (λ gone. gone s p (let low = c.loop-i.invariant.parts.core.within s (placed-used ((core_of c.loop-i.p).entries s).state p at) in let end = c.loop-i-test.false in let all = c.entries-i-end.ensures.entries in let same = c.loop-i.invariant.entries in omega arith) at) c.loop-i.invariant.gone;
     named = c.loop-i.invariant.idle;
   };
   wanting = c.has_room.ensures.lacks c.if-has_room.false;

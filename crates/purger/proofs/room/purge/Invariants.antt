@@ -4,13 +4,12 @@ use Rattle.loom_outside.specs.Work.{IsWorkOnly}
 use Rattle.object_table.specs.Entries.{place_of}
 use Rattle.object_table.specs.Table.{entries_of}
 use Rattle.core_segment.specs.Segment.{size_of}
-use Rattle.disk_objects.specs.Calls.{HoldsObjects}
-use Rattle.disk_objects.specs.Disk.{disk_held, disk_room}
-use Rattle.disk_objects.specs.Function.{disk_of}
-use Rattle.core_view.specs.Kept.{IsTight, KeepsOver}
-use Rattle.core_view.specs.Purge.{fresh_of, IsPurged, HasNoIdle}
+use Rattle.disk_objects.specs.Disk.{disk_room}
+use Rattle.core_view.specs.Kept.{IsTight}
+use Rattle.core_view.specs.Purge.{IsPurged, HasNoIdle}
 use Rattle.core_view.specs.Room.{is_among}
 use Rattle.leaf_lambda.specs.Parts.{core_of, IsParts}
+use Rattle.purger.specs.Counts.{KeepsSound}
 use Rattle.purger.specs.Marks.{AreHere, LeavesMarks}
 use Rattle.purger.specs.Purge.{HasRoom}
 use Rattle.purger.proofs.room.purge.Given as goal
@@ -22,11 +21,9 @@ invariant-loop-i g l = record {
   purged : IsPurged l.fn.pinned.a l.fn.pinned.b l.fn.pinned.d (core_of l.fn.p) (core_of l.p);
   idle : HasNoIdle (core_of l.p);
   gone : HasRoom l.p l.fn.words l.fn.entries ⊎ ((s at : ℕ) → s < 2 * l.i + 2 → place_of ((core_of l.p).entries s).state ≡ Some at → is_among l.fn.pinned.a l.fn.pinned.b l.fn.pinned.d s ≡ true);
-  keeps : IsTrue (g.H.Host.tells Work) → KeepsOver (core_of l.fn.p) (disk_of g.H.Host l.fn.disk.host.now l.fn.disk.rest) (core_of l.p) (disk_of g.H.Host l.disk.host.now l.disk.rest);
-  counted : IsTrue (g.H.Host.tells Work) → disk_held l.disk.rest + fresh_of (core_of l.p) ≡ disk_held l.fn.disk.rest + fresh_of (core_of l.fn.p);
+  sound : IsTrue (g.H.Host.tells Work) → KeepsSound g.H.Host l.fn.p l.fn.disk.host.now l.fn.disk.rest l.p l.disk.host.now l.disk.rest;
   marks : LeavesMarks (core_of l.fn.p) (core_of l.p);
   here : AreHere (core_of l.p);
-  stands : HoldsObjects g.H.Host l.disk.host.now l.disk.rest;
   size : size_of l.p.segment ≡ size_of l.fn.p.segment;
   entries : entries_of l.p.names.table ≡ entries_of l.fn.p.names.table;
   limit : disk_room l.disk.rest ≡ disk_room l.fn.disk.rest;

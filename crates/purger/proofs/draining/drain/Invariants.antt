@@ -1,0 +1,19 @@
+use Rattle.std.proofs.Common.{◌≡◌, ◌-◌, IsTrue}
+use Rattle.loom_outside.specs.declared.outside.Role.TheVariants.{Work}
+use Rattle.loom_outside.specs.Work.{IsWorkOnly}
+use Rattle.core_segment.specs.Segment.{free_of, size_of}
+use Rattle.disk_objects.specs.Disk.{disk_room}
+use Rattle.purger.specs.Draining.{LeavesRest, Thins}
+use Rattle.purger.proofs.draining.drain.Given as goal
+
+abbrev pub invariant-loop-p : goal.invariant-loop-p
+invariant-loop-p g l = record {
+  leaves : LeavesRest l.fn.p l.p;
+  thins : IsTrue (g.H.Host.tells Work) → Thins g.H.Host l.fn.p l.fn.disk.host.now l.fn.disk.rest l.p l.disk.host.now l.disk.rest;
+  limit : disk_room l.disk.rest ≡ disk_room l.fn.disk.rest;
+  work : IsWorkOnly g.H.Host l.fn.disk.host.now l.disk.host.now;
+  same_host : l.disk.host.ghost_name ≡ l.fn.disk.host.ghost_name;
+}
+
+abbrev pub decreases-loop-p : goal.decreases-loop-p
+decreases-loop-p g l = size_of l.p.segment - free_of l.p.segment

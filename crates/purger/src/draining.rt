@@ -1,0 +1,279 @@
+// Dead objects go: names that have no body are freed on disk, and an object with a body is freed without being written.
+ghost use Rattle.std.specs.Prelude.{[], ◌≡◌, ◌+◌, ◌+ℤ◌, ◌≤◌, ◌<◌, ◌↔◌, ℕ, pos, List, Option, None, Some, true, false, IsTrue, IfOk, IfErr, OnOk};
+ghost use Rattle.loom_outside.specs.Work.{IsWorkOnly, IsWorkRead};
+ghost use Rattle.object_table.specs.Entries.{is_short, place_of, put};
+ghost use Rattle.object_table.specs.Table.{bound_of};
+ghost use Rattle.core_segment.specs.Segment.{free_of, size_of};
+ghost use Rattle.disk_objects.specs.Disk.{disk_held, disk_room};
+ghost use Rattle.core_view.specs.Kept.{IsTight};
+ghost use Rattle.core_view.specs.Purge.{fresh_of};
+ghost use Rattle.leaf_lambda.specs.Parts.{core_of, spare_of, IsParts};
+ghost use Rattle.counted_core.specs.Levels.{Levels, Stored};
+ghost use Rattle.counted_core.specs.Counted.{IsSound};
+ghost use Rattle.counted_core.specs.Dead.{IsDead};
+ghost use Rattle.delta_counts.specs.At.{IsStoredAt};
+ghost use Rattle.purger.specs.Counts.{HasSound, StandsFor};
+ghost use Rattle.purger.specs.Draining.{DrainsBare, DrainsDead, HasDead, IsDeadBy, IsForgotten, IsThinned, KeepsLevels, LeavesRest, MayDrop, NoBodyDead, NotDeadAt, Thins};
+ghost use Rattle.purger.specs.Marks.{AreHere};
+ghost use Rattle.purger.specs.Purge.{IsReadFault};
+
+use crate::eviction::{NOWHERE, count_of, read_copy};
+use crate::marks::unmark_for;
+use core_segment::laws::chunks_never_overlap;
+use delta_counts::{drain_one, lower_words};
+use disk_objects::DiskObjects;
+use leaf_lambda::leaving::{drop_body, set_written};
+use leaf_lambda::steps::{free_leaf, place_of_body};
+use leaf_lambda::{Parts, merge_out};
+use long_names::Name;
+use loom_outside::{DiskFault, Host, Role};
+use object_record::RecordBuf;
+use object_table::Short;
+
+// Whether a change and a count on disk come to nothing.
+fn comes_to_none(change: i64, count: u64) -> bool
+    ensures { IsTrue result ↔ (change +ℤ pos count ≡ pos 0) }
+{
+    if change > 0 {
+        return false;
+    }
+    change.unsigned_abs() == count
+}
+
+// Whether an object with a body is dead: nothing refers to its entry, it isn't known, and its count is 0.
+fn is_dead<H: Host>(p: &Parts, disk: &mut DiskObjects<'_, H>, s: Short) -> Result<bool, DiskFault>
+    requires parts { IsParts p.now }
+    requires short { is_short s.0 ≡ true }
+    requires within { s.0 < bound_of p.now.names.table }
+    requires sound { HasSound H.Host p.now disk.old.host.now disk.old.rest }
+    ensures body { IfOk result (λ dead. IsTrue dead → (at : ℕ) × (place_of ((core_of p.now).entries s.0).state ≡ Some at)) }
+    ensures loose { IfOk result (λ dead. IsTrue dead → ((core_of p.now).entries s.0).refs ≡ 0) }
+    ensures dead { IsTrue (H.tells Role.Work) → (t : Levels) → StandsFor H.Host p.now disk.old.host.now disk.old.rest t → IsSound t [] →
+        IfOk result (λ dead. IsDeadBy dead s.0 t) }
+    ensures rest { disk.new.rest ≡ disk.old.rest }
+    ensures read { IsWorkRead H.Host disk.old.host.now disk.new.host.now }
+    ensures same_host { disk.new.host.ghost_name ≡ disk.old.host.ghost_name }
+    ensures fault { IfErr result (IsReadFault (H.tells Role.Work) (H.faults disk.old.host.now Role.Work) (H.faults disk.new.host.now Role.Work)) }
+{
+    let e = p.names.table.entry(s);
+    if !e.place().is_some() {
+        return Ok(false);
+    }
+    if e.refs > 0 {
+        return Ok(false);
+    }
+    if e.name.is_known() {
+        return Ok(false);
+    }
+    let count = count_of(disk, e.name)?;
+    Ok(comes_to_none(e.change, count))
+}
+
+// Removes the record of a name that isn't pending; a fresh object has none.
+fn drop_record<H: Host>(
+    disk: &mut DiskObjects<'_, H>,
+    name: Name,
+    fresh: bool,
+) -> Result<(), DiskFault>
+    requires may { IsTrue (H.tells Role.Work) → (stored : ℕ → Option Stored) × (pending : List ℕ) ×
+        IsStoredAt H.Host disk.old.host.now disk.old.rest stored pending × MayDrop fresh stored pending name }
+    ensures dropped { IsTrue (H.tells Role.Work) → (stored : ℕ → Option Stored) (pending : List ℕ) →
+        IsStoredAt H.Host disk.old.host.now disk.old.rest stored pending → MayDrop fresh stored pending name →
+        OnOk result (IsStoredAt H.Host disk.new.host.now disk.new.rest (put stored name None) pending) }
+    ensures room { disk_room disk.new.rest ≡ disk_room disk.old.rest }
+    ensures work { IsWorkOnly H.Host disk.old.host.now disk.new.host.now }
+    ensures same_host { disk.new.host.ghost_name ≡ disk.old.host.ghost_name }
+    ensures fault { IfErr result (IsReadFault (H.tells Role.Work) (H.faults disk.old.host.now Role.Work) (H.faults disk.new.host.now Role.Work)) }
+{
+    if fresh {
+        return Ok(());
+    }
+    disk.remove(name)
+}
+
+// Takes the body and the entry of an object to which nothing refers. It isn't written.
+fn forget(p: &mut Parts, s: Short)
+    requires parts { IsParts p.old }
+    requires body { (at : ℕ) × (place_of ((core_of p.old).entries s.0).state ≡ Some at) }
+    requires none { ((core_of p.old).entries s.0).refs ≡ 0 }
+    ensures parts { IsParts p.new }
+    ensures forgotten { IsForgotten s.0 (core_of p.old) (core_of p.new) }
+    ensures spare { spare_of p.new ≡ spare_of p.old + 1 }
+    ensures size { size_of p.new.segment ≡ size_of p.old.segment }
+    ensures wider { free_of p.old.segment < free_of p.new.segment }
+{
+    // as if it had been: so it may be dropped
+    set_written(p, s);
+    drop_body(p, s);
+    free_leaf(p, s);
+}
+
+// Frees a dead object that has a body and isn't marked: its record goes, its body and its entry, and what it held has a word less. It isn't
+// written.
+fn free_body<H: Host>(
+    p: &mut Parts,
+    disk: &mut DiskObjects<'_, H>,
+    buf: &mut RecordBuf,
+    s: Short,
+) -> Result<(), DiskFault>
+    requires parts { IsParts p.old }
+    requires tight { IsTight (core_of p.old) }
+    requires marks { AreHere (core_of p.old) }
+    requires body { (at : ℕ) × (place_of ((core_of p.old).entries s.0).state ≡ Some at) }
+    requires unmarked { ((core_of p.old).entries s.0).flags.marked ≡ false }
+    requires none { ((core_of p.old).entries s.0).refs ≡ 0 }
+    requires dead { HasDead H.Host p.old disk.old.host.now disk.old.rest s.0 }
+    ensures leaves { LeavesRest p.old p.new }
+    ensures freed { IsTrue (H.tells Role.Work) → (t : Levels) → StandsFor H.Host p.old disk.old.host.now disk.old.rest t → IsSound t [] →
+        IsDead t (t.core.entries s.0).name → OnOk result (IsThinned H.Host p.old p.new disk.new.host.now disk.new.rest t) }
+    ensures wider { OnOk result (free_of p.old.segment < free_of p.new.segment) }
+    ensures limit { disk_room disk.new.rest ≡ disk_room disk.old.rest }
+    ensures work { IsWorkOnly H.Host disk.old.host.now disk.new.host.now }
+    ensures same_host { disk.new.host.ghost_name ≡ disk.old.host.ghost_name }
+    ensures fault { IfErr result (IsReadFault (H.tells Role.Work) (H.faults disk.old.host.now Role.Work) (H.faults disk.new.host.now Role.Work)) }
+{
+    let at = place_of_body(p, s);
+    let e = p.names.table.entry(s);
+    read_copy(p, disk, buf, s, at)?;
+    merge_out(p, s, buf);
+    drop_record(disk, e.name, e.flags.fresh)?;
+    forget(p, s);
+    lower_words(&mut p.names, disk, buf, NOWHERE)
+}
+
+// Frees the object of an entry, if it has a body and is dead.
+fn free_dead_at<H: Host>(
+    p: &mut Parts,
+    disk: &mut DiskObjects<'_, H>,
+    buf: &mut RecordBuf,
+    s: Short,
+) -> Result<(), DiskFault>
+    requires parts { IsParts p.old }
+    requires tight { IsTight (core_of p.old) }
+    requires marks { AreHere (core_of p.old) }
+    requires short { is_short s.0 ≡ true }
+    requires within { s.0 < bound_of p.old.names.table }
+    requires sound { HasSound H.Host p.old disk.old.host.now disk.old.rest }
+    ensures leaves { LeavesRest p.old p.new }
+    ensures thins { IsTrue (H.tells Role.Work) → OnOk result (Thins H.Host p.old disk.old.host.now disk.old.rest p.new disk.new.host.now disk.new.rest) }
+    ensures none { IsTrue (H.tells Role.Work) → OnOk result (free_of p.new.segment ≡ free_of p.old.segment →
+        KeepsLevels H.Host p.old disk.old.host.now disk.old.rest p.new disk.new.host.now disk.new.rest (NotDeadAt s.0)) }
+    ensures limit { disk_room disk.new.rest ≡ disk_room disk.old.rest }
+    ensures work { IsWorkOnly H.Host disk.old.host.now disk.new.host.now }
+    ensures same_host { disk.new.host.ghost_name ≡ disk.old.host.ghost_name }
+    ensures fault { IfErr result (IsReadFault (H.tells Role.Work) (H.faults disk.old.host.now Role.Work) (H.faults disk.new.host.now Role.Work)) }
+{
+    if !is_dead(p, disk, s)? {
+        return Ok(());
+    }
+    unmark_for(p, s);
+    free_body(p, disk, buf, s)
+}
+
+// Frees each object that has a body and is dead when its entry's turn comes. Where no words became free none was.
+fn free_dead<H: Host>(
+    p: &mut Parts,
+    disk: &mut DiskObjects<'_, H>,
+    buf: &mut RecordBuf,
+) -> Result<(), DiskFault>
+    requires parts { IsParts p.old }
+    requires tight { IsTight (core_of p.old) }
+    requires marks { AreHere (core_of p.old) }
+    requires sound { HasSound H.Host p.old disk.old.host.now disk.old.rest }
+    ensures leaves { LeavesRest p.old p.new }
+    ensures thins { IsTrue (H.tells Role.Work) → OnOk result (Thins H.Host p.old disk.old.host.now disk.old.rest p.new disk.new.host.now disk.new.rest) }
+    ensures none { IsTrue (H.tells Role.Work) → OnOk result (free_of p.new.segment ≡ free_of p.old.segment →
+        KeepsLevels H.Host p.old disk.old.host.now disk.old.rest p.new disk.new.host.now disk.new.rest NoBodyDead) }
+    ensures limit { disk_room disk.new.rest ≡ disk_room disk.old.rest }
+    ensures work { IsWorkOnly H.Host disk.old.host.now disk.new.host.now }
+    ensures same_host { disk.new.host.ghost_name ≡ disk.old.host.ghost_name }
+    ensures fault { IfErr result (IsReadFault (H.tells Role.Work) (H.faults disk.old.host.now Role.Work) (H.faults disk.new.host.now Role.Work)) }
+{
+    for i in 0..p.names.table.entries() {
+        free_dead_at(p, disk, buf, Short(2 * i + 2))?;
+    }
+    Ok(())
+}
+
+// The same from the last entry to the first.
+fn free_down<H: Host>(
+    p: &mut Parts,
+    disk: &mut DiskObjects<'_, H>,
+    buf: &mut RecordBuf,
+) -> Result<(), DiskFault>
+    requires parts { IsParts p.old }
+    requires tight { IsTight (core_of p.old) }
+    requires marks { AreHere (core_of p.old) }
+    requires sound { HasSound H.Host p.old disk.old.host.now disk.old.rest }
+    ensures leaves { LeavesRest p.old p.new }
+    ensures thins { IsTrue (H.tells Role.Work) → OnOk result (Thins H.Host p.old disk.old.host.now disk.old.rest p.new disk.new.host.now disk.new.rest) }
+    ensures limit { disk_room disk.new.rest ≡ disk_room disk.old.rest }
+    ensures work { IsWorkOnly H.Host disk.old.host.now disk.new.host.now }
+    ensures same_host { disk.new.host.ghost_name ≡ disk.old.host.ghost_name }
+    ensures fault { IfErr result (IsReadFault (H.tells Role.Work) (H.faults disk.old.host.now Role.Work) (H.faults disk.new.host.now Role.Work)) }
+{
+    let count = p.names.table.entries();
+    for i in 0..count {
+        free_dead_at(p, disk, buf, Short(2 * (count - i)))?;
+    }
+    Ok(())
+}
+
+// Frees dead names that have no body until there is none. No body goes.
+fn drain_bare<H: Host>(
+    p: &mut Parts,
+    disk: &mut DiskObjects<'_, H>,
+    buf: &mut RecordBuf,
+) -> Result<(), DiskFault>
+    requires parts { IsParts p.old }
+    requires tight { IsTight (core_of p.old) }
+    requires marks { AreHere (core_of p.old) }
+    requires sound { HasSound H.Host p.old disk.old.host.now disk.old.rest }
+    ensures leaves { LeavesRest p.old p.new }
+    ensures segment { p.new.segment ≡ p.old.segment }
+    ensures drained { IsTrue (H.tells Role.Work) → OnOk result (DrainsBare H.Host p.old disk.old.host.now disk.old.rest p.new disk.new.host.now disk.new.rest) }
+    ensures limit { disk_room disk.new.rest ≡ disk_room disk.old.rest }
+    ensures work { IsWorkOnly H.Host disk.old.host.now disk.new.host.now }
+    ensures same_host { disk.new.host.ghost_name ≡ disk.old.host.ghost_name }
+    ensures fault { IfErr result (IsReadFault (H.tells Role.Work) (H.faults disk.old.host.now Role.Work) (H.faults disk.new.host.now Role.Work)) }
+{
+    loop {
+        if !drain_one(&mut p.names, disk, buf)? {
+            return Ok(());
+        }
+    }
+}
+
+/// Frees dead objects until nothing is dead. What is freed had no reference from outside, so what a register or a slot names stays, and what
+/// stays keeps its body. A dead object that is in the core isn't written, whatever its record has. Each round goes up the table and down again,
+/// so that a list goes in one whichever way it was made, and a body goes in each but the last. It takes no memory, no entry, and no words of the
+/// segment.
+pub fn drain<H: Host>(
+    p: &mut Parts,
+    disk: &mut DiskObjects<'_, H>,
+    buf: &mut RecordBuf,
+) -> Result<(), DiskFault>
+    requires parts { IsParts p.old }
+    requires tight { IsTight (core_of p.old) }
+    requires marks { AreHere (core_of p.old) }
+    requires sound { HasSound H.Host p.old disk.old.host.now disk.old.rest }
+    ensures leaves { LeavesRest p.old p.new }
+    ensures drained { IsTrue (H.tells Role.Work) → OnOk result (DrainsDead H.Host p.old disk.old.host.now disk.old.rest p.new disk.new.host.now disk.new.rest) }
+    ensures counted { IsTrue (H.tells Role.Work) → OnOk result (disk_held disk.new.rest + fresh_of (core_of p.new) ≤ disk_held disk.old.rest + fresh_of (core_of p.old)) }
+    ensures limit { disk_room disk.new.rest ≡ disk_room disk.old.rest }
+    ensures work { IsWorkOnly H.Host disk.old.host.now disk.new.host.now }
+    ensures same_host { disk.new.host.ghost_name ≡ disk.old.host.ghost_name }
+    ensures fault { IfErr result (IsReadFault (H.tells Role.Work) (H.faults disk.old.host.now Role.Work) (H.faults disk.new.host.now Role.Work)) }
+{
+    loop {
+        drain_bare(p, disk, buf)?;
+        let before = p.segment.free_words();
+        free_dead(p, disk, buf)?;
+        // no more words are free than there are
+        chunks_never_overlap(&p.segment);
+        if p.segment.free_words() == before {
+            return Ok(());
+        }
+        free_down(p, disk, buf)?;
+    }
+}
