@@ -85,7 +85,7 @@ set_field-answered t b c h of i from same counts left heap core = record {
   core = core;
 }
 
-leaves : (f : MemFault) (P : Type 0) → P → LeavesAll f P
+pub leaves : (f : MemFault) (P : Type 0) → P → LeavesAll f P
 leaves (CoreFull need) P p = p
 leaves (WorkFull live room) P p = p
 leaves (WorkFault count) P p = tt
@@ -102,7 +102,7 @@ left-ready t b c left ready = record {
   cached = λ k s m on. ⊎_elim (λ kept. ap (λ (f : ℕ → Bool). f m) kept.marks ∙ ready.cached k s m (kept.rows k s m on)) (λ emptied. absurd (let no = emptied.rows k s m in let both : true ≡ false = sym on ∙ no in cc)) left;
 }
 
-refused-ready : (t : Told) (f : MemFault) → IsReady t → IsReady (refused t f)
+pub refused-ready : (t : Told) (f : MemFault) → IsReady t → IsReady (refused t f)
 refused-ready t f ready = record { whole = ready.whole; marked = ready.marked; cached = ready.cached }
 
 -- an access that makes and says nothing is refused for its cause, and the heap stays

@@ -1,5 +1,5 @@
 -- Objects come and go, and what registers and slots hold stays: what is told stays.
-use Rattle.std.proofs.Common.{◌≡◌, ◌≢◌, ℕ, ◌+◌, Bool, true, false, cond, eqb, List, [], refl, sym, ◌∙◌, ap, subst, arith, Option, Some, None, IsTrue, ⊎_elim, Result, Ok, Err, add-zero}
+use Rattle.std.proofs.Common.{◌≡◌, ◌≢◌, ℕ, ◌+◌, ◌≤◌, Bool, true, false, cond, eqb, List, [], refl, sym, ◌∙◌, ap, subst, arith, Option, Some, None, IsTrue, ⊎_elim, Result, Ok, Err, add-zero}
 use Rattle.std.proofs.lemmas.Grind.{common_steps}
 use Rattle.std.proofs.lemmas.Bool.{cases_eq}
 use Rattle.std.proofs.Math.Path.{fun_ext}
@@ -20,7 +20,7 @@ use Rattle.purger.specs.declared.room.RoomFault.TheVariants.{Short, Disk as OfDi
 use Rattle.core_view.specs.Core.{Core}
 use Rattle.core_view.specs.Words.{meant}
 use Rattle.core_view.specs.Held.{Disk, held}
-use Rattle.core_view.specs.Kept.{IsCore, KeepsOver}
+use Rattle.core_view.specs.Kept.{IsCore, IsBacked, KeepsOver}
 use Rattle.core_view.proofs.Core.{meant-names}
 use Rattle.leaf_lambda.specs.declared.parts.Parts.{Parts}
 use Rattle.leaf_lambda.specs.Parts.{core_of, IsParts, IsWithin}
@@ -32,7 +32,8 @@ use Rattle.core_view.specs.Kept.{IsTight}
 use Rattle.disk_objects.specs.Function.{disk_of}
 use Rattle.core_view.specs.Purge.{IsPurged, fresh_of}
 use Rattle.purger.specs.Purge.{Undisturbed}
-use Rattle.loom_memory.specs.Memory.{word_in, pin_in, name_if, heap_if, told_of, IsPinned, IsKept, IsOver, IsCalm, IsQuiet, IsSound, Others, others_of}
+use Rattle.loom_memory.specs.Memory.{word_in, pin_in, name_if, heap_if, told_of, IsPinned, IsKept, IsOver, IsExact, IsCalm, IsQuiet, IsSound, Others, others_of}
+use Rattle.loom_memory.specs.Numbers.{IsNumbered}
 use Rattle.core_view.specs.Kept.{IsValued}
 use Rattle.loom_memory.specs.declared.memory.LoomMemory.{LoomMemory}
 use Rattle.core_view.specs.Counts.{marked_of}
@@ -131,10 +132,10 @@ calm-kept p q regs pins k kept calm parts tight size = record {
   cached = cached-left (core_of p) (core_of q) (found k.rows) k.mark kept.parts.core parts.core calm.marks kept.cached;
 }
 
-calm-regs : (x y : Core) (regs : List ℕ) (pins : Pinned) → IsRooted x regs pins → IsCalm pins x y → ◌≡◌ {A = ℕ → Value} (λ r. meant y.entries [] 0 (word_in regs r)) (λ r. meant x.entries [] 0 (word_in regs r))
+pub calm-regs : (x y : Core) (regs : List ℕ) (pins : Pinned) → IsRooted x regs pins → IsCalm pins x y → ◌≡◌ {A = ℕ → Value} (λ r. meant y.entries [] 0 (word_in regs r)) (λ r. meant x.entries [] 0 (word_in regs r))
 calm-regs x y regs pins root calm = fun_ext (λ r. meant-names x.entries y.entries [] 0 (word_in regs r) (λ is. calm.live (word_in regs r) (register-held x regs pins r (word_in regs r) root (word-there regs r is) is)))
 
-calm-slots : (x y : Core) (regs : List ℕ) (pins : Pinned) → IsRooted x regs pins → IsCalm pins x y → ◌≡◌ {A = ℕ → Option ℕ} (λ i. name_if y.entries (pin_in pins i)) (λ i. name_if x.entries (pin_in pins i))
+pub calm-slots : (x y : Core) (regs : List ℕ) (pins : Pinned) → IsRooted x regs pins → IsCalm pins x y → ◌≡◌ {A = ℕ → Option ℕ} (λ i. name_if y.entries (pin_in pins i)) (λ i. name_if x.entries (pin_in pins i))
 calm-slots x y regs pins root calm = fun_ext (λ i. go i (eqb (pin_in pins i) 0) refl)
   where
     go : (i : ℕ) (b : Bool) → eqb (pin_in pins i) 0 ≡ b → cond b None (Some (y.entries (pin_in pins i)).name) ≡ cond b None (Some (x.entries (pin_in pins i)).name)
@@ -198,8 +199,19 @@ over-is {H} host old new rest now x y k over room stands keeps counts = record {
   backed = λ told. (keeps told).backed;
   counted = λ told. counts told ∙ over.counted told;
   roomy = let was = over.roomy in omega arith;
-  based = over.based;
+  based = subst (λ (n : ℕ). IsNumbered k.base k.made k.held k.next n) (sym room) over.based;
   valued = λ told. subst (λ (d : Disk). IsValued d) (sym (keeps told).held) (over.valued told);
+}
+
+-- a disk that was only read
+pub read-over : {H : Type 0} (host : Ghosts H) (old new : H) (rest now : DiskRest) (c : Core) (k : Ledger) → IsOver host old rest c k → HoldsObjects host new now → now ≡ rest → disk_of host new now ≡ disk_of host old rest → IsOver host new now c k
+read-over {H} host old new rest now c k over stands is same = record {
+  stands = stands;
+  backed = λ told. subst (λ (d : Disk). IsBacked c d) (sym same) (over.backed told);
+  counted = λ told. ap (λ (r : DiskRest). disk_held r + fresh_of c) is ∙ over.counted told;
+  roomy = subst (λ (n : ℕ). k.held ≤ n) (sym (ap disk_room is)) over.roomy;
+  based = subst (λ (n : ℕ). IsNumbered k.base k.made k.held k.next n) (sym (ap disk_room is)) over.based;
+  valued = λ told. subst (λ (d : Disk). IsValued (held c d)) (sym same) (over.valued told);
 }
 
 pub sound-if : {T H : Type 0} (host : Ghosts H) (r : Result T RoomFault) (old new : H) (rest now : DiskRest) (x y : Core) (k : Ledger) → IsOver host old rest x k → disk_room now ≡ disk_room rest → Undisturbed r (HoldsObjects host new now)
@@ -210,10 +222,10 @@ sound-if {T} {H} host (Ok v) old new rest now x y k over room stands keeps count
 sound-if {T} {H} host (Err Short) old new rest now x y k over room stands keeps counts = over-is host old new rest now x y k over room stands keeps counts
 sound-if {T} {H} host (Err (OfDisk f)) old new rest now x y k over room stands keeps counts = tt
 
-pub kept-if : {T H : Type 0} (host : Ghosts H) (r : Result T RoomFault) (m : LoomMemory H) → IsKept m.parts m.regs m.pinned m.ledger → Undisturbed r (IsOver host m.disk.host.now m.disk.rest (core_of m.parts) m.ledger) → Undisturbed r (IsSound host m)
-kept-if {T} {H} host (Ok v) m kept over = record { kept = kept; over = over }
-kept-if {T} {H} host (Err Short) m kept over = record { kept = kept; over = over }
-kept-if {T} {H} host (Err (OfDisk f)) m kept over = tt
+pub kept-if : {T H : Type 0} (host : Ghosts H) (r : Result T RoomFault) (m : LoomMemory H) → IsKept m.parts m.regs m.pinned m.ledger → Undisturbed r (IsOver host m.disk.host.now m.disk.rest (core_of m.parts) m.ledger) → Undisturbed r (IsExact host m.parts m.disk.host.now m.disk.rest m.ledger.next []) → Undisturbed r (IsSound host m)
+kept-if {T} {H} host (Ok v) m kept over exact = record { kept = kept; over = over; exact = exact }
+kept-if {T} {H} host (Err Short) m kept over exact = record { kept = kept; over = over; exact = exact }
+kept-if {T} {H} host (Err (OfDisk f)) m kept over exact = tt
 
 -- what is told of a store: the heap changes, and all marks may go
 pub store-told : {H : Type 0} (host : Ghosts H) (now : H) (rest : DiskRest) (x y : Core) (regs : List ℕ) (pins : Pinned) (k : Ledger) → IsRooted x regs pins → IsCalm pins x y

@@ -1,5 +1,6 @@
 -- A field of an object in the core, in a register or stored.
-use Rattle.std.proofs.Common.{◌≡◌, ℕ, ◌<◌, ◌≤◌, true, length, get_or, refl, sym, ◌∙◌, ap, subst, add-zero, arith, Some, None, IsTrue}
+use Rattle.std.specs.List.{slice_get, slice_set}
+use Rattle.std.proofs.Common.{zero, suc, List, [], ◌∷◌, ◌≡◌, ℕ, ◌<◌, ◌≤◌, true, length, get_or, refl, sym, ◌∙◌, ap, subst, add-zero, arith, Some, None, IsTrue}
 use Rattle.std.proofs.lemmas.Option.{slice_get-get_or}
 use Rattle.long_names.specs.declared.value.Value.{Value}
 use Rattle.long_names.specs.Counting.{counted}
@@ -20,6 +21,8 @@ use Rattle.purger.specs.Purge.{IsReadFault}
 use Rattle.object_memory.specs.Plain.{refused}
 use Rattle.object_table.specs.Entries.{place_of, is_short, is_used}
 use Rattle.disk_objects.specs.Disk.{disk_room}
+use Rattle.object_table.specs.declared.entry.Entry.{Entry}
+use Rattle.core_segment.specs.Chunks.{Chunk}
 use Rattle.core_view.specs.Core.{Core}
 use Rattle.core_view.specs.Words.{pointers}
 use Rattle.core_view.specs.Kept.{IsCore}
@@ -41,6 +44,19 @@ told-tells {H} host m told = told
 
 pub at-field : (c : Core) (s p i : ℕ) → place_of (c.entries s).state ≡ Some p → i < length (pointers (c.entries s).kind (c.chunks p).words) → (w : ℕ) × IsAt c s p i w
 at-field c s p i at low = (get_or (pointers (c.entries s).kind (c.chunks p).words) i 0, record { place = at; word = slice_get-get_or (pointers (c.entries s).kind (c.chunks p).words) i 0 low })
+
+-- a word that was put among others
+pub set-here : (xs : List ℕ) (i w old : ℕ) → slice_get xs i ≡ Some old → slice_get (slice_set xs i w) i ≡ Some w
+set-here [] i w old e = absurd (let z : None ≡ Some old = e in cc)
+set-here (x ∷ xs) zero w old e = refl
+set-here (x ∷ xs) (suc i) w old e = set-here xs i w old e
+
+-- the entry of its object is the same, and so are all chunks
+pub at-same : (c d : Core) (s p i w : ℕ) → d.entries s ≡ c.entries s → d.chunks ≡ c.chunks → IsAt c s p i w → IsAt d s p i w
+at-same c d s p i w e f at = record {
+  place = ap (λ (x : Entry). place_of x.state) e ∙ at.place;
+  word = ap (λ (x : Entry). slice_get (pointers x.kind (d.chunks p).words) i) e ∙ ap (λ (g : ℕ → Chunk). slice_get (pointers (c.entries s).kind (g p).words) i) f ∙ at.word;
+}
 
 pub word-live : (c : Core) (s p i w : ℕ) → IsCore c → IsAt c s p i w → is_short w ≡ true → is_used (c.entries w).state ≡ true
 word-live c s p i w core at is = used-live c core w (word-used c core s p i w at.place at.word is)

@@ -71,7 +71,7 @@ pin-apart c pins n core pinned away i some = go (eqb (c.entries (pin_in pins i))
         absurd (cc)
 
 -- so the need that was counted is that of the row
-beside-is : (c : Core) (disk : Disk) (next n words : ℕ) (pins : Pinned) (need : Need) → IsCore c → ((i : ℕ) → IsPinned c (pin_in pins i)) → c.find n ≡ None → words_at (heap_by c disk next) n ≡ words → IsNeedBeside c pins n words need → need ≡ need_of (heap_by c disk next) (record { object = n; slots = slots_by c pins })
+pub beside-is : (c : Core) (disk : Disk) (next n words : ℕ) (pins : Pinned) (need : Need) → IsCore c → ((i : ℕ) → IsPinned c (pin_in pins i)) → c.find n ≡ None → words_at (heap_by c disk next) n ≡ words → IsNeedBeside c pins n words need → need ≡ need_of (heap_by c disk next) (record { object = n; slots = slots_by c pins })
 beside-is c disk next n words pins need core pinned away sized is =
     let all = is.all ∙ sym (row-words c disk next n words pins core pinned sized (pin-apart c pins n core pinned away)) in
     let leaves = is.entries ∙ sym (row-entries c disk next n pins core pinned) in

@@ -107,6 +107,11 @@ field-told true c disk next s p to of i w regs told core at some is =
     ap (λ (o : Option Object). option_and_then (λ (o : Object). field_of o.body i) o) (object-told c disk next s p (regs of) core at.place is)
     ∙ field-meant c disk s p i w at ∙ ap Some (meant-fixed c.entries (fields_there (disk (c.entries s).name)) i w some)
 
+-- or what the access would bring is its field
+pub field-before : (b : Bool) (c : Core) (disk : Disk) (next s p of i : ℕ) (v : Value) (regs : ℕ → Value) → IsTrue b → IsCore c → place_of (c.entries s).state ≡ Some p → regs of ≡ meant c.entries [] 0 s → brought (heap_if b (held c disk) next) regs (Field 0 of i) ≡ Some v → field_of (object_at c disk (c.entries s) p).body i ≡ Some v
+field-before false c disk next s p of i v regs told core at is e = absurd (cc)
+field-before true c disk next s p of i v regs told core at is e = sym (ap (λ (o : Option Object). option_and_then (λ (o : Object). field_of o.body i) o) (object-told c disk next s p (regs of) core at is)) ∙ e
+
 -- and there is none past its end
 pub field-none : (b : Bool) (c : Core) (disk : Disk) (next s p to of i : ℕ) (regs : ℕ → Value) → IsTrue b → IsCore c → place_of (c.entries s).state ≡ Some p → length (pointers (c.entries s).kind (c.chunks p).words) ≤ i → regs of ≡ meant c.entries [] 0 s → CanDo (heap_if b (held c disk) next) regs (Field to of i) → ⊥
 field-none false c disk next s p to of i regs told core at past is can = cc

@@ -27,6 +27,7 @@ use Rattle.core_view.specs.Purge.{fresh_of}
 use Rattle.leaf_lambda.specs.Parts.{core_of}
 use Rattle.loom_memory.specs.declared.memory.LoomMemory.{LoomMemory}
 use Rattle.loom_memory.specs.Memory.{heap_if, told_of, others_of, Others, IsOver, IsSound, IsQuiet, IsRefused}
+use Rattle.loom_memory.specs.Numbers.{IsNumbered}
 use Rattle.loom_memory.specs.Says.{IsSaid, IsPut}
 use Rattle.loom_memory.proofs.AccessLaws.{same-trans, raised-trans, left-ready}
 
@@ -168,7 +169,7 @@ put-sound {H} host m new now sound same work stands =
       backed = λ told. subst (λ (d : Disk). IsBacked (core_of m.parts) d) (sym disk) (sound.over.backed told);
       counted = λ told. ap (λ (r : DiskRest). disk_held r + fresh_of (core_of m.parts)) same ∙ sound.over.counted told;
       roomy = subst (λ (n : ℕ). m.ledger.held ≤ n) (sym (ap disk_room same)) sound.over.roomy;
-      based = sound.over.based;
+      based = subst (λ (n : ℕ). IsNumbered m.ledger.base m.ledger.made m.ledger.held m.ledger.next n) (sym (ap disk_room same)) sound.over.based;
       valued = λ told. subst (λ (d : Disk). IsValued (held (core_of m.parts) d)) (sym disk) (sound.over.valued told);
     }
 

@@ -6,8 +6,9 @@ use Rattle.std.specs.Option.{option_map_or, option_and_then}
 use Rattle.long_names.specs.declared.value.Value.{Value}
 use Rattle.long_names.specs.declared.value.Value.TheVariants.{Int, Ref}
 use Rattle.long_names.specs.declared.object.Body.{Body}
+use Rattle.long_names.specs.declared.object.Body.TheVariants.{Pointers, Words, Bytes, Method}
 use Rattle.long_names.specs.declared.object.Object.{Object}
-use Rattle.long_names.specs.Objects.{is_ref, words_of, bytes_of, with_field, with_words, with_bytes}
+use Rattle.long_names.specs.Objects.{is_ref, fields_of, words_of, bytes_of, with_field, with_words, with_bytes}
 use Rattle.long_names.specs.State.{HasPart}
 use Rattle.long_names.specs.Words.{literal_count}
 use Rattle.long_names.specs.declared.object.Kind.{Kind}
@@ -24,6 +25,7 @@ use Rattle.object_memory.specs.declared.fault.MemFault.{MemFault}
 use Rattle.object_memory.specs.Told.{Told, Cache, Bounds, IsReady}
 use Rattle.object_memory.specs.Contract.{SameBounds, Raised, IfBounds, HasCore, Accessed, LeavesCache, touched_by, makes, stores}
 use Rattle.object_table.specs.Entries.{put, place_of}
+use Rattle.disk_objects.specs.declared.rest.DiskRest.{DiskRest}
 use Rattle.disk_objects.specs.Function.{disk_of}
 use Rattle.core_segment.specs.Segment.{size_of}
 use Rattle.core_view.specs.Core.{Core}
@@ -39,16 +41,20 @@ use Rattle.leaf_lambda.specs.declared.parts.Parts.{Parts}
 use Rattle.leaf_lambda.specs.Parts.{core_of, IsParts, IsWithin}
 use Rattle.leaf_lambda.specs.Making.{HasBytes, InBytes, InMethod}
 use Rattle.method_cache.specs.Found.{found}
+use Rattle.purger.specs.declared.room.Pinned.{Pinned}
 use Rattle.purger.specs.Marks.{IsUnmarking, LeavesMarks}
 use Rattle.purger.proofs.MarkLaws.{marked-at, within-marks, unmarked-purged, unmarked-here, unmarked-tight, unmarked-fresh}
+use Rattle.purger.proofs.NamingLaws.{unmarking-counts}
 use Rattle.purger.proofs.RoomLaws.{work-refl}
 use Rattle.loom_memory.specs.declared.memory.LoomMemory.{LoomMemory}
-use Rattle.loom_memory.specs.Memory.{heap_if, told_of, word_in, IsCalm, IsQuiet, IsRefused, IsSilent, IsSound}
+use Rattle.loom_memory.specs.declared.ledger.Ledger.{Ledger}
+use Rattle.loom_memory.specs.Memory.{heap_if, told_of, word_in, IsCalm, IsKept, IsOver, IsQuiet, IsRefused, IsSilent, IsSound}
 use Rattle.loom_memory.specs.Stores.{IsStored}
 use Rattle.loom_memory.proofs.AccessLaws.{after-quiet, refused-is, same-trans, raised-trans}
 use Rattle.loom_memory.proofs.CacheLaws.{cache-same, left-then}
 use Rattle.loom_memory.proofs.CalmLaws.{purged-calm, store-calm, store-told, calm-kept, quiet-is, over-is}
 use Rattle.loom_memory.proofs.LoadLaws.{object-told}
+use Rattle.loom_memory.proofs.ExactLaws.{exact-counts}
 use Rattle.loom_memory.proofs.RegLaws.{kept-rooted}
 
 -- ---- answered
@@ -239,22 +245,22 @@ pub ref-name : (n k : ℕ) → is_ref n (Ref k) ≡ true → n ≡ k
 ref-name n k e = let on : eqb k n ≡ true = e in let it : k ≡ n = grind (arith, common_steps) in sym it
 
 -- an object with a body, without a mark, whose words change
-pub stored-is : {H : Type 0} (host : Ghosts H) (m : LoomMemory H) (q : Parts) (a : Access) (of s p : ℕ) → IsSound host m → IsParts q → IsWithin s (core_of m.parts) (core_of q) → place_of ((core_of m.parts).entries s).state ≡ Some p → place_of ((core_of q).entries s).state ≡ place_of ((core_of m.parts).entries s).state
+pub stored-is : {H : Type 0} (host : Ghosts H) (m : LoomMemory H) (q : Parts) (a : Access) (of s p : ℕ) → IsKept m.parts m.regs m.pinned m.ledger → IsParts q → IsWithin s (core_of m.parts) (core_of q) → place_of ((core_of m.parts).entries s).state ≡ Some p → place_of ((core_of q).entries s).state ≡ place_of ((core_of m.parts).entries s).state
     → ((core_of q).entries s).name ≡ ((core_of m.parts).entries s).name → ((core_of m.parts).entries s).flags.marked ≡ false → stores a ≡ true → target_of a ≡ Some of → s ≡ word_in m.regs of
     → (IsTrue (host.tells Work) → heap_if (host.tells Work) (held (core_of q) (disk_of host m.disk.host.now m.disk.rest)) m.ledger.next ≡ heap_after (heap_if (host.tells Work) (held (core_of m.parts) (disk_of host m.disk.host.now m.disk.rest)) m.ledger.next) (λ r. meant (core_of m.parts).entries [] 0 (word_in m.regs r)) a)
     → IsStored (told_of host m.disk.host.now m.disk.rest (core_of m.parts) m.regs m.pinned m.ledger) (told_of host m.disk.host.now m.disk.rest (core_of q) m.regs m.pinned m.ledger) a
-stored-is {H} host m q a of s p sound parts within at place name off is target word heap =
-    let core = sound.kept.parts.core in
+stored-is {H} host m q a of s p kept parts within at place name off is target word heap =
+    let core = kept.parts.core in
     let used = placed-used ((core_of m.parts).entries s).state p at in
     let calm = store-calm m.pinned s p (core_of m.parts) (core_of q) core parts.core within at place name in
-    let same = cache-same (core_of m.parts) (core_of q) (found m.ledger.rows) m.ledger.mark m.ledger.begun core parts.core (within-marks (core_of m.parts) (core_of q) s core parts.core within) sound.kept.cached in
+    let same = cache-same (core_of m.parts) (core_of q) (found m.ledger.rows) m.ledger.mark m.ledger.begun core parts.core (within-marks (core_of m.parts) (core_of q) s core parts.core within) kept.cached in
     let ref : meant (core_of m.parts).entries [] 0 (word_in m.regs of) ≡ Ref ((core_of m.parts).entries s).name = ap (meant (core_of m.parts).entries [] 0) (sym word) ∙ meant-short (core_of m.parts).entries [] 0 s (core.short s used) in
     let regs : ℕ → Value = λ r. meant (core_of m.parts).entries [] 0 (word_in m.regs r) in
     record {
       heap = heap_if (host.tells Work) (held (core_of q) (disk_of host m.disk.host.now m.disk.rest)) m.ledger.next;
       bounds = (refl, refl, refl, omega arith, omega arith);
       counts = (refl, sym (add-zero m.ledger.made));
-      same = store-told host m.disk.host.now m.disk.rest (core_of m.parts) (core_of q) m.regs m.pinned m.ledger (kept-rooted m.parts m.regs m.pinned m.ledger sound.kept) calm;
+      same = store-told host m.disk.host.now m.disk.rest (core_of m.parts) (core_of q) m.regs m.pinned m.ledger (kept-rooted m.parts m.regs m.pinned m.ledger kept) calm;
       cache = kept-cache (touched_by regs a) _ _ same
           (λ n touched.
           let it : n ≡ ((core_of m.parts).entries s).name = ref-name n ((core_of m.parts).entries s).name (sym (touched-is regs a of n is target ∙ ap (is_ref n) ref) ∙ touched) in
@@ -290,6 +296,7 @@ unmark-sound {H} host m q sound parts stays step calm segment = record {
   over = over-is host m.disk.host.now m.disk.host.now m.disk.rest m.disk.rest (core_of m.parts) (core_of q) m.ledger sound.over refl sound.over.stands
       (λ told. let keeps = stays (disk_of host m.disk.host.now m.disk.rest) (sound.over.backed told) in record { backed = keeps.backed; held = keeps.held })
       (λ told. let same = unmarked-fresh (core_of m.parts) (core_of q) step in omega arith);
+  exact = exact-counts host m.parts q m.disk.host.now m.disk.rest m.ledger.next sound.exact parts stays (unmarking-counts (core_of m.parts) (core_of q) step);
 }
 
 -- ---- stores that are refused, for whatever access
@@ -344,19 +351,46 @@ bytes-can true c disk next s p i v told core place is can =
     let there : bytes_of (object_at c disk (c.entries s) p).body ≡ Some can.0 = ap (λ (o : Option Object). option_and_then (λ (o : Object). bytes_of o.body) o) (sym (object-told c disk next s p v core place is)) ∙ can.1 in
     bytes-body c.entries (fields_there (disk (c.entries s).name)) (c.chunks p).words (c.entries s).kind (c.entries s).len i can.0 there can.2
 
+pub words-fields : (b : Body) (i : ℕ) (run : List ℕ) → fields_of (with_words b i run) ≡ fields_of b
+words-fields (Pointers values) i run = refl
+words-fields (Words words) i run = refl
+words-fields (Bytes bytes) i run = refl
+words-fields (Method header literals code) i run = refl
+
+pub bytes-fields : (b : Body) (i : ℕ) (run : List ℕ) → fields_of (with_bytes b i run) ≡ fields_of b
+bytes-fields (Pointers values) i run = refl
+bytes-fields (Words words) i run = refl
+bytes-fields (Bytes bytes) i run = refl
+bytes-fields (Method header literals code) i run = refl
+
 -- what is kept where an object's words changed
-pub stored-sound : {H : Type 0} (host : Ghosts H) (m : LoomMemory H) (q : Parts) (s p : ℕ) → IsSound host m → IsParts q → IsWithin s (core_of m.parts) (core_of q) → place_of ((core_of m.parts).entries s).state ≡ Some p → place_of ((core_of q).entries s).state ≡ place_of ((core_of m.parts).entries s).state
-    → ((core_of q).entries s).name ≡ ((core_of m.parts).entries s).name → fresh_by ((core_of q).entries s) ≡ fresh_by ((core_of m.parts).entries s) → size_of q.segment ≡ size_of m.parts.segment
-    → ((disk : Disk) → IsBacked (core_of m.parts) disk → IsBacked (core_of q) disk) → ((disk : Disk) → IsBacked (core_of m.parts) disk → IsValued (held (core_of m.parts) disk) → IsValued (held (core_of q) disk))
-    → IsSound host (record m { parts = q })
-stored-sound {H} host m q s p sound parts within at place name fresh size backed valued = record {
-  kept = calm-kept m.parts q m.regs m.pinned m.ledger sound.kept (store-calm m.pinned s p (core_of m.parts) (core_of q) sound.kept.parts.core parts.core within at place name) parts (within.tight sound.kept.tight) size;
-  over = record {
-    stands = sound.over.stands;
-    backed = λ told. backed (disk_of host m.disk.host.now m.disk.rest) (sound.over.backed told);
-    counted = λ told. let was = sound.over.counted told in let same = fresh-stays (core_of m.parts) (core_of q) s within.about fresh in omega (arith, was, same);
-    roomy = sound.over.roomy;
-    based = sound.over.based;
-    valued = λ told. valued (disk_of host m.disk.host.now m.disk.rest) (sound.over.backed told) (sound.over.valued told);
-  };
+pub stored-kept : (p q : Parts) (regs : List ℕ) (pins : Pinned) (k : Ledger) (s at : ℕ) → IsKept p regs pins k → IsParts q → IsWithin s (core_of p) (core_of q) → place_of ((core_of p).entries s).state ≡ Some at → place_of ((core_of q).entries s).state ≡ place_of ((core_of p).entries s).state
+    → ((core_of q).entries s).name ≡ ((core_of p).entries s).name → size_of q.segment ≡ size_of p.segment → IsKept q regs pins k
+stored-kept p q regs pins k s at kept parts within there place name size =
+    calm-kept p q regs pins k kept (store-calm pins s at (core_of p) (core_of q) kept.parts.core parts.core within there place name) parts (within.tight kept.tight) size
+
+pub stored-over : {H : Type 0} (host : Ghosts H) (now : H) (rest : DiskRest) (x y : Core) (k : Ledger) (s : ℕ) → IsOver host now rest x k → IsWithin s x y → fresh_by (y.entries s) ≡ fresh_by (x.entries s)
+    → ((disk : Disk) → IsBacked x disk → IsBacked y disk) → ((disk : Disk) → IsBacked x disk → IsValued (held x disk) → IsValued (held y disk)) → IsOver host now rest y k
+stored-over {H} host now rest x y k s over within fresh backed valued = record {
+  stands = over.stands;
+  backed = λ told. backed (disk_of host now rest) (over.backed told);
+  counted = λ told. let was = over.counted told in let same = fresh-stays x y s within.about fresh in omega (arith, was, same);
+  roomy = over.roomy;
+  based = over.based;
+  valued = λ told. valued (disk_of host now rest) (over.backed told) (over.valued told);
+}
+
+-- a step before it, and one behind, of which nothing is told
+pub stored-between : (t u v w : Told) (a : Access) → u ≡ t → w ≡ v → IsStored u v a → IsStored t w a
+stored-between t u v w a first last is = subst (λ (z : Told). IsStored z w a) first (subst (λ (z : Told). IsStored u z a) (sym last) is)
+
+-- quiet steps before it
+pub stored-quiet : (t u v : Told) (a : Access) → IsQuiet t u → IsStored u v a → IsStored t v a
+stored-quiet t u v a quiet stored = record {
+  heap = stored.heap;
+  same = stored.same ∙ ap (λ (z : Told). record z { heap = stored.heap; bounds = v.bounds; cache = v.cache }) quiet.same;
+  bounds = same-trans t.bounds u.bounds v.bounds quiet.bounds stored.bounds;
+  counts = raised-trans t.bounds u.bounds v.bounds quiet.counts stored.counts;
+  cache = left-then (touched_by t.regs a) t.cache u.cache v.cache quiet.cache (subst (λ (regs : ℕ → Value). LeavesCache (touched_by regs a) None u.cache u.cache v.cache) (ap (λ (z : Told). z.regs) quiet.same) stored.cache);
+  stored = λ told. stored.stored (ap (λ (z : Told). z.tells) quiet.same ∙ told) ∙ ap (λ (z : Told). heap_after z.heap z.regs a) quiet.same;
 }

@@ -43,6 +43,7 @@ use Rattle.purger.specs.Purge.{IsPurgeFault}
 use Rattle.purger.proofs.MarkLaws.{marked-at}
 use Rattle.loom_memory.specs.declared.memory.LoomMemory.{LoomMemory}
 use Rattle.loom_memory.specs.Memory.{heap_if, loom_told, name_if, pin_in, told_of, word_in, IsOver, IsSound}
+use Rattle.loom_memory.specs.Numbers.{IsNumbered}
 use Rattle.loom_memory.specs.Stores.{IsStored}
 use Rattle.loom_memory.proofs.BringLaws.{IsNamed, named-then, quiet-same}
 use Rattle.loom_memory.proofs.CalmLaws.{transcript-away}
@@ -223,7 +224,7 @@ swapped-over {H} host m new now s t sound on also leaf away room many swaps =
       backed = λ told. subst (λ (d : Disk). IsBacked (core_of m.parts) d) (sym (swaps told).objects) (exchanged-backed (core_of m.parts) disk s t core on also leaf away (sound.over.backed told));
       counted = λ told. let was = sound.over.counted told in omega (arith, was, many);
       roomy = let was = sound.over.roomy in omega (arith, was, room);
-      based = sound.over.based;
+      based = subst (λ (n : ℕ). IsNumbered m.ledger.base m.ledger.made m.ledger.held m.ledger.next n) (sym room) sound.over.based;
       valued = λ told. subst (λ (d : Disk). IsValued d) (sym (ap (held (core_of m.parts)) (swaps told).objects ∙ exchanged-held (core_of m.parts) disk s t core on also leaf away)) (exchanged-valued (held (core_of m.parts) disk) ((core_of m.parts).entries s).name ((core_of m.parts).entries t).name (sound.over.valued told));
     }
 

@@ -1,3 +1,4 @@
+pub mod Numbers
 pub mod Cache
 pub mod Memory
 pub mod Calls
@@ -7,3 +8,9 @@ pub mod Says
 pub mod Known
 pub mod Residents
 pub mod Lent
+pub mod Own
+pub mod Gentle
+pub mod New
+pub mod Makings
+pub mod Beginning
+pub mod Ending

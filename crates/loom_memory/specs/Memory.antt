@@ -2,6 +2,7 @@
 use Rattle.std.specs.Prelude.{◌≡◌, ◌≢◌, ℕ, ◌+◌, ◌≤◌, ◌==◌, ◌||◌, Bool, true, false, List, [], length, count_by, Option, None, Some, IsTrue, slice_index_or, if◌then◌else◌}
 use Rattle.long_names.specs.declared.value.Value.{Value}
 use Rattle.long_names.specs.declared.value.Value.TheVariants.{Ref}
+use Rattle.long_names.specs.declared.limits.TheConstants.{ENTRIES_OF_A_CALL}
 use Rattle.object_memory.specs.declared.fault.Need.{Need}
 use Rattle.long_names.specs.declared.object.Object.{Object}
 use Rattle.long_names.specs.Heap.{Heap}
@@ -37,8 +38,12 @@ use Rattle.loom_memory.specs.declared.memory.LoomMemory.{LoomMemory}
 use Rattle.object_memory.specs.Contract.{SameBounds, Raised, Does, IsLater, Refuses, LeavesCache, IsKeptCache, no_names, touched_by, with_mark, makes}
 use Rattle.method_cache.specs.Found.{found}
 use Rattle.purger.specs.declared.eviction.TheConstants.{NOWHERE}
+use Rattle.purger.specs.Counts.{StandsFor}
 use Rattle.purger.specs.Marks.{AreHere, LeavesMarks}
+use Rattle.counted_core.specs.Levels.{Levels}
+use Rattle.counted_core.specs.Counted.{IsSound as AreSound}
 use Rattle.loom_memory.specs.Cache.{has_mark, cache_of, IsCached}
+use Rattle.loom_memory.specs.Numbers.{IsNumbered}
 use Rattle.core_view.specs.Kept.{IsTight}
 use Rattle.core_view.specs.Room.{in_hand, is_among, over_three, room_for, entries_for}
 use Rattle.disk_objects.specs.Function.{disk_of}
@@ -106,12 +111,24 @@ pub record IsOver {H : Type 0} (host : Ghosts H) (now : H) (rest : DiskRest) (c 
   pub backed : IsTrue (host.tells Work) → IsBacked c (disk_of host now rest)
   pub counted : IsTrue (host.tells Work) → disk_held rest + fresh_of c ≡ k.held
   pub roomy : k.held ≤ disk_room rest
-  pub based : (b : ℕ) → k.base ≡ Some b → k.held ≡ b + k.made
+  pub based : IsNumbered k.base k.made k.held k.next (disk_room rest)
   pub valued : IsTrue (host.tells Work) → IsValued (held c (disk_of host now rest))
+
+-- Where the host tells Work, parts and a disk stand for levels with this next name, whose counts are exact but for the words that are owed.
+-- Their heap is the held heap, so this is what a call that frees, counts or makes goes by.
+abbrev pub IsExact : {H : Type 0} → Ghosts H → Parts → H → DiskRest → ℕ → List Value → Type 0
+IsExact host p now rest next owed = IsTrue (host.tells Work) → (t : Levels) × StandsFor host p now rest t × AreSound t owed × (t.next ≡ next)
 
 pub record IsSound {H : Type 0} (host : Ghosts H) (m : LoomMemory H) : Type 0 where
   pub kept : IsKept m.parts m.regs m.pinned m.ledger
   pub over : IsOver host m.disk.host.now m.disk.rest (core_of m.parts) m.ledger
+  pub exact : IsExact host m.parts m.disk.host.now m.disk.rest m.ledger.next []
+
+-- while these words are owed
+pub record IsOwing {H : Type 0} (host : Ghosts H) (m : LoomMemory H) (owed : List Value) : Type 0 where
+  pub kept : IsKept m.parts m.regs m.pinned m.ledger
+  pub over : IsOver host m.disk.host.now m.disk.rest (core_of m.parts) m.ledger
+  pub exact : IsExact host m.parts m.disk.host.now m.disk.rest m.ledger.next owed
 
 -- what is outside: the roles that this memory has nothing to do with, and their faults
 pub record Others : Type 0 where
@@ -214,7 +231,7 @@ words_in_row c pins s words =
 pub record IsNeed (c : Core) (pins : Pinned) (s words : ℕ) (need : Need) : Type 0 where
   pub object : need.object ≡ (c.entries s).name
   pub all : need.words ≡ words_in_row c pins s words
-  pub entries : need.entries ≡ 51 + over_three (entries_for c) pins.a pins.b pins.d
+  pub entries : need.entries ≡ ENTRIES_OF_A_CALL + over_three (entries_for c) pins.a pins.b pins.d
 
 -- an object of so many words was read, which is that of the disk where it is told
 pub record IsSized (told : Bool) (x : Option Object) (words : ℕ) : Type 0 where

@@ -1,8 +1,17 @@
 -- What an object says, a piece at a time.
 use Rattle.std.specs.Prelude.{◌≡◌, ℕ, List, ◌++◌, take, None, Some, IsTrue}
+use Rattle.long_names.specs.declared.object.Kind.TheVariants as kind
 use Rattle.long_names.specs.Access.{Say, said_by}
 use Rattle.object_memory.specs.Told.{Told}
 use Rattle.object_memory.specs.Contract.{SameBounds, Raised, LeavesCache, no_names}
+use Rattle.loom_outside.specs.declared.outside.Host.{Ghosts}
+use Rattle.loom_outside.specs.declared.outside.Role.TheVariants.{Work}
+use Rattle.object_table.specs.Entries.{place_of}
+use Rattle.core_view.specs.Core.{Core}
+use Rattle.core_view.specs.Words.{bytes_in}
+use Rattle.leaf_lambda.specs.Parts.{core_of}
+use Rattle.loom_memory.specs.declared.memory.LoomMemory.{LoomMemory}
+use Rattle.loom_memory.specs.Memory.{loom_told}
 
 -- the first k bytes of the object of a register joined the transcript
 pub record HasSaid (t u : Told) (of k : ℕ) : Type 0 where
@@ -24,3 +33,21 @@ pub record IsPut (t u : Told) (run : List ℕ) : Type 0 where
   pub bounds : SameBounds t.bounds u.bounds
   pub counts : Raised 0 t.bounds u.bounds
   pub joined : IsTrue t.speaks → u.transcript ≡ t.transcript ++ run
+
+-- the bytes of the body of an entry
+abbrev pub text_at : Core → ℕ → ℕ → List ℕ
+text_at c s at = take (c.entries s).len (bytes_in (c.chunks at).words)
+
+-- the object of a register is in the core, has bytes, and says them
+pub record IsText {H : Type 0} (host : Ghosts H) (m : LoomMemory H) (of s : ℕ) : Type 0 where
+  pub at : ℕ
+  pub place : place_of ((core_of m.parts).entries s).state ≡ Some at
+  pub kind : ((core_of m.parts).entries s).kind ≡ kind.Bytes
+  pub says : IsTrue (host.tells Work) → said_by (loom_told host m).heap (loom_told host m).regs (Say of) ≡ Some (text_at (core_of m.parts) s at)
+
+-- nothing was done but with the transcript
+pub record IsSpeech {H : Type 0} (host : Ghosts H) (old new : LoomMemory H) : Type 0 where
+  pub parts : new.parts ≡ old.parts
+  pub ledger : new.ledger ≡ old.ledger
+  pub work : host.roles new.disk.host.now Work ≡ host.roles old.disk.host.now Work
+  pub writes : host.writes new.disk.host.now ≡ host.writes old.disk.host.now

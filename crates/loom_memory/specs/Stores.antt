@@ -5,9 +5,22 @@ use Rattle.long_names.specs.Access.{Access, heap_after}
 use Rattle.object_memory.specs.Told.{Told}
 use Rattle.object_memory.specs.Contract.{SameBounds, Raised, LeavesCache, touched_by}
 use Rattle.object_table.specs.Entries.{place_of}
+use Rattle.core_view.specs.Core.{Core}
+use Rattle.core_view.specs.Counts.{outside}
+use Rattle.core_view.specs.Kept.{Stays}
+use Rattle.counted_core.specs.Steps.{with_change}
 use Rattle.leaf_lambda.specs.Parts.{core_of}
 use Rattle.loom_memory.specs.declared.memory.LoomMemory.{LoomMemory}
 use Rattle.loom_memory.specs.Memory.{word_in}
+
+-- changes of counts differ in entries, and nothing else does
+pub record IsRecount (old new : Core) : Type 0 where
+  pub find : new.find ≡ old.find
+  pub bound : new.bound ≡ old.bound
+  pub chunks : new.chunks ≡ old.chunks
+  pub entries : (s : ℕ) → new.entries s ≡ with_change (old.entries s) (new.entries s).change
+  pub stays : Stays old new
+  pub outside : (t : ℕ) → outside new t ≡ outside old t
 
 -- An access stored: the heap changed as it says, the cache as it may, and calls on the disk may have failed.
 pub record IsStored (t u : Told) (a : Access) : Type 0 where

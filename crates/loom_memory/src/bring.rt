@@ -10,7 +10,7 @@ ghost use Rattle.loom_outside.specs.Work.{IsWorkRead};
 ghost use Rattle.disk_objects.specs.Calls.{HoldsObjects};
 ghost use Rattle.core_view.specs.Counts.{IsLight};
 ghost use Rattle.core_view.specs.Kept.{IsBacked, Keeps};
-ghost use Rattle.leaf_lambda.specs.Parts.{core_of, spare_of, IsParts, IsWithin};
+ghost use Rattle.leaf_lambda.specs.Parts.{core_of, spare_of, IsNaming, IsParts, IsWithin};
 ghost use Rattle.leaf_lambda.specs.Records.{KeepsRecord};
 ghost use Rattle.disk_objects.specs.Function.{disk_of};
 ghost use Rattle.core_view.specs.Kept.{IsTight};
@@ -64,6 +64,7 @@ pub fn bring_in<H: Host>(
     ensures parts { IsParts p.new }
     ensures tight { IsTight (core_of p.new) }
     ensures within { IsWithin s.0 (core_of p.old) (core_of p.new) }
+    ensures naming { IsNaming (core_of p.old) (core_of p.new) }
     ensures keeps { IsTrue (H.tells Role.Work) → Keeps (disk_of H.Host disk.old.host.now disk.old.rest) (core_of p.old) (core_of p.new) }
     ensures fresh { IsTrue (H.tells Role.Work) → fresh_of (core_of p.new) ≡ fresh_of (core_of p.old) }
     ensures there { OnOk result ((at : ℕ) × (place_of ((core_of p.new).entries s.0).state ≡ Some at)) }

@@ -70,13 +70,16 @@ fn refresh(p: &Parts, k: &mut Ledger)
 }
 
 impl<'h, H: Host> LoomMemory<'h, H> {
+    ghost use Rattle.loom_memory.specs.Gentle.{IsResting};
+    ghost use Rattle.loom_memory.specs.Own.{IsSparingChange};
     ghost use Rattle.long_names.specs.State.{name_at};
     ghost use Rattle.long_names.specs.Access.{Mark, Nothing};
     ghost use Rattle.object_memory.specs.Contract.{Accessed, IsFound, IsPut, IsUnknown, MayDo, is_marked};
     ghost use Rattle.object_memory.specs.Fit.{KeepsCallable, MayCall, StaysCallable};
     ghost use Rattle.loom_memory.specs.Memory.{loom_told, loom_outside, loom_lender, IsMarking, IsRemembered, IsSound};
 
-    pub(crate) fn begin_path(&mut self)
+    /// A new lookup path begins, and is whole.
+    pub fn begin_path(&mut self)
         requires { IsSound H.Host self.old }
         ensures told { loom_told H.Host self.new ≡ record (loom_told H.Host self.old) { cache = record (loom_told H.Host self.old).cache { path = true } } }
         ensures fit { KeepsCallable (IsSound H.Host) (loom_told H.Host) loom_lender (loom_outside H.Host) self.old self.new }
@@ -91,6 +94,7 @@ impl<'h, H: Host> LoomMemory<'h, H> {
         requires there { (at : ℕ) × (place_of ((core_of self.old.parts).entries s.0).state ≡ Some at) }
         ensures marked { IsMarking (loom_told H.Host self.old) (loom_told H.Host self.new) ((core_of self.old.parts).entries s.0).name }
         ensures sound { IsSound H.Host self.new }
+        ensures resting { IsResting self.old self.new }
         ensures lender { self.new.disk.host.ghost_name ≡ self.old.disk.host.ghost_name }
         ensures outside { loom_outside H.Host self.new ≡ loom_outside H.Host self.old }
     {
@@ -99,11 +103,13 @@ impl<'h, H: Host> LoomMemory<'h, H> {
         self.ledger.mark = s.0;
     }
 
-    pub(crate) fn mark(&mut self, r: Reg) -> Result<(), MemFault>
+    /// Marks the name in the register, as one on the lookup path.
+    pub fn mark(&mut self, r: Reg) -> Result<(), MemFault>
         requires fit { MayCall (IsSound H.Host) (loom_told H.Host) self.old }
         requires may { MayDo (loom_told H.Host self.old) (Mark r) }
         ensures access { Accessed (loom_told H.Host self.old) (loom_told H.Host self.new) (Mark r) (λ _. Nothing) result }
         ensures marked { OnOk result ((loom_told H.Host self.new).cache.marks (name_at ((loom_told H.Host self.old).regs r)) ≡ true) }
+        ensures own { IsSparingChange H.Host self.old self.new (name_at ((loom_told H.Host self.old).regs r)) result }
         ensures fit { StaysCallable (IsSound H.Host) (loom_told H.Host) loom_lender (loom_outside H.Host) self.old self.new result }
     {
         match self.load(r) {
@@ -115,7 +121,8 @@ impl<'h, H: Host> LoomMemory<'h, H> {
         }
     }
 
-    pub(crate) fn cache_find(&mut self, to: Reg, class: Reg, selector: Reg) -> bool
+    /// Whether a row of the pair is cached. Its method is then in the register.
+    pub fn cache_find(&mut self, to: Reg, class: Reg, selector: Reg) -> bool
         requires { IsSound H.Host self.old }
         ensures found { MatchBool result (IsFound (loom_told H.Host self.old) (loom_told H.Host self.new) to class selector) (IsUnknown (loom_told H.Host self.old) (loom_told H.Host self.new) class selector) }
         ensures remembered { (method : ℕ) → IsRemembered self.old class selector method → (result ≡ true) × ((loom_told H.Host self.new).regs to ≡ (loom_told H.Host self.old).regs method) }
@@ -135,7 +142,8 @@ impl<'h, H: Host> LoomMemory<'h, H> {
         }
     }
 
-    pub(crate) fn cache_put(&mut self, class: Reg, selector: Reg, method: Reg) -> bool
+    /// Whether the row was put into the cache. Where the path is whole, the three registers hold marked names.
+    pub fn cache_put(&mut self, class: Reg, selector: Reg, method: Reg) -> bool
         requires sound { IsSound H.Host self.old }
         requires class { IsTrue (loom_told H.Host self.old).cache.path → IsTrue (is_marked (loom_told H.Host self.old).cache ((loom_told H.Host self.old).regs class)) }
         requires selector { IsTrue (loom_told H.Host self.old).cache.path → IsTrue (is_marked (loom_told H.Host self.old).cache ((loom_told H.Host self.old).regs selector)) }

@@ -1,5 +1,6 @@
 // Objects leave the core, or lie together in it.
-ghost use Rattle.std.specs.Prelude.{◌<◌, ℕ, IsTrue, OnOk};
+ghost use Rattle.std.specs.Prelude.{◌≡◌, ◌<◌, ℕ, IsTrue, OnOk};
+ghost use Rattle.core_segment.specs.Segment.{largest_of, free_of};
 ghost use Rattle.object_table.specs.Table.{entries_of};
 
 use crate::bring::refusal_of;
@@ -23,13 +24,15 @@ impl<'h, H: Host> LoomMemory<'h, H> {
     ghost use Rattle.object_memory.specs.Contract.{Called, Follows, IsLater, Thins};
     ghost use Rattle.object_memory.specs.Fit.{MayCall, StaysCallable};
     ghost use Rattle.loom_memory.specs.Memory.{loom_told, loom_outside, loom_lender, IsSound};
-    ghost use Rattle.loom_memory.specs.Residents.{is_resident};
+    ghost use Rattle.loom_memory.specs.Residents.{is_resident, fetched};
+    ghost use Rattle.loom_memory.specs.Gentle.{IsPeek};
 
-    // More entries are asked for than there are, so everything leaves that may. That there are fewer is no refusal.
-    pub(crate) fn purge_all(&mut self) -> Result<(), MemFault>
+    /// More entries are asked for than there are, so everything leaves that may. That there are fewer is no refusal.
+    pub fn purge_all(&mut self) -> Result<(), MemFault>
         requires fit { MayCall (IsSound H.Host) (loom_told H.Host) self.old }
         ensures called { Called (loom_told H.Host self.old) (loom_told H.Host self.new) Thins result }
         ensures pinned { OnOk result ((n : ℕ) → IsTrue (is_resident self.new n) → IsTrue (has_slot (loom_told H.Host self.new).slots n)) }
+        ensures fetches { OnOk result (fetched self.new ≡ fetched self.old) }
         ensures fit { StaysCallable (IsSound H.Host) (loom_told H.Host) loom_lender (loom_outside H.Host) self.old self.new result }
     {
         let entries = too_many(&self.parts);
@@ -48,10 +51,13 @@ impl<'h, H: Host> LoomMemory<'h, H> {
         }
     }
 
-    pub(crate) fn compact(&mut self)
+    /// The free words of the core become one piece.
+    pub fn compact(&mut self)
         requires fit { MayCall (IsSound H.Host) (loom_told H.Host) self.old }
         ensures later { IsLater (loom_told H.Host self.old) (loom_told H.Host self.new) }
+        ensures one { largest_of self.new.parts.segment ≡ free_of self.old.parts.segment }
         ensures follows { Follows (loom_told H.Host self.old) (loom_told H.Host self.new) Thins }
+        ensures peek { IsPeek H.Host self.old self.new }
         ensures fit { StaysCallable (IsSound H.Host) (loom_told H.Host) loom_lender (loom_outside H.Host) self.old self.new (Ok result) }
     {
         compact(&mut self.parts);

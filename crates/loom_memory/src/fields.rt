@@ -1,20 +1,20 @@
 // Fields of objects, into a register and out of it.
-ghost use Rattle.std.specs.Prelude.{◌≡◌, ◌≢◌, ◌≤◌, ℕ, [], Some, true, IsTrue, OnOk, IfOk, IfErr, slice_get};
+ghost use Rattle.std.specs.Prelude.{◌≡◌, ◌≢◌, ◌≤◌, ℕ, [], Some, true, IsTrue, IfSome, IfNone, OnOk, IfOk, IfErr, slice_get};
 ghost use Rattle.long_names.specs.Words.{IsValue};
 ghost use Rattle.object_record.specs.Objects.{value_in};
 ghost use Rattle.object_table.specs.Entries.{is_short, is_used, place_of};
 ghost use Rattle.core_view.specs.Words.{meant};
 ghost use Rattle.core_view.specs.Held.{fields_there};
 ghost use Rattle.core_view.specs.Steps.{IsAt};
-ghost use Rattle.leaf_lambda.specs.Parts.{core_of, spare_of};
+ghost use Rattle.leaf_lambda.specs.Parts.{core_of, spare_of, IsParts};
 
 use crate::bring::refusal_of;
 use crate::memory::LoomMemory;
 use core_segment::Addr;
 use leaf_lambda::leaving::field_total;
 use leaf_lambda::numbers::short_int;
-use leaf_lambda::resolve;
 use leaf_lambda::steps::{field_word, find_or_leaf, place_of_body};
+use leaf_lambda::{Parts, resolve};
 use long_names::{Value, value_of};
 use loom_outside::{Host, Role};
 use object_memory::{MemFault, Reg};
@@ -22,12 +22,35 @@ use object_table::Short;
 use purger::NOWHERE;
 use purger::eviction::read_copy;
 
+// The word of field i of a body. None where there is none, and where the field is left on the disk.
+pub(crate) fn word_in_body(p: &Parts, s: Short, i: u32) -> Option<u16>
+    requires parts { IsParts p.now }
+    requires there { (at : ℕ) × (place_of ((core_of p.now).entries s.0).state ≡ Some at) }
+    ensures word { IfSome result (λ w. (at : ℕ) × IsAt (core_of p.now) s.0 at i w × (w ≢ 0)) }
+    ensures none { IfNone result ((at w : ℕ) → IsAt (core_of p.now) s.0 at i w → w ≡ 0) }
+{
+    let at = place_of_body(p, s);
+    if i >= field_total(p, s, at) {
+        return None;
+    }
+    let w = field_word(p, s, at, i);
+    if w == 0 {
+        return None;
+    }
+    Some(w)
+}
+
 impl<'h, H: Host> LoomMemory<'h, H> {
-    ghost use Rattle.long_names.specs.Access.{Access, Field, CanDo, Nothing};
+    ghost use Rattle.long_names.specs.State.{name_at};
+    ghost use Rattle.loom_memory.specs.Gentle.{IsPeek, IsSteady};
+    ghost use Rattle.loom_memory.specs.Own.{IsAtHand, IsSearched, IsSparing};
+    ghost use Rattle.long_names.specs.Access.{Access, Field, CanDo, Nothing, brought};
+    ghost use Rattle.long_names.specs.declared.value.Value.TheVariants.{Ref};
     ghost use Rattle.object_memory.specs.Told.{IsReady};
     ghost use Rattle.object_memory.specs.Contract.{Accessed, KeepsSound, MayDo, makes};
     ghost use Rattle.object_memory.specs.Fit.{MayCall, StaysCallable};
     ghost use Rattle.disk_objects.specs.Function.{disk_of};
+    ghost use Rattle.loom_memory.specs.Known.{IsNameable};
     ghost use Rattle.loom_memory.specs.Memory.{loom_told, loom_outside, loom_lender, word_in, IsSound, IsQuiet, IsSilent, IsTaken, IsRefused};
 
     // The long word that a lambda means.
@@ -40,7 +63,11 @@ impl<'h, H: Host> LoomMemory<'h, H> {
         ensures sound { KeepsSound result (IsSound H.Host self.new) }
         ensures long { IsTrue (H.tells Role.Work) → IfOk result (λ long. slice_get (fields_there (disk_of H.Host self.old.disk.host.now self.old.disk.rest ((core_of self.old.parts).entries s.0).name)) i ≡ Some (value_in long)) }
         ensures spare { OnOk result (1 ≤ spare_of self.new.parts) }
+        ensures regs { OnOk result (self.new.regs ≡ self.old.regs) }
+        ensures at { OnOk result ((w : ℕ) × IsAt (core_of self.new.parts) s.0 at.place i w) }
+        ensures mark { OnOk result (((core_of self.new.parts).entries s.0).flags.marked ≡ ((core_of self.old.parts).entries s.0).flags.marked) }
         ensures err { IfErr result (λ f. (a : Access) → IsSilent a → makes a ≡ 0 → IsRefused (loom_told H.Host self.old) (loom_told H.Host self.new) a f) }
+        ensures peek { OnOk result (IsPeek H.Host self.old self.new) }
         ensures lender { self.new.disk.host.ghost_name ≡ self.old.disk.host.ghost_name }
         ensures outside { loom_outside H.Host self.new ≡ loom_outside H.Host self.old }
     {
@@ -66,12 +93,17 @@ impl<'h, H: Host> LoomMemory<'h, H> {
     fn word_for(&mut self, v: &Value) -> u16
         requires sound { IsSound H.Host self.old }
         requires value { IsValue v.now }
+        requires named { IsTrue (H.tells Role.Work) → (n : ℕ) → v.now ≡ Ref n → IsNameable (loom_told H.Host self.old).heap n }
         requires spare { 1 ≤ spare_of self.old.parts }
         ensures told { loom_told H.Host self.new ≡ loom_told H.Host self.old }
         ensures sound { IsSound H.Host self.new }
+        ensures regs { self.new.regs ≡ self.old.regs }
+        ensures entries { (q : ℕ) → is_used ((core_of self.old.parts).entries q).state ≡ true → (core_of self.new.parts).entries q ≡ (core_of self.old.parts).entries q }
+        ensures chunks { (core_of self.new.parts).chunks ≡ (core_of self.old.parts).chunks }
         ensures used { is_short result ≡ true → is_used ((core_of self.new.parts).entries result).state ≡ true }
         ensures some { result ≢ 0 }
         ensures means { meant (core_of self.new.parts).entries [] 0 result ≡ v.now }
+        ensures steady { IsSteady H.Host self.old self.new }
         ensures lender { self.new.disk.host.ghost_name ≡ self.old.disk.host.ghost_name }
         ensures outside { loom_outside H.Host self.new ≡ loom_outside H.Host self.old }
     {
@@ -87,32 +119,63 @@ impl<'h, H: Host> LoomMemory<'h, H> {
         }
     }
 
+    // The word of what a lambda means. A name gets an entry.
+    pub(crate) fn lambda_word(
+        &mut self,
+        of: Reg,
+        s: Short,
+        at: Addr,
+        i: u32,
+    ) -> Result<u16, MemFault>
+        requires sound { IsSound H.Host self.old }
+        requires ready { IsReady (loom_told H.Host self.old) }
+        requires word { s.0 ≡ word_in self.old.regs of }
+        requires lambda { IsAt (core_of self.old.parts) s.0 at.place i 0 }
+        requires spare { 26 ≤ spare_of self.old.parts }
+        ensures quiet { OnOk result (IsQuiet (loom_told H.Host self.old) (loom_told H.Host self.new)) }
+        ensures sound { KeepsSound result (IsSound H.Host self.new) }
+        ensures used { IfOk result (λ w. is_short w ≡ true → is_used ((core_of self.new.parts).entries w).state ≡ true) }
+        ensures some { IfOk result (λ w. w ≢ 0) }
+        ensures means { IsTrue (H.tells Role.Work) → IfOk result (λ w. brought (loom_told H.Host self.old).heap (loom_told H.Host self.old).regs (Field 0 of i) ≡ Some (meant (core_of self.new.parts).entries [] 0 w)) }
+        ensures regs { OnOk result (self.new.regs ≡ self.old.regs) }
+        ensures at { OnOk result ((w : ℕ) × IsAt (core_of self.new.parts) s.0 at.place i w) }
+        ensures mark { OnOk result (((core_of self.new.parts).entries s.0).flags.marked ≡ ((core_of self.old.parts).entries s.0).flags.marked) }
+        ensures err { IfErr result (λ f. (a : Access) → IsSilent a → makes a ≡ 0 → IsRefused (loom_told H.Host self.old) (loom_told H.Host self.new) a f) }
+        ensures peek { OnOk result (IsPeek H.Host self.old self.new) }
+        ensures lender { self.new.disk.host.ghost_name ≡ self.old.disk.host.ghost_name }
+        ensures outside { loom_outside H.Host self.new ≡ loom_outside H.Host self.old }
+    {
+        match self.read_lambda(s, at, i) {
+            Ok(long) => match value_of(long) {
+                Some(v) => Ok(self.word_for(&v)),
+                None => Err(self.refuse(MemFault::Damaged {
+                    place: NOWHERE,
+                    name: long,
+                })),
+            },
+            Err(f) => Err(f),
+        }
+    }
+
     // Puts what a lambda means into a register.
     fn take_lambda(&mut self, to: Reg, of: Reg, s: Short, at: Addr, i: u32) -> Result<(), MemFault>
         requires sound { IsSound H.Host self.old }
         requires ready { IsReady (loom_told H.Host self.old) }
-        requires may { IsTrue (H.tells Role.Work) → CanDo (loom_told H.Host self.old).heap (loom_told H.Host self.old).regs (Field to of i) }
         requires word { s.0 ≡ word_in self.old.regs of }
         requires lambda { IsAt (core_of self.old.parts) s.0 at.place i 0 }
         requires spare { 26 ≤ spare_of self.old.parts }
         ensures taken { OnOk result (IsTaken (loom_told H.Host self.old) (loom_told H.Host self.new) to of i) }
         ensures sound { KeepsSound result (IsSound H.Host self.new) }
         ensures err { IfErr result (IsRefused (loom_told H.Host self.old) (loom_told H.Host self.new) (Field to of i)) }
+        ensures peek { OnOk result (IsPeek H.Host self.old self.new) }
         ensures lender { self.new.disk.host.ghost_name ≡ self.old.disk.host.ghost_name }
         ensures outside { loom_outside H.Host self.new ≡ loom_outside H.Host self.old }
     {
-        match self.read_lambda(s, at, i) {
-            Ok(long) => match value_of(long) {
-                Some(v) => {
-                    let w = self.word_for(&v);
-                    self.put_word(to, w);
-                    Ok(())
-                }
-                None => Err(self.refuse(MemFault::Damaged {
-                    place: NOWHERE,
-                    name: long,
-                })),
-            },
+        match self.lambda_word(of, s, at, i) {
+            Ok(w) => {
+                self.put_word(to, w);
+                Ok(())
+            }
             Err(f) => Err(f),
         }
     }
@@ -128,6 +191,7 @@ impl<'h, H: Host> LoomMemory<'h, H> {
         ensures taken { OnOk result (IsTaken (loom_told H.Host self.old) (loom_told H.Host self.new) to of i) }
         ensures sound { KeepsSound result (IsSound H.Host self.new) }
         ensures err { IfErr result (IsRefused (loom_told H.Host self.old) (loom_told H.Host self.new) (Field to of i)) }
+        ensures peek { OnOk result (IsPeek H.Host self.old self.new) }
         ensures lender { self.new.disk.host.ghost_name ≡ self.old.disk.host.ghost_name }
         ensures outside { loom_outside H.Host self.new ≡ loom_outside H.Host self.old }
     {
@@ -147,15 +211,38 @@ impl<'h, H: Host> LoomMemory<'h, H> {
         Ok(())
     }
 
-    pub(crate) fn field(&mut self, to: Reg, of: Reg, i: u32) -> Result<(), MemFault>
+    // The same for an object that isn't in the core, or a field that is left on the disk.
+    fn field_on_disk(&mut self, to: Reg, of: Reg, i: u32) -> Result<(), MemFault>
         requires fit { MayCall (IsSound H.Host) (loom_told H.Host) self.old }
         requires may { MayDo (loom_told H.Host self.old) (Field to of i) }
         ensures access { Accessed (loom_told H.Host self.old) (loom_told H.Host self.new) (Field to of i) (λ _. Nothing) result }
+        ensures searched { OnOk result (IsSearched H.Host self.old self.new (name_at ((loom_told H.Host self.old).regs of))) }
         ensures fit { StaysCallable (IsSound H.Host) (loom_told H.Host) loom_lender (loom_outside H.Host) self.old self.new result }
     {
-        match self.load(of) {
+        match self.load_with_room(of) {
             Ok(s) => self.take_field(to, of, s, i),
             Err(f) => Err(f),
+        }
+    }
+
+    /// Value or literal i.
+    pub fn field(&mut self, to: Reg, of: Reg, i: u32) -> Result<(), MemFault>
+        requires fit { MayCall (IsSound H.Host) (loom_told H.Host) self.old }
+        requires may { MayDo (loom_told H.Host self.old) (Field to of i) }
+        ensures access { Accessed (loom_told H.Host self.old) (loom_told H.Host self.new) (Field to of i) (λ _. Nothing) result }
+        ensures own { IsAtHand self.old (name_at ((loom_told H.Host self.old).regs of)) i → IsSparing H.Host self.old self.new (name_at ((loom_told H.Host self.old).regs of)) result }
+        ensures searched { OnOk result (IsSearched H.Host self.old self.new (name_at ((loom_told H.Host self.old).regs of))) }
+        ensures fit { StaysCallable (IsSound H.Host) (loom_told H.Host) loom_lender (loom_outside H.Host) self.old self.new result }
+    {
+        match self.here(of) {
+            Some(s) => match word_in_body(&self.parts, s, i) {
+                Some(w) => {
+                    self.put_word(to, w);
+                    Ok(())
+                }
+                None => self.field_on_disk(to, of, i),
+            },
+            None => self.field_on_disk(to, of, i),
         }
     }
 }

@@ -2,12 +2,13 @@
 ghost use Rattle.std.specs.Prelude.{◌≡◌, ◌≤◌, ◌<◌, ◌^◌, ℕ, Some, None, Ok, IsTrue, IsSome, IfSome, IfNone, OnOk, IfOk, IfErr};
 ghost use Rattle.leaf_lambda.specs.Parts.{core_of, spare_of};
 ghost use Rattle.core_view.specs.Room.{IsBare};
+ghost use Rattle.loom_memory.specs.declared.load.TheConstants.{SPARE_ENTRIES as SPARE};
 
 use crate::load::{either, leaves_of_word, room_of_word, unless};
 use crate::memory::LoomMemory;
 use leaf_lambda::fields::is_name;
 use leaf_lambda::steps::find_or_leaf;
-use long_names::Name;
+use long_names::{ENTRIES_OF_A_CALL, Name};
 use loom_outside::{Host, Role};
 use object_memory::{MemFault, Need, Reg};
 use object_table::Short;
@@ -16,7 +17,7 @@ use object_table::laws::entries_are_counted;
 impl<'h, H: Host> LoomMemory<'h, H> {
     ghost use Rattle.long_names.specs.Names.{SMALL_INTEGER};
     ghost use Rattle.long_names.specs.Heap.{Has};
-    ghost use Rattle.long_names.specs.State.{IsRef};
+    ghost use Rattle.long_names.specs.State.{name_at, IsRef};
     ghost use Rattle.long_names.specs.Objects.{int_of};
     ghost use Rattle.long_names.specs.Access.{Known, Class, Nothing};
     ghost use Rattle.long_names.specs.declared.value.Value.TheVariants.{Ref};
@@ -24,17 +25,22 @@ impl<'h, H: Host> LoomMemory<'h, H> {
     ghost use Rattle.object_memory.specs.Contract.{Accessed, KeepsSound, LeavesAll, MayDo};
     ghost use Rattle.object_memory.specs.Fit.{MayCall, StaysCallable};
     ghost use Rattle.loom_memory.specs.Memory.{loom_told, loom_outside, loom_lender, IsSound, IsQuiet};
-    ghost use Rattle.loom_memory.specs.Known.{IsEntryOf, IsSpent, IsNeedBeside, IsRefusedOf, IsNaming};
+    ghost use Rattle.purger.specs.Purge.{HasRoom};
+    ghost use Rattle.loom_memory.specs.Gentle.{IsSteady};
+    ghost use Rattle.loom_memory.specs.Own.{IsSparing};
+    ghost use Rattle.loom_memory.specs.Known.{IsEntryOf, IsNameable, IsSpent, IsNeedBeside, IsRefusedOf, IsNaming};
 
-    // The entry of a name, which gets one where one is free.
+    // The entry of a name that may get one, which it gets where one is free.
     fn entry_for(&mut self, name: Name) -> Option<Short>
-        requires { IsSound H.Host self.old }
+        requires sound { IsSound H.Host self.old }
+        requires named { IsTrue (H.tells Role.Work) → IsNameable (loom_told H.Host self.old).heap name }
         ensures told { loom_told H.Host self.new ≡ loom_told H.Host self.old }
         ensures sound { IsSound H.Host self.new }
         ensures found { IfSome result (λ s. IsEntryOf (core_of self.new.parts) s.0 name) }
         ensures none { IfNone result (IsSpent (core_of self.old.parts) (spare_of self.old.parts) name) }
         ensures same { IfNone result ((core_of self.new.parts ≡ core_of self.old.parts) × (spare_of self.new.parts ≤ spare_of self.old.parts)) }
         ensures pins { self.new.pinned ≡ self.old.pinned }
+        ensures steady { IsSteady H.Host self.old self.new }
         ensures lender { self.new.disk.host.ghost_name ≡ self.old.disk.host.ghost_name }
         ensures outside { loom_outside H.Host self.new ≡ loom_outside H.Host self.old }
     {
@@ -42,7 +48,7 @@ impl<'h, H: Host> LoomMemory<'h, H> {
     }
 
     // The need of an access to an object that has no entry, of so many words.
-    fn need_beside(&self, name: Name, words: u32) -> Need
+    pub(crate) fn need_beside(&self, name: Name, words: u32) -> Need
         requires sound { IsSound H.Host self.now }
         requires small { words < 2 ^ 18 }
         ensures { IsNeedBeside (core_of self.now.parts) self.now.pinned name words result }
@@ -60,7 +66,7 @@ impl<'h, H: Host> LoomMemory<'h, H> {
         Need {
             object: name.get(),
             words: words + (first + second + third),
-            entries: 51 + (one + two + three),
+            entries: ENTRIES_OF_A_CALL + (one + two + three),
         }
     }
 
@@ -90,7 +96,7 @@ impl<'h, H: Host> LoomMemory<'h, H> {
     fn free_entry(&mut self, name: Name) -> Result<Short, MemFault>
         requires sound { IsSound H.Host self.old }
         requires ready { IsReady (loom_told H.Host self.old) }
-        requires has { IsTrue (H.tells Role.Work) → Has (loom_told H.Host self.old).heap name }
+        requires named { IsTrue (H.tells Role.Work) → IsNameable (loom_told H.Host self.old).heap name }
         ensures quiet { OnOk result (IsQuiet (loom_told H.Host self.old) (loom_told H.Host self.new)) }
         ensures sound { KeepsSound result (IsSound H.Host self.new) }
         ensures found { IfOk result (λ s. IsEntryOf (core_of self.new.parts) s.0 name) }
@@ -111,11 +117,12 @@ impl<'h, H: Host> LoomMemory<'h, H> {
     fn entry_of(&mut self, name: Name) -> Result<Short, MemFault>
         requires sound { IsSound H.Host self.old }
         requires ready { IsReady (loom_told H.Host self.old) }
-        requires has { IsTrue (H.tells Role.Work) → Has (loom_told H.Host self.old).heap name }
+        requires named { IsTrue (H.tells Role.Work) → IsNameable (loom_told H.Host self.old).heap name }
         ensures quiet { OnOk result (IsQuiet (loom_told H.Host self.old) (loom_told H.Host self.new)) }
         ensures sound { KeepsSound result (IsSound H.Host self.new) }
         ensures found { IfOk result (λ s. IsEntryOf (core_of self.new.parts) s.0 name) }
         ensures err { IfErr result (IsRefusedOf (loom_told H.Host self.old) (loom_told H.Host self.new) name) }
+        ensures steady { OnOk result (HasRoom self.old.parts 0 SPARE → IsSteady H.Host self.old self.new) }
         ensures lender { self.new.disk.host.ghost_name ≡ self.old.disk.host.ghost_name }
         ensures outside { loom_outside H.Host self.new ≡ loom_outside H.Host self.old }
     {
@@ -129,10 +136,11 @@ impl<'h, H: Host> LoomMemory<'h, H> {
     fn put_name(&mut self, to: Reg, name: Name) -> Result<(), MemFault>
         requires sound { IsSound H.Host self.old }
         requires ready { IsReady (loom_told H.Host self.old) }
-        requires has { IsTrue (H.tells Role.Work) → Has (loom_told H.Host self.old).heap name }
+        requires named { IsTrue (H.tells Role.Work) → IsNameable (loom_told H.Host self.old).heap name }
         ensures naming { OnOk result (IsNaming (loom_told H.Host self.old) (loom_told H.Host self.new) to name) }
         ensures sound { KeepsSound result (IsSound H.Host self.new) }
         ensures err { IfErr result (IsRefusedOf (loom_told H.Host self.old) (loom_told H.Host self.new) name) }
+        ensures steady { OnOk result (HasRoom self.old.parts 0 SPARE → IsSteady H.Host self.old self.new) }
         ensures lender { self.new.disk.host.ghost_name ≡ self.old.disk.host.ghost_name }
         ensures outside { loom_outside H.Host self.new ≡ loom_outside H.Host self.old }
     {
@@ -145,22 +153,27 @@ impl<'h, H: Host> LoomMemory<'h, H> {
         }
     }
 
-    pub(crate) fn known(&mut self, to: Reg, name: Name) -> Result<(), MemFault>
+    /// The register holds the name of an object that is known, or that a word of the heap holds.
+    pub fn known(&mut self, to: Reg, name: Name) -> Result<(), MemFault>
         requires fit { MayCall (IsSound H.Host) (loom_told H.Host) self.old }
         requires may { MayDo (loom_told H.Host self.old) (Known to name) }
         ensures access { Accessed (loom_told H.Host self.old) (loom_told H.Host self.new) (Known to name) (λ _. Nothing) result }
         ensures name { OnOk result ((loom_told H.Host self.new).regs to ≡ Ref name) }
+        ensures steady { OnOk result (HasRoom self.old.parts 0 SPARE → IsSteady H.Host self.old self.new) }
         ensures fit { StaysCallable (IsSound H.Host) (loom_told H.Host) loom_lender (loom_outside H.Host) self.old self.new result }
     {
         self.put_name(to, name)
     }
 
-    pub(crate) fn class(&mut self, to: Reg, of: Reg) -> Result<(), MemFault>
+    /// The class; SmallInteger for a number (fetchClassOf:).
+    pub fn class(&mut self, to: Reg, of: Reg) -> Result<(), MemFault>
         requires fit { MayCall (IsSound H.Host) (loom_told H.Host) self.old }
         requires may { MayDo (loom_told H.Host self.old) (Class to of) }
         ensures access { Accessed (loom_told H.Host self.old) (loom_told H.Host self.new) (Class to of) (λ _. Nothing) result }
         ensures name { OnOk result (IsRef ((loom_told H.Host self.new).regs to)) }
         ensures number { OnOk result (IsSome (int_of ((loom_told H.Host self.old).regs of)) → (loom_told H.Host self.new).regs to ≡ Ref SMALL_INTEGER) }
+        ensures own { IsRef ((loom_told H.Host self.old).regs of) → IsSparing H.Host self.old self.new (name_at ((loom_told H.Host self.old).regs of)) result }
+        ensures steady { OnOk result (IsSome (int_of ((loom_told H.Host self.old).regs of)) → HasRoom self.old.parts 0 SPARE → IsSteady H.Host self.old self.new) }
         ensures fit { StaysCallable (IsSound H.Host) (loom_told H.Host) loom_lender (loom_outside H.Host) self.old self.new result }
     {
         let w = self.word_of(of);

@@ -1,5 +1,5 @@
 // What a memory notes beside its core: limits, counts, and what its lookups found.
-ghost use Rattle.std.specs.Prelude.{◌≡◌, ◌≤◌, Some};
+ghost use Rattle.std.specs.Prelude.{◌≡◌, ◌≤◌, ◌<◌, ◌+◌, ◌^◌, Some};
 ghost use Rattle.long_names.specs.Counting.{counted};
 
 use method_cache::Cache;
@@ -31,6 +31,18 @@ impl Ledger {
         ensures { self.new ≡ record self.old { fetches = counted self.old.fetches } }
     {
         self.fetches = self.fetches.saturating_add(1);
+    }
+
+    /// Counts an object that was made, under the next name.
+    pub fn count_making(&mut self)
+        requires held { self.old.held + 1 < 2 ^ 32 }
+        requires made { self.old.made + 1 < 2 ^ 32 }
+        requires next { self.old.next + 2 < 2 ^ 32 }
+        ensures { self.new ≡ record self.old { held = self.old.held + 1; made = self.old.made + 1; next = self.old.next + 2 } }
+    {
+        self.held += 1;
+        self.made += 1;
+        self.next += 2;
     }
 
     /// Counts a refusal.

@@ -1,30 +1,48 @@
-//! The memory of two levels: objects on a disk, and a core of those that are at hand. It is in the making: what it tells and keeps
-//! stands, how the object of a register comes into the core, and of the trait's calls all but the makings, `say` and `settle`.
+//! The memory of two levels: objects on a disk, and a core of those that are at hand. It is an object memory (`implementation`), whose calls
+//! have the clauses of the trait, and may be called by name, with what they promise beside. `make` begins one over a disk that is loaded,
+//! and `wind_up` with `into_disk` ends it: the disk has just the objects that are kept then, with their exact counts.
 //!
-//! `load` is the step that each access begins with: room is made beside the pinned objects, and the object is brought in where it is a
-//! leaf. Where the row of the access doesn't fit it answers CoreFull with that row's need (`full`), said of every access that names the
-//! object and is silent (`err`). Nothing of what is told changes meanwhile but counts of faults, and that all marks may be gone
-//! (`IsQuiet`).
+//! A making (`makings`) asks for a name first, then for room on the disk, then for room in the core. Where the disk is full and eight or more
+//! were made since the last settling, dead objects are freed before it is refused (`thin`, by `purger::drain`). `settle` frees them where
+//! there is no room for eight more, so that a making before the eighth frees nothing (`specs/Numbers.antt`).
 //!
-//! Read `specs/Memory.antt` first: `told_of`, what is told of a core over a disk, and `IsSound`, in two halves, what the core keeps over
-//! every host (`IsKept`) and what it keeps with a disk (`IsOver`). `specs/Cache.antt` has the rows of the method cache. Objects leave by
-//! `purger`.
+//! `load` is the step that each access begins with. An object in the core is found with nothing done (`here`); for a leaf room is made
+//! beside the pinned objects, and it is brought in. Where the row of the access doesn't fit it answers CoreFull with that row's need
+//! (`full`), said of every access that names the object and is silent (`err`). Nothing of what is told changes meanwhile but counts of
+//! faults, and that all marks may be gone (`IsQuiet`).
+//!
+//! What is promised of the core and of Work beside what is told is one record, `IsSparing` of `specs/Own.antt`: which object is in the
+//! core, that none leaves it without need, that Work isn't touched without need, what comes in, and that cached rows stay.
+//!
+//! Read `specs/Memory.antt` first: `told_of`, what is told of a core over a disk, and `IsSound`: what the core keeps over every host
+//! (`IsKept`), what it keeps with a disk (`IsOver`), and that counts are exact (`IsExact`), which is said of the levels of `counted_core` that core
+//! and disk stand for. `specs/Cache.antt` has the rows of the method cache. Objects leave by `purger`.
 #![tactic(auto)]
 
+pub mod beginning;
 mod bodies;
 pub mod bring;
 pub mod cache;
+pub mod ending;
 pub mod ends;
 pub mod fields;
+pub mod here;
+mod implementation;
 pub mod known;
+pub mod laws;
 pub mod ledger;
 pub mod lent;
 pub mod load;
+mod making;
+pub mod makings;
 pub mod memory;
 pub mod reads;
 pub mod registers;
 pub mod residents;
 pub mod says;
+pub mod settling;
 pub mod slots;
 pub mod stores;
 pub mod swap;
+
+pub use memory::LoomMemory;

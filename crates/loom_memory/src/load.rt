@@ -10,6 +10,7 @@ ghost use Rattle.core_view.specs.Counts.{outside};
 ghost use Rattle.leaf_lambda.specs.Parts.{core_of, spare_of, IsParts};
 ghost use Rattle.object_table.specs.Entries.{sum_below, used_by};
 ghost use Rattle.core_view.specs.Room.{over_three, room_for, entries_for};
+ghost use Rattle.loom_memory.specs.declared.load.TheConstants.{SPARE_ENTRIES as SPARE};
 
 use crate::bring::{bring_in, refusal_of};
 use crate::memory::LoomMemory;
@@ -18,13 +19,17 @@ use core_segment::laws::chunks_never_overlap;
 use leaf_lambda::Parts;
 use leaf_lambda::bodies::words_of;
 use leaf_lambda::leaving::{body_total, field_total};
-use long_names::Name;
+use long_names::{ENTRIES_OF_A_CALL, Name};
 use loom_outside::{Host, Role};
 use object_memory::{MemFault, Need, Reg};
 use object_table::Short;
 use object_table::laws::entries_are_counted;
 use purger::eviction::fetch;
+use purger::room::has_room;
 use purger::{NOWHERE, RoomFault};
+
+// How many entries a call asks for before it begins: those of its row beside the pinned objects, `ENTRIES_OF_A_CALL`, but for the 24 of the registers.
+pub(crate) const SPARE_ENTRIES: u16 = 27;
 
 // The words that an entry's body takes, 0 where it has none.
 fn room_of(p: &Parts, s: Short) -> u32
@@ -106,7 +111,11 @@ impl<'h, H: Host> LoomMemory<'h, H> {
     ghost use Rattle.loom_memory.specs.Calls.{IsLoaded};
     ghost use Rattle.loom_memory.specs.Residents.{fetched};
     ghost use Rattle.disk_objects.specs.Function.{disk_of};
-    ghost use Rattle.purger.specs.Purge.{IsShort};
+    ghost use Rattle.purger.specs.Purge.{HasRoom, IsShort};
+    ghost use Rattle.long_names.specs.State.{name_at};
+    ghost use Rattle.object_memory.specs.Contract.{ForBounds};
+    ghost use Rattle.loom_memory.specs.Residents.{is_resident, words_resident};
+    ghost use Rattle.loom_memory.specs.Gentle.{IsGentle};
     ghost use Rattle.loom_memory.specs.Memory.{loom_told, loom_outside, word_in, words_in_row, IsNeed, IsSized, IsSound, IsQuiet, IsCalm, IsSilent, IsRefused, IsRefusedAt};
 
     // The object of a leaf comes in, whose words have room in one chunk.
@@ -115,7 +124,7 @@ impl<'h, H: Host> LoomMemory<'h, H> {
         requires ready { IsReady (loom_told H.Host self.old) }
         requires leaf { (is_used ((core_of self.old.parts).entries s.0).state ≡ true) × (place_of ((core_of self.old.parts).entries s.0).state ≡ None) }
         requires room { words ≤ largest_of self.old.parts.segment }
-        requires spare { 27 ≤ spare_of self.old.parts }
+        requires spare { SPARE ≤ spare_of self.old.parts }
         requires held { IsTrue (H.tells Role.Work) → (o : Item) × (disk_of H.Host self.old.disk.host.now self.old.disk.rest ((core_of self.old.parts).entries s.0).name ≡ Some o) × (4 + body_words o.body ≤ words) }
         ensures quiet { OnOk result (IsQuiet (loom_told H.Host self.old) (loom_told H.Host self.new)) }
         ensures sound { KeepsSound result (IsSound H.Host self.new) }
@@ -123,6 +132,7 @@ impl<'h, H: Host> LoomMemory<'h, H> {
         ensures there { OnOk result ((at : ℕ) × (place_of ((core_of self.new.parts).entries s.0).state ≡ Some at)) }
         ensures spare { OnOk result (26 ≤ spare_of self.new.parts) }
         ensures counted { OnOk result (fetched self.new ≡ counted (fetched self.old)) }
+        ensures gentle { OnOk result (IsGentle H.Host self.old self.new) }
         ensures err { IfErr result (λ f. (a : Access) → IsSilent a → makes a ≡ 0 → IsRefused (loom_told H.Host self.old) (loom_told H.Host self.new) a f) }
         ensures lender { self.new.disk.host.ghost_name ≡ self.old.disk.host.ghost_name }
         ensures outside { loom_outside H.Host self.new ≡ loom_outside H.Host self.old }
@@ -151,6 +161,8 @@ impl<'h, H: Host> LoomMemory<'h, H> {
         ensures pins { OnOk result (self.new.pinned ≡ self.old.pinned) }
         ensures sized { IfOk result (λ words. IsSized (H.tells Role.Work) (disk_of H.Host self.new.disk.host.now self.new.disk.rest name) words) }
         ensures small { IfOk result (λ words. words < 2 ^ 18) }
+        ensures ledger { OnOk result (self.new.ledger ≡ self.old.ledger) }
+        ensures gentle { OnOk result (IsGentle H.Host self.old self.new) }
         ensures err { IfErr result (λ f. (a : Access) → IsSilent a → makes a ≡ 0 → IsRefused (loom_told H.Host self.old) (loom_told H.Host self.new) a f) }
         ensures lender { self.new.disk.host.ghost_name ≡ self.old.disk.host.ghost_name }
         ensures outside { loom_outside H.Host self.new ≡ loom_outside H.Host self.old }
@@ -185,6 +197,8 @@ impl<'h, H: Host> LoomMemory<'h, H> {
         ensures pins { OnOk result (self.new.pinned ≡ self.old.pinned) }
         ensures sized { IfOk result (λ words. IsSized (H.tells Role.Work) (disk_of H.Host self.new.disk.host.now self.new.disk.rest ((core_of self.new.parts).entries s.0).name) words) }
         ensures small { IfOk result (λ words. words < 2 ^ 18) }
+        ensures ledger { OnOk result (self.new.ledger ≡ self.old.ledger) }
+        ensures gentle { OnOk result (IsGentle H.Host self.old self.new) }
         ensures err { IfErr result (λ f. (a : Access) → IsSilent a → makes a ≡ 0 → IsRefused (loom_told H.Host self.old) (loom_told H.Host self.new) a f) }
         ensures lender { self.new.disk.host.ghost_name ≡ self.old.disk.host.ghost_name }
         ensures outside { loom_outside H.Host self.new ≡ loom_outside H.Host self.old }
@@ -203,13 +217,20 @@ impl<'h, H: Host> LoomMemory<'h, H> {
         ensures leaves { OnOk result ((t : ℕ) → place_of ((core_of self.old.parts).entries t).state ≡ None → place_of ((core_of self.new.parts).entries t).state ≡ None) }
         ensures regs { OnOk result (self.new.regs ≡ self.old.regs) }
         ensures pins { OnOk result (self.new.pinned ≡ self.old.pinned) }
-        ensures room { IfOk result (λ enough. IsTrue enough → (words ≤ largest_of self.new.parts.segment) × (27 ≤ spare_of self.new.parts)) }
-        ensures short { IfOk result (λ enough. enough ≡ false → IsShort self.new.parts self.new.pinned.a self.new.pinned.b self.new.pinned.d words 27) }
+        ensures room { IfOk result (λ enough. IsTrue enough → (words ≤ largest_of self.new.parts.segment) × (SPARE ≤ spare_of self.new.parts)) }
+        ensures short { IfOk result (λ enough. enough ≡ false → IsShort self.new.parts self.new.pinned.a self.new.pinned.b self.new.pinned.d words SPARE) }
+        ensures ledger { OnOk result (self.new.ledger ≡ self.old.ledger) }
+        ensures gentle { OnOk result (HasRoom self.old.parts words SPARE → IsGentle H.Host self.old self.new) }
+        ensures idle { OnOk result (HasRoom self.old.parts words SPARE → words ≡ 0 → self.new ≡ self.old) }
         ensures err { IfErr result (λ f. (a : Access) → IsSilent a → makes a ≡ 0 → IsRefused (loom_told H.Host self.old) (loom_told H.Host self.new) a f) }
         ensures lender { self.new.disk.host.ghost_name ≡ self.old.disk.host.ghost_name }
         ensures outside { loom_outside H.Host self.new ≡ loom_outside H.Host self.old }
     {
-        match self.room(words, 27) {
+        if has_room(&self.parts, words, SPARE_ENTRIES) {
+            self.gather(words);
+            return Ok(true);
+        }
+        match self.room(words, SPARE_ENTRIES) {
             Ok(()) => Ok(true),
             Err(f) => match f {
                 RoomFault::Short => Ok(false),
@@ -241,7 +262,7 @@ impl<'h, H: Host> LoomMemory<'h, H> {
         Need {
             object: p.names.table.entry(s).name.get(),
             words: words + first + second + third,
-            entries: 51 + (one + two + three),
+            entries: ENTRIES_OF_A_CALL + (one + two + three),
         }
     }
 
@@ -268,7 +289,7 @@ impl<'h, H: Host> LoomMemory<'h, H> {
         requires ready { IsReady (loom_told H.Host self.old) }
         requires used { is_used ((core_of self.old.parts).entries s.0).state ≡ true }
         requires has { IsTrue (H.tells Role.Work) → Has (loom_told H.Host self.old).heap ((core_of self.old.parts).entries s.0).name }
-        requires short { IsShort self.old.parts self.old.pinned.a self.old.pinned.b self.old.pinned.d 0 27 }
+        requires short { IsShort self.old.parts self.old.pinned.a self.old.pinned.b self.old.pinned.d 0 SPARE }
         ensures sound { LeavesAll result (IsSound H.Host self.new) }
         ensures err { IsRefusedAt (loom_told H.Host self.old) (loom_told H.Host self.new) ((core_of self.old.parts).entries s.0).name result }
         ensures lender { self.new.disk.host.ghost_name ≡ self.old.disk.host.ghost_name }
@@ -298,6 +319,8 @@ impl<'h, H: Host> LoomMemory<'h, H> {
         ensures regs { OnOk result (self.new.regs ≡ self.old.regs) }
         ensures there { OnOk result ((at : ℕ) × (place_of ((core_of self.new.parts).entries s.0).state ≡ Some at)) }
         ensures spare { OnOk result (26 ≤ spare_of self.new.parts) }
+        ensures counted { OnOk result (fetched self.new ≡ counted (fetched self.old)) }
+        ensures gentle { OnOk result (HasRoom self.old.parts words SPARE → IsGentle H.Host self.old self.new) }
         ensures err { IfErr result (IsRefusedAt (loom_told H.Host self.old) (loom_told H.Host self.new) ((core_of self.old.parts).entries s.0).name) }
         ensures lender { self.new.disk.host.ghost_name ≡ self.old.disk.host.ghost_name }
         ensures outside { loom_outside H.Host self.new ≡ loom_outside H.Host self.old }
@@ -318,18 +341,21 @@ impl<'h, H: Host> LoomMemory<'h, H> {
         }
     }
 
-    // Brings the object of an entry in, where 27 entries are free. A body stays as it is.
+    // Brings the object of an entry in, where as many entries are free as a call asks for. A body stays as it is.
     pub(crate) fn bring(&mut self, s: Short) -> Result<(), MemFault>
         requires sound { IsSound H.Host self.old }
         requires ready { IsReady (loom_told H.Host self.old) }
         requires out { 1 ≤ outside (core_of self.old.parts) s.0 }
         requires has { IsTrue (H.tells Role.Work) → Has (loom_told H.Host self.old).heap ((core_of self.old.parts).entries s.0).name }
-        requires spare { 27 ≤ spare_of self.old.parts }
+        requires spare { SPARE ≤ spare_of self.old.parts }
         ensures quiet { OnOk result (IsQuiet (loom_told H.Host self.old) (loom_told H.Host self.new)) }
         ensures sound { KeepsSound result (IsSound H.Host self.new) }
         ensures regs { OnOk result (self.new.regs ≡ self.old.regs) }
         ensures there { OnOk result ((at : ℕ) × (place_of ((core_of self.new.parts).entries s.0).state ≡ Some at)) }
         ensures spare { OnOk result (26 ≤ spare_of self.new.parts) }
+        ensures idle { OnOk result ((at : ℕ) → place_of ((core_of self.old.parts).entries s.0).state ≡ Some at → self.new ≡ self.old) }
+        ensures counted { OnOk result (place_of ((core_of self.old.parts).entries s.0).state ≡ None → fetched self.new ≡ counted (fetched self.old)) }
+        ensures gentle { OnOk result (IsTrue (H.tells Role.Work) → place_of ((core_of self.old.parts).entries s.0).state ≡ None → HasRoom self.old.parts (words_at (loom_told H.Host self.old).heap ((core_of self.old.parts).entries s.0).name) SPARE → IsGentle H.Host self.old self.new) }
         ensures err { IfErr result (IsRefusedAt (loom_told H.Host self.old) (loom_told H.Host self.new) ((core_of self.old.parts).entries s.0).name) }
         ensures lender { self.new.disk.host.ghost_name ≡ self.old.disk.host.ghost_name }
         ensures outside { loom_outside H.Host self.new ≡ loom_outside H.Host self.old }
@@ -344,7 +370,7 @@ impl<'h, H: Host> LoomMemory<'h, H> {
     }
 
     // Brings the object of a register into the core, and leaves 26 entries free.
-    pub(crate) fn load(&mut self, of: Reg) -> Result<Short, MemFault>
+    pub(crate) fn load_with_room(&mut self, of: Reg) -> Result<Short, MemFault>
         requires sound { IsSound H.Host self.old }
         requires ready { IsReady (loom_told H.Host self.old) }
         requires name { IsRef ((loom_told H.Host self.old).regs of) }
@@ -354,6 +380,11 @@ impl<'h, H: Host> LoomMemory<'h, H> {
         ensures loaded { IfOk result (λ s. IsLoaded H.Host self.new of s.0) }
         ensures core { OnOk result ((a : Access) → target_of a ≡ Some of → makes a ≡ 0 → IfBounds (loom_told H.Host self.old).bounds (HasCore (loom_told H.Host self.old) a)) }
         ensures spare { OnOk result (26 ≤ spare_of self.new.parts) }
+        ensures there { OnOk result (IsTrue (is_resident self.new (name_at ((loom_told H.Host self.old).regs of)))) }
+        ensures bounded { OnOk result (ForBounds (loom_told H.Host self.new).bounds (λ b. words_resident self.new ≤ b.core)) }
+        ensures idle { OnOk result ((at : ℕ) → place_of ((core_of self.old.parts).entries (word_in self.old.regs of)).state ≡ Some at → HasRoom self.old.parts 0 SPARE → self.new ≡ self.old) }
+        ensures counted { OnOk result (place_of ((core_of self.old.parts).entries (word_in self.old.regs of)).state ≡ None → fetched self.new ≡ counted (fetched self.old)) }
+        ensures gentle { OnOk result (IsTrue (H.tells Role.Work) → place_of ((core_of self.old.parts).entries (word_in self.old.regs of)).state ≡ None → HasRoom self.old.parts (words_at (loom_told H.Host self.old).heap (name_at ((loom_told H.Host self.old).regs of))) SPARE → IsGentle H.Host self.old self.new) }
         ensures err { IfErr result (λ f. (a : Access) → target_of a ≡ Some of → makes a ≡ 0 → IsSilent a → IsLater (loom_told H.Host self.old) (loom_told H.Host self.new) × Refuses (loom_told H.Host self.old) (loom_told H.Host self.new) (Does a) f) }
         ensures lender { self.new.disk.host.ghost_name ≡ self.old.disk.host.ghost_name }
         ensures outside { loom_outside H.Host self.new ≡ loom_outside H.Host self.old }

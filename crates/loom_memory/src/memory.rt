@@ -34,6 +34,7 @@ pub struct LoomMemory<'h, H: Host> {
 
 impl<'h, H: Host> LoomMemory<'h, H> {
     ghost use Rattle.loom_memory.specs.Memory.{loom_told, loom_outside, IsSound};
+    ghost use Rattle.loom_memory.specs.Gentle.{IsSteady};
 
     // Puts a word that is no lambda into a register.
     pub(crate) fn put_word(&mut self, to: Reg, w: u16)
@@ -43,6 +44,7 @@ impl<'h, H: Host> LoomMemory<'h, H> {
         ensures told { loom_told H.Host self.new ≡ record (loom_told H.Host self.old) { regs = set_register (loom_told H.Host self.old).regs to (meant (core_of self.old.parts).entries [] 0 w) } }
         ensures sound { IsSound H.Host self.new }
         ensures disk { self.new.disk.rest ≡ self.old.disk.rest }
+        ensures steady { IsSteady H.Host self.old self.new }
         ensures lender { self.new.disk.host.ghost_name ≡ self.old.disk.host.ghost_name }
         ensures outside { loom_outside H.Host self.new ≡ loom_outside H.Host self.old }
     {

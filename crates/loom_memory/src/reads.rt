@@ -1,5 +1,6 @@
 // What an object is, and its words and bytes.
-ghost use Rattle.std.specs.Prelude.{◌≡◌, ◌<◌, ℕ, Some, true, IsTrue, IfOk, OnOk, length};
+ghost use Rattle.std.specs.Prelude.{◌≡◌, ◌+◌, ◌<◌, ℕ, Some, true, IsTrue, IfOk, OnOk, length};
+ghost use Rattle.long_names.specs.declared.limits.TheConstants.{MOST_FIELDS};
 ghost use Rattle.object_table.specs.Entries.{is_used};
 ghost use Rattle.leaf_lambda.specs.Parts.{core_of};
 
@@ -14,12 +15,13 @@ use purger::NOWHERE;
 impl<'h, H: Host> LoomMemory<'h, H> {
     ghost use Rattle.long_names.specs.Words.{IsSmallInteger, literal_count};
     ghost use Rattle.long_names.specs.Objects.{fields_of};
-    ghost use Rattle.long_names.specs.State.{part_at, IsRef};
+    ghost use Rattle.long_names.specs.State.{name_at, part_at, IsRef};
     ghost use Rattle.long_names.specs.Access.{Access, Class, KindOf, Length, Header, Word, Byte, ReadWords, ReadBytes, OfKind, OfNumber, OfSigned, OfRun, Nothing};
     ghost use Rattle.object_memory.specs.Told.{Told, IsReady};
     ghost use Rattle.object_memory.specs.Contract.{Accessed, LeavesAll, MayDo, makes};
     ghost use Rattle.object_memory.specs.Fit.{MayCall, StaysCallable};
     ghost use Rattle.loom_memory.specs.Memory.{loom_told, loom_outside, loom_lender, IsSound, IsQuiet, IsSilent, IsRefused};
+    ghost use Rattle.loom_memory.specs.Own.{IsSparing};
 
     // Refuses: the object of an entry hasn't what an access asks for. Where the heap is told that can't be.
     pub(crate) fn amiss(&mut self, s: Short) -> MemFault
@@ -44,6 +46,7 @@ impl<'h, H: Host> LoomMemory<'h, H> {
         requires object { IsRef ((loom_told H.Host self.old).regs of) }
         ensures access { Accessed (loom_told H.Host self.old) (loom_told H.Host self.new) (Class to of) (λ _. Nothing) result }
         ensures name { OnOk result (IsRef ((loom_told H.Host self.new).regs to)) }
+        ensures own { IsSparing H.Host self.old self.new (name_at ((loom_told H.Host self.old).regs of)) result }
         ensures fit { StaysCallable (IsSound H.Host) (loom_told H.Host) loom_lender (loom_outside H.Host) self.old self.new result }
     {
         match self.load(of) {
@@ -56,10 +59,12 @@ impl<'h, H: Host> LoomMemory<'h, H> {
         }
     }
 
-    pub(crate) fn kind(&mut self, of: Reg) -> Result<Kind, MemFault>
+    /// The kind of the object.
+    pub fn kind(&mut self, of: Reg) -> Result<Kind, MemFault>
         requires fit { MayCall (IsSound H.Host) (loom_told H.Host) self.old }
         requires may { MayDo (loom_told H.Host self.old) (KindOf of) }
         ensures access { Accessed (loom_told H.Host self.old) (loom_told H.Host self.new) (KindOf of) OfKind result }
+        ensures own { IsSparing H.Host self.old self.new (name_at ((loom_told H.Host self.old).regs of)) result }
         ensures fit { StaysCallable (IsSound H.Host) (loom_told H.Host) loom_lender (loom_outside H.Host) self.old self.new result }
     {
         match self.load(of) {
@@ -68,11 +73,13 @@ impl<'h, H: Host> LoomMemory<'h, H> {
         }
     }
 
-    pub(crate) fn len(&mut self, of: Reg) -> Result<u32, MemFault>
+    /// How many values, words or bytes it has, or code bytes of a method (fetchWordLengthOf:, fetchByteLengthOf:).
+    pub fn len(&mut self, of: Reg) -> Result<u32, MemFault>
         requires fit { MayCall (IsSound H.Host) (loom_told H.Host) self.old }
         requires may { MayDo (loom_told H.Host self.old) (Length of) }
         ensures access { Accessed (loom_told H.Host self.old) (loom_told H.Host self.new) (Length of) OfNumber result }
-        ensures bound { IfOk result (λ n. n < 65536) }
+        ensures bound { IfOk result (λ n. n < MOST_FIELDS + 1) }
+        ensures own { IsSparing H.Host self.old self.new (name_at ((loom_told H.Host self.old).regs of)) result }
         ensures fit { StaysCallable (IsSound H.Host) (loom_told H.Host) loom_lender (loom_outside H.Host) self.old self.new result }
     {
         match self.load(of) {
@@ -81,12 +88,14 @@ impl<'h, H: Host> LoomMemory<'h, H> {
         }
     }
 
-    pub(crate) fn header(&mut self, of: Reg) -> Result<i16, MemFault>
+    /// A method's header. The method has as many literals as it says.
+    pub fn header(&mut self, of: Reg) -> Result<i16, MemFault>
         requires fit { MayCall (IsSound H.Host) (loom_told H.Host) self.old }
         requires may { MayDo (loom_told H.Host self.old) (Header of) }
         ensures access { Accessed (loom_told H.Host self.old) (loom_told H.Host self.new) (Header of) OfSigned result }
         ensures range { IfOk result IsSmallInteger }
         ensures literals { IfOk result (λ header. IsTrue (loom_told H.Host self.old).tells → part_at (loom_told H.Host self.old).heap ((loom_told H.Host self.old).regs of) (λ b. Some (length (fields_of b))) ≡ Some (literal_count header)) }
+        ensures own { IsSparing H.Host self.old self.new (name_at ((loom_told H.Host self.old).regs of)) result }
         ensures fit { StaysCallable (IsSound H.Host) (loom_told H.Host) loom_lender (loom_outside H.Host) self.old self.new result }
     {
         match self.load(of) {
@@ -98,10 +107,12 @@ impl<'h, H: Host> LoomMemory<'h, H> {
         }
     }
 
-    pub(crate) fn word(&mut self, of: Reg, i: u32) -> Result<u16, MemFault>
+    /// Word i of an object of words.
+    pub fn word(&mut self, of: Reg, i: u32) -> Result<u16, MemFault>
         requires fit { MayCall (IsSound H.Host) (loom_told H.Host) self.old }
         requires may { MayDo (loom_told H.Host self.old) (Word of i) }
         ensures access { Accessed (loom_told H.Host self.old) (loom_told H.Host self.new) (Word of i) OfNumber result }
+        ensures own { IsSparing H.Host self.old self.new (name_at ((loom_told H.Host self.old).regs of)) result }
         ensures fit { StaysCallable (IsSound H.Host) (loom_told H.Host) loom_lender (loom_outside H.Host) self.old self.new result }
     {
         match self.load(of) {
@@ -113,10 +124,12 @@ impl<'h, H: Host> LoomMemory<'h, H> {
         }
     }
 
-    pub(crate) fn byte(&mut self, of: Reg, i: u32) -> Result<u8, MemFault>
+    /// Byte i, of code too.
+    pub fn byte(&mut self, of: Reg, i: u32) -> Result<u8, MemFault>
         requires fit { MayCall (IsSound H.Host) (loom_told H.Host) self.old }
         requires may { MayDo (loom_told H.Host self.old) (Byte of i) }
         ensures access { Accessed (loom_told H.Host self.old) (loom_told H.Host self.new) (Byte of i) OfNumber result }
+        ensures own { IsSparing H.Host self.old self.new (name_at ((loom_told H.Host self.old).regs of)) result }
         ensures fit { StaysCallable (IsSound H.Host) (loom_told H.Host) loom_lender (loom_outside H.Host) self.old self.new result }
     {
         match self.load(of) {
@@ -128,10 +141,12 @@ impl<'h, H: Host> LoomMemory<'h, H> {
         }
     }
 
-    pub(crate) fn read_words(&mut self, of: Reg, at: u32, out: &mut [u16]) -> Result<(), MemFault>
+    /// A run of words from a place on. An empty run needs the place to be at most the length.
+    pub fn read_words(&mut self, of: Reg, at: u32, out: &mut [u16]) -> Result<(), MemFault>
         requires fit { MayCall (IsSound H.Host) (loom_told H.Host) self.old }
         requires may { MayDo (loom_told H.Host self.old) (ReadWords of at (length out.old)) }
         ensures access { Accessed (loom_told H.Host self.old) (loom_told H.Host self.new) (ReadWords of at (length out.old)) (λ _. OfRun out.new) result }
+        ensures own { IsSparing H.Host self.old self.new (name_at ((loom_told H.Host self.old).regs of)) result }
         ensures fit { StaysCallable (IsSound H.Host) (loom_told H.Host) loom_lender (loom_outside H.Host) self.old self.new result }
     {
         match self.load(of) {
@@ -145,10 +160,12 @@ impl<'h, H: Host> LoomMemory<'h, H> {
         }
     }
 
-    pub(crate) fn read_bytes(&mut self, of: Reg, at: u32, out: &mut [u8]) -> Result<(), MemFault>
+    /// A run of bytes from a place on, of code too, also an empty one.
+    pub fn read_bytes(&mut self, of: Reg, at: u32, out: &mut [u8]) -> Result<(), MemFault>
         requires fit { MayCall (IsSound H.Host) (loom_told H.Host) self.old }
         requires may { MayDo (loom_told H.Host self.old) (ReadBytes of at (length out.old)) }
         ensures access { Accessed (loom_told H.Host self.old) (loom_told H.Host self.new) (ReadBytes of at (length out.old)) (λ _. OfRun out.new) result }
+        ensures own { IsSparing H.Host self.old self.new (name_at ((loom_told H.Host self.old).regs of)) result }
         ensures fit { StaysCallable (IsSound H.Host) (loom_told H.Host) loom_lender (loom_outside H.Host) self.old self.new result }
     {
         match self.load(of) {

@@ -43,7 +43,8 @@ impl<'h, H: Host> LoomMemory<'h, H> {
         Value::Int(int_short(w))
     }
 
-    pub(crate) fn int(&mut self, to: Reg, v: i16)
+    /// The register holds this number, from -16384 to 16383 (integerObjectOf:).
+    pub fn int(&mut self, to: Reg, v: i16)
         requires sound { IsSound H.Host self.old }
         requires range { IsSmallInteger v }
         ensures told { loom_told H.Host self.new ≡ record (loom_told H.Host self.old) { regs = set_register (loom_told H.Host self.old).regs to (Int v) } }
@@ -52,7 +53,8 @@ impl<'h, H: Host> LoomMemory<'h, H> {
         self.put_word(to, short_int(v));
     }
 
-    pub(crate) fn copy(&mut self, to: Reg, from: Reg)
+    /// The register is copied.
+    pub fn copy(&mut self, to: Reg, from: Reg)
         requires { IsSound H.Host self.old }
         ensures told { loom_told H.Host self.new ≡ record (loom_told H.Host self.old) { regs = set_register (loom_told H.Host self.old).regs to ((loom_told H.Host self.old).regs from) } }
         ensures fit { KeepsCallable (IsSound H.Host) (loom_told H.Host) loom_lender (loom_outside H.Host) self.old self.new }
@@ -61,21 +63,24 @@ impl<'h, H: Host> LoomMemory<'h, H> {
         self.put_word(to, w);
     }
 
-    pub(crate) fn is(&self, r: Reg, name: Name) -> bool
+    /// Whether the register holds this name.
+    pub fn is(&self, r: Reg, name: Name) -> bool
         requires { IsSound H.Host self.now }
         ensures { result ≡ is_ref name ((loom_told H.Host self.now).regs r) }
     {
         self.value(r) == Value::Ref(name)
     }
 
-    pub(crate) fn same(&self, a: Reg, b: Reg) -> bool
+    /// Whether two registers hold equal values.
+    pub fn same(&self, a: Reg, b: Reg) -> bool
         requires { IsSound H.Host self.now }
         ensures { IsTrue result ↔ ((loom_told H.Host self.now).regs a ≡ (loom_told H.Host self.now).regs b) }
     {
         self.value(a) == self.value(b)
     }
 
-    pub(crate) fn as_int(&self, r: Reg) -> Option<i16>
+    /// The number in the register (isIntegerObject:, integerValueOf:). None exactly where it holds a name.
+    pub fn as_int(&self, r: Reg) -> Option<i16>
         requires { IsSound H.Host self.now }
         ensures number { result ≡ int_of ((loom_told H.Host self.now).regs r) }
         ensures range { IfSome result IsSmallInteger }
@@ -83,7 +88,8 @@ impl<'h, H: Host> LoomMemory<'h, H> {
         self.value(r).number()
     }
 
-    pub(crate) fn hash(&self, r: Reg) -> u32
+    /// The index of the name in the register.
+    pub fn hash(&self, r: Reg) -> u32
         requires sound { IsSound H.Host self.now }
         requires name { IsRef ((loom_told H.Host self.now).regs r) }
         ensures { result ≡ name_at ((loom_told H.Host self.now).regs r) / 2 }
@@ -94,8 +100,8 @@ impl<'h, H: Host> LoomMemory<'h, H> {
         name.index()
     }
 
-    // Whether a slot has the name in the register.
-    pub(crate) fn is_pinned(&self, r: Reg) -> bool
+    /// Whether a slot has the name in the register.
+    pub fn is_pinned(&self, r: Reg) -> bool
         requires sound { IsSound H.Host self.now }
         requires name { IsRef ((loom_told H.Host self.now).regs r) }
         ensures { result ≡ has_slot (loom_told H.Host self.now).slots (name_at ((loom_told H.Host self.now).regs r)) }

@@ -34,11 +34,13 @@ fn put_pin(pins: &mut Pinned, slot: u8, w: u16)
 }
 
 impl<'h, H: Host> LoomMemory<'h, H> {
-    ghost use Rattle.long_names.specs.State.{set_slot};
+    ghost use Rattle.long_names.specs.State.{name_at, set_slot};
     ghost use Rattle.long_names.specs.Access.{Pin, Nothing};
     ghost use Rattle.object_memory.specs.Contract.{Accessed, MayDo};
     ghost use Rattle.object_memory.specs.Fit.{KeepsCallable, MayCall, StaysCallable};
     ghost use Rattle.loom_memory.specs.Memory.{loom_told, loom_outside, loom_lender, name_if, IsPinned, IsSound};
+    ghost use Rattle.loom_memory.specs.Gentle.{IsSteady};
+    ghost use Rattle.loom_memory.specs.Own.{IsSparing};
 
     // Puts the word of an entry with a body into a slot, or 0.
     fn put_slot(&mut self, slot: u8, w: u16)
@@ -47,6 +49,7 @@ impl<'h, H: Host> LoomMemory<'h, H> {
         requires body { IsPinned (core_of self.old.parts) w }
         ensures told { loom_told H.Host self.new ≡ record (loom_told H.Host self.old) { slots = set_slot (loom_told H.Host self.old).slots slot (name_if (core_of self.old.parts).entries w) } }
         ensures sound { IsSound H.Host self.new }
+        ensures steady { IsSteady H.Host self.old self.new }
         ensures lender { self.new.disk.host.ghost_name ≡ self.old.disk.host.ghost_name }
         ensures outside { loom_outside H.Host self.new ≡ loom_outside H.Host self.old }
     {
@@ -56,7 +59,8 @@ impl<'h, H: Host> LoomMemory<'h, H> {
         drop_word(&mut self.parts, old);
     }
 
-    pub(crate) fn unpin(&mut self, slot: u8)
+    /// Empties the slot.
+    pub fn unpin(&mut self, slot: u8)
         requires sound { IsSound H.Host self.old }
         requires slot { slot < 3 }
         ensures told { loom_told H.Host self.new ≡ record (loom_told H.Host self.old) { slots = set_slot (loom_told H.Host self.old).slots slot None } }
@@ -65,11 +69,13 @@ impl<'h, H: Host> LoomMemory<'h, H> {
         self.put_slot(slot, 0);
     }
 
-    pub(crate) fn pin(&mut self, slot: u8, r: Reg) -> Result<(), MemFault>
+    /// The object in the register stays in the core until the slot is emptied or filled again.
+    pub fn pin(&mut self, slot: u8, r: Reg) -> Result<(), MemFault>
         requires fit { MayCall (IsSound H.Host) (loom_told H.Host) self.old }
         requires may { MayDo (loom_told H.Host self.old) (Pin slot r) }
         requires slot { slot < 3 }
         ensures access { Accessed (loom_told H.Host self.old) (loom_told H.Host self.new) (Pin slot r) (λ _. Nothing) result }
+        ensures own { IsSparing H.Host self.old self.new (name_at ((loom_told H.Host self.old).regs r)) result }
         ensures fit { StaysCallable (IsSound H.Host) (loom_told H.Host) loom_lender (loom_outside H.Host) self.old self.new result }
     {
         match self.load(r) {

@@ -1,14 +1,23 @@
 // Stores into objects: fields, words and bytes.
-ghost use Rattle.std.specs.Prelude.{◌≡◌, ◌+◌, ◌≤◌, ◌<◌, ℕ, [], ◌∷◌, Some, true, false, IsTrue, OnOk, IfOk, IfErr, length};
+ghost use Rattle.std.specs.Prelude.{◌≡◌, ◌≢◌, ◌+◌, ◌+ℤ◌, pos, negsuc, ◌≤◌, ◌<◌, ℕ, [], ◌∷◌, Some, true, false, IsTrue, OnOk, IfOk, IfErr, length};
 ghost use Rattle.long_names.specs.declared.object.Kind.TheVariants as sort;
-ghost use Rattle.object_table.specs.Entries.{is_used, place_of};
-ghost use Rattle.leaf_lambda.specs.Parts.{core_of};
+ghost use Rattle.object_table.specs.Entries.{is_short, is_used, place_of};
+ghost use Rattle.core_view.specs.Steps.{IsAt};
+ghost use Rattle.core_view.specs.Words.{meant};
+ghost use Rattle.counted_core.specs.Steps.{changed_at};
+ghost use Rattle.delta_counts.specs.Parts.{IsChange};
+ghost use Rattle.loom_memory.specs.Stores.{IsRecount};
+ghost use Rattle.leaf_lambda.specs.Parts.{core_of, spare_of, IsParts};
 ghost use Rattle.leaf_lambda.specs.Making.{HasBytes};
 
+use crate::fields::word_in_body;
 use crate::memory::LoomMemory;
-use leaf_lambda::fields::put_field;
+use core_segment::Addr;
+use delta_counts::add_change;
+use leaf_lambda::Parts;
+use leaf_lambda::fields::{is_name, put_field};
 use leaf_lambda::leaving::field_total;
-use leaf_lambda::steps::place_of_body;
+use leaf_lambda::steps::{field_word, place_of_body};
 use leaf_lambda::storing::{put_byte, put_words};
 use long_names::Kind;
 use loom_outside::{Host, Role};
@@ -40,14 +49,49 @@ fn has_byte(kind: Kind, len: u32, i: u32) -> bool
     }
 }
 
+// A word more is the name of what this word names, if it names an entry.
+fn raise_word(p: &mut Parts, w: u16)
+    requires parts { IsParts p.old }
+    requires used { is_short w ≡ true → is_used ((core_of p.old).entries w).state ≡ true }
+    ensures parts { IsParts p.new }
+    ensures recount { IsRecount (core_of p.old) (core_of p.new) }
+    ensures raised { is_short w ≡ true → IsChange (((core_of p.old).entries w).change +ℤ pos 1)
+        → core_of p.new ≡ changed_at (core_of p.old) w (((core_of p.old).entries w).change +ℤ pos 1) }
+    ensures same { is_short w ≡ false → p.new ≡ p.old }
+    ensures segment { p.new.segment ≡ p.old.segment }
+{
+    if is_name(w) {
+        add_change(&mut p.names, Short(w), 1);
+    }
+}
+
+// A word less is.
+fn lower_word(p: &mut Parts, w: u16)
+    requires parts { IsParts p.old }
+    requires used { is_short w ≡ true → is_used ((core_of p.old).entries w).state ≡ true }
+    ensures parts { IsParts p.new }
+    ensures recount { IsRecount (core_of p.old) (core_of p.new) }
+    ensures lowered { is_short w ≡ true → IsChange (((core_of p.old).entries w).change +ℤ negsuc 0)
+        → core_of p.new ≡ changed_at (core_of p.old) w (((core_of p.old).entries w).change +ℤ negsuc 0) }
+    ensures same { is_short w ≡ false → p.new ≡ p.old }
+    ensures segment { p.new.segment ≡ p.old.segment }
+{
+    if is_name(w) {
+        add_change(&mut p.names, Short(w), -1);
+    }
+}
+
 impl<'h, H: Host> LoomMemory<'h, H> {
-    ghost use Rattle.long_names.specs.Access.{Access, SetField, SetWord, SetByte, WriteWords, CanDo, Nothing, target_of};
+    ghost use Rattle.long_names.specs.Access.{Access, Field, SetField, SetWord, SetByte, WriteWords, CanDo, Nothing, brought, target_of};
     ghost use Rattle.long_names.specs.State.{IsRef};
     ghost use Rattle.object_memory.specs.Told.{IsReady};
     ghost use Rattle.object_memory.specs.Contract.{Accessed, Does, HasCore, IfBounds, KeepsSound, MayDo, makes};
     ghost use Rattle.object_memory.specs.Fit.{MayCall, StaysCallable};
     ghost use Rattle.loom_memory.specs.Memory.{loom_told, loom_outside, loom_lender, word_in, IsSound, IsQuiet, IsSilent, IsRefused};
     ghost use Rattle.loom_memory.specs.Stores.{IsStored};
+    ghost use Rattle.long_names.specs.State.{name_at};
+    ghost use Rattle.loom_memory.specs.Gentle.{IsResting};
+    ghost use Rattle.loom_memory.specs.Own.{IsAtHand, IsSparingChange};
 
     // Before an object is stored into: all marks go where it is marked.
     fn unmark(&mut self, s: Short)
@@ -58,6 +102,9 @@ impl<'h, H: Host> LoomMemory<'h, H> {
         ensures regs { self.new.regs ≡ self.old.regs }
         ensures gone { ((core_of self.new.parts).entries s.0).flags.marked ≡ false }
         ensures place { place_of ((core_of self.new.parts).entries s.0).state ≡ place_of ((core_of self.old.parts).entries s.0).state }
+        ensures resting { IsResting self.old self.new }
+        ensures field { (at i w : ℕ) → IsAt (core_of self.old.parts) s.0 at i w → IsAt (core_of self.new.parts) s.0 at i w }
+        ensures spare { spare_of self.new.parts ≡ spare_of self.old.parts }
         ensures lender { self.new.disk.host.ghost_name ≡ self.old.disk.host.ghost_name }
         ensures outside { loom_outside H.Host self.new ≡ loom_outside H.Host self.old }
     {
@@ -74,6 +121,7 @@ impl<'h, H: Host> LoomMemory<'h, H> {
         ensures word { IfOk result (λ s. s.0 ≡ word_in self.new.regs of) }
         ensures there { IfOk result (λ s. (at : ℕ) × (place_of ((core_of self.new.parts).entries s.0).state ≡ Some at)) }
         ensures gone { IfOk result (λ s. ((core_of self.new.parts).entries s.0).flags.marked ≡ false) }
+        ensures own { IsSparingChange H.Host self.old self.new (name_at ((loom_told H.Host self.old).regs of)) result }
         ensures core { OnOk result ((a : Access) → target_of a ≡ Some of → makes a ≡ 0 → IfBounds (loom_told H.Host self.old).bounds (HasCore (loom_told H.Host self.old) a)) }
         ensures err { IfErr result (λ f. (a : Access) → target_of a ≡ Some of → makes a ≡ 0 → IsSilent a → IsRefused (loom_told H.Host self.old) (loom_told H.Host self.new) a f) }
         ensures lender { self.new.disk.host.ghost_name ≡ self.old.disk.host.ghost_name }
@@ -88,7 +136,53 @@ impl<'h, H: Host> LoomMemory<'h, H> {
         }
     }
 
-    // Stores the value of a register into field i of an object in the core, whatever was there.
+    // The same, and 26 entries are free then.
+    fn open_with_room(&mut self, of: Reg) -> Result<Short, MemFault>
+        requires sound { IsSound H.Host self.old }
+        requires ready { IsReady (loom_told H.Host self.old) }
+        requires name { IsRef ((loom_told H.Host self.old).regs of) }
+        ensures quiet { OnOk result (IsQuiet (loom_told H.Host self.old) (loom_told H.Host self.new)) }
+        ensures sound { KeepsSound result (IsSound H.Host self.new) }
+        ensures word { IfOk result (λ s. s.0 ≡ word_in self.new.regs of) }
+        ensures there { IfOk result (λ s. (at : ℕ) × (place_of ((core_of self.new.parts).entries s.0).state ≡ Some at)) }
+        ensures gone { IfOk result (λ s. ((core_of self.new.parts).entries s.0).flags.marked ≡ false) }
+        ensures spare { OnOk result (26 ≤ spare_of self.new.parts) }
+        ensures core { OnOk result ((a : Access) → target_of a ≡ Some of → makes a ≡ 0 → IfBounds (loom_told H.Host self.old).bounds (HasCore (loom_told H.Host self.old) a)) }
+        ensures err { IfErr result (λ f. (a : Access) → target_of a ≡ Some of → makes a ≡ 0 → IsSilent a → IsRefused (loom_told H.Host self.old) (loom_told H.Host self.new) a f) }
+        ensures lender { self.new.disk.host.ghost_name ≡ self.old.disk.host.ghost_name }
+        ensures outside { loom_outside H.Host self.new ≡ loom_outside H.Host self.old }
+    {
+        match self.load_with_room(of) {
+            Ok(s) => {
+                self.unmark(s);
+                Ok(s)
+            }
+            Err(f) => Err(f),
+        }
+    }
+
+    // Stores the value of a register into field i of an object in the core, in place of what a word means. Each of the two names that there may
+    // be is counted once more, or once less.
+    fn exchange_field(&mut self, of: Reg, s: Short, at: Addr, i: u32, from: Reg, old: u16)
+        requires sound { IsSound H.Host self.old }
+        requires word { s.0 ≡ word_in self.old.regs of }
+        requires there { (w : ℕ) × IsAt (core_of self.old.parts) s.0 at.place i w }
+        requires gone { ((core_of self.old.parts).entries s.0).flags.marked ≡ false }
+        requires used { is_short old ≡ true → is_used ((core_of self.old.parts).entries old).state ≡ true }
+        requires before { IsTrue (H.tells Role.Work) → brought (loom_told H.Host self.old).heap (loom_told H.Host self.old).regs (Field 0 of i) ≡ Some (meant (core_of self.old.parts).entries [] 0 old) }
+        ensures stored { IsStored (loom_told H.Host self.old) (loom_told H.Host self.new) (SetField of i from) }
+        ensures sound { IsSound H.Host self.new }
+        ensures resting { IsResting self.old self.new }
+        ensures lender { self.new.disk.host.ghost_name ≡ self.old.disk.host.ghost_name }
+        ensures outside { loom_outside H.Host self.new ≡ loom_outside H.Host self.old }
+    {
+        let w = self.regs[from.index()];
+        raise_word(&mut self.parts, w);
+        put_field(&mut self.parts, s, at, i, w);
+        lower_word(&mut self.parts, old);
+    }
+
+    // Stores the value of a register into field i of an object in the core, whatever was there. What a lambda meant is read from the record.
     fn store_field(&mut self, of: Reg, s: Short, i: u32, from: Reg) -> Result<(), MemFault>
         requires sound { IsSound H.Host self.old }
         requires ready { IsReady (loom_told H.Host self.old) }
@@ -96,6 +190,7 @@ impl<'h, H: Host> LoomMemory<'h, H> {
         requires word { s.0 ≡ word_in self.old.regs of }
         requires there { (at : ℕ) × (place_of ((core_of self.old.parts).entries s.0).state ≡ Some at) }
         requires gone { ((core_of self.old.parts).entries s.0).flags.marked ≡ false }
+        requires spare { 26 ≤ spare_of self.old.parts }
         ensures stored { OnOk result (IsStored (loom_told H.Host self.old) (loom_told H.Host self.new) (SetField of i from)) }
         ensures sound { KeepsSound result (IsSound H.Host self.new) }
         ensures err { IfErr result (IsRefused (loom_told H.Host self.old) (loom_told H.Host self.new) (SetField of i from)) }
@@ -110,20 +205,66 @@ impl<'h, H: Host> LoomMemory<'h, H> {
                 name,
             }));
         }
-        let w = self.regs[from.index()];
-        put_field(&mut self.parts, s, at, i, w);
+        let w = field_word(&self.parts, s, at, i);
+        if w == 0 {
+            return match self.lambda_word(of, s, at, i) {
+                Ok(old) => {
+                    self.exchange_field(of, s, at, i, from, old);
+                    Ok(())
+                }
+                Err(f) => Err(f),
+            };
+        }
+        self.exchange_field(of, s, at, i, from, w);
         Ok(())
     }
 
-    pub(crate) fn set_field(&mut self, of: Reg, i: u32, from: Reg) -> Result<(), MemFault>
+    // Stores into field i of an object in the core that has this word there.
+    fn replace_field(&mut self, of: Reg, s: Short, i: u32, from: Reg, w: u16)
+        requires sound { IsSound H.Host self.old }
+        requires word { s.0 ≡ word_in self.old.regs of }
+        requires there { (at : ℕ) × IsAt (core_of self.old.parts) s.0 at i w × (w ≢ 0) }
+        ensures stored { IsStored (loom_told H.Host self.old) (loom_told H.Host self.new) (SetField of i from) }
+        ensures sound { IsSound H.Host self.new }
+        ensures resting { IsResting self.old self.new }
+        ensures lender { self.new.disk.host.ghost_name ≡ self.old.disk.host.ghost_name }
+        ensures outside { loom_outside H.Host self.new ≡ loom_outside H.Host self.old }
+    {
+        self.unmark(s);
+        let at = place_of_body(&self.parts, s);
+        self.exchange_field(of, s, at, i, from, w);
+    }
+
+    // Stores into a field of an object that isn't in the core, or that is left on the disk.
+    fn set_field_on_disk(&mut self, of: Reg, i: u32, from: Reg) -> Result<(), MemFault>
         requires fit { MayCall (IsSound H.Host) (loom_told H.Host) self.old }
         requires may { MayDo (loom_told H.Host self.old) (SetField of i from) }
         ensures access { Accessed (loom_told H.Host self.old) (loom_told H.Host self.new) (SetField of i from) (λ _. Nothing) result }
         ensures fit { StaysCallable (IsSound H.Host) (loom_told H.Host) loom_lender (loom_outside H.Host) self.old self.new result }
     {
-        match self.open(of) {
+        match self.open_with_room(of) {
             Ok(s) => self.store_field(of, s, i, from),
             Err(f) => Err(f),
+        }
+    }
+
+    /// Stores value or literal i.
+    pub fn set_field(&mut self, of: Reg, i: u32, from: Reg) -> Result<(), MemFault>
+        requires fit { MayCall (IsSound H.Host) (loom_told H.Host) self.old }
+        requires may { MayDo (loom_told H.Host self.old) (SetField of i from) }
+        ensures access { Accessed (loom_told H.Host self.old) (loom_told H.Host self.new) (SetField of i from) (λ _. Nothing) result }
+        ensures own { IsAtHand self.old (name_at ((loom_told H.Host self.old).regs of)) i → IsSparingChange H.Host self.old self.new (name_at ((loom_told H.Host self.old).regs of)) result }
+        ensures fit { StaysCallable (IsSound H.Host) (loom_told H.Host) loom_lender (loom_outside H.Host) self.old self.new result }
+    {
+        match self.here(of) {
+            Some(s) => match word_in_body(&self.parts, s, i) {
+                Some(w) => {
+                    self.replace_field(of, s, i, from, w);
+                    Ok(())
+                }
+                None => self.set_field_on_disk(of, i, from),
+            },
+            None => self.set_field_on_disk(of, i, from),
         }
     }
 
@@ -137,6 +278,8 @@ impl<'h, H: Host> LoomMemory<'h, H> {
         requires gone { ((core_of self.old.parts).entries s.0).flags.marked ≡ false }
         ensures stored { OnOk result (IsStored (loom_told H.Host self.old) (loom_told H.Host self.new) (WriteWords of at run.now)) }
         ensures sound { KeepsSound result (IsSound H.Host self.new) }
+        ensures resting { OnOk result (IsResting self.old self.new) }
+        ensures sure { IfErr result (λ f. IsTrue (H.tells Role.Work) → ⊥) }
         ensures err { IfErr result (λ f. (a : Access) → IsSilent a → makes a ≡ 0 → IsRefused (loom_told H.Host self.old) (loom_told H.Host self.new) a f) }
         ensures lender { self.new.disk.host.ghost_name ≡ self.old.disk.host.ghost_name }
         ensures outside { loom_outside H.Host self.new ≡ loom_outside H.Host self.old }
@@ -154,10 +297,12 @@ impl<'h, H: Host> LoomMemory<'h, H> {
         }))
     }
 
-    pub(crate) fn set_word(&mut self, of: Reg, i: u32, w: u16) -> Result<(), MemFault>
+    /// Stores word i (storeWord:ofObject:withValue:).
+    pub fn set_word(&mut self, of: Reg, i: u32, w: u16) -> Result<(), MemFault>
         requires fit { MayCall (IsSound H.Host) (loom_told H.Host) self.old }
         requires may { MayDo (loom_told H.Host self.old) (SetWord of i w) }
         ensures access { Accessed (loom_told H.Host self.old) (loom_told H.Host self.new) (SetWord of i w) (λ _. Nothing) result }
+        ensures own { IsSparingChange H.Host self.old self.new (name_at ((loom_told H.Host self.old).regs of)) result }
         ensures fit { StaysCallable (IsSound H.Host) (loom_told H.Host) loom_lender (loom_outside H.Host) self.old self.new result }
     {
         match self.open(of) {
@@ -166,10 +311,12 @@ impl<'h, H: Host> LoomMemory<'h, H> {
         }
     }
 
-    pub(crate) fn write_words(&mut self, of: Reg, at: u32, from: &[u16]) -> Result<(), MemFault>
+    /// Stores a run of words from a place on, also an empty one.
+    pub fn write_words(&mut self, of: Reg, at: u32, from: &[u16]) -> Result<(), MemFault>
         requires fit { MayCall (IsSound H.Host) (loom_told H.Host) self.old }
         requires may { MayDo (loom_told H.Host self.old) (WriteWords of at from.now) }
         ensures access { Accessed (loom_told H.Host self.old) (loom_told H.Host self.new) (WriteWords of at from.now) (λ _. Nothing) result }
+        ensures own { IsSparingChange H.Host self.old self.new (name_at ((loom_told H.Host self.old).regs of)) result }
         ensures fit { StaysCallable (IsSound H.Host) (loom_told H.Host) loom_lender (loom_outside H.Host) self.old self.new result }
     {
         match self.open(of) {
@@ -188,6 +335,8 @@ impl<'h, H: Host> LoomMemory<'h, H> {
         requires gone { ((core_of self.old.parts).entries s.0).flags.marked ≡ false }
         ensures stored { OnOk result (IsStored (loom_told H.Host self.old) (loom_told H.Host self.new) (SetByte of i b)) }
         ensures sound { KeepsSound result (IsSound H.Host self.new) }
+        ensures resting { OnOk result (IsResting self.old self.new) }
+        ensures sure { IfErr result (λ f. IsTrue (H.tells Role.Work) → ⊥) }
         ensures err { IfErr result (IsRefused (loom_told H.Host self.old) (loom_told H.Host self.new) (SetByte of i b)) }
         ensures lender { self.new.disk.host.ghost_name ≡ self.old.disk.host.ghost_name }
         ensures outside { loom_outside H.Host self.new ≡ loom_outside H.Host self.old }
@@ -205,10 +354,12 @@ impl<'h, H: Host> LoomMemory<'h, H> {
         }))
     }
 
-    pub(crate) fn set_byte(&mut self, of: Reg, i: u32, b: u8) -> Result<(), MemFault>
+    /// Stores byte i, of code too (storeByte:ofObject:withValue:).
+    pub fn set_byte(&mut self, of: Reg, i: u32, b: u8) -> Result<(), MemFault>
         requires fit { MayCall (IsSound H.Host) (loom_told H.Host) self.old }
         requires may { MayDo (loom_told H.Host self.old) (SetByte of i b) }
         ensures access { Accessed (loom_told H.Host self.old) (loom_told H.Host self.new) (SetByte of i b) (λ _. Nothing) result }
+        ensures own { IsSparingChange H.Host self.old self.new (name_at ((loom_told H.Host self.old).regs of)) result }
         ensures fit { StaysCallable (IsSound H.Host) (loom_told H.Host) loom_lender (loom_outside H.Host) self.old self.new result }
     {
         match self.open(of) {

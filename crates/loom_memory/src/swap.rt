@@ -72,7 +72,9 @@ impl<'h, H: Host> LoomMemory<'h, H> {
         }
     }
 
-    pub(crate) fn swap(&mut self, a: Reg, b: Reg) -> Result<(), MemFault>
+    /// The objects that two registers name change places under their names, with class and body (swapPointersOf:and:). Of one name
+    /// nothing changes. Neither is pinned.
+    pub fn swap(&mut self, a: Reg, b: Reg) -> Result<(), MemFault>
         requires fit { MayCall (IsSound H.Host) (loom_told H.Host) self.old }
         requires may { MayDo (loom_told H.Host self.old) (Swap a b) }
         ensures access { Accessed (loom_told H.Host self.old) (loom_told H.Host self.new) (Swap a b) (λ _. Nothing) result }

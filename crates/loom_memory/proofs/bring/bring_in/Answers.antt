@@ -10,6 +10,7 @@ use Rattle.purger.specs.Purge.{IsReadFault}
 use Rattle.core_view.proofs.Steps.{Keeps-refl}
 use Rattle.leaf_lambda.specs.Parts.{core_of}
 use Rattle.leaf_lambda.proofs.RecordLaws.{unresolved-words}
+use Rattle.leaf_lambda.proofs.TranslateLaws.{Naming-refl}
 use Rattle.disk_objects.specs.Function.{disk_of}
 use Rattle.purger.proofs.EvictLaws.{not-fetched, was-fetched}
 use Rattle.core_view.proofs.Fresh.{fresh-came, not-fresh}
@@ -26,11 +27,20 @@ pub entry-name-requires-clause-within : goal.entry-name-requires-clause-within
 unfolding core_of
 entry-name-requires-clause-within g c = c.requires.parts.core.within c.args.s.0 c.requires.leaf.0
 
+pub returns-in_err-fetch-clause-naming : goal.returns-in_err-fetch-clause-naming
+returns-in_err-fetch-clause-naming g c = Naming-refl (core_of c.args.p.now)
+
 pub returns-in_err-fetch-clause-keeps : goal.returns-in_err-fetch-clause-keeps
 returns-in_err-fetch-clause-keeps g c = λ told. Keeps-refl (disk_of g.H.Host c.args.disk.now.host.now c.args.disk.now.rest) (core_of c.args.p.now) (c.requires.backed told)
 
+pub returns-then-not-branch-clause-naming : goal.returns-then-not-branch-clause-naming
+returns-then-not-branch-clause-naming g c = Naming-refl (core_of c.args.p.now)
+
 pub returns-then-not-branch-clause-keeps : goal.returns-then-not-branch-clause-keeps
 returns-then-not-branch-clause-keeps g c = λ told. Keeps-refl (disk_of g.H.Host c.args.disk.now.host.now c.args.disk.now.rest) (core_of c.args.p.now) (c.requires.backed told)
+
+pub returns-then-words_of-words-clause-naming : goal.returns-then-words_of-words-clause-naming
+returns-then-words_of-words-clause-naming g c = Naming-refl (core_of c.args.p.now)
 
 pub returns-then-words_of-words-clause-keeps : goal.returns-then-words_of-words-clause-keeps
 returns-then-words_of-words-clause-keeps g c = λ told. Keeps-refl (disk_of g.H.Host c.args.disk.now.host.now c.args.disk.now.rest) (core_of c.args.p.now) (c.requires.backed told)

@@ -6,6 +6,7 @@ use Rattle.object_memory.proofs.PlainLaws.{ready-path}
 use Rattle.loom_memory.specs.declared.ledger.Ledger.{Ledger}
 use Rattle.loom_memory.specs.Cache.{cache_of}
 use Rattle.loom_memory.specs.Memory.{loom_told, loom_outside, IsSound}
+use Rattle.loom_memory.proofs.ExactLaws.{exact-caching}
 use Rattle.loom_memory.proofs.MarkingLaws.{IsCaching, ledger-told, ledger-kept, ledger-over, path-begun}
 use Rattle.loom_memory.proofs.memory.LoomMemory.begin_path.Goals as goal
 use Rattle.loom_memory.proofs.memory.LoomMemory.begin_path.Given as given
@@ -33,6 +34,7 @@ sound-of g c =
     record {
       kept = ledger-kept m.parts m.regs m.pinned m.ledger (record c.refresh.new.k { begun = true }) c.requires.kept (caching g c) c.refresh.ensures.cached;
       over = ledger-over g.H.Host m.disk.host.now m.disk.rest (core_of m.parts) m.ledger (record c.refresh.new.k { begun = true }) c.requires.over (caching g c);
+      exact = exact-caching g.H.Host m.parts m.disk.host.now m.disk.rest m.ledger (record c.refresh.new.k { begun = true }) c.requires.exact (caching g c);
     }
 
 pub returns-clause-fit : goal.returns-clause-fit

@@ -1,4 +1,4 @@
-use Rattle.std.proofs.Common.{◌≡◌, ◌≤◌, None, sym, ◌∙◌, ap, subst}
+use Rattle.std.proofs.Common.{◌≡◌, ◌≤◌, true, None, Some, refl, sym, ◌∙◌, ap, subst}
 use Rattle.object_table.specs.declared.entry.Entry.{Entry}
 use Rattle.object_table.specs.Entries.{place_of}
 use Rattle.core_view.specs.Counts.{outside}
@@ -9,6 +9,9 @@ use Rattle.loom_memory.specs.Memory.{loom_told}
 use Rattle.loom_memory.proofs.AccessLaws.{quiet-ready}
 use Rattle.purger.proofs.RoomLaws.{some-of, none-of}
 use Rattle.loom_memory.proofs.BringLaws.{ok-after, err-at, quiet-same}
+use Rattle.object_table.specs.Entries.{is_used}
+use Rattle.loom_memory.specs.Residents.{fetched}
+use Rattle.loom_memory.proofs.GentleLaws.{count-after, fetched-same, brought-gentle, no-body}
 use Rattle.loom_memory.proofs.memory.LoomMemory.bring.Goals as goal
 
 pub entry-requires-clause-within : goal.entry-requires-clause-within
@@ -48,3 +51,35 @@ returns-in-Ok-clause-err g c = err-at c.bring_leaf.result (loom_told g.H.Host c.
 
 pub returns-in-Err-clause-err : goal.returns-in-Err-clause-err
 returns-in-Err-clause-err g c = λ a of target named silent none. c.in-Err.ensures.err a silent none
+
+pub returns-then-is_some-clause-counted : goal.returns-then-is_some-clause-counted
+unfolding core_of
+returns-then-is_some-clause-counted g c = λ leaf.
+    let there = some-of c.place.result c.is_some.result c.is_some.ensures c.if-is_some.true in
+    let both : None ≡ Some there.0 = sym leaf ∙ ap (λ (e : Entry). place_of e.state) (sym c.entry.ensures) ∙ sym c.place.ensures ∙ there.1 in
+    absurd (cc)
+
+pub returns-then-is_some-clause-gentle : goal.returns-then-is_some-clause-gentle
+unfolding core_of
+returns-then-is_some-clause-gentle g c = λ told leaf room.
+    let there = some-of c.place.result c.is_some.result c.is_some.ensures c.if-is_some.true in
+    let both : None ≡ Some there.0 = sym leaf ∙ ap (λ (e : Entry). place_of e.state) (sym c.entry.ensures) ∙ sym c.place.ensures ∙ there.1 in
+    absurd (cc)
+
+pub returns-in-Ok-clause-counted : goal.returns-in-Ok-clause-counted
+returns-in-Ok-clause-counted g c = count-after (place_of ((core_of c.args.self.now.parts).entries c.args.s.0).state ≡ None) c.bring_leaf.result (fetched c.args.self.now) (fetched c.look.new.self) (fetched c.bring_leaf.new.self) (fetched-same c.args.self.now c.look.new.self c.in-Ok.ensures.ledger) c.bring_leaf.ensures.counted
+
+pub returns-in-Ok-clause-gentle : goal.returns-in-Ok-clause-gentle
+returns-in-Ok-clause-gentle g c =
+    let m = c.args.self.now in
+    let u = c.look.new.self in
+    brought-gentle c.bring_leaf.result g.H.Host m u c.bring_leaf.new.self c.args.s.0 c.in-Ok.words c.in-Ok.ensures.sound
+    (subst (λ (p : Parts). is_used ((core_of p).entries c.args.s.0).state ≡ true) (sym c.in-Ok.ensures.parts) (outside-used (core_of m.parts) c.args.s.0 c.requires.sound.kept.parts.core c.requires.out))
+    c.in-Ok.ensures.parts c.in-Ok.ensures.quiet c.in-Ok.ensures.sized c.in-Ok.ensures.gentle c.bring_leaf.ensures.gentle
+
+pub returns-then-is_some-clause-idle : goal.returns-then-is_some-clause-idle
+returns-then-is_some-clause-idle g c = λ at is. refl
+
+pub returns-in-Ok-clause-idle : goal.returns-in-Ok-clause-idle
+unfolding core_of
+returns-in-Ok-clause-idle g c = no-body (c.bring_leaf.new.self ≡ c.args.self.now) c.bring_leaf.result (place_of ((core_of c.args.self.now.parts).entries c.args.s.0).state) (ap (λ (e : Entry). place_of e.state) (sym c.entry.ensures) ∙ sym c.place.ensures ∙ none-of c.place.result c.is_some.result c.is_some.ensures c.if-is_some.false)

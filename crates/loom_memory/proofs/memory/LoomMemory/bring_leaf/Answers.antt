@@ -8,6 +8,8 @@ use Rattle.loom_memory.specs.Memory.{loom_told, IsRefusedAt}
 use Rattle.loom_memory.proofs.AccessLaws.{quiet-ready}
 use Rattle.loom_memory.proofs.CallLaws.{leaf-words, refused-at}
 use Rattle.loom_memory.proofs.BringLaws.{IsLeafStill, leaf-still, sized-then, unfit, ok-after, err-after}
+use Rattle.loom_memory.specs.Residents.{fetched}
+use Rattle.loom_memory.proofs.GentleLaws.{count-then, fetched-same, gentle-then}
 use Rattle.loom_memory.proofs.memory.LoomMemory.bring_leaf.Goals as goal
 use Rattle.loom_memory.proofs.memory.LoomMemory.bring_leaf.Given as given
 
@@ -84,3 +86,9 @@ full-requires-clause-unfit g c = λ need is fits. let all = is.all in let most =
 
 pub full-requires-clause-used : goal.full-requires-clause-used
 full-requires-clause-used g c = outside-used (core_of c.args.self.now.parts) c.args.s.0 c.requires.sound.kept.parts.core c.requires.out
+
+pub returns-then-enough-clause-counted : goal.returns-then-enough-clause-counted
+returns-then-enough-clause-counted g c = count-then c.come.result (fetched c.args.self.now) (fetched c.clear.new.self) (fetched c.come.new.self) (fetched-same c.args.self.now c.clear.new.self c.in-Ok.ensures.ledger) c.come.ensures.counted
+
+pub returns-then-enough-clause-gentle : goal.returns-then-enough-clause-gentle
+returns-then-enough-clause-gentle g c = gentle-then c.come.result g.H.Host c.args.self.now c.clear.new.self c.come.new.self c.in-Ok.ensures.gentle c.come.ensures.gentle

@@ -1,4 +1,4 @@
-use Rattle.std.proofs.Common.{ℕ, Option, Some, refl, sym, ◌∙◌, ap}
+use Rattle.std.proofs.Common.{ℕ, Option, Some, refl, sym, ◌∙◌, ap, IsTrue}
 use Rattle.std.specs.List.{slice_get}
 use Rattle.std.specs.Option.{option_and_then}
 use Rattle.long_names.specs.declared.object.Body.{Body}
@@ -13,7 +13,10 @@ use Rattle.loom_memory.proofs.AccessLaws.{quiet-ready, refused-is}
 use Rattle.loom_memory.proofs.FieldLaws.{told-tells}
 use Rattle.loom_memory.proofs.BodyLaws.{part-here, part-still, element-there}
 use Rattle.loom_memory.proofs.ReadLaws.{read-answered}
+use Rattle.long_names.specs.State.{name_at}
+use Rattle.loom_memory.proofs.GentleLaws.{amiss-sparing, sparing-ok, sparing-err}
 use Rattle.loom_memory.proofs.memory.LoomMemory.byte.Goals as goal
+use Rattle.loom_memory.proofs.memory.LoomMemory.byte.Given as given
 
 pub byte_at-requires-clause-there : goal.byte_at-requires-clause-there
 byte_at-requires-clause-there g c = (c.in-Ok.ensures.loaded.at, c.in-Ok.ensures.loaded.place)
@@ -32,17 +35,21 @@ returns-in-Some-clause-access g c =
     (sym (sym c.in-Some.is ∙ c.byte_at.ensures (disk_of g.H.Host n.disk.host.now n.disk.rest) there.at there.place))))
     (c.in-Ok.ensures.core (Byte c.args.of c.args.i) refl refl)
 
-pub returns-in-None-clause-access : goal.returns-in-None-clause-access
-returns-in-None-clause-access g c =
+untold : (g : given.Over) (c : goal.After-amiss g) → IsTrue (loom_told g.H.Host c.args.self.now).tells → ⊥
+untold g c told =
     let t = loom_told g.H.Host c.args.self.now in
     let n = c.load.new.self in
     let there = c.in-Ok.ensures.loaded in
     let o = object_at (core_of n.parts) (disk_of g.H.Host n.disk.host.now n.disk.rest) ((core_of n.parts).entries c.in-Ok.s.0) there.at in
-    refused-is t (loom_told g.H.Host c.amiss.new.self) (Byte c.args.of c.args.i) OfNumber c.amiss.result
-    (c.amiss.ensures.err t (Byte c.args.of c.args.i) c.in-Ok.ensures.quiet c.requires.fit.ready tt refl
-    (λ told. let can = c.requires.may.heap told in
+    let can = c.requires.may.heap told in
     element-there (bytes_of o.body) can.0 c.args.i (part-still t (loom_told g.H.Host n) c.args.of o bytes_of (Some can.0) c.in-Ok.ensures.quiet (there.object (told-tells g.H.Host c.args.self.now told)) can.1) can.2
-    (sym (c.byte_at.ensures (disk_of g.H.Host n.disk.host.now n.disk.rest) there.at there.place) ∙ c.in-None.is)))
+    (sym (c.byte_at.ensures (disk_of g.H.Host n.disk.host.now n.disk.rest) there.at there.place) ∙ c.in-None.is)
+
+pub returns-in-None-clause-access : goal.returns-in-None-clause-access
+returns-in-None-clause-access g c =
+    let t = loom_told g.H.Host c.args.self.now in
+    refused-is t (loom_told g.H.Host c.amiss.new.self) (Byte c.args.of c.args.i) OfNumber c.amiss.result
+    (c.amiss.ensures.err t (Byte c.args.of c.args.i) c.in-Ok.ensures.quiet c.requires.fit.ready tt refl (untold g c))
 
 pub returns-in-Err-clause-access : goal.returns-in-Err-clause-access
 returns-in-Err-clause-access g c = refused-is (loom_told g.H.Host c.args.self.now) (loom_told g.H.Host c.load.new.self) (Byte c.args.of c.args.i) OfNumber c.in-Err.f (c.in-Err.ensures.err (Byte c.args.of c.args.i) refl refl tt)
@@ -54,3 +61,12 @@ returns-in-Some-clause-fit g c = record {
   lender = c.in-Ok.ensures.lender;
   outside = c.in-Ok.ensures.outside;
 }
+
+pub returns-in-Some-clause-own : goal.returns-in-Some-clause-own
+returns-in-Some-clause-own g c = sparing-ok g.H.Host c.args.self.now c.load.new.self (name_at ((loom_told g.H.Host c.args.self.now).regs c.args.of)) c.in-Ok.s _ c.in-Ok.ensures.own
+
+pub returns-in-None-clause-own : goal.returns-in-None-clause-own
+returns-in-None-clause-own g c = amiss-sparing g.H.Host c.args.self.now c.amiss.new.self (name_at ((loom_told g.H.Host c.args.self.now).regs c.args.of)) c.amiss.result (untold g c)
+
+pub returns-in-Err-clause-own : goal.returns-in-Err-clause-own
+returns-in-Err-clause-own g c = sparing-err g.H.Host c.args.self.now c.load.new.self (name_at ((loom_told g.H.Host c.args.self.now).regs c.args.of)) c.in-Err.f c.in-Err.ensures.own

@@ -88,6 +88,7 @@ sound-of g c =
       kept = ledger-kept m.parts m.regs m.pinned m.ledger (record m.ledger { rows = c.put.new.self }) c.requires.sound.kept refl
           (put-cached (core_of m.parts) (found m.ledger.rows) (found c.put.new.self) m.ledger.mark c.word_of-c.result c.word_of-s.result c.word_of-m.result c.requires.sound.kept.cached c.put.ensures (class-of g c).0 (selector-of g c).0 (method-of g c).0);
       over = ledger-over g.H.Host m.disk.host.now m.disk.rest (core_of m.parts) m.ledger (record m.ledger { rows = c.put.new.self }) c.requires.sound.over refl;
+      exact = c.requires.sound.exact;
     }
 
 ready-of : (g : given.Over) (c : goal.After-put g) → IsReady (loom_told g.H.Host c.args.self.now) → IsReady (loom_told g.H.Host (record c.args.self.now { ledger = record c.args.self.now.ledger { rows = c.put.new.self } }))

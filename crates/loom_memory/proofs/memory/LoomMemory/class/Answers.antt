@@ -8,6 +8,11 @@ use Rattle.leaf_lambda.specs.Parts.{core_of}
 use Rattle.loom_memory.specs.Memory.{loom_told}
 use Rattle.loom_memory.proofs.WordLaws.{odd-else, number-means}
 use Rattle.loom_memory.proofs.KnownLaws.{number-access, number-came, no-number, name-came, named-ref, ready-named}
+use Rattle.std.specs.Prelude.{IsSome}
+use Rattle.long_names.specs.Objects.{int_of}
+use Rattle.purger.specs.Purge.{HasRoom}
+use Rattle.loom_memory.specs.Gentle.{IsSteady}
+use Rattle.loom_memory.proofs.GentleLaws.{then-number}
 use Rattle.loom_memory.proofs.memory.LoomMemory.class.Goals as goal
 use Rattle.loom_memory.proofs.memory.LoomMemory.class.Given as given
 
@@ -33,9 +38,9 @@ number-is g c =
     ap (meant (core_of m.parts).entries [] 0) (sym c.word_of-w.ensures.word)
     ∙ number-means (core_of m.parts).entries c.word_of-w.result (int_of_short c.word_of-w.result) (odd-else c.word_of-w.result c.word_of-w.ensures.some (sym c.is_name.ensures ∙ c.if-is_name.false)) refl
 
-pub put_name-requires-clause-has : goal.put_name-requires-clause-has
+pub put_name-requires-clause-named : goal.put_name-requires-clause-named
 unfolding loom_told
-put_name-requires-clause-has g c = λ told. (c.requires.fit.ready.whole told).known SMALL_INTEGER refl
+put_name-requires-clause-named g c = λ told. ((c.requires.fit.ready.whole told).known SMALL_INTEGER refl, refl)
 
 pub returns-clause-access : goal.returns-clause-access
 returns-clause-access g c = number-access c.put_name.result (loom_told g.H.Host c.args.self.now) (loom_told g.H.Host c.put_name.new.self) c.args.to c.args.of (int_of_short c.word_of-w.result) (number-is g c) c.put_name.ensures.naming c.put_name.ensures.err
@@ -53,3 +58,15 @@ returns-clause-fit g c = record {
   lender = c.put_name.ensures.lender;
   outside = c.put_name.ensures.outside;
 }
+
+pub returns-then-is_name-clause-own : goal.returns-then-is_name-clause-own
+returns-then-is_name-clause-own g c = λ ref. c.class_of_object.ensures.own
+
+pub returns-clause-own : goal.returns-clause-own
+returns-clause-own g c = λ ref. absurd (subst IsRef (number-is g c) ref)
+
+pub returns-then-is_name-clause-steady : goal.returns-then-is_name-clause-steady
+returns-then-is_name-clause-steady g c = no-number c.class_of_object.result ((loom_told g.H.Host c.args.self.now).regs c.args.of) ((core_of c.args.self.now.parts).entries c.word_of-w.result).name _ (name-is g c)
+
+pub returns-clause-steady : goal.returns-clause-steady
+returns-clause-steady g c = then-number (IsSome (int_of ((loom_told g.H.Host c.args.self.now).regs c.args.of))) (HasRoom c.args.self.now.parts 0 27 → IsSteady g.H.Host c.args.self.now c.put_name.new.self) c.put_name.result c.put_name.ensures.steady

@@ -18,6 +18,8 @@ use Rattle.loom_memory.proofs.AccessLaws.{quiet-ready, refused-is}
 use Rattle.loom_memory.proofs.FieldLaws.{told-tells}
 use Rattle.loom_memory.proofs.MarkingLaws.{filled}
 use Rattle.loom_memory.proofs.ClassLaws.{class-there, class-access, ready-class, short-some}
+use Rattle.long_names.specs.State.{name_at}
+use Rattle.loom_memory.proofs.GentleLaws.{steady-sparing, sparing-err}
 use Rattle.loom_memory.proofs.memory.LoomMemory.class_of_object.Goals as goal
 use Rattle.loom_memory.proofs.memory.LoomMemory.class_of_object.Given as given
 
@@ -82,3 +84,11 @@ returns-in-Ok-clause-fit g c =
 
 pub returns-in-Err-clause-access : goal.returns-in-Err-clause-access
 returns-in-Err-clause-access g c = refused-is (loom_told g.H.Host c.args.self.now) (loom_told g.H.Host c.load.new.self) (Class c.args.to c.args.of) (λ _. Nothing) c.in-Err.f (c.in-Err.ensures.err (Class c.args.to c.args.of) refl refl tt)
+
+pub returns-in-Ok-clause-own : goal.returns-in-Ok-clause-own
+returns-in-Ok-clause-own g c =
+    let m = c.args.self.now in
+    steady-sparing g.H.Host m c.load.new.self c.put_word.new.self (name_at ((loom_told g.H.Host m).regs c.args.of)) c.in-Ok.s _ c.in-Ok.ensures.own c.put_word.ensures.steady c.in-Ok.ensures.sound.kept.parts.core c.put_word.ensures.sound.kept.parts.core (ap (λ (t : Told). t.bounds) c.put_word.ensures.told)
+
+pub returns-in-Err-clause-own : goal.returns-in-Err-clause-own
+returns-in-Err-clause-own g c = sparing-err g.H.Host c.args.self.now c.load.new.self (name_at ((loom_told g.H.Host c.args.self.now).regs c.args.of)) c.in-Err.f c.in-Err.ensures.own

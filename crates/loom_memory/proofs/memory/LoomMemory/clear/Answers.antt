@@ -11,3 +11,15 @@ returns-in-Disk-clause-err g c = λ a silent none.
     purge-refused g.H.Host m c.room.new.self (loom_told g.H.Host c.refuse.new.self) a c.in-Disk.f c.refusal_of-f.result c.refuse.result c.in-Err.ensures.ledger c.in-Err.ensures.work c.in-Err.ensures.limit
     (subst (λ (z : RoomFault). OnDisk z (IsPurgeFault g.H.Host m.disk.host.now c.room.new.self.disk.host.now)) c.in-Disk.is c.in-Err.ensures.fault)
     c.refusal_of-f.ensures c.refuse.ensures.told c.refuse.ensures.result c.refuse.ensures.later silent none
+
+pub returns-in-Ok-clause-gentle : goal.returns-in-Ok-clause-gentle
+returns-in-Ok-clause-gentle g c = λ room. absurd (c.has_room.ensures.lacks c.if-has_room.false room)
+
+pub returns-in-Ok-clause-idle : goal.returns-in-Ok-clause-idle
+returns-in-Ok-clause-idle g c = λ room none. absurd (c.has_room.ensures.lacks c.if-has_room.false room)
+
+pub returns-in-Short-clause-gentle : goal.returns-in-Short-clause-gentle
+returns-in-Short-clause-gentle g c = λ room. absurd (c.has_room.ensures.lacks c.if-has_room.false room)
+
+pub returns-in-Short-clause-idle : goal.returns-in-Short-clause-idle
+returns-in-Short-clause-idle g c = λ room none. absurd (c.has_room.ensures.lacks c.if-has_room.false room)

@@ -1,4 +1,4 @@
-use Rattle.std.proofs.Common.{◌≡◌, ℕ, None, true, refl, sym, ◌∙◌, ap, subst, arith, IsTrue}
+use Rattle.std.proofs.Common.{◌≡◌, ℕ, [], None, true, refl, sym, ◌∙◌, ap, subst, arith, IsTrue}
 use Rattle.loom_outside.specs.declared.outside.Role.TheVariants.{Work, Transcript}
 use Rattle.disk_objects.specs.Disk.{disk_room, disk_held}
 use Rattle.disk_objects.specs.declared.rest.DiskRest.{DiskRest}
@@ -15,13 +15,20 @@ use Rattle.loom_memory.specs.declared.memory.LoomMemory.{LoomMemory}
 use Rattle.leaf_lambda.specs.Parts.{core_of, IsParts, IsWithin}
 use Rattle.disk_objects.specs.Function.{disk_of}
 use Rattle.loom_memory.specs.Memory.{loom_told, loom_outside, told_of, IsSound, IsQuiet, IsRefused}
+use Rattle.loom_memory.specs.Numbers.{IsNumbered}
 use Rattle.loom_memory.specs.Residents.{fetched}
 use Rattle.core_view.specs.Kept.{IsValued}
 use Rattle.loom_memory.proofs.ResidentLaws.{fetched-kept, fetched-over}
+use Rattle.loom_memory.proofs.ExactLaws.{exact-next, exact-brought}
 use Rattle.loom_memory.proofs.RegLaws.{kept-rooted, few-held}
 use Rattle.loom_memory.proofs.CalmLaws.{within-calm, calm-kept, quiet-is, work-outside}
 use Rattle.loom_memory.proofs.AccessLaws.{refused-quiet}
 use Rattle.loom_memory.proofs.FieldLaws.{fault-cause, read-only}
+use Rattle.method_cache.specs.Found.{found}
+use Rattle.purger.proofs.MarkLaws.{within-marks}
+use Rattle.loom_memory.specs.Cache.{cache_of}
+use Rattle.loom_memory.proofs.CacheLaws.{cache-same}
+use Rattle.loom_memory.proofs.GentleLaws.{within-remains}
 use Rattle.loom_memory.proofs.memory.LoomMemory.come.Goals as goal
 
 pub bring_in-requires-clause-light : goal.bring_in-requires-clause-light
@@ -80,8 +87,23 @@ returns-in-Ok-clause-sound g c =
             let same = c.bring_in.ensures.fresh told in
             let rest : disk_held c.bring_in.new.disk.rest ≡ disk_held m.disk.rest = ap disk_held c.bring_in.ensures.rest in
             omega (arith, was, same, rest);
-        based = c.requires.sound.over.based;
+        based = subst (λ (n : ℕ). IsNumbered m.ledger.base m.ledger.made m.ledger.held m.ledger.next n) (sym (ap disk_room c.bring_in.ensures.rest)) c.requires.sound.over.based;
         roomy = let was = c.requires.sound.over.roomy in let rest : disk_room c.bring_in.new.disk.rest ≡ disk_room m.disk.rest = ap disk_room c.bring_in.ensures.rest in omega (arith, was, rest);
         valued = λ told. subst (λ (d : Disk). IsValued d) (sym (ap (λ (k : Disk). held (core_of c.bring_in.new.p) k) c.bring_in.ensures.same ∙ (c.bring_in.ensures.keeps told).held)) (c.requires.sound.over.valued told);
       };
+      exact = exact-next g.H.Host c.bring_in.new.p c.bring_in.new.disk.host.now c.bring_in.new.disk.rest m.ledger.next c.count_fetch.new.self.next [] (ap (λ (k : Ledger). k.next) c.count_fetch.ensures)
+          (exact-brought g.H.Host m.parts c.bring_in.new.p m.disk.host.now c.bring_in.new.disk.host.now m.disk.rest c.bring_in.new.disk.rest c.args.s.0 m.ledger.next c.requires.sound.exact c.bring_in.ensures.rest c.bring_in.ensures.read c.bring_in.ensures.parts c.bring_in.ensures.keeps c.bring_in.ensures.naming c.bring_in.ensures.within);
+    }
+
+pub returns-in-Ok-clause-gentle : goal.returns-in-Ok-clause-gentle
+unfolding loom_told
+returns-in-Ok-clause-gentle g c =
+    let m = c.args.self.now in
+    let x = core_of m.parts in
+    let y = core_of c.bring_in.new.p in
+    record {
+      remains = within-remains c.args.s.0 x y c.bring_in.ensures.within c.requires.leaf.1;
+      read = c.bring_in.ensures.read;
+      cache = ap (λ (k : Ledger). cache_of y (found k.rows) k.mark k.begun) c.count_fetch.ensures
+          ∙ cache-same x y (found m.ledger.rows) m.ledger.mark m.ledger.begun c.requires.sound.kept.parts.core c.bring_in.ensures.parts.core (within-marks x y c.args.s.0 c.requires.sound.kept.parts.core c.bring_in.ensures.parts.core c.bring_in.ensures.within) c.requires.sound.kept.cached;
     }

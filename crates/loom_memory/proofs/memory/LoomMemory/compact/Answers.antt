@@ -6,10 +6,14 @@ use Rattle.leaf_lambda.specs.Parts.{core_of}
 use Rattle.purger.proofs.MarkLaws.{Marks-same}
 use Rattle.purger.proofs.RoomLaws.{work-refl}
 use Rattle.loom_memory.specs.Memory.{loom_told, loom_outside, IsCalm, IsQuiet}
+use Rattle.loom_memory.proofs.ExactLaws.{exact-counts}
 use Rattle.loom_memory.proofs.RegLaws.{kept-rooted}
 use Rattle.loom_memory.proofs.AccessLaws.{quiet-ready}
 use Rattle.loom_memory.proofs.CalmLaws.{purged-calm, calm-kept, quiet-is}
 use Rattle.loom_memory.proofs.EndLaws.{quiet-thins, quiet-later}
+use Rattle.method_cache.specs.Found.{found}
+use Rattle.loom_memory.proofs.CacheLaws.{cache-same}
+use Rattle.loom_memory.proofs.GentleLaws.{fetched-same, purged-remains, read-refl}
 use Rattle.loom_memory.proofs.memory.LoomMemory.compact.Goals as goal
 use Rattle.loom_memory.proofs.memory.LoomMemory.compact.Given as given
 
@@ -48,8 +52,22 @@ returns-clause-fit g c =
           based = over.based;
           valued = λ told. subst (λ (d : Disk). IsValued d) (sym (c.compact.ensures.stays (disk_of g.H.Host m.disk.host.now m.disk.rest) (over.backed told)).held) (over.valued told);
         };
+        exact = exact-counts g.H.Host m.parts c.compact.new.p m.disk.host.now m.disk.rest m.ledger.next c.requires.fit.sound.exact c.compact.ensures.parts c.compact.ensures.stays c.compact.ensures.counts;
       };
       ready = quiet-ready (loom_told g.H.Host m) (loom_told g.H.Host (record m { parts = c.compact.new.p })) (quiet-of g c) c.requires.fit.ready;
       lender = refl;
       outside = refl;
+    }
+
+pub returns-clause-peek : goal.returns-clause-peek
+unfolding loom_told
+returns-clause-peek g c =
+    let m = c.args.self.now in
+    record {
+      gentle = record {
+        remains = purged-remains (core_of m.parts) (core_of c.compact.new.p) c.compact.ensures.purged;
+        read = read-refl g.H.Host m.disk.host.now;
+        cache = cache-same (core_of m.parts) (core_of c.compact.new.p) (found m.ledger.rows) m.ledger.mark m.ledger.begun c.requires.fit.sound.kept.parts.core c.compact.ensures.parts.core c.compact.ensures.marks c.requires.fit.sound.kept.cached;
+      };
+      fetches = fetched-same m _ refl;
     }

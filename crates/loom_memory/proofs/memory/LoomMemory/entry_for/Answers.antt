@@ -9,6 +9,10 @@ use Rattle.loom_memory.proofs.CalmLaws.{calm-kept}
 use Rattle.loom_memory.proofs.LastLaws.{told-still, leaf-keeps}
 use Rattle.loom_memory.proofs.LambdaLaws.{leaf-calm}
 use Rattle.loom_memory.proofs.KnownLaws.{entry-found, none-spent, none-same}
+use Rattle.loom_memory.proofs.ExactLaws.{exact-leaf}
+use Rattle.method_cache.specs.Found.{found}
+use Rattle.loom_memory.proofs.CacheLaws.{cache-same}
+use Rattle.loom_memory.proofs.GentleLaws.{steady-is}
 use Rattle.loom_memory.proofs.memory.LoomMemory.entry_for.Goals as goal
 
 pub returns-clause-told : goal.returns-clause-told
@@ -16,19 +20,22 @@ unfolding loom_told
 returns-clause-told g c =
     let m = c.args.self.now in
     let step = c.find_or_leaf.ensures.step in
-    let core = c.requires.kept.parts.core in
+    let core = c.requires.sound.kept.parts.core in
     let now = c.find_or_leaf.ensures.parts.core in
-    told-still g.H.Host m.disk.host.now m.disk.rest (core_of m.parts) (core_of c.find_or_leaf.new.p) m.regs m.pinned m.ledger (kept-rooted m.parts m.regs m.pinned m.ledger c.requires.kept) now c.requires.kept.cached
+    told-still g.H.Host m.disk.host.now m.disk.rest (core_of m.parts) (core_of c.find_or_leaf.new.p) m.regs m.pinned m.ledger (kept-rooted m.parts m.regs m.pinned m.ledger c.requires.sound.kept) now c.requires.sound.kept.cached
     (leaf-calm m.pinned (core_of m.parts) (core_of c.find_or_leaf.new.p) core now step) (leaf-keeps (core_of m.parts) (core_of c.find_or_leaf.new.p) core now step)
-    (λ told. (step.stays (disk_of g.H.Host m.disk.host.now m.disk.rest) (c.requires.over.backed told)).held)
+    (λ told. (step.stays (disk_of g.H.Host m.disk.host.now m.disk.rest) (c.requires.sound.over.backed told)).held)
 
 pub returns-clause-sound : goal.returns-clause-sound
+unfolding loom_told
 returns-clause-sound g c =
     let m = c.args.self.now in
     let step = c.find_or_leaf.ensures.step in
     record {
-      kept = calm-kept m.parts c.find_or_leaf.new.p m.regs m.pinned m.ledger c.requires.kept (leaf-calm m.pinned (core_of m.parts) (core_of c.find_or_leaf.new.p) c.requires.kept.parts.core c.find_or_leaf.ensures.parts.core step) c.find_or_leaf.ensures.parts (ref-tight (core_of m.parts) (core_of c.find_or_leaf.new.p) step.step c.requires.kept.tight) (ap size_of c.find_or_leaf.ensures.segment);
-      over = over-then g.H.Host m.disk.host.now m.disk.rest (core_of m.parts) (core_of c.find_or_leaf.new.p) m.ledger step.stays step.step c.requires.over;
+      kept = calm-kept m.parts c.find_or_leaf.new.p m.regs m.pinned m.ledger c.requires.sound.kept (leaf-calm m.pinned (core_of m.parts) (core_of c.find_or_leaf.new.p) c.requires.sound.kept.parts.core c.find_or_leaf.ensures.parts.core step) c.find_or_leaf.ensures.parts (ref-tight (core_of m.parts) (core_of c.find_or_leaf.new.p) step.step c.requires.sound.kept.tight) (ap size_of c.find_or_leaf.ensures.segment);
+      over = over-then g.H.Host m.disk.host.now m.disk.rest (core_of m.parts) (core_of c.find_or_leaf.new.p) m.ledger step.stays step.step c.requires.sound.over;
+      exact = exact-leaf g.H.Host c.find_or_leaf.result m.parts c.find_or_leaf.new.p m.disk.host.now m.disk.rest m.ledger.next c.args.name c.requires.sound.exact c.find_or_leaf.ensures.parts step c.find_or_leaf.ensures.found c.find_or_leaf.ensures.only
+          (none-same c.find_or_leaf.result (core_of m.parts) (core_of c.find_or_leaf.new.p) (spare_of m.parts) (spare_of c.find_or_leaf.new.p) c.args.name c.find_or_leaf.ensures.none c.find_or_leaf.ensures.few c.find_or_leaf.ensures.cost.0) c.requires.named;
     }
 
 pub returns-clause-found : goal.returns-clause-found
@@ -43,3 +50,12 @@ returns-clause-same g c = none-same c.find_or_leaf.result (core_of c.args.self.n
 pub returns-clause-outside : goal.returns-clause-outside
 unfolding loom_outside
 returns-clause-outside g c = refl
+
+pub returns-clause-steady : goal.returns-clause-steady
+unfolding loom_told
+returns-clause-steady g c =
+    let m = c.args.self.now in
+    let step = c.find_or_leaf.ensures.step in
+    let core = c.requires.sound.kept.parts.core in
+    let now = c.find_or_leaf.ensures.parts.core in
+    steady-is g.H.Host m _ step.step (cache-same (core_of m.parts) (core_of c.find_or_leaf.new.p) (found m.ledger.rows) m.ledger.mark m.ledger.begun core now (leaf-keeps (core_of m.parts) (core_of c.find_or_leaf.new.p) core now step) c.requires.sound.kept.cached) refl refl refl

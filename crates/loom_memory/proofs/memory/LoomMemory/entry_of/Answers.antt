@@ -1,10 +1,12 @@
-use Rattle.std.proofs.Common.{sym, subst}
+use Rattle.std.proofs.Common.{refl, sym, subst}
 use Rattle.std.specs.Result.{OnOk, IfErr}
-use Rattle.long_names.specs.Heap.{Has}
 use Rattle.object_memory.specs.Told.{Told, IsReady}
 use Rattle.loom_memory.specs.Memory.{loom_told, IsQuiet}
-use Rattle.loom_memory.specs.Known.{IsRefusedOf}
+use Rattle.loom_memory.specs.Known.{IsNameable, IsRefusedOf}
 use Rattle.loom_memory.proofs.KnownLaws.{quiet-still}
+use Rattle.leaf_lambda.specs.Parts.{spare_of}
+use Rattle.loom_memory.specs.Gentle.{IsSteady}
+use Rattle.loom_memory.proofs.GentleLaws.{none-wanting}
 use Rattle.loom_memory.proofs.memory.LoomMemory.entry_of.Goals as goal
 
 pub returns-in-Some-clause-quiet : goal.returns-in-Some-clause-quiet
@@ -13,11 +15,17 @@ returns-in-Some-clause-quiet g c = quiet-still g.H.Host c.args.self.now c.entry_
 pub free_entry-requires-clause-ready : goal.free_entry-requires-clause-ready
 free_entry-requires-clause-ready g c = subst (λ (t : Told). IsReady t) (sym c.entry_for.ensures.told) c.requires.ready
 
-pub free_entry-requires-clause-has : goal.free_entry-requires-clause-has
-free_entry-requires-clause-has g c = λ told. subst (λ (t : Told). Has t.heap c.args.name) (sym c.entry_for.ensures.told) (c.requires.has told)
+pub free_entry-requires-clause-named : goal.free_entry-requires-clause-named
+free_entry-requires-clause-named g c = λ told. subst (λ (t : Told). IsNameable t.heap c.args.name) (sym c.entry_for.ensures.told) (c.requires.named told)
 
 pub returns-in-None-clause-quiet : goal.returns-in-None-clause-quiet
 returns-in-None-clause-quiet g c = subst (λ (t : Told). OnOk c.free_entry.result (IsQuiet t (loom_told g.H.Host c.free_entry.new.self))) c.entry_for.ensures.told c.free_entry.ensures.quiet
 
 pub returns-in-None-clause-err : goal.returns-in-None-clause-err
 returns-in-None-clause-err g c = subst (λ (t : Told). IfErr c.free_entry.result (IsRefusedOf t (loom_told g.H.Host c.free_entry.new.self) c.args.name)) c.entry_for.ensures.told c.free_entry.ensures.err
+
+pub returns-in-Some-clause-steady : goal.returns-in-Some-clause-steady
+returns-in-Some-clause-steady g c = λ room. c.entry_for.ensures.steady
+
+pub returns-in-None-clause-steady : goal.returns-in-None-clause-steady
+returns-in-None-clause-steady g c = none-wanting (IsSteady g.H.Host c.args.self.now c.free_entry.new.self) c.free_entry.result c.args.self.now.parts (spare_of c.args.self.now.parts) refl c.in-None.ensures.none.none

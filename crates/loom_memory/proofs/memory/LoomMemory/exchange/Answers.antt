@@ -17,6 +17,7 @@ use Rattle.loom_memory.proofs.BringLaws.{IsNamed}
 use Rattle.loom_memory.proofs.CalmLaws.{work-outside}
 use Rattle.loom_memory.proofs.CallLaws.{purge-refused}
 use Rattle.loom_memory.proofs.SwapLaws.{named-now, record-there, both-held, swapped-is, swapped-over, either-purge, swaps-as}
+use Rattle.loom_memory.proofs.OwingLaws.{exact-swapped}
 use Rattle.loom_memory.proofs.memory.LoomMemory.exchange.Goals as goal
 
 first-short : {H : Type 0} (host : Ghosts H) (m : LoomMemory H) (of i : ℕ) → IsSound host m → IsReady (loom_told host m) → IsRef ((loom_told host m).regs of) → i ≡ of → i < 24 → IsNamed host m m of (slice_index_or m.regs i 0)
@@ -77,6 +78,12 @@ returns-in-Ok-clause-sound g c =
       over = swapped-over g.H.Host m c.swap.new.self.host.now c.swap.new.self.rest (slice_index_or m.regs c.index.result 0) (slice_index_or m.regs c.index-2.result 0) c.requires.sound one.used two.used
           (away-of g.H.Host m c.args.a c.index.result c.requires.sound c.requires.away.0 c.index.ensures.same c.index.ensures.within) (away-of g.H.Host m c.args.b c.index-2.result c.requires.sound c.requires.away.1 c.index-2.ensures.same c.index-2.ensures.within)
           c.swap.ensures.room c.swap.ensures.held (swaps-as g.H.Host m.disk.host.now c.swap.new.self.host.now m.disk.rest c.swap.new.self.rest _ _ c.entry-first.result.name c.entry-second.result.name (ap (λ (e : Entry). e.name) c.entry-first.ensures) (ap (λ (e : Entry). e.name) c.entry-second.ensures) c.in-Ok.ensures.exchanged);
+      exact = exact-swapped g.H.Host m.parts m.disk.host.now c.swap.new.self.host.now m.disk.rest c.swap.new.self.rest m.ledger.next (slice_index_or m.regs c.index.result 0) (slice_index_or m.regs c.index-2.result 0) c.entry-first.result.name c.entry-second.result.name c.requires.sound.exact one.used two.used
+          (away-of g.H.Host m c.args.a c.index.result c.requires.sound c.requires.away.0 c.index.ensures.same c.index.ensures.within) (away-of g.H.Host m c.args.b c.index-2.result c.requires.sound c.requires.away.1 c.index-2.ensures.same c.index-2.ensures.within)
+          (ap (λ (e : Entry). e.name) c.entry-first.ensures) (ap (λ (e : Entry). e.name) c.entry-second.ensures)
+          (λ told. ap (λ (n : ℕ). is_some (disk_of g.H.Host m.disk.host.now m.disk.rest n)) (ap (λ (e : Entry). e.name) c.entry-first.ensures) ∙ there g.H.Host m c.args.a c.index.result c.requires.sound c.requires.ready c.requires.names.0 c.requires.away.0 c.index.ensures.same c.index.ensures.within told)
+          (λ told. ap (λ (n : ℕ). is_some (disk_of g.H.Host m.disk.host.now m.disk.rest n)) (ap (λ (e : Entry). e.name) c.entry-second.ensures) ∙ there g.H.Host m c.args.b c.index-2.result c.requires.sound c.requires.ready c.requires.names.1 c.requires.away.1 c.index-2.ensures.same c.index-2.ensures.within told)
+          c.in-Ok.ensures.swapped;
     }
 
 pub returns-in-Ok-clause-outside : goal.returns-in-Ok-clause-outside

@@ -1,31 +1,65 @@
-use Rattle.std.proofs.Common.{refl, ◌∙◌}
-use Rattle.long_names.specs.Access.{Field, Nothing}
-use Rattle.loom_memory.specs.Memory.{loom_told}
-use Rattle.loom_memory.proofs.AccessLaws.{refused-is, quiet-ready}
-use Rattle.loom_memory.proofs.LastLaws.{field-last, can-still, field-ready}
+use Rattle.std.proofs.Common.{◌≡◌, [], Some, Ok, IsTrue, refl, sym, ap}
+use Rattle.long_names.specs.Access.{Field, brought}
+use Rattle.long_names.specs.State.{name_at}
+use Rattle.loom_outside.specs.declared.outside.Role.TheVariants.{Work}
+use Rattle.object_memory.specs.Told.{Told}
+use Rattle.core_view.specs.Words.{meant}
+use Rattle.disk_objects.specs.Function.{disk_of}
+use Rattle.leaf_lambda.specs.Parts.{core_of}
+use Rattle.loom_memory.specs.Memory.{loom_told, IsTaken}
+use Rattle.loom_memory.proofs.BringLaws.{quiet-same}
+use Rattle.loom_memory.proofs.FieldLaws.{told-bounds, word-live, taken-is}
+use Rattle.loom_memory.proofs.LastLaws.{field-last, field-ready}
+use Rattle.loom_memory.proofs.LoadLaws.{field-told}
+use Rattle.loom_memory.proofs.GentleLaws.{here-sparing, steady-sparing, not-at-hand, leaf-no-hand, here-searched, peek-searched, steady-peek}
 use Rattle.loom_memory.proofs.memory.LoomMemory.field.Goals as goal
+use Rattle.loom_memory.proofs.memory.LoomMemory.field.Given as given
 
-pub take_field-requires-clause-ready : goal.take_field-requires-clause-ready
-take_field-requires-clause-ready g c = quiet-ready (loom_told g.H.Host c.args.self.now) (loom_told g.H.Host c.load.new.self) c.in-Ok.ensures.quiet c.requires.fit.ready
+pub word_in_body-requires-clause-there : goal.word_in_body-requires-clause-there
+word_in_body-requires-clause-there g c = (c.in-Some.ensures.loaded.at, c.in-Some.ensures.loaded.place)
 
-pub take_field-requires-clause-may : goal.take_field-requires-clause-may
+pub put_word-requires-clause-used : goal.put_word-requires-clause-used
+put_word-requires-clause-used g c = λ is. let at = c.in-Some-word_in_body.ensures.word in word-live (core_of c.args.self.now.parts) c.in-Some.s.0 at.0 c.args.i c.in-Some-word_in_body.w c.requires.fit.sound.kept.parts.core at.1 is
+
+pub put_word-requires-clause-some : goal.put_word-requires-clause-some
+put_word-requires-clause-some g c = c.in-Some-word_in_body.ensures.word.2
+
+brings : (g : given.Over) (c : goal.After-put_word g) → IsTrue (loom_told g.H.Host c.args.self.now).tells → brought (loom_told g.H.Host c.args.self.now).heap (loom_told g.H.Host c.args.self.now).regs (Field c.args.to c.args.of c.args.i) ≡ Some (meant (core_of c.args.self.now.parts).entries [] 0 c.in-Some-word_in_body.w)
 unfolding loom_told
-take_field-requires-clause-may g c = λ told. can-still (loom_told g.H.Host c.args.self.now) (loom_told g.H.Host c.load.new.self) (Field c.args.to c.args.of c.args.i) c.in-Ok.ensures.quiet (c.requires.may.heap told)
+brings g c = λ told.
+    let m = c.args.self.now in
+    let at = c.in-Some-word_in_body.ensures.word in
+    field-told (g.H.Host.tells Work) (core_of m.parts) (disk_of g.H.Host m.disk.host.now m.disk.rest) m.ledger.next c.in-Some.s.0 at.0 c.args.to c.args.of c.args.i c.in-Some-word_in_body.w (loom_told g.H.Host m).regs told c.requires.fit.sound.kept.parts.core at.1 at.2 (ap (meant (core_of m.parts).entries [] 0) (sym c.in-Some.ensures.word))
 
-pub take_field-requires-clause-there : goal.take_field-requires-clause-there
-take_field-requires-clause-there g c = (c.in-Ok.ensures.loaded.at, c.in-Ok.ensures.loaded.place)
+taken-of : (g : given.Over) (c : goal.After-put_word g) → IsTaken (loom_told g.H.Host c.args.self.now) (loom_told g.H.Host c.put_word.new.self) c.args.to c.args.of c.args.i
+taken-of g c = let b = told-bounds g.H.Host c.args.self.now in taken-is (loom_told g.H.Host c.args.self.now) (loom_told g.H.Host c.put_word.new.self) c.args.to c.args.of c.args.i (meant (core_of c.args.self.now.parts).entries [] 0 c.in-Some-word_in_body.w) b.0 b.1 c.put_word.ensures.told (brings g c)
 
-pub returns-in-Ok-clause-access : goal.returns-in-Ok-clause-access
-returns-in-Ok-clause-access g c = field-last c.take_field.result (loom_told g.H.Host c.args.self.now) (loom_told g.H.Host c.load.new.self) (loom_told g.H.Host c.take_field.new.self) c.args.to c.args.of c.args.i c.in-Ok.ensures.quiet c.take_field.ensures.taken c.take_field.ensures.err (c.in-Ok.ensures.core (Field c.args.to c.args.of c.args.i) refl refl)
+pub returns-in-Some-word_in_body-clause-access : goal.returns-in-Some-word_in_body-clause-access
+returns-in-Some-word_in_body-clause-access g c = let m = c.args.self.now in field-last (Ok tt) (loom_told g.H.Host m) (loom_told g.H.Host m) (loom_told g.H.Host c.put_word.new.self) c.args.to c.args.of c.args.i (quiet-same g.H.Host m) (taken-of g c) tt (c.in-Some.ensures.core (Field c.args.to c.args.of c.args.i) refl refl)
 
-pub returns-in-Err-clause-access : goal.returns-in-Err-clause-access
-returns-in-Err-clause-access g c = refused-is (loom_told g.H.Host c.args.self.now) (loom_told g.H.Host c.load.new.self) (Field c.args.to c.args.of c.args.i) (λ _. Nothing) c.in-Err.f (c.in-Err.ensures.err (Field c.args.to c.args.of c.args.i) refl refl tt)
-
-pub returns-in-Ok-clause-fit : goal.returns-in-Ok-clause-fit
-unfolding loom_told
-returns-in-Ok-clause-fit g c = record {
-  sound = c.take_field.ensures.sound;
-  ready = field-ready c.take_field.result (loom_told g.H.Host c.load.new.self) (loom_told g.H.Host c.take_field.new.self) c.args.to c.args.of c.args.i (quiet-ready (loom_told g.H.Host c.args.self.now) (loom_told g.H.Host c.load.new.self) c.in-Ok.ensures.quiet c.requires.fit.ready) c.take_field.ensures.taken (λ told. can-still (loom_told g.H.Host c.args.self.now) (loom_told g.H.Host c.load.new.self) (Field c.args.to c.args.of c.args.i) c.in-Ok.ensures.quiet (c.requires.may.heap told));
-  lender = c.take_field.ensures.lender ∙ c.in-Ok.ensures.lender;
-  outside = c.take_field.ensures.outside ∙ c.in-Ok.ensures.outside;
+pub returns-in-Some-word_in_body-clause-fit : goal.returns-in-Some-word_in_body-clause-fit
+returns-in-Some-word_in_body-clause-fit g c = record {
+  sound = c.put_word.ensures.sound;
+  ready = field-ready (Ok tt) (loom_told g.H.Host c.args.self.now) (loom_told g.H.Host c.put_word.new.self) c.args.to c.args.of c.args.i c.requires.fit.ready (taken-of g c) c.requires.may.heap;
+  lender = c.put_word.ensures.lender;
+  outside = c.put_word.ensures.outside;
 }
+
+pub returns-in-Some-word_in_body-clause-own : goal.returns-in-Some-word_in_body-clause-own
+returns-in-Some-word_in_body-clause-own g c = λ hand.
+    let m = c.args.self.now in
+    let n = name_at ((loom_told g.H.Host m).regs c.args.of) in
+    steady-sparing g.H.Host m m c.put_word.new.self n c.in-Some.s _ (here-sparing g.H.Host m n c.in-Some.s c.in-Some.ensures.there c.in-Some.ensures.bounded) c.put_word.ensures.steady c.requires.fit.sound.kept.parts.core c.put_word.ensures.sound.kept.parts.core (ap (λ (t : Told). t.bounds) c.put_word.ensures.told)
+
+pub returns-in-None-word_in_body-clause-own : goal.returns-in-None-word_in_body-clause-own
+returns-in-None-word_in_body-clause-own g c = λ hand. absurd (not-at-hand g.H.Host c.args.self.now c.args.of c.in-Some.s.0 c.args.i c.requires.fit.sound c.requires.may.names c.in-Some.ensures.word c.in-None-word_in_body.ensures.none hand)
+
+pub returns-in-None-clause-own : goal.returns-in-None-clause-own
+returns-in-None-clause-own g c = λ hand. absurd (leaf-no-hand g.H.Host c.args.self.now c.args.of c.args.i c.requires.fit.sound c.requires.may.names c.in-None.ensures.leaf hand)
+
+pub returns-in-Some-word_in_body-clause-searched : goal.returns-in-Some-word_in_body-clause-searched
+returns-in-Some-word_in_body-clause-searched g c =
+    let m = c.args.self.now in
+    let v = c.put_word.new.self in
+    let n = name_at ((loom_told g.H.Host m).regs c.args.of) in
+    peek-searched g.H.Host m m v n (here-searched g.H.Host m n c.in-Some.ensures.there) (steady-peek g.H.Host m v c.put_word.ensures.steady) c.requires.fit.sound.kept.parts.core c.put_word.ensures.sound.kept.parts.core

@@ -4,9 +4,13 @@ use Rattle.long_names.specs.Heap.{Has}
 use Rattle.object_memory.specs.Told.{Told}
 use Rattle.leaf_lambda.specs.Parts.{core_of, spare_of}
 use Rattle.loom_memory.specs.Memory.{loom_told, IsQuiet}
+use Rattle.loom_memory.specs.Known.{IsNameable}
 use Rattle.loom_memory.proofs.AccessLaws.{quiet-ready}
 use Rattle.loom_memory.proofs.KnownLaws.{spent-then, bare-by, bare-then, refused-of}
 use Rattle.loom_memory.proofs.memory.LoomMemory.free_entry.Goals as goal
+
+pub entry_for-requires-clause-named : goal.entry_for-requires-clause-named
+entry_for-requires-clause-named g c = λ told. subst (λ (t : Told). IsNameable t.heap c.args.name) (sym c.in-Ok.ensures.quiet.same) (c.requires.named told)
 
 pub returns-in-Some-clause-quiet : goal.returns-in-Some-clause-quiet
 returns-in-Some-clause-quiet g c = subst (λ (t : Told). IsQuiet (loom_told g.H.Host c.args.self.now) t) (sym c.entry_for.ensures.told) c.in-Ok.ensures.quiet
@@ -17,7 +21,7 @@ lack-requires-clause-ready g c = quiet-ready (loom_told g.H.Host c.args.self.now
 pub lack-requires-clause-has : goal.lack-requires-clause-has
 lack-requires-clause-has g c = λ told.
     let quiet = subst (λ (t : Told). IsQuiet (loom_told g.H.Host c.args.self.now) t) (sym c.entry_for.ensures.told) c.in-Ok.ensures.quiet in
-    subst (λ (t : Told). Has t.heap c.args.name) (sym quiet.same) (c.requires.has told)
+    subst (λ (t : Told). Has t.heap c.args.name) (sym quiet.same) (c.requires.named told).0
 
 pub lack-requires-clause-spent : goal.lack-requires-clause-spent
 lack-requires-clause-spent g c = spent-then (core_of c.clear.new.self.parts) (core_of c.entry_for.new.self.parts) (spare_of c.clear.new.self.parts) (spare_of c.entry_for.new.self.parts) c.args.name c.in-None.ensures.none c.in-None.ensures.same.0 c.in-None.ensures.same.1

@@ -1,4 +1,4 @@
-use Rattle.std.proofs.Common.{ℤ, ◌≡◌, Option, Some, None, length, refl, sym, ◌∙◌, ap, subst}
+use Rattle.std.proofs.Common.{ℤ, ◌≡◌, Option, Some, None, length, refl, sym, ◌∙◌, ap, subst, IsTrue}
 use Rattle.long_names.specs.Words.{literal_count}
 use Rattle.long_names.specs.declared.object.Body.{Body}
 use Rattle.long_names.specs.Objects.{header_of, fields_of}
@@ -12,6 +12,8 @@ use Rattle.loom_memory.proofs.AccessLaws.{quiet-ready, refused-is}
 use Rattle.loom_memory.proofs.FieldLaws.{told-tells}
 use Rattle.loom_memory.proofs.BodyLaws.{method-literals, part-told, part-here, part-still}
 use Rattle.loom_memory.proofs.ReadLaws.{read-answered}
+use Rattle.long_names.specs.State.{name_at}
+use Rattle.loom_memory.proofs.GentleLaws.{amiss-sparing, sparing-ok, sparing-err}
 use Rattle.loom_memory.proofs.memory.LoomMemory.header.Goals as goal
 use Rattle.loom_memory.proofs.memory.LoomMemory.header.Given as given
 use Rattle.std.proofs.Common.{Ok, IfSome}
@@ -52,17 +54,21 @@ returns-in-Some-clause-literals g c = λ told.
     (ap Some (method-literals (core_of n.parts).entries (fields_there (disk_of g.H.Host n.disk.host.now n.disk.rest e.name)) ((core_of n.parts).chunks there.at).words e.kind e.len c.in-Some.header (c.in-Ok.ensures.sound.kept.parts.core.long c.in-Ok.s.0 there.at there.place)
     (sym (sym c.in-Some.is ∙ c.header_at.ensures.header (disk_of g.H.Host n.disk.host.now n.disk.rest) there.at there.place)))) ∙ ap (λ (z : ℤ). Some (literal_count z)) (sym (number-of g c))
 
-pub returns-in-None-clause-access : goal.returns-in-None-clause-access
-returns-in-None-clause-access g c =
+untold : (g : given.Over) (c : goal.After-amiss g) → IsTrue (loom_told g.H.Host c.args.self.now).tells → ⊥
+untold g c told =
     let t = loom_told g.H.Host c.args.self.now in
     let n = c.load.new.self in
     let there = c.in-Ok.ensures.loaded in
     let o = object_at (core_of n.parts) (disk_of g.H.Host n.disk.host.now n.disk.rest) ((core_of n.parts).entries c.in-Ok.s.0) there.at in
-    refused-is t (loom_told g.H.Host c.amiss.new.self) (Header c.args.of) OfSigned c.amiss.result
-    (c.amiss.ensures.err t (Header c.args.of) c.in-Ok.ensures.quiet c.requires.fit.ready tt refl
-    (λ told. let can = c.requires.may.heap told in
+    let can = c.requires.may.heap told in
     let there_ : Some can.0 ≡ None = sym (part-still t (loom_told g.H.Host n) c.args.of o header_of (Some can.0) c.in-Ok.ensures.quiet (there.object (told-tells g.H.Host c.args.self.now told)) can.1)
-    ∙ sym (c.header_at.ensures.header (disk_of g.H.Host n.disk.host.now n.disk.rest) there.at there.place) ∙ c.in-None.is in cc))
+    ∙ sym (c.header_at.ensures.header (disk_of g.H.Host n.disk.host.now n.disk.rest) there.at there.place) ∙ c.in-None.is in cc
+
+pub returns-in-None-clause-access : goal.returns-in-None-clause-access
+returns-in-None-clause-access g c =
+    let t = loom_told g.H.Host c.args.self.now in
+    refused-is t (loom_told g.H.Host c.amiss.new.self) (Header c.args.of) OfSigned c.amiss.result
+    (c.amiss.ensures.err t (Header c.args.of) c.in-Ok.ensures.quiet c.requires.fit.ready tt refl (untold g c))
 
 pub returns-in-Err-clause-access : goal.returns-in-Err-clause-access
 returns-in-Err-clause-access g c = refused-is (loom_told g.H.Host c.args.self.now) (loom_told g.H.Host c.load.new.self) (Header c.args.of) OfSigned c.in-Err.f (c.in-Err.ensures.err (Header c.args.of) refl refl tt)
@@ -74,3 +80,12 @@ returns-in-Some-clause-fit g c = record {
   lender = c.in-Ok.ensures.lender;
   outside = c.in-Ok.ensures.outside;
 }
+
+pub returns-in-Some-clause-own : goal.returns-in-Some-clause-own
+returns-in-Some-clause-own g c = sparing-ok g.H.Host c.args.self.now c.load.new.self (name_at ((loom_told g.H.Host c.args.self.now).regs c.args.of)) c.in-Ok.s _ c.in-Ok.ensures.own
+
+pub returns-in-None-clause-own : goal.returns-in-None-clause-own
+returns-in-None-clause-own g c = amiss-sparing g.H.Host c.args.self.now c.amiss.new.self (name_at ((loom_told g.H.Host c.args.self.now).regs c.args.of)) c.amiss.result (untold g c)
+
+pub returns-in-Err-clause-own : goal.returns-in-Err-clause-own
+returns-in-Err-clause-own g c = sparing-err g.H.Host c.args.self.now c.load.new.self (name_at ((loom_told g.H.Host c.args.self.now).regs c.args.of)) c.in-Err.f c.in-Err.ensures.own

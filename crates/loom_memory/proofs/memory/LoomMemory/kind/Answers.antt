@@ -14,6 +14,8 @@ use Rattle.loom_memory.proofs.AccessLaws.{quiet-ready, refused-is}
 use Rattle.loom_memory.proofs.FieldLaws.{told-tells}
 use Rattle.loom_memory.proofs.LoadLaws.{kind-is}
 use Rattle.loom_memory.proofs.ReadLaws.{read-answered}
+use Rattle.loom_memory.proofs.GentleLaws.{sparing-ok, sparing-err}
+use Rattle.long_names.specs.State.{name_at}
 use Rattle.loom_memory.proofs.memory.LoomMemory.kind.Goals as goal
 use Rattle.loom_memory.proofs.memory.LoomMemory.kind.Given as given
 
@@ -48,3 +50,9 @@ returns-in-Ok-clause-fit g c = record {
   lender = c.in-Ok.ensures.lender;
   outside = c.in-Ok.ensures.outside;
 }
+
+pub returns-in-Ok-clause-own : goal.returns-in-Ok-clause-own
+returns-in-Ok-clause-own g c = sparing-ok g.H.Host c.args.self.now c.load.new.self (name_at ((loom_told g.H.Host c.args.self.now).regs c.args.of)) c.in-Ok.s _ c.in-Ok.ensures.own
+
+pub returns-in-Err-clause-own : goal.returns-in-Err-clause-own
+returns-in-Err-clause-own g c = sparing-err g.H.Host c.args.self.now c.load.new.self (name_at ((loom_told g.H.Host c.args.self.now).regs c.args.of)) c.in-Err.f c.in-Err.ensures.own

@@ -2,9 +2,9 @@ use Rattle.loom_memory.specs.Memory.{loom_told}
 use Rattle.loom_memory.proofs.KnownLaws.{known-access, name-came, ready-named}
 use Rattle.loom_memory.proofs.memory.LoomMemory.known.Goals as goal
 
-pub put_name-requires-clause-has : goal.put_name-requires-clause-has
+pub put_name-requires-clause-named : goal.put_name-requires-clause-named
 unfolding loom_told
-put_name-requires-clause-has g c = λ told. (c.requires.may.heap told).0
+put_name-requires-clause-named g c = λ told. c.requires.may.heap told
 
 pub returns-clause-access : goal.returns-clause-access
 returns-clause-access g c = known-access c.put_name.result (loom_told g.H.Host c.args.self.now) (loom_told g.H.Host c.put_name.new.self) c.args.to c.args.name c.put_name.ensures.naming c.put_name.ensures.err

@@ -1,89 +1,22 @@
-use Rattle.std.specs.List.{slice_index_or}
-use Rattle.std.proofs.Common.{◌≡◌, ℕ, List, [], refl, sym, ◌∙◌, ap, arith}
-use Rattle.leaf_lambda.specs.Parts.{core_of}
-use Rattle.loom_memory.specs.Memory.{loom_told, word_in}
-use Rattle.loom_memory.proofs.RegLaws.{word-is}
-use Rattle.loom_memory.proofs.AccessLaws.{quiet-ready, quiet-trans}
-use Rattle.loom_memory.proofs.CallLaws.{refused-at}
-use Rattle.loom_memory.proofs.BringLaws.{named-then}
-use Rattle.loom_outside.specs.declared.outside.Role.TheVariants.{Work}
-use Rattle.core_segment.specs.Segment.{chunk_at, chunks_of, free_of, size_of}
-use Rattle.core_view.specs.Words.{meant}
-use Rattle.disk_objects.specs.Function.{disk_of}
-use Rattle.loom_memory.proofs.FieldLaws.{told-bounds}
-use Rattle.loom_memory.proofs.LoadLaws.{body-fits, object-loaded, named-words}
-use Rattle.loom_memory.proofs.ReadLaws.{core-has}
+use Rattle.std.proofs.Common.{◌≡◌, true, false, sym, ◌∙◌}
+use Rattle.long_names.specs.State.{name_at}
+use Rattle.loom_memory.specs.Memory.{loom_told}
+use Rattle.loom_memory.proofs.BringLaws.{quiet-same}
+use Rattle.loom_memory.proofs.GentleLaws.{here-sparing, come-sparing}
 use Rattle.loom_memory.proofs.memory.LoomMemory.load.Goals as goal
-use Rattle.loom_memory.proofs.memory.LoomMemory.load.Given as given
 
-pub bring-requires-clause-ready : goal.bring-requires-clause-ready
-bring-requires-clause-ready g c = quiet-ready (loom_told g.H.Host c.args.self.now) (loom_told g.H.Host c.clear.new.self) c.in-Ok.ensures.quiet c.requires.ready
+pub returns-in-Some-clause-quiet : goal.returns-in-Some-clause-quiet
+returns-in-Some-clause-quiet g c = quiet-same g.H.Host c.args.self.now
 
-pub bring-requires-clause-out : goal.bring-requires-clause-out
-bring-requires-clause-out g c = (named-then g.H.Host c.args.self.now c.clear.new.self c.args.of (slice_index_or c.args.self.now.regs c.index.result 0) c.requires.sound c.in-Ok.ensures.sound.kept.parts.core (quiet-ready (loom_told g.H.Host c.args.self.now) (loom_told g.H.Host c.clear.new.self) c.in-Ok.ensures.quiet c.requires.ready) c.requires.name
-    (word-is c.args.self.now.regs c.index.result c.args.of c.index.ensures.same c.index.ensures.within c.requires.sound.kept.many) c.in-Ok.ensures.calm c.in-Ok.ensures.quiet).out
+pub returns-in-Some-clause-own : goal.returns-in-Some-clause-own
+returns-in-Some-clause-own g c = here-sparing g.H.Host c.args.self.now (name_at ((loom_told g.H.Host c.args.self.now).regs c.args.of)) _ c.in-Some.ensures.there c.in-Some.ensures.bounded
 
-pub bring-requires-clause-has : goal.bring-requires-clause-has
-bring-requires-clause-has g c = (named-then g.H.Host c.args.self.now c.clear.new.self c.args.of (slice_index_or c.args.self.now.regs c.index.result 0) c.requires.sound c.in-Ok.ensures.sound.kept.parts.core (quiet-ready (loom_told g.H.Host c.args.self.now) (loom_told g.H.Host c.clear.new.self) c.in-Ok.ensures.quiet c.requires.ready) c.requires.name
-    (word-is c.args.self.now.regs c.index.result c.args.of c.index.ensures.same c.index.ensures.within c.requires.sound.kept.many) c.in-Ok.ensures.calm c.in-Ok.ensures.quiet).has
+pub returns-in-None-clause-idle : goal.returns-in-None-clause-idle
+returns-in-None-clause-idle g c = λ here. absurd (let both : true ≡ false = sym here ∙ c.in-None.ensures.away in cc)
 
-pub want-requires-clause-used : goal.want-requires-clause-used
-want-requires-clause-used g c = (named-then g.H.Host c.args.self.now c.clear.new.self c.args.of (slice_index_or c.args.self.now.regs c.index.result 0) c.requires.sound c.in-Ok.ensures.sound.kept.parts.core (quiet-ready (loom_told g.H.Host c.args.self.now) (loom_told g.H.Host c.clear.new.self) c.in-Ok.ensures.quiet c.requires.ready) c.requires.name
-    (word-is c.args.self.now.regs c.index.result c.args.of c.index.ensures.same c.index.ensures.within c.requires.sound.kept.many) c.in-Ok.ensures.calm c.in-Ok.ensures.quiet).used
-
-pub want-requires-clause-has : goal.want-requires-clause-has
-want-requires-clause-has g c = (named-then g.H.Host c.args.self.now c.clear.new.self c.args.of (slice_index_or c.args.self.now.regs c.index.result 0) c.requires.sound c.in-Ok.ensures.sound.kept.parts.core (quiet-ready (loom_told g.H.Host c.args.self.now) (loom_told g.H.Host c.clear.new.self) c.in-Ok.ensures.quiet c.requires.ready) c.requires.name
-    (word-is c.args.self.now.regs c.index.result c.args.of c.index.ensures.same c.index.ensures.within c.requires.sound.kept.many) c.in-Ok.ensures.calm c.in-Ok.ensures.quiet).has
-
-pub returns-in-Err-clause-err : goal.returns-in-Err-clause-err
-returns-in-Err-clause-err g c = λ a target none silent. c.in-Err.ensures.err a silent none
-
-pub returns-in-Err-bring-clause-err : goal.returns-in-Err-bring-clause-err
-returns-in-Err-bring-clause-err g c = λ a target none silent.
-    refused-at (loom_told g.H.Host c.args.self.now) (loom_told g.H.Host c.clear.new.self) (loom_told g.H.Host c.bring.new.self) ((core_of c.clear.new.self.parts).entries (slice_index_or c.args.self.now.regs c.index.result 0)).name c.in-Err-bring.f c.in-Ok.ensures.quiet c.in-Err-bring.ensures.err a c.args.of target
-    (named-then g.H.Host c.args.self.now c.clear.new.self c.args.of (slice_index_or c.args.self.now.regs c.index.result 0) c.requires.sound c.in-Ok.ensures.sound.kept.parts.core (quiet-ready (loom_told g.H.Host c.args.self.now) (loom_told g.H.Host c.clear.new.self) c.in-Ok.ensures.quiet c.requires.ready) c.requires.name
-    (word-is c.args.self.now.regs c.index.result c.args.of c.index.ensures.same c.index.ensures.within c.requires.sound.kept.many) c.in-Ok.ensures.calm c.in-Ok.ensures.quiet).name silent none
-
-pub returns-else-enough-clause-err : goal.returns-else-enough-clause-err
-returns-else-enough-clause-err g c = λ a target none silent.
-    refused-at (loom_told g.H.Host c.args.self.now) (loom_told g.H.Host c.clear.new.self) (loom_told g.H.Host c.want.new.self) ((core_of c.clear.new.self.parts).entries (slice_index_or c.args.self.now.regs c.index.result 0)).name c.want.result c.in-Ok.ensures.quiet c.want.ensures.err a c.args.of target
-    (named-then g.H.Host c.args.self.now c.clear.new.self c.args.of (slice_index_or c.args.self.now.regs c.index.result 0) c.requires.sound c.in-Ok.ensures.sound.kept.parts.core (quiet-ready (loom_told g.H.Host c.args.self.now) (loom_told g.H.Host c.clear.new.self) c.in-Ok.ensures.quiet c.requires.ready) c.requires.name
-    (word-is c.args.self.now.regs c.index.result c.args.of c.index.ensures.same c.index.ensures.within c.requires.sound.kept.many) c.in-Ok.ensures.calm c.in-Ok.ensures.quiet).name silent none
-
-pub returns-in-Ok-bring-clause-quiet : goal.returns-in-Ok-bring-clause-quiet
-returns-in-Ok-bring-clause-quiet g c = quiet-trans (loom_told g.H.Host c.args.self.now) (loom_told g.H.Host c.clear.new.self) (loom_told g.H.Host c.bring.new.self) c.in-Ok.ensures.quiet c.in-Ok-bring.ensures.quiet
-
-pub want-requires-clause-ready : goal.want-requires-clause-ready
-want-requires-clause-ready g c = quiet-ready (loom_told g.H.Host c.args.self.now) (loom_told g.H.Host c.clear.new.self) c.in-Ok.ensures.quiet c.requires.ready
-
-register-is : (g : given.Over) (c : goal.After-chunks_never_overlap g) → (loom_told g.H.Host c.bring.new.self).regs c.args.of ≡ meant (core_of c.bring.new.self.parts).entries [] 0 (slice_index_or c.args.self.now.regs c.index.result 0)
-unfolding loom_told
-register-is g c = ap (meant (core_of c.bring.new.self.parts).entries [] 0) (ap (λ (regs : List ℕ). word_in regs c.args.of) (c.in-Ok-bring.ensures.regs ∙ c.in-Ok.ensures.regs) ∙ sym (word-is c.args.self.now.regs c.index.result c.args.of c.index.ensures.same c.index.ensures.within c.requires.sound.kept.many))
-
-pub returns-in-Ok-bring-clause-loaded : goal.returns-in-Ok-bring-clause-loaded
-unfolding loom_told
-returns-in-Ok-bring-clause-loaded g c =
-    let n = c.bring.new.self in
-    let there = c.in-Ok-bring.ensures.there in
-    record {
-      at = there.0;
-      place = there.1;
-      object = λ told. object-loaded (g.H.Host.tells Work) (core_of n.parts) (disk_of g.H.Host n.disk.host.now n.disk.rest) n.ledger.next (slice_index_or c.args.self.now.regs c.index.result 0) there.0 ((loom_told g.H.Host n).regs c.args.of) told c.in-Ok-bring.ensures.sound.kept.parts.core there.1 (register-is g c);
-    }
-
-pub returns-in-Ok-bring-clause-core : goal.returns-in-Ok-bring-clause-core
-unfolding loom_told core_of chunk_at
-returns-in-Ok-bring-clause-core g c =
+pub returns-in-None-clause-own : goal.returns-in-None-clause-own
+returns-in-None-clause-own g c =
     let m = c.args.self.now in
-    let n = c.bring.new.self in
-    let s = slice_index_or m.regs c.index.result 0 in
-    let there = c.in-Ok-bring.ensures.there in
-    let quiet = quiet-trans (loom_told g.H.Host m) (loom_told g.H.Host c.clear.new.self) (loom_told g.H.Host n) c.in-Ok.ensures.quiet c.in-Ok-bring.ensures.quiet in
-    core-has (loom_told g.H.Host m) (loom_told g.H.Host n) (told-bounds g.H.Host m).0 c.args.of quiet (told-bounds g.H.Host m).1
-    (λ told.
-    let words = named-words (g.H.Host.tells Work) (core_of n.parts) (disk_of g.H.Host n.disk.host.now n.disk.rest) n.ledger.next s there.0 ((loom_told g.H.Host n).regs c.args.of) told c.in-Ok-bring.ensures.sound.kept.parts.core there.1 (register-is g c) in
-    let most = body-fits (core_of n.parts) (chunks_of n.parts.segment) (free_of n.parts.segment) (size_of n.parts.segment) s there.0 c.in-Ok-bring.ensures.sound.kept.parts.core refl c.chunks_never_overlap.ensures there.1 in
-    let size = c.in-Ok-bring.ensures.sound.kept.size in
-    let same = quiet.bounds.0 in
-    let core = (told-bounds g.H.Host m).2 in
-    omega (arith, words, most, size, same, core))
+    let r = c.load_with_room.result in
+    let all = c.load_with_room.ensures in
+    come-sparing r g.H.Host m c.load_with_room.new.self (name_at ((loom_told g.H.Host m).regs c.args.of)) c.requires.sound.kept.parts.core all.sound c.in-None.ensures.away c.in-None.ensures.leaf all.there all.bounded all.counted all.gentle

@@ -7,9 +7,11 @@ use Rattle.leaf_lambda.proofs.RecordLaws.{unresolved-words}
 use Rattle.disk_objects.specs.Function.{disk_of}
 use Rattle.loom_memory.specs.Memory.{loom_told, loom_outside, told_of}
 use Rattle.purger.proofs.EvictLaws.{not-fetched, was-fetched}
-use Rattle.loom_memory.proofs.CalmLaws.{work-outside}
+use Rattle.loom_memory.proofs.ExactLaws.{exact-read}
+use Rattle.loom_memory.proofs.CalmLaws.{read-over, work-outside}
 use Rattle.loom_memory.proofs.FieldLaws.{read-only}
 use Rattle.loom_memory.proofs.LambdaLaws.{still-calm, calm-read, damaged-after, fault-after}
+use Rattle.loom_memory.proofs.GentleLaws.{remains-refl}
 use Rattle.loom_memory.proofs.memory.LoomMemory.look_up.Goals as goal
 use Rattle.loom_memory.proofs.memory.LoomMemory.look_up.Given as given
 
@@ -48,6 +50,15 @@ pub returns-else-held-clause-outside : goal.returns-else-held-clause-outside
 unfolding loom_outside
 returns-else-held-clause-outside g c = c.refuse.ensures.outside ∙ work-outside g.H.Host c.args.self.now.disk.host.now c.fetch.new.disk.host.now (read-only g.H.Host c.args.self.now.disk.host.now c.fetch.new.disk.host.now c.in-Ok.ensures.read)
 
+pub returns-then-held-clause-sound : goal.returns-then-held-clause-sound
+returns-then-held-clause-sound g c =
+    let m = c.args.self.now in
+    record {
+      kept = c.requires.sound.kept;
+      over = read-over g.H.Host m.disk.host.now c.fetch.new.disk.host.now m.disk.rest c.fetch.new.disk.rest (core_of m.parts) m.ledger c.requires.sound.over c.in-Ok.ensures.stands c.in-Ok.ensures.rest c.in-Ok.ensures.same;
+      exact = exact-read g.H.Host m.parts m.disk.host.now c.fetch.new.disk.host.now m.disk.rest c.fetch.new.disk.rest m.ledger.next c.requires.sound.exact c.in-Ok.ensures.rest c.in-Ok.ensures.read;
+    }
+
 pub returns-in-Err-clause-err : goal.returns-in-Err-clause-err
 unfolding loom_told
 returns-in-Err-clause-err g c = λ a silent none.
@@ -59,3 +70,7 @@ returns-in-Err-clause-err g c = λ a silent none.
 pub returns-in-Err-clause-outside : goal.returns-in-Err-clause-outside
 unfolding loom_outside
 returns-in-Err-clause-outside g c = c.refuse-in-Err.ensures.outside ∙ work-outside g.H.Host c.args.self.now.disk.host.now c.fetch.new.disk.host.now (read-only g.H.Host c.args.self.now.disk.host.now c.fetch.new.disk.host.now c.in-Err.ensures.read)
+
+pub returns-then-held-clause-gentle : goal.returns-then-held-clause-gentle
+unfolding loom_told
+returns-then-held-clause-gentle g c = record { remains = remains-refl (core_of c.args.self.now.parts); read = c.in-Ok.ensures.read; cache = refl }

@@ -8,6 +8,8 @@ use Rattle.leaf_lambda.specs.Parts.{core_of}
 use Rattle.loom_memory.specs.Memory.{loom_told}
 use Rattle.loom_memory.proofs.AccessLaws.{quiet-ready, refused-is}
 use Rattle.loom_memory.proofs.MarkingLaws.{mark-access, ready-mark, marked-name}
+use Rattle.long_names.specs.State.{name_at}
+use Rattle.loom_memory.proofs.GentleLaws.{changed-sparing, refused-change}
 use Rattle.loom_memory.proofs.memory.LoomMemory.mark.Goals as goal
 use Rattle.loom_memory.proofs.memory.LoomMemory.mark.Given as given
 
@@ -40,3 +42,9 @@ returns-in-Ok-clause-fit g c = record {
 
 pub returns-in-Err-clause-access : goal.returns-in-Err-clause-access
 returns-in-Err-clause-access g c = refused-is (loom_told g.H.Host c.args.self.now) (loom_told g.H.Host c.load.new.self) (Mark c.args.r) (λ _. Nothing) c.in-Err.f (c.in-Err.ensures.err (Mark c.args.r) refl refl tt)
+
+pub returns-in-Ok-clause-own : goal.returns-in-Ok-clause-own
+returns-in-Ok-clause-own g c = changed-sparing g.H.Host c.args.self.now c.load.new.self c.note_mark.new.self (name_at ((loom_told g.H.Host c.args.self.now).regs c.args.r)) c.in-Ok.s _ c.in-Ok.ensures.own c.note_mark.ensures.resting c.in-Ok.ensures.sound.kept.parts.core c.note_mark.ensures.sound.kept.parts.core
+
+pub returns-in-Err-clause-own : goal.returns-in-Err-clause-own
+returns-in-Err-clause-own g c = refused-change g.H.Host c.args.self.now c.load.new.self (name_at ((loom_told g.H.Host c.args.self.now).regs c.args.r)) c.in-Err.f c.in-Err.ensures.own

@@ -10,7 +10,10 @@ use Rattle.loom_memory.specs.declared.ledger.Ledger.{Ledger}
 use Rattle.loom_memory.specs.Cache.{cache_of, IsCached}
 use Rattle.loom_memory.specs.Memory.{loom_told, loom_outside}
 use Rattle.loom_memory.proofs.RowLaws.{marking-kept, marking-cached}
+use Rattle.loom_memory.proofs.ExactLaws.{mark-exact}
 use Rattle.loom_memory.proofs.MarkingLaws.{IsCaching, mark-told, mark-kept, mark-over}
+use Rattle.loom_memory.specs.Residents.{fetched}
+use Rattle.loom_memory.proofs.GentleLaws.{mark-remains}
 use Rattle.loom_memory.proofs.memory.LoomMemory.note_mark.Goals as goal
 use Rattle.loom_memory.proofs.memory.LoomMemory.note_mark.Given as given
 
@@ -48,8 +51,16 @@ returns-clause-sound g c =
       kept = mark-kept m.parts c.set_mark.new.p m.regs m.pinned m.ledger (record k { mark = c.args.s.0 }) c.args.s.0 c.requires.there.0 c.requires.sound.kept c.set_mark.ensures.parts c.requires.there.1 c.set_mark.ensures.core c.set_mark.ensures.segment (caching g c)
           (subst (λ (y : Core). IsCached y (found k.rows) c.args.s.0) (sym c.set_mark.ensures.core) (marking-cached (core_of m.parts) (found k.rows) k.mark c.args.s.0 c.requires.sound.kept.parts.core (used-of g c) c.refresh.ensures.fresh c.refresh.ensures.cached));
       over = mark-over g.H.Host m.disk.host.now m.disk.rest (core_of m.parts) (core_of c.set_mark.new.p) m.ledger (record k { mark = c.args.s.0 }) c.args.s.0 c.requires.sound.kept.parts.core (used-of g c) c.set_mark.ensures.core (caching g c) c.requires.sound.over;
+      exact = mark-exact g.H.Host m.parts c.set_mark.new.p m.disk.host.now m.disk.rest m.ledger (record k { mark = c.args.s.0 }) c.args.s.0 c.requires.sound.kept.parts.core (used-of g c) c.set_mark.ensures.parts c.set_mark.ensures.core (caching g c) c.requires.sound.exact;
     }
 
 pub returns-clause-outside : goal.returns-clause-outside
 unfolding loom_outside
 returns-clause-outside g c = refl
+
+pub returns-clause-resting : goal.returns-clause-resting
+unfolding fetched
+returns-clause-resting g c = record {
+  remains = mark-remains (core_of c.args.self.now.parts) (core_of c.set_mark.new.p) c.args.s.0 c.set_mark.ensures.core;
+  idle = record { host = refl; rest = refl; fetches = ap (λ (k : Ledger). k.fetches) c.refresh.ensures.ledger };
+}

@@ -3,6 +3,8 @@ use Rattle.core_view.proofs.Core.{placed-used}
 use Rattle.leaf_lambda.specs.Parts.{core_of}
 use Rattle.loom_memory.specs.Memory.{loom_told, word_in}
 use Rattle.loom_memory.proofs.AccessLaws.{quiet-trans}
+use Rattle.long_names.specs.State.{name_at}
+use Rattle.loom_memory.proofs.GentleLaws.{changed-sparing, refused-change}
 use Rattle.loom_memory.proofs.memory.LoomMemory.open.Goals as goal
 
 pub unmark-requires-clause-used : goal.unmark-requires-clause-used
@@ -16,3 +18,9 @@ returns-in-Ok-clause-word g c = c.in-Ok.ensures.word ∙ ap (λ (regs : List ℕ
 
 pub returns-in-Ok-clause-there : goal.returns-in-Ok-clause-there
 returns-in-Ok-clause-there g c = (c.in-Ok.ensures.loaded.at, c.unmark.ensures.place ∙ c.in-Ok.ensures.loaded.place)
+
+pub returns-in-Ok-clause-own : goal.returns-in-Ok-clause-own
+returns-in-Ok-clause-own g c = changed-sparing g.H.Host c.args.self.now c.load.new.self c.unmark.new.self (name_at ((loom_told g.H.Host c.args.self.now).regs c.args.of)) c.in-Ok.s _ c.in-Ok.ensures.own c.unmark.ensures.resting c.in-Ok.ensures.sound.kept.parts.core c.unmark.ensures.sound.kept.parts.core
+
+pub returns-in-Err-clause-own : goal.returns-in-Err-clause-own
+returns-in-Err-clause-own g c = refused-change g.H.Host c.args.self.now c.load.new.self (name_at ((loom_told g.H.Host c.args.self.now).regs c.args.of)) c.in-Err.f c.in-Err.ensures.own

@@ -8,6 +8,8 @@ use Rattle.leaf_lambda.specs.Parts.{core_of}
 use Rattle.loom_memory.specs.Memory.{loom_told, name_if}
 use Rattle.loom_memory.proofs.AccessLaws.{quiet-ready, refused-is}
 use Rattle.loom_memory.proofs.SlotLaws.{pin-name, pin-access, pin-has, ready-pin}
+use Rattle.long_names.specs.State.{name_at}
+use Rattle.loom_memory.proofs.GentleLaws.{steady-sparing, sparing-err}
 use Rattle.loom_memory.proofs.memory.LoomMemory.pin.Goals as goal
 use Rattle.loom_memory.proofs.memory.LoomMemory.pin.Given as given
 
@@ -41,3 +43,11 @@ returns-in-Ok-clause-fit g c =
 
 pub returns-in-Err-clause-access : goal.returns-in-Err-clause-access
 returns-in-Err-clause-access g c = refused-is (loom_told g.H.Host c.args.self.now) (loom_told g.H.Host c.load.new.self) (Pin c.args.slot c.args.r) (λ _. Nothing) c.in-Err.f (c.in-Err.ensures.err (Pin c.args.slot c.args.r) refl refl tt)
+
+pub returns-in-Ok-clause-own : goal.returns-in-Ok-clause-own
+returns-in-Ok-clause-own g c =
+    let m = c.args.self.now in
+    steady-sparing g.H.Host m c.load.new.self c.put_slot.new.self (name_at ((loom_told g.H.Host m).regs c.args.r)) c.in-Ok.s _ c.in-Ok.ensures.own c.put_slot.ensures.steady c.in-Ok.ensures.sound.kept.parts.core c.put_slot.ensures.sound.kept.parts.core (ap (λ (t : Told). t.bounds) c.put_slot.ensures.told)
+
+pub returns-in-Err-clause-own : goal.returns-in-Err-clause-own
+returns-in-Err-clause-own g c = sparing-err g.H.Host c.args.self.now c.load.new.self (name_at ((loom_told g.H.Host c.args.self.now).regs c.args.r)) c.in-Err.f c.in-Err.ensures.own

@@ -8,6 +8,7 @@ use Rattle.loom_memory.proofs.AccessLaws.{quiet-ready}
 use Rattle.loom_memory.proofs.EndLaws.{thins-refused}
 use Rattle.loom_memory.proofs.KnownLaws.{bare-then}
 use Rattle.loom_memory.proofs.ResidentLaws.{only-pinned}
+use Rattle.loom_memory.proofs.GentleLaws.{fetched-same}
 use Rattle.loom_memory.proofs.memory.LoomMemory.purge_all.Goals as goal
 
 pub returns-in-Disk-clause-called : goal.returns-in-Disk-clause-called
@@ -50,3 +51,9 @@ returns-in-Short-clause-pinned g c = λ n.
     let u = c.room.new.self in
     only-pinned g.H.Host u n (subst (λ (z : RoomFault). OnShort z (IsSound g.H.Host u)) c.in-Short.is c.in-Err.ensures.sound)
     (bare-then (core_of u.parts) (core_of u.parts) m.pinned u.pinned (subst (λ (z : RoomFault). OnShort z (IsShort u.parts m.pinned.a m.pinned.b m.pinned.d 0 c.too_many-entries.result)) c.in-Short.is c.in-Err.ensures.short).bare refl c.room.ensures.pins)
+
+pub returns-in-Ok-clause-fetches : goal.returns-in-Ok-clause-fetches
+returns-in-Ok-clause-fetches g c = fetched-same c.args.self.now c.room.new.self c.room.ensures.ledger
+
+pub returns-in-Short-clause-fetches : goal.returns-in-Short-clause-fetches
+returns-in-Short-clause-fetches g c = fetched-same c.args.self.now c.room.new.self c.room.ensures.ledger

@@ -9,6 +9,7 @@ use Rattle.core_view.specs.Room.{is_among}
 use Rattle.leaf_lambda.specs.Parts.{core_of}
 use Rattle.purger.proofs.RoomLaws.{some-of, none-of, purge-fault-if}
 use Rattle.loom_memory.specs.Memory.{loom_told, loom_outside, word_in, IsCalm}
+use Rattle.loom_memory.proofs.ExactLaws.{exact-has, exact-then}
 use Rattle.loom_memory.proofs.RegLaws.{kept-rooted, word-is}
 use Rattle.loom_memory.proofs.BringLaws.{IsNamed, quiet-same}
 use Rattle.loom_memory.proofs.CalmLaws.{purged-calm, calm-kept, quiet-is, over-is, work-outside}
@@ -27,6 +28,9 @@ entry-requires-clause-short g c = let m = c.args.self.now in c.requires.sound.ke
 pub evict-requires-clause-body : goal.evict-requires-clause-body
 unfolding core_of
 evict-requires-clause-body g c = let there = some-of c.place.result c.is_some.result c.is_some.ensures c.if-is_some.true in (there.0, ap (λ (e : Entry). place_of e.state) (sym c.entry.ensures) ∙ sym c.place.ensures ∙ there.1)
+
+pub evict-requires-clause-sound : goal.evict-requires-clause-sound
+evict-requires-clause-sound g c = let m = c.args.self.now in exact-has g.H.Host m.parts m.disk.host.now m.disk.rest m.ledger.next c.requires.sound.exact
 
 named-of : (g : given.Over) (c : goal.In-Ok g) → IsNamed g.H.Host c.args.self.now c.args.self.now c.args.of (slice_index_or c.args.self.now.regs c.index.result 0)
 named-of g c = let m = c.args.self.now in named-now g.H.Host m c.args.of (slice_index_or m.regs c.index.result 0) c.requires.sound c.requires.ready c.requires.name (word-is m.regs c.index.result c.args.of c.index.ensures.same c.index.ensures.within c.requires.sound.kept.many)
@@ -55,6 +59,7 @@ returns-in-Ok-clause-sound g c =
     record {
       kept = calm-kept m.parts c.evict.new.p m.regs m.pinned m.ledger c.requires.sound.kept (calm-of g c) c.evict.ensures.parts (c.evict.ensures.tight c.requires.sound.kept.tight) c.evict.ensures.size;
       over = over-is g.H.Host m.disk.host.now c.evict.new.disk.host.now m.disk.rest c.evict.new.disk.rest (core_of m.parts) (core_of c.evict.new.p) m.ledger c.requires.sound.over c.evict.ensures.room c.in-Ok.ensures.stands c.in-Ok.ensures.keeps c.in-Ok.ensures.counted;
+      exact = exact-then g.H.Host m.parts c.evict.new.p m.disk.host.now c.evict.new.disk.host.now m.disk.rest c.evict.new.disk.rest m.ledger.next c.requires.sound.exact c.in-Ok.ensures.sound;
     }
 
 pub returns-in-Ok-clause-away : goal.returns-in-Ok-clause-away

@@ -7,6 +7,7 @@ use Rattle.leaf_lambda.specs.Parts.{core_of}
 use Rattle.loom_memory.specs.Memory.{loom_told}
 use Rattle.loom_memory.proofs.ClassLaws.{short-some}
 use Rattle.loom_memory.proofs.KnownLaws.{naming-is}
+use Rattle.loom_memory.proofs.GentleLaws.{steady-trans}
 use Rattle.loom_memory.proofs.memory.LoomMemory.put_name.Goals as goal
 
 pub put_word-requires-clause-used : goal.put_word-requires-clause-used
@@ -20,3 +21,6 @@ returns-in-Ok-clause-naming g c =
     let n = c.entry_of.new.self in
     naming-is (loom_told g.H.Host c.args.self.now) (loom_told g.H.Host n) (loom_told g.H.Host c.put_word.new.self) c.args.to c.args.name c.in-Ok.ensures.quiet
     (c.put_word.ensures.told ∙ ap (λ (v : Value). record (loom_told g.H.Host n) { regs = set_register (loom_told g.H.Host n).regs c.args.to v }) (meant-short (core_of n.parts).entries [] 0 c.in-Ok.s.0 c.in-Ok.ensures.found.short ∙ ap Ref c.in-Ok.ensures.found.named))
+
+pub returns-in-Ok-clause-steady : goal.returns-in-Ok-clause-steady
+returns-in-Ok-clause-steady g c = λ room. steady-trans g.H.Host c.args.self.now c.entry_of.new.self c.put_word.new.self (c.in-Ok.ensures.steady room) c.put_word.ensures.steady

@@ -2,6 +2,7 @@ use Rattle.std.proofs.Common.{take, refl, sym, ap}
 use Rattle.loom_outside.specs.Outside.{RoleState}
 use Rattle.loom_outside.specs.declared.outside.Role.TheVariants.{Transcript}
 use Rattle.loom_memory.specs.Memory.{loom_told, loom_outside}
+use Rattle.loom_memory.proofs.ExactLaws.{exact-work}
 use Rattle.loom_memory.proofs.SayLaws.{put-told, put-sound, put-outside, put-part}
 use Rattle.loom_memory.proofs.memory.LoomMemory.put_run.Goals as goal
 
@@ -13,6 +14,7 @@ pub returns-in-Ok-clause-sound : goal.returns-in-Ok-clause-sound
 returns-in-Ok-clause-sound g c = record {
   kept = c.requires.sound.kept;
   over = put-sound g.H.Host c.args.self.now c.write_to.new.self.host.now c.write_to.new.self.rest c.requires.sound c.write_to.ensures.rest c.write_to.ensures.work (λ told. (c.write_to.ensures.keeps c.requires.sound.over.stands told).stands told);
+  exact = exact-work g.H.Host c.args.self.now.parts c.args.self.now.disk.host.now c.write_to.new.self.host.now c.args.self.now.disk.rest c.write_to.new.self.rest c.args.self.now.ledger.next c.requires.sound.exact c.write_to.ensures.rest c.write_to.ensures.work;
 }
 
 pub returns-in-Ok-clause-outside : goal.returns-in-Ok-clause-outside
@@ -38,8 +40,15 @@ pub returns-in-Err-clause-sound : goal.returns-in-Err-clause-sound
 returns-in-Err-clause-sound g c = record {
   kept = c.requires.sound.kept;
   over = put-sound g.H.Host c.args.self.now c.write_to.new.self.host.now c.write_to.new.self.rest c.requires.sound c.write_to.ensures.rest c.write_to.ensures.work (λ told. (c.write_to.ensures.keeps c.requires.sound.over.stands told).stands told);
+  exact = exact-work g.H.Host c.args.self.now.parts c.args.self.now.disk.host.now c.write_to.new.self.host.now c.args.self.now.disk.rest c.write_to.new.self.rest c.args.self.now.ledger.next c.requires.sound.exact c.write_to.ensures.rest c.write_to.ensures.work;
 }
 
 pub returns-in-Err-clause-outside : goal.returns-in-Err-clause-outside
 unfolding loom_outside
 returns-in-Err-clause-outside g c = put-outside g.H.Host c.args.self.now.disk.host.now c.write_to.new.self.host.now c.write_to.ensures.others c.write_to.ensures.other_faults
+
+pub returns-in-Ok-clause-speech : goal.returns-in-Ok-clause-speech
+returns-in-Ok-clause-speech g c = record { parts = refl; ledger = refl; work = c.write_to.ensures.work; writes = c.write_to.ensures.writes }
+
+pub returns-in-Err-clause-speech : goal.returns-in-Err-clause-speech
+returns-in-Err-clause-speech g c = record { parts = refl; ledger = refl; work = c.write_to.ensures.work; writes = c.write_to.ensures.writes }

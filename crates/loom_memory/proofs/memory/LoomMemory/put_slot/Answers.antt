@@ -7,6 +7,10 @@ use Rattle.purger.specs.declared.room.Pinned.{Pinned}
 use Rattle.loom_memory.specs.Memory.{loom_told, loom_outside, told_of, pin_in, IsKept}
 use Rattle.loom_memory.proofs.RegLaws.{IsSwap, swapped, kept-rooted, over-then}
 use Rattle.loom_memory.proofs.SlotLaws.{pin-held, pinned-used, slot-told, slot-kept}
+use Rattle.method_cache.specs.Found.{found}
+use Rattle.loom_memory.proofs.CacheLaws.{cache-same}
+use Rattle.loom_memory.proofs.GentleLaws.{steady-is}
+use Rattle.loom_memory.proofs.ExactLaws.{exact-counts, swap-counts}
 use Rattle.loom_memory.proofs.memory.LoomMemory.put_slot.Goals as goal
 use Rattle.loom_memory.proofs.memory.LoomMemory.put_slot.Given as given
 
@@ -44,8 +48,16 @@ returns-clause-sound g c =
       kept = subst (λ (x : Pinned). IsKept c.drop_word.new.p m.regs x m.ledger) (sym c.put_pin.ensures)
           (slot-kept m.parts c.drop_word.new.p m.regs m.pinned m.ledger c.args.slot c.args.w c.requires.sound.kept c.drop_word.ensures.parts (swap-of g c) c.requires.slot c.requires.body (c.drop_word.ensures.segment ∙ c.hold_word.ensures.segment));
       over = over-then g.H.Host m.disk.host.now m.disk.rest (core_of m.parts) (core_of c.drop_word.new.p) m.ledger (swap-of g c).stays (swap-of g c).step c.requires.sound.over;
+      exact = exact-counts g.H.Host m.parts c.drop_word.new.p m.disk.host.now m.disk.rest m.ledger.next c.requires.sound.exact c.drop_word.ensures.parts (swap-of g c).stays
+          (swap-counts (core_of m.parts) (core_of c.hold_word.new.p) (core_of c.drop_word.new.p) c.args.w c.pin_at-old.result c.hold_word.ensures.held c.hold_word.ensures.find c.drop_word.ensures.dropped);
     }
 
 pub returns-clause-outside : goal.returns-clause-outside
 unfolding loom_outside
 returns-clause-outside g c = refl
+
+pub returns-clause-steady : goal.returns-clause-steady
+unfolding loom_told
+returns-clause-steady g c =
+    let m = c.args.self.now in
+    steady-is g.H.Host m _ (swap-of g c).step (cache-same (core_of m.parts) (core_of c.drop_word.new.p) (found m.ledger.rows) m.ledger.mark m.ledger.begun c.requires.sound.kept.parts.core c.drop_word.ensures.parts.core (swap-of g c).marks c.requires.sound.kept.cached) refl refl refl

@@ -6,6 +6,10 @@ use Rattle.core_view.proofs.Steps.{Stays-trans, RefStep-trans}
 use Rattle.leaf_lambda.specs.Parts.{core_of}
 use Rattle.loom_memory.specs.Memory.{loom_told, told_of, loom_outside}
 use Rattle.loom_memory.proofs.RegLaws.{IsSwap, register-held, swapped, told-then, old-there, kept-rooted, kept-then, over-then}
+use Rattle.method_cache.specs.Found.{found}
+use Rattle.loom_memory.proofs.CacheLaws.{cache-same}
+use Rattle.loom_memory.proofs.GentleLaws.{steady-is}
+use Rattle.loom_memory.proofs.ExactLaws.{exact-counts, swap-counts}
 use Rattle.loom_memory.proofs.memory.LoomMemory.put_word.Goals as goal
 use Rattle.loom_memory.proofs.memory.LoomMemory.put_word.Given as given
 
@@ -40,8 +44,16 @@ returns-clause-sound g c =
     record {
       kept = kept-then m.parts c.drop_word.new.p m.regs m.pinned m.ledger c.index-2.result c.args.w (slice_index_or m.regs c.index.result 0) c.requires.sound.kept c.drop_word.ensures.parts (swap-of g c) (there g c) (let many = c.requires.sound.kept.many in let low = c.index-2.ensures.within in omega arith) c.requires.some (c.drop_word.ensures.segment ∙ c.hold_word.ensures.segment);
       over = over-then g.H.Host m.disk.host.now m.disk.rest (core_of m.parts) (core_of c.drop_word.new.p) m.ledger (swap-of g c).stays (swap-of g c).step c.requires.sound.over;
+      exact = exact-counts g.H.Host m.parts c.drop_word.new.p m.disk.host.now m.disk.rest m.ledger.next c.requires.sound.exact c.drop_word.ensures.parts (swap-of g c).stays
+          (swap-counts (core_of m.parts) (core_of c.hold_word.new.p) (core_of c.drop_word.new.p) c.args.w (slice_index_or m.regs c.index.result 0) c.hold_word.ensures.held c.hold_word.ensures.find c.drop_word.ensures.dropped);
     }
 
 pub returns-clause-outside : goal.returns-clause-outside
 unfolding loom_outside
 returns-clause-outside g c = refl
+
+pub returns-clause-steady : goal.returns-clause-steady
+unfolding loom_told
+returns-clause-steady g c =
+    let m = c.args.self.now in
+    steady-is g.H.Host m _ (swap-of g c).step (cache-same (core_of m.parts) (core_of c.drop_word.new.p) (found m.ledger.rows) m.ledger.mark m.ledger.begun c.requires.sound.kept.parts.core c.drop_word.ensures.parts.core (swap-of g c).marks c.requires.sound.kept.cached) refl refl refl

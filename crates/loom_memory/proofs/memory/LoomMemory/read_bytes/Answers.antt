@@ -1,4 +1,4 @@
-use Rattle.std.proofs.Common.{Bool, MatchBool, ℕ, List, Option, Some, length, take, drop, refl, sym, ◌∙◌, ap, subst}
+use Rattle.std.proofs.Common.{Bool, MatchBool, ℕ, List, Option, Some, length, take, drop, refl, sym, ◌∙◌, ap, subst, IsTrue}
 use Rattle.std.specs.Option.{option_and_then}
 use Rattle.long_names.specs.Objects.{bytes_of}
 use Rattle.long_names.specs.Access.{ReadBytes, OfRun}
@@ -12,7 +12,10 @@ use Rattle.loom_memory.proofs.AccessLaws.{quiet-ready, refused-is}
 use Rattle.loom_memory.proofs.FieldLaws.{told-tells}
 use Rattle.loom_memory.proofs.BodyLaws.{part-here, part-still}
 use Rattle.loom_memory.proofs.ReadLaws.{read-answered}
+use Rattle.long_names.specs.State.{name_at}
+use Rattle.loom_memory.proofs.GentleLaws.{amiss-sparing, sparing-ok, sparing-err}
 use Rattle.loom_memory.proofs.memory.LoomMemory.read_bytes.Goals as goal
+use Rattle.loom_memory.proofs.memory.LoomMemory.read_bytes.Given as given
 
 pub bytes_into-requires-clause-there : goal.bytes_into-requires-clause-there
 bytes_into-requires-clause-there g c = (c.in-Ok.ensures.loaded.at, c.in-Ok.ensures.loaded.place)
@@ -31,17 +34,21 @@ returns-then-bytes_into-clause-access g c =
     (λ told. ap (λ (x : Option (List ℕ)). option_and_then (λ xs. Some (OfRun (take (length c.args.out.now) (drop c.args.at xs)))) x) (part-here (loom_told g.H.Host n) c.args.of o bytes_of (Some has.0) (there.object (told-tells g.H.Host c.args.self.now told)) has.1) ∙ ap (λ (r : List ℕ). Some (OfRun r)) (sym has.2))
     (c.in-Ok.ensures.core (ReadBytes c.args.of c.args.at (length c.args.out.now)) refl refl)
 
-pub returns-else-bytes_into-clause-access : goal.returns-else-bytes_into-clause-access
-returns-else-bytes_into-clause-access g c =
+untold : (g : given.Over) (c : goal.After-amiss g) → IsTrue (loom_told g.H.Host c.args.self.now).tells → ⊥
+untold g c told =
     let t = loom_told g.H.Host c.args.self.now in
     let n = c.load.new.self in
     let there = c.in-Ok.ensures.loaded in
     let o = object_at (core_of n.parts) (disk_of g.H.Host n.disk.host.now n.disk.rest) ((core_of n.parts).entries c.in-Ok.s.0) there.at in
     let lacks : LacksRun (bytes_of o.body) c.args.at (length c.args.out.now) = subst (λ (b : Bool). MatchBool b (HasRun (bytes_of o.body) c.args.at (length c.args.out.now) c.bytes_into.new.out) (LacksRun (bytes_of o.body) c.args.at (length c.args.out.now))) c.if-bytes_into.false (c.bytes_into.ensures (disk_of g.H.Host n.disk.host.now n.disk.rest) there.at there.place) in
+    let can = c.requires.may.heap told in
+    lacks can.0 (part-still t (loom_told g.H.Host n) c.args.of o bytes_of (Some can.0) c.in-Ok.ensures.quiet (there.object (told-tells g.H.Host c.args.self.now told)) can.1) can.2
+
+pub returns-else-bytes_into-clause-access : goal.returns-else-bytes_into-clause-access
+returns-else-bytes_into-clause-access g c =
+    let t = loom_told g.H.Host c.args.self.now in
     refused-is {A = Unit {0}} t (loom_told g.H.Host c.amiss.new.self) (ReadBytes c.args.of c.args.at (length c.args.out.now)) (λ _. OfRun c.bytes_into.new.out) c.amiss.result
-    (c.amiss.ensures.err t (ReadBytes c.args.of c.args.at (length c.args.out.now)) c.in-Ok.ensures.quiet c.requires.fit.ready tt refl
-    (λ told. let can = c.requires.may.heap told in
-    lacks can.0 (part-still t (loom_told g.H.Host n) c.args.of o bytes_of (Some can.0) c.in-Ok.ensures.quiet (there.object (told-tells g.H.Host c.args.self.now told)) can.1) can.2))
+    (c.amiss.ensures.err t (ReadBytes c.args.of c.args.at (length c.args.out.now)) c.in-Ok.ensures.quiet c.requires.fit.ready tt refl (untold g c))
 
 pub returns-in-Err-clause-access : goal.returns-in-Err-clause-access
 returns-in-Err-clause-access g c = refused-is {A = Unit {0}} (loom_told g.H.Host c.args.self.now) (loom_told g.H.Host c.load.new.self) (ReadBytes c.args.of c.args.at (length c.args.out.now)) (λ _. OfRun c.args.out.now) c.in-Err.f (c.in-Err.ensures.err (ReadBytes c.args.of c.args.at (length c.args.out.now)) refl refl tt)
@@ -53,3 +60,12 @@ returns-then-bytes_into-clause-fit g c = record {
   lender = c.in-Ok.ensures.lender;
   outside = c.in-Ok.ensures.outside;
 }
+
+pub returns-then-bytes_into-clause-own : goal.returns-then-bytes_into-clause-own
+returns-then-bytes_into-clause-own g c = sparing-ok g.H.Host c.args.self.now c.load.new.self (name_at ((loom_told g.H.Host c.args.self.now).regs c.args.of)) c.in-Ok.s _ c.in-Ok.ensures.own
+
+pub returns-else-bytes_into-clause-own : goal.returns-else-bytes_into-clause-own
+returns-else-bytes_into-clause-own g c = amiss-sparing g.H.Host c.args.self.now c.amiss.new.self (name_at ((loom_told g.H.Host c.args.self.now).regs c.args.of)) c.amiss.result (untold g c)
+
+pub returns-in-Err-clause-own : goal.returns-in-Err-clause-own
+returns-in-Err-clause-own g c = sparing-err g.H.Host c.args.self.now c.load.new.self (name_at ((loom_told g.H.Host c.args.self.now).regs c.args.of)) c.in-Err.f c.in-Err.ensures.own

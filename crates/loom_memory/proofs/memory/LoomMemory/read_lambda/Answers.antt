@@ -18,12 +18,18 @@ use Rattle.std.proofs.lemmas.Option.{slice_get_within}
 use Rattle.disk_objects.specs.Function.{disk_of}
 use Rattle.core_view.specs.Purge.{fresh_by}
 use Rattle.loom_memory.specs.Memory.{loom_told, loom_outside, told_of, IsCalm}
+use Rattle.loom_memory.specs.Numbers.{IsNumbered}
 use Rattle.core_view.specs.Kept.{IsValued}
+use Rattle.loom_memory.proofs.ExactLaws.{exact-brought}
 use Rattle.loom_memory.proofs.RegLaws.{kept-rooted, few-held}
 use Rattle.core_view.proofs.Fresh.{fresh-stays}
 use Rattle.loom_memory.proofs.CalmLaws.{store-calm, calm-kept, work-outside}
-use Rattle.loom_memory.proofs.FieldLaws.{read-only}
+use Rattle.loom_memory.proofs.FieldLaws.{read-only, set-here}
 use Rattle.loom_memory.proofs.LambdaLaws.{still-calm, calm-read, damaged-after, fault-after}
+use Rattle.method_cache.specs.Found.{found}
+use Rattle.purger.proofs.MarkLaws.{within-marks}
+use Rattle.loom_memory.proofs.CacheLaws.{cache-same}
+use Rattle.loom_memory.proofs.GentleLaws.{fetched-same, store-remains}
 use Rattle.loom_memory.proofs.memory.LoomMemory.read_lambda.Goals as goal
 use Rattle.loom_memory.proofs.memory.LoomMemory.read_lambda.Given as given
 
@@ -94,10 +100,28 @@ returns-else-e-clause-sound g c =
             let rest : disk_held c.read_copy.new.disk.rest ≡ disk_held m.disk.rest = ap disk_held c.in-Ok.ensures.rest in
             omega (arith, was, same, rest);
         roomy = let was = c.requires.sound.over.roomy in let rest : disk_room c.read_copy.new.disk.rest ≡ disk_room m.disk.rest = ap disk_room c.in-Ok.ensures.rest in omega (arith, was, rest);
-        based = c.requires.sound.over.based;
+        based = subst (λ (n : ℕ). IsNumbered m.ledger.base m.ledger.made m.ledger.held m.ledger.next n) (sym (ap disk_room c.in-Ok.ensures.rest)) c.requires.sound.over.based;
         valued = λ told. subst (λ (d : Disk). IsValued d) (sym (ap (λ (k : Disk). held (core_of c.resolve.new.p) k) c.in-Ok.ensures.same ∙ (keeps-of g c told).held)) (c.requires.sound.over.valued told);
       };
+      exact = exact-brought g.H.Host m.parts c.resolve.new.p m.disk.host.now c.read_copy.new.disk.host.now m.disk.rest c.read_copy.new.disk.rest c.args.s.0 m.ledger.next c.requires.sound.exact c.in-Ok.ensures.rest c.in-Ok.ensures.read c.resolve.ensures.parts (keeps-of g c) c.resolve.ensures.naming c.resolve.ensures.within;
     }
+
+pub returns-else-e-clause-mark : goal.returns-else-e-clause-mark
+returns-else-e-clause-mark g c = ap (λ (e : Entry). e.flags.marked) c.resolve.ensures.entry
+
+pub returns-else-e-clause-at : goal.returns-else-e-clause-at
+returns-else-e-clause-at g c =
+    let m = c.args.self.now in
+    let p = c.args.at.place in
+    let k = ((core_of m.parts).entries c.args.s.0).kind in
+    let fields = c.resolve.ensures.fields p c.requires.lambda.place in (
+      fields.0,
+      record {
+        place = ap (λ (e : Entry). place_of e.state) c.resolve.ensures.entry ∙ c.requires.lambda.place;
+        word = ap (λ (e : Entry). slice_get (pointers e.kind ((core_of c.resolve.new.p).chunks p).words) c.args.i) c.resolve.ensures.entry
+            ∙ ap (λ (ws : List ℕ). slice_get ws c.args.i) fields.1 ∙ set-here (pointers k ((core_of m.parts).chunks p).words) c.args.i fields.0 0 c.requires.lambda.word;
+      },
+    )
 
 pub returns-else-e-clause-long : goal.returns-else-e-clause-long
 returns-else-e-clause-long g c = λ told.
@@ -120,3 +144,20 @@ returns-in-Err-clause-err g c = λ a silent none.
 pub returns-in-Err-clause-outside : goal.returns-in-Err-clause-outside
 unfolding loom_outside
 returns-in-Err-clause-outside g c = c.refuse-in-Err.ensures.outside ∙ work-outside g.H.Host c.args.self.now.disk.host.now c.read_copy.new.disk.host.now (read-only g.H.Host c.args.self.now.disk.host.now c.read_copy.new.disk.host.now c.in-Err.ensures.read)
+
+pub returns-else-e-clause-peek : goal.returns-else-e-clause-peek
+unfolding loom_told
+returns-else-e-clause-peek g c =
+    let m = c.args.self.now in
+    let x = core_of m.parts in
+    let y = core_of c.resolve.new.p in
+    let core = c.requires.sound.kept.parts.core in
+    let now = c.resolve.ensures.parts.core in
+    record {
+      gentle = record {
+        remains = store-remains c.args.s.0 x y c.resolve.ensures.within (ap (λ (e : Entry). place_of e.state) c.resolve.ensures.entry) (ap (λ (e : Entry). e.name) c.resolve.ensures.entry);
+        read = c.in-Ok.ensures.read;
+        cache = cache-same x y (found m.ledger.rows) m.ledger.mark m.ledger.begun core now (within-marks x y c.args.s.0 core now c.resolve.ensures.within) c.requires.sound.kept.cached;
+      };
+      fetches = fetched-same m _ refl;
+    }

@@ -2,12 +2,16 @@ use Rattle.std.proofs.Common.{arith}
 use Rattle.leaf_lambda.specs.Parts.{core_of}
 use Rattle.loom_memory.specs.Memory.{loom_told, loom_outside, IsKept, IsCalm}
 use Rattle.loom_memory.proofs.RegLaws.{kept-rooted}
+use Rattle.loom_memory.proofs.ExactLaws.{exact-has, exact-if}
 use Rattle.loom_memory.proofs.CalmLaws.{purged-calm, calm-kept, quiet-if, sound-if, work-outside, kept-if}
 use Rattle.loom_memory.proofs.memory.LoomMemory.room.Goals as goal
 use Rattle.loom_memory.proofs.memory.LoomMemory.room.Given as given
 
 pub make_room-requires-clause-counted : goal.make_room-requires-clause-counted
 make_room-requires-clause-counted g c = λ told. let all = c.requires.sound.over.counted told in let most = c.requires.sound.over.roomy in omega arith
+
+pub make_room-requires-clause-sound : goal.make_room-requires-clause-sound
+make_room-requires-clause-sound g c = let m = c.args.self.now in exact-has g.H.Host m.parts m.disk.host.now m.disk.rest m.ledger.next c.requires.sound.exact
 
 calm-of : (g : given.Over) (c : goal.After-make_room g) → IsCalm c.args.self.now.pinned (core_of c.args.self.now.parts) (core_of c.make_room.new.p)
 calm-of g c = purged-calm c.args.self.now.pinned (core_of c.args.self.now.parts) (core_of c.make_room.new.p) c.make_room.ensures.purged c.make_room.ensures.marks (λ h. c.make_room.ensures.here)
@@ -25,6 +29,7 @@ returns-clause-quiet g c = let m = c.args.self.now in quiet-if g.H.Host c.make_r
 
 pub returns-clause-sound : goal.returns-clause-sound
 returns-clause-sound g c = let m = c.args.self.now in kept-if g.H.Host c.make_room.result _ (kept-of g c) (sound-if g.H.Host c.make_room.result m.disk.host.now c.make_room.new.disk.host.now m.disk.rest c.make_room.new.disk.rest (core_of m.parts) (core_of c.make_room.new.p) m.ledger c.requires.sound.over c.make_room.ensures.limit c.make_room.ensures.stands c.make_room.ensures.keeps c.make_room.ensures.counted)
+    (exact-if g.H.Host c.make_room.result m.parts c.make_room.new.p m.disk.host.now c.make_room.new.disk.host.now m.disk.rest c.make_room.new.disk.rest m.ledger.next c.requires.sound.exact c.make_room.ensures.sound)
 
 pub returns-clause-outside : goal.returns-clause-outside
 unfolding loom_outside

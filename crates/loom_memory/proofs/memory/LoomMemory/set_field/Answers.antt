@@ -1,28 +1,40 @@
-use Rattle.std.proofs.Common.{refl, ◌∙◌}
-use Rattle.long_names.specs.Access.{SetField, Nothing}
+use Rattle.std.proofs.Common.{Ok, refl}
+use Rattle.long_names.specs.Access.{SetField}
+use Rattle.long_names.specs.State.{name_at}
 use Rattle.loom_memory.specs.Memory.{loom_told}
-use Rattle.loom_memory.proofs.AccessLaws.{refused-is, quiet-ready}
-use Rattle.loom_memory.proofs.LastLaws.{can-still}
+use Rattle.loom_memory.proofs.BringLaws.{quiet-same}
 use Rattle.loom_memory.proofs.StoreLaws.{store-last, store-ready}
+use Rattle.loom_memory.proofs.GentleLaws.{here-sparing, changed-sparing, not-at-hand, leaf-no-hand}
 use Rattle.loom_memory.proofs.memory.LoomMemory.set_field.Goals as goal
 
-pub store_field-requires-clause-ready : goal.store_field-requires-clause-ready
-store_field-requires-clause-ready g c = quiet-ready (loom_told g.H.Host c.args.self.now) (loom_told g.H.Host c.open.new.self) c.in-Ok.ensures.quiet c.requires.fit.ready
+pub word_in_body-requires-clause-there : goal.word_in_body-requires-clause-there
+word_in_body-requires-clause-there g c = (c.in-Some.ensures.loaded.at, c.in-Some.ensures.loaded.place)
 
-pub store_field-requires-clause-may : goal.store_field-requires-clause-may
-unfolding loom_told
-store_field-requires-clause-may g c = λ told. can-still (loom_told g.H.Host c.args.self.now) (loom_told g.H.Host c.open.new.self) (SetField c.args.of c.args.i c.args.from) c.in-Ok.ensures.quiet (c.requires.may.heap told)
+pub replace_field-requires-clause-there : goal.replace_field-requires-clause-there
+replace_field-requires-clause-there g c = c.in-Some-word_in_body.ensures.word
 
-pub returns-in-Ok-clause-access : goal.returns-in-Ok-clause-access
-returns-in-Ok-clause-access g c = store-last c.store_field.result (loom_told g.H.Host c.args.self.now) (loom_told g.H.Host c.open.new.self) (loom_told g.H.Host c.store_field.new.self) (SetField c.args.of c.args.i c.args.from) refl tt refl c.in-Ok.ensures.quiet c.store_field.ensures.stored c.store_field.ensures.err (c.in-Ok.ensures.core (SetField c.args.of c.args.i c.args.from) refl refl)
+pub returns-in-Some-word_in_body-clause-access : goal.returns-in-Some-word_in_body-clause-access
+returns-in-Some-word_in_body-clause-access g c =
+    let m = c.args.self.now in
+    let t = loom_told g.H.Host m in
+    store-last (Ok tt) t t (loom_told g.H.Host c.replace_field.new.self) (SetField c.args.of c.args.i c.args.from) refl tt refl (quiet-same g.H.Host m) c.replace_field.ensures.stored tt (c.in-Some.ensures.core (SetField c.args.of c.args.i c.args.from) refl refl)
 
-pub returns-in-Err-clause-access : goal.returns-in-Err-clause-access
-returns-in-Err-clause-access g c = refused-is (loom_told g.H.Host c.args.self.now) (loom_told g.H.Host c.open.new.self) (SetField c.args.of c.args.i c.args.from) (λ _. Nothing) c.in-Err.f (c.in-Err.ensures.err (SetField c.args.of c.args.i c.args.from) refl refl tt)
-
-pub returns-in-Ok-clause-fit : goal.returns-in-Ok-clause-fit
-returns-in-Ok-clause-fit g c = record {
-  sound = c.store_field.ensures.sound;
-  ready = store-ready c.store_field.result (loom_told g.H.Host c.open.new.self) (loom_told g.H.Host c.store_field.new.self) (SetField c.args.of c.args.i c.args.from) refl (quiet-ready (loom_told g.H.Host c.args.self.now) (loom_told g.H.Host c.open.new.self) c.in-Ok.ensures.quiet c.requires.fit.ready) c.store_field.ensures.stored;
-  lender = c.store_field.ensures.lender ∙ c.in-Ok.ensures.lender;
-  outside = c.store_field.ensures.outside ∙ c.in-Ok.ensures.outside;
+pub returns-in-Some-word_in_body-clause-fit : goal.returns-in-Some-word_in_body-clause-fit
+returns-in-Some-word_in_body-clause-fit g c = record {
+  sound = c.replace_field.ensures.sound;
+  ready = store-ready (Ok tt) (loom_told g.H.Host c.args.self.now) (loom_told g.H.Host c.replace_field.new.self) (SetField c.args.of c.args.i c.args.from) refl c.requires.fit.ready c.replace_field.ensures.stored;
+  lender = c.replace_field.ensures.lender;
+  outside = c.replace_field.ensures.outside;
 }
+
+pub returns-in-Some-word_in_body-clause-own : goal.returns-in-Some-word_in_body-clause-own
+returns-in-Some-word_in_body-clause-own g c = λ hand.
+    let m = c.args.self.now in
+    let n = name_at ((loom_told g.H.Host m).regs c.args.of) in
+    changed-sparing g.H.Host m m c.replace_field.new.self n c.in-Some.s _ (here-sparing g.H.Host m n c.in-Some.s c.in-Some.ensures.there c.in-Some.ensures.bounded) c.replace_field.ensures.resting c.requires.fit.sound.kept.parts.core c.replace_field.ensures.sound.kept.parts.core
+
+pub returns-in-None-word_in_body-clause-own : goal.returns-in-None-word_in_body-clause-own
+returns-in-None-word_in_body-clause-own g c = λ hand. absurd (not-at-hand g.H.Host c.args.self.now c.args.of c.in-Some.s.0 c.args.i c.requires.fit.sound c.requires.may.names c.in-Some.ensures.word c.in-None-word_in_body.ensures.none hand)
+
+pub returns-in-None-clause-own : goal.returns-in-None-clause-own
+returns-in-None-clause-own g c = λ hand. absurd (leaf-no-hand g.H.Host c.args.self.now c.args.of c.args.i c.requires.fit.sound c.requires.may.names c.in-None.ensures.leaf hand)

@@ -4,6 +4,8 @@ use Rattle.loom_memory.specs.Memory.{loom_told}
 use Rattle.loom_memory.proofs.AccessLaws.{refused-is, quiet-ready}
 use Rattle.loom_memory.proofs.LastLaws.{can-still}
 use Rattle.loom_memory.proofs.StoreLaws.{err-of, word-can, word-stored, store-last, store-ready}
+use Rattle.long_names.specs.State.{name_at}
+use Rattle.loom_memory.proofs.GentleLaws.{then-store, err-store}
 use Rattle.loom_memory.proofs.memory.LoomMemory.set_word.Goals as goal
 
 pub store_words-requires-clause-ready : goal.store_words-requires-clause-ready
@@ -26,3 +28,9 @@ returns-in-Ok-clause-fit g c = record {
   lender = c.store_words.ensures.lender ∙ c.in-Ok.ensures.lender;
   outside = c.store_words.ensures.outside ∙ c.in-Ok.ensures.outside;
 }
+
+pub returns-in-Ok-clause-own : goal.returns-in-Ok-clause-own
+returns-in-Ok-clause-own g c = then-store c.store_words.result g.H.Host c.args.self.now c.open.new.self c.store_words.new.self (name_at ((loom_told g.H.Host c.args.self.now).regs c.args.of)) c.in-Ok.s c.in-Ok.ensures.own c.store_words.ensures.resting c.store_words.ensures.sure c.in-Ok.ensures.sound.kept.parts.core c.store_words.ensures.sound
+
+pub returns-in-Err-clause-own : goal.returns-in-Err-clause-own
+returns-in-Err-clause-own g c = err-store g.H.Host c.args.self.now c.open.new.self (name_at ((loom_told g.H.Host c.args.self.now).regs c.args.of)) c.in-Err.f c.in-Err.ensures.own

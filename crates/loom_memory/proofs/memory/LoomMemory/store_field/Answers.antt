@@ -1,21 +1,15 @@
-use Rattle.std.proofs.Common.{◌≤◌, [], refl, sym, ◌∙◌, ap, arith, length, IsTrue}
-use Rattle.std.specs.List.{slice_index_or}
-use Rattle.long_names.specs.Access.{SetField}
+use Rattle.std.proofs.Common.{◌≡◌, ◌≤◌, ℕ, List, [], Some, refl, sym, ◌∙◌, ap, subst, arith, length, IsTrue}
+use Rattle.long_names.specs.Access.{Field, SetField, brought}
 use Rattle.loom_outside.specs.declared.outside.Role.TheVariants.{Work}
-use Rattle.object_table.specs.declared.entry.Entry.{Entry}
-use Rattle.object_table.specs.Entries.{place_of}
+use Rattle.object_memory.specs.Told.{Told}
 use Rattle.core_view.specs.Words.{meant, pointers}
-use Rattle.core_view.specs.Held.{object_at}
-use Rattle.core_view.proofs.Core.{placed-used, held-at}
-use Rattle.core_view.proofs.Words.{meant-short}
+use Rattle.core_view.proofs.Core.{placed-used}
 use Rattle.leaf_lambda.specs.Parts.{core_of}
-use Rattle.loom_memory.specs.Memory.{loom_told, loom_outside, word_in}
-use Rattle.core_view.specs.Purge.{fresh_by}
+use Rattle.loom_memory.specs.Memory.{loom_told, word_in}
 use Rattle.disk_objects.specs.Function.{disk_of}
-use Rattle.loom_memory.proofs.RegLaws.{kept-rooted, few-held, register-held, old-there, word-is}
-use Rattle.loom_memory.proofs.StoreLaws.{stored-is, stored-sound}
-use Rattle.loom_memory.proofs.LoadLaws.{field-none, stored-told}
-use Rattle.loom_memory.proofs.FieldLaws.{told-bounds, at-field, damaged-refused}
+use Rattle.loom_memory.proofs.StoreLaws.{stored-quiet}
+use Rattle.loom_memory.proofs.LoadLaws.{field-none, field-told}
+use Rattle.loom_memory.proofs.FieldLaws.{told-bounds, at-field, word-live, damaged-refused}
 use Rattle.loom_memory.proofs.memory.LoomMemory.store_field.Goals as goal
 use Rattle.loom_memory.proofs.memory.LoomMemory.store_field.Given as given
 
@@ -36,39 +30,36 @@ none-there g c = λ told.
 pub returns-then-i-field_total-clause-err : goal.returns-then-i-field_total-clause-err
 returns-then-i-field_total-clause-err g c = let b = told-bounds g.H.Host c.args.self.now in damaged-refused (loom_told g.H.Host c.args.self.now) (loom_told g.H.Host c.refuse.new.self) (SetField c.args.of c.args.i c.args.from) _ _ c.refuse.result c.refuse.ensures.told c.refuse.ensures.result c.requires.ready refl tt c.refuse.ensures.later (none-there g c) b.0 b.1
 
-pub put_field-requires-clause-light : goal.put_field-requires-clause-light
-put_field-requires-clause-light g c = λ t. let m = c.args.self.now in few-held (core_of m.parts) m.regs m.pinned t (kept-rooted m.parts m.regs m.pinned m.ledger c.requires.sound.kept) c.requires.sound.kept.many
+pub field_word-w-requires-clause-there : goal.field_word-w-requires-clause-there
+field_word-w-requires-clause-there g c = at-field (core_of c.args.self.now.parts) c.args.s.0 c.place_of_body-at.result.place c.args.i c.place_of_body-at.ensures (let all = c.field_total.ensures in let low = c.if-i-field_total.false in omega arith)
 
-pub put_field-requires-clause-there : goal.put_field-requires-clause-there
-put_field-requires-clause-there g c = at-field (core_of c.args.self.now.parts) c.args.s.0 c.place_of_body-at.result.place c.args.i c.place_of_body-at.ensures (let all = c.field_total.ensures in let low = c.if-i-field_total.false in omega arith)
+-- ---- over a lambda
 
-pub put_field-requires-clause-held : goal.put_field-requires-clause-held
-put_field-requires-clause-held g c = λ is. let m = c.args.self.now in register-held (core_of m.parts) m.regs m.pinned c.index.result (slice_index_or m.regs c.index.result 0) (kept-rooted m.parts m.regs m.pinned m.ledger c.requires.sound.kept) (old-there m.regs c.index.result c.index.result c.index.result refl refl c.index.ensures.within c.requires.sound.kept.many) is
+pub exchange_field-requires-clause-word : goal.exchange_field-requires-clause-word
+exchange_field-requires-clause-word g c = c.requires.word ∙ ap (λ (regs : List ℕ). word_in regs c.args.of) (sym c.in-Ok.ensures.regs)
 
-pub put_field-requires-clause-some : goal.put_field-requires-clause-some
-put_field-requires-clause-some g c = λ e. c.requires.sound.kept.filled c.args.from (sym (word-is c.args.self.now.regs c.index.result c.args.from c.index.ensures.same c.index.ensures.within c.requires.sound.kept.many) ∙ e)
+pub exchange_field-requires-clause-gone : goal.exchange_field-requires-clause-gone
+exchange_field-requires-clause-gone g c = c.in-Ok.ensures.mark ∙ c.requires.gone
 
-pub returns-clause-sound : goal.returns-clause-sound
-returns-clause-sound g c = stored-sound g.H.Host c.args.self.now c.put_field.new.p c.args.s.0 c.place_of_body-at.result.place c.requires.sound c.put_field.ensures.parts c.put_field.ensures.within c.place_of_body-at.ensures (ap (λ (e : Entry). place_of e.state) c.put_field.ensures.entry) (ap (λ (e : Entry). e.name) c.put_field.ensures.entry) (ap fresh_by c.put_field.ensures.entry) c.put_field.ensures.size c.put_field.ensures.backed c.put_field.ensures.valued
+pub exchange_field-requires-clause-before : goal.exchange_field-requires-clause-before
+exchange_field-requires-clause-before g c = λ told. subst (λ (t : Told). brought t.heap t.regs (Field 0 c.args.of c.args.i) ≡ Some (meant (core_of c.lambda_word.new.self.parts).entries [] 0 c.in-Ok.old)) (sym c.in-Ok.ensures.quiet.same) (c.in-Ok.ensures.means told)
 
-pub returns-clause-outside : goal.returns-clause-outside
-unfolding loom_outside
-returns-clause-outside g c = refl
+pub returns-in-Ok-clause-stored : goal.returns-in-Ok-clause-stored
+returns-in-Ok-clause-stored g c = stored-quiet (loom_told g.H.Host c.args.self.now) (loom_told g.H.Host c.lambda_word.new.self) (loom_told g.H.Host c.exchange_field.new.self) (SetField c.args.of c.args.i c.args.from) c.in-Ok.ensures.quiet c.exchange_field.ensures.stored
 
-pub returns-clause-stored : goal.returns-clause-stored
+pub returns-in-Err-clause-err : goal.returns-in-Err-clause-err
+returns-in-Err-clause-err g c = c.in-Err.ensures.err (SetField c.args.of c.args.i c.args.from) tt refl
+
+-- ---- over another word
+
+pub exchange_field-requires-2-clause-there : goal.exchange_field-requires-2-clause-there
+exchange_field-requires-2-clause-there g c = (c.field_word-w.result, c.field_word-w.ensures)
+
+pub exchange_field-requires-2-clause-used : goal.exchange_field-requires-2-clause-used
+exchange_field-requires-2-clause-used g c = λ is. word-live (core_of c.args.self.now.parts) c.args.s.0 c.place_of_body-at.result.place c.args.i c.field_word-w.result c.requires.sound.kept.parts.core c.field_word-w.ensures is
+
+pub exchange_field-requires-2-clause-before : goal.exchange_field-requires-2-clause-before
 unfolding loom_told
-returns-clause-stored g c =
+exchange_field-requires-2-clause-before g c = λ told.
     let m = c.args.self.now in
-    let p = c.place_of_body-at.result.place in
-    stored-is g.H.Host m c.put_field.new.p (SetField c.args.of c.args.i c.args.from) c.args.of c.args.s.0 p c.requires.sound c.put_field.ensures.parts c.put_field.ensures.within c.place_of_body-at.ensures
-    (ap (λ (e : Entry). place_of e.state) c.put_field.ensures.entry) (ap (λ (e : Entry). e.name) c.put_field.ensures.entry) c.requires.gone refl refl c.requires.word
-    (λ told.
-    let disk = disk_of g.H.Host m.disk.host.now m.disk.rest in
-    let core = c.requires.sound.kept.parts.core in
-    let used = placed-used ((core_of m.parts).entries c.args.s.0).state p c.place_of_body-at.ensures in
-    let there = held-at (core_of m.parts) disk ((core_of m.parts).entries c.args.s.0).name c.args.s.0 p (core.found c.args.s.0 used) c.place_of_body-at.ensures in
-    stored-told (g.H.Host.tells Work) (core_of m.parts) (core_of c.put_field.new.p) disk disk m.ledger.next c.args.of c.args.i c.args.from ((core_of m.parts).entries c.args.s.0).name (λ r. meant (core_of m.parts).entries [] 0 (word_in m.regs r)) (object_at (core_of m.parts) disk ((core_of m.parts).entries c.args.s.0) p) (meant (core_of m.parts).entries [] 0 (slice_index_or m.regs c.index.result 0)) told
-    (ap (meant (core_of m.parts).entries [] 0) (sym c.requires.word) ∙ meant-short (core_of m.parts).entries [] 0 c.args.s.0 (core.short c.args.s.0 used))
-    there
-    (ap (meant (core_of m.parts).entries [] 0) (sym (word-is m.regs c.index.result c.args.from c.index.ensures.same c.index.ensures.within c.requires.sound.kept.many)))
-    (c.put_field.ensures.held disk (object_at (core_of m.parts) disk ((core_of m.parts).entries c.args.s.0) p) (c.requires.sound.over.backed told) there))
+    field-told (g.H.Host.tells Work) (core_of m.parts) (disk_of g.H.Host m.disk.host.now m.disk.rest) m.ledger.next c.args.s.0 c.place_of_body-at.result.place 0 c.args.of c.args.i c.field_word-w.result (loom_told g.H.Host m).regs told c.requires.sound.kept.parts.core c.field_word-w.ensures c.if-w-eq0.false (ap (meant (core_of m.parts).entries [] 0) (sym c.requires.word))

@@ -7,6 +7,7 @@ use Rattle.loom_outside.specs.declared.outside.Role.TheVariants.{Work}
 use Rattle.object_table.specs.declared.entry.Entry.{Entry}
 use Rattle.object_table.specs.Entries.{place_of}
 use Rattle.core_view.specs.Words.{meant}
+use Rattle.core_view.specs.Core.{Core}
 use Rattle.core_view.specs.Held.{object_at}
 use Rattle.core_view.specs.Purge.{fresh_by}
 use Rattle.core_view.proofs.Core.{placed-used, held-at}
@@ -15,7 +16,9 @@ use Rattle.disk_objects.specs.Function.{disk_of}
 use Rattle.leaf_lambda.specs.Parts.{core_of}
 use Rattle.loom_memory.specs.Memory.{loom_told, loom_outside}
 use Rattle.loom_memory.proofs.FieldLaws.{told-bounds, damaged-refused}
-use Rattle.loom_memory.proofs.StoreLaws.{words-can, body-told, stored-is, stored-sound}
+use Rattle.loom_memory.proofs.StoreLaws.{stored-kept, stored-over, words-fields, words-can, body-told, stored-is}
+use Rattle.loom_memory.proofs.OwingLaws.{exact-rewritten}
+use Rattle.loom_memory.proofs.GentleLaws.{rest-refl, store-remains}
 use Rattle.loom_memory.proofs.memory.LoomMemory.store_words.Goals as goal
 use Rattle.loom_memory.proofs.memory.LoomMemory.store_words.Given as given
 
@@ -41,7 +44,27 @@ name-same : (g : given.Over) (c : goal.After-put_words g) → ((core_of c.put_wo
 name-same g c = ap (λ (e : Entry). e.name) c.put_words.ensures.entry
 
 pub returns-then-fits-clause-sound : goal.returns-then-fits-clause-sound
-returns-then-fits-clause-sound g c = stored-sound g.H.Host c.args.self.now c.put_words.new.p c.args.s.0 c.place_of_body-place.result.place c.requires.sound c.put_words.ensures.parts c.put_words.ensures.within c.place_of_body-place.ensures (place-same g c) (name-same g c) (ap fresh_by c.put_words.ensures.entry) c.put_words.ensures.size c.put_words.ensures.backed c.put_words.ensures.valued
+returns-then-fits-clause-sound g c =
+    let m = c.args.self.now in
+    let p = c.place_of_body-place.result.place in
+    let disk = disk_of g.H.Host m.disk.host.now m.disk.rest in
+    let core = c.requires.sound.kept.parts.core in
+    let o = object_at (core_of m.parts) disk ((core_of m.parts).entries c.args.s.0) p in
+    record {
+      kept = stored-kept m.parts c.put_words.new.p m.regs m.pinned m.ledger c.args.s.0 p c.requires.sound.kept c.put_words.ensures.parts c.put_words.ensures.within c.place_of_body-place.ensures (place-same g c) (name-same g c) c.put_words.ensures.size;
+      over = stored-over g.H.Host m.disk.host.now m.disk.rest (core_of m.parts) (core_of c.put_words.new.p) m.ledger c.args.s.0 c.requires.sound.over c.put_words.ensures.within (ap fresh_by c.put_words.ensures.entry) c.put_words.ensures.backed c.put_words.ensures.valued;
+      exact = exact-rewritten g.H.Host m.parts c.put_words.new.p m.disk.host.now m.disk.rest m.ledger.next c.args.s.0 p (with_words o.body c.args.at c.args.run.now) c.requires.sound.exact (λ told. record {
+        core = c.put_words.ensures.parts.core;
+        backed = c.put_words.ensures.backed disk (c.requires.sound.over.backed told);
+        place = c.place_of_body-place.ensures;
+        fields = words-fields o.body c.args.at c.args.run.now;
+        stored = c.put_words.ensures.held disk o (c.requires.sound.over.backed told)
+            (held-at (core_of m.parts) disk ((core_of m.parts).entries c.args.s.0).name c.args.s.0 p (core.found c.args.s.0 (placed-used ((core_of m.parts).entries c.args.s.0).state p c.place_of_body-place.ensures)) c.place_of_body-place.ensures);
+        valued = c.put_words.ensures.valued disk (c.requires.sound.over.backed told) (c.requires.sound.over.valued told);
+        find = ap (λ (d : Core). d.find) c.put_words.ensures.core;
+        changes = c.put_words.ensures.within.changes;
+      });
+    }
 
 pub returns-then-fits-clause-outside : goal.returns-then-fits-clause-outside
 unfolding loom_outside
@@ -52,7 +75,7 @@ unfolding loom_told
 returns-then-fits-clause-stored g c =
     let m = c.args.self.now in
     let p = c.place_of_body-place.result.place in
-    stored-is g.H.Host m c.put_words.new.p (WriteWords c.args.of c.args.at c.args.run.now) c.args.of c.args.s.0 p c.requires.sound c.put_words.ensures.parts c.put_words.ensures.within c.place_of_body-place.ensures (place-same g c) (name-same g c) c.requires.gone refl refl c.requires.word
+    stored-is g.H.Host m c.put_words.new.p (WriteWords c.args.of c.args.at c.args.run.now) c.args.of c.args.s.0 p c.requires.sound.kept c.put_words.ensures.parts c.put_words.ensures.within c.place_of_body-place.ensures (place-same g c) (name-same g c) c.requires.gone refl refl c.requires.word
     (λ told.
     let disk = disk_of g.H.Host m.disk.host.now m.disk.rest in
     let core = c.requires.sound.kept.parts.core in
@@ -77,3 +100,10 @@ none-there g c = λ told.
 
 pub returns-clause-err : goal.returns-clause-err
 returns-clause-err g c = λ a silent none. let b = told-bounds g.H.Host c.args.self.now in damaged-refused (loom_told g.H.Host c.args.self.now) (loom_told g.H.Host c.refuse.new.self) a _ _ c.refuse.result c.refuse.ensures.told c.refuse.ensures.result c.requires.ready none silent c.refuse.ensures.later (none-there g c) b.0 b.1
+
+pub returns-then-fits-clause-resting : goal.returns-then-fits-clause-resting
+returns-then-fits-clause-resting g c = rest-refl c.args.self.now _ (store-remains c.args.s.0 (core_of c.args.self.now.parts) (core_of c.put_words.new.p) c.put_words.ensures.within (place-same g c) (name-same g c)) refl refl refl
+
+pub returns-clause-sure : goal.returns-clause-sure
+unfolding loom_told
+returns-clause-sure g c = none-there g c

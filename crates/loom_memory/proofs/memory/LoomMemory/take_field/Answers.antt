@@ -8,6 +8,7 @@ use Rattle.loom_memory.specs.Memory.{loom_told}
 use Rattle.disk_objects.specs.Function.{disk_of}
 use Rattle.loom_memory.proofs.LoadLaws.{field-told, field-none}
 use Rattle.loom_memory.proofs.FieldLaws.{told-bounds, at-field, word-live, damaged-refused, taken-is}
+use Rattle.loom_memory.proofs.GentleLaws.{steady-peek}
 use Rattle.loom_memory.proofs.memory.LoomMemory.take_field.Goals as goal
 use Rattle.loom_memory.proofs.memory.LoomMemory.take_field.Given as given
 
@@ -42,3 +43,6 @@ brings g c = λ told.
 
 pub returns-clause-taken : goal.returns-clause-taken
 returns-clause-taken g c = let b = told-bounds g.H.Host c.args.self.now in taken-is (loom_told g.H.Host c.args.self.now) (loom_told g.H.Host c.put_word.new.self) c.args.to c.args.of c.args.i (meant (core_of c.args.self.now.parts).entries [] 0 c.field_word-w.result) b.0 b.1 c.put_word.ensures.told (brings g c)
+
+pub returns-clause-peek : goal.returns-clause-peek
+returns-clause-peek g c = steady-peek g.H.Host c.args.self.now c.put_word.new.self c.put_word.ensures.steady

@@ -4,6 +4,8 @@ use Rattle.leaf_lambda.specs.Parts.{core_of}
 use Rattle.purger.proofs.MarkLaws.{state-same}
 use Rattle.loom_memory.specs.Memory.{loom_told, loom_outside, IsCalm}
 use Rattle.loom_memory.proofs.StoreLaws.{unmark-calm, unmark-quiet, unmark-sound}
+use Rattle.loom_memory.proofs.GentleLaws.{rest-refl, unmark-remains}
+use Rattle.loom_memory.proofs.GentleLaws.{unmark-at}
 use Rattle.loom_memory.proofs.memory.LoomMemory.unmark.Goals as goal
 use Rattle.loom_memory.proofs.memory.LoomMemory.unmark.Given as given
 
@@ -23,3 +25,9 @@ returns-clause-place g c = ap place_of (state-same (core_of c.args.self.now.part
 pub returns-clause-outside : goal.returns-clause-outside
 unfolding loom_outside
 returns-clause-outside g c = refl
+
+pub returns-clause-resting : goal.returns-clause-resting
+returns-clause-resting g c = rest-refl c.args.self.now _ (unmark-remains (core_of c.args.self.now.parts) (core_of c.unmark_for.new.p) c.unmark_for.ensures.step) refl refl refl
+
+pub returns-clause-field : goal.returns-clause-field
+returns-clause-field g c = λ at i w is. unmark-at (core_of c.args.self.now.parts) (core_of c.unmark_for.new.p) c.args.s.0 at i w c.unmark_for.ensures.step is

@@ -1,4 +1,4 @@
-use Rattle.std.proofs.Common.{[], refl, sym, ◌∙◌, ap, subst}
+use Rattle.std.proofs.Common.{[], Some, refl, sym, ◌∙◌, ap, subst}
 use Rattle.long_names.specs.Words.{IsSmallInteger, IsValue}
 use Rattle.long_names.specs.declared.value.Value.{Value}
 use Rattle.long_names.specs.declared.value.Value.TheVariants.{Int}
@@ -13,6 +13,10 @@ use Rattle.core_view.proofs.Tight.{ref-tight}
 use Rattle.loom_memory.proofs.CalmLaws.{calm-kept}
 use Rattle.loom_memory.proofs.LastLaws.{told-still, leaf-keeps}
 use Rattle.loom_memory.proofs.LambdaLaws.{leaf-calm}
+use Rattle.method_cache.specs.Found.{found}
+use Rattle.loom_memory.proofs.CacheLaws.{cache-same}
+use Rattle.loom_memory.proofs.GentleLaws.{steady-is, steady-refl}
+use Rattle.loom_memory.proofs.ExactLaws.{exact-leaf, name-value}
 use Rattle.loom_memory.proofs.memory.LoomMemory.word_for.Goals as goal
 
 pub returns-in-Some-clause-means : goal.returns-in-Some-clause-means
@@ -34,14 +38,35 @@ returns-in-Some-find_or_leaf-clause-told g c =
     (λ told. (step.stays (disk_of g.H.Host m.disk.host.now m.disk.rest) (c.requires.sound.over.backed told)).held)
 
 pub returns-in-Some-find_or_leaf-clause-sound : goal.returns-in-Some-find_or_leaf-clause-sound
+unfolding loom_told
 returns-in-Some-find_or_leaf-clause-sound g c =
     let m = c.args.self.now in
     let step = c.in-Some-find_or_leaf.ensures.step in
     record {
       kept = calm-kept m.parts c.find_or_leaf.new.p m.regs m.pinned m.ledger c.requires.sound.kept (leaf-calm m.pinned (core_of m.parts) (core_of c.find_or_leaf.new.p) c.requires.sound.kept.parts.core c.in-Some-find_or_leaf.ensures.parts.core step) c.in-Some-find_or_leaf.ensures.parts (ref-tight (core_of m.parts) (core_of c.find_or_leaf.new.p) step.step c.requires.sound.kept.tight) (ap size_of c.in-Some-find_or_leaf.ensures.segment);
       over = over-then g.H.Host m.disk.host.now m.disk.rest (core_of m.parts) (core_of c.find_or_leaf.new.p) m.ledger step.stays step.step c.requires.sound.over;
+      exact = exact-leaf g.H.Host (Some c.in-Some-find_or_leaf.s) m.parts c.find_or_leaf.new.p m.disk.host.now m.disk.rest m.ledger.next c.in-Some-name.name c.requires.sound.exact c.in-Some-find_or_leaf.ensures.parts step c.in-Some-find_or_leaf.ensures.found c.in-Some-find_or_leaf.ensures.only tt
+          (λ told. c.requires.named told c.in-Some-name.name (name-value c.args.v.now c.in-Some-name.name (sym c.in-Some-name.ensures)));
     }
+
+pub returns-in-Some-find_or_leaf-clause-entries : goal.returns-in-Some-find_or_leaf-clause-entries
+returns-in-Some-find_or_leaf-clause-entries g c = c.in-Some-find_or_leaf.ensures.step.used
+
+pub returns-in-Some-find_or_leaf-clause-chunks : goal.returns-in-Some-find_or_leaf-clause-chunks
+returns-in-Some-find_or_leaf-clause-chunks g c = c.in-Some-find_or_leaf.ensures.step.step.chunks
 
 pub returns-in-Some-find_or_leaf-clause-outside : goal.returns-in-Some-find_or_leaf-clause-outside
 unfolding loom_outside
 returns-in-Some-find_or_leaf-clause-outside g c = refl
+
+pub returns-in-Some-clause-steady : goal.returns-in-Some-clause-steady
+returns-in-Some-clause-steady g c = steady-refl g.H.Host c.args.self.now
+
+pub returns-in-Some-find_or_leaf-clause-steady : goal.returns-in-Some-find_or_leaf-clause-steady
+unfolding loom_told
+returns-in-Some-find_or_leaf-clause-steady g c =
+    let m = c.args.self.now in
+    let step = c.in-Some-find_or_leaf.ensures.step in
+    let core = c.requires.sound.kept.parts.core in
+    let now = c.in-Some-find_or_leaf.ensures.parts.core in
+    steady-is g.H.Host m _ step.step (cache-same (core_of m.parts) (core_of c.find_or_leaf.new.p) (found m.ledger.rows) m.ledger.mark m.ledger.begun core now (leaf-keeps (core_of m.parts) (core_of c.find_or_leaf.new.p) core now step) c.requires.sound.kept.cached) refl refl refl

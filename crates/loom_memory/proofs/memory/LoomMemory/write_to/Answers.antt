@@ -2,6 +2,7 @@ use Rattle.std.proofs.Common.{◌≡◌, sym, ap, subst}
 use Rattle.std.specs.Result.{OnOk, OnErr}
 use Rattle.loom_outside.specs.Outside.{RoleState, PutPrefix, HasCause, puts}
 use Rattle.loom_memory.specs.Memory.{loom_told, loom_outside, Others, others_of}
+use Rattle.loom_memory.proofs.ExactLaws.{exact-work}
 use Rattle.loom_memory.proofs.SayLaws.{put-sound}
 use Rattle.loom_memory.proofs.LentLaws.{lent-write, lent-others, lent-told, others-lent}
 use Rattle.loom_memory.proofs.memory.LoomMemory.write_to.Goals as goal
@@ -17,6 +18,7 @@ pub returns-clause-sound : goal.returns-clause-sound
 returns-clause-sound g c = record {
   kept = c.requires.sound.kept;
   over = put-sound g.H.Host c.args.self.now c.write_to.new.self.host.now c.write_to.new.self.rest c.requires.sound c.write_to.ensures.rest c.write_to.ensures.work (λ told. (c.write_to.ensures.keeps c.requires.sound.over.stands told).stands told);
+  exact = exact-work g.H.Host c.args.self.now.parts c.args.self.now.disk.host.now c.write_to.new.self.host.now c.args.self.now.disk.rest c.write_to.new.self.rest c.args.self.now.ledger.next c.requires.sound.exact c.write_to.ensures.rest c.write_to.ensures.work;
 }
 
 pub returns-clause-put : goal.returns-clause-put

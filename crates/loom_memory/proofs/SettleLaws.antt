@@ -1,0 +1,225 @@
+-- Settling: dead objects go, and makings are counted anew.
+use Rattle.std.proofs.Common.{◌≡◌, ℕ, ◌+◌, ◌≤◌, true, Bool, Option, Some, None, Ok, Err, Result, IsTrue, refl, sym, ◌∙◌, ap, subst, arith, ⊎_elim}
+use Rattle.std.specs.Prelude.{IfErr, OnOk}
+use Rattle.long_names.specs.Counting.{Rose}
+use Rattle.long_names.specs.Heap.{Heap, Has, object_count}
+use Rattle.long_names.specs.Kept.{kept}
+use Rattle.long_names.specs.Thin.{IsThinning}
+use Rattle.long_names.proofs.ThinLemmas.{IsThinning-refl}
+use Rattle.loom_outside.specs.declared.outside.Host.{Ghosts}
+use Rattle.object_memory.specs.declared.fault.MemFault.{MemFault}
+use Rattle.object_memory.specs.declared.fault.MemFault.TheVariants.{CoreFull, WorkFull, WorkFault, Damaged, NamesSpent, Said, Memory}
+use Rattle.object_memory.specs.Told.{Told, Bounds, Cache, IsReady, is_root}
+use Rattle.object_memory.specs.Contract.{Settles, Called, CountsKept, HasCause, IfBounds, LeavesAll, LeavesCache, Raised, SameBounds, Settled, no_names, work_faults}
+use Rattle.disk_objects.specs.Disk.{disk_room}
+use Rattle.leaf_lambda.specs.Parts.{core_of}
+use Rattle.loom_memory.specs.declared.ledger.Ledger.{Ledger}
+use Rattle.loom_memory.specs.declared.memory.LoomMemory.{LoomMemory}
+use Rattle.loom_memory.specs.Numbers.{IsNumbered}
+use Rattle.loom_memory.specs.Memory.{loom_told, told_of, IsQuiet, IsSound}
+use Rattle.loom_memory.specs.Makings.{HasBegun, HasSettled, HasThinned, IsLost, IsRefusedCall}
+use Rattle.loom_memory.proofs.AccessLaws.{left-ready, same-trans}
+use Rattle.loom_memory.proofs.CacheLaws.{left-refl, left-trans}
+
+-- ---- the numbers begin anew
+
+pub begun-told : {H : Type 0} (host : Ghosts H) (m n : LoomMemory H) (base : Option ℕ) → n ≡ record m { ledger = n.ledger } → n.ledger ≡ record m.ledger { base = base; made = 0 } → HasBegun (loom_told host m) (loom_told host n) base
+unfolding loom_told
+begun-told {H} host m n base is same = subst (λ (z : LoomMemory H). HasBegun (told_of host m.disk.host.now m.disk.rest (core_of m.parts) m.regs m.pinned m.ledger) (told_of host z.disk.host.now z.disk.rest (core_of z.parts) z.regs z.pinned z.ledger) base) (sym is)
+    (subst (λ (k : Ledger). HasBegun (told_of host m.disk.host.now m.disk.rest (core_of m.parts) m.regs m.pinned m.ledger) (told_of host m.disk.host.now m.disk.rest (core_of m.parts) m.regs m.pinned k) base) (sym same)
+    (record { same = refl; bounds = (refl, refl, refl, omega arith, omega arith); settled = refl; base_is = refl }))
+
+begun-kept : {H : Type 0} (host : Ghosts H) (m : LoomMemory H) (base : Option ℕ) → IsSound host m → IsNumbered base 0 m.ledger.held m.ledger.next (disk_room m.disk.rest) → IsSound host (record m { ledger = record m.ledger { base = base; made = 0 } })
+begun-kept {H} host m base sound numbers =
+    let kept = sound.kept in
+    let over = sound.over in
+    record {
+      kept = record { parts = kept.parts; tight = kept.tight; size = kept.size; entries = kept.entries; rooted = kept.rooted; filled = kept.filled; many = kept.many; pinned = kept.pinned; here = kept.here; cached = kept.cached };
+      over = record { stands = over.stands; backed = over.backed; counted = over.counted; roomy = over.roomy; based = numbers; valued = over.valued };
+      exact = sound.exact;
+    }
+
+pub begun-sound : {H : Type 0} (host : Ghosts H) (m : LoomMemory H) (l : Ledger) (base : Option ℕ) → IsSound host m → IsNumbered base 0 m.ledger.held m.ledger.next (disk_room m.disk.rest) → l ≡ record m.ledger { base = base; made = 0 } → IsSound host (record m { ledger = l })
+begun-sound {H} host m l base sound numbers is = subst (λ (k : Ledger). IsSound host (record m { ledger = k })) (sym is) (begun-kept host m base sound numbers)
+
+-- there was room for eight more
+pub numbers-none : (base : Option ℕ) (made held next room : ℕ) → IsNumbered base made held next room → held + 8 ≤ room → IsNumbered None 0 held next room
+numbers-none base made held next room x low = record {
+  most = λ b e. absurd (cc);
+  low = λ b e. absurd (cc);
+  eight = λ e less. omega (arith, low);
+  few = omega arith;
+  even = x.even;
+}
+
+-- so many are held, and nothing is dead
+pub numbers-some : (base : Option ℕ) (made held next room : ℕ) → IsNumbered base made held next room → held ≤ room → IsNumbered (Some held) 0 held next room
+numbers-some base made held next room x low = record {
+  most = λ b e. let same : held ≡ b = cc in omega (arith, same);
+  low = λ b e. let same : held ≡ b = cc in omega (arith, same, low);
+  eight = λ e less. absurd (cc);
+  few = omega arith;
+  even = x.even;
+}
+
+-- ---- what settled
+
+-- no object went
+pub settled-none : (t u : Told) → IsReady t → HasBegun t u None → HasSettled t u
+settled-none t u ready x =
+    let heap : u.heap ≡ t.heap = ap (λ (z : Told). z.heap) x.same in
+    let cache : u.cache ≡ t.cache = ap (λ (z : Told). z.cache) x.same in
+    record {
+      same = x.same ∙ (λ i. record t { heap = sym heap i; bounds = u.bounds; cache = sym cache i });
+      thinning = λ told. subst (λ (h : Heap). IsThinning t.heap h t.regs t.slots) (sym heap) (IsThinning-refl t.heap t.regs t.slots (ready.whole told));
+      marked = λ told n on. subst (λ (h : Heap). Has h n) (sym heap) (ready.marked told n (ap (λ (c : Cache). c.marks n) (sym cache) ∙ on));
+      cache = subst (λ (c : Cache). LeavesCache no_names None t.cache t.cache c) (sym cache) (left-refl t.cache);
+      bounds = x.bounds;
+      settled = x.settled;
+      base = go u.bounds x.base_is;
+    }
+  where
+    go : (b : Option Bounds) → IfBounds b (λ b. b.base ≡ None) → IfBounds b (λ b. CountsKept u b.base)
+    go None e = tt
+    go (Some b) e = subst (λ (o : Option ℕ). CountsKept u o) (sym e) tt
+
+-- dead objects went, and what is left was counted
+pub settled-some : (t u v : Told) (base : ℕ) → HasThinned t u → HasBegun u v (Some base) → (IsTrue t.tells → object_count u.heap ≡ base) → (IsTrue t.tells → kept u.heap (is_root u) ≡ u.heap) → HasSettled t v
+settled-some t u v base thin x count again =
+    let heap : v.heap ≡ u.heap = ap (λ (z : Told). z.heap) x.same in
+    let cache : v.cache ≡ u.cache = ap (λ (z : Told). z.cache) x.same in
+    let tells : v.tells ≡ t.tells = ap (λ (z : Told). z.tells) x.same ∙ ap (λ (z : Told). z.tells) thin.same in
+    record {
+      same = x.same ∙ ap (λ (z : Told). record z { bounds = v.bounds }) thin.same ∙ (λ i. record t { heap = sym heap i; bounds = v.bounds; cache = sym cache i });
+      thinning = λ told. subst (λ (h : Heap). IsThinning t.heap h t.regs t.slots) (sym heap) (thin.thinning told);
+      marked = λ told n on. subst (λ (h : Heap). Has h n) (sym heap) (thin.marked told n (ap (λ (c : Cache). c.marks n) (sym cache) ∙ on));
+      cache = subst (λ (c : Cache). LeavesCache no_names None t.cache t.cache c) (sym cache) thin.cache;
+      bounds = same-trans t.bounds u.bounds v.bounds thin.bounds x.bounds;
+      settled = settled-over t.bounds u.bounds v.bounds thin.bounds x.settled;
+      base = go v.bounds x.base_is (λ told. sym (count (sym tells ∙ told)) ∙ ap object_count (sym (again (sym tells ∙ told)) ∙ sym (ap (λ (z : Told). kept z.heap (is_root z)) x.same)));
+    }
+  where
+    settled-over : (a b c : Option Bounds) → SameBounds a b → Settled b c → Settled a c
+    settled-over None None c x y = y
+    settled-over None (Some b) c x y = absurd x
+    settled-over (Some a) None c x y = absurd x
+    settled-over (Some a) (Some b) None x y = absurd y
+    settled-over (Some a) (Some b) (Some c) x y = y
+
+    go : (b : Option Bounds) → IfBounds b (λ b. b.base ≡ Some base) → (IsTrue v.tells → base ≡ object_count (kept v.heap (is_root v))) → IfBounds b (λ b. CountsKept v b.base)
+    go None e is = tt
+    go (Some b) e is = subst (λ (o : Option ℕ). CountsKept v o) (sym e) is
+
+-- quiet steps after it
+pub settled-quiet : (t u v : Told) → HasSettled t u → IsQuiet u v → HasSettled t v
+settled-quiet t u v x quiet =
+    let heap : v.heap ≡ u.heap = ap (λ (z : Told). z.heap) quiet.same in
+    record {
+      same = quiet.same ∙ ap (λ (z : Told). record z { bounds = v.bounds; cache = v.cache }) x.same ∙ ap (λ (h : Heap). record t { heap = h; bounds = v.bounds; cache = v.cache }) (sym heap);
+      thinning = λ told. subst (λ (h : Heap). IsThinning t.heap h t.regs t.slots) (sym heap) (x.thinning told);
+      marked = λ told n on. subst (λ (h : Heap). Has h n) (sym heap) (still told n on quiet.cache);
+      cache = left-trans t.cache u.cache v.cache x.cache quiet.cache;
+      bounds = same-trans t.bounds u.bounds v.bounds x.bounds quiet.bounds;
+      settled = settled-after t.bounds u.bounds v.bounds x.settled quiet.counts;
+      base = go u.bounds v.bounds x.base quiet.counts;
+    }
+  where
+    still : IsTrue t.tells → (n : ℕ) → v.cache.marks n ≡ true → LeavesCache no_names None u.cache u.cache v.cache → Has u.heap n
+    still told n on left = ⊎_elim (λ kept. x.marked told n (ap (λ (f : ℕ → Bool). f n) (sym kept.marks) ∙ on)) (λ emptied. absurd (let none = emptied.marks n on in cc)) left
+
+    settled-after : (a b c : Option Bounds) → Settled a b → Raised 0 b c → Settled a c
+    settled-after None None None x y = tt
+    settled-after None None (Some c) x y = absurd y
+    settled-after None (Some b) c x y = absurd x
+    settled-after (Some a) None c x y = absurd x
+    settled-after (Some a) (Some b) None x y = absurd y
+    settled-after (Some a) (Some b) (Some c) x y = let p = x in let q = y.1 in omega (arith, p, q)
+
+    counts : (o : Option ℕ) → CountsKept u o → CountsKept v o
+    counts None c = tt
+    counts (Some base) c = λ told. c (ap (λ (z : Told). z.tells) (sym quiet.same) ∙ told) ∙ ap (λ (z : Told). object_count (kept z.heap (is_root z))) (sym quiet.same)
+
+    go : (b c : Option Bounds) → IfBounds b (λ b. CountsKept u b.base) → Raised 0 b c → IfBounds c (λ c. CountsKept v c.base)
+    go b None x y = tt
+    go None (Some c) x y = absurd y
+    go (Some b) (Some c) x y = subst (λ (o : Option ℕ). CountsKept v o) (sym y.0) (counts b.base x)
+
+pub settled-ready : (t u : Told) → HasSettled t u → IsReady t → IsReady u
+settled-ready t u x ready = subst (λ (z : Told). IsReady z) (sym x.same) (record { whole = λ told. (x.thinning told).whole; marked = x.marked; cached = (left-ready t u.bounds u.cache x.cache ready).cached })
+
+-- ---- the call
+
+pub settled-called : (t u : Told) → HasSettled t u → Called {A = Unit {0}} t u Settles (Ok tt)
+settled-called t u x = subst (λ (z : Told). Called {A = Unit {0}} t z Settles (Ok tt)) (sym x.same) (record {
+  later = record { tells = refl; speaks = refl; bounds = x.bounds; refusals = omega arith };
+  ok = record {
+    regs = refl;
+    brings = tt;
+    slots = refl;
+    transcript = λ told. refl;
+    heap = λ told. (x.thinning told).thinner;
+    cache = x.cache;
+    counts = x.settled;
+    base = subst (λ (z : Told). IfBounds z.bounds (λ b. CountsKept z b.base)) x.same x.base;
+    refusals = refl;
+    last = refl;
+  };
+  err = tt;
+})
+
+faults-below : (a b : Option Bounds) → SameBounds a b → work_faults a ≤ work_faults b
+faults-below None None x = omega arith
+faults-below None (Some b) x = absurd x
+faults-below (Some a) None x = absurd x
+faults-below (Some a) (Some b) x = x.3
+
+cause-settled : (t u w : Told) (f : MemFault) → HasSettled t u → IsLost f → HasCause u w Settles f → HasCause t w Settles f
+cause-settled t u w (WorkFault count) x lost cause = (cause.0, (let rose = cause.1 in let low = faults-below t.bounds u.bounds x.bounds in omega (arith, rose, low)))
+cause-settled t u w (Damaged place name) x lost cause = λ told. cause (ap (λ (z : Told). z.tells) x.same ∙ told)
+cause-settled t u w (CoreFull need) x lost cause = absurd lost
+cause-settled t u w (WorkFull live room) x lost cause = absurd lost
+cause-settled t u w NamesSpent x lost cause = absurd lost
+cause-settled t u w (Said count) x lost cause = absurd lost
+cause-settled t u w Memory x lost cause = absurd lost
+
+lost-left : (f : MemFault) (P : Type 0) → IsLost f → LeavesAll f P
+lost-left (WorkFault count) P lost = tt
+lost-left (Damaged place name) P lost = tt
+lost-left (CoreFull need) P lost = absurd lost
+lost-left (WorkFull live room) P lost = absurd lost
+lost-left NamesSpent P lost = absurd lost
+lost-left (Said count) P lost = absurd lost
+lost-left Memory P lost = absurd lost
+
+after-settled : (t u w : Told) (f : MemFault) → HasSettled t u → IsLost f → IsRefusedCall u w Settles f → IsRefusedCall t w Settles f
+after-settled t u w f x lost both =
+    let tells : u.tells ≡ t.tells = ap (λ (z : Told). z.tells) x.same in
+    let speaks : u.speaks ≡ t.speaks = ap (λ (z : Told). z.speaks) x.same in
+    let said : u.transcript ≡ t.transcript = ap (λ (z : Told). z.transcript) x.same in
+    let times_ : u.refusals ≡ t.refusals = ap (λ (z : Told). z.refusals) x.same in (
+      record { tells = both.0.tells ∙ tells; speaks = both.0.speaks ∙ speaks; bounds = same-trans t.bounds u.bounds w.bounds x.bounds both.0.bounds; refusals = (let low = both.0.refusals in omega (arith, low, times_)) },
+      record {
+        rose = subst (λ (n : ℕ). Rose n w.refusals) times_ both.1.rose;
+        last = both.1.last;
+        cause = cause-settled t u w f x lost both.1.cause;
+        spent = λ make told past. absurd make;
+        counts = tt;
+        transcript = λ told. both.1.transcript (speaks ∙ told) ∙ said;
+        left = lost-left f _ lost;
+      },
+    )
+
+refused-call : (t u : Told) (f : MemFault) → IsRefusedCall t u Settles f → Called {A = Unit {0}} t u Settles (Err f)
+refused-call t u f both = record { later = both.0; ok = tt; err = both.1 }
+
+-- after the disk was settled, entries are freed
+pub settle-last : (r : Result (Unit {0}) MemFault) (t u v : Told) → HasSettled t u → OnOk r (IsQuiet u v) → IfErr r (IsRefusedCall u v Settles) → IfErr r IsLost → Called {A = Unit {0}} t v Settles r
+settle-last (Ok x) t u v settled quiet err lost = settled-called t v (settled-quiet t u v settled quiet)
+settle-last (Err f) t u v settled quiet err lost = refused-call t v f (after-settled t u v f settled lost err)
+
+pub settle-refused : (t u : Told) (f : MemFault) → IsRefusedCall t u Settles f → Called {A = Unit {0}} t u Settles (Err f)
+settle-refused t u f both = refused-call t u f both
+
+pub settle-now : (r : Result (Unit {0}) MemFault) (t u v : Told) → HasSettled t u → OnOk r (IsQuiet u v) → IsReady t → OnOk r (IsReady v)
+settle-now (Ok x) t u v settled quiet ready = settled-ready t v (settled-quiet t u v settled quiet) ready
+settle-now (Err f) t u v settled quiet ready = tt

@@ -1,0 +1,41 @@
+use Rattle.std.proofs.Common.{refl, ◌∙◌}
+use Rattle.long_names.specs.Access.{Field, Nothing}
+use Rattle.loom_memory.specs.Memory.{loom_told}
+use Rattle.loom_memory.proofs.AccessLaws.{refused-is, quiet-ready}
+use Rattle.loom_memory.proofs.LastLaws.{field-last, can-still, field-ready}
+use Rattle.long_names.specs.State.{name_at}
+use Rattle.loom_memory.proofs.GentleLaws.{load-searched, then-searched}
+use Rattle.loom_memory.proofs.memory.LoomMemory.field_on_disk.Goals as goal
+
+pub take_field-requires-clause-ready : goal.take_field-requires-clause-ready
+take_field-requires-clause-ready g c = quiet-ready (loom_told g.H.Host c.args.self.now) (loom_told g.H.Host c.load_with_room.new.self) c.in-Ok.ensures.quiet c.requires.fit.ready
+
+pub take_field-requires-clause-may : goal.take_field-requires-clause-may
+unfolding loom_told
+take_field-requires-clause-may g c = λ told. can-still (loom_told g.H.Host c.args.self.now) (loom_told g.H.Host c.load_with_room.new.self) (Field c.args.to c.args.of c.args.i) c.in-Ok.ensures.quiet (c.requires.may.heap told)
+
+pub take_field-requires-clause-there : goal.take_field-requires-clause-there
+take_field-requires-clause-there g c = (c.in-Ok.ensures.loaded.at, c.in-Ok.ensures.loaded.place)
+
+pub returns-in-Ok-clause-access : goal.returns-in-Ok-clause-access
+returns-in-Ok-clause-access g c = field-last c.take_field.result (loom_told g.H.Host c.args.self.now) (loom_told g.H.Host c.load_with_room.new.self) (loom_told g.H.Host c.take_field.new.self) c.args.to c.args.of c.args.i c.in-Ok.ensures.quiet c.take_field.ensures.taken c.take_field.ensures.err (c.in-Ok.ensures.core (Field c.args.to c.args.of c.args.i) refl refl)
+
+pub returns-in-Err-clause-access : goal.returns-in-Err-clause-access
+returns-in-Err-clause-access g c = refused-is (loom_told g.H.Host c.args.self.now) (loom_told g.H.Host c.load_with_room.new.self) (Field c.args.to c.args.of c.args.i) (λ _. Nothing) c.in-Err.f (c.in-Err.ensures.err (Field c.args.to c.args.of c.args.i) refl refl tt)
+
+pub returns-in-Ok-clause-fit : goal.returns-in-Ok-clause-fit
+unfolding loom_told
+returns-in-Ok-clause-fit g c = record {
+  sound = c.take_field.ensures.sound;
+  ready = field-ready c.take_field.result (loom_told g.H.Host c.load_with_room.new.self) (loom_told g.H.Host c.take_field.new.self) c.args.to c.args.of c.args.i (quiet-ready (loom_told g.H.Host c.args.self.now) (loom_told g.H.Host c.load_with_room.new.self) c.in-Ok.ensures.quiet c.requires.fit.ready) c.take_field.ensures.taken (λ told. can-still (loom_told g.H.Host c.args.self.now) (loom_told g.H.Host c.load_with_room.new.self) (Field c.args.to c.args.of c.args.i) c.in-Ok.ensures.quiet (c.requires.may.heap told));
+  lender = c.take_field.ensures.lender ∙ c.in-Ok.ensures.lender;
+  outside = c.take_field.ensures.outside ∙ c.in-Ok.ensures.outside;
+}
+
+pub returns-in-Ok-clause-searched : goal.returns-in-Ok-clause-searched
+returns-in-Ok-clause-searched g c =
+    let m = c.args.self.now in
+    let u = c.load_with_room.new.self in
+    let load = c.in-Ok.ensures in
+    then-searched c.take_field.result g.H.Host m u c.take_field.new.self (name_at ((loom_told g.H.Host m).regs c.args.of)) (load-searched g.H.Host m u c.args.of c.requires.fit.sound load.sound c.requires.may.names load.there load.counted load.gentle load.idle)
+    c.take_field.ensures.peek load.sound.kept.parts.core c.take_field.ensures.sound

@@ -1,0 +1,21 @@
+use Rattle.std.proofs.Common.{◌≡◌, ℕ, ◌+◌, ◌≤◌, ap, refl, subst, arith}
+use Rattle.long_names.specs.Counting.{counted}
+use Rattle.object_memory.specs.declared.fault.MemFault.{MemFault}
+use Rattle.object_memory.specs.Plain.{refused}
+use Rattle.object_memory.specs.Told.{Told}
+use Rattle.loom_memory.specs.Memory.{loom_told}
+use Rattle.loom_memory.proofs.AddLaws.{overfull-making}
+use Rattle.loom_memory.proofs.MakingLaws.{thinned-ready}
+use Rattle.loom_memory.proofs.memory.LoomMemory.free_one.Goals as goal
+
+pub overfull-requires-clause-ready : goal.overfull-requires-clause-ready
+overfull-requires-clause-ready g c = thinned-ready (loom_told g.H.Host c.args.self.now) (loom_told g.H.Host c.thin.new.self) c.in-Ok.ensures.thinned c.requires.ready
+
+pub returns-else-self-room-clause-err : goal.returns-else-self-room-clause-err
+returns-else-self-room-clause-err g c =
+    let m = c.args.self.now in
+    let n = c.thin.new.self in
+    overfull-making g.H.Host m n (loom_told g.H.Host c.overfull.new.self) (n.ledger.held + 1) _ c.overfull.result c.requires.ready c.in-Ok.ensures.thinned c.in-Ok.ensures.kept
+    (λ told. ap (λ k. k + 1) (c.in-Ok.ensures.count told)) c.requires.late refl (let all = c.if-self-room.false in omega (arith, all))
+    (subst (λ (f : MemFault). loom_told g.H.Host c.overfull.new.self ≡ refused (loom_told g.H.Host n) f) c.overfull.ensures.full c.overfull.ensures.told) c.overfull.ensures.full
+    (subst (λ (k : ℕ). k ≤ counted k) (ap (λ (z : Told). z.refusals) c.in-Ok.ensures.thinned.same) c.overfull.ensures.later)

@@ -1,0 +1,66 @@
+use Rattle.std.proofs.Common.{[], Some, sym, ◌∙◌, ap, subst, IsTrue}
+use Rattle.loom_outside.specs.declared.outside.Role.TheVariants.{Work}
+use Rattle.object_memory.specs.Told.{Told}
+use Rattle.object_record.specs.Objects.{value_in}
+use Rattle.object_table.specs.declared.entry.Entry.{Entry}
+use Rattle.core_view.specs.Words.{meant}
+use Rattle.core_view.proofs.Core.{placed-used}
+use Rattle.leaf_lambda.specs.Parts.{core_of}
+use Rattle.leaf_lambda.proofs.RecordLaws.{value-is}
+use Rattle.disk_objects.specs.Function.{disk_of}
+use Rattle.loom_memory.specs.Known.{IsNameable}
+use Rattle.loom_memory.specs.Memory.{loom_told, IsQuiet}
+use Rattle.loom_memory.proofs.FieldLaws.{at-same}
+use Rattle.loom_memory.proofs.ExactLaws.{brought-nameable}
+use Rattle.loom_memory.proofs.LambdaLaws.{no-value, lambda-told, lambda-value, damaged-after}
+use Rattle.loom_memory.proofs.GentleLaws.{peek-trans, steady-peek}
+use Rattle.loom_memory.proofs.memory.LoomMemory.lambda_word.Goals as goal
+use Rattle.loom_memory.proofs.memory.LoomMemory.lambda_word.Given as given
+
+pub word_for-requires-clause-named : goal.word_for-requires-clause-named
+unfolding loom_told
+word_for-requires-clause-named g c = λ told n is.
+    let m = c.args.self.now in
+    subst (λ (t : Told). IsNameable t.heap n) (sym c.in-Ok.ensures.quiet.same)
+    (brought-nameable (loom_told g.H.Host m).heap (loom_told g.H.Host m).regs (loom_told g.H.Host m).slots c.args.of c.args.i n (c.requires.ready.whole told)
+    (lambda-told (g.H.Host.tells Work) (core_of m.parts) (disk_of g.H.Host m.disk.host.now m.disk.rest) m.ledger.next c.args.s.0 c.args.at.place 0 c.args.of c.args.i (value_in c.in-Ok.long) (loom_told g.H.Host m).regs told c.requires.sound.kept.parts.core c.requires.lambda (c.in-Ok.ensures.long told) (ap (meant (core_of m.parts).entries [] 0) (sym c.requires.word))
+    ∙ ap Some (value-is c.in-Ok.long c.in-Some.v (sym c.in-Some.ensures.value) ∙ is)))
+
+pub returns-in-Some-clause-quiet : goal.returns-in-Some-clause-quiet
+returns-in-Some-clause-quiet g c = subst (λ (t : Told). IsQuiet (loom_told g.H.Host c.args.self.now) t) (sym c.word_for.ensures.told) c.in-Ok.ensures.quiet
+
+pub returns-in-Some-clause-means : goal.returns-in-Some-clause-means
+unfolding loom_told
+returns-in-Some-clause-means g c = λ told.
+    let m = c.args.self.now in
+    lambda-told (g.H.Host.tells Work) (core_of m.parts) (disk_of g.H.Host m.disk.host.now m.disk.rest) m.ledger.next c.args.s.0 c.args.at.place 0 c.args.of c.args.i (value_in c.in-Ok.long) (loom_told g.H.Host m).regs told c.requires.sound.kept.parts.core c.requires.lambda (c.in-Ok.ensures.long told) (ap (meant (core_of m.parts).entries [] 0) (sym c.requires.word))
+    ∙ ap Some (value-is c.in-Ok.long c.in-Some.v (sym c.in-Some.ensures.value) ∙ sym c.word_for.ensures.means)
+
+pub returns-in-Some-clause-regs : goal.returns-in-Some-clause-regs
+returns-in-Some-clause-regs g c = c.word_for.ensures.regs ∙ c.in-Ok.ensures.regs
+
+pub returns-in-Some-clause-at : goal.returns-in-Some-clause-at
+returns-in-Some-clause-at g c =
+    let n = c.read_lambda.new.self in
+    let at = c.in-Ok.ensures.at in
+    (at.0, at-same (core_of n.parts) (core_of c.word_for.new.self.parts) c.args.s.0 c.args.at.place c.args.i at.0 (c.word_for.ensures.entries c.args.s.0 (placed-used ((core_of n.parts).entries c.args.s.0).state c.args.at.place at.1.place)) c.word_for.ensures.chunks at.1)
+
+pub returns-in-Some-clause-mark : goal.returns-in-Some-clause-mark
+returns-in-Some-clause-mark g c =
+    let n = c.read_lambda.new.self in
+    ap (λ (e : Entry). e.flags.marked) (c.word_for.ensures.entries c.args.s.0 (placed-used ((core_of n.parts).entries c.args.s.0).state c.args.at.place c.in-Ok.ensures.at.1.place)) ∙ c.in-Ok.ensures.mark
+
+none-there : (g : given.Over) (c : goal.After-refuse g) → IsTrue (loom_told g.H.Host c.args.self.now).tells → ⊥
+unfolding loom_told
+none-there g c = λ told.
+    let m = c.args.self.now in
+    no-value c.in-Ok.long (sym c.in-None.ensures.value) (lambda-value (core_of m.parts) (disk_of g.H.Host m.disk.host.now m.disk.rest) c.args.s.0 c.args.at.place c.args.i (value_in c.in-Ok.long) c.requires.sound.kept.parts.core (c.requires.sound.over.valued told) c.requires.lambda (c.in-Ok.ensures.long told))
+
+pub returns-in-None-clause-err : goal.returns-in-None-clause-err
+returns-in-None-clause-err g c = λ a silent none. damaged-after (loom_told g.H.Host c.args.self.now) (loom_told g.H.Host c.read_lambda.new.self) (loom_told g.H.Host c.refuse.new.self) a _ _ c.refuse.result c.in-Ok.ensures.quiet c.refuse.ensures.told c.refuse.ensures.result c.requires.ready silent none c.refuse.ensures.later (none-there g c)
+
+pub returns-in-Err-clause-err : goal.returns-in-Err-clause-err
+returns-in-Err-clause-err g c = c.in-Err.ensures.err
+
+pub returns-in-Some-clause-peek : goal.returns-in-Some-clause-peek
+returns-in-Some-clause-peek g c = peek-trans g.H.Host c.args.self.now c.read_lambda.new.self c.word_for.new.self c.in-Ok.ensures.peek (steady-peek g.H.Host c.read_lambda.new.self c.word_for.new.self c.word_for.ensures.steady)

@@ -1,0 +1,39 @@
+use Rattle.std.proofs.Common.{◌∙◌, arith}
+use Rattle.loom_memory.specs.Memory.{loom_told}
+use Rattle.loom_memory.specs.New.{making_of}
+use Rattle.loom_memory.proofs.AccessLaws.{quiet-ready}
+use Rattle.loom_memory.proofs.AddLaws.{core-ok, core-there, making-words, unfit-new}
+use Rattle.loom_memory.proofs.MakingLaws.{after-quiet-as, full-as, made-if, quiet-thinned, refused-each, refused-if}
+use Rattle.loom_memory.proofs.memory.LoomMemory.make_here.Goals as goal
+
+pub returns-then-words-self-clause-err : goal.returns-then-words-self-clause-err
+returns-then-words-self-clause-err g c = full-as (loom_told g.H.Host c.args.self.now) (loom_told g.H.Host c.full_new.new.self) c.args.to c.args.class (making_of c.args.kind c.args.len c.args.header) c.words_new-words.result c.full_new.result c.full_new.ensures.err (c.words_new-words.ensures.words ∙ making-words c.args.kind c.args.len c.args.header)
+
+pub put_object-requires-clause-ready : goal.put_object-requires-clause-ready
+put_object-requires-clause-ready g c = quiet-ready (loom_told g.H.Host c.args.self.now) (loom_told g.H.Host c.clear_new.new.self) c.in-Ok.ensures.quiet c.requires.ready
+
+pub returns-then-enough-clause-made : goal.returns-then-enough-clause-made
+returns-then-enough-clause-made g c = made-if c.put_object.result (loom_told g.H.Host c.args.self.now) (loom_told g.H.Host c.clear_new.new.self) (loom_told g.H.Host c.put_object.new.self) c.args.to c.args.class (making_of c.args.kind c.args.len c.args.header) c.in-Ok.ensures.quiet c.put_object.ensures.made
+
+pub returns-then-enough-clause-core : goal.returns-then-enough-clause-core
+returns-then-enough-clause-core g c = core-ok c.put_object.result (core-there g.H.Host c.args.self.now c.args.to c.args.class c.words_new-words.result (making_of c.args.kind c.args.len c.args.header) (c.words_new-words.ensures.words ∙ making-words c.args.kind c.args.len c.args.header) (let fits = c.if-words-self.false in omega (arith, fits)))
+
+pub returns-then-enough-clause-err : goal.returns-then-enough-clause-err
+returns-then-enough-clause-err g c = refused-if c.put_object.result (loom_told g.H.Host c.args.self.now) (loom_told g.H.Host c.clear_new.new.self) (loom_told g.H.Host c.put_object.new.self) c.args.to c.args.class (making_of c.args.kind c.args.len c.args.header)
+    (quiet-thinned (loom_told g.H.Host c.args.self.now) (loom_told g.H.Host c.clear_new.new.self) c.in-Ok.ensures.quiet c.requires.ready)
+    (refused-each c.put_object.result (loom_told g.H.Host c.clear_new.new.self) (loom_told g.H.Host c.put_object.new.self) c.args.to c.args.class (making_of c.args.kind c.args.len c.args.header) c.put_object.ensures.err) c.put_object.ensures.other
+
+pub full_new-requires-in-Ok-clause-ready : goal.full_new-requires-in-Ok-clause-ready
+full_new-requires-in-Ok-clause-ready g c = quiet-ready (loom_told g.H.Host c.args.self.now) (loom_told g.H.Host c.clear_new.new.self) c.in-Ok.ensures.quiet c.requires.ready
+
+pub full_new-requires-in-Ok-clause-unfit : goal.full_new-requires-in-Ok-clause-unfit
+full_new-requires-in-Ok-clause-unfit g c = λ need is.
+    let n = c.clear_new.new.self in
+    unfit-new n.parts n.regs n.pinned n.ledger c.args.name c.words_new-words.result need c.in-Ok.ensures.sound.kept (c.in-Ok.ensures.short c.if-enough.false) c.entries_are_counted.ensures c.chunks_never_overlap.ensures is
+
+pub returns-else-enough-clause-err : goal.returns-else-enough-clause-err
+returns-else-enough-clause-err g c = after-quiet-as (loom_told g.H.Host c.args.self.now) (loom_told g.H.Host c.clear_new.new.self) (loom_told g.H.Host c.full_new-in-Ok.new.self) c.args.to c.args.class (making_of c.args.kind c.args.len c.args.header) c.full_new-in-Ok.result c.in-Ok.ensures.quiet c.requires.ready c.full_new-in-Ok.ensures.other
+    (full-as (loom_told g.H.Host c.clear_new.new.self) (loom_told g.H.Host c.full_new-in-Ok.new.self) c.args.to c.args.class (making_of c.args.kind c.args.len c.args.header) c.words_new-words.result c.full_new-in-Ok.result c.full_new-in-Ok.ensures.err (c.words_new-words.ensures.words ∙ making-words c.args.kind c.args.len c.args.header))
+
+pub returns-in-Err-clause-err : goal.returns-in-Err-clause-err
+returns-in-Err-clause-err g c = λ low. c.in-Err.ensures.err c.args.to c.args.class (making_of c.args.kind c.args.len c.args.header) low

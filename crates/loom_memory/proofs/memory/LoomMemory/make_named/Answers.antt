@@ -1,0 +1,31 @@
+use Rattle.std.proofs.Common.{◌∙◌}
+use Rattle.long_names.specs.Access.{Make, Nothing}
+use Rattle.loom_memory.specs.Memory.{loom_told}
+use Rattle.loom_memory.specs.New.{making_of}
+use Rattle.loom_memory.proofs.AccessLaws.{refused-is}
+use Rattle.loom_memory.proofs.AddLaws.{next-low}
+use Rattle.loom_memory.proofs.MakingLaws.{made-last, made-now, thinned-ready}
+use Rattle.loom_memory.proofs.memory.LoomMemory.make_named.Goals as goal
+
+pub make_here-requires-clause-ready : goal.make_here-requires-clause-ready
+make_here-requires-clause-ready g c = thinned-ready (loom_told g.H.Host c.args.self.now) (loom_told g.H.Host c.ask_room.new.self) c.in-Ok.ensures.thinned c.requires.fit.ready
+
+pub returns-in-Ok-clause-access : goal.returns-in-Ok-clause-access
+unfolding loom_told
+returns-in-Ok-clause-access g c =
+    made-last c.make_here.result (loom_told g.H.Host c.args.self.now) (loom_told g.H.Host c.ask_room.new.self) (loom_told g.H.Host c.make_here.new.self) c.args.to c.args.class (making_of c.args.kind c.args.len c.args.header)
+    c.in-Ok.ensures.thinned c.make_here.ensures.made c.make_here.ensures.err c.make_here.ensures.other (next-low g.H.Host c.args.self.now c.args.name c.requires.next c.requires.low) c.make_here.ensures.core
+
+pub returns-in-Ok-clause-fit : goal.returns-in-Ok-clause-fit
+returns-in-Ok-clause-fit g c = record {
+  sound = c.make_here.ensures.sound;
+  ready = made-now c.make_here.result (loom_told g.H.Host c.ask_room.new.self) (loom_told g.H.Host c.make_here.new.self) c.args.to c.args.class (making_of c.args.kind c.args.len c.args.header) c.make_here.ensures.made
+      (thinned-ready (loom_told g.H.Host c.args.self.now) (loom_told g.H.Host c.ask_room.new.self) c.in-Ok.ensures.thinned c.requires.fit.ready);
+  lender = c.make_here.ensures.lender ∙ c.ask_room.ensures.lender;
+  outside = c.make_here.ensures.outside ∙ c.ask_room.ensures.outside;
+}
+
+pub returns-in-Err-clause-access : goal.returns-in-Err-clause-access
+unfolding loom_told
+returns-in-Err-clause-access g c = refused-is (loom_told g.H.Host c.args.self.now) (loom_told g.H.Host c.ask_room.new.self) (Make c.args.to c.args.class (making_of c.args.kind c.args.len c.args.header)) (λ _. Nothing) c.in-Err.f
+    (c.in-Err.ensures.err c.args.to c.args.class (making_of c.args.kind c.args.len c.args.header) (next-low g.H.Host c.args.self.now c.args.name c.requires.next c.requires.low))

@@ -1,0 +1,21 @@
+use Rattle.std.proofs.Common.{ℕ, List, sym, ◌∙◌, ap, arith}
+use Rattle.core_view.proofs.Core.{placed-used}
+use Rattle.leaf_lambda.specs.Parts.{core_of}
+use Rattle.loom_memory.specs.Memory.{loom_told, word_in}
+use Rattle.loom_memory.proofs.AccessLaws.{quiet-trans}
+use Rattle.loom_memory.proofs.memory.LoomMemory.open_with_room.Goals as goal
+
+pub unmark-requires-clause-used : goal.unmark-requires-clause-used
+unmark-requires-clause-used g c = placed-used ((core_of c.load_with_room.new.self.parts).entries c.in-Ok.s.0).state c.in-Ok.ensures.loaded.at c.in-Ok.ensures.loaded.place
+
+pub returns-in-Ok-clause-quiet : goal.returns-in-Ok-clause-quiet
+returns-in-Ok-clause-quiet g c = quiet-trans (loom_told g.H.Host c.args.self.now) (loom_told g.H.Host c.load_with_room.new.self) (loom_told g.H.Host c.unmark.new.self) c.in-Ok.ensures.quiet c.unmark.ensures.quiet
+
+pub returns-in-Ok-clause-word : goal.returns-in-Ok-clause-word
+returns-in-Ok-clause-word g c = c.in-Ok.ensures.word ∙ ap (λ (regs : List ℕ). word_in regs c.args.of) (sym c.unmark.ensures.regs)
+
+pub returns-in-Ok-clause-there : goal.returns-in-Ok-clause-there
+returns-in-Ok-clause-there g c = (c.in-Ok.ensures.loaded.at, c.unmark.ensures.place ∙ c.in-Ok.ensures.loaded.place)
+
+pub returns-in-Ok-clause-spare : goal.returns-in-Ok-clause-spare
+returns-in-Ok-clause-spare g c = let same = c.unmark.ensures.spare in let was = c.in-Ok.ensures.spare in omega (arith, same, was)

@@ -1,0 +1,28 @@
+use Rattle.std.proofs.Common.{◌∙◌, sym, ap}
+use Rattle.long_names.specs.State.{set_register}
+use Rattle.long_names.specs.declared.value.Value.{Value}
+use Rattle.leaf_lambda.specs.Parts.{core_of}
+use Rattle.loom_memory.specs.Memory.{loom_told, loom_outside, others_of}
+use Rattle.loom_memory.proofs.AddLaws.{added-made, damaged-making, entry-means, told-next}
+use Rattle.loom_memory.proofs.memory.LoomMemory.put_object.Goals as goal
+
+pub returns-in-Some-clause-made : goal.returns-in-Some-clause-made
+unfolding loom_told
+returns-in-Some-clause-made g c =
+    let m = c.args.self.now in
+    let n = c.add_object.new.self in
+    added-made (loom_told g.H.Host m) (loom_told g.H.Host n) (loom_told g.H.Host c.put_word.new.self) c.args.to c.args.class c.args.name _ c.in-Some.ensures.added
+    (c.put_word.ensures.told ∙ ap (λ (v : Value). record (loom_told g.H.Host n) { regs = set_register (loom_told g.H.Host n).regs c.args.to v }) (entry-means (core_of n.parts) c.in-Some.s.0 c.args.name c.in-Some.ensures.entry))
+    (λ told. sym (told-next g.H.Host m told ∙ c.requires.next))
+
+pub returns-in-None-clause-err : goal.returns-in-None-clause-err
+returns-in-None-clause-err g c =
+    damaged-making g.H.Host c.args.self.now c.add_object.new.self (loom_told g.H.Host c.refuse.new.self) _ c.refuse.result c.in-None.ensures.ledger c.add_object.ensures.disk c.in-None.ensures.none c.refuse.ensures.told c.refuse.ensures.result c.refuse.ensures.later
+
+pub returns-in-Some-clause-outside : goal.returns-in-Some-clause-outside
+unfolding loom_outside
+returns-in-Some-clause-outside g c = c.put_word.ensures.outside ∙ ap (λ d. (λ r. others_of r (g.H.Host.roles d.host.now r) (g.H.Host.faults d.host.now r))) c.add_object.ensures.disk
+
+pub returns-in-None-clause-outside : goal.returns-in-None-clause-outside
+unfolding loom_outside
+returns-in-None-clause-outside g c = c.refuse.ensures.outside ∙ ap (λ d. (λ r. others_of r (g.H.Host.roles d.host.now r) (g.H.Host.faults d.host.now r))) c.add_object.ensures.disk

@@ -1,0 +1,28 @@
+use Rattle.std.proofs.Common.{refl, ◌∙◌}
+use Rattle.long_names.specs.Access.{SetField, Nothing}
+use Rattle.loom_memory.specs.Memory.{loom_told}
+use Rattle.loom_memory.proofs.AccessLaws.{refused-is, quiet-ready}
+use Rattle.loom_memory.proofs.LastLaws.{can-still}
+use Rattle.loom_memory.proofs.StoreLaws.{store-last, store-ready}
+use Rattle.loom_memory.proofs.memory.LoomMemory.set_field_on_disk.Goals as goal
+
+pub store_field-requires-clause-ready : goal.store_field-requires-clause-ready
+store_field-requires-clause-ready g c = quiet-ready (loom_told g.H.Host c.args.self.now) (loom_told g.H.Host c.open_with_room.new.self) c.in-Ok.ensures.quiet c.requires.fit.ready
+
+pub store_field-requires-clause-may : goal.store_field-requires-clause-may
+unfolding loom_told
+store_field-requires-clause-may g c = λ told. can-still (loom_told g.H.Host c.args.self.now) (loom_told g.H.Host c.open_with_room.new.self) (SetField c.args.of c.args.i c.args.from) c.in-Ok.ensures.quiet (c.requires.may.heap told)
+
+pub returns-in-Ok-clause-access : goal.returns-in-Ok-clause-access
+returns-in-Ok-clause-access g c = store-last c.store_field.result (loom_told g.H.Host c.args.self.now) (loom_told g.H.Host c.open_with_room.new.self) (loom_told g.H.Host c.store_field.new.self) (SetField c.args.of c.args.i c.args.from) refl tt refl c.in-Ok.ensures.quiet c.store_field.ensures.stored c.store_field.ensures.err (c.in-Ok.ensures.core (SetField c.args.of c.args.i c.args.from) refl refl)
+
+pub returns-in-Err-clause-access : goal.returns-in-Err-clause-access
+returns-in-Err-clause-access g c = refused-is (loom_told g.H.Host c.args.self.now) (loom_told g.H.Host c.open_with_room.new.self) (SetField c.args.of c.args.i c.args.from) (λ _. Nothing) c.in-Err.f (c.in-Err.ensures.err (SetField c.args.of c.args.i c.args.from) refl refl tt)
+
+pub returns-in-Ok-clause-fit : goal.returns-in-Ok-clause-fit
+returns-in-Ok-clause-fit g c = record {
+  sound = c.store_field.ensures.sound;
+  ready = store-ready c.store_field.result (loom_told g.H.Host c.open_with_room.new.self) (loom_told g.H.Host c.store_field.new.self) (SetField c.args.of c.args.i c.args.from) refl (quiet-ready (loom_told g.H.Host c.args.self.now) (loom_told g.H.Host c.open_with_room.new.self) c.in-Ok.ensures.quiet c.requires.fit.ready) c.store_field.ensures.stored;
+  lender = c.store_field.ensures.lender ∙ c.in-Ok.ensures.lender;
+  outside = c.store_field.ensures.outside ∙ c.in-Ok.ensures.outside;
+}

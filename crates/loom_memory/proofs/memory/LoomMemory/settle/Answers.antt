@@ -1,0 +1,18 @@
+use Rattle.std.proofs.Common.{◌∙◌}
+use Rattle.loom_memory.specs.Memory.{loom_told}
+use Rattle.loom_memory.proofs.SettleLaws.{settle-last, settle-now, settled-ready}
+use Rattle.loom_memory.proofs.memory.LoomMemory.settle.Goals as goal
+
+pub spare_entries-requires-clause-ready : goal.spare_entries-requires-clause-ready
+spare_entries-requires-clause-ready g c = settled-ready (loom_told g.H.Host c.args.self.now) (loom_told g.H.Host c.settle_disk.new.self) c.in-Ok.ensures.settled c.requires.fit.ready
+
+pub returns-in-Ok-clause-called : goal.returns-in-Ok-clause-called
+returns-in-Ok-clause-called g c = settle-last c.spare_entries.result (loom_told g.H.Host c.args.self.now) (loom_told g.H.Host c.settle_disk.new.self) (loom_told g.H.Host c.spare_entries.new.self) c.in-Ok.ensures.settled c.spare_entries.ensures.quiet c.spare_entries.ensures.err c.spare_entries.ensures.fault
+
+pub returns-in-Ok-clause-fit : goal.returns-in-Ok-clause-fit
+returns-in-Ok-clause-fit g c = record {
+  sound = c.spare_entries.ensures.sound;
+  ready = settle-now c.spare_entries.result (loom_told g.H.Host c.args.self.now) (loom_told g.H.Host c.settle_disk.new.self) (loom_told g.H.Host c.spare_entries.new.self) c.in-Ok.ensures.settled c.spare_entries.ensures.quiet c.requires.fit.ready;
+  lender = c.spare_entries.ensures.lender ∙ c.settle_disk.ensures.lender;
+  outside = c.spare_entries.ensures.outside ∙ c.settle_disk.ensures.outside;
+}

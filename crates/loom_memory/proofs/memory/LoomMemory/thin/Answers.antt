@@ -1,0 +1,60 @@
+use Rattle.std.proofs.Common.{◌∙◌, refl, sym, arith}
+use Rattle.loom_memory.specs.Memory.{loom_told, loom_outside}
+use Rattle.loom_memory.proofs.AddLaws.{fault-making, fault-settling}
+use Rattle.loom_memory.proofs.CalmLaws.{work-outside}
+use Rattle.loom_memory.proofs.ThinLaws.{fault-purge, thin-again, thin-count, thin-exact, thin-is-kept, thin-kept, thin-over, thin-step, thin-told}
+use Rattle.loom_memory.proofs.memory.LoomMemory.thin.Goals as goal
+
+pub returns-in-Ok-clause-thinned : goal.returns-in-Ok-clause-thinned
+unfolding loom_told
+returns-in-Ok-clause-thinned g c = let m = c.args.self.now in
+    thin-told g.H.Host m.parts c.drain.new.p m.disk.host.now c.drain.new.disk.host.now m.disk.rest c.drain.new.disk.rest m.regs m.pinned m.ledger c.recount-held.result (thin-step g.H.Host m.parts c.drain.new.p m.disk.host.now c.drain.new.disk.host.now m.disk.rest c.drain.new.disk.rest m.regs m.pinned m.ledger c.requires.sound.kept c.requires.sound.exact c.in-Ok.ensures.leaves c.in-Ok.ensures.drained c.in-Ok.ensures.work c.in-Ok.ensures.limit)
+
+pub returns-in-Ok-clause-kept : goal.returns-in-Ok-clause-kept
+unfolding loom_told
+returns-in-Ok-clause-kept g c = let m = c.args.self.now in
+    thin-is-kept g.H.Host m.parts c.drain.new.p m.disk.host.now c.drain.new.disk.host.now m.disk.rest c.drain.new.disk.rest m.regs m.pinned m.ledger c.recount-held.result (thin-step g.H.Host m.parts c.drain.new.p m.disk.host.now c.drain.new.disk.host.now m.disk.rest c.drain.new.disk.rest m.regs m.pinned m.ledger c.requires.sound.kept c.requires.sound.exact c.in-Ok.ensures.leaves c.in-Ok.ensures.drained c.in-Ok.ensures.work c.in-Ok.ensures.limit)
+
+pub returns-in-Ok-clause-count : goal.returns-in-Ok-clause-count
+unfolding loom_told
+returns-in-Ok-clause-count g c = let m = c.args.self.now in λ told.
+    thin-count g.H.Host m.parts c.drain.new.p m.disk.host.now c.drain.new.disk.host.now m.disk.rest c.drain.new.disk.rest m.regs m.pinned m.ledger c.recount-held.result (thin-step g.H.Host m.parts c.drain.new.p m.disk.host.now c.drain.new.disk.host.now m.disk.rest c.drain.new.disk.rest m.regs m.pinned m.ledger c.requires.sound.kept c.requires.sound.exact c.in-Ok.ensures.leaves c.in-Ok.ensures.drained c.in-Ok.ensures.work c.in-Ok.ensures.limit) told
+    (sym (c.recount-held.ensures.same (let less = c.in-Ok.ensures.counted told in let was = c.requires.sound.over.counted told in omega (arith, less, was))))
+
+pub returns-in-Ok-clause-again : goal.returns-in-Ok-clause-again
+unfolding loom_told
+returns-in-Ok-clause-again g c = let m = c.args.self.now in λ told.
+    thin-again g.H.Host m.parts c.drain.new.p m.disk.host.now c.drain.new.disk.host.now m.disk.rest c.drain.new.disk.rest m.regs m.pinned m.ledger c.recount-held.result (thin-step g.H.Host m.parts c.drain.new.p m.disk.host.now c.drain.new.disk.host.now m.disk.rest c.drain.new.disk.rest m.regs m.pinned m.ledger c.requires.sound.kept c.requires.sound.exact c.in-Ok.ensures.leaves c.in-Ok.ensures.drained c.in-Ok.ensures.work c.in-Ok.ensures.limit) told
+
+pub returns-in-Ok-clause-sound : goal.returns-in-Ok-clause-sound
+returns-in-Ok-clause-sound g c =
+    let m = c.args.self.now in
+    let x = thin-exact g.H.Host m.parts c.drain.new.p m.disk.host.now c.drain.new.disk.host.now m.disk.rest c.drain.new.disk.rest m.ledger.next c.requires.sound.exact c.in-Ok.ensures.drained in
+    record {
+      kept = thin-kept g.H.Host m.parts c.drain.new.p m.disk.host.now c.drain.new.disk.host.now m.disk.rest c.drain.new.disk.rest m.regs m.pinned m.ledger c.recount-held.result (thin-step g.H.Host m.parts c.drain.new.p m.disk.host.now c.drain.new.disk.host.now m.disk.rest c.drain.new.disk.rest m.regs m.pinned m.ledger c.requires.sound.kept c.requires.sound.exact c.in-Ok.ensures.leaves c.in-Ok.ensures.drained c.in-Ok.ensures.work c.in-Ok.ensures.limit);
+      over = thin-over g.H.Host m.parts c.drain.new.p m.disk.host.now c.drain.new.disk.host.now m.disk.rest c.drain.new.disk.rest m.ledger c.recount-held.result c.requires.sound.over x c.in-Ok.ensures.limit c.recount-held.ensures.most
+          (λ told. sym (c.recount-held.ensures.same (let less = c.in-Ok.ensures.counted told in let was = c.requires.sound.over.counted told in omega (arith, less, was))));
+      exact = x;
+    }
+
+pub returns-in-Ok-clause-outside : goal.returns-in-Ok-clause-outside
+unfolding loom_outside
+returns-in-Ok-clause-outside g c = work-outside g.H.Host c.args.self.now.disk.host.now c.drain.new.disk.host.now c.in-Ok.ensures.work
+
+pub returns-in-Err-clause-making : goal.returns-in-Err-clause-making
+returns-in-Err-clause-making g c =
+    let m = c.args.self.now in
+    fault-making g.H.Host m _ (loom_told g.H.Host c.refuse.new.self) c.in-Err.f c.refusal_of-f.result c.refuse.result refl c.in-Err.ensures.work c.in-Err.ensures.limit
+    (fault-purge g.H.Host m.disk.host.now c.drain.new.disk.host.now c.in-Err.f c.in-Err.ensures.fault)
+    c.refusal_of-f.ensures c.refuse.ensures.told c.refuse.ensures.result c.refuse.ensures.later
+
+pub returns-in-Err-clause-settling : goal.returns-in-Err-clause-settling
+returns-in-Err-clause-settling g c =
+    let m = c.args.self.now in
+    fault-settling g.H.Host m _ (loom_told g.H.Host c.refuse.new.self) c.in-Err.f c.refusal_of-f.result c.refuse.result refl c.in-Err.ensures.work c.in-Err.ensures.limit
+    (fault-purge g.H.Host m.disk.host.now c.drain.new.disk.host.now c.in-Err.f c.in-Err.ensures.fault)
+    c.refusal_of-f.ensures c.refuse.ensures.told c.refuse.ensures.result c.refuse.ensures.later
+
+pub returns-in-Err-clause-outside : goal.returns-in-Err-clause-outside
+unfolding loom_outside
+returns-in-Err-clause-outside g c = c.refuse.ensures.outside ∙ work-outside g.H.Host c.args.self.now.disk.host.now c.drain.new.disk.host.now c.in-Err.ensures.work

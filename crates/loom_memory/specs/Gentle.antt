@@ -1,0 +1,37 @@
+-- Steps by which no object leaves the core.
+use Rattle.std.specs.Prelude.{◌≡◌, ℕ, Some}
+use Rattle.loom_outside.specs.declared.outside.Host.{Ghosts}
+use Rattle.loom_outside.specs.Work.{IsWorkRead}
+use Rattle.object_table.specs.Entries.{place_of}
+use Rattle.core_view.specs.Core.{Core}
+use Rattle.leaf_lambda.specs.Parts.{core_of}
+use Rattle.loom_memory.specs.declared.memory.LoomMemory.{LoomMemory}
+use Rattle.loom_memory.specs.Memory.{loom_told, IsStill}
+use Rattle.loom_memory.specs.Residents.{words_resident, fetched}
+use Rattle.loom_memory.specs.Own.{IsIdle}
+
+-- each entry that has a body still has one, under its name
+abbrev pub Remains : Core → Core → Type 0
+Remains old new = (s p : ℕ) → place_of (old.entries s).state ≡ Some p → IsStill old new s
+
+-- no object left the core, Work was at most read, and the method cache is as it was
+pub record IsGentle {H : Type 0} (host : Ghosts H) (old new : LoomMemory H) : Type 0 where
+  pub remains : Remains (core_of old.parts) (core_of new.parts)
+  pub read : IsWorkRead host old.disk.host.now new.disk.host.now
+  pub cache : (loom_told host new).cache ≡ (loom_told host old).cache
+
+-- nothing but references changed: neither Work nor a body was touched
+pub record IsSteady {H : Type 0} (host : Ghosts H) (old new : LoomMemory H) : Type 0 where
+  pub gentle : IsGentle host old new
+  pub words : words_resident new ≡ words_resident old
+  pub idle : IsIdle old new
+
+-- no object came or went, and Work wasn't touched
+pub record IsResting {H : Type 0} (old new : LoomMemory H) : Type 0 where
+  pub remains : Remains (core_of old.parts) (core_of new.parts)
+  pub idle : IsIdle old new
+
+-- no object came or left, and Work was at most read
+pub record IsPeek {H : Type 0} (host : Ghosts H) (old new : LoomMemory H) : Type 0 where
+  pub gentle : IsGentle host old new
+  pub fetches : fetched new ≡ fetched old

@@ -1,0 +1,112 @@
+-- What a two-level memory promises of its core and of Work, beside what it tells: `IsSparing` of each access to an object that changes
+-- nothing of it, `IsSparingChange` of a store and a mark; and `IsAmple` says when an access is answered.
+use Rattle.std.specs.Prelude.{◌≡◌, ◌≢◌, ◌⊎◌, ◌≤◌, ◌<◌, ℕ, false, Some, Result, OnOk, IfErr, IsTrue}
+use Rattle.long_names.specs.declared.limits.TheConstants.{LAST_NAME}
+use Rattle.long_names.specs.Counting.{counted, Rose}
+use Rattle.long_names.specs.Need.{Fits, words_at}
+use Rattle.long_names.specs.Access.{Access}
+use Rattle.loom_outside.specs.declared.outside.Host.{Ghosts}
+use Rattle.loom_outside.specs.declared.outside.Role.TheVariants.{Work}
+use Rattle.loom_outside.specs.Work.{IsWorkRead}
+use Rattle.object_memory.specs.declared.fault.MemFault.{MemFault}
+use Rattle.object_memory.specs.declared.fault.Need.{Need}
+use Rattle.object_memory.specs.Told.{Told, Bounds}
+use Rattle.object_memory.specs.Contract.{ForBounds, IsNeedOf, Lives, makes, work_faults, said_faults}
+use Rattle.core_view.specs.Steps.{IsAt}
+use Rattle.leaf_lambda.specs.Parts.{core_of}
+use Rattle.purger.specs.Purge.{HasRoom}
+use Rattle.loom_memory.specs.declared.load.TheConstants.{SPARE_ENTRIES}
+use Rattle.loom_memory.specs.declared.memory.LoomMemory.{LoomMemory}
+use Rattle.loom_memory.specs.Memory.{loom_told}
+use Rattle.loom_memory.specs.Residents.{is_resident, words_resident, fetched}
+
+-- The object of a name is in the core; or as many entries are free there as a call asks for, and the words that it takes.
+abbrev pub HasPlace : {H : Type 0} → Ghosts H → LoomMemory H → ℕ → Type 0
+HasPlace host m n = IsTrue (is_resident m n) ⊎ (IsTrue (host.tells Work) × HasRoom m.parts (words_at (loom_told host m).heap n) SPARE_ENTRIES)
+
+-- each object in the core stays there
+abbrev pub KeepsResidents : {H : Type 0} → LoomMemory H → LoomMemory H → Type 0
+KeepsResidents old new = (k : ℕ) → IsTrue (is_resident old k) → IsTrue (is_resident new k)
+
+-- Work isn't touched, and no object comes in
+pub record IsIdle {H : Type 0} (old new : LoomMemory H) : Type 0 where
+  pub host : new.disk.host.now ≡ old.disk.host.now
+  pub rest : new.disk.rest ≡ old.disk.rest
+  pub fetches : fetched new ≡ fetched old
+
+-- The object of a name was reached.
+pub record IsReached {H : Type 0} (host : Ghosts H) (old new : LoomMemory H) (n : ℕ) : Type 0 where
+  -- The object is in the core now.
+  pub there : IsTrue (is_resident new n)
+  -- Where it was there before, or there was room for it, no other object left the core,
+  pub stays : HasPlace host old n → KeepsResidents old new
+  -- and Work was at most read.
+  pub read : HasPlace host old n → IsWorkRead host old.disk.host.now new.disk.host.now
+  -- Where it was there before, Work wasn't touched, and nothing came in;
+  pub idle : IsTrue (is_resident old n) → IsIdle old new
+  -- where it wasn't, one object came in.
+  pub comes : is_resident old n ≡ false → fetched new ≡ counted (fetched old)
+
+-- Field i of the object of a name is in the core with it: the object is there, and the field isn't left on the disk.
+pub record IsAtHand {H : Type 0} (m : LoomMemory H) (n i : ℕ) : Type 0 where
+  pub entry : ℕ
+  pub at : ℕ
+  pub word : ℕ
+  pub found : (core_of m.parts).find n ≡ Some entry
+  pub there : IsAt (core_of m.parts) entry at i word
+  pub some : word ≢ 0
+
+-- Where the object of a name is in the core, as many entries are free as a call asks for; where it isn't, also the words that it takes.
+abbrev pub HasSpace : {H : Type 0} → Ghosts H → LoomMemory H → ℕ → Type 0
+HasSpace host m n = (IsTrue (is_resident m n) × HasRoom m.parts 0 SPARE_ENTRIES) ⊎ (IsTrue (host.tells Work) × HasRoom m.parts (words_at (loom_told host m).heap n) SPARE_ENTRIES)
+
+-- The object of a name was reached by an access to a field, which may have been left on the disk.
+pub record IsSearched {H : Type 0} (host : Ghosts H) (old new : LoomMemory H) (n : ℕ) : Type 0 where
+  -- The object is in the core now.
+  pub there : IsTrue (is_resident new n)
+  -- Where there was room, no object left the core, the method cache is as it was, and Work was at most read.
+  pub stays : HasSpace host old n → KeepsResidents old new
+  pub cached : HasSpace host old n → (loom_told host new).cache ≡ (loom_told host old).cache
+  pub read : HasSpace host old n → IsWorkRead host old.disk.host.now new.disk.host.now
+  -- Where it wasn't there before, one object came in; where it was, and there was room, none.
+  pub comes : is_resident old n ≡ false → fetched new ≡ counted (fetched old)
+  pub none : IsTrue (is_resident old n) → HasRoom old.parts 0 SPARE_ENTRIES → fetched new ≡ fetched old
+
+-- The object of a name was reached, and its bytes were said.
+pub record IsHeard {H : Type 0} (host : Ghosts H) (old new : LoomMemory H) (n : ℕ) : Type 0 where
+  -- The object is in the core now.
+  pub there : IsTrue (is_resident new n)
+  -- Where it was there before, or there was room for it, no other object left the core, the method cache is as it was, and Work wasn't
+  -- written.
+  pub stays : HasPlace host old n → KeepsResidents old new
+  pub cached : HasPlace host old n → (loom_told host new).cache ≡ (loom_told host old).cache
+  pub work : HasPlace host old n → host.roles new.disk.host.now Work ≡ host.roles old.disk.host.now Work
+  pub writes : HasPlace host old n → host.writes new.disk.host.now ≡ host.writes old.disk.host.now
+  -- Where it was there before, nothing came in; where it wasn't, one object did.
+  pub none : IsTrue (is_resident old n) → fetched new ≡ fetched old
+  pub comes : is_resident old n ≡ false → fetched new ≡ counted (fetched old)
+
+-- A store into the object of a name, and a mark of it, spares the core and Work. Where the object was there before, and Work is told, it isn't refused.
+pub record IsSparingChange {A H : Type 0} (host : Ghosts H) (old new : LoomMemory H) (n : ℕ) (result : Result A MemFault) : Type 0 where
+  pub reached : OnOk result (IsReached host old new n)
+  pub sure : IfErr result (λ f. IsTrue (host.tells Work) → IsTrue (is_resident old n) → ⊥)
+
+-- So does an access that changes nothing of it. What all objects in the core take is at most its words then; and where the object was there
+-- before, or there was room for it, the method cache is as it was.
+pub record IsSparing {A H : Type 0} (host : Ghosts H) (old new : LoomMemory H) (n : ℕ) (result : Result A MemFault) : Type 0 where
+  pub reached : OnOk result (IsReached host old new n)
+  pub sure : IfErr result (λ f. IsTrue (host.tells Work) → IsTrue (is_resident old n) → ⊥)
+  pub bounded : OnOk result (ForBounds (loom_told host new).bounds (λ b. words_resident new ≤ b.core))
+  pub cached : OnOk result (HasPlace host old n → (loom_told host new).cache ≡ (loom_told host old).cache)
+
+-- An access has all that it asks for: heap and bounds are told, its rows fit, there are room and a name for what it makes, and no call
+-- on Work or Transcript failed.
+pub record IsAmple (old new : Told) (a : Access) : Type 0 where
+  pub told : IsTrue old.tells
+  pub limits : Bounds
+  pub bounds : old.bounds ≡ Some limits
+  pub fits : (need : Need) → IsNeedOf old a need → Fits limits.core limits.entries need.words need.entries
+  pub room : 1 ≤ makes a → (live : ℕ) → Lives old limits live → live ≤ limits.room
+  pub name : 1 ≤ makes a → old.heap.next < LAST_NAME
+  pub work : Rose (work_faults old.bounds) (work_faults new.bounds) → ⊥
+  pub said : Rose (said_faults old.bounds) (said_faults new.bounds) → ⊥

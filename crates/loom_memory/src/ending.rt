@@ -1,0 +1,80 @@
+// A memory ends: nothing is named from outside any more, and everything leaves the core.
+ghost use Rattle.std.specs.Prelude.{◌≡◌, ℕ, IsTrue, IfOk, IfErr, OnOk};
+ghost use Rattle.core_view.specs.Counts.{outside};
+ghost use Rattle.leaf_lambda.specs.Parts.{core_of};
+
+use crate::bring::refusal_of;
+use crate::memory::LoomMemory;
+use disk_objects::DiskObjects;
+use loom_outside::{Host, Role};
+use object_memory::{MemFault, Reg};
+use purger::close;
+
+const REGISTERS: u8 = 24;
+
+impl<'h, H: Host> LoomMemory<'h, H> {
+    ghost use Rattle.purger.specs.Closing.{HasKept};
+    ghost use Rattle.loom_memory.specs.Ending.{AreNumbers};
+    ghost use Rattle.loom_memory.specs.Makings.{IsLost};
+    ghost use Rattle.loom_memory.specs.Memory.{loom_told, loom_outside, IsSound};
+
+    // Registers get 0.
+    fn clear_registers(&mut self)
+        requires sound { IsSound H.Host self.old }
+        ensures told { loom_told H.Host self.new ≡ record (loom_told H.Host self.old) { regs = (loom_told H.Host self.new).regs } }
+        ensures none { AreNumbers (loom_told H.Host self.new).regs }
+        ensures sound { IsSound H.Host self.new }
+        ensures lender { self.new.disk.host.ghost_name ≡ self.old.disk.host.ghost_name }
+        ensures outside { loom_outside H.Host self.new ≡ loom_outside H.Host self.old }
+    {
+        for i in 0..REGISTERS {
+            self.put_word(Reg::new(i), 1);
+        }
+    }
+
+    // Registers get 0, and slots are emptied: nothing is named from outside.
+    fn let_go(&mut self)
+        requires sound { IsSound H.Host self.old }
+        ensures told { loom_told H.Host self.new ≡ record (loom_told H.Host self.old) { regs = (loom_told H.Host self.new).regs; slots = (loom_told H.Host self.new).slots } }
+        ensures loose { (t : ℕ) → outside (core_of self.new.parts) t ≡ 0 }
+        ensures sound { IsSound H.Host self.new }
+        ensures lender { self.new.disk.host.ghost_name ≡ self.old.disk.host.ghost_name }
+        ensures outside { loom_outside H.Host self.new ≡ loom_outside H.Host self.old }
+    {
+        self.clear_registers();
+        self.unpin(0);
+        self.unpin(1);
+        self.unpin(2);
+    }
+
+    /// Ends what the memory does: nothing is named from outside any more, dead objects go, and all others leave the core. After it the disk has
+    /// just the objects that are kept with no roots, with their exact counts, and none is pending; the answer is the next name. A fault is one
+    /// of Work, after which nothing is known of the disk.
+    pub fn wind_up(&mut self) -> Result<u32, MemFault>
+        requires sound { IsSound H.Host self.old }
+        ensures kept { IsTrue (H.tells Role.Work) → OnOk result (HasKept H.Host self.new.disk.host.now self.new.disk.rest (loom_told H.Host self.old).heap) }
+        ensures next { IfOk result (λ n. n ≡ self.old.ledger.next) }
+        ensures lost { IfErr result IsLost }
+        ensures lender { self.new.disk.host.ghost_name ≡ self.old.disk.host.ghost_name }
+        ensures outside { loom_outside H.Host self.new ≡ loom_outside H.Host self.old }
+    {
+        let next = self.ledger.next;
+        self.let_go();
+        match close(&mut self.parts, &mut self.disk, &mut self.out) {
+            Ok(()) => Ok(next),
+            Err(f) => {
+                let f = refusal_of(f);
+                Err(self.refuse(f))
+            }
+        }
+    }
+
+    /// Hands the disk back, as it is.
+    pub fn into_disk(self) -> DiskObjects<'h, H>
+        ensures host { result.host.ghost_name ≡ self.entry.disk.host.ghost_name }
+        ensures now { result.host.now ≡ self.entry.disk.host.now }
+        ensures rest { result.rest ≡ self.entry.disk.rest }
+    {
+        self.disk
+    }
+}

@@ -1,0 +1,104 @@
+// The object of a register is in the core, and is found with nothing done; or it comes in.
+ghost use Rattle.std.specs.Prelude.{◌≡◌, ◌≤◌, ℕ, Some, None, false, IsTrue, IsSome, IfSome, IfNone, OnOk, IfOk, IfErr};
+ghost use Rattle.object_table.specs.Entries.{place_of};
+ghost use Rattle.core_segment.specs.Segment.{largest_of};
+ghost use Rattle.leaf_lambda.specs.Parts.{core_of, spare_of};
+ghost use Rattle.loom_memory.specs.declared.load.TheConstants.{SPARE_ENTRIES as SPARE};
+
+use crate::memory::LoomMemory;
+use core_segment::Segment;
+use core_segment::laws::chunks_never_overlap;
+use loom_outside::Host;
+use object_memory::{MemFault, Reg};
+use object_table::Short;
+use purger::compact;
+
+// Whether so many words are free together.
+fn is_together(g: &Segment, words: u32) -> bool
+    ensures together { IsTrue result → words ≤ largest_of g.now }
+    ensures none { words ≡ 0 → IsTrue result }
+{
+    if words == 0 {
+        return true;
+    }
+    g.has_room(words)
+}
+
+impl<'h, H: Host> LoomMemory<'h, H> {
+    ghost use Rattle.long_names.specs.Access.{Access, target_of};
+    ghost use Rattle.long_names.specs.State.{name_at, IsRef};
+    ghost use Rattle.object_memory.specs.Told.{IsReady};
+    ghost use Rattle.object_memory.specs.Contract.{Does, ForBounds, HasCore, IfBounds, IsLater, KeepsSound, Refuses, makes};
+    ghost use Rattle.purger.specs.Purge.{HasRoom};
+    ghost use Rattle.loom_memory.specs.Calls.{IsLoaded};
+    ghost use Rattle.loom_memory.specs.Residents.{is_resident, words_resident};
+    ghost use Rattle.loom_memory.specs.Gentle.{IsGentle};
+    ghost use Rattle.loom_memory.specs.Own.{IsSparing};
+    ghost use Rattle.loom_memory.specs.Memory.{loom_told, loom_outside, word_in, IsSound, IsQuiet, IsCalm, IsSilent};
+
+    // Moves bodies together where so many words are free, but not as one chunk.
+    pub(crate) fn gather(&mut self, words: u32)
+        requires sound { IsSound H.Host self.old }
+        requires room { HasRoom self.old.parts words SPARE }
+        ensures quiet { IsQuiet (loom_told H.Host self.old) (loom_told H.Host self.new) }
+        ensures sound { IsSound H.Host self.new }
+        ensures calm { IsCalm self.old.pinned (core_of self.old.parts) (core_of self.new.parts) }
+        ensures leaves { (t : ℕ) → place_of ((core_of self.old.parts).entries t).state ≡ None → place_of ((core_of self.new.parts).entries t).state ≡ None }
+        ensures regs { self.new.regs ≡ self.old.regs }
+        ensures pins { self.new.pinned ≡ self.old.pinned }
+        ensures ledger { self.new.ledger ≡ self.old.ledger }
+        ensures room { (words ≤ largest_of self.new.parts.segment) × (SPARE ≤ spare_of self.new.parts) }
+        ensures gentle { IsGentle H.Host self.old self.new }
+        ensures idle { words ≡ 0 → self.new ≡ self.old }
+        ensures lender { self.new.disk.host.ghost_name ≡ self.old.disk.host.ghost_name }
+        ensures outside { loom_outside H.Host self.new ≡ loom_outside H.Host self.old }
+    {
+        if is_together(&self.parts.segment, words) {
+            return;
+        }
+        compact(&mut self.parts);
+    }
+
+    // The entry of the object of a register, where it is in the core.
+    pub(crate) fn here(&self, of: Reg) -> Option<Short>
+        requires sound { IsSound H.Host self.now }
+        requires name { IsRef ((loom_told H.Host self.now).regs of) }
+        ensures word { IfSome result (λ s. s.0 ≡ word_in self.now.regs of) }
+        ensures loaded { IfSome result (λ s. IsLoaded H.Host self.now of s.0) }
+        ensures core { IfSome result (λ s. (a : Access) → target_of a ≡ Some of → makes a ≡ 0 → IfBounds (loom_told H.Host self.now).bounds (HasCore (loom_told H.Host self.now) a)) }
+        ensures bounded { IfSome result (λ s. ForBounds (loom_told H.Host self.now).bounds (λ b. words_resident self.now ≤ b.core)) }
+        ensures there { IfSome result (λ s. IsTrue (is_resident self.now (name_at ((loom_told H.Host self.now).regs of)))) }
+        ensures away { IfNone result (is_resident self.now (name_at ((loom_told H.Host self.now).regs of)) ≡ false) }
+        ensures leaf { IfNone result (place_of ((core_of self.now.parts).entries (word_in self.now.regs of)).state ≡ None) }
+    {
+        let w = self.word_of(of);
+        if self.parts.names.table.entry(Short(w)).place().is_some() {
+            // no body is larger than the core
+            chunks_never_overlap(&self.parts.segment);
+            return Some(Short(w));
+        }
+        None
+    }
+
+    // The object of a register is in the core, or is brought there.
+    pub(crate) fn load(&mut self, of: Reg) -> Result<Short, MemFault>
+        requires sound { IsSound H.Host self.old }
+        requires ready { IsReady (loom_told H.Host self.old) }
+        requires name { IsRef ((loom_told H.Host self.old).regs of) }
+        ensures quiet { OnOk result (IsQuiet (loom_told H.Host self.old) (loom_told H.Host self.new)) }
+        ensures sound { KeepsSound result (IsSound H.Host self.new) }
+        ensures word { IfOk result (λ s. s.0 ≡ word_in self.new.regs of) }
+        ensures loaded { IfOk result (λ s. IsLoaded H.Host self.new of s.0) }
+        ensures core { OnOk result ((a : Access) → target_of a ≡ Some of → makes a ≡ 0 → IfBounds (loom_told H.Host self.old).bounds (HasCore (loom_told H.Host self.old) a)) }
+        ensures idle { IsTrue (is_resident self.old (name_at ((loom_told H.Host self.old).regs of))) → self.new ≡ self.old }
+        ensures own { IsSparing H.Host self.old self.new (name_at ((loom_told H.Host self.old).regs of)) result }
+        ensures err { IfErr result (λ f. (a : Access) → target_of a ≡ Some of → makes a ≡ 0 → IsSilent a → IsLater (loom_told H.Host self.old) (loom_told H.Host self.new) × Refuses (loom_told H.Host self.old) (loom_told H.Host self.new) (Does a) f) }
+        ensures lender { self.new.disk.host.ghost_name ≡ self.old.disk.host.ghost_name }
+        ensures outside { loom_outside H.Host self.new ≡ loom_outside H.Host self.old }
+    {
+        match self.here(of) {
+            Some(s) => Ok(s),
+            None => self.load_with_room(of),
+        }
+    }
+}

@@ -1,0 +1,437 @@
+// New objects: names are asked first, then room on the disk, then the core.
+ghost use Rattle.std.specs.Prelude.{◌≡◌, ◌+◌, ◌≤◌, ◌<◌, ◌^◌, ℕ, true, false, IsTrue, OnOk, IfOk, IfErr, IfSome, IfNone};
+ghost use Rattle.long_names.specs.declared.limits.TheConstants.{LAST_NAME as END};
+ghost use Rattle.long_names.specs.Names.{IsLongName};
+ghost use Rattle.long_names.specs.Words.{literal_count};
+ghost use Rattle.core_segment.specs.declared.segment.TheConstants.{HEADER};
+ghost use Rattle.core_segment.specs.Segment.{largest_of};
+ghost use Rattle.core_view.specs.Words.{int_of_short, most_len, words_for};
+ghost use Rattle.disk_objects.specs.Disk.{disk_room};
+ghost use Rattle.leaf_lambda.specs.Parts.{core_of, spare_of};
+ghost use Rattle.loom_memory.specs.declared.load.TheConstants.{SPARE_ENTRIES as SPARE};
+
+use crate::bring::refusal_of;
+use crate::load::SPARE_ENTRIES;
+use crate::making::make_object;
+use crate::memory::LoomMemory;
+use core_segment::laws::chunks_never_overlap;
+use leaf_lambda::numbers::{int_short, short_int};
+use long_names::{Kind, LAST_NAME, Name, literal_count};
+use loom_outside::{Host, Role};
+use object_memory::{MemFault, Reg};
+use object_table::Short;
+use object_table::laws::entries_are_counted;
+use purger::{NOWHERE, RoomFault};
+
+/// From this making on since the last settling dead objects are freed where there is no room.
+pub const MAKINGS_BEFORE_FREEING: u32 = 8;
+
+// How many words a new object takes in the core.
+fn words_new(kind: Kind, len: u32, header: u16) -> u32
+    requires len { len ≤ most_len kind }
+    ensures words { result ≡ words_for kind len (literal_count (int_of_short header)) + HEADER }
+    ensures small { result < 2 ^ 18 }
+{
+    match kind {
+        Kind::Pointers => len + 4,
+        Kind::Words => len + 4,
+        Kind::Bytes => (len + 1) / 2 + 4,
+        Kind::Method => literal_count(int_short(header)) as u32 + (len + 1) / 2 + 5,
+    }
+}
+
+impl<'h, H: Host> LoomMemory<'h, H> {
+    ghost use Rattle.long_names.specs.Access.{Make};
+    ghost use Rattle.long_names.specs.Need.{Fits};
+    ghost use Rattle.long_names.specs.State.{IsRef};
+    ghost use Rattle.object_memory.specs.Told.{IsReady};
+    ghost use Rattle.object_memory.specs.declared.fault.Need.{Need as Wanted};
+    ghost use Rattle.object_memory.specs.Contract.{HasCore, IfBounds, KeepsSound};
+    ghost use Rattle.purger.specs.Purge.{IsShort};
+    ghost use Rattle.loom_memory.specs.Known.{IsEntryOf, IsNeedBeside};
+    ghost use Rattle.loom_memory.specs.Memory.{loom_told, loom_outside, IsQuiet, IsSound};
+    ghost use Rattle.loom_memory.specs.Makings.{HasAdded, HasMade, IsFullMaking, IsNotFull, IsRefusedAs, IsRefusedMaking};
+    ghost use Rattle.loom_memory.specs.New.{making_of};
+
+    // Refuses a making: the object has no room in the core.
+    fn full_new(&mut self, name: Name, words: u32) -> MemFault
+        requires sound { IsSound H.Host self.old }
+        requires ready { IsReady (loom_told H.Host self.old) }
+        requires next { self.old.ledger.next ≡ name }
+        requires small { words < 2 ^ 18 }
+        requires unfit { (need : Wanted) → IsNeedBeside (core_of self.old.parts) self.old.pinned name words need
+            → Fits self.old.ledger.core self.old.ledger.entries need.words need.entries → ⊥ }
+        ensures sound { IsSound H.Host self.new }
+        ensures err { IsFullMaking (loom_told H.Host self.old) (loom_told H.Host self.new) words result }
+        ensures other { IsNotFull result }
+        ensures lender { self.new.disk.host.ghost_name ≡ self.old.disk.host.ghost_name }
+        ensures outside { loom_outside H.Host self.new ≡ loom_outside H.Host self.old }
+    {
+        let need = self.need_beside(name, words);
+        self.refuse(MemFault::CoreFull(need))
+    }
+
+    // Room for a new object of so many words is made in the core. That there is none is no refusal.
+    fn clear_new(&mut self, words: u32) -> Result<bool, MemFault>
+        requires sound { IsSound H.Host self.old }
+        requires ready { IsReady (loom_told H.Host self.old) }
+        ensures quiet { OnOk result (IsQuiet (loom_told H.Host self.old) (loom_told H.Host self.new)) }
+        ensures sound { KeepsSound result (IsSound H.Host self.new) }
+        ensures regs { OnOk result (self.new.regs ≡ self.old.regs) }
+        ensures pins { OnOk result (self.new.pinned ≡ self.old.pinned) }
+        ensures ledger { OnOk result (self.new.ledger ≡ self.old.ledger) }
+        ensures limit { OnOk result (disk_room self.new.disk.rest ≡ disk_room self.old.disk.rest) }
+        ensures room { IfOk result (λ enough. IsTrue enough → (words ≤ largest_of self.new.parts.segment) × (SPARE ≤ spare_of self.new.parts)) }
+        ensures short { IfOk result (λ enough. enough ≡ false → IsShort self.new.parts self.new.pinned.a self.new.pinned.b self.new.pinned.d words SPARE) }
+        ensures err { IfErr result (IsRefusedMaking (loom_told H.Host self.old) (loom_told H.Host self.new)) }
+        ensures other { IfErr result IsNotFull }
+        ensures lender { self.new.disk.host.ghost_name ≡ self.old.disk.host.ghost_name }
+        ensures outside { loom_outside H.Host self.new ≡ loom_outside H.Host self.old }
+    {
+        match self.room(words, SPARE_ENTRIES) {
+            Ok(()) => Ok(true),
+            Err(f) => match f {
+                RoomFault::Short => Ok(false),
+                RoomFault::Disk(f) => {
+                    let f = refusal_of(f);
+                    Err(self.refuse(f))
+                }
+            },
+        }
+    }
+
+    // A new object of the class in a register comes into the core, which has room for it. None where the next name has an entry, as it may
+    // over a host that doesn't tell Work.
+    fn add_object(
+        &mut self,
+        name: Name,
+        class: Reg,
+        kind: Kind,
+        len: u32,
+        header: u16,
+    ) -> Option<Short>
+        requires sound { IsSound H.Host self.old }
+        requires ready { IsReady (loom_told H.Host self.old) }
+        requires class { IsRef ((loom_told H.Host self.old).regs class) }
+        requires next { self.old.ledger.next ≡ name }
+        requires long { IsLongName name }
+        requires low { name < END }
+        requires held { self.old.ledger.held < disk_room self.old.disk.rest }
+        requires len { len ≤ most_len kind }
+        requires room { words_for kind len (literal_count (int_of_short header)) + HEADER ≤ largest_of self.old.parts.segment }
+        requires spare { 2 ≤ spare_of self.old.parts }
+        ensures added { IfSome result (λ s. HasAdded (loom_told H.Host self.old) (loom_told H.Host self.new) class (making_of kind len header)) }
+        ensures entry { IfSome result (λ s. IsEntryOf (core_of self.new.parts) s.0 name) }
+        ensures sound { IfSome result (λ s. IsSound H.Host self.new) }
+        ensures none { IfNone result (IsTrue (H.tells Role.Work) → ⊥) }
+        ensures disk { self.new.disk ≡ self.old.disk }
+        ensures ledger { IfNone result (self.new.ledger ≡ self.old.ledger) }
+    {
+        let s = Short(self.word_of(class));
+        match make_object(&mut self.parts, name, s, kind, len, header) {
+            Some(new) => {
+                self.ledger.count_making();
+                Some(new)
+            }
+            None => None,
+        }
+    }
+
+    // The same, and its name comes into a register.
+    fn put_object(
+        &mut self,
+        name: Name,
+        to: Reg,
+        class: Reg,
+        kind: Kind,
+        len: u32,
+        header: u16,
+    ) -> Result<(), MemFault>
+        requires sound { IsSound H.Host self.old }
+        requires ready { IsReady (loom_told H.Host self.old) }
+        requires class { IsRef ((loom_told H.Host self.old).regs class) }
+        requires next { self.old.ledger.next ≡ name }
+        requires long { IsLongName name }
+        requires low { name < END }
+        requires held { self.old.ledger.held < disk_room self.old.disk.rest }
+        requires len { len ≤ most_len kind }
+        requires room { words_for kind len (literal_count (int_of_short header)) + HEADER ≤ largest_of self.old.parts.segment }
+        requires spare { 2 ≤ spare_of self.old.parts }
+        ensures made { OnOk result (HasMade (loom_told H.Host self.old) (loom_told H.Host self.new) to class (making_of kind len header)) }
+        ensures sound { KeepsSound result (IsSound H.Host self.new) }
+        ensures err { IfErr result (IsRefusedMaking (loom_told H.Host self.old) (loom_told H.Host self.new)) }
+        ensures other { IfErr result IsNotFull }
+        ensures lender { self.new.disk.host.ghost_name ≡ self.old.disk.host.ghost_name }
+        ensures outside { loom_outside H.Host self.new ≡ loom_outside H.Host self.old }
+    {
+        match self.add_object(name, class, kind, len, header) {
+            Some(s) => {
+                self.put_word(to, s.0);
+                Ok(())
+            }
+            None => Err(self.refuse(MemFault::Damaged {
+                place: NOWHERE,
+                name: name.get(),
+            })),
+        }
+    }
+
+    // Makes an object under the next name, for which the disk has room.
+    fn make_here(
+        &mut self,
+        name: Name,
+        to: Reg,
+        class: Reg,
+        kind: Kind,
+        len: u32,
+        header: u16,
+    ) -> Result<(), MemFault>
+        requires sound { IsSound H.Host self.old }
+        requires ready { IsReady (loom_told H.Host self.old) }
+        requires class { IsRef ((loom_told H.Host self.old).regs class) }
+        requires next { self.old.ledger.next ≡ name }
+        requires long { IsLongName name }
+        requires low { name < END }
+        requires held { self.old.ledger.held < disk_room self.old.disk.rest }
+        requires len { len ≤ most_len kind }
+        ensures made { OnOk result (HasMade (loom_told H.Host self.old) (loom_told H.Host self.new) to class (making_of kind len header)) }
+        ensures core { OnOk result (IfBounds (loom_told H.Host self.old).bounds (HasCore (loom_told H.Host self.old) (Make to class (making_of kind len header)))) }
+        ensures sound { KeepsSound result (IsSound H.Host self.new) }
+        ensures err { IfErr result (IsRefusedAs (loom_told H.Host self.old) (loom_told H.Host self.new) to class (making_of kind len header)) }
+        ensures other { IfErr result IsNotFull }
+        ensures lender { self.new.disk.host.ghost_name ≡ self.old.disk.host.ghost_name }
+        ensures outside { loom_outside H.Host self.new ≡ loom_outside H.Host self.old }
+    {
+        let words = words_new(kind, len, header);
+        if words > self.ledger.core {
+            return Err(self.full_new(name, words));
+        }
+        match self.clear_new(words) {
+            Ok(enough) => {
+                if enough {
+                    return self.put_object(name, to, class, kind, len, header);
+                }
+                entries_are_counted(&self.parts.names.table);
+                chunks_never_overlap(&self.parts.segment);
+                Err(self.full_new(name, words))
+            }
+            Err(f) => Err(f),
+        }
+    }
+}
+
+impl<'h, H: Host> LoomMemory<'h, H> {
+    ghost use Rattle.long_names.specs.Access.{Make, Nothing};
+    ghost use Rattle.long_names.specs.Counting.{counted};
+    ghost use Rattle.long_names.specs.Objects.{OfPointers, OfWords, OfBytes, OfMethod};
+    ghost use Rattle.long_names.specs.State.{IsRef};
+    ghost use Rattle.object_memory.specs.Told.{IsReady};
+    ghost use Rattle.object_memory.specs.Plain.{refused};
+    ghost use Rattle.object_memory.specs.declared.fault.MemFault.TheVariants.{WorkFull};
+    ghost use Rattle.object_memory.specs.Contract.{Accessed, KeepsSound, MayDo};
+    ghost use Rattle.object_memory.specs.Fit.{MayCall, StaysCallable};
+    ghost use Rattle.loom_memory.specs.Memory.{loom_told, loom_outside, loom_lender, IsSound};
+    ghost use Rattle.loom_memory.specs.Makings.{HasThinned, IfNameless, IsNameless, IsRefusedMaking};
+    ghost use Rattle.loom_memory.specs.New.{making_of};
+
+    // Refuses a making before the eighth: as many names are held as there is room for.
+    fn crowded(&mut self) -> MemFault
+        requires sound { IsSound H.Host self.old }
+        requires ready { IsReady (loom_told H.Host self.old) }
+        requires all { disk_room self.old.disk.rest ≤ self.old.ledger.held }
+        requires early { self.old.ledger.made < 8 }
+        ensures sound { IsSound H.Host self.new }
+        ensures err { IsRefusedMaking (loom_told H.Host self.old) (loom_told H.Host self.new) result }
+        ensures lender { self.new.disk.host.ghost_name ≡ self.old.disk.host.ghost_name }
+        ensures outside { loom_outside H.Host self.new ≡ loom_outside H.Host self.old }
+    {
+        let room = self.disk.room();
+        match self.ledger.base {
+            Some(base) => self.refuse(MemFault::WorkFull {
+                live: base + self.ledger.made + 1,
+                room,
+            }),
+            None => unreachable!(),
+        }
+    }
+
+    // Refuses a making where nothing is dead: as many objects are kept as there is room for.
+    fn overfull(&mut self) -> MemFault
+        requires sound { IsSound H.Host self.old }
+        requires ready { IsReady (loom_told H.Host self.old) }
+        requires all { disk_room self.old.disk.rest ≤ self.old.ledger.held }
+        ensures sound { IsSound H.Host self.new }
+        ensures told { loom_told H.Host self.new ≡ refused (loom_told H.Host self.old) result }
+        ensures full { result ≡ WorkFull (self.old.ledger.held + 1) (disk_room self.old.disk.rest) }
+        ensures later { (loom_told H.Host self.old).refusals ≤ counted (loom_told H.Host self.old).refusals }
+        ensures lender { self.new.disk.host.ghost_name ≡ self.old.disk.host.ghost_name }
+        ensures outside { loom_outside H.Host self.new ≡ loom_outside H.Host self.old }
+    {
+        let room = self.disk.room();
+        let live = self.ledger.held + 1;
+        self.refuse(MemFault::WorkFull { live, room })
+    }
+
+    // Dead objects are freed, so that the disk has room for one object more.
+    fn free_one(&mut self) -> Result<(), MemFault>
+        requires sound { IsSound H.Host self.old }
+        requires ready { IsReady (loom_told H.Host self.old) }
+        requires late { 8 ≤ self.old.ledger.made }
+        ensures thinned { OnOk result (HasThinned (loom_told H.Host self.old) (loom_told H.Host self.new)) }
+        ensures sound { KeepsSound result (IsSound H.Host self.new) }
+        ensures held { OnOk result (self.new.ledger.held < disk_room self.new.disk.rest) }
+        ensures next { OnOk result (self.new.ledger.next ≡ self.old.ledger.next) }
+        ensures err { IfErr result (IsRefusedMaking (loom_told H.Host self.old) (loom_told H.Host self.new)) }
+        ensures lender { self.new.disk.host.ghost_name ≡ self.old.disk.host.ghost_name }
+        ensures outside { loom_outside H.Host self.new ≡ loom_outside H.Host self.old }
+    {
+        match self.thin() {
+            Ok(()) => {
+                if self.ledger.held < self.disk.room() {
+                    return Ok(());
+                }
+                Err(self.overfull())
+            }
+            Err(f) => Err(f),
+        }
+    }
+
+    // Sees that the disk has room for one object more.
+    fn ask_room(&mut self) -> Result<(), MemFault>
+        requires sound { IsSound H.Host self.old }
+        requires ready { IsReady (loom_told H.Host self.old) }
+        ensures thinned { OnOk result (HasThinned (loom_told H.Host self.old) (loom_told H.Host self.new)) }
+        ensures sound { KeepsSound result (IsSound H.Host self.new) }
+        ensures held { OnOk result (self.new.ledger.held < disk_room self.new.disk.rest) }
+        ensures next { OnOk result (self.new.ledger.next ≡ self.old.ledger.next) }
+        ensures err { IfErr result (IsRefusedMaking (loom_told H.Host self.old) (loom_told H.Host self.new)) }
+        ensures lender { self.new.disk.host.ghost_name ≡ self.old.disk.host.ghost_name }
+        ensures outside { loom_outside H.Host self.new ≡ loom_outside H.Host self.old }
+    {
+        if self.ledger.held < self.disk.room() {
+            return Ok(());
+        }
+        if self.ledger.made < MAKINGS_BEFORE_FREEING {
+            return Err(self.crowded());
+        }
+        self.free_one()
+    }
+
+    // Makes an object under a name, once there is room for it.
+    fn make_named(
+        &mut self,
+        name: Name,
+        to: Reg,
+        class: Reg,
+        kind: Kind,
+        len: u32,
+        header: u16,
+    ) -> Result<(), MemFault>
+        requires fit { MayCall (IsSound H.Host) (loom_told H.Host) self.old }
+        requires class { IsRef ((loom_told H.Host self.old).regs class) }
+        requires next { self.old.ledger.next ≡ name }
+        requires long { IsLongName name }
+        requires low { name < END }
+        requires len { len ≤ most_len kind }
+        ensures access { Accessed (loom_told H.Host self.old) (loom_told H.Host self.new) (Make to class (making_of kind len header)) (λ _. Nothing) result }
+        ensures name { OnOk result (IsRef ((loom_told H.Host self.new).regs to)) }
+        ensures fit { StaysCallable (IsSound H.Host) (loom_told H.Host) loom_lender (loom_outside H.Host) self.old self.new result }
+    {
+        match self.ask_room() {
+            Ok(()) => self.make_here(name, to, class, kind, len, header),
+            Err(f) => Err(f),
+        }
+    }
+
+    // Refuses a making: there is no name for it.
+    fn nameless(&mut self, f: MemFault) -> MemFault
+        requires sound { IsSound H.Host self.old }
+        requires ready { IsReady (loom_told H.Host self.old) }
+        requires cause { IsNameless (loom_told H.Host self.old) f }
+        ensures sound { IsSound H.Host self.new }
+        ensures err { IfNameless (loom_told H.Host self.old) (loom_told H.Host self.new) result }
+        ensures lender { self.new.disk.host.ghost_name ≡ self.old.disk.host.ghost_name }
+        ensures outside { loom_outside H.Host self.new ≡ loom_outside H.Host self.old }
+    {
+        self.refuse(f)
+    }
+
+    // A new object of a kind, of so many values, words or bytes: names are asked first, then room, then the core.
+    fn make_kind(
+        &mut self,
+        to: Reg,
+        class: Reg,
+        kind: Kind,
+        len: u32,
+        header: u16,
+    ) -> Result<(), MemFault>
+        requires fit { MayCall (IsSound H.Host) (loom_told H.Host) self.old }
+        requires class { IsRef ((loom_told H.Host self.old).regs class) }
+        requires len { len ≤ most_len kind }
+        ensures access { Accessed (loom_told H.Host self.old) (loom_told H.Host self.new) (Make to class (making_of kind len header)) (λ _. Nothing) result }
+        ensures name { OnOk result (IsRef ((loom_told H.Host self.new).regs to)) }
+        ensures fit { StaysCallable (IsSound H.Host) (loom_told H.Host) loom_lender (loom_outside H.Host) self.old self.new result }
+    {
+        let next = self.ledger.next;
+        if next >= LAST_NAME {
+            return Err(self.nameless(MemFault::NamesSpent));
+        }
+        match Name::new(next) {
+            Some(name) => self.make_named(name, to, class, kind, len, header),
+            None => Err(self.nameless(MemFault::Damaged {
+                place: NOWHERE,
+                name: next,
+            })),
+        }
+    }
+
+    /// A new object of so many nils, at the next name (instantiateClass:withPointers:).
+    pub fn new_pointers(&mut self, to: Reg, class: Reg, n: u32) -> Result<(), MemFault>
+        requires fit { MayCall (IsSound H.Host) (loom_told H.Host) self.old }
+        requires may { MayDo (loom_told H.Host self.old) (Make to class (OfPointers n)) }
+        ensures access { Accessed (loom_told H.Host self.old) (loom_told H.Host self.new) (Make to class (OfPointers n)) (λ _. Nothing) result }
+        ensures name { OnOk result (IsRef ((loom_told H.Host self.new).regs to)) }
+        ensures fit { StaysCallable (IsSound H.Host) (loom_told H.Host) loom_lender (loom_outside H.Host) self.old self.new result }
+    {
+        self.make_kind(to, class, Kind::Pointers, n, 1)
+    }
+
+    /// A new object of so many words that are 0 (instantiateClass:withWords:).
+    pub fn new_words(&mut self, to: Reg, class: Reg, n: u32) -> Result<(), MemFault>
+        requires fit { MayCall (IsSound H.Host) (loom_told H.Host) self.old }
+        requires may { MayDo (loom_told H.Host self.old) (Make to class (OfWords n)) }
+        ensures access { Accessed (loom_told H.Host self.old) (loom_told H.Host self.new) (Make to class (OfWords n)) (λ _. Nothing) result }
+        ensures name { OnOk result (IsRef ((loom_told H.Host self.new).regs to)) }
+        ensures fit { StaysCallable (IsSound H.Host) (loom_told H.Host) loom_lender (loom_outside H.Host) self.old self.new result }
+    {
+        self.make_kind(to, class, Kind::Words, n, 1)
+    }
+
+    /// A new object of so many bytes that are 0 (instantiateClass:withBytes:).
+    pub fn new_bytes(&mut self, to: Reg, class: Reg, n: u32) -> Result<(), MemFault>
+        requires fit { MayCall (IsSound H.Host) (loom_told H.Host) self.old }
+        requires may { MayDo (loom_told H.Host self.old) (Make to class (OfBytes n)) }
+        ensures access { Accessed (loom_told H.Host self.old) (loom_told H.Host self.new) (Make to class (OfBytes n)) (λ _. Nothing) result }
+        ensures name { OnOk result (IsRef ((loom_told H.Host self.new).regs to)) }
+        ensures fit { StaysCallable (IsSound H.Host) (loom_told H.Host) loom_lender (loom_outside H.Host) self.old self.new result }
+    {
+        self.make_kind(to, class, Kind::Bytes, n, 1)
+    }
+
+    /// A new method, of as many nils as its header says and so many code bytes that are 0.
+    pub fn new_method(
+        &mut self,
+        to: Reg,
+        class: Reg,
+        header: i16,
+        code: u32,
+    ) -> Result<(), MemFault>
+        requires fit { MayCall (IsSound H.Host) (loom_told H.Host) self.old }
+        requires may { MayDo (loom_told H.Host self.old) (Make to class (OfMethod header code)) }
+        ensures access { Accessed (loom_told H.Host self.old) (loom_told H.Host self.new) (Make to class (OfMethod header code)) (λ _. Nothing) result }
+        ensures name { OnOk result (IsRef ((loom_told H.Host self.new).regs to)) }
+        ensures fit { StaysCallable (IsSound H.Host) (loom_told H.Host) loom_lender (loom_outside H.Host) self.old self.new result }
+    {
+        self.make_kind(to, class, Kind::Method, code, short_int(header))
+    }
+}

@@ -1,0 +1,186 @@
+// Between bytecodes: dead objects go where the disk is nearly full, and entries are freed for what comes.
+ghost use Rattle.std.specs.Prelude.{◌≡◌, ◌+◌, ◌≤◌, ◌<◌, ℕ, Some, None, true, IsTrue, OnOk, IfErr};
+ghost use Rattle.core_view.specs.Purge.{fresh_by, fresh_of};
+ghost use Rattle.object_table.specs.Entries.{is_short};
+ghost use Rattle.object_table.specs.Table.{bound_of};
+ghost use Rattle.disk_objects.specs.Disk.{disk_held, disk_room};
+ghost use Rattle.leaf_lambda.specs.Parts.{core_of, IsParts};
+
+use crate::bring::refusal_of;
+use crate::makings::MAKINGS_BEFORE_FREEING;
+use crate::memory::LoomMemory;
+use leaf_lambda::Parts;
+use loom_outside::{Host, Role};
+use object_memory::MemFault;
+use object_table::Short;
+use purger::{RoomFault, drain};
+
+/// So many entries are freed between bytecodes, as far as registers and pinned objects let them.
+pub const SETTLED_ENTRIES: u16 = 128;
+
+// 1 where the object of an entry has a body and no record.
+fn fresh_at(p: &Parts, s: Short) -> u32
+    requires parts { IsParts p.now }
+    requires short { is_short s.0 ≡ true }
+    requires within { s.0 < bound_of p.now.names.table }
+    ensures { result ≡ fresh_by ((core_of p.now).entries s.0) }
+{
+    let e = p.names.table.entry(s);
+    if !e.place().is_some() {
+        return 0;
+    }
+    if e.flags.fresh { 1 } else { 0 }
+}
+
+// How many objects have no record.
+fn count_fresh(p: &Parts) -> u32
+    requires { IsParts p.now }
+    ensures { result ≡ fresh_of (core_of p.now) }
+{
+    let mut count = 0;
+    for i in 0..p.names.table.entries() {
+        count += fresh_at(p, Short(2 * i + 2));
+    }
+    count
+}
+
+// The smaller of two numbers.
+fn least(a: u32, b: u32) -> u32
+    ensures first { result ≤ a }
+    ensures second { result ≤ b }
+    ensures either { a ≤ b → result ≡ a }
+{
+    if a < b { a } else { b }
+}
+
+impl<'h, H: Host> LoomMemory<'h, H> {
+    ghost use Rattle.long_names.specs.Heap.{object_count};
+    ghost use Rattle.long_names.specs.Kept.{kept};
+    ghost use Rattle.object_memory.specs.Told.{IsReady, is_root};
+    ghost use Rattle.object_memory.specs.Contract.{Called, KeepsSound, Settles};
+    ghost use Rattle.object_memory.specs.Fit.{MayCall, StaysCallable};
+    ghost use Rattle.loom_memory.specs.Memory.{loom_told, loom_outside, loom_lender, IsQuiet, IsSound};
+    ghost use Rattle.loom_memory.specs.Numbers.{IsNumbered};
+    ghost use Rattle.loom_memory.specs.Makings.{HasBegun, HasKept, HasSettled, HasThinned, IsLost, IsRefusedCall, IsRefusedMaking};
+
+    // How many objects are held, if they are no more than before.
+    fn recount(&self) -> u32
+        requires { IsParts self.now.parts }
+        ensures most { result ≤ self.now.ledger.held }
+        ensures same { disk_held self.now.disk.rest + fresh_of (core_of self.now.parts) ≤ self.now.ledger.held → result ≡ disk_held self.now.disk.rest + fresh_of (core_of self.now.parts) }
+    {
+        let fresh = count_fresh(&self.parts);
+        let all = self.disk.len().saturating_add(fresh);
+        least(all, self.ledger.held)
+    }
+
+    // Frees dead objects until none is dead: what is held then is what is kept.
+    pub(crate) fn thin(&mut self) -> Result<(), MemFault>
+        requires sound { IsSound H.Host self.old }
+        requires ready { IsReady (loom_told H.Host self.old) }
+        ensures thinned { OnOk result (HasThinned (loom_told H.Host self.old) (loom_told H.Host self.new)) }
+        ensures kept { OnOk result (HasKept (loom_told H.Host self.old) (loom_told H.Host self.new)) }
+        ensures count { OnOk result (IsTrue (H.tells Role.Work) → object_count (loom_told H.Host self.new).heap ≡ self.new.ledger.held) }
+        ensures again { OnOk result (IsTrue (H.tells Role.Work) → kept (loom_told H.Host self.new).heap (is_root (loom_told H.Host self.new)) ≡ (loom_told H.Host self.new).heap) }
+        ensures ledger { OnOk result (self.new.ledger ≡ record self.old.ledger { held = self.new.ledger.held }) }
+        ensures limit { OnOk result (disk_room self.new.disk.rest ≡ disk_room self.old.disk.rest) }
+        ensures sound { KeepsSound result (IsSound H.Host self.new) }
+        ensures making { IfErr result (IsRefusedMaking (loom_told H.Host self.old) (loom_told H.Host self.new)) }
+        ensures settling { IfErr result (IsRefusedCall (loom_told H.Host self.old) (loom_told H.Host self.new) Settles) }
+        ensures lender { self.new.disk.host.ghost_name ≡ self.old.disk.host.ghost_name }
+        ensures outside { loom_outside H.Host self.new ≡ loom_outside H.Host self.old }
+    {
+        match drain(&mut self.parts, &mut self.disk, &mut self.buf) {
+            Ok(()) => {
+                let held = self.recount();
+                self.ledger.held = held;
+                Ok(())
+            }
+            Err(f) => {
+                let f = refusal_of(f);
+                Err(self.refuse(f))
+            }
+        }
+    }
+
+    // No making is counted, and so many objects were there, if that is known.
+    fn count_anew(&mut self, base: Option<u32>)
+        requires sound { IsSound H.Host self.old }
+        requires numbers { IsNumbered base 0 self.old.ledger.held self.old.ledger.next (disk_room self.old.disk.rest) }
+        ensures begun { HasBegun (loom_told H.Host self.old) (loom_told H.Host self.new) base }
+        ensures ledger { self.new.ledger ≡ record self.old.ledger { base = base; made = 0 } }
+        ensures sound { IsSound H.Host self.new }
+        ensures disk { self.new.disk ≡ self.old.disk }
+    {
+        self.ledger.base = base;
+        self.ledger.made = 0;
+    }
+
+    // Where there is no room for eight more, dead objects are freed, and what is held is counted.
+    fn settle_disk(&mut self) -> Result<(), MemFault>
+        requires sound { IsSound H.Host self.old }
+        requires ready { IsReady (loom_told H.Host self.old) }
+        ensures settled { OnOk result (HasSettled (loom_told H.Host self.old) (loom_told H.Host self.new)) }
+        ensures none { OnOk result (self.new.ledger.made ≡ 0) }
+        ensures room { self.old.ledger.held + 8 ≤ disk_room self.old.disk.rest → OnOk result ((self.new.ledger.base ≡ None) × (self.new.ledger.held ≡ self.old.ledger.held)) }
+        ensures full { disk_room self.old.disk.rest < self.old.ledger.held + 8 → OnOk result (self.new.ledger.base ≡ Some self.new.ledger.held) }
+        ensures sound { KeepsSound result (IsSound H.Host self.new) }
+        ensures err { IfErr result (IsRefusedCall (loom_told H.Host self.old) (loom_told H.Host self.new) Settles) }
+        ensures lender { self.new.disk.host.ghost_name ≡ self.old.disk.host.ghost_name }
+        ensures outside { loom_outside H.Host self.new ≡ loom_outside H.Host self.old }
+    {
+        let room = self.disk.room();
+        if self.ledger.held + MAKINGS_BEFORE_FREEING <= room {
+            self.count_anew(None);
+            return Ok(());
+        }
+        match self.thin() {
+            Ok(()) => {
+                let held = self.ledger.held;
+                self.count_anew(Some(held));
+                Ok(())
+            }
+            Err(f) => Err(f),
+        }
+    }
+
+    // Frees entries. That fewer can be had is no refusal.
+    fn spare_entries(&mut self) -> Result<(), MemFault>
+        requires sound { IsSound H.Host self.old }
+        requires ready { IsReady (loom_told H.Host self.old) }
+        ensures quiet { OnOk result (IsQuiet (loom_told H.Host self.old) (loom_told H.Host self.new)) }
+        ensures ledger { OnOk result (self.new.ledger ≡ self.old.ledger) }
+        ensures sound { KeepsSound result (IsSound H.Host self.new) }
+        ensures err { IfErr result (IsRefusedCall (loom_told H.Host self.old) (loom_told H.Host self.new) Settles) }
+        ensures fault { IfErr result IsLost }
+        ensures lender { self.new.disk.host.ghost_name ≡ self.old.disk.host.ghost_name }
+        ensures outside { loom_outside H.Host self.new ≡ loom_outside H.Host self.old }
+    {
+        match self.room(0, SETTLED_ENTRIES) {
+            Ok(()) => Ok(()),
+            Err(f) => match f {
+                RoomFault::Short => Ok(()),
+                RoomFault::Disk(f) => {
+                    let f = refusal_of(f);
+                    Err(self.refuse(f))
+                }
+            },
+        }
+    }
+
+    /// After it no making is counted. Where there was room for eight more, nothing is freed and the count isn't known; elsewhere it is that
+    /// of what is held, of which nothing is dead.
+    pub fn settle(&mut self) -> Result<(), MemFault>
+        requires fit { MayCall (IsSound H.Host) (loom_told H.Host) self.old }
+        ensures called { Called (loom_told H.Host self.old) (loom_told H.Host self.new) Settles result }
+        ensures none { OnOk result (self.new.ledger.made ≡ 0) }
+        ensures room { self.old.ledger.held + 8 ≤ disk_room self.old.disk.rest → OnOk result ((self.new.ledger.base ≡ None) × (self.new.ledger.held ≡ self.old.ledger.held)) }
+        ensures full { disk_room self.old.disk.rest < self.old.ledger.held + 8 → OnOk result (self.new.ledger.base ≡ Some self.new.ledger.held) }
+        ensures fit { StaysCallable (IsSound H.Host) (loom_told H.Host) loom_lender (loom_outside H.Host) self.old self.new result }
+    {
+        match self.settle_disk() {
+            Ok(()) => self.spare_entries(),
+            Err(f) => Err(f),
+        }
+    }
+}
