@@ -4,9 +4,14 @@ use Rattle.std.proofs.lemmas.Grind.{common_steps}
 use Rattle.long_names.specs.declared.value.Value.{Value}
 use Rattle.long_names.specs.declared.value.Value.TheVariants.{Int, Ref}
 use Rattle.long_names.specs.Heap.{Heap}
+use Rattle.long_names.specs.Counting.{Rose}
 use Rattle.long_names.specs.State.{set_register, set_slot}
 use Rattle.loom_outside.specs.declared.outside.Host.{Ghosts}
-use Rattle.loom_outside.specs.declared.outside.Role.TheVariants.{Work}
+use Rattle.loom_outside.specs.Outside.{RoleState}
+use Rattle.loom_outside.specs.declared.outside.Role.TheVariants.{Work, Transcript}
+use Rattle.loom_outside.specs.declared.outside.DiskFault.{DiskFault}
+use Rattle.loom_outside.specs.declared.outside.DiskFault.TheVariants as fault
+use Rattle.loom_outside.specs.Work.{IsWorkOnly}
 use Rattle.object_table.specs.Entries.{is_short}
 use Rattle.disk_objects.specs.declared.rest.DiskRest.{DiskRest}
 use Rattle.core_view.specs.Core.{Core}
@@ -15,11 +20,16 @@ use Rattle.core_view.specs.Words.{meant}
 use Rattle.core_view.proofs.Words.{meant-short}
 use Rattle.leaf_lambda.specs.Parts.{core_of}
 use Rattle.purger.specs.Closing.{HasKept, LeavesKept}
-use Rattle.object_memory.specs.Told.{Told}
+use Rattle.purger.specs.Purge.{IsPurgeFault}
+use Rattle.object_memory.specs.declared.fault.MemFault.{MemFault}
+use Rattle.object_memory.specs.Told.{Told, Bounds}
+use Rattle.object_memory.specs.Contract.{HasCause, Thins, work_faults}
+use Rattle.object_memory.specs.Plain.{refused}
 use Rattle.loom_memory.specs.declared.memory.LoomMemory.{LoomMemory}
 use Rattle.loom_memory.specs.Ending.{AreNumbers, AreNumbersBelow}
-use Rattle.loom_memory.specs.Memory.{word_in, name_if, loom_told, IsExact, IsKept}
+use Rattle.loom_memory.specs.Memory.{word_in, name_if, loom_told, IsExact, IsKept, IsRefusalOf}
 use Rattle.loom_memory.proofs.CacheLaws.{and-both}
+use Rattle.loom_memory.proofs.CallLaws.{transcript-away}
 use Rattle.loom_memory.proofs.ExactLaws.{levels-told}
 use Rattle.loom_memory.proofs.FirstLaws.{not-one, zero-names}
 use Rattle.loom_memory.proofs.RegLaws.{count-append}
@@ -111,3 +121,24 @@ unfolding loom_told
 kept-left host m now rest h x is told kept =
     let e = x told in
     subst (λ (g : Heap). HasKept host now rest g) (sym (levels-told host m.parts m.disk.host.now m.disk.rest e.0 m.ledger.next e.1 e.3 told) ∙ is) (kept e.0 e.1 e.2)
+
+-- ---- why it failed, and what was said
+
+-- registers and slots are no cause
+pub let-cause : {H : Type 0} (host : Ghosts H) (m n : LoomMemory H) (t w : Told) (f : DiskFault) (r x : MemFault) → (loom_told host m).tells ≡ t.tells → (loom_told host m).bounds ≡ t.bounds
+    → IsPurgeFault host m.disk.host.now n.disk.host.now f → IsRefusalOf f r → w ≡ refused (loom_told host n) r → x ≡ r → HasCause t w Thins x
+unfolding loom_told
+let-cause {H} host m n t w f r x tells bounds cause why refuses same =
+    subst (λ (y : MemFault). HasCause t w Thins y) (sym same) (subst (λ (z : Told). HasCause t z Thins r) (sym refuses) (because f r cause why))
+  where
+    because : (f : DiskFault) (r : MemFault) → IsPurgeFault host m.disk.host.now n.disk.host.now f → IsRefusalOf f r → HasCause t (refused (loom_told host n) r) Thins r
+    because (fault.Work count) r cause is =
+        subst (λ (y : MemFault). HasCause t (refused (loom_told host n) r) Thins y) (sym is)
+        (sym cause.0, subst (λ (b : Option Bounds). Rose (work_faults b) (host.faults n.disk.host.now Work)) bounds cause.1)
+    because (fault.Full held room) r cause is = subst (λ (y : MemFault). HasCause t (refused (loom_told host n) r) Thins y) (sym is) (subst (λ (b : Bool). IsTrue b → ⊥) tells cause)
+    because (fault.Damaged place about) r cause is = subst (λ (y : MemFault). HasCause t (refused (loom_told host n) r) Thins y) (sym is) (subst (λ (b : Bool). IsTrue b → ⊥) tells cause)
+
+-- a call on Work says nothing
+pub work-silent : {H : Type 0} (host : Ghosts H) (m n : LoomMemory H) → IsWorkOnly host m.disk.host.now n.disk.host.now → (loom_told host n).transcript ≡ (loom_told host m).transcript
+unfolding loom_told
+work-silent host m n work = ap (λ (s : RoleState). s.put) (work.others Transcript transcript-away)

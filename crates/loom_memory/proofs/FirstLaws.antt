@@ -41,6 +41,7 @@ use Rattle.loom_memory.specs.declared.ledger.Ledger.{Ledger}
 use Rattle.loom_memory.specs.Beginning.{HasLoaded, IsEmptyCore, IsLoaded}
 use Rattle.loom_memory.specs.Cache.{has_mark, row_by}
 use Rattle.loom_memory.specs.Memory.{word_in, pin_in, name_if, heap_if, IsKept, IsOver, IsExact}
+use Rattle.loom_memory.specs.Residents.{has_body}
 use Rattle.loom_memory.proofs.ExactLaws.{levels-told}
 use Rattle.loom_memory.proofs.SizeLaws.{counts-few, stored-few}
 
@@ -80,6 +81,9 @@ empty-fresh c none = sum-none c.bound (λ s. fresh_by (c.entries s)) (λ s. fres
 
 pub empty-marks : (c : Core) → IsCore c → ((s : ℕ) → is_used (c.entries s).state ≡ false) → (n : ℕ) → marked_of c n ≡ false
 empty-marks c core none n = ap (marked_by c.entries) (empty-find c core none n)
+
+pub empty-bodies : (c : Core) → IsCore c → ((s : ℕ) → is_used (c.entries s).state ≡ false) → (n : ℕ) → has_body c (c.find n) ≡ false
+empty-bodies c core none n = ap (has_body c) (empty-find c core none n)
 
 empty-mark : (c : Core) (s : ℕ) → ((s : ℕ) → is_used (c.entries s).state ≡ false) → has_mark c s ≡ false
 empty-mark c s none = ap (λ (b : Bool). b && (c.entries s).flags.marked) (none s)

@@ -32,6 +32,7 @@ pub mod LentLaws
 pub mod OwnLaws
 pub mod GentleLaws
 pub mod NewLaws
+pub mod MadeLaws
 pub mod MakingLaws
 pub mod RootLaws
 pub mod AddLaws

@@ -65,7 +65,7 @@ thinned-ready t u x ready = subst (λ (z : Told). IsReady z) (sym x.same) (thinn
 
 -- ---- an object is made
 
-set_here : (regs : ℕ → Value) (to : ℕ) (v : Value) → set_register regs to v to ≡ v
+pub set_here : (regs : ℕ → Value) (to : ℕ) (v : Value) → set_register regs to v to ≡ v
 set_here regs to v = grind (arith, common_steps)
 
 raised-one : (a b c : Option Bounds) → Raised 0 a b → Raised 1 b c → Raised 1 a c

@@ -1,23 +1,32 @@
 -- Settling: dead objects go, and makings are counted anew.
 use Rattle.std.proofs.Common.{◌≡◌, ℕ, ◌+◌, ◌≤◌, true, Bool, Option, Some, None, Ok, Err, Result, IsTrue, refl, sym, ◌∙◌, ap, subst, arith, ⊎_elim}
 use Rattle.std.specs.Prelude.{IfErr, OnOk}
+use Rattle.std.specs.Option.{is_some}
 use Rattle.long_names.specs.Counting.{Rose}
 use Rattle.long_names.specs.Heap.{Heap, Has, object_count}
 use Rattle.long_names.specs.Kept.{kept}
 use Rattle.long_names.specs.Thin.{IsThinning}
 use Rattle.long_names.proofs.ThinLemmas.{IsThinning-refl}
 use Rattle.loom_outside.specs.declared.outside.Host.{Ghosts}
+use Rattle.loom_outside.specs.declared.outside.Role.TheVariants.{Work}
 use Rattle.object_memory.specs.declared.fault.MemFault.{MemFault}
 use Rattle.object_memory.specs.declared.fault.MemFault.TheVariants.{CoreFull, WorkFull, WorkFault, Damaged, NamesSpent, Said, Memory}
 use Rattle.object_memory.specs.Told.{Told, Bounds, Cache, IsReady, is_root}
 use Rattle.object_memory.specs.Contract.{Settles, Called, CountsKept, HasCause, IfBounds, LeavesAll, LeavesCache, Raised, SameBounds, Settled, no_names, work_faults}
 use Rattle.disk_objects.specs.Disk.{disk_room}
-use Rattle.leaf_lambda.specs.Parts.{core_of}
+use Rattle.object_table.specs.Entries.{place_of}
+use Rattle.core_view.specs.Kept.{IsCore}
+use Rattle.core_view.proofs.Core.{placed-used}
+use Rattle.core_view.proofs.Purge.{body-stays}
+use Rattle.leaf_lambda.specs.declared.parts.Parts.{Parts}
+use Rattle.leaf_lambda.specs.Parts.{core_of, spare_of}
+use Rattle.purger.specs.Draining.{KeepsHeld}
 use Rattle.loom_memory.specs.declared.ledger.Ledger.{Ledger}
 use Rattle.loom_memory.specs.declared.memory.LoomMemory.{LoomMemory}
 use Rattle.loom_memory.specs.Numbers.{IsNumbered}
 use Rattle.loom_memory.specs.Memory.{loom_told, told_of, IsQuiet, IsSound}
 use Rattle.loom_memory.specs.Makings.{HasBegun, HasSettled, HasThinned, IsLost, IsRefusedCall}
+use Rattle.loom_memory.specs.Residents.{has_body, is_resident, fetched}
 use Rattle.loom_memory.proofs.AccessLaws.{left-ready, same-trans}
 use Rattle.loom_memory.proofs.CacheLaws.{left-refl, left-trans}
 
@@ -223,3 +232,42 @@ settle-refused t u f both = refused-call t u f both
 pub settle-now : (r : Result (Unit {0}) MemFault) (t u v : Told) → HasSettled t u → OnOk r (IsQuiet u v) → IsReady t → OnOk r (IsReady v)
 settle-now (Ok x) t u v settled quiet ready = settled-ready t v (settled-quiet t u v settled quiet) ready
 settle-now (Err f) t u v settled quiet ready = tt
+
+-- what was so of a step before a step that leaves the numbers
+pub settle-fetches : {H : Type 0} (r : Result (Unit {0}) MemFault) (m u v : LoomMemory H) → fetched u ≡ fetched m → OnOk r (v.ledger ≡ u.ledger) → OnOk r (fetched v ≡ fetched m)
+unfolding fetched
+settle-fetches {H} (Ok x) m u v was same = ap (λ (k : Ledger). k.fetches) same ∙ was
+settle-fetches {H} (Err f) m u v was same = tt
+
+-- ---- what stays in the core
+
+-- nothing but numbers changed
+pub bodies-anew : (p : Parts) (t u : Told) (base : Option ℕ) (q r : Parts) → HasBegun t u base → r ≡ q → KeepsHeld (core_of p) (core_of q) t.heap → KeepsHeld (core_of p) (core_of r) u.heap
+bodies-anew p t u base q r begun same x = subst (λ (z : Parts). KeepsHeld (core_of p) (core_of z) u.heap) (sym same) (subst (λ (h : Heap). KeepsHeld (core_of p) (core_of q) h) (sym (ap (λ (z : Told). z.heap) begun.same)) x)
+
+pub bodies-same : (p r : Parts) (h : Heap) → r ≡ p → KeepsHeld (core_of p) (core_of r) h
+bodies-same p r h same = subst (λ (z : Parts). KeepsHeld (core_of p) (core_of z) h) (sym same) (λ s at place has. body-stays (core_of p) s at place)
+
+-- each object in the core that is held then is there
+held-residents : {H : Type 0} (m n : LoomMemory H) (h : Heap) → IsCore (core_of m.parts) → IsCore (core_of n.parts) → KeepsHeld (core_of m.parts) (core_of n.parts) h → (k : ℕ) → IsTrue (is_resident m k) → Has h k → IsTrue (is_resident n k)
+unfolding is_resident
+held-residents {H} m n h core now bodies k here has = go ((core_of m.parts).find k) refl here
+  where
+    go : (x : Option ℕ) → (core_of m.parts).find k ≡ x → has_body (core_of m.parts) x ≡ true → has_body (core_of n.parts) ((core_of n.parts).find k) ≡ true
+    go None e here = absurd (cc)
+    go (Some s) e here = at (place_of ((core_of m.parts).entries s).state) refl here
+      where
+        at : (x : Option ℕ) → place_of ((core_of m.parts).entries s).state ≡ x → is_some x ≡ true → has_body (core_of n.parts) ((core_of n.parts).find k) ≡ true
+        at None f here = absurd (cc)
+        at (Some p) f here =
+            let still = bodies s p f (subst (λ (i : ℕ). Has h i) (sym (core.named k s e)) has) in
+            let found : (core_of n.parts).find k ≡ Some s = ap (core_of n.parts).find (sym (still.name ∙ core.named k s e)) ∙ now.found s (placed-used ((core_of n.parts).entries s).state still.at still.place) in
+            ap (λ (x : Option ℕ). has_body (core_of n.parts) x) found ∙ ap (λ (x : Option ℕ). is_some x) still.place
+
+-- where so many entries are free, each object in the core that is still held stays there
+pub settle-stays : {H : Type 0} (r : Result (Unit {0}) MemFault) (host : Ghosts H) (m u v : LoomMemory H) → IsCore (core_of m.parts) → IsCore (core_of u.parts) → spare_of m.parts ≤ spare_of u.parts
+    → (IsTrue (host.tells Work) → KeepsHeld (core_of m.parts) (core_of u.parts) (loom_told host u).heap) → OnOk r (128 ≤ spare_of u.parts → v ≡ u)
+    → OnOk r (128 ≤ spare_of m.parts → IsTrue (host.tells Work) → (k : ℕ) → IsTrue (is_resident m k) → Has (loom_told host v).heap k → IsTrue (is_resident v k))
+settle-stays {H} (Ok x) host m u v core now more bodies same = λ enough told k here.
+    subst (λ (z : LoomMemory H). Has (loom_told host z).heap k → IsTrue (is_resident z k)) (sym (same (omega (arith, more, enough)))) (held-residents m u (loom_told host u).heap core now (bodies told) k here)
+settle-stays {H} (Err f) host m u v core now more bodies same = tt

@@ -38,7 +38,7 @@ use Rattle.delta_counts.proofs.NumberLaws.{held-on_disk}
 use Rattle.purger.specs.declared.room.Pinned.{Pinned}
 use Rattle.purger.specs.Counts.{StandsFor}
 use Rattle.purger.specs.Purge.{IsPurgeFault, IsReadFault}
-use Rattle.purger.specs.Draining.{AreNamed, DrainsDead, IsDrainedOf, LeavesRest}
+use Rattle.purger.specs.Draining.{AreNamed, DrainsDead, IsDrainedOf, KeepsHeld, LeavesRest}
 use Rattle.purger.proofs.SoundLaws.{core-at, disk-at, sound-backed}
 use Rattle.object_memory.specs.Told.{Told, is_root}
 use Rattle.object_memory.specs.declared.fault.MemFault.{MemFault}
@@ -255,6 +255,13 @@ pub thin-again : {H : Type 0} (host : Ghosts H) (p q : Parts) (was now : H) (bef
 thin-again host p q was now before rest regs pins k n x told =
     let y = told-by host p q was now before rest regs pins k x told in
     kept-again (told_of host now rest (core_of q) regs pins (record k { held = n })) y.left.drained.thinned.levels y.new_heap y.left.drained.thinned.sound y.left.drained.none (step-free host p q was now before rest regs pins k n x y)
+
+-- each object that is left, and had a body, still has it
+pub thin-bodies : {H : Type 0} (host : Ghosts H) (p q : Parts) (was now : H) (before rest : DiskRest) (regs : List ℕ) (pins : Pinned) (k : Ledger) (n : ℕ) → IsThinStep host p q was now before rest regs pins k → IsTrue (host.tells Work)
+    → KeepsHeld (core_of p) (core_of q) (told_of host now rest (core_of q) regs pins (record k { held = n })).heap
+thin-bodies host p q was now before rest regs pins k n x told =
+    let y = told-by host p q was now before rest regs pins k x told in
+    subst (λ (h : Heap). KeepsHeld (core_of p) (core_of q) h) (sym y.new_heap) y.left.drained.thinned.bodies
 
 -- ---- the numbers
 

@@ -54,6 +54,7 @@ impl<'h, H: Host> LoomMemory<'h, H> {
     ghost use Rattle.object_memory.specs.Told.{IsReady};
     ghost use Rattle.loom_memory.specs.Memory.{loom_told, loom_lender, IsSound};
     ghost use Rattle.loom_memory.specs.Beginning.{HasLoaded, IsFirst, IsLoaded};
+    ghost use Rattle.loom_memory.specs.Residents.{is_resident, fetched};
 
     // A memory of an empty core, two buffers and a disk.
     fn joined(
@@ -72,6 +73,7 @@ impl<'h, H: Host> LoomMemory<'h, H> {
         ensures ready { IsReady (loom_told H.Host result) }
         ensures now { result.disk.host.now ≡ disk.entry.host.now }
         ensures lender { loom_lender result ≡ disk.entry.host.ghost_name }
+        ensures none { (fetched result ≡ 0) × ((k : ℕ) → is_resident result k ≡ false) }
     {
         let held = disk.len();
         LoomMemory {
@@ -118,6 +120,7 @@ impl<'h, H: Host> LoomMemory<'h, H> {
         ensures ready { IfOk result (λ m. IsReady (loom_told H.Host m)) }
         ensures now { IfOk result (λ m. m.disk.host.now ≡ disk.entry.host.now) }
         ensures lender { IfOk result (λ m. loom_lender m ≡ disk.entry.host.ghost_name) }
+        ensures none { IfOk result (λ m. (fetched m ≡ 0) × ((k : ℕ) → is_resident m k ≡ false)) }
     {
         match tables(alloc, core, entries) {
             Ok(t) => Ok(LoomMemory::joined(disk, t, next, core, entries)),

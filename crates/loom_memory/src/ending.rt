@@ -13,6 +13,7 @@ use purger::close;
 const REGISTERS: u8 = 24;
 
 impl<'h, H: Host> LoomMemory<'h, H> {
+    ghost use Rattle.object_memory.specs.Contract.{HasCause, Thins};
     ghost use Rattle.purger.specs.Closing.{HasKept};
     ghost use Rattle.loom_memory.specs.Ending.{AreNumbers};
     ghost use Rattle.loom_memory.specs.Makings.{IsLost};
@@ -48,13 +49,15 @@ impl<'h, H: Host> LoomMemory<'h, H> {
     }
 
     /// Ends what the memory does: nothing is named from outside any more, dead objects go, and all others leave the core. After it the disk has
-    /// just the objects that are kept with no roots, with their exact counts, and none is pending; the answer is the next name. A fault is one
-    /// of Work, after which nothing is known of the disk.
+    /// just the objects that are kept with no roots, with their exact counts, and none is pending; the answer is the next name. After a
+    /// fault nothing is known of the disk.
     pub fn wind_up(&mut self) -> Result<u32, MemFault>
         requires sound { IsSound H.Host self.old }
         ensures kept { IsTrue (H.tells Role.Work) → OnOk result (HasKept H.Host self.new.disk.host.now self.new.disk.rest (loom_told H.Host self.old).heap) }
         ensures next { IfOk result (λ n. n ≡ self.old.ledger.next) }
         ensures lost { IfErr result IsLost }
+        ensures cause { IfErr result (HasCause (loom_told H.Host self.old) (loom_told H.Host self.new) Thins) }
+        ensures transcript { (loom_told H.Host self.new).transcript ≡ (loom_told H.Host self.old).transcript }
         ensures lender { self.new.disk.host.ghost_name ≡ self.old.disk.host.ghost_name }
         ensures outside { loom_outside H.Host self.new ≡ loom_outside H.Host self.old }
     {

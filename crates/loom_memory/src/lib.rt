@@ -11,8 +11,9 @@
 //! (`full`), said of every access that names the object and is silent (`err`). Nothing of what is told changes meanwhile but counts of
 //! faults, and that all marks may be gone (`IsQuiet`).
 //!
-//! What is promised of the core and of Work beside what is told is one record, `IsSparing` of `specs/Own.antt`: which object is in the
-//! core, that none leaves it without need, that Work isn't touched without need, what comes in, and that cached rows stay.
+//! What is promised of the core and of Work beside what is told stands in `specs/Own.antt`, a record for each shape of call (`IsSparing` of
+//! one that changes nothing): which object is in the core, that none leaves it without need, that Work isn't touched without need, what
+//! comes in, and that cached rows stay.
 //!
 //! Read `specs/Memory.antt` first: `told_of`, what is told of a core over a disk, and `IsSound`: what the core keeps over every host
 //! (`IsKept`), what it keeps with a disk (`IsOver`), and that counts are exact (`IsExact`), which is said of the levels of `counted_core` that core

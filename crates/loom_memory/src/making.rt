@@ -1,11 +1,11 @@
 // New objects in a core: the words that they hold are counted first, and then they get an entry and a body at once.
-ghost use Rattle.std.specs.Prelude.{◌≡◌, ◌≢◌, ◌+◌, ◌<◌, ◌≤◌, ◌^◌, ◌++◌, ℕ, [], List, Some, None, true, replicate, IfSome, IfNone};
+ghost use Rattle.std.specs.Prelude.{◌≡◌, ◌≢◌, ◌+◌, ◌<◌, ◌≤◌, ◌^◌, ◌++◌, ℕ, [], List, Some, None, true, replicate, is_some, IsTrue, IfSome, IfNone};
 ghost use Rattle.long_names.specs.Heap.{count_of};
 ghost use Rattle.long_names.specs.Names.{NIL as NIL_NAME, IsLongName};
 ghost use Rattle.long_names.specs.Words.{literal_count};
 ghost use Rattle.long_names.specs.declared.value.Value.{Value};
 ghost use Rattle.long_names.specs.declared.value.Value.TheVariants.{Ref};
-ghost use Rattle.object_table.specs.Entries.{is_used};
+ghost use Rattle.object_table.specs.Entries.{is_used, place_of};
 ghost use Rattle.core_segment.specs.declared.segment.TheConstants.{HEADER};
 ghost use Rattle.core_segment.specs.Segment.{largest_of, size_of};
 ghost use Rattle.core_view.specs.Core.{with_leaf};
@@ -131,6 +131,7 @@ fn put_new(
     requires spare { 1 ≤ spare_of p.old }
     ensures parts { IfSome result (λ s. IsParts p.new) }
     ensures made { IfSome result (λ s. IsNew (core_of p.old) (core_of p.new) name class.0 kind len header s.0) }
+    ensures body { IfSome result (λ s. IsTrue (is_some (place_of ((core_of p.new).entries s.0).state))) }
     ensures sound { IfSome result (λ s. (t : Levels) → core_of p.old ≡ t.core
         → IsSound t (words_ahead (fields_new kind len header) ((core_of p.old).entries class.0).name) → t.next ≡ name → IsSound (made t (core_of p.new)) []) }
     ensures none { IfNone result ((core_of p.old).find name ≡ None → ⊥) }
@@ -164,6 +165,7 @@ pub(crate) fn make_object(
     requires spare { 2 ≤ spare_of p.old }
     ensures parts { IfSome result (λ s. IsParts p.new) }
     ensures made { IfSome result (λ s. IsNew (core_of p.old) (core_of p.new) name class.0 kind len header s.0) }
+    ensures body { IfSome result (λ s. IsTrue (is_some (place_of ((core_of p.new).entries s.0).state))) }
     ensures sound { IfSome result (λ s. (t : Levels) → core_of p.old ≡ t.core → IsSound t [] → HasFew t → t.next ≡ name → IsSound (made t (core_of p.new)) []) }
     ensures none { IfNone result ((core_of p.old).find name ≡ None → name ≢ NIL_NAME → ⊥) }
     ensures size { size_of p.new.segment ≡ size_of p.old.segment }

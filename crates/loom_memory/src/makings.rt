@@ -43,7 +43,7 @@ fn words_new(kind: Kind, len: u32, header: u16) -> u32
 impl<'h, H: Host> LoomMemory<'h, H> {
     ghost use Rattle.long_names.specs.Access.{Make};
     ghost use Rattle.long_names.specs.Need.{Fits};
-    ghost use Rattle.long_names.specs.State.{IsRef};
+    ghost use Rattle.long_names.specs.State.{name_at, IsRef};
     ghost use Rattle.object_memory.specs.Told.{IsReady};
     ghost use Rattle.object_memory.specs.declared.fault.Need.{Need as Wanted};
     ghost use Rattle.object_memory.specs.Contract.{HasCore, IfBounds, KeepsSound};
@@ -52,6 +52,7 @@ impl<'h, H: Host> LoomMemory<'h, H> {
     ghost use Rattle.loom_memory.specs.Memory.{loom_told, loom_outside, IsQuiet, IsSound};
     ghost use Rattle.loom_memory.specs.Makings.{HasAdded, HasMade, IsFullMaking, IsNotFull, IsRefusedAs, IsRefusedMaking};
     ghost use Rattle.loom_memory.specs.New.{making_of};
+    ghost use Rattle.loom_memory.specs.Residents.{is_resident, fetched};
 
     // Refuses a making: the object has no room in the core.
     fn full_new(&mut self, name: Name, words: u32) -> MemFault
@@ -122,6 +123,8 @@ impl<'h, H: Host> LoomMemory<'h, H> {
         requires spare { 2 ≤ spare_of self.old.parts }
         ensures added { IfSome result (λ s. HasAdded (loom_told H.Host self.old) (loom_told H.Host self.new) class (making_of kind len header)) }
         ensures entry { IfSome result (λ s. IsEntryOf (core_of self.new.parts) s.0 name) }
+        ensures there { IfSome result (λ s. IsTrue (is_resident self.new name)) }
+        ensures fetches { IfSome result (λ s. fetched self.new ≡ fetched self.old) }
         ensures sound { IfSome result (λ s. IsSound H.Host self.new) }
         ensures none { IfNone result (IsTrue (H.tells Role.Work) → ⊥) }
         ensures disk { self.new.disk ≡ self.old.disk }
@@ -158,6 +161,8 @@ impl<'h, H: Host> LoomMemory<'h, H> {
         requires room { words_for kind len (literal_count (int_of_short header)) + HEADER ≤ largest_of self.old.parts.segment }
         requires spare { 2 ≤ spare_of self.old.parts }
         ensures made { OnOk result (HasMade (loom_told H.Host self.old) (loom_told H.Host self.new) to class (making_of kind len header)) }
+        ensures there { OnOk result (IsTrue (is_resident self.new (name_at ((loom_told H.Host self.new).regs to)))) }
+        ensures fetches { OnOk result (fetched self.new ≡ fetched self.old) }
         ensures sound { KeepsSound result (IsSound H.Host self.new) }
         ensures err { IfErr result (IsRefusedMaking (loom_told H.Host self.old) (loom_told H.Host self.new)) }
         ensures other { IfErr result IsNotFull }
@@ -195,6 +200,8 @@ impl<'h, H: Host> LoomMemory<'h, H> {
         requires held { self.old.ledger.held < disk_room self.old.disk.rest }
         requires len { len ≤ most_len kind }
         ensures made { OnOk result (HasMade (loom_told H.Host self.old) (loom_told H.Host self.new) to class (making_of kind len header)) }
+        ensures there { OnOk result (IsTrue (is_resident self.new (name_at ((loom_told H.Host self.new).regs to)))) }
+        ensures fetches { OnOk result (fetched self.new ≡ fetched self.old) }
         ensures core { OnOk result (IfBounds (loom_told H.Host self.old).bounds (HasCore (loom_told H.Host self.old) (Make to class (making_of kind len header)))) }
         ensures sound { KeepsSound result (IsSound H.Host self.new) }
         ensures err { IfErr result (IsRefusedAs (loom_told H.Host self.old) (loom_told H.Host self.new) to class (making_of kind len header)) }
@@ -221,18 +228,19 @@ impl<'h, H: Host> LoomMemory<'h, H> {
 }
 
 impl<'h, H: Host> LoomMemory<'h, H> {
-    ghost use Rattle.long_names.specs.Access.{Make, Nothing};
+    ghost use Rattle.long_names.specs.Access.{Make, Nothing, heap_after};
     ghost use Rattle.long_names.specs.Counting.{counted};
     ghost use Rattle.long_names.specs.Objects.{OfPointers, OfWords, OfBytes, OfMethod};
-    ghost use Rattle.long_names.specs.State.{IsRef};
+    ghost use Rattle.long_names.specs.State.{name_at, IsRef};
     ghost use Rattle.object_memory.specs.Told.{IsReady};
     ghost use Rattle.object_memory.specs.Plain.{refused};
     ghost use Rattle.object_memory.specs.declared.fault.MemFault.TheVariants.{WorkFull};
-    ghost use Rattle.object_memory.specs.Contract.{Accessed, KeepsSound, MayDo};
+    ghost use Rattle.object_memory.specs.Contract.{Accessed, IfBounds, KeepsSound, MayDo};
     ghost use Rattle.object_memory.specs.Fit.{MayCall, StaysCallable};
     ghost use Rattle.loom_memory.specs.Memory.{loom_told, loom_outside, loom_lender, IsSound};
     ghost use Rattle.loom_memory.specs.Makings.{HasThinned, IfNameless, IsNameless, IsRefusedMaking};
     ghost use Rattle.loom_memory.specs.New.{making_of};
+    ghost use Rattle.loom_memory.specs.Residents.{is_resident, fetched};
 
     // Refuses a making before the eighth: as many names are held as there is room for.
     fn crowded(&mut self) -> MemFault
@@ -281,6 +289,7 @@ impl<'h, H: Host> LoomMemory<'h, H> {
         ensures sound { KeepsSound result (IsSound H.Host self.new) }
         ensures held { OnOk result (self.new.ledger.held < disk_room self.new.disk.rest) }
         ensures next { OnOk result (self.new.ledger.next ≡ self.old.ledger.next) }
+        ensures fetches { OnOk result (fetched self.new ≡ fetched self.old) }
         ensures err { IfErr result (IsRefusedMaking (loom_told H.Host self.old) (loom_told H.Host self.new)) }
         ensures lender { self.new.disk.host.ghost_name ≡ self.old.disk.host.ghost_name }
         ensures outside { loom_outside H.Host self.new ≡ loom_outside H.Host self.old }
@@ -304,6 +313,8 @@ impl<'h, H: Host> LoomMemory<'h, H> {
         ensures sound { KeepsSound result (IsSound H.Host self.new) }
         ensures held { OnOk result (self.new.ledger.held < disk_room self.new.disk.rest) }
         ensures next { OnOk result (self.new.ledger.next ≡ self.old.ledger.next) }
+        ensures fetches { OnOk result (fetched self.new ≡ fetched self.old) }
+        ensures early { OnOk result (self.old.ledger.made < 8 → self.new ≡ self.old) }
         ensures err { IfErr result (IsRefusedMaking (loom_told H.Host self.old) (loom_told H.Host self.new)) }
         ensures lender { self.new.disk.host.ghost_name ≡ self.old.disk.host.ghost_name }
         ensures outside { loom_outside H.Host self.new ≡ loom_outside H.Host self.old }
@@ -335,6 +346,10 @@ impl<'h, H: Host> LoomMemory<'h, H> {
         requires len { len ≤ most_len kind }
         ensures access { Accessed (loom_told H.Host self.old) (loom_told H.Host self.new) (Make to class (making_of kind len header)) (λ _. Nothing) result }
         ensures name { OnOk result (IsRef ((loom_told H.Host self.new).regs to)) }
+        ensures there { OnOk result (IsTrue (is_resident self.new (name_at ((loom_told H.Host self.new).regs to)))) }
+        ensures fetches { OnOk result (fetched self.new ≡ fetched self.old) }
+        ensures early { IsTrue (H.tells Role.Work) → IfBounds (loom_told H.Host self.old).bounds (λ b. b.made < 8
+            → OnOk result ((loom_told H.Host self.new).heap ≡ heap_after (loom_told H.Host self.old).heap (loom_told H.Host self.old).regs (Make to class (making_of kind len header)))) }
         ensures fit { StaysCallable (IsSound H.Host) (loom_told H.Host) loom_lender (loom_outside H.Host) self.old self.new result }
     {
         match self.ask_room() {
@@ -370,6 +385,10 @@ impl<'h, H: Host> LoomMemory<'h, H> {
         requires len { len ≤ most_len kind }
         ensures access { Accessed (loom_told H.Host self.old) (loom_told H.Host self.new) (Make to class (making_of kind len header)) (λ _. Nothing) result }
         ensures name { OnOk result (IsRef ((loom_told H.Host self.new).regs to)) }
+        ensures there { OnOk result (IsTrue (is_resident self.new (name_at ((loom_told H.Host self.new).regs to)))) }
+        ensures fetches { OnOk result (fetched self.new ≡ fetched self.old) }
+        ensures early { IsTrue (H.tells Role.Work) → IfBounds (loom_told H.Host self.old).bounds (λ b. b.made < 8
+            → OnOk result ((loom_told H.Host self.new).heap ≡ heap_after (loom_told H.Host self.old).heap (loom_told H.Host self.old).regs (Make to class (making_of kind len header)))) }
         ensures fit { StaysCallable (IsSound H.Host) (loom_told H.Host) loom_lender (loom_outside H.Host) self.old self.new result }
     {
         let next = self.ledger.next;
@@ -391,6 +410,10 @@ impl<'h, H: Host> LoomMemory<'h, H> {
         requires may { MayDo (loom_told H.Host self.old) (Make to class (OfPointers n)) }
         ensures access { Accessed (loom_told H.Host self.old) (loom_told H.Host self.new) (Make to class (OfPointers n)) (λ _. Nothing) result }
         ensures name { OnOk result (IsRef ((loom_told H.Host self.new).regs to)) }
+        ensures there { OnOk result (IsTrue (is_resident self.new (name_at ((loom_told H.Host self.new).regs to)))) }
+        ensures fetches { OnOk result (fetched self.new ≡ fetched self.old) }
+        ensures early { IsTrue (H.tells Role.Work) → IfBounds (loom_told H.Host self.old).bounds (λ b. b.made < 8
+            → OnOk result ((loom_told H.Host self.new).heap ≡ heap_after (loom_told H.Host self.old).heap (loom_told H.Host self.old).regs (Make to class (OfPointers n)))) }
         ensures fit { StaysCallable (IsSound H.Host) (loom_told H.Host) loom_lender (loom_outside H.Host) self.old self.new result }
     {
         self.make_kind(to, class, Kind::Pointers, n, 1)
@@ -402,6 +425,10 @@ impl<'h, H: Host> LoomMemory<'h, H> {
         requires may { MayDo (loom_told H.Host self.old) (Make to class (OfWords n)) }
         ensures access { Accessed (loom_told H.Host self.old) (loom_told H.Host self.new) (Make to class (OfWords n)) (λ _. Nothing) result }
         ensures name { OnOk result (IsRef ((loom_told H.Host self.new).regs to)) }
+        ensures there { OnOk result (IsTrue (is_resident self.new (name_at ((loom_told H.Host self.new).regs to)))) }
+        ensures fetches { OnOk result (fetched self.new ≡ fetched self.old) }
+        ensures early { IsTrue (H.tells Role.Work) → IfBounds (loom_told H.Host self.old).bounds (λ b. b.made < 8
+            → OnOk result ((loom_told H.Host self.new).heap ≡ heap_after (loom_told H.Host self.old).heap (loom_told H.Host self.old).regs (Make to class (OfWords n)))) }
         ensures fit { StaysCallable (IsSound H.Host) (loom_told H.Host) loom_lender (loom_outside H.Host) self.old self.new result }
     {
         self.make_kind(to, class, Kind::Words, n, 1)
@@ -413,6 +440,10 @@ impl<'h, H: Host> LoomMemory<'h, H> {
         requires may { MayDo (loom_told H.Host self.old) (Make to class (OfBytes n)) }
         ensures access { Accessed (loom_told H.Host self.old) (loom_told H.Host self.new) (Make to class (OfBytes n)) (λ _. Nothing) result }
         ensures name { OnOk result (IsRef ((loom_told H.Host self.new).regs to)) }
+        ensures there { OnOk result (IsTrue (is_resident self.new (name_at ((loom_told H.Host self.new).regs to)))) }
+        ensures fetches { OnOk result (fetched self.new ≡ fetched self.old) }
+        ensures early { IsTrue (H.tells Role.Work) → IfBounds (loom_told H.Host self.old).bounds (λ b. b.made < 8
+            → OnOk result ((loom_told H.Host self.new).heap ≡ heap_after (loom_told H.Host self.old).heap (loom_told H.Host self.old).regs (Make to class (OfBytes n)))) }
         ensures fit { StaysCallable (IsSound H.Host) (loom_told H.Host) loom_lender (loom_outside H.Host) self.old self.new result }
     {
         self.make_kind(to, class, Kind::Bytes, n, 1)
@@ -430,6 +461,10 @@ impl<'h, H: Host> LoomMemory<'h, H> {
         requires may { MayDo (loom_told H.Host self.old) (Make to class (OfMethod header code)) }
         ensures access { Accessed (loom_told H.Host self.old) (loom_told H.Host self.new) (Make to class (OfMethod header code)) (λ _. Nothing) result }
         ensures name { OnOk result (IsRef ((loom_told H.Host self.new).regs to)) }
+        ensures there { OnOk result (IsTrue (is_resident self.new (name_at ((loom_told H.Host self.new).regs to)))) }
+        ensures fetches { OnOk result (fetched self.new ≡ fetched self.old) }
+        ensures early { IsTrue (H.tells Role.Work) → IfBounds (loom_told H.Host self.old).bounds (λ b. b.made < 8
+            → OnOk result ((loom_told H.Host self.new).heap ≡ heap_after (loom_told H.Host self.old).heap (loom_told H.Host self.old).regs (Make to class (OfMethod header code)))) }
         ensures fit { StaysCallable (IsSound H.Host) (loom_told H.Host) loom_lender (loom_outside H.Host) self.old self.new result }
     {
         self.make_kind(to, class, Kind::Method, code, short_int(header))

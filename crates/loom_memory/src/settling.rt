@@ -1,10 +1,12 @@
 // Between bytecodes: dead objects go where the disk is nearly full, and entries are freed for what comes.
-ghost use Rattle.std.specs.Prelude.{◌≡◌, ◌+◌, ◌≤◌, ◌<◌, ℕ, Some, None, true, IsTrue, OnOk, IfErr};
+ghost use Rattle.std.specs.Prelude.{◌≡◌, ◌⊎◌, ◌+◌, ◌≤◌, ◌<◌, ℕ, Some, None, true, IsTrue, OnOk, IfErr};
 ghost use Rattle.core_view.specs.Purge.{fresh_by, fresh_of};
+ghost use Rattle.core_view.specs.Room.{IsBare};
 ghost use Rattle.object_table.specs.Entries.{is_short};
 ghost use Rattle.object_table.specs.Table.{bound_of};
 ghost use Rattle.disk_objects.specs.Disk.{disk_held, disk_room};
-ghost use Rattle.leaf_lambda.specs.Parts.{core_of, IsParts};
+ghost use Rattle.leaf_lambda.specs.Parts.{core_of, spare_of, IsParts};
+ghost use Rattle.loom_memory.specs.declared.settling.TheConstants.{SETTLED_ENTRIES as SETTLED};
 
 use crate::bring::refusal_of;
 use crate::makings::MAKINGS_BEFORE_FREEING;
@@ -13,6 +15,7 @@ use leaf_lambda::Parts;
 use loom_outside::{Host, Role};
 use object_memory::MemFault;
 use object_table::Short;
+use purger::room::has_room;
 use purger::{RoomFault, drain};
 
 /// So many entries are freed between bytecodes, as far as registers and pinned objects let them.
@@ -54,13 +57,15 @@ fn least(a: u32, b: u32) -> u32
 }
 
 impl<'h, H: Host> LoomMemory<'h, H> {
-    ghost use Rattle.long_names.specs.Heap.{object_count};
+    ghost use Rattle.long_names.specs.Heap.{object_count, Has};
     ghost use Rattle.long_names.specs.Kept.{kept};
     ghost use Rattle.object_memory.specs.Told.{IsReady, is_root};
     ghost use Rattle.object_memory.specs.Contract.{Called, KeepsSound, Settles};
     ghost use Rattle.object_memory.specs.Fit.{MayCall, StaysCallable};
+    ghost use Rattle.purger.specs.Draining.{KeepsHeld};
     ghost use Rattle.loom_memory.specs.Memory.{loom_told, loom_outside, loom_lender, IsQuiet, IsSound};
     ghost use Rattle.loom_memory.specs.Numbers.{IsNumbered};
+    ghost use Rattle.loom_memory.specs.Residents.{fetched, is_resident};
     ghost use Rattle.loom_memory.specs.Makings.{HasBegun, HasKept, HasSettled, HasThinned, IsLost, IsRefusedCall, IsRefusedMaking};
 
     // How many objects are held, if they are no more than before.
@@ -84,6 +89,8 @@ impl<'h, H: Host> LoomMemory<'h, H> {
         ensures again { OnOk result (IsTrue (H.tells Role.Work) → kept (loom_told H.Host self.new).heap (is_root (loom_told H.Host self.new)) ≡ (loom_told H.Host self.new).heap) }
         ensures ledger { OnOk result (self.new.ledger ≡ record self.old.ledger { held = self.new.ledger.held }) }
         ensures limit { OnOk result (disk_room self.new.disk.rest ≡ disk_room self.old.disk.rest) }
+        ensures bodies { OnOk result (IsTrue (H.tells Role.Work) → KeepsHeld (core_of self.old.parts) (core_of self.new.parts) (loom_told H.Host self.new).heap) }
+        ensures entries { OnOk result (spare_of self.old.parts ≤ spare_of self.new.parts) }
         ensures sound { KeepsSound result (IsSound H.Host self.new) }
         ensures making { IfErr result (IsRefusedMaking (loom_told H.Host self.old) (loom_told H.Host self.new)) }
         ensures settling { IfErr result (IsRefusedCall (loom_told H.Host self.old) (loom_told H.Host self.new) Settles) }
@@ -110,6 +117,7 @@ impl<'h, H: Host> LoomMemory<'h, H> {
         ensures begun { HasBegun (loom_told H.Host self.old) (loom_told H.Host self.new) base }
         ensures ledger { self.new.ledger ≡ record self.old.ledger { base = base; made = 0 } }
         ensures sound { IsSound H.Host self.new }
+        ensures parts { self.new.parts ≡ self.old.parts }
         ensures disk { self.new.disk ≡ self.old.disk }
     {
         self.ledger.base = base;
@@ -124,6 +132,9 @@ impl<'h, H: Host> LoomMemory<'h, H> {
         ensures none { OnOk result (self.new.ledger.made ≡ 0) }
         ensures room { self.old.ledger.held + 8 ≤ disk_room self.old.disk.rest → OnOk result ((self.new.ledger.base ≡ None) × (self.new.ledger.held ≡ self.old.ledger.held)) }
         ensures full { disk_room self.old.disk.rest < self.old.ledger.held + 8 → OnOk result (self.new.ledger.base ≡ Some self.new.ledger.held) }
+        ensures fetches { OnOk result (fetched self.new ≡ fetched self.old) }
+        ensures bodies { OnOk result (IsTrue (H.tells Role.Work) → KeepsHeld (core_of self.old.parts) (core_of self.new.parts) (loom_told H.Host self.new).heap) }
+        ensures entries { OnOk result (spare_of self.old.parts ≤ spare_of self.new.parts) }
         ensures sound { KeepsSound result (IsSound H.Host self.new) }
         ensures err { IfErr result (IsRefusedCall (loom_told H.Host self.old) (loom_told H.Host self.new) Settles) }
         ensures lender { self.new.disk.host.ghost_name ≡ self.old.disk.host.ghost_name }
@@ -150,12 +161,17 @@ impl<'h, H: Host> LoomMemory<'h, H> {
         requires ready { IsReady (loom_told H.Host self.old) }
         ensures quiet { OnOk result (IsQuiet (loom_told H.Host self.old) (loom_told H.Host self.new)) }
         ensures ledger { OnOk result (self.new.ledger ≡ self.old.ledger) }
+        ensures spare { OnOk result ((SETTLED ≤ spare_of self.new.parts) ⊎ IsBare self.new.pinned.a self.new.pinned.b self.new.pinned.d (core_of self.new.parts)) }
+        ensures stays { OnOk result (SETTLED ≤ spare_of self.old.parts → self.new ≡ self.old) }
         ensures sound { KeepsSound result (IsSound H.Host self.new) }
         ensures err { IfErr result (IsRefusedCall (loom_told H.Host self.old) (loom_told H.Host self.new) Settles) }
         ensures fault { IfErr result IsLost }
         ensures lender { self.new.disk.host.ghost_name ≡ self.old.disk.host.ghost_name }
         ensures outside { loom_outside H.Host self.new ≡ loom_outside H.Host self.old }
     {
+        if has_room(&self.parts, 0, SETTLED_ENTRIES) {
+            return Ok(());
+        }
         match self.room(0, SETTLED_ENTRIES) {
             Ok(()) => Ok(()),
             Err(f) => match f {
@@ -169,13 +185,17 @@ impl<'h, H: Host> LoomMemory<'h, H> {
     }
 
     /// After it no making is counted. Where there was room for eight more, nothing is freed and the count isn't known; elsewhere it is that
-    /// of what is held, of which nothing is dead.
+    /// of what is held, of which nothing is dead. `SETTLED_ENTRIES` are free then, or nothing but pinned objects has a body. No object comes
+    /// in; where that many were free before, each object in the core that is still held stays there.
     pub fn settle(&mut self) -> Result<(), MemFault>
         requires fit { MayCall (IsSound H.Host) (loom_told H.Host) self.old }
         ensures called { Called (loom_told H.Host self.old) (loom_told H.Host self.new) Settles result }
         ensures none { OnOk result (self.new.ledger.made ≡ 0) }
         ensures room { self.old.ledger.held + 8 ≤ disk_room self.old.disk.rest → OnOk result ((self.new.ledger.base ≡ None) × (self.new.ledger.held ≡ self.old.ledger.held)) }
         ensures full { disk_room self.old.disk.rest < self.old.ledger.held + 8 → OnOk result (self.new.ledger.base ≡ Some self.new.ledger.held) }
+        ensures spare { OnOk result ((SETTLED ≤ spare_of self.new.parts) ⊎ IsBare self.new.pinned.a self.new.pinned.b self.new.pinned.d (core_of self.new.parts)) }
+        ensures fetches { OnOk result (fetched self.new ≡ fetched self.old) }
+        ensures stays { OnOk result (SETTLED ≤ spare_of self.old.parts → IsTrue (H.tells Role.Work) → (k : ℕ) → IsTrue (is_resident self.old k) → Has (loom_told H.Host self.new).heap k → IsTrue (is_resident self.new k)) }
         ensures fit { StaysCallable (IsSound H.Host) (loom_told H.Host) loom_lender (loom_outside H.Host) self.old self.new result }
     {
         match self.settle_disk() {

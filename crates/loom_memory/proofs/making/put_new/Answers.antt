@@ -1,6 +1,7 @@
 use Rattle.std.proofs.Common.{◌∙◌, sym, ap, arith}
+use Rattle.std.specs.Option.{is_some}
 use Rattle.object_table.specs.declared.entry.Entry.{Entry}
-use Rattle.object_table.specs.Entries.{is_used}
+use Rattle.object_table.specs.Entries.{is_used, place_of}
 use Rattle.core_segment.specs.Segment.{largest_of, size_of}
 use Rattle.leaf_lambda.specs.Parts.{core_of}
 use Rattle.loom_memory.proofs.ClassLaws.{short-some}
@@ -59,3 +60,6 @@ returns-in-None-clause-size c = c.make_body.ensures.size ∙ ap size_of c.new_le
 pub returns-in-Some-clause-none : goal.returns-in-Some-clause-none
 unfolding core_of
 returns-in-Some-clause-none c = λ none. (let there = c.in-Some.ensures in let both = sym none ∙ sym there in cc)
+
+pub returns-in-None-clause-body : goal.returns-in-None-clause-body
+returns-in-None-clause-body c = ap (λ (e : Entry). is_some (place_of e.state)) c.make_body.ensures.body.1.entry

@@ -1,6 +1,9 @@
 use Rattle.std.proofs.Common.{◌∙◌, sym, ap, arith}
 use Rattle.leaf_lambda.specs.Parts.{core_of}
+use Rattle.loom_memory.specs.declared.ledger.Ledger.{Ledger}
+use Rattle.loom_memory.specs.Residents.{fetched}
 use Rattle.loom_memory.proofs.AddLaws.{added-is, added-sound, name-new, next-absent, next-long, room-most, short-class}
+use Rattle.loom_memory.proofs.MadeLaws.{entry-resident}
 use Rattle.loom_memory.proofs.RegLaws.{few-held, kept-rooted}
 use Rattle.loom_memory.proofs.memory.LoomMemory.add_object.Goals as goal
 
@@ -35,3 +38,10 @@ returns-in-None-clause-none g c = λ told.
     let long = next-long g.H.Host m.parts m.disk.host.now m.disk.rest m.ledger.next c.requires.sound.exact told in
     c.in-None.ensures.none (ap (core_of m.parts).find (sym c.requires.next) ∙ (next-absent g.H.Host m.parts m.disk.host.now m.disk.rest m.ledger.next c.requires.sound.exact told).0)
     (λ e. omega (arith, next, long, e))
+
+pub returns-in-Some-clause-there : goal.returns-in-Some-clause-there
+returns-in-Some-clause-there g c = entry-resident _ c.in-Some.new.0 c.args.name c.in-Some.ensures.parts.core c.in-Some.ensures.made.entry c.in-Some.ensures.body
+
+pub returns-in-Some-clause-fetches : goal.returns-in-Some-clause-fetches
+unfolding fetched
+returns-in-Some-clause-fetches g c = ap (λ (k : Ledger). k.fetches) c.count_making.ensures

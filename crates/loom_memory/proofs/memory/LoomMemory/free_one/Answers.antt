@@ -3,7 +3,9 @@ use Rattle.long_names.specs.Counting.{counted}
 use Rattle.object_memory.specs.declared.fault.MemFault.{MemFault}
 use Rattle.object_memory.specs.Plain.{refused}
 use Rattle.object_memory.specs.Told.{Told}
+use Rattle.loom_memory.specs.declared.ledger.Ledger.{Ledger}
 use Rattle.loom_memory.specs.Memory.{loom_told}
+use Rattle.loom_memory.specs.Residents.{fetched}
 use Rattle.loom_memory.proofs.AddLaws.{overfull-making}
 use Rattle.loom_memory.proofs.MakingLaws.{thinned-ready}
 use Rattle.loom_memory.proofs.memory.LoomMemory.free_one.Goals as goal
@@ -19,3 +21,7 @@ returns-else-self-room-clause-err g c =
     (λ told. ap (λ k. k + 1) (c.in-Ok.ensures.count told)) c.requires.late refl (let all = c.if-self-room.false in omega (arith, all))
     (subst (λ (f : MemFault). loom_told g.H.Host c.overfull.new.self ≡ refused (loom_told g.H.Host n) f) c.overfull.ensures.full c.overfull.ensures.told) c.overfull.ensures.full
     (subst (λ (k : ℕ). k ≤ counted k) (ap (λ (z : Told). z.refusals) c.in-Ok.ensures.thinned.same) c.overfull.ensures.later)
+
+pub returns-then-self-room-clause-fetches : goal.returns-then-self-room-clause-fetches
+unfolding fetched
+returns-then-self-room-clause-fetches g c = ap (λ (k : Ledger). k.fetches) c.in-Ok.ensures.ledger

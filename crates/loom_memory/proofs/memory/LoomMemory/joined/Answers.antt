@@ -3,7 +3,8 @@ use Rattle.loom_outside.specs.declared.outside.Role.TheVariants.{Work, Transcrip
 use Rattle.disk_objects.specs.Disk.{disk_room}
 use Rattle.leaf_lambda.specs.Parts.{core_of}
 use Rattle.loom_memory.specs.Memory.{loom_told}
-use Rattle.loom_memory.proofs.FirstLaws.{empty-marks, first-exact, first-heap, first-kept, first-over, first-ready, first-rows, first-slot, first-value}
+use Rattle.loom_memory.specs.Residents.{is_resident, fetched}
+use Rattle.loom_memory.proofs.FirstLaws.{empty-bodies, empty-marks, first-exact, first-heap, first-kept, first-over, first-ready, first-rows, first-slot, first-value}
 use Rattle.loom_memory.proofs.memory.LoomMemory.joined.Goals as goal
 
 pub returns-clause-first : goal.returns-clause-first
@@ -36,3 +37,7 @@ returns-clause-ready g c = first-ready _ (λ r. first-value (core_of c.args.t.pa
     (λ n. empty-marks (core_of c.args.t.parts) c.requires.empty.parts.core c.requires.empty.unused n)
     (λ k n m. first-rows (core_of c.args.t.parts) _ 0 c.requires.empty.unused k n m)
     (λ told. let x = c.requires.loaded told in (x.0, x.1.held, first-heap g.H.Host c.args.t.parts c.args.core c.args.entries c.args.disk.host.now c.args.disk.rest x.0 c.args.next x.1 x.2 c.requires.empty told))
+
+pub returns-clause-none : goal.returns-clause-none
+unfolding is_resident fetched
+returns-clause-none g c = (refl, λ k. empty-bodies (core_of c.args.t.parts) c.requires.empty.parts.core c.requires.empty.unused k)

@@ -1,8 +1,11 @@
 use Rattle.std.proofs.Common.{◌∙◌, arith}
 use Rattle.loom_memory.specs.Memory.{loom_told}
 use Rattle.loom_memory.specs.New.{making_of}
+use Rattle.loom_memory.specs.Residents.{fetched}
 use Rattle.loom_memory.proofs.AccessLaws.{quiet-ready}
 use Rattle.loom_memory.proofs.AddLaws.{core-ok, core-there, making-words, unfit-new}
+use Rattle.loom_memory.proofs.GentleLaws.{fetched-same}
+use Rattle.loom_memory.proofs.MadeLaws.{fetched-then}
 use Rattle.loom_memory.proofs.MakingLaws.{after-quiet-as, full-as, made-if, quiet-thinned, refused-each, refused-if}
 use Rattle.loom_memory.proofs.memory.LoomMemory.make_here.Goals as goal
 
@@ -37,3 +40,6 @@ returns-else-enough-clause-err g c = after-quiet-as (loom_told g.H.Host c.args.s
 
 pub returns-in-Err-clause-err : goal.returns-in-Err-clause-err
 returns-in-Err-clause-err g c = λ low. c.in-Err.ensures.err c.args.to c.args.class (making_of c.args.kind c.args.len c.args.header) low
+
+pub returns-then-enough-clause-fetches : goal.returns-then-enough-clause-fetches
+returns-then-enough-clause-fetches g c = fetched-then c.put_object.result (fetched c.args.self.now) (fetched c.clear_new.new.self) (fetched c.put_object.new.self) (fetched-same c.args.self.now c.clear_new.new.self c.in-Ok.ensures.ledger) c.put_object.ensures.fetches

@@ -26,3 +26,11 @@ nameless-requires-in-None-clause-cause g c = λ told.
 pub returns-in-None-clause-access : goal.returns-in-None-clause-access
 returns-in-None-clause-access g c = refused-is (loom_told g.H.Host c.args.self.now) (loom_told g.H.Host c.nameless-in-None.new.self) (Make c.args.to c.args.class (making_of c.args.kind c.args.len c.args.header)) (λ _. Nothing) c.nameless-in-None.result
     (c.nameless-in-None.ensures.err c.args.to c.args.class (making_of c.args.kind c.args.len c.args.header))
+
+pub returns-then-next-ge-LAST_NAME-clause-early : goal.returns-then-next-ge-LAST_NAME-clause-early
+unfolding loom_told
+returns-then-next-ge-LAST_NAME-clause-early g c = λ told low. tt
+
+pub returns-in-None-clause-early : goal.returns-in-None-clause-early
+unfolding loom_told
+returns-in-None-clause-early g c = λ told low. tt

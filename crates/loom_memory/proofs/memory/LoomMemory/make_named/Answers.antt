@@ -2,8 +2,10 @@ use Rattle.std.proofs.Common.{◌∙◌}
 use Rattle.long_names.specs.Access.{Make, Nothing}
 use Rattle.loom_memory.specs.Memory.{loom_told}
 use Rattle.loom_memory.specs.New.{making_of}
+use Rattle.loom_memory.specs.Residents.{fetched}
 use Rattle.loom_memory.proofs.AccessLaws.{refused-is}
 use Rattle.loom_memory.proofs.AddLaws.{next-low}
+use Rattle.loom_memory.proofs.MadeLaws.{fetched-then, made-early}
 use Rattle.loom_memory.proofs.MakingLaws.{made-last, made-now, thinned-ready}
 use Rattle.loom_memory.proofs.memory.LoomMemory.make_named.Goals as goal
 
@@ -29,3 +31,13 @@ pub returns-in-Err-clause-access : goal.returns-in-Err-clause-access
 unfolding loom_told
 returns-in-Err-clause-access g c = refused-is (loom_told g.H.Host c.args.self.now) (loom_told g.H.Host c.ask_room.new.self) (Make c.args.to c.args.class (making_of c.args.kind c.args.len c.args.header)) (λ _. Nothing) c.in-Err.f
     (c.in-Err.ensures.err c.args.to c.args.class (making_of c.args.kind c.args.len c.args.header) (next-low g.H.Host c.args.self.now c.args.name c.requires.next c.requires.low))
+
+pub returns-in-Ok-clause-fetches : goal.returns-in-Ok-clause-fetches
+returns-in-Ok-clause-fetches g c = fetched-then c.make_here.result (fetched c.args.self.now) (fetched c.ask_room.new.self) (fetched c.make_here.new.self) c.in-Ok.ensures.fetches c.make_here.ensures.fetches
+
+pub returns-in-Ok-clause-early : goal.returns-in-Ok-clause-early
+returns-in-Ok-clause-early g c = made-early c.make_here.result g.H.Host c.args.self.now c.ask_room.new.self c.make_here.new.self c.args.to c.args.class (making_of c.args.kind c.args.len c.args.header) c.in-Ok.ensures.early c.make_here.ensures.made
+
+pub returns-in-Err-clause-early : goal.returns-in-Err-clause-early
+unfolding loom_told
+returns-in-Err-clause-early g c = λ told low. tt

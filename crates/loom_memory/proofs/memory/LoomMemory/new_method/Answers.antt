@@ -1,12 +1,14 @@
-use Rattle.std.proofs.Common.{◌≡◌, ℤ, rules, subst}
+use Rattle.std.proofs.Common.{◌≡◌, ◌<◌, ℤ, IsTrue, rules, subst}
+use Rattle.std.specs.Prelude.{OnOk}
 use Rattle.std.specs.Int.{w16}
 use Rattle.std.proofs.lemmas.Int.{to_z-of_z}
 use mir.Val.{SFits}
 use Rattle.long_names.specs.Words.{IsSmallInteger}
 use Rattle.core_view.specs.Words.{int_of_short}
-use Rattle.long_names.specs.Access.{Make, Nothing}
+use Rattle.long_names.specs.Access.{Make, Nothing, heap_after}
 use Rattle.long_names.specs.Objects.{OfMethod}
-use Rattle.object_memory.specs.Contract.{Accessed}
+use Rattle.loom_outside.specs.declared.outside.Role.TheVariants.{Work}
+use Rattle.object_memory.specs.Contract.{Accessed, IfBounds}
 use Rattle.loom_memory.specs.Memory.{loom_told}
 use Rattle.loom_memory.proofs.memory.LoomMemory.new_method.Goals as goal
 
@@ -15,3 +17,9 @@ returns-clause-access g c =
     let fits : SFits w16 c.args.header = search rules in
     let same = to_z-of_z w16 c.args.header fits in
     subst (λ z. Accessed (loom_told g.H.Host c.args.self.now) (loom_told g.H.Host c.make_kind.new.self) (Make c.args.to c.args.class (OfMethod z c.args.code)) (λ _. Nothing) c.make_kind.result) (subst (λ (z : ℤ). IsSmallInteger z → int_of_short c.short_int.result ≡ z) same c.short_int.ensures.value c.requires.may.ranges.0) c.make_kind.ensures.access
+
+pub returns-clause-early : goal.returns-clause-early
+returns-clause-early g c =
+    let fits : SFits w16 c.args.header = search rules in
+    let same = to_z-of_z w16 c.args.header fits in
+    subst (λ z. IsTrue (g.H.Host.tells Work) → IfBounds (loom_told g.H.Host c.args.self.now).bounds (λ b. b.made < 8 → OnOk c.make_kind.result ((loom_told g.H.Host c.make_kind.new.self).heap ≡ heap_after (loom_told g.H.Host c.args.self.now).heap (loom_told g.H.Host c.args.self.now).regs (Make c.args.to c.args.class (OfMethod z c.args.code))))) (subst (λ (z : ℤ). IsSmallInteger z → int_of_short c.short_int.result ≡ z) same c.short_int.ensures.value c.requires.may.ranges.0) c.make_kind.ensures.early

@@ -4,6 +4,7 @@ use Rattle.long_names.specs.declared.value.Value.{Value}
 use Rattle.leaf_lambda.specs.Parts.{core_of}
 use Rattle.loom_memory.specs.Memory.{loom_told, loom_outside, others_of}
 use Rattle.loom_memory.proofs.AddLaws.{added-made, damaged-making, entry-means, told-next}
+use Rattle.loom_memory.proofs.MadeLaws.{put-resident}
 use Rattle.loom_memory.proofs.memory.LoomMemory.put_object.Goals as goal
 
 pub returns-in-Some-clause-made : goal.returns-in-Some-clause-made
@@ -26,3 +27,13 @@ returns-in-Some-clause-outside g c = c.put_word.ensures.outside ∙ ap (λ d. (�
 pub returns-in-None-clause-outside : goal.returns-in-None-clause-outside
 unfolding loom_outside
 returns-in-None-clause-outside g c = c.refuse.ensures.outside ∙ ap (λ d. (λ r. others_of r (g.H.Host.roles d.host.now r) (g.H.Host.faults d.host.now r))) c.add_object.ensures.disk
+
+pub returns-in-Some-clause-there : goal.returns-in-Some-clause-there
+returns-in-Some-clause-there g c =
+    let n = c.add_object.new.self in
+    put-resident g.H.Host n c.put_word.new.self c.args.to c.args.name c.in-Some.ensures.sound.kept.parts.core c.put_word.ensures.sound.kept.parts.core c.put_word.ensures.steady
+    (c.put_word.ensures.told ∙ ap (λ (v : Value). record (loom_told g.H.Host n) { regs = set_register (loom_told g.H.Host n).regs c.args.to v }) (entry-means (core_of n.parts) c.in-Some.s.0 c.args.name c.in-Some.ensures.entry))
+    c.in-Some.ensures.there
+
+pub returns-in-Some-clause-fetches : goal.returns-in-Some-clause-fetches
+returns-in-Some-clause-fetches g c = c.put_word.ensures.steady.idle.fetches ∙ c.in-Some.ensures.fetches

@@ -1,6 +1,6 @@
 use Rattle.std.proofs.Common.{◌∙◌}
 use Rattle.loom_memory.specs.Memory.{loom_told}
-use Rattle.loom_memory.proofs.SettleLaws.{settle-last, settle-now, settled-ready}
+use Rattle.loom_memory.proofs.SettleLaws.{settle-fetches, settle-last, settle-now, settle-stays, settled-ready}
 use Rattle.loom_memory.proofs.memory.LoomMemory.settle.Goals as goal
 
 pub spare_entries-requires-clause-ready : goal.spare_entries-requires-clause-ready
@@ -16,3 +16,9 @@ returns-in-Ok-clause-fit g c = record {
   lender = c.spare_entries.ensures.lender ∙ c.settle_disk.ensures.lender;
   outside = c.spare_entries.ensures.outside ∙ c.settle_disk.ensures.outside;
 }
+
+pub returns-in-Ok-clause-fetches : goal.returns-in-Ok-clause-fetches
+returns-in-Ok-clause-fetches g c = settle-fetches c.spare_entries.result c.args.self.now c.settle_disk.new.self c.spare_entries.new.self c.in-Ok.ensures.fetches c.spare_entries.ensures.ledger
+
+pub returns-in-Ok-clause-stays : goal.returns-in-Ok-clause-stays
+returns-in-Ok-clause-stays g c = settle-stays c.spare_entries.result g.H.Host c.args.self.now c.settle_disk.new.self c.spare_entries.new.self c.requires.fit.sound.kept.parts.core c.in-Ok.ensures.sound.kept.parts.core c.in-Ok.ensures.entries c.in-Ok.ensures.bodies c.spare_entries.ensures.stays

@@ -1,7 +1,11 @@
-use Rattle.std.proofs.Common.{◌∙◌, ap, arith}
+use Rattle.std.proofs.Common.{Some, ◌∙◌, ap, arith}
+use Rattle.leaf_lambda.specs.declared.parts.Parts.{Parts}
+use Rattle.leaf_lambda.specs.Parts.{spare_of}
+use Rattle.loom_memory.specs.declared.ledger.Ledger.{Ledger}
+use Rattle.loom_memory.specs.Residents.{fetched}
 use Rattle.loom_memory.specs.Memory.{loom_told, loom_outside, others_of}
 use Rattle.loom_memory.proofs.AddLaws.{room-most}
-use Rattle.loom_memory.proofs.SettleLaws.{settled-some}
+use Rattle.loom_memory.proofs.SettleLaws.{bodies-anew, bodies-same, settled-some}
 use Rattle.loom_memory.proofs.memory.LoomMemory.settle_disk.Goals as goal
 
 pub returns-in-Ok-clause-settled : goal.returns-in-Ok-clause-settled
@@ -19,3 +23,23 @@ returns-then-self-room-clause-outside g c = ap (λ d. (λ r. others_of r (g.H.Ho
 pub returns-in-Ok-clause-outside : goal.returns-in-Ok-clause-outside
 unfolding loom_outside
 returns-in-Ok-clause-outside g c = ap (λ d. (λ r. others_of r (g.H.Host.roles d.host.now r) (g.H.Host.faults d.host.now r))) c.count_anew-in-Ok.ensures.disk ∙ c.thin.ensures.outside
+
+pub returns-then-self-room-clause-fetches : goal.returns-then-self-room-clause-fetches
+unfolding fetched
+returns-then-self-room-clause-fetches g c = ap (λ (k : Ledger). k.fetches) c.count_anew.ensures.ledger
+
+pub returns-in-Ok-clause-fetches : goal.returns-in-Ok-clause-fetches
+unfolding fetched
+returns-in-Ok-clause-fetches g c = ap (λ (k : Ledger). k.fetches) c.count_anew-in-Ok.ensures.ledger ∙ ap (λ (k : Ledger). k.fetches) c.in-Ok.ensures.ledger
+
+pub returns-then-self-room-clause-bodies : goal.returns-then-self-room-clause-bodies
+returns-then-self-room-clause-bodies g c = λ told. bodies-same c.args.self.now.parts c.count_anew.new.self.parts (loom_told g.H.Host c.count_anew.new.self).heap c.count_anew.ensures.parts
+
+pub returns-then-self-room-clause-entries : goal.returns-then-self-room-clause-entries
+returns-then-self-room-clause-entries g c = let same = ap (λ (p : Parts). spare_of p) c.count_anew.ensures.parts in omega (arith, same)
+
+pub returns-in-Ok-clause-bodies : goal.returns-in-Ok-clause-bodies
+returns-in-Ok-clause-bodies g c = λ told. bodies-anew c.args.self.now.parts (loom_told g.H.Host c.thin.new.self) (loom_told g.H.Host c.count_anew-in-Ok.new.self) (Some c.thin.new.self.ledger.held) c.thin.new.self.parts c.count_anew-in-Ok.new.self.parts c.count_anew-in-Ok.ensures.begun c.count_anew-in-Ok.ensures.parts (c.in-Ok.ensures.bodies told)
+
+pub returns-in-Ok-clause-entries : goal.returns-in-Ok-clause-entries
+returns-in-Ok-clause-entries g c = let same = ap (λ (p : Parts). spare_of p) c.count_anew-in-Ok.ensures.parts in let less = c.in-Ok.ensures.entries in omega (arith, same, less)

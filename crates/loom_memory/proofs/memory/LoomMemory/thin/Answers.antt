@@ -2,7 +2,7 @@ use Rattle.std.proofs.Common.{◌∙◌, refl, sym, arith}
 use Rattle.loom_memory.specs.Memory.{loom_told, loom_outside}
 use Rattle.loom_memory.proofs.AddLaws.{fault-making, fault-settling}
 use Rattle.loom_memory.proofs.CalmLaws.{work-outside}
-use Rattle.loom_memory.proofs.ThinLaws.{fault-purge, thin-again, thin-count, thin-exact, thin-is-kept, thin-kept, thin-over, thin-step, thin-told}
+use Rattle.loom_memory.proofs.ThinLaws.{fault-purge, thin-again, thin-bodies, thin-count, thin-exact, thin-is-kept, thin-kept, thin-over, thin-step, thin-told}
 use Rattle.loom_memory.proofs.memory.LoomMemory.thin.Goals as goal
 
 pub returns-in-Ok-clause-thinned : goal.returns-in-Ok-clause-thinned
@@ -58,3 +58,11 @@ returns-in-Err-clause-settling g c =
 pub returns-in-Err-clause-outside : goal.returns-in-Err-clause-outside
 unfolding loom_outside
 returns-in-Err-clause-outside g c = c.refuse.ensures.outside ∙ work-outside g.H.Host c.args.self.now.disk.host.now c.drain.new.disk.host.now c.in-Err.ensures.work
+
+pub returns-in-Ok-clause-bodies : goal.returns-in-Ok-clause-bodies
+unfolding loom_told
+returns-in-Ok-clause-bodies g c = let m = c.args.self.now in λ told.
+    thin-bodies g.H.Host m.parts c.drain.new.p m.disk.host.now c.drain.new.disk.host.now m.disk.rest c.drain.new.disk.rest m.regs m.pinned m.ledger c.recount-held.result (thin-step g.H.Host m.parts c.drain.new.p m.disk.host.now c.drain.new.disk.host.now m.disk.rest c.drain.new.disk.rest m.regs m.pinned m.ledger c.requires.sound.kept c.requires.sound.exact c.in-Ok.ensures.leaves c.in-Ok.ensures.drained c.in-Ok.ensures.work c.in-Ok.ensures.limit) told
+
+pub returns-in-Ok-clause-entries : goal.returns-in-Ok-clause-entries
+returns-in-Ok-clause-entries g c = c.in-Ok.ensures.leaves.entries

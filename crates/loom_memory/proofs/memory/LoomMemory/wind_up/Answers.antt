@@ -2,10 +2,10 @@ use Rattle.std.proofs.Common.{◌∙◌, ap, arith, subst, sym}
 use Rattle.object_memory.specs.Told.{Told}
 use Rattle.object_memory.specs.declared.fault.MemFault.{MemFault}
 use Rattle.loom_memory.specs.Makings.{IsLost}
-use Rattle.loom_memory.specs.Memory.{loom_outside}
+use Rattle.loom_memory.specs.Memory.{loom_told, loom_outside}
 use Rattle.loom_memory.proofs.AddLaws.{fault-lost}
 use Rattle.loom_memory.proofs.CalmLaws.{work-outside}
-use Rattle.loom_memory.proofs.EndingLaws.{kept-left}
+use Rattle.loom_memory.proofs.EndingLaws.{kept-left, let-cause, work-silent}
 use Rattle.loom_memory.proofs.ExactLaws.{exact-has}
 use Rattle.loom_memory.proofs.memory.LoomMemory.wind_up.Goals as goal
 
@@ -29,3 +29,23 @@ returns-in-Err-clause-lost g c = subst (λ (f : MemFault). IsLost f) (sym c.refu
 pub returns-in-Err-clause-outside : goal.returns-in-Err-clause-outside
 unfolding loom_outside
 returns-in-Err-clause-outside g c = c.refuse.ensures.outside ∙ work-outside g.H.Host c.let_go.new.self.disk.host.now c.close.new.disk.host.now c.in-Err.ensures.work ∙ c.let_go.ensures.outside
+
+pub returns-in-Ok-clause-transcript : goal.returns-in-Ok-clause-transcript
+returns-in-Ok-clause-transcript g c =
+    let m = c.let_go.new.self in
+    let n = record m { parts = c.close.new.p; disk = c.close.new.disk; out = c.close.new.buf } in
+    work-silent g.H.Host m n c.in-Ok.ensures.work ∙ ap (λ (z : Told). z.transcript) c.let_go.ensures.told
+
+pub returns-in-Err-clause-transcript : goal.returns-in-Err-clause-transcript
+returns-in-Err-clause-transcript g c =
+    let m = c.let_go.new.self in
+    let n = record m { parts = c.close.new.p; disk = c.close.new.disk; out = c.close.new.buf } in
+    ap (λ (z : Told). z.transcript) c.refuse.ensures.told ∙ work-silent g.H.Host m n c.in-Err.ensures.work ∙ ap (λ (z : Told). z.transcript) c.let_go.ensures.told
+
+pub returns-in-Err-clause-cause : goal.returns-in-Err-clause-cause
+returns-in-Err-clause-cause g c =
+    let m = c.let_go.new.self in
+    let n = record m { parts = c.close.new.p; disk = c.close.new.disk; out = c.close.new.buf } in
+    let-cause g.H.Host m n (loom_told g.H.Host c.args.self.now) (loom_told g.H.Host c.refuse.new.self) c.in-Err.f c.refusal_of-f.result c.refuse.result
+    (ap (λ (z : Told). z.tells) c.let_go.ensures.told) (ap (λ (z : Told). z.bounds) c.let_go.ensures.told)
+    c.in-Err.ensures.fault c.refusal_of-f.ensures c.refuse.ensures.told c.refuse.ensures.result
