@@ -23,7 +23,8 @@ const ROOM: u32 = 32;
 /// The objects of the image, one that holds itself, and one that this one holds.
 const LEFT: u32 = 28;
 
-// Each call of the trait: objects are made, filled, read, pinned, cached and said; two change places; and dead ones go.
+// Most calls of the trait: objects are made, filled, read, pinned, marked and said; two change places; and dead ones go. Runs of words are not
+// stored here and runs of bytes not read, and nothing is cached.
 const STEPS: [Step; 52] = [
     Step::Known(R::A, Object::Association),
     Step::Hash(R::A),
