@@ -1,9 +1,10 @@
 -- What a core keeps at each moment, alone and with its disk.
-use Rattle.std.specs.Prelude.{◌≡◌, ℕ, ◌<◌, ◌≤◌, true, false, length, Option, Some, None, slice_get}
+use Rattle.std.specs.Prelude.{◌≡◌, ℕ, ◌+◌, ◌*◌, ◌<◌, ◌≤◌, true, false, length, Option, Some, None, slice_get}
 use Rattle.long_names.specs.declared.object.Object.{Object}
 use Rattle.long_names.specs.declared.value.Value.{Value}
 use Rattle.long_names.specs.Objects.{kind_of, len_of, fields_of}
 use Rattle.object_table.specs.declared.entry.Entry.{Entry}
+use Rattle.object_table.specs.declared.table.TheConstants.{MOST_ENTRIES}
 use Rattle.object_table.specs.Entries.{is_short, is_used, place_of}
 use Rattle.core_view.specs.Core.{Core}
 use Rattle.core_view.specs.Words.{pointers, words_for, most_len, header_in}
@@ -21,7 +22,7 @@ pub record IsCore (c : Core) : Type 0 where
   -- entries in use have short names
   pub short : (s : ℕ) → is_used (c.entries s).state ≡ true → is_short s ≡ true
   pub within : (s : ℕ) → is_used (c.entries s).state ≡ true → s < c.bound
-  pub low : c.bound ≤ 65536
+  pub low : c.bound ≤ 2 * (MOST_ENTRIES + 1)
   -- a body lies in a chunk of its entry's own, of just its size
   pub owned : (s p : ℕ) → place_of (c.entries s).state ≡ Some p → (c.chunks p).owner ≡ s
   pub long : (s p : ℕ) → place_of (c.entries s).state ≡ Some p →

@@ -1,6 +1,7 @@
 // What each step of a core leaves as it was, and what the held heap is then.
 ghost use Rattle.std.specs.Prelude.{◌≡◌, ◌+◌, ◌<◌, ◌≤◌, ◌^◌, ℕ, List, Some, None, true, length, count_by, slice_get};
 ghost use Rattle.long_names.specs.Objects.{with_field};
+ghost use Rattle.long_names.specs.declared.limits.TheConstants.{MOST_FIELDS};
 ghost use Rattle.object_table.specs.declared.entry.Entry.{Entry};
 ghost use Rattle.object_table.specs.Entries.{put, place_of, sum_below, used_by};
 ghost use Rattle.core_segment.specs.declared.segment.Moved.{Moved};
@@ -16,7 +17,7 @@ ghost use Rattle.core_view.specs.Steps.{IsSpare, IsIdle, IsAt, IsOpening, IsMove
 
 /// The words of bodies make fewer than 2 to the 31 references, so with few others there are never more.
 pub fn references_are_few()
-    ensures { (c : Core) (t : ℕ) → IsCore c → outside c t < 65536 → (c.entries t).refs < 2 ^ 31 }
+    ensures { (c : Core) (t : ℕ) → IsCore c → outside c t < MOST_FIELDS + 1 → (c.entries t).refs < 2 ^ 31 }
 {}
 
 /// A leaf that comes, and one to which nothing refers that goes, change nothing that is held.

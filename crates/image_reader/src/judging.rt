@@ -1,5 +1,6 @@
 // The rules that are judged of a whole image, over the disk that holds its objects.
 ghost use Rattle.std.specs.Prelude.{◌≡◌, ◌+◌, ◌-◌, ◌<◌, ◌^◌, ℕ, List, None, Some, IsSome, IsTrue, All, IfOk, IfErr, OnOk, length, option_map};
+ghost use Rattle.long_names.specs.declared.limits.TheConstants.{MOST_FIELDS};
 ghost use Rattle.long_names.specs.declared.object.Object.{Object};
 ghost use Rattle.long_names.specs.declared.object.Rec.{Rec as Spelled};
 ghost use Rattle.disk_objects.specs.Calls.{HoldsObjects};
@@ -54,9 +55,9 @@ fn count_object<H: Host>(
 ) -> Result<bool, DiskFault>
     requires stands { HoldsObjects H.Host disk.old.host.now disk.old.rest }
     requires held { IsTrue (H.tells Role.Work) → IsSome (disk_of H.Host disk.old.host.now disk.old.rest name) }
-    requires room { HasRoom 65536 tally.old }
+    requires room { HasRoom (MOST_FIELDS + 1) tally.old }
     ensures counts { (o : Object) → IsTrue (H.tells Role.Work) → disk_of H.Host disk.old.host.now disk.old.rest name ≡ Some o → IfOk result (Counts o tally.old tally.new) }
-    ensures room { (words : ℕ) → HasRoom (words + 65536) tally.old → IfOk result (λ closed. IsTrue closed → HasRoom words tally.new) }
+    ensures room { (words : ℕ) → HasRoom (words + (MOST_FIELDS + 1)) tally.old → IfOk result (λ closed. IsTrue closed → HasRoom words tally.new) }
     ensures names { tally.new.names ≡ tally.old.names }
     ensures read { IsWorkRead H.Host disk.old.host.now disk.new.host.now }
     ensures rest { disk.new.rest ≡ disk.old.rest }

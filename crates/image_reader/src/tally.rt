@@ -21,6 +21,7 @@ impl Tally {
     ghost use Rattle.std.specs.Prelude.{◌≡◌, ◌+◌, ◌<◌, ◌==◌, ◌↔◌, ℕ, IfOk, IfSome, IfNone, IsTrue, None, Some, is_some, true, count_by, length, map, slice_get, if◌then◌else◌};
     ghost use Rattle.std.specs.List.{list_any};
     ghost use Rattle.long_names.specs.Names.{known_names};
+    ghost use Rattle.long_names.specs.declared.limits.TheConstants.{MOST_FIELDS};
     ghost use Rattle.long_names.specs.Objects.{is_ref};
     ghost use Rattle.object_record.specs.Buffer.{HasRecord, raw_of};
     ghost use Rattle.object_record.specs.Objects.{object_in, value_in};
@@ -133,9 +134,9 @@ impl Tally {
     /// Counts the words of the buffer's object, its class word and its fields, until one holds a name that is no object's.
     pub(crate) fn count_object(&mut self, buf: &RecordBuf) -> bool
         requires record { HasRecord buf.now }
-        requires room { HasRoom 65536 self.old }
+        requires room { HasRoom (MOST_FIELDS + 1) self.old }
         ensures counts { Counts (object_in (raw_of buf.now)) self.old self.new result }
-        ensures room { (words : ℕ) → HasRoom (words + 65536) self.old → IsTrue result → HasRoom words self.new }
+        ensures room { (words : ℕ) → HasRoom (words + (MOST_FIELDS + 1)) self.old → IsTrue result → HasRoom words self.new }
         ensures names { self.new.names ≡ self.old.names }
     {
         if !self.raise(buf.class().get()) {

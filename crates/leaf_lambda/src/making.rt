@@ -29,7 +29,7 @@ use object_table::{EntryState, Short};
 pub fn grip_many(p: &mut Parts, s: Short, n: u32)
     requires parts { IsParts p.old }
     requires used { is_used ((core_of p.old).entries s.0).state ≡ true }
-    requires light { outside (core_of p.old) s.0 + n ≤ 2 ^ 31 + 65535 }
+    requires light { outside (core_of p.old) s.0 + n ≤ 2 ^ 31 + MOST_FIELDS }
     ensures parts { IsParts p.new }
     ensures core { core_of p.new ≡ with_refs_of (core_of p.old) s.0 (((core_of p.old).entries s.0).refs + n) }
     ensures spare { spare_of p.new ≡ spare_of p.old }
@@ -44,7 +44,7 @@ pub fn grip_many(p: &mut Parts, s: Short, n: u32)
 pub fn hold_many(p: &mut Parts, w: u16, n: u32)
     requires parts { IsParts p.old }
     requires used { is_short w ≡ true → is_used ((core_of p.old).entries w).state ≡ true }
-    requires light { outside (core_of p.old) w + n ≤ 2 ^ 31 + 65535 }
+    requires light { outside (core_of p.old) w + n ≤ 2 ^ 31 + MOST_FIELDS }
     ensures parts { IsParts p.new }
     ensures held { IsHoldingMany w n (core_of p.old) (core_of p.new) }
     ensures spare { spare_of p.new ≡ spare_of p.old }

@@ -3,6 +3,8 @@ ghost use Rattle.std.specs.Prelude.{◌≡◌, ◌%◌};
 ghost use Rattle.long_names.specs.Words.{IsSmallInteger};
 ghost use Rattle.core_view.specs.Words.{int_of_short};
 
+use long_names::SMALL_INTEGERS;
+
 /// The short word of a SmallInteger.
 pub fn short_int(number: i16) -> u16
     ensures odd { result % 2 ≡ 1 }
@@ -11,7 +13,7 @@ pub fn short_int(number: i16) -> u16
     if number >= 0 {
         2 * (number as u16) + 1
     } else {
-        65535 - 2 * ((-1 - number) as u16)
+        u16::MAX - 2 * ((-1 - number) as u16)
     }
 }
 
@@ -20,9 +22,9 @@ pub fn int_short(word: u16) -> i16
     ensures { result ≡ int_of_short word }
 {
     let half = word / 2;
-    if half < 16384 {
+    if half < SMALL_INTEGERS as u16 {
         half as i16
     } else {
-        -1 - ((32767 - half) as i16)
+        -1 - ((u16::MAX / 2 - half) as i16)
     }
 }

@@ -28,7 +28,7 @@ use long_names::{Kind, Name, Value, value_of};
 use object_record::RecordBuf;
 use object_table::Short;
 
-/// How many entries stay free while fields take entries.
+/// How many entries stay free while fields take entries; as many are freed between bytecodes.
 pub const RESERVE: u16 = 128;
 
 // The short name of a name, held from outside. None where it has no entry and none is to spare.

@@ -19,8 +19,8 @@ mod object;
 mod value;
 
 pub use limits::{
-    ENTRIES_OF_A_CALL, LAST_NAME, LONGEST_RECORD, MOST_CODE, MOST_FIELDS, MOST_LITERALS,
-    SMALL_INTEGERS,
+    ENTRIES_OF_A_CALL, LAST_NAME, LONGEST_RECORD, MAKINGS_BEFORE_FREEING, MOST_CODE, MOST_FIELDS,
+    MOST_LITERALS, SMALL_INTEGERS,
 };
 pub use lists::{NameList, Octets, RecList, Values, Words16};
 pub use name::{Name, bits};

@@ -13,6 +13,9 @@ pub const MOST_FIELDS: u32 = 65_535;
 /// 25 for what a call holds on its way.
 pub const ENTRIES_OF_A_CALL: u32 = 51;
 
+/// From so many makings on since the last settling dead objects are freed where there is no room for one more.
+pub const MAKINGS_BEFORE_FREEING: u32 = 8;
+
 /// The most code bytes of a method.
 pub const MOST_CODE: u32 = 16_000;
 

@@ -1,6 +1,7 @@
 // New objects in a core: the words that they hold are counted first, and then they get an entry and a body at once.
 ghost use Rattle.std.specs.Prelude.{◌≡◌, ◌≢◌, ◌+◌, ◌<◌, ◌≤◌, ◌^◌, ◌++◌, ℕ, [], List, Some, None, true, replicate, is_some, IsTrue, IfSome, IfNone};
 ghost use Rattle.long_names.specs.Heap.{count_of};
+ghost use Rattle.long_names.specs.declared.limits.TheConstants.{MOST_FIELDS};
 ghost use Rattle.long_names.specs.Names.{NIL as NIL_NAME, IsLongName};
 ghost use Rattle.long_names.specs.Words.{literal_count};
 ghost use Rattle.long_names.specs.declared.value.Value.{Value};
@@ -31,7 +32,7 @@ use object_table::Short;
 fn nils_of(kind: Kind, len: u32, header: u16) -> u32
     requires len { len ≤ most_len kind }
     ensures count { result ≡ fields_new kind len header }
-    ensures few { result < 65536 }
+    ensures few { result < MOST_FIELDS + 1 }
 {
     match kind {
         Kind::Pointers => len,
@@ -79,7 +80,7 @@ fn entry_of_nil(p: &mut Parts) -> Short
 fn raise(p: &mut Parts, s: Short, n: u32)
     requires parts { IsParts p.old }
     requires used { is_used ((core_of p.old).entries s.0).state ≡ true }
-    requires few { n < 65536 }
+    requires few { n < MOST_FIELDS + 1 }
     ensures parts { IsParts p.new }
     ensures readied { IsReadied (core_of p.old) (core_of p.new) }
     ensures sound { (t : Levels) (owed : List Value) → core_of p.old ≡ t.core → IsSound t owed
@@ -95,7 +96,7 @@ fn raise(p: &mut Parts, s: Short, n: u32)
 fn count_ahead(p: &mut Parts, class: Short, n: u32) -> Short
     requires parts { IsParts p.old }
     requires class { is_used ((core_of p.old).entries class.0).state ≡ true }
-    requires few { n < 65536 }
+    requires few { n < MOST_FIELDS + 1 }
     requires spare { 1 ≤ spare_of p.old }
     ensures parts { IsParts p.new }
     ensures nil { (is_used ((core_of p.new).entries result.0).state ≡ true) × (((core_of p.new).entries result.0).name ≡ NIL_NAME) }

@@ -1,6 +1,6 @@
 // New objects: names are asked first, then room on the disk, then the core.
 ghost use Rattle.std.specs.Prelude.{◌≡◌, ◌+◌, ◌≤◌, ◌<◌, ◌^◌, ℕ, true, false, IsTrue, OnOk, IfOk, IfErr, IfSome, IfNone};
-ghost use Rattle.long_names.specs.declared.limits.TheConstants.{LAST_NAME as END};
+ghost use Rattle.long_names.specs.declared.limits.TheConstants.{LAST_NAME as END, MAKINGS_BEFORE_FREEING as MAKINGS};
 ghost use Rattle.long_names.specs.Names.{IsLongName};
 ghost use Rattle.long_names.specs.Words.{literal_count};
 ghost use Rattle.core_segment.specs.declared.segment.TheConstants.{HEADER};
@@ -14,17 +14,15 @@ use crate::bring::refusal_of;
 use crate::load::SPARE_ENTRIES;
 use crate::making::make_object;
 use crate::memory::LoomMemory;
+use core_segment::HEADER;
 use core_segment::laws::chunks_never_overlap;
 use leaf_lambda::numbers::{int_short, short_int};
-use long_names::{Kind, LAST_NAME, Name, literal_count};
+use long_names::{Kind, LAST_NAME, MAKINGS_BEFORE_FREEING, Name, literal_count};
 use loom_outside::{Host, Role};
 use object_memory::{MemFault, Reg};
 use object_table::Short;
 use object_table::laws::entries_are_counted;
 use purger::{NOWHERE, RoomFault};
-
-/// From this making on since the last settling dead objects are freed where there is no room.
-pub const MAKINGS_BEFORE_FREEING: u32 = 8;
 
 // How many words a new object takes in the core.
 fn words_new(kind: Kind, len: u32, header: u16) -> u32
@@ -33,10 +31,10 @@ fn words_new(kind: Kind, len: u32, header: u16) -> u32
     ensures small { result < 2 ^ 18 }
 {
     match kind {
-        Kind::Pointers => len + 4,
-        Kind::Words => len + 4,
-        Kind::Bytes => (len + 1) / 2 + 4,
-        Kind::Method => literal_count(int_short(header)) as u32 + (len + 1) / 2 + 5,
+        Kind::Pointers => len + HEADER,
+        Kind::Words => len + HEADER,
+        Kind::Bytes => (len + 1) / 2 + HEADER,
+        Kind::Method => 1 + literal_count(int_short(header)) as u32 + (len + 1) / 2 + HEADER,
     }
 }
 
@@ -247,7 +245,7 @@ impl<'h, H: Host> LoomMemory<'h, H> {
         requires sound { IsSound H.Host self.old }
         requires ready { IsReady (loom_told H.Host self.old) }
         requires all { disk_room self.old.disk.rest ≤ self.old.ledger.held }
-        requires early { self.old.ledger.made < 8 }
+        requires early { self.old.ledger.made < MAKINGS }
         ensures sound { IsSound H.Host self.new }
         ensures err { IsRefusedMaking (loom_told H.Host self.old) (loom_told H.Host self.new) result }
         ensures lender { self.new.disk.host.ghost_name ≡ self.old.disk.host.ghost_name }
@@ -284,7 +282,7 @@ impl<'h, H: Host> LoomMemory<'h, H> {
     fn free_one(&mut self) -> Result<(), MemFault>
         requires sound { IsSound H.Host self.old }
         requires ready { IsReady (loom_told H.Host self.old) }
-        requires late { 8 ≤ self.old.ledger.made }
+        requires late { MAKINGS ≤ self.old.ledger.made }
         ensures thinned { OnOk result (HasThinned (loom_told H.Host self.old) (loom_told H.Host self.new)) }
         ensures sound { KeepsSound result (IsSound H.Host self.new) }
         ensures held { OnOk result (self.new.ledger.held < disk_room self.new.disk.rest) }
@@ -314,7 +312,7 @@ impl<'h, H: Host> LoomMemory<'h, H> {
         ensures held { OnOk result (self.new.ledger.held < disk_room self.new.disk.rest) }
         ensures next { OnOk result (self.new.ledger.next ≡ self.old.ledger.next) }
         ensures fetches { OnOk result (fetched self.new ≡ fetched self.old) }
-        ensures early { OnOk result (self.old.ledger.made < 8 → self.new ≡ self.old) }
+        ensures early { OnOk result (self.old.ledger.made < MAKINGS → self.new ≡ self.old) }
         ensures err { IfErr result (IsRefusedMaking (loom_told H.Host self.old) (loom_told H.Host self.new)) }
         ensures lender { self.new.disk.host.ghost_name ≡ self.old.disk.host.ghost_name }
         ensures outside { loom_outside H.Host self.new ≡ loom_outside H.Host self.old }
@@ -348,7 +346,7 @@ impl<'h, H: Host> LoomMemory<'h, H> {
         ensures name { OnOk result (IsRef ((loom_told H.Host self.new).regs to)) }
         ensures there { OnOk result (IsTrue (is_resident self.new (name_at ((loom_told H.Host self.new).regs to)))) }
         ensures fetches { OnOk result (fetched self.new ≡ fetched self.old) }
-        ensures early { IsTrue (H.tells Role.Work) → IfBounds (loom_told H.Host self.old).bounds (λ b. b.made < 8
+        ensures early { IsTrue (H.tells Role.Work) → IfBounds (loom_told H.Host self.old).bounds (λ b. b.made < MAKINGS
             → OnOk result ((loom_told H.Host self.new).heap ≡ heap_after (loom_told H.Host self.old).heap (loom_told H.Host self.old).regs (Make to class (making_of kind len header)))) }
         ensures fit { StaysCallable (IsSound H.Host) (loom_told H.Host) loom_lender (loom_outside H.Host) self.old self.new result }
     {
@@ -387,7 +385,7 @@ impl<'h, H: Host> LoomMemory<'h, H> {
         ensures name { OnOk result (IsRef ((loom_told H.Host self.new).regs to)) }
         ensures there { OnOk result (IsTrue (is_resident self.new (name_at ((loom_told H.Host self.new).regs to)))) }
         ensures fetches { OnOk result (fetched self.new ≡ fetched self.old) }
-        ensures early { IsTrue (H.tells Role.Work) → IfBounds (loom_told H.Host self.old).bounds (λ b. b.made < 8
+        ensures early { IsTrue (H.tells Role.Work) → IfBounds (loom_told H.Host self.old).bounds (λ b. b.made < MAKINGS
             → OnOk result ((loom_told H.Host self.new).heap ≡ heap_after (loom_told H.Host self.old).heap (loom_told H.Host self.old).regs (Make to class (making_of kind len header)))) }
         ensures fit { StaysCallable (IsSound H.Host) (loom_told H.Host) loom_lender (loom_outside H.Host) self.old self.new result }
     {
@@ -412,7 +410,7 @@ impl<'h, H: Host> LoomMemory<'h, H> {
         ensures name { OnOk result (IsRef ((loom_told H.Host self.new).regs to)) }
         ensures there { OnOk result (IsTrue (is_resident self.new (name_at ((loom_told H.Host self.new).regs to)))) }
         ensures fetches { OnOk result (fetched self.new ≡ fetched self.old) }
-        ensures early { IsTrue (H.tells Role.Work) → IfBounds (loom_told H.Host self.old).bounds (λ b. b.made < 8
+        ensures early { IsTrue (H.tells Role.Work) → IfBounds (loom_told H.Host self.old).bounds (λ b. b.made < MAKINGS
             → OnOk result ((loom_told H.Host self.new).heap ≡ heap_after (loom_told H.Host self.old).heap (loom_told H.Host self.old).regs (Make to class (OfPointers n)))) }
         ensures fit { StaysCallable (IsSound H.Host) (loom_told H.Host) loom_lender (loom_outside H.Host) self.old self.new result }
     {
@@ -427,7 +425,7 @@ impl<'h, H: Host> LoomMemory<'h, H> {
         ensures name { OnOk result (IsRef ((loom_told H.Host self.new).regs to)) }
         ensures there { OnOk result (IsTrue (is_resident self.new (name_at ((loom_told H.Host self.new).regs to)))) }
         ensures fetches { OnOk result (fetched self.new ≡ fetched self.old) }
-        ensures early { IsTrue (H.tells Role.Work) → IfBounds (loom_told H.Host self.old).bounds (λ b. b.made < 8
+        ensures early { IsTrue (H.tells Role.Work) → IfBounds (loom_told H.Host self.old).bounds (λ b. b.made < MAKINGS
             → OnOk result ((loom_told H.Host self.new).heap ≡ heap_after (loom_told H.Host self.old).heap (loom_told H.Host self.old).regs (Make to class (OfWords n)))) }
         ensures fit { StaysCallable (IsSound H.Host) (loom_told H.Host) loom_lender (loom_outside H.Host) self.old self.new result }
     {
@@ -442,7 +440,7 @@ impl<'h, H: Host> LoomMemory<'h, H> {
         ensures name { OnOk result (IsRef ((loom_told H.Host self.new).regs to)) }
         ensures there { OnOk result (IsTrue (is_resident self.new (name_at ((loom_told H.Host self.new).regs to)))) }
         ensures fetches { OnOk result (fetched self.new ≡ fetched self.old) }
-        ensures early { IsTrue (H.tells Role.Work) → IfBounds (loom_told H.Host self.old).bounds (λ b. b.made < 8
+        ensures early { IsTrue (H.tells Role.Work) → IfBounds (loom_told H.Host self.old).bounds (λ b. b.made < MAKINGS
             → OnOk result ((loom_told H.Host self.new).heap ≡ heap_after (loom_told H.Host self.old).heap (loom_told H.Host self.old).regs (Make to class (OfBytes n)))) }
         ensures fit { StaysCallable (IsSound H.Host) (loom_told H.Host) loom_lender (loom_outside H.Host) self.old self.new result }
     {
@@ -463,7 +461,7 @@ impl<'h, H: Host> LoomMemory<'h, H> {
         ensures name { OnOk result (IsRef ((loom_told H.Host self.new).regs to)) }
         ensures there { OnOk result (IsTrue (is_resident self.new (name_at ((loom_told H.Host self.new).regs to)))) }
         ensures fetches { OnOk result (fetched self.new ≡ fetched self.old) }
-        ensures early { IsTrue (H.tells Role.Work) → IfBounds (loom_told H.Host self.old).bounds (λ b. b.made < 8
+        ensures early { IsTrue (H.tells Role.Work) → IfBounds (loom_told H.Host self.old).bounds (λ b. b.made < MAKINGS
             → OnOk result ((loom_told H.Host self.new).heap ≡ heap_after (loom_told H.Host self.old).heap (loom_told H.Host self.old).regs (Make to class (OfMethod header code)))) }
         ensures fit { StaysCallable (IsSound H.Host) (loom_told H.Host) loom_lender (loom_outside H.Host) self.old self.new result }
     {

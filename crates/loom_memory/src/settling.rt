@@ -6,20 +6,18 @@ ghost use Rattle.object_table.specs.Entries.{is_short};
 ghost use Rattle.object_table.specs.Table.{bound_of};
 ghost use Rattle.disk_objects.specs.Disk.{disk_held, disk_room};
 ghost use Rattle.leaf_lambda.specs.Parts.{core_of, spare_of, IsParts};
-ghost use Rattle.loom_memory.specs.declared.settling.TheConstants.{SETTLED_ENTRIES as SETTLED};
+ghost use Rattle.leaf_lambda.specs.declared.translate.TheConstants.{RESERVE as SETTLED};
+ghost use Rattle.long_names.specs.declared.limits.TheConstants.{MAKINGS_BEFORE_FREEING as MAKINGS};
 
 use crate::bring::refusal_of;
-use crate::makings::MAKINGS_BEFORE_FREEING;
 use crate::memory::LoomMemory;
-use leaf_lambda::Parts;
+use leaf_lambda::{Parts, RESERVE};
+use long_names::MAKINGS_BEFORE_FREEING;
 use loom_outside::{Host, Role};
 use object_memory::MemFault;
 use object_table::Short;
 use purger::room::has_room;
 use purger::{RoomFault, drain};
-
-/// So many entries are freed between bytecodes, as far as registers and pinned objects let them.
-pub const SETTLED_ENTRIES: u16 = 128;
 
 // 1 where the object of an entry has a body and no record.
 fn fresh_at(p: &Parts, s: Short) -> u32
@@ -130,8 +128,8 @@ impl<'h, H: Host> LoomMemory<'h, H> {
         requires ready { IsReady (loom_told H.Host self.old) }
         ensures settled { OnOk result (HasSettled (loom_told H.Host self.old) (loom_told H.Host self.new)) }
         ensures none { OnOk result (self.new.ledger.made ≡ 0) }
-        ensures room { self.old.ledger.held + 8 ≤ disk_room self.old.disk.rest → OnOk result ((self.new.ledger.base ≡ None) × (self.new.ledger.held ≡ self.old.ledger.held)) }
-        ensures full { disk_room self.old.disk.rest < self.old.ledger.held + 8 → OnOk result (self.new.ledger.base ≡ Some self.new.ledger.held) }
+        ensures room { self.old.ledger.held + MAKINGS ≤ disk_room self.old.disk.rest → OnOk result ((self.new.ledger.base ≡ None) × (self.new.ledger.held ≡ self.old.ledger.held)) }
+        ensures full { disk_room self.old.disk.rest < self.old.ledger.held + MAKINGS → OnOk result (self.new.ledger.base ≡ Some self.new.ledger.held) }
         ensures fetches { OnOk result (fetched self.new ≡ fetched self.old) }
         ensures bodies { OnOk result (IsTrue (H.tells Role.Work) → KeepsHeld (core_of self.old.parts) (core_of self.new.parts) (loom_told H.Host self.new).heap) }
         ensures entries { OnOk result (spare_of self.old.parts ≤ spare_of self.new.parts) }
@@ -169,10 +167,10 @@ impl<'h, H: Host> LoomMemory<'h, H> {
         ensures lender { self.new.disk.host.ghost_name ≡ self.old.disk.host.ghost_name }
         ensures outside { loom_outside H.Host self.new ≡ loom_outside H.Host self.old }
     {
-        if has_room(&self.parts, 0, SETTLED_ENTRIES) {
+        if has_room(&self.parts, 0, RESERVE) {
             return Ok(());
         }
-        match self.room(0, SETTLED_ENTRIES) {
+        match self.room(0, RESERVE) {
             Ok(()) => Ok(()),
             Err(f) => match f {
                 RoomFault::Short => Ok(()),
@@ -185,14 +183,14 @@ impl<'h, H: Host> LoomMemory<'h, H> {
     }
 
     /// After it no making is counted. Where there was room for eight more, nothing is freed and the count isn't known; elsewhere it is that
-    /// of what is held, of which nothing is dead. `SETTLED_ENTRIES` are free then, or nothing but pinned objects has a body. No object comes
+    /// of what is held, of which nothing is dead. [`RESERVE`] entries are free then, or nothing but pinned objects has a body. No object comes
     /// in; where that many were free before, each object in the core that is still held stays there.
     pub fn settle(&mut self) -> Result<(), MemFault>
         requires fit { MayCall (IsSound H.Host) (loom_told H.Host) self.old }
         ensures called { Called (loom_told H.Host self.old) (loom_told H.Host self.new) Settles result }
         ensures none { OnOk result (self.new.ledger.made ≡ 0) }
-        ensures room { self.old.ledger.held + 8 ≤ disk_room self.old.disk.rest → OnOk result ((self.new.ledger.base ≡ None) × (self.new.ledger.held ≡ self.old.ledger.held)) }
-        ensures full { disk_room self.old.disk.rest < self.old.ledger.held + 8 → OnOk result (self.new.ledger.base ≡ Some self.new.ledger.held) }
+        ensures room { self.old.ledger.held + MAKINGS ≤ disk_room self.old.disk.rest → OnOk result ((self.new.ledger.base ≡ None) × (self.new.ledger.held ≡ self.old.ledger.held)) }
+        ensures full { disk_room self.old.disk.rest < self.old.ledger.held + MAKINGS → OnOk result (self.new.ledger.base ≡ Some self.new.ledger.held) }
         ensures spare { OnOk result ((SETTLED ≤ spare_of self.new.parts) ⊎ IsBare self.new.pinned.a self.new.pinned.b self.new.pinned.d (core_of self.new.parts)) }
         ensures fetches { OnOk result (fetched self.new ≡ fetched self.old) }
         ensures stays { OnOk result (SETTLED ≤ spare_of self.old.parts → IsTrue (H.tells Role.Work) → (k : ℕ) → IsTrue (is_resident self.old k) → Has (loom_told H.Host self.new).heap k → IsTrue (is_resident self.new k)) }

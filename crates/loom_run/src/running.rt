@@ -8,7 +8,8 @@ ghost use Rattle.blue_model.specs.Processes as processes;
 ghost use Rattle.blue_model.specs.Cycle as model;
 ghost use Rattle.blue_model.specs.declared.step.Step.TheVariants as step;
 ghost use Rattle.contexts.specs.Serves.{Serves, Speaks, Stands, HasRest};
-ghost use Rattle.blue_model.specs.Endings.{HasCounted, is_last as is_last_step};
+ghost use Rattle.blue_model.specs.Endings as endings;
+ghost use Rattle.blue_model.specs.Endings.{HasCounted};
 ghost use Rattle.blue_model.specs.State.{no_state};
 ghost use Rattle.blue_model.specs.Logs.{course};
 ghost use Rattle.contexts.specs.Keeping.{StepsBy, is_kept};
@@ -112,7 +113,7 @@ fn settled_cycle<M: ObjectMemory>(
 
 /// Whether no bytecode follows: the machine ended, or is to be kept.
 fn is_last(step: Step) -> bool
-    ensures { result ≡ is_last_step step }
+    ensures { result ≡ endings.is_last step }
 {
     match step {
         Step::Next => false,

@@ -3,7 +3,7 @@ use Rattle.std.specs.Prelude.{◌≡◌, ℕ, ◌+◌, ◌≤◌, ◌<◌, ◌==
 use Rattle.std.specs.Option.{option_map_or, option_and_then}
 use Rattle.long_names.specs.declared.value.Value.{Value}
 use Rattle.long_names.specs.declared.value.Value.TheVariants.{Int, Ref}
-use Rattle.long_names.specs.declared.limits.TheConstants.{LAST_NAME}
+use Rattle.long_names.specs.declared.limits.TheConstants.{LAST_NAME, MAKINGS_BEFORE_FREEING}
 use Rattle.long_names.specs.Counting.{Rose}
 use Rattle.long_names.specs.Objects.{name_of, is_ref}
 use Rattle.long_names.specs.Heap.{Heap, object_count}
@@ -259,11 +259,11 @@ HasNeed t (Does a) need = IsTrue t.tells → IsNeedOf t a need
 HasNeed t Settles need = ⊥
 HasNeed t Thins need = ⊥
 
--- How many objects live with the one that is asked for: by base and made, or, from the eighth making on, by the heap with its
+-- How many objects live with the one that is asked for: by base and made, or, from `MAKINGS_BEFORE_FREEING` makings on, by the heap with its
 -- registers and slots as roots.
 abbrev pub Lives : Told → Bounds → ℕ → Type 0
 Lives t b live = ((base : ℕ) × (b.base ≡ Some base) × (live ≡ base + b.made + 1))
-    ⊎ ((8 ≤ b.made) × (IsTrue t.tells → live ≡ object_count (kept t.heap (is_root t)) + 1))
+    ⊎ ((MAKINGS_BEFORE_FREEING ≤ b.made) × (IsTrue t.tells → live ≡ object_count (kept t.heap (is_root t)) + 1))
 
 -- why a call is refused
 abbrev pub HasCause : Told → Told → Call → MemFault → Type 0

@@ -3,7 +3,7 @@ ghost use Rattle.std.specs.Prelude.{◌≡◌, ◌<◌, ◌+ℤ◌, pos, IfSome,
 ghost use Rattle.long_names.specs.declared.limits.TheConstants.{SMALL_INTEGERS};
 ghost use Rattle.long_names.specs.Words.{IsSmallInteger};
 ghost use Rattle.blue_model.specs.Contexts.{stated};
-ghost use Rattle.blue_model.specs.Elements.{natural as natural_of};
+ghost use Rattle.blue_model.specs.Elements as elements;
 ghost use Rattle.blue_model.specs.Control as model;
 ghost use Rattle.blue_model.specs.Messages as messages;
 
@@ -27,7 +27,7 @@ pub(crate) fn block_pointer(cpu: &Cpu) -> Option<i16>
 /// A number that isn't negative.
 pub(crate) fn natural(number: i16) -> Option<u32>
     requires { IsSmallInteger number }
-    ensures value { result ≡ natural_of number }
+    ensures value { result ≡ elements.natural number }
     ensures few { IfSome result (λ n. n < SMALL_INTEGERS) }
 {
     if number < 0 {
