@@ -19,6 +19,7 @@ use Rattle.counted_core.specs.Counted.{IsHeld}
 use Rattle.counted_core.specs.Dead.{IsImage}
 use Rattle.delta_counts.specs.At.{IsStoredAt}
 use Rattle.object_memory.specs.Told.{Told}
+use Rattle.loom_memory.specs.declared.beginning.CoreTables.{CoreTables}
 
 -- A disk has just the objects of a heap with their exact counts, none is pending, and only known objects have count 0.
 pub record IsLoaded {H : Type 0} (host : Ghosts H) (now : H) (rest : DiskRest) (h : Heap) : Type 0 where
@@ -41,6 +42,10 @@ pub record IsEmptyCore (p : Parts) (core entries : ℕ) : Type 0 where
   pub unused : (s : ℕ) → is_used ((core_of p).entries s).state ≡ false
   pub outside_none : (t : ℕ) → outside (core_of p) t ≡ 0
   pub backed : (disk : Disk) → IsBacked (core_of p) disk
+
+-- tables that were made for it
+abbrev pub HasEmptyCore : CoreTables → ℕ → ℕ → Type 0
+HasEmptyCore t core entries = IsEmptyCore t.parts core entries
 
 -- what is told first: registers have 0, slots are empty, nothing is cached, nothing was made or refused
 pub record IsFirst (t : Told) (core entries room base work_faults said_faults : ℕ) : Type 0 where

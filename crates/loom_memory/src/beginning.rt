@@ -5,7 +5,7 @@ ghost use Rattle.loom_outside.specs.declared.outside.Role.TheVariants.{Work, Tra
 ghost use Rattle.core_segment.specs.declared.segment.TheConstants.{HEADER, MOST_WORDS};
 ghost use Rattle.object_table.specs.declared.table.TheConstants.{MOST_ENTRIES};
 ghost use Rattle.disk_objects.specs.Disk.{disk_held, disk_room};
-ghost use Rattle.loom_memory.specs.Beginning.{IsEmptyCore};
+ghost use Rattle.loom_memory.specs.Beginning.{HasEmptyCore, IsEmptyCore};
 
 use crate::ledger::Ledger;
 use crate::memory::LoomMemory;
@@ -30,24 +30,27 @@ fn empty_core(alloc: Global, core: u32, entries: u16) -> Result<Parts, AllocErro
     Ok(parts)
 }
 
-// What a memory has beside its disk: an empty core, and two buffers.
+/// What a memory has beside its disk: an empty core, and two buffers. A memory that is joined of them takes no memory.
 #[derive(Drop)]
-pub(crate) struct CoreTables {
+pub struct CoreTables {
     parts: Parts,
     buf: RecordBuf,
     out: RecordBuf,
 }
 
-fn tables(alloc: Global, core: u32, entries: u16) -> Result<CoreTables, AllocError>
-    requires some { HEADER ≤ core }
-    requires most { core ≤ MOST_WORDS }
-    requires few { entries ≤ MOST_ENTRIES }
-    ensures empty { IfOk result (λ t. IsEmptyCore t.parts core entries) }
-{
-    let parts = empty_core(alloc, core, entries)?;
-    let buf = RecordBuf::new(alloc)?;
-    let out = RecordBuf::new(alloc)?;
-    Ok(CoreTables { parts, buf, out })
+impl CoreTables {
+    /// The tables for a core of so many words and entries.
+    pub fn new(alloc: Global, core: u32, entries: u16) -> Result<CoreTables, AllocError>
+        requires some { HEADER ≤ core }
+        requires most { core ≤ MOST_WORDS }
+        requires few { entries ≤ MOST_ENTRIES }
+        ensures empty { IfOk result (λ t. HasEmptyCore t core entries) }
+    {
+        let parts = empty_core(alloc, core, entries)?;
+        let buf = RecordBuf::new(alloc)?;
+        let out = RecordBuf::new(alloc)?;
+        Ok(CoreTables { parts, buf, out })
+    }
 }
 
 impl<'h, H: Host> LoomMemory<'h, H> {
@@ -56,17 +59,17 @@ impl<'h, H: Host> LoomMemory<'h, H> {
     ghost use Rattle.loom_memory.specs.Beginning.{HasLoaded, IsFirst, IsLoaded};
     ghost use Rattle.loom_memory.specs.Residents.{is_resident, fetched};
 
-    // A memory of an empty core, two buffers and a disk.
-    fn joined(
+    /// A memory over a disk that is loaded, of tables that were made for a core of so many words and entries.
+    pub fn joined(
         disk: DiskObjects<'h, H>,
-        t: CoreTables,
+        tables: CoreTables,
         next: u32,
         core: u32,
         entries: u16,
     ) -> LoomMemory<'h, H>
         requires loaded { HasLoaded H.Host disk.host.now disk.rest next }
         requires even { next % 2 ≡ 0 }
-        requires empty { IsEmptyCore t.parts core entries }
+        requires empty { HasEmptyCore tables core entries }
         ensures first { IsFirst (loom_told H.Host result) core entries (disk_room disk.entry.rest) (disk_held disk.entry.rest) (H.faults disk.entry.host.now Work) (H.faults disk.entry.host.now Transcript) }
         ensures heap { IsTrue (H.tells Work) → (h : Heap) → IsLoaded H.Host disk.entry.host.now disk.entry.rest h → h.next ≡ next → (loom_told H.Host result).heap ≡ h }
         ensures sound { IsSound H.Host result }
@@ -78,9 +81,9 @@ impl<'h, H: Host> LoomMemory<'h, H> {
         let held = disk.len();
         LoomMemory {
             disk,
-            parts: t.parts,
-            buf: t.buf,
-            out: t.out,
+            parts: tables.parts,
+            buf: tables.buf,
+            out: tables.out,
             regs: [1; 24],
             pinned: Pinned { a: 0, b: 0, d: 0 },
             ledger: Ledger {
@@ -122,8 +125,8 @@ impl<'h, H: Host> LoomMemory<'h, H> {
         ensures lender { IfOk result (λ m. loom_lender m ≡ disk.entry.host.ghost_name) }
         ensures none { IfOk result (λ m. (fetched m ≡ 0) × ((k : ℕ) → is_resident m k ≡ false)) }
     {
-        match tables(alloc, core, entries) {
-            Ok(t) => Ok(LoomMemory::joined(disk, t, next, core, entries)),
+        match CoreTables::new(alloc, core, entries) {
+            Ok(tables) => Ok(LoomMemory::joined(disk, tables, next, core, entries)),
             Err(e) => Err(e),
         }
     }

@@ -1,6 +1,7 @@
 //! The memory of two levels: objects on a disk, and a core of those that are at hand. It is an object memory (`implementation`), whose calls
-//! have the clauses of the trait, and may be called by name, with what they promise beside. `make` begins one over a disk that is loaded,
-//! and `wind_up` with `into_disk` ends it: the disk has just the objects that are kept then, with their exact counts.
+//! have the clauses of the trait, and may be called by name, with what they promise beside. `make` begins one over a disk that is loaded;
+//! `CoreTables::new` takes the memory for that before, and `joined` takes none then. `wind_up` with `into_disk` ends it: the disk has just the
+//! objects that are kept then, with their exact counts.
 //!
 //! A making (`makings`) asks for a name first, then for room on the disk, then for room in the core. Where the disk is full and eight or more
 //! were made since the last settling, dead objects are freed before it is refused (`thin`, by `purger::drain`). `settle` frees them where
@@ -46,4 +47,5 @@ pub mod slots;
 pub mod stores;
 pub mod swap;
 
+pub use beginning::CoreTables;
 pub use memory::LoomMemory;
