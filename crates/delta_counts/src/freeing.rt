@@ -1,6 +1,7 @@
 // Dead names that wait on disk are freed, one at a time.
 ghost use Rattle.std.specs.Prelude.{◌≡◌, ◌+◌, ◌≤◌, ℕ, [], false, IsTrue, OnOk, IfOk, IfErr};
 ghost use Rattle.loom_outside.specs.declared.outside.Role.{Role};
+ghost use Rattle.object_record.specs.Buffer.{HasRecord};
 ghost use Rattle.core_segment.specs.Chunks.{Chunk};
 ghost use Rattle.loom_outside.specs.Work.{IsWorkOnly};
 ghost use Rattle.disk_objects.specs.Disk.{disk_room, disk_held};
@@ -31,6 +32,7 @@ fn free<H: Host>(
         OnOk result (IsFreedAt H.Host chunks p.new disk.new.host.now disk.new.rest may.levels name) }
     ensures counting { IsCounting p.old p.new }
     ensures held { OnOk result (disk_held disk.new.rest + 1 ≡ disk_held disk.old.rest) }
+    ensures record { OnOk result (HasRecord buf.new) }
     ensures room { disk_room disk.new.rest ≡ disk_room disk.old.rest }
     ensures work { IsWorkOnly H.Host disk.old.host.now disk.new.host.now }
     ensures same_host { disk.new.host.ghost_name ≡ disk.old.host.ghost_name }
@@ -41,8 +43,9 @@ fn free<H: Host>(
     lower_words(p, disk, buf, place)
 }
 
-// Frees the first dead name that is pending, and lowers the counts of what it held. False exactly where none is pending.
-pub(crate) fn drain_pending<H: Host>(
+/// Frees the first dead name that is pending, whose record is in the buffer then, and lowers the counts of what it held. False exactly where
+/// none is pending.
+pub fn drain_pending<H: Host>(
     p: &mut Parts2,
     disk: &mut DiskObjects<'_, H>,
     buf: &mut RecordBuf,
@@ -54,6 +57,7 @@ pub(crate) fn drain_pending<H: Host>(
         IfOk result (Drains H.Host chunks p.new disk.new.host.now disk.new.rest t) }
     ensures counting { IsCounting p.old p.new }
     ensures held { IfOk result (λ found. IsTrue found → disk_held disk.new.rest + 1 ≡ disk_held disk.old.rest) }
+    ensures record { IfOk result (λ found. IsTrue found → HasRecord buf.new) }
     ensures held_still { IfOk result (λ found. found ≡ false → disk_held disk.new.rest ≡ disk_held disk.old.rest) }
     ensures room { disk_room disk.new.rest ≡ disk_room disk.old.rest }
     ensures work { IsWorkOnly H.Host disk.old.host.now disk.new.host.now }

@@ -72,8 +72,8 @@ pub fn give_up<H: Host>(
     disk.put_pending(name)
 }
 
-// Gives up the entry, if it is that of an idle leaf.
-fn give_idle_at<H: Host>(
+/// Gives up the entry, if it is that of an idle leaf.
+pub fn give_idle_at<H: Host>(
     p: &mut Parts2,
     disk: &mut DiskObjects<'_, H>,
     s: Short,

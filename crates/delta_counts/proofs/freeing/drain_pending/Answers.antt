@@ -1,4 +1,4 @@
-use Rattle.std.proofs.Common.{refl, subst, arith}
+use Rattle.std.proofs.Common.{◌≡◌, true, false, refl, subst, arith}
 use Rattle.loom_outside.specs.Work.{work_of}
 use Rattle.disk_objects.specs.Disk.{IsDisk}
 use Rattle.counted_core.specs.Levels.{Levels}
@@ -45,3 +45,9 @@ returns-in_err-free-clause-fault g c =
     (IsFreeFault (h.tells Work) (h.faults c.args.disk.now.host.now Work) (h.faults c.free.new.disk.host.now Work) c.args.disk.now.rest)
     c.from_residual-in_err-free.ensures.1
     (free-again _ _ _ _ c.args.disk.now.rest c.take_pending.new.self.rest c.in_err-free.field-0.0 c.take_pending.ensures.read.later c.take_pending.ensures.room c.in_err-free.ensures.fault)
+
+pub returns-in_default-clause-record : goal.returns-in_default-clause-record
+returns-in_default-clause-record g c = λ on. absurd (let both : false ≡ true = on in cc)
+
+pub returns-clause-record : goal.returns-clause-record
+returns-clause-record g c = λ on. c.in_ok-free.ensures.record

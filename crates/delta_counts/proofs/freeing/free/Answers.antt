@@ -7,7 +7,7 @@ use Rattle.disk_objects.specs.Disk.{disk_room}
 use Rattle.counted_core.specs.Counted.{words_of}
 use Rattle.counted_core.specs.Steps.{removed}
 use Rattle.delta_counts.specs.Faults.{IsFreeFault}
-use Rattle.delta_counts.proofs.LowerLaws.{ok-map}
+use Rattle.delta_counts.proofs.LowerLaws.{ok-map, ok-of}
 use Rattle.delta_counts.proofs.FaultLaws.{err-map, fault-free, words-free}
 use Rattle.delta_counts.proofs.FreeLaws.{at-read, may-object, got-is, may-idle, removed-at, removed-owes, freed-at}
 use Rattle.delta_counts.proofs.WordLaws.{free-values}
@@ -75,3 +75,6 @@ returns-clause-fault g c = err-map c.lower_words.result
     (λ f x. words-free _ _ _ _ c.args.disk.now.rest c.remove.new.self.rest (words_of (object_in (raw_of c.get_held.new.buf))) c.in_ok-place.place (raw_of c.get_held.new.buf).name f
     (let a = c.get_held.ensures.read.later in let b = c.remove.ensures.work.later in omega arith)
     (c.remove.ensures.room ∙ ap disk_room c.get_held.ensures.rest) c.in_ok-place.ensures.place x) c.lower_words.ensures.fault
+
+pub returns-clause-record : goal.returns-clause-record
+returns-clause-record g c = ok-of c.lower_words.result c.in_ok-place.ensures.record.0
