@@ -1,6 +1,6 @@
 -- Which objects with a body are dead, and those of a table one after another.
 use Rattle.std.proofs.Common.{◌≡◌, ◌≢◌, ℕ, ℤ, pos, ◌+ℤ◌, ◌+◌, ◌*◌, ◌%◌, ◌<◌, ◌≤◌, Bool, true, false, List, [], Option, Some, None, IsTrue, Result, Ok, Err, refl, sym, ◌∙◌, ap, subst, arith, ⊎_elim}
-use Rattle.std.specs.Prelude.{IsSome}
+use Rattle.std.specs.Prelude.{IsSome, IfSome, option_map}
 use Rattle.std.specs.Result.{IfErr}
 use Rattle.std.specs.FinMap as map
 use Rattle.std.proofs.lemmas.Bool.{cases_eq}
@@ -22,9 +22,10 @@ use Rattle.object_record.specs.Raw.{RawRecord, longs_of}
 use Rattle.object_record.specs.Objects.{object_in, value_in}
 use Rattle.object_record.proofs.ObjectLaws.{fields-values}
 use Rattle.object_table.specs.declared.entry.Entry.{Entry}
+use Rattle.object_table.specs.declared.entry.Short.{Short}
 use Rattle.object_table.specs.Entries.{is_short, is_used, place_of, put}
 use Rattle.disk_objects.specs.declared.rest.DiskRest.{DiskRest}
-use Rattle.disk_objects.specs.Calls.{IsIdle}
+use Rattle.disk_objects.specs.Calls.{IsIdle, IsSlotsFault}
 use Rattle.disk_objects.specs.Disk.{IsDisk}
 use Rattle.core_view.specs.Core.{Core}
 use Rattle.core_view.specs.Counts.{uses, outside}
@@ -33,7 +34,8 @@ use Rattle.core_view.specs.Kept.{IsCore}
 use Rattle.core_view.proofs.Core.{placed-used, held-at}
 use Rattle.core_view.proofs.Purge.{body-then}
 use Rattle.leaf_lambda.specs.declared.parts.Parts.{Parts}
-use Rattle.leaf_lambda.specs.Parts.{core_of}
+use Rattle.leaf_lambda.specs.Parts.{core_of, IsParts}
+use Rattle.resident_table.specs.Resident.{short_of}
 use Rattle.counted_core.specs.Levels.{Stored, Levels, heap_of, count_in, record_in, records_of}
 use Rattle.counted_core.specs.Counted.{one_if, words, IsSound}
 use Rattle.counted_core.specs.Dead.{IsDead, outside_by}
@@ -242,6 +244,15 @@ free-read tells first before now rest (fault.Work count) low x = (x.0, rose-earl
 free-read tells first before now rest (fault.Full held room) low x = x
 free-read tells first before now rest (fault.Damaged at about) low x = x.0
 
+pub free-read-if : {T : Type 0} (tells : Bool) (before now : ℕ) (rest : DiskRest) (r : Result T DiskFault) → IfErr r (Rattle.delta_counts.specs.Faults.IsFreeFault tells before now rest) → IfErr r (IsReadFault tells before now)
+free-read-if {T} tells before now rest (Ok v) x = tt
+free-read-if {T} tells before now rest (Err f) x = free-read tells before before now rest f (omega arith) x
+
+pub slots-read : (tells : Bool) (before now : ℕ) (rest : DiskRest) (f : DiskFault) → IsSlotsFault tells before now rest f → IsReadFault tells before now f
+slots-read tells before now rest (fault.Work count) x = x
+slots-read tells before now rest (fault.Full held room) x = x
+slots-read tells before now rest (fault.Damaged at about) x = x.0
+
 -- ---- by what a test says
 
 pub dead-no : (b : Bool) (s : ℕ) (t : Levels) → b ≡ false → IsDeadBy b s t → NotDeadAt s t
@@ -267,3 +278,11 @@ levels-all host a b x y k l n most f t at s =
 
 pub twice-short : (n : ℕ) → 0 < n → is_short (2 * n) ≡ true
 twice-short n some = let rest : (2 * n) % 2 ≡ 0 = omega arith in grind (arith, common_steps)
+
+-- ---- what a record names
+
+-- what is found of a name is in use
+pub found-used : (p : Parts) (n : ℕ) (o : Option Short) → IsParts p → option_map (λ (s : Short). s.0) o ≡ short_of p.names.resident n → IfSome o (λ s. is_used ((core_of p).entries s.0).state ≡ true)
+unfolding core_of
+found-used p n None parts e = tt
+found-used p n (Some s) parts e = parts.core.used n s.0 (sym e)

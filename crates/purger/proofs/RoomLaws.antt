@@ -95,6 +95,14 @@ all-pinned c d purged s p at = (purged s s s).pinned s p (self s) at
 pub gone-purged : (a b k : ℕ) (c d : Core) (s p : ℕ) → IsPurged a b k c d → place_of (c.entries s).state ≡ None → place_of (d.entries s).state ≡ Some p → ⊥
 gone-purged a b k c d s p purged gone at = let both : None ≡ Some p = sym (purged.leaves s gone) ∙ at in cc
 
+-- what has a body still had one before
+pub pinned-later : (a b k : ℕ) (c d : Core) → IsPurged a b k c d → ((s p : ℕ) → place_of (c.entries s).state ≡ Some p → is_among a b k s ≡ true) → (s p : ℕ) → place_of (d.entries s).state ≡ Some p → is_among a b k s ≡ true
+pinned-later a b k c d purged all s p at = go (place_of (c.entries s).state) refl
+  where
+    go : (o : Option ℕ) → place_of (c.entries s).state ≡ o → is_among a b k s ≡ true
+    go None e = absurd (gone-purged a b k c d s p purged e at)
+    go (Some q) e = all s q e
+
 -- ---- by the answer of a call that makes room
 
 pub undisturbed-map : {T : Type 0} (r : Result T RoomFault) {A B : Type 0} → (A → B) → Undisturbed r A → Undisturbed r B

@@ -1,6 +1,6 @@
 -- Thinner heaps that are reached one after another, and what is left of parts.
 use Rattle.std.proofs.Common.{zero, suc, ◌≡◌, ℕ, ◌+◌, ◌≤◌, Bool, true, false, [], Option, Some, None, IsTrue, Result, Ok, Err, refl, sym, ◌∙◌, ap, subst, arith, is_some}
-use Rattle.std.specs.Result.{OnOk}
+use Rattle.std.specs.Result.{IfOk, OnOk}
 use Rattle.long_names.specs.declared.object.Object.{Object}
 use Rattle.long_names.specs.Heap.{Heap, Has, object_count, count_of}
 use Rattle.long_names.specs.Thin.{IsThinner}
@@ -26,8 +26,9 @@ use Rattle.leaf_lambda.specs.Parts.{core_of, spare_of, IsParts}
 use Rattle.counted_core.specs.Levels.{Levels, heap_of}
 use Rattle.counted_core.specs.Counted.{IsSound}
 use Rattle.counted_core.specs.Dead.{IsDead, NoneBareDead, NoneDead, bare_by, outside_by}
-use Rattle.delta_counts.specs.At.{DrainsOne, IsAt, IsReached}
+use Rattle.delta_counts.specs.At.{Drains, DrainsOne, IsAt, IsReached}
 use Rattle.delta_counts.specs.Giving.{IsGiving}
+use Rattle.delta_counts.proofs.DrainLaws.{first-none, first-one}
 use Rattle.delta_counts.proofs.NumberLaws.{held-on_disk}
 use Rattle.purger.specs.Counts.{HasSound, StandsFor}
 use Rattle.purger.specs.Draining.{AreNamed, DrainsBare, DrainsDead, IsThinned, KeepsHeld, KeepsLevels, LeavesRest, NoBodyDead, Thins}
@@ -213,6 +214,29 @@ one-thinned host p q was now before rest false parts same g f t at x =
       sound = d.0.sound;
       heap = d.0.heap;
     })
+
+-- entries are given up
+pub given-thins : {H : Type 0} (host : Ghosts H) (p q : Parts) (was now : H) (before rest : DiskRest) → IsParts p → q.segment ≡ p.segment → IsGiving p.names q.names
+    → ((chunks : ℕ → Chunk) (t : Levels) → IsAt host chunks p.names was before t → IsSound t [] → IsReached host chunks q.names now rest t []) → Thins host p was before q now rest
+given-thins host p q was now before rest parts same g f t at x =
+    let d = f (chunk_at p.segment) t at x in
+    same-thinned host p q now rest t (giving-bodies p q parts same g) (record {
+      levels = d.levels;
+      at = subst (λ (k : Segment). IsAt host (chunk_at k) q.names now rest d.levels) (sym same) d.at;
+      sound = d.sound;
+      heap = d.heap;
+    })
+
+-- a name that was pending is freed, or none was
+drains-thins : {H : Type 0} (host : Ghosts H) (p q : Parts) (was now : H) (before rest : DiskRest) (b : Bool) → IsParts p → q.segment ≡ p.segment → IsGiving p.names q.names
+    → ((chunks : ℕ → Chunk) (t : Levels) → IsAt host chunks p.names was before t → IsSound t [] → Drains host chunks q.names now rest t b) → Thins host p was before q now rest
+drains-thins host p q was now before rest true parts same g f = one-thinned host p q was now before rest true parts same g (λ chunks t at x. first-one host chunks q.names now rest t true x refl (f chunks t at x))
+drains-thins host p q was now before rest false parts same g f = given-thins host p q was now before rest parts same g (λ chunks t at x. record { levels = t; at = first-none host chunks q.names now rest t false refl (f chunks t at x); sound = x; heap = refl })
+
+pub drains-thins-if : {E H : Type 0} (host : Ghosts H) (r : Result Bool E) (p q : Parts) (was now : H) (before rest : DiskRest) → IsParts p → q.segment ≡ p.segment → IsGiving p.names q.names
+    → ((chunks : ℕ → Chunk) (t : Levels) → IsAt host chunks p.names was before t → IsSound t [] → IfOk r (Drains host chunks q.names now rest t)) → OnOk r (Thins host p was before q now rest)
+drains-thins-if {E} {H} host (Ok b) p q was now before rest parts same g f = drains-thins host p q was now before rest b parts same g f
+drains-thins-if {E} {H} host (Err e) p q was now before rest parts same g f = tt
 
 -- after others, none that has no body is dead
 pub last-bare : {H : Type 0} (host : Ghosts H) (a p q : Parts) (x was now : H) (k before rest : DiskRest) (b : Bool) → b ≡ false → IsParts p → q.segment ≡ p.segment → IsGiving p.names q.names → Thins host a x k p was before

@@ -1,7 +1,9 @@
 // Dead objects go: names that have no body are freed on disk, and an object with a body is freed without being written.
-ghost use Rattle.std.specs.Prelude.{[], ◌≡◌, ◌+◌, ◌+ℤ◌, ◌≤◌, ◌<◌, ◌↔◌, ℕ, pos, List, Option, None, Some, true, false, IsTrue, IfOk, IfErr, OnOk};
+ghost use Rattle.std.specs.Prelude.{[], ◌≡◌, ◌+◌, ◌+ℤ◌, ◌≤◌, ◌<◌, ◌↔◌, ℕ, pos, List, Option, None, Some, true, false, IsTrue, IfSome, IfOk, IfErr, OnOk, length};
 ghost use Rattle.loom_outside.specs.Work.{IsWorkOnly, IsWorkRead};
-ghost use Rattle.object_table.specs.Entries.{is_short, place_of, put};
+ghost use Rattle.object_record.specs.Raw.{longs_of};
+ghost use Rattle.object_record.specs.Buffer.{raw_of, HasRecord};
+ghost use Rattle.object_table.specs.Entries.{is_short, is_used, place_of, put};
 ghost use Rattle.object_table.specs.Table.{bound_of};
 ghost use Rattle.core_segment.specs.Segment.{free_of, size_of};
 ghost use Rattle.disk_objects.specs.Disk.{disk_held, disk_room};
@@ -20,12 +22,12 @@ ghost use Rattle.purger.specs.Purge.{IsReadFault};
 use crate::eviction::{NOWHERE, count_of, read_copy};
 use crate::marks::unmark_for;
 use core_segment::laws::chunks_never_overlap;
-use delta_counts::{drain_one, lower_words};
+use delta_counts::{drain_one, drain_pending, give_idle_at, lower_words};
 use disk_objects::DiskObjects;
 use leaf_lambda::leaving::{drop_body, set_written};
 use leaf_lambda::steps::{free_leaf, place_of_body};
 use leaf_lambda::{Parts, merge_out};
-use long_names::Name;
+use long_names::{Name, value_of};
 use loom_outside::{DiskFault, Host, Role};
 use object_record::RecordBuf;
 use object_table::Short;
@@ -80,6 +82,7 @@ fn drop_record<H: Host>(
     ensures dropped { IsTrue (H.tells Role.Work) → (stored : ℕ → Option Stored) (pending : List ℕ) →
         IsStoredAt H.Host disk.old.host.now disk.old.rest stored pending → MayDrop fresh stored pending name →
         OnOk result (IsStoredAt H.Host disk.new.host.now disk.new.rest (put stored name None) pending) }
+    ensures held { OnOk result (disk_held disk.new.rest ≤ disk_held disk.old.rest) }
     ensures room { disk_room disk.new.rest ≡ disk_room disk.old.rest }
     ensures work { IsWorkOnly H.Host disk.old.host.now disk.new.host.now }
     ensures same_host { disk.new.host.ghost_name ≡ disk.old.host.ghost_name }
@@ -127,6 +130,8 @@ fn free_body<H: Host>(
     ensures freed { IsTrue (H.tells Role.Work) → (t : Levels) → StandsFor H.Host p.old disk.old.host.now disk.old.rest t → IsSound t [] →
         IsDead t (t.core.entries s.0).name → OnOk result (IsThinned H.Host p.old p.new disk.new.host.now disk.new.rest t) }
     ensures wider { OnOk result (free_of p.old.segment < free_of p.new.segment) }
+    ensures record { OnOk result (HasRecord buf.new) }
+    ensures held { OnOk result (disk_held disk.new.rest ≤ disk_held disk.old.rest) }
     ensures limit { disk_room disk.new.rest ≡ disk_room disk.old.rest }
     ensures work { IsWorkOnly H.Host disk.old.host.now disk.new.host.now }
     ensures same_host { disk.new.host.ghost_name ≡ disk.old.host.ghost_name }
@@ -141,12 +146,222 @@ fn free_body<H: Host>(
     lower_words(&mut p.names, disk, buf, NOWHERE)
 }
 
-// Frees the object of an entry, if it has a body and is dead.
+// Frees the object of an entry, if it has a body and is dead. Then its record is in the buffer; else that has what it had.
 fn free_dead_at<H: Host>(
     p: &mut Parts,
     disk: &mut DiskObjects<'_, H>,
     buf: &mut RecordBuf,
     s: Short,
+) -> Result<bool, DiskFault>
+    requires parts { IsParts p.old }
+    requires tight { IsTight (core_of p.old) }
+    requires marks { AreHere (core_of p.old) }
+    requires short { is_short s.0 ≡ true }
+    requires within { s.0 < bound_of p.old.names.table }
+    requires sound { HasSound H.Host p.old disk.old.host.now disk.old.rest }
+    ensures leaves { LeavesRest p.old p.new }
+    ensures thins { IsTrue (H.tells Role.Work) → OnOk result (Thins H.Host p.old disk.old.host.now disk.old.rest p.new disk.new.host.now disk.new.rest) }
+    ensures none { IsTrue (H.tells Role.Work) → OnOk result (free_of p.new.segment ≡ free_of p.old.segment →
+        KeepsLevels H.Host p.old disk.old.host.now disk.old.rest p.new disk.new.host.now disk.new.rest (NotDeadAt s.0)) }
+    ensures wider { IfOk result (λ freed. IsTrue freed → free_of p.old.segment < free_of p.new.segment) }
+    ensures record { IfOk result (λ freed. IsTrue freed → HasRecord buf.new) }
+    ensures still { IfOk result (λ freed. freed ≡ false → buf.new ≡ buf.old) }
+    ensures held { OnOk result (disk_held disk.new.rest ≤ disk_held disk.old.rest) }
+    ensures limit { disk_room disk.new.rest ≡ disk_room disk.old.rest }
+    ensures work { IsWorkOnly H.Host disk.old.host.now disk.new.host.now }
+    ensures same_host { disk.new.host.ghost_name ≡ disk.old.host.ghost_name }
+    ensures fault { IfErr result (IsReadFault (H.tells Role.Work) (H.faults disk.old.host.now Role.Work) (H.faults disk.new.host.now Role.Work)) }
+{
+    if !is_dead(p, disk, s)? {
+        return Ok(false);
+    }
+    unmark_for(p, s);
+    free_body(p, disk, buf, s)?;
+    Ok(true)
+}
+
+// The entry of what a long word names, if it names an object that has one.
+fn entry_of(p: &Parts, long: u32) -> Option<Short>
+    requires parts { IsParts p.now }
+    ensures used { IfSome result (λ s. is_used ((core_of p.now).entries s.0).state ≡ true) }
+{
+    match value_of(long) {
+        Some(v) => match v.name() {
+            Some(name) => p.names.resident.find(name),
+            None => None,
+        },
+        None => None,
+    }
+}
+
+// Gives up the entry of an idle leaf, whose name is pending then where it is dead; or frees the object of an entry, if it has a body and is dead.
+fn free_at<H: Host>(
+    p: &mut Parts,
+    disk: &mut DiskObjects<'_, H>,
+    buf: &mut RecordBuf,
+    s: Short,
+) -> Result<bool, DiskFault>
+    requires parts { IsParts p.old }
+    requires tight { IsTight (core_of p.old) }
+    requires marks { AreHere (core_of p.old) }
+    requires short { is_short s.0 ≡ true }
+    requires within { s.0 < bound_of p.old.names.table }
+    requires sound { HasSound H.Host p.old disk.old.host.now disk.old.rest }
+    ensures leaves { LeavesRest p.old p.new }
+    ensures thins { IsTrue (H.tells Role.Work) → OnOk result (Thins H.Host p.old disk.old.host.now disk.old.rest p.new disk.new.host.now disk.new.rest) }
+    ensures wider { IfOk result (λ freed. IsTrue freed → free_of p.old.segment < free_of p.new.segment) }
+    ensures record { IfOk result (λ freed. IsTrue freed → HasRecord buf.new) }
+    ensures still { IfOk result (λ freed. freed ≡ false → buf.new ≡ buf.old) }
+    ensures held { OnOk result (disk_held disk.new.rest ≤ disk_held disk.old.rest) }
+    ensures limit { disk_room disk.new.rest ≡ disk_room disk.old.rest }
+    ensures work { IsWorkOnly H.Host disk.old.host.now disk.new.host.now }
+    ensures same_host { disk.new.host.ghost_name ≡ disk.old.host.ghost_name }
+    ensures fault { IfErr result (IsReadFault (H.tells Role.Work) (H.faults disk.old.host.now Role.Work) (H.faults disk.new.host.now Role.Work)) }
+{
+    give_idle_at(&mut p.names, disk, s)?;
+    free_dead_at(p, disk, buf, s)
+}
+
+// The same of what a field of the record in the buffer names, if that has an entry.
+fn free_held<H: Host>(
+    p: &mut Parts,
+    disk: &mut DiskObjects<'_, H>,
+    buf: &mut RecordBuf,
+    i: u32,
+) -> Result<bool, DiskFault>
+    requires parts { IsParts p.old }
+    requires tight { IsTight (core_of p.old) }
+    requires marks { AreHere (core_of p.old) }
+    requires record { HasRecord buf.old }
+    requires field { i < length (longs_of (raw_of buf.old).body) }
+    requires sound { HasSound H.Host p.old disk.old.host.now disk.old.rest }
+    ensures leaves { LeavesRest p.old p.new }
+    ensures thins { IsTrue (H.tells Role.Work) → OnOk result (Thins H.Host p.old disk.old.host.now disk.old.rest p.new disk.new.host.now disk.new.rest) }
+    ensures wider { IfOk result (λ freed. IsTrue freed → free_of p.old.segment < free_of p.new.segment) }
+    ensures record { IfOk result (λ freed. IsTrue freed → HasRecord buf.new) }
+    ensures still { IfOk result (λ freed. freed ≡ false → buf.new ≡ buf.old) }
+    ensures held { OnOk result (disk_held disk.new.rest ≤ disk_held disk.old.rest) }
+    ensures limit { disk_room disk.new.rest ≡ disk_room disk.old.rest }
+    ensures work { IsWorkOnly H.Host disk.old.host.now disk.new.host.now }
+    ensures same_host { disk.new.host.ghost_name ≡ disk.old.host.ghost_name }
+    ensures fault { IfErr result (IsReadFault (H.tells Role.Work) (H.faults disk.old.host.now Role.Work) (H.faults disk.new.host.now Role.Work)) }
+{
+    match entry_of(p, buf.long_field(i)) {
+        Some(s) => free_at(p, disk, buf, s),
+        None => Ok(false),
+    }
+}
+
+// With which of the dead objects that one held it goes on.
+#[derive(Clone, Copy, Debug, PartialEq, Eq)]
+enum Next {
+    First,
+    Last,
+}
+
+impl Next {
+    // The field that is looked at while so many of all are left behind it.
+    fn field(&self, left: u32, all: u32) -> u32
+        requires { left < all }
+        ensures { result < all }
+    {
+        match self {
+            Next::First => all - 1 - left,
+            Next::Last => left,
+        }
+    }
+}
+
+// Goes on from an object that was freed, whose record is in the buffer: one that it held is freed, if that has a body and is dead now, then one
+// that this held, and so on. Idle leaves among the fields that it passes are given up.
+fn free_fields<H: Host>(
+    p: &mut Parts,
+    disk: &mut DiskObjects<'_, H>,
+    buf: &mut RecordBuf,
+    next: &Next,
+) -> Result<(), DiskFault>
+    requires parts { IsParts p.old }
+    requires tight { IsTight (core_of p.old) }
+    requires marks { AreHere (core_of p.old) }
+    requires record { HasRecord buf.old }
+    requires sound { HasSound H.Host p.old disk.old.host.now disk.old.rest }
+    ensures leaves { LeavesRest p.old p.new }
+    ensures thins { IsTrue (H.tells Role.Work) → OnOk result (Thins H.Host p.old disk.old.host.now disk.old.rest p.new disk.new.host.now disk.new.rest) }
+    ensures held { OnOk result (disk_held disk.new.rest ≤ disk_held disk.old.rest) }
+    ensures limit { disk_room disk.new.rest ≡ disk_room disk.old.rest }
+    ensures work { IsWorkOnly H.Host disk.old.host.now disk.new.host.now }
+    ensures same_host { disk.new.host.ghost_name ≡ disk.old.host.ghost_name }
+    ensures fault { IfErr result (IsReadFault (H.tells Role.Work) (H.faults disk.old.host.now Role.Work) (H.faults disk.new.host.now Role.Work)) }
+{
+    let mut left = buf.field_count();
+    while left > 0 {
+        left -= 1;
+        let i = next.field(left, buf.field_count());
+        if free_held(p, disk, buf, i)? {
+            // no more words are free than there are
+            chunks_never_overlap(&p.segment);
+            left = buf.field_count();
+        }
+    }
+    Ok(())
+}
+
+// Frees the first name that is pending, whose record is in the buffer then. No body goes.
+fn free_pending<H: Host>(
+    p: &mut Parts,
+    disk: &mut DiskObjects<'_, H>,
+    buf: &mut RecordBuf,
+) -> Result<bool, DiskFault>
+    requires parts { IsParts p.old }
+    requires tight { IsTight (core_of p.old) }
+    requires marks { AreHere (core_of p.old) }
+    requires sound { HasSound H.Host p.old disk.old.host.now disk.old.rest }
+    ensures leaves { LeavesRest p.old p.new }
+    ensures thins { IsTrue (H.tells Role.Work) → OnOk result (Thins H.Host p.old disk.old.host.now disk.old.rest p.new disk.new.host.now disk.new.rest) }
+    ensures held { IfOk result (λ found. IsTrue found → disk_held disk.new.rest + 1 ≡ disk_held disk.old.rest) }
+    ensures record { IfOk result (λ found. IsTrue found → HasRecord buf.new) }
+    ensures limit { disk_room disk.new.rest ≡ disk_room disk.old.rest }
+    ensures work { IsWorkOnly H.Host disk.old.host.now disk.new.host.now }
+    ensures same_host { disk.new.host.ghost_name ≡ disk.old.host.ghost_name }
+    ensures fault { IfErr result (IsReadFault (H.tells Role.Work) (H.faults disk.old.host.now Role.Work) (H.faults disk.new.host.now Role.Work)) }
+{
+    drain_pending(&mut p.names, disk, buf)
+}
+
+// The same, and each time with a dead name that has no body, until none is pending: so a chain goes on through names that aren't in the core.
+fn free_on<H: Host>(
+    p: &mut Parts,
+    disk: &mut DiskObjects<'_, H>,
+    buf: &mut RecordBuf,
+    next: &Next,
+) -> Result<(), DiskFault>
+    requires parts { IsParts p.old }
+    requires tight { IsTight (core_of p.old) }
+    requires marks { AreHere (core_of p.old) }
+    requires record { HasRecord buf.old }
+    requires sound { HasSound H.Host p.old disk.old.host.now disk.old.rest }
+    ensures leaves { LeavesRest p.old p.new }
+    ensures thins { IsTrue (H.tells Role.Work) → OnOk result (Thins H.Host p.old disk.old.host.now disk.old.rest p.new disk.new.host.now disk.new.rest) }
+    ensures limit { disk_room disk.new.rest ≡ disk_room disk.old.rest }
+    ensures work { IsWorkOnly H.Host disk.old.host.now disk.new.host.now }
+    ensures same_host { disk.new.host.ghost_name ≡ disk.old.host.ghost_name }
+    ensures fault { IfErr result (IsReadFault (H.tells Role.Work) (H.faults disk.old.host.now Role.Work) (H.faults disk.new.host.now Role.Work)) }
+{
+    loop {
+        free_fields(p, disk, buf, next)?;
+        if !free_pending(p, disk, buf)? {
+            return Ok(());
+        }
+    }
+}
+
+// Frees the object of an entry, if it has a body and is dead, and a chain of those that die with it.
+fn free_chain<H: Host>(
+    p: &mut Parts,
+    disk: &mut DiskObjects<'_, H>,
+    buf: &mut RecordBuf,
+    s: Short,
+    next: &Next,
 ) -> Result<(), DiskFault>
     requires parts { IsParts p.old }
     requires tight { IsTight (core_of p.old) }
@@ -163,14 +378,14 @@ fn free_dead_at<H: Host>(
     ensures same_host { disk.new.host.ghost_name ≡ disk.old.host.ghost_name }
     ensures fault { IfErr result (IsReadFault (H.tells Role.Work) (H.faults disk.old.host.now Role.Work) (H.faults disk.new.host.now Role.Work)) }
 {
-    if !is_dead(p, disk, s)? {
+    if !free_dead_at(p, disk, buf, s)? {
         return Ok(());
     }
-    unmark_for(p, s);
-    free_body(p, disk, buf, s)
+    free_on(p, disk, buf, next)
 }
 
-// Frees each object that has a body and is dead when its entry's turn comes. Where no words became free none was.
+// Frees each object that has a body and is dead when its entry's turn comes, and chains of those that die with it. Where no words became free
+// none was.
 fn free_dead<H: Host>(
     p: &mut Parts,
     disk: &mut DiskObjects<'_, H>,
@@ -190,12 +405,12 @@ fn free_dead<H: Host>(
     ensures fault { IfErr result (IsReadFault (H.tells Role.Work) (H.faults disk.old.host.now Role.Work) (H.faults disk.new.host.now Role.Work)) }
 {
     for i in 0..p.names.table.entries() {
-        free_dead_at(p, disk, buf, Short(2 * i + 2))?;
+        free_chain(p, disk, buf, Short(2 * i + 2), &Next::First)?;
     }
     Ok(())
 }
 
-// The same from the last entry to the first.
+// The same from the last entry to the first, and by the last field of each.
 fn free_down<H: Host>(
     p: &mut Parts,
     disk: &mut DiskObjects<'_, H>,
@@ -214,7 +429,7 @@ fn free_down<H: Host>(
 {
     let count = p.names.table.entries();
     for i in 0..count {
-        free_dead_at(p, disk, buf, Short(2 * (count - i)))?;
+        free_chain(p, disk, buf, Short(2 * (count - i)), &Next::Last)?;
     }
     Ok(())
 }
@@ -245,9 +460,9 @@ fn drain_bare<H: Host>(
 }
 
 /// Frees dead objects until nothing is dead. What is freed had no reference from outside, so what a register or a slot names stays, and what
-/// stays keeps its body. A dead object that is in the core isn't written, whatever its record has. Each round goes up the table and down again,
-/// so that a list goes in one whichever way it was made, and a body goes in each but the last. It takes no memory, no entry, and no words of the
-/// segment.
+/// stays keeps its body. A dead object that is in the core isn't written, whatever its record has. Each round goes up the table and down again, and
+/// a body goes in each but the last. From an object that goes it follows one that dies with it, up the first of them and down the last: so a list
+/// goes in one round, whichever end of its cells links them, wherever they lie. It takes no memory, no entry, and no words of the segment.
 pub fn drain<H: Host>(
     p: &mut Parts,
     disk: &mut DiskObjects<'_, H>,

@@ -1,8 +1,9 @@
 //! Room in a core: objects are evicted until so many words and entries are free, and what is dead is freed.
 //!
 //! `evict` writes an object back where it differs from its record, takes its body, and folds its change of count. `make_room` evicts objects in
-//! the order of the table while room is wanting, gives up each leaf to which nothing refers, and moves bodies together; three pinned objects
-//! stay. Where there is room, nothing goes. It answers `Short` only where nothing but pinned objects is left and that isn't enough.
+//! the order of the table while room is wanting, gives up leaves to which nothing refers, and moves bodies together; three pinned objects
+//! stay. Where there is room, nothing goes. It answers `Short` only where nothing but pinned objects is left and that isn't enough. It goes over
+//! the table once for objects and at most three times for leaves: before, where the leaves that evictions left are room enough, and at the end.
 //!
 //!     make_room(&mut parts, &mut disk, &mut buf, words, entries, &pinned)?;
 //!
@@ -13,7 +14,7 @@
 //! core_view's `what_is_left_is_pinned` says.
 //!
 //! `drain` frees what is dead, in the core and on disk, until nothing is: the heap is thinner by it, what stays keeps its body, and no dead object
-//! is written (`DrainsDead`). `close` lets everything leave a core from which nothing is named: the disk has just the kept objects then, with
+//! is written (`DrainsDead`). It follows what dies from object to object, so a list goes in one round whatever the order of its cells. `close` lets everything leave a core from which nothing is named: the disk has just the kept objects then, with
 //! their exact counts (`HasKept`).
 //!
 //! Read `specs/Purge.antt`, then `Counts.antt`, `Marks.antt`, `Draining.antt` and `Closing.antt`. What moves one body is leaf_lambda's, and what
@@ -23,6 +24,7 @@
 pub mod closing;
 pub mod draining;
 pub mod eviction;
+mod idle;
 pub mod laws;
 pub mod marks;
 pub mod room;

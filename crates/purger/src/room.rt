@@ -16,6 +16,7 @@ ghost use Rattle.purger.specs.Marks.{AreHere, KeepsMarks, LeavesMarks};
 ghost use Rattle.purger.specs.Purge.{HasRoom, IsShort, KeepsBodies, OnShort, OnDisk, Undisturbed, IsPurgeFault};
 
 use crate::eviction::evict;
+use crate::idle::idle_behind;
 use delta_counts::give_idle;
 use disk_objects::DiskObjects;
 use leaf_lambda::Parts;
@@ -81,6 +82,7 @@ fn free_idle<H: Host>(p: &mut Parts, disk: &mut DiskObjects<'_, H>) -> Result<()
     ensures marks { KeepsMarks (core_of p.old) (core_of p.new) }
     ensures here { AreHere (core_of p.new) }
     ensures segment { p.new.segment ≡ p.old.segment }
+    ensures more { spare_of p.old ≤ spare_of p.new }
     ensures limit { disk_room disk.new.rest ≡ disk_room disk.old.rest }
     ensures work { IsWorkOnly H.Host disk.old.host.now disk.new.host.now }
     ensures same_host { disk.new.host.ghost_name ≡ disk.old.host.ghost_name }
@@ -98,6 +100,53 @@ pub fn has_room(p: &Parts, words: u32, entries: u16) -> bool
         return false;
     }
     entries <= p.names.table.free()
+}
+
+// Whether so many words are free, and so many entries where so many more are.
+fn would_have_room(p: &Parts, words: u32, entries: u16, more: u32) -> bool {
+    if p.segment.free_words() < words {
+        return false;
+    }
+    u32::from(entries) <= more.saturating_add(u32::from(p.names.table.free()))
+}
+
+// Whether there is no room, but there would be without the idle leaves, of which so many are reckoned.
+fn is_worth_a_sweep(p: &Parts, words: u32, entries: u16, idle: u32) -> bool {
+    if has_room(p, words, entries) {
+        return false;
+    }
+    would_have_room(p, words, entries, idle)
+}
+
+// Gives up the idle leaves where that makes room, as they are reckoned. Answers how many are reckoned then.
+fn free_enough<H: Host>(
+    p: &mut Parts,
+    disk: &mut DiskObjects<'_, H>,
+    words: u32,
+    entries: u16,
+    idle: u32,
+) -> Result<u32, DiskFault>
+    requires parts { IsParts p.old }
+    requires tight { IsTight (core_of p.old) }
+    requires marks { AreHere (core_of p.old) }
+    requires sound { HasSound H.Host p.old disk.old.host.now disk.old.rest }
+    ensures parts { IsParts p.new }
+    ensures tight { IsTight (core_of p.new) }
+    ensures purged { (a b d : ℕ) → IsPurged a b d (core_of p.old) (core_of p.new) }
+    ensures sound { IsTrue (H.tells Role.Work) → OnOk result (KeepsSound H.Host p.old disk.old.host.now disk.old.rest p.new disk.new.host.now disk.new.rest) }
+    ensures marks { KeepsMarks (core_of p.old) (core_of p.new) }
+    ensures here { AreHere (core_of p.new) }
+    ensures segment { p.new.segment ≡ p.old.segment }
+    ensures limit { disk_room disk.new.rest ≡ disk_room disk.old.rest }
+    ensures work { IsWorkOnly H.Host disk.old.host.now disk.new.host.now }
+    ensures same_host { disk.new.host.ghost_name ≡ disk.old.host.ghost_name }
+    ensures fault { IfErr result (IsPurgeFault H.Host disk.old.host.now disk.new.host.now) }
+{
+    if !is_worth_a_sweep(p, words, entries, idle) {
+        return Ok(idle);
+    }
+    free_idle(p, disk)?;
+    Ok(0)
 }
 
 // Whether so many words are free together.
@@ -177,7 +226,8 @@ fn leave<H: Host>(
     evict(p, disk, buf, s)
 }
 
-// Evicts an object that may leave, unless there is room, and gives up the leaves to which nothing refers then.
+// Evicts an object that may leave, unless there is room. Where the idle leaves are room enough then, as they are reckoned, they are given up: so
+// the table is swept for them once, and not after each eviction. Answers how many are reckoned.
 fn evict_more<H: Host>(
     p: &mut Parts,
     disk: &mut DiskObjects<'_, H>,
@@ -186,19 +236,18 @@ fn evict_more<H: Host>(
     words: u32,
     entries: u16,
     pinned: &Pinned,
-) -> Result<(), DiskFault>
+    idle: u32,
+) -> Result<u32, DiskFault>
     requires parts { IsParts p.old }
     requires tight { IsTight (core_of p.old) }
     requires marks { AreHere (core_of p.old) }
     requires short { is_short s.0 ≡ true }
     requires within { s.0 < bound_of p.old.names.table }
-    requires idle { HasNoIdle (core_of p.old) }
     requires sound { HasSound H.Host p.old disk.old.host.now disk.old.rest }
     requires counted { IsTrue (H.tells Role.Work) → disk_held disk.old.rest + fresh_of (core_of p.old) ≤ disk_room disk.old.rest }
     ensures parts { IsParts p.new }
     ensures tight { IsTight (core_of p.new) }
     ensures purged { IsPurged pinned.now.a pinned.now.b pinned.now.d (core_of p.old) (core_of p.new) }
-    ensures idle { OnOk result (HasNoIdle (core_of p.new)) }
     ensures gone { OnOk result (HasRoom p.new words entries
         ⊎ ((at : ℕ) → place_of ((core_of p.new).entries s.0).state ≡ Some at → is_among pinned.now.a pinned.now.b pinned.now.d s.0 ≡ true)) }
     ensures enough { HasRoom p.old words entries → HasRoom p.new words entries }
@@ -212,16 +261,57 @@ fn evict_more<H: Host>(
     ensures fault { IfErr result (IsPurgeFault H.Host disk.old.host.now disk.new.host.now) }
 {
     if has_room(p, words, entries) {
-        return Ok(());
+        return Ok(idle);
     }
     if !may_leave(p, s, pinned) {
-        return Ok(());
+        return Ok(idle);
     }
+    let behind = idle_behind(p, s);
     leave(p, disk, buf, s)?;
-    free_idle(p, disk)
+    free_enough(p, disk, words, entries, idle.saturating_add(behind))
 }
 
-// Makes room where there is none, and no leaf is idle.
+// The end of a purge: the idle leaves are given up, and there is room or nothing more can go.
+fn last_room<H: Host>(
+    p: &mut Parts,
+    disk: &mut DiskObjects<'_, H>,
+    words: u32,
+    entries: u16,
+    pinned: &Pinned,
+) -> Result<(), RoomFault>
+    requires parts { IsParts p.old }
+    requires tight { IsTight (core_of p.old) }
+    requires marks { AreHere (core_of p.old) }
+    requires gone { HasRoom p.old words entries
+        ⊎ ((s at : ℕ) → place_of ((core_of p.old).entries s).state ≡ Some at → is_among pinned.now.a pinned.now.b pinned.now.d s ≡ true) }
+    requires sound { HasSound H.Host p.old disk.old.host.now disk.old.rest }
+    ensures parts { IsParts p.new }
+    ensures tight { IsTight (core_of p.new) }
+    ensures purged { IsPurged pinned.now.a pinned.now.b pinned.now.d (core_of p.old) (core_of p.new) }
+    ensures room { OnOk result ((words ≤ largest_of p.new.segment) × (entries ≤ spare_of p.new)) }
+    ensures short { IfErr result (λ f. OnShort f (IsShort p.new pinned.now.a pinned.now.b pinned.now.d words entries)) }
+    ensures sound { IsTrue (H.tells Role.Work) → Undisturbed result (KeepsSound H.Host p.old disk.old.host.now disk.old.rest p.new disk.new.host.now disk.new.rest) }
+    ensures marks { KeepsMarks (core_of p.old) (core_of p.new) }
+    ensures here { AreHere (core_of p.new) }
+    ensures size { size_of p.new.segment ≡ size_of p.old.segment }
+    ensures limit { disk_room disk.new.rest ≡ disk_room disk.old.rest }
+    ensures work { IsWorkOnly H.Host disk.old.host.now disk.new.host.now }
+    ensures same_host { disk.new.host.ghost_name ≡ disk.old.host.ghost_name }
+    ensures fault { IfErr result (λ f. OnDisk f (IsPurgeFault H.Host disk.old.host.now disk.new.host.now)) }
+{
+    match free_idle(p, disk) {
+        Ok(()) => {}
+        Err(f) => return Err(RoomFault::Disk(f)),
+    }
+    if has_room(p, words, entries) {
+        gather(p, words);
+        Ok(())
+    } else {
+        Err(RoomFault::Short)
+    }
+}
+
+// Makes room where there is none: once through the table, which is swept for idle leaves when they are room enough, and at the end.
 fn purge<H: Host>(
     p: &mut Parts,
     disk: &mut DiskObjects<'_, H>,
@@ -233,7 +323,6 @@ fn purge<H: Host>(
     requires parts { IsParts p.old }
     requires tight { IsTight (core_of p.old) }
     requires marks { AreHere (core_of p.old) }
-    requires idle { HasNoIdle (core_of p.old) }
     requires sound { HasSound H.Host p.old disk.old.host.now disk.old.rest }
     requires counted { IsTrue (H.tells Role.Work) → disk_held disk.old.rest + fresh_of (core_of p.old) ≤ disk_room disk.old.rest }
     ensures parts { IsParts p.new }
@@ -250,18 +339,14 @@ fn purge<H: Host>(
     ensures same_host { disk.new.host.ghost_name ≡ disk.old.host.ghost_name }
     ensures fault { IfErr result (λ f. OnDisk f (IsPurgeFault H.Host disk.old.host.now disk.new.host.now)) }
 {
+    let mut idle = 0;
     for i in 0..p.names.table.entries() {
-        match evict_more(p, disk, buf, Short(2 * i + 2), words, entries, pinned) {
-            Ok(()) => {}
+        match evict_more(p, disk, buf, Short(2 * i + 2), words, entries, pinned, idle) {
+            Ok(reckoned) => idle = reckoned,
             Err(f) => return Err(RoomFault::Disk(f)),
         }
     }
-    if has_room(p, words, entries) {
-        gather(p, words);
-        Ok(())
-    } else {
-        Err(RoomFault::Short)
-    }
+    last_room(p, disk, words, entries, pinned)
 }
 
 /// Makes room: so many words and entries are free after it, the words as one chunk, and three objects stay in the core. Where that many

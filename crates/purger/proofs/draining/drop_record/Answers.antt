@@ -1,3 +1,4 @@
+use Rattle.std.proofs.Common.{arith}
 use Rattle.loom_outside.specs.declared.outside.Role.TheVariants.{Work}
 use Rattle.disk_objects.specs.Places.{IsReadPlace}
 use Rattle.delta_counts.proofs.LowerLaws.{ok-map}
@@ -26,3 +27,6 @@ returns-clause-dropped g c = λ told stored pending at may.
 
 pub returns-clause-fault : goal.returns-clause-fault
 returns-clause-fault g c = slot-read-if (g.H.Host.tells Work) (g.H.Host.faults c.args.disk.now.host.now Work) (g.H.Host.faults c.remove.new.self.host.now Work) (IsReadPlace c.args.disk.now.rest) c.args.name c.remove.result c.remove.ensures.fault
+
+pub returns-clause-held : goal.returns-clause-held
+returns-clause-held g c = ok-map c.remove.result (λ less. omega arith) c.remove.ensures.held

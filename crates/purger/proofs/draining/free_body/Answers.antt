@@ -5,7 +5,7 @@ use Rattle.object_record.specs.Buffer.{raw_of}
 use Rattle.object_record.specs.Objects.{object_in}
 use Rattle.object_table.specs.declared.entry.Entry.{Entry}
 use Rattle.object_table.specs.Entries.{place_of}
-use Rattle.disk_objects.specs.Disk.{disk_room}
+use Rattle.disk_objects.specs.Disk.{disk_held, disk_room}
 use Rattle.disk_objects.specs.Function.{disk_of}
 use Rattle.core_segment.specs.Segment.{chunk_at, free_of}
 use Rattle.core_view.specs.Held.{Disk, object_at}
@@ -132,6 +132,9 @@ returns-clause-leaves g c =
 pub returns-clause-wider : goal.returns-clause-wider
 returns-clause-wider g c = ok-of c.lower_words.result (let wider = c.forget.ensures.wider in let same = ap (λ (m : Parts). free_of m.segment) c.merge_out.ensures.same in omega arith)
 
+pub returns-clause-record : goal.returns-clause-record
+returns-clause-record g c = ok-of c.lower_words.result c.merge_out.ensures.record.0
+
 pub returns-clause-limit : goal.returns-clause-limit
 returns-clause-limit g c = c.lower_words.ensures.room ∙ c.drop_record.ensures.room ∙ ap disk_room c.read_copy.ensures.rest
 
@@ -156,3 +159,6 @@ returns-in_err-drop_record-clause-work g c = work-again g.H.Host c.args.disk.now
 pub returns-clause-work : goal.returns-clause-work
 returns-clause-work g c = work-again g.H.Host c.args.disk.now.host.now c.drop_record.new.disk.host.now c.lower_words.new.disk.host.now
     (work-again g.H.Host c.args.disk.now.host.now c.read_copy.new.disk.host.now c.drop_record.new.disk.host.now (work-read g.H.Host c.args.disk.now.host.now c.read_copy.new.disk.host.now c.read_copy.ensures.read) c.drop_record.ensures.work) c.lower_words.ensures.work
+
+pub returns-clause-held : goal.returns-clause-held
+returns-clause-held g c = ok-of c.lower_words.result (let a = ap disk_held c.read_copy.ensures.rest in let b = c.in_ok-drop_record.ensures.held in let d = c.lower_words.ensures.held in omega arith)

@@ -1,17 +1,17 @@
-use Rattle.std.proofs.Common.{◌∙◌, refl, ap, arith}
-use Rattle.loom_outside.proofs.WorkLaws.{work-again, work-read}
+use Rattle.std.proofs.Common.{◌≡◌, true, false, ◌∙◌, refl, ap, arith}
+use Rattle.loom_outside.proofs.WorkLaws.{exits, work-again, work-read}
 use Rattle.loom_outside.specs.declared.outside.Role.TheVariants.{Work}
 use Rattle.object_table.specs.declared.entry.Entry.{Entry}
 use Rattle.object_table.specs.Entries.{place_of}
-use Rattle.disk_objects.specs.Disk.{disk_room}
+use Rattle.disk_objects.specs.Disk.{disk_held, disk_room}
 use Rattle.core_segment.specs.Segment.{free_of}
 use Rattle.core_view.proofs.Core.{placed-used}
 use Rattle.core_view.proofs.Purge.{body-stays}
 use Rattle.leaf_lambda.specs.Parts.{core_of}
-use Rattle.delta_counts.proofs.LowerLaws.{ok-map}
+use Rattle.purger.specs.Purge.{IsReadFault}
 use Rattle.purger.proofs.MarkLaws.{state-same, unmarked-here, unmarked-same, unmarked-tight}
-use Rattle.purger.proofs.ThinLaws.{leaves-refl, leaves-trans, levels-read, read-thinned, same-then, thins-ok, unmarked-bodies, unmarked-dead, unmarked-leaves}
-use Rattle.purger.proofs.DrainLaws.{dead-no, dead-yes, read-later-if}
+use Rattle.purger.proofs.ThinLaws.{leaves-refl, leaves-trans, levels-read, read-thinned, same-then, unmarked-bodies, unmarked-dead, unmarked-leaves}
+use Rattle.purger.proofs.DrainLaws.{dead-no, dead-yes, read-later}
 use Rattle.purger.proofs.draining.free_dead_at.Goals as goal
 
 pub returns-then-not-branch-clause-leaves : goal.returns-then-not-branch-clause-leaves
@@ -32,6 +32,12 @@ returns-then-not-branch-clause-limit g c = ap disk_room c.is_dead.ensures.rest
 
 pub returns-then-not-branch-clause-work : goal.returns-then-not-branch-clause-work
 returns-then-not-branch-clause-work g c = work-read g.H.Host c.args.disk.now.host.now c.is_dead.new.disk.host.now c.is_dead.ensures.read
+
+pub returns-then-not-branch-clause-wider : goal.returns-then-not-branch-clause-wider
+returns-then-not-branch-clause-wider g c = λ on. absurd (let both : false ≡ true = on in cc)
+
+pub returns-then-not-branch-clause-record : goal.returns-then-not-branch-clause-record
+returns-then-not-branch-clause-record g c = λ on. absurd (let both : false ≡ true = on in cc)
 
 pub returns-in_err-is_dead-clause-leaves : goal.returns-in_err-is_dead-clause-leaves
 returns-in_err-is_dead-clause-leaves g c = leaves-refl c.args.p.now c.requires.parts c.requires.tight c.requires.marks
@@ -65,22 +71,47 @@ free_body-requires-clause-dead g c = λ told.
     (dead-yes c.in_ok-is_dead.field-0 c.args.s.0 x.0 c.if-not-branch.false (c.in_ok-is_dead.ensures.dead told x.0 x.1 x.2)) in
     (d.reached.levels, d.reached.at, d.reached.sound, d.dead)
 
+pub returns-in_err-free_body-clause-leaves : goal.returns-in_err-free_body-clause-leaves
+returns-in_err-free_body-clause-leaves g c = leaves-trans c.args.p.now c.unmark_for.new.p c.free_body.new.p
+    (unmarked-leaves c.args.p.now c.unmark_for.new.p c.unmark_for.ensures.parts c.requires.tight c.requires.marks c.unmark_for.ensures.step c.unmark_for.ensures.outside c.unmark_for.ensures.marks c.unmark_for.ensures.segment c.unmark_for.ensures.spare)
+    c.free_body.ensures.leaves
+
+pub returns-in_err-free_body-clause-limit : goal.returns-in_err-free_body-clause-limit
+returns-in_err-free_body-clause-limit g c = c.free_body.ensures.limit ∙ ap disk_room c.is_dead.ensures.rest
+
+pub returns-in_err-free_body-clause-work : goal.returns-in_err-free_body-clause-work
+returns-in_err-free_body-clause-work g c = work-again g.H.Host c.args.disk.now.host.now c.is_dead.new.disk.host.now c.free_body.new.disk.host.now (work-read g.H.Host c.args.disk.now.host.now c.is_dead.new.disk.host.now c.is_dead.ensures.read) c.free_body.ensures.work
+
+pub returns-in_err-free_body-clause-fault : goal.returns-in_err-free_body-clause-fault
+returns-in_err-free_body-clause-fault g c =
+    exits c.from_residual-in_err-free_body.result c.in_err-free_body.field-0.0 (IsReadFault (g.H.Host.tells Work) (g.H.Host.faults c.args.disk.now.host.now Work) (g.H.Host.faults c.free_body.new.disk.host.now Work)) c.from_residual-in_err-free_body.ensures.1
+    (read-later (g.H.Host.tells Work) (g.H.Host.faults c.args.disk.now.host.now Work) (g.H.Host.faults c.is_dead.new.disk.host.now Work) (g.H.Host.faults c.free_body.new.disk.host.now Work) c.in_err-free_body.field-0.0 c.is_dead.ensures.read.later c.in_err-free_body.ensures.fault)
+
 pub returns-clause-leaves : goal.returns-clause-leaves
 returns-clause-leaves g c = leaves-trans c.args.p.now c.unmark_for.new.p c.free_body.new.p
     (unmarked-leaves c.args.p.now c.unmark_for.new.p c.unmark_for.ensures.parts c.requires.tight c.requires.marks c.unmark_for.ensures.step c.unmark_for.ensures.outside c.unmark_for.ensures.marks c.unmark_for.ensures.segment c.unmark_for.ensures.spare)
     c.free_body.ensures.leaves
 
 pub returns-clause-thins : goal.returns-clause-thins
-returns-clause-thins g c = λ told. thins-ok g.H.Host c.free_body.result c.args.p.now c.free_body.new.p c.args.disk.now.host.now c.free_body.new.disk.host.now c.args.disk.now.rest c.free_body.new.disk.rest (λ t at x.
+returns-clause-thins g c = λ told t at x.
     let d = unmarked-dead g.H.Host c.args.p.now c.unmark_for.new.p c.is_dead.new.disk.host.now c.is_dead.new.disk.rest t c.args.s.0 c.unmark_for.ensures.parts c.unmark_for.ensures.stays c.unmark_for.ensures.step c.unmark_for.ensures.outside
     (levels-read g.H.Host c.args.p.now c.args.disk.now.host.now c.is_dead.new.disk.host.now c.args.disk.now.rest c.is_dead.new.disk.rest c.is_dead.ensures.rest c.is_dead.ensures.read t at) x
     (dead-yes c.in_ok-is_dead.field-0 c.args.s.0 t c.if-not-branch.false (c.in_ok-is_dead.ensures.dead told t at x)) in
-    ok-map c.free_body.result (λ last. same-then g.H.Host c.args.p.now c.unmark_for.new.p c.free_body.new.p c.is_dead.new.disk.host.now c.free_body.new.disk.host.now c.is_dead.new.disk.rest c.free_body.new.disk.rest t
-    (unmarked-bodies (core_of c.args.p.now) (core_of c.unmark_for.new.p) c.unmark_for.ensures.step c.unmark_for.ensures.outside) d.reached last)
-    (c.free_body.ensures.freed told d.reached.levels d.reached.at d.reached.sound d.dead))
+    same-then g.H.Host c.args.p.now c.unmark_for.new.p c.free_body.new.p c.is_dead.new.disk.host.now c.free_body.new.disk.host.now c.is_dead.new.disk.rest c.free_body.new.disk.rest t
+    (unmarked-bodies (core_of c.args.p.now) (core_of c.unmark_for.new.p) c.unmark_for.ensures.step c.unmark_for.ensures.outside) d.reached
+    (c.in_ok-free_body.ensures.freed told d.reached.levels d.reached.at d.reached.sound d.dead)
+
+pub returns-clause-wider : goal.returns-clause-wider
+returns-clause-wider g c = λ on. let wider = c.in_ok-free_body.ensures.wider in let first = ap free_of c.unmark_for.ensures.segment in omega arith
 
 pub returns-clause-none : goal.returns-clause-none
-returns-clause-none g c = λ told. ok-map c.free_body.result (λ wider same. absurd (let first = ap free_of c.unmark_for.ensures.segment in omega arith)) c.free_body.ensures.wider
+returns-clause-none g c = λ told same. absurd (let wider = c.in_ok-free_body.ensures.wider in let first = ap free_of c.unmark_for.ensures.segment in omega arith)
+
+pub returns-clause-record : goal.returns-clause-record
+returns-clause-record g c = λ on. c.in_ok-free_body.ensures.record
+
+pub returns-clause-still : goal.returns-clause-still
+returns-clause-still g c = λ off. absurd (let both : true ≡ false = off in cc)
 
 pub returns-clause-limit : goal.returns-clause-limit
 returns-clause-limit g c = c.free_body.ensures.limit ∙ ap disk_room c.is_dead.ensures.rest
@@ -88,5 +119,8 @@ returns-clause-limit g c = c.free_body.ensures.limit ∙ ap disk_room c.is_dead.
 pub returns-clause-work : goal.returns-clause-work
 returns-clause-work g c = work-again g.H.Host c.args.disk.now.host.now c.is_dead.new.disk.host.now c.free_body.new.disk.host.now (work-read g.H.Host c.args.disk.now.host.now c.is_dead.new.disk.host.now c.is_dead.ensures.read) c.free_body.ensures.work
 
-pub returns-clause-fault : goal.returns-clause-fault
-returns-clause-fault g c = read-later-if (g.H.Host.tells Work) (g.H.Host.faults c.args.disk.now.host.now Work) (g.H.Host.faults c.is_dead.new.disk.host.now Work) (g.H.Host.faults c.free_body.new.disk.host.now Work) c.free_body.result c.is_dead.ensures.read.later c.free_body.ensures.fault
+pub returns-then-not-branch-clause-held : goal.returns-then-not-branch-clause-held
+returns-then-not-branch-clause-held g c = let a = ap disk_held c.is_dead.ensures.rest in omega arith
+
+pub returns-clause-held : goal.returns-clause-held
+returns-clause-held g c = let a = ap disk_held c.is_dead.ensures.rest in let b = c.in_ok-free_body.ensures.held in omega arith

@@ -16,53 +16,53 @@ loop-i-init g c = record {
   same_host = refl;
 }
 
-pub free_dead_at-requires-clause-parts : goal.free_dead_at-requires-clause-parts
-free_dead_at-requires-clause-parts g c = c.loop-i.invariant.leaves.parts
+pub free_chain-requires-clause-parts : goal.free_chain-requires-clause-parts
+free_chain-requires-clause-parts g c = c.loop-i.invariant.leaves.parts
 
-pub free_dead_at-requires-clause-tight : goal.free_dead_at-requires-clause-tight
-free_dead_at-requires-clause-tight g c = c.loop-i.invariant.leaves.tight
+pub free_chain-requires-clause-tight : goal.free_chain-requires-clause-tight
+free_chain-requires-clause-tight g c = c.loop-i.invariant.leaves.tight
 
-pub free_dead_at-requires-clause-marks : goal.free_dead_at-requires-clause-marks
-free_dead_at-requires-clause-marks g c = c.loop-i.invariant.leaves.here
+pub free_chain-requires-clause-marks : goal.free_chain-requires-clause-marks
+free_chain-requires-clause-marks g c = c.loop-i.invariant.leaves.here
 
-pub free_dead_at-requires-clause-within : goal.free_dead_at-requires-clause-within
-free_dead_at-requires-clause-within g c = let low = c.loop-i-test.true in let all = c.entries-count.ensures.entries in let same = c.loop-i.invariant.entries in omega arith
+pub free_chain-requires-clause-within : goal.free_chain-requires-clause-within
+free_chain-requires-clause-within g c = let low = c.loop-i-test.true in let all = c.entries-count.ensures.entries in let same = c.loop-i.invariant.entries in omega arith
 
-pub free_dead_at-requires-clause-short : goal.free_dead_at-requires-clause-short
-free_dead_at-requires-clause-short g c = twice-short (c.entries-count.result - c.loop-i.i) (let low = c.loop-i-test.true in omega arith)
+pub free_chain-requires-clause-short : goal.free_chain-requires-clause-short
+free_chain-requires-clause-short g c = twice-short (c.entries-count.result - c.loop-i.i) (let low = c.loop-i-test.true in omega arith)
 
-pub free_dead_at-requires-clause-sound : goal.free_dead_at-requires-clause-sound
-free_dead_at-requires-clause-sound g c = thinned-has g.H.Host c.args.p.now c.loop-i.p c.args.disk.now.host.now c.loop-i.disk.host.now c.args.disk.now.rest c.loop-i.disk.rest c.requires.sound c.loop-i.invariant.thins
+pub free_chain-requires-clause-sound : goal.free_chain-requires-clause-sound
+free_chain-requires-clause-sound g c = thinned-has g.H.Host c.args.p.now c.loop-i.p c.args.disk.now.host.now c.loop-i.disk.host.now c.args.disk.now.rest c.loop-i.disk.rest c.requires.sound c.loop-i.invariant.thins
 
 pub loop-i-preserved : goal.loop-i-preserved
 loop-i-preserved g c =
     let i = c.loop-i.invariant in
-    let r = c.free_dead_at.ensures in
+    let r = c.free_chain.ensures in
     record {
-      leaves = leaves-trans c.args.p.now c.loop-i.p c.free_dead_at.new.p i.leaves r.leaves;
-      thins = λ told. thinned-trans g.H.Host c.args.p.now c.loop-i.p c.free_dead_at.new.p c.args.disk.now.host.now c.loop-i.disk.host.now c.free_dead_at.new.disk.host.now c.args.disk.now.rest c.loop-i.disk.rest c.free_dead_at.new.disk.rest (i.thins told) (c.in_ok-free_dead_at.ensures.thins told);
-      entries = leaves-bound c.loop-i.p c.free_dead_at.new.p r.leaves ∙ i.entries;
+      leaves = leaves-trans c.args.p.now c.loop-i.p c.free_chain.new.p i.leaves r.leaves;
+      thins = λ told. thinned-trans g.H.Host c.args.p.now c.loop-i.p c.free_chain.new.p c.args.disk.now.host.now c.loop-i.disk.host.now c.free_chain.new.disk.host.now c.args.disk.now.rest c.loop-i.disk.rest c.free_chain.new.disk.rest (i.thins told) (c.in_ok-free_chain.ensures.thins told);
+      entries = leaves-bound c.loop-i.p c.free_chain.new.p r.leaves ∙ i.entries;
       limit = r.limit ∙ i.limit;
-      work = work-again g.H.Host c.args.disk.now.host.now c.loop-i.disk.host.now c.free_dead_at.new.disk.host.now i.work r.work;
+      work = work-again g.H.Host c.args.disk.now.host.now c.loop-i.disk.host.now c.free_chain.new.disk.host.now i.work r.work;
       same_host = r.same_host ∙ i.same_host;
     }
 
-pub returns-in_err-free_dead_at-clause-leaves : goal.returns-in_err-free_dead_at-clause-leaves
-returns-in_err-free_dead_at-clause-leaves g c = leaves-trans c.args.p.now c.loop-i.p c.free_dead_at.new.p c.loop-i.invariant.leaves c.free_dead_at.ensures.leaves
+pub returns-in_err-free_chain-clause-leaves : goal.returns-in_err-free_chain-clause-leaves
+returns-in_err-free_chain-clause-leaves g c = leaves-trans c.args.p.now c.loop-i.p c.free_chain.new.p c.loop-i.invariant.leaves c.free_chain.ensures.leaves
 
-pub returns-in_err-free_dead_at-clause-limit : goal.returns-in_err-free_dead_at-clause-limit
-returns-in_err-free_dead_at-clause-limit g c = c.free_dead_at.ensures.limit ∙ c.loop-i.invariant.limit
+pub returns-in_err-free_chain-clause-limit : goal.returns-in_err-free_chain-clause-limit
+returns-in_err-free_chain-clause-limit g c = c.free_chain.ensures.limit ∙ c.loop-i.invariant.limit
 
-pub returns-in_err-free_dead_at-clause-work : goal.returns-in_err-free_dead_at-clause-work
-returns-in_err-free_dead_at-clause-work g c = work-again g.H.Host c.args.disk.now.host.now c.loop-i.disk.host.now c.free_dead_at.new.disk.host.now c.loop-i.invariant.work c.free_dead_at.ensures.work
+pub returns-in_err-free_chain-clause-work : goal.returns-in_err-free_chain-clause-work
+returns-in_err-free_chain-clause-work g c = work-again g.H.Host c.args.disk.now.host.now c.loop-i.disk.host.now c.free_chain.new.disk.host.now c.loop-i.invariant.work c.free_chain.ensures.work
 
-pub returns-in_err-free_dead_at-clause-same_host : goal.returns-in_err-free_dead_at-clause-same_host
-returns-in_err-free_dead_at-clause-same_host g c = c.free_dead_at.ensures.same_host ∙ c.loop-i.invariant.same_host
+pub returns-in_err-free_chain-clause-same_host : goal.returns-in_err-free_chain-clause-same_host
+returns-in_err-free_chain-clause-same_host g c = c.free_chain.ensures.same_host ∙ c.loop-i.invariant.same_host
 
-pub returns-in_err-free_dead_at-clause-fault : goal.returns-in_err-free_dead_at-clause-fault
-returns-in_err-free_dead_at-clause-fault g c =
-    exits c.from_residual.result c.in_err-free_dead_at.field-0.0 (IsReadFault (g.H.Host.tells Work) (g.H.Host.faults c.args.disk.now.host.now Work) (g.H.Host.faults c.free_dead_at.new.disk.host.now Work)) c.from_residual.ensures.1
-    (read-later (g.H.Host.tells Work) (g.H.Host.faults c.args.disk.now.host.now Work) (g.H.Host.faults c.loop-i.disk.host.now Work) (g.H.Host.faults c.free_dead_at.new.disk.host.now Work) c.in_err-free_dead_at.field-0.0 c.loop-i.invariant.work.later c.in_err-free_dead_at.ensures.fault)
+pub returns-in_err-free_chain-clause-fault : goal.returns-in_err-free_chain-clause-fault
+returns-in_err-free_chain-clause-fault g c =
+    exits c.from_residual.result c.in_err-free_chain.field-0.0 (IsReadFault (g.H.Host.tells Work) (g.H.Host.faults c.args.disk.now.host.now Work) (g.H.Host.faults c.free_chain.new.disk.host.now Work)) c.from_residual.ensures.1
+    (read-later (g.H.Host.tells Work) (g.H.Host.faults c.args.disk.now.host.now Work) (g.H.Host.faults c.loop-i.disk.host.now Work) (g.H.Host.faults c.free_chain.new.disk.host.now Work) c.in_err-free_chain.field-0.0 c.loop-i.invariant.work.later c.in_err-free_chain.ensures.fault)
 
 pub returns-clause-leaves : goal.returns-clause-leaves
 returns-clause-leaves g c = c.loop-i.invariant.leaves

@@ -4,7 +4,7 @@ use Rattle.leaf_lambda.specs.declared.parts.Parts.{Parts}
 use Rattle.leaf_lambda.specs.Parts.{core_of}
 use Rattle.delta_counts.proofs.LowerLaws.{ok-map}
 use Rattle.purger.proofs.SoundLaws.{parts-names, names-ok}
-use Rattle.purger.proofs.GivingLaws.{giving-parts, giving-up, given-purged, given-tight, given-here, given-marks, given-idle, slots-purge-if}
+use Rattle.purger.proofs.GivingLaws.{giving-parts, giving-spare, giving-up, given-purged, given-tight, given-here, given-marks, given-idle, slots-purge-if}
 use Rattle.purger.proofs.room.free_idle.Goals as goal
 
 pub give_idle-requires-clause-names : goal.give_idle-requires-clause-names
@@ -50,3 +50,8 @@ returns-clause-here g c =
 
 pub returns-clause-fault : goal.returns-clause-fault
 returns-clause-fault g c = slots-purge-if g.H.Host c.args.disk.now.host.now c.args.disk.now.host.now c.give_idle.new.disk.host.now c.args.disk.now.rest c.give_idle.result (omega arith) c.give_idle.ensures.fault
+
+pub returns-clause-more : goal.returns-clause-more
+returns-clause-more g c =
+    let q : Parts = record { segment = c.args.p.now.segment; names = c.give_idle.new.p } in
+    giving-spare c.args.p.now q c.give_idle.ensures.giving

@@ -94,8 +94,5 @@ purge-requires-clause-tight g c = c.free_idle.ensures.tight
 pub purge-requires-clause-marks : goal.purge-requires-clause-marks
 purge-requires-clause-marks g c = c.free_idle.ensures.here
 
-pub purge-requires-clause-idle : goal.purge-requires-clause-idle
-purge-requires-clause-idle g c = c.in-Ok.ensures.idle
-
 pub returns-in-Err-clause-fault : goal.returns-in-Err-clause-fault
 returns-in-Err-clause-fault g c = c.in-Err.ensures.fault

@@ -3,8 +3,8 @@ use Rattle.core_view.proofs.Core.{placed-used}
 use Rattle.core_view.proofs.Purge.{Purged-refl, Purged-trans, gone-first, gone-more}
 use Rattle.leaf_lambda.specs.Parts.{core_of}
 use Rattle.purger.proofs.MarkLaws.{Marks-trans, Marks-same, Kept-refl}
-use Rattle.purger.proofs.RoomLaws.{bound-entries, work-refl, work-trans}
-use Rattle.purger.proofs.SoundLaws.{has-after, has-number, quiet-keeps, sound-refl, sound-trans}
+use Rattle.purger.proofs.RoomLaws.{bound-entries, disk-later, undisturbed-map, work-refl, work-trans}
+use Rattle.purger.proofs.SoundLaws.{has-after, has-number, sound-refl, sound-trans}
 use Rattle.purger.proofs.room.purge.Goals as goal
 
 pub loop-i-init : goal.loop-i-init
@@ -12,7 +12,6 @@ loop-i-init g c = record {
   parts = c.requires.parts;
   tight = c.requires.tight;
   purged = Purged-refl c.args.pinned.now.a c.args.pinned.now.b c.args.pinned.now.d (core_of c.args.p.now);
-  idle = c.requires.idle;
   gone = inr (λ s at low place. gone-first (core_of c.args.p.now) c.args.pinned.now.a c.args.pinned.now.b c.args.pinned.now.d s at c.requires.parts.core (omega arith) place);
   sound = λ told. sound-refl g.H.Host c.args.p.now c.args.disk.now.host.now c.args.disk.now.rest;
   marks = Marks-same (core_of c.args.p.now) (core_of c.args.p.now) (Kept-refl (core_of c.args.p.now));
@@ -51,7 +50,6 @@ loop-i-preserved g c =
       parts = e.parts;
       tight = e.tight;
       purged = Purged-trans c.args.pinned.now.a c.args.pinned.now.b c.args.pinned.now.d (core_of c.args.p.now) (core_of c.loop-i.p) (core_of c.evict_more.new.p) i.purged e.purged;
-      idle = r.idle;
       gone = ⊎_elim (λ has. inl (e.enough has)) (λ before. ⊎_elim (λ has. inl has) (λ here. inr (λ s at low place. gone-more c.args.pinned.now.a c.args.pinned.now.b c.args.pinned.now.d c.loop-i.i s at (core_of c.loop-i.p) (core_of c.evict_more.new.p) e.parts.core e.purged before here low place)) r.gone) i.gone;
       sound = λ told. sound-trans g.H.Host c.args.p.now c.loop-i.p c.evict_more.new.p c.args.disk.now.host.now c.loop-i.disk.host.now c.evict_more.new.disk.host.now c.args.disk.now.rest c.loop-i.disk.rest c.evict_more.new.disk.rest (i.sound told) (r.sound told);
       marks = Marks-trans (core_of c.args.p.now) (core_of c.loop-i.p) (core_of c.evict_more.new.p) i.marks e.marks;
@@ -63,25 +61,34 @@ loop-i-preserved g c =
       same_host = e.same_host ∙ i.same_host;
     }
 
-pub returns-then-has_room-clause-purged : goal.returns-then-has_room-clause-purged
-returns-then-has_room-clause-purged g c = Purged-trans c.args.pinned.now.a c.args.pinned.now.b c.args.pinned.now.d (core_of c.args.p.now) (core_of c.loop-i.p) (core_of c.gather.new.p) c.loop-i.invariant.purged (c.gather.ensures.purged c.args.pinned.now.a c.args.pinned.now.b c.args.pinned.now.d)
-
-pub returns-then-has_room-clause-sound : goal.returns-then-has_room-clause-sound
-returns-then-has_room-clause-sound g c = λ told. sound-trans g.H.Host c.args.p.now c.loop-i.p c.gather.new.p c.args.disk.now.host.now c.loop-i.disk.host.now c.loop-i.disk.host.now c.args.disk.now.rest c.loop-i.disk.rest c.loop-i.disk.rest (c.loop-i.invariant.sound told) (quiet-keeps g.H.Host c.loop-i.p c.gather.new.p c.loop-i.disk.host.now c.loop-i.disk.rest c.gather.ensures.parts c.gather.ensures.stays c.gather.ensures.counts)
-
-pub returns-then-has_room-clause-marks : goal.returns-then-has_room-clause-marks
-returns-then-has_room-clause-marks g c = Marks-trans (core_of c.args.p.now) (core_of c.loop-i.p) (core_of c.gather.new.p) c.loop-i.invariant.marks (Marks-same (core_of c.loop-i.p) (core_of c.gather.new.p) c.gather.ensures.marks)
-
-pub returns-else-has_room-clause-sound : goal.returns-else-has_room-clause-sound
-returns-else-has_room-clause-sound g c = c.loop-i.invariant.sound
-
-pub returns-else-has_room-clause-short : goal.returns-else-has_room-clause-short
+pub last_room-requires-clause-gone : goal.last_room-requires-clause-gone
 unfolding core_of
-returns-else-has_room-clause-short g c = record {
-  bare = record {
-    pinned = λ s p at. ⊎_elim (λ has. absurd (c.has_room.ensures.lacks c.if-has_room.false has))
-        (λ gone. gone s p (let low = c.loop-i.invariant.parts.core.within s (placed-used ((core_of c.loop-i.p).entries s).state p at) in let end = c.loop-i-test.false in let all = c.entries-i-end.ensures.entries in let same = c.loop-i.invariant.entries in omega arith) at) c.loop-i.invariant.gone;
-    named = c.loop-i.invariant.idle;
-  };
-  wanting = c.has_room.ensures.lacks c.if-has_room.false;
-}
+last_room-requires-clause-gone g c = ⊎_elim (λ has. inl has)
+    (λ gone. inr (λ s at place. gone s at (let low = c.loop-i.invariant.parts.core.within s (placed-used ((core_of c.loop-i.p).entries s).state at place) in let end = c.loop-i-test.false in let all = c.entries-i-end.ensures.entries in let same = c.loop-i.invariant.entries in omega arith) place)) c.loop-i.invariant.gone
+
+pub last_room-requires-clause-sound : goal.last_room-requires-clause-sound
+last_room-requires-clause-sound g c = has-after g.H.Host c.args.p.now c.loop-i.p c.args.disk.now.host.now c.loop-i.disk.host.now c.args.disk.now.rest c.loop-i.disk.rest c.requires.sound c.loop-i.invariant.sound
+
+pub returns-clause-purged : goal.returns-clause-purged
+returns-clause-purged g c = Purged-trans c.args.pinned.now.a c.args.pinned.now.b c.args.pinned.now.d (core_of c.args.p.now) (core_of c.loop-i.p) (core_of c.last_room.new.p) c.loop-i.invariant.purged c.last_room.ensures.purged
+
+pub returns-clause-sound : goal.returns-clause-sound
+returns-clause-sound g c = λ told. undisturbed-map c.last_room.result (λ last. sound-trans g.H.Host c.args.p.now c.loop-i.p c.last_room.new.p c.args.disk.now.host.now c.loop-i.disk.host.now c.last_room.new.disk.host.now c.args.disk.now.rest c.loop-i.disk.rest c.last_room.new.disk.rest (c.loop-i.invariant.sound told) last) (c.last_room.ensures.sound told)
+
+pub returns-clause-marks : goal.returns-clause-marks
+returns-clause-marks g c = Marks-trans (core_of c.args.p.now) (core_of c.loop-i.p) (core_of c.last_room.new.p) c.loop-i.invariant.marks (Marks-same (core_of c.loop-i.p) (core_of c.last_room.new.p) c.last_room.ensures.marks)
+
+pub returns-clause-size : goal.returns-clause-size
+returns-clause-size g c = c.last_room.ensures.size ∙ c.loop-i.invariant.size
+
+pub returns-clause-limit : goal.returns-clause-limit
+returns-clause-limit g c = c.last_room.ensures.limit ∙ c.loop-i.invariant.limit
+
+pub returns-clause-work : goal.returns-clause-work
+returns-clause-work g c = work-trans g.H.Host c.args.disk.now.host.now c.loop-i.disk.host.now c.last_room.new.disk.host.now c.loop-i.invariant.work c.last_room.ensures.work
+
+pub returns-clause-same_host : goal.returns-clause-same_host
+returns-clause-same_host g c = c.last_room.ensures.same_host ∙ c.loop-i.invariant.same_host
+
+pub returns-clause-fault : goal.returns-clause-fault
+returns-clause-fault g c = disk-later g.H.Host c.args.disk.now.host.now c.loop-i.disk.host.now c.last_room.new.disk.host.now c.last_room.result c.loop-i.invariant.work.later c.last_room.ensures.fault

@@ -6,7 +6,7 @@ use Rattle.object_table.specs.Table.{entries_of}
 use Rattle.core_segment.specs.Segment.{size_of}
 use Rattle.disk_objects.specs.Disk.{disk_room}
 use Rattle.core_view.specs.Kept.{IsTight}
-use Rattle.core_view.specs.Purge.{IsPurged, HasNoIdle}
+use Rattle.core_view.specs.Purge.{IsPurged}
 use Rattle.core_view.specs.Room.{is_among}
 use Rattle.leaf_lambda.specs.Parts.{core_of, IsParts}
 use Rattle.purger.specs.Counts.{KeepsSound}
@@ -19,7 +19,6 @@ invariant-loop-i g l = record {
   parts : IsParts l.p;
   tight : IsTight (core_of l.p);
   purged : IsPurged l.fn.pinned.a l.fn.pinned.b l.fn.pinned.d (core_of l.fn.p) (core_of l.p);
-  idle : HasNoIdle (core_of l.p);
   gone : HasRoom l.p l.fn.words l.fn.entries ⊎ ((s at : ℕ) → s < 2 * l.i + 2 → place_of ((core_of l.p).entries s).state ≡ Some at → is_among l.fn.pinned.a l.fn.pinned.b l.fn.pinned.d s ≡ true);
   sound : IsTrue (g.H.Host.tells Work) → KeepsSound g.H.Host l.fn.p l.fn.disk.host.now l.fn.disk.rest l.p l.disk.host.now l.disk.rest;
   marks : LeavesMarks (core_of l.fn.p) (core_of l.p);
