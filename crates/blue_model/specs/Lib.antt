@@ -23,6 +23,7 @@ pub mod Bytecodes
 pub mod Cycle
 pub mod Logs
 pub mod Endings
+pub mod Earlier
 pub mod Law
 pub mod Alike
 pub mod Base

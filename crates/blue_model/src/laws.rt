@@ -23,9 +23,11 @@ ghost use Rattle.blue_model.specs.Primitives.{primitive};
 ghost use Rattle.blue_model.specs.Bytecodes.{Range, bytecodes, has_byte, bytecode};
 ghost use Rattle.blue_model.specs.declared.step.Step.{Step};
 ghost use Rattle.blue_model.specs.declared.step.Step.TheVariants.{Next, Keep};
-ghost use Rattle.blue_model.specs.Endings.{is_last};
-ghost use Rattle.blue_model.specs.State.{State, no_state, begin};
-ghost use Rattle.blue_model.specs.Cycle.{step, cycle, run, Ran, ending, park_and_draw, Stuck, ByCause};
+ghost use Rattle.blue_model.specs.Endings.{is_last, said_in};
+ghost use Rattle.blue_model.specs.Earlier.{with_earlier, run_with_earlier, ending_with_earlier, course_with_earlier, IgnoresEarlier, course_of, at_rest_after};
+ghost use Rattle.blue_model.specs.Logs.{course};
+ghost use Rattle.blue_model.specs.State.{State, no_state, restore, begin};
+ghost use Rattle.blue_model.specs.Cycle.{step, cycle, run, Ran, Ending, ending, park_and_draw, Stuck, ByCause};
 ghost use Rattle.blue_model.specs.declared.event.Line.{Line};
 ghost use Rattle.blue_model.specs.BitBlt.{copy_bits, copied_words, black};
 ghost use Rattle.blue_model.specs.Devices.{due, display_row, picture, take_lines, take_all, lines_at, AreRising};
@@ -137,6 +139,28 @@ pub fn runs_count_bytecodes()
 /// again.
 pub fn a_run_respects_thinning()
     ensures { (events : List Line) (k : ℕ) (m s : Machine) → IsThinned m s → RunsAgree (run events k m) (run events k s) }
+{}
+
+/// What was said before changes neither the way of a rule nor what it says: a cycle, its bytecode alone, the start, the state that it goes
+/// on with, park and the picture. So it changes no run.
+pub fn what_was_said_before_changes_nothing()
+    ensures cycle { (events : List Line) → IgnoresEarlier (cycle events) }
+    ensures step { (events : List Line) → IgnoresEarlier (step events) }
+    ensures begin { (state : State) → IgnoresEarlier (begin state) }
+    ensures restore { (state : State) → IgnoresEarlier (restore state) }
+    ensures park { IgnoresEarlier park }
+    ensures draw { IgnoresEarlier park_and_draw }
+    ensures picture { IgnoresEarlier picture }
+    ensures run { (events : List Line) (k : ℕ) (z : List ℕ) (m : Machine) → run events k (with_earlier z m) ≡ run_with_earlier z (run events k m) }
+{}
+
+/// And a whole run of a machine that had said something is that of the machine that hadn't, with what was said before in front of all
+/// that it says. Of the machine at rest over a heap it is the course of the heap.
+pub fn a_whole_run_says_after_what_was_said()
+    ensures machine { (z : List ℕ) (events : List Line) (steps : ℕ) (state : State) (m : Machine) → course_of events steps state (with_earlier z m) ≡ course_with_earlier z (course_of events steps state m) }
+    ensures rest { (events : List Line) (steps : ℕ) (state : State) (h : Heap) → course_of events steps state (at_rest h) ≡ course events steps state h }
+    ensures after { (z : List ℕ) (events : List Line) (steps : ℕ) (state : State) (h : Heap) → course_of events steps state (at_rest_after z h) ≡ course_with_earlier z (course events steps state h) }
+    ensures said { (z : List ℕ) (e : Ending) → said_in (ending_with_earlier z e) ≡ z ++ said_in e }
 {}
 
 /// A start on a state respects thinning where the names of the state have their objects in the thinner heap. On no state it is a start.
