@@ -14,10 +14,10 @@ use Rattle.loom_outside.specs.declared.outside.Role.TheVariants.{Image, Events, 
 use Rattle.blue_model.specs.declared.step.Step.TheVariants.{Next, Quit}
 use Rattle.loom_run.specs.Meanings.{Meanings, LeavesBut}
 use Rattle.object_memory.specs.Told.{Told}
-use Rattle.loom_run.specs.declared.running.Finished.{Finished}
-use Rattle.loom_run.specs.declared.running.Halted.{Halted}
-use Rattle.loom_run.specs.declared.running.Reason.{Reason}
-use Rattle.loom_run.specs.declared.running.Reason.TheVariants.{ByStop, NoMemory}
+use Rattle.machine_run.specs.declared.running.Finished.{Finished}
+use Rattle.machine_run.specs.declared.running.Halted.{Halted}
+use Rattle.machine_run.specs.declared.running.Reason.{Reason}
+use Rattle.machine_run.specs.declared.running.Reason.TheVariants.{ByStop, NoMemory}
 use Rattle.loom_run.specs.declared.status.Status.{Status}
 use Rattle.event_file.specs.Text.{IsBadAt}
 use Rattle.event_file.proofs.OneReading.{none-bad}
@@ -32,7 +32,7 @@ use Rattle.loom_run.specs.Status.{usage_of}
 use Rattle.loom_run.specs.Top.{SaysRun, SavesRun, DrawsRun, RunsBy, SaysAllOrNothing, bytes_of, IsCaused, JudgesImage, JudgesEvents, JudgesRun, IsOfMachine, RunOf, CanBeDone, IsDone}
 use Rattle.loom_run.specs.declared.status.Status.TheVariants as answer
 use Rattle.loom_run.specs.declared.status.Status.TheVariants.{Done, Usage, ImageBad, EventsBad, NamesSpent, ReadFault, WriteFault, OutOfMemory}
-use Rattle.loom_run.specs.Run.{HaltsAs, EndsAs}
+use Rattle.machine_run.specs.Run.{HaltsAs, EndsAs}
 use Rattle.loom_run.specs.Parts.{StopsBy, SaysStopped, IsTold, unsaid, WasSaid, is_own_reason, is_spoken_by}
 
 -- the answer of a `?`

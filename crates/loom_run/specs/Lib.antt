@@ -5,7 +5,6 @@ pub mod Image
 pub mod Meanings
 pub mod Parts
 pub mod Promise
-pub mod Run
 pub mod Saved
 pub mod Status
 pub mod Tally

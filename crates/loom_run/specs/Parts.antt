@@ -13,13 +13,13 @@ use Rattle.loom_outside.specs.declared.outside.Failed.{Failed}
 use Rattle.loom_outside.specs.declared.outside.Role.{Role}
 use Rattle.loom_outside.specs.declared.outside.Role.TheVariants.{Image, Events, Saved, Display, Transcript, Notes}
 use Rattle.loom_run.specs.Meanings.{Meanings, IsLeft, LeavesBut}
-use Rattle.loom_run.specs.Run.{is_own}
+use Rattle.machine_run.specs.Run.{is_own}
 use Rattle.loom_run.specs.Top.{SaysRun, HasRun, IsCaused, EventsBy, AttachedOnce, AttachedUnless, WasWritten, WasBegun, WasRefused, AreEvents, JudgesImage, JudgesEvents, IsOfMachine, RunOf, RunsBy, SaysAllOrNothing, bytes_of, is_before_events, is_before_saying, is_before_saving, is_before_drawing}
 use Rattle.loom_run.specs.Status.{line_of}
-use Rattle.loom_run.specs.declared.running.Finished.{Finished}
-use Rattle.loom_run.specs.declared.running.Halted.{Halted}
-use Rattle.loom_run.specs.declared.running.Reason.{Reason}
-use Rattle.loom_run.specs.declared.running.Reason.TheVariants.{ByStop, NoMemory}
+use Rattle.machine_run.specs.declared.running.Finished.{Finished}
+use Rattle.machine_run.specs.declared.running.Halted.{Halted}
+use Rattle.machine_run.specs.declared.running.Reason.{Reason}
+use Rattle.machine_run.specs.declared.running.Reason.TheVariants.{ByStop, NoMemory}
 use Rattle.loom_run.specs.declared.status.Status.{Status}
 use Rattle.loom_run.specs.declared.status.Status.TheVariants.{Done, Quit, Usage, ImageBad, EventsBad, Stuck, NamesSpent, ReadFault, WriteFault, OutOfMemory}
 

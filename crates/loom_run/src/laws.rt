@@ -37,7 +37,7 @@ pub fn headline()
 {}
 
 /// All objects of an image's heap are kept, whatever the roots are: so as many live at first as were read.
-#[tactic(auto, using(crate::proofs::RunLaws::image_kept))]
+#[tactic(auto, using(crate::proofs::TextLaws::image_kept))]
 pub fn an_image_is_kept()
     ensures { (h : Heap) (root : ℕ → Bool) → IsImageHeap h → object_count (kept h root) ≡ object_count h }
 {}

@@ -7,9 +7,8 @@
 //!     ExitCode::from(status.code())
 //!
 //! An image is read into records and judged, made into a memory, and run under the event list; what the memory keeps is records again,
-//! and they are written, and so is the picture of the display. `run` and `whole_run` are the run alone, over any object memory: their
-//! clauses `runs` and `ends` compare it with the model's (`specs/Run.antt`). Nothing is said of time, and want of memory may come
-//! before SAVED is attached.
+//! and they are written, and so is the picture of the display. The run alone, over any object memory, is `machine_run`. Nothing is said
+//! of time, and want of memory may come before SAVED is attached.
 #![tactic(auto)]
 
 mod emit;
@@ -17,13 +16,12 @@ mod image;
 pub mod laws;
 mod load;
 mod program;
-mod running;
 mod save;
 mod status;
 mod tally;
 mod window;
 mod words;
 
+pub use machine_run::{Finished, Halted, Reason, run, whole_run};
 pub use program::loom;
-pub use running::{Finished, Halted, Reason, run, whole_run};
 pub use status::Status;

@@ -21,7 +21,6 @@ ghost use Rattle.loom_run.specs.Words.{texts_of};
 
 use crate::image::Image;
 use crate::load::{LoadFault, load};
-use crate::running::{Finished, Halted, Reason, whole_run};
 use crate::save::save;
 use crate::status::{Status, status_of, status_of_end};
 use crate::words::{Command, command_of};
@@ -29,6 +28,7 @@ use contexts::Stop;
 use event_file::{EventFault, EventList, read_events};
 use long_names::Octets;
 use loom_outside::{Failed, Host, Role, write_full};
+use machine_run::{Finished, Halted, Reason, whole_run};
 use object_memory::{MemFault, PlainMemory};
 use std::alloc::Global;
 

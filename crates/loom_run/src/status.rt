@@ -8,12 +8,12 @@ ghost use Rattle.contexts.specs.Keeping.{is_kept};
 ghost use Rattle.loom_run.specs.Status.{role_text, text_of_status, line_of, code_of};
 ghost use Rattle.loom_run.specs.Top.{HasRun, JudgesRun};
 
-use crate::running::{Finished, Halted, Reason};
 use arrayvec::ArrayString;
 use blue_model::Step;
 use contexts::Stop;
 use itoa::Buffer;
 use loom_outside::Role;
+use machine_run::{Finished, Halted, Reason};
 use object_memory::MemFault;
 
 /// The last line on Notes, with its newline. It takes no memory.

@@ -4,9 +4,10 @@ use Rattle.object_memory.specs.Told.{IsReady}
 use Rattle.object_memory.specs.Plain.{plain_told}
 use Rattle.blue_model.specs.State.{no_state}
 use Rattle.blue_model.specs.Logs.{course}
+use Rattle.machine_run.proofs.RunLaws.{begins-fresh}
 use Rattle.loom_run.specs.Image.{heap_of_image}
 use Rattle.loom_run.specs.Parts.{SaysStopped, is_spoken_by}
-use Rattle.loom_run.proofs.RunLaws.{begins-fresh, parked-text}
+use Rattle.loom_run.proofs.TextLaws.{parked-text}
 use Rattle.loom_run.proofs.ProgramLaws.{fault_exit, stops_by, says_stopped, says_through, begins_to_say}
 use Rattle.loom_run.proofs.program.run_image.Goals as goal
 

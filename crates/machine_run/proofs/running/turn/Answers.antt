@@ -1,7 +1,7 @@
 use Rattle.blue_model.specs.Cycle.{turn}
 use Rattle.contexts.proofs.ServesLaws.{serves_then, serves_exit}
 use Rattle.bytecodes.proofs.KeepLaws.{keeps_after}
-use Rattle.loom_run.proofs.running.turn.Goals as goal
+use Rattle.machine_run.proofs.running.turn.Goals as goal
 
 pub returns-in_err-due-clause-serves : goal.returns-in_err-due-clause-serves
 unfolding turn

@@ -1,7 +1,7 @@
 use Rattle.blue_model.specs.Processes.{check_switch}
 use Rattle.contexts.proofs.ServesLaws.{exits}
 use Rattle.contexts.proofs.Steps.{numbers_then, pick_true, pick_false, done_serves}
-use Rattle.loom_run.proofs.running.check_switch.Goals as goal
+use Rattle.machine_run.proofs.running.check_switch.Goals as goal
 
 pub returns-in_err-switch-clause-serves : goal.returns-in_err-switch-clause-serves
 unfolding check_switch

@@ -2,9 +2,9 @@ use Rattle.std.proofs.Common.{◌+◌, refl, sym, ◌∙◌, subst, arith}
 use Rattle.blue_model.specs.declared.step.Step.TheVariants.{Next}
 use Rattle.object_memory.proofs.LaterLaws.{IsLater-refl, IsLater-trans}
 use Rattle.blue_model.proofs.EndingLaws.{goes_on}
-use Rattle.loom_run.specs.Run.{Reaches}
-use Rattle.loom_run.proofs.RunningLaws.{faults_earlier, reaches_start, reaches_on, reaches_end, stops_on, runs_exit, last_counted, never, faults_exit}
-use Rattle.loom_run.proofs.running.run.Goals as goal
+use Rattle.machine_run.specs.Run.{Reaches}
+use Rattle.machine_run.proofs.RunningLaws.{faults_earlier, reaches_start, reaches_on, reaches_end, stops_on, runs_exit, last_counted, never, faults_exit}
+use Rattle.machine_run.proofs.running.run.Goals as goal
 
 pub loop-turn-init : goal.loop-turn-init
 loop-turn-init g c = record {

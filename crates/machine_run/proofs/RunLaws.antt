@@ -1,27 +1,23 @@
 -- What a whole run over a memory says of the model's run over its heap.
 -- `EndsAs` compares a whole run over a memory with `ending` of the model. What the memory keeps is what the model's parked
--- machine keeps (`parked-text`): its heap is a thinning of the machine's, whose heap is bounded since the law of whole runs, at
+-- machine keeps (`parked-kept`): its heap is a thinning of the machine's, whose heap is bounded since the law of whole runs, at
 -- one heap, says that the machine is whole.
-use Rattle.std.proofs.Common.{◌≡◌, ℕ, pos, Bool, false, true, List, Option, Some, None, IsTrue, refl, sym, ◌∙◌, ap, subst}
+use Rattle.std.proofs.Common.{◌≡◌, ℕ, pos, Bool, false, true, List, Option, Some, None, IsTrue, refl, sym, subst}
 use Rattle.long_names.specs.declared.value.Value.TheVariants.{Int}
-use Rattle.long_names.specs.Heap.{Heap, Has, object_count}
+use Rattle.long_names.specs.Heap.{Heap, Has}
 use Rattle.long_names.specs.Kept.{kept, no_roots}
 use Rattle.long_names.specs.Thin.{IsThinner, IsWhole}
 use Rattle.long_names.proofs.KeptLaws.{kept-thinning}
 use Rattle.long_names.proofs.ThinLemmas.{IsThinner-refl, IsThinning-refl, IsWhole-bounded}
-use Rattle.image_format.specs.Text.{image_text}
 use Rattle.object_memory.specs.Told.{Told, IsReady}
 use Rattle.object_memory.specs.Plain.{fresh}
 use Rattle.blue_model.specs.declared.event.Line.{Line}
 use Rattle.blue_model.specs.State.{no_state}
 use Rattle.blue_model.specs.Cycle.{Ending, Parked, Stuck, ending}
 use Rattle.blue_model.specs.Law.{EndingsAgree, HasState}
-use Rattle.blue_model.proofs.LiveLaws.{all_kept}
-use Rattle.image_format.specs.Valid.{IsImageHeap}
 use Rattle.blue_model.proofs.RunLaws.{endings-agree}
 use Rattle.blue_model.specs.Endings.{OnParked}
-use Rattle.loom_run.specs.Run.{Begins}
-use Rattle.loom_run.specs.Saved.{saved_text}
+use Rattle.machine_run.specs.Run.{Begins}
 
 -- a fresh memory of a heap begins with it
 pub begins-fresh : (h : Heap) (t : Told) → t ≡ fresh h → Begins h t
@@ -32,10 +28,6 @@ begins-fresh h t e = subst (Begins h) (sym e) record {
   transcript = λ speaks. refl;
   base = tt;
 }
-
--- all objects of an image are kept
-pub image_kept : (h : Heap) (root : ℕ → Bool) → IsImageHeap h → object_count (kept h root) ≡ object_count h
-image_kept h root image = ap object_count (all_kept h root image.bounded image.counted)
 
 -- no state names nothing
 nameless : (h : Heap) → HasState no_state h
@@ -49,10 +41,9 @@ agrees : (events : List Line) (steps : ℕ) (h : Heap) → IsWhole h (λ r. Int 
 agrees events steps h whole = endings-agree events steps no_state h h (record { thinning = IsThinning-refl h (λ r. Int (pos 0)) (λ i. None) whole; bounded = IsWhole-bounded h (λ r. Int (pos 0)) (λ i. None) whole; regs = refl; slots = refl; transcript = refl; cpu = refl }) (nameless h)
 
 -- what a memory keeps is what the model's parked machine keeps
-pub parked-text : (events : List Line) (steps : ℕ) (h : Heap) (new : Told) (text : List ℕ) → IsWhole h (λ r. Int (pos 0)) (λ i. None) → OnParked (ending events steps no_state h) (λ m. IsThinner m.heap new.heap) → IsReady new → IsTrue new.tells → text ≡ saved_text new.heap → OnParked (ending events steps no_state h) (λ m. text ≡ saved_text m.heap)
-parked-text events steps h new text whole ends ready tells same = go (ending events steps no_state h) (agrees events steps h whole) ends
+pub parked-kept : (events : List Line) (steps : ℕ) (h : Heap) (new : Told) → IsWhole h (λ r. Int (pos 0)) (λ i. None) → OnParked (ending events steps no_state h) (λ m. IsThinner m.heap new.heap) → IsReady new → IsTrue new.tells → OnParked (ending events steps no_state h) (λ m. kept new.heap no_roots ≡ kept m.heap no_roots)
+parked-kept events steps h new whole ends ready tells = go (ending events steps no_state h) (agrees events steps h whole) ends
   where
-    go : (e : Ending) → EndingsAgree e e → OnParked e (λ m. IsThinner m.heap new.heap) → OnParked e (λ m. text ≡ saved_text m.heap)
-    go (Parked end m picture) agree thinner =
-        same ∙ ap image_text (kept-thinning m.heap new.heap new.regs new.slots no_roots record { thinner = thinner; whole = ready.whole tells } agree.2.bounded (λ n e. let no : ◌≡◌ {A = Bool} false true = e in absurd (cc)))
+    go : (e : Ending) → EndingsAgree e e → OnParked e (λ m. IsThinner m.heap new.heap) → OnParked e (λ m. kept new.heap no_roots ≡ kept m.heap no_roots)
+    go (Parked end m picture) agree thinner = kept-thinning m.heap new.heap new.regs new.slots no_roots record { thinner = thinner; whole = ready.whole tells } agree.2.bounded (λ n e. let no : ◌≡◌ {A = Bool} false true = e in absurd (cc))
     go (Stuck why ran said) agree ends = absurd ends

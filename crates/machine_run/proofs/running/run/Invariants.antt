@@ -3,9 +3,9 @@ use Rattle.object_memory.specs.Contract.{IsLater}
 use Rattle.blue_model.specs.declared.step.Step.TheVariants.{Next}
 use Rattle.blue_model.specs.Machine.{Machine}
 use Rattle.contexts.specs.Serves.{Stands, HasRest}
-use Rattle.loom_run.specs.Run.{Reaches, IsSettled}
+use Rattle.machine_run.specs.Run.{Reaches, IsSettled}
 use Rattle.object_memory.specs.Calls.{IsFit}
-use Rattle.loom_run.proofs.running.run.Given as goal
+use Rattle.machine_run.proofs.running.run.Given as goal
 
 -- The memory stands for the machine after so many cycles, all of them counted.
 abbrev pub invariant-loop-turn : goal.invariant-loop-turn

@@ -2,8 +2,8 @@ use Rattle.std.proofs.Common.{inl, inr, ◌∙◌, arith}
 use Rattle.blue_model.specs.declared.step.Step.{Step}
 use Rattle.object_memory.proofs.LaterLaws.{IsLater-trans}
 use Rattle.contexts.specs.declared.stop.Stop.TheVariants.{Mem}
-use Rattle.loom_run.proofs.RunningLaws.{faulted, faults_earlier, settled_stands, settling_faulted, reaches_start, reaches_more, stops_in, stops_after, runs_exit, rest_stays, faults_exit}
-use Rattle.loom_run.proofs.running.settled_cycle.Goals as goal
+use Rattle.machine_run.proofs.RunningLaws.{faulted, faults_earlier, settled_stands, settling_faulted, reaches_start, reaches_more, stops_in, stops_after, runs_exit, rest_stays, faults_exit}
+use Rattle.machine_run.proofs.running.settled_cycle.Goals as goal
 
 pub returns-in_err-step-clause-runs : goal.returns-in_err-step-clause-runs
 returns-in_err-step-clause-runs g c = λ told m st. runs_exit _ c.from_residual.ensures.1 (inl (stops_in _ _ _ _ _ m _ told c.requires.fit.ready c.requires.rest c.in_err-step.ensures.kept st c.in_err-step.ensures.serves))

@@ -1,10 +1,10 @@
 use Rattle.std.proofs.Common.{sym, ◌∙◌, subst}
-use Rattle.loom_run.specs.Run.{HaltsAs}
-use Rattle.loom_run.specs.declared.running.Halted.{Halted}
+use Rattle.machine_run.specs.Run.{HaltsAs}
+use Rattle.machine_run.specs.declared.running.Halted.{Halted}
 use Rattle.blue_model.specs.State.{no_state}
 use Rattle.blue_model.specs.Logs.{course}
-use Rattle.loom_run.proofs.RunningLaws.{draw_halts}
-use Rattle.loom_run.proofs.running.whole_run.Goals as goal
+use Rattle.machine_run.proofs.RunningLaws.{draw_halts}
+use Rattle.machine_run.proofs.running.whole_run.Goals as goal
 
 pub returns-in-Err-draw-clause-ends : goal.returns-in-Err-draw-clause-ends
 returns-in-Err-draw-clause-ends g c = λ told h begins.

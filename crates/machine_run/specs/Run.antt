@@ -25,10 +25,10 @@ use Rattle.contexts.specs.declared.stop.Stop.{Stop}
 use Rattle.contexts.specs.declared.stop.Stop.TheVariants.{Stuck, Mem}
 use Rattle.contexts.specs.Serves.{Stands, GivesAs, Serves, SaidNothing, IsLogged, IsCaused}
 use Rattle.contexts.specs.Serves as serves
-use Rattle.loom_run.specs.declared.running.Finished.{Finished}
-use Rattle.loom_run.specs.declared.running.Halted.{Halted}
-use Rattle.loom_run.specs.declared.running.Reason.{Reason}
-use Rattle.loom_run.specs.declared.running.Reason.TheVariants.{ByStop, NoMemory}
+use Rattle.machine_run.specs.declared.running.Finished.{Finished}
+use Rattle.machine_run.specs.declared.running.Halted.{Halted}
+use Rattle.machine_run.specs.declared.running.Reason.{Reason}
+use Rattle.machine_run.specs.declared.running.Reason.TheVariants.{ByStop, NoMemory}
 
 -- ---- runs
 

@@ -30,7 +30,7 @@ use Rattle.blue_model.proofs.LiveLaws.{few_made, lives_at}
 use Rattle.blue_model.proofs.MakingTurns.{few-cycle}
 use Rattle.contexts.specs.Serves.{Stands, HasRest, HasMaking, IsCaused}
 use Rattle.contexts.proofs.RoomLaws.{root_there}
-use Rattle.loom_run.specs.Run.{IsSettled}
+use Rattle.machine_run.specs.Run.{IsSettled}
 
 -- ---- a heap below its next name
 

@@ -13,7 +13,7 @@ ghost use Rattle.blue_model.specs.Endings.{HasCounted};
 ghost use Rattle.blue_model.specs.State.{no_state};
 ghost use Rattle.blue_model.specs.Logs.{course};
 ghost use Rattle.contexts.specs.Keeping.{StepsBy, is_kept};
-ghost use Rattle.loom_run.specs.Run.{Begins, DrawsAs, EndsAs, DrawsFit, EndsFit, FaultsBy, GoesAs, HaltsBy, IsSettled, RunsAs};
+ghost use Rattle.machine_run.specs.Run.{Begins, DrawsAs, EndsAs, DrawsFit, EndsFit, FaultsBy, GoesAs, HaltsBy, IsSettled, RunsAs};
 ghost use Rattle.object_memory.specs.Calls.{IsFit, KeepsFit};
 ghost use Rattle.contexts.specs.Calls.{StaysFit};
 

@@ -42,15 +42,15 @@ use Rattle.contexts.specs.Serves.{HasRest, Stands, IsGo, Gives, GivesAs, IsLogge
 use Rattle.contexts.proofs.SpeaksLaws.{GoesOn, goes_done, goes_then, goes_numbers, goes_set_numbers}
 use Rattle.contexts.proofs.ServesLaws.{Gives-after, serves_stop, says_quietly}
 use Rattle.contexts.proofs.CacheLaws.{sound_follows}
-use Rattle.loom_run.specs.Run.{Reaches, IsSettled, IsFullIn, StopsIn, IsWorkFault, StopsAfter, RunsAs, HasFault, FaultsBy, CountsAll, Begins, HasSaid, IsHalt, Awaits, GoesThrough, GoesAs, DrawsAs, HaltsAs}
-use Rattle.loom_run.proofs.CourseLaws.{course_from, run_on, course_started, logged_behind, rows_at_cycle, lives_at_cycle, next_cycle, said_at_start, rows_at_start, rows_at_end, said_at_end}
-use Rattle.loom_run.proofs.RoomLaws.{living_stands, full_lives, unmade}
+use Rattle.machine_run.specs.Run.{Reaches, IsSettled, IsFullIn, StopsIn, IsWorkFault, StopsAfter, RunsAs, HasFault, FaultsBy, CountsAll, Begins, HasSaid, IsHalt, Awaits, GoesThrough, GoesAs, DrawsAs, HaltsAs}
+use Rattle.machine_run.proofs.CourseLaws.{course_from, run_on, course_started, logged_behind, rows_at_cycle, lives_at_cycle, next_cycle, said_at_start, rows_at_start, rows_at_end, said_at_end}
+use Rattle.machine_run.proofs.RoomLaws.{living_stands, full_lives, unmade}
 use Rattle.object_memory.specs.declared.fault.Need.{Need}
 use Rattle.blue_model.specs.Endings.{OnParked, OnDrawn, IsParkedBy, IsStuckBy, HasCounted, is_last, said_in}
 use Rattle.blue_model.proofs.EndingLaws.{last_stays, stopping_of, run_stopped, stopped_by, parked_by, started_by}
-use Rattle.loom_run.specs.declared.running.Reason.{Reason}
-use Rattle.loom_run.specs.declared.running.Reason.TheVariants.{ByStop, NoMemory}
-use Rattle.loom_run.specs.declared.running.Finished.{Finished}
+use Rattle.machine_run.specs.declared.running.Reason.{Reason}
+use Rattle.machine_run.specs.declared.running.Reason.TheVariants.{ByStop, NoMemory}
+use Rattle.machine_run.specs.declared.running.Finished.{Finished}
 
 -- ---- stops
 

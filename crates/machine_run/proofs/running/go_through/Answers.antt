@@ -1,6 +1,6 @@
 use Rattle.std.proofs.Common.{◌∙◌}
-use Rattle.loom_run.proofs.RunningLaws.{start_settled, goes_start, goes_run, goes_park, goes_through, goes_exit}
-use Rattle.loom_run.proofs.running.go_through.Goals as goal
+use Rattle.machine_run.proofs.RunningLaws.{start_settled, goes_start, goes_run, goes_park, goes_through, goes_exit}
+use Rattle.machine_run.proofs.running.go_through.Goals as goal
 
 pub returns-in_err-start-clause-ends : goal.returns-in_err-start-clause-ends
 returns-in_err-start-clause-ends g c = λ told h begins.

@@ -3,8 +3,8 @@ use Rattle.blue_model.specs.Cycle.{cycle, count_bytecode}
 use Rattle.contexts.proofs.ServesLaws.{serves_then}
 use Rattle.contexts.proofs.SpeaksLaws.{speaks_then, speaks_stop}
 use Rattle.contexts.proofs.Steps.{numbers_then, set_numbers_at, done_serves}
-use Rattle.loom_run.proofs.RunningLaws.{stop_numbers, counts_on}
-use Rattle.loom_run.proofs.running.cycle.Goals as goal
+use Rattle.machine_run.proofs.RunningLaws.{stop_numbers, counts_on}
+use Rattle.machine_run.proofs.running.cycle.Goals as goal
 
 pub returns-in-Ok-clause-serves : goal.returns-in-Ok-clause-serves
 unfolding cycle count_bytecode

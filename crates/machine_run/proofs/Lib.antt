@@ -1,0 +1,4 @@
+pub mod CourseLaws
+pub mod RoomLaws
+pub mod RunLaws
+pub mod RunningLaws

@@ -1,0 +1,18 @@
+//! A run of the machine over any object memory (interpret, chapter 28 of the Blue Book): cycle by cycle, and whole, from a start to the
+//! parked machine and its picture.
+//!
+//! `run` does so many bytecodes, and the memory settles after each. Its clause `runs` says that the memory then stands for the model's
+//! machine after as many cycles, and of a stop in which cycle it came and why. `whole_run` starts, runs, parks and draws the display;
+//! its clause `ends` compares it with the model's `course`. Read `specs/Run.antt` first.
+//!
+//!     let finished = whole_run(alloc, &mut m, &events, steps)?;   // Err: why it halted, and after how many bytecodes
+//!     finished.end == Step::Quit                                  // or Next, where all were run
+//!
+//! It reads no image and writes nothing: what a memory is made of and what becomes of it is its caller's. Over a memory that doesn't tell
+//! its heap nothing is said but of counts and faults.
+#![tactic(auto)]
+
+mod running;
+
+pub use blue_model::Step;
+pub use running::{Finished, Halted, Reason, run, whole_run};
