@@ -53,6 +53,7 @@ pub fn restore<M: ObjectMemory>(
     requires timer { IsTrue (M.told m.old).tells → StaysThere (M.told m.old).heap timer }
     ensures serves { Serves (M.told m.old) cpu.old (M.told m.new) cpu.new (model.restore (state_by clock display input timer tick)) result }
     ensures rest { OnOk result (HasRest (M.told m.old) → HasRest (M.told m.new)) }
+    ensures ran { cpu.new.ran ≡ cpu.old.ran }
     ensures fit { StaysFit M.ObjectMemory m.old m.new result }
 {
     hold(m, Reg::DISPLAY, display)?;

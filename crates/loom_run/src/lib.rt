@@ -22,6 +22,6 @@ mod tally;
 mod window;
 mod words;
 
-pub use machine_run::{Finished, Halted, Reason, run, whole_run};
+pub use machine_run::{Finished, Halted, Reason, State, run, whole_run};
 pub use program::loom;
 pub use status::Status;

@@ -28,7 +28,7 @@ use contexts::Stop;
 use event_file::{EventFault, EventList, read_events};
 use long_names::Octets;
 use loom_outside::{Failed, Host, Role, write_full};
-use machine_run::{Finished, Halted, Reason, whole_run};
+use machine_run::{Finished, Halted, Reason, State, whole_run};
 use object_memory::{MemFault, PlainMemory};
 use std::alloc::Global;
 
@@ -190,7 +190,7 @@ fn run_image<H: Host>(
     let Ok(mut memory) = image.into_memory(alloc) else {
         return Err(Status::OutOfMemory);
     };
-    let run = whole_run(alloc, &mut memory, events, steps);
+    let run = whole_run(alloc, &mut memory, events, steps, &State::NONE);
     say(host, &memory, &run)?;
     let finished = match run {
         Ok(finished) => finished,

@@ -1,6 +1,6 @@
 -- What a whole run of the model comes to, at a cycle, at its start and at its end.
--- `course` begins with no state, which is a start (`course_started`). `course_from` has it by what the start came to. The laws here say what its said, rows
--- and lives are at the bytecode where a run over a memory stopped.
+-- `course_from` has a course by what its beginning came to (`course_begun`). The laws here say what its said, rows and lives are at the
+-- bytecode where a run over a memory stopped.
 use Rattle.std.proofs.Common.{zero, suc, ◌≡◌, ℕ, ◌+◌, ◌<◌, ◌≤◌, nat_lt, nat_le, Bool, true, false, cond, eqb, List, [], ◌∷◌, ◌++◌, inl, inr, refl, ◌∙◌, ap, arith, le-leb}
 use borrow.Author.Tests.{ltb-true, ltb-false}
 use Rattle.std.proofs.lemmas.Grind.{common_steps}
@@ -10,22 +10,20 @@ use Rattle.blue_model.specs.declared.event.Line.{Line}
 use Rattle.blue_model.specs.declared.step.Step.{Step}
 use Rattle.blue_model.specs.declared.step.Step.TheVariants.{Next, Quit, Keep}
 use Rattle.blue_model.specs.Machine.{Machine, LogRow, Outcome, Go, Halt, Spent, log_of, at_rest}
-use Rattle.blue_model.specs.Contexts.{start}
-use Rattle.blue_model.specs.State.{no_state}
+use Rattle.blue_model.specs.State.{State, begin}
 use Rattle.blue_model.specs.Cycle.{Ran, run_of, one_more, run, run_from, ending, cycle, park_and_draw}
 use Rattle.blue_model.specs.Logs.{Course, course, said_by, said_from, said_after, rows_after, rows_from, rows_of_bytecode, lives, lives_by, lives_from, lives_in_bytecode}
-use Rattle.blue_model.proofs.StateLaws.{no_state-starts}
-use Rattle.blue_model.proofs.StartLaws.{Leaves, start_leaves}
+use Rattle.blue_model.proofs.StartLaws.{begin_leaves}
 use Rattle.blue_model.proofs.CountLaws.{runs_count, came_at}
 use Rattle.contexts.specs.Serves.{IsLogged}
 
--- by what the start came to
+-- by what the beginning came to
 abbrev pub course_from : List Line → ℕ → Outcome (Unit {0}) → Course
 course_from events steps o = record { ending = run_from events steps o; said = λ k. said_from events k o; rows = λ k. rows_from events steps k o; lives = λ k. lives_from events steps k o }
 
-pub course_started : (events : List Line) (steps : ℕ) (h : Heap) → course events steps no_state h ≡ course_from events steps (start (at_rest h))
+pub course_begun : (events : List Line) (steps : ℕ) (state : State) (h : Heap) → course events steps state h ≡ course_from events steps (begin state (at_rest h))
 unfolding ending said_after rows_of_bytecode lives_in_bytecode
-course_started events steps h = ap (course_from events steps) (no_state-starts (at_rest h))
+course_begun events steps state h = refl
 
 -- ---- rows behind others
 
@@ -80,14 +78,14 @@ run_on events j (suc k) m n e = ap (λ i. run events i m) (let next : j + suc k 
 
 -- ---- at the start
 
-pub said_at_start : (events : List Line) (h : Heap) → said_from events 0 (start (at_rest h)) ≡ []
+pub said_at_start : (events : List Line) (state : State) (h : Heap) → said_from events 0 (begin state (at_rest h)) ≡ []
 unfolding run
-said_at_start events h = go (start (at_rest h)) (start_leaves (at_rest h))
+said_at_start events state h = go (begin state (at_rest h)) refl
   where
-    go : (o : Outcome (Unit {0})) → Leaves (at_rest h) o → said_from events 0 o ≡ []
-    go (Go u m log) l = l.1
-    go (Halt c log) l = refl
-    go (Spent log) l = refl
+    go : (o : Outcome (Unit {0})) → begin state (at_rest h) ≡ o → said_from events 0 o ≡ []
+    go (Go u m log) e = (begin_leaves state (at_rest h) m log e).1
+    go (Halt c log) e = refl
+    go (Spent log) e = refl
 
 pub rows_at_start : (events : List Line) (steps : ℕ) (o : Outcome (Unit {0})) (need : Need) → IsLogged need (log_of o) → IsLogged need (rows_from events steps 0 o)
 rows_at_start events steps (Go u m log) need h = logged_before need log (rows_after events steps 0 (run events 0 m)) h

@@ -2,3 +2,4 @@ pub mod CourseLaws
 pub mod RoomLaws
 pub mod RunLaws
 pub mod RunningLaws
+pub mod StateLaws

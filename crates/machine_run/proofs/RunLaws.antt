@@ -12,7 +12,7 @@ use Rattle.long_names.proofs.ThinLemmas.{IsThinner-refl, IsThinning-refl, IsWhol
 use Rattle.object_memory.specs.Told.{Told, IsReady}
 use Rattle.object_memory.specs.Plain.{fresh}
 use Rattle.blue_model.specs.declared.event.Line.{Line}
-use Rattle.blue_model.specs.State.{no_state}
+use Rattle.blue_model.specs.State.{State, no_state}
 use Rattle.blue_model.specs.Cycle.{Ending, Parked, Stuck, ending}
 use Rattle.blue_model.specs.Law.{EndingsAgree, HasState}
 use Rattle.blue_model.proofs.RunLaws.{endings-agree}
@@ -30,19 +30,19 @@ begins-fresh h t e = subst (Begins h) (sym e) record {
 }
 
 -- no state names nothing
-nameless : (h : Heap) → HasState no_state h
+pub nameless : (h : Heap) → HasState no_state h
 nameless h = record { display = λ n e. none n e; input = λ n e. none n e; timer = λ n e. none n e }
   where
     none : (n : ℕ) → ◌≡◌ {A = Option ℕ} None (Some n) → Has h n
     none n e = absurd (cc)
 
 -- a whole heap runs as itself
-agrees : (events : List Line) (steps : ℕ) (h : Heap) → IsWhole h (λ r. Int (pos 0)) (λ i. None) → EndingsAgree (ending events steps no_state h) (ending events steps no_state h)
-agrees events steps h whole = endings-agree events steps no_state h h (record { thinning = IsThinning-refl h (λ r. Int (pos 0)) (λ i. None) whole; bounded = IsWhole-bounded h (λ r. Int (pos 0)) (λ i. None) whole; regs = refl; slots = refl; transcript = refl; cpu = refl }) (nameless h)
+agrees : (events : List Line) (steps : ℕ) (state : State) (h : Heap) → IsWhole h (λ r. Int (pos 0)) (λ i. None) → HasState state h → EndingsAgree (ending events steps state h) (ending events steps state h)
+agrees events steps state h whole has = endings-agree events steps state h h (record { thinning = IsThinning-refl h (λ r. Int (pos 0)) (λ i. None) whole; bounded = IsWhole-bounded h (λ r. Int (pos 0)) (λ i. None) whole; regs = refl; slots = refl; transcript = refl; cpu = refl }) has
 
 -- what a memory keeps is what the model's parked machine keeps
-pub parked-kept : (events : List Line) (steps : ℕ) (h : Heap) (new : Told) → IsWhole h (λ r. Int (pos 0)) (λ i. None) → OnParked (ending events steps no_state h) (λ m. IsThinner m.heap new.heap) → IsReady new → IsTrue new.tells → OnParked (ending events steps no_state h) (λ m. kept new.heap no_roots ≡ kept m.heap no_roots)
-parked-kept events steps h new whole ends ready tells = go (ending events steps no_state h) (agrees events steps h whole) ends
+pub parked-kept : (events : List Line) (steps : ℕ) (state : State) (h : Heap) (new : Told) → IsWhole h (λ r. Int (pos 0)) (λ i. None) → HasState state h → OnParked (ending events steps state h) (λ m. IsThinner m.heap new.heap) → IsReady new → IsTrue new.tells → OnParked (ending events steps state h) (λ m. kept new.heap no_roots ≡ kept m.heap no_roots)
+parked-kept events steps state h new whole has ends ready tells = go (ending events steps state h) (agrees events steps state h whole has) ends
   where
     go : (e : Ending) → EndingsAgree e e → OnParked e (λ m. IsThinner m.heap new.heap) → OnParked e (λ m. kept new.heap no_roots ≡ kept m.heap no_roots)
     go (Parked end m picture) agree thinner = kept-thinning m.heap new.heap new.regs new.slots no_roots record { thinner = thinner; whole = ready.whole tells } agree.2.bounded (λ n e. let no : ◌≡◌ {A = Bool} false true = e in absurd (cc))

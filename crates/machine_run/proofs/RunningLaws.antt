@@ -4,12 +4,14 @@
 -- `goes_through` for a whole run. `halts` is the one law of stops: what an outcome's stop is, the ending's is, what was said, and
 -- which row or making a refusal names. That a model's run stopped there for good is `run_stopped`; what the course of a run is at
 -- that bytecode stands in `CourseLaws`, and how many objects live in `RoomLaws`.
-use Rattle.std.proofs.Common.{suc, ◌≡◌, ℕ, ◌+◌, ◌<◌, ◌≤◌, nat_lt, Bool, true, false, cond, eqb, ◌⊎◌, List, [], ◌++◌, Option, Some, None, Result, Ok, Err, IsTrue, OnOk, IfErr, inl, inr, refl, sym, ◌∙◌, ap, subst, arith}
+use Rattle.std.proofs.Common.{suc, ◌≡◌, ℕ, ◌+◌, ◌<◌, ◌≤◌, nat_lt, Bool, true, false, cond, eqb, ◌⊎◌, List, [], ◌++◌, Option, Some, None, is_some, Result, Ok, Err, IsTrue, OnOk, IfErr, inl, inr, refl, sym, ◌∙◌, ap, subst, arith}
 use borrow.Author.Tests.{ltb-true, ltb-false}
 use Rattle.std.proofs.Math.Path.{fun_ext}
 use Rattle.std.specs.Result.{IsErrAnd}
 use Rattle.std.proofs.lemmas.Result.{err_from_is_err_and}
 use Rattle.long_names.specs.Counting.{Rose}
+use Rattle.long_names.specs.declared.value.Value.{Value}
+use Rattle.long_names.specs.State.{INPUT_SEMAPHORE, TIMER_SEMAPHORE, DISPLAY}
 use Rattle.long_names.specs.Heap.{Heap, object_count}
 use Rattle.long_names.specs.Kept.{kept}
 use Rattle.long_names.specs.Thin.{IsThinner}
@@ -23,17 +25,17 @@ use Rattle.blue_model.specs.declared.step.Step.{Step}
 use Rattle.blue_model.specs.declared.step.Step.TheVariants.{Next, Quit, Keep}
 use Rattle.blue_model.specs.declared.event.Line.{Line}
 use Rattle.blue_model.specs.Machine.{Machine, LogRow, Outcome, Go, Halt, Spent, Rule, log_of, after, then_do, at_rest, ◌>>=◌, done, clear, set_numbers}
-use Rattle.blue_model.specs.Devices.{picture}
+use Rattle.blue_model.specs.Devices.{clock, picture}
 use Rattle.blue_model.proofs.FailLaws.{picture_leaves}
 use Rattle.blue_model.specs.Contexts.{start, park}
+use Rattle.blue_model.specs.State.{State, begin, restore, tick_or}
 use Rattle.blue_model.specs.Cycle.{Ran, Stopped, Stopping, ByCause, BySpentNames, Ending, run_of, one_more, run, ended, parked, run_from, cycle, park_and_draw, count_bytecode}
 use Rattle.blue_model.specs.Logs.{Course, course, said_by, rows_after, lives, lives_by, living, IsLive, made_in}
 use Rattle.blue_model.specs.Logs as logs
-use Rattle.blue_model.specs.State.{no_state}
-use Rattle.blue_model.proofs.StartLaws.{Leaves, start_leaves}
+use Rattle.blue_model.proofs.StartLaws.{begin_leaves}
 use Rattle.blue_model.proofs.CountLaws.{runs_count}
 use Rattle.blue_model.proofs.LiveLaws.{none_made}
-use Rattle.blue_model.proofs.MakingLaws.{none-start}
+use Rattle.blue_model.proofs.MakingLaws.{none-begin}
 use Rattle.blue_model.proofs.MakingTurns.{none-park_and_draw}
 use Rattle.blue_model.specs.Cycle as model
 use Rattle.contexts.specs.declared.stop.Stop.{Stop}
@@ -42,8 +44,9 @@ use Rattle.contexts.specs.Serves.{HasRest, Stands, IsGo, Gives, GivesAs, IsLogge
 use Rattle.contexts.proofs.SpeaksLaws.{GoesOn, goes_done, goes_then, goes_numbers, goes_set_numbers}
 use Rattle.contexts.proofs.ServesLaws.{Gives-after, serves_stop, says_quietly}
 use Rattle.contexts.proofs.CacheLaws.{sound_follows}
+use Rattle.machine_run.specs.States.{word_held, model_state, state_held}
 use Rattle.machine_run.specs.Run.{Reaches, IsSettled, IsFullIn, StopsIn, IsWorkFault, StopsAfter, RunsAs, HasFault, FaultsBy, CountsAll, Begins, HasSaid, IsHalt, Awaits, GoesThrough, GoesAs, DrawsAs, HaltsAs}
-use Rattle.machine_run.proofs.CourseLaws.{course_from, run_on, course_started, logged_behind, rows_at_cycle, lives_at_cycle, next_cycle, said_at_start, rows_at_start, rows_at_end, said_at_end}
+use Rattle.machine_run.proofs.CourseLaws.{course_from, run_on, course_begun, logged_behind, rows_at_cycle, lives_at_cycle, next_cycle, said_at_start, rows_at_start, rows_at_end, said_at_end}
 use Rattle.machine_run.proofs.RoomLaws.{living_stands, full_lives, unmade}
 use Rattle.object_memory.specs.declared.fault.Need.{Need}
 use Rattle.blue_model.specs.Endings.{OnParked, OnDrawn, IsParkedBy, IsStuckBy, HasCounted, is_last, said_in}
@@ -401,6 +404,10 @@ pub starts_same : (h : Heap) (t : Told) (cpu : Cpu) → start (fresh_machine h t
 unfolding start ◌>>=◌ clear set_numbers
 starts_same h t cpu = refl
 
+pub begins_same : (state : State) (h : Heap) (t : Told) (cpu : Cpu) → begin state (fresh_machine h t cpu) ≡ begin state (at_rest h)
+unfolding begin ◌>>=◌
+begins_same state h t cpu = ap (λ (o : Outcome (Unit {0})). then_do o (λ _. restore state)) (starts_same h t cpu)
+
 pub fresh_stands : (h : Heap) (t : Told) (cpu : Cpu) → Begins h t → Stands t cpu (fresh_machine h t cpu)
 fresh_stands h t cpu b = record {
   heap = b.heap;
@@ -429,31 +436,31 @@ faults_exit {A} old new e r is h =
 
 -- ---- whole runs
 
--- the start was made
-begun : (h : Heap) (a mid : Told) (cpu between : Cpu) → IsTrue a.tells → Begins h a → Serves a cpu mid between start (Ok tt) → IsGo tt (Stands mid between) (start (at_rest h))
-begun h a mid cpu between told b s = subst (IsGo tt (Stands mid between)) (starts_same h a cpu) (s.model told (fresh_machine h a cpu) (fresh_stands h a cpu b))
+-- the beginning was made
+begun : (state : State) (h : Heap) (a mid : Told) (cpu between : Cpu) → IsTrue a.tells → Begins h a → Serves a cpu mid between (begin state) (Ok tt) → IsGo tt (Stands mid between) (begin state (at_rest h))
+begun state h a mid cpu between told b s = subst (IsGo tt (Stands mid between)) (begins_same state h a cpu) (s.model told (fresh_machine h a cpu) (fresh_stands h a cpu b))
 
--- the law of a whole run, by what the start came to
-whole : (P : Course → Type 0) (events : List Line) (steps : ℕ) (h : Heap) → P (course_from events steps (start (at_rest h))) → P (course events steps no_state h)
-whole P events steps h x = subst P (sym (course_started events steps h)) x
+-- the law of a whole run, by what its beginning came to
+whole : (P : Course → Type 0) (events : List Line) (steps : ℕ) (state : State) (h : Heap) → P (course_from events steps (begin state (at_rest h))) → P (course events steps state h)
+whole P events steps state h x = subst P (sym (course_begun events steps state h)) x
 
-pub goes_start : (events : List Line) (steps : ℕ) (h : Heap) (a new : Told) (cpu now : Cpu) (e : Stop) → IsTrue a.tells → Begins h a → Serves {A = Unit {0}} a cpu new now start (Err e) → now.ran ≡ 0 → IsHalt e now.ran new (course events steps no_state h)
-goes_start events steps h a new cpu now e told b s same =
-    whole (IsHalt e now.ran new) events steps h
-    (subst (λ k. IsHalt e k new (course_from events steps (start (at_rest h)))) (sym same)
-    (halts None (start (at_rest h)) new now e 0 (course_from events steps (start (at_rest h))) []
-    (subst (Gives {A = Unit {0}} new now (Err e)) (starts_same h a cpu) (s.model told (fresh_machine h a cpu) (fresh_stands h a cpu b)))
-    (started_by events steps (start (at_rest h)))
-    (said_at_start events h)
-    (rows_at_start events steps (start (at_rest h)))
-    (λ makes. absurd (unmade new.heap.next (log_of (start (at_rest h))) (none_made start (at_rest h) none-start) makes))
+pub goes_start : (events : List Line) (steps : ℕ) (state : State) (h : Heap) (a new : Told) (cpu now : Cpu) (e : Stop) → IsTrue a.tells → Begins h a → Serves {A = Unit {0}} a cpu new now (begin state) (Err e) → now.ran ≡ 0 → IsHalt e now.ran new (course events steps state h)
+goes_start events steps state h a new cpu now e told b s same =
+    whole (IsHalt e now.ran new) events steps state h
+    (subst (λ k. IsHalt e k new (course_from events steps (begin state (at_rest h)))) (sym same)
+    (halts None (begin state (at_rest h)) new now e 0 (course_from events steps (begin state (at_rest h))) []
+    (subst (Gives {A = Unit {0}} new now (Err e)) (begins_same state h a cpu) (s.model told (fresh_machine h a cpu) (fresh_stands h a cpu b)))
+    (started_by events steps (begin state (at_rest h)))
+    (said_at_start events state h)
+    (rows_at_start events steps (begin state (at_rest h)))
+    (λ makes. absurd (unmade new.heap.next (log_of (begin state (at_rest h))) (none_made (begin state) (at_rest h) (none-begin state)) makes))
     (λ may. absurd may)
     (λ speaks. let spoke = sym s.later.speaks ∙ speaks in said_before e a new [] spoke (b.transcript spoke) s.silent)))
 
--- After a start the memory's number of living objects is that of the machine, and it has made nothing.
-pub start_settled : (h : Heap) (a mid : Told) (cpu between : Cpu) → IsTrue a.tells → Begins h a → IsReady mid → HasRest mid → Serves a cpu mid between start (Ok tt) → IsSettled mid
+-- After a beginning the memory's number of living objects is that of the machine, and it has made nothing.
+pub start_settled : (state : State) (h : Heap) (a mid : Told) (cpu between : Cpu) → IsTrue a.tells → Begins h a → IsReady mid → HasRest mid → Serves a cpu mid between (begin state) (Ok tt) → IsSettled mid
 unfolding living
-start_settled h a mid cpu between told b ready rest s = at (start (at_rest h)) (begun h a mid cpu between told b s) (start_leaves (at_rest h))
+start_settled state h a mid cpu between told b ready rest s = at (begin state (at_rest h)) (begun state h a mid cpu between told b s) refl
   where
     now : IsTrue mid.tells
     now = s.later.tells ∙ told
@@ -468,16 +475,17 @@ start_settled h a mid cpu between told b ready rest s = at (start (at_rest h)) (
     bounds n st same k none (Some x) None r i = absurd r
     bounds n st same k none (Some x) (Some y) r i = ((let made = r.1 in let zero = i.0 in omega arith), kept_here n st same y.base (subst (CountsAll h) (sym r.0) i.1))
 
-    at : (o : Outcome (Unit {0})) → IsGo tt (Stands mid between) o → Leaves (at_rest h) o → IsSettled mid
-    at (Go u n log) g l =
+    at : (o : Outcome (Unit {0})) → IsGo tt (Stands mid between) o → begin state (at_rest h) ≡ o → IsSettled mid
+    at (Go u n log) g e =
+        let l = begin_leaves state (at_rest h) n log e in
         let counts = s.counts in
         let none : counts.0 ≡ 0 = (let next = counts.1.next told in let first = b.heap.next in let last = g.1.heap.next in let same : n.heap.next ≡ h.next = ap (λ (x : Heap). x.next) l.0 in omega arith) in
         bounds n g.1 l.0 counts.0 none a.bounds mid.bounds counts.1.counts b.base
-    at (Halt c log) g l = absurd g
-    at (Spent log) g l = absurd g
+    at (Halt c log) g e = absurd g
+    at (Spent log) g e = absurd g
 
-pub goes_run : (events : List Line) (steps : ℕ) (h : Heap) (a mid new : Told) (cpu between now : Cpu) (e : Stop) → IsTrue a.tells → Begins h a → Serves a cpu mid between start (Ok tt) → between.ran ≡ 0 → IsSettled mid → ((m : Machine) → Stands mid between m → RunsAs events mid new now steps m (Err e)) → IsHalt e now.ran new (course events steps no_state h)
-goes_run events steps h a mid new cpu between now e told b s fresh settled runs = whole (IsHalt e now.ran new) events steps h (go (start (at_rest h)) (begun h a mid cpu between told b s))
+pub goes_run : (events : List Line) (steps : ℕ) (state : State) (h : Heap) (a mid new : Told) (cpu between now : Cpu) (e : Stop) → IsTrue a.tells → Begins h a → Serves a cpu mid between (begin state) (Ok tt) → between.ran ≡ 0 → IsSettled mid → ((m : Machine) → Stands mid between m → RunsAs events mid new now steps m (Err e)) → IsHalt e now.ran new (course events steps state h)
+goes_run events steps state h a mid new cpu between now e told b s fresh settled runs = whole (IsHalt e now.ran new) events steps state h (go (begin state (at_rest h)) (begun state h a mid cpu between told b s))
   where
     either : (u : Unit {0}) (m : Machine) (log : List LogRow) → m.cpu.ran ≡ 0 → RunsAs events mid new now steps m (Err e) → IsHalt e now.ran new (course_from events steps (Go u m log))
     either u m log f (inl x) = run_stops events mid new now e steps u m log f settled x
@@ -495,9 +503,9 @@ rows_behind events steps end m n log ran fresh e count need h = logged_behind ne
 said_behind : (events : List Line) (steps : ℕ) (end : Step) (m n : Machine) (ran : ℕ) → m.cpu.ran ≡ 0 → run events steps m ≡ Ran end n → n.cpu.ran ≡ ran → said_by (run events ran m) ≡ n.transcript
 said_behind events steps end m n ran fresh e count = subst (λ k. said_by (run events k m) ≡ n.transcript) count (said_at_end events steps end m n fresh e)
 
-pub goes_park : (events : List Line) (end : Step) (steps : ℕ) (h : Heap) (a mid far new : Told) (cpu between then now : Cpu) (e : Stop) → IsTrue a.tells → Begins h a → Serves a cpu mid between start (Ok tt) → between.ran ≡ 0 → ((m : Machine) → Stands mid between m → Reaches events far then end steps m) → IsTrue far.tells → Serves {A = Unit {0}} far then new now park (Err e) → now ≡ then → IsHalt e now.ran new (course events steps no_state h)
+pub goes_park : (events : List Line) (end : Step) (steps : ℕ) (state : State) (h : Heap) (a mid far new : Told) (cpu between then now : Cpu) (e : Stop) → IsTrue a.tells → Begins h a → Serves a cpu mid between (begin state) (Ok tt) → between.ran ≡ 0 → ((m : Machine) → Stands mid between m → Reaches events far then end steps m) → IsTrue far.tells → Serves {A = Unit {0}} far then new now park (Err e) → now ≡ then → IsHalt e now.ran new (course events steps state h)
 unfolding park_and_draw
-goes_park events end steps h a mid far new cpu between then now e told b s fresh runs tells p same = whole (IsHalt e now.ran new) events steps h (go (start (at_rest h)) (begun h a mid cpu between told b s))
+goes_park events end steps state h a mid far new cpu between then now e told b s fresh runs tells p same = whole (IsHalt e now.ran new) events steps state h (go (begin state (at_rest h)) (begun state h a mid cpu between told b s))
   where
     at : (u : Unit {0}) (m : Machine) (log : List LogRow) → m.cpu.ran ≡ 0 → Reaches events far then end steps m → IsHalt e now.ran new (course_from events steps (Go u m log))
     at u m log f x =
@@ -516,9 +524,9 @@ goes_park events end steps h a mid far new cpu between then now e told b s fresh
     go (Halt c log) g = absurd g
     go (Spent log) g = absurd g
 
-pub goes_through : (events : List Line) (end : Step) (steps : ℕ) (h : Heap) (a mid far new : Told) (cpu between then now : Cpu) → IsTrue a.tells → Begins h a → Serves a cpu mid between start (Ok tt) → between.ran ≡ 0 → ((m : Machine) → Stands mid between m → Reaches events far then end steps m) → IsTrue far.tells → Serves far then new now park (Ok tt) → now ≡ then → Awaits new now end (course events steps no_state h)
+pub goes_through : (events : List Line) (end : Step) (steps : ℕ) (state : State) (h : Heap) (a mid far new : Told) (cpu between then now : Cpu) → IsTrue a.tells → Begins h a → Serves a cpu mid between (begin state) (Ok tt) → between.ran ≡ 0 → ((m : Machine) → Stands mid between m → Reaches events far then end steps m) → IsTrue far.tells → Serves far then new now park (Ok tt) → now ≡ then → Awaits new now end (course events steps state h)
 unfolding park_and_draw ◌>>=◌
-goes_through events end steps h a mid far new cpu between then now told b s fresh runs tells p same = whole (Awaits new now end) events steps h (go (start (at_rest h)) (begun h a mid cpu between told b s))
+goes_through events end steps state h a mid far new cpu between then now told b s fresh runs tells p same = whole (Awaits new now end) events steps state h (go (begin state (at_rest h)) (begun state h a mid cpu between told b s))
   where
     awaits : (u : Unit {0}) (m : Machine) (log : List LogRow) → m.cpu.ran ≡ 0 → (x : Reaches events far then end steps m) (o : Outcome (Unit {0})) → park x.machine ≡ o → IsGo tt (Stands new now) o → Awaits new now end (course_from events steps (Go u m log))
     awaits u m log f x (Go v n rows) e g =
@@ -550,8 +558,19 @@ goes_exit new now e r c is h =
 
 -- ---- the picture
 
-pub draws_through : (mid new : Told) (now : Cpu) (end : Step) (c : Course) (finished : Finished) → IsTrue mid.tells → Awaits mid now end c → Serves mid now new now picture (Ok finished.picture) → finished.end ≡ end → finished.ran ≡ now.ran → GoesThrough new finished c
-draws_through mid new now end c finished tells x s last ran = go (picture x.machine) refl (s.model tells x.machine x.stands)
+-- what the memory's registers say of the state, those of the machine do
+state_stands : (t : Told) (cpu : Cpu) (m : Machine) → Stands t cpu m → state_held t.regs cpu ≡ state_held m.regs m.cpu
+state_stands t cpu m st =
+    ap (λ v. with_words v (t.regs INPUT_SEMAPHORE) (t.regs TIMER_SEMAPHORE) cpu) (sym (st.regs DISPLAY (omega arith)))
+    ∙ ap (λ v. with_words (m.regs DISPLAY) v (t.regs TIMER_SEMAPHORE) cpu) (sym (st.regs INPUT_SEMAPHORE (omega arith)))
+    ∙ ap (λ v. with_words (m.regs DISPLAY) (m.regs INPUT_SEMAPHORE) v cpu) (sym (st.regs TIMER_SEMAPHORE (omega arith)))
+    ∙ ap (λ (c : Cpu). state_held m.regs c) (sym st.numbers)
+  where
+    with_words : Value → Value → Value → Cpu → State
+    with_words display input timer cpu = record { clock = clock cpu; display = word_held cpu.display display; input = word_held cpu.input input; timer = word_held (is_some cpu.timer) timer; tick = tick_or cpu.timer }
+
+pub draws_through : (mid new : Told) (now : Cpu) (end : Step) (c : Course) (finished : Finished) → IsTrue mid.tells → Awaits mid now end c → Serves mid now new now picture (Ok finished.picture) → finished.end ≡ end → finished.ran ≡ now.ran → model_state finished.state ≡ state_held new.regs now → GoesThrough new finished c
+draws_through mid new now end c finished tells x s last ran left = go (picture x.machine) refl (s.model tells x.machine x.stands)
   where
     go : (o : Outcome (List ℕ)) → picture x.machine ≡ o → IsGo finished.picture (Stands new now) o → GoesThrough new finished c
     go (Go bytes n rows) e g =
@@ -559,6 +578,7 @@ draws_through mid new now end c finished tells x s last ran = go (picture x.mach
           parked = subst (IsParkedBy finished.end finished.ran) (sym is) (sym last, ap (λ (c : Cpu). c.ran) g.1.numbers ∙ sym ran);
           heap = subst (λ y. OnParked y (λ m. IsThinner m.heap new.heap)) (sym is) g.1.heap;
           drawn = subst (λ y. OnDrawn y (λ picture. finished.picture ≡ picture)) (sym is) (sym g.0);
+          state = subst (λ y. OnParked y (λ m. model_state finished.state ≡ state_held m.regs m.cpu)) (sym is) (left ∙ state_stands new now n g.1);
           said = λ speaks. g.1.transcript speaks ∙ ap said_in (sym is);
         }
     go (Halt d rows) e g = absurd g

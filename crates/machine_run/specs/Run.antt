@@ -25,6 +25,7 @@ use Rattle.contexts.specs.declared.stop.Stop.{Stop}
 use Rattle.contexts.specs.declared.stop.Stop.TheVariants.{Stuck, Mem}
 use Rattle.contexts.specs.Serves.{Stands, GivesAs, Serves, SaidNothing, IsLogged, IsCaused}
 use Rattle.contexts.specs.Serves as serves
+use Rattle.machine_run.specs.States.{model_state, state_held}
 use Rattle.machine_run.specs.declared.running.Finished.{Finished}
 use Rattle.machine_run.specs.declared.running.Halted.{Halted}
 use Rattle.machine_run.specs.declared.running.Reason.{Reason}
@@ -179,11 +180,12 @@ abbrev pub GoesAs : Told → Cpu → Result Step Stop → Course → Type 0
 GoesAs new now (Ok end) c = Awaits new now end c
 GoesAs new now (Err stop) c = IsHalt stop now.ran new c
 
--- the memory stands for the heap of the parked machine, whose picture this is, and said what the run said
+-- the memory stands for the heap of the parked machine, whose picture and state these are, and said what the run said
 pub record GoesThrough (new : Told) (finished : Finished) (c : Course) : Type 0 where
   pub parked : IsParkedBy finished.end finished.ran c.ending
   pub heap : OnParked c.ending (λ m. IsThinner m.heap new.heap)
   pub drawn : OnDrawn c.ending (λ picture. finished.picture ≡ picture)
+  pub state : OnParked c.ending (λ m. model_state finished.state ≡ state_held m.regs m.cpu)
   pub said : IsTrue new.speaks → new.transcript ≡ said_in c.ending
 
 -- drawing comes to the model's picture, or to its stop, or no memory was found

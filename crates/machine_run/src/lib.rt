@@ -2,17 +2,21 @@
 //! parked machine and its picture.
 //!
 //! `run` does so many bytecodes, and the memory settles after each. Its clause `runs` says that the memory then stands for the model's
-//! machine after as many cycles, and of a stop in which cycle it came and why. `whole_run` starts, runs, parks and draws the display;
-//! its clause `ends` compares it with the model's `course`. Read `specs/Run.antt` first.
+//! machine after as many cycles, and of a stop in which cycle it came and why. `whole_run` starts with a state, runs, parks and draws the
+//! display; its clause `ends` compares it with the model's `course`. Read `specs/Run.antt` first, then `specs/States.antt`.
 //!
-//!     let finished = whole_run(alloc, &mut m, &events, steps)?;   // Err: why it halted, and after how many bytecodes
-//!     finished.end == Step::Quit                                  // or Next, where all were run
+//!     let finished = whole_run(alloc, &mut m, &events, steps, &State::NONE)?;   // Err: why it halted, and after how many bytecodes
+//!     finished.end == Step::Quit                                                // or Next, where all were run
+//!     finished.state                                                            // what a next run goes on from
 //!
 //! It reads no image and writes nothing: what a memory is made of and what becomes of it is its caller's. Over a memory that doesn't tell
 //! its heap nothing is said but of counts and faults.
 #![tactic(auto)]
 
+pub mod laws;
 mod running;
+mod states;
 
 pub use blue_model::Step;
+pub use image_format::State;
 pub use running::{Finished, Halted, Reason, run, whole_run};

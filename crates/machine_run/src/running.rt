@@ -10,17 +10,19 @@ ghost use Rattle.blue_model.specs.declared.step.Step.TheVariants as step;
 ghost use Rattle.contexts.specs.Serves.{Serves, Speaks, Stands, HasRest};
 ghost use Rattle.blue_model.specs.Endings as endings;
 ghost use Rattle.blue_model.specs.Endings.{HasCounted};
-ghost use Rattle.blue_model.specs.State.{no_state};
 ghost use Rattle.blue_model.specs.Logs.{course};
 ghost use Rattle.contexts.specs.Keeping.{StepsBy, is_kept};
+ghost use Rattle.machine_run.specs.States.{KeepsState, model_state};
 ghost use Rattle.machine_run.specs.Run.{Begins, DrawsAs, EndsAs, DrawsFit, EndsFit, FaultsBy, GoesAs, HaltsBy, IsSettled, RunsAs};
 ghost use Rattle.object_memory.specs.Calls.{IsFit, KeepsFit};
 ghost use Rattle.contexts.specs.Calls.{StaysFit};
 
+use crate::states::{begin, state_of};
 use bytecodes::{Step, step};
-use contexts::{Cpu, Stop, park, start};
+use contexts::{Cpu, Stop, park};
 use devices::{PictureFault, due, picture};
 use event_file::EventList;
+use image_format::State;
 use long_names::Octets;
 use object_memory::{MemFault, ObjectMemory};
 use process_sched::switch;
@@ -161,6 +163,8 @@ pub struct Finished {
     pub ran: u32,
     /// The picture of the display, or nothing where it has none.
     pub picture: Octets,
+    /// The state that the machine was left with, as it stands: a name whose object nothing holds any more is still there.
+    pub state: State,
 }
 
 /// Why a whole run ended before its end.
@@ -179,15 +183,17 @@ pub struct Halted {
     pub ran: u32,
 }
 
-/// Starts with no state, runs so many bytecodes, and parks. The vault is shut. `cpu.ran` says how many were run.
+/// Starts with a state, runs so many bytecodes, and parks. The vault is shut. `cpu.ran` says how many were run.
 fn go_through<M: ObjectMemory>(
     m: &mut M,
     cpu: &mut Cpu,
     events: &EventList,
     steps: u32,
+    state: &State,
 ) -> Result<Step, Stop>
     requires fit { IsFit M.ObjectMemory m.old }
-    ensures ends { IsTrue (M.told m.old).tells → (h : Heap) → Begins h (M.told m.old) → GoesAs (M.told m.new) cpu.new result (course events.now steps no_state h) }
+    requires state { IsTrue (M.told m.old).tells → KeepsState (M.told m.old) (model_state state.now) }
+    ensures ends { IsTrue (M.told m.old).tells → (h : Heap) → Begins h (M.told m.old) → GoesAs (M.told m.new) cpu.new result (course events.now steps (model_state state.now) h) }
     ensures fault { IfErr result (FaultsBy (M.told m.old) (M.told m.new)) }
     ensures few { cpu.new.ran ≤ steps }
     ensures counted { IfOk result (λ end. HasCounted end cpu.new.ran steps) }
@@ -195,7 +201,7 @@ fn go_through<M: ObjectMemory>(
     ensures later { IsLater (M.told m.old) (M.told m.new) }
     ensures fit { StaysFit M.ObjectMemory m.old m.new result }
 {
-    start(m, cpu)?;
+    begin(m, cpu, state)?;
     let step = run(m, cpu, events, steps)?;
     park(m, cpu)?;
     Ok(step)
@@ -214,15 +220,18 @@ fn draw<M: ObjectMemory>(alloc: Global, m: &mut M, cpu: &Cpu) -> Result<Octets, 
     }
 }
 
-/// Starts with no state and a vault that is shut, runs so many bytecodes under an event list, parks, and draws the display.
+/// Starts with a state and a vault that is shut, runs so many bytecodes under an event list, parks, and draws the display. The names of
+/// the state are of objects that are kept with no roots, over a memory that has cached nothing; `State::NONE` has none.
 pub fn whole_run<M: ObjectMemory>(
     alloc: Global,
     m: &mut M,
     events: &EventList,
     steps: u32,
+    state: &State,
 ) -> Result<Finished, Halted>
     requires fit { IsFit M.ObjectMemory m.old }
-    ensures ends { IsTrue (M.told m.old).tells → (h : Heap) → Begins h (M.told m.old) → EndsAs (M.told m.new) result (course events.now steps no_state h) }
+    requires state { IsTrue (M.told m.old).tells → KeepsState (M.told m.old) (model_state state.now) }
+    ensures ends { IsTrue (M.told m.old).tells → (h : Heap) → Begins h (M.told m.old) → EndsAs (M.told m.new) result (course events.now steps (model_state state.now) h) }
     ensures fault { IfErr result (λ halted. HaltsBy (M.told m.old) (M.told m.new) halted.why) }
     ensures ran { IfErr result (λ halted. halted.ran ≤ steps) }
     ensures counted { IfOk result (λ finished. HasCounted finished.end finished.ran steps) }
@@ -231,7 +240,7 @@ pub fn whole_run<M: ObjectMemory>(
     ensures fit { EndsFit M.ObjectMemory m.old m.new result }
 {
     let mut cpu = Cpu::at_rest();
-    let end = match go_through(m, &mut cpu, events, steps) {
+    let end = match go_through(m, &mut cpu, events, steps, state) {
         Ok(end) => end,
         Err(stop) => return Err(halt_of(Reason::ByStop(stop), cpu.ran)),
     };
@@ -240,6 +249,7 @@ pub fn whole_run<M: ObjectMemory>(
             end,
             ran: cpu.ran,
             picture,
+            state: state_of(m, &cpu),
         }),
         Err(why) => Err(halt_of(why, cpu.ran)),
     }

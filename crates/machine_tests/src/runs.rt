@@ -6,7 +6,7 @@ ghost use Rattle.object_memory.specs.Told.{IsReady};
 use bounded_memory::BoundedMemory;
 use contexts::Stop;
 use event_file::EventList;
-use loom_run::{Halted, Reason, whole_run};
+use loom_run::{Halted, Reason, State, whole_run};
 use object_memory::{MemFault, Need, PlainMemory};
 use sample_images::{Header, METHOD, NEXT, add_method, base, memory, name};
 use std::alloc::Global;
@@ -181,7 +181,7 @@ fn ran(alloc: Global, plain: PlainMemory, row: &Run) -> Result<u32, Halted>
 {
     let mut m = BoundedMemory::new(plain, row.core, row.entries, u32::from(row.room), 26);
     let events = EventList::new(alloc);
-    let finished = whole_run(alloc, &mut m, &events, row.steps)?;
+    let finished = whole_run(alloc, &mut m, &events, row.steps, &State::NONE)?;
     Ok(finished.ran)
 }
 
