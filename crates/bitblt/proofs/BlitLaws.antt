@@ -19,7 +19,7 @@ use Rattle.blue_model.specs.BitBlt.{put_words}
 use Rattle.contexts.specs.declared.stop.Stop.{Stop}
 use Rattle.contexts.specs.declared.stop.Stop.TheVariants.{Stuck, Mem}
 use Rattle.contexts.specs.Serves.{Stands, IsLogged, HasMaking, Gives, Serves}
-use Rattle.contexts.proofs.ServesLaws.{IsCounted-refl, serves_then, by_model}
+use Rattle.contexts.proofs.ServesLaws.{fits_later, IsCounted-refl, serves_then, by_model}
 use Rattle.contexts.proofs.StoreLaws.{thinned_here, change_where}
 use Rattle.contexts.proofs.CacheLaws.{sound_follows}
 use Rattle.object_memory.specs.Contract.{Does, Called}
@@ -250,6 +250,7 @@ written_serves {Z} {z} {old} {new} {cpu} of at run before ready there x = record
           regs = λ r low. st.regs r low ∙ sym (ap (λ (g : ℕ → Value). g r) x.ok.regs);
           slots = st.slots ∙ sym x.ok.slots;
           numbers = st.numbers;
+          fits = fits_later old.bounds new.bounds m.largest x.later.bounds st.fits;
           transcript = λ speaks. (let spoke = sym x.later.speaks ∙ speaks in x.ok.transcript spoke ∙ st.transcript spoke);
           cache = sound_follows old new (Does (WriteWords of at run)) before ready x.ok told (x.later.tells ∙ told) st.cache;
         },

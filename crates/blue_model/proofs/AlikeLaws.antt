@@ -6,7 +6,7 @@ use Rattle.long_names.specs.Names.{is_known, SMALL_INTEGER}
 use Rattle.long_names.specs.Heap.{Heap, Has}
 use Rattle.long_names.specs.State.{object_at, name_at}
 use Rattle.long_names.specs.Need.{Row}
-use Rattle.long_names.proofs.AccessLaws.{words_of_row-same, entries_of_row-same}
+use Rattle.long_names.proofs.AccessLaws.{words_at-same, words_of_row-same, entries_of_row-same}
 use Rattle.blue_model.specs.Machine.{Machine, logged, row_of, is_there, rows_at}
 use Rattle.blue_model.specs.Alike.{Lost, IsAlike, IsKept}
 
@@ -49,7 +49,7 @@ there_has h (Ref k) e n f = subst (λ x. is_there h x ≡ true) f e
 -- ---- rows
 
 pub logged-same : (h s : Heap) (r : Row) (makes : Bool) → h.at r.object ≡ s.at r.object → ((i k : ℕ) → r.slots i ≡ Some k → h.at k ≡ s.at k) → logged h r makes ≡ logged s r makes
-logged-same h s r makes object pins = λ i. record { object = r.object; words = words_of_row-same h s r object pins i; entries = entries_of_row-same h s r pins i; makes = makes }
+logged-same h s r makes object pins = λ i. record { object = r.object; words = words_of_row-same h s r object pins i; entries = entries_of_row-same h s r pins i; makes = makes; own = words_at-same h s r.object object i }
 
 pub row_alike : (w : Lost) (m s : Machine) (n : ℕ) → IsAlike w m s → w.lost n ≡ false → row_of m n ≡ row_of s n
 row_alike w m s n h kept =

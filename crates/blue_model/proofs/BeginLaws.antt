@@ -270,7 +270,7 @@ pub record Begun (p s : Machine) : Type 0 where
   pub slots : ℕ → Option ℕ
   pub regs : ℕ → Value
   pub others : (q : ℕ) → (q == DISPLAY) ≡ false → (q == INPUT_SEMAPHORE) ≡ false → (q == TIMER_SEMAPHORE) ≡ false → regs q ≡ with_context (λ r. Int (pos 0)) context load.home load.method load.receiver q
-  pub is : s ≡ record { heap = kept p.heap no_roots; regs = regs; slots = slots; transcript = []; cpu = restored (state_of p) (record numbers_at_rest { ip = load.ip -ℤ pos 1; sp = load.sp }) }
+  pub is : s ≡ record { heap = kept p.heap no_roots; regs = regs; slots = slots; transcript = []; largest = 0; cpu = restored (state_of p) (record numbers_at_rest { ip = load.ip -ℤ pos 1; sp = load.sp }) }
 
 begin_comes : (p : Machine) → Comes (at_rest (kept p.heap no_roots)) (begin (state_of p)) (λ _ s. Begun p s)
 unfolding begin

@@ -24,13 +24,13 @@ use Rattle.blue_model.specs.Contexts.{park}
 -- ---- thinning
 
 allowed_thinned : (serial : ℕ) (m s : Machine) → IsThinned m s → IsThinned (allowed serial m) (allowed serial s)
-allowed_thinned serial m s h = record { thinning = h.thinning; bounded = h.bounded; regs = h.regs; slots = h.slots; transcript = h.transcript; cpu = ap (λ (c : Cpu). record c { vault = nat_lt serial LAST_SERIAL }) h.cpu }
+allowed_thinned serial m s h = record { thinning = h.thinning; bounded = h.bounded; regs = h.regs; slots = h.slots; transcript = h.transcript; largest = h.largest; cpu = ap (λ (c : Cpu). record c { vault = nat_lt serial LAST_SERIAL }) h.cpu }
 
 abbrev numbers_before : Cpu → Cpu → Cpu
 numbers_before c d = record d { base = c.base; ran = c.ran; line = c.line; words_in = c.words_in; words_out = c.words_out }
 
 before_thinned : (m s x y : Machine) → IsThinned m s → IsThinned x y → IsThinned (as_before m x) (as_before s y)
-before_thinned m s x y h t = record { thinning = t.thinning; bounded = t.bounded; regs = t.regs; slots = t.slots; transcript = h.transcript; cpu = ap₂ numbers_before h.cpu t.cpu }
+before_thinned m s x y h t = record { thinning = t.thinning; bounded = t.bounded; regs = t.regs; slots = t.slots; transcript = h.transcript; largest = h.largest; cpu = ap₂ numbers_before h.cpu t.cpu }
 
 broken_agree : (serial : ℕ) (m s : Machine) (o p : Outcome (Unit {0})) (why reason : Stopping) (log rows : List LogRow) → IsThinned m s → Agree o p → why ≡ reason → log ≡ rows → GuardedAgree (broken_by serial m o why log) (broken_by serial s p reason rows)
 broken_agree serial m s (Go a x lines) (Go b y los) why reason log rows t h same equal = (refl, refl, same, equal, t)

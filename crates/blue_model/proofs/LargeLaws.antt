@@ -18,7 +18,7 @@ use Rattle.long_names.specs.Heap.{Heap, add_object, put_object}
 use Rattle.long_names.specs.State.{object_at, part_at}
 use Rattle.long_names.specs.Access.{with_body}
 use Rattle.blue_model.specs.declared.cause.Cause.TheVariants.{Shape}
-use Rattle.blue_model.specs.Machine.{Machine, LogRow, Outcome, Go, Halt, Spent, ◌>>◌, done, rows_at, making_row, is_there, object_made, added, made, make, changed, store_byte, each}
+use Rattle.blue_model.specs.Machine.{Machine, LogRow, Outcome, Go, Halt, Spent, ◌>>◌, done, rows_at, making_row, is_there, object_made, with_object, added, made, make, changed, store_byte, each}
 use Rattle.blue_model.specs.Contexts.{stated}
 use Rattle.blue_model.specs.LargeInts.{magnitude, digits, fewest_bytes, in_range, signed, large_value, number_at, large_operand, class_of_sign, put_bytes, make_large_integer, large_answer}
 use Rattle.blue_model.specs.Trials.{peek}
@@ -160,7 +160,7 @@ comes_make {m} class what = record { to = λ v s log e. go (nat_lt m.heap.next L
 
     end : (b : Bool) (v : Value) (s : Machine) (log : List LogRow) → added m o b ≡ Go v s log → (v ≡ Ref m.heap.next) × (s.heap.at m.heap.next ≡ Some o)
     end true v s log e =
-        let left : record m { heap = add_object m.heap o } ≡ s = cc in
+        let left : with_object m o ≡ s = cc in
         let name : Ref m.heap.next ≡ v = cc in
         (sym name, subst (λ (t : Machine). t.heap.at m.heap.next ≡ Some o) left there)
     end false v s log e = let no : ◌≡◌ {A = Outcome Value} (Halt Shape (making_row m o ∷ [])) (Go v s log) = e in absurd (cc)

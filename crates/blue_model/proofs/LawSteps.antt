@@ -1,6 +1,7 @@
 -- The law of thinning, for each combinator.
 use Rattle.blue_model.specs.BitBlt.{put_words}
 use Rattle.std.proofs.Common.{◌≡◌, ℕ, pos, ◌+◌, ◌≤◌, zero, suc, Bool, true, false, cond, nat_lt, eqb, ◌&&◌, List, [], ◌∷◌, ◌++◌, Option, Some, None, is_some, refl, sym, ◌∙◌, ap, ap₂, subst, subst₂, arith}
+use Rattle.std.specs.Prelude.{max}
 use Rattle.std.specs.List.{slice_get}
 use Rattle.std.specs.Option.{option_map_or, option_and_then}
 use Rattle.std.proofs.lemmas.Grind.{common_steps}
@@ -102,6 +103,7 @@ law_clear {w} among = record {
         regs = let f : (ℕ → Value) → ℕ → Value = λ regs r. cond (among r) (Int (pos 0)) (regs r) in ap f h.thinned.regs;
         slots = h.thinned.slots;
         transcript = h.thinned.transcript;
+        largest = h.thinned.largest;
         cpu = h.thinned.cpu;
       };
       same = h.same;
@@ -126,7 +128,7 @@ law_set_numbers {w} cpu = record {
     refl,
     record {},
     record {
-      thinned = record { thinning = h.thinned.thinning; bounded = h.thinned.bounded; regs = h.thinned.regs; slots = h.thinned.slots; transcript = h.thinned.transcript; cpu = refl };
+      thinned = record { thinning = h.thinned.thinning; bounded = h.thinned.bounded; regs = h.thinned.regs; slots = h.thinned.slots; transcript = h.thinned.transcript; cpu = refl; largest = h.thinned.largest };
       same = h.same;
       gone = h.gone;
       fresh = h.fresh;
@@ -155,6 +157,7 @@ law_put_register {w} r v kept = record { agrees = λ m s h. subst (λ b. Agrees 
           regs = ap (λ g. cond (nat_lt r MACHINE_REGISTERS) (set_register g r v) g) h.thinned.regs;
           slots = h.thinned.slots;
           transcript = h.thinned.transcript;
+          largest = h.thinned.largest;
           cpu = h.thinned.cpu;
         };
         same = h.same;
@@ -284,6 +287,7 @@ law_store {w} v i x k l = record {
           regs = h.thinned.regs;
           slots = h.thinned.slots;
           transcript = h.thinned.transcript;
+          largest = h.thinned.largest;
           cpu = h.thinned.cpu;
         };
         same = λ q f. same_body m.heap s.heap v (λ b. with_field b i x) q (object_alike w m s h v k) (h.same q f);
@@ -362,6 +366,7 @@ law_swap {w} v x k l = record {
           regs = h.thinned.regs;
           slots = h.thinned.slots;
           transcript = h.thinned.transcript;
+          largest = h.thinned.largest;
           cpu = h.thinned.cpu;
         };
         same = λ q f. same_swapped m.heap s.heap v x q (object_alike w m s h v k) (object_alike w m s h x l) (h.same q f);
@@ -394,6 +399,7 @@ law_changed {w} {A} v change test fields k = record {
           regs = h.thinned.regs;
           slots = h.thinned.slots;
           transcript = h.thinned.transcript;
+          largest = h.thinned.largest;
           cpu = h.thinned.cpu;
         };
         same = λ q f. same_body m.heap s.heap v change q (object_alike w m s h v k) (h.same q f);
@@ -461,6 +467,7 @@ law_make {w} class what k = record {
           regs = h.thinned.regs;
           slots = h.thinned.slots;
           transcript = h.thinned.transcript;
+          largest = ap₂ (λ n (r : LogRow). max n r.own) h.thinned.largest (sym (row m s h));
           cpu = h.thinned.cpu;
         };
         same = new_same m s h;
@@ -489,6 +496,7 @@ law_unpin_all {w} = record {
         regs = h.thinned.regs;
         slots = ap unpinned h.thinned.slots;
         transcript = h.thinned.transcript;
+        largest = h.thinned.largest;
         cpu = h.thinned.cpu;
       };
       same = h.same;
@@ -520,6 +528,7 @@ law_pin {w} slot (Ref n) k = record { agrees = λ m s h. subst (λ o. Agrees w I
         regs = h.thinned.regs;
         slots = ap (λ z. set_slot z slot (Some n)) h.thinned.slots;
         transcript = h.thinned.transcript;
+        largest = h.thinned.largest;
         cpu = h.thinned.cpu;
       };
       same = h.same;
@@ -559,6 +568,7 @@ law_say {w} v k = record {
           regs = h.thinned.regs;
           slots = h.thinned.slots;
           transcript = ap (λ t. t ++ bytes) h.thinned.transcript;
+          largest = h.thinned.largest;
           cpu = h.thinned.cpu;
         };
         same = h.same;

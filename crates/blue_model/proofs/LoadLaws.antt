@@ -41,7 +41,7 @@ kept_whole h regs slots whole =
     }
 
 pub thinned_same : (m : Machine) → IsWholeMachine m → IsThinned m m
-thinned_same m whole = record { thinning = IsThinning-refl m.heap m.regs m.slots whole; bounded = IsWhole-bounded m.heap m.regs m.slots whole; regs = refl; slots = refl; transcript = refl; cpu = refl }
+thinned_same m whole = record { thinning = IsThinning-refl m.heap m.regs m.slots whole; bounded = IsWhole-bounded m.heap m.regs m.slots whole; regs = refl; slots = refl; transcript = refl; cpu = refl; largest = refl }
 
 -- ---- its state
 

@@ -4,6 +4,7 @@
 -- that what is made has the names from the next one on. The laws of rules are in `MakingLaws`, one search each.
 use Rattle.blue_model.specs.BitBlt.{put_words}
 use Rattle.std.proofs.Common.{zero, suc, ◌≡◌, ℕ, ◌+◌, ◌*◌, ◌≤◌, Bool, true, false, nat_lt, cond, ◌&&◌, List, [], ◌∷◌, ◌++◌, Option, Some, None, refl, sym, ◌∙◌, ap, ap₂, arith}
+use Rattle.std.specs.Prelude.{max}
 use Rattle.std.specs.Option.{option_map_or}
 use Rattle.long_names.specs.declared.value.Value.{Value}
 use Rattle.long_names.specs.declared.value.Value.TheVariants.{Int, Ref}
@@ -21,7 +22,7 @@ use Rattle.blue_model.specs.declared.answer.Answer.{Answer}
 use Rattle.blue_model.specs.declared.answer.Answer.TheVariants.{Done, Failed, Execute, Quit, Keep}
 use Rattle.blue_model.specs.Machine.{Machine, LogRow, Outcome, Go, Halt, Spent, Rule, after, then_do, ◌>>=◌, done, halt, given, pick, is_there, register, placed, put_register, clear, numbers, set_numbers, rows_at, looked, look, part, known, classed, class_of, stored, store, changed, store_word, store_byte, object_made, added, made, make, unpin_all, pinned, pin, spoken, say, times, each, is_free, swapped, swap}
 use Rattle.blue_model.specs.Trials.{failed, where_some, where_true, ◌>>?◌, peek}
-use Rattle.blue_model.specs.Logs.{made_in, names_from}
+use Rattle.blue_model.specs.Logs.{made_in, names_from, largest_after}
 
 -- ---- logs in a row
 
@@ -33,6 +34,14 @@ made_join (row ∷ rows) ys = go row.makes (made_join rows ys)
     go true e = ap (λ x. row.object ∷ x) e
     go false e = e
 
+pub largest_join : (words : ℕ) (xs ys : List LogRow) → largest_after words (xs ++ ys) ≡ largest_after (largest_after words xs) ys
+largest_join words [] ys = refl
+largest_join words (row ∷ rows) ys = go row.makes (largest_join (max words row.own) rows ys) (largest_join words rows ys)
+  where
+    go : (b : Bool) → largest_after (max words row.own) (rows ++ ys) ≡ largest_after (largest_after (max words row.own) rows) ys → largest_after words (rows ++ ys) ≡ largest_after (largest_after words rows) ys → cond b (largest_after (max words row.own) (rows ++ ys)) (largest_after words (rows ++ ys)) ≡ largest_after (cond b (largest_after (max words row.own) rows) (largest_after words rows)) ys
+    go true e f = e
+    go false e f = f
+
 names_join : (n j k : ℕ) → names_from n j ++ names_from (n + 2 * j) k ≡ names_from n (j + k)
 names_join n zero k = let here : n + 2 * 0 ≡ n = omega arith in let none : k ≡ 0 + k = omega arith in ap (λ x. names_from x k) here ∙ ap (names_from n) none
 names_join n (suc j) k =
@@ -43,9 +52,9 @@ names_join n (suc j) k =
 -- ---- what an outcome has made
 
 -- The log has the makings of so many objects, under the names from the next one on. P says how many may come with an answer, and most
--- how many with a stop.
+-- how many with a stop. With an answer the machine knows the largest of them.
 abbrev pub Makes : {A : Type 0} → (A → ℕ → Type 0) → ℕ → Machine → Outcome A → Type 0
-Makes P most m (Go a s log) = (k : ℕ) × P a k × (made_in log ≡ names_from m.heap.next k) × (s.heap.next ≡ m.heap.next + 2 * k)
+Makes P most m (Go a s log) = (k : ℕ) × P a k × (made_in log ≡ names_from m.heap.next k) × (s.heap.next ≡ m.heap.next + 2 * k) × (s.largest ≡ largest_after m.largest log)
 Makes P most m (Halt c log) = (k : ℕ) × (k ≤ most) × (made_in log ≡ names_from m.heap.next k)
 Makes P most m (Spent log) = (k : ℕ) × (k ≤ most) × (made_in log ≡ names_from m.heap.next k)
 
@@ -57,7 +66,7 @@ pub makes_then : {A B : Type 0} (P : A → ℕ → Type 0) (most : ℕ) (Q : A �
 makes_then {A} {B} P most Q more R all m (Go a s log) k h f both stop low = go (k a s) (f a s)
   where
     go : (o : Outcome B) → Makes (Q a) (more a) s o → Makes R all m (after log o)
-    go (Go b t rows) g = (h.0 + g.0, both a b h.0 g.0 h.1 g.1, made_then log rows m.heap.next s.heap.next h.0 g.0 h.2 h.3 g.2, (let first = h.3 in let then = g.3 in omega arith))
+    go (Go b t rows) g = (h.0 + g.0, both a b h.0 g.0 h.1 g.1, made_then log rows m.heap.next s.heap.next h.0 g.0 h.2 h.3 g.2, (let first = h.3 in let then = g.3 in omega arith), g.4 ∙ ap (λ words. largest_after words rows) h.4 ∙ sym (largest_join m.largest log rows))
     go (Halt c rows) g = (h.0 + g.0, stop a h.0 g.0 h.1 g.1, made_then log rows m.heap.next s.heap.next h.0 g.0 h.2 h.3 g.2)
     go (Spent rows) g = (h.0 + g.0, stop a h.0 g.0 h.1 g.1, made_then log rows m.heap.next s.heap.next h.0 g.0 h.2 h.3 g.2)
 makes_then P most Q more R all m (Halt c log) k h f both stop low = let few = h.1 in (h.0, omega arith, h.2)
@@ -76,7 +85,7 @@ pub at_most : {A : Type 0} (n : ℕ) (p : Rule A) → MakesNone p → MakesAtMos
 at_most {A} n p f = record { makes = λ m. go m (p m) (f.makes m) }
   where
     go : (m : Machine) (o : Outcome A) → Makes (λ a k. k ≤ 0) 0 m o → Makes (λ a k. k ≤ n) n m o
-    go m (Go a s log) h = let few = h.1 in (h.0, omega arith, h.2, h.3)
+    go m (Go a s log) h = let few = h.1 in (h.0, omega arith, h.2, h.3, h.4)
     go m (Halt c log) h = let few = h.1 in (h.0, omega arith, h.2)
     go m (Spent log) h = let few = h.1 in (h.0, omega arith, h.2)
 
@@ -111,7 +120,7 @@ some_pick false p q f g = g
 
 pub none_done : {A : Type 0} (a : A) → MakesNone (done a)
 unfolding done
-none_done a = record { makes = λ m. (0, omega arith, refl, omega arith) }
+none_done a = record { makes = λ m. (0, omega arith, refl, omega arith, refl) }
 
 pub none_halt : {A : Type 0} (c : Cause) → MakesNone {A = A} (halt c)
 unfolding halt
@@ -136,26 +145,26 @@ none_times (suc n) p f = none_then (λ _. p) (none_times n p f) (λ _. f)
 
 pub none_register : (r : ℕ) → MakesNone (register r)
 unfolding register
-none_register r = record { makes = λ m. (0, omega arith, refl, omega arith) }
+none_register r = record { makes = λ m. (0, omega arith, refl, omega arith, refl) }
 
 pub none_numbers : MakesNone numbers
 unfolding numbers
-none_numbers = record { makes = λ m. (0, omega arith, refl, omega arith) }
+none_numbers = record { makes = λ m. (0, omega arith, refl, omega arith, refl) }
 
 pub none_set_numbers : (cpu : Cpu) → MakesNone (set_numbers cpu)
 unfolding set_numbers
-none_set_numbers cpu = record { makes = λ m. (0, omega arith, refl, omega arith) }
+none_set_numbers cpu = record { makes = λ m. (0, omega arith, refl, omega arith, refl) }
 
 pub none_clear : (among : ℕ → Bool) → MakesNone (clear among)
 unfolding clear
-none_clear among = record { makes = λ m. (0, omega arith, refl, omega arith) }
+none_clear among = record { makes = λ m. (0, omega arith, refl, omega arith, refl) }
 
 pub none_put_register : (r : ℕ) (v : Value) → MakesNone (put_register r v)
 unfolding put_register
 none_put_register r v = record { makes = λ m. go m (is_there m.heap v) }
   where
     go : (m : Machine) (b : Bool) → Makes (λ a k. k ≤ 0) 0 m (placed m r v b)
-    go m true = (0, omega arith, refl, omega arith)
+    go m true = (0, omega arith, refl, omega arith, refl)
     go m false = (0, omega arith, refl)
 
 -- ---- objects
@@ -164,13 +173,17 @@ no_rows : (m : Machine) (v : Value) → made_in (rows_at m v) ≡ []
 no_rows m (Int z) = refl
 no_rows m (Ref n) = refl
 
+same_largest : (words : ℕ) (m : Machine) (v : Value) → words ≡ largest_after words (rows_at m v)
+same_largest words m (Int z) = refl
+same_largest words m (Ref n) = refl
+
 pub none_look : (v : Value) → MakesNone (look v)
 unfolding look
 none_look v = record { makes = λ m. go m (object_at m.heap v) }
   where
     go : (m : Machine) (o : Option Object) → Makes (λ a k. k ≤ 0) 0 m (looked m v o)
     go m None = (0, omega arith, no_rows m v)
-    go m (Some o) = (0, omega arith, no_rows m v, omega arith)
+    go m (Some o) = (0, omega arith, no_rows m v, omega arith, same_largest m.largest m v)
 
 pub none_part : {A : Type 0} (c : Cause) (f : Object → Option A) (v : Value) → MakesNone (part c f v)
 unfolding part
@@ -186,7 +199,7 @@ none_class_of v = record { makes = λ m. go m (class_at m.heap v) }
   where
     go : (m : Machine) (o : Option ℕ) → Makes (λ a k. k ≤ 0) 0 m (classed m v o)
     go m None = (0, omega arith, refl)
-    go m (Some class) = (0, omega arith, refl, omega arith)
+    go m (Some class) = (0, omega arith, refl, omega arith, refl)
 
 next_name : (h : Heap) (v : Value) (change : Body → Body) → (with_body h v change).next ≡ h.next
 next_name h (Int z) change = refl
@@ -203,11 +216,15 @@ none_store v i w = record { makes = λ m. go m (part_at m.heap v (λ b. field_of
     go : (m : Machine) (old : Option Value) (there : Bool) → Makes (λ a k. k ≤ 0) 0 m (stored m v i w old there)
     go m None there = (0, omega arith, no_rows m v)
     go m (Some old) false = (0, omega arith, no_rows m v)
-    go m (Some old) true = (0, omega arith, no_rows m v, (let same = next_name m.heap v (λ b. with_field b i w) in omega arith))
+    go m (Some old) true = (0, omega arith, no_rows m v, (let same = next_name m.heap v (λ b. with_field b i w) in omega arith), same_largest m.largest m v)
 
 no_more_rows : (m : Machine) (v w : Value) → made_in (rows_at m v ++ rows_at m w) ≡ []
 no_more_rows m (Int z) w = no_rows m w
 no_more_rows m (Ref n) w = no_rows m w
+
+same_largest_of_both : (words : ℕ) (m : Machine) (v w : Value) → words ≡ largest_after words (rows_at m v ++ rows_at m w)
+same_largest_of_both words m (Int z) w = same_largest words m w
+same_largest_of_both words m (Ref n) w = same_largest words m w
 
 next_swapped : (h : Heap) (v w : Value) → (with_swapped h v w).next ≡ h.next
 next_swapped h (Ref n) (Int z) = refl
@@ -225,14 +242,14 @@ none_swap v w = record { makes = λ m. go m (is_free m v && is_free m w) }
   where
     go : (m : Machine) (b : Bool) → Makes (λ a k. k ≤ 0) 0 m (swapped m v w b)
     go m false = (0, omega arith, no_more_rows m v w)
-    go m true = (0, omega arith, no_more_rows m v w, (let same = next_swapped m.heap v w in omega arith))
+    go m true = (0, omega arith, no_more_rows m v w, (let same = next_swapped m.heap v w in omega arith), same_largest_of_both m.largest m v w)
 
 none_changed : (v : Value) (change : Body → Body) (test : Machine → Bool) → MakesNone (λ m. changed m v change (test m))
 none_changed v change test = record { makes = λ m. go m (test m) }
   where
     go : (m : Machine) (b : Bool) → Makes (λ a k. k ≤ 0) 0 m (changed m v change b)
     go m false = (0, omega arith, no_rows m v)
-    go m true = (0, omega arith, no_rows m v, (let same = next_name m.heap v change in omega arith))
+    go m true = (0, omega arith, no_rows m v, (let same = next_name m.heap v change in omega arith), same_largest m.largest m v)
 
 pub none_store_word : (v : Value) (i word : ℕ) → MakesNone (store_word v i word)
 unfolding store_word
@@ -248,7 +265,7 @@ none_put_words v words = none_changed v _ _
 
 pub none_unpin_all : MakesNone unpin_all
 unfolding unpin_all
-none_unpin_all = record { makes = λ m. (0, omega arith, refl, omega arith) }
+none_unpin_all = record { makes = λ m. (0, omega arith, refl, omega arith, refl) }
 
 pub none_pin : (slot : ℕ) (v : Value) → MakesNone (pin slot v)
 unfolding pin
@@ -257,7 +274,7 @@ none_pin slot (Ref n) = record { makes = λ m. go m (m.heap.at n) }
   where
     go : (m : Machine) (o : Option Object) → Makes (λ a k. k ≤ 0) 0 m (pinned m slot n o)
     go m None = (0, omega arith, refl)
-    go m (Some o) = (0, omega arith, refl, omega arith)
+    go m (Some o) = (0, omega arith, refl, omega arith, refl)
 
 pub none_say : (v : Value) → MakesNone (say v)
 unfolding say
@@ -265,7 +282,7 @@ none_say v = record { makes = λ m. go m (part_at m.heap v text_of) }
   where
     go : (m : Machine) (o : Option (List ℕ)) → Makes (λ a k. k ≤ 0) 0 m (spoken m v o)
     go m None = (0, omega arith, no_rows m v)
-    go m (Some bytes) = (0, omega arith, no_rows m v, omega arith)
+    go m (Some bytes) = (0, omega arith, no_rows m v, omega arith, same_largest m.largest m v)
 
 pub none_peek : {A : Type 0} (f : Object → Option A) (v : Value) → MakesNone (peek f v)
 unfolding peek
@@ -277,7 +294,7 @@ unfolding make
 one_make class what = record { makes = λ m. go m (nat_lt m.heap.next LAST_NAME) }
   where
     add : (m : Machine) (b : Bool) → Makes (λ a k. k ≤ 1) 1 m (added m (object_made class what) b)
-    add m true = (1, omega arith, refl, omega arith)
+    add m true = (1, omega arith, refl, omega arith, refl)
     add m false = (1, omega arith, refl)
 
     go : (m : Machine) (b : Bool) → Makes (λ a k. k ≤ 1) 1 m (made m (object_made class what) b)
@@ -305,7 +322,7 @@ pub record EndsDone (p : Rule Answer) : Type 0 where
 
 pub ends_done : EndsDone (done Done)
 unfolding done
-ends_done = record { makes = λ m. (0, (omega arith, refl), refl, omega arith) }
+ends_done = record { makes = λ m. (0, (omega arith, refl), refl, omega arith, refl) }
 
 pub ends_then : {A : Type 0} {p : Rule A} (k : A → Rule Answer) → MakesNone p → ((a : A) → EndsDone (k a)) → EndsDone (p >>= k)
 unfolding ◌>>=◌
@@ -315,7 +332,7 @@ pub sparing_none : {p : Rule Answer} → MakesNone p → MakesSparingly p
 sparing_none {p} f = record { makes = λ m. go m (p m) (f.makes m) }
   where
     go : (m : Machine) (o : Outcome Answer) → Makes (λ a k. k ≤ 0) 0 m o → Makes (λ a k. k ≤ allowed a) 1 m o
-    go m (Go a s log) h = let few = h.1 in (h.0, omega arith, h.2, h.3)
+    go m (Go a s log) h = let few = h.1 in (h.0, omega arith, h.2, h.3, h.4)
     go m (Halt c log) h = let few = h.1 in (h.0, omega arith, h.2)
     go m (Spent log) h = let few = h.1 in (h.0, omega arith, h.2)
 

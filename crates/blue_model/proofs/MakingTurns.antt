@@ -129,7 +129,7 @@ unfolding ◌>>=◌ done pick
 or_activated p f = record { makes = λ m. makes_then (λ (a : Answer) i. i ≤ allowed a) 1 follows (left 1) (λ (b : Answer) i. i ≤ allowed b) 1 m (p m) (λ answer. pick (has_failed answer) (activate >> done Done) (done answer)) (f.makes m) then both stop (omega arith) }
   where
     same : (a : Answer) (s : Machine) → Makes (λ b j. (j ≤ 0) × (b ≡ a)) 0 s (done a s)
-    same a s = (0, (omega arith, refl), refl, omega arith)
+    same a s = (0, (omega arith, refl), refl, omega arith, refl)
 
     then : (a : Answer) (s : Machine) → Makes (follows a) (left 1 a) s (pick (has_failed a) (activate >> done Done) (done a) s)
     then Failed s = activated.makes s
@@ -174,7 +174,7 @@ few_sparing p f = record { makes = λ m. go m (p m) (f.makes m) }
     low Keep k h = omega arith
 
     go : (m : Machine) (o : Outcome Answer) → Makes (λ a k. k ≤ allowed a) 1 m o → Makes (λ a k. k ≤ 1) 1 m o
-    go m (Go a s log) h = (h.0, low a h.0 h.1, h.2, h.3)
+    go m (Go a s log) h = (h.0, low a h.0 h.1, h.2, h.3, h.4)
     go m (Halt c log) h = h
     go m (Spent log) h = h
 

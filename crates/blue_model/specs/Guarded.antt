@@ -27,9 +27,10 @@ pub data Guarded : Type 0 where
 abbrev pub allowed : ℕ → Machine → Machine
 allowed serial m = record m { cpu = record m.cpu { vault = nat_lt serial LAST_SERIAL } }
 
--- what was loaded of m, with what m knows of this run: the transcript, what was run of how much, and what was taken of the events
+-- what was loaded of m, with what m knows of this run: the transcript, what was run of how much, what was taken of the events, and what
+-- was made
 abbrev pub as_before : Machine → Machine → Machine
-as_before m next = record next { transcript = m.transcript; cpu = record next.cpu { base = m.cpu.base; ran = m.cpu.ran; line = m.cpu.line; words_in = m.cpu.words_in; words_out = m.cpu.words_out } }
+as_before m next = record next { transcript = m.transcript; largest = m.largest; cpu = record next.cpu { base = m.cpu.base; ran = m.cpu.ran; line = m.cpu.line; words_in = m.cpu.words_in; words_out = m.cpu.words_out } }
 
 -- A loading that stopped, by what parking came to: where it went through, its machine was kept under the next serial before the start
 -- on it stopped.

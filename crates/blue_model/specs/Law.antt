@@ -28,6 +28,7 @@ pub record IsThinned (m s : Machine) : Type 0 where
   pub slots : s.slots ≡ m.slots
   pub transcript : s.transcript ≡ m.transcript
   pub cpu : s.cpu ≡ m.cpu
+  pub largest : s.largest ≡ m.largest
 
 -- Slots 0 to 2 pin the active context, its home and its method: registers 0 to 2 hold names, and slot i has that of register i.
 pub record HasPins (m : Machine) : Type 0 where

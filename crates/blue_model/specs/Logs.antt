@@ -1,5 +1,5 @@
 -- What stands in the logs of a whole run: the rows of each of its bytecodes, the objects that it makes, and how many objects live then.
-use Rattle.std.specs.Prelude.{zero, suc, ◌≡◌, ℕ, ◌+◌, ◌==◌, ◌||◌, Bool, nat_lt, nat_le, List, [], ◌∷◌, ◌++◌, slice_get, Some, if◌then◌else◌}
+use Rattle.std.specs.Prelude.{zero, suc, ◌≡◌, ◌≤◌, ℕ, ◌+◌, ◌==◌, ◌||◌, Bool, true, max, nat_lt, nat_le, List, [], ◌∷◌, ◌++◌, slice_get, Some, if◌then◌else◌}
 use Rattle.long_names.specs.Heap.{Heap, object_count}
 use Rattle.long_names.specs.Kept.{any_below, kept}
 use Rattle.long_names.specs.Need.{is_pinned}
@@ -22,6 +22,16 @@ made_in (row ∷ rows) = if row.makes then row.object ∷ made_in rows else made
 abbrev pub names_from : ℕ → ℕ → List ℕ
 names_from name zero = []
 names_from name (suc n) = name ∷ names_from (name + 2) n
+
+-- the words that the largest object takes that was made by the end of a log, where the largest before it took so many
+abbrev pub largest_after : ℕ → List LogRow → ℕ
+largest_after words [] = words
+largest_after words (row ∷ rows) = if row.makes then largest_after (max words row.own) rows else largest_after words rows
+
+-- each object that a log makes takes at most so many words
+abbrev pub AreWithin : ℕ → List LogRow → Type 0
+AreWithin words [] = Unit {0}
+AreWithin words (row ∷ rows) = (row.makes ≡ true → row.own ≤ words) × AreWithin words rows
 
 -- ---- what lives
 

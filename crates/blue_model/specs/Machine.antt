@@ -1,5 +1,5 @@
 -- The machine of chapters 26 to 30 over one unbounded memory of long names, and rules that take it on.
-use Rattle.std.specs.Prelude.{zero, suc, ℕ, pos, Bool, true, false, ◌&&◌, nat_lt, List, [], ◌∷◌, ◌++◌, Option, Some, None, is_some, slice_get, if◌then◌else◌}
+use Rattle.std.specs.Prelude.{zero, suc, ℕ, pos, Bool, true, false, ◌&&◌, nat_lt, max, List, [], ◌∷◌, ◌++◌, Option, Some, None, is_some, slice_get, if◌then◌else◌}
 use Rattle.std.specs.Option.{option_and_then}
 use Rattle.long_names.specs.declared.value.Value.{Value}
 use Rattle.long_names.specs.declared.value.Value.TheVariants.{Int, Ref}
@@ -12,7 +12,7 @@ use Rattle.long_names.specs.Heap.{Heap, add_object}
 use Rattle.long_names.specs.Kept.{any_below}
 use Rattle.long_names.specs.State.{SLOTS, set_register, set_slot, object_at, name_at, class_at, part_at}
 use Rattle.long_names.specs.Access.{with_body, with_swapped}
-use Rattle.long_names.specs.Need.{Row, is_pinned, words_of_row, entries_of_row}
+use Rattle.long_names.specs.Need.{Row, is_pinned, words_at, words_of_row, entries_of_row}
 use Rattle.blue_model.specs.declared.cause.Cause.{Cause}
 use Rattle.blue_model.specs.declared.cause.Cause.TheVariants.{Shape}
 use Rattle.blue_model.specs.declared.cpu.Cpu.{Cpu}
@@ -20,13 +20,15 @@ use Rattle.blue_model.specs.declared.indexes.TheConstants.{EMPTY_STACK}
 
 -- ---- machines
 
--- A heap, registers 0 to 9, the slots of the pinned objects, the transcript, and the numbers of the processor.
+-- A heap, registers 0 to 9, the slots of the pinned objects, the transcript, the numbers of the processor, and the words that the largest
+-- object of those that it made takes in a core, 0 where it made none.
 pub record Machine : Type 0 where
   pub heap : Heap
   pub regs : ℕ → Value
   pub slots : ℕ → Option ℕ
   pub transcript : List ℕ
   pub cpu : Cpu
+  pub largest : ℕ
 
 -- the registers that are the machine's; those from here on are a memory's own
 abbrev pub MACHINE_REGISTERS : ℕ
@@ -35,22 +37,23 @@ MACHINE_REGISTERS = 10
 abbrev pub numbers_at_rest : Cpu
 numbers_at_rest = record { ip = pos 0; sp = pos EMPTY_STACK; args = 0; waiting = false; line = 0; words_in = 0; words_out = 0; timer = None; display = false; input = false; ran = 0; base = 0; vault = false }
 
--- nothing has been loaded: numbers in all registers, no object pinned, nothing said
+-- nothing has been loaded: numbers in all registers, no object pinned, nothing said or made
 abbrev pub at_rest : Heap → Machine
-at_rest h = record { heap = h; regs = λ r. Int (pos 0); slots = λ i. None; transcript = []; cpu = numbers_at_rest }
+at_rest h = record { heap = h; regs = λ r. Int (pos 0); slots = λ i. None; transcript = []; cpu = numbers_at_rest; largest = 0 }
 
 -- ---- logs
 
--- a row of a log: an object that a rule names, reads, writes, makes or pins, and what it needs of a core with the objects that are
--- pinned at that moment
+-- a row of a log: an object that a rule names, reads, writes, makes or pins, what it needs of a core with the objects that are pinned at
+-- that moment, and the words that it takes there itself
 pub record LogRow : Type 0 where
   pub object : ℕ
   pub words : ℕ
   pub entries : ℕ
   pub makes : Bool
+  pub own : ℕ
 
 abbrev pub logged : Heap → Row → Bool → LogRow
-logged h r makes = record { object = r.object; words = words_of_row h r; entries = entries_of_row h r; makes = makes }
+logged h r makes = record { object = r.object; words = words_of_row h r; entries = entries_of_row h r; makes = makes; own = words_at h r.object }
 
 -- of an object that is there, and of one that is made
 abbrev pub row_of : Machine → ℕ → LogRow
@@ -211,8 +214,11 @@ swap v w m = swapped m v w (is_free m v && is_free m w)
 abbrev pub object_made : Value → Making → Object
 object_made class what = record { class = name_at class; body = body_made what }
 
+abbrev pub with_object : Machine → Object → Machine
+with_object m o = record m { heap = add_object m.heap o; largest = max m.largest (making_row m o).own }
+
 abbrev pub added : Machine → Object → Bool → Outcome Value
-added m o true = Go (Ref m.heap.next) (record m { heap = add_object m.heap o }) (making_row m o ∷ [])
+added m o true = Go (Ref m.heap.next) (with_object m o) (making_row m o ∷ [])
 added m o false = Halt Shape (making_row m o ∷ [])
 
 abbrev pub made : Machine → Object → Bool → Outcome Value

@@ -6,9 +6,10 @@ ghost use Rattle.long_names.specs.Kept.{kept};
 ghost use Rattle.blue_model.specs.declared.event.Line.{Line};
 ghost use Rattle.blue_model.specs.Machine.{Machine, LogRow, Go, log_of};
 ghost use Rattle.blue_model.specs.State.{State, begin};
-ghost use Rattle.blue_model.specs.Cycle.{cycle, park_and_draw};
+ghost use Rattle.blue_model.specs.Cycle.{cycle, park_and_draw, Parked, ending};
+ghost use Rattle.blue_model.specs.declared.step.Step.{Step};
 ghost use Rattle.blue_model.specs.Law.{IsThinned};
-ghost use Rattle.blue_model.specs.Logs.{made_in, names_from, living, lives};
+ghost use Rattle.blue_model.specs.Logs.{made_in, names_from, living, lives, largest_after, AreWithin, rows_of_bytecode};
 
 /// A cycle makes no more than 3 objects, whatever becomes of it, and they have the names from the next one on. The start, the state
 /// that it goes on with, park and the picture make none.
@@ -16,6 +17,16 @@ pub fn a_cycle_makes_at_most_three()
     ensures cycle { (events : List Line) (m : Machine) → (k : ℕ) × (k ≤ 3) × (made_in (log_of (cycle events m)) ≡ names_from m.heap.next k) }
     ensures begin { (state : State) (m : Machine) → made_in (log_of (begin state m)) ≡ [] }
     ensures draw { (m : Machine) → made_in (log_of (park_and_draw m)) ≡ [] }
+{}
+
+/// A machine knows the words of the largest object that it made: after a cycle they are those of before, or of a making of its log. The
+/// start, the state that it goes on with, park and the picture leave them. No making of a whole run took more words than those of the
+/// machine that is parked in the end.
+pub fn a_machine_knows_its_largest_object()
+    ensures cycle { (events : List Line) (m s : Machine) (end : Step) (log : List LogRow) → cycle events m ≡ Go end s log → s.largest ≡ largest_after m.largest log }
+    ensures begin { (state : State) (m s : Machine) (log : List LogRow) → begin state m ≡ Go tt s log → s.largest ≡ m.largest }
+    ensures draw { (m s : Machine) (picture : List ℕ) (log : List LogRow) → park_and_draw m ≡ Go picture s log → s.largest ≡ m.largest }
+    ensures whole { (events : List Line) (steps k : ℕ) (state : State) (h : Heap) (end : Step) (m : Machine) (picture : List ℕ) → ending events steps state h ≡ Parked end m picture → AreWithin m.largest (rows_of_bytecode events steps state h k) }
 {}
 
 /// At making i of a cycle, counted from 0, i + 1 objects more live than before the cycle. Over a thinning as many live, at each making.

@@ -1,13 +1,16 @@
 -- Makings of objects.
-use Rattle.std.proofs.Common.{◌≡◌, ℕ, ◌+◌, ◌<◌, ◌≤◌, ◌&&◌, nat_lt, Bool, true, false, eqb, Option, Some, Ok, Err, IsTrue, is_some, inl, refl, sym, ◌∙◌, ap, ap₂, subst, arith}
+use Rattle.contexts.proofs.ServesLaws.{fits_later}
+use Rattle.std.proofs.Common.{◌≡◌, ℕ, ◌+◌, ◌<◌, ◌≤◌, ◌&&◌, nat_lt, Bool, true, false, eqb, eq-eqb, cond, Option, Some, None, Ok, Err, IsTrue, is_some, inl, refl, sym, ◌∙◌, ap, ap₂, subst, arith}
 use Rattle.std.proofs.lemmas.Grind.{common_steps}
+use Rattle.std.proofs.Math.Nat.{max-le}
+use Rattle.std.specs.Option.{option_map_or}
 use borrow.Author.Tests.{ltb-true, ltb-false}
 use Rattle.long_names.specs.declared.value.Value.{Value}
 use Rattle.long_names.specs.declared.value.Value.TheVariants.{Ref}
 use Rattle.long_names.specs.declared.object.Object.{Object}
 use Rattle.long_names.specs.Names.{NIL}
 use Rattle.long_names.specs.declared.limits.TheConstants.{LAST_NAME}
-use Rattle.long_names.specs.Objects.{Making}
+use Rattle.long_names.specs.Objects.{Making, body_words}
 use Rattle.long_names.specs.Heap.{Heap, Has, add_object}
 use Rattle.long_names.specs.State.{name_at}
 use Rattle.long_names.specs.Access.{Make, Answer}
@@ -17,12 +20,12 @@ use Rattle.long_names.proofs.AccessLaws.{named-there}
 use Rattle.object_memory.specs.declared.fault.Need.{Need}
 use Rattle.object_memory.specs.declared.fault.MemFault.{MemFault}
 use Rattle.object_memory.specs.declared.fault.MemFault.TheVariants.{CoreFull, WorkFull, WorkFault, Damaged, NamesSpent, Said, Memory}
-use Rattle.object_memory.specs.Told.{Told, IsReady, need_of}
-use Rattle.object_memory.specs.Contract.{Does, Called, Accessed, HasCause, IsLeft, LeavesAll, need_of_access}
+use Rattle.object_memory.specs.Told.{Told, Bounds, IsReady, need_of}
+use Rattle.object_memory.specs.Contract.{IfBounds, Does, Called, Accessed, HasCause, IsLeft, LeavesAll, need_of_access}
 use Rattle.object_memory.proofs.LeftLaws.{heap_over}
 use Rattle.object_memory.proofs.LooksLaws.{set_other}
 use Rattle.blue_model.specs.declared.cpu.Cpu.{Cpu}
-use Rattle.blue_model.specs.Machine.{Machine, MACHINE_REGISTERS, log_of, is_there, object_made, making_row, added, made, make}
+use Rattle.blue_model.specs.Machine.{Machine, MACHINE_REGISTERS, log_of, is_there, object_made, making_row, with_object, added, made, make}
 use Rattle.contexts.specs.declared.stop.Stop.TheVariants.{Mem}
 use Rattle.contexts.specs.Serves.{Stands, HasNeed, IsLogged, HasMaking, Allows, Gives, Serves}
 use Rattle.contexts.proofs.CacheLaws.{sound_follows}
@@ -45,6 +48,14 @@ parts_there t cpu m class ready told st =
 came_is : (n : ℕ) (v : Value) → Some (Ref n) ≡ Some v → Ref n ≡ v
 came_is n v e = cc
 
+-- a core that holds what a machine made, and a new object, holds what it has made then
+fits_made : (m : Machine) (o : Object) (bounds : Option Bounds) → IfBounds bounds (λ b. m.largest ≤ b.core) → IfBounds bounds (λ b. 4 + body_words o.body ≤ b.core) → IfBounds bounds (λ b. (with_object m o).largest ≤ b.core)
+fits_made m o None before own = tt
+fits_made m o (Some b) before own = max-le before (subst (λ words. words ≤ b.core) (sym (ap (λ (x : Option Object). option_map_or (λ (o : Object). 4 + body_words o.body) x 0) new_there)) own)
+  where
+    new_there : (add_object m.heap o).at m.heap.next ≡ Some o
+    new_there = ap (λ b. cond b (Some o) (m.heap.at m.heap.next)) (eq-eqb m.heap.next m.heap.next refl)
+
 -- An object was made, and its name is in a scratch register.
 pub make_serves : {Z : Type 0} {z : Z} {old new : Told} {cpu : Cpu} {spell : Z → Answer} (to class : ℕ) (what : Making) → MACHINE_REGISTERS ≤ to → IsReady old → IsReady new → Accessed old new (Make to class what) spell (Ok z) → Serves old cpu new cpu (make (old.regs class) what) (Ok (new.regs to))
 unfolding make
@@ -58,12 +69,13 @@ make_serves {Z} {z} {old} {new} {cpu} {spell} to class what above before ready x
   model = λ told m st. go told m st (nat_lt m.heap.next LAST_NAME) refl;
 }
   where
-    after : (told : IsTrue old.tells) (m : Machine) → Stands old cpu m → Stands new cpu (record m { heap = add_object m.heap (object_made (old.regs class) what) })
+    after : (told : IsTrue old.tells) (m : Machine) → Stands old cpu m → Stands new cpu (with_object m (object_made (old.regs class) what))
     after told m st = record {
       heap = heap_over m.heap old new (Make to class what) st.heap before x.called.ok told;
       regs = λ r low. (let apart : eqb r to ≡ false = grind (arith, common_steps) in st.regs r low ∙ sym (ap (λ (g : ℕ → Value). g r) x.called.ok.regs ∙ set_other old.regs to (new.regs to) r apart));
       slots = st.slots ∙ sym x.called.ok.slots;
       numbers = st.numbers;
+      fits = fits_later old.bounds new.bounds (with_object m (object_made (old.regs class) what)).largest x.called.later.bounds (fits_made m (object_made (old.regs class) what) old.bounds st.fits x.core);
       transcript = λ speaks. (let spoke = sym x.called.later.speaks ∙ speaks in x.called.ok.transcript spoke ∙ st.transcript spoke);
       cache = sound_follows old new (Does (Make to class what)) before ready x.called.ok told (x.called.later.tells ∙ told) st.cache;
     }

@@ -22,7 +22,7 @@ use Rattle.blue_model.specs.Contexts.{put_context}
 use Rattle.contexts.specs.declared.stop.Stop.TheVariants.{Stuck, Mem}
 use Rattle.contexts.specs.Serves.{Stands, IsLogged, Gives, Serves}
 use Rattle.contexts.proofs.CacheLaws.{sound_follows}
-use Rattle.contexts.proofs.ServesLaws.{IsCounted-refl, serves_then}
+use Rattle.contexts.proofs.ServesLaws.{fits_later, IsCounted-refl, serves_then}
 use Rattle.contexts.proofs.Steps.{IsQuiet}
 use Rattle.contexts.proofs.ReadLaws.{scratch, quiet, object_refused}
 use Rattle.contexts.proofs.StoreLaws.{held_there, thinned_here}
@@ -48,6 +48,7 @@ pin_serves {Z} {z} {old} {new} {cpu} slot of before ready named x = record {
       regs = λ r low. st.regs r low ∙ sym (ap (λ (g : ℕ → Value). g r) x.ok.regs);
       slots = ap (λ (s : ℕ → Option ℕ). set_slot s slot (Some n)) st.slots ∙ sym (x.ok.slots ∙ ap (λ v. set_slot old.slots slot (Some (name_at v))) e);
       numbers = st.numbers;
+      fits = fits_later old.bounds new.bounds m.largest x.later.bounds st.fits;
       transcript = λ speaks. (let spoke = sym x.later.speaks ∙ speaks in x.ok.transcript spoke ∙ st.transcript spoke);
       cache = sound_follows old new (Does (Pin slot of)) before ready x.ok told (x.later.tells ∙ told) st.cache;
     }
@@ -98,6 +99,7 @@ unpin_serves {old} {new} {cpu} ready e = subst (λ (t : Told). Serves old cpu t 
       regs = st.regs;
       slots = ap unpinned st.slots;
       numbers = st.numbers;
+      fits = st.fits;
       transcript = st.transcript;
       cache = st.cache;
     },
@@ -136,6 +138,7 @@ put_serves {old} {new} {cpu} to from low before ready e = subst (λ (t : Told). 
           regs = λ r below. ap (λ b. cond b (set_register m.regs to (old.regs from)) m.regs r) low ∙ set_both m.regs old.regs to (old.regs from) r (st.regs r below);
           slots = st.slots;
           numbers = st.numbers;
+          fits = st.fits;
           transcript = st.transcript;
           cache = st.cache;
         },

@@ -7,7 +7,7 @@ use Rattle.object_memory.specs.declared.fault.Need.{Need}
 use Rattle.object_memory.specs.declared.fault.MemFault.{MemFault}
 use Rattle.object_memory.specs.declared.fault.MemFault.TheVariants.{CoreFull, WorkFull, WorkFault, Damaged, NamesSpent, Said, Memory}
 use Rattle.object_memory.specs.Told.{Told, Bounds}
-use Rattle.object_memory.specs.Contract.{SameBounds, IsLater, work_faults, said_faults}
+use Rattle.object_memory.specs.Contract.{IfBounds, SameBounds, IsLater, work_faults, said_faults}
 use Rattle.object_memory.proofs.LaterLaws.{IsLater-trans, Raised-refl, Raised-then}
 use Rattle.blue_model.specs.declared.cpu.Cpu.{Cpu}
 use Rattle.blue_model.specs.Machine.{Machine, LogRow, Outcome, Go, Halt, Spent, Rule, log_of, after, then_do, ◌>>=◌}
@@ -33,6 +33,15 @@ IsCounted-trans j k a b c l x y = record {
 pub counts_trans : {A : Type 0} (a b c : Told) (r : Result A Stop) → IsLater a b → HasCounted a b → OnOk r (HasCounted b c) → OnOk r (HasCounted a c)
 counts_trans a b c (Ok x) l p q = (p.0 + q.0, IsCounted-trans p.0 q.0 a b c l p.1 q.1)
 counts_trans a b c (Err e) l p q = tt
+
+-- ---- bounds
+
+-- what fits in a core fits in it later
+pub fits_later : (old new : Option Bounds) (words : ℕ) → SameBounds old new → IfBounds old (λ b. words ≤ b.core) → IfBounds new (λ b. words ≤ b.core)
+fits_later None None words same fits = tt
+fits_later None (Some c) words same fits = absurd same
+fits_later (Some b) None words same fits = absurd same
+fits_later (Some b) (Some c) words same fits = let core = same.0 in omega arith
 
 -- ---- causes
 

@@ -22,7 +22,7 @@ use Rattle.contexts.specs.declared.stop.Stop.{Stop}
 use Rattle.contexts.specs.declared.stop.Stop.TheVariants.{Stuck, Mem}
 use Rattle.contexts.specs.Serves.{Stands, IsLogged, IsGo, WasSaying, AllowsAs, Gives, GivesAs, SaidNothing, Says, SaysLast, ServesAs, Serves, Speaks}
 use Rattle.contexts.proofs.CacheLaws.{sound_follows}
-use Rattle.contexts.proofs.ServesLaws.{counts_trans, said_nothing, reason_other, Gives-then, Gives-stop, serves_then, speaks_quiet}
+use Rattle.contexts.proofs.ServesLaws.{fits_later, counts_trans, said_nothing, reason_other, Gives-then, Gives-stop, serves_then, speaks_quiet}
 use Rattle.contexts.proofs.Steps.{read_first}
 use Rattle.contexts.proofs.ReadLaws.{quiet, refused_reason, logged_here, names_object, object_refused}
 use Rattle.contexts.proofs.StoreLaws.{thinned_here}
@@ -184,6 +184,7 @@ say_serves {Z} {z} {old} {new} {cpu} of before ready may x = record {
       regs = λ r low. st.regs r low ∙ sym (ap (λ (g : ℕ → Value). g r) x.ok.regs);
       slots = st.slots ∙ sym x.ok.slots;
       numbers = st.numbers;
+      fits = fits_later old.bounds new.bounds m.largest x.later.bounds st.fits;
       transcript = λ speaks. (
           let spoke = sym x.later.speaks ∙ speaks in
           let said = x.ok.transcript spoke in

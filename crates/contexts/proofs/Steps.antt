@@ -19,7 +19,7 @@ use Rattle.contexts.specs.declared.stop.Stop.{Stop}
 use Rattle.contexts.specs.declared.stop.Stop.TheVariants.{Stuck}
 use Rattle.contexts.specs.Cache.{IsSound}
 use Rattle.contexts.specs.Serves.{Stands, IsGo, Gives, GivesAs, IsCounted, ServesAs, Serves}
-use Rattle.contexts.proofs.ServesLaws.{IsCounted-refl, IsCounted-trans, counts_trans, HasReason-earlier, says_later, says_quietly, Gives-after, serves_then, serves_stop, serves_exit}
+use Rattle.contexts.proofs.ServesLaws.{fits_later, IsCounted-refl, IsCounted-trans, counts_trans, HasReason-earlier, says_later, says_quietly, Gives-after, serves_then, serves_stop, serves_exit}
 
 -- ---- ends of a rule
 
@@ -69,6 +69,7 @@ clear_serves {old} {new} {cpu} among ready e cleared = subst (λ (t : Told). Ser
           regs = λ r low. ap (λ v. if among r then Int (pos 0) else v) (st.regs r low) ∙ sym (cleared r low);
           slots = st.slots;
           numbers = st.numbers;
+          fits = st.fits;
           transcript = st.transcript;
           cache = st.cache;
         },
@@ -97,7 +98,7 @@ set_numbers_serves {w} {t} {cpu} {now} opens r = record {
   counts = (0, IsCounted-refl t);
   vault = opens;
   silent = says_quietly w t t (Ok tt) (λ speaks. refl);
-  model = λ told m st. (refl, record { heap = st.heap; regs = st.regs; slots = st.slots; numbers = refl; transcript = st.transcript; cache = st.cache });
+  model = λ told m st. (refl, record { heap = st.heap; regs = st.regs; slots = st.slots; numbers = refl; transcript = st.transcript; cache = st.cache; fits = st.fits });
 }
 
 pub set_numbers_at : {w : Option (Unit {0})} {t : Told} {cpu now : Cpu} (next : Cpu) → now ≡ next → (IsTrue next.vault → IsTrue cpu.vault) → IsReady t → ServesAs w t cpu t now (set_numbers next) (Ok tt)
@@ -266,6 +267,7 @@ stands_quietly old new cpu m ready q told st = record {
   regs = λ r low. st.regs r low ∙ sym (q.regs r low);
   slots = st.slots ∙ sym q.slots;
   numbers = st.numbers;
+  fits = fits_later old.bounds new.bounds m.largest q.later.bounds st.fits;
   transcript = λ speaks. (let spoke = sym q.later.speaks ∙ speaks in q.silent spoke ∙ st.transcript spoke);
   cache = q.sound ready told st.cache;
 }

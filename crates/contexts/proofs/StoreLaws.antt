@@ -1,4 +1,5 @@
 -- Stores into objects.
+use Rattle.contexts.proofs.ServesLaws.{fits_later}
 use Rattle.std.proofs.Common.{◌≡◌, ℕ, ◌<◌, Bool, true, false, List, [], ◌∷◌, length, Option, Some, None, Result, Ok, Err, IsTrue, is_some, refl, sym, ◌∙◌, ap, subst, subst₂, arith}
 use Rattle.std.specs.List.{slice_get}
 use Rattle.std.specs.Option.{option_map_or, option_and_then}
@@ -79,6 +80,7 @@ store_serves {Z} {z} {old} {new} {cpu} of i from before ready may x = record {
           regs = λ r low. st.regs r low ∙ sym (ap (λ (g : ℕ → Value). g r) x.ok.regs);
           slots = st.slots ∙ sym x.ok.slots;
           numbers = st.numbers;
+          fits = fits_later old.bounds new.bounds m.largest x.later.bounds st.fits;
           transcript = λ speaks. (let spoke = sym x.later.speaks ∙ speaks in x.ok.transcript spoke ∙ st.transcript spoke);
           cache = sound_follows old new (Does (SetField of i from)) before ready x.ok told (x.later.tells ∙ told) st.cache;
         },
@@ -169,6 +171,7 @@ change_serves {A} {Z} {z} {old} {new} {cpu} f change of a over regs slots counts
           regs = λ r low. st.regs r low ∙ sym (ap (λ (g : ℕ → Value). g r) regs);
           slots = st.slots ∙ sym slots;
           numbers = st.numbers;
+          fits = fits_later old.bounds new.bounds m.largest x.later.bounds st.fits;
           transcript = λ speaks. (let spoke = sym x.later.speaks ∙ speaks in silent spoke ∙ st.transcript spoke);
           cache = sound_follows old new (Does a) before ready x.ok told (x.later.tells ∙ told) st.cache;
         },

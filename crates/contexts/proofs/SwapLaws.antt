@@ -22,7 +22,7 @@ use Rattle.blue_model.proofs.LawSteps.{next_swapped}
 use Rattle.contexts.specs.declared.stop.Stop.TheVariants.{Stuck, Mem}
 use Rattle.contexts.specs.Serves.{Stands, IsLogged, Gives, Allows, Serves}
 use Rattle.contexts.proofs.CacheLaws.{sound_follows}
-use Rattle.contexts.proofs.ServesLaws.{IsLogged-before, IsLogged-after}
+use Rattle.contexts.proofs.ServesLaws.{fits_later, IsLogged-before, IsLogged-after}
 use Rattle.contexts.proofs.ReadLaws.{logged_here, names_object, refused_reason, refused_silent}
 use Rattle.contexts.proofs.StoreLaws.{held_there, thinned_here}
 
@@ -92,6 +92,7 @@ swap_serves {Z} {z} {old} {new} {cpu} a b before ready e f x = record {
           regs = λ r low. st.regs r low ∙ sym (ap (λ (g : ℕ → Value). g r) x.ok.regs);
           slots = st.slots ∙ sym x.ok.slots;
           numbers = st.numbers;
+          fits = fits_later old.bounds new.bounds m.largest x.later.bounds st.fits;
           transcript = λ speaks. (let spoke = sym x.later.speaks ∙ speaks in x.ok.transcript spoke ∙ st.transcript spoke);
           cache = sound_follows old new (Does (Swap a b)) before ready x.ok told (x.later.tells ∙ told) st.cache;
         },

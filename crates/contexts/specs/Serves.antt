@@ -10,7 +10,7 @@ use Rattle.object_memory.specs.declared.fault.Need.{Need}
 use Rattle.object_memory.specs.declared.fault.MemFault.{MemFault}
 use Rattle.object_memory.specs.declared.fault.MemFault.TheVariants.{CoreFull, WorkFull, WorkFault, Damaged, NamesSpent, Said, Memory}
 use Rattle.object_memory.specs.Told.{Told, IsReady}
-use Rattle.object_memory.specs.Contract.{ForBounds, NoBounds, IsLater, Raised, Lives, work_faults, said_faults, LeavesAll}
+use Rattle.object_memory.specs.Contract.{ForBounds, IfBounds, NoBounds, IsLater, Raised, Lives, work_faults, said_faults, LeavesAll}
 use Rattle.blue_model.specs.declared.cpu.Cpu.{Cpu}
 use Rattle.blue_model.specs.Cycle.{is_message}
 use Rattle.blue_model.specs.Machine.{Machine, MACHINE_REGISTERS, LogRow, Outcome, Go, Halt, Spent, Rule, log_of}
@@ -21,7 +21,8 @@ use Rattle.contexts.specs.declared.stop.Stop.TheVariants.{Stuck, Mem}
 -- ---- the machine that a memory stands for
 
 -- A memory and the numbers of the processor stand for this machine: its heap is thinner, registers, slots, numbers and, where it is
--- told, the transcript are the machine's, and each row of the cache is a lookup in the memory's heap.
+-- told, the transcript are the machine's, each row of the cache is a lookup in the memory's heap, and where bounds are told, each object
+-- that the machine made fits in the core.
 pub record Stands (t : Told) (cpu : Cpu) (m : Machine) : Type 0 where
   pub heap : IsThinner m.heap t.heap
   pub regs : (r : ℕ) → r < MACHINE_REGISTERS → m.regs r ≡ t.regs r
@@ -29,6 +30,7 @@ pub record Stands (t : Told) (cpu : Cpu) (m : Machine) : Type 0 where
   pub numbers : m.cpu ≡ cpu
   pub transcript : IsTrue t.speaks → t.transcript ≡ m.transcript
   pub cache : IsSound t.heap t.cache
+  pub fits : IfBounds t.bounds (λ b. m.largest ≤ b.core)
 
 -- ---- what the rule's outcome has to do with the answer
 

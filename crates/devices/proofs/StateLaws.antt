@@ -22,7 +22,7 @@ use Rattle.blue_model.specs.Cycle.{is_message}
 use Rattle.contexts.specs.declared.stop.Stop.TheVariants.{Mem}
 use Rattle.contexts.specs.Serves.{Stands, Gives, Serves, HasRest}
 use Rattle.contexts.proofs.CacheLaws.{sound_follows}
-use Rattle.contexts.proofs.ServesLaws.{Gives-after, serves_stop}
+use Rattle.contexts.proofs.ServesLaws.{fits_later, Gives-after, serves_stop}
 use Rattle.contexts.proofs.ReadLaws.{look_refused}
 use Rattle.contexts.proofs.Steps.{done_serves}
 use Rattle.devices.specs.States.{word_by, StaysThere}
@@ -89,6 +89,7 @@ name_serves {Z} {z} {old} {new} {cpu} to n low before ready stays name x = recor
       regs = λ r below. ap (λ (b : Bool). let f : ℕ → Value = cond b (set_register m.regs to (Ref n)) m.regs in f r) (is_low to low) ∙ taken r (m.regs r) (old.regs r) (st.regs r below) ∙ sym (ap (λ (f : ℕ → Value). f r) now);
       slots = st.slots ∙ sym x.ok.slots;
       numbers = st.numbers;
+      fits = fits_later old.bounds new.bounds m.largest x.later.bounds st.fits;
       transcript = λ speaks. (let spoke = sym x.later.speaks ∙ speaks in x.ok.transcript spoke ∙ st.transcript spoke);
       cache = sound_follows old new (Does (Known to n)) before ready x.ok told (x.later.tells ∙ told) st.cache;
     }

@@ -38,7 +38,7 @@ nameless h = record { display = λ n e. none n e; input = λ n e. none n e; time
 
 -- a whole heap runs as itself
 agrees : (events : List Line) (steps : ℕ) (state : State) (h : Heap) → IsWhole h (λ r. Int (pos 0)) (λ i. None) → HasState state h → EndingsAgree (ending events steps state h) (ending events steps state h)
-agrees events steps state h whole has = endings-agree events steps state h h (record { thinning = IsThinning-refl h (λ r. Int (pos 0)) (λ i. None) whole; bounded = IsWhole-bounded h (λ r. Int (pos 0)) (λ i. None) whole; regs = refl; slots = refl; transcript = refl; cpu = refl }) has
+agrees events steps state h whole has = endings-agree events steps state h h (record { thinning = IsThinning-refl h (λ r. Int (pos 0)) (λ i. None) whole; bounded = IsWhole-bounded h (λ r. Int (pos 0)) (λ i. None) whole; regs = refl; slots = refl; transcript = refl; cpu = refl; largest = refl }) has
 
 -- what a memory keeps is what the model's parked machine keeps
 pub parked-kept : (events : List Line) (steps : ℕ) (state : State) (h : Heap) (new : Told) → IsWhole h (λ r. Int (pos 0)) (λ i. None) → HasState state h → OnParked (ending events steps state h) (λ m. IsThinner m.heap new.heap) → IsReady new → IsTrue new.tells → OnParked (ending events steps state h) (λ m. kept new.heap no_roots ≡ kept m.heap no_roots)

@@ -42,7 +42,7 @@ use Rattle.contexts.specs.declared.stop.Stop.{Stop}
 use Rattle.contexts.specs.declared.stop.Stop.TheVariants.{Stuck, Mem}
 use Rattle.contexts.specs.Serves.{HasRest, Stands, IsGo, Gives, GivesAs, IsLogged, HasMaking, MaySay, IsCaused, HasReason, SaidNothing, SaysLast, Serves, ServesAs, Speaks}
 use Rattle.contexts.proofs.SpeaksLaws.{GoesOn, goes_done, goes_then, goes_numbers, goes_set_numbers}
-use Rattle.contexts.proofs.ServesLaws.{Gives-after, serves_stop, says_quietly}
+use Rattle.contexts.proofs.ServesLaws.{fits_later, Gives-after, serves_stop, says_quietly}
 use Rattle.contexts.proofs.CacheLaws.{sound_follows}
 use Rattle.machine_run.specs.States.{word_held, model_state, state_held}
 use Rattle.machine_run.specs.Run.{Reaches, IsSettled, IsFullIn, StopsIn, IsWorkFault, StopsAfter, RunsAs, HasFault, FaultsBy, CountsAll, Begins, HasSaid, IsHalt, Awaits, GoesThrough, GoesAs, DrawsAs, HaltsAs}
@@ -112,6 +112,7 @@ settled_stands old new cpu m before after x told st = record {
   regs = λ r low. st.regs r low ∙ sym (ap (λ f. f r) x.ok.regs);
   slots = st.slots ∙ sym x.ok.slots;
   numbers = st.numbers;
+  fits = fits_later old.bounds new.bounds m.largest x.later.bounds st.fits;
   transcript = λ speaks. (let spoke = sym x.later.speaks ∙ speaks in x.ok.transcript spoke ∙ st.transcript spoke);
   cache = sound_follows old new Settles before after x.ok told (x.later.tells ∙ told) st.cache;
 }
@@ -397,7 +398,7 @@ unsettled_stops events new now e steps u m log fresh x = go e x.fault
 
 -- the machine that a memory stands for with which nothing was done yet
 abbrev pub fresh_machine : Heap → Told → Cpu → Machine
-fresh_machine h t cpu = record { heap = h; regs = t.regs; slots = λ i. None; transcript = []; cpu = cpu }
+fresh_machine h t cpu = record { heap = h; regs = t.regs; slots = λ i. None; transcript = []; cpu = cpu; largest = 0 }
 
 -- its start is that of the machine at rest
 pub starts_same : (h : Heap) (t : Told) (cpu : Cpu) → start (fresh_machine h t cpu) ≡ start (at_rest h)
@@ -408,12 +409,18 @@ pub begins_same : (state : State) (h : Heap) (t : Told) (cpu : Cpu) → begin st
 unfolding begin ◌>>=◌
 begins_same state h t cpu = ap (λ (o : Outcome (Unit {0})). then_do o (λ _. restore state)) (starts_same h t cpu)
 
+-- a machine that made nothing made nothing too large
+fits_none : (bounds : Option Bounds) → IfBounds bounds (λ b. 0 ≤ b.core)
+fits_none None = tt
+fits_none (Some b) = omega arith
+
 pub fresh_stands : (h : Heap) (t : Told) (cpu : Cpu) → Begins h t → Stands t cpu (fresh_machine h t cpu)
 fresh_stands h t cpu b = record {
   heap = b.heap;
   regs = λ r low. refl;
   slots = fun_ext (λ i. sym (b.slots i));
   numbers = refl;
+  fits = fits_none t.bounds;
   transcript = b.transcript;
   cache = record { sound = λ c s m e. (let no : ◌≡◌ {A = Bool} false true = sym (b.rows c s m) ∙ e in absurd (cc)) };
 }
@@ -556,6 +563,14 @@ goes_exit new now e r c is h =
     let q = err_from_is_err_and r is in
     subst (λ (x : Result Step Stop). GoesAs new now x c) (sym (q.1 ∙ ap (λ y. Err y) q.2)) h
 
+-- ---- the largest object
+
+-- a core that holds what a machine made holds what a run made that came to it
+fits_parked : (bounds : Option Bounds) (n : Machine) (run : Ending) → OnParked run (λ m. m ≡ n) → IfBounds bounds (λ b. n.largest ≤ b.core) → IfBounds bounds (λ b. OnParked run (λ m. m.largest ≤ b.core))
+fits_parked None n run is fits = tt
+fits_parked (Some b) n (Parked end m drawn) is fits = subst (λ (x : Machine). x.largest ≤ b.core) (sym is) fits
+fits_parked (Some b) n (model.Stuck why ran said) is fits = absurd is
+
 -- ---- the picture
 
 -- what the memory's registers say of the state, those of the machine do
@@ -580,6 +595,7 @@ draws_through mid new now end c finished tells x s last ran left = go (picture x
           drawn = subst (λ y. OnDrawn y (λ picture. finished.picture ≡ picture)) (sym is) (sym g.0);
           state = subst (λ y. OnParked y (λ m. model_state finished.state ≡ state_held m.regs m.cpu)) (sym is) (left ∙ state_stands new now n g.1);
           said = λ speaks. g.1.transcript speaks ∙ ap said_in (sym is);
+          fits = fits_parked new.bounds n c.ending (subst (λ y. OnParked y (λ m. m ≡ n)) (sym is) refl) g.1.fits;
         }
     go (Halt d rows) e g = absurd g
     go (Spent rows) e g = absurd g

@@ -180,13 +180,15 @@ abbrev pub GoesAs : Told → Cpu → Result Step Stop → Course → Type 0
 GoesAs new now (Ok end) c = Awaits new now end c
 GoesAs new now (Err stop) c = IsHalt stop now.ran new c
 
--- the memory stands for the heap of the parked machine, whose picture and state these are, and said what the run said
+-- The memory stands for the heap of the parked machine, whose picture and state these are, and said what the run said. Where bounds are told,
+-- the core has the words of the largest object that the run made.
 pub record GoesThrough (new : Told) (finished : Finished) (c : Course) : Type 0 where
   pub parked : IsParkedBy finished.end finished.ran c.ending
   pub heap : OnParked c.ending (λ m. IsThinner m.heap new.heap)
   pub drawn : OnDrawn c.ending (λ picture. finished.picture ≡ picture)
   pub state : OnParked c.ending (λ m. model_state finished.state ≡ state_held m.regs m.cpu)
   pub said : IsTrue new.speaks → new.transcript ≡ said_in c.ending
+  pub fits : IfBounds new.bounds (λ b. OnParked c.ending (λ m. m.largest ≤ b.core))
 
 -- drawing comes to the model's picture, or to its stop, or no memory was found
 abbrev pub DrawsAs : Told → Cpu → Told → Result (List ℕ) Reason → Type 0

@@ -46,6 +46,7 @@ number_put {old} {new} {cpu} to z low ready e = subst (λ (t : Told). Serves old
       regs = λ r below. ap (λ b. cond b (set_register m.regs to (Int z)) m.regs r) low ∙ ap (λ x. cond (eqb r to) (Int z) x) (st.regs r below);
       slots = st.slots;
       numbers = st.numbers;
+      fits = st.fits;
       transcript = st.transcript;
       cache = st.cache;
     },

@@ -29,7 +29,7 @@ use Rattle.contexts.specs.Cache.{IsRead}
 use Rattle.contexts.specs.Serves.{Stands, IsLogged, HasMaking, IsGo, Gives, Serves, with_value, with_found}
 use Rattle.contexts.proofs.CacheLaws.{sound_follows}
 use Rattle.contexts.proofs.LookupLaws.{IsRead-either}
-use Rattle.contexts.proofs.ServesLaws.{counts_trans, HasReason-earlier, says_later, serves_then, serves_stop, reason_other}
+use Rattle.contexts.proofs.ServesLaws.{fits_later, counts_trans, HasReason-earlier, says_later, serves_then, serves_stop, reason_other}
 use Rattle.contexts.proofs.Steps.{done_serves}
 use Rattle.contexts.proofs.ReadLaws.{names_object, look_refused, reached_one, reached_making, reached_saying, reached_need}
 use Rattle.send_lookup.specs.Path.{look_at, KeepsPath, Passes, IsOnPath, Covers, Walks}
@@ -339,6 +339,7 @@ mark_serves {Z} {z} {old} {new} {cpu} of before ready named x = record {
       regs = λ r low. st.regs r low ∙ sym (ap (λ (g : ℕ → Value). g r) x.ok.regs);
       slots = st.slots ∙ sym x.ok.slots;
       numbers = st.numbers;
+      fits = fits_later old.bounds new.bounds m.largest x.later.bounds st.fits;
       transcript = λ speaks. (let spoke = sym x.later.speaks ∙ speaks in x.ok.transcript spoke ∙ st.transcript spoke);
       cache = sound_follows old new (Does (Mark of)) before ready x.ok told (x.later.tells ∙ told) st.cache;
     }

@@ -93,7 +93,7 @@ put_with {old} {mid} {cpu} rows class selector method c s ec es before ready who
     ]
 
     stands : IsTrue old.tells → (m : Machine) → Stands old cpu m → IsGo (Some (mid.regs method)) (Stands mid cpu) (lookup s c m) → (x : Machine) → Stands mid cpu x → Stands (with_rows mid rows) cpu x
-    stands told m st g x sx = record { heap = sx.heap; regs = sx.regs; slots = sx.slots; numbers = sx.numbers; transcript = sx.transcript; cache = record { sound = sound told m st g sx.cache } }
+    stands told m st g x sx = record { heap = sx.heap; regs = sx.regs; slots = sx.slots; numbers = sx.numbers; fits = sx.fits; transcript = sx.transcript; cache = record { sound = sound told m st g sx.cache } }
 
 -- The row of a lookup was put, or not.
 pub put_serves_lookup : {old mid new : Told} {cpu : Cpu} (put : Bool) (class selector method : ℕ) (c s : Value) → mid.regs class ≡ c → mid.regs selector ≡ s → IsReady mid → IsReady new → IsOnPath mid c → IsOnPath mid s → IsOnPath mid (mid.regs method) → MatchBool put (IsPut mid new class selector method) (new ≡ mid) → Walks old cpu mid (lookup s c) (Ok (Some (mid.regs method))) → Serves old cpu new cpu (lookup s c) (Ok (Some (new.regs method)))
@@ -210,6 +210,7 @@ name_put {old} {new} {cpu} to d low there ready e = subst (λ (t : Told). Serves
           regs = λ r below. ap (λ b. cond b (set_register m.regs to (Ref d)) m.regs r) low ∙ ap (λ v. cond (eqb r to) (Ref d) v) (st.regs r below);
           slots = st.slots;
           numbers = st.numbers;
+          fits = st.fits;
           transcript = st.transcript;
           cache = st.cache;
         },

@@ -25,4 +25,4 @@ pub returns-clause-picture : goal.returns-clause-picture
 returns-clause-picture c = respects (λ w. law-picture {w = w})
 
 pub returns-clause-whole : goal.returns-clause-whole
-returns-clause-whole c m whole = record { thinning = IsThinning-refl m.heap m.regs m.slots whole; bounded = IsWhole-bounded m.heap m.regs m.slots whole; regs = refl; slots = refl; transcript = refl; cpu = refl }
+returns-clause-whole c m whole = record { thinning = IsThinning-refl m.heap m.regs m.slots whole; bounded = IsWhole-bounded m.heap m.regs m.slots whole; regs = refl; slots = refl; transcript = refl; cpu = refl; largest = refl }

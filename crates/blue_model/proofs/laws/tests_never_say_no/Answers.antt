@@ -4,11 +4,10 @@ use Rattle.long_names.specs.declared.value.Value.TheVariants.{Int, Ref}
 use Rattle.long_names.specs.Heap.{Heap, Has}
 use Rattle.long_names.proofs.ThinLemmas.{holds-class, holds-field, has_here}
 use Rattle.long_names.specs.declared.object.Object.{Object}
-use Rattle.long_names.specs.Heap.{add_object}
 use Rattle.long_names.specs.Names.{NIL}
 use Rattle.long_names.specs.declared.limits.TheConstants.{LAST_NAME}
 use Rattle.long_names.specs.Objects.{Making}
-use Rattle.blue_model.specs.Machine.{Machine, LogRow, Outcome, Go, is_there, object_made, added, made, make}
+use Rattle.blue_model.specs.Machine.{Machine, LogRow, Outcome, Go, is_there, object_made, with_object, added, made, make}
 use Rattle.blue_model.proofs.laws.tests_never_say_no.Goals as goal
 
 -- the object of each name that a value is
@@ -21,7 +20,7 @@ answer_there : (m next : Machine) (o : Object) (v : Value) (log : List LogRow) (
 answer_there m next o v log false e = let no : ◌≡◌ {A = Outcome Value} (added m o false) (Go v next log) = e in absurd (cc)
 answer_there m next o v log true e =
     let value : Ref m.heap.next ≡ v = cc in
-    let machine : (let x : Machine = record m { heap = add_object m.heap o } in x) ≡ next = cc in
+    let machine : with_object m o ≡ next = cc in
     ap₂ (λ (x : Machine) u. is_there x.heap u) (sym machine) (sym value) ∙ has_here m.heap o
 
 made_there : (m next : Machine) (class v : Value) (what : Making) (log : List LogRow) → make class what m ≡ Go v next log → is_there next.heap v ≡ true
