@@ -168,17 +168,19 @@ entries_of_row-kept h k r e = ap (λ (size : ℕ → ℕ). 51 + added size (λ k
 abbrev pub put_machine : Machine → Value → List ℕ → Machine
 put_machine m v words = record m { heap = with_body m.heap v (λ b. with_words b 0 words) }
 
-same_row : (n a b c d : ℕ) → a ≡ b → c ≡ d → (let r : LogRow = record { object = n; words = a; entries = c; makes = false } in r) ≡ (record { object = n; words = b; entries = d; makes = false })
-same_row n a b c d e f = rw (e, f) refl
+same_row : (n a b c d x y : ℕ) → a ≡ b → c ≡ d → x ≡ y → (let r : LogRow = record { object = n; words = a; entries = c; makes = false; own = x } in r) ≡ (record { object = n; words = b; entries = d; makes = false; own = y })
+same_row n a b c d x y e f g = rw (e, f, g) refl
 
 row_put : (m : Machine) (v : Value) (ws words : List ℕ) → HasWords m.heap v ws → length words ≡ length ws → (n : ℕ) → row_of (put_machine m v words) n ≡ row_of m n
 row_put m v ws words e len n =
     let here = λ (o : Object) (at : object_at m.heap v ≡ Some o). words_here m.heap v ws o e at in
     let k = with_body m.heap v (λ b. with_words b 0 words) in
     let r : Row = record { object = n; slots = m.slots } in
-    same_row n _ _ _ _
-    (words_of_row-kept m.heap k r (fun_ext (kept_words m.heap v (λ b. with_words b 0 words) (λ o at. ap body_words (put_body o.body ws words (here o at) len) ∙ len ∙ sym (ap body_words (same_body o.body ws (here o at)))))))
+    let words_same : words_needed k ≡ words_needed m.heap = fun_ext (kept_words m.heap v (λ b. with_words b 0 words) (λ o at. ap body_words (put_body o.body ws words (here o at) len) ∙ len ∙ sym (ap body_words (same_body o.body ws (here o at))))) in
+    same_row n _ _ _ _ _ _
+    (words_of_row-kept m.heap k r words_same)
     (entries_of_row-kept m.heap k r (fun_ext (kept_entries m.heap v (λ b. with_words b 0 words) (λ o at. ap (λ b. length (fields_of b)) (put_body o.body ws words (here o at) len) ∙ sym (ap (λ b. length (fields_of b)) (same_body o.body ws (here o at)))))))
+    (ap (λ (size : ℕ → ℕ). size n) words_same)
 
 pub rows_put : (m : Machine) (v : Value) (ws words : List ℕ) → HasWords m.heap v ws → length words ≡ length ws → (w : Value) → rows_at (put_machine m v words) w ≡ rows_at m w
 rows_put m v ws words e len (Int z) = refl

@@ -29,12 +29,13 @@ use Rattle.blue_model.specs.Devices.{clock, picture}
 use Rattle.blue_model.proofs.FailLaws.{picture_leaves}
 use Rattle.blue_model.specs.Contexts.{start, park}
 use Rattle.blue_model.specs.State.{State, begin, restore, tick_or}
-use Rattle.blue_model.specs.Cycle.{Ran, Stopped, Stopping, ByCause, BySpentNames, Ending, run_of, one_more, run, ended, parked, run_from, cycle, park_and_draw, count_bytecode}
-use Rattle.blue_model.specs.Logs.{Course, course, said_by, rows_after, lives, lives_by, living, IsLive, made_in}
+use Rattle.blue_model.specs.Cycle.{Ran, Stopped, Stopping, ByCause, BySpentNames, Ending, Parked, ending, run_of, one_more, run, ended, parked, run_from, cycle, park_and_draw, count_bytecode}
+use Rattle.blue_model.specs.Logs.{Course, course, said_by, rows_after, lives, lives_by, living, IsLive, made_in, AreWithin, rows_of_bytecode}
 use Rattle.blue_model.specs.Logs as logs
 use Rattle.blue_model.proofs.StartLaws.{begin_leaves}
 use Rattle.blue_model.proofs.CountLaws.{runs_count}
 use Rattle.blue_model.proofs.LiveLaws.{none_made}
+use Rattle.blue_model.proofs.LargestLaws.{within_more, whole_within}
 use Rattle.blue_model.proofs.MakingLaws.{none-begin}
 use Rattle.blue_model.proofs.MakingTurns.{none-park_and_draw}
 use Rattle.blue_model.specs.Cycle as model
@@ -570,6 +571,18 @@ fits_parked : (bounds : Option Bounds) (n : Machine) (run : Ending) → OnParked
 fits_parked None n run is fits = tt
 fits_parked (Some b) n (Parked end m drawn) is fits = subst (λ (x : Machine). x.largest ≤ b.core) (sym is) fits
 fits_parked (Some b) n (model.Stuck why ran said) is fits = absurd is
+
+-- nor does it make a larger one in any of its bytecodes
+pub rows_fit : (events : List Line) (steps : ℕ) (state : State) (h : Heap) (new : Told) (finished : Finished) → GoesThrough new finished (course events steps state h) → IfBounds new.bounds (λ b. (k : ℕ) → AreWithin b.core ((course events steps state h).rows k))
+rows_fit events steps state h new finished x = at new.bounds x.fits
+  where
+    of : (words k : ℕ) (run : Ending) → ending events steps state h ≡ run → OnParked run (λ m. m.largest ≤ words) → AreWithin words (rows_of_bytecode events steps state h k)
+    of words k (Parked end m drawn) is few = within_more m.largest words (rows_of_bytecode events steps state h k) few (whole_within events steps k state h end m drawn is)
+    of words k (model.Stuck why ran said) is few = absurd few
+
+    at : (bounds : Option Bounds) → IfBounds bounds (λ b. OnParked (ending events steps state h) (λ m. m.largest ≤ b.core)) → IfBounds bounds (λ b. (k : ℕ) → AreWithin b.core (rows_of_bytecode events steps state h k))
+    at None fits = tt
+    at (Some b) fits = λ k. of b.core k (ending events steps state h) refl fits
 
 -- ---- the picture
 
