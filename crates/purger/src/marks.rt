@@ -59,6 +59,7 @@ pub fn unmark_for(p: &mut Parts, s: Short)
     ensures outside { (t : ℕ) → outside (core_of p.new) t ≡ outside (core_of p.old) t }
     ensures marks { LeavesMarks (core_of p.old) (core_of p.new) }
     ensures gone { ((core_of p.new).entries s.0).flags.marked ≡ false }
+    ensures idle { ((core_of p.old).entries s.0).flags.marked ≡ false → p.new ≡ p.old }
     ensures spare { spare_of p.new ≡ spare_of p.old }
     ensures segment { p.new.segment ≡ p.old.segment }
 {

@@ -375,6 +375,7 @@ pub fn make_room<H: Host>(
     ensures sound { IsTrue (H.tells Role.Work) → Undisturbed result (KeepsSound H.Host p.old disk.old.host.now disk.old.rest p.new disk.new.host.now disk.new.rest) }
     ensures counted { IsTrue (H.tells Role.Work) → Undisturbed result (disk_held disk.new.rest + fresh_of (core_of p.new) ≡ disk_held disk.old.rest + fresh_of (core_of p.old)) }
     ensures marks { LeavesMarks (core_of p.old) (core_of p.new) }
+    ensures marked { HasRoom p.old words entries → KeepsMarks (core_of p.old) (core_of p.new) }
     ensures here { AreHere (core_of p.new) }
     ensures stands { Undisturbed result (HoldsObjects H.Host disk.new.host.now disk.new.rest) }
     ensures size { size_of p.new.segment ≡ size_of p.old.segment }

@@ -8,9 +8,11 @@ use Rattle.core_view.proofs.Purge.{Purged-trans}
 use Rattle.leaf_lambda.specs.Parts.{core_of}
 use Rattle.delta_counts.proofs.LowerLaws.{ok-map, ok-of}
 use Rattle.purger.specs.Purge.{IsEvictFault}
-use Rattle.purger.proofs.MarkLaws.{state-same, unmarked-same, unmarked-tight, unmarked-here, within-here, Marks-trans, Marks-same, within-marks}
+use Rattle.purger.proofs.MarkLaws.{state-same, unmarked-same, unmarked-tight, unmarked-here, within-here, Kept-trans, Marks-trans, Marks-same, within-marks}
 use Rattle.purger.proofs.SoundLaws.{has-after, has-over, has-number, sound-trans, stands-ok, unmarked-sound}
 use Rattle.purger.proofs.GivingLaws.{giving-parts, giving-up, giving-spare, given-purged, given-gone, given-tight, given-here, one-marks, left-purged, read-evict-if}
+use Rattle.leaf_lambda.specs.declared.parts.Parts.{Parts}
+use Rattle.purger.specs.Marks.{KeepsMarks}
 use Rattle.purger.proofs.eviction.evict.Goals as goal
 
 pub unmark_for-requires-clause-used : goal.unmark_for-requires-clause-used
@@ -111,3 +113,13 @@ returns-clause-fault g c = read-evict-if g.H.Host c.args.disk.now.host.now c.evi
 
 pub returns-clause-folded : goal.returns-clause-folded
 returns-clause-folded g c = c.fold_leaf.ensures.folded
+
+-- where it wasn't marked
+
+pub returns-in_err-evict_unmarked-clause-unmarked : goal.returns-in_err-evict_unmarked-clause-unmarked
+returns-in_err-evict_unmarked-clause-unmarked g c = λ off. subst (λ (q : Parts). KeepsMarks (core_of q) (core_of c.evict_unmarked.new.p)) (c.unmark_for.ensures.idle off) (within-marks (core_of c.unmark_for.new.p) (core_of c.evict_unmarked.new.p) c.args.s.0 c.unmark_for.ensures.parts.core c.evict_unmarked.ensures.parts.core c.evict_unmarked.ensures.within)
+
+pub returns-clause-unmarked : goal.returns-clause-unmarked
+returns-clause-unmarked g c = λ off. Kept-trans (core_of c.args.p.now) (core_of c.evict_unmarked.new.p) (core_of c.fold_leaf.new.p)
+    (subst (λ (q : Parts). KeepsMarks (core_of q) (core_of c.evict_unmarked.new.p)) (c.unmark_for.ensures.idle off) (within-marks (core_of c.unmark_for.new.p) (core_of c.evict_unmarked.new.p) c.args.s.0 c.unmark_for.ensures.parts.core c.evict_unmarked.ensures.parts.core c.evict_unmarked.ensures.within))
+    (one-marks c.evict_unmarked.new.p c.fold_leaf.new.p c.args.s.0 c.evict_unmarked.ensures.parts (giving-parts c.evict_unmarked.new.p c.fold_leaf.new.p c.evict_unmarked.ensures.parts c.fold_leaf.ensures.segment c.fold_leaf.ensures.giving) (giving-up c.evict_unmarked.new.p c.fold_leaf.new.p c.evict_unmarked.ensures.parts c.fold_leaf.ensures.segment c.fold_leaf.ensures.giving) c.evict_unmarked.ensures.mark c.fold_leaf.ensures.others)

@@ -1,4 +1,4 @@
-use Rattle.std.proofs.Common.{sym, ◌∙◌, ap}
+use Rattle.std.proofs.Common.{◌≡◌, true, false, refl, sym, ◌∙◌, ap}
 use Rattle.object_table.specs.declared.entry.Entry.{Entry}
 use Rattle.core_view.proofs.Steps.{Stays-refl}
 use Rattle.leaf_lambda.specs.Parts.{core_of}
@@ -28,3 +28,10 @@ returns-else-e-clause-marks c = Marks-same (core_of c.args.p.now) (core_of c.arg
 pub returns-else-e-clause-gone : goal.returns-else-e-clause-gone
 unfolding core_of
 returns-else-e-clause-gone c = ap (λ (e : Entry). e.flags.marked) (sym c.entry-e.ensures) ∙ c.if-e.false
+
+pub returns-then-e-clause-idle : goal.returns-then-e-clause-idle
+unfolding core_of
+returns-then-e-clause-idle c = λ off. absurd (let both : true ≡ false = sym c.if-e.true ∙ ap (λ (e : Entry). e.flags.marked) c.entry-e.ensures ∙ off in cc)
+
+pub returns-else-e-clause-idle : goal.returns-else-e-clause-idle
+returns-else-e-clause-idle c = λ off. refl

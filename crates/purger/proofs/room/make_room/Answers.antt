@@ -96,3 +96,12 @@ purge-requires-clause-marks g c = c.free_idle.ensures.here
 
 pub returns-in-Err-clause-fault : goal.returns-in-Err-clause-fault
 returns-in-Err-clause-fault g c = c.in-Err.ensures.fault
+
+pub returns-then-has_room-clause-marked : goal.returns-then-has_room-clause-marked
+returns-then-has_room-clause-marked g c = λ has. c.gather.ensures.marks
+
+pub returns-in-Ok-clause-marked : goal.returns-in-Ok-clause-marked
+returns-in-Ok-clause-marked g c = λ has. absurd (c.has_room.ensures.lacks c.if-has_room.false has)
+
+pub returns-in-Err-clause-marked : goal.returns-in-Err-clause-marked
+returns-in-Err-clause-marked g c = λ has. absurd (c.has_room.ensures.lacks c.if-has_room.false has)
