@@ -2,6 +2,7 @@
 use Rattle.std.proofs.Common.{zero, suc, List, ◌∷◌, length, ◌≡◌, ◌≢◌, ℕ, ◌≤◌, Bool, true, false, [], refl, sym, ◌∙◌, ap, subst, arith, Option, Some, None, Result, Ok, Err, IsTrue, ⊎_elim}
 use Rattle.std.specs.List.{slice_get}
 use Rattle.std.proofs.lemmas.Bool.{cases_eq}
+use Rattle.std.proofs.lemmas.Grind.{common_steps}
 use Rattle.std.specs.Result.{OnOk, IfErr}
 use Rattle.std.specs.Option.{is_some}
 use Rattle.long_names.specs.declared.value.Value.{Value}
@@ -26,7 +27,7 @@ use Rattle.core_view.specs.Core.{Core, with_entry}
 use Rattle.core_view.proofs.Lists.{put-here, put-there}
 use Rattle.core_view.specs.Kept.{IsCore}
 use Rattle.core_view.specs.Purge.{IsPurged}
-use Rattle.core_view.specs.Room.{room_by, room_for}
+use Rattle.core_view.specs.Room.{is_among, room_by, room_for}
 use Rattle.core_view.specs.Steps.{IsAt, IsRefStep}
 use Rattle.core_view.specs.Words.{pointers}
 use Rattle.core_view.proofs.Sums.{sum-same}
@@ -36,18 +37,19 @@ use Rattle.core_view.proofs.Words.{meant-short}
 use Rattle.leaf_lambda.specs.declared.parts.Parts.{Parts}
 use Rattle.leaf_lambda.specs.Parts.{core_of, spare_of, IsWithin}
 use Rattle.purger.specs.Marks.{IsUnmarking, unmarked}
-use Rattle.purger.specs.Purge.{HasRoom}
+use Rattle.purger.specs.Purge.{HasRoom, KeepsBodies}
+use Rattle.purger.specs.declared.room.Pinned.{Pinned}
 use Rattle.purger.proofs.RoomLaws.{all-pinned, none-of, some-of}
 use Rattle.loom_memory.specs.declared.ledger.Ledger.{Ledger}
 use Rattle.loom_memory.specs.declared.memory.LoomMemory.{LoomMemory}
-use Rattle.loom_memory.specs.Memory.{loom_told, word_in, IsQuiet, IsSized, IsSound}
+use Rattle.loom_memory.specs.Memory.{loom_told, word_in, IsCalm, IsQuiet, IsSized, IsSound}
 use Rattle.loom_memory.specs.Stores.{IsRecount}
 use Rattle.loom_memory.specs.Says.{IsSpeech}
 use Rattle.loom_memory.specs.Cache.{cache_of, with_its_mark}
 use Rattle.method_cache.specs.Found.{found}
 use Rattle.loom_memory.specs.Residents.{has_body, is_resident, words_resident, fetched}
-use Rattle.loom_memory.specs.Gentle.{Remains, IsGentle, IsPeek, IsResting, IsSteady}
-use Rattle.loom_memory.specs.Own.{HasPlace, HasSpace, IsAtHand, IsHeard, IsReached, IsSearched, IsSparing, IsSparingChange}
+use Rattle.loom_memory.specs.Gentle.{Remains, IsGentle, IsGlance, IsPeek, IsResting, IsSteady}
+use Rattle.loom_memory.specs.Own.{HasPlace, HasSpace, IsAtHand, IsHeard, IsReached, IsSearched, IsSearchedChange, IsSparing, IsSparingChange}
 use Rattle.loom_memory.proofs.BringLaws.{ref-short}
 use Rattle.loom_memory.proofs.CallLaws.{leaf-words}
 use Rattle.loom_memory.proofs.RegLaws.{kept-rooted, register-held, word-there}
@@ -64,6 +66,16 @@ remains-trans a b c x y = λ s p at. let mid = x s p at in let last = y s mid.at
 -- where all that may be pinned stays
 pub purged-remains : (x y : Core) → ((a b d : ℕ) → IsPurged a b d x y) → Remains x y
 purged-remains x y purged = λ s p at. let body = all-pinned x y purged s p at in record { at = body.at; place = body.place; name = body.name }
+
+pub bodies-remain : (x y : Core) → KeepsBodies x y → Remains x y
+bodies-remain x y keeps = λ s p at. let body = keeps s p at in record { at = body.at; place = body.place; name = body.name }
+
+-- where a step is calm whatever is pinned
+pub calm-remains : (x y : Core) → ((pins : Pinned) → IsCalm pins x y) → Remains x y
+calm-remains x y calm = λ s p at. (calm (record { a = s; b = s; d = s })).pinned s p (self s) at
+  where
+    self : (s : ℕ) → is_among s s s s ≡ true
+    self s = grind (arith, common_steps)
 
 -- where a leaf takes a body
 pub within-remains : (s : ℕ) (x y : Core) → IsWithin s x y → place_of (x.entries s).state ≡ None → Remains x y
@@ -449,6 +461,40 @@ rest-trans {H} a b c x y = record {
   idle = record { host = y.idle.host ∙ x.idle.host; rest = y.idle.rest ∙ x.idle.rest; fetches = y.idle.fetches ∙ x.idle.fetches };
 }
 
+-- ---- a store into a field that may have been left on the disk
+
+pub peek-glance : {H : Type 0} (host : Ghosts H) (m n : LoomMemory H) → IsPeek host m n → IsGlance host m n
+peek-glance {H} host m n peek = record { remains = peek.gentle.remains; read = peek.gentle.read; fetches = peek.fetches }
+
+pub rest-glance : {H : Type 0} (host : Ghosts H) (m n : LoomMemory H) → IsResting m n → IsGlance host m n
+rest-glance {H} host m n rest = record { remains = rest.remains; read = subst (λ (x : H). IsWorkRead host m.disk.host.now x) (sym rest.idle.host) (read-refl host m.disk.host.now); fetches = rest.idle.fetches }
+
+pub glance-trans : {H : Type 0} (host : Ghosts H) (a b c : LoomMemory H) → IsGlance host a b → IsGlance host b c → IsGlance host a c
+glance-trans {H} host a b c x y = record {
+  remains = remains-trans (core_of a.parts) (core_of b.parts) (core_of c.parts) x.remains y.remains;
+  read = read-trans host a.disk.host.now b.disk.host.now c.disk.host.now x.read y.read;
+  fetches = y.fetches ∙ x.fetches;
+}
+
+glance-change : {H : Type 0} (host : Ghosts H) (m u v : LoomMemory H) (n : ℕ) → IsSearchedChange host m u n → IsGlance host u v → IsCore (core_of u.parts) → IsCore (core_of v.parts) → IsSearchedChange host m v n
+glance-change {H} host m u v n was glance core now =
+    let keeps = remains-residents u v core now glance.remains in
+    record {
+      there = keeps n was.there;
+      stays = λ space k here. keeps k (was.stays space k here);
+      read = λ space. read-trans host m.disk.host.now u.disk.host.now v.disk.host.now (was.read space) glance.read;
+      comes = λ away. glance.fetches ∙ was.comes away;
+      none = λ here room. glance.fetches ∙ was.none here room;
+    }
+
+pub searched-change : {H : Type 0} (host : Ghosts H) (m u v : LoomMemory H) (n : ℕ) → IsSearched host m u n → IsResting u v → IsCore (core_of u.parts) → IsCore (core_of v.parts) → IsSearchedChange host m v n
+searched-change {H} host m u v n was rest core now =
+    glance-change host m u v n (record { there = was.there; stays = was.stays; read = was.read; comes = was.comes; none = was.none }) (rest-glance host u v rest) core now
+
+pub then-change : {T H : Type 0} (r : Result T MemFault) (host : Ghosts H) (m u v : LoomMemory H) (n : ℕ) → IsSearchedChange host m u n → OnOk r (IsGlance host u v) → IsCore (core_of u.parts) → KeepsSound r (IsSound host v) → OnOk r (IsSearchedChange host m v n)
+then-change {T} {H} (Ok x) host m u v n was glance core now = glance-change host m u v n was glance core now.kept.parts.core
+then-change {T} {H} (Err f) host m u v n was glance core now = tt
+
 -- changes of counts
 pub recount-remains : (x y : Core) → IsRecount x y → Remains x y
 recount-remains x y step = λ s p at. let same = step.entries s in record { at = p; place = ap (λ (e : Entry). place_of e.state) same ∙ at; name = ap (λ (e : Entry). e.name) same }
@@ -481,7 +527,7 @@ speech-refl {H} host m = record { parts = refl; ledger = refl; work = refl; writ
 pub speech-trans : {H : Type 0} (host : Ghosts H) (a b c : LoomMemory H) → IsSpeech host a b → IsSpeech host b c → IsSpeech host a c
 speech-trans {H} host a b c x y = record { parts = y.parts ∙ x.parts; ledger = y.ledger ∙ x.ledger; work = y.work ∙ x.work; writes = y.writes ∙ x.writes }
 
-speech-resident : {H : Type 0} (u v : LoomMemory H) (k : ℕ) → v.parts ≡ u.parts → is_resident v k ≡ is_resident u k
+pub speech-resident : {H : Type 0} (u v : LoomMemory H) (k : ℕ) → v.parts ≡ u.parts → is_resident v k ≡ is_resident u k
 unfolding is_resident
 speech-resident {H} u v k same = ap (λ (p : Parts). has_body (core_of p) ((core_of p).find k)) same
 

@@ -25,6 +25,7 @@ pub mod MarkingLaws
 pub mod EndLaws
 pub mod ClassLaws
 pub mod SayLaws
+pub mod KeepingLaws
 pub mod KnownLaws
 pub mod TextLaws
 pub mod ResidentLaws

@@ -1,27 +1,37 @@
 -- A new object is in the core, none comes in for it, and before the eighth making nothing goes.
-use Rattle.std.proofs.Common.{◌≡◌, ℕ, ◌<◌, sym, ◌∙◌, ap, subst, Ok, Err, Result, IsTrue, is_some}
-use Rattle.std.specs.Prelude.{OnOk}
+use Rattle.std.proofs.Common.{◌≡◌, ◌≢◌, ℕ, ◌+◌, ◌<◌, Bool, true, false, cond, ⊎_elim, sym, ◌∙◌, ap, subst, Option, Some, Ok, Err, Result, IsTrue, is_some}
+use Rattle.std.proofs.lemmas.Bool.{ne_eqb}
+use Rattle.std.specs.Prelude.{OnOk, IfErr}
 use Rattle.long_names.specs.declared.value.Value.{Value}
 use Rattle.long_names.specs.declared.value.Value.TheVariants.{Ref}
 use Rattle.long_names.specs.Access.{Make, heap_after}
-use Rattle.long_names.specs.Objects.{Making}
+use Rattle.long_names.specs.declared.limits.TheConstants.{LAST_NAME}
+use Rattle.long_names.specs.Heap.{Heap, Has}
+use Rattle.long_names.specs.Objects.{Making, body_made, body_words}
 use Rattle.long_names.specs.State.{name_at, set_register}
 use Rattle.loom_outside.specs.declared.outside.Host.{Ghosts}
 use Rattle.loom_outside.specs.declared.outside.Role.TheVariants.{Work}
 use Rattle.object_memory.specs.declared.fault.MemFault.{MemFault}
+use Rattle.object_memory.specs.declared.fault.MemFault.TheVariants.{CoreFull, WorkFull, WorkFault, Damaged, NamesSpent, Said, Memory}
 use Rattle.object_memory.specs.Told.{Told}
-use Rattle.object_memory.specs.Contract.{IfBounds}
+use Rattle.object_memory.specs.Contract.{IfBounds, KeepsSound}
 use Rattle.object_table.specs.Entries.{place_of}
+use Rattle.disk_objects.specs.Disk.{disk_room}
 use Rattle.core_view.specs.Kept.{IsCore}
 use Rattle.leaf_lambda.specs.Parts.{core_of}
+use Rattle.purger.specs.Draining.{KeepsHeld}
+use Rattle.purger.specs.Purge.{HasRoom}
 use Rattle.loom_memory.specs.declared.memory.LoomMemory.{LoomMemory}
-use Rattle.loom_memory.specs.Gentle.{IsSteady}
+use Rattle.loom_memory.specs.Gentle.{Remains, IsResting, IsSteady}
 use Rattle.loom_memory.specs.Known.{IsEntryOf}
-use Rattle.loom_memory.specs.Makings.{HasMade}
-use Rattle.loom_memory.specs.Memory.{loom_told}
-use Rattle.loom_memory.specs.Residents.{is_resident}
-use Rattle.loom_memory.proofs.GentleLaws.{remains-residents, resident-is}
+use Rattle.loom_memory.specs.Makings.{HasMade, IsLost, OnCoreFull}
+use Rattle.loom_memory.specs.Memory.{loom_told, IsSound}
+use Rattle.loom_memory.specs.Own.{HasSpaceFor, IsAskedLast, IsSparingMaking, KeepsCache}
+use Rattle.loom_memory.specs.Residents.{has_body, is_resident}
+use Rattle.loom_memory.proofs.AddLaws.{next-absent, told-next}
+use Rattle.loom_memory.proofs.GentleLaws.{remains-residents, resident-is, rest-trans}
 use Rattle.loom_memory.proofs.MakingLaws.{set_here}
+use Rattle.loom_memory.proofs.SettleLaws.{held-residents}
 
 pub entry-resident : {H : Type 0} (m : LoomMemory H) (s name : ℕ) → IsCore (core_of m.parts) → IsEntryOf (core_of m.parts) s name → IsTrue (is_some (place_of ((core_of m.parts).entries s).state)) → IsTrue (is_resident m name)
 entry-resident {H} m s name core entry body = ap (λ (k : ℕ). is_resident m k) (sym entry.named) ∙ resident-is m s core entry.used ∙ body
@@ -43,3 +53,97 @@ pub made-early : {T H : Type 0} (r : Result T MemFault) (host : Ghosts H) (m u v
 unfolding loom_told
 made-early {T} {H} (Ok x) host m u v to class what same made = λ told low. subst (λ (z : LoomMemory H). (loom_told host v).heap ≡ heap_after (loom_told host z).heap (loom_told host z).regs (Make to class what)) (same low) (made.heap told)
 made-early {T} {H} (Err f) host m u v to class what same made = λ told low. tt
+
+-- ---- what a making left in the core
+
+-- it was made, and room was made before
+pub made-rest : {T H : Type 0} {P : Type 0} (r : Result T MemFault) (m u v : LoomMemory H) → (P → IsResting m u) → OnOk r (IsResting u v) → OnOk r (P → IsResting m v)
+made-rest {T} {H} {P} (Ok x) m u v first last = λ p. rest-trans m u v (first p) last
+made-rest {T} {H} {P} (Err f) m u v first last = tt
+
+-- the next name has no object in the core
+next-away : {H : Type 0} (host : Ghosts H) (m : LoomMemory H) → IsSound host m → IsTrue (host.tells Work) → is_resident m m.ledger.next ≡ false
+unfolding is_resident
+next-away {H} host m sound told = ap (λ (o : Option ℕ). has_body (core_of m.parts) o) (next-absent host m.parts m.disk.host.now m.disk.rest m.ledger.next sound.exact told).0
+
+-- what the heap has after a making, but for the new object, it had before
+made-had : (h : Heap) (regs : ℕ → Value) (to class : ℕ) (what : Making) (k : ℕ) → k ≢ h.next → Has (heap_after h regs (Make to class what)) k → Has h k
+made-had h regs to class what k away has = sym (ap (λ (b : Bool). is_some (cond b (Some (record { class = name_at (regs class); body = body_made what })) (h.at k))) (ne_eqb k h.next away)) ∙ has
+
+-- each object in the core that is still there stays
+made-kept : {H : Type 0} (host : Ghosts H) (m u v : LoomMemory H) (to class : ℕ) (what : Making) → IsSound host m → IsSound host u → IsCore (core_of v.parts) → u.ledger.next ≡ m.ledger.next → HasMade (loom_told host u) (loom_told host v) to class what
+    → (IsTrue (host.tells Work) → KeepsHeld (core_of m.parts) (core_of u.parts) (loom_told host u).heap) → Remains (core_of u.parts) (core_of v.parts) → IsTrue (host.tells Work) → (k : ℕ) → IsTrue (is_resident m k) → Has (loom_told host v).heap k → IsTrue (is_resident v k)
+unfolding loom_told
+made-kept {H} host m u v to class what sound there core next made bodies remains told k here has =
+    let away : k ≢ (loom_told host u).heap.next = (λ e.
+    let same : k ≡ m.ledger.next = e ∙ told-next host u told ∙ next in
+    let both : true ≡ false = sym here ∙ ap (is_resident m) same ∙ next-away host m sound told in
+    cc) in
+    let before = made-had (loom_told host u).heap (loom_told host u).regs to class what k away (subst (λ (h : Heap). Has h k) (made.heap told) has) in
+    remains-residents u v there.kept.parts.core core remains k (held-residents m u (loom_told host u).heap sound.kept.parts.core there.kept.parts.core (bodies told) k here before)
+
+pub made-sparing : {T H : Type 0} (r : Result T MemFault) (host : Ghosts H) (m u v : LoomMemory H) (to class : ℕ) (what : Making) (words : ℕ) → words ≡ 4 + body_words (body_made what) → IsSound host m → IsSound host u → KeepsSound r (IsSound host v)
+    → (m.ledger.held < disk_room m.disk.rest → u ≡ m) → (m.ledger.made < 8 → u ≡ m) → u.ledger.next ≡ m.ledger.next → ((k : ℕ) → HasRoom m.parts k 27 → HasRoom u.parts k 27) → (IsTrue (host.tells Work) → KeepsHeld (core_of m.parts) (core_of u.parts) (loom_told host u).heap)
+    → OnOk r (HasMade (loom_told host u) (loom_told host v) to class what) → OnOk r (HasRoom u.parts words 27 → IsResting u v) → OnOk r (HasRoom u.parts words 27 → KeepsCache host u v) → OnOk r (IsSparingMaking host m v what)
+made-sparing {T} {H} (Ok x) host m u v to class what words size sound there now roomy early next room bodies made rests keeps = record {
+  stays = λ space. remains-residents m v sound.kept.parts.core now.kept.parts.core (rest space).remains;
+  idle = λ space. (rest space).idle;
+  cached = λ space. each (λ z. KeepsCache host z v) keeps space;
+  kept = λ told has. made-kept host m u v to class what sound there now.kept.parts.core next made bodies (rests (subst (λ (k : ℕ). HasRoom u.parts k 27) (sym size) (room (4 + body_words (body_made what)) has))).remains told;
+}
+  where
+    from : (P : LoomMemory H → Type 0) → (HasRoom u.parts words 27 → P u) → u ≡ m → HasRoom m.parts (4 + body_words (body_made what)) 27 → P m
+    from P go same has = subst P same (go (subst (λ (z : LoomMemory H). HasRoom z.parts words 27) (sym same) (subst (λ (k : ℕ). HasRoom m.parts k 27) (sym size) has)))
+
+    each : (P : LoomMemory H → Type 0) → (HasRoom u.parts words 27 → P u) → HasSpaceFor m what → P m
+    each P go space = ⊎_elim (λ (h : m.ledger.held < disk_room m.disk.rest). from P go (roomy h) space.1) (λ (h : m.ledger.made < 8). from P go (early h) space.1) space.0
+
+    rest : HasSpaceFor m what → IsResting m v
+    rest space = each (λ z. IsResting z v) rests space
+made-sparing {T} {H} (Err f) host m u v to class what words size sound there now roomy early next room bodies made rests keeps = tt
+
+-- ---- why it was refused
+
+pub core-any : (f : MemFault) (P : Type 0) → P → OnCoreFull f P
+core-any (CoreFull need) P p = p
+core-any (WorkFull live room) P p = tt
+core-any (WorkFault count) P p = tt
+core-any (Damaged place name) P p = tt
+core-any NamesSpent P p = tt
+core-any (Said count) P p = tt
+core-any Memory P p = tt
+
+pub core-none : (f : MemFault) (P : Type 0) → OnCoreFull f ⊥ → OnCoreFull f P
+core-none (CoreFull need) P none = absurd none
+core-none (WorkFull live room) P none = tt
+core-none (WorkFault count) P none = tt
+core-none (Damaged place name) P none = tt
+core-none NamesSpent P none = tt
+core-none (Said count) P none = tt
+core-none Memory P none = tt
+
+pub core-lost : (f : MemFault) (P : Type 0) → IsLost f → OnCoreFull f P
+core-lost (CoreFull need) P lost = absurd lost
+core-lost (WorkFull live room) P lost = tt
+core-lost (WorkFault count) P lost = tt
+core-lost (Damaged place name) P lost = tt
+core-lost NamesSpent P lost = tt
+core-lost (Said count) P lost = tt
+core-lost Memory P lost = tt
+
+pub lost-core : {T : Type 0} (r : Result T MemFault) (P : Type 0) → IfErr r IsLost → IfErr r (λ f. OnCoreFull f P)
+lost-core {T} (Ok x) P lost = tt
+lost-core {T} (Err f) P lost = core-lost f P lost
+
+core-map : (f : MemFault) (P Q : Type 0) → (P → Q) → OnCoreFull f P → OnCoreFull f Q
+core-map (CoreFull need) P Q go p = go p
+core-map (WorkFull live room) P Q go p = tt
+core-map (WorkFault count) P Q go p = tt
+core-map (Damaged place name) P Q go p = tt
+core-map NamesSpent P Q go p = tt
+core-map (Said count) P Q go p = tt
+core-map Memory P Q go p = tt
+
+pub asked-last : {T H : Type 0} (r : Result T MemFault) (host : Ghosts H) (m v : LoomMemory H) → (IsTrue (host.tells Work) → (loom_told host m).heap.next < LAST_NAME) → IfErr r (λ f. OnCoreFull f (v.ledger.held < disk_room v.disk.rest)) → IfErr r (λ f. OnCoreFull f (IsAskedLast host m v))
+asked-last {T} {H} (Ok x) host m v low full = tt
+asked-last {T} {H} (Err f) host m v low full = core-map f (v.ledger.held < disk_room v.disk.rest) (IsAskedLast host m v) (λ room. record { name = low; room = room }) full

@@ -46,11 +46,12 @@ use Rattle.delta_counts.proofs.DrainLaws.{counting-giving}
 use Rattle.purger.specs.declared.room.Pinned.{Pinned}
 use Rattle.purger.specs.Marks.{KeepsMarks}
 use Rattle.purger.proofs.GivingLaws.{given-here, given-purged, given-tight, giving-parts, giving-stays, giving-up}
-use Rattle.purger.proofs.MarkLaws.{Marks-same, Marks-trans}
+use Rattle.purger.proofs.MarkLaws.{Kept-refl, Kept-trans, Marks-same, Marks-trans, within-marks}
 use Rattle.loom_memory.specs.Memory.{IsCalm}
 use Rattle.loom_memory.specs.New.{HasFew, IsNew, IsReadied, object_new, words_ahead}
 use Rattle.loom_memory.proofs.CalmLaws.{purged-calm, within-calm}
 use Rattle.loom_memory.proofs.LambdaLaws.{leaf-calm, still-calm}
+use Rattle.loom_memory.proofs.LastLaws.{leaf-keeps}
 
 -- ---- calm steps, one after another
 
@@ -73,6 +74,7 @@ stays-trans a b c x y disk backed = let first = x disk backed in let then = y di
 pub readied-refl : (c : Core) → IsReadied c c
 readied-refl c = record {
   calm = λ pins. still-calm pins c;
+  marks = Kept-refl c;
   stays = λ disk backed. record { backed = backed; held = refl };
   tight = λ t. t;
   fresh = refl;
@@ -83,6 +85,7 @@ readied-refl c = record {
 pub readied-trans : (a b c : Core) → IsReadied a b → IsReadied b c → IsReadied a c
 readied-trans a b c x y = record {
   calm = λ pins. calm-trans pins a b c (x.calm pins) (y.calm pins);
+  marks = Kept-trans a b c x.marks y.marks;
   stays = stays-trans a b c x.stays y.stays;
   tight = λ t. y.tight (x.tight t);
   fresh = y.fresh ∙ x.fresh;
@@ -95,6 +98,7 @@ readied-trans a b c x y = record {
 pub leaf-readied : (x y : Core) (s : ℕ) → IsCore x → IsCore y → IsLeafStep x y → y ≡ with_leaf x s NIL → IsReadied x y
 leaf-readied x y s core now step is = record {
   calm = λ pins. leaf-calm pins x y core now step;
+  marks = leaf-keeps x y core now step;
   stays = step.stays;
   tight = ref-tight x y step.step;
   fresh = ref-fresh x y step.step;
@@ -145,6 +149,7 @@ counting-readied p q parts same c =
     let now = (giving-parts p q parts same give).core in
     record {
       calm = λ pins. purged-calm pins (core_of p) (core_of q) (given-purged pins.a pins.b pins.d (core_of p) (core_of q) now up) (Marks-same (core_of p) (core_of q) (counting-marks p q c)) (given-here (core_of p) (core_of q) up);
+      marks = counting-marks p q c;
       stays = giving-stays p q parts same give;
       tight = given-tight (core_of p) (core_of q) up;
       fresh = ap (λ (n : ℕ). sum_below n (λ s. fresh_by ((core_of q).entries s))) (counting-bound p q c)
@@ -255,6 +260,7 @@ opened-new a m d name class nil k len header s x =
     record {
       entry = record { short = x.core_d.short s live.0; used = live.0; named = live.1 ∙ named.1 };
       calm = λ pins. calm-trans pins a m d (leaf-calm pins a m x.core x.core_m x.step) (within-calm pins s m d x.core_m x.core_d x.within named.0 leaf);
+      marks = Kept-trans a m d (leaf-keeps a m x.core x.core_m x.step) (within-marks m d s x.core_m x.core_d x.within);
       tight = λ t. x.within.tight (ref-tight a m x.step.step t);
       fresh = fresh-more m d s x.within.about (x.core_m.within s named.0) leaf (new-fresh x.body.0 x.body.1) ∙ ap (λ (n : ℕ). n + 1) (ref-fresh a m x.step.step);
       backed = opened-backed a m d name class nil k len header s x;
@@ -343,6 +349,7 @@ pub new-after : (a b d : Core) (name class : ℕ) (k : Kind) (len header s : ℕ
 new-after a b d name class k len header s on x y = record {
   entry = y.entry;
   calm = λ pins. calm-trans pins a b d (x.calm pins) (y.calm pins);
+  marks = Kept-trans a b d x.marks y.marks;
   tight = λ t. y.tight (x.tight t);
   fresh = y.fresh ∙ ap (λ (n : ℕ). n + 1) x.fresh;
   backed = λ disk backed none. y.backed disk (x.stays disk backed).backed none;

@@ -67,7 +67,7 @@ recount-mark c d s r = recount-same c d s (λ e. e.flags.marked) (λ e x. refl) 
 pub recount-meant : (c d : Core) (w : ℕ) → IsRecount c d → meant d.entries [] 0 w ≡ meant c.entries [] 0 w
 recount-meant c d w r = meant-names c.entries d.entries [] 0 w (λ is. recount-name c d w r)
 
-recount-marks : (c d : Core) → IsRecount c d → KeepsMarks c d
+pub recount-marks : (c d : Core) → IsRecount c d → KeepsMarks c d
 recount-marks c d r = record { marks = λ n. ap (λ (f : ℕ → Option ℕ). marked_by d.entries (f n)) r.find ∙ go (c.find n); found = λ n on. ap (λ (f : ℕ → Option ℕ). f n) r.find }
   where
     go : (o : Option ℕ) → marked_by d.entries o ≡ marked_by c.entries o

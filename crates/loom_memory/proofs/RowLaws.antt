@@ -162,6 +162,27 @@ marking-kept c f mark s begun core used fresh = record {
     or-true true = refl
     or-true false = refl
 
+-- the cache is as it was with the new mark, for rows that don't count were cleared before
+pub marking-exact : (c : Core) (f : ℕ → ℕ → Option ℕ) (mark s : ℕ) (begun : Bool) → IsCore c → is_used (c.entries s).state ≡ true → IsFresh c f mark
+    → cache_of (with_entry c s (with_its_mark (c.entries s))) f s begun ≡ with_mark (cache_of c f mark begun) (Some (c.entries s).name)
+marking-exact c f mark s begun core used fresh =
+    let kept = marking-kept c f mark s begun core used fresh in
+    let rows' = fun_ext (λ k. fun_ext (λ n. fun_ext (λ m. row k n m))) in
+    let marks' = kept.marks in
+    let path' = kept.path in
+    λ i. record { rows = rows' i; marks = marks' i; path = path' i }
+  where
+    and-false : (b : Bool) → b && false ≡ false
+    and-false true = refl
+    and-false false = refl
+
+    old : (k n m : ℕ) → row_by c.entries f (c.find k) (c.find n) m ≡ has_mark c mark && row_by c.entries f (c.find k) (c.find n) m
+    old k n m = ⊎_elim (λ on. sym (ap (λ (b : Bool). b && row_by c.entries f (c.find k) (c.find n) m) on))
+        (λ none. let off = row-off c f (c.find k) (c.find n) m none.1 in off ∙ sym (ap (λ (b : Bool). has_mark c mark && b) off ∙ and-false (has_mark c mark))) fresh
+
+    row : (k n m : ℕ) → has_mark (with_entry c s (with_its_mark (c.entries s))) s && row_by (put c.entries s (with_its_mark (c.entries s))) f (c.find k) (c.find n) m ≡ has_mark c mark && row_by c.entries f (c.find k) (c.find n) m
+    row k n m = ap (λ (b : Bool). b && row_by (put c.entries s (with_its_mark (c.entries s))) f (c.find k) (c.find n) m) (marked-on c s used) ∙ row-names c s f (c.find k) (c.find n) m ∙ old k n m
+
 pub marking-cached : (c : Core) (f : ℕ → ℕ → Option ℕ) (mark s : ℕ) → IsCore c → is_used (c.entries s).state ≡ true → IsFresh c f mark → IsCached c f mark → IsCached (with_entry c s (with_its_mark (c.entries s))) f s
 marking-cached c f mark s core used fresh cached = record {
   none = λ off. no-both (has_mark (with_entry c s (with_its_mark (c.entries s))) s) (marked-on c s used) off;
@@ -267,6 +288,23 @@ put-rows c f g mark s t w begun core is k n m h =
     first : has_mark c mark ≡ true → (o : Option ℕ) → c.find k ≡ o → row_by c.entries g o (c.find n) m ≡ true → ((cache_of c f mark begun).rows k n m ≡ true) ⊎ (((c.entries s).name ≡ k) × ((c.entries t).name ≡ n) × ((c.entries w).name ≡ m))
     first on None e row = absurd (cc)
     first on (Some a) e row = second a on e (c.find n) refl row
+
+-- each other pair is answered as before, but the one whose row was taken
+pub put-others : (c : Core) (f g : ℕ → ℕ → Option ℕ) (mark s t w : ℕ) (begun : Bool) → IsCore c → (is : IsPutRow f g s t w) → (k n m : ℕ) → (((c.entries s).name ≡ k) × ((c.entries t).name ≡ n) → ⊥) → ((k ≡ (c.entries is.lost_class).name) × (n ≡ (c.entries is.lost_selector).name) → ⊥)
+    → (cache_of c g mark begun).rows k n m ≡ (cache_of c f mark begun).rows k n m
+put-others c f g mark s t w begun core is k n m other kept = ap (λ (b : Bool). has_mark c mark && b) (first (c.find k) refl)
+  where
+    named : (a q : ℕ) (j : ℕ) → c.find j ≡ Some a → a ≡ q → (c.entries q).name ≡ j
+    named a q j e same = ap (λ (z : ℕ). (c.entries z).name) (sym same) ∙ core.named j a e
+
+    second : (a : ℕ) → c.find k ≡ Some a → (o : Option ℕ) → c.find n ≡ o → row_by c.entries g (Some a) o m ≡ row_by c.entries f (Some a) o m
+    second a e None d = refl
+    second a e (Some b) d = ap (λ (o : Option ℕ). is_word_of c.entries o m)
+        (is.others a b (λ both. other (named a s k e both.0, named b t n d both.1)) (λ both. kept (sym (named a is.lost_class k e both.0), sym (named b is.lost_selector n d both.1))))
+
+    first : (o : Option ℕ) → c.find k ≡ o → row_by c.entries g o (c.find n) m ≡ row_by c.entries f o (c.find n) m
+    first None e = refl
+    first (Some a) e = second a e (c.find n) refl
 
 -- a marked value is the name of an entry that is marked
 pub marked-word : (c : Core) (f : ℕ → ℕ → Option ℕ) (mark : ℕ) (begun : Bool) (w : ℕ) → IsCore c → w ≢ 0 → (is_short w ≡ true → is_used (c.entries w).state ≡ true) → is_marked (cache_of c f mark begun) (meant c.entries [] 0 w) ≡ true → (has_mark c w ≡ true) × (is_short w ≡ true)

@@ -249,7 +249,7 @@ pub bodies-same : (p r : Parts) (h : Heap) → r ≡ p → KeepsHeld (core_of p)
 bodies-same p r h same = subst (λ (z : Parts). KeepsHeld (core_of p) (core_of z) h) (sym same) (λ s at place has. body-stays (core_of p) s at place)
 
 -- each object in the core that is held then is there
-held-residents : {H : Type 0} (m n : LoomMemory H) (h : Heap) → IsCore (core_of m.parts) → IsCore (core_of n.parts) → KeepsHeld (core_of m.parts) (core_of n.parts) h → (k : ℕ) → IsTrue (is_resident m k) → Has h k → IsTrue (is_resident n k)
+pub held-residents : {H : Type 0} (m n : LoomMemory H) (h : Heap) → IsCore (core_of m.parts) → IsCore (core_of n.parts) → KeepsHeld (core_of m.parts) (core_of n.parts) h → (k : ℕ) → IsTrue (is_resident m k) → Has h k → IsTrue (is_resident n k)
 unfolding is_resident
 held-residents {H} m n h core now bodies k here has = go ((core_of m.parts).find k) refl here
   where

@@ -1,9 +1,9 @@
 -- Two objects that aren't in the core change places: their records are exchanged.
-use Rattle.std.proofs.Common.{◌≡◌, ◌≢◌, ℕ, ◌<◌, ◌||◌, Bool, true, false, cond, eqb, List, [], Option, None, Some, is_some, IsTrue, refl, sym, ◌∙◌, ap, subst, add-zero, arith, ⊎_elim}
+use Rattle.std.proofs.Common.{◌≡◌, ◌≢◌, ℕ, ◌<◌, ◌||◌, Bool, true, false, cond, eqb, List, [], Option, None, Some, is_some, Result, Ok, Err, IsTrue, refl, sym, ◌∙◌, ap, subst, add-zero, arith, ⊎_elim}
 use Rattle.std.proofs.lemmas.Grind.{common_steps}
-use Rattle.std.proofs.lemmas.Bool.{cases_eq}
+use Rattle.std.proofs.lemmas.Bool.{cases_eq, ne_eqb}
 use Rattle.std.proofs.Math.Path.{fun_ext}
-use Rattle.std.specs.Prelude.{IsSome}
+use Rattle.std.specs.Prelude.{IsSome, OnOk}
 use Rattle.std.specs.Option.{option_map_or}
 use Rattle.std.specs.FinMap as map
 use Rattle.long_names.specs.declared.value.Value.{Value}
@@ -11,7 +11,7 @@ use Rattle.long_names.specs.declared.value.Value.TheVariants.{Ref}
 use Rattle.long_names.specs.declared.object.Object.{Object}
 use Rattle.long_names.specs.Objects.{is_ref}
 use Rattle.long_names.specs.Words.{IsValue}
-use Rattle.long_names.specs.State.{IsRef, SLOTS}
+use Rattle.long_names.specs.State.{IsRef, SLOTS, name_at}
 use Rattle.long_names.specs.Heap.{Has, put_object}
 use Rattle.long_names.specs.Access.{Swap, IsUnpinned, heap_after, with_swapped}
 use Rattle.loom_outside.specs.Outside.{RoleState}
@@ -20,6 +20,7 @@ use Rattle.loom_outside.specs.declared.outside.DiskFault.{DiskFault}
 use Rattle.loom_outside.specs.declared.outside.DiskFault.TheVariants as fault
 use Rattle.loom_outside.specs.declared.outside.Host.{Ghosts}
 use Rattle.loom_outside.specs.declared.outside.Role.TheVariants.{Work, Transcript}
+use Rattle.object_memory.specs.declared.fault.MemFault.{MemFault}
 use Rattle.object_memory.specs.Told.{Told, IsReady, Bounds}
 use Rattle.object_memory.specs.Contract.{HasCore, IfBounds, touched_by}
 use Rattle.object_table.specs.declared.entry.Entry.{Entry}
@@ -33,6 +34,7 @@ use Rattle.core_view.specs.Counts.{marked_of}
 use Rattle.core_view.specs.Words.{meant, body_in}
 use Rattle.core_view.specs.Held.{Disk, fields_there, held, held_by, held_in}
 use Rattle.core_view.specs.Kept.{IsCore, IsBacked, IsBody, IsLike, IsValued}
+use Rattle.core_view.specs.Purge.{IsPurged}
 use Rattle.core_view.specs.Room.{is_among}
 use Rattle.core_view.proofs.Core.{held-leaf, placed-used}
 use Rattle.core_view.proofs.Lists.{put-here, put-there}
@@ -41,12 +43,16 @@ use Rattle.purger.specs.declared.room.Pinned.{Pinned}
 use Rattle.purger.specs.Marks.{AreHere}
 use Rattle.purger.specs.Purge.{IsPurgeFault}
 use Rattle.purger.proofs.MarkLaws.{marked-at}
+use Rattle.purger.proofs.RoomLaws.{some-of}
 use Rattle.loom_memory.specs.declared.memory.LoomMemory.{LoomMemory}
-use Rattle.loom_memory.specs.Memory.{heap_if, loom_told, name_if, pin_in, told_of, word_in, IsOver, IsSound}
+use Rattle.loom_memory.specs.Memory.{heap_if, loom_told, name_if, pin_in, told_of, word_in, IsOver, IsQuiet, IsSound}
 use Rattle.loom_memory.specs.Numbers.{IsNumbered}
-use Rattle.loom_memory.specs.Stores.{IsStored}
+use Rattle.loom_memory.specs.Own.{IsPutAway}
+use Rattle.loom_memory.specs.Residents.{fetched, has_body, is_resident}
+use Rattle.loom_memory.specs.Stores.{IsAway, IsStored}
 use Rattle.loom_memory.proofs.BringLaws.{IsNamed, named-then, quiet-same}
 use Rattle.loom_memory.proofs.CalmLaws.{transcript-away}
+use Rattle.loom_memory.proofs.GentleLaws.{entry-at, resident-at, speech-resident}
 use Rattle.loom_memory.proofs.LambdaLaws.{still-calm}
 use Rattle.loom_memory.proofs.StoreLaws.{kept-cache, ref-name}
 
@@ -263,3 +269,51 @@ swap-core t a b = go t.bounds
     go : (x : Option Bounds) → IfBounds x (HasCore t (Swap a b))
     go None = tt
     go (Some b) = λ told. omega arith
+
+-- ---- who is in the core then
+
+-- the object of a register, once it left
+away-gone : {H : Type 0} (host : Ghosts H) (m v : LoomMemory H) (of : ℕ) → IsSound host v → IsQuiet (loom_told host m) (loom_told host v) → IsRef ((loom_told host m).regs of) → IsAway v of → is_resident v (name_at ((loom_told host m).regs of)) ≡ false
+away-gone {H} host m v of sound quiet ref away =
+    let same : (loom_told host v).regs of ≡ (loom_told host m).regs of = ap (λ (z : Told). z.regs of) quiet.same in
+    ap (λ (w : Value). is_resident v (name_at w)) (sym same) ∙ resident-at host v of (word_in v.regs of) sound (subst IsRef (sym same) ref) refl ∙ ap (λ (o : Option ℕ). is_some o) away
+
+-- each other object stays
+pub left-others : {H : Type 0} (host : Ghosts H) (m u : LoomMemory H) (of s : ℕ) → IsSound host m → IsCore (core_of u.parts) → IsRef ((loom_told host m).regs of) → s ≡ word_in m.regs of → ((a b d : ℕ) → is_among a b d s ≡ false → IsPurged a b d (core_of m.parts) (core_of u.parts))
+    → (k : ℕ) → k ≢ name_at ((loom_told host m).regs of) → IsTrue (is_resident m k) → IsTrue (is_resident u k)
+unfolding is_resident
+left-others {H} host m u of s sound now ref same purged k away here = go ((core_of m.parts).find k) refl here
+  where
+    name : name_at ((loom_told host m).regs of) ≡ ((core_of m.parts).entries s).name
+    name = ap name_at (entry-at host m of s sound ref same).name
+
+    apart : (t : ℕ) → t ≢ s → is_among t t t s ≡ false
+    apart t other = ap (λ (b : Bool). b || (b || b)) (ne_eqb s t (λ h. other (sym h)))
+
+    self : (t : ℕ) → is_among t t t t ≡ true
+    self t = grind (arith, common_steps)
+
+    go : (x : Option ℕ) → (core_of m.parts).find k ≡ x → has_body (core_of m.parts) x ≡ true → has_body (core_of u.parts) ((core_of u.parts).find k) ≡ true
+    go None e here = absurd (cc)
+    go (Some t) e here =
+        let old = sound.kept.parts.core in
+        let body = some-of (place_of ((core_of m.parts).entries t).state) (is_some (place_of ((core_of m.parts).entries t).state)) refl here in
+        let other : t ≢ s = (λ h. away (sym (old.named k t e) ∙ ap (λ (q : ℕ). ((core_of m.parts).entries q).name) h ∙ sym name)) in
+        let stays = (purged t t t (apart t other)).pinned t body.0 (self t) body.1 in
+        let found : (core_of u.parts).find k ≡ Some t = ap (core_of u.parts).find (sym (stays.name ∙ old.named k t e)) ∙ now.found t (placed-used ((core_of u.parts).entries t).state stays.at stays.place) in
+        ap (λ (x : Option ℕ). has_body (core_of u.parts) x) found ∙ ap (λ (x : Option ℕ). is_some x) stays.place
+
+-- and after both, where their records were exchanged
+pub put-away : {T H : Type 0} (r : Result T MemFault) (host : Ghosts H) (m u v w : LoomMemory H) (a b : ℕ) → IsSound host v → IsQuiet (loom_told host m) (loom_told host u) → IsQuiet (loom_told host m) (loom_told host v)
+    → IsRef ((loom_told host m).regs a) → IsRef ((loom_told host m).regs b) → IsAway v a → IsAway v b
+    → ((k : ℕ) → k ≢ name_at ((loom_told host m).regs a) → IsTrue (is_resident m k) → IsTrue (is_resident u k)) → ((k : ℕ) → k ≢ name_at ((loom_told host u).regs b) → IsTrue (is_resident u k) → IsTrue (is_resident v k))
+    → fetched u ≡ fetched m → fetched v ≡ fetched u → OnOk r (w.parts ≡ v.parts) → OnOk r (fetched w ≡ fetched v) → OnOk r (IsPutAway m w (name_at ((loom_told host m).regs a)) (name_at ((loom_told host m).regs b)))
+put-away {T} {H} (Ok x) host m u v w a b sound one both first second away-a away-b leaves stays count counts parts last =
+    let name : name_at ((loom_told host u).regs b) ≡ name_at ((loom_told host m).regs b) = ap (λ (z : Told). name_at (z.regs b)) one.same in
+    record {
+      first = speech-resident v w (name_at ((loom_told host m).regs a)) parts ∙ away-gone host m v a sound both first away-a;
+      second = speech-resident v w (name_at ((loom_told host m).regs b)) parts ∙ away-gone host m v b sound both second away-b;
+      others = λ k x y here. speech-resident v w k parts ∙ stays k (λ e. y (e ∙ name)) (leaves k x here);
+      fetches = last ∙ counts ∙ count;
+    }
+put-away {T} {H} (Err f) host m u v w a b sound one both first second away-a away-b leaves stays count counts parts last = tt

@@ -1,5 +1,7 @@
 -- The method cache of a core: its rows are short words, and count as long as marks are there.
 use Rattle.std.specs.Prelude.{◌≡◌, ◌⊎◌, ℕ, ◌==◌, ◌&&◌, ◌||◌, Bool, true, false, Option, Some, None}
+use Rattle.long_names.specs.declared.value.Value.{Value}
+use Rattle.long_names.specs.declared.value.Value.TheVariants.{Ref}
 use Rattle.object_table.specs.declared.entry.Entry.{Entry}
 use Rattle.object_table.specs.Entries.{is_used}
 use Rattle.core_view.specs.Core.{Core}
@@ -42,3 +44,10 @@ IsFresh c found mark = (has_mark c mark ≡ true) ⊎ ((mark ≡ 0) × ((s t : �
 -- an entry with its mark
 abbrev pub with_its_mark : Entry → Entry
 with_its_mark e = record e { flags = record e.flags { marked = true } }
+
+-- The row of a pair of values was put into a cache: each other pair is answered as before, but at most one.
+pub record IsPutAlone (old new : Cache) (class selector : Value) : Type 0 where
+  -- the pair that may be lost
+  pub lost_class : ℕ
+  pub lost_selector : ℕ
+  pub others : (c s m : ℕ) → ((class ≡ Ref c) × (selector ≡ Ref s) → ⊥) → ((c ≡ lost_class) × (s ≡ lost_selector) → ⊥) → new.rows c s m ≡ old.rows c s m

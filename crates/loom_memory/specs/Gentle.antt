@@ -35,3 +35,9 @@ pub record IsResting {H : Type 0} (old new : LoomMemory H) : Type 0 where
 pub record IsPeek {H : Type 0} (host : Ghosts H) (old new : LoomMemory H) : Type 0 where
   pub gentle : IsGentle host old new
   pub fetches : fetched new ≡ fetched old
+
+-- the same, whatever became of the method cache
+pub record IsGlance {H : Type 0} (host : Ghosts H) (old new : LoomMemory H) : Type 0 where
+  pub remains : Remains (core_of old.parts) (core_of new.parts)
+  pub read : IsWorkRead host old.disk.host.now new.disk.host.now
+  pub fetches : fetched new ≡ fetched old

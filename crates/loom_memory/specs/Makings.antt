@@ -9,7 +9,7 @@ use Rattle.long_names.specs.State.{set_register}
 use Rattle.long_names.specs.Access.{Make, heap_after}
 use Rattle.long_names.specs.Thin.{IsThinning}
 use Rattle.object_memory.specs.declared.fault.MemFault.{MemFault}
-use Rattle.object_memory.specs.declared.fault.MemFault.TheVariants.{NamesSpent, Damaged, WorkFull}
+use Rattle.object_memory.specs.declared.fault.MemFault.TheVariants.{CoreFull, NamesSpent, Damaged, WorkFull}
 use Rattle.object_memory.specs.Told.{Told, is_root}
 use Rattle.object_memory.specs.Contract.{Call, CountsKept, IfBounds, IsLater, LeavesAll, LeavesCache, Raised, Refuses, SameBounds, Settled, no_names}
 use Rattle.loom_memory.specs.Memory.{IsRefused}
@@ -76,6 +76,11 @@ IsRefusedAs t u to class what f = (IsTrue t.tells → t.heap.next < LAST_NAME) �
 abbrev pub IsNotFull : MemFault → Type 0
 IsNotFull (WorkFull live room) = ⊥
 IsNotFull _ = Unit {0}
+
+-- where a call was refused for want of core
+abbrev pub OnCoreFull : MemFault → Type 0 → Type 0
+OnCoreFull (CoreFull need) P = P
+OnCoreFull _ P = Unit {0}
 
 -- ---- settling
 

@@ -17,6 +17,7 @@ use Rattle.core_view.specs.Purge.{fresh_of}
 use Rattle.leaf_lambda.specs.Making.{body_new}
 use Rattle.counted_core.specs.Levels.{Levels, heap_of}
 use Rattle.purger.specs.declared.room.Pinned.{Pinned}
+use Rattle.purger.specs.Marks.{KeepsMarks}
 use Rattle.loom_memory.specs.Known.{IsEntryOf}
 use Rattle.loom_memory.specs.Memory.{IsCalm}
 
@@ -42,6 +43,7 @@ words_ahead n class = replicate n (Ref NIL) ++ (Ref class ∷ [])
 -- Nil has an entry, and counts rose: nothing else differs.
 pub record IsReadied (old new : Core) : Type 0 where
   pub calm : (pins : Pinned) → IsCalm pins old new
+  pub marks : KeepsMarks old new
   pub stays : Stays old new
   pub tight : IsTight old → IsTight new
   pub fresh : fresh_of new ≡ fresh_of old
@@ -52,6 +54,7 @@ pub record IsReadied (old new : Core) : Type 0 where
 pub record IsNew (old new : Core) (name class : ℕ) (k : Kind) (len header s : ℕ) : Type 0 where
   pub entry : IsEntryOf new s name
   pub calm : (pins : Pinned) → IsCalm pins old new
+  pub marks : KeepsMarks old new
   pub tight : IsTight old → IsTight new
   pub fresh : fresh_of new ≡ fresh_of old + 1
   pub backed : (disk : Disk) → IsBacked old disk → disk name ≡ None → IsBacked new disk

@@ -1,9 +1,12 @@
 -- What a two-level memory promises of its core and of Work, beside what it tells: `IsSparing` of each access to an object that changes
--- nothing of it, `IsSparingChange` of a store and a mark; and `IsAmple` says when an access is answered.
-use Rattle.std.specs.Prelude.{◌≡◌, ◌≢◌, ◌⊎◌, ◌≤◌, ◌<◌, ℕ, false, Some, Result, OnOk, IfErr, IsTrue}
-use Rattle.long_names.specs.declared.limits.TheConstants.{LAST_NAME}
+-- nothing of it, `IsSparingChange` of a store and a mark, `IsSearched` and `IsSearchedChange` of a field that may have been left on the
+-- disk, `IsSparingMaking` of a making, `IsPutAway` of a swap; and `IsAmple` says when an access is answered.
+use Rattle.std.specs.Prelude.{◌≡◌, ◌≢◌, ◌⊎◌, ◌+◌, ◌≤◌, ◌<◌, ℕ, false, Some, Result, OnOk, IfErr, IsTrue}
+use Rattle.long_names.specs.declared.limits.TheConstants.{LAST_NAME, MAKINGS_BEFORE_FREEING}
 use Rattle.long_names.specs.Counting.{counted, Rose}
+use Rattle.long_names.specs.Heap.{Has}
 use Rattle.long_names.specs.Need.{Fits, words_at}
+use Rattle.long_names.specs.Objects.{Making, body_made, body_words}
 use Rattle.long_names.specs.Access.{Access}
 use Rattle.loom_outside.specs.declared.outside.Host.{Ghosts}
 use Rattle.loom_outside.specs.declared.outside.Role.TheVariants.{Work}
@@ -12,6 +15,7 @@ use Rattle.object_memory.specs.declared.fault.MemFault.{MemFault}
 use Rattle.object_memory.specs.declared.fault.Need.{Need}
 use Rattle.object_memory.specs.Told.{Told, Bounds}
 use Rattle.object_memory.specs.Contract.{ForBounds, IsNeedOf, Lives, makes, work_faults, said_faults}
+use Rattle.disk_objects.specs.Disk.{disk_room}
 use Rattle.core_view.specs.Steps.{IsAt}
 use Rattle.leaf_lambda.specs.Parts.{core_of}
 use Rattle.purger.specs.Purge.{HasRoom}
@@ -72,6 +76,17 @@ pub record IsSearched {H : Type 0} (host : Ghosts H) (old new : LoomMemory H) (n
   pub comes : is_resident old n ≡ false → fetched new ≡ counted (fetched old)
   pub none : IsTrue (is_resident old n) → HasRoom old.parts 0 SPARE_ENTRIES → fetched new ≡ fetched old
 
+-- The object of a name was reached by a store into a field, which may have been left on the disk.
+pub record IsSearchedChange {H : Type 0} (host : Ghosts H) (old new : LoomMemory H) (n : ℕ) : Type 0 where
+  -- The object is in the core now.
+  pub there : IsTrue (is_resident new n)
+  -- Where there was room, no object left the core, and Work was at most read.
+  pub stays : HasSpace host old n → KeepsResidents old new
+  pub read : HasSpace host old n → IsWorkRead host old.disk.host.now new.disk.host.now
+  -- Where it wasn't there before, one object came in; where it was, and there was room, none.
+  pub comes : is_resident old n ≡ false → fetched new ≡ counted (fetched old)
+  pub none : IsTrue (is_resident old n) → HasRoom old.parts 0 SPARE_ENTRIES → fetched new ≡ fetched old
+
 -- The object of a name was reached, and its bytes were said.
 pub record IsHeard {H : Type 0} (host : Ghosts H) (old new : LoomMemory H) (n : ℕ) : Type 0 where
   -- The object is in the core now.
@@ -98,6 +113,42 @@ pub record IsSparing {A H : Type 0} (host : Ghosts H) (old new : LoomMemory H) (
   pub sure : IfErr result (λ f. IsTrue (host.tells Work) → IsTrue (is_resident old n) → ⊥)
   pub bounded : OnOk result (ForBounds (loom_told host new).bounds (λ b. words_resident new ≤ b.core))
   pub cached : OnOk result (HasPlace host old n → (loom_told host new).cache ≡ (loom_told host old).cache)
+
+-- The method cache is as it was.
+abbrev pub KeepsCache : {H : Type 0} → Ghosts H → LoomMemory H → LoomMemory H → Type 0
+KeepsCache host old new = (loom_told host new).cache ≡ (loom_told host old).cache
+
+-- The object of a name isn't marked: a store into it takes no mark and no row away.
+abbrev pub IsUnmarked : {H : Type 0} → Ghosts H → LoomMemory H → ℕ → Type 0
+IsUnmarked host m n = (loom_told host m).cache.marks n ≡ false
+
+-- Two objects left the core, and no other did; none came in.
+pub record IsPutAway {H : Type 0} (old new : LoomMemory H) (a b : ℕ) : Type 0 where
+  pub first : is_resident new a ≡ false
+  pub second : is_resident new b ≡ false
+  pub others : (k : ℕ) → k ≢ a → k ≢ b → IsTrue (is_resident old k) → IsTrue (is_resident new k)
+  pub fetches : fetched new ≡ fetched old
+
+-- A making frees nothing dead: there is room on the disk for its object, or fewer were made since the last settling than that.
+abbrev pub IsUndrained : {H : Type 0} → LoomMemory H → Type 0
+IsUndrained m = (m.ledger.held < disk_room m.disk.rest) ⊎ (m.ledger.made < MAKINGS_BEFORE_FREEING)
+
+-- And as many words are free as its object takes, and as many entries as a call asks for.
+abbrev pub HasSpaceFor : {H : Type 0} → LoomMemory H → Making → Type 0
+HasSpaceFor m what = IsUndrained m × HasRoom m.parts (4 + body_words (body_made what)) SPARE_ENTRIES
+
+-- An object was made. Where there was room for it, no object left the core, Work wasn't touched, and the method cache is as it was. Where
+-- dead objects were freed first, and the core had room, each object that is still there stays in the core.
+pub record IsSparingMaking {H : Type 0} (host : Ghosts H) (old new : LoomMemory H) (what : Making) : Type 0 where
+  pub stays : HasSpaceFor old what → KeepsResidents old new
+  pub idle : HasSpaceFor old what → IsIdle old new
+  pub cached : HasSpaceFor old what → KeepsCache host old new
+  pub kept : IsTrue (host.tells Work) → HasRoom old.parts (4 + body_words (body_made what)) SPARE_ENTRIES → (k : ℕ) → IsTrue (is_resident old k) → Has (loom_told host new).heap k → IsTrue (is_resident new k)
+
+-- A making came as far as to ask the core: there was a name for its object, and room on the disk.
+pub record IsAskedLast {H : Type 0} (host : Ghosts H) (old new : LoomMemory H) : Type 0 where
+  pub name : IsTrue (host.tells Work) → (loom_told host old).heap.next < LAST_NAME
+  pub room : new.ledger.held < disk_room new.disk.rest
 
 -- An access has all that it asks for: heap and bounds are told, its rows fit, there are room and a name for what it makes, and no call
 -- on Work or Transcript failed.

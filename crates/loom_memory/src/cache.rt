@@ -4,7 +4,7 @@ ghost use Rattle.object_table.specs.Entries.{place_of};
 ghost use Rattle.core_view.specs.Core.{with_entry};
 ghost use Rattle.leaf_lambda.specs.Parts.{core_of, IsParts};
 ghost use Rattle.method_cache.specs.Found.{found};
-ghost use Rattle.loom_memory.specs.Cache.{has_mark, cache_of, with_its_mark, IsCached, IsFresh};
+ghost use Rattle.loom_memory.specs.Cache.{has_mark, cache_of, with_its_mark, IsCached, IsFresh, IsPutAlone};
 
 use crate::ledger::Ledger;
 use crate::memory::LoomMemory;
@@ -70,11 +70,11 @@ fn refresh(p: &Parts, k: &mut Ledger)
 }
 
 impl<'h, H: Host> LoomMemory<'h, H> {
-    ghost use Rattle.loom_memory.specs.Gentle.{IsResting};
-    ghost use Rattle.loom_memory.specs.Own.{IsSparingChange};
+    ghost use Rattle.loom_memory.specs.Gentle.{IsResting, IsSteady};
+    ghost use Rattle.loom_memory.specs.Own.{HasPlace, IsSparingChange};
     ghost use Rattle.long_names.specs.State.{name_at};
     ghost use Rattle.long_names.specs.Access.{Mark, Nothing};
-    ghost use Rattle.object_memory.specs.Contract.{Accessed, IsFound, IsPut, IsUnknown, MayDo, is_marked};
+    ghost use Rattle.object_memory.specs.Contract.{Accessed, IsFound, IsPut, IsUnknown, MayDo, is_marked, with_mark};
     ghost use Rattle.object_memory.specs.Fit.{KeepsCallable, MayCall, StaysCallable};
     ghost use Rattle.loom_memory.specs.Memory.{loom_told, loom_outside, loom_lender, IsMarking, IsRemembered, IsSound};
 
@@ -82,6 +82,7 @@ impl<'h, H: Host> LoomMemory<'h, H> {
     pub fn begin_path(&mut self)
         requires { IsSound H.Host self.old }
         ensures told { loom_told H.Host self.new ≡ record (loom_told H.Host self.old) { cache = record (loom_told H.Host self.old).cache { path = true } } }
+        ensures resting { IsResting self.old self.new }
         ensures fit { KeepsCallable (IsSound H.Host) (loom_told H.Host) loom_lender (loom_outside H.Host) self.old self.new }
     {
         refresh(&self.parts, &mut self.ledger);
@@ -95,6 +96,7 @@ impl<'h, H: Host> LoomMemory<'h, H> {
         ensures marked { IsMarking (loom_told H.Host self.old) (loom_told H.Host self.new) ((core_of self.old.parts).entries s.0).name }
         ensures sound { IsSound H.Host self.new }
         ensures resting { IsResting self.old self.new }
+        ensures cached { (loom_told H.Host self.new).cache ≡ with_mark (loom_told H.Host self.old).cache (Some ((core_of self.old.parts).entries s.0).name) }
         ensures lender { self.new.disk.host.ghost_name ≡ self.old.disk.host.ghost_name }
         ensures outside { loom_outside H.Host self.new ≡ loom_outside H.Host self.old }
     {
@@ -110,6 +112,8 @@ impl<'h, H: Host> LoomMemory<'h, H> {
         ensures access { Accessed (loom_told H.Host self.old) (loom_told H.Host self.new) (Mark r) (λ _. Nothing) result }
         ensures marked { OnOk result ((loom_told H.Host self.new).cache.marks (name_at ((loom_told H.Host self.old).regs r)) ≡ true) }
         ensures own { IsSparingChange H.Host self.old self.new (name_at ((loom_told H.Host self.old).regs r)) result }
+        ensures cached { OnOk result (HasPlace H.Host self.old (name_at ((loom_told H.Host self.old).regs r))
+            → (loom_told H.Host self.new).cache ≡ with_mark (loom_told H.Host self.old).cache (Some (name_at ((loom_told H.Host self.old).regs r)))) }
         ensures fit { StaysCallable (IsSound H.Host) (loom_told H.Host) loom_lender (loom_outside H.Host) self.old self.new result }
     {
         match self.load(r) {
@@ -126,6 +130,7 @@ impl<'h, H: Host> LoomMemory<'h, H> {
         requires { IsSound H.Host self.old }
         ensures found { MatchBool result (IsFound (loom_told H.Host self.old) (loom_told H.Host self.new) to class selector) (IsUnknown (loom_told H.Host self.old) (loom_told H.Host self.new) class selector) }
         ensures remembered { (method : ℕ) → IsRemembered self.old class selector method → (result ≡ true) × ((loom_told H.Host self.new).regs to ≡ (loom_told H.Host self.old).regs method) }
+        ensures steady { IsSteady H.Host self.old self.new }
         ensures fit { KeepsCallable (IsSound H.Host) (loom_told H.Host) loom_lender (loom_outside H.Host) self.old self.new }
     {
         if !names_marked(&self.parts, self.ledger.mark) {
@@ -151,6 +156,8 @@ impl<'h, H: Host> LoomMemory<'h, H> {
         ensures put { MatchBool result (IsPut (loom_told H.Host self.old) (loom_told H.Host self.new) class selector method) (loom_told H.Host self.new ≡ loom_told H.Host self.old) }
         ensures whole { IsTrue (loom_told H.Host self.old).cache.path → IsTrue result }
         ensures remembered { IsTrue result → IsRemembered self.new class selector method }
+        ensures resting { IsResting self.old self.new }
+        ensures others { IsTrue result → IsPutAlone (loom_told H.Host self.old).cache (loom_told H.Host self.new).cache ((loom_told H.Host self.old).regs class) ((loom_told H.Host self.old).regs selector) }
         ensures fit { KeepsCallable (IsSound H.Host) (loom_told H.Host) loom_lender (loom_outside H.Host) self.old self.new }
     {
         if !self.ledger.begun {

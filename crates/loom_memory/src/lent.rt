@@ -7,7 +7,7 @@ use loom_outside::{Failed, Host, Role};
 
 impl<'h, H: Host> LoomMemory<'h, H> {
     ghost use Rattle.loom_memory.specs.Memory.{loom_told, loom_outside, IsSound};
-    ghost use Rattle.loom_memory.specs.Lent.{faults_of, IsLent};
+    ghost use Rattle.loom_memory.specs.Lent.{faults_of, IsAside, IsLent};
 
     /// Puts a whole piece to Saved or to Notes. What is told of the memory stays.
     pub fn write_to(&mut self, role: Role, buf: &[u8]) -> Result<(), Failed>
@@ -15,6 +15,7 @@ impl<'h, H: Host> LoomMemory<'h, H> {
         requires role { IsLent role }
         ensures told { loom_told H.Host self.new ≡ loom_told H.Host self.old }
         ensures sound { IsSound H.Host self.new }
+        ensures steady { IsAside H.Host self.old self.new }
         ensures put { IsTrue (H.tells role) → OnOk result ((loom_outside H.Host self.new role).role ≡ puts buf.now (loom_outside H.Host self.old role).role) }
         ensures failed { IsTrue (H.tells role) → OnErr result (PutPrefix buf.now (loom_outside H.Host self.old role).role (loom_outside H.Host self.new role).role) }
         ensures cause { HasCause (loom_outside H.Host self.old role).faults (loom_outside H.Host self.new role).faults result }

@@ -45,10 +45,12 @@ impl<'h, H: Host> LoomMemory<'h, H> {
     ghost use Rattle.object_memory.specs.Told.{IsReady};
     ghost use Rattle.object_memory.specs.declared.fault.Need.{Need as Wanted};
     ghost use Rattle.object_memory.specs.Contract.{HasCore, IfBounds, KeepsSound};
-    ghost use Rattle.purger.specs.Purge.{IsShort};
+    ghost use Rattle.purger.specs.Purge.{HasRoom, IsShort};
     ghost use Rattle.loom_memory.specs.Known.{IsEntryOf, IsNeedBeside};
     ghost use Rattle.loom_memory.specs.Memory.{loom_told, loom_outside, IsQuiet, IsSound};
-    ghost use Rattle.loom_memory.specs.Makings.{HasAdded, HasMade, IsFullMaking, IsNotFull, IsRefusedAs, IsRefusedMaking};
+    ghost use Rattle.loom_memory.specs.Makings.{HasAdded, HasMade, IsFullMaking, IsLost, IsNotFull, IsRefusedAs, IsRefusedMaking, OnCoreFull};
+    ghost use Rattle.loom_memory.specs.Gentle.{IsResting, Remains};
+    ghost use Rattle.loom_memory.specs.Own.{KeepsCache};
     ghost use Rattle.loom_memory.specs.New.{making_of};
     ghost use Rattle.loom_memory.specs.Residents.{is_resident, fetched};
 
@@ -63,6 +65,7 @@ impl<'h, H: Host> LoomMemory<'h, H> {
         ensures sound { IsSound H.Host self.new }
         ensures err { IsFullMaking (loom_told H.Host self.old) (loom_told H.Host self.new) words result }
         ensures other { IsNotFull result }
+        ensures kept { (self.new.disk ≡ self.old.disk) × (self.new.ledger.held ≡ self.old.ledger.held) }
         ensures lender { self.new.disk.host.ghost_name ≡ self.old.disk.host.ghost_name }
         ensures outside { loom_outside H.Host self.new ≡ loom_outside H.Host self.old }
     {
@@ -82,8 +85,11 @@ impl<'h, H: Host> LoomMemory<'h, H> {
         ensures limit { OnOk result (disk_room self.new.disk.rest ≡ disk_room self.old.disk.rest) }
         ensures room { IfOk result (λ enough. IsTrue enough → (words ≤ largest_of self.new.parts.segment) × (SPARE ≤ spare_of self.new.parts)) }
         ensures short { IfOk result (λ enough. enough ≡ false → IsShort self.new.parts self.new.pinned.a self.new.pinned.b self.new.pinned.d words SPARE) }
+        ensures resting { OnOk result (HasRoom self.old.parts words SPARE → IsResting self.old self.new) }
+        ensures cached { OnOk result (HasRoom self.old.parts words SPARE → KeepsCache H.Host self.old self.new) }
         ensures err { IfErr result (IsRefusedMaking (loom_told H.Host self.old) (loom_told H.Host self.new)) }
         ensures other { IfErr result IsNotFull }
+        ensures fault { IfErr result IsLost }
         ensures lender { self.new.disk.host.ghost_name ≡ self.old.disk.host.ghost_name }
         ensures outside { loom_outside H.Host self.new ≡ loom_outside H.Host self.old }
     {
@@ -122,7 +128,9 @@ impl<'h, H: Host> LoomMemory<'h, H> {
         ensures added { IfSome result (λ s. HasAdded (loom_told H.Host self.old) (loom_told H.Host self.new) class (making_of kind len header)) }
         ensures entry { IfSome result (λ s. IsEntryOf (core_of self.new.parts) s.0 name) }
         ensures there { IfSome result (λ s. IsTrue (is_resident self.new name)) }
+        ensures remains { IfSome result (λ s. Remains (core_of self.old.parts) (core_of self.new.parts)) }
         ensures fetches { IfSome result (λ s. fetched self.new ≡ fetched self.old) }
+        ensures cached { IfSome result (λ s. KeepsCache H.Host self.old self.new) }
         ensures sound { IfSome result (λ s. IsSound H.Host self.new) }
         ensures none { IfNone result (IsTrue (H.tells Role.Work) → ⊥) }
         ensures disk { self.new.disk ≡ self.old.disk }
@@ -161,9 +169,12 @@ impl<'h, H: Host> LoomMemory<'h, H> {
         ensures made { OnOk result (HasMade (loom_told H.Host self.old) (loom_told H.Host self.new) to class (making_of kind len header)) }
         ensures there { OnOk result (IsTrue (is_resident self.new (name_at ((loom_told H.Host self.new).regs to)))) }
         ensures fetches { OnOk result (fetched self.new ≡ fetched self.old) }
+        ensures resting { OnOk result (IsResting self.old self.new) }
+        ensures cached { OnOk result (KeepsCache H.Host self.old self.new) }
         ensures sound { KeepsSound result (IsSound H.Host self.new) }
         ensures err { IfErr result (IsRefusedMaking (loom_told H.Host self.old) (loom_told H.Host self.new)) }
         ensures other { IfErr result IsNotFull }
+        ensures fault { IfErr result IsLost }
         ensures lender { self.new.disk.host.ghost_name ≡ self.old.disk.host.ghost_name }
         ensures outside { loom_outside H.Host self.new ≡ loom_outside H.Host self.old }
     {
@@ -200,10 +211,13 @@ impl<'h, H: Host> LoomMemory<'h, H> {
         ensures made { OnOk result (HasMade (loom_told H.Host self.old) (loom_told H.Host self.new) to class (making_of kind len header)) }
         ensures there { OnOk result (IsTrue (is_resident self.new (name_at ((loom_told H.Host self.new).regs to)))) }
         ensures fetches { OnOk result (fetched self.new ≡ fetched self.old) }
+        ensures resting { OnOk result (HasRoom self.old.parts (words_for kind len (literal_count (int_of_short header)) + HEADER) SPARE → IsResting self.old self.new) }
+        ensures cached { OnOk result (HasRoom self.old.parts (words_for kind len (literal_count (int_of_short header)) + HEADER) SPARE → KeepsCache H.Host self.old self.new) }
         ensures core { OnOk result (IfBounds (loom_told H.Host self.old).bounds (HasCore (loom_told H.Host self.old) (Make to class (making_of kind len header)))) }
         ensures sound { KeepsSound result (IsSound H.Host self.new) }
         ensures err { IfErr result (IsRefusedAs (loom_told H.Host self.old) (loom_told H.Host self.new) to class (making_of kind len header)) }
         ensures other { IfErr result IsNotFull }
+        ensures full { IfErr result (λ f. OnCoreFull f (self.new.ledger.held < disk_room self.new.disk.rest)) }
         ensures lender { self.new.disk.host.ghost_name ≡ self.old.disk.host.ghost_name }
         ensures outside { loom_outside H.Host self.new ≡ loom_outside H.Host self.old }
     {
@@ -226,6 +240,8 @@ impl<'h, H: Host> LoomMemory<'h, H> {
 }
 
 impl<'h, H: Host> LoomMemory<'h, H> {
+    ghost use Rattle.purger.specs.Draining.{KeepsHeld};
+    ghost use Rattle.purger.specs.Purge.{HasRoom};
     ghost use Rattle.long_names.specs.Access.{Make, Nothing, heap_after};
     ghost use Rattle.long_names.specs.Counting.{counted};
     ghost use Rattle.long_names.specs.Objects.{OfPointers, OfWords, OfBytes, OfMethod};
@@ -236,7 +252,8 @@ impl<'h, H: Host> LoomMemory<'h, H> {
     ghost use Rattle.object_memory.specs.Contract.{Accessed, IfBounds, KeepsSound, MayDo};
     ghost use Rattle.object_memory.specs.Fit.{MayCall, StaysCallable};
     ghost use Rattle.loom_memory.specs.Memory.{loom_told, loom_outside, loom_lender, IsSound};
-    ghost use Rattle.loom_memory.specs.Makings.{HasThinned, IfNameless, IsNameless, IsRefusedMaking};
+    ghost use Rattle.loom_memory.specs.Makings.{HasThinned, IfNameless, IsNameless, IsRefusedMaking, OnCoreFull};
+    ghost use Rattle.loom_memory.specs.Own.{IsAskedLast, IsSparingMaking};
     ghost use Rattle.loom_memory.specs.New.{making_of};
     ghost use Rattle.loom_memory.specs.Residents.{is_resident, fetched};
 
@@ -248,6 +265,7 @@ impl<'h, H: Host> LoomMemory<'h, H> {
         requires early { self.old.ledger.made < MAKINGS }
         ensures sound { IsSound H.Host self.new }
         ensures err { IsRefusedMaking (loom_told H.Host self.old) (loom_told H.Host self.new) result }
+        ensures full { OnCoreFull result ⊥ }
         ensures lender { self.new.disk.host.ghost_name ≡ self.old.disk.host.ghost_name }
         ensures outside { loom_outside H.Host self.new ≡ loom_outside H.Host self.old }
     {
@@ -288,7 +306,10 @@ impl<'h, H: Host> LoomMemory<'h, H> {
         ensures held { OnOk result (self.new.ledger.held < disk_room self.new.disk.rest) }
         ensures next { OnOk result (self.new.ledger.next ≡ self.old.ledger.next) }
         ensures fetches { OnOk result (fetched self.new ≡ fetched self.old) }
+        ensures bodies { OnOk result (IsTrue (H.tells Role.Work) → KeepsHeld (core_of self.old.parts) (core_of self.new.parts) (loom_told H.Host self.new).heap) }
+        ensures room { OnOk result ((words : ℕ) → HasRoom self.old.parts words SPARE → HasRoom self.new.parts words SPARE) }
         ensures err { IfErr result (IsRefusedMaking (loom_told H.Host self.old) (loom_told H.Host self.new)) }
+        ensures full { IfErr result (λ f. OnCoreFull f ⊥) }
         ensures lender { self.new.disk.host.ghost_name ≡ self.old.disk.host.ghost_name }
         ensures outside { loom_outside H.Host self.new ≡ loom_outside H.Host self.old }
     {
@@ -312,8 +333,12 @@ impl<'h, H: Host> LoomMemory<'h, H> {
         ensures held { OnOk result (self.new.ledger.held < disk_room self.new.disk.rest) }
         ensures next { OnOk result (self.new.ledger.next ≡ self.old.ledger.next) }
         ensures fetches { OnOk result (fetched self.new ≡ fetched self.old) }
+        ensures roomy { OnOk result (self.old.ledger.held < disk_room self.old.disk.rest → self.new ≡ self.old) }
         ensures early { OnOk result (self.old.ledger.made < MAKINGS → self.new ≡ self.old) }
+        ensures bodies { OnOk result (IsTrue (H.tells Role.Work) → KeepsHeld (core_of self.old.parts) (core_of self.new.parts) (loom_told H.Host self.new).heap) }
+        ensures room { OnOk result ((words : ℕ) → HasRoom self.old.parts words SPARE → HasRoom self.new.parts words SPARE) }
         ensures err { IfErr result (IsRefusedMaking (loom_told H.Host self.old) (loom_told H.Host self.new)) }
+        ensures full { IfErr result (λ f. OnCoreFull f ⊥) }
         ensures lender { self.new.disk.host.ghost_name ≡ self.old.disk.host.ghost_name }
         ensures outside { loom_outside H.Host self.new ≡ loom_outside H.Host self.old }
     {
@@ -348,6 +373,8 @@ impl<'h, H: Host> LoomMemory<'h, H> {
         ensures fetches { OnOk result (fetched self.new ≡ fetched self.old) }
         ensures early { IsTrue (H.tells Role.Work) → IfBounds (loom_told H.Host self.old).bounds (λ b. b.made < MAKINGS
             → OnOk result ((loom_told H.Host self.new).heap ≡ heap_after (loom_told H.Host self.old).heap (loom_told H.Host self.old).regs (Make to class (making_of kind len header)))) }
+        ensures own { OnOk result (IsSparingMaking H.Host self.old self.new (making_of kind len header)) }
+        ensures full { IfErr result (λ f. OnCoreFull f (IsAskedLast H.Host self.old self.new)) }
         ensures fit { StaysCallable (IsSound H.Host) (loom_told H.Host) loom_lender (loom_outside H.Host) self.old self.new result }
     {
         match self.ask_room() {
@@ -363,6 +390,7 @@ impl<'h, H: Host> LoomMemory<'h, H> {
         requires cause { IsNameless (loom_told H.Host self.old) f }
         ensures sound { IsSound H.Host self.new }
         ensures err { IfNameless (loom_told H.Host self.old) (loom_told H.Host self.new) result }
+        ensures same { result ≡ f }
         ensures lender { self.new.disk.host.ghost_name ≡ self.old.disk.host.ghost_name }
         ensures outside { loom_outside H.Host self.new ≡ loom_outside H.Host self.old }
     {
@@ -387,6 +415,8 @@ impl<'h, H: Host> LoomMemory<'h, H> {
         ensures fetches { OnOk result (fetched self.new ≡ fetched self.old) }
         ensures early { IsTrue (H.tells Role.Work) → IfBounds (loom_told H.Host self.old).bounds (λ b. b.made < MAKINGS
             → OnOk result ((loom_told H.Host self.new).heap ≡ heap_after (loom_told H.Host self.old).heap (loom_told H.Host self.old).regs (Make to class (making_of kind len header)))) }
+        ensures own { OnOk result (IsSparingMaking H.Host self.old self.new (making_of kind len header)) }
+        ensures full { IfErr result (λ f. OnCoreFull f (IsAskedLast H.Host self.old self.new)) }
         ensures fit { StaysCallable (IsSound H.Host) (loom_told H.Host) loom_lender (loom_outside H.Host) self.old self.new result }
     {
         let next = self.ledger.next;
@@ -412,6 +442,8 @@ impl<'h, H: Host> LoomMemory<'h, H> {
         ensures fetches { OnOk result (fetched self.new ≡ fetched self.old) }
         ensures early { IsTrue (H.tells Role.Work) → IfBounds (loom_told H.Host self.old).bounds (λ b. b.made < MAKINGS
             → OnOk result ((loom_told H.Host self.new).heap ≡ heap_after (loom_told H.Host self.old).heap (loom_told H.Host self.old).regs (Make to class (OfPointers n)))) }
+        ensures own { OnOk result (IsSparingMaking H.Host self.old self.new (OfPointers n)) }
+        ensures full { IfErr result (λ f. OnCoreFull f (IsAskedLast H.Host self.old self.new)) }
         ensures fit { StaysCallable (IsSound H.Host) (loom_told H.Host) loom_lender (loom_outside H.Host) self.old self.new result }
     {
         self.make_kind(to, class, Kind::Pointers, n, 1)
@@ -427,6 +459,8 @@ impl<'h, H: Host> LoomMemory<'h, H> {
         ensures fetches { OnOk result (fetched self.new ≡ fetched self.old) }
         ensures early { IsTrue (H.tells Role.Work) → IfBounds (loom_told H.Host self.old).bounds (λ b. b.made < MAKINGS
             → OnOk result ((loom_told H.Host self.new).heap ≡ heap_after (loom_told H.Host self.old).heap (loom_told H.Host self.old).regs (Make to class (OfWords n)))) }
+        ensures own { OnOk result (IsSparingMaking H.Host self.old self.new (OfWords n)) }
+        ensures full { IfErr result (λ f. OnCoreFull f (IsAskedLast H.Host self.old self.new)) }
         ensures fit { StaysCallable (IsSound H.Host) (loom_told H.Host) loom_lender (loom_outside H.Host) self.old self.new result }
     {
         self.make_kind(to, class, Kind::Words, n, 1)
@@ -442,6 +476,8 @@ impl<'h, H: Host> LoomMemory<'h, H> {
         ensures fetches { OnOk result (fetched self.new ≡ fetched self.old) }
         ensures early { IsTrue (H.tells Role.Work) → IfBounds (loom_told H.Host self.old).bounds (λ b. b.made < MAKINGS
             → OnOk result ((loom_told H.Host self.new).heap ≡ heap_after (loom_told H.Host self.old).heap (loom_told H.Host self.old).regs (Make to class (OfBytes n)))) }
+        ensures own { OnOk result (IsSparingMaking H.Host self.old self.new (OfBytes n)) }
+        ensures full { IfErr result (λ f. OnCoreFull f (IsAskedLast H.Host self.old self.new)) }
         ensures fit { StaysCallable (IsSound H.Host) (loom_told H.Host) loom_lender (loom_outside H.Host) self.old self.new result }
     {
         self.make_kind(to, class, Kind::Bytes, n, 1)
@@ -463,6 +499,8 @@ impl<'h, H: Host> LoomMemory<'h, H> {
         ensures fetches { OnOk result (fetched self.new ≡ fetched self.old) }
         ensures early { IsTrue (H.tells Role.Work) → IfBounds (loom_told H.Host self.old).bounds (λ b. b.made < MAKINGS
             → OnOk result ((loom_told H.Host self.new).heap ≡ heap_after (loom_told H.Host self.old).heap (loom_told H.Host self.old).regs (Make to class (OfMethod header code)))) }
+        ensures own { OnOk result (IsSparingMaking H.Host self.old self.new (OfMethod header code)) }
+        ensures full { IfErr result (λ f. OnCoreFull f (IsAskedLast H.Host self.old self.new)) }
         ensures fit { StaysCallable (IsSound H.Host) (loom_told H.Host) loom_lender (loom_outside H.Host) self.old self.new result }
     {
         self.make_kind(to, class, Kind::Method, code, short_int(header))

@@ -56,7 +56,9 @@ impl<'h, H: Host> LoomMemory<'h, H> {
 }
 
 impl<'h, H: Host> LoomMemory<'h, H> {
-    ghost use Rattle.purger.specs.Purge.{OnShort, OnDisk, Undisturbed, IsShort, IsPurgeFault};
+    ghost use Rattle.purger.specs.Purge.{HasRoom, OnShort, OnDisk, Undisturbed, IsShort, IsPurgeFault};
+    ghost use Rattle.loom_memory.specs.Gentle.{IsResting};
+    ghost use Rattle.loom_memory.specs.Own.{KeepsCache};
     ghost use Rattle.long_names.specs.State.{IsRef};
     ghost use Rattle.long_names.specs.Counting.{counted};
     ghost use Rattle.long_names.specs.Access.{Access, target_of};
@@ -78,6 +80,8 @@ impl<'h, H: Host> LoomMemory<'h, H> {
         ensures short { IfErr result (λ f. OnShort f (IsShort self.new.parts self.old.pinned.a self.old.pinned.b self.old.pinned.d words entries)) }
         ensures fault { IfErr result (λ f. OnDisk f (IsPurgeFault H.Host self.old.disk.host.now self.new.disk.host.now)) }
         ensures leaves { (t : ℕ) → place_of ((core_of self.old.parts).entries t).state ≡ None → place_of ((core_of self.new.parts).entries t).state ≡ None }
+        ensures needless { HasRoom self.old.parts words entries → IsResting self.old self.new }
+        ensures cached { HasRoom self.old.parts words entries → KeepsCache H.Host self.old self.new }
         ensures work { IsWorkOnly H.Host self.old.disk.host.now self.new.disk.host.now }
         ensures limit { disk_room self.new.disk.rest ≡ disk_room self.old.disk.rest }
         ensures lender { self.new.disk.host.ghost_name ≡ self.old.disk.host.ghost_name }
@@ -98,6 +102,7 @@ impl<'h, H: Host> LoomMemory<'h, H> {
         ensures result { result ≡ f }
         ensures told { loom_told H.Host self.new ≡ refused (loom_told H.Host self.old) f }
         ensures sound { IsSound H.Host self.old → IsSound H.Host self.new }
+        ensures kept { (self.new.disk ≡ self.old.disk) × (self.new.ledger.held ≡ self.old.ledger.held) }
         ensures later { (loom_told H.Host self.old).refusals ≤ counted (loom_told H.Host self.old).refusals }
         ensures lender { self.new.disk.host.ghost_name ≡ self.old.disk.host.ghost_name }
         ensures outside { loom_outside H.Host self.new ≡ loom_outside H.Host self.old }

@@ -19,6 +19,7 @@ impl<'h, H: Host> LoomMemory<'h, H> {
     ghost use Rattle.object_memory.specs.Told.{has_slot};
     ghost use Rattle.object_memory.specs.Fit.{KeepsCallable};
     ghost use Rattle.loom_memory.specs.Memory.{loom_told, loom_outside, loom_lender, word_in, IsSound};
+    ghost use Rattle.loom_memory.specs.Gentle.{IsSteady};
 
     // The word of a register: a number, or the short word of an entry.
     pub(crate) fn word_of(&self, r: Reg) -> u16
@@ -48,6 +49,7 @@ impl<'h, H: Host> LoomMemory<'h, H> {
         requires sound { IsSound H.Host self.old }
         requires range { IsSmallInteger v }
         ensures told { loom_told H.Host self.new ≡ record (loom_told H.Host self.old) { regs = set_register (loom_told H.Host self.old).regs to (Int v) } }
+        ensures steady { IsSteady H.Host self.old self.new }
         ensures fit { KeepsCallable (IsSound H.Host) (loom_told H.Host) loom_lender (loom_outside H.Host) self.old self.new }
     {
         self.put_word(to, short_int(v));
@@ -57,6 +59,7 @@ impl<'h, H: Host> LoomMemory<'h, H> {
     pub fn copy(&mut self, to: Reg, from: Reg)
         requires { IsSound H.Host self.old }
         ensures told { loom_told H.Host self.new ≡ record (loom_told H.Host self.old) { regs = set_register (loom_told H.Host self.old).regs to ((loom_told H.Host self.old).regs from) } }
+        ensures steady { IsSteady H.Host self.old self.new }
         ensures fit { KeepsCallable (IsSound H.Host) (loom_told H.Host) loom_lender (loom_outside H.Host) self.old self.new }
     {
         let w = self.word_of(from);

@@ -4,6 +4,7 @@ ghost use Rattle.core_view.specs.Purge.{fresh_by, fresh_of};
 ghost use Rattle.core_view.specs.Room.{IsBare};
 ghost use Rattle.object_table.specs.Entries.{is_short};
 ghost use Rattle.object_table.specs.Table.{bound_of};
+ghost use Rattle.core_segment.specs.Segment.{free_of};
 ghost use Rattle.disk_objects.specs.Disk.{disk_held, disk_room};
 ghost use Rattle.leaf_lambda.specs.Parts.{core_of, spare_of, IsParts};
 ghost use Rattle.leaf_lambda.specs.declared.translate.TheConstants.{RESERVE as SETTLED};
@@ -89,9 +90,11 @@ impl<'h, H: Host> LoomMemory<'h, H> {
         ensures limit { OnOk result (disk_room self.new.disk.rest ≡ disk_room self.old.disk.rest) }
         ensures bodies { OnOk result (IsTrue (H.tells Role.Work) → KeepsHeld (core_of self.old.parts) (core_of self.new.parts) (loom_told H.Host self.new).heap) }
         ensures entries { OnOk result (spare_of self.old.parts ≤ spare_of self.new.parts) }
+        ensures words { OnOk result (free_of self.old.parts.segment ≤ free_of self.new.parts.segment) }
         ensures sound { KeepsSound result (IsSound H.Host self.new) }
         ensures making { IfErr result (IsRefusedMaking (loom_told H.Host self.old) (loom_told H.Host self.new)) }
         ensures settling { IfErr result (IsRefusedCall (loom_told H.Host self.old) (loom_told H.Host self.new) Settles) }
+        ensures fault { IfErr result IsLost }
         ensures lender { self.new.disk.host.ghost_name ≡ self.old.disk.host.ghost_name }
         ensures outside { loom_outside H.Host self.new ≡ loom_outside H.Host self.old }
     {

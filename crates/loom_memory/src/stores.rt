@@ -1,5 +1,5 @@
 // Stores into objects: fields, words and bytes.
-ghost use Rattle.std.specs.Prelude.{◌≡◌, ◌≢◌, ◌+◌, ◌+ℤ◌, pos, negsuc, ◌≤◌, ◌<◌, ℕ, [], ◌∷◌, Some, true, false, IsTrue, OnOk, IfOk, IfErr, length};
+ghost use Rattle.std.specs.Prelude.{◌≡◌, ◌≢◌, ◌⊎◌, ◌+◌, ◌+ℤ◌, pos, negsuc, ◌≤◌, ◌<◌, ℕ, [], ◌∷◌, Some, true, false, IsTrue, OnOk, IfOk, IfErr, length};
 ghost use Rattle.long_names.specs.declared.object.Kind.TheVariants as sort;
 ghost use Rattle.object_table.specs.Entries.{is_short, is_used, place_of};
 ghost use Rattle.core_view.specs.Steps.{IsAt};
@@ -90,8 +90,8 @@ impl<'h, H: Host> LoomMemory<'h, H> {
     ghost use Rattle.loom_memory.specs.Memory.{loom_told, loom_outside, loom_lender, word_in, IsSound, IsQuiet, IsSilent, IsRefused};
     ghost use Rattle.loom_memory.specs.Stores.{IsStored};
     ghost use Rattle.long_names.specs.State.{name_at};
-    ghost use Rattle.loom_memory.specs.Gentle.{IsResting};
-    ghost use Rattle.loom_memory.specs.Own.{IsAtHand, IsSparingChange};
+    ghost use Rattle.loom_memory.specs.Gentle.{IsGlance, IsResting};
+    ghost use Rattle.loom_memory.specs.Own.{HasPlace, HasSpace, IsAtHand, IsSearchedChange, IsSparingChange, IsUnmarked, KeepsCache};
 
     // Before an object is stored into: all marks go where it is marked.
     fn unmark(&mut self, s: Short)
@@ -104,6 +104,7 @@ impl<'h, H: Host> LoomMemory<'h, H> {
         ensures place { place_of ((core_of self.new.parts).entries s.0).state ≡ place_of ((core_of self.old.parts).entries s.0).state }
         ensures resting { IsResting self.old self.new }
         ensures field { (at i w : ℕ) → IsAt (core_of self.old.parts) s.0 at i w → IsAt (core_of self.new.parts) s.0 at i w }
+        ensures idle { ((core_of self.old.parts).entries s.0).flags.marked ≡ false → self.new ≡ self.old }
         ensures spare { spare_of self.new.parts ≡ spare_of self.old.parts }
         ensures lender { self.new.disk.host.ghost_name ≡ self.old.disk.host.ghost_name }
         ensures outside { loom_outside H.Host self.new ≡ loom_outside H.Host self.old }
@@ -122,6 +123,7 @@ impl<'h, H: Host> LoomMemory<'h, H> {
         ensures there { IfOk result (λ s. (at : ℕ) × (place_of ((core_of self.new.parts).entries s.0).state ≡ Some at)) }
         ensures gone { IfOk result (λ s. ((core_of self.new.parts).entries s.0).flags.marked ≡ false) }
         ensures own { IsSparingChange H.Host self.old self.new (name_at ((loom_told H.Host self.old).regs of)) result }
+        ensures cached { OnOk result (HasPlace H.Host self.old (name_at ((loom_told H.Host self.old).regs of)) → IsUnmarked H.Host self.old (name_at ((loom_told H.Host self.old).regs of)) → KeepsCache H.Host self.old self.new) }
         ensures core { OnOk result ((a : Access) → target_of a ≡ Some of → makes a ≡ 0 → IfBounds (loom_told H.Host self.old).bounds (HasCore (loom_told H.Host self.old) a)) }
         ensures err { IfErr result (λ f. (a : Access) → target_of a ≡ Some of → makes a ≡ 0 → IsSilent a → IsRefused (loom_told H.Host self.old) (loom_told H.Host self.new) a f) }
         ensures lender { self.new.disk.host.ghost_name ≡ self.old.disk.host.ghost_name }
@@ -147,6 +149,8 @@ impl<'h, H: Host> LoomMemory<'h, H> {
         ensures there { IfOk result (λ s. (at : ℕ) × (place_of ((core_of self.new.parts).entries s.0).state ≡ Some at)) }
         ensures gone { IfOk result (λ s. ((core_of self.new.parts).entries s.0).flags.marked ≡ false) }
         ensures spare { OnOk result (26 ≤ spare_of self.new.parts) }
+        ensures searched { OnOk result (IsSearchedChange H.Host self.old self.new (name_at ((loom_told H.Host self.old).regs of))) }
+        ensures cached { OnOk result (HasSpace H.Host self.old (name_at ((loom_told H.Host self.old).regs of)) → IsUnmarked H.Host self.old (name_at ((loom_told H.Host self.old).regs of)) → KeepsCache H.Host self.old self.new) }
         ensures core { OnOk result ((a : Access) → target_of a ≡ Some of → makes a ≡ 0 → IfBounds (loom_told H.Host self.old).bounds (HasCore (loom_told H.Host self.old) a)) }
         ensures err { IfErr result (λ f. (a : Access) → target_of a ≡ Some of → makes a ≡ 0 → IsSilent a → IsRefused (loom_told H.Host self.old) (loom_told H.Host self.new) a f) }
         ensures lender { self.new.disk.host.ghost_name ≡ self.old.disk.host.ghost_name }
@@ -173,6 +177,7 @@ impl<'h, H: Host> LoomMemory<'h, H> {
         ensures stored { IsStored (loom_told H.Host self.old) (loom_told H.Host self.new) (SetField of i from) }
         ensures sound { IsSound H.Host self.new }
         ensures resting { IsResting self.old self.new }
+        ensures cached { KeepsCache H.Host self.old self.new }
         ensures lender { self.new.disk.host.ghost_name ≡ self.old.disk.host.ghost_name }
         ensures outside { loom_outside H.Host self.new ≡ loom_outside H.Host self.old }
     {
@@ -193,6 +198,8 @@ impl<'h, H: Host> LoomMemory<'h, H> {
         requires spare { 26 ≤ spare_of self.old.parts }
         ensures stored { OnOk result (IsStored (loom_told H.Host self.old) (loom_told H.Host self.new) (SetField of i from)) }
         ensures sound { KeepsSound result (IsSound H.Host self.new) }
+        ensures glance { OnOk result (IsGlance H.Host self.old self.new) }
+        ensures cached { OnOk result (KeepsCache H.Host self.old self.new) }
         ensures err { IfErr result (IsRefused (loom_told H.Host self.old) (loom_told H.Host self.new) (SetField of i from)) }
         ensures lender { self.new.disk.host.ghost_name ≡ self.old.disk.host.ghost_name }
         ensures outside { loom_outside H.Host self.new ≡ loom_outside H.Host self.old }
@@ -227,6 +234,7 @@ impl<'h, H: Host> LoomMemory<'h, H> {
         ensures stored { IsStored (loom_told H.Host self.old) (loom_told H.Host self.new) (SetField of i from) }
         ensures sound { IsSound H.Host self.new }
         ensures resting { IsResting self.old self.new }
+        ensures cached { ((core_of self.old.parts).entries s.0).flags.marked ≡ false → KeepsCache H.Host self.old self.new }
         ensures lender { self.new.disk.host.ghost_name ≡ self.old.disk.host.ghost_name }
         ensures outside { loom_outside H.Host self.new ≡ loom_outside H.Host self.old }
     {
@@ -240,6 +248,8 @@ impl<'h, H: Host> LoomMemory<'h, H> {
         requires fit { MayCall (IsSound H.Host) (loom_told H.Host) self.old }
         requires may { MayDo (loom_told H.Host self.old) (SetField of i from) }
         ensures access { Accessed (loom_told H.Host self.old) (loom_told H.Host self.new) (SetField of i from) (λ _. Nothing) result }
+        ensures searched { OnOk result (IsSearchedChange H.Host self.old self.new (name_at ((loom_told H.Host self.old).regs of))) }
+        ensures cached { OnOk result (HasSpace H.Host self.old (name_at ((loom_told H.Host self.old).regs of)) → IsUnmarked H.Host self.old (name_at ((loom_told H.Host self.old).regs of)) → KeepsCache H.Host self.old self.new) }
         ensures fit { StaysCallable (IsSound H.Host) (loom_told H.Host) loom_lender (loom_outside H.Host) self.old self.new result }
     {
         match self.open_with_room(of) {
@@ -254,6 +264,8 @@ impl<'h, H: Host> LoomMemory<'h, H> {
         requires may { MayDo (loom_told H.Host self.old) (SetField of i from) }
         ensures access { Accessed (loom_told H.Host self.old) (loom_told H.Host self.new) (SetField of i from) (λ _. Nothing) result }
         ensures own { IsAtHand self.old (name_at ((loom_told H.Host self.old).regs of)) i → IsSparingChange H.Host self.old self.new (name_at ((loom_told H.Host self.old).regs of)) result }
+        ensures searched { OnOk result (IsSearchedChange H.Host self.old self.new (name_at ((loom_told H.Host self.old).regs of))) }
+        ensures cached { OnOk result (IsAtHand self.old (name_at ((loom_told H.Host self.old).regs of)) i ⊎ HasSpace H.Host self.old (name_at ((loom_told H.Host self.old).regs of)) → IsUnmarked H.Host self.old (name_at ((loom_told H.Host self.old).regs of)) → KeepsCache H.Host self.old self.new) }
         ensures fit { StaysCallable (IsSound H.Host) (loom_told H.Host) loom_lender (loom_outside H.Host) self.old self.new result }
     {
         match self.here(of) {
@@ -279,6 +291,7 @@ impl<'h, H: Host> LoomMemory<'h, H> {
         ensures stored { OnOk result (IsStored (loom_told H.Host self.old) (loom_told H.Host self.new) (WriteWords of at run.now)) }
         ensures sound { KeepsSound result (IsSound H.Host self.new) }
         ensures resting { OnOk result (IsResting self.old self.new) }
+        ensures cached { OnOk result (KeepsCache H.Host self.old self.new) }
         ensures sure { IfErr result (λ f. IsTrue (H.tells Role.Work) → ⊥) }
         ensures err { IfErr result (λ f. (a : Access) → IsSilent a → makes a ≡ 0 → IsRefused (loom_told H.Host self.old) (loom_told H.Host self.new) a f) }
         ensures lender { self.new.disk.host.ghost_name ≡ self.old.disk.host.ghost_name }
@@ -303,6 +316,7 @@ impl<'h, H: Host> LoomMemory<'h, H> {
         requires may { MayDo (loom_told H.Host self.old) (SetWord of i w) }
         ensures access { Accessed (loom_told H.Host self.old) (loom_told H.Host self.new) (SetWord of i w) (λ _. Nothing) result }
         ensures own { IsSparingChange H.Host self.old self.new (name_at ((loom_told H.Host self.old).regs of)) result }
+        ensures cached { OnOk result (HasPlace H.Host self.old (name_at ((loom_told H.Host self.old).regs of)) → IsUnmarked H.Host self.old (name_at ((loom_told H.Host self.old).regs of)) → KeepsCache H.Host self.old self.new) }
         ensures fit { StaysCallable (IsSound H.Host) (loom_told H.Host) loom_lender (loom_outside H.Host) self.old self.new result }
     {
         match self.open(of) {
@@ -317,6 +331,7 @@ impl<'h, H: Host> LoomMemory<'h, H> {
         requires may { MayDo (loom_told H.Host self.old) (WriteWords of at from.now) }
         ensures access { Accessed (loom_told H.Host self.old) (loom_told H.Host self.new) (WriteWords of at from.now) (λ _. Nothing) result }
         ensures own { IsSparingChange H.Host self.old self.new (name_at ((loom_told H.Host self.old).regs of)) result }
+        ensures cached { OnOk result (HasPlace H.Host self.old (name_at ((loom_told H.Host self.old).regs of)) → IsUnmarked H.Host self.old (name_at ((loom_told H.Host self.old).regs of)) → KeepsCache H.Host self.old self.new) }
         ensures fit { StaysCallable (IsSound H.Host) (loom_told H.Host) loom_lender (loom_outside H.Host) self.old self.new result }
     {
         match self.open(of) {
@@ -336,6 +351,7 @@ impl<'h, H: Host> LoomMemory<'h, H> {
         ensures stored { OnOk result (IsStored (loom_told H.Host self.old) (loom_told H.Host self.new) (SetByte of i b)) }
         ensures sound { KeepsSound result (IsSound H.Host self.new) }
         ensures resting { OnOk result (IsResting self.old self.new) }
+        ensures cached { OnOk result (KeepsCache H.Host self.old self.new) }
         ensures sure { IfErr result (λ f. IsTrue (H.tells Role.Work) → ⊥) }
         ensures err { IfErr result (IsRefused (loom_told H.Host self.old) (loom_told H.Host self.new) (SetByte of i b)) }
         ensures lender { self.new.disk.host.ghost_name ≡ self.old.disk.host.ghost_name }
@@ -360,6 +376,7 @@ impl<'h, H: Host> LoomMemory<'h, H> {
         requires may { MayDo (loom_told H.Host self.old) (SetByte of i b) }
         ensures access { Accessed (loom_told H.Host self.old) (loom_told H.Host self.new) (SetByte of i b) (λ _. Nothing) result }
         ensures own { IsSparingChange H.Host self.old self.new (name_at ((loom_told H.Host self.old).regs of)) result }
+        ensures cached { OnOk result (HasPlace H.Host self.old (name_at ((loom_told H.Host self.old).regs of)) → IsUnmarked H.Host self.old (name_at ((loom_told H.Host self.old).regs of)) → KeepsCache H.Host self.old self.new) }
         ensures fit { StaysCallable (IsSound H.Host) (loom_told H.Host) loom_lender (loom_outside H.Host) self.old self.new result }
     {
         match self.open(of) {

@@ -1,5 +1,5 @@
 // Two objects change places under their names: both leave the core, and their records are exchanged.
-ghost use Rattle.std.specs.Prelude.{◌≡◌, ℕ, IsTrue, OnOk, IfErr};
+ghost use Rattle.std.specs.Prelude.{◌≡◌, ◌≢◌, ℕ, IsTrue, OnOk, IfErr};
 
 use crate::bring::refusal_of;
 use crate::memory::LoomMemory;
@@ -17,6 +17,8 @@ impl<'h, H: Host> LoomMemory<'h, H> {
     ghost use Rattle.object_memory.specs.Fit.{MayCall, StaysCallable};
     ghost use Rattle.loom_memory.specs.Memory.{loom_told, loom_outside, loom_lender, IsSound, IsQuiet, IsSilent, IsRefused};
     ghost use Rattle.loom_memory.specs.Stores.{IsAway, IsStored};
+    ghost use Rattle.loom_memory.specs.Own.{IsPutAway, IsUnmarked, KeepsCache};
+    ghost use Rattle.loom_memory.specs.Residents.{is_resident, fetched};
 
     // The object of a register leaves the core.
     fn put_away(&mut self, of: Reg) -> Result<(), MemFault>
@@ -28,6 +30,9 @@ impl<'h, H: Host> LoomMemory<'h, H> {
         ensures sound { KeepsSound result (IsSound H.Host self.new) }
         ensures away { OnOk result (IsAway self.new of) }
         ensures leaves { OnOk result ((r : ℕ) → IsAway self.old r → IsAway self.new r) }
+        ensures others { OnOk result ((k : ℕ) → k ≢ name_at ((loom_told H.Host self.old).regs of) → IsTrue (is_resident self.old k) → IsTrue (is_resident self.new k)) }
+        ensures fetches { OnOk result (fetched self.new ≡ fetched self.old) }
+        ensures cached { OnOk result (IsUnmarked H.Host self.old (name_at ((loom_told H.Host self.old).regs of)) → KeepsCache H.Host self.old self.new) }
         ensures err { IfErr result (λ f. (a : Access) → IsSilent a → makes a ≡ 0 → IsRefused (loom_told H.Host self.old) (loom_told H.Host self.new) a f) }
         ensures lender { self.new.disk.host.ghost_name ≡ self.old.disk.host.ghost_name }
         ensures outside { loom_outside H.Host self.new ≡ loom_outside H.Host self.old }
@@ -52,6 +57,9 @@ impl<'h, H: Host> LoomMemory<'h, H> {
         requires names { IsRef ((loom_told H.Host self.old).regs a) × IsRef ((loom_told H.Host self.old).regs b) }
         requires away { IsAway self.old a × IsAway self.old b }
         ensures swapped { OnOk result (IsStored (loom_told H.Host self.old) (loom_told H.Host self.new) (Swap a b)) }
+        ensures parts { OnOk result (self.new.parts ≡ self.old.parts) }
+        ensures fetches { OnOk result (fetched self.new ≡ fetched self.old) }
+        ensures cached { OnOk result (KeepsCache H.Host self.old self.new) }
         ensures sound { KeepsSound result (IsSound H.Host self.new) }
         ensures err { IfErr result (IsRefused (loom_told H.Host self.old) (loom_told H.Host self.new) (Swap a b)) }
         ensures lender { self.new.disk.host.ghost_name ≡ self.old.disk.host.ghost_name }
@@ -78,6 +86,9 @@ impl<'h, H: Host> LoomMemory<'h, H> {
         requires fit { MayCall (IsSound H.Host) (loom_told H.Host) self.old }
         requires may { MayDo (loom_told H.Host self.old) (Swap a b) }
         ensures access { Accessed (loom_told H.Host self.old) (loom_told H.Host self.new) (Swap a b) (λ _. Nothing) result }
+        ensures own { OnOk result (IsPutAway self.old self.new (name_at ((loom_told H.Host self.old).regs a)) (name_at ((loom_told H.Host self.old).regs b))) }
+        ensures cached { OnOk result (IsUnmarked H.Host self.old (name_at ((loom_told H.Host self.old).regs a)) → IsUnmarked H.Host self.old (name_at ((loom_told H.Host self.old).regs b))
+            → KeepsCache H.Host self.old self.new) }
         ensures fit { StaysCallable (IsSound H.Host) (loom_told H.Host) loom_lender (loom_outside H.Host) self.old self.new result }
     {
         match self.put_away(a) {

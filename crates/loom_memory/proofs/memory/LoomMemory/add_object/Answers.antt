@@ -5,6 +5,8 @@ use Rattle.loom_memory.specs.Residents.{fetched}
 use Rattle.loom_memory.proofs.AddLaws.{added-is, added-sound, name-new, next-absent, next-long, room-most, short-class}
 use Rattle.loom_memory.proofs.MadeLaws.{entry-resident}
 use Rattle.loom_memory.proofs.RegLaws.{few-held, kept-rooted}
+use Rattle.loom_memory.proofs.GentleLaws.{calm-remains}
+use Rattle.loom_memory.proofs.KeepingLaws.{counts-keep}
 use Rattle.loom_memory.proofs.memory.LoomMemory.add_object.Goals as goal
 
 pub make_object-requires-clause-light : goal.make_object-requires-clause-light
@@ -45,3 +47,11 @@ returns-in-Some-clause-there g c = entry-resident _ c.in-Some.new.0 c.args.name 
 pub returns-in-Some-clause-fetches : goal.returns-in-Some-clause-fetches
 unfolding fetched
 returns-in-Some-clause-fetches g c = ap (λ (k : Ledger). k.fetches) c.count_making.ensures
+
+pub returns-in-Some-clause-remains : goal.returns-in-Some-clause-remains
+returns-in-Some-clause-remains g c = calm-remains (core_of c.args.self.now.parts) (core_of c.make_object.new.p) c.in-Some.ensures.made.calm
+
+pub returns-in-Some-clause-cached : goal.returns-in-Some-clause-cached
+returns-in-Some-clause-cached g c =
+    let count = c.count_making.ensures in
+    counts-keep g.H.Host c.args.self.now _ c.requires.sound c.in-Some.ensures.parts.core c.in-Some.ensures.made.marks (ap (λ (k : Ledger). k.rows) count) (ap (λ (k : Ledger). k.mark) count) (ap (λ (k : Ledger). k.begun) count)

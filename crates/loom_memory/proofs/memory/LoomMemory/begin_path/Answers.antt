@@ -8,6 +8,8 @@ use Rattle.loom_memory.specs.Cache.{cache_of}
 use Rattle.loom_memory.specs.Memory.{loom_told, loom_outside, IsSound}
 use Rattle.loom_memory.proofs.ExactLaws.{exact-caching}
 use Rattle.loom_memory.proofs.MarkingLaws.{IsCaching, ledger-told, ledger-kept, ledger-over, path-begun}
+use Rattle.loom_memory.specs.Residents.{fetched}
+use Rattle.loom_memory.proofs.GentleLaws.{remains-refl}
 use Rattle.loom_memory.proofs.memory.LoomMemory.begin_path.Goals as goal
 use Rattle.loom_memory.proofs.memory.LoomMemory.begin_path.Given as given
 
@@ -45,3 +47,7 @@ returns-clause-fit g c = record {
   lender = refl;
   outside = refl;
 }
+
+pub returns-clause-resting : goal.returns-clause-resting
+unfolding fetched
+returns-clause-resting g c = record { remains = remains-refl (core_of c.args.self.now.parts); idle = record { host = refl; rest = refl; fetches = ap (λ (z : Ledger). z.fetches) c.refresh.ensures.ledger } }

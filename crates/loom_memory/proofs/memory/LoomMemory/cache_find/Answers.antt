@@ -11,6 +11,7 @@ use Rattle.loom_memory.specs.Cache.{has_mark, cache_of}
 use Rattle.loom_memory.specs.Memory.{loom_told, word_in}
 use Rattle.loom_memory.proofs.CacheLaws.{mark-name}
 use Rattle.loom_memory.proofs.MarkingLaws.{row-unmarked, row-unknown, row-found, marked-means, marked-used, marked-some, ready-found, filled, some-is}
+use Rattle.loom_memory.proofs.GentleLaws.{steady-refl}
 use Rattle.loom_memory.proofs.memory.LoomMemory.cache_find.Goals as goal
 use Rattle.loom_memory.proofs.memory.LoomMemory.cache_find.Given as given
 
@@ -94,3 +95,12 @@ returns-in-Some-clause-fit g c = record {
   lender = c.put_word.ensures.lender;
   outside = c.put_word.ensures.outside;
 }
+
+pub returns-then-not-names_marked-clause-steady : goal.returns-then-not-names_marked-clause-steady
+returns-then-not-names_marked-clause-steady g c = steady-refl g.H.Host c.args.self.now
+
+pub returns-in-None-clause-steady : goal.returns-in-None-clause-steady
+returns-in-None-clause-steady g c = steady-refl g.H.Host c.args.self.now
+
+pub returns-in-Some-clause-steady : goal.returns-in-Some-clause-steady
+returns-in-Some-clause-steady g c = c.put_word.ensures.steady

@@ -10,8 +10,10 @@ use Rattle.method_cache.specs.Found.{found}
 use Rattle.loom_memory.specs.Cache.{has_mark, cache_of}
 use Rattle.loom_memory.specs.Memory.{loom_told, loom_outside, word_in, IsSound}
 use Rattle.loom_memory.proofs.CacheLaws.{mark-name}
-use Rattle.loom_memory.proofs.RowLaws.{marked-word, put-cached, put-rows}
+use Rattle.loom_memory.proofs.RowLaws.{marked-word, put-cached, put-others, put-rows}
 use Rattle.loom_memory.proofs.MarkingLaws.{ledger-kept, ledger-over, marked-means, put-row, path-marked, path-begins, unmarked-whole}
+use Rattle.loom_memory.specs.Residents.{fetched}
+use Rattle.loom_memory.proofs.GentleLaws.{remains-refl, rest-refl}
 use Rattle.loom_memory.proofs.memory.LoomMemory.cache_put.Goals as goal
 use Rattle.loom_memory.proofs.memory.LoomMemory.cache_put.Given as given
 
@@ -112,3 +114,25 @@ returns-clause-fit g c = record {
   lender = refl;
   outside = refl;
 }
+
+pub returns-then-not-self-clause-resting : goal.returns-then-not-self-clause-resting
+returns-then-not-self-clause-resting g c = rest-refl c.args.self.now c.args.self.now (remains-refl (core_of c.args.self.now.parts)) refl refl refl
+
+pub returns-then-not-names_marked-clause-resting : goal.returns-then-not-names_marked-clause-resting
+returns-then-not-names_marked-clause-resting g c = rest-refl c.args.self.now c.args.self.now (remains-refl (core_of c.args.self.now.parts)) refl refl refl
+
+pub returns-clause-resting : goal.returns-clause-resting
+unfolding fetched
+returns-clause-resting g c = record { remains = remains-refl (core_of c.args.self.now.parts); idle = record { host = refl; rest = refl; fetches = refl } }
+
+pub returns-clause-others : goal.returns-clause-others
+unfolding loom_told
+returns-clause-others g c = λ yes_.
+    let m = c.args.self.now in
+    let x = core_of m.parts in
+    record {
+      lost_class = (x.entries c.put.ensures.lost_class).name;
+      lost_selector = (x.entries c.put.ensures.lost_selector).name;
+      others = λ k n w not kept. put-others x (found m.ledger.rows) (found c.put.new.self) m.ledger.mark c.word_of-c.result c.word_of-s.result c.word_of-m.result m.ledger.begun c.requires.sound.kept.parts.core c.put.ensures k n w
+          (λ both. not (means-of g c c.args.class c.word_of-c.result c.word_of-c.ensures.word (class-of g c).0 ∙ ap Ref both.0, means-of g c c.args.selector c.word_of-s.result c.word_of-s.ensures.word (selector-of g c).0 ∙ ap Ref both.1)) kept;
+    }

@@ -1,8 +1,10 @@
-use Rattle.std.proofs.Common.{subst}
+use Rattle.std.proofs.Common.{sym, subst}
 use Rattle.purger.specs.declared.room.RoomFault.{RoomFault}
 use Rattle.purger.specs.Purge.{OnDisk, IsPurgeFault}
 use Rattle.loom_memory.specs.Memory.{loom_told}
-use Rattle.loom_memory.proofs.AddLaws.{fault-making}
+use Rattle.loom_memory.proofs.AddLaws.{fault-lost, fault-making}
+use Rattle.object_memory.specs.declared.fault.MemFault.{MemFault}
+use Rattle.loom_memory.specs.Makings.{IsLost}
 use Rattle.loom_memory.proofs.memory.LoomMemory.clear_new.Goals as goal
 
 pub returns-in-Disk-clause-err : goal.returns-in-Disk-clause-err
@@ -11,3 +13,6 @@ returns-in-Disk-clause-err g c =
     fault-making g.H.Host m c.room.new.self (loom_told g.H.Host c.refuse.new.self) c.in-Disk.f c.refusal_of-f.result c.refuse.result c.in-Err.ensures.ledger c.in-Err.ensures.work c.in-Err.ensures.limit
     (subst (λ (z : RoomFault). OnDisk z (IsPurgeFault g.H.Host m.disk.host.now c.room.new.self.disk.host.now)) c.in-Disk.is c.in-Err.ensures.fault)
     c.refusal_of-f.ensures c.refuse.ensures.told c.refuse.ensures.result c.refuse.ensures.later
+
+pub returns-in-Disk-clause-fault : goal.returns-in-Disk-clause-fault
+returns-in-Disk-clause-fault g c = subst (λ (f : MemFault). IsLost f) (sym c.refuse.ensures.result) (fault-lost c.in-Disk.f c.refusal_of-f.result c.refusal_of-f.ensures)

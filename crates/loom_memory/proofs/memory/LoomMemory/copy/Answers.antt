@@ -24,3 +24,6 @@ returns-clause-fit g c = record {
   lender = c.put_word.ensures.lender;
   outside = c.put_word.ensures.outside;
 }
+
+pub returns-clause-steady : goal.returns-clause-steady
+returns-clause-steady g c = c.put_word.ensures.steady

@@ -1,6 +1,8 @@
-use Rattle.std.proofs.Common.{refl, arith}
+use Rattle.std.proofs.Common.{refl, sym, subst, arith}
 use Rattle.loom_memory.specs.Memory.{loom_told}
 use Rattle.loom_memory.proofs.AddLaws.{crowded-making, room-most}
+use Rattle.object_memory.specs.declared.fault.MemFault.{MemFault}
+use Rattle.loom_memory.specs.Makings.{OnCoreFull}
 use Rattle.loom_memory.proofs.memory.LoomMemory.crowded.Goals as goal
 
 pub overflow_add-base : goal.overflow_add-base
@@ -15,3 +17,6 @@ returns-clause-err g c =
     crowded-making g.H.Host m (loom_told g.H.Host c.refuse.new.self) c.in-Some.base _ c.room-room.result c.refuse.result c.requires.ready c.in-Some.is refl c.room-room.ensures
     (let held = c.requires.sound.over.based.most c.in-Some.base c.in-Some.is in let all = c.requires.all in let room = c.room-room.ensures in omega (arith, held, all, room))
     c.refuse.ensures.told c.refuse.ensures.result c.refuse.ensures.later
+
+pub returns-clause-full : goal.returns-clause-full
+returns-clause-full g c = subst (λ (f : MemFault). OnCoreFull f ⊥) (sym c.refuse.ensures.result) tt

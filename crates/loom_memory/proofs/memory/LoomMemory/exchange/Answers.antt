@@ -18,6 +18,7 @@ use Rattle.loom_memory.proofs.CalmLaws.{work-outside}
 use Rattle.loom_memory.proofs.CallLaws.{purge-refused}
 use Rattle.loom_memory.proofs.SwapLaws.{named-now, record-there, both-held, swapped-is, swapped-over, either-purge, swaps-as}
 use Rattle.loom_memory.proofs.OwingLaws.{exact-swapped}
+use Rattle.loom_memory.specs.Residents.{fetched}
 use Rattle.loom_memory.proofs.memory.LoomMemory.exchange.Goals as goal
 
 first-short : {H : Type 0} (host : Ghosts H) (m : LoomMemory H) (of i : ℕ) → IsSound host m → IsReady (loom_told host m) → IsRef ((loom_told host m).regs of) → i ≡ of → i < 24 → IsNamed host m m of (slice_index_or m.regs i 0)
@@ -100,3 +101,11 @@ returns-in-Err-clause-err g c =
     purge-refused g.H.Host m (record m { disk = c.swap.new.self; out = c.swap.new.buf }) (loom_told g.H.Host c.refuse.new.self) (Swap c.args.a c.args.b) c.in-Err.f c.refusal_of-f.result c.refuse.result refl c.swap.ensures.work c.swap.ensures.room
     (either-purge g.H.Host m.disk.host.now c.swap.new.self.host.now _ c.entry-first.result.name c.entry-second.result.name c.in-Err.f c.in-Err.ensures.fault)
     c.refusal_of-f.ensures c.refuse.ensures.told c.refuse.ensures.result c.refuse.ensures.later tt refl
+
+pub returns-in-Ok-clause-fetches : goal.returns-in-Ok-clause-fetches
+unfolding fetched
+returns-in-Ok-clause-fetches g c = refl
+
+pub returns-in-Ok-clause-cached : goal.returns-in-Ok-clause-cached
+unfolding loom_told
+returns-in-Ok-clause-cached g c = refl

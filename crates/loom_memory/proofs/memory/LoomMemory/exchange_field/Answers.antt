@@ -16,11 +16,13 @@ use Rattle.core_view.proofs.Words.{meant-short}
 use Rattle.leaf_lambda.specs.Parts.{core_of}
 use Rattle.loom_memory.specs.Memory.{loom_told, loom_outside, told_of, word_in, IsKept, IsOver, IsExact}
 use Rattle.loom_memory.proofs.RegLaws.{kept-rooted, few-held, register-held, old-there, word-is}
-use Rattle.loom_memory.proofs.RecountLaws.{recount-kept, recount-over, recount-told, recount-place, recount-used, recount-name, recount-at, recount-meant, recount-mark}
+use Rattle.loom_memory.proofs.RecountLaws.{recount-kept, recount-marks, recount-over, recount-told, recount-place, recount-used, recount-name, recount-at, recount-meant, recount-mark}
 use Rattle.loom_memory.proofs.StoreLaws.{stored-is, stored-kept, stored-over, stored-between}
 use Rattle.loom_memory.proofs.LoadLaws.{field-before, stored-told}
 use Rattle.loom_memory.proofs.OwingLaws.{exact-raised, exact-exchanged, exact-lowered}
 use Rattle.loom_memory.proofs.GentleLaws.{recount-remains, remains-trans, rest-refl, store-remains}
+use Rattle.purger.proofs.MarkLaws.{Kept-trans, within-marks}
+use Rattle.loom_memory.proofs.KeepingLaws.{marks-keep}
 use Rattle.loom_memory.proofs.memory.LoomMemory.exchange_field.Goals as goal
 use Rattle.loom_memory.proofs.memory.LoomMemory.exchange_field.Given as given
 
@@ -155,3 +157,12 @@ returns-clause-resting g c =
     let b = core_of c.put_field.new.p in
     let d = core_of c.lower_word.new.p in
     rest-refl c.args.self.now _ (remains-trans x a d (recount-remains x a c.raise_word.ensures.recount) (remains-trans a b d (store-remains c.args.s.0 a b c.put_field.ensures.within (ap (λ (e : Entry). place_of e.state) c.put_field.ensures.entry) (ap (λ (e : Entry). e.name) c.put_field.ensures.entry)) (recount-remains b d c.lower_word.ensures.recount))) refl refl refl
+
+pub returns-clause-cached : goal.returns-clause-cached
+returns-clause-cached g c =
+    let x = core_of c.args.self.now.parts in
+    let a = core_of c.raise_word.new.p in
+    let b = core_of c.put_field.new.p in
+    let d = core_of c.lower_word.new.p in
+    marks-keep g.H.Host c.args.self.now _ c.requires.sound c.lower_word.ensures.parts.core
+    (Kept-trans x a d (recount-marks x a c.raise_word.ensures.recount) (Kept-trans a b d (within-marks a b c.args.s.0 c.raise_word.ensures.parts.core c.put_field.ensures.parts.core c.put_field.ensures.within) (recount-marks b d c.lower_word.ensures.recount))) refl

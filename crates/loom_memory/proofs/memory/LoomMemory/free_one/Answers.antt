@@ -1,4 +1,4 @@
-use Rattle.std.proofs.Common.{◌≡◌, ℕ, ◌+◌, ◌≤◌, ap, refl, subst, arith}
+use Rattle.std.proofs.Common.{◌≡◌, ℕ, ◌+◌, ◌≤◌, ap, refl, sym, subst, arith}
 use Rattle.long_names.specs.Counting.{counted}
 use Rattle.object_memory.specs.declared.fault.MemFault.{MemFault}
 use Rattle.object_memory.specs.Plain.{refused}
@@ -8,6 +8,8 @@ use Rattle.loom_memory.specs.Memory.{loom_told}
 use Rattle.loom_memory.specs.Residents.{fetched}
 use Rattle.loom_memory.proofs.AddLaws.{overfull-making}
 use Rattle.loom_memory.proofs.MakingLaws.{thinned-ready}
+use Rattle.loom_memory.specs.Makings.{OnCoreFull}
+use Rattle.loom_memory.proofs.MadeLaws.{core-lost}
 use Rattle.loom_memory.proofs.memory.LoomMemory.free_one.Goals as goal
 
 pub overfull-requires-clause-ready : goal.overfull-requires-clause-ready
@@ -25,3 +27,20 @@ returns-else-self-room-clause-err g c =
 pub returns-then-self-room-clause-fetches : goal.returns-then-self-room-clause-fetches
 unfolding fetched
 returns-then-self-room-clause-fetches g c = ap (λ (k : Ledger). k.fetches) c.in-Ok.ensures.ledger
+
+pub returns-else-self-room-clause-full : goal.returns-else-self-room-clause-full
+returns-else-self-room-clause-full g c = subst (λ (f : MemFault). OnCoreFull f ⊥) (sym c.overfull.ensures.full) tt
+
+pub returns-in-Err-clause-full : goal.returns-in-Err-clause-full
+returns-in-Err-clause-full g c = core-lost c.in-Err.f ⊥ c.in-Err.ensures.fault
+
+pub returns-then-self-room-clause-bodies : goal.returns-then-self-room-clause-bodies
+returns-then-self-room-clause-bodies g c = c.in-Ok.ensures.bodies
+
+pub returns-then-self-room-clause-room : goal.returns-then-self-room-clause-room
+returns-then-self-room-clause-room g c = λ words has.
+    let wider = c.in-Ok.ensures.words in
+    let more = c.in-Ok.ensures.entries in
+    let first = has.0 in
+    let second = has.1 in
+    (omega (arith, wider, first), omega (arith, more, second))

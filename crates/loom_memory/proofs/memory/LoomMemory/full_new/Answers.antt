@@ -12,3 +12,6 @@ returns-clause-err g c =
     (λ told. (next-absent g.H.Host m.parts m.disk.host.now m.disk.rest m.ledger.next c.requires.sound.exact told).0)
     (subst (λ n. IsNeedBeside (core_of m.parts) m.pinned n c.args.words c.need_beside-need.result) (sym c.requires.next) c.need_beside-need.ensures)
     (c.requires.unfit c.need_beside-need.result c.need_beside-need.ensures) c.refuse.ensures.told c.refuse.ensures.result c.refuse.ensures.later
+
+pub returns-clause-kept : goal.returns-clause-kept
+returns-clause-kept g c = c.refuse.ensures.kept

@@ -1,12 +1,16 @@
-use Rattle.std.proofs.Common.{◌∙◌, arith}
+use Rattle.std.proofs.Common.{◌<◌, ◌∙◌, ℕ, ap, sym, subst, arith}
 use Rattle.loom_memory.specs.Memory.{loom_told}
 use Rattle.loom_memory.specs.New.{making_of}
 use Rattle.loom_memory.specs.Residents.{fetched}
 use Rattle.loom_memory.proofs.AccessLaws.{quiet-ready}
 use Rattle.loom_memory.proofs.AddLaws.{core-ok, core-there, making-words, unfit-new}
 use Rattle.loom_memory.proofs.GentleLaws.{fetched-same}
-use Rattle.loom_memory.proofs.MadeLaws.{fetched-then}
+use Rattle.loom_memory.proofs.MadeLaws.{core-any, core-lost, fetched-then, lost-core, made-rest}
 use Rattle.loom_memory.proofs.MakingLaws.{after-quiet-as, full-as, made-if, quiet-thinned, refused-each, refused-if}
+use Rattle.disk_objects.specs.Disk.{disk_room}
+use Rattle.purger.specs.Purge.{HasRoom}
+use Rattle.loom_memory.specs.declared.ledger.Ledger.{Ledger}
+use Rattle.loom_memory.proofs.KeepingLaws.{room-keeps}
 use Rattle.loom_memory.proofs.memory.LoomMemory.make_here.Goals as goal
 
 pub returns-then-words-self-clause-err : goal.returns-then-words-self-clause-err
@@ -43,3 +47,35 @@ returns-in-Err-clause-err g c = λ low. c.in-Err.ensures.err c.args.to c.args.cl
 
 pub returns-then-enough-clause-fetches : goal.returns-then-enough-clause-fetches
 returns-then-enough-clause-fetches g c = fetched-then c.put_object.result (fetched c.args.self.now) (fetched c.clear_new.new.self) (fetched c.put_object.new.self) (fetched-same c.args.self.now c.clear_new.new.self c.in-Ok.ensures.ledger) c.put_object.ensures.fetches
+
+pub returns-then-enough-clause-resting : goal.returns-then-enough-clause-resting
+returns-then-enough-clause-resting g c =
+    made-rest c.put_object.result c.args.self.now c.clear_new.new.self c.put_object.new.self
+    (λ room. c.in-Ok.ensures.resting (subst (λ (k : ℕ). HasRoom c.args.self.now.parts k 27) (sym c.words_new-words.ensures.words) room)) c.put_object.ensures.resting
+
+pub returns-then-words-self-clause-full : goal.returns-then-words-self-clause-full
+returns-then-words-self-clause-full g c =
+    let kept = c.full_new.ensures.kept in
+    let held = kept.1 in
+    let room = ap (λ d. disk_room d.rest) kept.0 in
+    let low = c.requires.held in
+    core-any c.full_new.result (c.full_new.new.self.ledger.held < disk_room c.full_new.new.self.disk.rest) (omega (arith, held, room, low))
+
+pub returns-else-enough-clause-full : goal.returns-else-enough-clause-full
+returns-else-enough-clause-full g c =
+    let kept = c.full_new-in-Ok.ensures.kept in
+    let held = kept.1 ∙ ap (λ (k : Ledger). k.held) c.in-Ok.ensures.ledger in
+    let room = ap (λ d. disk_room d.rest) kept.0 ∙ c.in-Ok.ensures.limit in
+    let low = c.requires.held in
+    core-any c.full_new-in-Ok.result (c.full_new-in-Ok.new.self.ledger.held < disk_room c.full_new-in-Ok.new.self.disk.rest) (omega (arith, held, room, low))
+
+pub returns-then-enough-clause-full : goal.returns-then-enough-clause-full
+returns-then-enough-clause-full g c = lost-core c.put_object.result (c.put_object.new.self.ledger.held < disk_room c.put_object.new.self.disk.rest) c.put_object.ensures.fault
+
+pub returns-in-Err-clause-full : goal.returns-in-Err-clause-full
+returns-in-Err-clause-full g c = core-lost c.in-Err.f (c.clear_new.new.self.ledger.held < disk_room c.clear_new.new.self.disk.rest) c.in-Err.ensures.fault
+
+pub returns-then-enough-clause-cached : goal.returns-then-enough-clause-cached
+returns-then-enough-clause-cached g c =
+    room-keeps c.put_object.result g.H.Host c.args.self.now c.clear_new.new.self c.put_object.new.self
+    (λ room. c.in-Ok.ensures.cached (subst (λ (k : ℕ). HasRoom c.args.self.now.parts k 27) (sym c.words_new-words.ensures.words) room)) c.put_object.ensures.cached

@@ -1,10 +1,13 @@
-use Rattle.std.proofs.Common.{arith}
+use Rattle.std.proofs.Common.{sym, subst, arith}
 use Rattle.long_names.specs.Access.{Make, Nothing}
 use Rattle.long_names.specs.Names.{IsName}
 use Rattle.loom_memory.specs.Memory.{loom_told}
 use Rattle.loom_memory.specs.New.{making_of}
 use Rattle.loom_memory.proofs.AccessLaws.{refused-is}
 use Rattle.loom_memory.proofs.AddLaws.{next-long, told-next}
+use Rattle.object_memory.specs.declared.fault.MemFault.{MemFault}
+use Rattle.loom_memory.specs.Makings.{OnCoreFull}
+use Rattle.loom_memory.specs.Own.{IsAskedLast}
 use Rattle.loom_memory.proofs.memory.LoomMemory.make_kind.Goals as goal
 
 pub nameless-requires-clause-cause : goal.nameless-requires-clause-cause
@@ -34,3 +37,9 @@ returns-then-next-ge-LAST_NAME-clause-early g c = λ told low. tt
 pub returns-in-None-clause-early : goal.returns-in-None-clause-early
 unfolding loom_told
 returns-in-None-clause-early g c = λ told low. tt
+
+pub returns-then-next-ge-LAST_NAME-clause-full : goal.returns-then-next-ge-LAST_NAME-clause-full
+returns-then-next-ge-LAST_NAME-clause-full g c = subst (λ (f : MemFault). OnCoreFull f (IsAskedLast g.H.Host c.args.self.now c.nameless.new.self)) (sym c.nameless.ensures.same) tt
+
+pub returns-in-None-clause-full : goal.returns-in-None-clause-full
+returns-in-None-clause-full g c = subst (λ (f : MemFault). OnCoreFull f (IsAskedLast g.H.Host c.args.self.now c.nameless-in-None.new.self)) (sym c.nameless-in-None.ensures.same) tt

@@ -4,9 +4,10 @@ use Rattle.loom_memory.specs.Memory.{loom_told}
 use Rattle.loom_memory.specs.New.{making_of}
 use Rattle.loom_memory.specs.Residents.{fetched}
 use Rattle.loom_memory.proofs.AccessLaws.{refused-is}
-use Rattle.loom_memory.proofs.AddLaws.{next-low}
-use Rattle.loom_memory.proofs.MadeLaws.{fetched-then, made-early}
+use Rattle.loom_memory.proofs.AddLaws.{making-words, next-low}
+use Rattle.loom_memory.proofs.MadeLaws.{asked-last, core-none, fetched-then, made-early, made-sparing}
 use Rattle.loom_memory.proofs.MakingLaws.{made-last, made-now, thinned-ready}
+use Rattle.loom_memory.specs.Own.{IsAskedLast}
 use Rattle.loom_memory.proofs.memory.LoomMemory.make_named.Goals as goal
 
 pub make_here-requires-clause-ready : goal.make_here-requires-clause-ready
@@ -41,3 +42,17 @@ returns-in-Ok-clause-early g c = made-early c.make_here.result g.H.Host c.args.s
 pub returns-in-Err-clause-early : goal.returns-in-Err-clause-early
 unfolding loom_told
 returns-in-Err-clause-early g c = λ told low. tt
+
+pub returns-in-Ok-clause-own : goal.returns-in-Ok-clause-own
+returns-in-Ok-clause-own g c =
+    let asked = c.in-Ok.ensures in
+    let made = c.make_here.ensures in
+    made-sparing c.make_here.result g.H.Host c.args.self.now c.ask_room.new.self c.make_here.new.self c.args.to c.args.class (making_of c.args.kind c.args.len c.args.header) _ (making-words c.args.kind c.args.len c.args.header)
+    c.requires.fit.sound asked.sound made.sound asked.roomy asked.early asked.next asked.room asked.bodies made.made made.resting made.cached
+
+pub returns-in-Ok-clause-full : goal.returns-in-Ok-clause-full
+unfolding loom_told
+returns-in-Ok-clause-full g c = asked-last c.make_here.result g.H.Host c.args.self.now c.make_here.new.self (next-low g.H.Host c.args.self.now c.args.name c.requires.next c.requires.low) c.make_here.ensures.full
+
+pub returns-in-Err-clause-full : goal.returns-in-Err-clause-full
+returns-in-Err-clause-full g c = core-none c.in-Err.f (IsAskedLast g.H.Host c.args.self.now c.ask_room.new.self) c.in-Err.ensures.full

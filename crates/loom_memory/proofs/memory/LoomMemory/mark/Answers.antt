@@ -1,4 +1,4 @@
-use Rattle.std.proofs.Common.{◌≡◌, [], refl, sym, ◌∙◌, ap}
+use Rattle.std.proofs.Common.{◌≡◌, [], Some, refl, sym, ◌∙◌, ap}
 use Rattle.long_names.specs.declared.value.Value.TheVariants.{Ref}
 use Rattle.long_names.specs.Access.{Mark, Nothing}
 use Rattle.core_view.specs.Words.{meant}
@@ -10,6 +10,8 @@ use Rattle.loom_memory.proofs.AccessLaws.{quiet-ready, refused-is}
 use Rattle.loom_memory.proofs.MarkingLaws.{mark-access, ready-mark, marked-name}
 use Rattle.long_names.specs.State.{name_at}
 use Rattle.loom_memory.proofs.GentleLaws.{changed-sparing, refused-change}
+use Rattle.object_memory.specs.Told.{Told, Cache}
+use Rattle.object_memory.specs.Contract.{with_mark}
 use Rattle.loom_memory.proofs.memory.LoomMemory.mark.Goals as goal
 use Rattle.loom_memory.proofs.memory.LoomMemory.mark.Given as given
 
@@ -48,3 +50,10 @@ returns-in-Ok-clause-own g c = changed-sparing g.H.Host c.args.self.now c.load.n
 
 pub returns-in-Err-clause-own : goal.returns-in-Err-clause-own
 returns-in-Err-clause-own g c = refused-change g.H.Host c.args.self.now c.load.new.self (name_at ((loom_told g.H.Host c.args.self.now).regs c.args.r)) c.in-Err.f c.in-Err.ensures.own
+
+pub returns-in-Ok-clause-cached : goal.returns-in-Ok-clause-cached
+returns-in-Ok-clause-cached g c = λ place.
+    let m = c.args.self.now in
+    let s = (core_of c.load.new.self.parts).entries c.in-Ok.s.0 in
+    let name : s.name ≡ name_at ((loom_told g.H.Host m).regs c.args.r) = ap name_at (sym (name-of g c)) ∙ ap (λ (z : Told). name_at (z.regs c.args.r)) c.in-Ok.ensures.quiet.same in
+    c.note_mark.ensures.cached ∙ ap (λ (z : Cache). with_mark z (Some s.name)) (c.in-Ok.ensures.own.cached place) ∙ ap (λ n. with_mark (loom_told g.H.Host m).cache (Some n)) name

@@ -10,6 +10,7 @@ use Rattle.long_names.specs.Objects.{OfMethod}
 use Rattle.loom_outside.specs.declared.outside.Role.TheVariants.{Work}
 use Rattle.object_memory.specs.Contract.{Accessed, IfBounds}
 use Rattle.loom_memory.specs.Memory.{loom_told}
+use Rattle.loom_memory.specs.Own.{IsSparingMaking}
 use Rattle.loom_memory.proofs.memory.LoomMemory.new_method.Goals as goal
 
 pub returns-clause-access : goal.returns-clause-access
@@ -23,3 +24,9 @@ returns-clause-early g c =
     let fits : SFits w16 c.args.header = search rules in
     let same = to_z-of_z w16 c.args.header fits in
     subst (λ z. IsTrue (g.H.Host.tells Work) → IfBounds (loom_told g.H.Host c.args.self.now).bounds (λ b. b.made < 8 → OnOk c.make_kind.result ((loom_told g.H.Host c.make_kind.new.self).heap ≡ heap_after (loom_told g.H.Host c.args.self.now).heap (loom_told g.H.Host c.args.self.now).regs (Make c.args.to c.args.class (OfMethod z c.args.code))))) (subst (λ (z : ℤ). IsSmallInteger z → int_of_short c.short_int.result ≡ z) same c.short_int.ensures.value c.requires.may.ranges.0) c.make_kind.ensures.early
+
+pub returns-clause-own : goal.returns-clause-own
+returns-clause-own g c =
+    let fits : SFits w16 c.args.header = search rules in
+    let same = to_z-of_z w16 c.args.header fits in
+    subst (λ z. OnOk c.make_kind.result (IsSparingMaking g.H.Host c.args.self.now c.make_kind.new.self (OfMethod z c.args.code))) (subst (λ (z : ℤ). IsSmallInteger z → int_of_short c.short_int.result ≡ z) same c.short_int.ensures.value c.requires.may.ranges.0) c.make_kind.ensures.own

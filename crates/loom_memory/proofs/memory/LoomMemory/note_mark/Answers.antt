@@ -1,4 +1,4 @@
-use Rattle.std.proofs.Common.{◌≡◌, Some, true, refl, sym, ap, subst}
+use Rattle.std.proofs.Common.{◌≡◌, Some, true, refl, sym, ◌∙◌, ap, subst}
 use Rattle.object_table.specs.Entries.{is_used}
 use Rattle.object_memory.specs.Told.{Cache}
 use Rattle.object_memory.specs.Contract.{IsKeptCache, no_names, with_mark}
@@ -9,7 +9,7 @@ use Rattle.method_cache.specs.Found.{found}
 use Rattle.loom_memory.specs.declared.ledger.Ledger.{Ledger}
 use Rattle.loom_memory.specs.Cache.{cache_of, IsCached}
 use Rattle.loom_memory.specs.Memory.{loom_told, loom_outside}
-use Rattle.loom_memory.proofs.RowLaws.{marking-kept, marking-cached}
+use Rattle.loom_memory.proofs.RowLaws.{marking-exact, marking-kept, marking-cached}
 use Rattle.loom_memory.proofs.ExactLaws.{mark-exact}
 use Rattle.loom_memory.proofs.MarkingLaws.{IsCaching, mark-told, mark-kept, mark-over}
 use Rattle.loom_memory.specs.Residents.{fetched}
@@ -64,3 +64,12 @@ returns-clause-resting g c = record {
   remains = mark-remains (core_of c.args.self.now.parts) (core_of c.set_mark.new.p) c.args.s.0 c.set_mark.ensures.core;
   idle = record { host = refl; rest = refl; fetches = ap (λ (k : Ledger). k.fetches) c.refresh.ensures.ledger };
 }
+
+pub returns-clause-cached : goal.returns-clause-cached
+unfolding loom_told
+returns-clause-cached g c =
+    let x = core_of c.args.self.now.parts in
+    let k = c.refresh.new.k in
+    ap (λ (y : Core). cache_of y (found k.rows) c.args.s.0 k.begun) c.set_mark.ensures.core
+    ∙ marking-exact x (found k.rows) k.mark c.args.s.0 k.begun c.requires.sound.kept.parts.core (used-of g c) c.refresh.ensures.fresh
+    ∙ ap (λ (z : Cache). with_mark z (Some (x.entries c.args.s.0).name)) c.refresh.ensures.cache

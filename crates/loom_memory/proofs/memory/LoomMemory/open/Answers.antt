@@ -5,6 +5,7 @@ use Rattle.loom_memory.specs.Memory.{loom_told, word_in}
 use Rattle.loom_memory.proofs.AccessLaws.{quiet-trans}
 use Rattle.long_names.specs.State.{name_at}
 use Rattle.loom_memory.proofs.GentleLaws.{changed-sparing, refused-change}
+use Rattle.loom_memory.proofs.KeepingLaws.{opened-keeps}
 use Rattle.loom_memory.proofs.memory.LoomMemory.open.Goals as goal
 
 pub unmark-requires-clause-used : goal.unmark-requires-clause-used
@@ -24,3 +25,6 @@ returns-in-Ok-clause-own g c = changed-sparing g.H.Host c.args.self.now c.load.n
 
 pub returns-in-Err-clause-own : goal.returns-in-Err-clause-own
 returns-in-Err-clause-own g c = refused-change g.H.Host c.args.self.now c.load.new.self (name_at ((loom_told g.H.Host c.args.self.now).regs c.args.of)) c.in-Err.f c.in-Err.ensures.own
+
+pub returns-in-Ok-clause-cached : goal.returns-in-Ok-clause-cached
+returns-in-Ok-clause-cached g c = opened-keeps g.H.Host c.args.self.now c.load.new.self c.unmark.new.self c.args.of c.in-Ok.s.0 c.in-Ok.ensures.sound c.in-Ok.ensures.quiet c.requires.name c.in-Ok.ensures.word c.in-Ok.ensures.own.cached c.unmark.ensures.idle

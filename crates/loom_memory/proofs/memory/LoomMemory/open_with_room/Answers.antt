@@ -3,6 +3,9 @@ use Rattle.core_view.proofs.Core.{placed-used}
 use Rattle.leaf_lambda.specs.Parts.{core_of}
 use Rattle.loom_memory.specs.Memory.{loom_told, word_in}
 use Rattle.loom_memory.proofs.AccessLaws.{quiet-trans}
+use Rattle.long_names.specs.State.{name_at}
+use Rattle.loom_memory.proofs.GentleLaws.{load-searched, searched-change}
+use Rattle.loom_memory.proofs.KeepingLaws.{opened-keeps}
 use Rattle.loom_memory.proofs.memory.LoomMemory.open_with_room.Goals as goal
 
 pub unmark-requires-clause-used : goal.unmark-requires-clause-used
@@ -19,3 +22,19 @@ returns-in-Ok-clause-there g c = (c.in-Ok.ensures.loaded.at, c.unmark.ensures.pl
 
 pub returns-in-Ok-clause-spare : goal.returns-in-Ok-clause-spare
 returns-in-Ok-clause-spare g c = let same = c.unmark.ensures.spare in let was = c.in-Ok.ensures.spare in omega (arith, same, was)
+
+pub returns-in-Ok-clause-searched : goal.returns-in-Ok-clause-searched
+returns-in-Ok-clause-searched g c =
+    let m = c.args.self.now in
+    let u = c.load_with_room.new.self in
+    let load = c.in-Ok.ensures in
+    searched-change g.H.Host m u c.unmark.new.self (name_at ((loom_told g.H.Host m).regs c.args.of)) (load-searched g.H.Host m u c.args.of c.requires.sound load.sound c.requires.name load.there load.counted load.gentle load.idle)
+    c.unmark.ensures.resting load.sound.kept.parts.core c.unmark.ensures.sound.kept.parts.core
+
+pub returns-in-Ok-clause-cached : goal.returns-in-Ok-clause-cached
+returns-in-Ok-clause-cached g c =
+    let m = c.args.self.now in
+    let u = c.load_with_room.new.self in
+    let load = c.in-Ok.ensures in
+    opened-keeps g.H.Host m u c.unmark.new.self c.args.of c.in-Ok.s.0 load.sound load.quiet c.requires.name load.word
+    (load-searched g.H.Host m u c.args.of c.requires.sound load.sound c.requires.name load.there load.counted load.gentle load.idle).cached c.unmark.ensures.idle

@@ -14,7 +14,9 @@ use Rattle.loom_memory.proofs.RegLaws.{kept-rooted, word-is}
 use Rattle.loom_memory.proofs.BringLaws.{IsNamed, quiet-same}
 use Rattle.loom_memory.proofs.CalmLaws.{purged-calm, calm-kept, quiet-is, over-is, work-outside}
 use Rattle.loom_memory.proofs.CallLaws.{purge-refused}
-use Rattle.loom_memory.proofs.SwapLaws.{named-now, unpinned-is}
+use Rattle.loom_memory.proofs.SwapLaws.{left-others, named-now, unpinned-is}
+use Rattle.loom_memory.specs.Residents.{fetched}
+use Rattle.loom_memory.proofs.KeepingLaws.{flag-off, marks-keep}
 use Rattle.loom_memory.proofs.memory.LoomMemory.put_away.Goals as goal
 use Rattle.loom_memory.proofs.memory.LoomMemory.put_away.Given as given
 
@@ -101,3 +103,21 @@ returns-clause-away g c =
     let m = c.args.self.now in
     ap (λ (w : ℕ). place_of ((core_of m.parts).entries w).state) (sym (word-is m.regs c.index.result c.args.of c.index.ensures.same c.index.ensures.within c.requires.sound.kept.many))
     ∙ ap (λ (e : Entry). place_of e.state) (sym c.entry.ensures) ∙ sym c.place.ensures ∙ none-of c.place.result c.is_some.result c.is_some.ensures c.if-is_some.false
+
+pub returns-in-Ok-clause-others : goal.returns-in-Ok-clause-others
+returns-in-Ok-clause-others g c =
+    let m = c.args.self.now in
+    left-others g.H.Host m _ c.args.of (slice_index_or m.regs c.index.result 0) c.requires.sound c.evict.ensures.parts.core c.requires.name (word-is m.regs c.index.result c.args.of c.index.ensures.same c.index.ensures.within c.requires.sound.kept.many) c.evict.ensures.purged
+
+pub returns-in-Ok-clause-fetches : goal.returns-in-Ok-clause-fetches
+unfolding fetched
+returns-in-Ok-clause-fetches g c = refl
+
+pub returns-clause-others : goal.returns-clause-others
+returns-clause-others g c = λ k away here. here
+
+pub returns-in-Ok-clause-cached : goal.returns-in-Ok-clause-cached
+returns-in-Ok-clause-cached g c = λ off.
+    let m = c.args.self.now in
+    let word = word-is m.regs c.index.result c.args.of c.index.ensures.same c.index.ensures.within c.requires.sound.kept.many in
+    marks-keep g.H.Host m _ c.requires.sound c.evict.ensures.parts.core (c.evict.ensures.unmarked (flag-off g.H.Host m c.args.of (slice_index_or m.regs c.index.result 0) c.requires.sound c.requires.name word off)) refl

@@ -1,10 +1,13 @@
-use Rattle.std.proofs.Common.{◌∙◌, sym, ap}
+use Rattle.std.proofs.Common.{◌∙◌, sym, ap, subst}
 use Rattle.long_names.specs.State.{set_register}
 use Rattle.long_names.specs.declared.value.Value.{Value}
 use Rattle.leaf_lambda.specs.Parts.{core_of}
 use Rattle.loom_memory.specs.Memory.{loom_told, loom_outside, others_of}
 use Rattle.loom_memory.proofs.AddLaws.{added-made, damaged-making, entry-means, told-next}
 use Rattle.loom_memory.proofs.MadeLaws.{put-resident}
+use Rattle.object_memory.specs.declared.fault.MemFault.{MemFault}
+use Rattle.loom_memory.specs.Makings.{IsLost}
+use Rattle.loom_memory.proofs.GentleLaws.{rest-trans}
 use Rattle.loom_memory.proofs.memory.LoomMemory.put_object.Goals as goal
 
 pub returns-in-Some-clause-made : goal.returns-in-Some-clause-made
@@ -37,3 +40,16 @@ returns-in-Some-clause-there g c =
 
 pub returns-in-Some-clause-fetches : goal.returns-in-Some-clause-fetches
 returns-in-Some-clause-fetches g c = c.put_word.ensures.steady.idle.fetches ∙ c.in-Some.ensures.fetches
+
+pub returns-in-Some-clause-resting : goal.returns-in-Some-clause-resting
+returns-in-Some-clause-resting g c =
+    let steady = c.put_word.ensures.steady in
+    rest-trans c.args.self.now c.add_object.new.self c.put_word.new.self
+    (record { remains = c.in-Some.ensures.remains; idle = record { host = ap (λ d. d.host.now) c.add_object.ensures.disk; rest = ap (λ d. d.rest) c.add_object.ensures.disk; fetches = c.in-Some.ensures.fetches } })
+    (record { remains = steady.gentle.remains; idle = steady.idle })
+
+pub returns-in-None-clause-fault : goal.returns-in-None-clause-fault
+returns-in-None-clause-fault g c = subst (λ (f : MemFault). IsLost f) (sym c.refuse.ensures.result) tt
+
+pub returns-in-Some-clause-cached : goal.returns-in-Some-clause-cached
+returns-in-Some-clause-cached g c = c.put_word.ensures.steady.gentle.cache ∙ c.in-Some.ensures.cached

@@ -15,3 +15,6 @@ returns-clause-later g c = c.refuse.ensures.later
 pub returns-clause-outside : goal.returns-clause-outside
 unfolding loom_outside
 returns-clause-outside g c = refl
+
+pub returns-clause-kept : goal.returns-clause-kept
+returns-clause-kept g c = (refl, ap (λ (k : Ledger). k.held) c.refuse.ensures.refused)

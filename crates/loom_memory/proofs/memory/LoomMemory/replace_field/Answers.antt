@@ -44,3 +44,6 @@ returns-clause-stored g c = stored-quiet (loom_told g.H.Host c.args.self.now) (l
 
 pub returns-clause-resting : goal.returns-clause-resting
 returns-clause-resting g c = rest-trans c.args.self.now c.unmark.new.self c.exchange_field.new.self c.unmark.ensures.resting c.exchange_field.ensures.resting
+
+pub returns-clause-cached : goal.returns-clause-cached
+returns-clause-cached g c = λ off. c.exchange_field.ensures.cached ∙ ap (λ z. (loom_told g.H.Host z).cache) (c.unmark.ensures.idle off)

@@ -1,9 +1,11 @@
-use Rattle.std.proofs.Common.{arith}
+use Rattle.std.proofs.Common.{refl, arith}
 use Rattle.leaf_lambda.specs.Parts.{core_of}
 use Rattle.loom_memory.specs.Memory.{loom_told, loom_outside, IsKept, IsCalm}
 use Rattle.loom_memory.proofs.RegLaws.{kept-rooted}
 use Rattle.loom_memory.proofs.ExactLaws.{exact-has, exact-if}
 use Rattle.loom_memory.proofs.CalmLaws.{purged-calm, calm-kept, quiet-if, sound-if, work-outside, kept-if}
+use Rattle.loom_memory.proofs.GentleLaws.{bodies-remain, rest-refl}
+use Rattle.loom_memory.proofs.KeepingLaws.{marks-keep}
 use Rattle.loom_memory.proofs.memory.LoomMemory.room.Goals as goal
 use Rattle.loom_memory.proofs.memory.LoomMemory.room.Given as given
 
@@ -34,3 +36,9 @@ returns-clause-sound g c = let m = c.args.self.now in kept-if g.H.Host c.make_ro
 pub returns-clause-outside : goal.returns-clause-outside
 unfolding loom_outside
 returns-clause-outside g c = work-outside g.H.Host c.args.self.now.disk.host.now c.make_room.new.disk.host.now c.make_room.ensures.work
+
+pub returns-clause-needless : goal.returns-clause-needless
+returns-clause-needless g c = λ room. let is = c.make_room.ensures.needless room in rest-refl c.args.self.now _ (bodies-remain (core_of c.args.self.now.parts) (core_of c.make_room.new.p) is.0) is.1 is.2 refl
+
+pub returns-clause-cached : goal.returns-clause-cached
+returns-clause-cached g c = λ room. marks-keep g.H.Host c.args.self.now _ c.requires.sound c.make_room.ensures.parts.core (c.make_room.ensures.marked room) refl

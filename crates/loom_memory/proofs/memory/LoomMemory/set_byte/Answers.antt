@@ -6,6 +6,7 @@ use Rattle.loom_memory.proofs.LastLaws.{can-still}
 use Rattle.loom_memory.proofs.StoreLaws.{store-last, store-ready}
 use Rattle.long_names.specs.State.{name_at}
 use Rattle.loom_memory.proofs.GentleLaws.{then-store, err-store}
+use Rattle.loom_memory.proofs.KeepingLaws.{then-keeps}
 use Rattle.loom_memory.proofs.memory.LoomMemory.set_byte.Goals as goal
 
 pub store_byte-requires-clause-ready : goal.store_byte-requires-clause-ready
@@ -34,3 +35,6 @@ returns-in-Ok-clause-own g c = then-store c.store_byte.result g.H.Host c.args.se
 
 pub returns-in-Err-clause-own : goal.returns-in-Err-clause-own
 returns-in-Err-clause-own g c = err-store g.H.Host c.args.self.now c.open.new.self (name_at ((loom_told g.H.Host c.args.self.now).regs c.args.of)) c.in-Err.f c.in-Err.ensures.own
+
+pub returns-in-Ok-clause-cached : goal.returns-in-Ok-clause-cached
+returns-in-Ok-clause-cached g c = then-keeps c.store_byte.result g.H.Host c.args.self.now c.open.new.self c.store_byte.new.self c.in-Ok.ensures.cached c.store_byte.ensures.cached

@@ -4,7 +4,8 @@ use Rattle.long_names.specs.State.{name_at}
 use Rattle.loom_memory.specs.Memory.{loom_told}
 use Rattle.loom_memory.proofs.BringLaws.{quiet-same}
 use Rattle.loom_memory.proofs.StoreLaws.{store-last, store-ready}
-use Rattle.loom_memory.proofs.GentleLaws.{here-sparing, changed-sparing, not-at-hand, leaf-no-hand}
+use Rattle.loom_memory.proofs.GentleLaws.{here-searched, here-sparing, changed-sparing, not-at-hand, leaf-no-hand, searched-change}
+use Rattle.loom_memory.proofs.KeepingLaws.{flag-off, other-keeps}
 use Rattle.loom_memory.proofs.memory.LoomMemory.set_field.Goals as goal
 
 pub word_in_body-requires-clause-there : goal.word_in_body-requires-clause-there
@@ -38,3 +39,22 @@ returns-in-None-word_in_body-clause-own g c = λ hand. absurd (not-at-hand g.H.H
 
 pub returns-in-None-clause-own : goal.returns-in-None-clause-own
 returns-in-None-clause-own g c = λ hand. absurd (leaf-no-hand g.H.Host c.args.self.now c.args.of c.args.i c.requires.fit.sound c.requires.may.names c.in-None.ensures.leaf hand)
+
+pub returns-in-Some-word_in_body-clause-searched : goal.returns-in-Some-word_in_body-clause-searched
+returns-in-Some-word_in_body-clause-searched g c =
+    let m = c.args.self.now in
+    let n = name_at ((loom_told g.H.Host m).regs c.args.of) in
+    searched-change g.H.Host m m c.replace_field.new.self n (here-searched g.H.Host m n c.in-Some.ensures.there) c.replace_field.ensures.resting c.requires.fit.sound.kept.parts.core c.replace_field.ensures.sound.kept.parts.core
+
+pub returns-in-Some-word_in_body-clause-cached : goal.returns-in-Some-word_in_body-clause-cached
+returns-in-Some-word_in_body-clause-cached g c = λ either off. c.replace_field.ensures.cached (flag-off g.H.Host c.args.self.now c.args.of c.in-Some.s.0 c.requires.fit.sound c.requires.may.names c.in-Some.ensures.word off)
+
+pub returns-in-None-word_in_body-clause-cached : goal.returns-in-None-word_in_body-clause-cached
+returns-in-None-word_in_body-clause-cached g c =
+    let m = c.args.self.now in
+    other-keeps c.set_field_on_disk.result g.H.Host m c.set_field_on_disk.new.self (name_at ((loom_told g.H.Host m).regs c.args.of)) c.args.i (not-at-hand g.H.Host m c.args.of c.in-Some.s.0 c.args.i c.requires.fit.sound c.requires.may.names c.in-Some.ensures.word c.in-None-word_in_body.ensures.none) c.set_field_on_disk.ensures.cached
+
+pub returns-in-None-clause-cached : goal.returns-in-None-clause-cached
+returns-in-None-clause-cached g c =
+    let m = c.args.self.now in
+    other-keeps c.set_field_on_disk-in-None.result g.H.Host m c.set_field_on_disk-in-None.new.self (name_at ((loom_told g.H.Host m).regs c.args.of)) c.args.i (leaf-no-hand g.H.Host m c.args.of c.args.i c.requires.fit.sound c.requires.may.names c.in-None.ensures.leaf) c.set_field_on_disk-in-None.ensures.cached

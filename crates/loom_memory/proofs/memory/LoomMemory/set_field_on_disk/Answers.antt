@@ -4,6 +4,9 @@ use Rattle.loom_memory.specs.Memory.{loom_told}
 use Rattle.loom_memory.proofs.AccessLaws.{refused-is, quiet-ready}
 use Rattle.loom_memory.proofs.LastLaws.{can-still}
 use Rattle.loom_memory.proofs.StoreLaws.{store-last, store-ready}
+use Rattle.long_names.specs.State.{name_at}
+use Rattle.loom_memory.proofs.GentleLaws.{then-change}
+use Rattle.loom_memory.proofs.KeepingLaws.{then-keeps}
 use Rattle.loom_memory.proofs.memory.LoomMemory.set_field_on_disk.Goals as goal
 
 pub store_field-requires-clause-ready : goal.store_field-requires-clause-ready
@@ -26,3 +29,11 @@ returns-in-Ok-clause-fit g c = record {
   lender = c.store_field.ensures.lender ∙ c.in-Ok.ensures.lender;
   outside = c.store_field.ensures.outside ∙ c.in-Ok.ensures.outside;
 }
+
+pub returns-in-Ok-clause-searched : goal.returns-in-Ok-clause-searched
+returns-in-Ok-clause-searched g c =
+    let m = c.args.self.now in
+    then-change c.store_field.result g.H.Host m c.open_with_room.new.self c.store_field.new.self (name_at ((loom_told g.H.Host m).regs c.args.of)) c.in-Ok.ensures.searched c.store_field.ensures.glance c.in-Ok.ensures.sound.kept.parts.core c.store_field.ensures.sound
+
+pub returns-in-Ok-clause-cached : goal.returns-in-Ok-clause-cached
+returns-in-Ok-clause-cached g c = then-keeps c.store_field.result g.H.Host c.args.self.now c.open_with_room.new.self c.store_field.new.self c.in-Ok.ensures.cached c.store_field.ensures.cached

@@ -10,6 +10,7 @@ use Rattle.disk_objects.specs.Function.{disk_of}
 use Rattle.loom_memory.proofs.StoreLaws.{stored-quiet}
 use Rattle.loom_memory.proofs.LoadLaws.{field-none, field-told}
 use Rattle.loom_memory.proofs.FieldLaws.{told-bounds, at-field, word-live, damaged-refused}
+use Rattle.loom_memory.proofs.GentleLaws.{glance-trans, peek-glance, rest-glance}
 use Rattle.loom_memory.proofs.memory.LoomMemory.store_field.Goals as goal
 use Rattle.loom_memory.proofs.memory.LoomMemory.store_field.Given as given
 
@@ -63,3 +64,21 @@ unfolding loom_told
 exchange_field-requires-2-clause-before g c = λ told.
     let m = c.args.self.now in
     field-told (g.H.Host.tells Work) (core_of m.parts) (disk_of g.H.Host m.disk.host.now m.disk.rest) m.ledger.next c.args.s.0 c.place_of_body-at.result.place 0 c.args.of c.args.i c.field_word-w.result (loom_told g.H.Host m).regs told c.requires.sound.kept.parts.core c.field_word-w.ensures c.if-w-eq0.false (ap (meant (core_of m.parts).entries [] 0) (sym c.requires.word))
+
+-- ---- what was touched
+
+pub returns-in-Ok-clause-glance : goal.returns-in-Ok-clause-glance
+returns-in-Ok-clause-glance g c =
+    let m = c.args.self.now in
+    let u = c.lambda_word.new.self in
+    let v = c.exchange_field.new.self in
+    glance-trans g.H.Host m u v (peek-glance g.H.Host m u c.in-Ok.ensures.peek) (rest-glance g.H.Host u v c.exchange_field.ensures.resting)
+
+pub returns-clause-glance : goal.returns-clause-glance
+returns-clause-glance g c = rest-glance g.H.Host c.args.self.now c.exchange_field-2.new.self c.exchange_field-2.ensures.resting
+
+pub returns-in-Ok-clause-cached : goal.returns-in-Ok-clause-cached
+returns-in-Ok-clause-cached g c = c.exchange_field.ensures.cached ∙ c.in-Ok.ensures.peek.gentle.cache
+
+pub returns-clause-cached : goal.returns-clause-cached
+returns-clause-cached g c = c.exchange_field-2.ensures.cached

@@ -19,6 +19,8 @@ use Rattle.loom_memory.proofs.FieldLaws.{told-bounds, damaged-refused}
 use Rattle.loom_memory.proofs.StoreLaws.{stored-kept, stored-over, words-fields, words-can, body-told, stored-is}
 use Rattle.loom_memory.proofs.OwingLaws.{exact-rewritten}
 use Rattle.loom_memory.proofs.GentleLaws.{rest-refl, store-remains}
+use Rattle.purger.proofs.MarkLaws.{within-marks}
+use Rattle.loom_memory.proofs.KeepingLaws.{marks-keep}
 use Rattle.loom_memory.proofs.memory.LoomMemory.store_words.Goals as goal
 use Rattle.loom_memory.proofs.memory.LoomMemory.store_words.Given as given
 
@@ -107,3 +109,9 @@ returns-then-fits-clause-resting g c = rest-refl c.args.self.now _ (store-remain
 pub returns-clause-sure : goal.returns-clause-sure
 unfolding loom_told
 returns-clause-sure g c = none-there g c
+
+pub returns-then-fits-clause-cached : goal.returns-then-fits-clause-cached
+returns-then-fits-clause-cached g c =
+    let m = c.args.self.now in
+    let core = c.put_words.ensures.parts.core in
+    marks-keep g.H.Host m _ c.requires.sound core (within-marks (core_of m.parts) (core_of c.put_words.new.p) c.args.s.0 c.requires.sound.kept.parts.core core c.put_words.ensures.within) refl

@@ -5,7 +5,9 @@ use Rattle.object_memory.specs.Told.{Told}
 use Rattle.loom_memory.specs.Memory.{loom_told, IsQuiet}
 use Rattle.loom_memory.proofs.AccessLaws.{after-quiet, refused-is, quiet-ready, quiet-trans}
 use Rattle.loom_memory.proofs.StoreLaws.{store-last, store-ready}
-use Rattle.loom_memory.proofs.SwapLaws.{swap-core}
+use Rattle.loom_memory.proofs.SwapLaws.{put-away, swap-core}
+use Rattle.loom_memory.specs.Own.{IsUnmarked}
+use Rattle.loom_memory.proofs.KeepingLaws.{both-keep}
 use Rattle.loom_memory.proofs.memory.LoomMemory.swap.Goals as goal
 use Rattle.loom_memory.proofs.memory.LoomMemory.swap.Goals.{After-exchange}
 use Rattle.loom_memory.proofs.memory.LoomMemory.swap.Given as given
@@ -50,3 +52,15 @@ returns-in-Err-put_away-clause-access g c = refused-is (loom_told g.H.Host c.arg
 
 pub returns-in-Err-clause-access : goal.returns-in-Err-clause-access
 returns-in-Err-clause-access g c = refused-is (loom_told g.H.Host c.args.self.now) (loom_told g.H.Host c.put_away.new.self) (Swap c.args.a c.args.b) (λ _. Nothing) c.in-Err.f (c.in-Err.ensures.err (Swap c.args.a c.args.b) tt refl)
+
+pub returns-in-Ok-put_away-clause-own : goal.returns-in-Ok-put_away-clause-own
+returns-in-Ok-put_away-clause-own g c =
+    let first = c.in-Ok.ensures in
+    let second = c.in-Ok-put_away.ensures in
+    put-away c.exchange.result g.H.Host c.args.self.now c.put_away.new.self c.put_away-in-Ok.new.self c.exchange.new.self c.args.a c.args.b second.sound first.quiet (both-quiet g c) c.requires.may.names.0 c.requires.may.names.1 (second.leaves c.args.a first.away) second.away
+    first.others second.others first.fetches second.fetches c.exchange.ensures.parts c.exchange.ensures.fetches
+
+pub returns-in-Ok-put_away-clause-cached : goal.returns-in-Ok-put_away-clause-cached
+returns-in-Ok-put_away-clause-cached g c =
+    let m = c.args.self.now in
+    both-keep c.exchange.result g.H.Host m c.put_away.new.self c.put_away-in-Ok.new.self c.exchange.new.self c.args.b c.in-Ok.ensures.quiet (IsUnmarked g.H.Host m (name_at ((loom_told g.H.Host m).regs c.args.a))) c.in-Ok.ensures.cached c.in-Ok-put_away.ensures.cached c.exchange.ensures.cached

@@ -1,8 +1,10 @@
-use Rattle.std.proofs.Common.{◌∙◌, refl, sym, arith}
+use Rattle.std.proofs.Common.{◌∙◌, refl, sym, subst, arith}
 use Rattle.loom_memory.specs.Memory.{loom_told, loom_outside}
-use Rattle.loom_memory.proofs.AddLaws.{fault-making, fault-settling}
+use Rattle.loom_memory.proofs.AddLaws.{fault-lost, fault-making, fault-settling}
 use Rattle.loom_memory.proofs.CalmLaws.{work-outside}
 use Rattle.loom_memory.proofs.ThinLaws.{fault-purge, thin-again, thin-bodies, thin-count, thin-exact, thin-is-kept, thin-kept, thin-over, thin-step, thin-told}
+use Rattle.object_memory.specs.declared.fault.MemFault.{MemFault}
+use Rattle.loom_memory.specs.Makings.{IsLost}
 use Rattle.loom_memory.proofs.memory.LoomMemory.thin.Goals as goal
 
 pub returns-in-Ok-clause-thinned : goal.returns-in-Ok-clause-thinned
@@ -66,3 +68,9 @@ returns-in-Ok-clause-bodies g c = let m = c.args.self.now in λ told.
 
 pub returns-in-Ok-clause-entries : goal.returns-in-Ok-clause-entries
 returns-in-Ok-clause-entries g c = c.in-Ok.ensures.leaves.entries
+
+pub returns-in-Err-clause-fault : goal.returns-in-Err-clause-fault
+returns-in-Err-clause-fault g c = subst (λ (f : MemFault). IsLost f) (sym c.refuse.ensures.result) (fault-lost c.in-Err.f c.refusal_of-f.result c.refusal_of-f.ensures)
+
+pub returns-in-Ok-clause-words : goal.returns-in-Ok-clause-words
+returns-in-Ok-clause-words g c = c.in-Ok.ensures.leaves.words

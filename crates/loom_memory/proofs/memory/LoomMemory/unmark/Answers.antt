@@ -6,6 +6,7 @@ use Rattle.loom_memory.specs.Memory.{loom_told, loom_outside, IsCalm}
 use Rattle.loom_memory.proofs.StoreLaws.{unmark-calm, unmark-quiet, unmark-sound}
 use Rattle.loom_memory.proofs.GentleLaws.{rest-refl, unmark-remains}
 use Rattle.loom_memory.proofs.GentleLaws.{unmark-at}
+use Rattle.leaf_lambda.specs.declared.parts.Parts.{Parts}
 use Rattle.loom_memory.proofs.memory.LoomMemory.unmark.Goals as goal
 use Rattle.loom_memory.proofs.memory.LoomMemory.unmark.Given as given
 
@@ -31,3 +32,6 @@ returns-clause-resting g c = rest-refl c.args.self.now _ (unmark-remains (core_o
 
 pub returns-clause-field : goal.returns-clause-field
 returns-clause-field g c = λ at i w is. unmark-at (core_of c.args.self.now.parts) (core_of c.unmark_for.new.p) c.args.s.0 at i w c.unmark_for.ensures.step is
+
+pub returns-clause-idle : goal.returns-clause-idle
+returns-clause-idle g c = λ off. ap (λ (p : Parts). record c.args.self.now { parts = p }) (c.unmark_for.ensures.idle off)

@@ -18,3 +18,6 @@ returns-clause-fit g c = record {
   lender = c.put_slot.ensures.lender;
   outside = c.put_slot.ensures.outside;
 }
+
+pub returns-clause-steady : goal.returns-clause-steady
+returns-clause-steady g c = c.put_slot.ensures.steady

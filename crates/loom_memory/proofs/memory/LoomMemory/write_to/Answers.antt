@@ -1,10 +1,11 @@
-use Rattle.std.proofs.Common.{◌≡◌, sym, ap, subst}
+use Rattle.std.proofs.Common.{◌≡◌, refl, sym, ap, subst}
 use Rattle.std.specs.Result.{OnOk, OnErr}
 use Rattle.loom_outside.specs.Outside.{RoleState, PutPrefix, HasCause, puts}
 use Rattle.loom_memory.specs.Memory.{loom_told, loom_outside, Others, others_of}
 use Rattle.loom_memory.proofs.ExactLaws.{exact-work}
 use Rattle.loom_memory.proofs.SayLaws.{put-sound}
 use Rattle.loom_memory.proofs.LentLaws.{lent-write, lent-others, lent-told, others-lent}
+use Rattle.loom_memory.specs.Residents.{is_resident, words_resident, fetched}
 use Rattle.loom_memory.proofs.memory.LoomMemory.write_to.Goals as goal
 
 pub write_to-requires : goal.write_to-requires
@@ -51,3 +52,7 @@ returns-clause-cause g c =
 pub returns-clause-others : goal.returns-clause-others
 unfolding loom_outside
 returns-clause-others g c = others-lent g.H.Host c.args.self.now.disk.host.now c.write_to.new.self.host.now c.args.role c.write_to.ensures.others c.write_to.ensures.other_faults
+
+pub returns-clause-steady : goal.returns-clause-steady
+unfolding is_resident words_resident fetched
+returns-clause-steady g c = record { residents = λ k. refl; words = refl; fetches = refl; work = c.write_to.ensures.work; writes = c.write_to.ensures.writes }
