@@ -1,5 +1,5 @@
 -- The object of a leaf comes in: what is known of it after room was made.
-use Rattle.std.proofs.Common.{◌≡◌, ◌≢◌, ℕ, ◌+◌, ◌%◌, ◌≤◌, Bool, true, false, cond, eqb, List, [], refl, sym, ◌∙◌, ap, subst, add-zero, arith, None, Result, Ok, Err, IsTrue}
+use Rattle.std.proofs.Common.{◌≡◌, ◌≢◌, ℕ, ◌+◌, ◌%◌, ◌≤◌, Bool, true, false, cond, eqb, List, [], refl, sym, ◌∙◌, ap, subst, add-zero, arith, None, Some, Result, Ok, Err, IsTrue}
 use Rattle.std.proofs.lemmas.Grind.{common_steps}
 use Rattle.std.specs.Prelude.{nat_lt, pos}
 use Rattle.std.specs.Result.{OnOk, IfOk, IfErr}
@@ -21,6 +21,9 @@ use Rattle.object_memory.specs.declared.fault.MemFault.{MemFault}
 use Rattle.object_memory.specs.declared.fault.Need.{Need}
 use Rattle.object_memory.specs.Told.{Told, IsReady}
 use Rattle.object_memory.specs.Contract.{makes}
+use Rattle.disk_objects.specs.Function.{disk_of}
+use Rattle.object_record.specs.Buffer.{raw_of}
+use Rattle.object_record.specs.Objects.{object_in}
 use Rattle.object_table.specs.Entries.{is_short, is_used, place_of}
 use Rattle.object_table.specs.Table.{entry_at, entries_of, bound_of, free_of}
 use Rattle.core_segment.specs.Segment.{chunk_at, chunks_of, size_of, free_of as words_free}
@@ -36,7 +39,7 @@ use Rattle.purger.specs.declared.room.Pinned.{Pinned}
 use Rattle.loom_memory.specs.declared.ledger.Ledger.{Ledger}
 use Rattle.purger.specs.Purge.{IsShort}
 use Rattle.object_table.specs.Entries.{sum_below, used_by}
-use Rattle.loom_memory.specs.Memory.{heap_if, word_in, loom_told, IsSound, IsCalm, IsKept, IsQuiet, IsSilent, IsRefused, IsRefusedAt, IsNeed, IsSized}
+use Rattle.loom_memory.specs.Memory.{heap_if, word_in, loom_told, IsSound, IsCalm, IsKept, IsQuiet, IsSilent, IsRefused, IsRefusedAt, IsNeed, IsRead, IsSized}
 use Rattle.core_view.proofs.Chunks.{words-few}
 use Rattle.loom_memory.proofs.CallLaws.{unfit-entries, unfit-words, refused-at}
 use Rattle.loom_memory.proofs.CacheLaws.{left-refl}
@@ -50,15 +53,25 @@ ref-short c w some is = go (eqb (w % 2) 1) refl
     go true e = absurd (subst (λ (b : Bool). IsRef (cond b (Int (int_of_short w)) (cond (eqb w 0) (Int (pos 0)) (Ref (c.entries w).name)))) e is)
     go false e = grind (arith, common_steps)
 
--- its record is the same after room was made
-pub sized-then : (b : Bool) (x y : Core) (d e : Disk) (m k s words : ℕ) → IsCore x → IsCore y → is_used (x.entries s).state ≡ true → place_of (x.entries s).state ≡ None → is_used (y.entries s).state ≡ true → place_of (y.entries s).state ≡ None → (y.entries s).name ≡ (x.entries s).name
-    → heap_if b (held y e) k ≡ heap_if b (held x d) m → IsSized b (d (x.entries s).name) words → IsSized b (e (y.entries s).name) words
-sized-then false x y d e m k s words core now used leaf used' leaf' name same size = record { object = size.object; sized = size.sized; there = λ told. cc }
-sized-then true x y d e m k s words core now used leaf used' leaf' name same size = record {
-  object = size.object;
-  sized = size.sized;
-  there = λ told. sym (held-leaf y e (y.entries s).name s (now.found s used') leaf') ∙ ap (λ (h : Heap). h.at (y.entries s).name) same ∙ ap (held x d) name ∙ held-leaf x d (x.entries s).name s (core.found s used) leaf ∙ size.there refl;
-}
+-- what was read of a record tells the size of its object
+pub read-sized : (b : Bool) (bytes : List ℕ) (disk : Disk) (n words : ℕ) → IsRead b bytes disk n words → IsSized b (disk n) words
+read-sized b bytes disk n words read = record { object = object_in (raw_of bytes); sized = read.sized; there = read.there }
+
+-- the buffer has the record still after room was made
+pub read-then : (b : Bool) (x y : Core) (d e : Disk) (m k s words : ℕ) (was now : List ℕ) → IsCore x → IsCore y → is_used (x.entries s).state ≡ true → place_of (x.entries s).state ≡ None → is_used (y.entries s).state ≡ true → place_of (y.entries s).state ≡ None → (y.entries s).name ≡ (x.entries s).name
+    → heap_if b (held y e) k ≡ heap_if b (held x d) m → now ≡ was → IsRead b was d (x.entries s).name words → IsRead b now e (y.entries s).name words
+read-then b x y d e m k s words was now core after used leaf used' leaf' name heap same read =
+    subst (λ (bytes : List ℕ). IsRead b bytes e (y.entries s).name words) (sym same) (record {
+      record_there = read.record_there;
+      named = read.named ∙ sym name;
+      sized = read.sized;
+      there = λ told. go b told heap read.there;
+    })
+  where
+    go : (b : Bool) → IsTrue b → heap_if b (held y e) k ≡ heap_if b (held x d) m → (IsTrue b → d (x.entries s).name ≡ Some (object_in (raw_of was))) → e (y.entries s).name ≡ Some (object_in (raw_of was))
+    go false told heap there = absurd (cc)
+    go true told heap there =
+        sym (held-leaf y e (y.entries s).name s (after.found s used') leaf') ∙ ap (λ (h : Heap). h.at (y.entries s).name) heap ∙ ap (held x d) name ∙ held-leaf x d (x.entries s).name s (core.found s used) leaf ∙ there refl
 
 -- entries or words are wanting: the row has no room
 pub unfit : (p : Parts) (regs : List ℕ) (pins : Pinned) (k : Ledger) (s words : ℕ) (need : Need) (o : Object) → IsKept p regs pins k → IsShort p pins.a pins.b pins.d words 27 → entries_of p.names.table ≡ free_of p.names.table + sum_below (bound_of p.names.table) (λ t. used_by (entry_at p.names.table t))
@@ -93,10 +106,6 @@ pub ok-after : {T : Type 0} (r : Result T MemFault) (t u v : Told) → IsQuiet t
 ok-after {T} (Ok x) t u v quiet is = quiet-trans t u v quiet is
 ok-after {T} (Err f) t u v quiet is = tt
 
-pub err-after : {T : Type 0} (r : Result T MemFault) (t u v : Told) (n : ℕ) → IsQuiet t u → IfErr r (λ f. (a : Access) → IsSilent a → makes a ≡ 0 → IsRefused u v a f) → IfErr r (IsRefusedAt t v n)
-err-after {T} (Ok x) t u v n quiet is = tt
-err-after {T} (Err f) t u v n quiet is = refused-at t u v n f quiet (λ a of target named silent none. is a silent none)
-
 pub err-at : {T : Type 0} (r : Result T MemFault) (t u v : Told) (n k : ℕ) → k ≡ n → IsQuiet t u → IfErr r (IsRefusedAt u v k) → IfErr r (IsRefusedAt t v n)
 err-at {T} (Ok x) t u v n k same quiet is = tt
 err-at {T} (Err f) t u v n k same quiet is = subst (λ (z : ℕ). IsRefusedAt t v z f) same (refused-at t u v k f quiet is)
@@ -108,6 +117,10 @@ short-same p q x y words entries same pins is = subst (λ (z : Parts). IsShort z
 pub sized-name : (r : Result ℕ MemFault) (told : Bool) (disk : Disk) (p q : Parts) (s n : ℕ) → n ≡ ((core_of p).entries s).name → OnOk r (q ≡ p) → IfOk r (λ words. IsSized told (disk n) words) → IfOk r (λ words. IsSized told (disk ((core_of q).entries s).name) words)
 sized-name (Ok words) told disk p q s n is same sized = subst (λ (k : ℕ). IsSized told (disk k) words) (is ∙ ap (λ (z : Parts). ((core_of z).entries s).name) (sym same)) sized
 sized-name (Err f) told disk p q s n is same sized = tt
+
+pub read-name : (r : Result ℕ MemFault) (told : Bool) (bytes : List ℕ) (disk : Disk) (p q : Parts) (s n : ℕ) → n ≡ ((core_of p).entries s).name → OnOk r (q ≡ p) → IfOk r (λ words. IsRead told bytes disk n words) → IfOk r (λ words. IsRead told bytes disk ((core_of q).entries s).name words)
+read-name (Ok words) told bytes disk p q s n is same read = subst (λ (k : ℕ). IsRead told bytes disk k words) (is ∙ ap (λ (z : Parts). ((core_of z).entries s).name) (sym same)) read
+read-name (Err f) told bytes disk p q s n is same read = tt
 
 -- a leaf that is held from outside is the same leaf after room was made
 pub record IsLeafStill (x y : Core) (s : ℕ) : Type 0 where
@@ -123,6 +136,16 @@ leaf-still pins x y s core now calm leaves out leaf = record {
   leaf = leaves s leaf;
   name = calm.live s out;
 }
+
+-- so the buffer has its record still
+pub still-read : {H : Type 0} (host : Ghosts H) (m n : LoomMemory H) (s words : ℕ) → IsSound host m → IsSound host n → IsCalm m.pinned (core_of m.parts) (core_of n.parts) → ((t : ℕ) → place_of ((core_of m.parts).entries t).state ≡ None → place_of ((core_of n.parts).entries t).state ≡ None) → IsQuiet (loom_told host m) (loom_told host n) → n.buf ≡ m.buf
+    → 1 ≤ outside (core_of m.parts) s → place_of ((core_of m.parts).entries s).state ≡ None → IsRead (host.tells Work) m.buf (disk_of host m.disk.host.now m.disk.rest) ((core_of m.parts).entries s).name words
+    → IsRead (host.tells Work) n.buf (disk_of host n.disk.host.now n.disk.rest) ((core_of n.parts).entries s).name words
+unfolding loom_told
+still-read {H} host m n s words sound after calm leaves quiet same out leaf read =
+    let still = leaf-still m.pinned (core_of m.parts) (core_of n.parts) s sound.kept.parts.core after.kept.parts.core calm leaves out leaf in
+    read-then (host.tells Work) (core_of m.parts) (core_of n.parts) (disk_of host m.disk.host.now m.disk.rest) (disk_of host n.disk.host.now n.disk.rest) m.ledger.next n.ledger.next s words m.buf n.buf sound.kept.parts.core after.kept.parts.core still.was leaf still.used still.leaf still.name
+    (ap (λ (z : Told). z.heap) quiet.same) same read
 
 pub quiet-same : {H : Type 0} (host : Ghosts H) (m : LoomMemory H) → IsQuiet (loom_told host m) (loom_told host m)
 unfolding loom_told

@@ -112,15 +112,7 @@ gentle-trans {H} host a b c x y = record {
 pub gentle-from : {H : Type 0} (host : Ghosts H) (m x n : LoomMemory H) → x ≡ m → IsGentle host x n → IsGentle host m n
 gentle-from {H} host m x n same gentle = subst (λ (z : LoomMemory H). IsGentle host z n) same gentle
 
-pub gentle-then : {T H P : Type 0} (r : Result T MemFault) (host : Ghosts H) (m u n : LoomMemory H) → (P → IsGentle host m u) → OnOk r (IsGentle host u n) → OnOk r (P → IsGentle host m n)
-gentle-then {T} {H} {P} (Ok x) host m u n first last = λ p. gentle-trans host m u n (first p) last
-gentle-then {T} {H} {P} (Err f) host m u n first last = tt
-
 -- ---- how many came in
-
-pub count-then : {T : Type 0} (r : Result T MemFault) (a b d : ℕ) → b ≡ a → OnOk r (d ≡ counted b) → OnOk r (d ≡ counted a)
-count-then {T} (Ok x) a b d same is = is ∙ ap counted same
-count-then {T} (Err f) a b d same is = tt
 
 pub count-after : {T : Type 0} (P : Type 0) (r : Result T MemFault) (a b d : ℕ) → b ≡ a → OnOk r (d ≡ counted b) → OnOk r (P → d ≡ counted a)
 count-after {T} P (Ok x) a b d same is = λ p. is ∙ ap counted same

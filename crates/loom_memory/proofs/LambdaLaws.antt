@@ -10,6 +10,9 @@ use Rattle.long_names.specs.declared.object.Object.{Object}
 use Rattle.long_names.specs.Words.{IsValue, value_of, small_integer_of}
 use Rattle.long_names.specs.Objects.{field_of}
 use Rattle.long_names.specs.Counting.{counted}
+use Rattle.long_names.specs.Thin.{IsWhole}
+use Rattle.long_names.proofs.ThinLemmas.{holds-field}
+use Rattle.loom_memory.specs.Below.{IsBelow}
 use Rattle.long_names.specs.State.{set_register}
 use Rattle.long_names.specs.Access.{Access, Field, brought}
 use Rattle.loom_outside.specs.declared.outside.Host.{Ghosts}
@@ -105,6 +108,13 @@ lambda-told true c disk next s p to of i v regs told core at there is =
 pub lambda-value : (c : Core) (disk : Disk) (s p i : ℕ) (v : Value) → IsCore c → IsValued (held c disk) → IsAt c s p i 0 → slice_get (fields_there (disk (c.entries s).name)) i ≡ Some v → IsValue v
 lambda-value c disk s p i v core valued at there =
     valued (c.entries s).name i (object_at c disk (c.entries s) p) v (held-at c disk (c.entries s).name s p (core.found s (placed-used (c.entries s).state p at.place)) at.place) (field-lambda c disk s p i v at there)
+
+-- a name is below the next one
+pub lambda-below : (b : Bool) (c : Core) (disk : Disk) (next s p i : ℕ) (v : Value) (regs : ℕ → Value) (slots : ℕ → Option ℕ) → IsTrue b → IsCore c → IsWhole (heap_if b (held c disk) next) regs slots → IsAt c s p i 0 → slice_get (fields_there (disk (c.entries s).name)) i ≡ Some v → IsBelow next v
+lambda-below false c disk next s p i v regs slots told core whole at there = absurd (cc)
+lambda-below true c disk next s p i v regs slots told core whole at there = λ n is.
+    whole.below n (whole.closed (c.entries s).name (object_at c disk (c.entries s) p) n
+    (held-at c disk (c.entries s).name s p (core.found s (placed-used (c.entries s).state p at.place)) at.place) (holds-field (object_at c disk (c.entries s) p) i n (field-lambda c disk s p i v at there ∙ ap Some is)))
 
 -- ---- steps that are calm
 

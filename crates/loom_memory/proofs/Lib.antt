@@ -11,6 +11,7 @@ pub mod CalmLaws
 pub mod LoadLaws
 pub mod FieldLaws
 pub mod LambdaLaws
+pub mod BelowLaws
 pub mod CallLaws
 pub mod BringLaws
 pub mod ReadLaws
@@ -32,6 +33,7 @@ pub mod ResidentLaws
 pub mod LentLaws
 pub mod OwnLaws
 pub mod GentleLaws
+pub mod DamageLaws
 pub mod NewLaws
 pub mod MadeLaws
 pub mod MakingLaws

@@ -2,6 +2,8 @@ pub mod Numbers
 pub mod Cache
 pub mod Memory
 pub mod Calls
+pub mod Below
+pub mod Damage
 pub mod Stores
 pub mod Bodies
 pub mod Says

@@ -18,6 +18,8 @@ use Rattle.object_memory.specs.declared.fault.MemFault.{MemFault}
 use Rattle.object_memory.specs.declared.fault.MemFault.TheVariants.{WorkFault, Damaged}
 use Rattle.loom_outside.specs.declared.outside.DiskFault.{DiskFault}
 use Rattle.loom_outside.specs.declared.outside.DiskFault.TheVariants as fault
+use Rattle.object_record.specs.Buffer.{raw_of, HasRecord}
+use Rattle.object_record.specs.Objects.{object_in}
 use Rattle.object_table.specs.declared.entry.Entry.{Entry}
 use Rattle.object_table.specs.Entries.{is_short, place_of}
 use Rattle.object_table.specs.Table.{entries_of}
@@ -238,6 +240,13 @@ pub record IsSized (told : Bool) (x : Option Object) (words : ℕ) : Type 0 wher
   pub object : Object
   pub sized : 4 + body_words object.body ≡ words
   pub there : IsTrue told → x ≡ Some object
+
+-- the buffer has the record of a name, of an object of so many words, which is that of the disk where it is told
+pub record IsRead (told : Bool) (bytes : List ℕ) (disk : Disk) (name words : ℕ) : Type 0 where
+  pub record_there : HasRecord bytes
+  pub named : (raw_of bytes).name ≡ name
+  pub sized : 4 + body_words (object_in (raw_of bytes)).body ≡ words
+  pub there : IsTrue told → disk name ≡ Some (object_in (raw_of bytes))
 
 -- a call was refused, for every silent access whose register has this name
 abbrev pub IsRefusedAt : Told → Told → ℕ → MemFault → Type 0

@@ -8,6 +8,7 @@ ghost use Rattle.core_view.specs.Held.{fields_there};
 ghost use Rattle.core_view.specs.Steps.{IsAt};
 ghost use Rattle.leaf_lambda.specs.Parts.{core_of, spare_of, IsParts};
 
+use crate::below::is_below;
 use crate::bring::refusal_of;
 use crate::memory::LoomMemory;
 use core_segment::Addr;
@@ -19,7 +20,6 @@ use long_names::{Value, value_of};
 use loom_outside::{Host, Role};
 use object_memory::{MemFault, Reg};
 use object_table::Short;
-use purger::NOWHERE;
 use purger::eviction::read_copy;
 
 // The word of field i of a body. None where there is none, and where the field is left on the disk.
@@ -51,9 +51,11 @@ impl<'h, H: Host> LoomMemory<'h, H> {
     ghost use Rattle.object_memory.specs.Fit.{MayCall, StaysCallable};
     ghost use Rattle.disk_objects.specs.Function.{disk_of};
     ghost use Rattle.loom_memory.specs.Known.{IsNameable};
+    ghost use Rattle.loom_memory.specs.Below.{IsBelow};
+    ghost use Rattle.loom_memory.specs.Damage.{IsDamageOf, IsDamaged};
     ghost use Rattle.loom_memory.specs.Memory.{loom_told, loom_outside, loom_lender, word_in, IsSound, IsQuiet, IsSilent, IsTaken, IsRefused};
 
-    // The long word that a lambda means.
+    // The long word that a lambda means. A name is below the next one.
     fn read_lambda(&mut self, s: Short, at: Addr, i: u32) -> Result<u32, MemFault>
         requires sound { IsSound H.Host self.old }
         requires ready { IsReady (loom_told H.Host self.old) }
@@ -62,10 +64,13 @@ impl<'h, H: Host> LoomMemory<'h, H> {
         ensures quiet { OnOk result (IsQuiet (loom_told H.Host self.old) (loom_told H.Host self.new)) }
         ensures sound { KeepsSound result (IsSound H.Host self.new) }
         ensures long { IsTrue (H.tells Role.Work) → IfOk result (λ long. slice_get (fields_there (disk_of H.Host self.old.disk.host.now self.old.disk.rest ((core_of self.old.parts).entries s.0).name)) i ≡ Some (value_in long)) }
+        ensures below { IfOk result (λ long. IsBelow self.new.ledger.next (value_in long)) }
+        ensures named { OnOk result (((core_of self.new.parts).entries s.0).name ≡ ((core_of self.old.parts).entries s.0).name) }
         ensures spare { OnOk result (1 ≤ spare_of self.new.parts) }
         ensures regs { OnOk result (self.new.regs ≡ self.old.regs) }
         ensures at { OnOk result ((w : ℕ) × IsAt (core_of self.new.parts) s.0 at.place i w) }
         ensures mark { OnOk result (((core_of self.new.parts).entries s.0).flags.marked ≡ ((core_of self.old.parts).entries s.0).flags.marked) }
+        ensures damage { IfErr result (IsDamageOf self.new.disk.rest ((core_of self.old.parts).entries s.0).name) }
         ensures err { IfErr result (λ f. (a : Access) → IsSilent a → makes a ≡ 0 → IsRefused (loom_told H.Host self.old) (loom_told H.Host self.new) a f) }
         ensures peek { OnOk result (IsPeek H.Host self.old self.new) }
         ensures lender { self.new.disk.host.ghost_name ≡ self.old.disk.host.ghost_name }
@@ -75,10 +80,10 @@ impl<'h, H: Host> LoomMemory<'h, H> {
             Ok(()) => {
                 let e = self.parts.names.table.entry(s);
                 if e.flags.fresh {
-                    return Err(self.refuse(MemFault::Damaged {
-                        place: NOWHERE,
-                        name: e.name.get(),
-                    }));
+                    return Err(self.wrong(e.name));
+                }
+                if !is_below(self.buf.long_field(i), self.ledger.next) {
+                    return Err(self.wrong(e.name));
                 }
                 Ok(resolve(&mut self.parts, s, &mut self.buf, i))
             }
@@ -103,6 +108,7 @@ impl<'h, H: Host> LoomMemory<'h, H> {
         ensures used { is_short result ≡ true → is_used ((core_of self.new.parts).entries result).state ≡ true }
         ensures some { result ≢ 0 }
         ensures means { meant (core_of self.new.parts).entries [] 0 result ≡ v.now }
+        ensures ledger { self.new.ledger ≡ self.old.ledger }
         ensures steady { IsSteady H.Host self.old self.new }
         ensures lender { self.new.disk.host.ghost_name ≡ self.old.disk.host.ghost_name }
         ensures outside { loom_outside H.Host self.new ≡ loom_outside H.Host self.old }
@@ -137,9 +143,11 @@ impl<'h, H: Host> LoomMemory<'h, H> {
         ensures used { IfOk result (λ w. is_short w ≡ true → is_used ((core_of self.new.parts).entries w).state ≡ true) }
         ensures some { IfOk result (λ w. w ≢ 0) }
         ensures means { IsTrue (H.tells Role.Work) → IfOk result (λ w. brought (loom_told H.Host self.old).heap (loom_told H.Host self.old).regs (Field 0 of i) ≡ Some (meant (core_of self.new.parts).entries [] 0 w)) }
+        ensures below { IfOk result (λ w. IsBelow self.new.ledger.next (meant (core_of self.new.parts).entries [] 0 w)) }
         ensures regs { OnOk result (self.new.regs ≡ self.old.regs) }
         ensures at { OnOk result ((w : ℕ) × IsAt (core_of self.new.parts) s.0 at.place i w) }
         ensures mark { OnOk result (((core_of self.new.parts).entries s.0).flags.marked ≡ ((core_of self.old.parts).entries s.0).flags.marked) }
+        ensures damage { IfErr result (IsDamageOf self.new.disk.rest ((core_of self.old.parts).entries s.0).name) }
         ensures err { IfErr result (λ f. (a : Access) → IsSilent a → makes a ≡ 0 → IsRefused (loom_told H.Host self.old) (loom_told H.Host self.new) a f) }
         ensures peek { OnOk result (IsPeek H.Host self.old self.new) }
         ensures lender { self.new.disk.host.ghost_name ≡ self.old.disk.host.ghost_name }
@@ -148,10 +156,7 @@ impl<'h, H: Host> LoomMemory<'h, H> {
         match self.read_lambda(s, at, i) {
             Ok(long) => match value_of(long) {
                 Some(v) => Ok(self.word_for(&v)),
-                None => Err(self.refuse(MemFault::Damaged {
-                    place: NOWHERE,
-                    name: long,
-                })),
+                None => Err(self.amiss(s)),
             },
             Err(f) => Err(f),
         }
@@ -166,6 +171,7 @@ impl<'h, H: Host> LoomMemory<'h, H> {
         requires spare { 26 ≤ spare_of self.old.parts }
         ensures taken { OnOk result (IsTaken (loom_told H.Host self.old) (loom_told H.Host self.new) to of i) }
         ensures sound { KeepsSound result (IsSound H.Host self.new) }
+        ensures damage { IfErr result (IsDamageOf self.new.disk.rest ((core_of self.old.parts).entries s.0).name) }
         ensures err { IfErr result (IsRefused (loom_told H.Host self.old) (loom_told H.Host self.new) (Field to of i)) }
         ensures peek { OnOk result (IsPeek H.Host self.old self.new) }
         ensures lender { self.new.disk.host.ghost_name ≡ self.old.disk.host.ghost_name }
@@ -190,6 +196,7 @@ impl<'h, H: Host> LoomMemory<'h, H> {
         requires spare { 26 ≤ spare_of self.old.parts }
         ensures taken { OnOk result (IsTaken (loom_told H.Host self.old) (loom_told H.Host self.new) to of i) }
         ensures sound { KeepsSound result (IsSound H.Host self.new) }
+        ensures damage { IfErr result (IsDamageOf self.new.disk.rest ((core_of self.old.parts).entries s.0).name) }
         ensures err { IfErr result (IsRefused (loom_told H.Host self.old) (loom_told H.Host self.new) (Field to of i)) }
         ensures peek { OnOk result (IsPeek H.Host self.old self.new) }
         ensures lender { self.new.disk.host.ghost_name ≡ self.old.disk.host.ghost_name }
@@ -197,11 +204,7 @@ impl<'h, H: Host> LoomMemory<'h, H> {
     {
         let at = place_of_body(&self.parts, s);
         if i >= field_total(&self.parts, s, at) {
-            let name = self.parts.names.table.entry(s).name.get();
-            return Err(self.refuse(MemFault::Damaged {
-                place: NOWHERE,
-                name,
-            }));
+            return Err(self.amiss(s));
         }
         let w = field_word(&self.parts, s, at, i);
         if w == 0 {
@@ -217,6 +220,7 @@ impl<'h, H: Host> LoomMemory<'h, H> {
         requires may { MayDo (loom_told H.Host self.old) (Field to of i) }
         ensures access { Accessed (loom_told H.Host self.old) (loom_told H.Host self.new) (Field to of i) (λ _. Nothing) result }
         ensures searched { OnOk result (IsSearched H.Host self.old self.new (name_at ((loom_told H.Host self.old).regs of))) }
+        ensures damage { IsDamaged self.old self.new (name_at ((loom_told H.Host self.old).regs of)) result }
         ensures fit { StaysCallable (IsSound H.Host) (loom_told H.Host) loom_lender (loom_outside H.Host) self.old self.new result }
     {
         match self.load_with_room(of) {
@@ -232,6 +236,7 @@ impl<'h, H: Host> LoomMemory<'h, H> {
         ensures access { Accessed (loom_told H.Host self.old) (loom_told H.Host self.new) (Field to of i) (λ _. Nothing) result }
         ensures own { IsAtHand self.old (name_at ((loom_told H.Host self.old).regs of)) i → IsSparing H.Host self.old self.new (name_at ((loom_told H.Host self.old).regs of)) result }
         ensures searched { OnOk result (IsSearched H.Host self.old self.new (name_at ((loom_told H.Host self.old).regs of))) }
+        ensures damage { IsDamaged self.old self.new (name_at ((loom_told H.Host self.old).regs of)) result }
         ensures fit { StaysCallable (IsSound H.Host) (loom_told H.Host) loom_lender (loom_outside H.Host) self.old self.new result }
     {
         match self.here(of) {

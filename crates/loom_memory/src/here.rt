@@ -33,6 +33,8 @@ impl<'h, H: Host> LoomMemory<'h, H> {
     ghost use Rattle.loom_memory.specs.Calls.{IsLoaded};
     ghost use Rattle.loom_memory.specs.Residents.{is_resident, words_resident};
     ghost use Rattle.loom_memory.specs.Gentle.{IsGentle};
+    ghost use Rattle.loom_memory.specs.Below.{IsTested};
+    ghost use Rattle.loom_memory.specs.Damage.{IsDamaged};
     ghost use Rattle.loom_memory.specs.Own.{IsSparing};
     ghost use Rattle.loom_memory.specs.Memory.{loom_told, loom_outside, word_in, IsSound, IsQuiet, IsCalm, IsSilent};
 
@@ -50,6 +52,7 @@ impl<'h, H: Host> LoomMemory<'h, H> {
         ensures room { (words ≤ largest_of self.new.parts.segment) × (SPARE ≤ spare_of self.new.parts) }
         ensures gentle { IsGentle H.Host self.old self.new }
         ensures idle { words ≡ 0 → self.new ≡ self.old }
+        ensures buf { self.new.buf ≡ self.old.buf }
         ensures lender { self.new.disk.host.ghost_name ≡ self.old.disk.host.ghost_name }
         ensures outside { loom_outside H.Host self.new ≡ loom_outside H.Host self.old }
     {
@@ -80,7 +83,7 @@ impl<'h, H: Host> LoomMemory<'h, H> {
         None
     }
 
-    // The object of a register is in the core, or is brought there.
+    // The object of a register is in the core, or is brought there from its record, in which each name is below the next one.
     pub(crate) fn load(&mut self, of: Reg) -> Result<Short, MemFault>
         requires sound { IsSound H.Host self.old }
         requires ready { IsReady (loom_told H.Host self.old) }
@@ -92,6 +95,8 @@ impl<'h, H: Host> LoomMemory<'h, H> {
         ensures core { OnOk result ((a : Access) → target_of a ≡ Some of → makes a ≡ 0 → IfBounds (loom_told H.Host self.old).bounds (HasCore (loom_told H.Host self.old) a)) }
         ensures idle { IsTrue (is_resident self.old (name_at ((loom_told H.Host self.old).regs of))) → self.new ≡ self.old }
         ensures own { IsSparing H.Host self.old self.new (name_at ((loom_told H.Host self.old).regs of)) result }
+        ensures damage { IsDamaged self.old self.new (name_at ((loom_told H.Host self.old).regs of)) result }
+        ensures tested { OnOk result (is_resident self.old (name_at ((loom_told H.Host self.old).regs of)) ≡ false → IsTested self.new (name_at ((loom_told H.Host self.old).regs of))) }
         ensures err { IfErr result (λ f. (a : Access) → target_of a ≡ Some of → makes a ≡ 0 → IsSilent a → IsLater (loom_told H.Host self.old) (loom_told H.Host self.new) × Refuses (loom_told H.Host self.old) (loom_told H.Host self.new) (Does a) f) }
         ensures lender { self.new.disk.host.ghost_name ≡ self.old.disk.host.ghost_name }
         ensures outside { loom_outside H.Host self.new ≡ loom_outside H.Host self.old }

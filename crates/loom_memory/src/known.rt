@@ -28,6 +28,7 @@ impl<'h, H: Host> LoomMemory<'h, H> {
     ghost use Rattle.purger.specs.Purge.{HasRoom};
     ghost use Rattle.loom_memory.specs.Gentle.{IsSteady};
     ghost use Rattle.loom_memory.specs.Own.{IsSparing};
+    ghost use Rattle.loom_memory.specs.Damage.{IsDamaged};
     ghost use Rattle.loom_memory.specs.Known.{IsEntryOf, IsNameable, IsSpent, IsNeedBeside, IsRefusedOf, IsNaming};
 
     // The entry of a name that may get one, which it gets where one is free.
@@ -173,6 +174,7 @@ impl<'h, H: Host> LoomMemory<'h, H> {
         ensures name { OnOk result (IsRef ((loom_told H.Host self.new).regs to)) }
         ensures number { OnOk result (IsSome (int_of ((loom_told H.Host self.old).regs of)) → (loom_told H.Host self.new).regs to ≡ Ref SMALL_INTEGER) }
         ensures own { IsRef ((loom_told H.Host self.old).regs of) → IsSparing H.Host self.old self.new (name_at ((loom_told H.Host self.old).regs of)) result }
+        ensures damage { IsRef ((loom_told H.Host self.old).regs of) → IsDamaged self.old self.new (name_at ((loom_told H.Host self.old).regs of)) result }
         ensures steady { OnOk result (IsSome (int_of ((loom_told H.Host self.old).regs of)) → HasRoom self.old.parts 0 SPARE → IsSteady H.Host self.old self.new) }
         ensures fit { StaysCallable (IsSound H.Host) (loom_told H.Host) loom_lender (loom_outside H.Host) self.old self.new result }
     {

@@ -8,7 +8,8 @@
 //! there is no room for eight more, so that a making before the eighth frees nothing (`specs/Numbers.antt`).
 //!
 //! `load` is the step that each access begins with. An object in the core is found with nothing done (`here`); for a leaf room is made
-//! beside the pinned objects, and it is brought in. Where the row of the access doesn't fit it answers CoreFull with that row's need
+//! beside the pinned objects, and it is brought in from its record, which is read once: each name in it is below the next one, or the answer
+//! is Damaged (`holds_below`). Where the row of the access doesn't fit it answers CoreFull with that row's need
 //! (`full`), said of every access that names the object and is silent (`err`). Nothing of what is told changes meanwhile but counts of
 //! faults, and that all marks may be gone (`IsQuiet`).
 //!
@@ -22,6 +23,7 @@
 #![tactic(auto)]
 
 pub mod beginning;
+pub mod below;
 mod bodies;
 pub mod bring;
 pub mod cache;

@@ -2,6 +2,8 @@
 ghost use Rattle.std.specs.Prelude.{◌≡◌, ◌≢◌, ◌+◌, ◌≤◌, ◌<◌, ◌^◌, ◌||◌, if◌then◌else◌, ℕ, Some, None, true, false, IsTrue, OnOk, IfOk, IfErr, length};
 ghost use Rattle.long_names.specs.declared.object.Object.{Object as Item};
 ghost use Rattle.long_names.specs.Objects.{body_words};
+ghost use Rattle.object_record.specs.Buffer.{raw_of, HasRecord};
+ghost use Rattle.object_record.specs.Objects.{object_in};
 ghost use Rattle.object_table.specs.Entries.{is_short, is_used, place_of};
 ghost use Rattle.object_table.specs.Table.{entry_at, entries_of, bound_of, free_of};
 ghost use Rattle.core_segment.specs.Segment.{largest_of, size_of, free_of as words_free};
@@ -12,21 +14,22 @@ ghost use Rattle.object_table.specs.Entries.{sum_below, used_by};
 ghost use Rattle.core_view.specs.Room.{over_three, room_for, entries_for};
 ghost use Rattle.loom_memory.specs.declared.load.TheConstants.{SPARE_ENTRIES as SPARE};
 
-use crate::bring::{bring_in, refusal_of};
+use crate::below::holds_below;
+use crate::bring::refusal_of;
 use crate::memory::LoomMemory;
 use core_segment::Addr;
 use core_segment::laws::chunks_never_overlap;
-use leaf_lambda::Parts;
 use leaf_lambda::bodies::words_of;
 use leaf_lambda::leaving::{body_total, field_total};
+use leaf_lambda::{Parts, translate_in};
 use long_names::{ENTRIES_OF_A_CALL, Name};
 use loom_outside::{Host, Role};
 use object_memory::{MemFault, Need, Reg};
 use object_table::Short;
 use object_table::laws::entries_are_counted;
+use purger::RoomFault;
 use purger::eviction::fetch;
 use purger::room::has_room;
-use purger::{NOWHERE, RoomFault};
 
 // How many entries a call asks for before it begins: those of its row beside the pinned objects, `ENTRIES_OF_A_CALL`, but for the 24 of the registers.
 pub(crate) const SPARE_ENTRIES: u16 = 27;
@@ -116,66 +119,65 @@ impl<'h, H: Host> LoomMemory<'h, H> {
     ghost use Rattle.object_memory.specs.Contract.{ForBounds};
     ghost use Rattle.loom_memory.specs.Residents.{is_resident, words_resident};
     ghost use Rattle.loom_memory.specs.Gentle.{IsGentle};
-    ghost use Rattle.loom_memory.specs.Memory.{loom_told, loom_outside, word_in, words_in_row, IsNeed, IsSized, IsSound, IsQuiet, IsCalm, IsSilent, IsRefused, IsRefusedAt};
+    ghost use Rattle.loom_memory.specs.Below.{IsTested};
+    ghost use Rattle.loom_memory.specs.Damage.{IsDamageOf, IsDamaged};
+    ghost use Rattle.loom_memory.specs.Memory.{loom_told, loom_outside, word_in, words_in_row, IsNeed, IsRead, IsSized, IsSound, IsQuiet, IsCalm, IsSilent, IsRefused, IsRefusedAt};
 
-    // The object of a leaf comes in, whose words have room in one chunk.
-    pub(crate) fn come(&mut self, s: Short, words: u32) -> Result<(), MemFault>
+    // The object of a leaf comes in from its record in the buffer. Its words have room in one chunk.
+    fn come(&mut self, s: Short)
         requires sound { IsSound H.Host self.old }
-        requires ready { IsReady (loom_told H.Host self.old) }
         requires leaf { (is_used ((core_of self.old.parts).entries s.0).state ≡ true) × (place_of ((core_of self.old.parts).entries s.0).state ≡ None) }
-        requires room { words ≤ largest_of self.old.parts.segment }
+        requires record { HasRecord self.old.buf }
+        requires there { IsTrue (H.tells Role.Work) → disk_of H.Host self.old.disk.host.now self.old.disk.rest ((core_of self.old.parts).entries s.0).name ≡ Some (object_in (raw_of self.old.buf)) }
+        requires room { 4 + body_words (object_in (raw_of self.old.buf)).body ≤ largest_of self.old.parts.segment }
         requires spare { SPARE ≤ spare_of self.old.parts }
-        requires held { IsTrue (H.tells Role.Work) → (o : Item) × (disk_of H.Host self.old.disk.host.now self.old.disk.rest ((core_of self.old.parts).entries s.0).name ≡ Some o) × (4 + body_words o.body ≤ words) }
-        ensures quiet { OnOk result (IsQuiet (loom_told H.Host self.old) (loom_told H.Host self.new)) }
-        ensures sound { KeepsSound result (IsSound H.Host self.new) }
-        ensures regs { OnOk result (self.new.regs ≡ self.old.regs) }
-        ensures there { OnOk result ((at : ℕ) × (place_of ((core_of self.new.parts).entries s.0).state ≡ Some at)) }
-        ensures spare { OnOk result (26 ≤ spare_of self.new.parts) }
-        ensures counted { OnOk result (fetched self.new ≡ counted (fetched self.old)) }
-        ensures gentle { OnOk result (IsGentle H.Host self.old self.new) }
-        ensures err { IfErr result (λ f. (a : Access) → IsSilent a → makes a ≡ 0 → IsRefused (loom_told H.Host self.old) (loom_told H.Host self.new) a f) }
+        ensures quiet { IsQuiet (loom_told H.Host self.old) (loom_told H.Host self.new) }
+        ensures sound { IsSound H.Host self.new }
+        ensures regs { self.new.regs ≡ self.old.regs }
+        ensures there { (at : ℕ) × (place_of ((core_of self.new.parts).entries s.0).state ≡ Some at) }
+        ensures spare { 26 ≤ spare_of self.new.parts }
+        ensures counted { fetched self.new ≡ counted (fetched self.old) }
+        ensures buf { self.new.buf ≡ self.old.buf }
+        ensures next { self.new.ledger.next ≡ self.old.ledger.next }
+        ensures gentle { IsGentle H.Host self.old self.new }
         ensures lender { self.new.disk.host.ghost_name ≡ self.old.disk.host.ghost_name }
         ensures outside { loom_outside H.Host self.new ≡ loom_outside H.Host self.old }
     {
-        match bring_in(&mut self.parts, &mut self.disk, &mut self.buf, s, words) {
-            Ok(()) => {
-                self.ledger.count_fetch();
-                Ok(())
-            }
-            Err(f) => {
-                let f = refusal_of(f);
-                Err(self.refuse(f))
-            }
-        }
+        translate_in(&mut self.parts, s, &mut self.buf);
+        self.ledger.count_fetch();
     }
 
-    // The words that the object of a name takes, from its record, which stays in the buffer.
+    // The words that the object of a name takes, from its record, which stays in the buffer. Each name in it is below the next one.
     pub(crate) fn look_up(&mut self, name: Name) -> Result<u32, MemFault>
         requires sound { IsSound H.Host self.old }
         requires ready { IsReady (loom_told H.Host self.old) }
         requires there { IsTrue (H.tells Role.Work) → disk_of H.Host self.old.disk.host.now self.old.disk.rest name ≡ None → ⊥ }
+        requires own { IsTrue (H.tells Role.Work) → (loom_told H.Host self.old).heap.at name ≡ disk_of H.Host self.old.disk.host.now self.old.disk.rest name }
         ensures quiet { OnOk result (IsQuiet (loom_told H.Host self.old) (loom_told H.Host self.new)) }
         ensures sound { KeepsSound result (IsSound H.Host self.new) }
         ensures parts { OnOk result (self.new.parts ≡ self.old.parts) }
         ensures regs { OnOk result (self.new.regs ≡ self.old.regs) }
         ensures pins { OnOk result (self.new.pinned ≡ self.old.pinned) }
+        ensures record { IfOk result (λ words. IsRead (H.tells Role.Work) self.new.buf (disk_of H.Host self.new.disk.host.now self.new.disk.rest) name words) }
+        ensures tested { OnOk result (IsTested self.new name) }
         ensures sized { IfOk result (λ words. IsSized (H.tells Role.Work) (disk_of H.Host self.new.disk.host.now self.new.disk.rest name) words) }
         ensures small { IfOk result (λ words. words < 2 ^ 18) }
         ensures ledger { OnOk result (self.new.ledger ≡ self.old.ledger) }
         ensures gentle { OnOk result (IsGentle H.Host self.old self.new) }
+        ensures damage { IfErr result (IsDamageOf self.new.disk.rest name) }
         ensures err { IfErr result (λ f. (a : Access) → IsSilent a → makes a ≡ 0 → IsRefused (loom_told H.Host self.old) (loom_told H.Host self.new) a f) }
         ensures lender { self.new.disk.host.ghost_name ≡ self.old.disk.host.ghost_name }
         ensures outside { loom_outside H.Host self.new ≡ loom_outside H.Host self.old }
     {
         match fetch(&mut self.disk, name, &mut self.buf) {
             Ok(held) => {
-                if held {
-                    return Ok(words_of(&self.buf) + 4);
+                if !held {
+                    return Err(self.wrong(name));
                 }
-                Err(self.refuse(MemFault::Damaged {
-                    place: NOWHERE,
-                    name: name.get(),
-                }))
+                if !holds_below(&self.buf, self.ledger.next) {
+                    return Err(self.wrong(name));
+                }
+                Ok(words_of(&self.buf) + 4)
             }
             Err(f) => {
                 let f = refusal_of(f);
@@ -195,10 +197,13 @@ impl<'h, H: Host> LoomMemory<'h, H> {
         ensures parts { OnOk result (self.new.parts ≡ self.old.parts) }
         ensures regs { OnOk result (self.new.regs ≡ self.old.regs) }
         ensures pins { OnOk result (self.new.pinned ≡ self.old.pinned) }
+        ensures record { IfOk result (λ words. IsRead (H.tells Role.Work) self.new.buf (disk_of H.Host self.new.disk.host.now self.new.disk.rest) ((core_of self.new.parts).entries s.0).name words) }
+        ensures tested { OnOk result (IsTested self.new ((core_of self.old.parts).entries s.0).name) }
         ensures sized { IfOk result (λ words. IsSized (H.tells Role.Work) (disk_of H.Host self.new.disk.host.now self.new.disk.rest ((core_of self.new.parts).entries s.0).name) words) }
         ensures small { IfOk result (λ words. words < 2 ^ 18) }
         ensures ledger { OnOk result (self.new.ledger ≡ self.old.ledger) }
         ensures gentle { OnOk result (IsGentle H.Host self.old self.new) }
+        ensures damage { IfErr result (IsDamageOf self.new.disk.rest ((core_of self.old.parts).entries s.0).name) }
         ensures err { IfErr result (λ f. (a : Access) → IsSilent a → makes a ≡ 0 → IsRefused (loom_told H.Host self.old) (loom_told H.Host self.new) a f) }
         ensures lender { self.new.disk.host.ghost_name ≡ self.old.disk.host.ghost_name }
         ensures outside { loom_outside H.Host self.new ≡ loom_outside H.Host self.old }
@@ -207,7 +212,7 @@ impl<'h, H: Host> LoomMemory<'h, H> {
         self.look_up(name)
     }
 
-    // `room`, whose want is no refusal.
+    // `room`, whose want is no refusal. The buffer keeps its record.
     pub(crate) fn clear(&mut self, words: u32) -> Result<bool, MemFault>
         requires sound { IsSound H.Host self.old }
         requires ready { IsReady (loom_told H.Host self.old) }
@@ -222,6 +227,8 @@ impl<'h, H: Host> LoomMemory<'h, H> {
         ensures ledger { OnOk result (self.new.ledger ≡ self.old.ledger) }
         ensures gentle { OnOk result (HasRoom self.old.parts words SPARE → IsGentle H.Host self.old self.new) }
         ensures idle { OnOk result (HasRoom self.old.parts words SPARE → words ≡ 0 → self.new ≡ self.old) }
+        ensures buf { self.new.buf ≡ self.old.buf }
+        ensures sure { IfErr result (λ f. HasRoom self.old.parts words SPARE → ⊥) }
         ensures err { IfErr result (λ f. (a : Access) → IsSilent a → makes a ≡ 0 → IsRefused (loom_told H.Host self.old) (loom_told H.Host self.new) a f) }
         ensures lender { self.new.disk.host.ghost_name ≡ self.old.disk.host.ghost_name }
         ensures outside { loom_outside H.Host self.new ≡ loom_outside H.Host self.old }
@@ -274,6 +281,8 @@ impl<'h, H: Host> LoomMemory<'h, H> {
         requires small { words < 2 ^ 18 }
         requires sized { IsTrue (H.tells Role.Work) → words_at (loom_told H.Host self.old).heap ((core_of self.old.parts).entries s.0).name ≡ words }
         requires unfit { (need : Wanted) → IsNeed (core_of self.old.parts) self.old.pinned s.0 words need → Fits self.old.ledger.core self.old.ledger.entries need.words need.entries → ⊥ }
+        ensures is { (need : Wanted) × (result ≡ MemFault.CoreFull need) }
+        ensures buf { self.new.buf ≡ self.old.buf }
         ensures sound { IsSound H.Host self.new }
         ensures err { IsRefusedAt (loom_told H.Host self.old) (loom_told H.Host self.new) ((core_of self.old.parts).entries s.0).name result }
         ensures lender { self.new.disk.host.ghost_name ≡ self.old.disk.host.ghost_name }
@@ -291,6 +300,7 @@ impl<'h, H: Host> LoomMemory<'h, H> {
         requires has { IsTrue (H.tells Role.Work) → Has (loom_told H.Host self.old).heap ((core_of self.old.parts).entries s.0).name }
         requires short { IsShort self.old.parts self.old.pinned.a self.old.pinned.b self.old.pinned.d 0 SPARE }
         ensures sound { LeavesAll result (IsSound H.Host self.new) }
+        ensures damage { IsDamageOf self.new.disk.rest ((core_of self.old.parts).entries s.0).name result }
         ensures err { IsRefusedAt (loom_told H.Host self.old) (loom_told H.Host self.new) ((core_of self.old.parts).entries s.0).name result }
         ensures lender { self.new.disk.host.ghost_name ≡ self.old.disk.host.ghost_name }
         ensures outside { loom_outside H.Host self.new ≡ loom_outside H.Host self.old }
@@ -306,13 +316,13 @@ impl<'h, H: Host> LoomMemory<'h, H> {
         }
     }
 
-    // The object of a leaf comes in, whose record was read and has so many words.
+    // The object of a leaf comes in, whose record is in the buffer and has so many words.
     fn bring_leaf(&mut self, s: Short, words: u32) -> Result<(), MemFault>
         requires sound { IsSound H.Host self.old }
         requires ready { IsReady (loom_told H.Host self.old) }
         requires out { 1 ≤ outside (core_of self.old.parts) s.0 }
         requires leaf { place_of ((core_of self.old.parts).entries s.0).state ≡ None }
-        requires sized { IsSized (H.tells Role.Work) (disk_of H.Host self.old.disk.host.now self.old.disk.rest ((core_of self.old.parts).entries s.0).name) words }
+        requires record { IsRead (H.tells Role.Work) self.old.buf (disk_of H.Host self.old.disk.host.now self.old.disk.rest) ((core_of self.old.parts).entries s.0).name words }
         requires small { words < 2 ^ 18 }
         ensures quiet { OnOk result (IsQuiet (loom_told H.Host self.old) (loom_told H.Host self.new)) }
         ensures sound { KeepsSound result (IsSound H.Host self.new) }
@@ -320,6 +330,9 @@ impl<'h, H: Host> LoomMemory<'h, H> {
         ensures there { OnOk result ((at : ℕ) × (place_of ((core_of self.new.parts).entries s.0).state ≡ Some at)) }
         ensures spare { OnOk result (26 ≤ spare_of self.new.parts) }
         ensures counted { OnOk result (fetched self.new ≡ counted (fetched self.old)) }
+        ensures buf { self.new.buf ≡ self.old.buf }
+        ensures damage { IfErr result (λ f. HasRoom self.old.parts words SPARE → IsDamageOf self.new.disk.rest ((core_of self.old.parts).entries s.0).name f) }
+        ensures next { OnOk result (self.new.ledger.next ≡ self.old.ledger.next) }
         ensures gentle { OnOk result (HasRoom self.old.parts words SPARE → IsGentle H.Host self.old self.new) }
         ensures err { IfErr result (IsRefusedAt (loom_told H.Host self.old) (loom_told H.Host self.new) ((core_of self.old.parts).entries s.0).name) }
         ensures lender { self.new.disk.host.ghost_name ≡ self.old.disk.host.ghost_name }
@@ -331,7 +344,8 @@ impl<'h, H: Host> LoomMemory<'h, H> {
         match self.clear(words) {
             Ok(enough) => {
                 if enough {
-                    return self.come(s, words);
+                    self.come(s);
+                    return Ok(());
                 }
                 entries_are_counted(&self.parts.names.table);
                 chunks_never_overlap(&self.parts.segment);
@@ -355,6 +369,8 @@ impl<'h, H: Host> LoomMemory<'h, H> {
         ensures spare { OnOk result (26 ≤ spare_of self.new.parts) }
         ensures idle { OnOk result ((at : ℕ) → place_of ((core_of self.old.parts).entries s.0).state ≡ Some at → self.new ≡ self.old) }
         ensures counted { OnOk result (place_of ((core_of self.old.parts).entries s.0).state ≡ None → fetched self.new ≡ counted (fetched self.old)) }
+        ensures damage { IsDamaged self.old self.new ((core_of self.old.parts).entries s.0).name result }
+        ensures tested { OnOk result (place_of ((core_of self.old.parts).entries s.0).state ≡ None → IsTested self.new ((core_of self.old.parts).entries s.0).name) }
         ensures gentle { OnOk result (IsTrue (H.tells Role.Work) → place_of ((core_of self.old.parts).entries s.0).state ≡ None → HasRoom self.old.parts (words_at (loom_told H.Host self.old).heap ((core_of self.old.parts).entries s.0).name) SPARE → IsGentle H.Host self.old self.new) }
         ensures err { IfErr result (IsRefusedAt (loom_told H.Host self.old) (loom_told H.Host self.new) ((core_of self.old.parts).entries s.0).name) }
         ensures lender { self.new.disk.host.ghost_name ≡ self.old.disk.host.ghost_name }
@@ -384,6 +400,8 @@ impl<'h, H: Host> LoomMemory<'h, H> {
         ensures bounded { OnOk result (ForBounds (loom_told H.Host self.new).bounds (λ b. words_resident self.new ≤ b.core)) }
         ensures idle { OnOk result ((at : ℕ) → place_of ((core_of self.old.parts).entries (word_in self.old.regs of)).state ≡ Some at → HasRoom self.old.parts 0 SPARE → self.new ≡ self.old) }
         ensures counted { OnOk result (place_of ((core_of self.old.parts).entries (word_in self.old.regs of)).state ≡ None → fetched self.new ≡ counted (fetched self.old)) }
+        ensures damage { IsDamaged self.old self.new (name_at ((loom_told H.Host self.old).regs of)) result }
+        ensures tested { OnOk result (place_of ((core_of self.old.parts).entries (word_in self.old.regs of)).state ≡ None → IsTested self.new (name_at ((loom_told H.Host self.old).regs of))) }
         ensures gentle { OnOk result (IsTrue (H.tells Role.Work) → place_of ((core_of self.old.parts).entries (word_in self.old.regs of)).state ≡ None → HasRoom self.old.parts (words_at (loom_told H.Host self.old).heap (name_at ((loom_told H.Host self.old).regs of))) SPARE → IsGentle H.Host self.old self.new) }
         ensures err { IfErr result (λ f. (a : Access) → target_of a ≡ Some of → makes a ≡ 0 → IsSilent a → IsLater (loom_told H.Host self.old) (loom_told H.Host self.new) × Refuses (loom_told H.Host self.old) (loom_told H.Host self.new) (Does a) f) }
         ensures lender { self.new.disk.host.ghost_name ≡ self.old.disk.host.ghost_name }

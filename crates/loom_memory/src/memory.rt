@@ -13,11 +13,12 @@ use crate::ledger::Ledger;
 use disk_objects::DiskObjects;
 use leaf_lambda::Parts;
 use leaf_lambda::fields::{drop_word, hold_word};
+use long_names::Name;
 use loom_outside::Host;
 use object_memory::{MemFault, Reg};
 use object_record::RecordBuf;
 use object_table::Short;
-use purger::{Pinned, RoomFault, make_room};
+use purger::{NOWHERE, Pinned, RoomFault, make_room};
 
 /// Objects on a disk, and a core of those that are at hand. Registers and slots hold short words.
 #[derive(Drop)]
@@ -62,10 +63,10 @@ impl<'h, H: Host> LoomMemory<'h, H> {
     ghost use Rattle.long_names.specs.State.{IsRef};
     ghost use Rattle.long_names.specs.Counting.{counted};
     ghost use Rattle.long_names.specs.Access.{Access, target_of};
-    ghost use Rattle.object_memory.specs.Told.{IsReady};
+    ghost use Rattle.object_memory.specs.Told.{Told, IsReady};
     ghost use Rattle.object_memory.specs.Plain.{refused};
     ghost use Rattle.object_memory.specs.Contract.{Does, IsLater, KeepsSound, Refuses, makes};
-    ghost use Rattle.loom_memory.specs.Memory.{loom_told, loom_outside, word_in, IsSound, IsQuiet, IsCalm, IsSilent};
+    ghost use Rattle.loom_memory.specs.Memory.{loom_told, loom_outside, word_in, IsSound, IsQuiet, IsCalm, IsSilent, IsRefused};
 
     // Makes room for so many words and entries, beside the objects of the slots.
     pub(crate) fn room(&mut self, words: u32, entries: u16) -> Result<(), RoomFault>
@@ -82,6 +83,7 @@ impl<'h, H: Host> LoomMemory<'h, H> {
         ensures leaves { (t : ℕ) → place_of ((core_of self.old.parts).entries t).state ≡ None → place_of ((core_of self.new.parts).entries t).state ≡ None }
         ensures needless { HasRoom self.old.parts words entries → IsResting self.old self.new }
         ensures cached { HasRoom self.old.parts words entries → KeepsCache H.Host self.old self.new }
+        ensures buf { self.new.buf ≡ self.old.buf }
         ensures work { IsWorkOnly H.Host self.old.disk.host.now self.new.disk.host.now }
         ensures limit { disk_room self.new.disk.rest ≡ disk_room self.old.disk.rest }
         ensures lender { self.new.disk.host.ghost_name ≡ self.old.disk.host.ghost_name }
@@ -104,10 +106,25 @@ impl<'h, H: Host> LoomMemory<'h, H> {
         ensures sound { IsSound H.Host self.old → IsSound H.Host self.new }
         ensures kept { (self.new.disk ≡ self.old.disk) × (self.new.ledger.held ≡ self.old.ledger.held) }
         ensures later { (loom_told H.Host self.old).refusals ≤ counted (loom_told H.Host self.old).refusals }
+        ensures buf { self.new.buf ≡ self.old.buf }
+        ensures rest { self.new.disk.rest ≡ self.old.disk.rest }
         ensures lender { self.new.disk.host.ghost_name ≡ self.old.disk.host.ghost_name }
         ensures outside { loom_outside H.Host self.new ≡ loom_outside H.Host self.old }
     {
         self.ledger.refuse(f);
         f
+    }
+
+    // Refuses: what was read of a name can't be so. Where the heap is told that can't be.
+    pub(crate) fn wrong(&mut self, name: Name) -> MemFault
+        ensures is { result ≡ MemFault.Damaged NOWHERE name }
+        ensures err { (t : Told) (a : Access) → IsQuiet t (loom_told H.Host self.old) → IsReady t → IsSilent a → makes a ≡ 0 → (IsTrue t.tells → ⊥) → IsRefused t (loom_told H.Host self.new) a result }
+        ensures lender { self.new.disk.host.ghost_name ≡ self.old.disk.host.ghost_name }
+        ensures outside { loom_outside H.Host self.new ≡ loom_outside H.Host self.old }
+    {
+        self.refuse(MemFault::Damaged {
+            place: NOWHERE,
+            name: name.get(),
+        })
     }
 }

@@ -3,6 +3,7 @@ ghost use Rattle.std.specs.Prelude.{◌≡◌, ◌+◌, ◌<◌, ℕ, Some, true
 ghost use Rattle.long_names.specs.declared.limits.TheConstants.{MOST_FIELDS};
 ghost use Rattle.object_table.specs.Entries.{is_used};
 ghost use Rattle.leaf_lambda.specs.Parts.{core_of};
+ghost use Rattle.purger.specs.declared.eviction.TheConstants.{NOWHERE};
 
 use crate::bodies::{byte_at, bytes_into, header_at, word_at, words_into};
 use crate::memory::LoomMemory;
@@ -10,7 +11,6 @@ use long_names::Kind;
 use loom_outside::Host;
 use object_memory::{MemFault, Reg};
 use object_table::Short;
-use purger::NOWHERE;
 
 impl<'h, H: Host> LoomMemory<'h, H> {
     ghost use Rattle.long_names.specs.Words.{IsSmallInteger, literal_count};
@@ -22,21 +22,20 @@ impl<'h, H: Host> LoomMemory<'h, H> {
     ghost use Rattle.object_memory.specs.Fit.{MayCall, StaysCallable};
     ghost use Rattle.loom_memory.specs.Memory.{loom_told, loom_outside, loom_lender, IsSound, IsQuiet, IsSilent, IsRefused};
     ghost use Rattle.loom_memory.specs.Own.{IsSparing};
+    ghost use Rattle.loom_memory.specs.Damage.{IsDamaged};
 
     // Refuses: the object of an entry hasn't what an access asks for. Where the heap is told that can't be.
     pub(crate) fn amiss(&mut self, s: Short) -> MemFault
         requires sound { IsSound H.Host self.old }
         requires used { is_used ((core_of self.old.parts).entries s.0).state ≡ true }
+        ensures is { result ≡ MemFault.Damaged NOWHERE ((core_of self.old.parts).entries s.0).name }
         ensures sound { LeavesAll result (IsSound H.Host self.new) }
         ensures err { (t : Told) (a : Access) → IsQuiet t (loom_told H.Host self.old) → IsReady t → IsSilent a → makes a ≡ 0 → (IsTrue t.tells → ⊥) → IsRefused t (loom_told H.Host self.new) a result }
         ensures lender { self.new.disk.host.ghost_name ≡ self.old.disk.host.ghost_name }
         ensures outside { loom_outside H.Host self.new ≡ loom_outside H.Host self.old }
     {
-        let name = self.parts.names.table.entry(s).name.get();
-        self.refuse(MemFault::Damaged {
-            place: NOWHERE,
-            name,
-        })
+        let name = self.parts.names.table.entry(s).name;
+        self.wrong(name)
     }
 
     // The class of an object comes into a register.
@@ -47,6 +46,7 @@ impl<'h, H: Host> LoomMemory<'h, H> {
         ensures access { Accessed (loom_told H.Host self.old) (loom_told H.Host self.new) (Class to of) (λ _. Nothing) result }
         ensures name { OnOk result (IsRef ((loom_told H.Host self.new).regs to)) }
         ensures own { IsSparing H.Host self.old self.new (name_at ((loom_told H.Host self.old).regs of)) result }
+        ensures damage { IsDamaged self.old self.new (name_at ((loom_told H.Host self.old).regs of)) result }
         ensures fit { StaysCallable (IsSound H.Host) (loom_told H.Host) loom_lender (loom_outside H.Host) self.old self.new result }
     {
         match self.load(of) {
@@ -65,6 +65,7 @@ impl<'h, H: Host> LoomMemory<'h, H> {
         requires may { MayDo (loom_told H.Host self.old) (KindOf of) }
         ensures access { Accessed (loom_told H.Host self.old) (loom_told H.Host self.new) (KindOf of) OfKind result }
         ensures own { IsSparing H.Host self.old self.new (name_at ((loom_told H.Host self.old).regs of)) result }
+        ensures damage { IsDamaged self.old self.new (name_at ((loom_told H.Host self.old).regs of)) result }
         ensures fit { StaysCallable (IsSound H.Host) (loom_told H.Host) loom_lender (loom_outside H.Host) self.old self.new result }
     {
         match self.load(of) {
@@ -80,6 +81,7 @@ impl<'h, H: Host> LoomMemory<'h, H> {
         ensures access { Accessed (loom_told H.Host self.old) (loom_told H.Host self.new) (Length of) OfNumber result }
         ensures bound { IfOk result (λ n. n < MOST_FIELDS + 1) }
         ensures own { IsSparing H.Host self.old self.new (name_at ((loom_told H.Host self.old).regs of)) result }
+        ensures damage { IsDamaged self.old self.new (name_at ((loom_told H.Host self.old).regs of)) result }
         ensures fit { StaysCallable (IsSound H.Host) (loom_told H.Host) loom_lender (loom_outside H.Host) self.old self.new result }
     {
         match self.load(of) {
@@ -96,6 +98,7 @@ impl<'h, H: Host> LoomMemory<'h, H> {
         ensures range { IfOk result IsSmallInteger }
         ensures literals { IfOk result (λ header. IsTrue (loom_told H.Host self.old).tells → part_at (loom_told H.Host self.old).heap ((loom_told H.Host self.old).regs of) (λ b. Some (length (fields_of b))) ≡ Some (literal_count header)) }
         ensures own { IsSparing H.Host self.old self.new (name_at ((loom_told H.Host self.old).regs of)) result }
+        ensures damage { IsDamaged self.old self.new (name_at ((loom_told H.Host self.old).regs of)) result }
         ensures fit { StaysCallable (IsSound H.Host) (loom_told H.Host) loom_lender (loom_outside H.Host) self.old self.new result }
     {
         match self.load(of) {
@@ -113,6 +116,7 @@ impl<'h, H: Host> LoomMemory<'h, H> {
         requires may { MayDo (loom_told H.Host self.old) (Word of i) }
         ensures access { Accessed (loom_told H.Host self.old) (loom_told H.Host self.new) (Word of i) OfNumber result }
         ensures own { IsSparing H.Host self.old self.new (name_at ((loom_told H.Host self.old).regs of)) result }
+        ensures damage { IsDamaged self.old self.new (name_at ((loom_told H.Host self.old).regs of)) result }
         ensures fit { StaysCallable (IsSound H.Host) (loom_told H.Host) loom_lender (loom_outside H.Host) self.old self.new result }
     {
         match self.load(of) {
@@ -130,6 +134,7 @@ impl<'h, H: Host> LoomMemory<'h, H> {
         requires may { MayDo (loom_told H.Host self.old) (Byte of i) }
         ensures access { Accessed (loom_told H.Host self.old) (loom_told H.Host self.new) (Byte of i) OfNumber result }
         ensures own { IsSparing H.Host self.old self.new (name_at ((loom_told H.Host self.old).regs of)) result }
+        ensures damage { IsDamaged self.old self.new (name_at ((loom_told H.Host self.old).regs of)) result }
         ensures fit { StaysCallable (IsSound H.Host) (loom_told H.Host) loom_lender (loom_outside H.Host) self.old self.new result }
     {
         match self.load(of) {
@@ -147,6 +152,7 @@ impl<'h, H: Host> LoomMemory<'h, H> {
         requires may { MayDo (loom_told H.Host self.old) (ReadWords of at (length out.old)) }
         ensures access { Accessed (loom_told H.Host self.old) (loom_told H.Host self.new) (ReadWords of at (length out.old)) (λ _. OfRun out.new) result }
         ensures own { IsSparing H.Host self.old self.new (name_at ((loom_told H.Host self.old).regs of)) result }
+        ensures damage { IsDamaged self.old self.new (name_at ((loom_told H.Host self.old).regs of)) result }
         ensures fit { StaysCallable (IsSound H.Host) (loom_told H.Host) loom_lender (loom_outside H.Host) self.old self.new result }
     {
         match self.load(of) {
@@ -166,6 +172,7 @@ impl<'h, H: Host> LoomMemory<'h, H> {
         requires may { MayDo (loom_told H.Host self.old) (ReadBytes of at (length out.old)) }
         ensures access { Accessed (loom_told H.Host self.old) (loom_told H.Host self.new) (ReadBytes of at (length out.old)) (λ _. OfRun out.new) result }
         ensures own { IsSparing H.Host self.old self.new (name_at ((loom_told H.Host self.old).regs of)) result }
+        ensures damage { IsDamaged self.old self.new (name_at ((loom_told H.Host self.old).regs of)) result }
         ensures fit { StaysCallable (IsSound H.Host) (loom_told H.Host) loom_lender (loom_outside H.Host) self.old self.new result }
     {
         match self.load(of) {

@@ -1,5 +1,5 @@
 -- One object that is written and goes.
-use Rattle.std.proofs.Common.{◌≡◌, ℕ, ◌+◌, Bool, true, false, List, refl, sym, ◌∙◌, ap, subst, arith, Option, Some, None, is_some, cond, IsTrue, Result, Ok, Err}
+use Rattle.std.proofs.Common.{◌≡◌, ℕ, ◌+◌, Bool, true, false, List, refl, sym, ◌∙◌, ap, subst, arith, Option, Some, None, is_some, cond, IsTrue, inl, Result, Ok, Err}
 use Rattle.std.specs.Result.{OnOk, IfErr}
 use Rattle.std.specs.FinMap as map
 use Rattle.long_names.specs.declared.object.Object.{Object}
@@ -20,7 +20,8 @@ use Rattle.disk_objects.specs.Function.{IsFetched, PutsObject, KeepsObjects, dis
 use Rattle.core_view.specs.Core.{Core}
 use Rattle.core_view.specs.Held.{Disk, object_at, disk_with}
 use Rattle.core_view.specs.Kept.{Keeps, KeepsOver}
-use Rattle.purger.specs.Purge.{IsReadFault, IsEvictFault}
+use Rattle.disk_objects.specs.Places.{IsReadPlace}
+use Rattle.purger.specs.Purge.{IsReadFault, IsReadDamage, IsEvictFault}
 
 -- ---- what was read
 
@@ -50,6 +51,16 @@ get-fault tells before now P name (fault.Damaged place about) cause = cause.0
 pub get-fault-if : {T : Type 0} (tells : Bool) (before now : ℕ) (P : ℕ → Type 0) (name : ℕ) (r : Result T DiskFault) → IfErr r (IsFault tells before now P name) → IfErr r (IsReadFault tells before now)
 get-fault-if {T} tells before now P name (Ok x) cause = tt
 get-fault-if {T} tells before now P name (Err f) cause = get-fault tells before now P name f cause
+
+-- and where it points
+get-damage : (tells : Bool) (before now : ℕ) (rest : DiskRest) (name : ℕ) (f : DiskFault) → IsFault tells before now (IsReadPlace rest) name f → IsReadDamage rest name f
+get-damage tells before now rest name (fault.Work count) cause = tt
+get-damage tells before now rest name (fault.Full held room) cause = tt
+get-damage tells before now rest name (fault.Damaged place about) cause = (inl cause.1, cause.2)
+
+pub get-damage-if : {T : Type 0} (tells : Bool) (before now : ℕ) (rest : DiskRest) (name : ℕ) (r : Result T DiskFault) → IfErr r (IsFault tells before now (IsReadPlace rest) name) → IfErr r (IsReadDamage rest name)
+get-damage-if {T} tells before now rest name (Ok x) cause = tt
+get-damage-if {T} tells before now rest name (Err f) cause = get-damage tells before now rest name f cause
 
 -- is one of an eviction
 read-fault : {H : Type 0} (host : Ghosts H) (old new : H) (rest : DiskRest) (fresh : Bool) (f : DiskFault) → IsReadFault (host.tells Work) (host.faults old Work) (host.faults new Work) f → IsEvictFault host old new rest fresh f

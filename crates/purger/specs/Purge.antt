@@ -1,5 +1,5 @@
 -- Why room could not be made, and what stays where there was room.
-use Rattle.std.specs.Prelude.{◌≡◌, ℕ, ◌≤◌, Bool, true, Result, Ok, Err, Some, IsTrue}
+use Rattle.std.specs.Prelude.{◌≡◌, ◌⊎◌, ℕ, ◌≤◌, Bool, true, Result, Ok, Err, Some, IsTrue}
 use Rattle.long_names.specs.Counting.{Rose}
 use Rattle.loom_outside.specs.declared.outside.DiskFault.{DiskFault}
 use Rattle.loom_outside.specs.declared.outside.DiskFault.TheVariants as fault
@@ -12,8 +12,10 @@ use Rattle.core_view.specs.Purge.{IsSameBody}
 use Rattle.core_view.specs.Room.{IsBare}
 use Rattle.disk_objects.specs.declared.rest.DiskRest.{DiskRest}
 use Rattle.disk_objects.specs.Disk.{disk_held, disk_room}
+use Rattle.disk_objects.specs.Places.{IsReadPlace}
 use Rattle.leaf_lambda.specs.declared.parts.Parts.{Parts}
 use Rattle.leaf_lambda.specs.Parts.{core_of, spare_of}
+use Rattle.purger.specs.declared.eviction.TheConstants.{NOWHERE}
 use Rattle.purger.specs.declared.room.RoomFault.{RoomFault}
 use Rattle.purger.specs.declared.room.RoomFault.TheVariants.{Short, Disk}
 
@@ -22,6 +24,12 @@ abbrev pub IsReadFault : Bool → ℕ → ℕ → DiskFault → Type 0
 IsReadFault tells before now (fault.Work count) = (count ≡ now) × Rose before now
 IsReadFault tells before now (fault.Full held room) = ⊥
 IsReadFault tells before now (fault.Damaged place about) = IsTrue tells → ⊥
+
+-- A Damaged of a read that was asked about this name has the name, and the place of the slot or the record that was read, or none.
+abbrev pub IsReadDamage : DiskRest → ℕ → DiskFault → Type 0
+IsReadDamage rest name (fault.Work count) = Unit {0}
+IsReadDamage rest name (fault.Full held room) = Unit {0}
+IsReadDamage rest name (fault.Damaged place about) = (IsReadPlace rest place ⊎ (place ≡ NOWHERE)) × (about ≡ name)
 
 -- Why an eviction failed: faults of Work rose; or there are as many records as there is room for and, where Work is told, the object has
 -- none; or something that was read can't be so, over a host that doesn't tell Work.

@@ -22,7 +22,7 @@ ghost use Rattle.delta_counts.specs.At.{IsStoredAt};
 ghost use Rattle.delta_counts.specs.Giving.{IsGiving};
 ghost use Rattle.purger.specs.Counts.{HasSound, KeepsSound, stored_as};
 ghost use Rattle.purger.specs.Marks.{AreHere, KeepsMarks, LeavesMarks};
-ghost use Rattle.purger.specs.Purge.{IsReadFault, IsEvictFault};
+ghost use Rattle.purger.specs.Purge.{IsReadFault, IsReadDamage, IsEvictFault};
 
 use crate::marks::unmark_for;
 use core_segment::Addr;
@@ -67,6 +67,7 @@ pub fn fetch<H: Host>(
     ensures read { IsWorkRead H.Host disk.old.host.now disk.new.host.now }
     ensures same_host { disk.new.host.ghost_name ≡ disk.old.host.ghost_name }
     ensures fault { IfErr result (IsReadFault (H.tells Role.Work) (H.faults disk.old.host.now Role.Work) (H.faults disk.new.host.now Role.Work)) }
+    ensures damage { IfErr result (IsReadDamage disk.old.rest name) }
 {
     disk.get(name, buf)
 }
@@ -92,6 +93,7 @@ pub fn read_copy<H: Host>(
     ensures read { IsWorkRead H.Host disk.old.host.now disk.new.host.now }
     ensures same_host { disk.new.host.ghost_name ≡ disk.old.host.ghost_name }
     ensures fault { IfErr result (IsReadFault (H.tells Role.Work) (H.faults disk.old.host.now Role.Work) (H.faults disk.new.host.now Role.Work)) }
+    ensures damage { IfErr result (IsReadDamage disk.old.rest ((core_of p.now).entries s.0).name) }
 {
     // a told record is like its object
     own_record_is_like();

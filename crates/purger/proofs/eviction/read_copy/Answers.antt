@@ -1,12 +1,13 @@
 use Rattle.loom_outside.specs.declared.outside.Role.TheVariants.{Work}
-use Rattle.std.proofs.Common.{◌≡◌, ap, sym, subst, ◌∙◌, true, false, Bool, IsTrue}
+use Rattle.std.proofs.Common.{◌≡◌, refl, inr, ap, sym, subst, ◌∙◌, true, false, Bool, IsTrue}
+use Rattle.loom_outside.proofs.WorkLaws.{exits}
 use Rattle.loom_outside.specs.declared.outside.DiskFault.{DiskFault}
 use Rattle.object_table.specs.declared.entry.Entry.{Entry}
 use Rattle.disk_objects.specs.Function.{disk_of}
 use Rattle.core_view.proofs.Core.{placed-used}
 use Rattle.core_view.proofs.Fresh.{never-missing}
 use Rattle.leaf_lambda.specs.Parts.{core_of}
-use Rattle.purger.specs.Purge.{IsReadFault}
+use Rattle.purger.specs.Purge.{IsReadFault, IsReadDamage}
 use Rattle.purger.proofs.EvictLaws.{not-fetched, was-fetched}
 use Rattle.purger.proofs.eviction.read_copy.Goals as goal
 use Rattle.purger.proofs.eviction.read_copy.Given as given
@@ -42,6 +43,9 @@ returns-then-not-branch-clause-fault g c = subst (λ (f : DiskFault). IsReadFaul
     (λ told. never-missing (core_of c.args.p.now) (disk_of g.H.Host c.args.disk.now.host.now c.args.disk.now.rest) c.args.s.0 c.args.at.place (c.requires.backed told) c.requires.place (fresh-is g c)
     (ap (disk_of g.H.Host c.args.disk.now.host.now c.args.disk.now.rest) (sym (named g c)) ∙ not-fetched c.fetch.new.buf (disk_of g.H.Host c.args.disk.now.host.now c.args.disk.now.rest c.entry-e.result.name) c.in_ok-fetch.field-0 c.if-not-branch.true (c.in_ok-fetch.ensures.found told)))
 
+pub returns-then-not-branch-clause-damage : goal.returns-then-not-branch-clause-damage
+returns-then-not-branch-clause-damage g c = subst (λ (f : DiskFault). IsReadDamage c.args.disk.now.rest ((core_of c.args.p.now).entries c.args.s.0).name f) (sym c.damaged.ensures) (inr refl, named g c)
+
 last-fresh : (g : given.Over) (c : goal.After-damaged-2 g) → ((core_of c.args.p.now).entries c.args.s.0).flags.fresh ≡ false
 unfolding core_of
 last-fresh g c = ap (λ (e : Entry). e.flags.fresh) (sym c.entry-e.ensures) ∙ c.if-e.false
@@ -57,3 +61,12 @@ returns-clause-fault g c = subst (λ (f : DiskFault). IsReadFault (g.H.Host.tell
     (c.in_ok-fetch.ensures.record (yes-is c.in_ok-fetch.field-0 c.if-not-branch.false)).0
     ((c.in_ok-fetch.ensures.record (yes-is c.in_ok-fetch.field-0 c.if-not-branch.false)).1 ∙ last-named g c)
     (ap (disk_of g.H.Host c.args.disk.now.host.now c.args.disk.now.rest) (sym (last-named g c)) ∙ was-fetched c.fetch.new.buf (disk_of g.H.Host c.args.disk.now.host.now c.args.disk.now.rest c.entry-e.result.name) c.in_ok-fetch.field-0 c.if-not-branch.false (c.in_ok-fetch.ensures.found told)))))
+
+pub returns-clause-damage : goal.returns-clause-damage
+returns-clause-damage g c = subst (λ (f : DiskFault). IsReadDamage c.args.disk.now.rest ((core_of c.args.p.now).entries c.args.s.0).name f) (sym c.damaged-2.ensures) (inr refl, last-named g c)
+
+pub returns-in_err-fetch-clause-damage : goal.returns-in_err-fetch-clause-damage
+unfolding core_of
+returns-in_err-fetch-clause-damage g c =
+    exits c.from_residual.result c.in_err-fetch.field-0.0 (IsReadDamage c.args.disk.now.rest ((core_of c.args.p.now).entries c.args.s.0).name) c.from_residual.ensures.1
+    (subst (λ (e : Entry). IsReadDamage c.args.disk.now.rest e.name c.in_err-fetch.field-0.0) c.entry-e.ensures c.in_err-fetch.ensures.damage)

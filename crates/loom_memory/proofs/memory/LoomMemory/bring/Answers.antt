@@ -12,6 +12,8 @@ use Rattle.loom_memory.proofs.BringLaws.{ok-after, err-at, quiet-same}
 use Rattle.object_table.specs.Entries.{is_used}
 use Rattle.loom_memory.specs.Residents.{fetched}
 use Rattle.loom_memory.proofs.GentleLaws.{count-after, fetched-same, brought-gentle, no-body}
+use Rattle.loom_memory.proofs.BelowLaws.{tested-after}
+use Rattle.loom_memory.proofs.DamageLaws.{damage-read}
 use Rattle.loom_memory.proofs.memory.LoomMemory.bring.Goals as goal
 
 pub entry-requires-clause-within : goal.entry-requires-clause-within
@@ -83,3 +85,19 @@ returns-then-is_some-clause-idle g c = λ at is. refl
 pub returns-in-Ok-clause-idle : goal.returns-in-Ok-clause-idle
 unfolding core_of
 returns-in-Ok-clause-idle g c = no-body (c.bring_leaf.new.self ≡ c.args.self.now) c.bring_leaf.result (place_of ((core_of c.args.self.now.parts).entries c.args.s.0).state) (ap (λ (e : Entry). place_of e.state) (sym c.entry.ensures) ∙ sym c.place.ensures ∙ none-of c.place.result c.is_some.result c.is_some.ensures c.if-is_some.false)
+
+pub returns-then-is_some-clause-tested : goal.returns-then-is_some-clause-tested
+unfolding core_of
+returns-then-is_some-clause-tested g c = λ leaf.
+    let there = some-of c.place.result c.is_some.result c.is_some.ensures c.if-is_some.true in
+    let both : None ≡ Some there.0 = sym leaf ∙ ap (λ (e : Entry). place_of e.state) (sym c.entry.ensures) ∙ sym c.place.ensures ∙ there.1 in
+    absurd (cc)
+
+pub returns-in-Ok-clause-tested : goal.returns-in-Ok-clause-tested
+returns-in-Ok-clause-tested g c = tested-after _ c.bring_leaf.result c.look.new.self c.bring_leaf.new.self ((core_of c.args.self.now.parts).entries c.args.s.0).name c.bring_leaf.ensures.buf c.bring_leaf.ensures.next c.in-Ok.ensures.tested
+
+pub returns-in-Ok-clause-damage : goal.returns-in-Ok-clause-damage
+returns-in-Ok-clause-damage g c = damage-read c.bring_leaf.result c.args.self.now c.look.new.self c.bring_leaf.new.self c.args.s.0 c.in-Ok.words c.in-Ok.ensures.parts c.bring_leaf.ensures.buf c.in-Ok.ensures.record.sized c.bring_leaf.ensures.damage
+
+pub returns-in-Err-clause-damage : goal.returns-in-Err-clause-damage
+returns-in-Err-clause-damage g c = λ room. c.in-Err.ensures.damage

@@ -1,48 +1,42 @@
-use Rattle.std.proofs.Common.{ℕ, ap, subst, arith}
+use Rattle.std.proofs.Common.{ℕ, ◌∙◌, ap, subst, arith}
 use Rattle.loom_outside.specs.declared.outside.Role.TheVariants.{Work}
-use Rattle.object_memory.specs.Told.{Told}
+use Rattle.object_record.specs.Buffer.{raw_of}
+use Rattle.object_record.specs.Objects.{object_in}
+use Rattle.long_names.specs.Counting.{counted}
 use Rattle.core_view.proofs.Steps.{outside-used}
 use Rattle.leaf_lambda.specs.Parts.{core_of}
 use Rattle.disk_objects.specs.Function.{disk_of}
+use Rattle.loom_memory.specs.declared.ledger.Ledger.{Ledger}
 use Rattle.loom_memory.specs.Memory.{loom_told, IsRefusedAt}
-use Rattle.loom_memory.proofs.AccessLaws.{quiet-ready}
+use Rattle.loom_memory.proofs.AccessLaws.{quiet-ready, quiet-trans}
 use Rattle.loom_memory.proofs.CallLaws.{leaf-words, refused-at}
-use Rattle.loom_memory.proofs.BringLaws.{IsLeafStill, leaf-still, sized-then, unfit, ok-after, err-after}
+use Rattle.loom_memory.proofs.BringLaws.{leaf-still, still-read, read-sized, unfit}
 use Rattle.loom_memory.specs.Residents.{fetched}
-use Rattle.loom_memory.proofs.GentleLaws.{count-then, fetched-same, gentle-then}
+use Rattle.loom_memory.proofs.GentleLaws.{fetched-same, gentle-trans}
+use Rattle.loom_memory.proofs.DamageLaws.{full-damage}
 use Rattle.loom_memory.proofs.memory.LoomMemory.bring_leaf.Goals as goal
 use Rattle.loom_memory.proofs.memory.LoomMemory.bring_leaf.Given as given
-
-still-come : (g : given.Over) (c : goal.After-come g) → IsLeafStill (core_of c.args.self.now.parts) (core_of c.clear.new.self.parts) c.args.s.0
-still-come g c = leaf-still c.args.self.now.pinned (core_of c.args.self.now.parts) (core_of c.clear.new.self.parts) c.args.s.0 c.requires.sound.kept.parts.core c.in-Ok.ensures.sound.kept.parts.core c.in-Ok.ensures.calm c.in-Ok.ensures.leaves c.requires.out c.requires.leaf
-
-pub come-requires-clause-ready : goal.come-requires-clause-ready
-come-requires-clause-ready g c = quiet-ready (loom_told g.H.Host c.args.self.now) (loom_told g.H.Host c.clear.new.self) c.in-Ok.ensures.quiet c.requires.ready
 
 pub come-requires-clause-leaf : goal.come-requires-clause-leaf
 come-requires-clause-leaf g c = let still = leaf-still c.args.self.now.pinned (core_of c.args.self.now.parts) (core_of c.clear.new.self.parts) c.args.s.0 c.requires.sound.kept.parts.core c.in-Ok.ensures.sound.kept.parts.core c.in-Ok.ensures.calm c.in-Ok.ensures.leaves c.requires.out c.requires.leaf in (still.used, still.leaf)
 
+pub come-requires-clause-record : goal.come-requires-clause-record
+come-requires-clause-record g c = (still-read g.H.Host c.args.self.now c.clear.new.self c.args.s.0 c.args.words c.requires.sound c.in-Ok.ensures.sound c.in-Ok.ensures.calm c.in-Ok.ensures.leaves c.in-Ok.ensures.quiet c.in-Ok.ensures.buf c.requires.out c.requires.leaf c.requires.record).record_there
+
+pub come-requires-clause-there : goal.come-requires-clause-there
+come-requires-clause-there g c = (still-read g.H.Host c.args.self.now c.clear.new.self c.args.s.0 c.args.words c.requires.sound c.in-Ok.ensures.sound c.in-Ok.ensures.calm c.in-Ok.ensures.leaves c.in-Ok.ensures.quiet c.in-Ok.ensures.buf c.requires.out c.requires.leaf c.requires.record).there
+
 pub come-requires-clause-room : goal.come-requires-clause-room
-come-requires-clause-room g c = (c.in-Ok.ensures.room c.if-enough.true).0
+come-requires-clause-room g c =
+    let most = (c.in-Ok.ensures.room c.if-enough.true).0 in
+    let size = (still-read g.H.Host c.args.self.now c.clear.new.self c.args.s.0 c.args.words c.requires.sound c.in-Ok.ensures.sound c.in-Ok.ensures.calm c.in-Ok.ensures.leaves c.in-Ok.ensures.quiet c.in-Ok.ensures.buf c.requires.out c.requires.leaf c.requires.record).sized in
+    omega (arith, most, size)
 
 pub come-requires-clause-spare : goal.come-requires-clause-spare
 come-requires-clause-spare g c = (c.in-Ok.ensures.room c.if-enough.true).1
 
-pub come-requires-clause-held : goal.come-requires-clause-held
-unfolding loom_told
-come-requires-clause-held g c = λ told.
-    let m = c.args.self.now in
-    let n = c.clear.new.self in
-    let still = leaf-still m.pinned (core_of m.parts) (core_of n.parts) c.args.s.0 c.requires.sound.kept.parts.core c.in-Ok.ensures.sound.kept.parts.core c.in-Ok.ensures.calm c.in-Ok.ensures.leaves c.requires.out c.requires.leaf in
-    let size = sized-then (g.H.Host.tells Work) (core_of m.parts) (core_of n.parts) (disk_of g.H.Host m.disk.host.now m.disk.rest) (disk_of g.H.Host n.disk.host.now n.disk.rest) m.ledger.next n.ledger.next c.args.s.0 c.args.words c.requires.sound.kept.parts.core c.in-Ok.ensures.sound.kept.parts.core still.was c.requires.leaf still.used still.leaf still.name
-    (ap (λ (z : Told). z.heap) c.in-Ok.ensures.quiet.same) c.requires.sized in
-    (size.object, size.there told, (let all = size.sized in omega (arith, all)))
-
 pub returns-then-enough-clause-quiet : goal.returns-then-enough-clause-quiet
-returns-then-enough-clause-quiet g c = ok-after c.come.result (loom_told g.H.Host c.args.self.now) (loom_told g.H.Host c.clear.new.self) (loom_told g.H.Host c.come.new.self) c.in-Ok.ensures.quiet c.come.ensures.quiet
-
-pub returns-then-enough-clause-err : goal.returns-then-enough-clause-err
-returns-then-enough-clause-err g c = err-after c.come.result (loom_told g.H.Host c.args.self.now) (loom_told g.H.Host c.clear.new.self) (loom_told g.H.Host c.come.new.self) ((core_of c.args.self.now.parts).entries c.args.s.0).name c.in-Ok.ensures.quiet c.come.ensures.err
+returns-then-enough-clause-quiet g c = quiet-trans (loom_told g.H.Host c.args.self.now) (loom_told g.H.Host c.clear.new.self) (loom_told g.H.Host c.come.new.self) c.in-Ok.ensures.quiet c.come.ensures.quiet
 
 pub full-requires-in-Ok-clause-ready : goal.full-requires-in-Ok-clause-ready
 full-requires-in-Ok-clause-ready g c = quiet-ready (loom_told g.H.Host c.args.self.now) (loom_told g.H.Host c.clear.new.self) c.in-Ok.ensures.quiet c.requires.ready
@@ -57,14 +51,14 @@ full-requires-in-Ok-clause-sized g c = λ told.
     let n = c.clear.new.self in
     let still = leaf-still m.pinned (core_of m.parts) (core_of n.parts) c.args.s.0 c.requires.sound.kept.parts.core c.in-Ok.ensures.sound.kept.parts.core c.in-Ok.ensures.calm c.in-Ok.ensures.leaves c.requires.out c.requires.leaf in
     leaf-words (g.H.Host.tells Work) (core_of n.parts) (disk_of g.H.Host n.disk.host.now n.disk.rest) n.ledger.next c.args.s.0 c.args.words told c.in-Ok.ensures.sound.kept.parts.core still.used still.leaf
-    (sized-then (g.H.Host.tells Work) (core_of m.parts) (core_of n.parts) (disk_of g.H.Host m.disk.host.now m.disk.rest) (disk_of g.H.Host n.disk.host.now n.disk.rest) m.ledger.next n.ledger.next c.args.s.0 c.args.words c.requires.sound.kept.parts.core c.in-Ok.ensures.sound.kept.parts.core still.was c.requires.leaf still.used still.leaf still.name
-    (ap (λ (z : Told). z.heap) c.in-Ok.ensures.quiet.same) c.requires.sized)
+    (read-sized (g.H.Host.tells Work) n.buf (disk_of g.H.Host n.disk.host.now n.disk.rest) ((core_of n.parts).entries c.args.s.0).name c.args.words
+    (still-read g.H.Host c.args.self.now c.clear.new.self c.args.s.0 c.args.words c.requires.sound c.in-Ok.ensures.sound c.in-Ok.ensures.calm c.in-Ok.ensures.leaves c.in-Ok.ensures.quiet c.in-Ok.ensures.buf c.requires.out c.requires.leaf c.requires.record))
 
 pub full-requires-in-Ok-clause-unfit : goal.full-requires-in-Ok-clause-unfit
 full-requires-in-Ok-clause-unfit g c = λ need is.
     let n = c.clear.new.self in
     let still = leaf-still c.args.self.now.pinned (core_of c.args.self.now.parts) (core_of n.parts) c.args.s.0 c.requires.sound.kept.parts.core c.in-Ok.ensures.sound.kept.parts.core c.in-Ok.ensures.calm c.in-Ok.ensures.leaves c.requires.out c.requires.leaf in
-    unfit n.parts n.regs n.pinned n.ledger c.args.s.0 c.args.words need c.requires.sized.object c.in-Ok.ensures.sound.kept (c.in-Ok.ensures.short c.if-enough.false) c.entries_are_counted.ensures c.chunks_never_overlap.ensures still.used still.leaf c.requires.sized.sized is
+    unfit n.parts n.regs n.pinned n.ledger c.args.s.0 c.args.words need (object_in (raw_of c.args.self.now.buf)) c.in-Ok.ensures.sound.kept (c.in-Ok.ensures.short c.if-enough.false) c.entries_are_counted.ensures c.chunks_never_overlap.ensures still.used still.leaf c.requires.record.sized is
 
 pub returns-else-enough-clause-err : goal.returns-else-enough-clause-err
 returns-else-enough-clause-err g c =
@@ -79,7 +73,8 @@ pub full-requires-clause-sized : goal.full-requires-clause-sized
 unfolding loom_told
 full-requires-clause-sized g c = λ told.
     let m = c.args.self.now in
-    leaf-words (g.H.Host.tells Work) (core_of m.parts) (disk_of g.H.Host m.disk.host.now m.disk.rest) m.ledger.next c.args.s.0 c.args.words told c.requires.sound.kept.parts.core (outside-used (core_of m.parts) c.args.s.0 c.requires.sound.kept.parts.core c.requires.out) c.requires.leaf c.requires.sized
+    leaf-words (g.H.Host.tells Work) (core_of m.parts) (disk_of g.H.Host m.disk.host.now m.disk.rest) m.ledger.next c.args.s.0 c.args.words told c.requires.sound.kept.parts.core (outside-used (core_of m.parts) c.args.s.0 c.requires.sound.kept.parts.core c.requires.out) c.requires.leaf
+    (read-sized (g.H.Host.tells Work) m.buf (disk_of g.H.Host m.disk.host.now m.disk.rest) ((core_of m.parts).entries c.args.s.0).name c.args.words c.requires.record)
 
 pub full-requires-clause-unfit : goal.full-requires-clause-unfit
 full-requires-clause-unfit g c = λ need is fits. let all = is.all in let most = fits.words in let past = c.if-words-self.true in absurd (omega arith)
@@ -88,7 +83,25 @@ pub full-requires-clause-used : goal.full-requires-clause-used
 full-requires-clause-used g c = outside-used (core_of c.args.self.now.parts) c.args.s.0 c.requires.sound.kept.parts.core c.requires.out
 
 pub returns-then-enough-clause-counted : goal.returns-then-enough-clause-counted
-returns-then-enough-clause-counted g c = count-then c.come.result (fetched c.args.self.now) (fetched c.clear.new.self) (fetched c.come.new.self) (fetched-same c.args.self.now c.clear.new.self c.in-Ok.ensures.ledger) c.come.ensures.counted
+returns-then-enough-clause-counted g c = c.come.ensures.counted ∙ ap counted (fetched-same c.args.self.now c.clear.new.self c.in-Ok.ensures.ledger)
 
 pub returns-then-enough-clause-gentle : goal.returns-then-enough-clause-gentle
-returns-then-enough-clause-gentle g c = gentle-then c.come.result g.H.Host c.args.self.now c.clear.new.self c.come.new.self c.in-Ok.ensures.gentle c.come.ensures.gentle
+returns-then-enough-clause-gentle g c = λ room. gentle-trans g.H.Host c.args.self.now c.clear.new.self c.come.new.self (c.in-Ok.ensures.gentle room) c.come.ensures.gentle
+
+pub returns-then-enough-clause-next : goal.returns-then-enough-clause-next
+returns-then-enough-clause-next g c = c.come.ensures.next ∙ ap (λ (k : Ledger). k.next) c.in-Ok.ensures.ledger
+
+pub returns-then-enough-clause-buf : goal.returns-then-enough-clause-buf
+returns-then-enough-clause-buf g c = c.come.ensures.buf ∙ c.in-Ok.ensures.buf
+
+pub returns-then-words-self-clause-damage : goal.returns-then-words-self-clause-damage
+returns-then-words-self-clause-damage g c = λ room. full-damage c.full.new.self.disk.rest ((core_of c.args.self.now.parts).entries c.args.s.0).name c.full.result c.full.ensures.is
+
+pub returns-else-enough-clause-damage : goal.returns-else-enough-clause-damage
+returns-else-enough-clause-damage g c = λ room. full-damage c.full-in-Ok.new.self.disk.rest ((core_of c.args.self.now.parts).entries c.args.s.0).name c.full-in-Ok.result c.full-in-Ok.ensures.is
+
+pub returns-else-enough-clause-buf : goal.returns-else-enough-clause-buf
+returns-else-enough-clause-buf g c = c.full-in-Ok.ensures.buf ∙ c.in-Ok.ensures.buf
+
+pub returns-in-Err-clause-damage : goal.returns-in-Err-clause-damage
+returns-in-Err-clause-damage g c = λ room. absurd (c.in-Err.ensures.sure room)

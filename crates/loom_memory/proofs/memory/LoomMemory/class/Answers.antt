@@ -70,3 +70,9 @@ returns-then-is_name-clause-steady g c = no-number c.class_of_object.result ((lo
 
 pub returns-clause-steady : goal.returns-clause-steady
 returns-clause-steady g c = then-number (IsSome (int_of ((loom_told g.H.Host c.args.self.now).regs c.args.of))) (HasRoom c.args.self.now.parts 0 27 → IsSteady g.H.Host c.args.self.now c.put_name.new.self) c.put_name.result c.put_name.ensures.steady
+
+pub returns-then-is_name-clause-damage : goal.returns-then-is_name-clause-damage
+returns-then-is_name-clause-damage g c = λ ref. c.class_of_object.ensures.damage
+
+pub returns-clause-damage : goal.returns-clause-damage
+returns-clause-damage g c = λ ref. absurd (subst IsRef (number-is g c) ref)

@@ -23,3 +23,6 @@ returns-in-Short-clause-gentle g c = λ room. absurd (c.has_room.ensures.lacks c
 
 pub returns-in-Short-clause-idle : goal.returns-in-Short-clause-idle
 returns-in-Short-clause-idle g c = λ room none. absurd (c.has_room.ensures.lacks c.if-has_room.false room)
+
+pub returns-in-Disk-clause-sure : goal.returns-in-Disk-clause-sure
+returns-in-Disk-clause-sure g c = λ room. c.has_room.ensures.lacks c.if-has_room.false room

@@ -5,6 +5,9 @@ use Rattle.loom_memory.proofs.AccessLaws.{refused-is, quiet-ready}
 use Rattle.loom_memory.proofs.LastLaws.{field-last, can-still, field-ready}
 use Rattle.long_names.specs.State.{name_at}
 use Rattle.loom_memory.proofs.GentleLaws.{load-searched, then-searched}
+use Rattle.purger.specs.Purge.{HasRoom}
+use Rattle.loom_memory.specs.Damage.{words_read}
+use Rattle.loom_memory.proofs.DamageLaws.{quiet-damage}
 use Rattle.loom_memory.proofs.memory.LoomMemory.field_on_disk.Goals as goal
 
 pub take_field-requires-clause-ready : goal.take_field-requires-clause-ready
@@ -39,3 +42,8 @@ returns-in-Ok-clause-searched g c =
     let load = c.in-Ok.ensures in
     then-searched c.take_field.result g.H.Host m u c.take_field.new.self (name_at ((loom_told g.H.Host m).regs c.args.of)) (load-searched g.H.Host m u c.args.of c.requires.fit.sound load.sound c.requires.may.names load.there load.counted load.gentle load.idle)
     c.take_field.ensures.peek load.sound.kept.parts.core c.take_field.ensures.sound
+
+pub returns-in-Ok-clause-damage : goal.returns-in-Ok-clause-damage
+returns-in-Ok-clause-damage g c =
+    let m = c.args.self.now in
+    quiet-damage c.take_field.result g.H.Host m c.load_with_room.new.self c.args.of c.in-Ok.s.0 c.take_field.new.self.disk.rest (HasRoom m.parts (words_read c.take_field.new.self) 27) c.in-Ok.ensures.sound c.in-Ok.ensures.quiet c.requires.may.names c.in-Ok.ensures.word c.take_field.ensures.damage

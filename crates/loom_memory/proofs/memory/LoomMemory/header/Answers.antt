@@ -14,6 +14,7 @@ use Rattle.loom_memory.proofs.BodyLaws.{method-literals, part-told, part-here, p
 use Rattle.loom_memory.proofs.ReadLaws.{read-answered}
 use Rattle.long_names.specs.State.{name_at}
 use Rattle.loom_memory.proofs.GentleLaws.{amiss-sparing, sparing-ok, sparing-err}
+use Rattle.loom_memory.proofs.DamageLaws.{amiss-damage}
 use Rattle.loom_memory.proofs.memory.LoomMemory.header.Goals as goal
 use Rattle.loom_memory.proofs.memory.LoomMemory.header.Given as given
 use Rattle.std.proofs.Common.{Ok, IfSome}
@@ -89,3 +90,6 @@ returns-in-None-clause-own g c = amiss-sparing g.H.Host c.args.self.now c.amiss.
 
 pub returns-in-Err-clause-own : goal.returns-in-Err-clause-own
 returns-in-Err-clause-own g c = sparing-err g.H.Host c.args.self.now c.load.new.self (name_at ((loom_told g.H.Host c.args.self.now).regs c.args.of)) c.in-Err.f c.in-Err.ensures.own
+
+pub returns-in-None-clause-damage : goal.returns-in-None-clause-damage
+returns-in-None-clause-damage g c = λ room. amiss-damage g.H.Host c.args.self.now c.load.new.self c.args.of c.in-Ok.s.0 c.amiss.new.self.disk.rest c.amiss.result c.in-Ok.ensures.sound c.in-Ok.ensures.quiet c.requires.may.names c.in-Ok.ensures.word c.amiss.ensures.is

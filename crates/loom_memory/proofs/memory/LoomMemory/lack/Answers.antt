@@ -8,6 +8,7 @@ use Rattle.leaf_lambda.specs.Parts.{core_of, spare_of}
 use Rattle.loom_memory.specs.Memory.{loom_told}
 use Rattle.loom_memory.proofs.AccessLaws.{quiet-ready}
 use Rattle.loom_memory.proofs.KnownLaws.{absent-there, absent-words, full-beside, unfit-beside, bare-then, refused-of}
+use Rattle.loom_memory.proofs.BelowLaws.{absent-own}
 use Rattle.loom_memory.proofs.memory.LoomMemory.lack.Goals as goal
 use Rattle.loom_memory.proofs.memory.LoomMemory.lack.Given as given
 
@@ -16,6 +17,12 @@ unfolding loom_told
 look_up-requires-clause-there g c = λ told none.
     let m = c.args.self.now in
     absent-there (g.H.Host.tells Work) (core_of m.parts) (disk_of g.H.Host m.disk.host.now m.disk.rest) m.ledger.next c.args.name told c.requires.spent.away (c.requires.has told) none
+
+pub look_up-requires-clause-own : goal.look_up-requires-clause-own
+unfolding loom_told
+look_up-requires-clause-own g c = λ told.
+    let m = c.args.self.now in
+    absent-own (g.H.Host.tells Work) (core_of m.parts) (disk_of g.H.Host m.disk.host.now m.disk.rest) m.ledger.next c.args.name told c.requires.spent.away
 
 away-still : (g : given.Over) (c : goal.After-refuse g) → (core_of c.look_up.new.self.parts).find c.args.name ≡ None
 away-still g c = ap (λ (p : Parts). (core_of p).find c.args.name) c.in-Ok.ensures.parts ∙ c.requires.spent.away

@@ -12,8 +12,14 @@ use Rattle.loom_memory.specs.Known.{IsNameable}
 use Rattle.loom_memory.specs.Memory.{loom_told, IsQuiet}
 use Rattle.loom_memory.proofs.FieldLaws.{at-same}
 use Rattle.loom_memory.proofs.ExactLaws.{brought-nameable}
-use Rattle.loom_memory.proofs.LambdaLaws.{no-value, lambda-told, lambda-value, damaged-after}
+use Rattle.loom_memory.proofs.LambdaLaws.{no-value, lambda-told, lambda-value}
 use Rattle.loom_memory.proofs.GentleLaws.{peek-trans, steady-peek}
+use Rattle.long_names.specs.declared.value.Value.{Value}
+use Rattle.loom_memory.specs.declared.ledger.Ledger.{Ledger}
+use Rattle.loom_memory.specs.Below.{IsBelow}
+use Rattle.object_memory.specs.declared.fault.MemFault.TheVariants.{Damaged}
+use Rattle.purger.specs.declared.eviction.TheConstants.{NOWHERE}
+use Rattle.loom_memory.proofs.DamageLaws.{nowhere-damage}
 use Rattle.loom_memory.proofs.memory.LoomMemory.lambda_word.Goals as goal
 use Rattle.loom_memory.proofs.memory.LoomMemory.lambda_word.Given as given
 
@@ -50,17 +56,29 @@ returns-in-Some-clause-mark g c =
     let n = c.read_lambda.new.self in
     ap (λ (e : Entry). e.flags.marked) (c.word_for.ensures.entries c.args.s.0 (placed-used ((core_of n.parts).entries c.args.s.0).state c.args.at.place c.in-Ok.ensures.at.1.place)) ∙ c.in-Ok.ensures.mark
 
-none-there : (g : given.Over) (c : goal.After-refuse g) → IsTrue (loom_told g.H.Host c.args.self.now).tells → ⊥
+none-there : (g : given.Over) (c : goal.After-amiss g) → IsTrue (loom_told g.H.Host c.args.self.now).tells → ⊥
 unfolding loom_told
 none-there g c = λ told.
     let m = c.args.self.now in
     no-value c.in-Ok.long (sym c.in-None.ensures.value) (lambda-value (core_of m.parts) (disk_of g.H.Host m.disk.host.now m.disk.rest) c.args.s.0 c.args.at.place c.args.i (value_in c.in-Ok.long) c.requires.sound.kept.parts.core (c.requires.sound.over.valued told) c.requires.lambda (c.in-Ok.ensures.long told))
 
+pub amiss-requires-clause-used : goal.amiss-requires-clause-used
+amiss-requires-clause-used g c = placed-used ((core_of c.read_lambda.new.self.parts).entries c.args.s.0).state c.args.at.place c.in-Ok.ensures.at.1.place
+
 pub returns-in-None-clause-err : goal.returns-in-None-clause-err
-returns-in-None-clause-err g c = λ a silent none. damaged-after (loom_told g.H.Host c.args.self.now) (loom_told g.H.Host c.read_lambda.new.self) (loom_told g.H.Host c.refuse.new.self) a _ _ c.refuse.result c.in-Ok.ensures.quiet c.refuse.ensures.told c.refuse.ensures.result c.requires.ready silent none c.refuse.ensures.later (none-there g c)
+returns-in-None-clause-err g c = λ a silent none. c.amiss.ensures.err (loom_told g.H.Host c.args.self.now) a c.in-Ok.ensures.quiet c.requires.ready silent none (none-there g c)
+
+pub returns-in-Some-clause-below : goal.returns-in-Some-clause-below
+returns-in-Some-clause-below g c =
+    let n = c.word_for.new.self in
+    subst (λ (v : Value). IsBelow n.ledger.next v) (value-is c.in-Ok.long c.in-Some.v (sym c.in-Some.ensures.value) ∙ sym c.word_for.ensures.means)
+    (subst (λ (k : Ledger). IsBelow k.next (value_in c.in-Ok.long)) (sym c.word_for.ensures.ledger) c.in-Ok.ensures.below)
 
 pub returns-in-Err-clause-err : goal.returns-in-Err-clause-err
 returns-in-Err-clause-err g c = c.in-Err.ensures.err
 
 pub returns-in-Some-clause-peek : goal.returns-in-Some-clause-peek
 returns-in-Some-clause-peek g c = peek-trans g.H.Host c.args.self.now c.read_lambda.new.self c.word_for.new.self c.in-Ok.ensures.peek (steady-peek g.H.Host c.read_lambda.new.self c.word_for.new.self c.word_for.ensures.steady)
+
+pub returns-in-None-clause-damage : goal.returns-in-None-clause-damage
+returns-in-None-clause-damage g c = nowhere-damage c.amiss.new.self.disk.rest ((core_of c.args.self.now.parts).entries c.args.s.0).name c.amiss.result (c.amiss.ensures.is ∙ ap (Damaged NOWHERE) c.in-Ok.ensures.named)

@@ -3,6 +3,7 @@ use Rattle.long_names.specs.State.{name_at}
 use Rattle.loom_memory.specs.Memory.{loom_told}
 use Rattle.loom_memory.proofs.BringLaws.{quiet-same}
 use Rattle.loom_memory.proofs.GentleLaws.{here-sparing, come-sparing}
+use Rattle.loom_memory.proofs.BelowLaws.{tested-where}
 use Rattle.loom_memory.proofs.memory.LoomMemory.load.Goals as goal
 
 pub returns-in-Some-clause-quiet : goal.returns-in-Some-clause-quiet
@@ -20,3 +21,9 @@ returns-in-None-clause-own g c =
     let r = c.load_with_room.result in
     let all = c.load_with_room.ensures in
     come-sparing r g.H.Host m c.load_with_room.new.self (name_at ((loom_told g.H.Host m).regs c.args.of)) c.requires.sound.kept.parts.core all.sound c.in-None.ensures.away c.in-None.ensures.leaf all.there all.bounded all.counted all.gentle
+
+pub returns-in-Some-clause-tested : goal.returns-in-Some-clause-tested
+returns-in-Some-clause-tested g c = λ away. absurd (let both : true ≡ false = sym c.in-Some.ensures.there ∙ away in cc)
+
+pub returns-in-None-clause-tested : goal.returns-in-None-clause-tested
+returns-in-None-clause-tested g c = tested-where _ _ _ c.load_with_room.result c.load_with_room.ensures.tested c.in-None.ensures.leaf

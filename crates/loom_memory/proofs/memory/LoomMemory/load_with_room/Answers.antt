@@ -1,5 +1,5 @@
 use Rattle.std.specs.List.{slice_index_or}
-use Rattle.std.proofs.Common.{◌≡◌, ℕ, List, [], None, Some, refl, sym, ◌∙◌, ap, arith}
+use Rattle.std.proofs.Common.{◌≡◌, ℕ, List, [], None, Some, refl, sym, ◌∙◌, ap, subst, arith}
 use Rattle.leaf_lambda.specs.Parts.{core_of}
 use Rattle.loom_memory.specs.Memory.{loom_told, word_in}
 use Rattle.loom_memory.proofs.RegLaws.{word-is}
@@ -18,6 +18,9 @@ use Rattle.long_names.specs.State.{name_at}
 use Rattle.long_names.specs.Need.{words_at}
 use Rattle.object_table.specs.Entries.{place_of}
 use Rattle.loom_memory.proofs.GentleLaws.{bounded-at, entry-at, fetched-same, gentle-from, resident-then, room-from, room-less, place-from}
+use Rattle.loom_memory.specs.Below.{IsTested}
+use Rattle.loom_memory.specs.Damage.{IsDamageOf, words_read}
+use Rattle.loom_memory.proofs.DamageLaws.{room-same}
 use Rattle.loom_memory.proofs.memory.LoomMemory.load_with_room.Goals as goal
 use Rattle.loom_memory.proofs.memory.LoomMemory.load_with_room.Given as given
 
@@ -129,3 +132,31 @@ returns-in-Ok-bring-clause-idle g c = λ at is room.
     let same = c.in-Ok.ensures.idle room refl in
     let here : place_of ((core_of m.parts).entries s).state ≡ Some at = ap (λ (w : ℕ). place_of ((core_of m.parts).entries w).state) (word-here g c) ∙ is in
     c.in-Ok-bring.ensures.idle at (place-from m c.clear.new.self s at same here) ∙ same
+
+pub returns-in-Ok-bring-clause-tested : goal.returns-in-Ok-bring-clause-tested
+returns-in-Ok-bring-clause-tested g c = λ leaf.
+    let m = c.args.self.now in
+    let s = slice_index_or m.regs c.index.result 0 in
+    let named = named-then g.H.Host m c.clear.new.self c.args.of s c.requires.sound c.in-Ok.ensures.sound.kept.parts.core (quiet-ready (loom_told g.H.Host m) (loom_told g.H.Host c.clear.new.self) c.in-Ok.ensures.quiet c.requires.ready) c.requires.name (word-here g c) c.in-Ok.ensures.calm c.in-Ok.ensures.quiet in
+    subst (λ (k : ℕ). IsTested c.bring.new.self k) (sym (ap name_at named.name)) (c.in-Ok-bring.ensures.tested (c.in-Ok.ensures.leaves s (leaf-here g c leaf)))
+
+pub returns-in-Err-clause-damage : goal.returns-in-Err-clause-damage
+returns-in-Err-clause-damage g c = λ room. absurd (c.in-Err.ensures.sure (room-less c.args.self.now.parts (words_read c.clear.new.self) 27 room))
+
+pub returns-in-Err-bring-clause-damage : goal.returns-in-Err-bring-clause-damage
+returns-in-Err-bring-clause-damage g c = λ room.
+    let m = c.args.self.now in
+    let s = slice_index_or m.regs c.index.result 0 in
+    let same = c.in-Ok.ensures.idle (room-less m.parts (words_read c.bring.new.self) 27 room) refl in
+    let is = word-is m.regs c.index.result c.args.of c.index.ensures.same c.index.ensures.within c.requires.sound.kept.many in
+    let named = named-then g.H.Host m c.clear.new.self c.args.of s c.requires.sound c.in-Ok.ensures.sound.kept.parts.core (quiet-ready (loom_told g.H.Host m) (loom_told g.H.Host c.clear.new.self) c.in-Ok.ensures.quiet c.requires.ready) c.requires.name is c.in-Ok.ensures.calm c.in-Ok.ensures.quiet in
+    subst (λ (k : ℕ). IsDamageOf c.bring.new.self.disk.rest k c.in-Err-bring.f) (sym (ap name_at named.name))
+    (c.in-Err-bring.ensures.damage (room-same m c.clear.new.self (words_read c.bring.new.self) same room))
+
+pub returns-else-enough-clause-damage : goal.returns-else-enough-clause-damage
+returns-else-enough-clause-damage g c = λ room.
+    let m = c.args.self.now in
+    let s = slice_index_or m.regs c.index.result 0 in
+    let is = word-is m.regs c.index.result c.args.of c.index.ensures.same c.index.ensures.within c.requires.sound.kept.many in
+    let named = named-then g.H.Host m c.clear.new.self c.args.of s c.requires.sound c.in-Ok.ensures.sound.kept.parts.core (quiet-ready (loom_told g.H.Host m) (loom_told g.H.Host c.clear.new.self) c.in-Ok.ensures.quiet c.requires.ready) c.requires.name is c.in-Ok.ensures.calm c.in-Ok.ensures.quiet in
+    subst (λ (k : ℕ). IsDamageOf c.want.new.self.disk.rest k c.want.result) (sym (ap name_at named.name)) c.want.ensures.damage

@@ -1,7 +1,9 @@
 use Rattle.std.proofs.Common.{refl, ◌∙◌, ap, arith, IsTrue}
 use Rattle.object_record.specs.Buffer.{raw_of}
 use Rattle.object_record.specs.Objects.{object_in}
-use Rattle.core_view.specs.Held.{Disk}
+use Rattle.core_view.specs.Held.{Disk, held}
+use Rattle.loom_outside.specs.declared.outside.Role.TheVariants.{Work}
+use Rattle.loom_memory.proofs.BelowLaws.{own-below}
 use Rattle.leaf_lambda.specs.Parts.{core_of}
 use Rattle.leaf_lambda.proofs.RecordLaws.{unresolved-words}
 use Rattle.disk_objects.specs.Function.{disk_of}
@@ -10,48 +12,89 @@ use Rattle.purger.proofs.EvictLaws.{not-fetched, was-fetched}
 use Rattle.loom_memory.proofs.ExactLaws.{exact-read}
 use Rattle.loom_memory.proofs.CalmLaws.{read-over, work-outside}
 use Rattle.loom_memory.proofs.FieldLaws.{read-only}
-use Rattle.loom_memory.proofs.LambdaLaws.{still-calm, calm-read, damaged-after, fault-after}
+use Rattle.loom_memory.proofs.LambdaLaws.{still-calm, calm-read, fault-after}
 use Rattle.loom_memory.proofs.GentleLaws.{remains-refl}
+use Rattle.loom_memory.proofs.DamageLaws.{nowhere-damage, refusal-damage}
 use Rattle.loom_memory.proofs.memory.LoomMemory.look_up.Goals as goal
 use Rattle.loom_memory.proofs.memory.LoomMemory.look_up.Given as given
 
-pub returns-then-held-clause-quiet : goal.returns-then-held-clause-quiet
+pub returns-else-not-holds_below-clause-quiet : goal.returns-else-not-holds_below-clause-quiet
 unfolding loom_told
-returns-then-held-clause-quiet g c = let m = c.args.self.now in calm-read g.H.Host m m.parts c.fetch.new.disk.host.now c.fetch.new.disk.rest c.requires.sound c.requires.sound.kept.parts (still-calm m.pinned (core_of m.parts)) c.in-Ok.ensures.read c.in-Ok.ensures.rest c.in-Ok.ensures.same (λ told. refl)
+returns-else-not-holds_below-clause-quiet g c = let m = c.args.self.now in calm-read g.H.Host m m.parts c.fetch.new.disk.host.now c.fetch.new.disk.rest c.requires.sound c.requires.sound.kept.parts (still-calm m.pinned (core_of m.parts)) c.in-Ok.ensures.read c.in-Ok.ensures.rest c.in-Ok.ensures.same (λ told. refl)
 
-pub returns-then-held-clause-sized : goal.returns-then-held-clause-sized
+pub returns-else-not-holds_below-clause-sized : goal.returns-else-not-holds_below-clause-sized
 unfolding core_of
-returns-then-held-clause-sized g c =
+returns-else-not-holds_below-clause-sized g c =
     let m = c.args.self.now in
     let disk : Disk = disk_of g.H.Host m.disk.host.now m.disk.rest in
     record {
       object = object_in (raw_of c.fetch.new.buf);
       sized = let all = unresolved-words (raw_of c.fetch.new.buf).body in let is = c.words_of.ensures.words in omega arith;
-      there = λ told. ap (λ (d : Disk). d c.args.name) c.in-Ok.ensures.same ∙ was-fetched c.fetch.new.buf (disk_of g.H.Host m.disk.host.now m.disk.rest c.args.name) c.in-Ok.held c.if-held.true (c.in-Ok.ensures.found told);
+      there = λ told. ap (λ (d : Disk). d c.args.name) c.in-Ok.ensures.same ∙ was-fetched c.fetch.new.buf (disk_of g.H.Host m.disk.host.now m.disk.rest c.args.name) c.in-Ok.held c.if-not-held.false (c.in-Ok.ensures.found told);
     }
 
-pub returns-then-held-clause-outside : goal.returns-then-held-clause-outside
-unfolding loom_outside
-returns-then-held-clause-outside g c = work-outside g.H.Host c.args.self.now.disk.host.now c.fetch.new.disk.host.now (read-only g.H.Host c.args.self.now.disk.host.now c.fetch.new.disk.host.now c.in-Ok.ensures.read)
-
-none-there : (g : given.Over) (c : goal.After-refuse g) → IsTrue (loom_told g.H.Host c.args.self.now).tells → ⊥
-unfolding loom_told
-none-there g c = λ told. c.requires.there told (not-fetched c.fetch.new.buf (disk_of g.H.Host c.args.self.now.disk.host.now c.args.self.now.disk.rest c.args.name) c.in-Ok.held c.if-held.false (c.in-Ok.ensures.found told))
-
-pub returns-else-held-clause-err : goal.returns-else-held-clause-err
-unfolding loom_told
-returns-else-held-clause-err g c = λ a silent none.
+pub returns-else-not-holds_below-clause-record : goal.returns-else-not-holds_below-clause-record
+returns-else-not-holds_below-clause-record g c =
     let m = c.args.self.now in
-    damaged-after (loom_told g.H.Host m) (told_of g.H.Host c.fetch.new.disk.host.now c.fetch.new.disk.rest (core_of m.parts) m.regs m.pinned m.ledger) (loom_told g.H.Host c.refuse.new.self) a _ _ c.refuse.result
-    (calm-read g.H.Host m m.parts c.fetch.new.disk.host.now c.fetch.new.disk.rest c.requires.sound c.requires.sound.kept.parts (still-calm m.pinned (core_of m.parts)) c.in-Ok.ensures.read c.in-Ok.ensures.rest c.in-Ok.ensures.same (λ told. refl))
-    c.refuse.ensures.told c.refuse.ensures.result c.requires.ready silent none c.refuse.ensures.later (none-there g c)
+    let there = c.in-Ok.ensures.record c.if-not-held.false in
+    record {
+      record_there = there.0;
+      named = there.1;
+      sized = let all = unresolved-words (raw_of c.fetch.new.buf).body in let is = c.words_of.ensures.words in omega arith;
+      there = λ told. ap (λ (d : Disk). d c.args.name) c.in-Ok.ensures.same ∙ was-fetched c.fetch.new.buf (disk_of g.H.Host m.disk.host.now m.disk.rest c.args.name) c.in-Ok.held c.if-not-held.false (c.in-Ok.ensures.found told);
+    }
 
-pub returns-else-held-clause-outside : goal.returns-else-held-clause-outside
+pub returns-else-not-holds_below-clause-outside : goal.returns-else-not-holds_below-clause-outside
 unfolding loom_outside
-returns-else-held-clause-outside g c = c.refuse.ensures.outside ∙ work-outside g.H.Host c.args.self.now.disk.host.now c.fetch.new.disk.host.now (read-only g.H.Host c.args.self.now.disk.host.now c.fetch.new.disk.host.now c.in-Ok.ensures.read)
+returns-else-not-holds_below-clause-outside g c = work-outside g.H.Host c.args.self.now.disk.host.now c.fetch.new.disk.host.now (read-only g.H.Host c.args.self.now.disk.host.now c.fetch.new.disk.host.now c.in-Ok.ensures.read)
 
-pub returns-then-held-clause-sound : goal.returns-then-held-clause-sound
-returns-then-held-clause-sound g c =
+none-there : (g : given.Over) (c : goal.After-wrong g) → IsTrue (loom_told g.H.Host c.args.self.now).tells → ⊥
+unfolding loom_told
+none-there g c = λ told. c.requires.there told (not-fetched c.fetch.new.buf (disk_of g.H.Host c.args.self.now.disk.host.now c.args.self.now.disk.rest c.args.name) c.in-Ok.held c.if-not-held.true (c.in-Ok.ensures.found told))
+
+pub returns-then-not-held-clause-err : goal.returns-then-not-held-clause-err
+unfolding loom_told
+returns-then-not-held-clause-err g c = λ a silent none.
+    let m = c.args.self.now in
+    c.wrong.ensures.err (loom_told g.H.Host m) a
+    (calm-read g.H.Host m m.parts c.fetch.new.disk.host.now c.fetch.new.disk.rest c.requires.sound c.requires.sound.kept.parts (still-calm m.pinned (core_of m.parts)) c.in-Ok.ensures.read c.in-Ok.ensures.rest c.in-Ok.ensures.same (λ told. refl))
+    c.requires.ready silent none (none-there g c)
+
+pub returns-then-not-held-clause-outside : goal.returns-then-not-held-clause-outside
+unfolding loom_outside
+returns-then-not-held-clause-outside g c = c.wrong.ensures.outside ∙ work-outside g.H.Host c.args.self.now.disk.host.now c.fetch.new.disk.host.now (read-only g.H.Host c.args.self.now.disk.host.now c.fetch.new.disk.host.now c.in-Ok.ensures.read)
+
+-- where the heap is told, each name in the record has its object
+none-above : (g : given.Over) (c : goal.After-wrong-then-not-holds_below g) → IsTrue (loom_told g.H.Host c.args.self.now).tells → ⊥
+unfolding loom_told
+none-above g c = λ told.
+    let m = c.args.self.now in
+    let disk : Disk = disk_of g.H.Host m.disk.host.now m.disk.rest in
+    let there = was-fetched c.fetch.new.buf (disk c.args.name) c.in-Ok.held c.if-not-held.false (c.in-Ok.ensures.found told) in
+    let below = own-below (g.H.Host.tells Work) (held (core_of m.parts) disk) m.ledger.next (loom_told g.H.Host m).regs (loom_told g.H.Host m).slots c.args.name (object_in (raw_of c.fetch.new.buf)) told (c.requires.ready.whole told) (c.requires.own told ∙ there) in
+    let yes = c.holds_below.ensures.1 below in
+    let no = c.if-not-holds_below.true in
+    absurd (cc)
+
+pub returns-then-not-holds_below-clause-err : goal.returns-then-not-holds_below-clause-err
+unfolding loom_told
+returns-then-not-holds_below-clause-err g c = λ a silent none.
+    let m = c.args.self.now in
+    c.wrong-then-not-holds_below.ensures.err (loom_told g.H.Host m) a
+    (calm-read g.H.Host m m.parts c.fetch.new.disk.host.now c.fetch.new.disk.rest c.requires.sound c.requires.sound.kept.parts (still-calm m.pinned (core_of m.parts)) c.in-Ok.ensures.read c.in-Ok.ensures.rest c.in-Ok.ensures.same (λ told. refl))
+    c.requires.ready silent none (none-above g c)
+
+pub returns-then-not-holds_below-clause-outside : goal.returns-then-not-holds_below-clause-outside
+unfolding loom_outside
+returns-then-not-holds_below-clause-outside g c = c.wrong-then-not-holds_below.ensures.outside ∙ work-outside g.H.Host c.args.self.now.disk.host.now c.fetch.new.disk.host.now (read-only g.H.Host c.args.self.now.disk.host.now c.fetch.new.disk.host.now c.in-Ok.ensures.read)
+
+pub returns-else-not-holds_below-clause-tested : goal.returns-else-not-holds_below-clause-tested
+returns-else-not-holds_below-clause-tested g c =
+    let there = c.in-Ok.ensures.record c.if-not-held.false in
+    record { record_there = there.0; named = there.1; below = c.holds_below.ensures.0 c.if-not-holds_below.false }
+
+pub returns-else-not-holds_below-clause-sound : goal.returns-else-not-holds_below-clause-sound
+returns-else-not-holds_below-clause-sound g c =
     let m = c.args.self.now in
     record {
       kept = c.requires.sound.kept;
@@ -63,14 +106,25 @@ pub returns-in-Err-clause-err : goal.returns-in-Err-clause-err
 unfolding loom_told
 returns-in-Err-clause-err g c = λ a silent none.
     let m = c.args.self.now in
-    fault-after g.H.Host m (loom_told g.H.Host c.refuse-in-Err.new.self) (core_of m.parts) c.fetch.new.disk.host.now c.fetch.new.disk.rest a c.in-Err.f c.refusal_of-f.result c.refuse-in-Err.result
+    fault-after g.H.Host m (loom_told g.H.Host c.refuse.new.self) (core_of m.parts) c.fetch.new.disk.host.now c.fetch.new.disk.rest a c.in-Err.f c.refusal_of-f.result c.refuse.result
     (calm-read g.H.Host m m.parts c.fetch.new.disk.host.now c.fetch.new.disk.rest c.requires.sound c.requires.sound.kept.parts (still-calm m.pinned (core_of m.parts)) c.in-Err.ensures.read c.in-Err.ensures.rest c.in-Err.ensures.same (λ told. refl))
-    c.refuse-in-Err.ensures.told c.refuse-in-Err.ensures.result c.requires.ready silent none c.refuse-in-Err.ensures.later c.in-Err.ensures.fault c.refusal_of-f.ensures
+    c.refuse.ensures.told c.refuse.ensures.result c.requires.ready silent none c.refuse.ensures.later c.in-Err.ensures.fault c.refusal_of-f.ensures
 
 pub returns-in-Err-clause-outside : goal.returns-in-Err-clause-outside
 unfolding loom_outside
-returns-in-Err-clause-outside g c = c.refuse-in-Err.ensures.outside ∙ work-outside g.H.Host c.args.self.now.disk.host.now c.fetch.new.disk.host.now (read-only g.H.Host c.args.self.now.disk.host.now c.fetch.new.disk.host.now c.in-Err.ensures.read)
+returns-in-Err-clause-outside g c = c.refuse.ensures.outside ∙ work-outside g.H.Host c.args.self.now.disk.host.now c.fetch.new.disk.host.now (read-only g.H.Host c.args.self.now.disk.host.now c.fetch.new.disk.host.now c.in-Err.ensures.read)
 
-pub returns-then-held-clause-gentle : goal.returns-then-held-clause-gentle
+pub returns-else-not-holds_below-clause-gentle : goal.returns-else-not-holds_below-clause-gentle
 unfolding loom_told
-returns-then-held-clause-gentle g c = record { remains = remains-refl (core_of c.args.self.now.parts); read = c.in-Ok.ensures.read; cache = refl }
+returns-else-not-holds_below-clause-gentle g c = record { remains = remains-refl (core_of c.args.self.now.parts); read = c.in-Ok.ensures.read; cache = refl }
+
+pub returns-then-not-held-clause-damage : goal.returns-then-not-held-clause-damage
+returns-then-not-held-clause-damage g c = nowhere-damage c.wrong.new.self.disk.rest c.args.name c.wrong.result c.wrong.ensures.is
+
+pub returns-then-not-holds_below-clause-damage : goal.returns-then-not-holds_below-clause-damage
+returns-then-not-holds_below-clause-damage g c = nowhere-damage c.wrong-then-not-holds_below.new.self.disk.rest c.args.name c.wrong-then-not-holds_below.result c.wrong-then-not-holds_below.ensures.is
+
+pub returns-in-Err-clause-damage : goal.returns-in-Err-clause-damage
+returns-in-Err-clause-damage g c =
+    let m = c.args.self.now in
+    refusal-damage (g.H.Host.tells Work) (g.H.Host.faults m.disk.host.now Work) (g.H.Host.faults c.fetch.new.disk.host.now Work) m.disk.rest c.refuse.new.self.disk.rest c.args.name c.in-Err.f c.refusal_of-f.result c.refuse.result c.in-Err.ensures.fault c.in-Err.ensures.damage (c.refuse.ensures.rest ∙ c.in-Err.ensures.rest) c.refusal_of-f.ensures c.refuse.ensures.result

@@ -25,11 +25,15 @@ use Rattle.loom_memory.proofs.RegLaws.{kept-rooted, few-held}
 use Rattle.core_view.proofs.Fresh.{fresh-stays}
 use Rattle.loom_memory.proofs.CalmLaws.{store-calm, calm-kept, work-outside}
 use Rattle.loom_memory.proofs.FieldLaws.{read-only, set-here}
-use Rattle.loom_memory.proofs.LambdaLaws.{still-calm, calm-read, damaged-after, fault-after}
+use Rattle.loom_memory.proofs.LambdaLaws.{still-calm, calm-read, fault-after, lambda-below}
 use Rattle.method_cache.specs.Found.{found}
 use Rattle.purger.proofs.MarkLaws.{within-marks}
 use Rattle.loom_memory.proofs.CacheLaws.{cache-same}
 use Rattle.loom_memory.proofs.GentleLaws.{fetched-same, store-remains}
+use Rattle.loom_memory.specs.Below.{IsBelow}
+use Rattle.object_memory.specs.declared.fault.MemFault.TheVariants.{Damaged}
+use Rattle.purger.specs.declared.eviction.TheConstants.{NOWHERE}
+use Rattle.loom_memory.proofs.DamageLaws.{nowhere-damage, refusal-damage}
 use Rattle.loom_memory.proofs.memory.LoomMemory.read_lambda.Goals as goal
 use Rattle.loom_memory.proofs.memory.LoomMemory.read_lambda.Given as given
 
@@ -40,7 +44,7 @@ pub entry-e-requires-clause-within : goal.entry-e-requires-clause-within
 unfolding core_of
 entry-e-requires-clause-within g c = c.requires.sound.kept.parts.core.within c.args.s.0 (placed-used ((core_of c.args.self.now.parts).entries c.args.s.0).state c.args.at.place c.requires.lambda.place)
 
-fresh-none : (g : given.Over) (c : goal.After-refuse g) → IsTrue (loom_told g.H.Host c.args.self.now).tells → ⊥
+fresh-none : (g : given.Over) (c : goal.After-wrong g) → IsTrue (loom_told g.H.Host c.args.self.now).tells → ⊥
 unfolding loom_told core_of
 fresh-none g c = λ told.
     let m = c.args.self.now in
@@ -50,13 +54,49 @@ pub returns-then-e-clause-err : goal.returns-then-e-clause-err
 unfolding loom_told
 returns-then-e-clause-err g c = λ a silent none.
     let m = c.args.self.now in
-    damaged-after (loom_told g.H.Host m) (told_of g.H.Host c.read_copy.new.disk.host.now c.read_copy.new.disk.rest (core_of m.parts) m.regs m.pinned m.ledger) (loom_told g.H.Host c.refuse.new.self) a _ _ c.refuse.result
+    c.wrong.ensures.err (loom_told g.H.Host m) a
     (calm-read g.H.Host m m.parts c.read_copy.new.disk.host.now c.read_copy.new.disk.rest c.requires.sound c.requires.sound.kept.parts (still-calm m.pinned (core_of m.parts)) c.in-Ok.ensures.read c.in-Ok.ensures.rest c.in-Ok.ensures.same (λ told. refl))
-    c.refuse.ensures.told c.refuse.ensures.result c.requires.ready silent none c.refuse.ensures.later (fresh-none g c)
+    c.requires.ready silent none (fresh-none g c)
 
 pub returns-then-e-clause-outside : goal.returns-then-e-clause-outside
 unfolding loom_outside
-returns-then-e-clause-outside g c = c.refuse.ensures.outside ∙ work-outside g.H.Host c.args.self.now.disk.host.now c.read_copy.new.disk.host.now (read-only g.H.Host c.args.self.now.disk.host.now c.read_copy.new.disk.host.now c.in-Ok.ensures.read)
+returns-then-e-clause-outside g c = c.wrong.ensures.outside ∙ work-outside g.H.Host c.args.self.now.disk.host.now c.read_copy.new.disk.host.now (read-only g.H.Host c.args.self.now.disk.host.now c.read_copy.new.disk.host.now c.in-Ok.ensures.read)
+
+pub long_field-requires-clause-record : goal.long_field-requires-clause-record
+unfolding core_of
+long_field-requires-clause-record g c = (c.in-Ok.ensures.copy (ap (λ (e : Entry). e.flags.fresh) (sym c.entry-e.ensures) ∙ c.if-e.false)).record_there
+
+pub long_field-requires-clause-field : goal.long_field-requires-clause-field
+unfolding core_of
+long_field-requires-clause-field g c = let many = (c.in-Ok.ensures.copy (ap (λ (e : Entry). e.flags.fresh) (sym c.entry-e.ensures) ∙ c.if-e.false)).same_fields in let low = slice_get_within (pointers ((core_of c.args.self.now.parts).entries c.args.s.0).kind ((core_of c.args.self.now.parts).chunks c.args.at.place).words) c.args.i 0 c.requires.lambda.word in omega arith
+
+-- where the heap is told, what a lambda means has its object
+above-none : (g : given.Over) (c : goal.After-wrong-then-not-is_below g) → IsTrue (loom_told g.H.Host c.args.self.now).tells → ⊥
+unfolding loom_told core_of
+above-none g c = λ told.
+    let m = c.args.self.now in
+    let disk : Disk = disk_of g.H.Host m.disk.host.now m.disk.rest in
+    let clean : ((core_of m.parts).entries c.args.s.0).flags.fresh ≡ false = ap (λ (e : Entry). e.flags.fresh) (sym c.entry-e.ensures) ∙ c.if-e.false in
+    let long : slice_get (fields_there (disk ((core_of m.parts).entries c.args.s.0).name)) c.args.i ≡ Some (value_in c.long_field.result) =
+    ap (λ o. slice_get (fields_there o) c.args.i) (c.in-Ok.ensures.there told clean) ∙ ap (λ (vs : List Value). slice_get vs c.args.i) (fields-values (raw_of c.read_copy.new.buf).body)
+    ∙ map-get (longs_of (raw_of c.read_copy.new.buf).body) c.args.i (let many = (c.in-Ok.ensures.copy clean).same_fields in let low = slice_get_within (pointers ((core_of m.parts).entries c.args.s.0).kind ((core_of m.parts).chunks c.args.at.place).words) c.args.i 0 c.requires.lambda.word in omega arith)
+    ∙ ap (λ (x : ℕ). Some (value_in x)) (sym c.long_field.ensures) in
+    let below = lambda-below (g.H.Host.tells Work) (core_of m.parts) disk m.ledger.next c.args.s.0 c.args.at.place c.args.i (value_in c.long_field.result) (loom_told g.H.Host m).regs (loom_told g.H.Host m).slots told c.requires.sound.kept.parts.core (c.requires.ready.whole told) c.requires.lambda long in
+    let yes = c.is_below.ensures.1 below in
+    let no = c.if-not-is_below.true in
+    absurd (cc)
+
+pub returns-then-not-is_below-clause-err : goal.returns-then-not-is_below-clause-err
+unfolding loom_told
+returns-then-not-is_below-clause-err g c = λ a silent none.
+    let m = c.args.self.now in
+    c.wrong-then-not-is_below.ensures.err (loom_told g.H.Host m) a
+    (calm-read g.H.Host m m.parts c.read_copy.new.disk.host.now c.read_copy.new.disk.rest c.requires.sound c.requires.sound.kept.parts (still-calm m.pinned (core_of m.parts)) c.in-Ok.ensures.read c.in-Ok.ensures.rest c.in-Ok.ensures.same (λ told. refl))
+    c.requires.ready silent none (above-none g c)
+
+pub returns-then-not-is_below-clause-outside : goal.returns-then-not-is_below-clause-outside
+unfolding loom_outside
+returns-then-not-is_below-clause-outside g c = c.wrong-then-not-is_below.ensures.outside ∙ work-outside g.H.Host c.args.self.now.disk.host.now c.read_copy.new.disk.host.now (read-only g.H.Host c.args.self.now.disk.host.now c.read_copy.new.disk.host.now c.in-Ok.ensures.read)
 
 pub resolve-requires-clause-light : goal.resolve-requires-clause-light
 resolve-requires-clause-light g c = λ t. let m = c.args.self.now in few-held (core_of m.parts) m.regs m.pinned t (kept-rooted m.parts m.regs m.pinned m.ledger c.requires.sound.kept) c.requires.sound.kept.many
@@ -82,12 +122,12 @@ keeps-of g c = λ told. c.resolve.ensures.keeps (disk_of g.H.Host c.args.self.no
 calm-of : (g : given.Over) (c : goal.After-resolve g) → IsCalm c.args.self.now.pinned (core_of c.args.self.now.parts) (core_of c.resolve.new.p)
 calm-of g c = store-calm c.args.self.now.pinned c.args.s.0 c.args.at.place (core_of c.args.self.now.parts) (core_of c.resolve.new.p) c.requires.sound.kept.parts.core c.resolve.ensures.parts.core c.resolve.ensures.within c.requires.lambda.place (ap (λ (e : Entry). place_of e.state) c.resolve.ensures.entry) (ap (λ (e : Entry). e.name) c.resolve.ensures.entry)
 
-pub returns-else-e-clause-quiet : goal.returns-else-e-clause-quiet
+pub returns-else-not-is_below-clause-quiet : goal.returns-else-not-is_below-clause-quiet
 unfolding loom_told
-returns-else-e-clause-quiet g c = let m = c.args.self.now in calm-read g.H.Host m c.resolve.new.p c.read_copy.new.disk.host.now c.read_copy.new.disk.rest c.requires.sound c.resolve.ensures.parts (calm-of g c) c.in-Ok.ensures.read c.in-Ok.ensures.rest c.in-Ok.ensures.same (λ told. (keeps-of g c told).held)
+returns-else-not-is_below-clause-quiet g c = let m = c.args.self.now in calm-read g.H.Host m c.resolve.new.p c.read_copy.new.disk.host.now c.read_copy.new.disk.rest c.requires.sound c.resolve.ensures.parts (calm-of g c) c.in-Ok.ensures.read c.in-Ok.ensures.rest c.in-Ok.ensures.same (λ told. (keeps-of g c told).held)
 
-pub returns-else-e-clause-sound : goal.returns-else-e-clause-sound
-returns-else-e-clause-sound g c =
+pub returns-else-not-is_below-clause-sound : goal.returns-else-not-is_below-clause-sound
+returns-else-not-is_below-clause-sound g c =
     let m = c.args.self.now in
     record {
       kept = calm-kept m.parts c.resolve.new.p m.regs m.pinned m.ledger c.requires.sound.kept (calm-of g c) c.resolve.ensures.parts (c.resolve.ensures.within.tight c.requires.sound.kept.tight) c.resolve.ensures.size;
@@ -106,11 +146,11 @@ returns-else-e-clause-sound g c =
       exact = exact-brought g.H.Host m.parts c.resolve.new.p m.disk.host.now c.read_copy.new.disk.host.now m.disk.rest c.read_copy.new.disk.rest c.args.s.0 m.ledger.next c.requires.sound.exact c.in-Ok.ensures.rest c.in-Ok.ensures.read c.resolve.ensures.parts (keeps-of g c) c.resolve.ensures.naming c.resolve.ensures.within;
     }
 
-pub returns-else-e-clause-mark : goal.returns-else-e-clause-mark
-returns-else-e-clause-mark g c = ap (λ (e : Entry). e.flags.marked) c.resolve.ensures.entry
+pub returns-else-not-is_below-clause-mark : goal.returns-else-not-is_below-clause-mark
+returns-else-not-is_below-clause-mark g c = ap (λ (e : Entry). e.flags.marked) c.resolve.ensures.entry
 
-pub returns-else-e-clause-at : goal.returns-else-e-clause-at
-returns-else-e-clause-at g c =
+pub returns-else-not-is_below-clause-at : goal.returns-else-not-is_below-clause-at
+returns-else-not-is_below-clause-at g c =
     let m = c.args.self.now in
     let p = c.args.at.place in
     let k = ((core_of m.parts).entries c.args.s.0).kind in
@@ -123,31 +163,31 @@ returns-else-e-clause-at g c =
       },
     )
 
-pub returns-else-e-clause-long : goal.returns-else-e-clause-long
-returns-else-e-clause-long g c = λ told.
+pub returns-else-not-is_below-clause-long : goal.returns-else-not-is_below-clause-long
+returns-else-not-is_below-clause-long g c = λ told.
     ap (λ o. slice_get (fields_there o) c.args.i) (there-of g c told) ∙ ap (λ (vs : List Value). slice_get vs c.args.i) (fields-values (raw_of c.read_copy.new.buf).body)
     ∙ map-get (longs_of (raw_of c.read_copy.new.buf).body) c.args.i (let many = (c.in-Ok.ensures.copy (fresh-is g c)).same_fields in let low = slice_get_within (pointers ((core_of c.args.self.now.parts).entries c.args.s.0).kind ((core_of c.args.self.now.parts).chunks c.args.at.place).words) c.args.i 0 c.requires.lambda.word in omega arith)
     ∙ ap (λ (x : ℕ). Some (value_in x)) (sym c.resolve.ensures.long)
 
-pub returns-else-e-clause-outside : goal.returns-else-e-clause-outside
+pub returns-else-not-is_below-clause-outside : goal.returns-else-not-is_below-clause-outside
 unfolding loom_outside
-returns-else-e-clause-outside g c = work-outside g.H.Host c.args.self.now.disk.host.now c.read_copy.new.disk.host.now (read-only g.H.Host c.args.self.now.disk.host.now c.read_copy.new.disk.host.now c.in-Ok.ensures.read)
+returns-else-not-is_below-clause-outside g c = work-outside g.H.Host c.args.self.now.disk.host.now c.read_copy.new.disk.host.now (read-only g.H.Host c.args.self.now.disk.host.now c.read_copy.new.disk.host.now c.in-Ok.ensures.read)
 
 pub returns-in-Err-clause-err : goal.returns-in-Err-clause-err
 unfolding loom_told
 returns-in-Err-clause-err g c = λ a silent none.
     let m = c.args.self.now in
-    fault-after g.H.Host m (loom_told g.H.Host c.refuse-in-Err.new.self) (core_of m.parts) c.read_copy.new.disk.host.now c.read_copy.new.disk.rest a c.in-Err.f c.refusal_of-f.result c.refuse-in-Err.result
+    fault-after g.H.Host m (loom_told g.H.Host c.refuse.new.self) (core_of m.parts) c.read_copy.new.disk.host.now c.read_copy.new.disk.rest a c.in-Err.f c.refusal_of-f.result c.refuse.result
     (calm-read g.H.Host m m.parts c.read_copy.new.disk.host.now c.read_copy.new.disk.rest c.requires.sound c.requires.sound.kept.parts (still-calm m.pinned (core_of m.parts)) c.in-Err.ensures.read c.in-Err.ensures.rest c.in-Err.ensures.same (λ told. refl))
-    c.refuse-in-Err.ensures.told c.refuse-in-Err.ensures.result c.requires.ready silent none c.refuse-in-Err.ensures.later c.in-Err.ensures.fault c.refusal_of-f.ensures
+    c.refuse.ensures.told c.refuse.ensures.result c.requires.ready silent none c.refuse.ensures.later c.in-Err.ensures.fault c.refusal_of-f.ensures
 
 pub returns-in-Err-clause-outside : goal.returns-in-Err-clause-outside
 unfolding loom_outside
-returns-in-Err-clause-outside g c = c.refuse-in-Err.ensures.outside ∙ work-outside g.H.Host c.args.self.now.disk.host.now c.read_copy.new.disk.host.now (read-only g.H.Host c.args.self.now.disk.host.now c.read_copy.new.disk.host.now c.in-Err.ensures.read)
+returns-in-Err-clause-outside g c = c.refuse.ensures.outside ∙ work-outside g.H.Host c.args.self.now.disk.host.now c.read_copy.new.disk.host.now (read-only g.H.Host c.args.self.now.disk.host.now c.read_copy.new.disk.host.now c.in-Err.ensures.read)
 
-pub returns-else-e-clause-peek : goal.returns-else-e-clause-peek
+pub returns-else-not-is_below-clause-peek : goal.returns-else-not-is_below-clause-peek
 unfolding loom_told
-returns-else-e-clause-peek g c =
+returns-else-not-is_below-clause-peek g c =
     let m = c.args.self.now in
     let x = core_of m.parts in
     let y = core_of c.resolve.new.p in
@@ -161,3 +201,22 @@ returns-else-e-clause-peek g c =
       };
       fetches = fetched-same m _ refl;
     }
+
+pub returns-else-not-is_below-clause-below : goal.returns-else-not-is_below-clause-below
+returns-else-not-is_below-clause-below g c = subst (λ (n : ℕ). IsBelow c.args.self.now.ledger.next (value_in n)) (c.long_field.ensures ∙ sym c.resolve.ensures.long) (c.is_below.ensures.0 c.if-not-is_below.false)
+
+pub returns-then-e-clause-damage : goal.returns-then-e-clause-damage
+unfolding core_of
+returns-then-e-clause-damage g c = nowhere-damage c.wrong.new.self.disk.rest ((core_of c.args.self.now.parts).entries c.args.s.0).name c.wrong.result (c.wrong.ensures.is ∙ ap (λ (e : Entry). Damaged NOWHERE e.name) c.entry-e.ensures)
+
+pub returns-then-not-is_below-clause-damage : goal.returns-then-not-is_below-clause-damage
+unfolding core_of
+returns-then-not-is_below-clause-damage g c = nowhere-damage c.wrong-then-not-is_below.new.self.disk.rest ((core_of c.args.self.now.parts).entries c.args.s.0).name c.wrong-then-not-is_below.result (c.wrong-then-not-is_below.ensures.is ∙ ap (λ (e : Entry). Damaged NOWHERE e.name) c.entry-e.ensures)
+
+pub returns-in-Err-clause-damage : goal.returns-in-Err-clause-damage
+returns-in-Err-clause-damage g c =
+    let m = c.args.self.now in
+    refusal-damage (g.H.Host.tells Work) (g.H.Host.faults m.disk.host.now Work) (g.H.Host.faults c.read_copy.new.disk.host.now Work) m.disk.rest c.refuse.new.self.disk.rest ((core_of m.parts).entries c.args.s.0).name c.in-Err.f c.refusal_of-f.result c.refuse.result c.in-Err.ensures.fault c.in-Err.ensures.damage (c.refuse.ensures.rest ∙ c.in-Err.ensures.rest) c.refusal_of-f.ensures c.refuse.ensures.result
+
+pub returns-else-not-is_below-clause-named : goal.returns-else-not-is_below-clause-named
+returns-else-not-is_below-clause-named g c = ap (λ (e : Entry). e.name) c.resolve.ensures.entry

@@ -14,6 +14,7 @@ use Rattle.loom_memory.proofs.BodyLaws.{part-here, part-still}
 use Rattle.loom_memory.proofs.ReadLaws.{read-answered}
 use Rattle.long_names.specs.State.{name_at}
 use Rattle.loom_memory.proofs.GentleLaws.{amiss-sparing, sparing-ok, sparing-err}
+use Rattle.loom_memory.proofs.DamageLaws.{amiss-damage}
 use Rattle.loom_memory.proofs.memory.LoomMemory.read_words.Goals as goal
 use Rattle.loom_memory.proofs.memory.LoomMemory.read_words.Given as given
 
@@ -69,3 +70,6 @@ returns-else-words_into-clause-own g c = amiss-sparing g.H.Host c.args.self.now 
 
 pub returns-in-Err-clause-own : goal.returns-in-Err-clause-own
 returns-in-Err-clause-own g c = sparing-err g.H.Host c.args.self.now c.load.new.self (name_at ((loom_told g.H.Host c.args.self.now).regs c.args.of)) c.in-Err.f c.in-Err.ensures.own
+
+pub returns-else-words_into-clause-damage : goal.returns-else-words_into-clause-damage
+returns-else-words_into-clause-damage g c = λ room. amiss-damage g.H.Host c.args.self.now c.load.new.self c.args.of c.in-Ok.s.0 c.amiss.new.self.disk.rest c.amiss.result c.in-Ok.ensures.sound c.in-Ok.ensures.quiet c.requires.may.names c.in-Ok.ensures.word c.amiss.ensures.is

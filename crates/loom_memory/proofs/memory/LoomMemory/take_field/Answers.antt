@@ -7,19 +7,17 @@ use Rattle.leaf_lambda.specs.Parts.{core_of}
 use Rattle.loom_memory.specs.Memory.{loom_told}
 use Rattle.disk_objects.specs.Function.{disk_of}
 use Rattle.loom_memory.proofs.LoadLaws.{field-told, field-none}
-use Rattle.loom_memory.proofs.FieldLaws.{told-bounds, at-field, word-live, damaged-refused, taken-is}
+use Rattle.loom_memory.proofs.FieldLaws.{told-bounds, at-field, word-live, taken-is}
 use Rattle.loom_memory.proofs.GentleLaws.{steady-peek}
+use Rattle.loom_memory.proofs.BringLaws.{quiet-same}
+use Rattle.loom_memory.proofs.DamageLaws.{nowhere-damage}
 use Rattle.loom_memory.proofs.memory.LoomMemory.take_field.Goals as goal
 use Rattle.loom_memory.proofs.memory.LoomMemory.take_field.Given as given
 
-pub entry-requires-clause-short : goal.entry-requires-clause-short
-entry-requires-clause-short g c = c.requires.sound.kept.parts.core.short c.args.s.0 (placed-used ((core_of c.args.self.now.parts).entries c.args.s.0).state c.requires.there.0 c.requires.there.1)
+pub amiss-requires-clause-used : goal.amiss-requires-clause-used
+amiss-requires-clause-used g c = placed-used ((core_of c.args.self.now.parts).entries c.args.s.0).state c.requires.there.0 c.requires.there.1
 
-pub entry-requires-clause-within : goal.entry-requires-clause-within
-unfolding core_of
-entry-requires-clause-within g c = c.requires.sound.kept.parts.core.within c.args.s.0 (placed-used ((core_of c.args.self.now.parts).entries c.args.s.0).state c.requires.there.0 c.requires.there.1)
-
-none-there : (g : given.Over) (c : goal.After-refuse g) → IsTrue (loom_told g.H.Host c.args.self.now).tells → ⊥
+none-there : (g : given.Over) (c : goal.After-amiss g) → IsTrue (loom_told g.H.Host c.args.self.now).tells → ⊥
 unfolding loom_told
 none-there g c = λ told.
     let m = c.args.self.now in
@@ -27,7 +25,10 @@ none-there g c = λ told.
     field-none (g.H.Host.tells Work) (core_of m.parts) (disk_of g.H.Host m.disk.host.now m.disk.rest) m.ledger.next c.args.s.0 c.place_of_body-at.result.place c.args.to c.args.of c.args.i (loom_told g.H.Host m).regs told c.requires.sound.kept.parts.core c.place_of_body-at.ensures past (ap (meant (core_of m.parts).entries [] 0) (sym c.requires.word)) (c.requires.may told)
 
 pub returns-then-i-field_total-clause-err : goal.returns-then-i-field_total-clause-err
-returns-then-i-field_total-clause-err g c = let b = told-bounds g.H.Host c.args.self.now in damaged-refused (loom_told g.H.Host c.args.self.now) (loom_told g.H.Host c.refuse.new.self) (Field c.args.to c.args.of c.args.i) _ _ c.refuse.result c.refuse.ensures.told c.refuse.ensures.result c.requires.ready refl tt c.refuse.ensures.later (none-there g c) b.0 b.1
+returns-then-i-field_total-clause-err g c = c.amiss.ensures.err (loom_told g.H.Host c.args.self.now) (Field c.args.to c.args.of c.args.i) (quiet-same g.H.Host c.args.self.now) c.requires.ready tt refl (none-there g c)
+
+pub returns-then-i-field_total-clause-damage : goal.returns-then-i-field_total-clause-damage
+returns-then-i-field_total-clause-damage g c = nowhere-damage c.amiss.new.self.disk.rest ((core_of c.args.self.now.parts).entries c.args.s.0).name c.amiss.result c.amiss.ensures.is
 
 pub field_word-w-requires-clause-there : goal.field_word-w-requires-clause-there
 field_word-w-requires-clause-there g c = at-field (core_of c.args.self.now.parts) c.args.s.0 c.place_of_body-at.result.place c.args.i c.place_of_body-at.ensures (let all = c.field_total.ensures in let low = c.if-i-field_total.false in omega arith)

@@ -12,6 +12,7 @@ use Rattle.loom_memory.proofs.AccessLaws.{quiet-ready}
 use Rattle.loom_memory.proofs.CallLaws.{body-told, leaf-words, refused-at}
 use Rattle.loom_memory.proofs.BringLaws.{unfit-spare, short-same}
 use Rattle.purger.proofs.RoomLaws.{some-of, none-of}
+use Rattle.loom_memory.proofs.DamageLaws.{full-damage}
 use Rattle.loom_memory.proofs.memory.LoomMemory.want.Goals as goal
 
 pub entry-requires-clause-within : goal.entry-requires-clause-within
@@ -52,3 +53,9 @@ returns-in-Ok-clause-err g c = refused-at (loom_told g.H.Host c.args.self.now) (
 
 pub full-requires-in-Ok-clause-ready : goal.full-requires-in-Ok-clause-ready
 full-requires-in-Ok-clause-ready g c = quiet-ready (loom_told g.H.Host c.args.self.now) (loom_told g.H.Host c.look.new.self) c.in-Ok.ensures.quiet c.requires.ready
+
+pub returns-then-is_some-clause-damage : goal.returns-then-is_some-clause-damage
+returns-then-is_some-clause-damage g c = full-damage c.full.new.self.disk.rest ((core_of c.args.self.now.parts).entries c.args.s.0).name c.full.result c.full.ensures.is
+
+pub returns-in-Ok-clause-damage : goal.returns-in-Ok-clause-damage
+returns-in-Ok-clause-damage g c = full-damage c.full-in-Ok.new.self.disk.rest ((core_of c.args.self.now.parts).entries c.args.s.0).name c.full-in-Ok.result c.full-in-Ok.ensures.is

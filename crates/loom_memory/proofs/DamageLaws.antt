@@ -1,0 +1,73 @@
+-- A Damaged names the object of the access.
+use Rattle.std.proofs.Common.{◌≡◌, ℕ, ◌+◌, Bool, List, refl, sym, ◌∙◌, ap, subst, inr, Result, Ok, Err}
+use Rattle.std.specs.Result.{IfErr}
+use Rattle.long_names.specs.Objects.{body_words}
+use Rattle.loom_outside.specs.declared.outside.DiskFault.{DiskFault}
+use Rattle.loom_outside.specs.declared.outside.DiskFault.TheVariants as fault
+use Rattle.object_memory.specs.declared.fault.MemFault.{MemFault}
+use Rattle.object_memory.specs.declared.fault.MemFault.TheVariants.{Damaged, CoreFull}
+use Rattle.object_memory.specs.declared.fault.Need.{Need}
+use Rattle.object_record.specs.Buffer.{raw_of}
+use Rattle.object_record.specs.Objects.{object_in}
+use Rattle.disk_objects.specs.declared.rest.DiskRest.{DiskRest}
+use Rattle.leaf_lambda.specs.declared.parts.Parts.{Parts}
+use Rattle.leaf_lambda.specs.Parts.{core_of}
+use Rattle.purger.specs.declared.eviction.TheConstants.{NOWHERE}
+use Rattle.purger.specs.Purge.{IsReadFault, IsReadDamage, HasRoom}
+use Rattle.loom_memory.specs.declared.memory.LoomMemory.{LoomMemory}
+use Rattle.long_names.specs.State.{name_at, IsRef}
+use Rattle.loom_outside.specs.declared.outside.Host.{Ghosts}
+use Rattle.object_memory.specs.Told.{Told}
+use Rattle.loom_memory.specs.Memory.{loom_told, word_in, IsQuiet, IsRefusalOf, IsSound}
+use Rattle.loom_memory.proofs.GentleLaws.{entry-at}
+use Rattle.loom_memory.specs.Damage.{IsDamageOf, IsDamaged, words_read}
+
+-- the name of a register's object, after a quiet step
+quiet-name : {H : Type 0} (host : Ghosts H) (m u : LoomMemory H) (of s : ℕ) → IsSound host u → IsQuiet (loom_told host m) (loom_told host u) → IsRef ((loom_told host m).regs of) → s ≡ word_in u.regs of → name_at ((loom_told host m).regs of) ≡ ((core_of u.parts).entries s).name
+quiet-name {H} host m u of s sound quiet ref same =
+    let regs : (loom_told host u).regs of ≡ (loom_told host m).regs of = ap (λ (t : Told). t.regs of) quiet.same in
+    ap name_at (sym regs ∙ (entry-at host u of s sound (subst IsRef (sym regs) ref) same).name)
+
+-- what was read can't be so
+pub nowhere-damage : (rest : DiskRest) (name : ℕ) (r : MemFault) → r ≡ Damaged NOWHERE name → IsDamageOf rest name r
+nowhere-damage rest name r is = subst (IsDamageOf rest name) (sym is) (inr refl, refl)
+
+-- it couldn't be read
+pub refusal-damage : (tells : Bool) (before now : ℕ) (rest after : DiskRest) (name : ℕ) (f : DiskFault) (r x : MemFault) → IsReadFault tells before now f → IsReadDamage rest name f → after ≡ rest → IsRefusalOf f r → x ≡ r → IsDamageOf after name x
+refusal-damage tells before now rest after name (fault.Work count) r x cause damage kept is same = subst (IsDamageOf after name) (sym (same ∙ is)) tt
+refusal-damage tells before now rest after name (fault.Full held room) r x cause damage kept is same = absurd cause
+refusal-damage tells before now rest after name (fault.Damaged place about) r x cause damage kept is same =
+    subst (IsDamageOf after name) (sym (same ∙ is)) (subst (λ (d : DiskRest). IsDamageOf d name (Damaged place about)) (sym kept) damage)
+
+-- there is no room
+pub full-damage : (rest : DiskRest) (name : ℕ) (r : MemFault) → (need : Need) × (r ≡ CoreFull need) → IsDamageOf rest name r
+full-damage rest name r is = subst (IsDamageOf rest name) (sym is.1) tt
+
+-- under another name of the object
+pub damage-name : {T : Type 0} (r : Result T MemFault) (rest : DiskRest) (n k : ℕ) → n ≡ k → IfErr r (IsDamageOf rest n) → IfErr r (IsDamageOf rest k)
+damage-name {T} (Ok x) rest n k same is = tt
+damage-name {T} (Err f) rest n k same is = subst (λ (z : ℕ). IsDamageOf rest z f) same is
+
+-- after the record was read
+pub damage-read : {T H : Type 0} (r : Result T MemFault) (m u n : LoomMemory H) (s words : ℕ) → u.parts ≡ m.parts → n.buf ≡ u.buf → 4 + body_words (object_in (raw_of u.buf)).body ≡ words
+    → IfErr r (λ f. HasRoom u.parts words 27 → IsDamageOf n.disk.rest ((core_of u.parts).entries s).name f) → IsDamaged m n ((core_of m.parts).entries s).name r
+damage-read {T} {H} (Ok x) m u n s words parts buf size is = tt
+damage-read {T} {H} (Err f) m u n s words parts buf size is = λ room.
+    let words_is : words_read n ≡ words = ap (λ (bytes : List ℕ). 4 + body_words (object_in (raw_of bytes)).body) buf ∙ size in
+    let there : HasRoom u.parts words 27 = subst (λ (p : Parts). HasRoom p words 27) (sym parts) (subst (λ (k : ℕ). HasRoom m.parts k 27) words_is room) in
+    subst (λ (p : Parts). IsDamageOf n.disk.rest ((core_of p).entries s).name f) parts (is there)
+
+-- room is as before a step that did nothing
+pub room-same : {H : Type 0} (m u : LoomMemory H) (words : ℕ) → u ≡ m → HasRoom m.parts words 27 → HasRoom u.parts words 27
+room-same {H} m u words same room = subst (λ (z : LoomMemory H). HasRoom z.parts words 27) (sym same) room
+
+-- what the object of a register lacks
+pub amiss-damage : {H : Type 0} (host : Ghosts H) (m u : LoomMemory H) (of s : ℕ) (rest : DiskRest) (r : MemFault) → IsSound host u → IsQuiet (loom_told host m) (loom_told host u) → IsRef ((loom_told host m).regs of) → s ≡ word_in u.regs of → r ≡ Damaged NOWHERE ((core_of u.parts).entries s).name
+    → IsDamageOf rest (name_at ((loom_told host m).regs of)) r
+amiss-damage {H} host m u of s rest r sound quiet ref same is =
+    nowhere-damage rest (name_at ((loom_told host m).regs of)) r (is ∙ ap (Damaged NOWHERE) (sym (quiet-name host m u of s sound quiet ref same)))
+
+pub quiet-damage : {T H : Type 0} (r : Result T MemFault) (host : Ghosts H) (m u : LoomMemory H) (of s : ℕ) (rest : DiskRest) (room : Type 0) → IsSound host u → IsQuiet (loom_told host m) (loom_told host u) → IsRef ((loom_told host m).regs of) → s ≡ word_in u.regs of → IfErr r (IsDamageOf rest ((core_of u.parts).entries s).name)
+    → IfErr r (λ f. room → IsDamageOf rest (name_at ((loom_told host m).regs of)) f)
+quiet-damage {T} {H} (Ok x) host m u of s rest room sound quiet ref same is = tt
+quiet-damage {T} {H} (Err f) host m u of s rest room sound quiet ref same is = λ there. subst (λ (k : ℕ). IsDamageOf rest k f) (sym (quiet-name host m u of s sound quiet ref same)) is
