@@ -1,7 +1,8 @@
 -- What a whole run of the model comes to, at a cycle, at its start and at its end.
--- `course_from` has a course by what its beginning came to (`course_begun`). The laws here say what its said, rows and lives are at the
--- bytecode where a run over a memory stopped.
-use Rattle.std.proofs.Common.{zero, suc, ◌≡◌, ℕ, ◌+◌, ◌<◌, ◌≤◌, nat_lt, nat_le, Bool, true, false, cond, eqb, List, [], ◌∷◌, ◌++◌, inl, inr, refl, ◌∙◌, ap, arith, le-leb}
+-- `course_from` has the course of a machine by what its beginning came to; of the machine at rest after something was said it is the
+-- course of the heap with that in front (`course_begun`). The laws here say what its said, rows and lives are at the bytecode where a
+-- run over a memory stopped.
+use Rattle.std.proofs.Common.{zero, suc, ◌≡◌, ℕ, ◌+◌, ◌<◌, ◌≤◌, nat_lt, nat_le, Bool, true, false, cond, eqb, Option, Some, None, List, [], ◌∷◌, ◌++◌, inl, inr, refl, ◌∙◌, ap, arith, le-leb}
 use borrow.Author.Tests.{ltb-true, ltb-false}
 use Rattle.std.proofs.lemmas.Grind.{common_steps}
 use Rattle.long_names.specs.Heap.{Heap}
@@ -11,19 +12,27 @@ use Rattle.blue_model.specs.declared.step.Step.{Step}
 use Rattle.blue_model.specs.declared.step.Step.TheVariants.{Next, Quit, Keep}
 use Rattle.blue_model.specs.Machine.{Machine, LogRow, Outcome, Go, Halt, Spent, log_of, at_rest}
 use Rattle.blue_model.specs.State.{State, begin}
-use Rattle.blue_model.specs.Cycle.{Ran, run_of, one_more, run, run_from, ending, cycle, park_and_draw}
-use Rattle.blue_model.specs.Logs.{Course, course, said_by, said_from, said_after, rows_after, rows_from, rows_of_bytecode, lives, lives_by, lives_from, lives_in_bytecode}
+use Rattle.blue_model.specs.Cycle.{Stopping, ByCause, BySpentNames, Stuck, Ran, run_of, one_more, run, cycle, park_and_draw}
+use Rattle.blue_model.specs.Earlier.{course_with_earlier, ending_of, spoken_in, at_rest_after}
+use Rattle.blue_model.specs.Logs.{Course, course, said_by, rows_after, rows_from, lives, lives_by, lives_from}
 use Rattle.blue_model.proofs.StartLaws.{begin_leaves}
+use Rattle.blue_model.proofs.EndingLaws.{stopping_of}
+use Rattle.blue_model.proofs.EarlierLaws.{course_after}
 use Rattle.blue_model.proofs.CountLaws.{runs_count, came_at}
 use Rattle.contexts.specs.Serves.{IsLogged}
 
 -- by what the beginning came to
-abbrev pub course_from : List Line → ℕ → Outcome (Unit {0}) → Course
-course_from events steps o = record { ending = run_from events steps o; said = λ k. said_from events k o; rows = λ k. rows_from events steps k o; lives = λ k. lives_from events steps k o }
+abbrev pub course_from : List Line → ℕ → Machine → Outcome (Unit {0}) → Course
+course_from events steps before o = record { ending = ending_of events steps before o; said = λ k. spoken_in events k before o; rows = λ k. rows_from events steps k o; lives = λ k. lives_from events steps k o }
 
-pub course_begun : (events : List Line) (steps : ℕ) (state : State) (h : Heap) → course events steps state h ≡ course_from events steps (begin state (at_rest h))
-unfolding ending said_after rows_of_bytecode lives_in_bytecode
-course_begun events steps state h = refl
+pub course_begun : (z : List ℕ) (events : List Line) (steps : ℕ) (state : State) (h : Heap) → course_from events steps (at_rest_after z h) (begin state (at_rest_after z h)) ≡ course_with_earlier z (course events steps state h)
+course_begun z events steps state h = course_after z events steps state h
+
+-- a beginning that stopped
+pub stopped_at_start : (events : List Line) (steps : ℕ) (before : Machine) (o : Outcome (Unit {0})) (why : Stopping) → stopping_of o ≡ Some why → ending_of events steps before o ≡ Stuck why 0 before.transcript
+stopped_at_start events steps before (Go u m log) why e = absurd (cc)
+stopped_at_start events steps before (Halt c log) why e = let same : ByCause c ≡ why = cc in ap (λ x. Stuck x 0 before.transcript) same
+stopped_at_start events steps before (Spent log) why e = let same : BySpentNames ≡ why = cc in ap (λ x. Stuck x 0 before.transcript) same
 
 -- ---- rows behind others
 
@@ -78,12 +87,12 @@ run_on events j (suc k) m n e = ap (λ i. run events i m) (let next : j + suc k 
 
 -- ---- at the start
 
-pub said_at_start : (events : List Line) (state : State) (h : Heap) → said_from events 0 (begin state (at_rest h)) ≡ []
+pub said_at_start : (events : List Line) (state : State) (before : Machine) → spoken_in events 0 before (begin state before) ≡ before.transcript
 unfolding run
-said_at_start events state h = go (begin state (at_rest h)) refl
+said_at_start events state before = go (begin state before) refl
   where
-    go : (o : Outcome (Unit {0})) → begin state (at_rest h) ≡ o → said_from events 0 o ≡ []
-    go (Go u m log) e = (begin_leaves state (at_rest h) m log e).1
+    go : (o : Outcome (Unit {0})) → begin state before ≡ o → spoken_in events 0 before o ≡ before.transcript
+    go (Go u m log) e = (begin_leaves state before m log e).1
     go (Halt c log) e = refl
     go (Spent log) e = refl
 

@@ -2,7 +2,7 @@
 -- `EndsAs` compares a whole run over a memory with `ending` of the model. What the memory keeps is what the model's parked
 -- machine keeps (`parked-kept`): its heap is a thinning of the machine's, whose heap is bounded since the law of whole runs, at
 -- one heap, says that the machine is whole.
-use Rattle.std.proofs.Common.{◌≡◌, ℕ, pos, Bool, false, true, List, Option, Some, None, IsTrue, refl, sym, subst}
+use Rattle.std.proofs.Common.{◌≡◌, ℕ, pos, Bool, false, true, List, [], Option, Some, None, Result, IsTrue, refl, sym, ◌∙◌, ap, subst}
 use Rattle.long_names.specs.declared.value.Value.TheVariants.{Int}
 use Rattle.long_names.specs.Heap.{Heap, Has}
 use Rattle.long_names.specs.Kept.{kept, no_roots}
@@ -15,9 +15,13 @@ use Rattle.blue_model.specs.declared.event.Line.{Line}
 use Rattle.blue_model.specs.State.{State, no_state}
 use Rattle.blue_model.specs.Cycle.{Ending, Parked, Stuck, ending}
 use Rattle.blue_model.specs.Law.{EndingsAgree, HasState}
+use Rattle.blue_model.specs.Logs.{Course, course}
+use Rattle.blue_model.specs.Earlier.{ending_with_earlier, course_with_earlier}
 use Rattle.blue_model.proofs.RunLaws.{endings-agree}
 use Rattle.blue_model.specs.Endings.{OnParked}
-use Rattle.machine_run.specs.Run.{Begins}
+use Rattle.machine_run.specs.declared.running.Finished.{Finished}
+use Rattle.machine_run.specs.declared.running.Halted.{Halted}
+use Rattle.machine_run.specs.Run.{Begins, EndsAs}
 
 -- a fresh memory of a heap begins with it
 pub begins-fresh : (h : Heap) (t : Told) → t ≡ fresh h → Begins h t
@@ -25,9 +29,20 @@ begins-fresh h t e = subst (Begins h) (sym e) record {
   heap = IsThinner-refl h;
   slots = λ i. refl;
   rows = λ class selector method. refl;
-  transcript = λ speaks. refl;
   base = tt;
 }
+
+no_earlier : (c : Course) → course_with_earlier [] c ≡ c
+no_earlier c = ap (λ e. record c { ending = e }) (go c.ending)
+  where
+    go : (e : Ending) → ending_with_earlier [] e ≡ e
+    go (Parked end m drawn) = refl
+    go (Stuck why ran said) = refl
+
+-- over a fresh memory a run says just what the model's run says
+pub ends-fresh : (h : Heap) (t new : Told) (run : Result Finished Halted) (events : List Line) (steps : ℕ) (state : State) → t ≡ fresh h → IsTrue t.tells → (IsTrue t.tells → (k : Heap) → Begins k t → EndsAs new run (course_with_earlier t.transcript (course events steps state k))) → EndsAs new run (course events steps state h)
+ends-fresh h t new run events steps state e tells ends =
+    subst (EndsAs new run) (ap (λ (u : Told). course_with_earlier u.transcript (course events steps state h)) e ∙ no_earlier (course events steps state h)) (ends tells h (begins-fresh h t e))
 
 -- no state names nothing
 pub nameless : (h : Heap) → HasState no_state h

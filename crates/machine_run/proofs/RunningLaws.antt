@@ -29,6 +29,7 @@ use Rattle.blue_model.specs.Devices.{clock, picture}
 use Rattle.blue_model.proofs.FailLaws.{picture_leaves}
 use Rattle.blue_model.specs.Contexts.{start, park}
 use Rattle.blue_model.specs.State.{State, begin, restore, tick_or}
+use Rattle.blue_model.specs.Earlier.{ending_with_earlier, course_with_earlier, at_rest_after}
 use Rattle.blue_model.specs.Cycle.{Ran, Stopped, Stopping, ByCause, BySpentNames, Ending, Parked, ending, run_of, one_more, run, ended, parked, run_from, cycle, park_and_draw, count_bytecode}
 use Rattle.blue_model.specs.Logs.{Course, course, said_by, rows_after, lives, lives_by, living, IsLive, made_in, AreWithin, rows_of_bytecode}
 use Rattle.blue_model.specs.Logs as logs
@@ -47,11 +48,11 @@ use Rattle.contexts.proofs.ServesLaws.{fits_later, Gives-after, serves_stop, say
 use Rattle.contexts.proofs.CacheLaws.{sound_follows}
 use Rattle.machine_run.specs.States.{word_held, model_state, state_held}
 use Rattle.machine_run.specs.Run.{Reaches, IsSettled, IsFullIn, StopsIn, IsWorkFault, StopsAfter, RunsAs, HasFault, FaultsBy, CountsAll, Begins, HasSaid, IsHalt, Awaits, GoesThrough, GoesAs, DrawsAs, HaltsAs}
-use Rattle.machine_run.proofs.CourseLaws.{course_from, run_on, course_begun, logged_behind, rows_at_cycle, lives_at_cycle, next_cycle, said_at_start, rows_at_start, rows_at_end, said_at_end}
+use Rattle.machine_run.proofs.CourseLaws.{course_from, stopped_at_start, run_on, course_begun, logged_behind, rows_at_cycle, lives_at_cycle, next_cycle, said_at_start, rows_at_start, rows_at_end, said_at_end}
 use Rattle.machine_run.proofs.RoomLaws.{living_stands, full_lives, unmade}
 use Rattle.object_memory.specs.declared.fault.Need.{Need}
 use Rattle.blue_model.specs.Endings.{OnParked, OnDrawn, IsParkedBy, IsStuckBy, HasCounted, is_last, said_in}
-use Rattle.blue_model.proofs.EndingLaws.{last_stays, stopping_of, run_stopped, stopped_by, parked_by, started_by}
+use Rattle.blue_model.proofs.EndingLaws.{last_stays, stopping_of, run_stopped, stopped_by, parked_by}
 use Rattle.machine_run.specs.declared.running.Reason.{Reason}
 use Rattle.machine_run.specs.declared.running.Reason.TheVariants.{ByStop, NoMemory}
 use Rattle.machine_run.specs.declared.running.Finished.{Finished}
@@ -340,10 +341,10 @@ halts w o new now (Mem (Said count)) ran c said g f at rows full more s = record
 halts w o new now (Mem Memory) ran c said g f at rows full more s = record { stops = tt; says = λ speaks. s speaks ∙ sym at; own = λ own. never own }
 
 -- a stop in a cycle, of a run from the machine that a start came to
-pub run_stops : (events : List Line) (old new : Told) (now : Cpu) (e : Stop) (steps : ℕ) (u : Unit {0}) (m : Machine) (log : List LogRow) → m.cpu.ran ≡ 0 → IsSettled old → StopsIn events old new now e steps m → IsHalt e now.ran new (course_from events steps (Go u m log))
-run_stops events old new now e steps u m log fresh settled x =
-    subst (λ k. IsHalt e k new (course_from events steps (Go u m log))) same
-    (halts (Some Next) (cycle events x.machine) new now e x.done (course_from events steps (Go u m log)) x.machine.transcript x.gives by (ap said_by x.ran) rows full more x.said)
+pub run_stops : (events : List Line) (before : Machine) (old new : Told) (now : Cpu) (e : Stop) (steps : ℕ) (u : Unit {0}) (m : Machine) (log : List LogRow) → m.cpu.ran ≡ 0 → IsSettled old → StopsIn events old new now e steps m → IsHalt e now.ran new (course_from events steps before (Go u m log))
+run_stops events before old new now e steps u m log fresh settled x =
+    subst (λ k. IsHalt e k new (course_from events steps before (Go u m log))) same
+    (halts (Some Next) (cycle events x.machine) new now e x.done (course_from events steps before (Go u m log)) x.machine.transcript x.gives by (ap said_by x.ran) rows full more x.said)
   where
     count : x.machine.cpu.ran ≡ x.done
     count = let all = runs_count events x.done m x.machine x.ran in omega arith
@@ -379,13 +380,13 @@ run_stops events old new now e steps u m log fresh settled x =
         go (Spent rows) f g = absurd g
 
 -- and one in a settling
-pub unsettled_stops : (events : List Line) (new : Told) (now : Cpu) (e : Stop) (steps : ℕ) (u : Unit {0}) (m : Machine) (log : List LogRow) → m.cpu.ran ≡ 0 → StopsAfter events new now e steps m → IsHalt e now.ran new (course_from events steps (Go u m log))
-unsettled_stops events new now e steps u m log fresh x = go e x.fault
+pub unsettled_stops : (events : List Line) (before : Machine) (new : Told) (now : Cpu) (e : Stop) (steps : ℕ) (u : Unit {0}) (m : Machine) (log : List LogRow) → m.cpu.ran ≡ 0 → StopsAfter events new now e steps m → IsHalt e now.ran new (course_from events steps before (Go u m log))
+unsettled_stops events before new now e steps u m log fresh x = go e x.fault
   where
     at : said_by (run events now.ran m) ≡ x.machine.transcript
     at = subst (λ k. said_by (run events k m) ≡ x.machine.transcript) x.count (said_at_end events x.done x.end m x.machine fresh x.ran)
 
-    go : (e : Stop) → IsWorkFault e → IsHalt e now.ran new (course_from events steps (Go u m log))
+    go : (e : Stop) → IsWorkFault e → IsHalt e now.ran new (course_from events steps before (Go u m log))
     go (Stuck c) h = absurd h
     go (Mem (WorkFault count)) h = record { stops = tt; says = λ speaks. x.said speaks ∙ sym at; own = λ own. never own }
     go (Mem (CoreFull need)) h = absurd h
@@ -397,21 +398,25 @@ unsettled_stops events new now e steps u m log fresh x = go e x.fault
 
 -- ---- the start
 
+-- the machine at rest that has said what a memory has
+abbrev pub rested : Heap → Told → Machine
+rested h t = at_rest_after t.transcript h
+
 -- the machine that a memory stands for with which nothing was done yet
 abbrev pub fresh_machine : Heap → Told → Cpu → Machine
-fresh_machine h t cpu = record { heap = h; regs = t.regs; slots = λ i. None; transcript = []; cpu = cpu; largest = 0 }
+fresh_machine h t cpu = record (rested h t) { regs = t.regs; cpu = cpu }
 
 -- its start is that of the machine at rest
-pub starts_same : (h : Heap) (t : Told) (cpu : Cpu) → start (fresh_machine h t cpu) ≡ start (at_rest h)
+pub starts_same : (h : Heap) (t : Told) (cpu : Cpu) → start (fresh_machine h t cpu) ≡ start (rested h t)
 unfolding start ◌>>=◌ clear set_numbers
 starts_same h t cpu = refl
 
-pub begins_same : (state : State) (h : Heap) (t : Told) (cpu : Cpu) → begin state (fresh_machine h t cpu) ≡ begin state (at_rest h)
+pub begins_same : (state : State) (h : Heap) (t : Told) (cpu : Cpu) → begin state (fresh_machine h t cpu) ≡ begin state (rested h t)
 unfolding begin ◌>>=◌
 begins_same state h t cpu = ap (λ (o : Outcome (Unit {0})). then_do o (λ _. restore state)) (starts_same h t cpu)
 
 -- a machine that made nothing made nothing too large
-fits_none : (bounds : Option Bounds) → IfBounds bounds (λ b. 0 ≤ b.core)
+pub fits_none : (bounds : Option Bounds) → IfBounds bounds (λ b. 0 ≤ b.core)
 fits_none None = tt
 fits_none (Some b) = omega arith
 
@@ -422,7 +427,7 @@ fresh_stands h t cpu b = record {
   slots = fun_ext (λ i. sym (b.slots i));
   numbers = refl;
   fits = fits_none t.bounds;
-  transcript = b.transcript;
+  transcript = λ speaks. refl;
   cache = record { sound = λ c s m e. (let no : ◌≡◌ {A = Bool} false true = sym (b.rows c s m) ∙ e in absurd (cc)) };
 }
 
@@ -445,30 +450,30 @@ faults_exit {A} old new e r is h =
 -- ---- whole runs
 
 -- the beginning was made
-begun : (state : State) (h : Heap) (a mid : Told) (cpu between : Cpu) → IsTrue a.tells → Begins h a → Serves a cpu mid between (begin state) (Ok tt) → IsGo tt (Stands mid between) (begin state (at_rest h))
+begun : (state : State) (h : Heap) (a mid : Told) (cpu between : Cpu) → IsTrue a.tells → Begins h a → Serves a cpu mid between (begin state) (Ok tt) → IsGo tt (Stands mid between) (begin state (rested h a))
 begun state h a mid cpu between told b s = subst (IsGo tt (Stands mid between)) (begins_same state h a cpu) (s.model told (fresh_machine h a cpu) (fresh_stands h a cpu b))
 
 -- the law of a whole run, by what its beginning came to
-whole : (P : Course → Type 0) (events : List Line) (steps : ℕ) (state : State) (h : Heap) → P (course_from events steps (begin state (at_rest h))) → P (course events steps state h)
-whole P events steps state h x = subst P (sym (course_begun events steps state h)) x
+whole : (P : Course → Type 0) (events : List Line) (steps : ℕ) (state : State) (h : Heap) (a : Told) → P (course_from events steps (rested h a) (begin state (rested h a))) → P (course_with_earlier a.transcript (course events steps state h))
+whole P events steps state h a x = subst P (course_begun a.transcript events steps state h) x
 
-pub goes_start : (events : List Line) (steps : ℕ) (state : State) (h : Heap) (a new : Told) (cpu now : Cpu) (e : Stop) → IsTrue a.tells → Begins h a → Serves {A = Unit {0}} a cpu new now (begin state) (Err e) → now.ran ≡ 0 → IsHalt e now.ran new (course events steps state h)
+pub goes_start : (events : List Line) (steps : ℕ) (state : State) (h : Heap) (a new : Told) (cpu now : Cpu) (e : Stop) → IsTrue a.tells → Begins h a → Serves {A = Unit {0}} a cpu new now (begin state) (Err e) → now.ran ≡ 0 → IsHalt e now.ran new (course_with_earlier a.transcript (course events steps state h))
 goes_start events steps state h a new cpu now e told b s same =
-    whole (IsHalt e now.ran new) events steps state h
-    (subst (λ k. IsHalt e k new (course_from events steps (begin state (at_rest h)))) (sym same)
-    (halts None (begin state (at_rest h)) new now e 0 (course_from events steps (begin state (at_rest h))) []
+    whole (IsHalt e now.ran new) events steps state h a
+    (subst (λ k. IsHalt e k new (course_from events steps (rested h a) (begin state (rested h a)))) (sym same)
+    (halts None (begin state (rested h a)) new now e 0 (course_from events steps (rested h a) (begin state (rested h a))) a.transcript
     (subst (Gives {A = Unit {0}} new now (Err e)) (begins_same state h a cpu) (s.model told (fresh_machine h a cpu) (fresh_stands h a cpu b)))
-    (started_by events steps (begin state (at_rest h)))
-    (said_at_start events state h)
-    (rows_at_start events steps (begin state (at_rest h)))
-    (λ makes. absurd (unmade new.heap.next (log_of (begin state (at_rest h))) (none_made (begin state) (at_rest h) (none-begin state)) makes))
+    (stopped_at_start events steps (rested h a) (begin state (rested h a)))
+    (said_at_start events state (rested h a))
+    (rows_at_start events steps (begin state (rested h a)))
+    (λ makes. absurd (unmade new.heap.next (log_of (begin state (rested h a))) (none_made (begin state) (rested h a) (none-begin state)) makes))
     (λ may. absurd may)
-    (λ speaks. let spoke = sym s.later.speaks ∙ speaks in said_before e a new [] spoke (b.transcript spoke) s.silent)))
+    (λ speaks. let spoke = sym s.later.speaks ∙ speaks in said_before e a new a.transcript spoke refl s.silent)))
 
 -- After a beginning the memory's number of living objects is that of the machine, and it has made nothing.
 pub start_settled : (state : State) (h : Heap) (a mid : Told) (cpu between : Cpu) → IsTrue a.tells → Begins h a → IsReady mid → HasRest mid → Serves a cpu mid between (begin state) (Ok tt) → IsSettled mid
 unfolding living
-start_settled state h a mid cpu between told b ready rest s = at (begin state (at_rest h)) (begun state h a mid cpu between told b s) refl
+start_settled state h a mid cpu between told b ready rest s = at (begin state (rested h a)) (begun state h a mid cpu between told b s) refl
   where
     now : IsTrue mid.tells
     now = s.later.tells ∙ told
@@ -483,23 +488,23 @@ start_settled state h a mid cpu between told b ready rest s = at (begin state (a
     bounds n st same k none (Some x) None r i = absurd r
     bounds n st same k none (Some x) (Some y) r i = ((let made = r.1 in let zero = i.0 in omega arith), kept_here n st same y.base (subst (CountsAll h) (sym r.0) i.1))
 
-    at : (o : Outcome (Unit {0})) → IsGo tt (Stands mid between) o → begin state (at_rest h) ≡ o → IsSettled mid
+    at : (o : Outcome (Unit {0})) → IsGo tt (Stands mid between) o → begin state (rested h a) ≡ o → IsSettled mid
     at (Go u n log) g e =
-        let l = begin_leaves state (at_rest h) n log e in
+        let l = begin_leaves state (rested h a) n log e in
         let counts = s.counts in
         let none : counts.0 ≡ 0 = (let next = counts.1.next told in let first = b.heap.next in let last = g.1.heap.next in let same : n.heap.next ≡ h.next = ap (λ (x : Heap). x.next) l.0 in omega arith) in
         bounds n g.1 l.0 counts.0 none a.bounds mid.bounds counts.1.counts b.base
     at (Halt c log) g e = absurd g
     at (Spent log) g e = absurd g
 
-pub goes_run : (events : List Line) (steps : ℕ) (state : State) (h : Heap) (a mid new : Told) (cpu between now : Cpu) (e : Stop) → IsTrue a.tells → Begins h a → Serves a cpu mid between (begin state) (Ok tt) → between.ran ≡ 0 → IsSettled mid → ((m : Machine) → Stands mid between m → RunsAs events mid new now steps m (Err e)) → IsHalt e now.ran new (course events steps state h)
-goes_run events steps state h a mid new cpu between now e told b s fresh settled runs = whole (IsHalt e now.ran new) events steps state h (go (begin state (at_rest h)) (begun state h a mid cpu between told b s))
+pub goes_run : (events : List Line) (steps : ℕ) (state : State) (h : Heap) (a mid new : Told) (cpu between now : Cpu) (e : Stop) → IsTrue a.tells → Begins h a → Serves a cpu mid between (begin state) (Ok tt) → between.ran ≡ 0 → IsSettled mid → ((m : Machine) → Stands mid between m → RunsAs events mid new now steps m (Err e)) → IsHalt e now.ran new (course_with_earlier a.transcript (course events steps state h))
+goes_run events steps state h a mid new cpu between now e told b s fresh settled runs = whole (IsHalt e now.ran new) events steps state h a (go (begin state (rested h a)) (begun state h a mid cpu between told b s))
   where
-    either : (u : Unit {0}) (m : Machine) (log : List LogRow) → m.cpu.ran ≡ 0 → RunsAs events mid new now steps m (Err e) → IsHalt e now.ran new (course_from events steps (Go u m log))
-    either u m log f (inl x) = run_stops events mid new now e steps u m log f settled x
-    either u m log f (inr x) = unsettled_stops events new now e steps u m log f x
+    either : (u : Unit {0}) (m : Machine) (log : List LogRow) → m.cpu.ran ≡ 0 → RunsAs events mid new now steps m (Err e) → IsHalt e now.ran new (course_from events steps (rested h a) (Go u m log))
+    either u m log f (inl x) = run_stops events (rested h a) mid new now e steps u m log f settled x
+    either u m log f (inr x) = unsettled_stops events (rested h a) new now e steps u m log f x
 
-    go : (o : Outcome (Unit {0})) → IsGo tt (Stands mid between) o → IsHalt e now.ran new (course_from events steps o)
+    go : (o : Outcome (Unit {0})) → IsGo tt (Stands mid between) o → IsHalt e now.ran new (course_from events steps (rested h a) o)
     go (Go u m log) g = either u m log (ap (λ (c : Cpu). c.ran) g.1.numbers ∙ fresh) (runs m g.1)
     go (Halt c log) g = absurd g
     go (Spent log) g = absurd g
@@ -511,15 +516,15 @@ rows_behind events steps end m n log ran fresh e count need h = logged_behind ne
 said_behind : (events : List Line) (steps : ℕ) (end : Step) (m n : Machine) (ran : ℕ) → m.cpu.ran ≡ 0 → run events steps m ≡ Ran end n → n.cpu.ran ≡ ran → said_by (run events ran m) ≡ n.transcript
 said_behind events steps end m n ran fresh e count = subst (λ k. said_by (run events k m) ≡ n.transcript) count (said_at_end events steps end m n fresh e)
 
-pub goes_park : (events : List Line) (end : Step) (steps : ℕ) (state : State) (h : Heap) (a mid far new : Told) (cpu between then now : Cpu) (e : Stop) → IsTrue a.tells → Begins h a → Serves a cpu mid between (begin state) (Ok tt) → between.ran ≡ 0 → ((m : Machine) → Stands mid between m → Reaches events far then end steps m) → IsTrue far.tells → Serves {A = Unit {0}} far then new now park (Err e) → now ≡ then → IsHalt e now.ran new (course events steps state h)
+pub goes_park : (events : List Line) (end : Step) (steps : ℕ) (state : State) (h : Heap) (a mid far new : Told) (cpu between then now : Cpu) (e : Stop) → IsTrue a.tells → Begins h a → Serves a cpu mid between (begin state) (Ok tt) → between.ran ≡ 0 → ((m : Machine) → Stands mid between m → Reaches events far then end steps m) → IsTrue far.tells → Serves {A = Unit {0}} far then new now park (Err e) → now ≡ then → IsHalt e now.ran new (course_with_earlier a.transcript (course events steps state h))
 unfolding park_and_draw
-goes_park events end steps state h a mid far new cpu between then now e told b s fresh runs tells p same = whole (IsHalt e now.ran new) events steps state h (go (begin state (at_rest h)) (begun state h a mid cpu between told b s))
+goes_park events end steps state h a mid far new cpu between then now e told b s fresh runs tells p same = whole (IsHalt e now.ran new) events steps state h a (go (begin state (rested h a)) (begun state h a mid cpu between told b s))
   where
-    at : (u : Unit {0}) (m : Machine) (log : List LogRow) → m.cpu.ran ≡ 0 → Reaches events far then end steps m → IsHalt e now.ran new (course_from events steps (Go u m log))
+    at : (u : Unit {0}) (m : Machine) (log : List LogRow) → m.cpu.ran ≡ 0 → Reaches events far then end steps m → IsHalt e now.ran new (course_from events steps (rested h a) (Go u m log))
     at u m log f x =
         let count = ap (λ (c : Cpu). c.ran) (x.stands.numbers ∙ sym same) in
         let all : Serves {A = List ℕ} far then new now (park >>= λ _. picture) (Err e) = serves_stop (λ _. picture) p in
-        halts None (park_and_draw x.machine) new now e now.ran (course_from events steps (Go u m log)) x.machine.transcript (all.model tells x.machine x.stands)
+        halts None (park_and_draw x.machine) new now e now.ran (course_from events steps (rested h a) (Go u m log)) x.machine.transcript (all.model tells x.machine x.stands)
         (λ why g. ap ended x.ran ∙ parked_by end x.machine (park_and_draw x.machine) why g ∙ ap (λ k. model.Stuck why k x.machine.transcript) count)
         (said_behind events steps end m x.machine now.ran f x.ran count)
         (rows_behind events steps end m x.machine log now.ran f x.ran count)
@@ -527,16 +532,16 @@ goes_park events end steps state h a mid far new cpu between then now e told b s
         (λ may. absurd may)
         (λ speaks. let spoke = sym p.later.speaks ∙ speaks in said_before e far new x.machine.transcript spoke (x.stands.transcript spoke) p.silent)
 
-    go : (o : Outcome (Unit {0})) → IsGo tt (Stands mid between) o → IsHalt e now.ran new (course_from events steps o)
+    go : (o : Outcome (Unit {0})) → IsGo tt (Stands mid between) o → IsHalt e now.ran new (course_from events steps (rested h a) o)
     go (Go u m log) g = at u m log (ap (λ (c : Cpu). c.ran) g.1.numbers ∙ fresh) (runs m g.1)
     go (Halt c log) g = absurd g
     go (Spent log) g = absurd g
 
-pub goes_through : (events : List Line) (end : Step) (steps : ℕ) (state : State) (h : Heap) (a mid far new : Told) (cpu between then now : Cpu) → IsTrue a.tells → Begins h a → Serves a cpu mid between (begin state) (Ok tt) → between.ran ≡ 0 → ((m : Machine) → Stands mid between m → Reaches events far then end steps m) → IsTrue far.tells → Serves far then new now park (Ok tt) → now ≡ then → Awaits new now end (course events steps state h)
+pub goes_through : (events : List Line) (end : Step) (steps : ℕ) (state : State) (h : Heap) (a mid far new : Told) (cpu between then now : Cpu) → IsTrue a.tells → Begins h a → Serves a cpu mid between (begin state) (Ok tt) → between.ran ≡ 0 → ((m : Machine) → Stands mid between m → Reaches events far then end steps m) → IsTrue far.tells → Serves far then new now park (Ok tt) → now ≡ then → Awaits new now end (course_with_earlier a.transcript (course events steps state h))
 unfolding park_and_draw ◌>>=◌
-goes_through events end steps state h a mid far new cpu between then now told b s fresh runs tells p same = whole (Awaits new now end) events steps state h (go (begin state (at_rest h)) (begun state h a mid cpu between told b s))
+goes_through events end steps state h a mid far new cpu between then now told b s fresh runs tells p same = whole (Awaits new now end) events steps state h a (go (begin state (rested h a)) (begun state h a mid cpu between told b s))
   where
-    awaits : (u : Unit {0}) (m : Machine) (log : List LogRow) → m.cpu.ran ≡ 0 → (x : Reaches events far then end steps m) (o : Outcome (Unit {0})) → park x.machine ≡ o → IsGo tt (Stands new now) o → Awaits new now end (course_from events steps (Go u m log))
+    awaits : (u : Unit {0}) (m : Machine) (log : List LogRow) → m.cpu.ran ≡ 0 → (x : Reaches events far then end steps m) (o : Outcome (Unit {0})) → park x.machine ≡ o → IsGo tt (Stands new now) o → Awaits new now end (course_from events steps (rested h a) (Go u m log))
     awaits u m log f x (Go v n rows) e g =
         let count = ap (λ (c : Cpu). c.ran) (x.stands.numbers ∙ sym same) in
         let drawn : park_and_draw x.machine ≡ after rows (picture n) = ap (λ (o : Outcome (Unit {0})). then_do o (λ _. picture)) e in record {
@@ -554,7 +559,7 @@ goes_through events end steps state h a mid far new cpu between then now told b 
     awaits u m log f x (Halt c rows) e g = absurd g
     awaits u m log f x (Spent rows) e g = absurd g
 
-    go : (o : Outcome (Unit {0})) → IsGo tt (Stands mid between) o → Awaits new now end (course_from events steps o)
+    go : (o : Outcome (Unit {0})) → IsGo tt (Stands mid between) o → Awaits new now end (course_from events steps (rested h a) o)
     go (Go u m log) g = let x = runs m g.1 in awaits u m log (ap (λ (c : Cpu). c.ran) g.1.numbers ∙ fresh) x (park x.machine) refl (p.model tells x.machine x.stands)
     go (Halt c log) g = absurd g
     go (Spent log) g = absurd g
@@ -573,14 +578,14 @@ fits_parked (Some b) n (Parked end m drawn) is fits = subst (λ (x : Machine). x
 fits_parked (Some b) n (model.Stuck why ran said) is fits = absurd is
 
 -- nor does it make a larger one in any of its bytecodes
-pub rows_fit : (events : List Line) (steps : ℕ) (state : State) (h : Heap) (new : Told) (finished : Finished) → GoesThrough new finished (course events steps state h) → IfBounds new.bounds (λ b. (k : ℕ) → AreWithin b.core ((course events steps state h).rows k))
-rows_fit events steps state h new finished x = at new.bounds x.fits
+pub rows_fit : (z : List ℕ) (events : List Line) (steps : ℕ) (state : State) (h : Heap) (new : Told) (finished : Finished) → GoesThrough new finished (course_with_earlier z (course events steps state h)) → IfBounds new.bounds (λ b. (k : ℕ) → AreWithin b.core ((course events steps state h).rows k))
+rows_fit z events steps state h new finished x = at new.bounds x.fits
   where
-    of : (words k : ℕ) (run : Ending) → ending events steps state h ≡ run → OnParked run (λ m. m.largest ≤ words) → AreWithin words (rows_of_bytecode events steps state h k)
+    of : (words k : ℕ) (run : Ending) → ending events steps state h ≡ run → OnParked (ending_with_earlier z run) (λ m. m.largest ≤ words) → AreWithin words (rows_of_bytecode events steps state h k)
     of words k (Parked end m drawn) is few = within_more m.largest words (rows_of_bytecode events steps state h k) few (whole_within events steps k state h end m drawn is)
     of words k (model.Stuck why ran said) is few = absurd few
 
-    at : (bounds : Option Bounds) → IfBounds bounds (λ b. OnParked (ending events steps state h) (λ m. m.largest ≤ b.core)) → IfBounds bounds (λ b. (k : ℕ) → AreWithin b.core (rows_of_bytecode events steps state h k))
+    at : (bounds : Option Bounds) → IfBounds bounds (λ b. OnParked (ending_with_earlier z (ending events steps state h)) (λ m. m.largest ≤ b.core)) → IfBounds bounds (λ b. (k : ℕ) → AreWithin b.core (rows_of_bytecode events steps state h k))
     at None fits = tt
     at (Some b) fits = λ k. of b.core k (ending events steps state h) refl fits
 

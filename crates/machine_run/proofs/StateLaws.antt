@@ -25,6 +25,7 @@ use Rattle.contexts.specs.Serves.{Stands, IsGo, Gives, Serves}
 use Rattle.contexts.proofs.ServesLaws.{serves_then, by_model}
 use Rattle.devices.specs.States.{word_by, state_by, StaysThere}
 use Rattle.machine_run.specs.Run.{Begins}
+use Rattle.machine_run.proofs.RunningLaws.{fits_none}
 use Rattle.machine_run.specs.States.{IsUncached, KeepsWord, is_long_name, word_held, state_held, word_left, state_left, HasLongNames}
 
 -- ---- the beginning
@@ -40,7 +41,7 @@ starts_keeping : (a mid : Told) (cpu between : Cpu) → IsReady a → IsReady mi
 starts_keeping a mid cpu between before ready s told none = go (start machine) (s.model told machine stands) (start_leaves machine)
   where
     machine : Machine
-    machine = record { heap = a.heap; regs = a.regs; slots = a.slots; transcript = a.transcript; cpu = cpu }
+    machine = record { heap = a.heap; regs = a.regs; slots = a.slots; transcript = a.transcript; cpu = cpu; largest = 0 }
 
     stands : Stands a cpu machine
     stands = record {
@@ -48,6 +49,7 @@ starts_keeping a mid cpu between before ready s told none = go (start machine) (
       regs = λ r low. refl;
       slots = refl;
       numbers = refl;
+      fits = fits_none a.bounds;
       transcript = λ speaks. refl;
       cache = record { sound = λ c s m e. (let no : ◌≡◌ {A = Bool} false true = sym (none c s m) ∙ e in absurd (cc)) };
     }

@@ -116,13 +116,12 @@ abbrev pub CountsAll : Heap → Option ℕ → Type 0
 CountsAll h None = Unit {0}
 CountsAll h (Some base) = (root : ℕ → Bool) → object_count (kept h root) ≡ base
 
--- A memory with which nothing was done yet, of this heap or of one that is thinner: nothing is pinned, no row is cached, nothing was
--- said, and nothing made. Where it says how many objects live, they are those of the heap.
+-- A memory with which nothing was done yet, of this heap or of one that is thinner: nothing is pinned, no row is cached, and nothing
+-- made. Where it says how many objects live, they are those of the heap. What was said before stays in front of what a run says.
 pub record Begins (h : Heap) (t : Told) : Type 0 where
   pub heap : IsThinner h t.heap
   pub slots : (i : ℕ) → t.slots i ≡ None
   pub rows : (class selector method : ℕ) → t.cache.rows class selector method ≡ false
-  pub transcript : IsTrue t.speaks → t.transcript ≡ []
   pub base : IfBounds t.bounds (λ b. (b.made ≡ 0) × CountsAll h b.base)
 
 -- A fault of the memory after so many bytecodes: names are spent where the model's run says so. A need is that of a row of the next

@@ -4,6 +4,7 @@ ghost use Rattle.long_names.specs.Heap.{Heap};
 ghost use Rattle.long_names.specs.Kept.{kept, no_roots};
 ghost use Rattle.object_memory.specs.Contract.{IfBounds};
 ghost use Rattle.object_memory.specs.Told.{Told};
+ghost use Rattle.blue_model.specs.Earlier.{course_with_earlier};
 ghost use Rattle.blue_model.specs.Logs.{course, AreWithin};
 ghost use Rattle.blue_model.specs.Machine.{Machine};
 ghost use Rattle.blue_model.specs.State.{State, state_of};
@@ -22,5 +23,5 @@ pub fn what_is_kept_of_a_state()
 /// Where a run went through over a memory that tells its bounds, no object that the model's run makes takes more words than the core has:
 /// over a smaller core the run is answered with a stop.
 pub fn no_object_of_a_run_is_larger_than_the_core()
-    ensures { (events : List Line) (steps : ℕ) (state : State) (h : Heap) (new : Told) (finished : Finished) → GoesThrough new finished (course events steps state h) → IfBounds new.bounds (λ b. (k : ℕ) → AreWithin b.core ((course events steps state h).rows k)) }
+    ensures { (earlier : List ℕ) (events : List Line) (steps : ℕ) (state : State) (h : Heap) (new : Told) (finished : Finished) → GoesThrough new finished (course_with_earlier earlier (course events steps state h)) → IfBounds new.bounds (λ b. (k : ℕ) → AreWithin b.core ((course events steps state h).rows k)) }
 {}

@@ -2,8 +2,9 @@
 //! parked machine and its picture.
 //!
 //! `run` does so many bytecodes, and the memory settles after each. Its clause `runs` says that the memory then stands for the model's
-//! machine after as many cycles, and of a stop in which cycle it came and why. `whole_run` starts with a state, runs, parks and draws the
-//! display; its clause `ends` compares it with the model's `course`. Read `specs/Run.antt` first, then `specs/States.antt`.
+//! machine after as many cycles, and of a stop in which cycle it came and why. `whole_run` starts with a state, runs, parks and draws
+//! the display; its clause `ends` compares it with the model's `course`, behind what had been said before. Read `specs/Run.antt` first,
+//! then `specs/States.antt`.
 //!
 //!     let finished = whole_run(alloc, &mut m, &events, steps, &State::NONE)?;   // Err: why it halted, and after how many bytecodes
 //!     finished.end == Step::Quit                                                // or Next, where all were run

@@ -11,6 +11,7 @@ ghost use Rattle.contexts.specs.Serves.{Serves, Speaks, Stands, HasRest};
 ghost use Rattle.blue_model.specs.Endings as endings;
 ghost use Rattle.blue_model.specs.Endings.{HasCounted};
 ghost use Rattle.blue_model.specs.Logs.{course};
+ghost use Rattle.blue_model.specs.Earlier.{course_with_earlier};
 ghost use Rattle.contexts.specs.Keeping.{StepsBy, is_kept};
 ghost use Rattle.machine_run.specs.States.{KeepsState, model_state};
 ghost use Rattle.machine_run.specs.Run.{Begins, DrawsAs, EndsAs, DrawsFit, EndsFit, FaultsBy, GoesAs, HaltsBy, IsSettled, RunsAs};
@@ -193,7 +194,7 @@ fn go_through<M: ObjectMemory>(
 ) -> Result<Step, Stop>
     requires fit { IsFit M.ObjectMemory m.old }
     requires state { IsTrue (M.told m.old).tells → KeepsState (M.told m.old) (model_state state.now) }
-    ensures ends { IsTrue (M.told m.old).tells → (h : Heap) → Begins h (M.told m.old) → GoesAs (M.told m.new) cpu.new result (course events.now steps (model_state state.now) h) }
+    ensures ends { IsTrue (M.told m.old).tells → (h : Heap) → Begins h (M.told m.old) → GoesAs (M.told m.new) cpu.new result (course_with_earlier (M.told m.old).transcript (course events.now steps (model_state state.now) h)) }
     ensures fault { IfErr result (FaultsBy (M.told m.old) (M.told m.new)) }
     ensures few { cpu.new.ran ≤ steps }
     ensures counted { IfOk result (λ end. HasCounted end cpu.new.ran steps) }
@@ -231,7 +232,7 @@ pub fn whole_run<M: ObjectMemory>(
 ) -> Result<Finished, Halted>
     requires fit { IsFit M.ObjectMemory m.old }
     requires state { IsTrue (M.told m.old).tells → KeepsState (M.told m.old) (model_state state.now) }
-    ensures ends { IsTrue (M.told m.old).tells → (h : Heap) → Begins h (M.told m.old) → EndsAs (M.told m.new) result (course events.now steps (model_state state.now) h) }
+    ensures ends { IsTrue (M.told m.old).tells → (h : Heap) → Begins h (M.told m.old) → EndsAs (M.told m.new) result (course_with_earlier (M.told m.old).transcript (course events.now steps (model_state state.now) h)) }
     ensures fault { IfErr result (λ halted. HaltsBy (M.told m.old) (M.told m.new) halted.why) }
     ensures ran { IfErr result (λ halted. halted.ran ≤ steps) }
     ensures counted { IfOk result (λ finished. HasCounted finished.end finished.ran steps) }
