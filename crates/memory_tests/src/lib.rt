@@ -1,11 +1,26 @@
 //! Tests of the memory of two levels, over public calls: what it answers is what the memory that is one map answers.
 //!
-//! An image's objects are put on a disk, and a memory is made over it with a small core. A table of calls goes through each call of the
-//! trait; after each of them the core is purged and packed, so objects come in as leaves and lambdas. The host tells nothing of Work, so
-//! calls on it may fail, one after another, and bytes may come back changed: then each call ends, with an answer or a refusal. `steps` has
-//! calls of a memory as data, `tables` the tables. The crate has no function of its own.
+//! An image's objects are put on a disk, and a memory is made over it with a core, a room and a next name. Steps are taken over it and over one
+//! map side by side: each has to see the same, and at the end both have the same image, byte for byte. A core may be purged and packed after
+//! each step, so objects come in as leaves and lambdas.
+//!
+//! `steps` has calls of a memory as data, with `calls`; `runs` takes them. The tables: `tables` has all calls of the trait over several cores,
+//! `refusals` each cause of a refusal with its numbers, `freeing` what dies and what stays, `cached` rows of the method cache, and `faults`
+//! hosts that fail or lie. The crate has no function of its own.
 #![tactic(auto)]
 
+#[cfg(test)]
+mod cached;
+#[cfg(test)]
+mod calls;
+#[cfg(test)]
+mod faults;
+#[cfg(test)]
+mod freeing;
+#[cfg(test)]
+mod refusals;
+#[cfg(test)]
+mod runs;
 #[cfg(test)]
 mod steps;
 #[cfg(test)]

@@ -5,12 +5,10 @@ ghost use Rattle.object_memory.specs.Calls.{IsFit};
 ghost use Rattle.blue_model.specs.Machine.{MACHINE_REGISTERS};
 ghost use Rattle.contexts.specs.Calls.{StaysFit};
 
+use crate::calls::{fill, make, mark, pin, read_bytes, read_words, remember, write_words};
+use contexts::Stop;
 use contexts::data::{byte, say, store_byte, store_word, word};
-use contexts::parts::{
-    class_of, field, header, known, make_bytes, make_method, make_pointers, make_words, size,
-    store_field, swap,
-};
-use contexts::{Cause, Stop};
+use contexts::parts::{class_of, field, header, known, size, store_field, swap};
 use long_names::Name;
 use object_memory::{ObjectMemory, Reg, shape};
 
@@ -23,7 +21,7 @@ pub(crate) enum R {
 }
 
 impl R {
-    fn reg(self) -> Reg
+    pub(crate) fn reg(self) -> Reg
         ensures { MACHINE_REGISTERS ≤ result }
     {
         match self {
@@ -34,10 +32,19 @@ impl R {
     }
 }
 
+/// Two slots.
+#[derive(Clone, Copy)]
+pub(crate) enum Slot {
+    First,
+    Second,
+}
+
 /// Objects of the base image.
 #[derive(Clone, Copy)]
 pub(crate) enum Object {
+    /// Of two fields, the second of which is the scheduler. All others have none.
     Association,
+    SmallInteger,
     String,
     Array,
     Method,
@@ -50,6 +57,7 @@ impl Object {
     {
         match self {
             Object::Association => Name::SCHEDULER_ASSOCIATION,
+            Object::SmallInteger => Name::SMALL_INTEGER,
             Object::String => Name::STRING,
             Object::Array => Name::ARRAY,
             Object::Method => Name::COMPILED_METHOD,
@@ -73,8 +81,12 @@ pub(crate) enum Step {
     /// Known(to, object)
     Known(R, Object),
     Int(R, i8),
+    /// Copy(to, from)
     Copy(R, R),
-    Hash(R),
+    Value(R),
+    Is(R, Object),
+    Same(R, R),
+    IsPinned(R),
     /// Class(to, of)
     Class(R, R),
     Len(R),
@@ -88,47 +100,90 @@ pub(crate) enum Step {
     Byte(R, u8),
     SetByte(R, u8, u8),
     /// Reads words 1 to 3 as one run.
-    Run(R),
+    ReadWords(R),
+    /// Stores words 2 and 3 as one run.
+    WriteWords(R, u16, u16),
+    /// Reads bytes 1 to 3 as one run.
+    ReadBytes(R),
     /// Make(to, class, size)
     Make(R, R, Size),
     Swap(R, R),
-    Pin(R),
-    Unpin,
+    Pin(Slot, R),
+    Unpin(Slot),
+    /// Marks an object on a new path, and caches it as the method of itself.
+    Remember(R),
+    /// Marks an object on the path.
     Mark(R),
     Say(R),
     Settle,
+    Purge,
+    Compact,
+    /// All registers get names, no two of them the same: the 22 that are known, the scheduler and the process.
+    Fill,
 }
 
-const HEADER: i16 = 2;
+/// What a step saw.
+#[derive(Clone, Copy, PartialEq, Eq)]
+pub(crate) enum Seen {
+    Nothing,
+    Truth(bool),
+    /// A SmallInteger.
+    Number(i16),
+    /// Half of a name.
+    Name(u32),
+    /// How many there are, or a word or a byte.
+    Count(u32),
+    Three(u16, u16, u16),
+}
 
-/// What the number or the name of a register is, as a number.
-fn seen<M: ObjectMemory>(m: &M, r: Reg) -> u32
+/// The number or the name of a register.
+fn value<M: ObjectMemory>(m: &M, r: Reg) -> Seen
     requires { M.sound m.now }
 {
     match m.as_int(r) {
-        Some(number) => u32::from(number.unsigned_abs()),
+        Some(number) => Seen::Number(number),
         None => {
             if shape::is_name(m, r) {
-                return m.hash(r);
+                return Seen::Name(m.hash(r));
             }
-            0
+            Seen::Nothing
         }
     }
 }
 
+/// Whether a register holds the name of a pinned object.
+fn is_pinned<M: ObjectMemory>(m: &M, r: Reg) -> bool
+    requires { M.sound m.now }
+{
+    shape::is_name(m, r) && m.is_pinned(r)
+}
+
+/// What registers and slots tell. No object is touched.
+fn glance<M: ObjectMemory>(m: &M, step: Step) -> Seen
+    requires { M.sound m.now }
+{
+    match step {
+        Step::Value(of) => value(m, of.reg()),
+        Step::Is(of, object) => Seen::Truth(m.is(of.reg(), object.name())),
+        Step::Same(a, b) => Seen::Truth(m.same(a.reg(), b.reg())),
+        Step::IsPinned(of) => Seen::Truth(is_pinned(m, of.reg())),
+        _ => Seen::Nothing,
+    }
+}
+
 /// What is read of an object, or of a register.
-fn look<M: ObjectMemory>(m: &mut M, step: Step) -> Result<u32, Stop>
+fn look<M: ObjectMemory>(m: &mut M, step: Step) -> Result<Seen, Stop>
     requires fit { IsFit M.ObjectMemory m.old }
     ensures fit { StaysFit M.ObjectMemory m.old m.new result }
 {
     match step {
-        Step::Hash(of) => Ok(seen(m, of.reg())),
-        Step::Len(of) => size(m, of.reg(), 0),
-        Step::Header(of) => Ok(u32::from(header(m, of.reg())?.unsigned_abs())),
-        Step::Word(of, i) => Ok(u32::from(word(m, of.reg(), u32::from(i))?)),
-        Step::Byte(of, i) => Ok(u32::from(byte(m, of.reg(), u32::from(i))?)),
-        Step::Run(of) => run(m, of.reg()),
-        _ => Ok(0),
+        Step::Len(of) => Ok(Seen::Count(size(m, of.reg(), 0)?)),
+        Step::Header(of) => Ok(Seen::Number(header(m, of.reg())?)),
+        Step::Word(of, i) => Ok(Seen::Count(u32::from(word(m, of.reg(), u32::from(i))?))),
+        Step::Byte(of, i) => Ok(Seen::Count(u32::from(byte(m, of.reg(), u32::from(i))?))),
+        Step::ReadWords(of) => read_words(m, of.reg()),
+        Step::ReadBytes(of) => read_bytes(m, of.reg()),
+        _ => Ok(glance(m, step)),
     }
 }
 
@@ -150,24 +205,8 @@ fn bring<M: ObjectMemory>(m: &mut M, step: Step) -> Result<(), Stop>
         Step::Class(to, of) => class_of(m, to.reg(), of.reg()),
         Step::Field(to, of, i) => field(m, to.reg(), of.reg(), 0, u32::from(i)),
         Step::Make(to, class, size) => make(m, to.reg(), class.reg(), size),
+        Step::Fill => fill(m),
         _ => Ok(()),
-    }
-}
-
-/// Makes an object of a class. A number is no class.
-fn make<M: ObjectMemory>(m: &mut M, to: Reg, class: Reg, size: Size) -> Result<(), Stop>
-    requires fit { IsFit M.ObjectMemory m.old }
-    requires scratch { MACHINE_REGISTERS ≤ to }
-    ensures fit { StaysFit M.ObjectMemory m.old m.new result }
-{
-    if !shape::is_name(m, class) {
-        return Err(Stop::Stuck(Cause::Shape));
-    }
-    match size {
-        Size::Fields(n) => make_pointers(m, to, class, u32::from(n)),
-        Size::Words(n) => make_words(m, to, class, u32::from(n)),
-        Size::Bytes(n) => make_bytes(m, to, class, u32::from(n)),
-        Size::Code(n) => make_method(m, to, class, HEADER, u32::from(n)),
     }
 }
 
@@ -180,61 +219,85 @@ fn store<M: ObjectMemory>(m: &mut M, step: Step) -> Result<(), Stop>
         Step::Store(of, i, from) => store_field(m, of.reg(), u32::from(i), from.reg()),
         Step::SetWord(of, i, w) => store_word(m, of.reg(), u32::from(i), w),
         Step::SetByte(of, i, b) => store_byte(m, of.reg(), u32::from(i), b),
+        Step::WriteWords(of, first, second) => write_words(m, of.reg(), first, second),
         Step::Swap(a, b) => swap(m, a.reg(), b.reg()),
         Step::Say(of) => say(m, of.reg()),
-        Step::Pin(of) => hold(m, of.reg(), true),
-        Step::Mark(of) => hold(m, of.reg(), false),
-        Step::Unpin => {
+        _ => Ok(()),
+    }
+}
+
+/// What pins and marks.
+fn keep<M: ObjectMemory>(m: &mut M, step: Step) -> Result<(), Stop>
+    requires fit { IsFit M.ObjectMemory m.old }
+    ensures fit { StaysFit M.ObjectMemory m.old m.new result }
+{
+    match step {
+        Step::Pin(Slot::First, of) => pin(m, 0, of.reg()),
+        Step::Pin(Slot::Second, of) => pin(m, 1, of.reg()),
+        Step::Unpin(Slot::First) => {
+            m.unpin(0);
+            Ok(())
+        }
+        Step::Unpin(Slot::Second) => {
             m.unpin(1);
             Ok(())
         }
+        Step::Remember(of) => remember(m, of.reg()),
+        Step::Mark(of) => mark(m, of.reg()),
+        _ => Ok(()),
+    }
+}
+
+/// What goes over the whole memory.
+fn tidy<M: ObjectMemory>(m: &mut M, step: Step) -> Result<(), Stop>
+    requires fit { IsFit M.ObjectMemory m.old }
+    ensures fit { StaysFit M.ObjectMemory m.old m.new result }
+{
+    match step {
         Step::Settle => {
             m.settle()?;
+            Ok(())
+        }
+        Step::Purge => {
+            m.purge_all()?;
+            Ok(())
+        }
+        Step::Compact => {
+            m.compact();
             Ok(())
         }
         _ => Ok(()),
     }
 }
 
-/// Pins the object of a register, or marks it and caches it as the method of itself. A number is neither.
-fn hold<M: ObjectMemory>(m: &mut M, of: Reg, pins: bool) -> Result<(), Stop>
+/// What a step changes.
+fn change<M: ObjectMemory>(m: &mut M, step: Step) -> Result<(), Stop>
     requires fit { IsFit M.ObjectMemory m.old }
     ensures fit { StaysFit M.ObjectMemory m.old m.new result }
 {
-    m.begin_path();
-    if !shape::is_name(m, of) {
-        return Err(Stop::Stuck(Cause::Shape));
-    }
-    if pins {
-        m.pin(1, of)?;
-        return Ok(());
-    }
-    m.mark(of)?;
-    let _put = m.cache_put(of, of, of);
-    let _found = m.cache_find(Reg::R13, of, of);
-    Ok(())
-}
-
-/// Three words of an object from word 1 on, which are read as one run, as one.
-fn run<M: ObjectMemory>(m: &mut M, of: Reg) -> Result<u32, Stop>
-    requires fit { IsFit M.ObjectMemory m.old }
-    ensures fit { StaysFit M.ObjectMemory m.old m.new result }
-{
-    if !shape::has_words(m, of, 1, 3)? {
-        return Err(Stop::Stuck(Cause::Shape));
-    }
-    let mut words = [0; 3];
-    m.read_words(of, 1, &mut words)?;
-    Ok(u32::from(words[0] ^ words[1] ^ words[2]))
+    bring(m, step)?;
+    store(m, step)?;
+    keep(m, step)
 }
 
 /// Takes a step, and tells what it saw.
-pub(crate) fn take<M: ObjectMemory>(m: &mut M, step: Step) -> Result<u32, Stop>
+pub(crate) fn take<M: ObjectMemory>(m: &mut M, step: Step) -> Result<Seen, Stop>
     requires fit { IsFit M.ObjectMemory m.old }
     ensures fit { StaysFit M.ObjectMemory m.old m.new result }
 {
-    let number = look(m, step)?;
-    bring(m, step)?;
-    store(m, step)?;
-    Ok(number)
+    let seen = look(m, step)?;
+    change(m, step)?;
+    tidy(m, step)?;
+    Ok(seen)
+}
+
+/// Takes steps.
+pub(crate) fn take_all<M: ObjectMemory>(m: &mut M, steps: &[Step]) -> Result<(), Stop>
+    requires fit { IsFit M.ObjectMemory m.old }
+    ensures fit { StaysFit M.ObjectMemory m.old m.new result }
+{
+    for step in steps {
+        take(m, *step)?;
+    }
+    Ok(())
 }
