@@ -12,7 +12,8 @@ use Rattle.long_names.specs.State.{set_register, ACTIVE_CONTEXT, HOME, METHOD, R
 use Rattle.blue_model.specs.declared.cause.Cause.TheVariants.{Stack, Shape}
 use Rattle.blue_model.specs.declared.cpu.Cpu.{Cpu}
 use Rattle.blue_model.specs.declared.indexes.TheConstants.{VALUE_INDEX, ASSOCIATION_SIZE, ACTIVE_PROCESS_INDEX, SCHEDULER_SIZE, SUSPENDED_CONTEXT_INDEX, PROCESS_SIZE, INSTRUCTION_POINTER_INDEX, STACK_POINTER_INDEX, METHOD_INDEX, RECEIVER_INDEX, TEMP_FRAME_START, EMPTY_STACK}
-use Rattle.blue_model.specs.Machine.{Machine, MACHINE_REGISTERS, LogRow, row_of, Outcome, Go, Halt, Rule, ◌>>=◌, ◌>>◌, part, register, put_register, clear, numbers_at_rest, at_rest, unpinned, unpin_all, with_pin, pinned, pin}
+use Rattle.blue_model.specs.Machine.{Machine, LogRow, row_of, Outcome, Go, Halt, Rule, ◌>>=◌, ◌>>◌, part, register, put_register, clear, numbers_at_rest, at_rest, unpinned, unpin_all, with_pin, pinned, pin}
+use Rattle.long_names.specs.declared.limits.TheConstants.{MACHINE_REGISTERS}
 use Rattle.blue_model.specs.ClassList.{part_in}
 use Rattle.blue_model.specs.Parts.{field, number, home_of, code_of}
 use Rattle.blue_model.specs.Queues.{field_at}

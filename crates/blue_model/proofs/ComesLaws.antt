@@ -13,7 +13,8 @@ use Rattle.long_names.specs.Access.{with_body}
 use Rattle.blue_model.specs.declared.cause.Cause.{Cause}
 use Rattle.blue_model.specs.declared.cause.Cause.TheVariants.{Shape}
 use Rattle.blue_model.specs.declared.cpu.Cpu.{Cpu}
-use Rattle.blue_model.specs.Machine.{Machine, LogRow, Outcome, Go, Halt, Spent, Rule, after, then_do, ◌>>=◌, done, halt, given, pick, rows_at, is_there, stored, store, part, known, numbers, set_numbers, register, put_register, placed, MACHINE_REGISTERS}
+use Rattle.blue_model.specs.Machine.{Machine, LogRow, Outcome, Go, Halt, Spent, Rule, after, then_do, ◌>>=◌, done, halt, given, pick, rows_at, is_there, stored, store, part, known, numbers, set_numbers, register, put_register, placed}
+use Rattle.long_names.specs.declared.limits.TheConstants.{MACHINE_REGISTERS}
 use Rattle.blue_model.specs.Parts.{at_least, shaped, size, field, number}
 use Rattle.blue_model.specs.Contexts.{store_field}
 use Rattle.blue_model.specs.ClassList.{part_in}

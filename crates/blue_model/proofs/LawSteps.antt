@@ -10,7 +10,7 @@ use Rattle.long_names.specs.declared.value.Value.TheVariants.{Int, Ref}
 use Rattle.long_names.specs.declared.object.Object.{Object}
 use Rattle.long_names.specs.declared.object.Body.{Body}
 use Rattle.long_names.specs.Names.{is_known, NIL, SMALL_INTEGER}
-use Rattle.long_names.specs.declared.limits.TheConstants.{LAST_NAME}
+use Rattle.long_names.specs.declared.limits.TheConstants.{LAST_NAME, MACHINE_REGISTERS}
 use Rattle.long_names.specs.Objects.{Making, holds, fields_of, field_of, words_of, bytes_of, with_field, with_words, with_bytes, text_of}
 use Rattle.long_names.specs.Heap.{Heap, Has, IsBounded, put_object, add_object}
 use Rattle.long_names.specs.State.{set_register, set_slot, object_at, name_at, class_at, part_at}
@@ -20,7 +20,7 @@ use Rattle.long_names.proofs.ThinLemmas.{IsThinner-add_object, IsBounded-add_obj
 use Rattle.long_names.proofs.AccessLaws.{another, IsThinner-with_body, IsBounded-with_body, IsWhole-with_body, whole-heap}
 use Rattle.blue_model.specs.declared.cause.Cause.{Cause}
 use Rattle.blue_model.specs.declared.cpu.Cpu.{Cpu}
-use Rattle.blue_model.specs.Machine.{Machine, MACHINE_REGISTERS, LogRow, logged, making_row, Outcome, Go, Halt, Spent, Rule, after, then_do, ◌>>=◌, done, halt, given, pick, is_there, register, placed, put_register, clear, numbers, set_numbers, looked, look, part, known, classed, class_of, stored, store, changed, store_word, store_byte, is_unpinned, is_free, swapped, swap, object_made, added, made, make, unpinned, unpin_all, with_pin, pinned, pin, spoken, say, times, each}
+use Rattle.blue_model.specs.Machine.{Machine, LogRow, logged, making_row, Outcome, Go, Halt, Spent, Rule, after, then_do, ◌>>=◌, done, halt, given, pick, is_there, register, placed, put_register, clear, numbers, set_numbers, looked, look, part, known, classed, class_of, stored, store, changed, store_word, store_byte, is_unpinned, is_free, swapped, swap, object_made, added, made, make, unpinned, unpin_all, with_pin, pinned, pin, spoken, say, times, each}
 use Rattle.blue_model.specs.declared.answer.Answer.{Answer}
 use Rattle.blue_model.specs.Trials.{failed, where_some, where_true, ◌>>?◌, peek}
 use Rattle.blue_model.specs.Law.{IsThinned, Agree, RespectsThinning}

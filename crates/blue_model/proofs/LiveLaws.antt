@@ -9,13 +9,13 @@ use Rattle.long_names.specs.Objects.{is_ref}
 use Rattle.long_names.specs.Heap.{Heap, Has, IsBounded, object_count, count_of}
 use Rattle.long_names.specs.Kept.{any_below, kept}
 use Rattle.long_names.specs.Need.{is_pinned}
-use Rattle.long_names.specs.State.{SLOTS}
+use Rattle.long_names.specs.declared.limits.TheConstants.{MACHINE_REGISTERS, SLOTS}
 use Rattle.long_names.proofs.KeptLaws.{any_below-at, fixed-same, kept-same, kept-thinning, left-by_count}
 use Rattle.long_names.proofs.ThinLemmas.{or_cases}
 use Rattle.std.proofs.lemmas.Grind.{common_steps}
 use Rattle.blue_model.specs.declared.event.Line.{Line}
 use Rattle.blue_model.specs.declared.step.Step.{Step}
-use Rattle.blue_model.specs.Machine.{Machine, MACHINE_REGISTERS, LogRow, Outcome, Go, Halt, Spent, Rule, log_of}
+use Rattle.blue_model.specs.Machine.{Machine, LogRow, Outcome, Go, Halt, Spent, Rule, log_of}
 use Rattle.blue_model.specs.Cycle.{cycle}
 use Rattle.blue_model.specs.Law.{IsThinned, Agree, RespectsThinning}
 use Rattle.blue_model.specs.Logs.{made_in, names_from, is_root, living, lives_after, lives}

@@ -8,7 +8,8 @@ use Rattle.long_names.specs.declared.value.Value.TheVariants.{Int, Ref}
 use Rattle.long_names.specs.declared.object.Object.{Object}
 use Rattle.long_names.specs.Need.{is_pinned}
 use Rattle.long_names.specs.Access.{with_swapped}
-use Rattle.long_names.specs.State.{SLOTS, ACTIVE_CONTEXT, HOME, METHOD, set_slot}
+use Rattle.long_names.specs.State.{ACTIVE_CONTEXT, HOME, METHOD, set_slot}
+use Rattle.long_names.specs.declared.limits.TheConstants.{SLOTS}
 use Rattle.long_names.proofs.ThinLemmas.{holds-field}
 use Rattle.blue_model.specs.declared.cause.Cause.TheVariants.{Stack, Shape}
 use Rattle.blue_model.specs.declared.event.Line.{Line}

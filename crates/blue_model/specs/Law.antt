@@ -4,7 +4,7 @@ use Rattle.long_names.specs.declared.value.Value.{Value}
 use Rattle.long_names.specs.declared.value.Value.TheVariants.{Ref}
 use Rattle.long_names.specs.declared.object.Object.{Object}
 use Rattle.long_names.specs.Names.{is_known}
-use Rattle.long_names.specs.State.{SLOTS}
+use Rattle.long_names.specs.declared.limits.TheConstants.{SLOTS}
 use Rattle.long_names.specs.Objects.{Making, field_of}
 use Rattle.long_names.specs.Heap.{Heap, IsBounded, Has}
 use Rattle.long_names.specs.Thin.{IsWhole, IsThinning}

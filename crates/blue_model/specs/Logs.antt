@@ -4,10 +4,10 @@ use Rattle.long_names.specs.Heap.{Heap, object_count}
 use Rattle.long_names.specs.Kept.{any_below, kept}
 use Rattle.long_names.specs.Need.{is_pinned}
 use Rattle.long_names.specs.Objects.{is_ref}
-use Rattle.long_names.specs.State.{SLOTS}
+use Rattle.long_names.specs.declared.limits.TheConstants.{MACHINE_REGISTERS, SLOTS}
 use Rattle.blue_model.specs.declared.event.Line.{Line}
 use Rattle.blue_model.specs.declared.step.Step.TheVariants.{Next, Quit, Keep}
-use Rattle.blue_model.specs.Machine.{Machine, MACHINE_REGISTERS, LogRow, Outcome, Go, Halt, Spent, log_of, at_rest}
+use Rattle.blue_model.specs.Machine.{Machine, LogRow, Outcome, Go, Halt, Spent, log_of, at_rest}
 use Rattle.blue_model.specs.State.{State, begin}
 use Rattle.blue_model.specs.Cycle.{Run, Ran, Stopped, run, cycle, park_and_draw, Ending, ending}
 

@@ -6,11 +6,11 @@ use Rattle.long_names.specs.declared.value.Value.TheVariants.{Int, Ref}
 use Rattle.long_names.specs.declared.object.Body.{Body}
 use Rattle.long_names.specs.declared.object.Object.{Object}
 use Rattle.long_names.specs.Names.{NIL}
-use Rattle.long_names.specs.declared.limits.TheConstants.{LAST_NAME}
+use Rattle.long_names.specs.declared.limits.TheConstants.{LAST_NAME, MACHINE_REGISTERS, SLOTS}
 use Rattle.long_names.specs.Objects.{Making, body_made, with_field, with_words, with_bytes, field_of, words_of, bytes_of, text_of}
 use Rattle.long_names.specs.Heap.{Heap, add_object}
 use Rattle.long_names.specs.Kept.{any_below}
-use Rattle.long_names.specs.State.{SLOTS, set_register, set_slot, object_at, name_at, class_at, part_at}
+use Rattle.long_names.specs.State.{set_register, set_slot, object_at, name_at, class_at, part_at}
 use Rattle.long_names.specs.Access.{with_body, with_swapped}
 use Rattle.long_names.specs.Need.{Row, is_pinned, words_at, words_of_row, entries_of_row}
 use Rattle.blue_model.specs.declared.cause.Cause.{Cause}
@@ -29,10 +29,6 @@ pub record Machine : Type 0 where
   pub transcript : List ℕ
   pub cpu : Cpu
   pub largest : ℕ
-
--- the registers that are the machine's; those from here on are a memory's own
-abbrev pub MACHINE_REGISTERS : ℕ
-MACHINE_REGISTERS = 10
 
 abbrev pub numbers_at_rest : Cpu
 numbers_at_rest = record { ip = pos 0; sp = pos EMPTY_STACK; args = 0; waiting = false; line = 0; words_in = 0; words_out = 0; timer = None; display = false; input = false; ran = 0; base = 0; vault = false }

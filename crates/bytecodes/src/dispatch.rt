@@ -27,7 +27,7 @@ use crate::variables::Variable;
 use blue_model::Step;
 use contexts::{Cause, Cpu, Stop, clear, fetch, pop};
 use event_file::EventList;
-use long_names::Name;
+use long_names::{MACHINE_REGISTERS, Name, REGISTERS};
 use object_memory::ObjectMemory;
 
 /// What was done, after which the next bytecode follows.
@@ -175,7 +175,7 @@ fn rest<M: ObjectMemory>(m: &mut M)
     ensures fit { StaysFit M.ObjectMemory m.old m.new (Ok result) }
 {
     clear(m, 4, 6);
-    clear(m, 10, 24);
+    clear(m, MACHINE_REGISTERS as u8, REGISTERS as u8);
 }
 
 /// Fetches a bytecode and does it (interpret, chapter 28). Input comes from the event list. The bytecode isn't counted here.

@@ -16,7 +16,8 @@ use Rattle.object_memory.specs.Contract.{Does, Called}
 use Rattle.object_memory.proofs.LaterLaws.{IsLater-refl}
 use Rattle.object_memory.proofs.LooksLaws.{Looks-access}
 use Rattle.blue_model.specs.declared.cpu.Cpu.{Cpu}
-use Rattle.blue_model.specs.Machine.{Machine, MACHINE_REGISTERS, rows_at, classed, class_of, log_of}
+use Rattle.blue_model.specs.Machine.{Machine, rows_at, classed, class_of, log_of}
+use Rattle.long_names.specs.declared.limits.TheConstants.{MACHINE_REGISTERS}
 use Rattle.contexts.specs.declared.stop.Stop.TheVariants.{Mem}
 use Rattle.contexts.specs.Serves.{IsLogged, Gives, Serves}
 use Rattle.contexts.proofs.ServesLaws.{IsCounted-refl}

@@ -4,7 +4,7 @@ use Rattle.std.proofs.lemmas.Grind.{common_steps}
 use Rattle.long_names.specs.State.{RECEIVER, SELECTOR, NEW_METHOD}
 use Rattle.object_memory.specs.Shape.{is_among}
 use Rattle.object_memory.proofs.LooksLaws.{not_among}
-use Rattle.blue_model.specs.Machine.{MACHINE_REGISTERS}
+use Rattle.long_names.specs.declared.limits.TheConstants.{MACHINE_REGISTERS}
 use Rattle.blue_model.specs.Cycle.{is_message}
 
 -- a register below another is not it

@@ -9,7 +9,7 @@ use Rattle.long_names.specs.declared.value.Value.{Value}
 use Rattle.long_names.specs.declared.value.Value.TheVariants.{Ref}
 use Rattle.long_names.specs.declared.object.Object.{Object}
 use Rattle.long_names.specs.Names.{NIL}
-use Rattle.long_names.specs.declared.limits.TheConstants.{LAST_NAME}
+use Rattle.long_names.specs.declared.limits.TheConstants.{LAST_NAME, MACHINE_REGISTERS}
 use Rattle.long_names.specs.Objects.{Making, body_words}
 use Rattle.long_names.specs.Heap.{Heap, Has, add_object}
 use Rattle.long_names.specs.State.{name_at}
@@ -25,7 +25,7 @@ use Rattle.object_memory.specs.Contract.{IfBounds, Does, Called, Accessed, HasCa
 use Rattle.object_memory.proofs.LeftLaws.{heap_over}
 use Rattle.object_memory.proofs.LooksLaws.{set_other}
 use Rattle.blue_model.specs.declared.cpu.Cpu.{Cpu}
-use Rattle.blue_model.specs.Machine.{Machine, MACHINE_REGISTERS, log_of, is_there, object_made, making_row, with_object, added, made, make}
+use Rattle.blue_model.specs.Machine.{Machine, log_of, is_there, object_made, making_row, with_object, added, made, make}
 use Rattle.contexts.specs.declared.stop.Stop.TheVariants.{Mem}
 use Rattle.contexts.specs.Serves.{Stands, HasNeed, IsLogged, HasMaking, Allows, Gives, Serves}
 use Rattle.contexts.proofs.CacheLaws.{sound_follows}

@@ -18,7 +18,8 @@ use Rattle.object_memory.specs.Contract.{Does, Called}
 use Rattle.object_memory.specs.Shape.{is_among, Looks, ReadsObject}
 use Rattle.object_memory.proofs.LaterLaws.{IsLater-refl}
 use Rattle.blue_model.specs.declared.cpu.Cpu.{Cpu}
-use Rattle.blue_model.specs.Machine.{Machine, MACHINE_REGISTERS, Rule, looked, then_do, ◌>>=◌, done, look}
+use Rattle.blue_model.specs.Machine.{Machine, Rule, looked, then_do, ◌>>=◌, done, look}
+use Rattle.long_names.specs.declared.limits.TheConstants.{MACHINE_REGISTERS}
 use Rattle.blue_model.specs.Parts.{shaped, field, number}
 use Rattle.blue_model.specs.Trials.{peek}
 use Rattle.contexts.specs.declared.stop.Stop.{Stop}

@@ -11,7 +11,8 @@ use Rattle.long_names.proofs.ThinLemmas.{has}
 use Rattle.object_memory.specs.Told.{Told, IsReady}
 use Rattle.object_memory.specs.Shape.{is_among, Looks}
 use Rattle.blue_model.specs.declared.cpu.Cpu.{Cpu}
-use Rattle.blue_model.specs.Machine.{Machine, MACHINE_REGISTERS, LogRow, Outcome, Go, Rule, rows_at, looked, after, then_do, ◌>>=◌, done, look}
+use Rattle.blue_model.specs.Machine.{Machine, LogRow, Outcome, Go, Rule, rows_at, looked, after, then_do, ◌>>=◌, done, look}
+use Rattle.long_names.specs.declared.limits.TheConstants.{MACHINE_REGISTERS}
 use Rattle.blue_model.specs.Trials.{peek}
 use Rattle.contexts.specs.declared.stop.Stop.{Stop}
 use Rattle.contexts.specs.declared.stop.Stop.TheVariants.{Stuck, Mem}

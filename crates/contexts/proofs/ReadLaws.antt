@@ -28,7 +28,8 @@ use Rattle.object_memory.proofs.LooksLaws.{neither, Looks-trans, Looks-weaker, L
 use Rattle.blue_model.specs.declared.cause.Cause.{Cause}
 use Rattle.blue_model.specs.declared.cause.Cause.TheVariants.{Shape}
 use Rattle.blue_model.specs.declared.cpu.Cpu.{Cpu}
-use Rattle.blue_model.specs.Machine.{Machine, MACHINE_REGISTERS, LogRow, Outcome, Go, Halt, Rule, row_of, rows_at, looked, log_of, then_do, ◌>>=◌, done, halt, given, look, part, known}
+use Rattle.blue_model.specs.Machine.{Machine, LogRow, Outcome, Go, Halt, Rule, row_of, rows_at, looked, log_of, then_do, ◌>>=◌, done, halt, given, look, part, known}
+use Rattle.long_names.specs.declared.limits.TheConstants.{MACHINE_REGISTERS}
 use Rattle.contexts.specs.declared.stop.Stop.{Stop}
 use Rattle.contexts.specs.declared.stop.Stop.TheVariants.{Stuck, Mem}
 use Rattle.contexts.proofs.RoomLaws.{kept_left, lives_left}

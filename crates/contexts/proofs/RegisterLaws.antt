@@ -17,7 +17,8 @@ use Rattle.object_memory.proofs.LeftLaws.{heap_over}
 use Rattle.object_memory.proofs.LooksLaws.{Looks-put, set_other}
 use Rattle.blue_model.specs.declared.cause.Cause.TheVariants.{Shape}
 use Rattle.blue_model.specs.declared.cpu.Cpu.{Cpu}
-use Rattle.blue_model.specs.Machine.{Machine, MACHINE_REGISTERS, row_of, rows_at, log_of, placed, put_register, unpinned, unpin_all, with_pin, pinned, pin}
+use Rattle.blue_model.specs.Machine.{Machine, row_of, rows_at, log_of, placed, put_register, unpinned, unpin_all, with_pin, pinned, pin}
+use Rattle.long_names.specs.declared.limits.TheConstants.{MACHINE_REGISTERS}
 use Rattle.blue_model.specs.Contexts.{put_context}
 use Rattle.contexts.specs.declared.stop.Stop.TheVariants.{Stuck, Mem}
 use Rattle.contexts.specs.Serves.{Stands, IsLogged, Gives, Serves}

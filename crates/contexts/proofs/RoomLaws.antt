@@ -7,7 +7,7 @@ use Rattle.long_names.specs.Objects.{is_ref}
 use Rattle.long_names.specs.Heap.{Heap, Has, object_count}
 use Rattle.long_names.specs.Kept.{any_below, kept}
 use Rattle.long_names.specs.Need.{is_pinned}
-use Rattle.long_names.specs.State.{REGISTERS, SLOTS}
+use Rattle.long_names.specs.declared.limits.TheConstants.{REGISTERS, SLOTS}
 use Rattle.long_names.proofs.ThinLemmas.{IsWhole-bounded, or_cases}
 use Rattle.long_names.proofs.KeptLaws.{any_below-at, kept-thinning}
 use Rattle.object_memory.specs.Told.{Told, Bounds, IsReady, is_root}

@@ -14,7 +14,8 @@ use Rattle.object_memory.proofs.LaterLaws.{SameBounds-refl, IsLater-refl, IsLate
 use Rattle.object_memory.proofs.LooksLaws.{below_among}
 use Rattle.blue_model.specs.declared.cause.Cause.{Cause}
 use Rattle.blue_model.specs.declared.cpu.Cpu.{Cpu}
-use Rattle.blue_model.specs.Machine.{Machine, MACHINE_REGISTERS, Outcome, Go, Halt, Spent, Rule, then_do, ◌>>=◌, done, halt, given, pick, register, clear, numbers, set_numbers, times, each}
+use Rattle.blue_model.specs.Machine.{Machine, Outcome, Go, Halt, Spent, Rule, then_do, ◌>>=◌, done, halt, given, pick, register, clear, numbers, set_numbers, times, each}
+use Rattle.long_names.specs.declared.limits.TheConstants.{MACHINE_REGISTERS}
 use Rattle.contexts.specs.declared.stop.Stop.{Stop}
 use Rattle.contexts.specs.declared.stop.Stop.TheVariants.{Stuck}
 use Rattle.contexts.specs.Cache.{IsSound}

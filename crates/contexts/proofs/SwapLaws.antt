@@ -4,7 +4,8 @@ use Rattle.std.proofs.lemmas.Grind.{common_steps}
 use Rattle.long_names.specs.declared.value.Value.{Value}
 use Rattle.long_names.specs.declared.value.Value.TheVariants.{Int, Ref}
 use Rattle.long_names.specs.Kept.{any_below}
-use Rattle.long_names.specs.State.{SLOTS, IsRef, name_at}
+use Rattle.long_names.specs.State.{IsRef, name_at}
+use Rattle.long_names.specs.declared.limits.TheConstants.{SLOTS}
 use Rattle.long_names.specs.Access.{Swap, IsUnpinned}
 use Rattle.long_names.specs.Need.{is_pinned}
 use Rattle.long_names.proofs.KeptLaws.{any_below-from}

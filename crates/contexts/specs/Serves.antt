@@ -3,7 +3,8 @@ use Rattle.std.specs.Prelude.{◌≡◌, ℕ, ◌+◌, ◌*◌, ◌<◌, ◌≤�
 use Rattle.std.specs.Option.{option_map}
 use Rattle.long_names.specs.Counting.{Rose}
 use Rattle.long_names.specs.Need.{Fits}
-use Rattle.long_names.specs.State.{REGISTERS, RECEIVER}
+use Rattle.long_names.specs.State.{RECEIVER}
+use Rattle.long_names.specs.declared.limits.TheConstants.{MACHINE_REGISTERS, REGISTERS}
 use Rattle.long_names.specs.declared.value.Value.TheVariants.{Int}
 use Rattle.long_names.specs.Thin.{IsThinner}
 use Rattle.object_memory.specs.declared.fault.Need.{Need}
@@ -13,7 +14,7 @@ use Rattle.object_memory.specs.Told.{Told, IsReady}
 use Rattle.object_memory.specs.Contract.{ForBounds, IfBounds, NoBounds, IsLater, Raised, Lives, work_faults, said_faults, LeavesAll}
 use Rattle.blue_model.specs.declared.cpu.Cpu.{Cpu}
 use Rattle.blue_model.specs.Cycle.{is_message}
-use Rattle.blue_model.specs.Machine.{Machine, MACHINE_REGISTERS, LogRow, Outcome, Go, Halt, Spent, Rule, log_of}
+use Rattle.blue_model.specs.Machine.{Machine, LogRow, Outcome, Go, Halt, Spent, Rule, log_of}
 use Rattle.contexts.specs.Cache.{IsSound}
 use Rattle.contexts.specs.declared.stop.Stop.{Stop}
 use Rattle.contexts.specs.declared.stop.Stop.TheVariants.{Stuck, Mem}

@@ -4,7 +4,7 @@ ghost use Rattle.long_names.specs.Words.{IsSmallInteger};
 ghost use Rattle.object_memory.specs.Told.{IsReady};
 ghost use Rattle.object_memory.specs.Shape.{Looks};
 ghost use Rattle.blue_model.specs.declared.cpu.Cpu.{Cpu as Numbers};
-ghost use Rattle.blue_model.specs.Machine.{MACHINE_REGISTERS};
+ghost use Rattle.long_names.specs.declared.limits.TheConstants.{MACHINE_REGISTERS};
 ghost use Rattle.blue_model.specs.Contexts as model;
 ghost use Rattle.contexts.specs.Serves.{Serves, StaysSound, KeepsOthers, HasRest, with_value};
 ghost use Rattle.object_memory.specs.Calls.{IsFit};
@@ -22,7 +22,7 @@ use blue_model::indexes::{
     TEMP_FRAME_START, VALUE_INDEX,
 };
 use blue_model::{Cause, Cpu};
-use long_names::Name;
+use long_names::{MACHINE_REGISTERS, Name, REGISTERS};
 use object_memory::{ObjectMemory, Reg};
 
 // The scratch registers from 20 on are those of this file and of `registers`; what callers keep stands below.
@@ -188,12 +188,12 @@ pub fn start<M: ObjectMemory>(m: &mut M, cpu: &mut Cpu) -> Result<(), Stop>
     ensures ran { cpu.new.ran ≡ 0 }
     ensures fit { StaysFit M.ObjectMemory m.old m.new result }
 {
-    clear(m, 0, 24);
+    clear(m, 0, REGISTERS as u8);
     *cpu = Cpu::at_rest();
     active_process(m, Reg::R10)?;
     field(m, Reg::R10, Reg::R10, PROCESS_SIZE, SUSPENDED_CONTEXT_INDEX)?;
     load(m, cpu, Reg::R10)?;
-    clear(m, 10, 24);
+    clear(m, MACHINE_REGISTERS as u8, REGISTERS as u8);
     Ok(())
 }
 

@@ -2,7 +2,7 @@
 ghost use Rattle.std.specs.Prelude.{◌≡◌, ◌+◌, ◌≤◌, ◌<◌, ℕ, [], ◌∷◌, OnOk, IfOk, length, true};
 ghost use Rattle.long_names.specs.Names.{is_known};
 ghost use Rattle.long_names.specs.Objects.{pointers_of, OfPointers, OfWords, OfBytes, OfMethod};
-ghost use Rattle.long_names.specs.declared.limits.TheConstants.{MOST_CODE, MOST_FIELDS};
+ghost use Rattle.long_names.specs.declared.limits.TheConstants.{MACHINE_REGISTERS, MOST_CODE, MOST_FIELDS};
 ghost use Rattle.long_names.specs.State.{IsRef};
 ghost use Rattle.long_names.specs.Words.{IsSmallInteger};
 ghost use Rattle.long_names.specs.declared.value.Value.TheVariants.{Ref};
@@ -11,7 +11,7 @@ ghost use Rattle.object_memory.specs.Shape.{HasPartAt, Looks};
 ghost use Rattle.blue_model.specs.declared.cause.Cause.TheVariants.{Shape};
 ghost use Rattle.blue_model.specs.declared.indexes.TheConstants.{TEMP_FRAME_START as CONTEXT_FIELDS};
 ghost use Rattle.blue_model.specs.declared.cpu.Cpu.{Cpu as Numbers};
-ghost use Rattle.blue_model.specs.Machine.{MACHINE_REGISTERS, part, known, class_of, make, store, is_unpinned, swap};
+ghost use Rattle.blue_model.specs.Machine.{part, known, class_of, make, store, is_unpinned, swap};
 ghost use Rattle.blue_model.specs.Messages.{last_literal, literal_before_last, extension};
 ghost use Rattle.blue_model.specs.Parts.{size, field, number, heading, literal, home_of};
 ghost use Rattle.blue_model.specs.Contexts.{store_field, need_method};

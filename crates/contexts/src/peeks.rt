@@ -1,12 +1,11 @@
 // Parts of objects that a primitive looks for: where the object hasn't the part, nothing is stuck. A number is no object, and isn't
 // looked at.
 ghost use Rattle.std.specs.Prelude.{◌≡◌, ◌+◌, ◌≤◌, ◌<◌, [], ◌∷◌, OnOk, IfOk, IfSome};
-ghost use Rattle.long_names.specs.declared.limits.TheConstants.{MOST_FIELDS};
+ghost use Rattle.long_names.specs.declared.limits.TheConstants.{MACHINE_REGISTERS, MOST_FIELDS};
 ghost use Rattle.long_names.specs.Words.{IsSmallInteger};
 ghost use Rattle.object_memory.specs.Told.{IsReady};
 ghost use Rattle.object_memory.specs.Shape.{Looks};
 ghost use Rattle.blue_model.specs.declared.cpu.Cpu.{Cpu as Numbers};
-ghost use Rattle.blue_model.specs.Machine.{MACHINE_REGISTERS};
 ghost use Rattle.blue_model.specs.Parts.{size, field, number, literal, heading};
 ghost use Rattle.blue_model.specs.Trials.{peek};
 ghost use Rattle.contexts.specs.Serves.{Serves, StaysSound, with_found};

@@ -9,6 +9,7 @@ ghost use Rattle.blue_model.specs.Messages as messages;
 ghost use Rattle.contexts.specs.Serves.{Serves, StaysSound};
 ghost use Rattle.std.specs.Prelude.{Ok};
 ghost use Rattle.long_names.specs.State.{RECEIVER};
+ghost use Rattle.long_names.specs.declared.limits.TheConstants.{REGISTERS};
 ghost use Rattle.object_memory.specs.Calls.{IsFit};
 ghost use Rattle.contexts.specs.Calls.{StaysFit};
 
@@ -19,7 +20,7 @@ use object_memory::{ObjectMemory, Reg, shape};
 /// The registers from one number up to another, without it, hold 0.
 pub fn clear<M: ObjectMemory>(m: &mut M, from: u8, to: u8)
     requires fit { IsFit M.ObjectMemory m.old }
-    requires few { to ≤ 24 }
+    requires few { to ≤ REGISTERS }
     ensures regs { (r : ℕ) → (M.told m.new).regs r ≡ (if nat_le from r && nat_lt r to then Int (pos 0) else (M.told m.old).regs r) }
     ensures rest { M.told m.new ≡ record (M.told m.old) { regs = (M.told m.new).regs } }
     ensures fit { StaysFit M.ObjectMemory m.old m.new (Ok result) }

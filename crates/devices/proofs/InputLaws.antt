@@ -5,7 +5,7 @@ use Rattle.long_names.specs.declared.value.Value.TheVariants.{Int}
 use Rattle.long_names.specs.State.{set_register}
 use Rattle.object_memory.specs.Told.{Told, IsReady}
 use Rattle.blue_model.specs.declared.cpu.Cpu.{Cpu}
-use Rattle.blue_model.specs.Machine.{MACHINE_REGISTERS}
+use Rattle.long_names.specs.declared.limits.TheConstants.{MACHINE_REGISTERS}
 use Rattle.blue_model.specs.Devices.{put_semaphore}
 use Rattle.contexts.specs.Serves.{Serves}
 use Rattle.contexts.proofs.RegisterLaws.{put_serves}

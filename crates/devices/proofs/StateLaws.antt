@@ -15,7 +15,8 @@ use Rattle.object_memory.specs.Told.{Told, IsReady}
 use Rattle.object_memory.specs.Contract.{Does, MayDo, Called}
 use Rattle.object_memory.proofs.LeftLaws.{heap_over}
 use Rattle.blue_model.specs.declared.cpu.Cpu.{Cpu}
-use Rattle.blue_model.specs.Machine.{Machine, MACHINE_REGISTERS, rows_at, then_do, ◌>>=◌, done, looked, look, known, placed, put_register}
+use Rattle.blue_model.specs.Machine.{Machine, rows_at, then_do, ◌>>=◌, done, looked, look, known, placed, put_register}
+use Rattle.long_names.specs.declared.limits.TheConstants.{MACHINE_REGISTERS}
 use Rattle.blue_model.specs.State.{name_in, hold}
 use Rattle.blue_model.specs.Devices.{timer_at}
 use Rattle.blue_model.specs.Cycle.{is_message}

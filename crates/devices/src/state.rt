@@ -2,7 +2,7 @@
 ghost use Rattle.std.specs.Prelude.{◌≡◌, ◌<◌, ℕ, IsTrue, OnOk};
 ghost use Rattle.long_names.specs.Kept.{kept, no_roots};
 ghost use Rattle.blue_model.specs.declared.cpu.Cpu.{Cpu as Numbers};
-ghost use Rattle.blue_model.specs.Machine.{MACHINE_REGISTERS};
+ghost use Rattle.long_names.specs.declared.limits.TheConstants.{MACHINE_REGISTERS};
 ghost use Rattle.blue_model.specs.Devices as devices;
 ghost use Rattle.blue_model.specs.State as model;
 ghost use Rattle.contexts.specs.Serves.{Serves, HasRest};

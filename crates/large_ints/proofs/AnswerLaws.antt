@@ -13,7 +13,8 @@ use Rattle.object_memory.specs.Told.{Told, IsReady}
 use Rattle.object_memory.specs.Shape.{HasPartAt}
 use Rattle.object_memory.proofs.LooksLaws.{put_value}
 use Rattle.blue_model.specs.declared.cpu.Cpu.{Cpu}
-use Rattle.blue_model.specs.Machine.{MACHINE_REGISTERS, done}
+use Rattle.blue_model.specs.Machine.{done}
+use Rattle.long_names.specs.declared.limits.TheConstants.{MACHINE_REGISTERS}
 use Rattle.blue_model.specs.Contexts.{stated}
 use Rattle.blue_model.specs.LargeInts.{digits, fewest_bytes, in_range, large_result}
 use Rattle.contexts.specs.Serves.{Serves}

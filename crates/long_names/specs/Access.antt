@@ -10,7 +10,8 @@ use Rattle.long_names.specs.Names.{is_known}
 use Rattle.long_names.specs.Objects.{kind_of, len_of, header_of, field_of, words_of, bytes_of, text_of, with_field, with_words, with_bytes, Making, body_made, CanMake}
 use Rattle.long_names.specs.Heap.{Heap, Has, put_object, add_object, swap_objects}
 use Rattle.long_names.specs.Kept.{any_below, holds_at}
-use Rattle.long_names.specs.State.{State, SLOTS, set_register, set_slot, name_at, IsRef, class_at, part_at, HasPart}
+use Rattle.long_names.specs.declared.limits.TheConstants.{SLOTS}
+use Rattle.long_names.specs.State.{State, set_register, set_slot, name_at, IsRef, class_at, part_at, HasPart}
 
 -- The calls that read or write an object, make one, pin one, mark one, let two change places, or make a register name a known one.
 -- Registers and slots go by their numbers.

@@ -17,9 +17,6 @@ pub record State : Type 0 where
 
 -- ---- registers, by their numbers: those of the interpreter (chapter 28) and of this profile; from 10 on they are scratch
 
-abbrev pub REGISTERS : ℕ
-REGISTERS = 24
-
 abbrev pub ACTIVE_CONTEXT : ℕ
 ACTIVE_CONTEXT = 0
 
@@ -59,9 +56,6 @@ abbrev pub set_register : (ℕ → Value) → ℕ → Value → ℕ → Value
 set_register regs to v = λ r. if r == to then v else regs r
 
 -- ---- slots, by their numbers: the active context, its home and its method are pinned there
-
-abbrev pub SLOTS : ℕ
-SLOTS = 3
 
 abbrev pub set_slot : (ℕ → Option ℕ) → ℕ → Option ℕ → ℕ → Option ℕ
 set_slot slots slot n = λ i. if i == slot then n else slots i

@@ -9,6 +9,15 @@ pub const SMALL_INTEGERS: u32 = 16_384;
 /// The most values of an object of pointers, words of one of words, and bytes of one of bytes.
 pub const MOST_FIELDS: u32 = 65_535;
 
+/// The registers of a memory: the machine's first, and behind them scratch registers.
+pub const REGISTERS: usize = 24;
+
+/// Those of them that are the machine's.
+pub const MACHINE_REGISTERS: usize = 10;
+
+/// The slots for pinned objects.
+pub const SLOTS: usize = 3;
+
 /// The entries that an access takes beside those of the pinned objects: 24 for the registers, 2 for its object and the class of that, and
 /// 25 for what a call holds on its way.
 pub const ENTRIES_OF_A_CALL: u32 = 51;

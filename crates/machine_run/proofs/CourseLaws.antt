@@ -2,7 +2,7 @@
 -- `course_from` has the course of a machine by what its beginning came to; of the machine at rest after something was said it is the
 -- course of the heap with that in front (`course_begun`). The laws here say what its said, rows and lives are at the bytecode where a
 -- run over a memory stopped.
-use Rattle.std.proofs.Common.{zero, suc, ◌≡◌, ℕ, ◌+◌, ◌<◌, ◌≤◌, nat_lt, nat_le, Bool, true, false, cond, eqb, Option, Some, None, List, [], ◌∷◌, ◌++◌, inl, inr, refl, ◌∙◌, ap, arith, le-leb}
+use Rattle.std.proofs.Common.{zero, suc, ◌≡◌, ℕ, ◌+◌, ◌<◌, ◌≤◌, nat_lt, nat_le, Bool, true, false, cond, eqb, Some, List, [], ◌∷◌, ◌++◌, inl, inr, refl, ◌∙◌, ap, arith, le-leb}
 use borrow.Author.Tests.{ltb-true, ltb-false}
 use Rattle.std.proofs.lemmas.Grind.{common_steps}
 use Rattle.long_names.specs.Heap.{Heap}
@@ -10,7 +10,7 @@ use Rattle.object_memory.specs.declared.fault.Need.{Need}
 use Rattle.blue_model.specs.declared.event.Line.{Line}
 use Rattle.blue_model.specs.declared.step.Step.{Step}
 use Rattle.blue_model.specs.declared.step.Step.TheVariants.{Next, Quit, Keep}
-use Rattle.blue_model.specs.Machine.{Machine, LogRow, Outcome, Go, Halt, Spent, log_of, at_rest}
+use Rattle.blue_model.specs.Machine.{Machine, LogRow, Outcome, Go, Halt, Spent, log_of}
 use Rattle.blue_model.specs.State.{State, begin}
 use Rattle.blue_model.specs.Cycle.{Stopping, ByCause, BySpentNames, Stuck, Ran, run_of, one_more, run, cycle, park_and_draw}
 use Rattle.blue_model.specs.Earlier.{course_with_earlier, ending_of, spoken_in, at_rest_after}

@@ -13,7 +13,7 @@ use Rattle.long_names.specs.Objects.{holds, is_ref}
 use Rattle.long_names.specs.Heap.{Heap, Has, IsBounded, objects_below, object_count}
 use Rattle.long_names.specs.Kept.{any_below, holds_at, is_left, sweeps, kept}
 use Rattle.long_names.specs.Need.{is_pinned}
-use Rattle.long_names.specs.State.{REGISTERS, SLOTS}
+use Rattle.long_names.specs.declared.limits.TheConstants.{MACHINE_REGISTERS, REGISTERS, SLOTS}
 use Rattle.long_names.specs.Thin.{IsThinner, IsClosed}
 use Rattle.long_names.proofs.ThinLemmas.{IsWhole-bounded, below}
 use Rattle.long_names.proofs.KeptLaws.{kept-thinner}
@@ -22,7 +22,7 @@ use Rattle.object_memory.specs.Contract.{ForBounds, IfBounds, CountsKept, Lives,
 use Rattle.object_memory.specs.declared.fault.MemFault.TheVariants.{WorkFull}
 use Rattle.blue_model.specs.declared.cpu.Cpu.{Cpu}
 use Rattle.blue_model.specs.declared.event.Line.{Line}
-use Rattle.blue_model.specs.Machine.{Machine, MACHINE_REGISTERS, LogRow, log_of}
+use Rattle.blue_model.specs.Machine.{Machine, LogRow, log_of}
 use Rattle.blue_model.specs.Cycle.{cycle}
 use Rattle.blue_model.specs.Logs.{made_in, names_from, living, lives_after, lives, IsLive}
 use Rattle.blue_model.specs.Logs as model

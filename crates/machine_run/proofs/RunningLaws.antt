@@ -24,13 +24,13 @@ use Rattle.blue_model.specs.declared.cpu.Cpu.{Cpu}
 use Rattle.blue_model.specs.declared.step.Step.{Step}
 use Rattle.blue_model.specs.declared.step.Step.TheVariants.{Next, Quit, Keep}
 use Rattle.blue_model.specs.declared.event.Line.{Line}
-use Rattle.blue_model.specs.Machine.{Machine, LogRow, Outcome, Go, Halt, Spent, Rule, log_of, after, then_do, at_rest, ◌>>=◌, done, clear, set_numbers}
+use Rattle.blue_model.specs.Machine.{Machine, LogRow, Outcome, Go, Halt, Spent, Rule, log_of, after, then_do, ◌>>=◌, done, clear, set_numbers}
 use Rattle.blue_model.specs.Devices.{clock, picture}
 use Rattle.blue_model.proofs.FailLaws.{picture_leaves}
 use Rattle.blue_model.specs.Contexts.{start, park}
 use Rattle.blue_model.specs.State.{State, begin, restore, tick_or}
 use Rattle.blue_model.specs.Earlier.{ending_with_earlier, course_with_earlier, at_rest_after}
-use Rattle.blue_model.specs.Cycle.{Ran, Stopped, Stopping, ByCause, BySpentNames, Ending, Parked, ending, run_of, one_more, run, ended, parked, run_from, cycle, park_and_draw, count_bytecode}
+use Rattle.blue_model.specs.Cycle.{Ran, Stopped, Stopping, ByCause, BySpentNames, Ending, Parked, ending, run_of, one_more, run, ended, parked, cycle, park_and_draw, count_bytecode}
 use Rattle.blue_model.specs.Logs.{Course, course, said_by, rows_after, lives, lives_by, living, IsLive, made_in, AreWithin, rows_of_bytecode}
 use Rattle.blue_model.specs.Logs as logs
 use Rattle.blue_model.proofs.StartLaws.{begin_leaves}

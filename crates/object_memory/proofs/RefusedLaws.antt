@@ -5,12 +5,12 @@ use Rattle.std.proofs.lemmas.Grind.{common_steps}
 use Rattle.long_names.specs.declared.value.Value.{Value}
 use Rattle.long_names.specs.declared.value.Value.TheVariants.{Int, Ref}
 use Rattle.long_names.specs.declared.object.Kind.{Kind}
-use Rattle.long_names.specs.declared.limits.TheConstants.{LAST_NAME}
+use Rattle.long_names.specs.declared.limits.TheConstants.{LAST_NAME, REGISTERS, SLOTS}
 use Rattle.long_names.specs.Counting.{Rose}
 use Rattle.long_names.specs.Objects.{is_ref, kind_of}
 use Rattle.long_names.specs.Heap.{Heap, Has, object_count}
 use Rattle.long_names.specs.Kept.{any_below, kept}
-use Rattle.long_names.specs.State.{IsRef, REGISTERS, SLOTS}
+use Rattle.long_names.specs.State.{IsRef}
 use Rattle.long_names.specs.Access.{Access, KindOf, Length, Header, Word, Byte, ReadWords, ReadBytes, Say, Swap, CanDo, object_of, other_object_of, OfKind, made_by, with_made, said_by}
 use Rattle.long_names.specs.Need.{words_of_row, entries_of_row, is_pinned, words_named}
 use Rattle.long_names.specs.Thin.{IsThinning}

@@ -5,7 +5,8 @@ use Rattle.long_names.specs.Objects.{is_ref}
 use Rattle.long_names.specs.Heap.{Heap, Has}
 use Rattle.long_names.specs.Kept.{any_below}
 use Rattle.long_names.specs.Thin.{IsWhole}
-use Rattle.long_names.specs.State.{State, REGISTERS, SLOTS}
+use Rattle.long_names.specs.State.{State}
+use Rattle.long_names.specs.declared.limits.TheConstants.{REGISTERS, SLOTS}
 use Rattle.long_names.specs.Need.{Row, words_of_row, entries_of_row, is_pinned}
 use Rattle.object_memory.specs.declared.fault.Need.{Need}
 use Rattle.object_memory.specs.declared.fault.MemFault.{MemFault}

@@ -1,7 +1,9 @@
 // Registers.
-ghost use Rattle.std.specs.Prelude.{◌≡◌, ◌<◌, ◌≤◌};
+ghost use Rattle.std.specs.Prelude.{◌≡◌, ◌<◌};
 ghost use Rattle.long_names.specs.State.{machine_registers};
+ghost use Rattle.long_names.specs.declared.limits.TheConstants.{REGISTERS};
 
+use long_names::MACHINE_REGISTERS;
 use std::marker::Model;
 
 /// The number of a register, from 0 to 23.
@@ -12,12 +14,13 @@ pub struct Reg {
 
 impl Model for Reg {
     ghost use Rattle.std.specs.Prelude.{ℕ, ◌<◌};
+    ghost use Rattle.long_names.specs.declared.limits.TheConstants.{REGISTERS};
 
     ghost Value = { ℕ };
 
     ghost view = { λ r. r.number };
 
-    ghost invariant = { λ r. r.number < 24 };
+    ghost invariant = { λ r. r.number < REGISTERS };
 
     ghost inverse = { λ n. record { number = n } };
 }
@@ -73,7 +76,7 @@ impl Reg {
     pub const R23: Reg = Reg { number: 23 };
 
     /// The registers of the machine, by their numbers: all but the scratch registers.
-    pub fn machine() -> [Reg; 10]
+    pub fn machine() -> [Reg; MACHINE_REGISTERS]
         ensures { result ≡ machine_registers }
     {
         [
@@ -93,7 +96,7 @@ impl Reg {
 
 impl Reg {
     pub fn new(number: u8) -> Reg
-        requires { number ≤ 23 }
+        requires { number < REGISTERS }
         ensures { result ≡ number }
     {
         Reg { number }
@@ -102,7 +105,7 @@ impl Reg {
     /// Its number, as an index.
     pub fn index(self) -> usize
         ensures same { result ≡ self }
-        ensures within { result < 24 }
+        ensures within { result < REGISTERS }
     {
         self.number as usize
     }

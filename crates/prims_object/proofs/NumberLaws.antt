@@ -7,7 +7,7 @@ use Rattle.std.specs.Option.{option_and_then}
 use mir.Val.{hbits, of_z, to_z}
 use mir.Syntax.{w16, w32}
 use lib.Signed.{mag}
-use Rattle.long_names.specs.declared.limits.TheConstants.{SMALL_INTEGERS}
+use Rattle.long_names.specs.declared.limits.TheConstants.{MACHINE_REGISTERS, SMALL_INTEGERS}
 use Rattle.long_names.specs.declared.value.Value.{Value}
 use Rattle.long_names.specs.declared.value.Value.TheVariants.{Int, Ref}
 use Rattle.long_names.specs.Words.{IsSmallInteger}
@@ -22,7 +22,7 @@ use Rattle.object_memory.proofs.ShapeLaws.{small_number}
 use Rattle.object_memory.proofs.LooksLaws.{put_value}
 use Rattle.blue_model.specs.declared.cause.Cause.TheVariants.{Shape}
 use Rattle.blue_model.specs.declared.cpu.Cpu.{Cpu}
-use Rattle.blue_model.specs.Machine.{Machine, MACHINE_REGISTERS, Outcome, Go, Rule, row_of, after, then_do, ◌>>=◌, done, pick, part, class_of}
+use Rattle.blue_model.specs.Machine.{Machine, Outcome, Go, Rule, row_of, after, then_do, ◌>>=◌, done, pick, part, class_of}
 use Rattle.blue_model.specs.declared.spot.Spot.{Spot}
 use Rattle.blue_model.specs.Trials.{peek}
 use Rattle.blue_model.specs.Elements.{two_bytes, large_number, index_by, index_argument, is_positive, element_number, spot_of, spot_at, byte_of_object}

@@ -7,7 +7,8 @@ use Rattle.object_memory.specs.Told.{Told, IsReady}
 use Rattle.object_memory.proofs.LaterLaws.{SameBounds-refl, IsLater-refl, Raised-refl}
 use Rattle.object_memory.proofs.LooksLaws.{put_value}
 use Rattle.blue_model.specs.declared.cpu.Cpu.{Cpu}
-use Rattle.blue_model.specs.Machine.{MACHINE_REGISTERS, register, put_register}
+use Rattle.blue_model.specs.Machine.{register, put_register}
+use Rattle.long_names.specs.declared.limits.TheConstants.{MACHINE_REGISTERS}
 use Rattle.contexts.specs.Serves.{Serves}
 use Rattle.contexts.proofs.ServesLaws.{IsCounted-refl}
 use Rattle.contexts.proofs.Steps.{read_last}

@@ -5,7 +5,7 @@ ghost use Rattle.long_names.specs.State.{RECEIVER, NEW_PROCESS};
 ghost use Rattle.long_names.specs.declared.value.Value.TheVariants.{Int};
 ghost use Rattle.object_memory.specs.Told.{IsReady};
 ghost use Rattle.object_memory.specs.Shape.{Looks};
-ghost use Rattle.blue_model.specs.Machine.{MACHINE_REGISTERS};
+ghost use Rattle.long_names.specs.declared.limits.TheConstants.{MACHINE_REGISTERS};
 ghost use Rattle.blue_model.specs.Processes as model;
 ghost use Rattle.contexts.specs.Serves.{Serves, StaysSound, with_value};
 ghost use Rattle.object_memory.specs.Calls.{IsFit};

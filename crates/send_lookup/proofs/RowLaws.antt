@@ -11,7 +11,8 @@ use Rattle.object_memory.specs.Contract.{row_of_values, is_marked, IsFound, IsUn
 use Rattle.object_memory.proofs.LaterLaws.{SameBounds-refl, IsLater-refl, Raised-refl}
 use Rattle.object_memory.proofs.LooksLaws.{Looks-put, put_value, below_among}
 use Rattle.blue_model.specs.declared.cpu.Cpu.{Cpu}
-use Rattle.blue_model.specs.Machine.{Machine, MACHINE_REGISTERS, Outcome, Go, Halt, Spent, log_of, placed, put_register}
+use Rattle.blue_model.specs.Machine.{Machine, Outcome, Go, Halt, Spent, log_of, placed, put_register}
+use Rattle.long_names.specs.declared.limits.TheConstants.{MACHINE_REGISTERS}
 use Rattle.blue_model.specs.Lookup.{lookup, find, put_found}
 use Rattle.contexts.specs.declared.stop.Stop.{Stop}
 use Rattle.contexts.specs.Cache.{IsRead, Finds, IsLookup, IsSound}

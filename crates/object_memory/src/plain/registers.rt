@@ -5,19 +5,20 @@ ghost use Rattle.long_names.specs.Kept.{any_below};
 ghost use Rattle.object_memory.specs.Counts.{count_in};
 ghost use Rattle.long_names.specs.Words.{IsValue};
 ghost use Rattle.long_names.specs.State.{set_register, IsRef};
+ghost use Rattle.long_names.specs.declared.limits.TheConstants.{REGISTERS};
 ghost use Rattle.long_names.specs.declared.value.Value.TheVariants.{Int, Ref};
 ghost use Rattle.long_names.specs.Names.{IsLongName};
 ghost use Rattle.long_names.specs.ObjectProps.{All-prop, IsValue-prop};
 
 use crate::plain::counts::Counts;
 use crate::reg::Reg;
-use long_names::{Name, Value};
+use long_names::{Name, REGISTERS, Value};
 use std::alloc::AllocError;
 
-/// The values of the 24 registers.
+/// The values of the registers.
 #[derive(Drop)]
 pub(crate) struct Registers {
-    pub(crate) values: [Value; 24],
+    pub(crate) values: [Value; REGISTERS],
     ghost are_values: { All IsValue values } by { All-prop IsValue IsValue-prop values },
 }
 
@@ -29,7 +30,7 @@ impl Registers {
         ensures { values_of result ≡ (λ r. Int (pos 0)) }
     {
         Registers {
-            values: [Value::Int(0); 24],
+            values: [Value::Int(0); REGISTERS],
         }
     }
 
@@ -62,10 +63,10 @@ impl Registers {
     /// Counts the names in them.
     pub(crate) fn count(&self, counts: &mut Counts) -> Result<(), AllocError>
         requires { (q : ℕ) → count_in counts.old q ≡ 0 }
-        ensures roots { OnOk result ((q : ℕ) → nat_lt 0 (count_in counts.new q) ≡ any_below 24 (λ r. is_ref q (values_of self.now r))) }
-        ensures few { OnOk result ((q : ℕ) → count_in counts.new q ≤ 24) }
+        ensures roots { OnOk result ((q : ℕ) → nat_lt 0 (count_in counts.new q) ≡ any_below REGISTERS (λ r. is_ref q (values_of self.now r))) }
+        ensures few { OnOk result ((q : ℕ) → count_in counts.new q ≤ REGISTERS) }
     {
-        for i in 0..24 {
+        for i in 0..REGISTERS {
             counts.add_some(self.values[i].name())?;
         }
         Ok(())

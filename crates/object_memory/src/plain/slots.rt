@@ -3,18 +3,19 @@ ghost use Rattle.std.specs.Prelude.{◌≡◌, ◌+◌, ◌<◌, ◌≤◌, ◌|
 ghost use Rattle.long_names.specs.Kept.{any_below};
 ghost use Rattle.long_names.specs.Need.{is_pinned};
 ghost use Rattle.object_memory.specs.Counts.{count_in};
-ghost use Rattle.long_names.specs.State.{REGISTERS, SLOTS, set_slot};
+ghost use Rattle.long_names.specs.State.{set_slot};
+ghost use Rattle.long_names.specs.declared.limits.TheConstants.{REGISTERS, SLOTS};
 ghost use Rattle.object_memory.specs.Plain.{names_of};
 ghost use Rattle.object_memory.specs.Told.{has_slot};
 
 use crate::plain::counts::Counts;
-use long_names::Name;
+use long_names::{Name, SLOTS};
 use std::alloc::AllocError;
 
 /// The names in the three slots.
 #[derive(Drop)]
 pub(crate) struct Slots {
-    pub(crate) names: [Option<Name>; 3],
+    pub(crate) names: [Option<Name>; SLOTS],
 }
 
 /// Whether a slot has this name.
@@ -32,11 +33,13 @@ impl Slots {
     pub(crate) fn new() -> Slots
         ensures { names_of result ≡ (λ i. None) }
     {
-        Slots { names: [None; 3] }
+        Slots {
+            names: [None; SLOTS],
+        }
     }
 
     pub(crate) fn set(&mut self, slot: u8, name: Option<Name>)
-        requires { slot < 3 }
+        requires { slot < SLOTS }
         ensures { names_of self.new ≡ set_slot (names_of self.old) slot name }
     {
         self.names[slot as usize] = name;
@@ -54,10 +57,10 @@ impl Slots {
     /// Counts the names in them, beside those of the registers.
     pub(crate) fn count(&self, counts: &mut Counts) -> Result<(), AllocError>
         requires { (q : ℕ) → count_in counts.old q ≤ REGISTERS }
-        ensures roots { OnOk result ((q : ℕ) → nat_lt 0 (count_in counts.new q) ≡ (nat_lt 0 (count_in counts.old q) || any_below 3 (λ i. is_pinned q (names_of self.now i)))) }
+        ensures roots { OnOk result ((q : ℕ) → nat_lt 0 (count_in counts.new q) ≡ (nat_lt 0 (count_in counts.old q) || any_below SLOTS (λ i. is_pinned q (names_of self.now i)))) }
         ensures few { OnOk result ((q : ℕ) → count_in counts.new q ≤ REGISTERS + SLOTS) }
     {
-        for i in 0..3 {
+        for i in 0..SLOTS {
             counts.add_some(self.names[i])?;
         }
         Ok(())

@@ -2,7 +2,7 @@ use Rattle.std.proofs.Common.{ℕ, pos, ◌<◌, ◌≡◌, Bool, true, false, I
 use Rattle.std.proofs.lemmas.Grind.{common_steps}
 use Rattle.long_names.specs.declared.value.Value.TheVariants.{Int}
 use Rattle.long_names.specs.State.{RECEIVER}
-use Rattle.blue_model.specs.Machine.{MACHINE_REGISTERS}
+use Rattle.long_names.specs.declared.limits.TheConstants.{MACHINE_REGISTERS}
 use Rattle.blue_model.specs.Contexts.{start}
 use Rattle.contexts.proofs.Frames.{below, message_low}
 use Rattle.contexts.proofs.ServesLaws.{serves_then, serves_exit, exits}
