@@ -1,7 +1,7 @@
 // A host over files and the standard streams, by which nothing that was kept is lost:
 //
 // - A file is cut or replaced only where no other role has it, whatever it is called; else the attach fails. Saved alone may
-//   replace what Image or Events read.
+//   replace what Image or Events read. Work, which is attached first, isn't cut where another role is expected to have its file.
 // - What was written to a file is on the disk before the next role is attached, and Display's once each write is done; else
 //   that call fails.
 // - Saved is written beside its file, and takes its name when the next role is attached. So at any moment, also after a kill
@@ -47,6 +47,15 @@ impl<R: Files + Alloc, T: Write, N: Write> RealHost<R, T, N> {
             faults: PerRole::<u64>::zeros(),
             writes: 0,
         }
+    }
+
+    /// Tells by which name a role will be attached: from then on the attach of Work fails where its file is this one, by whatever name,
+    /// and leaves it as it is. A name that no file has yet tells nothing.
+    pub fn expect(&mut self, role: Role, name: &str)
+        ensures faults { (r : Role) → ⟦<RealHost<R, T, N> as Host>⟧.faults self.new r ≡ ⟦<RealHost<R, T, N> as Host>⟧.faults self.old r }
+        ensures writes { ⟦<RealHost<R, T, N> as Host>⟧.writes self.new ≡ ⟦<RealHost<R, T, N> as Host>⟧.writes self.old }
+    {
+        self.files.expect(role, name);
     }
 }
 

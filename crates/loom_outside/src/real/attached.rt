@@ -1,6 +1,6 @@
 // The files of the roles. Before a file is cut or replaced it is compared with the files of the other roles, by what the
-// system calls them, so that no other name of a file hides that two roles have it. What was written is on the disk before
-// another file is opened.
+// system calls them, so that no other name of a file hides that two roles have it. Work is cut before others are attached, so it is also
+// compared with the files that they are expected to have. What was written is on the disk before another file is opened.
 ghost use Rattle.std.specs.Prelude.{◌≡◌, ◌<◌, ◌≤◌, IfSome, length};
 ghost use Rattle.loom_outside.specs.Outside.{CanAttach, CanRead, CanWrite};
 
@@ -29,6 +29,9 @@ const WRITTEN: [Role; 5] = [
     Role::Notes,
 ];
 
+// How many roles may be attached behind Work: Image, Events, Saved and Display.
+const EXPECTED: usize = 4;
+
 #[derive(Drop)]
 pub struct Attached<R: Files + Alloc, T: Write, N: Write> {
     rt: R,
@@ -44,9 +47,12 @@ pub struct Attached<R: Files + Alloc, T: Write, N: Write> {
     // which files the standard streams are
     output: Option<Identity>,
     errors: Option<Identity>,
+    // which files will be attached behind Work
+    expected: [Option<Identity>; EXPECTED],
 }
 
-fn stream<R: Files>(rt: &R, name: &str) -> Option<Identity> {
+// Which file has this name, if there is one.
+fn named<R: Files>(rt: &R, name: &str) -> Option<Identity> {
     match rt.metadata(name) {
         Ok(metadata) => identity_of(&metadata),
         Err(_) => None,
@@ -68,8 +74,8 @@ fn is_forbidden(error: &io::Error) -> bool {
 // What opens a file, and what attaches it.
 impl<R: Files + Alloc, T: Write, N: Write> Attached<R, T, N> {
     pub fn new(rt: R, transcript: T, notes: N) -> Attached<R, T, N> {
-        let output = stream(&rt, OUTPUT);
-        let errors = stream(&rt, ERRORS);
+        let output = named(&rt, OUTPUT);
+        let errors = named(&rt, ERRORS);
         Attached {
             rt,
             image: None,
@@ -82,6 +88,19 @@ impl<R: Files + Alloc, T: Write, N: Write> Attached<R, T, N> {
             notes,
             output,
             errors,
+            expected: [None; EXPECTED],
+        }
+    }
+
+    // A role will be attached by this name.
+    pub fn expect(&mut self, role: Role, name: &str) {
+        let identity = named(&self.rt, name);
+        match role {
+            Role::Image => self.expected[0] = identity,
+            Role::Events => self.expected[1] = identity,
+            Role::Saved => self.expected[2] = identity,
+            Role::Display => self.expected[3] = identity,
+            Role::Work | Role::Transcript | Role::Notes => {}
         }
     }
 
@@ -147,6 +166,9 @@ impl<R: Files + Alloc, T: Write, N: Write> Attached<R, T, N> {
             .open(&self.rt, name)?;
         let opened = Opened::new(file)?;
         self.claim(Role::Work, opened.identity)?;
+        if opened.identity.is_some() && self.expected.contains(&opened.identity) {
+            return Err(same_file());
+        }
         opened.cut()?;
         Ok(opened)
     }
