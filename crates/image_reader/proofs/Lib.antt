@@ -1,3 +1,4 @@
+pub mod ByteLaws
 pub mod Frames
 pub mod Next
 pub mod Stored

@@ -14,7 +14,8 @@ use Rattle.image_reader.specs.declared.fault.LoadFault.TheVariants.{Bad, Read, D
 use Rattle.image_reader.specs.Frames.{IsHalted, IsLoading, IsPartFault}
 use Rattle.image_reader.specs.Inside.{IsFillFault, IsHeadFault, TakesRecords}
 use Rattle.image_reader.specs.Judged.{IsJudged, IsOfWhole, IsReadFault, ReadsRecords}
-use Rattle.image_reader.specs.Window.{Ahead, EndsTruly, file_end, unused}
+use Rattle.image_reader.specs.Window.{AreBytes, Ahead, EndsTruly, file_end, unused}
+use Rattle.image_reader.proofs.ByteLaws.{bytes-before, no-bytes}
 use Rattle.image_reader.proofs.Heads.{full_above, full_same, head_more}
 use Rattle.image_reader.proofs.Stored.{still_stored}
 use Rattle.disk_objects.specs.declared.rest.DiskRest.{DiskRest}
@@ -172,6 +173,10 @@ module _ {H : Type 0} (host : Ghosts H) (old s1 s2 s3 : H) (w1 w2 w3 w4 : Ahead)
           (takes.read told ∙ ap (λ (b : List ℕ). let x : Result (List Rec × List ℕ) Halt = Ok (takes.recs, b) in x) nothing);
       fits = file_roomy;
       end = λ told. end_came w4.ended w4.bytes (host.roles s3 Role.Image).left enough4 (ends4 told) none;
+      bytes = λ told.
+          let left = end_came w4.ended w4.bytes (host.roles s3 Role.Image).left enough4 (ends4 told) none in
+          let nothing : unused w3 (host.roles s2 Role.Image) ≡ [] = sym (filled told) ∙ nothing_left w4.bytes (host.roles s3 Role.Image).left none left in
+          bytes-before w1.bytes w2.bytes (host.roles s1 Role.Image).left (host.roles old Role.Image).left (begun told) range (takes.bytes told (subst AreBytes (sym nothing) no-bytes));
     }
 
     -- bytes behind the last record

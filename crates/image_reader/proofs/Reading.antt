@@ -92,6 +92,7 @@ begins host now rest w count next place none empty = record {
       front_none (records_at count 0 next (unused w (host.roles now Image)))
       ∙ ap (λ (k : ℕ). with_front [] (records_at k 0 next (unused w (host.roles now Image)))) (let all : count ≡ count - 0 = omega arith in all);
   end = λ told. refl;
+  bytes = λ told behind. behind;
   near = omega (arith, place);
   held = omega (arith, none);
   stored = empty;
@@ -116,6 +117,7 @@ goes_on host old mid new rest after w v u count i last next name names turn so_f
           ∙ records_more (count - (i + 1)) last next (unused v (host.roles mid Image)) r (unused u (host.roles new Image)) recs (one.read told)
           ∙ ap (λ (n : ℕ). with_front (recs ++ r ∷ []) (records_at (count - (i + 1)) n next (unused u (host.roles new Image)))) (sym one.named);
       end = λ told. one.end told ∙ so_far.end told;
+      bytes = λ told behind. so_far.bytes told (one.bytes told behind);
       near = omega (arith, one.near, so_far.near);
       held = omega (arith, one.held, so_far.held);
       stored = λ told. one.stored told recs (so_far.listed.none r.name one.above) (so_far.stored told);
@@ -154,5 +156,6 @@ is_done host old new rest w v count i last next names le most so_far =
           ∙ ap (λ (k : ℕ). with_front so_far.recs (records_at k last next (unused v (host.roles new Image)))) none
           ∙ records_end last next (unused v (host.roles new Image)) so_far.recs;
       end = so_far.end;
+      bytes = so_far.bytes;
       stored = so_far.stored;
     }

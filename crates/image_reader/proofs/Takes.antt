@@ -1,5 +1,5 @@
 -- One record, from the window to the disk.
-use Rattle.std.proofs.Common.{◌≡◌, ℕ, ◌+◌, ◌<◌, ◌≤◌, ◌⊎◌, inl, inr, List, [], ◌++◌, length, Result, Ok, IsTrue, refl, sym, ap, ◌∙◌, length-append, arith}
+use Rattle.std.proofs.Common.{subst, ◌≡◌, ℕ, ◌+◌, ◌<◌, ◌≤◌, ◌⊎◌, inl, inr, List, [], ◌++◌, length, Result, Ok, IsTrue, refl, sym, ap, ◌∙◌, length-append, arith}
 use Rattle.std.specs.FinMap as map
 use Rattle.long_names.specs.Objects.{IsRecord}
 use Rattle.long_names.specs.declared.limits.TheConstants.{LONGEST_RECORD}
@@ -16,7 +16,8 @@ use Rattle.image_format.specs.declared.fault.Halt.{Halt}
 use Rattle.image_format.specs.Rules.{next_record_at}
 use Rattle.image_reader.specs.Frames.{ReadsImage}
 use Rattle.image_reader.specs.Inside.{TakesRecord}
-use Rattle.image_reader.specs.Window.{Ahead, EndsTruly, unused, file_end}
+use Rattle.image_reader.specs.Window.{AreBytes, Ahead, EndsTruly, unused, file_end}
+use Rattle.image_reader.proofs.ByteLaws.{bytes-before}
 use Rattle.image_reader.proofs.Next.{next_more}
 use Rattle.image_reader.proofs.Stored.{still_stored, stored_more}
 
@@ -38,7 +39,7 @@ end_same f v w left after before same end place rest =
 
 pub takes_record : {H : Type 0} (host : Ghosts H) (old mid new : H) (rest between after : DiskRest) (w f v : Ahead) (last next : ℕ) (r : Rec) (raw : RawRecord)
     → ReadsImage host old mid → between ≡ rest
-    → (IsTrue (host.tells Image) → unused f (host.roles mid Image) ≡ unused w (host.roles old Image)) → f.place ≡ w.place
+    → (IsTrue (host.tells Image) → unused f (host.roles mid Image) ≡ unused w (host.roles old Image)) → f.place ≡ w.place → AreBytes f.bytes
     → IsRecord r × (last < r.name) × (r.name < next) → next_record_at last next f.bytes ≡ Ok (r, v.bytes)
     → v.place + length v.bytes ≡ f.place + length f.bytes → v.place ≤ f.place + LONGEST_RECORD → raw ≡ raw_record r
     → IsWorkOnly host mid new
@@ -46,7 +47,7 @@ pub takes_record : {H : Type 0} (host : Ghosts H) (old mid new : H) (rest betwee
     → (IsTrue (host.tells Work) → (objects : Objects) (pending : List ℕ) → IsDisk between (work_of host mid) objects pending → IsDisk after (work_of host new) (map.insert objects raw.name (object_of raw r.count)) pending)
     → (disk_held after ≡ disk_held between) ⊎ (disk_held after ≡ disk_held between + 1)
     → TakesRecord host old new rest after w v last next r.name
-takes_record host old mid new rest between after w f v last next r raw reads same unread place is read end near raw_is work puts disk held = record {
+takes_record host old mid new rest between after w f v last next r raw reads same unread place range is read end near raw_is work puts disk held = record {
   rec = r;
   is = is.0;
   named = refl;
@@ -57,6 +58,7 @@ takes_record host old mid new rest between after w f v last next r raw reads sam
       ∙ next_more last next f.bytes (host.roles mid Image).left (r, v.bytes) read
       ∙ ap (λ (l : List ℕ). let x : Result (Rec × List ℕ) Halt = Ok (r, v.bytes ++ l) in x) (sym (same_left host mid new work));
   end = λ told. end_same f v w (host.roles mid Image).left (host.roles new Image).left (host.roles old Image).left (same_left host mid new work) end place (unread told);
+  bytes = λ told behind. bytes-before f.bytes v.bytes (host.roles mid Image).left (unused w (host.roles old Image)) (unread told) range (subst (λ (l : List ℕ). AreBytes (v.bytes ++ l)) (same_left host mid new work) behind);
   near = omega (arith, near, place);
   stored = λ told recs none s.
       let t = still_stored host old mid rest between recs (reads.others Work (λ e. cc)) same s in

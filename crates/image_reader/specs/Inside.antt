@@ -20,7 +20,7 @@ use Rattle.disk_objects.specs.declared.rest.DiskRest.{DiskRest}
 use Rattle.disk_objects.specs.Disk.{disk_held}
 use Rattle.image_reader.specs.declared.fault.LoadFault.{LoadFault}
 use Rattle.image_reader.specs.declared.fault.LoadFault.TheVariants.{Bad, Read, Disk, Memory}
-use Rattle.image_reader.specs.Window.{Ahead, unused, file_end}
+use Rattle.image_reader.specs.Window.{AreBytes, Ahead, unused, file_end}
 use Rattle.image_reader.specs.Frames.{IsHalted}
 use Rattle.image_reader.specs.Names.{IsRising}
 use Rattle.image_reader.specs.Loaded.{IsStored, full_of, names_of}
@@ -88,6 +88,7 @@ pub record TakesRecord {H : Type 0} (host : Ghosts H) (old new : H) (rest after 
   pub below : rec.name < next
   pub read : IsTrue (host.tells Image) → next_record_at last next (unused w (host.roles old Image)) ≡ Ok (rec, unused v (host.roles new Image))
   pub end : IsTrue (host.tells Image) → file_end v (host.roles new Image).left ≡ file_end w (host.roles old Image).left
+  pub bytes : IsTrue (host.tells Image) → AreBytes (unused v (host.roles new Image)) → AreBytes (unused w (host.roles old Image))
   pub near : v.place ≤ w.place + LONGEST_RECORD
   pub stored : IsTrue (host.tells Work) → (recs : List Rec) → rec_in recs rec.name ≡ None → IsStored host old rest recs → IsStored host new after (recs ++ rec ∷ [])
   pub held : disk_held after ≤ disk_held rest + 1
@@ -112,6 +113,7 @@ pub record TakesRecords {H : Type 0} (host : Ghosts H) (old new : H) (after : Di
   pub listed : AreListed recs last next
   pub read : IsTrue (host.tells Image) → records_at count 0 next (unused w (host.roles old Image)) ≡ Ok (recs, unused v (host.roles new Image))
   pub end : IsTrue (host.tells Image) → file_end v (host.roles new Image).left ≡ file_end w (host.roles old Image).left
+  pub bytes : IsTrue (host.tells Image) → AreBytes (unused v (host.roles new Image)) → AreBytes (unused w (host.roles old Image))
   pub stored : IsTrue (host.tells Work) → IsStored host new after recs
 
 -- these records, and then what this reading gives
@@ -127,6 +129,7 @@ pub record IsReading {H : Type 0} (host : Ghosts H) (old new : H) (after : DiskR
   pub listed : AreListed recs last next
   pub read : IsTrue (host.tells Image) → records_at count 0 next (unused w (host.roles old Image)) ≡ with_front recs (records_at (count - i) last next (unused v (host.roles new Image)))
   pub end : IsTrue (host.tells Image) → file_end v (host.roles new Image).left ≡ file_end w (host.roles old Image).left
+  pub bytes : IsTrue (host.tells Image) → AreBytes (unused v (host.roles new Image)) → AreBytes (unused w (host.roles old Image))
   pub near : v.place ≤ 36 + LONGEST_RECORD * i
   pub held : disk_held after ≤ i
   pub stored : IsTrue (host.tells Work) → IsStored host new after recs

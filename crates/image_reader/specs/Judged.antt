@@ -16,6 +16,7 @@ use Rattle.image_reader.specs.Inside.{AreListed, IsSeen}
 use Rattle.image_reader.specs.Loaded.{IsBroken, IsLoadFault, IsStored, full_of, is_of_whole, names_of}
 use Rattle.image_reader.specs.Tally.{Raises}
 use Rattle.image_reader.specs.declared.tally.Tally.{Tally}
+use Rattle.image_reader.specs.Window.{AreBytes}
 
 -- ---- by the counts
 
@@ -93,6 +94,7 @@ pub record ReadsRecords {H : Type 0} (host : Ghosts H) (old new : H) (room : ℕ
   pub read : IsTrue (host.tells Image) → image_at (host.roles old Image).left ≡ Ok (record { head = head; recs = recs }, [])
   pub fits : IsTrue (host.tells Image) → full_of room (host.roles old Image).left ≡ None
   pub end : IsTrue (host.tells Image) → (host.roles new Image).left ≡ []
+  pub bytes : IsTrue (host.tells Image) → AreBytes (host.roles old Image).left
 
 -- why it wasn't read
 abbrev pub IsReadFault : {H : Type 0} → Ghosts H → H → H → ℕ → LoadFault → Type 0

@@ -22,6 +22,7 @@ use Rattle.image_reader.specs.declared.fault.LoadFault.{LoadFault}
 use Rattle.image_reader.specs.declared.fault.LoadFault.TheVariants.{Bad, Read, Disk, Memory}
 use Rattle.image_reader.specs.Frames.{IsPartFault}
 use Rattle.image_reader.specs.Names.{IsRising}
+use Rattle.image_reader.specs.Window.{AreBytes}
 
 -- ---- room
 
@@ -68,6 +69,7 @@ pub record Loads {H : Type 0} (host : Ghosts H) (old new : H) (room : ℕ) (rest
   pub read : IsTrue (host.tells Image) → image_at (host.roles old Image).left ≡ Ok (x, [])
   pub fits : IsTrue (host.tells Image) → full_of room (host.roles old Image).left ≡ None
   pub end : IsTrue (host.tells Image) → (host.roles new Image).left ≡ []
+  pub bytes : IsTrue (host.tells Image) → AreBytes (host.roles old Image).left
   pub head : KeepsRules x.head
   pub roomy : x.head.opening.objects ≤ room
   pub many : length x.recs ≡ x.head.opening.objects

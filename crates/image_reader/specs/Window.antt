@@ -1,5 +1,5 @@
 -- The bytes of Image as they come.
-use Rattle.std.specs.Prelude.{◌≡◌, ◌+◌, ◌++◌, List, [], ℕ, Bool, IsTrue, length}
+use Rattle.std.specs.Prelude.{◌≡◌, ◌<◌, ◌^◌, All, ◌+◌, ◌++◌, List, [], ℕ, Bool, IsTrue, length}
 use Rattle.loom_outside.specs.Outside.{RoleState}
 
 -- bytes that were read and not yet used, whether the file's end was met behind them, and how many bytes of the file stand before them
@@ -15,6 +15,10 @@ unused w s = w.bytes ++ s.left
 -- nothing is left of the file behind its end
 abbrev pub EndsTruly : Ahead → RoleState → Type 0
 EndsTruly w s = IsTrue w.ended → s.left ≡ []
+
+-- these are bytes
+abbrev pub AreBytes : List ℕ → Type 0
+AreBytes bytes = All (λ b. b < 2 ^ 8) bytes
 
 -- where the file ends
 abbrev pub file_end : Ahead → List ℕ → ℕ

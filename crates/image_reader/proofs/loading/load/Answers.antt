@@ -48,6 +48,7 @@ returns-clause-loads g c =
         read = x.read;
         fits = x.fits;
         end = λ told. ap (λ (s : RoleState). s.left) (c.judge.ensures.read.roles Image) ∙ x.end told;
+        bytes = x.bytes;
         head = keeps_rules c.in_ok-head.head (head_read c.in_ok-head.head x.seen);
         roomy = x.roomy;
         many = many-of c.in_ok-head.names x.recs x.are.names_are ∙ x.many;

@@ -72,7 +72,7 @@ returns-in_err-put-clause-fault g c =
 pub returns-clause-takes : goal.returns-clause-takes
 returns-clause-takes g c =
     takes_record g.H.Host c.args.disk.now.host.now c.fill.new.disk.host.now c.put.new.self.host.now c.args.disk.now.rest c.fill.new.disk.rest c.put.new.self.rest c.args.window.now c.fill.new.self c.take_record.new.window c.args.last c.args.next c.in_ok-rec.rec (raw_of c.take_record.new.buf)
-    c.fill.ensures.reads c.fill.ensures.same_rest c.in_ok-fill.ensures.rest c.in_ok-fill.ensures.place c.in_ok-rec.ensures.record c.in_ok-rec.ensures.read c.in_ok-rec.ensures.end c.in_ok-rec.ensures.near c.in_ok-rec.ensures.buffer.1
+    c.fill.ensures.reads c.fill.ensures.same_rest c.in_ok-fill.ensures.rest c.in_ok-fill.ensures.place c.take_record.ensures.range c.in_ok-rec.ensures.record c.in_ok-rec.ensures.read c.in_ok-rec.ensures.end c.in_ok-rec.ensures.near c.in_ok-rec.ensures.buffer.1
     c.put.ensures.work c.in_ok-put.ensures.stored c.in_ok-put.ensures.put c.in_ok-put.ensures.held
 
 pub returns-clause-ends : goal.returns-clause-ends
