@@ -1,17 +1,14 @@
 -- A core without entries over a disk that has just a heap's objects, with their exact counts.
-use Rattle.std.proofs.Common.{◌≡◌, ℕ, pos, ◌+ℤ◌, ◌+◌, ◌<◌, ◌≤◌, true, false, List, [], Option, Some, None, is_some, refl, sym, ◌∙◌, ap, subst, arith}
-use Rattle.std.specs.Prelude.{◌^◌}
+use Rattle.std.proofs.Common.{◌≡◌, ℕ, pos, ◌+◌, false, [], sym, ◌∙◌, ap, subst, arith}
 use Rattle.std.proofs.Math.Path.{fun_ext}
 use Rattle.std.proofs.lemmas.Int.{ints}
 use Rattle.long_names.specs.Names.{is_known}
 use Rattle.long_names.specs.Heap.{Heap, Has, count_of}
 use Rattle.work_space.specs.Blocks.{times}
 use Rattle.core_view.specs.Held.{held}
-use Rattle.core_view.specs.Kept.{IsCore}
 use Rattle.core_view.proofs.Core.{placed-used, held-absent}
-use Rattle.counted_core.specs.Levels.{Stored, Levels, count_in, records_of, heap_of, sum_of, is_waiting}
+use Rattle.counted_core.specs.Levels.{Levels, count_in, records_of, heap_of, sum_of, is_waiting}
 use Rattle.counted_core.specs.Counted.{words, one_if, IsHeld, IsSound}
-use Rattle.counted_core.specs.Dead.{IsImage}
 use Rattle.counted_core.specs.Steps.{IsBegun}
 use Rattle.counted_core.proofs.LevelLaws.{heap-is}
 use Rattle.counted_core.proofs.QueueLaws.{waits-not}

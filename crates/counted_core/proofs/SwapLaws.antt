@@ -1,17 +1,14 @@
 -- Two objects that have no body in core change places on disk, and counts stay with their names.
-use Rattle.std.proofs.Common.{◌≡◌, ◌≢◌, ℕ, pos, ◌+ℤ◌, ◌+◌, ◌<◌, ◌≤◌, Bool, true, false, cond, eqb, List, Option, Some, None, is_some, refl, sym, ◌∙◌, ap, subst, arith}
+use Rattle.std.proofs.Common.{◌≡◌, ◌≢◌, ℕ, pos, ◌+ℤ◌, ◌+◌, ◌≤◌, Bool, true, false, cond, eqb, List, Option, Some, None, is_some, refl, sym, ◌∙◌, ap, subst, arith}
 use Rattle.std.specs.Prelude.{◌^◌, ◌==◌, if◌then◌else◌}
 use Rattle.std.specs.Option.{option_map_or}
 use Rattle.std.proofs.Math.Path.{fun_ext}
-use Rattle.std.proofs.lemmas.Int.{ints}
 use Rattle.long_names.specs.declared.value.Value.{Value}
 use Rattle.long_names.specs.declared.object.Object.{Object}
 use Rattle.long_names.specs.Names.{is_known}
-use Rattle.long_names.specs.Objects.{holds, holdings}
 use Rattle.long_names.specs.Heap.{Heap, Has, put_object, swap_objects, count_of}
 use Rattle.long_names.proofs.ThinLemmas.{has_below}
 use Rattle.long_names.proofs.CountLaws.{words_in, count-put_object, eqb-here, eqb-other}
-use Rattle.work_space.specs.Blocks.{times}
 use Rattle.object_table.specs.Entries.{put, place_of}
 use Rattle.core_view.specs.Core.{Core}
 use Rattle.core_view.specs.Counts.{change_of}
@@ -20,7 +17,7 @@ use Rattle.core_view.specs.Held.{Disk, fields_there, held, held_by, held_in}
 use Rattle.core_view.specs.Kept.{IsCore}
 use Rattle.core_view.proofs.Lists.{put-here, put-there}
 use Rattle.core_view.proofs.Core.{placed-used, held-leaf, held-absent, object-same, body-same}
-use Rattle.counted_core.specs.Levels.{Stored, Levels, record_in, count_in, records_of, heap_of, sum_of, waits}
+use Rattle.counted_core.specs.Levels.{Stored, Levels, record_in, count_in, records_of, heap_of, waits}
 use Rattle.counted_core.specs.Counted.{words, one_if, IsSound}
 use Rattle.counted_core.specs.Dead.{bare_by, IsBare}
 use Rattle.counted_core.specs.Steps.{recounted, swapped}

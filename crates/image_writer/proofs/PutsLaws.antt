@@ -19,16 +19,27 @@ use Rattle.image_writer.specs.Puts.{IsSaveFault, Puts}
 
 -- ---- one role
 
-with_put : RoleState → List ℕ → RoleState
+abbrev pub with_put : RoleState → List ℕ → RoleState
 with_put s p = record { attaches = s.attaches; name = s.name; taken = s.taken; left = s.left; put = p; contents = s.contents }
 
 pub puts_none : (s : RoleState) → s ≡ puts [] s
-unfolding with_put
 puts_none s = ap (with_put s) (sym (append-nil s.put))
 
 pub puts_puts : (a b : List ℕ) (s : RoleState) → puts b (puts a s) ≡ puts (a ++ b) s
-unfolding with_put
 puts_puts a b s = ap (with_put s) (append_assoc s.put a b)
+
+-- only the bytes put changed
+pub only_same : (s t : RoleState) → t ≡ s → t ≡ with_put s t.put
+only_same s t e = e ∙ ap (λ (r : RoleState). with_put s r.put) (sym e)
+
+pub only_puts : (bytes : List ℕ) (s t : RoleState) → t ≡ puts bytes s → t ≡ with_put s t.put
+only_puts bytes s t e = e ∙ ap (λ (r : RoleState). with_put s r.put) (sym e)
+
+pub only_prefix : (bytes : List ℕ) (s t : RoleState) → PutPrefix bytes s t → t ≡ with_put s t.put
+only_prefix bytes s t p = only_puts (take p.0 bytes) s t p.2
+
+pub only_then : (s t u : RoleState) → t ≡ with_put s t.put → u ≡ with_put t u.put → u ≡ with_put s u.put
+only_then s t u p q = q ∙ ap (λ (r : RoleState). with_put r u.put) p
 
 prefix_none : (text : List ℕ) (s : RoleState) → PutPrefix text s s
 prefix_none text s = (0, omega arith, puts_none s)
@@ -62,6 +73,7 @@ pub then_puts : {H T U : Type 0} (host : Ghosts H) (old mid new : H) (a b : List
 then_puts host old mid new a b x (Ok y) p q = record {
   put = λ w s. q.put w s ∙ ap (puts b) (p.put w s) ∙ puts_puts a b (host.roles old Saved);
   failed = λ w s. tt;
+  only_put = λ s. only_then (host.roles old Saved) (host.roles mid Saved) (host.roles new Saved) (p.only_put s) (q.only_put s);
   others = λ r other. q.others r other ∙ p.others r other;
   other_faults = λ r i j. q.other_faults r i j ∙ p.other_faults r i j;
   later = omega (arith, p.later, q.later);
@@ -71,6 +83,7 @@ then_puts host old mid new a b x (Ok y) p q = record {
 then_puts host old mid new a b x (Err e) p q = record {
   put = λ w s. tt;
   failed = λ w s. prefix_then a b (host.roles old Saved) (host.roles mid Saved) (host.roles new Saved) (p.put w s) (q.failed w s);
+  only_put = λ s. only_then (host.roles old Saved) (host.roles mid Saved) (host.roles new Saved) (p.only_put s) (q.only_put s);
   others = λ r other. q.others r other ∙ p.others r other;
   other_faults = λ r i j. q.other_faults r i j ∙ p.other_faults r i j;
   later = omega (arith, p.later, q.later);
@@ -85,6 +98,7 @@ stop_puts host old new a b e (Ok y) p is = absurd is
 stop_puts {U = U} host old new a b e (Err f) p is = subst (λ (g : SaveFault). Puts {T = U} host old new (a ++ b) (Err g)) (sym is) (record {
   put = λ w s. tt;
   failed = λ w s. prefix_more a b (host.roles old Saved) (host.roles new Saved) (p.failed w s);
+  only_put = p.only_put;
   others = p.others;
   other_faults = p.other_faults;
   later = p.later;
@@ -101,6 +115,7 @@ pub read_puts : {H T : Type 0} (host : Ghosts H) (old new : H) (x : T) → IsWor
 read_puts host old new x r = record {
   put = λ w s. r.roles Saved ∙ puts_none (host.roles old Saved);
   failed = λ w s. tt;
+  only_put = λ s. only_same (host.roles old Saved) (host.roles new Saved) (r.roles Saved);
   others = λ role other. r.roles role;
   other_faults = λ role i j. r.other_faults role j;
   later = read_same host old new r;
@@ -112,6 +127,7 @@ pub read_stops : {H T : Type 0} (host : Ghosts H) (old new : H) (text : List ℕ
 read_stops host old new text e r f = record {
   put = λ w s. tt;
   failed = λ w s. subst (λ (t : RoleState). PutPrefix text (host.roles old Saved) t) (sym (r.roles Saved)) (prefix_none text (host.roles old Saved));
+  only_put = λ s. only_same (host.roles old Saved) (host.roles new Saved) (r.roles Saved);
   others = λ role other. r.roles role;
   other_faults = λ role i j. r.other_faults role j;
   later = read_same host old new r;
@@ -128,6 +144,7 @@ pub untold_puts : {H T : Type 0} (host : Ghosts H) (old new : H) (a b : List ℕ
 untold_puts host old new a b r e p = record {
   put = λ w s. subst (λ (t : List ℕ). OnOk r (host.roles new Saved ≡ puts t (host.roles old Saved))) (e w) (p.put w s);
   failed = λ w s. subst (λ (t : List ℕ). OnErr r (PutPrefix t (host.roles old Saved) (host.roles new Saved))) (e w) (p.failed w s);
+  only_put = p.only_put;
   others = p.others;
   other_faults = p.other_faults;
   later = p.later;
@@ -141,6 +158,7 @@ pub no_puts : {H T : Type 0} (host : Ghosts H) (now : H) (x : T) → Puts host n
 no_puts host now x = record {
   put = λ w s. puts_none (host.roles now Saved);
   failed = λ w s. tt;
+  only_put = λ s. refl;
   others = λ role other. refl;
   other_faults = λ role i j. refl;
   later = omega arith;

@@ -29,6 +29,8 @@ IsSaveFault host old new Memory = Unit {0}
 pub record Puts {H T : Type 0} (host : Ghosts H) (old new : H) (bytes : List ℕ) (result : Result T SaveFault) : Type 0 where
   pub put : IsTrue (host.tells Work) → IsTrue (host.tells Saved) → OnOk result (host.roles new Saved ≡ puts bytes (host.roles old Saved))
   pub failed : IsTrue (host.tells Work) → IsTrue (host.tells Saved) → OnErr result (PutPrefix bytes (host.roles old Saved) (host.roles new Saved))
+  -- of Saved only the bytes put changed, whatever is told of Work
+  pub only_put : IsTrue (host.tells Saved) → host.roles new Saved ≡ record (host.roles old Saved) { put = (host.roles new Saved).put }
   pub others : SameBut Saved (host.roles old) (host.roles new)
   pub other_faults : (r : Role) → r ≢ Saved → r ≢ Work → host.faults new r ≡ host.faults old r
   pub later : host.faults old Saved ≤ host.faults new Saved
