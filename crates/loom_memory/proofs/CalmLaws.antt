@@ -7,7 +7,7 @@ use Rattle.long_names.specs.declared.value.Value.{Value}
 use Rattle.loom_outside.specs.declared.outside.Host.{Ghosts}
 use Rattle.loom_outside.specs.declared.outside.Role.{Role}
 use Rattle.loom_outside.specs.declared.outside.Role.TheVariants.{Image, Events, Work, Saved, Display, Transcript, Notes}
-use Rattle.loom_outside.specs.Outside.{RoleState}
+use Rattle.loom_outside.specs.Outside.{RoleState, holds}
 use Rattle.loom_outside.specs.Work.{IsWorkOnly}
 use Rattle.object_table.specs.declared.entry.Entry.{Entry}
 use Rattle.object_table.specs.Entries.{is_used, place_of}
@@ -157,14 +157,18 @@ calm-told {H} host old new rest now x y regs pins k root calm said same =
     λ i. record (told_of host new now y regs pins k) { heap = heap i; regs = regs' i; slots = slots' i; transcript = put_ i }
 
 -- what is outside stays where Work alone was touched
-pub work-outside : {H : Type 0} (host : Ghosts H) (old new : H) → IsWorkOnly host old new → ◌≡◌ {A = Role → Others} (λ r. others_of r (host.roles new r) (host.faults new r)) (λ r. others_of r (host.roles old r) (host.faults old r))
+pub work-outside : {H : Type 0} (host : Ghosts H) (old new : H) → IsWorkOnly host old new → ◌≡◌ {A = Role → Others} (λ r. others_of (host.tells Work) r (host.roles new r) (host.faults new r)) (λ r. others_of (host.tells Work) r (host.roles old r) (host.faults old r))
 work-outside {H} host old new work = fun_ext (λ r. go r)
   where
-    both : (r : Role) → r ≢ Work → others_of r (host.roles new r) (host.faults new r) ≡ others_of r (host.roles old r) (host.faults old r)
-    both r away = ap (λ (s : RoleState). others_of r s (host.faults new r)) (work.others r away) ∙ ap (λ (n : ℕ). others_of r (host.roles old r) n) (work.other_faults r away)
+    both : (r : Role) → r ≢ Work → others_of (host.tells Work) r (host.roles new r) (host.faults new r) ≡ others_of (host.tells Work) r (host.roles old r) (host.faults old r)
+    both r away = ap (λ (s : RoleState). others_of (host.tells Work) r s (host.faults new r)) (work.others r away) ∙ ap (λ (n : ℕ). others_of (host.tells Work) r (host.roles old r) n) (work.other_faults r away)
 
-    go : (r : Role) → others_of r (host.roles new r) (host.faults new r) ≡ others_of r (host.roles old r) (host.faults old r)
-    go Work = refl
+    file : (told : Bool) → (IsTrue told → host.roles new Work ≡ holds (host.roles new Work).contents (host.roles old Work)) → others_of told Work (host.roles new Work) (host.faults new Work) ≡ others_of told Work (host.roles old Work) (host.faults old Work)
+    file true same = ap (λ (s : RoleState). let o : Others = record { role = holds [] s; faults = 0 } in o) (same refl)
+    file false same = refl
+
+    go : (r : Role) → others_of (host.tells Work) r (host.roles new r) (host.faults new r) ≡ others_of (host.tells Work) r (host.roles old r) (host.faults old r)
+    go Work = file (host.tells Work) work.work
     go Image = both Image (λ e. cc)
     go Events = both Events (λ e. cc)
     go Saved = both Saved (λ e. cc)

@@ -14,6 +14,7 @@ use Rattle.loom_outside.specs.declared.outside.DiskFault.TheVariants as fault
 use Rattle.loom_outside.specs.Work.{IsWorkOnly}
 use Rattle.object_table.specs.Entries.{is_short}
 use Rattle.disk_objects.specs.declared.rest.DiskRest.{DiskRest}
+use Rattle.disk_objects.specs.Disk.{disk_room}
 use Rattle.core_view.specs.Core.{Core}
 use Rattle.core_view.specs.Counts.{names, outside}
 use Rattle.core_view.specs.Words.{meant}
@@ -23,8 +24,9 @@ use Rattle.purger.specs.Closing.{HasKept, LeavesKept}
 use Rattle.purger.specs.Purge.{IsPurgeFault}
 use Rattle.object_memory.specs.declared.fault.MemFault.{MemFault}
 use Rattle.object_memory.specs.Told.{Told, Bounds}
-use Rattle.object_memory.specs.Contract.{HasCause, Thins, work_faults}
+use Rattle.object_memory.specs.Contract.{HasCause, SameBounds, Thins, work_faults}
 use Rattle.object_memory.specs.Plain.{refused}
+use Rattle.loom_memory.specs.declared.ledger.Ledger.{Ledger}
 use Rattle.loom_memory.specs.declared.memory.LoomMemory.{LoomMemory}
 use Rattle.loom_memory.specs.Ending.{AreNumbers, AreNumbersBelow}
 use Rattle.loom_memory.specs.Memory.{word_in, name_if, loom_told, IsExact, IsKept, IsRefusalOf}
@@ -142,3 +144,8 @@ let-cause {H} host m n t w f r x tells bounds cause why refuses same =
 pub work-silent : {H : Type 0} (host : Ghosts H) (m n : LoomMemory H) → IsWorkOnly host m.disk.host.now n.disk.host.now → (loom_told host n).transcript ≡ (loom_told host m).transcript
 unfolding loom_told
 work-silent host m n work = ap (λ (s : RoleState). s.put) (work.others Transcript transcript-away)
+
+-- and leaves the bounds
+pub work-bounds : {H : Type 0} (host : Ghosts H) (m n : LoomMemory H) → IsWorkOnly host m.disk.host.now n.disk.host.now → disk_room n.disk.rest ≡ disk_room m.disk.rest → n.ledger ≡ m.ledger → SameBounds (loom_told host m).bounds (loom_told host n).bounds
+unfolding loom_told
+work-bounds host m n work room same = (ap (λ (k : Ledger). k.core) same, ap (λ (k : Ledger). k.entries) same, room, work.later, let said = work.other_faults Transcript transcript-away in omega (arith, said))

@@ -1,5 +1,5 @@
 -- Roles of the host that its memory leaves to others: what is told stays where they are written.
-use Rattle.std.proofs.Common.{◌≡◌, ◌≢◌, ℕ, refl, sym, ◌∙◌, ap, subst, Some}
+use Rattle.std.proofs.Common.{◌≡◌, ◌≢◌, ℕ, Bool, refl, sym, ◌∙◌, ap, subst, Some}
 use Rattle.loom_outside.specs.Outside.{RoleState, SameBut, CanWrite}
 use Rattle.loom_outside.specs.declared.outside.Host.{Ghosts}
 use Rattle.loom_outside.specs.declared.outside.Role.{Role}
@@ -29,14 +29,14 @@ transcript-away : (r : Role) → IsLent r → ◌≢◌ {A = Role} Transcript r
 transcript-away r lent = λ e. subst IsLent (sym e) lent
 
 -- all of a lent role is outside
-pub lent-others : (r : Role) (s : RoleState) (n : ℕ) → IsLent r → others_of r s n ≡ record { role = s; faults = n }
-lent-others Saved s n lent = refl
-lent-others Notes s n lent = refl
-lent-others Image s n lent = absurd lent
-lent-others Events s n lent = absurd lent
-lent-others Work s n lent = absurd lent
-lent-others Display s n lent = absurd lent
-lent-others Transcript s n lent = absurd lent
+pub lent-others : (told : Bool) (r : Role) (s : RoleState) (n : ℕ) → IsLent r → others_of told r s n ≡ record { role = s; faults = n }
+lent-others told Saved s n lent = refl
+lent-others told Notes s n lent = refl
+lent-others told Image s n lent = absurd lent
+lent-others told Events s n lent = absurd lent
+lent-others told Work s n lent = absurd lent
+lent-others told Display s n lent = absurd lent
+lent-others told Transcript s n lent = absurd lent
 
 pub lent-told : {H : Type 0} (host : Ghosts H) (m : LoomMemory H) (new : H) (now : DiskRest) (r : Role) → IsLent r → now ≡ m.disk.rest → SameBut r (host.roles m.disk.host.now) (host.roles new) → SameBut r (host.faults m.disk.host.now) (host.faults new)
     → told_of host new now (core_of m.parts) m.regs m.pinned m.ledger ≡ told_of host m.disk.host.now m.disk.rest (core_of m.parts) m.regs m.pinned m.ledger
@@ -53,8 +53,8 @@ lent-told {H} host m new now r lent same roles faults =
       bounds = Some (record { core = m.ledger.core; entries = m.ledger.entries; room = room_ i; base = m.ledger.base; made = m.ledger.made; work_faults = work i; said_faults = said i });
     }
 
-pub others-lent : {H : Type 0} (host : Ghosts H) (old new : H) (r : Role) → SameBut r (host.roles old) (host.roles new) → SameBut r (host.faults old) (host.faults new) → SameBut r (λ k. others_of k (host.roles old k) (host.faults old k)) (λ k. others_of k (host.roles new k) (host.faults new k))
-others-lent {H} host old new r roles faults = λ k away. ap (λ (s : RoleState). others_of k s (host.faults new k)) (roles k away) ∙ ap (λ (n : ℕ). others_of k (host.roles old k) n) (faults k away)
+pub others-lent : {H : Type 0} (host : Ghosts H) (old new : H) (r : Role) → SameBut r (host.roles old) (host.roles new) → SameBut r (host.faults old) (host.faults new) → SameBut r (λ k. others_of (host.tells Work) k (host.roles old k) (host.faults old k)) (λ k. others_of (host.tells Work) k (host.roles new k) (host.faults new k))
+others-lent {H} host old new r roles faults = λ k away. ap (λ (s : RoleState). others_of (host.tells Work) k s (host.faults new k)) (roles k away) ∙ ap (λ (n : ℕ). others_of (host.tells Work) k (host.roles old k) n) (faults k away)
 
 -- the count of a role is told, or outside
 pub faults-are : {H : Type 0} (host : Ghosts H) (m : LoomMemory H) (r : Role) → host.faults m.disk.host.now r ≡ faults_of host m r

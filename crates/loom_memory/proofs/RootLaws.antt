@@ -9,7 +9,7 @@ use Rattle.long_names.specs.Heap.{Heap, Has, IsBounded, object_count}
 use Rattle.long_names.specs.Kept.{any_below, kept}
 use Rattle.long_names.specs.Need.{is_pinned}
 use Rattle.long_names.specs.Thin.{IsWhole}
-use Rattle.long_names.specs.State.{REGISTERS, SLOTS}
+use Rattle.long_names.specs.declared.limits.TheConstants.{REGISTERS, SLOTS}
 use Rattle.long_names.proofs.CountLaws.{kept-rooted}
 use Rattle.long_names.proofs.KeptLaws.{any_below-at, any_below-from, kept-thinner}
 use Rattle.object_table.specs.Entries.{is_short}

@@ -173,14 +173,14 @@ put-sound {H} host m new now sound same work stands =
       valued = λ told. subst (λ (d : Disk). IsValued (held (core_of m.parts) d)) (sym disk) (sound.over.valued told);
     }
 
-pub put-outside : {H : Type 0} (host : Ghosts H) (old new : H) → SameBut Transcript (host.roles old) (host.roles new) → SameBut Transcript (host.faults old) (host.faults new) → ◌≡◌ {A = Role → Others} (λ r. others_of r (host.roles new r) (host.faults new r)) (λ r. others_of r (host.roles old r) (host.faults old r))
+pub put-outside : {H : Type 0} (host : Ghosts H) (old new : H) → SameBut Transcript (host.roles old) (host.roles new) → SameBut Transcript (host.faults old) (host.faults new) → ◌≡◌ {A = Role → Others} (λ r. others_of (host.tells Work) r (host.roles new r) (host.faults new r)) (λ r. others_of (host.tells Work) r (host.roles old r) (host.faults old r))
 put-outside {H} host old new roles faults = fun_ext (λ r. go r)
   where
-    both : (r : Role) → r ≢ Transcript → others_of r (host.roles new r) (host.faults new r) ≡ others_of r (host.roles old r) (host.faults old r)
-    both r away = ap (λ (s : RoleState). others_of r s (host.faults new r)) (roles r away) ∙ ap (λ (n : ℕ). others_of r (host.roles old r) n) (faults r away)
+    both : (r : Role) → r ≢ Transcript → others_of (host.tells Work) r (host.roles new r) (host.faults new r) ≡ others_of (host.tells Work) r (host.roles old r) (host.faults old r)
+    both r away = ap (λ (s : RoleState). others_of (host.tells Work) r s (host.faults new r)) (roles r away) ∙ ap (λ (n : ℕ). others_of (host.tells Work) r (host.roles old r) n) (faults r away)
 
-    go : (r : Role) → others_of r (host.roles new r) (host.faults new r) ≡ others_of r (host.roles old r) (host.faults old r)
-    go Work = refl
+    go : (r : Role) → others_of (host.tells Work) r (host.roles new r) (host.faults new r) ≡ others_of (host.tells Work) r (host.roles old r) (host.faults old r)
+    go Work = both Work (λ e. cc)
     go Image = both Image (λ e. cc)
     go Events = both Events (λ e. cc)
     go Saved = both Saved (λ e. cc)

@@ -11,7 +11,8 @@ use Rattle.long_names.specs.declared.value.Value.TheVariants.{Ref}
 use Rattle.long_names.specs.declared.object.Object.{Object}
 use Rattle.long_names.specs.Objects.{is_ref}
 use Rattle.long_names.specs.Words.{IsValue}
-use Rattle.long_names.specs.State.{IsRef, SLOTS, name_at}
+use Rattle.long_names.specs.State.{IsRef, name_at}
+use Rattle.long_names.specs.declared.limits.TheConstants.{SLOTS}
 use Rattle.long_names.specs.Heap.{Has, put_object}
 use Rattle.long_names.specs.Access.{Swap, IsUnpinned, heap_after, with_swapped}
 use Rattle.loom_outside.specs.Outside.{RoleState}

@@ -2,7 +2,7 @@
 use Rattle.std.specs.Prelude.{◌≡◌, ℕ, ℤ, ◌<◌}
 use Rattle.long_names.specs.declared.value.Value.{Value}
 use Rattle.long_names.specs.declared.value.Value.TheVariants.{Int}
-use Rattle.long_names.specs.State.{REGISTERS}
+use Rattle.long_names.specs.declared.limits.TheConstants.{REGISTERS}
 
 -- each of these registers has a number
 abbrev pub AreNumbersBelow : ℕ → (ℕ → Value) → Type 0

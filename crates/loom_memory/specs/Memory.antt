@@ -2,14 +2,14 @@
 use Rattle.std.specs.Prelude.{◌≡◌, ◌≢◌, ℕ, ◌+◌, ◌≤◌, ◌==◌, ◌||◌, Bool, true, false, List, [], length, count_by, Option, None, Some, IsTrue, slice_index_or, if◌then◌else◌}
 use Rattle.long_names.specs.declared.value.Value.{Value}
 use Rattle.long_names.specs.declared.value.Value.TheVariants.{Ref}
-use Rattle.long_names.specs.declared.limits.TheConstants.{ENTRIES_OF_A_CALL}
+use Rattle.long_names.specs.declared.limits.TheConstants.{ENTRIES_OF_A_CALL, REGISTERS}
 use Rattle.object_memory.specs.declared.fault.Need.{Need}
 use Rattle.long_names.specs.declared.object.Object.{Object}
 use Rattle.long_names.specs.Heap.{Heap}
 use Rattle.long_names.specs.Objects.{body_words}
 use Rattle.long_names.specs.Access.{Access, Say, Field, SetField, brought, heap_after, target_of}
 use Rattle.long_names.specs.State.{set_register}
-use Rattle.loom_outside.specs.Outside.{RoleState, at_start}
+use Rattle.loom_outside.specs.Outside.{RoleState, at_start, holds}
 use Rattle.loom_outside.specs.declared.outside.Role.{Role}
 use Rattle.loom_outside.specs.declared.outside.Role.TheVariants.{Work, Transcript}
 use Rattle.loom_outside.specs.declared.outside.Host.{Ghosts}
@@ -102,7 +102,7 @@ pub record IsKept (p : Parts) (regs : List ℕ) (pins : Pinned) (k : Ledger) : T
   pub entries : entries_of p.names.table ≡ k.entries
   pub rooted : (t : ℕ) → outside (core_of p) t ≡ count_by (names t) (in_hand regs pins.a pins.b pins.d)
   pub filled : (r : ℕ) → word_in regs r ≢ 0
-  pub many : length regs ≡ 24
+  pub many : length regs ≡ REGISTERS
   pub pinned : (i : ℕ) → IsPinned (core_of p) (pin_in pins i)
   pub here : AreHere (core_of p)
   pub cached : IsCached (core_of p) (found k.rows) k.mark
@@ -132,18 +132,22 @@ pub record IsOwing {H : Type 0} (host : Ghosts H) (m : LoomMemory H) (owed : Lis
   pub over : IsOver host m.disk.host.now m.disk.rest (core_of m.parts) m.ledger
   pub exact : IsExact host m.parts m.disk.host.now m.disk.rest m.ledger.next owed
 
--- what is outside: the roles that this memory has nothing to do with, and their faults
+-- What is outside: the roles that this memory has nothing to do with, and their faults; and of Work all but its contents, where that is told.
 pub record Others : Type 0 where
   pub role : RoleState
   pub faults : ℕ
 
-abbrev pub others_of : Role → RoleState → ℕ → Others
-others_of Work s n = record { role = at_start; faults = 0 }
-others_of Transcript s n = record { role = at_start; faults = 0 }
-others_of r s n = record { role = s; faults = n }
+abbrev pub file_of : Bool → RoleState → RoleState
+file_of true s = holds [] s
+file_of false s = at_start
+
+abbrev pub others_of : Bool → Role → RoleState → ℕ → Others
+others_of told Work s n = record { role = file_of told s; faults = 0 }
+others_of told Transcript s n = record { role = at_start; faults = 0 }
+others_of told r s n = record { role = s; faults = n }
 
 unfoldable pub loom_outside : {H : Type 0} → Ghosts H → LoomMemory H → Role → Others
-loom_outside host m r = others_of r (host.roles m.disk.host.now r) (host.faults m.disk.host.now r)
+loom_outside host m r = others_of (host.tells Work) r (host.roles m.disk.host.now r) (host.faults m.disk.host.now r)
 
 -- the name of the loan by which it holds its host
 abbrev pub loom_lender : {H : Type 0} → LoomMemory H → ℕ

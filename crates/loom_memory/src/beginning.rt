@@ -11,6 +11,7 @@ use crate::ledger::Ledger;
 use crate::memory::LoomMemory;
 use disk_objects::DiskObjects;
 use leaf_lambda::Parts;
+use long_names::REGISTERS;
 use loom_outside::Host;
 use method_cache::Cache;
 use object_record::RecordBuf;
@@ -84,7 +85,7 @@ impl<'h, H: Host> LoomMemory<'h, H> {
             parts: tables.parts,
             buf: tables.buf,
             out: tables.out,
-            regs: [1; 24],
+            regs: [1; REGISTERS],
             pinned: Pinned { a: 0, b: 0, d: 0 },
             ledger: Ledger {
                 core,

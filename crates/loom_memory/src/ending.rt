@@ -6,14 +6,13 @@ ghost use Rattle.leaf_lambda.specs.Parts.{core_of};
 use crate::bring::refusal_of;
 use crate::memory::LoomMemory;
 use disk_objects::DiskObjects;
+use long_names::REGISTERS;
 use loom_outside::{Host, Role};
 use object_memory::{MemFault, Reg};
 use purger::close;
 
-const REGISTERS: u8 = 24;
-
 impl<'h, H: Host> LoomMemory<'h, H> {
-    ghost use Rattle.object_memory.specs.Contract.{HasCause, Thins};
+    ghost use Rattle.object_memory.specs.Contract.{HasCause, SameBounds, Thins};
     ghost use Rattle.purger.specs.Closing.{HasKept};
     ghost use Rattle.loom_memory.specs.Ending.{AreNumbers};
     ghost use Rattle.loom_memory.specs.Makings.{IsLost};
@@ -28,7 +27,7 @@ impl<'h, H: Host> LoomMemory<'h, H> {
         ensures lender { self.new.disk.host.ghost_name ≡ self.old.disk.host.ghost_name }
         ensures outside { loom_outside H.Host self.new ≡ loom_outside H.Host self.old }
     {
-        for i in 0..REGISTERS {
+        for i in 0..REGISTERS as u8 {
             self.put_word(Reg::new(i), 1);
         }
     }
@@ -58,6 +57,7 @@ impl<'h, H: Host> LoomMemory<'h, H> {
         ensures lost { IfErr result IsLost }
         ensures cause { IfErr result (HasCause (loom_told H.Host self.old) (loom_told H.Host self.new) Thins) }
         ensures transcript { (loom_told H.Host self.new).transcript ≡ (loom_told H.Host self.old).transcript }
+        ensures bounds { SameBounds (loom_told H.Host self.old).bounds (loom_told H.Host self.new).bounds }
         ensures lender { self.new.disk.host.ghost_name ≡ self.old.disk.host.ghost_name }
         ensures outside { loom_outside H.Host self.new ≡ loom_outside H.Host self.old }
     {

@@ -7,6 +7,7 @@ ghost use Rattle.core_view.specs.Words.{meant};
 ghost use Rattle.core_view.specs.Held.{fields_there};
 ghost use Rattle.core_view.specs.Steps.{IsAt};
 ghost use Rattle.leaf_lambda.specs.Parts.{core_of, spare_of, IsParts};
+ghost use Rattle.loom_memory.specs.declared.load.TheConstants.{SPARE_BEHIND_CLASS};
 
 use crate::below::is_below;
 use crate::bring::refusal_of;
@@ -60,7 +61,7 @@ impl<'h, H: Host> LoomMemory<'h, H> {
         requires sound { IsSound H.Host self.old }
         requires ready { IsReady (loom_told H.Host self.old) }
         requires lambda { IsAt (core_of self.old.parts) s.0 at.place i 0 }
-        requires spare { 26 ≤ spare_of self.old.parts }
+        requires spare { SPARE_BEHIND_CLASS ≤ spare_of self.old.parts }
         ensures quiet { OnOk result (IsQuiet (loom_told H.Host self.old) (loom_told H.Host self.new)) }
         ensures sound { KeepsSound result (IsSound H.Host self.new) }
         ensures long { IsTrue (H.tells Role.Work) → IfOk result (λ long. slice_get (fields_there (disk_of H.Host self.old.disk.host.now self.old.disk.rest ((core_of self.old.parts).entries s.0).name)) i ≡ Some (value_in long)) }
@@ -137,7 +138,7 @@ impl<'h, H: Host> LoomMemory<'h, H> {
         requires ready { IsReady (loom_told H.Host self.old) }
         requires word { s.0 ≡ word_in self.old.regs of }
         requires lambda { IsAt (core_of self.old.parts) s.0 at.place i 0 }
-        requires spare { 26 ≤ spare_of self.old.parts }
+        requires spare { SPARE_BEHIND_CLASS ≤ spare_of self.old.parts }
         ensures quiet { OnOk result (IsQuiet (loom_told H.Host self.old) (loom_told H.Host self.new)) }
         ensures sound { KeepsSound result (IsSound H.Host self.new) }
         ensures used { IfOk result (λ w. is_short w ≡ true → is_used ((core_of self.new.parts).entries w).state ≡ true) }
@@ -168,7 +169,7 @@ impl<'h, H: Host> LoomMemory<'h, H> {
         requires ready { IsReady (loom_told H.Host self.old) }
         requires word { s.0 ≡ word_in self.old.regs of }
         requires lambda { IsAt (core_of self.old.parts) s.0 at.place i 0 }
-        requires spare { 26 ≤ spare_of self.old.parts }
+        requires spare { SPARE_BEHIND_CLASS ≤ spare_of self.old.parts }
         ensures taken { OnOk result (IsTaken (loom_told H.Host self.old) (loom_told H.Host self.new) to of i) }
         ensures sound { KeepsSound result (IsSound H.Host self.new) }
         ensures damage { IfErr result (IsDamageOf self.new.disk.rest ((core_of self.old.parts).entries s.0).name) }
@@ -193,7 +194,7 @@ impl<'h, H: Host> LoomMemory<'h, H> {
         requires may { IsTrue (H.tells Role.Work) → CanDo (loom_told H.Host self.old).heap (loom_told H.Host self.old).regs (Field to of i) }
         requires word { s.0 ≡ word_in self.old.regs of }
         requires there { (at : ℕ) × (place_of ((core_of self.old.parts).entries s.0).state ≡ Some at) }
-        requires spare { 26 ≤ spare_of self.old.parts }
+        requires spare { SPARE_BEHIND_CLASS ≤ spare_of self.old.parts }
         ensures taken { OnOk result (IsTaken (loom_told H.Host self.old) (loom_told H.Host self.new) to of i) }
         ensures sound { KeepsSound result (IsSound H.Host self.new) }
         ensures damage { IfErr result (IsDamageOf self.new.disk.rest ((core_of self.old.parts).entries s.0).name) }

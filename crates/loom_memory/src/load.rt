@@ -12,7 +12,7 @@ ghost use Rattle.core_view.specs.Counts.{outside};
 ghost use Rattle.leaf_lambda.specs.Parts.{core_of, spare_of, IsParts};
 ghost use Rattle.object_table.specs.Entries.{sum_below, used_by};
 ghost use Rattle.core_view.specs.Room.{over_three, room_for, entries_for};
-ghost use Rattle.loom_memory.specs.declared.load.TheConstants.{SPARE_ENTRIES as SPARE};
+ghost use Rattle.loom_memory.specs.declared.load.TheConstants.{SPARE_BEHIND_CLASS, SPARE_ENTRIES as SPARE};
 
 use crate::below::holds_below;
 use crate::bring::refusal_of;
@@ -33,6 +33,9 @@ use purger::room::has_room;
 
 // How many entries a call asks for before it begins: those of its row beside the pinned objects, `ENTRIES_OF_A_CALL`, but for the 24 of the registers.
 pub(crate) const SPARE_ENTRIES: u16 = 27;
+
+// How many are left once the object's class has one.
+pub(crate) const SPARE_BEHIND_CLASS: u16 = SPARE_ENTRIES - 1;
 
 // The words that an entry's body takes, 0 where it has none.
 fn room_of(p: &Parts, s: Short) -> u32
@@ -135,7 +138,7 @@ impl<'h, H: Host> LoomMemory<'h, H> {
         ensures sound { IsSound H.Host self.new }
         ensures regs { self.new.regs ≡ self.old.regs }
         ensures there { (at : ℕ) × (place_of ((core_of self.new.parts).entries s.0).state ≡ Some at) }
-        ensures spare { 26 ≤ spare_of self.new.parts }
+        ensures spare { SPARE_BEHIND_CLASS ≤ spare_of self.new.parts }
         ensures counted { fetched self.new ≡ counted (fetched self.old) }
         ensures buf { self.new.buf ≡ self.old.buf }
         ensures next { self.new.ledger.next ≡ self.old.ledger.next }
@@ -328,7 +331,7 @@ impl<'h, H: Host> LoomMemory<'h, H> {
         ensures sound { KeepsSound result (IsSound H.Host self.new) }
         ensures regs { OnOk result (self.new.regs ≡ self.old.regs) }
         ensures there { OnOk result ((at : ℕ) × (place_of ((core_of self.new.parts).entries s.0).state ≡ Some at)) }
-        ensures spare { OnOk result (26 ≤ spare_of self.new.parts) }
+        ensures spare { OnOk result (SPARE_BEHIND_CLASS ≤ spare_of self.new.parts) }
         ensures counted { OnOk result (fetched self.new ≡ counted (fetched self.old)) }
         ensures buf { self.new.buf ≡ self.old.buf }
         ensures damage { IfErr result (λ f. HasRoom self.old.parts words SPARE → IsDamageOf self.new.disk.rest ((core_of self.old.parts).entries s.0).name f) }
@@ -366,7 +369,7 @@ impl<'h, H: Host> LoomMemory<'h, H> {
         ensures sound { KeepsSound result (IsSound H.Host self.new) }
         ensures regs { OnOk result (self.new.regs ≡ self.old.regs) }
         ensures there { OnOk result ((at : ℕ) × (place_of ((core_of self.new.parts).entries s.0).state ≡ Some at)) }
-        ensures spare { OnOk result (26 ≤ spare_of self.new.parts) }
+        ensures spare { OnOk result (SPARE_BEHIND_CLASS ≤ spare_of self.new.parts) }
         ensures idle { OnOk result ((at : ℕ) → place_of ((core_of self.old.parts).entries s.0).state ≡ Some at → self.new ≡ self.old) }
         ensures counted { OnOk result (place_of ((core_of self.old.parts).entries s.0).state ≡ None → fetched self.new ≡ counted (fetched self.old)) }
         ensures damage { IsDamaged self.old self.new ((core_of self.old.parts).entries s.0).name result }
@@ -395,7 +398,7 @@ impl<'h, H: Host> LoomMemory<'h, H> {
         ensures word { IfOk result (λ s. s.0 ≡ word_in self.new.regs of) }
         ensures loaded { IfOk result (λ s. IsLoaded H.Host self.new of s.0) }
         ensures core { OnOk result ((a : Access) → target_of a ≡ Some of → makes a ≡ 0 → IfBounds (loom_told H.Host self.old).bounds (HasCore (loom_told H.Host self.old) a)) }
-        ensures spare { OnOk result (26 ≤ spare_of self.new.parts) }
+        ensures spare { OnOk result (SPARE_BEHIND_CLASS ≤ spare_of self.new.parts) }
         ensures there { OnOk result (IsTrue (is_resident self.new (name_at ((loom_told H.Host self.old).regs of)))) }
         ensures bounded { OnOk result (ForBounds (loom_told H.Host self.new).bounds (λ b. words_resident self.new ≤ b.core)) }
         ensures idle { OnOk result ((at : ℕ) → place_of ((core_of self.old.parts).entries (word_in self.old.regs of)).state ≡ Some at → HasRoom self.old.parts 0 SPARE → self.new ≡ self.old) }

@@ -13,7 +13,7 @@ use crate::ledger::Ledger;
 use disk_objects::DiskObjects;
 use leaf_lambda::Parts;
 use leaf_lambda::fields::{drop_word, hold_word};
-use long_names::Name;
+use long_names::{Name, REGISTERS};
 use loom_outside::Host;
 use object_memory::{MemFault, Reg};
 use object_record::RecordBuf;
@@ -28,7 +28,7 @@ pub struct LoomMemory<'h, H: Host> {
     // The record of the object of a call, and that of one that leaves.
     pub(crate) buf: RecordBuf,
     pub(crate) out: RecordBuf,
-    pub(crate) regs: [u16; 24],
+    pub(crate) regs: [u16; REGISTERS],
     pub(crate) pinned: Pinned,
     pub(crate) ledger: Ledger,
 }

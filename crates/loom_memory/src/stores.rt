@@ -8,6 +8,7 @@ ghost use Rattle.counted_core.specs.Steps.{changed_at};
 ghost use Rattle.delta_counts.specs.Parts.{IsChange};
 ghost use Rattle.loom_memory.specs.Stores.{IsRecount};
 ghost use Rattle.leaf_lambda.specs.Parts.{core_of, spare_of, IsParts};
+ghost use Rattle.loom_memory.specs.declared.load.TheConstants.{SPARE_BEHIND_CLASS};
 ghost use Rattle.leaf_lambda.specs.Making.{HasBytes};
 
 use crate::fields::word_in_body;
@@ -148,7 +149,7 @@ impl<'h, H: Host> LoomMemory<'h, H> {
         ensures word { IfOk result (λ s. s.0 ≡ word_in self.new.regs of) }
         ensures there { IfOk result (λ s. (at : ℕ) × (place_of ((core_of self.new.parts).entries s.0).state ≡ Some at)) }
         ensures gone { IfOk result (λ s. ((core_of self.new.parts).entries s.0).flags.marked ≡ false) }
-        ensures spare { OnOk result (26 ≤ spare_of self.new.parts) }
+        ensures spare { OnOk result (SPARE_BEHIND_CLASS ≤ spare_of self.new.parts) }
         ensures searched { OnOk result (IsSearchedChange H.Host self.old self.new (name_at ((loom_told H.Host self.old).regs of))) }
         ensures cached { OnOk result (HasSpace H.Host self.old (name_at ((loom_told H.Host self.old).regs of)) → IsUnmarked H.Host self.old (name_at ((loom_told H.Host self.old).regs of)) → KeepsCache H.Host self.old self.new) }
         ensures core { OnOk result ((a : Access) → target_of a ≡ Some of → makes a ≡ 0 → IfBounds (loom_told H.Host self.old).bounds (HasCore (loom_told H.Host self.old) a)) }
@@ -195,7 +196,7 @@ impl<'h, H: Host> LoomMemory<'h, H> {
         requires word { s.0 ≡ word_in self.old.regs of }
         requires there { (at : ℕ) × (place_of ((core_of self.old.parts).entries s.0).state ≡ Some at) }
         requires gone { ((core_of self.old.parts).entries s.0).flags.marked ≡ false }
-        requires spare { 26 ≤ spare_of self.old.parts }
+        requires spare { SPARE_BEHIND_CLASS ≤ spare_of self.old.parts }
         ensures stored { OnOk result (IsStored (loom_told H.Host self.old) (loom_told H.Host self.new) (SetField of i from)) }
         ensures sound { KeepsSound result (IsSound H.Host self.new) }
         ensures glance { OnOk result (IsGlance H.Host self.old self.new) }

@@ -5,6 +5,7 @@ use Rattle.leaf_lambda.specs.Parts.{core_of}
 use Rattle.loom_memory.specs.Memory.{loom_told, loom_outside, others_of}
 use Rattle.loom_memory.proofs.AddLaws.{added-made, damaged-making, entry-means, told-next}
 use Rattle.loom_memory.proofs.MadeLaws.{put-resident}
+use Rattle.loom_outside.specs.declared.outside.Role.TheVariants.{Work}
 use Rattle.object_memory.specs.declared.fault.MemFault.{MemFault}
 use Rattle.loom_memory.specs.Makings.{IsLost}
 use Rattle.loom_memory.proofs.GentleLaws.{rest-trans}
@@ -25,11 +26,11 @@ returns-in-None-clause-err g c =
 
 pub returns-in-Some-clause-outside : goal.returns-in-Some-clause-outside
 unfolding loom_outside
-returns-in-Some-clause-outside g c = c.put_word.ensures.outside ∙ ap (λ d. (λ r. others_of r (g.H.Host.roles d.host.now r) (g.H.Host.faults d.host.now r))) c.add_object.ensures.disk
+returns-in-Some-clause-outside g c = c.put_word.ensures.outside ∙ ap (λ d. (λ r. others_of (g.H.Host.tells Work) r (g.H.Host.roles d.host.now r) (g.H.Host.faults d.host.now r))) c.add_object.ensures.disk
 
 pub returns-in-None-clause-outside : goal.returns-in-None-clause-outside
 unfolding loom_outside
-returns-in-None-clause-outside g c = c.refuse.ensures.outside ∙ ap (λ d. (λ r. others_of r (g.H.Host.roles d.host.now r) (g.H.Host.faults d.host.now r))) c.add_object.ensures.disk
+returns-in-None-clause-outside g c = c.refuse.ensures.outside ∙ ap (λ d. (λ r. others_of (g.H.Host.tells Work) r (g.H.Host.roles d.host.now r) (g.H.Host.faults d.host.now r))) c.add_object.ensures.disk
 
 pub returns-in-Some-clause-there : goal.returns-in-Some-clause-there
 returns-in-Some-clause-there g c =

@@ -6,6 +6,7 @@ use Rattle.loom_memory.specs.Residents.{fetched}
 use Rattle.loom_memory.specs.Memory.{loom_told, loom_outside, others_of}
 use Rattle.loom_memory.proofs.AddLaws.{room-most}
 use Rattle.loom_memory.proofs.SettleLaws.{bodies-anew, bodies-same, settled-some}
+use Rattle.loom_outside.specs.declared.outside.Role.TheVariants.{Work}
 use Rattle.loom_memory.proofs.memory.LoomMemory.settle_disk.Goals as goal
 
 pub returns-in-Ok-clause-settled : goal.returns-in-Ok-clause-settled
@@ -18,11 +19,11 @@ overflow_add-self g c = let most = room-most c.args.self.now.disk.rest in let ro
 
 pub returns-then-self-room-clause-outside : goal.returns-then-self-room-clause-outside
 unfolding loom_outside
-returns-then-self-room-clause-outside g c = ap (λ d. (λ r. others_of r (g.H.Host.roles d.host.now r) (g.H.Host.faults d.host.now r))) c.count_anew.ensures.disk
+returns-then-self-room-clause-outside g c = ap (λ d. (λ r. others_of (g.H.Host.tells Work) r (g.H.Host.roles d.host.now r) (g.H.Host.faults d.host.now r))) c.count_anew.ensures.disk
 
 pub returns-in-Ok-clause-outside : goal.returns-in-Ok-clause-outside
 unfolding loom_outside
-returns-in-Ok-clause-outside g c = ap (λ d. (λ r. others_of r (g.H.Host.roles d.host.now r) (g.H.Host.faults d.host.now r))) c.count_anew-in-Ok.ensures.disk ∙ c.thin.ensures.outside
+returns-in-Ok-clause-outside g c = ap (λ d. (λ r. others_of (g.H.Host.tells Work) r (g.H.Host.roles d.host.now r) (g.H.Host.faults d.host.now r))) c.count_anew-in-Ok.ensures.disk ∙ c.thin.ensures.outside
 
 pub returns-then-self-room-clause-fetches : goal.returns-then-self-room-clause-fetches
 unfolding fetched

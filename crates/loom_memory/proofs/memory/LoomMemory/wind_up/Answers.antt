@@ -1,11 +1,12 @@
-use Rattle.std.proofs.Common.{◌∙◌, ap, arith, subst, sym}
+use Rattle.std.proofs.Common.{◌∙◌, ap, arith, refl, subst, sym}
+use Rattle.object_memory.specs.Contract.{SameBounds}
 use Rattle.object_memory.specs.Told.{Told}
 use Rattle.object_memory.specs.declared.fault.MemFault.{MemFault}
 use Rattle.loom_memory.specs.Makings.{IsLost}
 use Rattle.loom_memory.specs.Memory.{loom_told, loom_outside}
 use Rattle.loom_memory.proofs.AddLaws.{fault-lost}
 use Rattle.loom_memory.proofs.CalmLaws.{work-outside}
-use Rattle.loom_memory.proofs.EndingLaws.{kept-left, let-cause, work-silent}
+use Rattle.loom_memory.proofs.EndingLaws.{kept-left, let-cause, work-bounds, work-silent}
 use Rattle.loom_memory.proofs.ExactLaws.{exact-has}
 use Rattle.loom_memory.proofs.memory.LoomMemory.wind_up.Goals as goal
 
@@ -49,3 +50,16 @@ returns-in-Err-clause-cause g c =
     let-cause g.H.Host m n (loom_told g.H.Host c.args.self.now) (loom_told g.H.Host c.refuse.new.self) c.in-Err.f c.refusal_of-f.result c.refuse.result
     (ap (λ (z : Told). z.tells) c.let_go.ensures.told) (ap (λ (z : Told). z.bounds) c.let_go.ensures.told)
     c.in-Err.ensures.fault c.refusal_of-f.ensures c.refuse.ensures.told c.refuse.ensures.result
+
+pub returns-in-Ok-clause-bounds : goal.returns-in-Ok-clause-bounds
+returns-in-Ok-clause-bounds g c =
+    let m = c.let_go.new.self in
+    let n = record m { parts = c.close.new.p; disk = c.close.new.disk; out = c.close.new.buf } in
+    subst (λ b. SameBounds b (loom_told g.H.Host n).bounds) (ap (λ (z : Told). z.bounds) c.let_go.ensures.told) (work-bounds g.H.Host m n c.in-Ok.ensures.work c.in-Ok.ensures.limit refl)
+
+pub returns-in-Err-clause-bounds : goal.returns-in-Err-clause-bounds
+returns-in-Err-clause-bounds g c =
+    let m = c.let_go.new.self in
+    let n = record m { parts = c.close.new.p; disk = c.close.new.disk; out = c.close.new.buf } in
+    subst (λ b. SameBounds (loom_told g.H.Host c.args.self.now).bounds b) (sym (ap (λ (z : Told). z.bounds) c.refuse.ensures.told))
+    (subst (λ b. SameBounds b (loom_told g.H.Host n).bounds) (ap (λ (z : Told). z.bounds) c.let_go.ensures.told) (work-bounds g.H.Host m n c.in-Err.ensures.work c.in-Err.ensures.limit refl))

@@ -5,6 +5,7 @@ use Rattle.loom_memory.specs.Memory.{loom_told, loom_outside, Others, others_of}
 use Rattle.loom_memory.proofs.ExactLaws.{exact-work}
 use Rattle.loom_memory.proofs.SayLaws.{put-sound}
 use Rattle.loom_memory.proofs.LentLaws.{lent-write, lent-others, lent-told, others-lent}
+use Rattle.loom_outside.specs.declared.outside.Role.TheVariants.{Work}
 use Rattle.loom_memory.specs.Residents.{is_resident, words_resident, fetched}
 use Rattle.loom_memory.proofs.memory.LoomMemory.write_to.Goals as goal
 
@@ -26,27 +27,27 @@ pub returns-clause-put : goal.returns-clause-put
 unfolding loom_outside
 returns-clause-put g c = λ told.
     let m = c.args.self.now in
-    let old = ap (λ (o : Others). o.role) (lent-others c.args.role (g.H.Host.roles m.disk.host.now c.args.role) (g.H.Host.faults m.disk.host.now c.args.role) c.requires.role) in
-    let new = ap (λ (o : Others). o.role) (lent-others c.args.role (g.H.Host.roles c.write_to.new.self.host.now c.args.role) (g.H.Host.faults c.write_to.new.self.host.now c.args.role) c.requires.role) in
-    subst (λ (s : RoleState). OnOk c.write_to.result (s ≡ puts c.args.buf.now (others_of c.args.role (g.H.Host.roles m.disk.host.now c.args.role) (g.H.Host.faults m.disk.host.now c.args.role)).role)) (sym new)
+    let old = ap (λ (o : Others). o.role) (lent-others (g.H.Host.tells Work) c.args.role (g.H.Host.roles m.disk.host.now c.args.role) (g.H.Host.faults m.disk.host.now c.args.role) c.requires.role) in
+    let new = ap (λ (o : Others). o.role) (lent-others (g.H.Host.tells Work) c.args.role (g.H.Host.roles c.write_to.new.self.host.now c.args.role) (g.H.Host.faults c.write_to.new.self.host.now c.args.role) c.requires.role) in
+    subst (λ (s : RoleState). OnOk c.write_to.result (s ≡ puts c.args.buf.now (others_of (g.H.Host.tells Work) c.args.role (g.H.Host.roles m.disk.host.now c.args.role) (g.H.Host.faults m.disk.host.now c.args.role)).role)) (sym new)
     (subst (λ (s : RoleState). OnOk c.write_to.result (g.H.Host.roles c.write_to.new.self.host.now c.args.role ≡ puts c.args.buf.now s)) (sym old) (c.write_to.ensures.put told))
 
 pub returns-clause-failed : goal.returns-clause-failed
 unfolding loom_outside
 returns-clause-failed g c = λ told.
     let m = c.args.self.now in
-    let old = ap (λ (o : Others). o.role) (lent-others c.args.role (g.H.Host.roles m.disk.host.now c.args.role) (g.H.Host.faults m.disk.host.now c.args.role) c.requires.role) in
-    let new = ap (λ (o : Others). o.role) (lent-others c.args.role (g.H.Host.roles c.write_to.new.self.host.now c.args.role) (g.H.Host.faults c.write_to.new.self.host.now c.args.role) c.requires.role) in
-    subst (λ (s : RoleState). OnErr c.write_to.result (PutPrefix c.args.buf.now (others_of c.args.role (g.H.Host.roles m.disk.host.now c.args.role) (g.H.Host.faults m.disk.host.now c.args.role)).role s)) (sym new)
+    let old = ap (λ (o : Others). o.role) (lent-others (g.H.Host.tells Work) c.args.role (g.H.Host.roles m.disk.host.now c.args.role) (g.H.Host.faults m.disk.host.now c.args.role) c.requires.role) in
+    let new = ap (λ (o : Others). o.role) (lent-others (g.H.Host.tells Work) c.args.role (g.H.Host.roles c.write_to.new.self.host.now c.args.role) (g.H.Host.faults c.write_to.new.self.host.now c.args.role) c.requires.role) in
+    subst (λ (s : RoleState). OnErr c.write_to.result (PutPrefix c.args.buf.now (others_of (g.H.Host.tells Work) c.args.role (g.H.Host.roles m.disk.host.now c.args.role) (g.H.Host.faults m.disk.host.now c.args.role)).role s)) (sym new)
     (subst (λ (s : RoleState). OnErr c.write_to.result (PutPrefix c.args.buf.now s (g.H.Host.roles c.write_to.new.self.host.now c.args.role))) (sym old) (c.write_to.ensures.failed told))
 
 pub returns-clause-cause : goal.returns-clause-cause
 unfolding loom_outside
 returns-clause-cause g c =
     let m = c.args.self.now in
-    let old = ap (λ (o : Others). o.faults) (lent-others c.args.role (g.H.Host.roles m.disk.host.now c.args.role) (g.H.Host.faults m.disk.host.now c.args.role) c.requires.role) in
-    let new = ap (λ (o : Others). o.faults) (lent-others c.args.role (g.H.Host.roles c.write_to.new.self.host.now c.args.role) (g.H.Host.faults c.write_to.new.self.host.now c.args.role) c.requires.role) in
-    subst (λ n. HasCause (others_of c.args.role (g.H.Host.roles m.disk.host.now c.args.role) (g.H.Host.faults m.disk.host.now c.args.role)).faults n c.write_to.result) (sym new)
+    let old = ap (λ (o : Others). o.faults) (lent-others (g.H.Host.tells Work) c.args.role (g.H.Host.roles m.disk.host.now c.args.role) (g.H.Host.faults m.disk.host.now c.args.role) c.requires.role) in
+    let new = ap (λ (o : Others). o.faults) (lent-others (g.H.Host.tells Work) c.args.role (g.H.Host.roles c.write_to.new.self.host.now c.args.role) (g.H.Host.faults c.write_to.new.self.host.now c.args.role) c.requires.role) in
+    subst (λ n. HasCause (others_of (g.H.Host.tells Work) c.args.role (g.H.Host.roles m.disk.host.now c.args.role) (g.H.Host.faults m.disk.host.now c.args.role)).faults n c.write_to.result) (sym new)
     (subst (λ n. HasCause n (g.H.Host.faults c.write_to.new.self.host.now c.args.role) c.write_to.result) (sym old) c.write_to.ensures.cause)
 
 pub returns-clause-others : goal.returns-clause-others
