@@ -1,2 +1,3 @@
 pub mod ImageLaws
 pub mod EndLaws
+pub mod KeptLaws

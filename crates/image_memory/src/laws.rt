@@ -63,6 +63,13 @@ pub fn what_is_kept_can_be_saved<H: Host>()
     ensures heap { (now : H) (rest : DiskRest) (next : ℕ) (h : Heap) → HasEnded H.Host now rest next h → disk_heap H.Host now rest next ≡ kept h no_roots }
 {}
 
+/// Where a memory that was sound has ended, what is kept of its heap is the heap of an image: the next name is of 32 bits, and a disk has no
+/// room for more objects than an image may have.
+pub fn what_is_kept_is_an_image<H: Host>()
+    ensures { (m : Memory H) (now : H) (rest : DiskRest) (next : ℕ) → IsTrue (H.tells Work) → IsSound H.Host m → HasEnded H.Host now rest next (loom_told H.Host m).heap
+        → next < 2 ^ 32 → IsImageHeap (kept (loom_told H.Host m).heap no_roots) }
+{}
+
 /// What is done with other roles leaves what is on the disk.
 pub fn other_roles_leave_the_disk<H: Host>()
     ensures image { (before now : H) (rest after : DiskRest) (x : Stated) → H.roles now Work ≡ H.roles before Work → after ≡ rest
