@@ -1,7 +1,7 @@
 #!/bin/sh
 # Tries the program at its edge, on real files and streams, where no contract speaks: standard streams that are closed
-# or full, files that can't be read or written, a file that two words name in different ways, an image that is saved over
-# itself, disks that are full, and a run that is killed while it saves. Prints a line for each case.
+# or full, files that can't be read or written, a file that two words name in different ways, the work file among them, an image
+# that is saved over itself, disks that are full at each stage, and a run that is killed while it saves. Prints a line for each case.
 #
 #     tests/edge.sh [PROGRAM]
 set -u
@@ -27,10 +27,30 @@ patch() {
     printf "$3" | dd of="$1" bs=1 seek="$2" conv=notrunc 2>/dev/null
 }
 
-# The base image, and what two bytecodes make of it: the instruction pointer of its context is 5 in place of 3.
+# version_2 FILE CLOCK: makes of an image of version 1 one of version 2, with this clock (four bytes, as printf has them), no display, no
+# input and no timer. Its records begin 20 bytes later.
+version_2() {
+    {
+        head -c 7 "$1"
+        printf '\002'
+        head -c 16 "$1" | tail -c 8
+        printf "$2"
+        head -c 16 /dev/zero
+        tail -c +17 "$1"
+    } >made
+    mv made "$1"
+}
+
+# How large the machine is: CORE, ENTRIES and ROOM.
+sizes='65536 4096 1024'
+
+# The base image, and what two bytecodes make of it: the instruction pointer of its context is 5 in place of 3, and the clock is 2. After
+# any number of pairs of bytecodes only the clock is another than in the base image.
 base=$top/crates/loom_images/data/base.loom
-cp "$base" base.loom && cp "$base" after.loom || exit 1
+cp "$base" base.loom && cp "$base" after.loom && cp "$base" million.loom || exit 1
 patch after.loom 587 '\013'
+version_2 after.loom '\000\000\000\002'
+version_2 million.loom '\000\017\102\077'
 
 # The base image with another first bytecode: one that no machine has.
 cp "$base" unused.loom || exit 1
@@ -38,7 +58,8 @@ patch unused.loom 556 '\176'
 
 # An image that says `hi` and a newline in its third bytecode, and has no fourth; and one that says `loom`, draws a picture and quits.
 cp "$top/crates/loom_cli/data/say.loom" "$top/crates/loom_images/data/hello.loom" . || exit 1
-cp "$top/tests/hello.pbm" . || exit 1
+cp "$top/tests/hello.pbm" . && cp say.loom unsaid.loom || exit 1
+version_2 unsaid.loom '\000\000\000\000'
 
 # Event files.
 : >none.events
@@ -94,6 +115,7 @@ large_image() {
         done
     } >>large.loom
     cp large.loom larger.loom && patch larger.loom 587 '\013'
+    version_2 larger.loom '\000\000\000\002'
 }
 printf '\000\000\000\001' >zeros
 for _ in 1 2 3 4 5 6 7 8 9 10 11 12 13 14 15 16; do
@@ -101,6 +123,26 @@ for _ in 1 2 3 4 5 6 7 8 9 10 11 12 13 14 15 16; do
 done
 dd if=zeros of=more bs=26000 count=10 2>/dev/null && mv more zeros
 large_image 4
+
+# An image whose first bytecode reads a field of an array of 5,000 numbers, and what two bytecodes make of it; and one that states 1,025
+# objects.
+cp "$base" wide.loom && cp "$base" many.loom || exit 1
+patch wide.loom 11 '\033'       # 27 objects
+patch wide.loom 15 '\106'       # the next name is 70
+patch wide.loom 31 '\022'       # the count of nil, 18
+patch wide.loom 159 '\031'      # of 16, 25
+patch wide.loom 556 '\000'      # push field 0 of the receiver
+patch wide.loom 603 '\104'      # which is 68
+{
+    printf '\000\000\000\104\000\000\000\020\000\000\000\000\000\000\000\001\000\000\023\210'
+    head -c 20000 zeros
+} >>wide.loom
+cp wide.loom wider.loom
+patch wider.loom 31 '\021'      # nil stands in one place less
+patch wider.loom 587 '\013'
+patch wider.loom 607 '\001'     # where the field was pushed
+version_2 wider.loom '\000\000\000\002'
+patch many.loom 10 '\004\001'
 
 # What stands in SAVED and DISPLAY before each run: text that is no image, and longer than any file that is written here.
 yes 'this is not an image' | head -n 100 >old.loom
@@ -121,7 +163,7 @@ killed=
 # STREAMS says. It has to end with the code, say this line alone on standard error ('' for none), leave FILE the bytes of
 # WANTED ('none' for no file), and leave base.loom as it was.
 try() {
-    rm -f saved.loom display.pbm
+    rm -f saved.loom display.pbm objects
     cp old.loom saved.loom
     cp old.loom display.pbm
     rm -f new.loom new.pbm out notes wanted_notes wanted_out
@@ -174,14 +216,14 @@ mode() {
     ls -l "$1" | cut -c1-10
 }
 
-good='run base.loom none.events saved.loom display.pbm 2'
+good='run base.loom none.events objects saved.loom display.pbm $sizes 2'
 
 # A run that goes through. SAVED holds the image alone and DISPLAY nothing, whatever they held before.
 try 'SAVED and DISPLAY are longer files' ''           "$good" 0  'ran 2' saved.loom after.loom
-try 'events that change nothing'        ''            'run base.loom good.events saved.loom display.pbm 2' 0 'ran 2' saved.loom after.loom
+try 'events that change nothing'        ''            'run base.loom good.events objects saved.loom display.pbm $sizes 2' 0 'ran 2' saved.loom after.loom
 display=old
-try 'SAVED and DISPLAY are no files yet' ''           'run base.loom none.events new.loom new.pbm 2' 0 'ran 2' new.loom after.loom
-try 'DISPLAY is no file yet'            ''            'run base.loom none.events saved.loom new.pbm 2' 0 'ran 2' new.pbm empty
+try 'SAVED and DISPLAY are no files yet' ''           'run base.loom none.events objects new.loom new.pbm $sizes 2' 0 'ran 2' new.loom after.loom
+try 'DISPLAY is no file yet'            ''            'run base.loom none.events objects saved.loom new.pbm $sizes 2' 0 'ran 2' new.pbm empty
 display=empty
 
 # Standard streams that are closed. A file must never take the place of one: the line of Done would go into it.
@@ -193,13 +235,13 @@ try 'stdin and stderr closed'           '0<&- 2>&-'   "$good" 11 ''      saved.l
 try 'stdout and stderr closed'          '1>&- 2>&-'   "$good" 11 ''      saved.loom after.loom
 try 'all three closed'                  '0<&- 1>&- 2>&-' "$good" 11 ''   saved.loom after.loom
 display=old
-try 'all three closed, no files yet'    '0<&- 1>&- 2>&-' 'run base.loom none.events new.loom new.pbm 2' 11 '' new.loom after.loom
+try 'all three closed, no files yet'    '0<&- 1>&- 2>&-' 'run base.loom none.events objects new.loom new.pbm $sizes 2' 11 '' new.loom after.loom
 for streams in '2>&-' '0<&- 2>&-' '1>&- 2>&-' '0<&- 1>&- 2>&-'; do
-    try "$streams, words missing"       "$streams"    'run base.loom none.events saved.loom display.pbm' 2 '' saved.loom old.loom
-    try "$streams, a missing image"     "$streams"    'run none.loom none.events saved.loom display.pbm 2' 9 '' saved.loom old.loom
-    try "$streams, missing events"      "$streams"    'run base.loom no.events saved.loom display.pbm 2' 9 '' saved.loom old.loom
-    try "$streams, wrong events"        "$streams"    'run base.loom cut.events saved.loom display.pbm 2' 4 '' saved.loom old.loom
-    try "$streams, stuck"               "$streams"    'run unused.loom none.events saved.loom display.pbm 2' 5 '' saved.loom old.loom
+    try "$streams, words missing"       "$streams"    'run base.loom none.events objects saved.loom display.pbm $sizes' 2 '' saved.loom old.loom
+    try "$streams, a missing image"     "$streams"    'run none.loom none.events objects saved.loom display.pbm $sizes 2' 9 '' saved.loom old.loom
+    try "$streams, missing events"      "$streams"    'run base.loom no.events objects saved.loom display.pbm $sizes 2' 9 '' saved.loom old.loom
+    try "$streams, wrong events"        "$streams"    'run base.loom cut.events objects saved.loom display.pbm $sizes 2' 4 '' saved.loom old.loom
+    try "$streams, stuck"               "$streams"    'run unused.loom none.events objects saved.loom display.pbm $sizes 2' 5 '' saved.loom old.loom
 done
 display=empty
 
@@ -209,18 +251,18 @@ try 'stderr for reading only'           '2<old.loom'  "$good" 11 ''      saved.l
 try 'stdout full'                       '1>/dev/full' "$good" 0  'ran 2' saved.loom after.loom
 
 # What is said goes to standard output before SAVED is attached, also after a run that stopped.
-say='run say.loom none.events saved.loom display.pbm'
-"$loom" run say.loom none.events said.loom said.pbm 3 >/dev/null 2>&1
+say='run say.loom none.events objects saved.loom display.pbm $sizes'
+"$loom" run say.loom none.events objects said.loom said.pbm $sizes 3 >/dev/null 2>&1
 said=hi
 try 'a line is said'                    ''            "$say 3" 0  'ran 3' saved.loom said.loom
 display=old
 try 'a line is said before a stop'      ''            "$say 4" 5  'stuck: cause 1 after 3' saved.loom old.loom
-try 'a line is said, SAVED is full'     ''            'run say.loom none.events /dev/full display.pbm 3' 11 'write fault: Saved' saved.loom old.loom
+try 'a line is said, SAVED is full'     ''            'run say.loom none.events objects /dev/full display.pbm $sizes 3' 11 'write fault: Saved' saved.loom old.loom
 try 'a line is said before a stop, stderr closed' '2>&-' "$say 4" 5 ''   saved.loom old.loom
 display=empty
 try 'a line is said, stderr closed'     '2>&-'        "$say 3" 11 ''     saved.loom said.loom
 said=
-try 'nothing is said yet, stdout closed' '1>&-'       "$say 0" 0  'ran 0' saved.loom say.loom
+try 'nothing is said yet, stdout closed' '1>&-'       "$say 0" 0  'ran 0' saved.loom unsaid.loom
 display=old
 for streams in '1>&-' '1>/dev/full' '1<old.loom' '0<&- 1>&-'; do
     try "$streams, a line is said"      "$streams"    "$say 3" 11 'write fault: Transcript' saved.loom old.loom
@@ -230,89 +272,151 @@ try 'stdout and stderr closed, a line is said' '1>&- 2>&-' "$say 3" 11 '' saved.
 
 # A picture. DISPLAY is written once the image is saved.
 said=loom
-"$loom" run hello.loom none.events drawn.loom drawn.pbm 9999 >/dev/null 2>&1
+"$loom" run hello.loom none.events objects drawn.loom drawn.pbm $sizes 9999 >/dev/null 2>&1
 display=hello.pbm
-try 'a picture'                         ''            'run hello.loom none.events saved.loom display.pbm 9999' 0 'quit after 2056' saved.loom drawn.loom
-try 'a picture, stderr closed'          '2>&-'        'run hello.loom none.events saved.loom display.pbm 9999' 11 '' saved.loom drawn.loom
+try 'a picture'                         ''            'run hello.loom none.events objects saved.loom display.pbm $sizes 9999' 0 'quit after 2056' saved.loom drawn.loom
+try 'a picture, stderr closed'          '2>&-'        'run hello.loom none.events objects saved.loom display.pbm $sizes 9999' 11 '' saved.loom drawn.loom
 display=empty
-try 'no picture yet'                    ''            'run hello.loom none.events saved.loom display.pbm 2000' 0 'ran 2000' display.pbm empty
+try 'no picture yet'                    ''            'run hello.loom none.events objects saved.loom display.pbm $sizes 2000' 0 'ran 2000' display.pbm empty
 display=old
-try 'a picture, DISPLAY is no file yet' ''            'run hello.loom none.events saved.loom new.pbm 9999' 0 'quit after 2056' new.pbm hello.pbm
-try 'a picture, DISPLAY is full'        ''            'run hello.loom none.events saved.loom /dev/full 9999' 11 'write fault: Display' saved.loom drawn.loom
-try 'a picture, DISPLAY is for reading only' ''       'run hello.loom none.events saved.loom /proc/version 9999' 11 'write fault: Display' saved.loom drawn.loom
-try 'a picture, SAVED is full'          ''            'run hello.loom none.events /dev/full display.pbm 9999' 11 'write fault: Saved' saved.loom old.loom
+try 'a picture, DISPLAY is no file yet' ''            'run hello.loom none.events objects saved.loom new.pbm $sizes 9999' 0 'quit after 2056' new.pbm hello.pbm
+try 'a picture, DISPLAY is full'        ''            'run hello.loom none.events objects saved.loom /dev/full $sizes 9999' 11 'write fault: Display' saved.loom drawn.loom
+try 'a picture, DISPLAY is for reading only' ''       'run hello.loom none.events objects saved.loom /proc/version $sizes 9999' 11 'write fault: Display' saved.loom drawn.loom
+try 'a picture, SAVED is full'          ''            'run hello.loom none.events objects /dev/full display.pbm $sizes 9999' 11 'write fault: Saved' saved.loom old.loom
 said=
-try 'no picture, DISPLAY is full'       ''            'run base.loom none.events saved.loom /dev/full 2' 0 'ran 2' saved.loom after.loom
+try 'no picture, DISPLAY is full'       ''            'run base.loom none.events objects saved.loom /dev/full $sizes 2' 0 'ran 2' saved.loom after.loom
 
-# Too few descriptors to hold the places of the standard streams, and just enough: then there is none for IMAGE, for EVENTS,
+# Too few descriptors to hold the places of the standard streams, and just enough: then there is none for WORK, for IMAGE, for EVENTS,
 # for SAVED, and for what is written beside it.
 most=4
 try 'four descriptors'                  ''            "$good" 1  ''      saved.loom old.loom
 most=6
-try 'six descriptors'                   ''            "$good" 9  'read fault: Image' saved.loom old.loom
+try 'six descriptors'                   ''            "$good" 10 'work fault' saved.loom old.loom
 most=7
-try 'seven descriptors'                 ''            "$good" 9  'read fault: Events' saved.loom old.loom
+try 'seven descriptors'                 ''            "$good" 9  'read fault: Image' saved.loom old.loom
 most=8
-try 'eight descriptors'                 ''            "$good" 11 'write fault: Saved' saved.loom old.loom
+try 'eight descriptors'                 ''            "$good" 9  'read fault: Events' saved.loom old.loom
 most=9
 try 'nine descriptors'                  ''            "$good" 11 'write fault: Saved' saved.loom old.loom
 most=10
+try 'ten descriptors'                   ''            "$good" 11 'write fault: Saved' saved.loom old.loom
+most=11
 display=empty
-try 'ten descriptors'                   ''            "$good" 0  'ran 2' saved.loom after.loom
+try 'eleven descriptors'                ''            "$good" 0  'ran 2' saved.loom after.loom
 most=
 
 # Files that can't be read or written.
 display=old
-try 'SAVED is full'                     '' 'run base.loom none.events /dev/full display.pbm 2'   11 'write fault: Saved' saved.loom old.loom
-try 'SAVED is a directory'              '' 'run base.loom none.events directory display.pbm 2'   11 'write fault: Saved' saved.loom old.loom
-try 'SAVED in no directory'             '' 'run base.loom none.events none/saved.loom display.pbm 2' 11 'write fault: Saved' none none
-try 'DISPLAY is a directory'            '' 'run base.loom none.events saved.loom directory 2'    11 'write fault: Display' saved.loom after.loom
-try 'DISPLAY in no directory'           '' 'run base.loom none.events saved.loom none/display 2' 11 'write fault: Display' saved.loom after.loom
-try 'IMAGE is a directory'              '' 'run directory none.events saved.loom display.pbm 2'  9  'read fault: Image'  saved.loom old.loom
-try 'IMAGE is no file'                  '' 'run none.loom none.events saved.loom display.pbm 2'  9  'read fault: Image'  saved.loom old.loom
-try 'IMAGE is empty'                    '' 'run /dev/null none.events saved.loom display.pbm 2'  3  'image: rule 0 at 0' saved.loom old.loom
-try 'IMAGE is no image'                 '' 'run old.loom none.events saved.loom display.pbm 2'   3  'image: rule 0 at 0' saved.loom old.loom
-try 'IMAGE is no image, EVENTS no file' '' 'run old.loom no.events saved.loom display.pbm 2'     3  'image: rule 0 at 0' saved.loom old.loom
-try 'IMAGE and EVENTS are no files'     '' 'run none.loom no.events saved.loom display.pbm 2'    9  'read fault: Image'  saved.loom old.loom
+try 'SAVED is full'                     '' 'run base.loom none.events objects /dev/full display.pbm $sizes 2'   11 'write fault: Saved' saved.loom old.loom
+try 'SAVED is a directory'              '' 'run base.loom none.events objects directory display.pbm $sizes 2'   11 'write fault: Saved' saved.loom old.loom
+try 'SAVED in no directory'             '' 'run base.loom none.events objects none/saved.loom display.pbm $sizes 2' 11 'write fault: Saved' none none
+try 'DISPLAY is a directory'            '' 'run base.loom none.events objects saved.loom directory $sizes 2'    11 'write fault: Display' saved.loom after.loom
+try 'DISPLAY in no directory'           '' 'run base.loom none.events objects saved.loom none/display $sizes 2' 11 'write fault: Display' saved.loom after.loom
+try 'IMAGE is a directory'              '' 'run directory none.events objects saved.loom display.pbm $sizes 2'  9  'read fault: Image'  saved.loom old.loom
+try 'IMAGE is no file'                  '' 'run none.loom none.events objects saved.loom display.pbm $sizes 2'  9  'read fault: Image'  saved.loom old.loom
+try 'IMAGE is empty'                    '' 'run /dev/null none.events objects saved.loom display.pbm $sizes 2'  3  'image: rule 9 at 0' saved.loom old.loom
+try 'IMAGE is no image'                 '' 'run old.loom none.events objects saved.loom display.pbm $sizes 2'   3  'image: rule 1 at 0' saved.loom old.loom
+try 'IMAGE is no image, EVENTS no file' '' 'run old.loom no.events objects saved.loom display.pbm $sizes 2'     3  'image: rule 1 at 0' saved.loom old.loom
+try 'IMAGE and EVENTS are no files'     '' 'run none.loom no.events objects saved.loom display.pbm $sizes 2'    9  'read fault: Image'  saved.loom old.loom
 cat /proc/version >version
-try 'SAVED is for reading only'         '' 'run base.loom none.events /proc/version display.pbm 2' 11 'write fault: Saved' /proc/version version
-try 'stuck'                             '' 'run unused.loom none.events saved.loom display.pbm 2' 5 'stuck: cause 2 after 0' saved.loom old.loom
+try 'SAVED is for reading only'         '' 'run base.loom none.events objects /proc/version display.pbm $sizes 2' 11 'write fault: Saved' /proc/version version
+try 'stuck'                             '' 'run unused.loom none.events objects saved.loom display.pbm $sizes 2' 5 'stuck: cause 2 after 0' saved.loom old.loom
 display=empty
-try 'a million bytecodes'               '' 'run base.loom none.events saved.loom display.pbm 999999' 0 'ran 999999' saved.loom base.loom
+try 'a million bytecodes'               '' 'run base.loom none.events objects saved.loom display.pbm $sizes 999999' 0 'ran 999999' saved.loom million.loom
+
+# WORK is another file by another path, a symbolic link or a hard link. It is made before the others are opened, and none of them is cut.
+display=old
+for file in base.loom kept.events saved.loom display.pbm; do
+    before='cp good.events kept.events'
+    wanted=old.loom
+    case $file in
+        base.loom) role=IMAGE; wanted=$base ;;
+        kept.events) role=EVENTS; wanted=good.events ;;
+        saved.loom) role=SAVED ;;
+        display.pbm) role=DISPLAY ;;
+    esac
+    rest="saved.loom display.pbm \$sizes 2"
+    try "WORK is $role, by another path"         '' "run base.loom kept.events ./$file $rest"            10 'work fault' $file "$wanted"
+    try "WORK is $role, by a longer path"        '' "run base.loom kept.events directory/../$file $rest" 10 'work fault' $file "$wanted"
+    try "WORK is $role, by its whole path"       '' "run base.loom kept.events \"\$work/$file\" $rest"  10 'work fault' $file "$wanted"
+    before="cp good.events kept.events; ln -sf directory/../$file alias"
+    try "WORK is $role, by a symbolic link"      '' "run base.loom kept.events alias $rest"              10 'work fault' $file "$wanted"
+    rm -f alias
+    before="cp good.events kept.events; ln -f $file alias"
+    try "WORK is $role, by a hard link"          '' "run base.loom kept.events alias $rest"              10 'work fault' $file "$wanted"
+    rm -f alias
+    cp "$base" base.loom
+done
+before='ln -sf base.loom alias'
+try 'WORK is IMAGE, which is a symbolic link' '' 'run alias none.events base.loom saved.loom display.pbm $sizes 2' 10 'work fault' base.loom "$base"
+before=
+rm -f alias
+
+# WORK is no file yet, or one of another run, or can't be one.
+display=empty
+try 'WORK is no file yet'               '' "$good" 0 'ran 2' saved.loom after.loom
+before='cp large.loom objects'
+try 'WORK has bytes'                    '' "$good" 0 'ran 2' saved.loom after.loom
+before='ln -sf new.work objects'
+try 'WORK is a link to no file'         '' "$good" 0 'ran 2' saved.loom after.loom
+before='"$loom" run hello.loom none.events objects saved.loom display.pbm $sizes 9999 >/dev/null 2>&1; cp old.loom saved.loom; cp old.loom display.pbm'
+try 'WORK was that of another run'      '' "$good" 0 'ran 2' saved.loom after.loom
+before=
+rm -f new.work
+display=old
+try 'WORK is a directory'               '' 'run base.loom none.events directory saved.loom display.pbm $sizes 2'     10 'work fault' saved.loom old.loom
+try 'WORK in no directory'              '' 'run base.loom none.events none/objects saved.loom display.pbm $sizes 2'  10 'work fault' saved.loom old.loom
+try 'WORK is for reading only'          '' 'run base.loom none.events /proc/version saved.loom display.pbm $sizes 2' 10 'work fault' saved.loom old.loom
+try 'WORK is full'                      '' 'run base.loom none.events /dev/full saved.loom display.pbm $sizes 2'     10 'work fault' saved.loom old.loom
+try 'WORK is standard output'           '' 'run base.loom none.events out saved.loom display.pbm $sizes 2'           10 'work fault' saved.loom old.loom
+try 'WORK is standard error'            '' 'run base.loom none.events notes saved.loom display.pbm $sizes 2'         10 'work fault' saved.loom old.loom
+killed=yes
+try 'WORK is SAVED.part'                '' 'run base.loom none.events saved.loom.part saved.loom display.pbm $sizes 2' 11 'write fault: Saved' saved.loom old.loom
+rm -f saved.loom.part
+killed=
+try 'WORK can not be made, and IMAGE is no file'    '' 'run none.loom none.events none/objects saved.loom display.pbm $sizes 2'  10 'work fault' saved.loom old.loom
+
+# A core and a work file that are too small. The first bytecode reads an array of 5,000 numbers.
+try 'the core has no room for an object' '' 'run wide.loom none.events objects saved.loom display.pbm 4096 512 1024 2' 6 'core full after 0: object 68, 5033 words, 73 entries' saved.loom old.loom
+display=empty
+try 'a larger core has room for it'     '' 'run wide.loom none.events objects saved.loom display.pbm 65536 512 1024 2' 0 'ran 2' saved.loom wider.loom
+display=old
+try 'IMAGE states more objects than ROOM' '' 'run many.loom none.events objects saved.loom display.pbm 4096 512 1024 2' 8 'work full: 1025 objects, room 1024' saved.loom old.loom
 
 # Events.
-try 'EVENTS is the null device'         '' 'run base.loom /dev/null saved.loom display.pbm 2'       0 'ran 2' saved.loom after.loom
+display=empty
+try 'EVENTS is the null device'         '' 'run base.loom /dev/null objects saved.loom display.pbm $sizes 2'       0 'ran 2' saved.loom after.loom
 display=old
-try 'EVENTS is a directory'             '' 'run base.loom directory saved.loom display.pbm 2'       9 'read fault: Events' saved.loom old.loom
-try 'EVENTS is no file'                 '' 'run base.loom no.events saved.loom display.pbm 2'       9 'read fault: Events' saved.loom old.loom
-try 'EVENTS has a count that falls'     '' 'run base.loom falls.events saved.loom display.pbm 2'    4 'events: line 3' saved.loom old.loom
-try 'EVENTS has a word that is too large' '' 'run base.loom large.events saved.loom display.pbm 2'  4 'events: line 1' saved.loom old.loom
-try 'EVENTS has no last newline'        '' 'run base.loom cut.events saved.loom display.pbm 2'      4 'events: line 1' saved.loom old.loom
-try 'EVENTS is IMAGE'                   '' 'run base.loom base.loom saved.loom display.pbm 2'       4 'events: line 1' saved.loom old.loom
-try 'EVENTS is SAVED'                   '' 'run base.loom saved.loom saved.loom display.pbm 2'      4 'events: line 1' saved.loom old.loom
-try 'EVENTS has no end'                 '' 'run base.loom /dev/zero saved.loom display.pbm 2'       4 'events: line 1' saved.loom old.loom
-try 'EVENTS is wrong, and stuck'        '' 'run unused.loom cut.events saved.loom display.pbm 2'    4 'events: line 1' saved.loom old.loom
+try 'EVENTS is a directory'             '' 'run base.loom directory objects saved.loom display.pbm $sizes 2'       9 'read fault: Events' saved.loom old.loom
+try 'EVENTS is no file'                 '' 'run base.loom no.events objects saved.loom display.pbm $sizes 2'       9 'read fault: Events' saved.loom old.loom
+try 'EVENTS has a count that falls'     '' 'run base.loom falls.events objects saved.loom display.pbm $sizes 2'    4 'events: line 3' saved.loom old.loom
+try 'EVENTS has a word that is too large' '' 'run base.loom large.events objects saved.loom display.pbm $sizes 2'  4 'events: line 1' saved.loom old.loom
+try 'EVENTS has no last newline'        '' 'run base.loom cut.events objects saved.loom display.pbm $sizes 2'      4 'events: line 1' saved.loom old.loom
+try 'EVENTS is IMAGE'                   '' 'run base.loom base.loom objects saved.loom display.pbm $sizes 2'       4 'events: line 1' saved.loom old.loom
+try 'EVENTS is SAVED'                   '' 'run base.loom saved.loom objects saved.loom display.pbm $sizes 2'      4 'events: line 1' saved.loom old.loom
+try 'EVENTS has no end'                 '' 'run base.loom /dev/zero objects saved.loom display.pbm $sizes 2'       4 'events: line 1' saved.loom old.loom
+try 'EVENTS is wrong, and stuck'        '' 'run unused.loom cut.events objects saved.loom display.pbm $sizes 2'    4 'events: line 1' saved.loom old.loom
 display=empty
 cp none.events both.events
-try 'EVENTS is SAVED, and right'        '' 'run base.loom both.events both.events display.pbm 2'    0 'ran 2' both.events after.loom
+try 'EVENTS is SAVED, and right'        '' 'run base.loom both.events objects both.events display.pbm $sizes 2'    0 'ran 2' both.events after.loom
 
 # SAVED is IMAGE, and the new image is shorter: it is written from the start, and nothing of the old one is left.
 dead_image both.loom
-try 'IMAGE with two dead objects'       '' 'run both.loom none.events saved.loom display.pbm 2'  0 'ran 2' saved.loom swept.loom
-try 'SAVED is IMAGE'                    '' 'run both.loom none.events both.loom display.pbm 2'   0 'ran 2' both.loom  swept.loom
+try 'IMAGE with two dead objects'       '' 'run both.loom none.events objects saved.loom display.pbm $sizes 2'  0 'ran 2' saved.loom swept.loom
+try 'SAVED is IMAGE'                    '' 'run both.loom none.events objects both.loom display.pbm $sizes 2'   0 'ran 2' both.loom  swept.loom
 dead_image both.loom
 ln -s both.loom link.loom
-try 'SAVED is a link to IMAGE'          '' 'run both.loom none.events link.loom display.pbm 2'   0 'ran 2' both.loom  swept.loom
+try 'SAVED is a link to IMAGE'          '' 'run both.loom none.events objects link.loom display.pbm $sizes 2'   0 'ran 2' both.loom  swept.loom
 display=old
 dead_image both.loom
 patch both.loom 556 '\176'
 cp both.loom dead.loom
-try 'SAVED is IMAGE, stuck'             '' 'run both.loom none.events both.loom display.pbm 3'   5 'stuck: cause 2 after 0' both.loom dead.loom
+try 'SAVED is IMAGE, stuck'             '' 'run both.loom none.events objects both.loom display.pbm $sizes 3'   5 'stuck: cause 2 after 0' both.loom dead.loom
 dead_image both.loom
 cp both.loom dead.loom
-try 'SAVED is IMAGE, wrong events'      '' 'run both.loom cut.events both.loom display.pbm 3'    4 'events: line 1' both.loom dead.loom
+try 'SAVED is IMAGE, wrong events'      '' 'run both.loom cut.events objects both.loom display.pbm $sizes 3'    4 'events: line 1' both.loom dead.loom
 display=empty
-try 'SAVED is IMAGE, streams closed'    '0<&- 1>&- 2>&-' 'run both.loom none.events both.loom display.pbm 2' 11 '' both.loom swept.loom
+try 'SAVED is IMAGE, streams closed'    '0<&- 1>&- 2>&-' 'run both.loom none.events objects both.loom display.pbm $sizes 2' 11 '' both.loom swept.loom
 
 # One file that two words name in different ways: by another path, a symbolic link or a hard link. DISPLAY is then refused
 # before it is cut, and SAVED is whole.
@@ -324,63 +428,63 @@ for file in base.loom kept.events saved.loom; do
         kept.events) role=EVENTS; wanted=good.events ;;
         saved.loom) role=SAVED; wanted=after.loom ;;
     esac
-    words="run base.loom kept.events saved.loom"
-    try "DISPLAY is $role, by another path"      '' "$words ./$file 2"             11 'write fault: Display' $file "$wanted"
-    try "DISPLAY is $role, by a longer path"     '' "$words directory/../$file 2"  11 'write fault: Display' $file "$wanted"
-    try "DISPLAY is $role, by its whole path"    '' "$words \"\$work/$file\" 2"    11 'write fault: Display' $file "$wanted"
+    words="run base.loom kept.events objects saved.loom"
+    try "DISPLAY is $role, by another path"      '' "$words ./$file $sizes 2"             11 'write fault: Display' $file "$wanted"
+    try "DISPLAY is $role, by a longer path"     '' "$words directory/../$file $sizes 2"  11 'write fault: Display' $file "$wanted"
+    try "DISPLAY is $role, by its whole path"    '' "$words \"\$work/$file\" $sizes 2"    11 'write fault: Display' $file "$wanted"
     ln -s $file alias
-    try "DISPLAY is $role, by a symbolic link"   '' "$words alias 2"               11 'write fault: Display' $file "$wanted"
+    try "DISPLAY is $role, by a symbolic link"   '' "$words alias $sizes 2"               11 'write fault: Display' $file "$wanted"
     ln -sf "directory/../$file" alias
-    try "DISPLAY is $role, by a longer symbolic link" '' "$words directory/../alias 2" 11 'write fault: Display' $file "$wanted"
+    try "DISPLAY is $role, by a longer symbolic link" '' "$words directory/../alias $sizes 2" 11 'write fault: Display' $file "$wanted"
     rm alias
 done
 ln base.loom alias
-try 'DISPLAY is IMAGE, by a hard link'           '' 'run base.loom none.events saved.loom alias 2' 11 'write fault: Display' saved.loom after.loom
+try 'DISPLAY is IMAGE, by a hard link'           '' 'run base.loom none.events objects saved.loom alias $sizes 2' 11 'write fault: Display' saved.loom after.loom
 ln -f kept.events alias
-try 'DISPLAY is EVENTS, by a hard link'          '' 'run base.loom kept.events saved.loom alias 2' 11 'write fault: Display' kept.events good.events
+try 'DISPLAY is EVENTS, by a hard link'          '' 'run base.loom kept.events objects saved.loom alias $sizes 2' 11 'write fault: Display' kept.events good.events
 before='ln -f saved.loom alias'
 said=loom
-try 'DISPLAY is SAVED, by a hard link'           '' 'run hello.loom none.events saved.loom alias 9999' 0 'quit after 2056' saved.loom drawn.loom
+try 'DISPLAY is SAVED, by a hard link'           '' 'run hello.loom none.events objects saved.loom alias $sizes 9999' 0 'quit after 2056' saved.loom drawn.loom
 said=
 cmp -s alias hello.pbm
 tell 'what was a hard link of SAVED has the picture' "${?#0}"
 before='ln -f both.loom alias; ln -sf both.loom link.loom'
 dead_image both.loom
-try 'DISPLAY is IMAGE by a hard link, and SAVED is IMAGE' '' 'run both.loom none.events both.loom alias 2' 11 'write fault: Display' both.loom swept.loom
+try 'DISPLAY is IMAGE by a hard link, and SAVED is IMAGE' '' 'run both.loom none.events objects both.loom alias $sizes 2' 11 'write fault: Display' both.loom swept.loom
 before=
 rm -f alias link.loom
 
 # SAVED may be IMAGE or EVENTS, whatever it is called: it takes the place of what was read.
 display=empty
 dead_image both.loom
-try 'SAVED is IMAGE, by another path'   '' 'run both.loom none.events ./both.loom display.pbm 2' 0 'ran 2' both.loom swept.loom
+try 'SAVED is IMAGE, by another path'   '' 'run both.loom none.events objects ./both.loom display.pbm $sizes 2' 0 'ran 2' both.loom swept.loom
 dead_image both.loom
 ln -s directory/../both.loom alias
-try 'SAVED is IMAGE, by a longer symbolic link' '' 'run both.loom none.events alias display.pbm 2' 0 'ran 2' both.loom swept.loom
+try 'SAVED is IMAGE, by a longer symbolic link' '' 'run both.loom none.events objects alias display.pbm $sizes 2' 0 'ran 2' both.loom swept.loom
 [ -h alias ]
 tell 'the symbolic link is still one' "${?#0}"
 dead_image both.loom
 cp both.loom dead.loom
 ln -f both.loom alias
-try 'SAVED is IMAGE, by a hard link'    '' 'run both.loom none.events alias display.pbm 2' 0 'ran 2' alias swept.loom
+try 'SAVED is IMAGE, by a hard link'    '' 'run both.loom none.events objects alias display.pbm $sizes 2' 0 'ran 2' alias swept.loom
 cmp -s both.loom dead.loom
 tell 'the other hard link has the old image' "${?#0}"
 cp good.events both.events
-try 'SAVED is EVENTS, by another path'  '' 'run base.loom both.events ./both.events display.pbm 2' 0 'ran 2' both.events after.loom
+try 'SAVED is EVENTS, by another path'  '' 'run base.loom both.events objects ./both.events display.pbm $sizes 2' 0 'ran 2' both.events after.loom
 rm -f alias
 ln -s new.loom alias
-try 'SAVED is a link to no file'        '' 'run base.loom none.events alias display.pbm 2' 0 'ran 2' new.loom after.loom
+try 'SAVED is a link to no file'        '' 'run base.loom none.events objects alias display.pbm $sizes 2' 0 'ran 2' new.loom after.loom
 ln -sf new.pbm alias
 display=old
-try 'DISPLAY is a link to no file'      '' 'run base.loom none.events saved.loom alias 2' 0 'ran 2' new.pbm empty
+try 'DISPLAY is a link to no file'      '' 'run base.loom none.events objects saved.loom alias $sizes 2' 0 'ran 2' new.pbm empty
 rm -f alias
 
 # A file that a standard stream goes to.
 said=hi
-try 'DISPLAY is standard output'        '' 'run say.loom none.events saved.loom out 3'         11 'write fault: Display' saved.loom said.loom
-try 'DISPLAY is /dev/stdout'            '' 'run say.loom none.events saved.loom /dev/stdout 3' 11 'write fault: Display' saved.loom said.loom
-try 'DISPLAY is standard error'         '' 'run say.loom none.events saved.loom notes 3'       11 'write fault: Display' saved.loom said.loom
-try 'SAVED is standard output'          '' 'run say.loom none.events out display.pbm 3'        11 'write fault: Saved'   saved.loom old.loom
+try 'DISPLAY is standard output'        '' 'run say.loom none.events objects saved.loom out $sizes 3'         11 'write fault: Display' saved.loom said.loom
+try 'DISPLAY is /dev/stdout'            '' 'run say.loom none.events objects saved.loom /dev/stdout $sizes 3' 11 'write fault: Display' saved.loom said.loom
+try 'DISPLAY is standard error'         '' 'run say.loom none.events objects saved.loom notes $sizes 3'       11 'write fault: Display' saved.loom said.loom
+try 'SAVED is standard output'          '' 'run say.loom none.events objects out display.pbm $sizes 3'        11 'write fault: Saved'   saved.loom old.loom
 said=
 
 # What SAVED is written under, until it has its name.
@@ -390,12 +494,12 @@ try 'SAVED.part was left by a run that was killed' '' "$good" 0 'ran 2' saved.lo
 display=old
 before='cp base.loom saved.loom.part'
 killed=yes
-try 'IMAGE is SAVED.part'               '' 'run saved.loom.part none.events saved.loom display.pbm 2' 11 'write fault: Saved' saved.loom.part base.loom
+try 'IMAGE is SAVED.part'               '' 'run saved.loom.part none.events objects saved.loom display.pbm $sizes 2' 11 'write fault: Saved' saved.loom.part base.loom
 before='ln -f base.loom saved.loom.part'
 try 'SAVED.part is a hard link of IMAGE' '' "$good" 11 'write fault: Saved' saved.loom old.loom
 rm saved.loom.part
 before='cp good.events saved.loom.part'
-try 'EVENTS is SAVED.part'              '' 'run base.loom saved.loom.part saved.loom display.pbm 2' 11 'write fault: Saved' saved.loom.part good.events
+try 'EVENTS is SAVED.part'              '' 'run base.loom saved.loom.part objects saved.loom display.pbm $sizes 2' 11 'write fault: Saved' saved.loom.part good.events
 before='rm saved.loom.part; mkdir saved.loom.part'
 try 'SAVED.part is a directory'         '' "$good" 11 'write fault: Saved' saved.loom old.loom
 rmdir saved.loom.part
@@ -416,29 +520,30 @@ for wanted in -rw------- -rw-r----- -rwxrwxrwx; do
 done
 before=
 
-# A limit on the size of files, with the signal that comes with it, and without.
+# A limit on the size of files, with the signal that comes with it, and without. The work file is at least as large as the image, so it
+# is the one that meets it.
 display=old
 inner="trap '' XFSZ; ulimit -f 500;"
-try 'a limit, SAVED'                    '' 'run large.loom none.events saved.loom display.pbm 2' 11 'write fault: Saved' saved.loom old.loom
+try 'a limit, WORK'                     '' 'run large.loom none.events objects saved.loom display.pbm $sizes 2' 10 'work fault' saved.loom old.loom
 cp large.loom both.loom
-try 'a limit, SAVED is IMAGE'           '' 'run both.loom none.events both.loom display.pbm 2'   11 'write fault: Saved' both.loom large.loom
+try 'a limit, SAVED is IMAGE'           '' 'run both.loom none.events objects both.loom display.pbm $sizes 2'   10 'work fault' both.loom large.loom
 inner='ulimit -f 500;'
-killed=yes
-try 'a limit and its signal, SAVED is IMAGE' '' 'run both.loom none.events both.loom display.pbm 2' 153 '' both.loom large.loom
-rm -f both.loom.part
-killed=
+try 'a limit and its signal, SAVED is IMAGE' '' 'run both.loom none.events objects both.loom display.pbm $sizes 2' 153 '' both.loom large.loom
 inner=
 
 # A disk that has no room.
 mkdir small
 if mount -t tmpfs -o size=1500k small small 2>/dev/null; then
     cp old.loom large.loom small
-    try 'a full disk, SAVED'            '' 'run large.loom none.events small/old.loom display.pbm 2'        11 'write fault: Saved' small/old.loom old.loom
-    try 'a full disk, SAVED is new'     '' 'run large.loom none.events small/new.loom display.pbm 2'        11 'write fault: Saved' small/new.loom none
-    try 'a full disk, SAVED is IMAGE'   '' 'run small/large.loom none.events small/large.loom display.pbm 2' 11 'write fault: Saved' small/large.loom large.loom
+    try 'a full disk, SAVED'            '' 'run large.loom none.events objects small/old.loom display.pbm $sizes 2'        11 'write fault: Saved' small/old.loom old.loom
+    try 'a full disk, SAVED is new'     '' 'run large.loom none.events objects small/new.loom display.pbm $sizes 2'        11 'write fault: Saved' small/new.loom none
+    try 'a full disk, SAVED is IMAGE'   '' 'run small/large.loom none.events objects small/large.loom display.pbm $sizes 2' 11 'write fault: Saved' small/large.loom large.loom
+    try 'a full disk, WORK'             '' 'run small/large.loom none.events small/objects saved.loom display.pbm $sizes 2' 10 'work fault' saved.loom old.loom
+    try 'a full disk, WORK, and SAVED is IMAGE' '' 'run small/large.loom none.events small/objects small/large.loom display.pbm $sizes 2' 10 'work fault' small/large.loom large.loom
+    rm -f small/objects
     dd if=/dev/zero of=small/filler bs=4096 2>/dev/null
     said=loom
-    try 'a full disk, DISPLAY is new'   '' 'run hello.loom none.events saved.loom small/new.pbm 9999'       11 'write fault: Display' saved.loom drawn.loom
+    try 'a full disk, DISPLAY is new'   '' 'run hello.loom none.events objects saved.loom small/new.pbm $sizes 9999'       11 'write fault: Display' saved.loom drawn.loom
     said=
     umount small
 else
@@ -455,10 +560,11 @@ fi
 if $as test -x "$loom" 2>/dev/null && ! $as test -w closed; then
     before='chmod 666 saved.loom display.pbm'
     display=empty
-    try 'a closed folder, SAVED'        '' 'run base.loom none.events closed/saved.loom display.pbm 2' 0 'ran 2' closed/saved.loom after.loom
+    try 'a closed folder, SAVED'        '' 'run base.loom none.events objects closed/saved.loom display.pbm $sizes 2' 0 'ran 2' closed/saved.loom after.loom
     display=old
-    try 'a closed folder, SAVED is new' '' 'run base.loom none.events closed/new.loom display.pbm 2'   11 'write fault: Saved' closed/new.loom none
-    try 'a closed folder, SAVED is IMAGE' '' 'run closed/image.loom none.events closed/image.loom display.pbm 2' 11 'write fault: Saved' closed/image.loom base.loom
+    try 'a closed folder, SAVED is new' '' 'run base.loom none.events objects closed/new.loom display.pbm $sizes 2'   11 'write fault: Saved' closed/new.loom none
+    try 'a closed folder, WORK is new'  '' 'run base.loom none.events closed/objects saved.loom display.pbm $sizes 2' 10 'work fault' closed/objects none
+    try 'a closed folder, SAVED is IMAGE' '' 'run closed/image.loom none.events objects closed/image.loom display.pbm $sizes 2' 11 'write fault: Saved' closed/image.loom base.loom
     before='chmod 444 saved.loom'
     try 'SAVED may only be read'        '' "$good" 11 'write fault: Saved' saved.loom old.loom
     before=
@@ -467,19 +573,48 @@ else
 fi
 as=
 
-# Calls of the system that fail, by a tracer that answers them. SAVED is synced, then its folder, and then DISPLAY.
+# Calls of the system that fail, by a tracer that answers them. WORK is synced before IMAGE, EVENTS and SAVED are opened; then SAVED is
+# synced, its folder, WORK once more, and DISPLAY.
 as='strace -o trace -e trace=none -e'
 if $as inject=chroot:error=EIO true 2>/dev/null; then
     display=old
-    as='strace -o trace -e inject=fsync:error=EIO:when=1'
+    as='strace -o trace -e inject=fsync:error=EIO:when=3'
+    try 'WORK is not synced'            '' "$good" 11 'write fault: Saved' saved.loom old.loom
+    as='strace -o trace -e inject=fsync:error=EIO:when=4'
     try 'SAVED is not synced'           '' "$good" 11 'write fault: Display' saved.loom old.loom
     as='strace -o trace -e inject=?rename,?renameat,?renameat2:error=EIO'
     try 'SAVED gets no name'            '' "$good" 11 'write fault: Display' saved.loom old.loom
-    as='strace -o trace -e inject=fsync:error=EIO:when=2'
+    as='strace -o trace -e inject=fsync:error=EIO:when=5'
     try 'the name of SAVED is not synced' '' "$good" 11 'write fault: Display' saved.loom after.loom
     display=empty
-    as='strace -o trace -e inject=fsync:error=EIO:when=3'
+    as='strace -o trace -e inject=fsync:error=EIO:when=7'
     try 'DISPLAY is not synced'         '' "$good" 11 'write fault: Display' saved.loom after.loom
+
+    # A disk that is full at one write to WORK: at the first, which is in loading; at the first behind the opening of EVENTS, which is a
+    # purge while the machine runs; and at the last before SAVED is opened, in finishing. None of them touches SAVED or DISPLAY.
+    display=old
+    printf '1000 purge\n' >purge.events
+    purged='run hello.loom purge.events objects saved.loom display.pbm $sizes 9999'
+    rm -f objects saved.loom
+    eval "strace -o writes -e trace=write,openat \"\$loom\" $purged" </dev/null >/dev/null 2>&1
+    numbers=$(awk '
+        /^write\(/ { count++ }
+        /^write\(/ && !/^write\(1,/ { if (!loading) loading = count; if (events && !running) running = count; finishing = count }
+        /purge\.events/ { events = 1 }
+        /saved\.loom/ { print loading, running, finishing; exit }' writes)
+    set -- $numbers
+    if [ $# = 3 ]; then
+        as="strace -o trace -e inject=write:error=ENOSPC:when=$1"
+        try 'a disk that is full while the image is read' '' "$purged" 10 'work fault' saved.loom old.loom
+        said=loom
+        as="strace -o trace -e inject=write:error=ENOSPC:when=$2"
+        try 'a disk that is full while the machine runs' '' "$purged" 10 'work fault' saved.loom old.loom
+        as="strace -o trace -e inject=write:error=ENOSPC:when=$3"
+        try 'a disk that is full while the memory is wound up' '' "$purged" 10 'work fault' saved.loom old.loom
+        said=
+    else
+        tell 'a disk that is full at a write' "the writes of a run are '$numbers'"
+    fi
 else
     skip 'calls that fail' 'no tracer runs'
 fi
@@ -498,7 +633,7 @@ save_over() {
     rm -f both.loom both.loom.part display.pbm
     cp large.loom both.loom
     touch -t 200001010000 both.loom mark
-    "$loom" run both.loom none.events both.loom display.pbm 2 </dev/null >out 2>notes &
+    "$loom" run both.loom none.events objects both.loom display.pbm $sizes 2 </dev/null >out 2>notes &
     run=$!
     turns=0
     until [ -e both.loom.part ] || [ both.loom -nt mark ] || [ "$turns" -gt 1000000 ]; do
@@ -533,27 +668,47 @@ rm -f both.loom.part
 
 # Words that are missing, extra or bad.
 display=old
+files='base.loom none.events objects saved.loom display.pbm'
 not_text=$(printf '\377')
-try 'no words'                          '' ''                                                    2 'usage: word 1' saved.loom old.loom
-try 'one word'                          '' 'run'                                                 2 'usage: word 2' saved.loom old.loom
-try 'two words'                         '' 'run base.loom'                                       2 'usage: word 3' saved.loom old.loom
-try 'three words'                       '' 'run base.loom none.events'                           2 'usage: word 4' saved.loom old.loom
-try 'four words'                        '' 'run base.loom none.events saved.loom'                2 'usage: word 5' saved.loom old.loom
-try 'five words'                        '' 'run base.loom none.events saved.loom display.pbm'    2 'usage: word 6' saved.loom old.loom
-try 'seven words'                       '' "$good 2"                                             2 'usage: word 7' saved.loom old.loom
-try 'another command'                   '' '--help'                                              2 'usage: word 1' saved.loom old.loom
-try 'the version'                       '' '--version'                                           2 'usage: word 1' saved.loom old.loom
-try 'a command in capitals'             '' 'RUN base.loom none.events saved.loom display.pbm 2'  2 'usage: word 1' saved.loom old.loom
-try 'STEPS with a leading zero'         '' 'run base.loom none.events saved.loom display.pbm 02' 2 'usage: word 6' saved.loom old.loom
-try 'STEPS with a sign'                 '' 'run base.loom none.events saved.loom display.pbm -1' 2 'usage: word 6' saved.loom old.loom
-try 'STEPS is too large'                '' 'run base.loom none.events saved.loom display.pbm 2147483648' 2 'usage: word 6' saved.loom old.loom
-try 'STEPS is empty'                    '' 'run base.loom none.events saved.loom display.pbm ""' 2 'usage: word 6' saved.loom old.loom
-try 'DISPLAY is IMAGE'                  '' 'run base.loom none.events saved.loom base.loom 2'    2 'usage: word 5' saved.loom old.loom
-try 'DISPLAY is EVENTS'                 '' 'run base.loom none.events saved.loom none.events 2'  2 'usage: word 5' none.events empty
-try 'DISPLAY is SAVED'                  '' 'run base.loom none.events saved.loom saved.loom 2'   2 'usage: word 5' saved.loom old.loom
-try 'DISPLAY is IMAGE, STEPS is bad'    '' 'run base.loom none.events saved.loom base.loom x'    2 'usage: word 5' saved.loom old.loom
-try 'DISPLAY is IMAGE, no STEPS'        '' 'run base.loom none.events saved.loom base.loom'      2 'usage: word 5' saved.loom old.loom
-try 'a word that is no text'            '' 'run base.loom none.events saved.loom display.pbm "$not_text"' 2 'usage: word 1' saved.loom old.loom
+try 'no words'                          '' ''                                        2 'usage: word 1' saved.loom old.loom
+try 'one word'                          '' 'run'                                     2 'usage: word 2' saved.loom old.loom
+try 'two words'                         '' 'run base.loom'                           2 'usage: word 3' saved.loom old.loom
+try 'three words'                       '' 'run base.loom none.events'               2 'usage: word 4' saved.loom old.loom
+try 'four words'                        '' 'run base.loom none.events objects'       2 'usage: word 5' saved.loom old.loom
+try 'five words'                        '' 'run base.loom none.events objects saved.loom' 2 'usage: word 6' saved.loom old.loom
+try 'six words'                         '' 'run $files'                              2 'usage: word 7' saved.loom old.loom
+try 'seven words'                       '' 'run $files 4096'                         2 'usage: word 8' saved.loom old.loom
+try 'eight words'                       '' 'run $files 4096 512'                     2 'usage: word 9' saved.loom old.loom
+try 'nine words'                        '' 'run $files 4096 512 1024'                2 'usage: word 10' saved.loom old.loom
+try 'eleven words'                      '' "$good 2"                                 2 'usage: word 11' saved.loom old.loom
+try 'the five words of an image, events and two files' '' 'run base.loom none.events saved.loom display.pbm 2' 2 'usage: word 7' saved.loom old.loom
+try 'another command'                   '' '--help'                                  2 'usage: word 1' saved.loom old.loom
+try 'the version'                       '' '--version'                               2 'usage: word 1' saved.loom old.loom
+try 'a command in capitals'             '' 'RUN $files $sizes 2'                     2 'usage: word 1' saved.loom old.loom
+try 'CORE is too small'                 '' 'run $files 4095 512 1024 2'              2 'usage: word 7' saved.loom old.loom
+try 'CORE is too large'                 '' 'run $files 16777217 512 1024 2'          2 'usage: word 7' saved.loom old.loom
+try 'CORE with a leading zero'          '' 'run $files 04096 512 1024 2'             2 'usage: word 7' saved.loom old.loom
+try 'ENTRIES is too small'              '' 'run $files 4096 511 1024 2'              2 'usage: word 8' saved.loom old.loom
+try 'ENTRIES is too large'              '' 'run $files 4096 32768 1024 2'            2 'usage: word 8' saved.loom old.loom
+try 'ENTRIES with a sign'               '' 'run $files 4096 +512 1024 2'             2 'usage: word 8' saved.loom old.loom
+try 'ROOM is too small'                 '' 'run $files 4096 512 1023 2'              2 'usage: word 9' saved.loom old.loom
+try 'ROOM is too large'                 '' 'run $files 4096 512 1048577 2'           2 'usage: word 9' saved.loom old.loom
+try 'ROOM is empty'                     '' 'run $files 4096 512 "" 2'                2 'usage: word 9' saved.loom old.loom
+try 'STEPS with a leading zero'         '' 'run $files $sizes 02'                    2 'usage: word 10' saved.loom old.loom
+try 'STEPS with a sign'                 '' 'run $files $sizes -1'                    2 'usage: word 10' saved.loom old.loom
+try 'STEPS is too large'                '' 'run $files $sizes 2147483648'            2 'usage: word 10' saved.loom old.loom
+try 'STEPS is empty'                    '' 'run $files $sizes ""'                    2 'usage: word 10' saved.loom old.loom
+try 'WORK is IMAGE'                     '' 'run base.loom none.events base.loom saved.loom display.pbm $sizes 2' 2 'usage: word 4' saved.loom old.loom
+try 'WORK is EVENTS'                    '' 'run base.loom good.events good.events saved.loom display.pbm $sizes 2' 2 'usage: word 4' saved.loom old.loom
+try 'WORK is SAVED'                     '' 'run base.loom none.events saved.loom saved.loom display.pbm $sizes 2' 2 'usage: word 5' saved.loom old.loom
+try 'WORK is DISPLAY'                   '' 'run base.loom none.events display.pbm saved.loom display.pbm $sizes 2' 2 'usage: word 6' saved.loom old.loom
+try 'DISPLAY is IMAGE'                  '' 'run base.loom none.events objects saved.loom base.loom $sizes 2' 2 'usage: word 6' saved.loom old.loom
+try 'DISPLAY is EVENTS'                 '' 'run base.loom none.events objects saved.loom none.events $sizes 2' 2 'usage: word 6' none.events empty
+try 'DISPLAY is SAVED'                  '' 'run base.loom none.events objects saved.loom saved.loom $sizes 2' 2 'usage: word 6' saved.loom old.loom
+try 'DISPLAY is IMAGE, STEPS is bad'    '' 'run base.loom none.events objects saved.loom base.loom $sizes x' 2 'usage: word 6' saved.loom old.loom
+try 'DISPLAY is IMAGE, no STEPS'        '' 'run base.loom none.events objects saved.loom base.loom $sizes' 2 'usage: word 6' saved.loom old.loom
+try 'WORK is IMAGE, and so is DISPLAY'  '' 'run base.loom none.events base.loom saved.loom base.loom $sizes 2' 2 'usage: word 4' saved.loom old.loom
+try 'a word that is no text'            '' 'run base.loom none.events objects saved.loom display.pbm $sizes "$not_text"' 2 'usage: word 1' saved.loom old.loom
 
 if [ "$failed" -gt 0 ]; then
     echo "edge: $passed passed, $failed failed"

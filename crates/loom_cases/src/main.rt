@@ -1,33 +1,14 @@
-//! Runs the cases of the whole program, and prints each in which it answers otherwise than is wanted.
-//!
-//! A case is an image with what a run of so many bytecodes answers, role by role. The cases stand in files of data/, with the
-//! answers of a reference machine that was written apart from this program; what this stage of the program still answers otherwise
-//! is said in `stage`, in one function. A line is printed for each case that can't be read or differs, and one for each file with
-//! the number of its cases, so nothing is left out silently. What has to come out is that no case differs but those of the last
+//! Runs the cases of bytecodes and sends, of event files and of images. What has to come out is that no case differs but those of the last
 //! file, which are wrong on purpose.
 //!
-//! The files lie where the program runs, or in the folder that its first word names.
+//! The files lie where the program runs, or in the folder that its first word names. With a second word each case is run on the largest core
+//! too, and else each eighth.
 #![tactic(auto)]
 
-mod answer;
-mod case;
-mod edits;
-mod files;
-mod paragraph;
-mod pieces;
-mod report;
-mod run;
-mod stage;
+use case_runs::{Largest, report_all};
+use std::{env, io};
 
-use crate::report::report;
-use std::path::Path;
-use std::{env, fs, io};
-
-/// The image that most cases change.
-const BASE: &str = "base.loom";
-
-/// The files of cases. Those of the last are wrong on purpose: each has to be reported.
-const FILES: [&str; 56] = [
+const FILES: [&str; 34] = [
     "runs.cases",
     "start.cases",
     "blocks.cases",
@@ -50,32 +31,7 @@ const FILES: [&str; 56] = [
     "untold.cases",
     "cannot_return.cases",
     "must_be_boolean.cases",
-    "tries.cases",
-    "integers.cases",
-    "large_integers.cases",
-    "elements.cases",
-    "strings.cases",
-    "streams.cases",
-    "storage.cases",
-    "becomes.cases",
-    "long_arrays.cases",
-    "own_objects.cases",
-    "methods.cases",
-    "block_copies.cases",
-    "values.cases",
-    "performs.cases",
-    "flushes.cases",
-    "semaphores.cases",
-    "processes.cases",
-    "three_processes.cases",
-    "quits.cases",
     "event_files.cases",
-    "inputs.cases",
-    "clocks.cases",
-    "displays.cases",
-    "transcripts.cases",
-    "blits.cases",
-    "purges.cases",
     "kept.cases",
     "image_rules.cases",
     "image_objects.cases",
@@ -83,18 +39,18 @@ const FILES: [&str; 56] = [
     "bytes_2_more.cases",
     "bytes_128_more.cases",
     "cuts.cases",
+    "states.cases",
+    "core_refusals.cases",
+    "large_image.cases",
     "wrong.cases",
 ];
 
 fn main(rt: HostRuntime) -> io::Result<()> {
-    let word = env::args(&rt)?.nth(1).unwrap_or(String::new(rt.alloc()));
-    let folder = Path::new(word.as_str());
-    let base = match fs::read(&rt, folder.join(rt.alloc(), BASE)?) {
-        Ok(base) => base,
-        Err(error) => return println!(rt; "{BASE}: {error}"),
+    let mut words = env::args(&rt)?;
+    let folder = words.nth(1).unwrap_or(String::new(rt.alloc()));
+    let largest = match words.next() {
+        Some(_) => Largest::Each,
+        None => Largest::Eighth,
     };
-    for file in FILES {
-        report(&rt, folder, file, &base)?;
-    }
-    Ok(())
+    report_all(&rt, folder.as_str(), &FILES, largest)
 }

@@ -2,7 +2,8 @@
 //!
 //! `answer` says that the process ends with the code of a status which `loom` promises for the words after the program's name
 //! (`promised`), or with 12 and the host as it was where memory for them is refused (`refused`). Before anything else the standard
-//! streams that are closed are filled with the null device, so that no file of the run becomes one.
+//! streams that are closed are filled with the null device, so that no file of the run becomes one, and the host is told which files the
+//! run will have, so that its work file becomes none of them.
 //!
 //! There is no other code here: read `specs/Promise.antt` of `loom_run`. What files and streams do isn't promised; `tests/edge.sh` tries
 //! the program on them.
@@ -19,12 +20,12 @@ ghost use Rattle.loom_run.specs.Promise.{Promise};
 ghost use Rattle.loom_run.specs.Status.{code_of};
 ghost use Rattle.loom_run.specs.Words.{texts_of};
 
-use loom_outside::{Host, RealHost};
+use loom_outside::{Host, RealHost, Role};
 use loom_run::{Status, loom};
 use std::alloc::{AllocError, Global};
 use std::env::{self, Args};
 use std::fs::File;
-use std::io::{self, ErrorKind};
+use std::io::{self, ErrorKind, Write};
 use std::process::ExitCode;
 use std::rt::Files;
 
@@ -69,11 +70,34 @@ fn answer<H: Host>(alloc: Global, host: &mut H, words: Result<Vec<String>, Alloc
     ExitCode::from(status.code())
 }
 
+// The files of a run beside the work file, with their places among the words.
+const FILES: [(Role, usize); 4] = [
+    (Role::Image, 1),
+    (Role::Events, 2),
+    (Role::Saved, 4),
+    (Role::Display, 5),
+];
+
+// Tells the host which files a run will have, so that the work file, which is made first, takes the place of none of them.
+fn expect_files<R: Files + Alloc, T: Write, N: Write>(
+    host: &mut RealHost<R, T, N>,
+    words: &[String],
+) {
+    for (role, place) in FILES {
+        if let Some(word) = words.get(place) {
+            host.expect(role, word.as_str());
+        }
+    }
+}
+
 fn main(rt: HostRuntime) -> ExitCode {
     let Ok(_streams) = fill_streams(&rt) else {
         return ExitCode::FAILURE;
     };
     let words = words_of(rt.alloc(), env::args(&rt));
     let mut host = RealHost::new(rt, rt.stdout(), rt.stderr());
+    if let Ok(words) = &words {
+        expect_files(&mut host, words);
+    }
     answer(rt.alloc(), &mut host, words)
 }

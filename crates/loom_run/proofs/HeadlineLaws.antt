@@ -1,49 +1,110 @@
 -- What the promise gives of a run that answers Done or Quit.
-use Rattle.std.proofs.Common.{◌≡◌, ℕ, Bool, List, refl, ◌∙◌, ap}
+use Rattle.std.proofs.Common.{◌≡◌, ℕ, ◌≤◌, ◌++◌, Bool, List, None, true, IsTrue, refl, ◌∙◌, ap, subst}
 use Rattle.loom_outside.specs.declared.outside.Role.{Role}
-use Rattle.loom_outside.specs.declared.outside.Role.TheVariants.{Image, Events, Saved, Display, Transcript}
-use Rattle.loom_outside.specs.Outside.{RoleState}
-use Rattle.long_names.specs.Heap.{Heap}
-use Rattle.image_format.specs.Text.{image_text}
-use Rattle.image_format.specs.Valid.{IsImageHeap}
-use Rattle.blue_model.specs.declared.event.Line.{Line}
+use Rattle.loom_outside.specs.declared.outside.Role.TheVariants.{Image, Events, Work, Saved, Display, Transcript}
 use Rattle.blue_model.specs.declared.step.Step.{Step}
 use Rattle.blue_model.specs.declared.step.Step.TheVariants.{Next, Quit}
-use Rattle.blue_model.specs.State.{no_state}
 use Rattle.blue_model.specs.Cycle.{Ending, Parked, Stuck, ending}
-use Rattle.blue_model.specs.Endings.{IsParkedBy, said_in}
-use Rattle.loom_outside.specs.Outside.{puts}
-use Rattle.loom_run.specs.Headline.{HasHeadline, HeadlineBy, TellsHeadline}
+use Rattle.blue_model.specs.Endings.{IsParkedBy, OnDrawn, OnParked, said_in}
+use Rattle.blue_model.specs.Logs.{AreWithin, rows_of_bytecode}
+use Rattle.blue_model.specs.State.{State}
+use Rattle.blue_model.specs.declared.event.Line.{Line}
+use Rattle.blue_model.proofs.LargestLaws.{whole_within, within_more}
+use Rattle.long_names.specs.Heap.{Heap}
+use Rattle.machine_run.specs.States.{model_state}
+use Rattle.loom_run.specs.Ends.{RunOf, RunsTo, WrittenBy, bytes_of, image_of}
+use Rattle.loom_run.specs.Headline.{HasHeadline, HasSmall, HeadlineBy, SmallBy, TellsHeadline}
 use Rattle.loom_run.specs.Meanings.{Meanings}
-use Rattle.loom_run.specs.Promise.{Promise}
-use Rattle.loom_run.specs.Top.{AreEvents, Draws, RunOf, RunsBy, Saves, bytes_of}
-use Rattle.loom_run.specs.Words.{saved_word, display_word, steps_of}
+use Rattle.loom_run.specs.Promise.{EndsAt, Promise}
+use Rattle.loom_run.specs.Stages.{Stage, Opening, Reading, Listening, Making, Running, Finishing, Saving, Drawing, Telling, Ends}
+use Rattle.loom_run.specs.Words.{Row, bad_word, row_of}
 use Rattle.loom_run.specs.declared.status.Status.{Status}
 use Rattle.loom_run.specs.declared.status.Status.TheVariants as answer
 
--- a run that was parked, and what was written of it
-parked : (before now : Meanings) (steps ran : ℕ) (end : Step) (saved display : List ℕ) (heap : Heap) (lines : List Line) (run : Ending) → IsImageHeap heap → bytes_of (now.roles Image) ≡ image_text heap → AreEvents (bytes_of (now.roles Events)) lines → ending lines steps no_state heap ≡ run → IsParkedBy end ran run → now.roles Transcript ≡ puts (said_in run) (before.roles Transcript) → Saves run saved (before.roles Saved) (now.roles Saved) → Draws run display (before.roles Display) (now.roles Display) → HasHeadline before now steps end
-parked before now steps ran end saved display heap lines (Stuck why count said) is text are e by says saves draws = absurd by
-parked before now steps ran end saved display heap lines (Parked last machine picture) is text are e by says saves draws = (
-  heap,
-  lines,
-  machine,
-  picture,
-  record {
-    image = (is, text);
-    events = are;
-    ending = e ∙ ap (λ (s : Step). Parked s machine picture) by.0;
-    transcript = ap (λ (s : RoleState). s.put) says;
-    saved = saves.put;
-    display = draws.put;
-  },
-)
+-- Done and Quit come at the last stage alone
+pub done-last : (stage : Stage) (ran : ℕ) → Ends stage (answer.Done ran) → stage ≡ Telling
+done-last Opening ran h = absurd h
+done-last Reading ran h = absurd h
+done-last Listening ran h = absurd h
+done-last Making ran h = absurd h
+done-last Running ran h = absurd h
+done-last Finishing ran h = absurd h
+done-last Saving ran h = absurd h
+done-last Drawing ran h = absurd h
+done-last Telling ran h = refl
 
-pub headline_from : (tells : Role → Bool) (before now : Meanings) (words : List (List ℕ)) (result : Status) → TellsHeadline tells → Promise tells before now words result → HeadlineBy result before now (steps_of words)
-headline_from tells before now words (answer.Done ran) told p =
-    let r : RunOf (bytes_of (now.roles Image)) (bytes_of (now.roles Events)) (steps_of words) (RunsBy tells before now (saved_word words) (display_word words) (answer.Done ran)) = p.run told.image told.events tt in
-    parked before now (steps_of words) ran Next (saved_word words) (display_word words) r.heap r.lines (ending r.lines (steps_of words) no_state r.heap) r.is r.text r.list refl r.run.judged (r.run.says told.transcript) (r.run.saves told.saved) (r.run.draws told.display)
-headline_from tells before now words (answer.Quit ran) told p =
-    let r : RunOf (bytes_of (now.roles Image)) (bytes_of (now.roles Events)) (steps_of words) (RunsBy tells before now (saved_word words) (display_word words) (answer.Quit ran)) = p.run told.image told.events tt in
-    parked before now (steps_of words) ran Quit (saved_word words) (display_word words) r.heap r.lines (ending r.lines (steps_of words) no_state r.heap) r.is r.text r.list refl r.run.judged (r.run.says told.transcript) (r.run.saves told.saved) (r.run.draws told.display)
-headline_from tells before now words _ told p = tt
+pub quit-last : (stage : Stage) (ran : ℕ) → Ends stage (answer.Quit ran) → stage ≡ Telling
+quit-last Opening ran h = absurd h
+quit-last Reading ran h = absurd h
+quit-last Listening ran h = absurd h
+quit-last Making ran h = absurd h
+quit-last Running ran h = absurd h
+quit-last Finishing ran h = absurd h
+quit-last Saving ran h = absurd h
+quit-last Drawing ran h = absurd h
+quit-last Telling ran h = refl
+
+-- a run that was parked, and what was written of it
+module _ (tells : Role → Bool) (before now : Meanings) (row : Row) (status : Status) (told : TellsHeadline tells) (ran : ℕ) (end : Step) where
+  parked : (r : RunOf (bytes_of (now.roles Image)) (bytes_of (now.roles Events)) row.steps (RunsTo tells before now row Telling status)) (e : Ending) → ending r.lines row.steps (model_state r.head.state) r.heap ≡ e → IsParkedBy end ran e → (now.roles Transcript).put ≡ (before.roles Transcript).put ++ said_in e
+      → OnParked e (λ m. WrittenBy true row.saved (image_of m) (before.roles Saved) (now.roles Saved)) → OnDrawn e (λ picture. WrittenBy true row.display picture (before.roles Display) (now.roles Display)) → HasHeadline before now row.steps end
+  parked r (Stuck why count said) same by says saves draws = absurd by
+  parked r (Parked last machine picture) same by says saves draws = (
+    r.head,
+    r.heap,
+    r.lines,
+    machine,
+    picture,
+    record {
+      image = r.is;
+      events = r.list;
+      ending = same ∙ ap (λ (s : Step). Parked s machine picture) by.0;
+      transcript = says;
+      saved = saves.put;
+      display = draws.put;
+    },
+  )
+
+  of-run : (r : RunOf (bytes_of (now.roles Image)) (bytes_of (now.roles Events)) row.steps (RunsTo tells before now row Telling status)) → IsParkedBy end ran (ending r.lines row.steps (model_state r.head.state) r.heap) → HasHeadline before now row.steps end
+  of-run r by = parked r (ending r.lines row.steps (model_state r.head.state) r.heap) refl by (r.run.said told.transcript refl) (r.run.saves told.saved refl) (r.run.draws told.display refl)
+
+at-end : {tells : Role → Bool} {before now : Meanings} {row : Row} {status : Status} (stage : Stage) → EndsAt tells before now row stage status → stage ≡ Telling → EndsAt tells before now row Telling status
+at-end {tells} {before} {now} {row} {status} stage at same = subst (λ s. EndsAt tells before now row s status) same at
+
+pub headline_from : (tells : Role → Bool) (before now : Meanings) (words : List (List ℕ)) (result : Status) → TellsHeadline tells → Promise tells before now words result → bad_word words ≡ None → HeadlineBy result before now (row_of words).steps
+headline_from tells before now words (answer.Done ran) told p right =
+    let e = p.ends right in
+    let at = at-end e.0 e.1 (done-last e.0 ran e.1.answer) in
+    let r = at.run told.image told.events told.work refl in
+    of-run tells before now (row_of words) (answer.Done ran) told ran Next r (r.run.goes refl)
+headline_from tells before now words (answer.Quit ran) told p right =
+    let e = p.ends right in
+    let at = at-end e.0 e.1 (quit-last e.0 ran e.1.answer) in
+    let r = at.run told.image told.events told.work refl in
+    of-run tells before now (row_of words) (answer.Quit ran) told ran Quit r (r.run.goes refl)
+headline_from tells before now words _ told p right = tt
+
+-- ---- what the run made
+
+small-rows : (words : ℕ) (lines : List Line) (steps : ℕ) (state : State) (h : Heap) (e : Ending) → ending lines steps state h ≡ e → OnParked e (λ m. m.largest ≤ words) → (k : ℕ) → AreWithin words (rows_of_bytecode lines steps state h k)
+small-rows words lines steps state h (Parked end m picture) is few k = within_more m.largest words (rows_of_bytecode lines steps state h k) few (whole_within lines steps k state h end m picture is)
+small-rows words lines steps state h (Stuck why count said) is few k = absurd few
+
+small-of : {tells : Role → Bool} {before now : Meanings} {row : Row} {status : Status} → RunOf (bytes_of (now.roles Image)) (bytes_of (now.roles Events)) row.steps (RunsTo tells before now row Telling status) → HasSmall now row
+small-of {tells} {before} {now} {row} {status} r = record {
+  head = r.head;
+  heap = r.heap;
+  is = r.is;
+  lines = r.lines;
+  list = r.list;
+  run = small-rows row.core r.lines row.steps (model_state r.head.state) r.heap (ending r.lines row.steps (model_state r.head.state) r.heap) refl (r.run.fits refl);
+}
+
+pub small_from : (tells : Role → Bool) (before now : Meanings) (words : List (List ℕ)) (result : Status) → IsTrue (tells Image) → IsTrue (tells Events) → IsTrue (tells Work) → Promise tells before now words result → bad_word words ≡ None → SmallBy result now (row_of words)
+small_from tells before now words (answer.Done ran) image events work p right =
+    let e = p.ends right in
+    small-of ((at-end e.0 e.1 (done-last e.0 ran e.1.answer)).run image events work refl)
+small_from tells before now words (answer.Quit ran) image events work p right =
+    let e = p.ends right in
+    small-of ((at-end e.0 e.1 (quit-last e.0 ran e.1.answer)).run image events work refl)
+small_from tells before now words _ image events work p right = tt

@@ -1,12 +1,17 @@
+pub mod CompletesLaws
+pub mod EndsLaws
 pub mod Frames
 pub mod HeadlineLaws
-pub mod ImageLaws
 pub mod Lines
-pub mod LoadLaws
+pub mod MachineLaws
+pub mod MemoryLaws
 pub mod Numbers
-pub mod RecLaws
+pub mod ProgramLaws
+pub mod ReadLaws
 pub mod Rows
-pub mod SaveLaws
-pub mod TallyLaws
-pub mod TextLaws
-mod ProgramLaws
+pub mod RunLaws
+pub mod SavedLaws
+pub mod StepLaws
+pub mod TellingLaws
+pub mod UsesLaws
+pub mod WrittenLaws

@@ -5,11 +5,12 @@ use Rattle.loom_outside.specs.Outside.{PutPrefix, puts}
 use Rattle.loom_outside.specs.declared.outside.Role.TheVariants.{Image, Events, Work, Saved, Display, Transcript, Notes}
 use Rattle.loom_run.specs.Meanings.{Meanings, IsLeft}
 use Rattle.loom_run.specs.Status.{line_of}
-use Rattle.loom_run.specs.Top.{HasRun, Noted, NotedBy}
+use Rattle.loom_run.specs.Ends.{HasRun, Noted, NotedBy}
 use Rattle.long_names.specs.Counting.{Rose}
-use Rattle.loom_run.specs.Parts.{IsOfRun, IsTold, unsaid}
+use Rattle.loom_run.specs.Parts.{IsTold, unsaid}
+use Rattle.loom_run.specs.Steps.{IsOfRun}
 use Rattle.loom_run.specs.declared.status.Status.{Status}
-use Rattle.loom_run.specs.declared.status.Status.TheVariants.{Done, Quit, Usage, ImageBad, EventsBad, Stuck, NamesSpent, ReadFault, WriteFault, OutOfMemory}
+use Rattle.loom_run.specs.declared.status.Status.TheVariants.{Done, Quit, Usage, ImageBad, EventsBad, Stuck, CoreFull, NamesSpent, WorkFull, ReadFault, WorkFault, WriteFault, OutOfMemory, Damaged}
 
 -- a whole line, and a cut one
 noted-whole : (line : List ℕ) (before now : Meanings) → now.roles Notes ≡ puts line (before.roles Notes) → Noted line before now
@@ -22,7 +23,7 @@ noted-cut : (line : List ℕ) (before now : Meanings) → Rose (before.faults No
 noted-cut line before now rose cut = record { prefix = cut; whole = λ still. absurd (still rose) }
 
 -- an answer that stays has its own line there
-noted-own : {told : Bool} (status result : Status) (before now : Meanings) → unsaid status (now.faults Notes) ≡ status → IsTold told status result before now → IsTrue told → (result ≡ status) × Noted (line_of status) before now
+pub noted-own : {told : Bool} (status result : Status) (before now : Meanings) → unsaid status (now.faults Notes) ≡ status → IsTold told status result before now → IsTrue told → (result ≡ status) × Noted (line_of status) before now
 noted-own status result before now stays (inl whole) p = (whole.answer, noted-whole (line_of status) before now (whole.put p))
 noted-own status result before now stays (inr cut) p = (cut.answer ∙ stays, noted-cut (line_of status) before now cut.rose (cut.put p))
 
@@ -40,7 +41,10 @@ noted-told (Usage word) result steps before now of_run run told p = absurd of_ru
 noted-told (ImageBad rule place) result steps before now of_run run told p = let own = noted-own _ _ _ _ refl told p in rw own.0 own.1
 noted-told (EventsBad line) result steps before now of_run run told p = let own = noted-own _ _ _ _ refl told p in rw own.0 own.1
 noted-told (Stuck cause ran) result steps before now of_run run told p = let own = noted-own _ _ _ _ refl told p in rw own.0 own.1
+noted-told (CoreFull ran need) result steps before now of_run run told p = let own = noted-own _ _ _ _ refl told p in rw own.0 own.1
 noted-told (NamesSpent ran) result steps before now of_run run told p = let own = noted-own _ _ _ _ refl told p in rw own.0 own.1
+noted-told (WorkFull live room) result steps before now of_run run told p = let own = noted-own _ _ _ _ refl told p in rw own.0 own.1
+noted-told (WorkFault count) result steps before now of_run run told p = let own = noted-own _ _ _ _ refl told p in rw own.0 own.1
 noted-told (ReadFault role count) result steps before now of_run run told p = let own = noted-own _ _ _ _ refl told p in rw own.0 own.1
 noted-told (WriteFault Image count) result steps before now of_run run told p = let own = noted-own _ _ _ _ refl told p in rw own.0 own.1
 noted-told (WriteFault Events count) result steps before now of_run run told p = let own = noted-own _ _ _ _ refl told p in rw own.0 own.1
@@ -49,6 +53,7 @@ noted-told (WriteFault Saved count) result steps before now of_run run told p = 
 noted-told (WriteFault Display count) result steps before now of_run run told p = let own = noted-own _ _ _ _ refl told p in rw own.0 own.1
 noted-told (WriteFault Transcript count) result steps before now of_run run told p = let own = noted-own _ _ _ _ refl told p in rw own.0 own.1
 noted-told (WriteFault Notes count) result steps before now of_run run told p = absurd (of_run refl)
+noted-told (Damaged place name) result steps before now of_run run told p = let own = noted-own _ _ _ _ refl told p in rw own.0 own.1
 noted-told OutOfMemory result steps before now of_run run told p = let own = noted-own _ _ _ _ refl told p in rw own.0 own.1
 
 -- what a run promises of Notes, where it answered this status before its line

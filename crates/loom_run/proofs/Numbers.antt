@@ -1,11 +1,11 @@
--- The words that state a number of bytecodes.
-use Rattle.std.proofs.Common.{◌≡◌, ◌≢◌, zero, suc, lit<, Some, None, if◌then◌else◌, Err, ℕ, ◌<◌, ◌^◌, Bool, true, false, List, [], ◌∷◌, length, get_or, refl, sym, ◌∙◌, ap, arith, Result, Ok, decimal}
+-- The words that state a number between two bounds.
+use Rattle.std.proofs.Common.{◌≡◌, ◌≢◌, zero, suc, lit<, Err, ℕ, ◌<◌, ◌≤◌, ◌^◌, Bool, true, false, List, [], ◌∷◌, length, get_or, refl, sym, ◌∙◌, ap, arith, Result, Ok, decimal, ◌&&◌, nat_le}
 use Rattle.std.proofs.lemmas.Bool.Decides.{nat_tests}
 use Rattle.std.proofs.lemmas.Str.Parse.{IsNumeralModel, numerals_by_value, tells_all_ascii_digits}
 use Rattle.std.proofs.lemmas.Fmt.{decimal-digits_value, digits_decimal, digits_value-decimal, first_decimal, decimal_digit, parse-decimal}
 use Rattle.std.specs.Str.{all_ascii_digits}
 use Rattle.std.specs.Str.Parse.{digits_value, ParsesUnsigned}
-use Rattle.loom_run.specs.Words.{is_plain_number, is_steps}
+use Rattle.loom_run.specs.Words.{is_plain_number, is_number}
 
 own : IsNumeralModel (λ ds. all_ascii_digits ds ≡ true) (digits_value 10)
 own = numerals_by_value _ tells_all_ascii_digits
@@ -32,53 +32,55 @@ digits-plain [] h above = absurd (grind arith)
 digits-plain (d ∷ []) h above = grind (arith, nat_tests)
 digits-plain (d ∷ e ∷ w) h above = grind (arith, nat_tests)
 
--- a number of bytecodes below 2 ^ 31 is written as its decimal
-pub steps-decimal : (w : List ℕ) → is_steps w ≡ true → decimal (digits_value 10 w) ≡ w
-steps-decimal w h =
+-- a number is within its bounds
+pub number-least : (least most : ℕ) (w : List ℕ) → is_number least most w ≡ true → least ≤ digits_value 10 w
+number-least least most w h = grind (arith, nat_tests)
+
+pub number-most : (least most : ℕ) (w : List ℕ) → is_number least most w ≡ true → digits_value 10 w ≤ most
+number-most least most w h = grind (arith, nat_tests)
+
+-- and is written as its decimal
+pub number-decimal : (least most : ℕ) (w : List ℕ) → most < 2 ^ 32 → is_number least most w ≡ true → decimal (digits_value 10 w) ≡ w
+number-decimal least most w small h =
     let plain : is_plain_number w ≡ true = grind arith
-    in let small : digits_value 10 w < 2 ^ 31 = grind (arith, nat_tests)
-    in decimal-digits_value own w (plain-digits w plain) (plain-some w plain) (plain-first w plain) (omega arith)
+    in let below = number-most least most w h
+    in decimal-digits_value own w (plain-digits w plain) (plain-some w plain) (plain-first w plain) (omega (arith, small, below))
 
-pub steps-small : (w : List ℕ) → is_steps w ≡ true → digits_value 10 w < 2 ^ 31
-steps-small w h = grind (arith, nat_tests)
-
-decimal-plain : (n : ℕ) → n < 2 ^ 31 → is_plain_number (decimal n) ≡ true
+decimal-plain : (n : ℕ) → n < 2 ^ 32 → is_plain_number (decimal n) ≡ true
 decimal-plain zero small = rw (decimal_digit 0 (lit< tt)) refl
 decimal-plain (suc n) small = digits-plain (decimal (suc n)) (digits_decimal own (suc n) (omega arith)) (first_decimal (suc n) (omega arith) (omega arith))
 
-pub decimal-value : (n : ℕ) → n < 2 ^ 31 → digits_value 10 (decimal n) ≡ n
+pub decimal-value : (n : ℕ) → n < 2 ^ 32 → digits_value 10 (decimal n) ≡ n
 decimal-value n small = digits_value-decimal own n (omega arith)
 
--- and each decimal is one
-pub decimal-steps : (n : ℕ) → n < 2 ^ 31 → is_steps (decimal n) ≡ true
-decimal-steps n small =
-    let value : digits_value 10 (decimal n) ≡ n = digits_value-decimal own n (omega arith)
-    in rw (decimal-plain n small, value) (grind (arith, nat_tests))
+within : (least most n : ℕ) (plain : Bool) → least ≤ n → n ≤ most → plain ≡ true → (plain && (nat_le least n && nat_le n most)) ≡ true
+within least most n plain low high is = grind (arith, nat_tests)
+
+-- and each decimal within the bounds is one
+pub decimal-number : (least most n : ℕ) → most < 2 ^ 32 → least ≤ n → n ≤ most → is_number least most (decimal n) ≡ true
+decimal-number least most n small low high =
+    rw (decimal-plain n (omega arith), decimal-value n (omega arith)) (within least most n true low high refl)
 
 -- which parse reads
-steps-parse : {E : Type 0} (w : List ℕ) (r : Result ℕ E) → ParsesUnsigned 32 10 w r → is_steps w ≡ true → r ≡ Ok (digits_value 10 w)
-steps-parse w r parsed h =
-    parse-decimal 32 (digits_value 10 w) w r (let s = steps-small w h in omega (arith, s)) (let s = steps-small w h in omega (arith, s)) (sym (steps-decimal w h)) parsed
-
--- a text that is the decimal of a number below 2 ^ 31 is that number of bytecodes
-pub steps-read : (w : List ℕ) (n : ℕ) → n < 2 ^ 31 → w ≡ decimal n → Some n ≡ (if is_steps w then Some (digits_value 10 w) else None)
-steps-read w n small same =
-    let value : digits_value 10 (decimal n) ≡ n = digits_value-decimal own n (omega arith)
-    in rw same (rw (decimal-steps n small, value) refl)
+number-parse : {E : Type 0} (least most : ℕ) (w : List ℕ) (r : Result ℕ E) → most < 2 ^ 32 → ParsesUnsigned 32 10 w r → is_number least most w ≡ true → r ≡ Ok (digits_value 10 w)
+number-parse least most w r small parsed h =
+    let below = number-most least most w h
+    in parse-decimal 32 (digits_value 10 w) w r (omega (arith, small, below)) (omega (arith, small, below)) (sym (number-decimal least most w small h)) parsed
 
 false-from_not : (b : Bool) → (b ≡ true → ⊥) → b ≡ false
 false-from_not true never = absurd (never refl)
 false-from_not false never = refl
 
--- a text that parse reads as a number, and that isn't the decimal of it or is too large, is none
-pub steps-other : {E : Type 0} (w : List ℕ) (n : ℕ) (r : Result ℕ E) → ParsesUnsigned 32 10 w r → r ≡ Ok n → (n < 2 ^ 31 → w ≢ decimal n) → None ≡ (if is_steps w then Some (digits_value 10 w) else None)
-steps-other w n r parsed is other = rw (false-from_not (is_steps w) (λ h.
-    let same : n ≡ digits_value 10 w = let e = sym is ∙ steps-parse w r parsed h in grind arith
-    in let small : digits_value 10 w < 2 ^ 31 = steps-small w h
-    in other (omega arith) (sym (steps-decimal w h) ∙ ap decimal (sym same)))) refl
+-- a text that parse reads as a number, and that isn't the decimal of it or is outside the bounds, is none
+pub number-other : {E : Type 0} (least most : ℕ) (w : List ℕ) (n : ℕ) (r : Result ℕ E) → most < 2 ^ 32 → ParsesUnsigned 32 10 w r → r ≡ Ok n → (least ≤ n → n ≤ most → w ≢ decimal n) → is_number least most w ≡ false
+number-other least most w n r small parsed is other = false-from_not (is_number least most w) (λ h.
+    let same : n ≡ digits_value 10 w = let e = sym is ∙ number-parse least most w r small parsed h in grind arith
+    in let low = number-least least most w h
+    in let high = number-most least most w h
+    in other (omega (arith, low, same)) (omega (arith, high, same)) (sym (number-decimal least most w small h) ∙ ap decimal (sym same)))
 
 -- nor is a text that parse refuses
-pub steps-refused : {E : Type 0} (w : List ℕ) (e : E) (r : Result ℕ E) → ParsesUnsigned 32 10 w r → r ≡ Err e → None ≡ (if is_steps w then Some (digits_value 10 w) else None)
-steps-refused w e r parsed is = rw (false-from_not (is_steps w) (λ h. let e = sym is ∙ steps-parse w r parsed h in grind arith)) refl
+pub number-refused : {E : Type 0} (least most : ℕ) (w : List ℕ) (e : E) (r : Result ℕ E) → most < 2 ^ 32 → ParsesUnsigned 32 10 w r → r ≡ Err e → is_number least most w ≡ false
+number-refused least most w e r small parsed is = false-from_not (is_number least most w) (λ h. let e = sym is ∙ number-parse least most w r small parsed h in grind arith)
 
-pub ruleset steps_rules = (steps-read, steps-other, steps-refused)
+pub ruleset number_rules = (number-other, number-refused)

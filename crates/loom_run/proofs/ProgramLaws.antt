@@ -1,187 +1,124 @@
--- What the parts of a run answer, put together.
--- Each part has its own error type, the status is made in one place, and exact refusals are one equation of options over a
--- definition that computes (`bad_word`). What a part of the run says of each role is a record (`RunsBy`, `IsRun`), and nearly
--- every clause of `program.rt` proves without an answer; the line on Notes is put by `told_run`, `told_spared`, `done_by`.
--- `LeavesBut` is the frame over the other roles; `search` builds and opens it by itself.
-use Rattle.std.specs.Prelude.{◌≢◌}
-use Rattle.std.proofs.Common.{◌≡◌, ℕ, Bool, true, false, List, [], ◌∷◌, None, Result, Ok, Err, IsTrue, inl, inr, refl, sym, ◌∙◌, ap, subst}
-use Rattle.std.specs.Prelude.{IfErr}
-use Rattle.std.specs.Result.{IsErrAnd}
-use Rattle.std.proofs.lemmas.Result.{err_from_is_err_and}
-use Rattle.loom_outside.specs.Outside.{RoleState, puts, PutPrefix}
+-- What the parts of a run hand on to one another.
+-- Each part takes what came before it as a premise (`Uses`, `Came`, `CameThrough`), and says how the run ends from there. The laws here are its exits;
+-- `UsesLaws`, `EndsLaws` and `WrittenLaws` have the steps.
+use Rattle.std.proofs.Common.{◌≡◌, ℕ, Bool, true, false, List, IsTrue, refl, sym, ◌∙◌, ap, subst}
+use Rattle.long_names.specs.Heap.{Heap}
+use Rattle.long_names.specs.Kept.{kept, no_roots}
+use Rattle.image_format.specs.declared.opening.State.{State as Words}
+use Rattle.loom_outside.specs.Outside.{RoleState}
+use Rattle.loom_outside.specs.declared.outside.Host.{Ghosts}
 use Rattle.loom_outside.specs.declared.outside.Role.{Role}
-use Rattle.loom_outside.specs.declared.outside.Role.TheVariants.{Image, Events, Saved, Display, Transcript, Notes}
-use Rattle.blue_model.specs.declared.step.Step.TheVariants.{Next, Quit}
-use Rattle.loom_run.specs.Meanings.{Meanings, LeavesBut}
-use Rattle.object_memory.specs.Told.{Told}
+use Rattle.loom_outside.specs.declared.outside.Role.TheVariants.{Image, Events, Work, Saved, Display, Transcript, Notes}
+use Rattle.disk_objects.specs.declared.rest.DiskRest.{DiskRest}
+use Rattle.disk_objects.specs.Function.{objects_at}
+use Rattle.image_reader.specs.Loaded.{heap_on}
+use Rattle.image_writer.specs.Saved.{saved_text}
+use Rattle.blue_model.specs.declared.event.Line.{Line}
+use Rattle.blue_model.specs.Endings.{IsParkedBy}
+use Rattle.blue_model.specs.Logs.{Course, course}
+use Rattle.machine_run.specs.States.{model_state}
 use Rattle.machine_run.specs.declared.running.Finished.{Finished}
-use Rattle.machine_run.specs.declared.running.Halted.{Halted}
-use Rattle.machine_run.specs.declared.running.Reason.{Reason}
-use Rattle.machine_run.specs.declared.running.Reason.TheVariants.{ByStop, NoMemory}
+use Rattle.loom_run.specs.Ends.{AttachedOnce, GoesThrough, JudgesEvents, JudgesImage, WrittenBy, bytes_of}
+use Rattle.loom_run.specs.Meanings.{Meanings, LeavesBut, meanings}
+use Rattle.loom_run.specs.Stages.{Opening, Reading, Listening, Making, Running, Finishing, Saving, Drawing, Telling, roles_at}
+use Rattle.loom_run.specs.Steps.{Came, CameThrough, HasHeard, HasRead, IsRefusal, IsSameFile, RunEnds, Uses}
+use Rattle.loom_run.specs.Words.{Row}
 use Rattle.loom_run.specs.declared.status.Status.{Status}
-use Rattle.event_file.specs.Text.{IsBadAt}
-use Rattle.event_file.proofs.OneReading.{none-bad}
-use Rattle.blue_model.specs.State.{no_state}
-use Rattle.blue_model.specs.Logs.{Course}
-use Rattle.blue_model.specs.Cycle.{Ending, ByCause, BySpentNames, ending}
-use Rattle.object_memory.specs.declared.fault.MemFault.TheVariants as fault
-use Rattle.contexts.specs.declared.stop.Stop.TheVariants as stop
-use Rattle.blue_model.specs.Endings.{said_in}
-use Rattle.blue_model.proofs.EndingLaws.{not_stuck, parked_of}
-use Rattle.loom_run.specs.Status.{usage_of}
-use Rattle.loom_run.specs.Top.{SaysRun, SavesRun, DrawsRun, RunsBy, SaysAllOrNothing, bytes_of, IsCaused, JudgesImage, JudgesEvents, JudgesRun, IsOfMachine, RunOf, CanBeDone, IsDone}
-use Rattle.loom_run.specs.declared.status.Status.TheVariants as answer
-use Rattle.loom_run.specs.declared.status.Status.TheVariants.{Done, Usage, ImageBad, EventsBad, NamesSpent, ReadFault, WriteFault, OutOfMemory}
-use Rattle.machine_run.specs.Run.{HaltsAs, EndsAs}
-use Rattle.loom_run.specs.Parts.{StopsBy, SaysStopped, IsTold, unsaid, WasSaid, is_own_reason, is_spoken_by}
+use Rattle.loom_run.specs.declared.status.Status.TheVariants.{OutOfMemory}
+use Rattle.loom_run.proofs.EndsLaws.{came-on, ends-listening, ends-making, ends-opening, ends-reading, read-left}
+use Rattle.loom_run.proofs.Frames.{leaves-all}
+use Rattle.loom_run.proofs.UsesLaws.{left-then, uses-drawing, uses-finishing, uses-listening, uses-making, uses-opening, uses-reading, uses-running, uses-saving, uses-telling}
+use Rattle.loom_run.proofs.WrittenLaws.{ends-drawing, ends-saving, ends-telling}
 
--- the answer of a `?`
-pub fault_exit : {T : Type 0} (P : Status → Type 0) (r : Result T Status) (e : Status) → IsErrAnd r (λ y. y ≡ e) → P e → IfErr r P
-fault_exit {T} P r e is p =
-    let q = err_from_is_err_and r is in
-    subst (λ (x : Result T Status). IfErr x P) (sym (q.1 ∙ ap (λ y. Err y) q.2)) p
+module _ (tells : Role → Bool) (before : Meanings) (row : Row) where
+  -- ---- Work and Image
 
-halt_spoken : (why : Reason) (ran : ℕ) (new : Told) (c : Course) → HaltsAs why ran new c → IsTrue new.speaks → is_own_reason why ≡ true → new.transcript ≡ said_in c.ending
-halt_spoken (ByStop stop) ran new c h speaks own = h.own own speaks
-halt_spoken NoMemory ran new c h speaks own = h speaks
+  pub opening-refused : (now : Meanings) (status : Status) → (IsTrue (tells Work) → AttachedOnce row.work (before.roles Work) (now.roles Work)) → LeavesBut (roles_at Opening) before now → IsRefusal tells before now row Opening status → RunEnds tells before now row status
+  opening-refused now status attached others refused = ends-opening tells before row now status (uses-opening tells row before now attached others) refused
 
--- what the memory said is what the run says
-pub spoken : (new : Told) (run : Result Finished Halted) (c : Course) → EndsAs new run c → IsTrue new.speaks → is_spoken_by run ≡ true → new.transcript ≡ said_in c.ending
-spoken new (Ok finished) c ends speaks own = ends.said speaks
-spoken new (Err halted) c ends speaks own = halt_spoken halted.why halted.ran new c ends speaks own
+  module _ (mid now : Meanings) (opened : (IsTrue (tells Work) → AttachedOnce row.work (before.roles Work) (mid.roles Work))) (first : LeavesBut (roles_at Opening) before mid)
+      (attached : IsTrue (tells Image) → AttachedOnce row.image (mid.roles Image) (now.roles Image)) (file : IsTrue (tells Work) → IsSameFile (mid.roles Work) (now.roles Work)) (others : LeavesBut (roles_at Reading) mid now) where
+    pub used-reading : Uses tells before now row Reading
+    used-reading = uses-reading tells row before mid now (uses-opening tells row before mid opened first) attached file others
 
-pub stops_by : (why : Reason) (ran : ℕ) (new : Told) (c : Course) → HaltsAs why ran new c → StopsBy why ran c.ending
-stops_by (ByStop (stop.Stuck cause)) ran new c h = h.stops
-stops_by (ByStop (stop.Mem fault.NamesSpent)) ran new c h = h.stops
-stops_by (ByStop (stop.Mem (fault.CoreFull need))) ran new c h = tt
-stops_by (ByStop (stop.Mem (fault.WorkFull live room))) ran new c h = tt
-stops_by (ByStop (stop.Mem (fault.WorkFault count))) ran new c h = tt
-stops_by (ByStop (stop.Mem (fault.Damaged place name))) ran new c h = tt
-stops_by (ByStop (stop.Mem (fault.Said count))) ran new c h = tt
-stops_by (ByStop (stop.Mem fault.Memory)) ran new c h = tt
-stops_by NoMemory ran new c h = tt
+    pub reading-refused : (status : Status) → IsRefusal tells mid now row Reading status → (IsTrue (tells Image) → IsTrue (tells Work) → JudgesImage status row.room (bytes_of (now.roles Image))) → RunEnds tells before now row status
+    reading-refused status refused judges = ends-reading tells before row mid now status first.later used-reading refused judges
 
--- an answer that is no fault of writing says all
-says_all : (status : Status) (e : Ending) (old new : RoleState) → ((role : Role) (count : ℕ) → status ≡ WriteFault role count → ⊥) → new ≡ puts (said_in e) old → SaysStopped status e old new
-says_all (Done ran) e old new other is = is
-says_all (answer.Quit ran) e old new other is = is
-says_all (Usage word) e old new other is = is
-says_all (ImageBad rule place) e old new other is = is
-says_all (EventsBad line) e old new other is = is
-says_all (answer.Stuck cause ran) e old new other is = is
-says_all (NamesSpent ran) e old new other is = is
-says_all (ReadFault role count) e old new other is = is
-says_all (WriteFault role count) e old new other is = absurd (other role count refl)
-says_all OutOfMemory e old new other is = inr is
+  -- ---- Events
 
--- what was said where the run ended before its end
-pub says_stopped : (status : Status) (why : Reason) (ran : ℕ) (told : Told) (c : Course) (old new : RoleState) → HaltsAs why ran told c → IsTrue told.speaks → ((role : Role) (count : ℕ) → status ≡ WriteFault role count → ⊥) → (is_own_reason why ≡ false → status ≡ OutOfMemory) → WasSaid (is_own_reason why) told.transcript old new → SaysStopped status c.ending old new
-says_stopped status why ran told c old new halts speaks other memory said = go (is_own_reason why) refl said
-  where
-    go : (b : Bool) → is_own_reason why ≡ b → WasSaid b told.transcript old new → SaysStopped status c.ending old new
-    go true own is = says_all status c.ending old new other (is ∙ ap (λ t. puts t old) (halt_spoken why ran told c halts speaks own))
-    go false own is = subst (λ s. SaysStopped s c.ending old new) (sym (memory own)) (inl is)
+  module _ (mid now : Meanings) (used : Uses tells before mid row Reading) (attached : IsTrue (tells Events) → AttachedOnce row.events (mid.roles Events) (now.roles Events)) (others : LeavesBut (roles_at Listening) mid now) (state : Words) (heap : Heap) (read : HasRead tells mid row state heap) where
+    used-listening : Uses tells before now row Listening
+    used-listening = uses-listening tells row before mid now used attached others
 
--- and where it went through
-pub says_through : (told : Told) (run : Result Finished Halted) (c : Course) (old new : RoleState) → EndsAs told run c → IsTrue told.speaks → is_spoken_by run ≡ true → WasSaid (is_spoken_by run) told.transcript old new → new ≡ puts (said_in c.ending) old
-says_through told run c old new ends speaks own said = subst (λ b. WasSaid b told.transcript old new) own said ∙ ap (λ t. puts t old) (spoken told run c ends speaks own)
+    read-listening : HasRead tells now row state heap
+    read-listening = read-left tells before row mid now state heap (others.others Image (λ e. cc, tt)).state read
 
-pub begins_to_say : (told : Told) (run : Result Finished Halted) (c : Course) (old new : RoleState) → EndsAs told run c → IsTrue told.speaks → is_spoken_by run ≡ true → PutPrefix told.transcript old new → PutPrefix (said_in c.ending) old new
-begins_to_say told run c old new ends speaks own said = subst (λ t. PutPrefix t old new) (spoken told run c ends speaks own) said
+    pub came-listening : (lines : List Line) → HasHeard tells now lines → Came tells before now row Listening state heap lines
+    came-listening lines heard = record { uses = used-listening; read = read-listening; heard = heard }
 
--- ---- right words, images and events, and no fault
+    pub listening-refused : (status : Status) → IsRefusal tells mid now row Listening status → (IsTrue (tells Events) → JudgesEvents status (bytes_of (now.roles Events))) → RunEnds tells before now row status
+    listening-refused status refused judges = ends-listening tells before row mid now status state heap used.later used-listening refused read-listening judges
 
--- the answer of a run that can be done
-pub done_by : (image events : List ℕ) (steps : ℕ) (before now : Role → ℕ) (result : Status) → usage_of result ≡ None → IsCaused result before now → JudgesImage result image → JudgesEvents result events → (IsOfMachine result → RunOf image events steps (JudgesRun result)) → CanBeDone image events steps before now → IsDone result
-done_by image events steps before now (answer.Done ran) usage cause of_image of_events run can = tt
-done_by image events steps before now (answer.Quit ran) usage cause of_image of_events run can = tt
-done_by image events steps before now answer.OutOfMemory usage cause of_image of_events run can = tt
-done_by image events steps before now (answer.Usage word) usage cause of_image of_events run can = absurd (cc)
-done_by image events steps before now (answer.ImageBad rule place) usage cause of_image of_events run can = absurd (of_image can.valid)
-done_by image events steps before now (answer.EventsBad line) usage cause of_image of_events run can = absurd (none-bad can.list line can.lines.0 (subst (IsBadAt line) can.lines.1 of_events))
-done_by image events steps before now (answer.ReadFault role count) usage cause of_image of_events run can = absurd (can.still role cause.2)
-done_by image events steps before now (answer.WriteFault role count) usage cause of_image of_events run can = absurd (can.still role cause.2)
-done_by image events steps before now (answer.Stuck cause_number ran) usage cause of_image of_events run can =
-    let r = run tt in absurd (not_stuck (ByCause r.run.0) ran (ending r.lines steps no_state r.heap) (can.runs r.heap r.lines r.is r.text r.list) r.run.1)
-done_by image events steps before now (answer.NamesSpent ran) usage cause of_image of_events run can =
-    let r = run tt in absurd (not_stuck BySpentNames ran (ending r.lines steps no_state r.heap) (can.runs r.heap r.lines r.is r.text r.list) r.run)
+  -- ---- the memory
 
--- ---- once the last line was put
+  module _ (now : Meanings) (state : Words) (heap : Heap) (lines : List Line) (came : Came tells before now row Listening state heap lines) where
+    came-making : Came tells before now row Making state heap lines
+    came-making = record { uses = uses-making tells row before now now came.uses (leaves-all (roles_at Making) now); read = came.read; heard = came.heard }
 
-runs_unsaid : {tells : Role → Bool} {before now : Meanings} {saved display : List ℕ} (status : Status) (count : ℕ) (run : Ending) → RunsBy tells before now saved display status run → RunsBy tells before now saved display (unsaid status count) run
-runs_unsaid (answer.Done ran) count run r = record { judged = parked_of Next ran run r.judged; says = r.says; saves = r.saves; draws = r.draws }
-runs_unsaid (answer.Quit ran) count run r = record { judged = parked_of Quit ran run r.judged; says = r.says; saves = r.saves; draws = r.draws }
-runs_unsaid (answer.Usage word) count run r = r
-runs_unsaid (answer.ImageBad rule place) count run r = r
-runs_unsaid (answer.EventsBad line) count run r = r
-runs_unsaid (answer.Stuck cause ran) count run r = r
-runs_unsaid (answer.NamesSpent ran) count run r = r
-runs_unsaid (answer.ReadFault role faults) count run r = r
-runs_unsaid (answer.WriteFault role faults) count run r = r
-runs_unsaid answer.OutOfMemory count run r = r
+    pub making-refused : RunEnds tells before now row OutOfMemory
+    making-refused = ends-making tells before row now state heap lines came-making
 
-machine_unsaid : (status : Status) (count : ℕ) → IsOfMachine (unsaid status count) → IsOfMachine status
-machine_unsaid (answer.Done ran) count m = tt
-machine_unsaid (answer.Quit ran) count m = tt
-machine_unsaid (answer.Usage word) count m = m
-machine_unsaid (answer.ImageBad rule place) count m = m
-machine_unsaid (answer.EventsBad line) count m = m
-machine_unsaid (answer.Stuck cause ran) count m = m
-machine_unsaid (answer.NamesSpent ran) count m = m
-machine_unsaid (answer.ReadFault role faults) count m = m
-machine_unsaid (answer.WriteFault role faults) count m = m
-machine_unsaid answer.OutOfMemory count m = m
+    -- ---- the machine
 
-memory_unsaid : (status : Status) (count : ℕ) → unsaid status count ≡ answer.OutOfMemory → status ≡ answer.OutOfMemory
-memory_unsaid (answer.Done ran) count e = absurd (cc)
-memory_unsaid (answer.Quit ran) count e = absurd (cc)
-memory_unsaid (answer.Usage word) count e = e
-memory_unsaid (answer.ImageBad rule place) count e = e
-memory_unsaid (answer.EventsBad line) count e = e
-memory_unsaid (answer.Stuck cause ran) count e = e
-memory_unsaid (answer.NamesSpent ran) count e = e
-memory_unsaid (answer.ReadFault role faults) count e = e
-memory_unsaid (answer.WriteFault role faults) count e = e
-memory_unsaid answer.OutOfMemory count e = e
+    module _ (far : Meanings) (file : IsTrue (tells Work) → IsSameFile (now.roles Work) (far.roles Work)) (others : LeavesBut (roles_at Running) now far) where
+      pub came-running : Came tells before far row Running state heap lines
+      came-running = came-on tells before row now far Making Running state heap lines came-making (uses-running tells row before now far came-making.uses file others)
+          (others.others Image (λ e. cc, (λ e. cc, tt))).state (others.others Events (λ e. cc, (λ e. cc, tt))).state
 
--- the line leaves the other roles
-left : (role : Role) (mid now : Meanings) → role ≢ Notes → LeavesBut (Notes ∷ []) mid now → now.roles role ≡ mid.roles role
-left role mid now other leaves = (leaves.others role (other, tt)).state
+      pub came-finishing : (end : Meanings) → (IsTrue (tells Work) → IsSameFile (far.roles Work) (end.roles Work)) → LeavesBut (roles_at Finishing) far end → Came tells before end row Finishing state heap lines
+      came-finishing end file leaves = came-on tells before row far end Running Finishing state heap lines came-running (uses-finishing tells row before far end came-running.uses file leaves)
+          (leaves.others Image (λ e. cc, (λ e. cc, tt))).state (leaves.others Events (λ e. cc, (λ e. cc, tt))).state
 
-runs_now : {tells : Role → Bool} {before : Meanings} {saved display : List ℕ} {status : Status} {run : Ending} (mid now : Meanings) → LeavesBut (Notes ∷ []) mid now → RunsBy tells before mid saved display status run → RunsBy tells before now saved display status run
-runs_now {tells} {before} {saved} {display} {status} {run} mid now leaves r = record {
-  judged = r.judged;
-  says = λ told. subst (λ x. SaysRun status run (before.roles Transcript) x) (sym (left Transcript mid now (λ e. cc) leaves)) (r.says told);
-  saves = λ told. subst (λ x. SavesRun status run saved (before.roles Saved) x) (sym (left Saved mid now (λ e. cc) leaves)) (r.saves told);
-  draws = λ told. subst (λ x. DrawsRun status run display (before.roles Display) x) (sym (left Display mid now (λ e. cc) leaves)) (r.draws told);
-}
+  -- ---- what is written
 
-run_of_with : {image events : List ℕ} {steps : ℕ} {P Q : Ending → Type 0} → ((run : Ending) → P run → Q run) → RunOf image events steps P → RunOf image events steps Q
-run_of_with f r = record { heap = r.heap; is = r.is; text = r.text; lines = r.lines; list = r.list; run = f _ r.run }
+  module _ (mid : Meanings) (state : Words) (heap : Heap) (lines : List Line) (finished : Finished) (remains : Heap) (came : Came tells before mid row Finishing state heap lines)
+      (through : IsTrue (tells Work) → CameThrough tells before mid row finished remains (course lines row.steps (model_state state) heap))
+      (far : Meanings) (attached : IsTrue (tells Saved) → AttachedOnce row.saved (mid.roles Saved) (far.roles Saved)) (file : far.roles Work ≡ mid.roles Work) (others : LeavesBut (roles_at Saving) mid far) where
+    came-saving : Came tells before far row Saving state heap lines
+    came-saving = came-on tells before row mid far Finishing Saving state heap lines came (uses-saving tells row before mid far came.uses attached (λ told. file ∙ sym (ap (λ (s : RoleState). record (mid.roles Work) { contents = s.contents }) file)) others)
+        (others.others Image (λ e. cc, (λ e. cc, tt))).state (others.others Events (λ e. cc, (λ e. cc, tt))).state
 
--- what became of the machine, as the answer after the line says it
-pub told_run : {tells : Role → Bool} {told : Bool} {before : Meanings} {saved display : List ℕ} {steps : ℕ} (status result : Status) (mid now : Meanings) → LeavesBut (Notes ∷ []) mid now → IsTold told status result mid now → (IsOfMachine status → RunOf (bytes_of (mid.roles Image)) (bytes_of (mid.roles Events)) steps (RunsBy tells before mid saved display status)) → IsOfMachine result → RunOf (bytes_of (now.roles Image)) (bytes_of (now.roles Events)) steps (RunsBy tells before now saved display result)
-told_run {tells} {told} {before} {saved} {display} {steps} status result mid now leaves is run machine =
-    subst (λ i. RunOf (bytes_of i) (bytes_of (now.roles Events)) steps (RunsBy tells before now saved display result)) (sym (left Image mid now (λ e. cc) leaves))
-    (subst (λ i. RunOf (bytes_of (mid.roles Image)) (bytes_of i) steps (RunsBy tells before now saved display result)) (sym (left Events mid now (λ e. cc) leaves)) (go is machine))
-  where
-    by : (s : Status) → result ≡ s → IsOfMachine result → (IsOfMachine s → IsOfMachine status) → ((run : Ending) → RunsBy tells before mid saved display status run → RunsBy tells before mid saved display s run) → RunOf (bytes_of (mid.roles Image)) (bytes_of (mid.roles Events)) steps (RunsBy tells before now saved display result)
-    by s same machine of f = run_of_with (λ r x. runs_now mid now leaves (subst (λ y. RunsBy tells before mid saved display y r) (sym same) (f r x))) (run (of (subst IsOfMachine same machine)))
+    silent : far.roles Transcript ≡ mid.roles Transcript
+    silent = (others.others Transcript (λ e. cc, (λ e. cc, tt))).state
 
-    go : IsTold told status result mid now → IsOfMachine result → RunOf (bytes_of (mid.roles Image)) (bytes_of (mid.roles Events)) steps (RunsBy tells before now saved display result)
-    go (inl whole) m = by status whole.answer m (λ x. x) (λ r x. x)
-    go (inr cut) m = by (unsaid status (now.faults Notes)) cut.answer m (machine_unsaid status (now.faults Notes)) (runs_unsaid status (now.faults Notes))
+    pub saving-refused : (status : Status) → IsRefusal tells mid far row Saving status → (IsTrue (tells Saved) → IsTrue (tells Work) → WrittenBy false row.saved (saved_text (kept remains no_roots) finished.state) (mid.roles Saved) (far.roles Saved)) → RunEnds tells before far row status
+    saving-refused status refused put = ends-saving tells before row state heap lines mid finished remains came through far status came-saving refused silent put
 
--- and what was said where memory was refused
-pub told_spared : {told : Bool} {steps : ℕ} (before : Meanings) (status result : Status) (mid now : Meanings) → LeavesBut (Notes ∷ []) mid now → IsTold told status result mid now → (status ≡ answer.OutOfMemory → SaysAllOrNothing (bytes_of (mid.roles Image)) (bytes_of (mid.roles Events)) steps (before.roles Transcript) (mid.roles Transcript)) → result ≡ answer.OutOfMemory → SaysAllOrNothing (bytes_of (now.roles Image)) (bytes_of (now.roles Events)) steps (before.roles Transcript) (now.roles Transcript)
-told_spared {told} {steps} before status result mid now leaves is spared refused =
-    subst (λ i. SaysAllOrNothing (bytes_of i) (bytes_of (now.roles Events)) steps (before.roles Transcript) (now.roles Transcript)) (sym (left Image mid now (λ e. cc) leaves))
-    (subst (λ i. SaysAllOrNothing (bytes_of (mid.roles Image)) (bytes_of i) steps (before.roles Transcript) (now.roles Transcript)) (sym (left Events mid now (λ e. cc) leaves))
-    (subst (λ i. SaysAllOrNothing (bytes_of (mid.roles Image)) (bytes_of (mid.roles Events)) steps (before.roles Transcript) i) (sym (left Transcript mid now (λ e. cc) leaves)) (spared (go is))))
-  where
-    go : IsTold told status result mid now → status ≡ answer.OutOfMemory
-    go (inl whole) = sym whole.answer ∙ refused
-    go (inr cut) = memory_unsaid status (now.faults Notes) (sym cut.answer ∙ refused)
+    module _ (put : IsTrue (tells Saved) → IsTrue (tells Work) → WrittenBy true row.saved (saved_text (kept remains no_roots) finished.state) (mid.roles Saved) (far.roles Saved))
+        (now : Meanings) (shown : IsTrue (tells Display) → AttachedOnce row.display (far.roles Display) (now.roles Display)) (drawing : LeavesBut (roles_at Drawing) far now) where
+      used-drawing : Uses tells before now row Drawing
+      used-drawing = uses-drawing tells row before far now came-saving.uses shown drawing
 
-pub judged_run : {tells : Role → Bool} {before now : Meanings} {image events saved display : List ℕ} {steps : ℕ} {status : Status} → RunOf image events steps (RunsBy tells before now saved display status) → RunOf image events steps (JudgesRun status)
-judged_run r = run_of_with (λ run x. x.judged) r
+      came-drawing : Came tells before now row Drawing state heap lines
+      came-drawing = came-on tells before row far now Saving Drawing state heap lines came-saving used-drawing (drawing.others Image (λ e. cc, tt)).state (drawing.others Events (λ e. cc, tt)).state
+
+      undrawn : far.roles Display ≡ mid.roles Display
+      undrawn = (others.others Display (λ e. cc, (λ e. cc, tt))).state
+
+      pub drawing-refused : (status : Status) → IsRefusal tells far now row Drawing status → (IsTrue (tells Display) → WrittenBy false row.display finished.picture (far.roles Display) (now.roles Display)) → RunEnds tells before now row status
+      drawing-refused status refused drawn = ends-drawing tells before row state heap lines mid finished remains came through far silent put undrawn now status came-drawing came-saving.uses.later refused
+          (drawing.others Transcript (λ e. cc, tt)).state (drawing.others Saved (λ e. cc, tt)).state drawn
+
+      pub run-finished : (status : Status) → IsRefusal tells now now row Telling status → ((c : Course) → IsParkedBy finished.end finished.ran c.ending → GoesThrough status c) → (IsTrue (tells Display) → WrittenBy true row.display finished.picture (far.roles Display) (now.roles Display)) → RunEnds tells before now row status
+      run-finished status answered goes drawn = ends-telling tells before row state heap lines mid finished remains came through far silent put undrawn now status
+          (came-on tells before row now now Drawing Telling state heap lines came-drawing (uses-telling tells row before now used-drawing) refl refl)
+          (left-then Notes before far now (came-saving.uses.unused Notes refl) (drawing.others Notes (λ e. cc, tt))) answered goes
+          (drawing.others Transcript (λ e. cc, tt)).state (drawing.others Saved (λ e. cc, tt)).state drawn
+
+-- ---- the heap on the disk
+
+pub heap-stays : {H : Type 0} (host : Ghosts H) (old new : H) (rest : DiskRest) (next : ℕ) → host.roles new Work ≡ host.roles old Work → heap_on host new rest next ≡ heap_on host old rest next
+heap-stays host old new rest next same = ap (λ (s : RoleState). let h : Heap = record { at = objects_at rest s.contents; next = next } in h) same
+
+pub read-stays : {H : Type 0} (host : Ghosts H) (old new : H) (row : Row) (state : Words) (rest : DiskRest) (next : ℕ) → host.roles new Work ≡ host.roles old Work → HasRead host.tells (meanings host old) row state (heap_on host old rest next) → HasRead host.tells (meanings host old) row state (heap_on host new rest next)
+read-stays host old new row state rest next same read = subst (λ (h : Heap). HasRead host.tells (meanings host old) row state h) (sym (heap-stays host old new rest next same)) read

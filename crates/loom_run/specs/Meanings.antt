@@ -3,6 +3,7 @@ use Rattle.std.specs.Prelude.{◌≡◌, ◌≢◌, ◌≤◌, ℕ, List, [], �
 use Rattle.loom_outside.specs.Outside.{RoleState}
 use Rattle.loom_outside.specs.declared.outside.Host.{Ghosts}
 use Rattle.loom_outside.specs.declared.outside.Role.{Role}
+use Rattle.loom_outside.specs.declared.outside.Role.TheVariants.{Work}
 
 -- what a host means at one moment
 pub record Meanings : Type 0 where
@@ -27,8 +28,8 @@ abbrev pub IsNoneOf : List Role → Role → Type 0
 IsNoneOf [] role = Unit {0}
 IsNoneOf (r ∷ roles) role = (role ≢ r) × IsNoneOf roles role
 
--- nothing was done but with these roles, Work was not written, and no count of faults fell
+-- Nothing was done but with these roles, and no count of faults fell. Work was not written, unless it is among them.
 pub record LeavesBut (roles : List Role) (before now : Meanings) : Type 0 where
   pub others : (role : Role) → IsNoneOf roles role → IsLeft role before now
-  pub writes : now.writes ≡ before.writes
+  pub writes : IsNoneOf roles Work → now.writes ≡ before.writes
   pub later : (role : Role) → before.faults role ≤ now.faults role

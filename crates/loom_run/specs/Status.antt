@@ -3,7 +3,7 @@ use Rattle.std.specs.Prelude.{ℕ, List, ◌++◌, codes, decimal, Option, Some,
 use Rattle.loom_outside.specs.declared.outside.Role.{Role}
 use Rattle.loom_outside.specs.declared.outside.Role.TheVariants.{Image, Events, Work, Saved, Display, Transcript, Notes}
 use Rattle.loom_run.specs.declared.status.Status.{Status}
-use Rattle.loom_run.specs.declared.status.Status.TheVariants.{Done, Quit, Usage, ImageBad, EventsBad, Stuck, NamesSpent, ReadFault, WriteFault, OutOfMemory}
+use Rattle.loom_run.specs.declared.status.Status.TheVariants.{Done, Quit, Usage, ImageBad, EventsBad, Stuck, CoreFull, NamesSpent, WorkFull, ReadFault, WorkFault, WriteFault, OutOfMemory, Damaged}
 
 -- what a role is called
 abbrev pub role_text : Role → List ℕ
@@ -23,10 +23,15 @@ text_of_status (Usage word) = codes "usage: word " ++ decimal word
 text_of_status (ImageBad rule place) = codes "image: rule " ++ decimal rule ++ codes " at " ++ decimal place
 text_of_status (EventsBad line) = codes "events: line " ++ decimal line
 text_of_status (Stuck cause ran) = codes "stuck: cause " ++ decimal cause ++ codes " after " ++ decimal ran
+text_of_status (CoreFull ran need) =
+    codes "core full after " ++ decimal ran ++ codes ": object " ++ decimal need.object ++ codes ", " ++ decimal need.words ++ codes " words, " ++ decimal need.entries ++ codes " entries"
 text_of_status (NamesSpent ran) = codes "names spent after " ++ decimal ran
+text_of_status (WorkFull live room) = codes "work full: " ++ decimal live ++ codes " objects, room " ++ decimal room
 text_of_status (ReadFault role count) = codes "read fault: " ++ role_text role
+text_of_status (WorkFault count) = codes "work fault"
 text_of_status (WriteFault role count) = codes "write fault: " ++ role_text role
 text_of_status OutOfMemory = codes "out of memory"
+text_of_status (Damaged place name) = codes "work damaged at " ++ decimal place ++ codes ": object " ++ decimal name
 
 -- the last line on Notes
 abbrev pub line_of : Status → List ℕ
@@ -40,10 +45,14 @@ code_of (Usage word) = 2
 code_of (ImageBad rule place) = 3
 code_of (EventsBad line) = 4
 code_of (Stuck cause ran) = 5
+code_of (CoreFull ran need) = 6
 code_of (NamesSpent ran) = 7
+code_of (WorkFull live room) = 8
 code_of (ReadFault role count) = 9
+code_of (WorkFault count) = 10
 code_of (WriteFault role count) = 11
 code_of OutOfMemory = 12
+code_of (Damaged place name) = 13
 
 -- the word that a status finds fault with
 abbrev pub usage_of : Status → Option ℕ

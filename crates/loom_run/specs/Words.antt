@@ -1,9 +1,10 @@
--- The words of a command: `run`, the image and the events to be read, the image and the picture to be written, and the number of
--- bytecodes.
-use Rattle.std.specs.Prelude.{◌≡◌, ◌≢◌, ℕ, ◌^◌, ◌<◌, decimal, Bool, false, List, [], ◌∷◌, map, codes, Option, Some, None, Result, Ok, Err, if◌then◌else◌, ◌&&◌, ◌||◌, nat_lt, slice_index_or, string_bytes, String}
+-- The words of a command: `run`, the files of the image and of the events, the work file, the files of the saved image and of the picture,
+-- the words and the entries of the core, for how many objects there is room, and the number of bytecodes.
+use Rattle.std.specs.Prelude.{◌≡◌, ◌≢◌, ℕ, ◌+◌, ◌≤◌, decimal, Bool, true, false, List, [], ◌∷◌, map, codes, Option, Some, None, Result, Ok, Err, if◌then◌else◌, ◌&&◌, nat_lt, nat_le, slice_index_or, string_bytes, String}
 use Rattle.std.specs.Char.{is_ascii_digit}
 use Rattle.std.specs.Str.{bytes_eq, all_ascii_digits}
 use Rattle.std.specs.Str.Parse.{digits_value}
+use Rattle.loom_run.specs.declared.words.TheConstants.{LEAST_CORE, MOST_CORE, LEAST_ENTRIES, MOST_ENTRIES, LEAST_ROOM, MOST_ROOM, MOST_STEPS}
 
 -- the words as bytes
 abbrev pub texts_of : {Z : Type 0} → List (String Z) → List (List ℕ)
@@ -15,67 +16,99 @@ is_plain_number [] = false
 is_plain_number (digit ∷ []) = is_ascii_digit digit
 is_plain_number (digit ∷ digits) = nat_lt 48 digit && all_ascii_digits (digit ∷ digits)
 
--- a number of bytecodes, 0 to 2,147,483,647
-abbrev pub is_steps : List ℕ → Bool
-is_steps word = is_plain_number word && nat_lt (digits_value 10 word) (2 ^ 31)
+-- such a number from the least to the most
+abbrev pub is_number : ℕ → ℕ → List ℕ → Bool
+is_number least most word = is_plain_number word && (nat_le least (digits_value 10 word) && nat_le (digits_value 10 word) most)
 
--- the position, counted from 1, of the first bad, missing or extra word; none where the words are right
-abbrev pub bad_seventh : List (List ℕ) → Option ℕ
-bad_seventh [] = None
-bad_seventh (extra ∷ words) = Some 7
+-- ---- the row of a run
 
-abbrev pub bad_sixth : List (List ℕ) → Option ℕ
-bad_sixth [] = Some 6
-bad_sixth (steps ∷ words) = if is_steps steps then bad_seventh words else Some 6
+-- Whether a word may stand at its place, behind these that stand before it.
+abbrev pub Check : Type 0
+Check = List (List ℕ) → List ℕ → Bool
 
--- the picture may go to none of the files that come before
-abbrev pub bad_fifth : List ℕ → List ℕ → List ℕ → List (List ℕ) → Option ℕ
-bad_fifth image events saved [] = Some 5
-bad_fifth image events saved (display ∷ words) = if bytes_eq display image || (bytes_eq display events || bytes_eq display saved) then Some 5 else bad_sixth words
+abbrev pub anything : Check
+anything earlier word = true
 
-abbrev pub bad_fourth : List ℕ → List ℕ → List (List ℕ) → Option ℕ
-bad_fourth image events [] = Some 4
-bad_fourth image events (saved ∷ words) = bad_fifth image events saved words
+abbrev pub is_run : Check
+is_run earlier word = bytes_eq word (codes "run")
 
-abbrev pub bad_third : List ℕ → List (List ℕ) → Option ℕ
-bad_third image [] = Some 3
-bad_third image (events ∷ words) = bad_fourth image events words
+-- the word is none of those at these positions, counted from 0
+abbrev pub is_none_at : List ℕ → Check
+is_none_at [] earlier word = true
+is_none_at (i ∷ is) earlier word = if bytes_eq word (slice_index_or earlier i []) then false else is_none_at is earlier word
 
-abbrev pub bad_second : List (List ℕ) → Option ℕ
-bad_second [] = Some 2
-bad_second (image ∷ words) = bad_third image words
+abbrev pub is_from : ℕ → ℕ → Check
+is_from least most earlier word = is_number least most word
 
+-- `run IMAGE EVENTS WORK SAVED DISPLAY CORE ENTRIES ROOM STEPS`. The work file is none of the other files, and the picture goes to none that
+-- comes before it; the saved image may go to the file of the image.
+abbrev pub run_row : List Check
+run_row =
+    is_run
+    ∷ anything
+    ∷ anything
+    ∷ is_none_at (1 ∷ 2 ∷ [])
+    ∷ is_none_at (3 ∷ [])
+    ∷ is_none_at (1 ∷ 2 ∷ 3 ∷ 4 ∷ [])
+    ∷ is_from LEAST_CORE MOST_CORE
+    ∷ is_from LEAST_ENTRIES MOST_ENTRIES
+    ∷ is_from LEAST_ROOM MOST_ROOM
+    ∷ is_from 0 MOST_STEPS
+    ∷ []
+
+-- the position, counted from this one on, of the first bad, missing or extra word; none where the words are right
+abbrev pub bad_from : ℕ → List Check → List (List ℕ) → List (List ℕ) → Option ℕ
+bad_from at [] all [] = None
+bad_from at [] all (extra ∷ words) = Some at
+bad_from at (check ∷ checks) all [] = Some at
+bad_from at (check ∷ checks) all (word ∷ words) = if check all word then bad_from (at + 1) checks all words else Some at
+
+-- counted from 1
 abbrev pub bad_word : List (List ℕ) → Option ℕ
-bad_word [] = Some 1
-bad_word (command ∷ words) = if bytes_eq command (codes "run") then bad_second words else Some 1
+bad_word words = bad_from 1 run_row words words
 
--- the words from the second on
-abbrev pub image_word : List (List ℕ) → List ℕ
-image_word words = slice_index_or words 1 []
+-- ---- what the words ask for
 
-abbrev pub events_word : List (List ℕ) → List ℕ
-events_word words = slice_index_or words 2 []
+pub record Row : Type 0 where
+  pub image : List ℕ
+  pub events : List ℕ
+  pub work : List ℕ
+  pub saved : List ℕ
+  pub display : List ℕ
+  pub core : ℕ
+  pub entries : ℕ
+  pub room : ℕ
+  pub steps : ℕ
 
-abbrev pub saved_word : List (List ℕ) → List ℕ
-saved_word words = slice_index_or words 3 []
+abbrev pub word_at : List (List ℕ) → ℕ → List ℕ
+word_at words i = slice_index_or words i []
 
-abbrev pub display_word : List (List ℕ) → List ℕ
-display_word words = slice_index_or words 4 []
+abbrev pub number_at : List (List ℕ) → ℕ → ℕ
+number_at words i = digits_value 10 (word_at words i)
 
-abbrev pub steps_word : List (List ℕ) → List ℕ
-steps_word words = slice_index_or words 5 []
+abbrev pub row_of : List (List ℕ) → Row
+row_of words = record {
+  image = word_at words 1;
+  events = word_at words 2;
+  work = word_at words 3;
+  saved = word_at words 4;
+  display = word_at words 5;
+  core = number_at words 6;
+  entries = number_at words 7;
+  room = number_at words 8;
+  steps = number_at words 9;
+}
 
--- how many bytecodes the sixth word asks for
-abbrev pub steps_of : List (List ℕ) → ℕ
-steps_of words = digits_value 10 (steps_word words)
-
--- the words are a run's: of this image, under these events, to that image, with the picture there, for so many bytecodes
-pub record IsRow (words : List (List ℕ)) (image events saved display : List ℕ) (steps : ℕ) : Type 0 where
-  pub row : words ≡ codes "run" ∷ image ∷ events ∷ saved ∷ display ∷ decimal steps ∷ []
-  pub most : steps < 2 ^ 31
-  pub not_image : display ≢ image
-  pub not_events : display ≢ events
-  pub not_saved : display ≢ saved
+-- these are the words of a run
+pub record IsRow (words : List (List ℕ)) (row : Row) : Type 0 where
+  pub words_are : words ≡ codes "run" ∷ row.image ∷ row.events ∷ row.work ∷ row.saved ∷ row.display
+      ∷ decimal row.core ∷ decimal row.entries ∷ decimal row.room ∷ decimal row.steps ∷ []
+  pub core : (LEAST_CORE ≤ row.core) × (row.core ≤ MOST_CORE)
+  pub entries : (LEAST_ENTRIES ≤ row.entries) × (row.entries ≤ MOST_ENTRIES)
+  pub room : (LEAST_ROOM ≤ row.room) × (row.room ≤ MOST_ROOM)
+  pub steps : row.steps ≤ MOST_STEPS
+  pub work_apart : (row.work ≢ row.image) × (row.work ≢ row.events) × (row.work ≢ row.saved) × (row.work ≢ row.display)
+  pub display_apart : (row.display ≢ row.image) × (row.display ≢ row.events) × (row.display ≢ row.saved)
 
 -- the position that a refusal names
 abbrev pub error_of : {T : Type 0} → Result T ℕ → Option ℕ

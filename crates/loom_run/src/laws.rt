@@ -1,19 +1,28 @@
 // Laws of the program. No code calls these functions: what each of them ensures is the law.
-ghost use Rattle.std.specs.Prelude.{◌↔◌, Bool, List, [], None, ◌≡◌, ℕ};
+ghost use Rattle.std.specs.Prelude.{◌↔◌, ◌<◌, ◌^◌, Bool, IsTrue, List, [], None, ◌≡◌, ℕ};
+ghost use Rattle.long_names.specs.Heap.{Heap};
+ghost use Rattle.long_names.specs.Kept.{kept, no_roots};
+ghost use Rattle.image_format.specs.declared.opening.ImageHead.{ImageHead};
+ghost use Rattle.image_format.specs.Valid.{IsImageHeap};
 ghost use Rattle.image_format.specs.Text.{image_text};
 ghost use Rattle.blue_model.specs.Base.{heap_running, base_code};
 ghost use Rattle.blue_model.specs.Cycle.{ending};
-ghost use Rattle.blue_model.specs.State.{no_state};
-ghost use Rattle.long_names.specs.Heap.{Heap, object_count};
-ghost use Rattle.long_names.specs.Kept.{kept};
-ghost use Rattle.image_format.specs.Valid.{IsImageHeap};
+ghost use Rattle.blue_model.specs.declared.event.Line.{Line};
+ghost use Rattle.blue_model.specs.Loaded.{start_on_kept};
+ghost use Rattle.blue_model.specs.Logs.{course};
+ghost use Rattle.blue_model.specs.Machine.{Machine, at_rest};
+ghost use Rattle.blue_model.specs.State.{begin, no_state, state_of};
+ghost use Rattle.machine_run.specs.States.{model_state};
 ghost use Rattle.loom_run.specs.Base.{base_bytes, text_of_ending};
 ghost use Rattle.loom_outside.specs.declared.outside.Role.{Role};
+ghost use Rattle.loom_outside.specs.declared.outside.Role.TheVariants.{Image, Events, Work};
 ghost use Rattle.loom_run.specs.declared.status.Status.{Status};
-ghost use Rattle.loom_run.specs.Headline.{HeadlineBy, TellsHeadline};
+ghost use Rattle.loom_run.specs.Completes.{CanEnd, IsOwnEnd};
+ghost use Rattle.loom_run.specs.Ends.{IsImageOf, bytes_of, head_of, image_of};
+ghost use Rattle.loom_run.specs.Headline.{HeadlineBy, SmallBy, TellsHeadline};
 ghost use Rattle.loom_run.specs.Meanings.{Meanings};
 ghost use Rattle.loom_run.specs.Promise.{Promise};
-ghost use Rattle.loom_run.specs.Words.{IsRow, bad_word, image_word, events_word, saved_word, display_word, steps_of};
+ghost use Rattle.loom_run.specs.Words.{IsRow, bad_word, row_of};
 
 /// The base image as bytes, before two bytecodes and after them: its context's instruction pointer is field 1, 3 and then 5.
 pub fn base_text()
@@ -21,23 +30,44 @@ pub fn base_text()
     ensures after { text_of_ending (ending [] 2 no_state (heap_running base_code)) ≡ base_bytes 11 }
 {}
 
-/// Words of which none is bad are `run`, the files of the image, the events, the saved image and the picture, which
-/// is none of the three before it, and a number of bytecodes as it is written in decimal digits.
+/// Words of which none is bad are those of a run.
 #[tactic(auto, using(crate::proofs::Rows::row_rules))]
 pub fn right_words()
-    ensures { (words : List (List ℕ)) → (bad_word words ≡ None) ↔ IsRow words (image_word words) (events_word words) (saved_word words) (display_word words) (steps_of words) }
+    ensures { (words : List (List ℕ)) → (bad_word words ≡ None) ↔ IsRow words (row_of words) }
 {}
 
-/// Over a host that tells what Image, Events, Transcript, Saved and Display hold, what `loom` promises gives, with Done or Quit, the six
-/// lines of `Headline`: the image's heap, the events' lines, the ending of the model's run over both, and the bytes of Transcript, Saved
-/// and Display.
-#[tactic(auto, using(crate::proofs::HeadlineLaws::headline_from))]
+/// Over a host that tells what Image, Events, Work, Transcript, Saved and Display hold, what `loom` promises gives, with Done or Quit, the
+/// six lines of `Headline`: the image's heap and state, the events' lines, the ending of the model's run over both, and the bytes of
+/// Transcript, Saved and Display.
 pub fn headline()
-    ensures { (tells : Role → Bool) (before now : Meanings) (words : List (List ℕ)) (result : Status) → TellsHeadline tells → Promise tells before now words result → HeadlineBy result before now (steps_of words) }
+    ensures { (tells : Role → Bool) (before now : Meanings) (words : List (List ℕ)) (result : Status) → TellsHeadline tells → Promise tells before now words result → bad_word words ≡ None
+        → HeadlineBy result before now (row_of words).steps }
 {}
 
-/// All objects of an image's heap are kept, whatever the roots are: so as many live at first as were read.
-#[tactic(auto, using(crate::proofs::TextLaws::image_kept))]
-pub fn an_image_is_kept()
-    ensures { (h : Heap) (root : ℕ → Bool) → IsImageHeap h → object_count (kept h root) ≡ object_count h }
+/// Where the model makes an object that takes more words than the core has, the answer is neither Done nor Quit.
+pub fn no_object_is_larger_than_the_core()
+    ensures { (tells : Role → Bool) (before now : Meanings) (words : List (List ℕ)) (result : Status) → IsTrue (tells Image) → IsTrue (tells Events) → IsTrue (tells Work)
+        → Promise tells before now words result → bad_word words ≡ None → SmallBy result now (row_of words) }
+{}
+
+/// Right words, an image and events that are right, a core and a work file with room for all that the model does with them, and no fault
+/// give the model's own end, or want of memory.
+pub fn a_run_comes_to_its_end()
+    ensures { (tells : Role → Bool) (before now : Meanings) (words : List (List ℕ)) (result : Status) → IsTrue (tells Image) → IsTrue (tells Events) → IsTrue (tells Work) → bad_word words ≡ None
+        → Promise tells before now words result → CanEnd (bytes_of (now.roles Image)) (bytes_of (now.roles Events)) (row_of words) before.faults now.faults → IsOwnEnd result }
+{}
+
+/// What is saved of a parked machine is an image, where what is kept of its heap is one's. And what is read of those bytes, as the image of a
+/// run, is what was saved: the kept heap, and the machine's state. So the run starts as the machine does on what is kept of it, and its course
+/// is the model's from there.
+pub fn a_run_goes_on_from_what_was_saved()
+    ensures image { (m : Machine) → IsImageHeap (kept m.heap no_roots) → (state_of m).tick < 2 ^ 32 → IsImageOf (image_of m) (head_of m) (kept m.heap no_roots) }
+    ensures heap { (m : Machine) (head : ImageHead) (heap : Heap) → IsImageOf (image_of m) (head_of m) (kept m.heap no_roots) → IsImageOf (image_of m) head heap
+        → heap ≡ kept m.heap no_roots }
+    ensures state { (m : Machine) (head : ImageHead) (heap : Heap) → IsImageOf (image_of m) (head_of m) (kept m.heap no_roots) → IsImageOf (image_of m) head heap
+        → model_state head.state ≡ state_of m }
+    ensures starts { (m : Machine) (head : ImageHead) (heap : Heap) → IsImageOf (image_of m) (head_of m) (kept m.heap no_roots) → IsImageOf (image_of m) head heap
+        → begin (model_state head.state) (at_rest heap) ≡ start_on_kept m }
+    ensures course { (m : Machine) (head : ImageHead) (heap : Heap) → IsImageOf (image_of m) (head_of m) (kept m.heap no_roots) → IsImageOf (image_of m) head heap
+        → (lines : List Line) (steps : ℕ) → course lines steps (model_state head.state) heap ≡ course lines steps (state_of m) (kept m.heap no_roots) }
 {}

@@ -1,26 +1,26 @@
-//! The program: an image and its events are read, so many bytecodes are run, and what was said, an image and a picture are written.
+//! The program: an image and its events are read, so many bytecodes are run over the memory of two levels, and what was said, an image and
+//! a picture are written.
 //!
 //! `loom` does what the words of a command ask for, over any host. Its one clause is the record `Promise`: read `specs/Promise.antt`
-//! first, or `specs/Headline.antt`, which has it in six lines for a run that goes through, as the law `headline` says.
+//! first, or `specs/Headline.antt`, which has it in six lines for a run that goes through, as the law `headline` says. When a run comes
+//! to the model's own end is the law `a_run_comes_to_its_end`.
 //!
-//!     let status = loom(alloc, host, &words);         // run IMAGE EVENTS SAVED DISPLAY STEPS
+//!     let status = loom(alloc, host, &words);   // run IMAGE EVENTS WORK SAVED DISPLAY CORE ENTRIES ROOM STEPS
 //!     ExitCode::from(status.code())
 //!
-//! An image is read into records and judged, made into a memory, and run under the event list; what the memory keeps is records again,
-//! and they are written, and so is the picture of the display. The run alone, over any object memory, is `machine_run`. Nothing is said
-//! of time, and want of memory may come before SAVED is attached.
+//! A run has stages (`specs/Stages.antt`), in the order in which it uses the roles of its host. `program` has them in that order; `reading`,
+//! `machine` and `writing` have the steps. Each step says what it did with its roles and why it was refused; each part of the run takes
+//! what came before it as a premise, and says how the whole run ends from there. Nothing is said of time, and want of memory may come in
+//! reading, in making the memory, in the picture and in saving.
 #![tactic(auto)]
 
-mod emit;
-mod image;
 pub mod laws;
-mod load;
+mod machine;
 mod program;
-mod save;
+mod reading;
 mod status;
-mod tally;
-mod window;
 mod words;
+mod writing;
 
 pub use machine_run::{Finished, Halted, Reason, State, run, whole_run};
 pub use program::loom;

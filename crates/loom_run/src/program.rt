@@ -1,362 +1,54 @@
-// The whole program.
-ghost use Rattle.std.specs.Prelude.{◌≡◌, ◌<◌, ◌^◌, ◌⊎◌, ℕ, [], ◌∷◌, All, IsTrue, IsFalse, IsErr, IfOk, IfErr, OnOk, OnErr, Err, length};
-ghost use Rattle.long_names.specs.Counting.{Rose};
-ghost use Rattle.long_names.specs.Objects.{IsRecord};
-ghost use Rattle.image_format.specs.Text.{image_text};
-ghost use Rattle.image_format.specs.Valid.{IsImageHeap, IsValid};
-ghost use Rattle.object_memory.specs.Records.{AreWhole};
-ghost use Rattle.object_memory.specs.Plain.{plain_told};
-ghost use Rattle.loom_outside.specs.Outside.{PutPrefix, puts};
-ghost use Rattle.blue_model.specs.Cycle.{ending};
-ghost use Rattle.blue_model.specs.State.{no_state};
-ghost use Rattle.blue_model.specs.Endings.{OnDrawn, OnParked, said_in};
-ghost use Rattle.event_file.specs.Text.{IsBadAt};
-ghost use Rattle.loom_run.specs.Image.{heap_of_image, text_of_image};
-ghost use Rattle.loom_run.specs.Meanings.{meanings, IsLeft, LeavesBut};
-ghost use Rattle.loom_run.specs.Parts.{IsAfterImage, IsAfterReading, IsFinished, IsRun, IsStopped, IsTold, IsWriting, SaysAny, SaysStopped, UnderEvents, WasSaid, WritesFor, is_own_reason, is_spoken_by, unsaid};
+// The whole program, in the order of a run. What the steps do stands in `reading`, `machine` and `writing`.
+ghost use Rattle.std.specs.Prelude.{◌≡◌, false, IsTrue, IfOk, IfErr, List};
+ghost use Rattle.image_format.specs.declared.opening.State.{State as Words};
+ghost use Rattle.loom_outside.specs.declared.outside.Role.TheVariants as role;
+ghost use Rattle.blue_model.specs.declared.event.Line.{Line};
+ghost use Rattle.blue_model.specs.Endings.{HasCounted};
+ghost use Rattle.blue_model.specs.Logs.{course};
+ghost use Rattle.contexts.specs.Keeping.{is_kept};
+ghost use Rattle.long_names.specs.Heap.{Heap};
+ghost use Rattle.disk_objects.specs.Disk.{disk_room};
+ghost use Rattle.image_reader.specs.Loaded.{heap_on};
+ghost use Rattle.image_memory.specs.Image.{HasEnded, HasImage};
+ghost use Rattle.loom_memory.specs.Memory.{loom_lender, loom_told, IsSound};
+ghost use Rattle.machine_run.specs.States.{model_state};
+ghost use Rattle.object_memory.specs.Told.{IsReady};
+ghost use Rattle.loom_run.specs.Command.{HasLimits, row_for};
+ghost use Rattle.loom_run.specs.Meanings.{meanings, Meanings};
 ghost use Rattle.loom_run.specs.Promise.{Promise};
-ghost use Rattle.loom_run.specs.Saved.{saved_text};
-ghost use Rattle.loom_run.specs.Top.{AreEvents, AttachedOnce, AttachedUnless, WasWritten, IsCaused, IsOfMachine, HasRun, JudgesEvents, JudgesRun, RunsBy, WasBegun, WasRefused, bytes_of, is_before_drawing, is_before_saving, is_before_saying};
+ghost use Rattle.loom_run.specs.Stages.{Reading, Listening, Finishing};
+ghost use Rattle.loom_run.specs.Steps.{BeginsImage, Came, CameThrough, HasBounds, HasRead, RunEnds, Uses};
 ghost use Rattle.loom_run.specs.Words.{texts_of};
 
-use crate::image::Image;
-use crate::load::{LoadFault, load};
-use crate::save::save;
-use crate::status::{Status, status_of, status_of_end};
+use crate::machine::{run_machine, wind_up};
+use crate::reading::{open_work, read_image, read_lines};
+use crate::status::{Status, status_of_end};
 use crate::words::{Command, command_of};
-use contexts::Stop;
-use event_file::{EventFault, EventList, read_events};
-use long_names::Octets;
-use loom_outside::{Failed, Host, Role, write_full};
-use machine_run::{Finished, Halted, Reason, State, whole_run};
-use object_memory::{MemFault, PlainMemory};
+use crate::writing::{tell, write_display, write_saved};
+use disk_objects::{DiskObjects, DiskRest};
+use event_file::EventList;
+use image_format::State;
+use image_memory::begin_memory;
+use image_reader::Loaded;
+use loom_memory::{CoreTables, LoomMemory};
+use loom_outside::Host;
+use machine_run::Finished;
 use std::alloc::Global;
 
-// Attaches Image by this name, and reads it to its end.
-fn read_image<H: Host>(alloc: Global, host: &mut H, name: &str) -> Result<Image, LoadFault>
-    ensures attached { IsTrue (H.tells Role.Image)
-        → AttachedOnce name.now (H.roles host.old Role.Image) (H.roles host.new Role.Image) }
-    ensures heap { IsTrue (H.tells Role.Image)
-        → IfOk result (λ image. IsImageHeap (heap_of_image image) × (bytes_of (H.roles host.new Role.Image) ≡ image_text (heap_of_image image))) }
-    ensures whole { IfOk result (λ image. AreWhole image.recs image.next) }
-    ensures bad { IsTrue (H.tells Role.Image)
-        → result ≡ Err LoadFault.Bad → IsValid (bytes_of (H.roles host.new Role.Image)) → ⊥ }
-    ensures read { result ≡ Err LoadFault.Read → Rose (H.faults host.old Role.Image) (H.faults host.new Role.Image) }
-    ensures others { LeavesBut (Role.Image ∷ []) (meanings H.Host host.old) (meanings H.Host host.new) }
-{
-    if host.attach(Role::Image, name).is_err() {
-        return Err(LoadFault::Read);
-    }
-    load(alloc, host)
-}
-
-// Attaches Saved by this name, and puts an image to it.
-fn write_saved<H: Host>(host: &mut H, name: &str, image: &Image) -> Result<(), Failed>
-    requires records { All IsRecord image.now.recs }
-    requires few { length image.now.recs < 2 ^ 32 }
-    ensures attached { IsTrue (H.tells Role.Saved)
-        → AttachedOnce name.now (H.roles host.old Role.Saved) (H.roles host.new Role.Saved) }
-    ensures put { IsTrue (H.tells Role.Saved)
-        → OnOk result (WasWritten name.now (text_of_image image.now) (H.roles host.old Role.Saved) (H.roles host.new Role.Saved)) }
-    ensures refused { IsTrue (H.tells Role.Saved)
-        → OnErr result (WasRefused name.now (H.roles host.old Role.Saved) (H.roles host.new Role.Saved)
-        ⊎ WasBegun name.now (text_of_image image.now) (H.roles host.old Role.Saved) (H.roles host.new Role.Saved)) }
-    ensures rose { IsErr result → Rose (H.faults host.old Role.Saved) (H.faults host.new Role.Saved) }
-    ensures others { LeavesBut (Role.Saved ∷ []) (meanings H.Host host.old) (meanings H.Host host.new) }
-{
-    host.attach(Role::Saved, name)?;
-    save(host, image)
-}
-
-// Attaches Events by this name, and reads them to their end.
-fn read_lines<H: Host>(alloc: Global, host: &mut H, name: &str) -> Result<EventList, EventFault>
-    ensures attached { IsTrue (H.tells Role.Events)
-        → AttachedOnce name.now (H.roles host.old Role.Events) (H.roles host.new Role.Events) }
-    ensures list { IsTrue (H.tells Role.Events)
-        → IfOk result (λ lines. AreEvents (bytes_of (H.roles host.new Role.Events)) lines) }
-    ensures bad { IsTrue (H.tells Role.Events)
-        → (line : ℕ) → result ≡ Err (EventFault.Bad line) → IsBadAt line (bytes_of (H.roles host.new Role.Events)) }
-    ensures read { (count : ℕ) → result ≡ Err (EventFault.Read count)
-        → (count ≡ H.faults host.new Role.Events) × Rose (H.faults host.old Role.Events) (H.faults host.new Role.Events) }
-    ensures others { LeavesBut (Role.Events ∷ []) (meanings H.Host host.old) (meanings H.Host host.new) }
-{
-    if host.attach(Role::Events, name).is_err() {
-        return Err(EventFault::Read {
-            count: host.fault_count(Role::Events),
-        });
-    }
-    read_events(alloc, host)
-}
-
-// Attaches Display by this name, and puts a picture to it.
-fn write_display<H: Host>(host: &mut H, name: &str, picture: &[u8]) -> Result<(), Failed>
-    ensures attached { IsTrue (H.tells Role.Display)
-        → AttachedOnce name.now (H.roles host.old Role.Display) (H.roles host.new Role.Display) }
-    ensures put { IsTrue (H.tells Role.Display)
-        → OnOk result (WasWritten name.now picture.now (H.roles host.old Role.Display) (H.roles host.new Role.Display)) }
-    ensures refused { IsTrue (H.tells Role.Display)
-        → OnErr result (WasRefused name.now (H.roles host.old Role.Display) (H.roles host.new Role.Display)
-        ⊎ WasBegun name.now picture.now (H.roles host.old Role.Display) (H.roles host.new Role.Display)) }
-    ensures rose { IsErr result → Rose (H.faults host.old Role.Display) (H.faults host.new Role.Display) }
-    ensures others { LeavesBut (Role.Display ∷ []) (meanings H.Host host.old) (meanings H.Host host.new) }
-{
-    host.attach(Role::Display, name)?;
-    write_full(host, Role::Display, picture)
-}
-
-// Puts what the machine said to Transcript, unless memory was refused in a cycle. The error is the answer.
-fn say<H: Host>(
-    host: &mut H,
-    memory: &PlainMemory,
-    run: &Result<Finished, Halted>,
-) -> Result<(), Status>
-    ensures put { IsTrue (H.tells Role.Transcript) → OnOk result (WasSaid (is_spoken_by run.now) (plain_told memory.now).transcript
-        (H.roles host.old Role.Transcript) (H.roles host.new Role.Transcript)) }
-    ensures fault { IfErr result (λ status. status ≡ Status.WriteFault Role.Transcript (H.faults host.new Role.Transcript)) }
-    ensures rose { IsErr result → Rose (H.faults host.old Role.Transcript) (H.faults host.new Role.Transcript) }
-    ensures refused { IsTrue (H.tells Role.Transcript) → OnErr result (IsTrue (is_spoken_by run.now)
-        × PutPrefix (plain_told memory.now).transcript (H.roles host.old Role.Transcript) (H.roles host.new Role.Transcript)) }
-    ensures others { LeavesBut (Role.Transcript ∷ []) (meanings H.Host host.old) (meanings H.Host host.new) }
-{
-    if !is_spoken(run) {
-        return Ok(());
-    }
-    match write_full(host, Role::Transcript, memory.transcript()) {
-        Ok(()) => Ok(()),
-        Err(_) => Err(Status::WriteFault {
-            role: Role::Transcript,
-            count: host.fault_count(Role::Transcript),
-        }),
-    }
-}
-
-// What a run that went through leaves to be written.
+/// What a run that went through leaves to be written.
 #[derive(Drop)]
-struct Kept {
-    // The image of what is kept.
-    image: Image,
-    picture: Octets,
-    // The answer once both are written.
-    status: Status,
+pub(crate) struct Ended {
+    pub(crate) finished: Finished,
+    /// The name that the next new object takes.
+    pub(crate) next: u32,
 }
 
-// Whether what was said is all that the run says: it isn't where memory was refused in a cycle.
-fn is_spoken(run: &Result<Finished, Halted>) -> bool
-    ensures { result ≡ is_spoken_by run.now }
-{
-    match run {
-        Ok(_) => true,
-        Err(halted) => is_own(halted),
-    }
-}
-
-fn is_own(halted: &Halted) -> bool
-    ensures { result ≡ is_own_reason halted.now.why }
-{
-    match halted.why {
-        Reason::ByStop(Stop::Mem(MemFault::NamesSpent)) => true,
-        Reason::ByStop(Stop::Mem(_)) => false,
-        Reason::ByStop(_) | Reason::NoMemory => true,
-    }
-}
-
-// Runs so many bytecodes over an image's objects, under these events, puts what was said to Transcript, and gives what is to be written
-// then. The error is the answer.
-fn run_image<H: Host>(
-    alloc: Global,
-    host: &mut H,
-    image: Image,
-    events: &EventList,
-    steps: u32,
-) -> Result<Kept, Status>
-    requires { AreWhole image.recs image.next }
-    ensures kept { IfOk result (λ kept. OnParked (ending events.now steps no_state (heap_of_image image)) (λ m. text_of_image kept.image ≡ saved_text m.heap)) }
-    ensures drawn { IfOk result (λ kept. OnDrawn (ending events.now steps no_state (heap_of_image image)) (λ picture. kept.picture ≡ picture)) }
-    ensures finished { IfOk result (λ kept. IsFinished kept.status) }
-    ensures counted { IfOk result (λ kept. HasRun kept.status steps) }
-    ensures parked { IfOk result (λ kept. JudgesRun kept.status (ending events.now steps no_state (heap_of_image image))) }
-    ensures said { IsTrue (H.tells Role.Transcript) → IfOk result (λ kept. H.roles host.new Role.Transcript
-        ≡ puts (said_in (ending events.now steps no_state (heap_of_image image))) (H.roles host.old Role.Transcript)) }
-    ensures records { IfOk result (λ kept. All IsRecord kept.image.recs) }
-    ensures few { IfOk result (λ kept. length kept.image.recs < 2 ^ 32) }
-    ensures stopped { IfErr result IsStopped }
-    ensures ran { IfErr result (λ status. HasRun status steps) }
-    ensures runs { IfErr result (λ status. JudgesRun status (ending events.now steps no_state (heap_of_image image))) }
-    ensures halted { IsTrue (H.tells Role.Transcript) → IfErr result (λ status. SaysStopped status (ending events.now steps no_state (heap_of_image image))
-        (H.roles host.old Role.Transcript) (H.roles host.new Role.Transcript)) }
-    ensures cause { IfErr result (λ status. IsCaused status (H.faults host.old) (H.faults host.new)) }
-    ensures others { LeavesBut (Role.Transcript ∷ []) (meanings H.Host host.old) (meanings H.Host host.new) }
-{
-    let Ok(mut memory) = image.into_memory(alloc) else {
-        return Err(Status::OutOfMemory);
-    };
-    let run = whole_run(alloc, &mut memory, events, steps, &State::NONE);
-    say(host, &memory, &run)?;
-    let finished = match run {
-        Ok(finished) => finished,
-        Err(halted) => return Err(status_of(&halted)),
-    };
-    let Ok(image) = Image::of_kept(alloc, &memory) else {
-        return Err(Status::OutOfMemory);
-    };
-    Ok(Kept {
-        image,
-        status: status_of_end(&finished),
-        picture: finished.picture,
-    })
-}
-
-// Writes what a run that went through left: the saved image, and then the picture.
-fn write_kept<H: Host>(host: &mut H, command: &Command<'_>, kept: &Kept) -> Status
-    requires finished { IsFinished kept.now.status }
-    requires records { All IsRecord kept.now.image.recs }
-    requires few { length kept.now.image.recs < 2 ^ 32 }
-    ensures answer { (result ≡ kept.now.status) ⊎ IsWriting result }
-    ensures cause { IsCaused result (H.faults host.old) (H.faults host.new) }
-    ensures saved { IsTrue (H.tells Role.Saved)
-        → AttachedOnce command.now.saved.now (H.roles host.old Role.Saved) (H.roles host.new Role.Saved) }
-    ensures saves { IsTrue (H.tells Role.Saved) → WritesFor Role.Saved result command.now.saved.now (text_of_image kept.now.image)
-        (H.roles host.old Role.Saved) (H.roles host.new Role.Saved) }
-    ensures drawn { IsTrue (H.tells Role.Display)
-        → AttachedUnless (is_before_drawing result) command.now.display.now (H.roles host.old Role.Display) (H.roles host.new Role.Display) }
-    ensures undrawn { IsTrue (is_before_drawing result) → IsLeft Role.Display (meanings H.Host host.old) (meanings H.Host host.new) }
-    ensures draws { IsTrue (H.tells Role.Display) → IsFalse (is_before_drawing result) → WritesFor Role.Display result command.now.display.now kept.now.picture
-        (H.roles host.old Role.Display) (H.roles host.new Role.Display) }
-    ensures others { LeavesBut (Role.Saved ∷ Role.Display ∷ []) (meanings H.Host host.old) (meanings H.Host host.new) }
-{
-    if write_saved(host, command.saved, &kept.image).is_err() {
-        return Status::WriteFault {
-            role: Role::Saved,
-            count: host.fault_count(Role::Saved),
-        };
-    }
-    if write_display(host, command.display, kept.picture.bytes()).is_err() {
-        return Status::WriteFault {
-            role: Role::Display,
-            count: host.fault_count(Role::Display),
-        };
-    }
-    kept.status
-}
-
-// Runs so many bytecodes, and writes what they come to. All memory for writing is taken before Saved is attached.
-fn run_and_write<H: Host>(
-    alloc: Global,
-    host: &mut H,
-    image: Image,
-    events: &EventList,
-    command: &Command<'_>,
-) -> Status
-    requires { AreWhole image.recs image.next }
-    ensures after { IsAfterReading result }
-    ensures ran { HasRun result command.now.steps }
-    ensures cause { IsCaused result (H.faults host.old) (H.faults host.new) }
-    ensures run { IsOfMachine result → RunsBy H.tells (meanings H.Host host.old) (meanings H.Host host.new) command.now.saved.now
-        command.now.display.now result (ending events.now command.now.steps no_state (heap_of_image image)) }
-    ensures spared { IsTrue (H.tells Role.Transcript) → result ≡ Status.OutOfMemory
-        → SaysAny (ending events.now command.now.steps no_state (heap_of_image image)) (H.roles host.old Role.Transcript) (H.roles host.new Role.Transcript) }
-    ensures saved { IsTrue (H.tells Role.Saved)
-        → AttachedUnless (is_before_saving result) command.now.saved.now (H.roles host.old Role.Saved) (H.roles host.new Role.Saved) }
-    ensures unsaved { IsTrue (is_before_saving result) → IsLeft Role.Saved (meanings H.Host host.old) (meanings H.Host host.new) }
-    ensures drawn { IsTrue (H.tells Role.Display)
-        → AttachedUnless (is_before_drawing result) command.now.display.now (H.roles host.old Role.Display) (H.roles host.new Role.Display) }
-    ensures undrawn { IsTrue (is_before_drawing result) → IsLeft Role.Display (meanings H.Host host.old) (meanings H.Host host.new) }
-    ensures others { LeavesBut (Role.Saved ∷ Role.Display ∷ Role.Transcript ∷ []) (meanings H.Host host.old) (meanings H.Host host.new) }
-{
-    match run_image(alloc, host, image, events, command.steps) {
-        Ok(kept) => write_kept(host, command, &kept),
-        Err(status) => status,
-    }
-}
-
-// The run of an image that was read, which begins with the reading of its events.
-fn run_under_events<H: Host>(
-    alloc: Global,
-    host: &mut H,
-    image: Image,
-    command: &Command<'_>,
-) -> Status
-    requires { AreWhole image.recs image.next }
-    ensures after { IsAfterImage result }
-    ensures ran { HasRun result command.now.steps }
-    ensures cause { IsCaused result (H.faults host.old) (H.faults host.new) }
-    ensures events { IsTrue (H.tells Role.Events)
-        → AttachedOnce command.now.events.now (H.roles host.old Role.Events) (H.roles host.new Role.Events) }
-    ensures judges { IsTrue (H.tells Role.Events) → JudgesEvents result (bytes_of (H.roles host.new Role.Events)) }
-    ensures run { IsTrue (H.tells Role.Events) → IsOfMachine result
-        → UnderEvents (bytes_of (H.roles host.new Role.Events)) command.now.steps (heap_of_image image)
-        (RunsBy H.tells (meanings H.Host host.old) (meanings H.Host host.new) command.now.saved.now command.now.display.now result) }
-    ensures spared { IsTrue (H.tells Role.Events) → IsTrue (H.tells Role.Transcript) → result ≡ Status.OutOfMemory
-        → (H.roles host.new Role.Transcript ≡ H.roles host.old Role.Transcript)
-        ⊎ UnderEvents (bytes_of (H.roles host.new Role.Events)) command.now.steps (heap_of_image image)
-        (λ run. H.roles host.new Role.Transcript ≡ puts (said_in run) (H.roles host.old Role.Transcript)) }
-    ensures unsaid { IsTrue (is_before_saying result) → IsLeft Role.Transcript (meanings H.Host host.old) (meanings H.Host host.new) }
-    ensures saved { IsTrue (H.tells Role.Saved)
-        → AttachedUnless (is_before_saving result) command.now.saved.now (H.roles host.old Role.Saved) (H.roles host.new Role.Saved) }
-    ensures unsaved { IsTrue (is_before_saving result) → IsLeft Role.Saved (meanings H.Host host.old) (meanings H.Host host.new) }
-    ensures drawn { IsTrue (H.tells Role.Display)
-        → AttachedUnless (is_before_drawing result) command.now.display.now (H.roles host.old Role.Display) (H.roles host.new Role.Display) }
-    ensures undrawn { IsTrue (is_before_drawing result) → IsLeft Role.Display (meanings H.Host host.old) (meanings H.Host host.new) }
-    ensures others { LeavesBut (Role.Events ∷ Role.Saved ∷ Role.Display ∷ Role.Transcript ∷ []) (meanings H.Host host.old) (meanings H.Host host.new) }
-{
-    match read_lines(alloc, host, command.events) {
-        Ok(events) => run_and_write(alloc, host, image, &events, command),
-        Err(EventFault::Bad { line }) => Status::EventsBad { line },
-        Err(EventFault::Read { count }) => Status::ReadFault {
-            role: Role::Events,
-            count,
-        },
-        Err(EventFault::Memory) => Status::OutOfMemory,
-    }
-}
-
-// The run that a command asks for, without its last line.
-fn run_command<H: Host>(alloc: Global, host: &mut H, command: &Command<'_>) -> Status
-    ensures run { IsRun H.tells (meanings H.Host host.old) (meanings H.Host host.new) command.now.image.now command.now.events.now
-        command.now.saved.now command.now.display.now command.now.steps result }
-{
-    match read_image(alloc, host, command.image) {
-        Ok(image) => run_under_events(alloc, host, image, command),
-        Err(LoadFault::Bad) => Status::ImageBad { rule: 0, place: 0 },
-        Err(LoadFault::Read) => Status::ReadFault {
-            role: Role::Image,
-            count: host.fault_count(Role::Image),
-        },
-        Err(LoadFault::Memory) => Status::OutOfMemory,
-    }
-}
-
-// Puts the last line to Notes. Only a Done and a Quit become another answer where that fails.
-fn tell<H: Host>(host: &mut H, status: Status) -> Status
-    ensures told { IsTold (H.tells Role.Notes) status result (meanings H.Host host.old) (meanings H.Host host.new) }
-    ensures others { LeavesBut (Role.Notes ∷ []) (meanings H.Host host.old) (meanings H.Host host.new) }
-{
-    let line = status.line();
-    match write_full(host, Role::Notes, line.as_str().as_bytes()) {
-        Ok(()) => status,
-        Err(_) => unsaid(host, status),
-    }
-}
-
-// The answer of a run whose last line couldn't be written.
-fn unsaid<H: Host>(host: &H, status: Status) -> Status
-    ensures { result ≡ unsaid status (H.faults host.now Role.Notes) }
-{
-    match status {
-        Status::Done { .. } | Status::Quit { .. } => Status::WriteFault {
-            role: Role::Notes,
-            count: host.fault_count(Role::Notes),
-        },
-        _ => status,
-    }
-}
-
-/// Does what the words after the program's name ask for: `run IMAGE EVENTS SAVED DISPLAY STEPS`.
+/// Does what the words after the program's name ask for: `run IMAGE EVENTS WORK SAVED DISPLAY CORE ENTRIES ROOM STEPS`.
 ///
-/// The words are checked. Image is attached and read to its end, and so is Events. The machine starts, runs STEPS bytecodes, or fewer
-/// where one ends it, and parks. What it said goes to Transcript, also after a run that stopped. What isn't kept is swept away. Saved is
-/// attached, and the image is written to it; then Display, and the picture. The last line goes to Notes. The first refusal ends the run:
-/// what comes later isn't attached, and only the line is still written.
+/// The words are checked. Work is attached; then Image, which is read to its end, its objects going to Work; then Events. The memory is
+/// made. The machine starts, runs STEPS bytecodes, or fewer where one ends it, and parks; what it says goes to Transcript as it is said.
+/// What nothing holds is freed. Saved is attached, and the image is written to it; then Display, and the picture. The last line goes to
+/// Notes. The first refusal ends the run: what comes later isn't attached, and only the line is still written.
 pub fn loom<H: Host>(alloc: Global, host: &mut H, words: &[String]) -> Status
     ensures promise { Promise H.tells (meanings H.Host host.old) (meanings H.Host host.new) (texts_of words.now) result }
 {
@@ -366,5 +58,137 @@ pub fn loom<H: Host>(alloc: Global, host: &mut H, words: &[String]) -> Status
             tell(host, status)
         }
         Err(word) => tell(host, Status::Usage { word }),
+    }
+}
+
+// The run that a command asks for, without its last line: Work is attached, and then Image, which is read.
+fn run_command<H: Host>(alloc: Global, host: &mut H, command: &Command<'_>) -> Status
+    requires limits { HasLimits command.now }
+    ensures ends { RunEnds H.tells (meanings H.Host host.old) (meanings H.Host host.new) (row_for command.now) result }
+{
+    if let Err(status) = open_work(host, command) {
+        return status;
+    }
+    let mut disk = DiskObjects::begin(host, command.room);
+    let loaded = match read_image(alloc, &mut disk, command) {
+        Ok(loaded) => loaded,
+        Err(status) => {
+            let _host = disk.into_host();
+            return status;
+        }
+    };
+    let (host, rest) = disk.apart();
+    run_image(alloc, host, rest, &loaded, command)
+}
+
+// Events is attached and read.
+fn run_image<H: Host>(
+    alloc: Global,
+    host: &mut H,
+    rest: DiskRest,
+    loaded: &Loaded,
+    command: &Command<'_>,
+) -> Status
+    requires limits { HasLimits command.now }
+    requires image { HasImage H.Host host.old rest loaded.now }
+    requires room { command.now.room ≡ disk_room rest }
+    ensures ends { (before : Meanings) → Uses H.tells before (meanings H.Host host.old) (row_for command.now) Reading
+        → HasRead H.tells (meanings H.Host host.old) (row_for command.now) loaded.now.state (heap_on H.Host host.old rest loaded.now.next)
+        → RunEnds H.tells before (meanings H.Host host.new) (row_for command.now) result }
+{
+    match read_lines(alloc, host, command) {
+        Ok(events) => run_under(alloc, host, rest, loaded, &events, command),
+        Err(status) => status,
+    }
+}
+
+// The memory is made, the machine runs, and the memory is wound up.
+fn run_under<H: Host>(
+    alloc: Global,
+    host: &mut H,
+    rest: DiskRest,
+    loaded: &Loaded,
+    events: &EventList,
+    command: &Command<'_>,
+) -> Status
+    requires limits { HasLimits command.now }
+    requires image { HasImage H.Host host.old rest loaded.now }
+    requires room { command.now.room ≡ disk_room rest }
+    ensures ends { (before : Meanings) → Came H.tells before (meanings H.Host host.old) (row_for command.now) Listening loaded.now.state (heap_on H.Host host.old rest loaded.now.next) events.now
+        → RunEnds H.tells before (meanings H.Host host.new) (row_for command.now) result }
+{
+    let Ok(tables) = CoreTables::new(alloc, command.core, command.entries) else {
+        return Status::OutOfMemory;
+    };
+    let disk = DiskObjects::again(host, rest);
+    let mut memory = begin_memory(disk, loaded, tables, command.core, command.entries);
+    let run = run_memory(alloc, &mut memory, events, &loaded.state, command);
+    let disk = memory.into_disk();
+    match run {
+        Ok(ended) => {
+            let (host, rest) = disk.apart();
+            write_kept(alloc, host, rest, &ended, command)
+        }
+        Err(status) => {
+            let _host = disk.into_host();
+            status
+        }
+    }
+}
+
+// The machine runs, and the memory is wound up.
+fn run_memory<H: Host>(
+    alloc: Global,
+    memory: &mut LoomMemory<'_, H>,
+    events: &EventList,
+    state: &State,
+    command: &Command<'_>,
+) -> Result<Ended, Status>
+    requires sound { IsSound H.Host memory.old }
+    requires ready { IsReady (loom_told H.Host memory.old) }
+    requires begins { IsTrue (H.tells role.Work) → (h : Heap) × BeginsImage h state.now (loom_told H.Host memory.old) }
+    requires bounds { HasBounds (row_for command.now) (loom_told H.Host memory.old) }
+    ensures counted { IfOk result (λ ended. HasCounted ended.finished.end ended.finished.ran command.now.steps) }
+    ensures kept { IfOk result (λ ended. is_kept ended.finished.end ≡ false) }
+    ensures through { IfOk result (λ ended. (left : Heap) × (IsTrue (H.tells role.Work) → HasEnded H.Host memory.new.disk.host.now memory.new.disk.rest ended.next left)
+        × ((before : Meanings) (h : Heap) → Came H.tells before (meanings H.Host memory.old.disk.host.now) (row_for command.now) Listening state.now h events.now
+        → (IsTrue (H.tells role.Work) → BeginsImage h state.now (loom_told H.Host memory.old))
+        → Came H.tells before (meanings H.Host memory.new.disk.host.now) (row_for command.now) Finishing state.now h events.now
+        × (IsTrue (H.tells role.Work) → CameThrough H.tells before (meanings H.Host memory.new.disk.host.now) (row_for command.now) ended.finished left (course events.now command.now.steps (model_state state.now) h)))) }
+    ensures ends { IfErr result (λ status. (before : Meanings) (h : Heap) → Came H.tells before (meanings H.Host memory.old.disk.host.now) (row_for command.now) Listening state.now h events.now
+        → (IsTrue (H.tells role.Work) → BeginsImage h state.now (loom_told H.Host memory.old))
+        → RunEnds H.tells before (meanings H.Host memory.new.disk.host.now) (row_for command.now) status) }
+    ensures lender { loom_lender memory.new ≡ loom_lender memory.old }
+{
+    let finished = run_machine(alloc, memory, events, state, command)?;
+    let next = wind_up(memory, command, finished.ran)?;
+    Ok(Ended { finished, next })
+}
+
+// Saved is attached and written, and then Display.
+fn write_kept<H: Host>(
+    alloc: Global,
+    host: &mut H,
+    rest: DiskRest,
+    ended: &Ended,
+    command: &Command<'_>,
+) -> Status
+    requires kept { is_kept ended.now.finished.end ≡ false }
+    requires counted { HasCounted ended.now.finished.end ended.now.finished.ran command.now.steps }
+    requires ended { IsTrue (H.tells role.Work) → (left : Heap) × HasEnded H.Host host.old rest ended.now.next left }
+    ensures ends { (before : Meanings) (state : Words) (h left : Heap) (lines : List Line) → Came H.tells before (meanings H.Host host.old) (row_for command.now) Finishing state h lines
+        → (IsTrue (H.tells role.Work) → HasEnded H.Host host.old rest ended.now.next left
+        × CameThrough H.tells before (meanings H.Host host.old) (row_for command.now) ended.now.finished left (course lines command.now.steps (model_state state) h))
+        → RunEnds H.tells before (meanings H.Host host.new) (row_for command.now) result }
+{
+    let mut disk = DiskObjects::again(host, rest);
+    let saved = write_saved(alloc, &mut disk, ended.next, &ended.finished.state, command);
+    let host = disk.into_host();
+    if let Err(status) = saved {
+        return status;
+    }
+    match write_display(host, ended.finished.picture.bytes(), command) {
+        Ok(()) => status_of_end(&ended.finished),
+        Err(status) => status,
     }
 }

@@ -1,23 +1,23 @@
 // How a run ends, and the line that says so.
 ghost use Rattle.std.specs.Prelude.{◌≡◌, ◌+◌, ◌≤◌, ◌++◌, ℕ, false, length, codes, decimal, IsFalse};
 ghost use Rattle.arrayvec.specs.ArrayString.{array_string_len};
-ghost use Rattle.blue_model.specs.Cycle.{Ending};
-ghost use Rattle.loom_run.specs.Parts.{IsFinished, IsStopped, StopsBy, is_own_reason};
+ghost use Rattle.blue_model.specs.Logs.{Course};
 ghost use Rattle.blue_model.specs.Endings.{HasCounted, IsParkedBy};
+ghost use Rattle.loom_run.specs.Ends.{GoesThrough, HasRun};
+ghost use Rattle.loom_run.specs.Parts.{IsFinished, status_by, status_by_disk, status_by_fault};
 ghost use Rattle.contexts.specs.Keeping.{is_kept};
 ghost use Rattle.loom_run.specs.Status.{role_text, text_of_status, line_of, code_of};
-ghost use Rattle.loom_run.specs.Top.{HasRun, JudgesRun};
 
 use arrayvec::ArrayString;
 use blue_model::Step;
 use contexts::Stop;
 use itoa::Buffer;
-use loom_outside::Role;
+use loom_outside::{DiskFault, Role};
 use machine_run::{Finished, Halted, Reason};
-use object_memory::MemFault;
+use object_memory::{MemFault, Need};
 
 /// The last line on Notes, with its newline. It takes no memory.
-pub(crate) type Line = ArrayString<64>;
+pub(crate) type Line = ArrayString<160>;
 
 /// How a run ended.
 #[derive(Clone, Copy, Debug, PartialEq, Eq)]
@@ -28,20 +28,28 @@ pub enum Status {
     Quit { ran: u32 },
     /// The words are no command. `word` is the position, from 1, of the first bad, missing or extra one.
     Usage { word: u32 },
-    /// The image breaks a rule at a place. Both are 0 so far.
+    /// The first rule that the image breaks, and its place: an offset, or from rule 10 on a name.
     ImageBad { rule: u8, place: u64 },
     /// This line of the event file, counted from 1, is the first bad one.
     EventsBad { line: u32 },
     /// After so many bytecodes the machine came to a broken rule. `cause` is the number of its `Cause`.
     Stuck { cause: u8, ran: u32 },
+    /// After so many bytecodes the core was too small for what the next one needs of it.
+    CoreFull { ran: u32, need: Need },
     /// After so many bytecodes the machine was to make an object, and no name is left for one.
     NamesSpent { ran: u32 },
+    /// So many objects are stated, or would live, and there is less room.
+    WorkFull { live: u32, room: u32 },
     /// A call on a role that is read failed; `count` is its fault count since then.
     ReadFault { role: Role, count: u64 },
+    /// A call on the work file failed; `count` is its fault count since then.
+    WorkFault { count: u64 },
     /// A call on a role that is written failed; `count` is its fault count since then.
     WriteFault { role: Role, count: u64 },
     /// There was no memory.
     OutOfMemory,
+    /// What stands at a place of the work file isn't what was put there; it was met on the way to this object.
+    Damaged { place: u64, name: u32 },
 }
 
 impl Status {
@@ -55,10 +63,14 @@ impl Status {
             Status::ImageBad { .. } => 3,
             Status::EventsBad { .. } => 4,
             Status::Stuck { .. } => 5,
+            Status::CoreFull { .. } => 6,
             Status::NamesSpent { .. } => 7,
+            Status::WorkFull { .. } => 8,
             Status::ReadFault { .. } => 9,
+            Status::WorkFault { .. } => 10,
             Status::WriteFault { .. } => 11,
             Status::OutOfMemory => 12,
+            Status::Damaged { .. } => 13,
         }
     }
 
@@ -73,7 +85,7 @@ impl Status {
 
     fn text(&self) -> Line
         ensures text { result.bytes ≡ text_of_status self.now }
-        ensures short { array_string_len result ≤ 60 }
+        ensures short { array_string_len result ≤ 140 }
     {
         match *self {
             Status::Done { ran } => numbered("ran ", ran as u64),
@@ -86,10 +98,18 @@ impl Status {
             Status::Stuck { cause, ran } => {
                 twice_numbered("stuck: cause ", cause as u64, " after ", ran as u64)
             }
+            Status::CoreFull { ran, need } => core_full(ran, need),
             Status::NamesSpent { ran } => numbered("names spent after ", ran as u64),
+            Status::WorkFull { live, room } => {
+                twice_numbered("work full: ", live as u64, " objects, room ", room as u64)
+            }
+            Status::WorkFault { .. } => begun("work fault"),
             Status::ReadFault { role, .. } => named("read fault: ", role),
             Status::WriteFault { role, .. } => named("write fault: ", role),
             Status::OutOfMemory => begun("out of memory"),
+            Status::Damaged { place, name } => {
+                twice_numbered("work damaged at ", place, ": object ", name as u64)
+            }
         }
     }
 }
@@ -99,7 +119,7 @@ pub(crate) fn status_of_end(finished: &Finished) -> Status
     requires { is_kept finished.now.end ≡ false }
     ensures finished { IsFinished result }
     ensures ran { (steps : ℕ) → HasCounted finished.now.end finished.now.ran steps → HasRun result steps }
-    ensures runs { (run : Ending) → IsParkedBy finished.now.end finished.now.ran run → JudgesRun result run }
+    ensures goes { (c : Course) → IsParkedBy finished.now.end finished.now.ran c.ending → GoesThrough result c }
 {
     let ran = finished.ran;
     match finished.end {
@@ -108,22 +128,46 @@ pub(crate) fn status_of_end(finished: &Finished) -> Status
     }
 }
 
-// The answer of a run that ended before its end. A memory without bounds has no fault but that names are spent, and want of memory.
+// The answer of a run that ended before its end.
 pub(crate) fn status_of(halted: &Halted) -> Status
-    ensures stopped { IsStopped result }
-    ensures ran { (steps : ℕ) → halted.now.ran ≤ steps → HasRun result steps }
-    ensures runs { (run : Ending) → StopsBy halted.now.why halted.now.ran run → JudgesRun result run }
-    ensures memory { IsFalse (is_own_reason halted.now.why) → result ≡ Status.OutOfMemory }
-    ensures unwritten { (role : Role) (count : ℕ) → result ≡ Status.WriteFault role count → ⊥ }
+    ensures { result ≡ status_by halted.now.why halted.now.ran }
 {
-    let ran = halted.ran;
     match halted.why {
         Reason::ByStop(Stop::Stuck(cause)) => Status::Stuck {
             cause: cause.number(),
-            ran,
+            ran: halted.ran,
         },
-        Reason::ByStop(Stop::Mem(MemFault::NamesSpent)) => Status::NamesSpent { ran },
-        Reason::ByStop(Stop::Mem(_)) | Reason::NoMemory => Status::OutOfMemory,
+        Reason::ByStop(Stop::Mem(fault)) => status_of_fault(fault, halted.ran),
+        Reason::NoMemory => Status::OutOfMemory,
+    }
+}
+
+// The answer for a fault of the memory after so many bytecodes.
+pub(crate) fn status_of_fault(fault: MemFault, ran: u32) -> Status
+    ensures { result ≡ status_by_fault fault ran }
+{
+    match fault {
+        MemFault::CoreFull(need) => Status::CoreFull { ran, need },
+        MemFault::WorkFull { live, room } => Status::WorkFull { live, room },
+        MemFault::WorkFault { count } => Status::WorkFault { count },
+        MemFault::Damaged { place, name } => Status::Damaged { place, name },
+        MemFault::NamesSpent => Status::NamesSpent { ran },
+        MemFault::Said { count } => Status::WriteFault {
+            role: Role::Transcript,
+            count,
+        },
+        MemFault::Memory => Status::OutOfMemory,
+    }
+}
+
+// The answer for a fault of the disk.
+pub(crate) fn status_of_disk(fault: DiskFault) -> Status
+    ensures { result ≡ status_by_disk fault }
+{
+    match fault {
+        DiskFault::Work { count } => Status::WorkFault { count },
+        DiskFault::Full { held, room } => Status::WorkFull { live: held, room },
+        DiskFault::Damaged { place, name } => Status::Damaged { place, name },
     }
 }
 
@@ -138,7 +182,7 @@ fn begun(text: &str) -> Line
 }
 
 fn put_number(line: &mut Line, number: u64)
-    requires { array_string_len line.old ≤ 40 }
+    requires { array_string_len line.old ≤ 120 }
     ensures text { line.new.bytes ≡ line.old.bytes ++ decimal number }
     ensures short { array_string_len line.new ≤ array_string_len line.old + 20 }
 {
@@ -159,14 +203,33 @@ fn numbered(text: &str, number: u64) -> Line
 
 // A text and two numbers, with a text between them.
 fn twice_numbered(text: &str, number: u64, between: &str, other: u64) -> Line
-    requires first { length text.now ≤ 13 }
-    requires second { length between.now ≤ 7 }
+    requires first { length text.now ≤ 20 }
+    requires second { length between.now ≤ 20 }
     ensures text { result.bytes ≡ text.now ++ decimal number ++ between.now ++ decimal other }
-    ensures short { array_string_len result ≤ 60 }
+    ensures short { array_string_len result ≤ 80 }
 {
     let mut line = numbered(text, number);
     line.push_str(between);
     put_number(&mut line, other);
+    line
+}
+
+// What a core was too small for.
+fn core_full(ran: u32, need: Need) -> Line
+    ensures text { result.bytes ≡ codes "core full after " ++ decimal ran ++ codes ": object " ++ decimal need.object ++ codes ", " ++ decimal need.words ++ codes " words, " ++ decimal need.entries ++ codes " entries" }
+    ensures short { array_string_len result ≤ 140 }
+{
+    let mut line = twice_numbered(
+        "core full after ",
+        ran as u64,
+        ": object ",
+        need.object as u64,
+    );
+    line.push_str(", ");
+    put_number(&mut line, need.words as u64);
+    line.push_str(" words, ");
+    put_number(&mut line, need.entries as u64);
+    line.push_str(" entries");
     line
 }
 

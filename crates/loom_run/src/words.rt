@@ -1,34 +1,52 @@
 // The words of a command.
-ghost use Rattle.std.specs.Prelude.{◌≡◌, ◌↔◌, IsTrue, decimal, IfOk, Some, None, if◌then◌else◌, ◌||◌, [], slice_index_or};
-ghost use Rattle.std.specs.Str.Parse.{digits_value};
-ghost use Rattle.std.specs.Str.{bytes_eq};
-ghost use Rattle.loom_run.specs.Words.{texts_of, is_steps, error_of, bad_word, bad_sixth, image_word, events_word, saved_word, display_word, steps_of};
+ghost use Rattle.std.specs.Prelude.{◌≡◌, ◌≢◌, codes, ◌↔◌, ◌≤◌, ◌∷◌, List, ℕ, IsTrue, decimal, IfOk, IfErr, IfSome, IsNone, Some, false, []};
+ghost use Rattle.loom_run.specs.Command.{HasLimits, row_for};
+ghost use Rattle.loom_run.specs.Words.{Check, bad_from, bad_word, error_of, is_from, is_number, row_of, texts_of};
 
 use itoa::Buffer;
 
-/// The greatest number of bytecodes that a run may be asked for.
-const MOST_STEPS: u32 = 2_147_483_647;
+/// The sizes of a core, in words and in entries, the number of objects for which the work file may have room, and the greatest number of
+/// bytecodes that a run may be asked for.
+pub const LEAST_CORE: u32 = 4_096;
 
-/// A run: the files of the image and the events, the files for the saved image and the picture, and how many bytecodes.
+pub const MOST_CORE: u32 = 16_777_216;
+
+pub const LEAST_ENTRIES: u32 = 512;
+
+pub const MOST_ENTRIES: u32 = 32_767;
+
+pub const LEAST_ROOM: u32 = 1_024;
+
+pub const MOST_ROOM: u32 = 1_048_576;
+
+pub const MOST_STEPS: u32 = 2_147_483_647;
+
+/// A run: the files of the image and of the events, the work file, the files for the saved image and for the picture, the words and the
+/// entries of the core, for how many objects there is room, and how many bytecodes.
 #[derive(Clone, Copy, Debug)]
 pub struct Command<'a> {
     pub image: &'a str,
     pub events: &'a str,
+    pub work: &'a str,
     pub saved: &'a str,
     pub display: &'a str,
+    pub core: u32,
+    pub entries: u16,
+    pub room: u32,
     pub steps: u32,
 }
 
-/// The number of bytecodes that a word states, in decimal digits with no sign and no leading zero.
-#[tactic(auto, using(crate::proofs::Numbers::steps_rules))]
-fn steps_in(word: &str) -> Option<u32>
-    ensures { result ≡ (if is_steps word.now then Some (digits_value 10 word.now) else None) }
+// The number from the least to the most that a word states, in decimal digits with no sign and no leading zero.
+#[tactic(auto, using(crate::proofs::Numbers::number_rules))]
+fn number_in(word: &str, least: u32, most: u32) -> Option<u32>
+    ensures some { IfSome result (λ n. (word.now ≡ decimal n) × (least ≤ n) × (n ≤ most)) }
+    ensures none { IsNone result → is_number least most word.now ≡ false }
 {
-    let Ok(steps) = word.parse::<u32>() else {
+    let Ok(number) = word.parse::<u32>() else {
         return None;
     };
-    if steps <= MOST_STEPS && is_decimal(word, steps) {
-        Some(steps)
+    if least <= number && number <= most && is_decimal(word, number) {
+        Some(number)
     } else {
         None
     }
@@ -41,67 +59,107 @@ fn is_decimal(word: &str, number: u32) -> bool
     buffer.format(number) == word
 }
 
-/// The command that the words after the program's name state: `run IMAGE EVENTS SAVED DISPLAY STEPS`. DISPLAY is none of the files
-/// before it. The error is the position, from 1, of the first bad, missing or extra word.
+// The first of some words, and the others. The error is this position.
+fn next_word(words: &[String], position: u32) -> Result<(&str, &[String]), u32>
+    ensures missing { IfErr result (λ at. (at ≡ position) × (texts_of words.now ≡ [])) }
+    ensures first { IfOk result (λ r. texts_of words.now ≡ r.0.now ∷ texts_of r.1.now) }
+{
+    match words.split_first() {
+        Some((word, others)) => Ok((word.as_str(), others)),
+        None => Err(position),
+    }
+}
+
+// The number that the first of some words states, and the others. The error is this position.
+fn next_number(
+    words: &[String],
+    position: u32,
+    least: u32,
+    most: u32,
+) -> Result<(u32, &[String]), u32>
+    ensures bad { (checks : List Check) (all : List (List ℕ)) → IfErr result (λ at. (at ≡ position) × (bad_from position (is_from least most ∷ checks) all (texts_of words.now) ≡ Some position)) }
+    ensures first { IfOk result (λ r. texts_of words.now ≡ decimal r.0 ∷ texts_of r.1.now) }
+    ensures within { IfOk result (λ r. (least ≤ r.0) × (r.0 ≤ most)) }
+{
+    let (word, others) = next_word(words, position)?;
+    match number_in(word, least, most) {
+        Some(number) => Ok((number, others)),
+        None => Err(position),
+    }
+}
+
+// The files of a run.
+#[derive(Clone, Copy, Debug)]
+struct Files<'a> {
+    image: &'a str,
+    events: &'a str,
+    work: &'a str,
+    saved: &'a str,
+    display: &'a str,
+}
+
+// The words `run IMAGE EVENTS WORK SAVED DISPLAY`, and those behind them. The error is the position of the first bad or missing word.
+fn files_of(words: &[String]) -> Result<(Files<'_>, &[String]), u32>
+    ensures bad { IfErr result (λ at. bad_word (texts_of words.now) ≡ Some at) }
+    ensures first { IfOk result (λ r. texts_of words.now ≡ codes "run" ∷ r.0.image.now ∷ r.0.events.now ∷ r.0.work.now ∷ r.0.saved.now ∷ r.0.display.now ∷ texts_of r.1.now) }
+    ensures work_apart { IfOk result (λ r. (r.0.work.now ≢ r.0.image.now) × (r.0.work.now ≢ r.0.events.now) × (r.0.work.now ≢ r.0.saved.now) × (r.0.work.now ≢ r.0.display.now)) }
+    ensures display_apart { IfOk result (λ r. (r.0.display.now ≢ r.0.image.now) × (r.0.display.now ≢ r.0.events.now) × (r.0.display.now ≢ r.0.saved.now)) }
+{
+    let (command, words) = next_word(words, 1)?;
+    if command != "run" {
+        return Err(1);
+    }
+    let (image, words) = next_word(words, 2)?;
+    let (events, words) = next_word(words, 3)?;
+    let (work, words) = next_word(words, 4)?;
+    if work == image || work == events {
+        return Err(4);
+    }
+    let (saved, words) = next_word(words, 5)?;
+    if saved == work {
+        return Err(5);
+    }
+    let (display, words) = next_word(words, 6)?;
+    if display == image || display == events || display == work || display == saved {
+        return Err(6);
+    }
+    Ok((
+        Files {
+            image,
+            events,
+            work,
+            saved,
+            display,
+        },
+        words,
+    ))
+}
+
+/// The command that the words after the program's name state:
+/// `run IMAGE EVENTS WORK SAVED DISPLAY CORE ENTRIES ROOM STEPS`. WORK is none of the other files, and DISPLAY none of those before it. The
+/// error is the position, from 1, of the first bad, missing or extra word.
 pub fn command_of(words: &[String]) -> Result<Command<'_>, u32>
     ensures bad { error_of result ≡ bad_word (texts_of words.now) }
-    ensures image { IfOk result (λ c. c.image.now ≡ image_word (texts_of words.now)) }
-    ensures events { IfOk result (λ c. c.events.now ≡ events_word (texts_of words.now)) }
-    ensures saved { IfOk result (λ c. c.saved.now ≡ saved_word (texts_of words.now)) }
-    ensures display { IfOk result (λ c. c.display.now ≡ display_word (texts_of words.now)) }
-    ensures steps { IfOk result (λ c. c.steps ≡ steps_of (texts_of words.now)) }
+    ensures row { IfOk result (λ c. row_for c ≡ row_of (texts_of words.now)) }
+    ensures limits { IfOk result HasLimits }
 {
-    let Some((command, words)) = words.split_first() else {
-        return Err(1);
-    };
-    if command.as_str() != "run" {
-        return Err(1);
-    }
-    let Some((image, words)) = words.split_first() else {
-        return Err(2);
-    };
-    let Some((events, words)) = words.split_first() else {
-        return Err(3);
-    };
-    let Some((saved, words)) = words.split_first() else {
-        return Err(4);
-    };
-    let Some((display, words)) = words.split_first() else {
-        return Err(5);
-    };
-    if is_one_of(display, image, events, saved) {
-        return Err(5);
+    let (files, words) = files_of(words)?;
+    let (core, words) = next_number(words, 7, LEAST_CORE, MOST_CORE)?;
+    let (entries, words) = next_number(words, 8, LEAST_ENTRIES, MOST_ENTRIES)?;
+    let (room, words) = next_number(words, 9, LEAST_ROOM, MOST_ROOM)?;
+    let (steps, words) = next_number(words, 10, 0, MOST_STEPS)?;
+    if !words.is_empty() {
+        return Err(11);
     }
     Ok(Command {
-        image: image.as_str(),
-        events: events.as_str(),
-        saved: saved.as_str(),
-        display: display.as_str(),
-        steps: last_word(words)?,
+        image: files.image,
+        events: files.events,
+        work: files.work,
+        saved: files.saved,
+        display: files.display,
+        core,
+        entries: entries as u16,
+        room,
+        steps,
     })
-}
-
-/// The number of bytecodes that the sixth word states, which is the last. The error is the position, from 1, of the bad, missing or extra
-/// word.
-fn last_word(words: &[String]) -> Result<u32, u32>
-    ensures bad { error_of result ≡ bad_sixth (texts_of words.now) }
-    ensures steps { IfOk result (λ steps. steps ≡ digits_value 10 (slice_index_or (texts_of words.now) 0 [])) }
-{
-    let Some((word, words)) = words.split_first() else {
-        return Err(6);
-    };
-    let Some(steps) = steps_in(word.as_str()) else {
-        return Err(6);
-    };
-    if !words.is_empty() {
-        return Err(7);
-    }
-    Ok(steps)
-}
-
-/// Whether a word is one of three others.
-fn is_one_of(word: &str, first: &str, second: &str, third: &str) -> bool
-    ensures { result ≡ bytes_eq word.now first.now || (bytes_eq word.now second.now || bytes_eq word.now third.now) }
-{
-    word == first || word == second || word == third
 }

@@ -1,42 +1,19 @@
 -- The line is that of the run's own answer.
-use Rattle.std.proofs.Common.{arith, rules}
-use Rattle.loom_outside.specs.declared.outside.Role.TheVariants.{Notes}
+use Rattle.std.proofs.Common.{sym, ◌∙◌, ap, subst}
 use Rattle.loom_run.specs.Meanings.{meanings}
-use Rattle.loom_run.proofs.Lines.{noted-run}
-use Rattle.loom_run.proofs.ProgramLaws.{told_run, told_spared, judged_run, done_by}
+use Rattle.loom_run.specs.Steps.{RunEnds}
+use Rattle.loom_run.specs.Words.{error_of, texts_of}
+use Rattle.loom_run.proofs.TellingLaws.{promise-told, promise-usage}
 use Rattle.loom_run.proofs.program.loom.Goals as goal
 
 pub returns-in-Ok : goal.returns-in-Ok
-returns-in-Ok g c = record {
-  promise = record {
-    usage = search rules;
-    ran = search rules;
-    cause = search rules;
-    image = search rules;
-    unasked = search rules;
-    events = search rules;
-    unread = search rules;
-    judges_image = search rules;
-    judges_events = search rules;
-    run = λ image events.
-        let run = c.run_command-status in
-        told_run run.result c.tell.result (meanings g.H.Host c.run_command-status.new.host) (meanings g.H.Host c.tell.new.host) c.tell.ensures.others c.tell.ensures.told (rw (c.in-Ok.ensures.steps, c.in-Ok.ensures.saved, c.in-Ok.ensures.display) at (run.ensures.run.run image events));
-    spared = λ image events transcript.
-        let run = c.run_command-status in
-        told_spared (meanings g.H.Host c.args.host.now) run.result c.tell.result (meanings g.H.Host c.run_command-status.new.host) (meanings g.H.Host c.tell.new.host) c.tell.ensures.others c.tell.ensures.told (rw c.in-Ok.ensures.steps at (run.ensures.run.spared image events transcript));
-    unsaid = search rules;
-    saved = search rules;
-    unsaved = search rules;
-    drawn = search rules;
-    undrawn = search rules;
-    noted =
-        let run = c.run_command-status in
-        let left = run.ensures.run.others.others Notes (λ e. grind arith, (λ e. grind arith, (λ e. grind arith, (λ e. grind arith, (λ e. grind arith, tt))))) in
-        noted-run run.result c.tell.result _ _ _ _ run.ensures.run.of_run (rw c.in-Ok.ensures.steps at run.ensures.run.ran) left c.tell.ensures.told;
-    completes = λ image events right can.
-        let run = c.run_command-status in
-        done_by _ _ _ _ _ c.tell.result (search rules) (search rules) (search rules) (search rules)
-        (λ machine. judged_run (told_run run.result c.tell.result (meanings g.H.Host c.run_command-status.new.host) (meanings g.H.Host c.tell.new.host) c.tell.ensures.others c.tell.ensures.told (rw (c.in-Ok.ensures.steps, c.in-Ok.ensures.saved, c.in-Ok.ensures.display) at (run.ensures.run.run image events)) machine)) can;
-    others = search rules;
-  };
-}
+returns-in-Ok g c =
+    let before = meanings g.H.Host c.args.host.now in
+    let mid = meanings g.H.Host c.run_command-status.new.host in
+    record {
+      promise = promise-told g.H.Host.tells before mid (meanings g.H.Host c.tell.new.host) (texts_of c.args.words.now) c.run_command-status.result c.tell.result (sym c.command_of.ensures.bad ∙ ap error_of c.in-Ok.is)
+          (subst (λ row. RunEnds g.H.Host.tells before mid row c.run_command-status.result) c.in-Ok.ensures.row c.run_command-status.ensures.ends) c.tell.ensures.others c.tell.ensures.told;
+    }
+
+pub returns-in-Err : goal.returns-in-Err
+returns-in-Err g c = record { promise = promise-usage g.H.Host.tells (meanings g.H.Host c.args.host.now) (meanings g.H.Host c.tell-in-Err.new.host) (texts_of c.args.words.now) c.in-Err.word c.tell-in-Err.result (sym (ap error_of c.in-Err.is) ∙ c.command_of.ensures.bad) c.tell-in-Err.ensures.told c.tell-in-Err.ensures.others }

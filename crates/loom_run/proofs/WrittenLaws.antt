@@ -1,0 +1,159 @@
+-- A run whose machine has run ends: what was said, saved and drawn is the model's.
+use Rattle.std.proofs.Common.{◌≡◌, ℕ, ◌≤◌, Bool, true, false, List, ◌++◌, IsTrue, refl, sym, ◌∙◌, ap, subst}
+use Rattle.long_names.specs.Heap.{Heap}
+use Rattle.long_names.specs.Kept.{kept, no_roots}
+use Rattle.image_format.specs.declared.opening.State.{State as Words}
+use Rattle.image_writer.specs.Saved.{saved_text}
+use Rattle.loom_outside.specs.Outside.{RoleState}
+use Rattle.loom_outside.specs.declared.outside.Role.{Role}
+use Rattle.loom_outside.specs.declared.outside.Role.TheVariants.{Work, Saved, Display, Transcript, Notes}
+use Rattle.blue_model.specs.declared.event.Line.{Line}
+use Rattle.blue_model.specs.declared.step.Step.{Step}
+use Rattle.blue_model.specs.Cycle.{Ending, Parked, Stuck}
+use Rattle.blue_model.specs.Endings.{IsParked, IsParkedBy, OnDrawn, OnParked, said_in}
+use Rattle.blue_model.specs.Logs.{Course, course}
+use Rattle.machine_run.specs.States.{model_state}
+use Rattle.machine_run.specs.declared.running.Finished.{Finished}
+use Rattle.loom_run.specs.Ends.{GoesThrough, HasRun, SaysStopped, Stops, WrittenBy, image_of}
+use Rattle.loom_run.specs.Meanings.{Meanings, IsLeft}
+use Rattle.loom_run.specs.Parts.{IsFinished}
+use Rattle.loom_run.specs.Stages.{Running, Finishing, Saving, Drawing, Telling, Ends}
+use Rattle.loom_run.specs.Steps.{Came, CameThrough, IsRefusal, RunEnds}
+use Rattle.loom_run.specs.Words.{Row}
+use Rattle.loom_run.specs.declared.status.Status.{Status}
+use Rattle.loom_run.specs.declared.status.Status.TheVariants as answer
+use Rattle.loom_run.proofs.UsesLaws.{never}
+use Rattle.loom_run.proofs.EndsLaws.{ends-later}
+
+-- ---- what a run that went through says of an answer
+
+parked-of : (end : Step) (ran : ℕ) (e : Ending) → IsParkedBy end ran e → IsParked e
+parked-of end ran (Parked last m drawn) h = tt
+parked-of end ran (Stuck why count said) h = h
+
+-- a refusal after the machine's run
+goes-refused : (status : Status) (c : Course) → ((ran : ℕ) → status ≡ answer.Done ran → ⊥) → ((ran : ℕ) → status ≡ answer.Quit ran → ⊥) → IsParked c.ending → GoesThrough status c
+goes-refused (answer.Done ran) c done quit h = absurd (done ran refl)
+goes-refused (answer.Quit ran) c done quit h = absurd (quit ran refl)
+goes-refused (answer.Usage word) c done quit h = h
+goes-refused (answer.ImageBad rule place) c done quit h = h
+goes-refused (answer.EventsBad line) c done quit h = h
+goes-refused (answer.Stuck cause ran) c done quit h = h
+goes-refused (answer.CoreFull ran need) c done quit h = h
+goes-refused (answer.NamesSpent ran) c done quit h = h
+goes-refused (answer.WorkFull live room) c done quit h = h
+goes-refused (answer.ReadFault role count) c done quit h = h
+goes-refused (answer.WorkFault count) c done quit h = h
+goes-refused (answer.WriteFault role count) c done quit h = h
+goes-refused answer.OutOfMemory c done quit h = h
+goes-refused (answer.Damaged place name) c done quit h = h
+
+-- what is written of a parked machine
+written-of : (e : Ending) (b : Bool) (text bytes : List ℕ) (a mid now : RoleState) → OnParked e (λ m. bytes ≡ image_of m) → mid ≡ a → WrittenBy b text bytes mid now → OnParked e (λ m. WrittenBy b text (image_of m) a now)
+written-of (Parked end m drawn) b text bytes a mid now same from w = subst (λ t. WrittenBy b text t a now) same (subst (λ s. WrittenBy b text bytes s now) from w)
+written-of (Stuck why count said) b text bytes a mid now same from w = same
+
+drawn-of : (e : Ending) (b : Bool) (text bytes : List ℕ) (a mid now : RoleState) → OnDrawn e (λ picture. bytes ≡ picture) → mid ≡ a → WrittenBy b text bytes mid now → OnDrawn e (λ picture. WrittenBy b text picture a now)
+drawn-of (Parked end m drawn) b text bytes a mid now same from w = subst (λ t. WrittenBy b text t a now) same (subst (λ s. WrittenBy b text bytes s now) from w)
+drawn-of (Stuck why count said) b text bytes a mid now same from w = same
+
+on-parked-left : (e : Ending) (b : Bool) (text : List ℕ) (a mid now : RoleState) → now ≡ mid → OnParked e (λ m. WrittenBy b text (image_of m) a mid) → OnParked e (λ m. WrittenBy b text (image_of m) a now)
+on-parked-left (Parked end m drawn) b text a mid now same w = subst (λ s. WrittenBy b text (image_of m) a s) (sym same) w
+on-parked-left (Stuck why count said) b text a mid now same w = w
+
+module _ (tells : Role → Bool) (before : Meanings) (row : Row) (state : Words) (heap : Heap) (lines : List Line) where
+  abbrev of : Course
+  of = course lines row.steps (model_state state) heap
+
+  -- ---- the machine's run
+
+  pub ends-running : (mid now : Meanings) (status : Status) → ((role : Role) → before.faults role ≤ mid.faults role) → Came tells before now row Running state heap lines → IsRefusal tells mid now row Running status
+      → (IsTrue (tells Work) → Stops status row of × (IsTrue (tells Transcript) → SaysStopped status row of (before.roles Transcript).put (now.roles Transcript).put)) → RunEnds tells before now row status
+  ends-running mid now status since came refused stops = ends-later tells before row mid now Running status state heap lines since came (λ e. cc) (λ e. cc) (came.uses.unused Notes refl) refused (λ work. record {
+    stops = λ at. (stops work).0;
+    goes = λ past. never past;
+    fits = λ past. never past;
+    says = λ told at. (stops work).1 told;
+    said = λ told past. never past;
+    saves = λ told past. never past;
+    draws = λ told past. never past;
+    image = λ past. never past;
+  })
+
+  -- where the memory couldn't be wound up
+  pub ends-finishing : (mid now : Meanings) (status : Status) → ((role : Role) → before.faults role ≤ mid.faults role) → Came tells before now row Finishing state heap lines → IsRefusal tells mid now row Finishing status
+      → (IsTrue (tells Work) → IsParked of.ending × OnParked of.ending (λ m. m.largest ≤ row.core) × (IsTrue (tells Transcript) → (now.roles Transcript).put ≡ (before.roles Transcript).put ++ said_in of.ending)) → RunEnds tells before now row status
+  ends-finishing mid now status since came refused went = ends-later tells before row mid now Finishing status state heap lines since came (λ e. cc) (λ e. cc) (came.uses.unused Notes refl) refused (λ work. record {
+    stops = λ at. absurd (cc);
+    goes = λ past. goes-refused status of (λ ran e. subst (λ s. Ends Finishing s) e refused.answer) (λ ran e. subst (λ s. Ends Finishing s) e refused.answer) (went work).0;
+    fits = λ past. (went work).1;
+    says = λ told at. absurd (cc);
+    said = λ told past. (went work).2 told;
+    saves = λ told past. never past;
+    draws = λ told past. never past;
+    image = λ past. never past;
+  })
+
+  -- ---- the saved image and the picture
+
+  module _ (mid : Meanings) (finished : Finished) (remains : Heap) (came : Came tells before mid row Finishing state heap lines) (through : IsTrue (tells Work) → CameThrough tells before mid row finished remains of) where
+    pub ends-saving : (now : Meanings) (status : Status) → Came tells before now row Saving state heap lines → IsRefusal tells mid now row Saving status → now.roles Transcript ≡ mid.roles Transcript
+        → (IsTrue (tells Saved) → IsTrue (tells Work) → WrittenBy false row.saved (saved_text (kept remains no_roots) finished.state) (mid.roles Saved) (now.roles Saved)) → RunEnds tells before now row status
+    ends-saving now status after refused silent put = ends-later tells before row mid now Saving status state heap lines came.uses.later after (λ e. cc) (λ e. cc) (after.uses.unused Notes refl) refused (λ work. record {
+      stops = λ at. absurd (cc);
+      goes = λ past. goes-refused status of (λ ran e. subst (λ s. Ends Saving s) e refused.answer) (λ ran e. subst (λ s. Ends Saving s) e refused.answer) (parked-of finished.end finished.ran of.ending (through work).parked);
+      fits = λ past. (through work).fits;
+      says = λ told at. absurd (cc);
+      said = λ told past. ap (λ (s : RoleState). s.put) silent ∙ (through work).said told;
+      saves = λ told past. written-of of.ending false row.saved _ (before.roles Saved) (mid.roles Saved) (now.roles Saved) (through work).saves (came.uses.unused Saved refl).state (put told work);
+      draws = λ told past. never past;
+      image = λ past. (through work).image;
+    })
+
+    module _ (far : Meanings) (silent : far.roles Transcript ≡ mid.roles Transcript) (put : IsTrue (tells Saved) → IsTrue (tells Work) → WrittenBy true row.saved (saved_text (kept remains no_roots) finished.state) (mid.roles Saved) (far.roles Saved)) (undrawn : far.roles Display ≡ mid.roles Display) where
+      saved-far : IsTrue (tells Saved) → IsTrue (tells Work) → OnParked of.ending (λ m. WrittenBy true row.saved (image_of m) (before.roles Saved) (far.roles Saved))
+      saved-far told work = written-of of.ending true row.saved _ (before.roles Saved) (mid.roles Saved) (far.roles Saved) (through work).saves (came.uses.unused Saved refl).state (put told work)
+
+      pub ends-drawing : (now : Meanings) (status : Status) → Came tells before now row Drawing state heap lines → ((role : Role) → before.faults role ≤ far.faults role) → IsRefusal tells far now row Drawing status
+          → now.roles Transcript ≡ far.roles Transcript → now.roles Saved ≡ far.roles Saved → (IsTrue (tells Display) → WrittenBy false row.display finished.picture (far.roles Display) (now.roles Display)) → RunEnds tells before now row status
+      ends-drawing now status after since refused still saved drawn = ends-later tells before row far now Drawing status state heap lines since after (λ e. cc) (λ e. cc) (after.uses.unused Notes refl) refused (λ work. record {
+        stops = λ at. absurd (cc);
+        goes = λ past. goes-refused status of (λ ran e. subst (λ s. Ends Drawing s) e refused.answer) (λ ran e. subst (λ s. Ends Drawing s) e refused.answer) (parked-of finished.end finished.ran of.ending (through work).parked);
+        fits = λ past. (through work).fits;
+        says = λ told at. absurd (cc);
+        said = λ told past. ap (λ (s : RoleState). s.put) (still ∙ silent) ∙ (through work).said told;
+        saves = λ told past. on-parked-left of.ending true row.saved (before.roles Saved) (far.roles Saved) (now.roles Saved) saved (saved-far told work);
+        draws = λ told past. drawn-of of.ending false row.display finished.picture (before.roles Display) (far.roles Display) (now.roles Display) (through work).drawn (undrawn ∙ (came.uses.unused Display refl).state) (drawn told);
+        image = λ past. (through work).image;
+      })
+
+      -- a run that went through
+      pub ends-telling : (now : Meanings) (status : Status) → Came tells before now row Telling state heap lines → IsLeft Notes before now → IsRefusal tells now now row Telling status → ((c : Course) → IsParkedBy finished.end finished.ran c.ending → GoesThrough status c)
+          → now.roles Transcript ≡ far.roles Transcript → now.roles Saved ≡ far.roles Saved → (IsTrue (tells Display) → WrittenBy true row.display finished.picture (far.roles Display) (now.roles Display)) → RunEnds tells before now row status
+      ends-telling now status after untold answered goes still saved drawn = ends-later tells before row now now Telling status state heap lines after.uses.later after (λ e. cc) (λ e. cc) untold answered (λ work. record {
+        stops = λ at. absurd (cc);
+        goes = λ past. goes of (through work).parked;
+        fits = λ past. (through work).fits;
+        says = λ told at. absurd (cc);
+        said = λ told past. ap (λ (s : RoleState). s.put) (still ∙ silent) ∙ (through work).said told;
+        saves = λ told past. on-parked-left of.ending true row.saved (before.roles Saved) (far.roles Saved) (now.roles Saved) saved (saved-far told work);
+        draws = λ told past. drawn-of of.ending true row.display finished.picture (before.roles Display) (far.roles Display) (now.roles Display) (through work).drawn (undrawn ∙ (came.uses.unused Display refl).state) (drawn told);
+        image = λ past. (through work).image;
+      })
+
+-- an answer of a run that went through is no refusal
+pub finished-refusal : {tells : Role → Bool} (now : Meanings) (row : Row) (status : Status) → IsFinished status → HasRun status row.steps → IsRefusal tells now now row Telling status
+finished-refusal now row (answer.Done ran) fin ran_is = record { answer = tt; of_run = tt; ran = ran_is; cause = tt; whole = λ work damaged. damaged }
+finished-refusal now row (answer.Quit ran) fin ran_is = record { answer = tt; of_run = tt; ran = ran_is; cause = tt; whole = λ work damaged. damaged }
+finished-refusal now row (answer.Usage word) fin ran_is = absurd fin
+finished-refusal now row (answer.ImageBad rule place) fin ran_is = absurd fin
+finished-refusal now row (answer.EventsBad line) fin ran_is = absurd fin
+finished-refusal now row (answer.Stuck cause ran) fin ran_is = absurd fin
+finished-refusal now row (answer.CoreFull ran need) fin ran_is = absurd fin
+finished-refusal now row (answer.NamesSpent ran) fin ran_is = absurd fin
+finished-refusal now row (answer.WorkFull live room) fin ran_is = absurd fin
+finished-refusal now row (answer.ReadFault role count) fin ran_is = absurd fin
+finished-refusal now row (answer.WorkFault count) fin ran_is = absurd fin
+finished-refusal now row (answer.WriteFault role count) fin ran_is = absurd fin
+finished-refusal now row answer.OutOfMemory fin ran_is = absurd fin
+finished-refusal now row (answer.Damaged place name) fin ran_is = absurd fin

@@ -1,0 +1,129 @@
+-- What the steps of a run do, one after the other: which roles were used by then, what was read, and what came of the machine.
+use Rattle.std.specs.Prelude.{◌≡◌, ◌≢◌, ℕ, ◌≤◌, List, ◌++◌, Bool, IfSome, IsTrue, IsFalse, Result, Ok, Err}
+use Rattle.loom_outside.specs.Outside.{RoleState, holds}
+use Rattle.loom_outside.specs.declared.outside.Role.{Role}
+use Rattle.loom_outside.specs.declared.outside.Role.TheVariants.{Image, Events, Work, Notes, Transcript}
+use Rattle.long_names.specs.Heap.{Heap}
+use Rattle.long_names.specs.Kept.{kept, no_roots}
+use Rattle.long_names.specs.Thin.{IsThinner}
+use Rattle.image_format.specs.declared.opening.ImageHead.{ImageHead}
+use Rattle.image_format.specs.declared.opening.State.{State as Words}
+use Rattle.image_format.specs.Valid.{IsImageHeap}
+use Rattle.image_writer.specs.Saved.{saved_text}
+use Rattle.image_memory.specs.Image.{BeginsWith, IsStateOf}
+use Rattle.object_memory.specs.Contract.{ForBounds}
+use Rattle.object_memory.specs.Told.{Told}
+use Rattle.blue_model.specs.declared.event.Line.{Line}
+use Rattle.blue_model.specs.Logs.{Course}
+use Rattle.blue_model.specs.Endings.{OnParked, OnDrawn, IsParkedBy, said_in}
+use Rattle.machine_run.specs.States.{model_state, state_held}
+use Rattle.machine_run.specs.declared.running.Finished.{Finished}
+use Rattle.loom_run.specs.Ends.{AreEvents, AttachedOnce, HasRun, IsCaused, IsDamaged, IsImageOf, SaysStopped, Stops, bytes_of, head_of, image_of, word_for}
+use Rattle.loom_run.specs.Meanings.{Meanings, IsLeft}
+use Rattle.loom_run.specs.Promise.{EndsAt}
+use Rattle.loom_run.specs.Stages.{Stage, Ends, reaches, stage_of}
+use Rattle.loom_run.specs.Words.{Row}
+use Rattle.loom_run.specs.declared.status.Status.{Status}
+use Rattle.loom_run.specs.declared.status.Status.TheVariants.{Usage, ReadFault, WriteFault}
+
+-- ---- the roles
+
+-- of a role only the contents changed
+abbrev pub IsSameFile : RoleState → RoleState → Type 0
+IsSameFile old new = new ≡ holds new.contents old
+
+-- A run came to this stage, or through it: each role up to it was attached once, by its word, and with the others nothing was done.
+pub record Uses (tells : Role → Bool) (before now : Meanings) (row : Row) (stage : Stage) : Type 0 where
+  pub attached : (role : Role) → IsTrue (tells role) → IsTrue (reaches (stage_of role) stage)
+      → IfSome (word_for row role) (λ text. AttachedOnce text (before.roles role) (now.roles role))
+  pub unused : (role : Role) → IsFalse (reaches (stage_of role) stage) → IsLeft role before now
+  pub later : (role : Role) → before.faults role ≤ now.faults role
+
+-- an answer that isn't about the words or the last line
+abbrev pub IsOfRun : Status → Type 0
+IsOfRun (Usage word) = ⊥
+IsOfRun (ReadFault role count) = role ≢ Notes
+IsOfRun (WriteFault role count) = role ≢ Notes
+IsOfRun _ = Unit {0}
+
+-- Why a step was refused: by an answer of its stage, with its cause.
+pub record IsRefusal (tells : Role → Bool) (before now : Meanings) (row : Row) (stage : Stage) (status : Status) : Type 0 where
+  pub answer : Ends stage status
+  pub of_run : IsOfRun status
+  pub ran : HasRun status row.steps
+  pub cause : IsCaused status before.faults now.faults
+  pub whole : IsTrue (tells Work) → IsDamaged status → ⊥
+
+-- ---- what was read
+
+-- The bytes of Image are those of an image of this heap, with this state, whose objects have room.
+pub record IsRead (bytes : List ℕ) (room : ℕ) (state : Words) (heap : Heap) : Type 0 where
+  pub head : ImageHead
+  pub image : IsImageOf bytes head heap
+  pub roomy : head.opening.objects ≤ room
+  pub state_is : head.state ≡ state
+
+abbrev pub HasRead : (Role → Bool) → Meanings → Row → Words → Heap → Type 0
+HasRead tells now row state heap = IsTrue (tells Image) → IsTrue (tells Work) → IsRead (bytes_of (now.roles Image)) row.room state heap
+
+-- The bytes of Events are these lines.
+abbrev pub HasHeard : (Role → Bool) → Meanings → List Line → Type 0
+HasHeard tells now lines = IsTrue (tells Events) → AreEvents (bytes_of (now.roles Events)) lines
+
+-- A run came to a stage, over a host from one moment to another. The bytes of Image are those of an image of this heap, with this state, and
+-- those of Events are these lines.
+pub record Came (tells : Role → Bool) (before now : Meanings) (row : Row) (stage : Stage) (state : Words) (heap : Heap) (lines : List Line) : Type 0 where
+  pub uses : Uses tells before now row stage
+  pub read : HasRead tells now row state heap
+  pub heard : HasHeard tells now lines
+
+-- ---- the machine
+
+-- A memory begins with the heap of an image, whose state this is.
+pub record BeginsImage (h : Heap) (state : Words) (t : Told) : Type 0 where
+  pub image : IsImageHeap h
+  pub state_is : IsStateOf h state
+  pub begins : BeginsWith h t
+
+-- a memory has the bounds that the words state
+abbrev pub HasBounds : Row → Told → Type 0
+HasBounds row t = ForBounds t.bounds (λ b. (b.core ≡ row.core) × (b.entries ≡ row.entries) × (b.room ≡ row.room))
+
+-- The machine's run went through over a memory, as the model's. What it said joined what had been said, and no object that it made is larger than
+-- the core.
+pub record WentThrough (old new : Told) (row : Row) (finished : Finished) (c : Course) : Type 0 where
+  pub parked : IsParkedBy finished.end finished.ran c.ending
+  pub heap : OnParked c.ending (λ m. IsThinner m.heap new.heap)
+  pub drawn : OnDrawn c.ending (λ picture. finished.picture ≡ picture)
+  pub state : OnParked c.ending (λ m. model_state finished.state ≡ state_held m.regs m.cpu)
+  pub said : IsTrue new.speaks → new.transcript ≡ old.transcript ++ said_in c.ending
+  pub fits : OnParked c.ending (λ m. m.largest ≤ row.core)
+
+-- It was stopped, as the model's or by a fault that may come there.
+pub record WasStopped (old new : Told) (row : Row) (status : Status) (c : Course) : Type 0 where
+  pub stops : Stops status row c
+  pub says : IsTrue new.speaks → SaysStopped status row c old.transcript new.transcript
+
+-- A run came through its machine, as the model's over this course, and its memory is wound up; this heap is what it was left with. What is
+-- kept of it, with the state, is the image that the model says.
+pub record CameThrough (tells : Role → Bool) (before now : Meanings) (row : Row) (finished : Finished) (left : Heap) (c : Course) : Type 0 where
+  pub parked : IsParkedBy finished.end finished.ran c.ending
+  pub drawn : OnDrawn c.ending (λ picture. finished.picture ≡ picture)
+  pub saves : OnParked c.ending (λ m. saved_text (kept left no_roots) finished.state ≡ image_of m)
+  pub image : OnParked c.ending (λ m. IsImageOf (image_of m) (head_of m) (kept m.heap no_roots))
+  pub said : IsTrue (tells Transcript) → (now.roles Transcript).put ≡ (before.roles Transcript).put ++ said_in c.ending
+  pub fits : OnParked c.ending (λ m. m.largest ≤ row.core)
+
+abbrev pub RunsAs : Told → Told → Row → Result Finished Status → Course → Type 0
+RunsAs old new row (Ok finished) c = WentThrough old new row finished c
+RunsAs old new row (Err status) c = WasStopped old new row status c
+
+-- ---- the end of a run, before its last line
+
+-- It ended at one of its stages, and nothing was put to Notes.
+pub record RunEnds (tells : Role → Bool) (before now : Meanings) (row : Row) (result : Status) : Type 0 where
+  pub stage : Stage
+  pub at : EndsAt tells before now row stage result
+  pub of_run : IsOfRun result
+  pub untold : IsLeft Notes before now
+  pub later : (role : Role) → before.faults role ≤ now.faults role
