@@ -1,211 +1,250 @@
-// What no case runs of the program: bad words, hosts that fail, an image that is saved over itself, and one of more objects than a case has.
-use long_names::Name;
+// What no case runs of the program: hosts that fail, an image that is saved over itself, more objects than there is room for, and that it
+// runs over the memory of two levels.
+use crate::words::ask;
+use long_names::{Name, Octets};
 use loom_outside::MemoryHost;
 use loom_outside::Role::{self, Display, Events, Image, Notes, Saved, Transcript, Work};
-use loom_run::{Status, loom};
-use sample_images::{Builder, HELLO_NEXT, NEXT, add_pointers, base, hello, name, object};
+use loom_run::Status;
+use object_memory::Need;
+use sample_images::{
+    Builder, HELLO_NEXT, Header, METHOD, NEXT, NIL, SCHEDULER, add_method, add_pointers, add_words,
+    base, hello, name, object,
+};
 use std::alloc::{AllocError, Global};
 use std::test::Fail;
 
-// Runs these words.
-fn ask(alloc: Global, host: &mut MemoryHost, line: &str) -> Result<Status, AllocError> {
-    let mut words = Vec::new(alloc);
-    for word in line.split_whitespace() {
-        words.push(String::from_str(alloc, word)?)?;
-    }
-    Ok(loom(alloc, host, &words))
-}
-
-/// Words, the first that is bad, missing or extra, and the line that says so.
-struct Words {
-    line: &'static str,
-    bad: u32,
-    notes: &'static str,
-}
-
-const WORDS: [Words; 22] = [
-    Words {
-        line: "",
-        bad: 1,
-        notes: "usage: word 1\n",
-    },
-    Words {
-        line: "walk",
-        bad: 1,
-        notes: "usage: word 1\n",
-    },
-    Words {
-        line: "--help",
-        bad: 1,
-        notes: "usage: word 1\n",
-    },
-    Words {
-        line: "--version",
-        bad: 1,
-        notes: "usage: word 1\n",
-    },
-    Words {
-        line: "run",
-        bad: 2,
-        notes: "usage: word 2\n",
-    },
-    Words {
-        line: "run a",
-        bad: 3,
-        notes: "usage: word 3\n",
-    },
-    Words {
-        line: "run a b",
-        bad: 4,
-        notes: "usage: word 4\n",
-    },
-    Words {
-        line: "run a b c",
-        bad: 5,
-        notes: "usage: word 5\n",
-    },
-    Words {
-        line: "run a b c a 2",
-        bad: 5,
-        notes: "usage: word 5\n",
-    },
-    Words {
-        line: "run a b c b 2",
-        bad: 5,
-        notes: "usage: word 5\n",
-    },
-    Words {
-        line: "run a b c c",
-        bad: 5,
-        notes: "usage: word 5\n",
-    },
-    Words {
-        line: "run a b c d",
-        bad: 6,
-        notes: "usage: word 6\n",
-    },
-    Words {
-        line: "run a b a d 02",
-        bad: 6,
-        notes: "usage: word 6\n",
-    },
-    Words {
-        line: "run a a c d 00",
-        bad: 6,
-        notes: "usage: word 6\n",
-    },
-    Words {
-        line: "run a b c d +2",
-        bad: 6,
-        notes: "usage: word 6\n",
-    },
-    Words {
-        line: "run a b c d -1",
-        bad: 6,
-        notes: "usage: word 6\n",
-    },
-    Words {
-        line: "run a b c d 2i",
-        bad: 6,
-        notes: "usage: word 6\n",
-    },
-    Words {
-        line: "run a b c d 2147483648",
-        bad: 6,
-        notes: "usage: word 6\n",
-    },
-    Words {
-        line: "run a b c d 99999999999",
-        bad: 6,
-        notes: "usage: word 6\n",
-    },
-    Words {
-        line: "run a b c d 02 x",
-        bad: 6,
-        notes: "usage: word 6\n",
-    },
-    Words {
-        line: "run a b c d 2 x",
-        bad: 7,
-        notes: "usage: word 7\n",
-    },
-    Words {
-        line: "run a b c d 2147483647 x y",
-        bad: 7,
-        notes: "usage: word 7\n",
-    },
-];
-
-// Whether these words are refused as they should be.
-fn is_refused(alloc: Global, row: &Words) -> Result<bool, AllocError> {
-    let mut host = MemoryHost::new(alloc, 100)?;
-    let status = ask(alloc, &mut host, row.line)?;
-    Ok(status == Status::Usage { word: row.bad } && host.notes() == row.notes.as_bytes())
-}
-
-// The first words that aren't.
-fn first_taken(alloc: Global) -> Result<Option<usize>, AllocError> {
-    for (i, row) in WORDS.iter().enumerate() {
-        if !is_refused(alloc, row)? {
-            return Ok(Some(i));
-        }
-    }
-    Ok(None)
-}
-
-#[test]
-fn words_are_checked(rt: HostRuntime) -> Result<(), Fail> {
-    assert_eq!(rt; first_taken(rt.alloc())?, None);
-    assert_eq!(rt; Status::Usage { word: 1 }.code(), 2);
-    Ok(())
-}
-
-// A host that has these bytes as the file "image", and as "events".
-fn host_with(alloc: Global, image: &[u8], events: &[u8]) -> Result<MemoryHost, AllocError> {
+// A host that has these bytes as the file "image", and events that change nothing as "events". One call moves at most 100 bytes.
+fn host_with(alloc: Global, image: &[u8]) -> Result<MemoryHost, AllocError> {
     let mut host = MemoryHost::new(alloc, 100)?;
     host.add_file("image", image)?;
-    host.add_file("events", events)?;
+    host.add_file("events", b"1 purge\n1 compact\n")?;
     Ok(host)
 }
 
-// Whether two texts are the same but for the instruction pointer of the base image's context, which was 3 and is 5. In a field of an
-// image a number stands doubled and one more.
-fn is_two_later(old: &[u8], new: &[u8]) -> bool {
-    old.get(..584) == new.get(..584)
-        && old.get(584..588) == Some([0, 0, 0, 7].as_slice())
-        && new.get(584..588) == Some([0, 0, 0, 11].as_slice())
-        && old.get(588..) == new.get(588..)
+// An image of version 1 as it is saved where its objects are as they were after so many bytecodes: of version 2, with a state behind the
+// first 16 bytes. The clock is the first number of the state, and the others are 0.
+fn saved_as(alloc: Global, image: &[u8], clock: u8) -> Result<Vec<u8>, AllocError> {
+    let (head, records) = image.split_at(image.len().min(16));
+    let mut made = Vec::new(alloc);
+    made.extend_from_slice(head)?;
+    made.extend_from_slice(&[0, 0, 0, clock])?;
+    made.extend_from_slice(&[0; 16])?;
+    made.extend_from_slice(records)?;
+    set(&mut made, 7, 2);
+    Ok(made)
+}
+
+fn set(bytes: &mut Vec<u8>, at: usize, byte: u8) {
+    if let Some(old) = bytes.get_mut(at) {
+        *old = byte;
+    }
+}
+
+/// Where the saved base image has the instruction pointer of its context: the last byte of field 1 of the last object.
+const POINTER: usize = 607;
+
+// The base image as it is saved after two bytecodes: the instruction pointer was 3 and is 5. In a field a number stands doubled and one more.
+fn two_later(alloc: Global, image: &[u8]) -> Result<Vec<u8>, AllocError> {
+    let mut made = saved_as(alloc, image, 2)?;
+    set(&mut made, POINTER, 11);
+    Ok(made)
 }
 
 #[test]
 fn an_image_is_saved_over_itself(rt: HostRuntime) -> Result<(), Fail> {
     let image = base(rt.alloc())?.finish(rt.alloc(), NEXT)?;
-    let mut host = host_with(rt.alloc(), image.bytes(), b"1 purge\n1 compact\n")?;
-    let status = ask(rt.alloc(), &mut host, "run image events image display 2")?;
-    assert_eq!(rt; status, Status::Done { ran: 2 });
+    let mut host = host_with(rt.alloc(), image.bytes())?;
+    let words = "run image events work image display 4096 512 1024 2";
+    assert_eq!(rt; ask(rt.alloc(), &mut host, words)?, Status::Done { ran: 2 });
     assert_eq!(rt; host.notes(), b"ran 2\n".as_slice());
-    let saved = host.file("image").unwrap_or(&[]);
-    assert!(rt; is_two_later(image.bytes(), saved));
+    let saved = two_later(rt.alloc(), image.bytes())?;
+    assert_eq!(rt; host.file("image"), Some(saved.as_slice()));
     assert_eq!(rt; host.file("display"), Some(b"".as_slice()));
     Ok(())
 }
 
-/// What stands in the saved file.
+// ---- images
+
+/// An image that is run.
 #[derive(Clone, Copy)]
-enum Left {
-    /// There is none.
-    Nothing,
-    /// So many bytes of the image that was run.
-    Part(usize),
-    /// So many bytes of another image.
-    Other(usize),
+enum Sample {
+    Base,
+    /// The base image without its last byte.
+    Cut,
+    /// The base image, whose scheduler's association is one word too large for the smallest core.
+    WideAssociation,
+    /// The image that says a word and draws.
+    Hello,
+    /// The same, where the bitmap that it draws into is one word too large.
+    WideBits,
+    /// The base image, where nil holds the first of a long chain of objects that each hold the next, and the last holds itself.
+    Chain,
+    /// The base image with a chain, so that it has 1,024 objects, whose method makes one more.
+    Crowded,
+    /// The image that says a word. Then it stores into one bitmap, into another, and into the first again, says the word and quits. The
+    /// smallest core has room for one of the two.
+    TwoBitmaps,
 }
 
-/// How many bytes of the image its file has, a command, which call on which role fails (the 0th never comes), the answer, its line, what
-/// was said, what stands in the saved file, and whether there is a picture.
+/// So many words of a body are one too many for the smallest core, since an object takes four more.
+const WIDE: usize = 4_093;
+
+/// How many objects the long chain has, and the one of the crowded image.
+const LINKS: u32 = 20_000;
+
+const FEW_LINKS: u32 = 998;
+
+/// Makes a block of the active context, pops it, and jumps back.
+const BLOCKS: &[u8] = &[137, 117, 200, 135, 163, 250];
+
+fn chain(alloc: Global, links: u32) -> Result<Builder, AllocError> {
+    let mut builder = base(alloc)?;
+    for i in 0..links {
+        let next = if i + 1 < links { i + 1 } else { i };
+        let held = [object(NEXT + 2 * next)];
+        add_pointers(alloc, &mut builder, name(NEXT + 2 * i), Name::ARRAY, &held)?;
+    }
+    add_pointers(alloc, &mut builder, Name::NIL, Name::ARRAY, &[object(NEXT)])?;
+    Ok(builder)
+}
+
+fn crowded(alloc: Global) -> Result<Builder, AllocError> {
+    let mut builder = chain(alloc, FEW_LINKS)?;
+    add_method(
+        alloc,
+        &mut builder,
+        name(METHOD),
+        Header::PLAIN,
+        &[],
+        BLOCKS,
+    )?;
+    Ok(builder)
+}
+
+fn wide_association(alloc: Global) -> Result<Builder, AllocError> {
+    let mut builder = base(alloc)?;
+    let mut fields = [NIL; WIDE];
+    fields[1] = object(SCHEDULER);
+    add_pointers(
+        alloc,
+        &mut builder,
+        Name::SCHEDULER_ASSOCIATION,
+        Name::ARRAY,
+        &fields,
+    )?;
+    Ok(builder)
+}
+
+/// The bitmap of the image that says a word and draws.
+const BITS: u32 = 94;
+
+fn wide_bits(alloc: Global) -> Result<Builder, AllocError> {
+    let mut builder = hello(alloc)?;
+    add_words(
+        alloc,
+        &mut builder,
+        name(BITS),
+        Name::DISPLAY_BITMAP,
+        &[0; WIDE],
+    )?;
+    Ok(builder)
+}
+
+/// Says the word, stores 2 at 1 into the two bitmaps in turn, says the word and quits. The literals 0 and 1 are the word and `say:`, 2 and 7
+/// the bitmaps, 6 `quit`; the special send 17 is `at:put:`.
+const IN_TURN: &[u8] = &[
+    112, 32, 225, 135, 34, 118, 119, 193, 135, 39, 118, 119, 193, 135, 34, 118, 119, 193, 135, 112,
+    32, 225, 135, 112, 214,
+];
+
+fn two_bitmaps(alloc: Global) -> Result<Builder, AllocError> {
+    let mut builder = hello(alloc)?;
+    add_words(
+        alloc,
+        &mut builder,
+        name(BITS),
+        Name::DISPLAY_BITMAP,
+        &[0; 3_000],
+    )?;
+    add_words(
+        alloc,
+        &mut builder,
+        name(HELLO_NEXT),
+        Name::DISPLAY_BITMAP,
+        &[0; 3_000],
+    )?;
+    let literals = [
+        object(92),
+        object(72),
+        object(BITS),
+        object(98),
+        object(96),
+        object(78),
+        object(80),
+        object(HELLO_NEXT),
+    ];
+    add_method(
+        alloc,
+        &mut builder,
+        name(METHOD),
+        Header::PLAIN,
+        &literals,
+        IN_TURN,
+    )?;
+    Ok(builder)
+}
+
+// The objects of an image, and the next name.
+fn objects_of(alloc: Global, sample: Sample) -> Result<(Builder, u32), AllocError> {
+    match sample {
+        Sample::Base | Sample::Cut => Ok((base(alloc)?, NEXT)),
+        Sample::WideAssociation => Ok((wide_association(alloc)?, NEXT)),
+        Sample::Hello => Ok((hello(alloc)?, HELLO_NEXT)),
+        Sample::WideBits => Ok((wide_bits(alloc)?, HELLO_NEXT)),
+        Sample::Chain => Ok((chain(alloc, LINKS)?, NEXT + 2 * LINKS)),
+        Sample::Crowded => Ok((crowded(alloc)?, NEXT + 2 * FEW_LINKS)),
+        Sample::TwoBitmaps => Ok((two_bitmaps(alloc)?, HELLO_NEXT + 2)),
+    }
+}
+
+fn octets_of(alloc: Global, sample: Sample) -> Result<Octets, Fail> {
+    let (objects, next) = objects_of(alloc, sample)?;
+    Ok(objects.finish(alloc, next)?)
+}
+
+// How many bytes of an image are in its file.
+fn length_of(octets: &Octets, sample: Sample) -> usize {
+    match sample {
+        Sample::Cut => octets.len().saturating_sub(1),
+        _ => octets.len(),
+    }
+}
+
+// What is saved of an image, where it is known.
+fn wanted(alloc: Global, sample: Sample, image: &[u8]) -> Result<Option<Vec<u8>>, AllocError> {
+    match sample {
+        Sample::Base => Ok(Some(two_later(alloc, image)?)),
+        Sample::Chain => Ok(Some(saved_as(alloc, image, 0)?)),
+        _ => Ok(None),
+    }
+}
+
+// ---- runs
+
+/// What stands in a file: there is none, or at most so many bytes, or so many. Or there may be one.
+#[derive(Clone, Copy)]
+enum Left {
+    Nothing,
+    Most(usize),
+    All(usize),
+    Any,
+}
+
+/// An image, a command, which call on which role fails (the 0th never comes), the answer, its line, what was said, and what stands in the
+/// files of the saved image and of the picture. What is saved of the base image and of the chain begins as the whole does.
 #[derive(Clone, Copy)]
 struct Run {
-    length: usize,
+    sample: Sample,
     words: &'static str,
     role: Role,
     nth: u64,
@@ -213,29 +252,59 @@ struct Run {
     notes: &'static str,
     said: &'static str,
     saved: Left,
-    drawn: bool,
+    display: Left,
 }
 
-const WHOLE: &str = "run image events saved display 0";
+const SHORT: &str = "run image events work saved display 4096 512 1024 2";
 
-/// How many bytes the base image has.
-const LENGTH: usize = 652;
+const LONG: &str = "run image events work saved display 4096 512 1024 10000";
 
-const REFUSED: [Run; 12] = [
+/// How many bytes are saved of the base image, and of the one that draws, and how many its picture has; and how many are saved of the chain
+/// and of the crowded image.
+const LENGTH: usize = 672;
+
+const HELLO_LENGTH: usize = 3_124;
+
+const PICTURE_LENGTH: usize = 265;
+
+const CHAIN_LENGTH: usize = 480_676;
+
+const CROWDED_LENGTH: usize = 24_724;
+
+// The first call on a role that has a word is to attach it. Where a core is too small, the object alone is: the scheduler's association with
+// nothing pinned, at the start; and the bitmap with the context and the method, of 22 and 26 words, with 18 fields and 8 literals.
+const RUNS: [Run; 28] = [
     Run {
-        length: LENGTH - 1,
-        words: WHOLE,
+        sample: Sample::Cut,
+        words: SHORT,
         role: Work,
         nth: 0,
-        status: Status::ImageBad { rule: 0, place: 0 },
-        notes: "image: rule 0 at 0\n",
+        status: Status::ImageBad {
+            rule: 9,
+            place: 651,
+        },
+        notes: "image: rule 9 at 651\n",
         said: "",
         saved: Left::Nothing,
-        drawn: false,
+        display: Left::Nothing,
     },
     Run {
-        length: LENGTH,
-        words: "run no events saved display 0",
+        sample: Sample::Cut,
+        words: SHORT,
+        role: Notes,
+        nth: 1,
+        status: Status::ImageBad {
+            rule: 9,
+            place: 651,
+        },
+        notes: "",
+        said: "",
+        saved: Left::Nothing,
+        display: Left::Nothing,
+    },
+    Run {
+        sample: Sample::Base,
+        words: "run no events work saved display 4096 512 1024 2",
         role: Work,
         nth: 0,
         status: Status::ReadFault {
@@ -245,11 +314,11 @@ const REFUSED: [Run; 12] = [
         notes: "read fault: Image\n",
         said: "",
         saved: Left::Nothing,
-        drawn: false,
+        display: Left::Nothing,
     },
     Run {
-        length: LENGTH,
-        words: "run image no saved display 0",
+        sample: Sample::Base,
+        words: "run image no work saved display 4096 512 1024 2",
         role: Work,
         nth: 0,
         status: Status::ReadFault {
@@ -259,22 +328,58 @@ const REFUSED: [Run; 12] = [
         notes: "read fault: Events\n",
         said: "",
         saved: Left::Nothing,
-        drawn: false,
+        display: Left::Nothing,
     },
     Run {
-        length: LENGTH,
-        words: "run image image saved display 0",
+        sample: Sample::Base,
+        words: "run image image work saved display 4096 512 1024 2",
         role: Work,
         nth: 0,
         status: Status::EventsBad { line: 1 },
         notes: "events: line 1\n",
         said: "",
         saved: Left::Nothing,
-        drawn: false,
+        display: Left::Nothing,
     },
     Run {
-        length: LENGTH,
-        words: WHOLE,
+        sample: Sample::Base,
+        words: SHORT,
+        role: Work,
+        nth: 1,
+        status: Status::WorkFault { count: 1 },
+        notes: "work fault\n",
+        said: "",
+        saved: Left::Nothing,
+        display: Left::Nothing,
+    },
+    Run {
+        sample: Sample::Base,
+        words: SHORT,
+        role: Work,
+        nth: 2,
+        status: Status::WorkFault { count: 1 },
+        notes: "work fault\n",
+        said: "",
+        saved: Left::Nothing,
+        display: Left::Nothing,
+    },
+    Run {
+        sample: Sample::Base,
+        words: SHORT,
+        role: Image,
+        nth: 1,
+        status: Status::ReadFault {
+            role: Image,
+            count: 1,
+        },
+        notes: "read fault: Image\n",
+        said: "",
+        saved: Left::Nothing,
+        display: Left::Nothing,
+    },
+    Run {
+        sample: Sample::Base,
+        words: SHORT,
         role: Image,
         nth: 3,
         status: Status::ReadFault {
@@ -284,11 +389,11 @@ const REFUSED: [Run; 12] = [
         notes: "read fault: Image\n",
         said: "",
         saved: Left::Nothing,
-        drawn: false,
+        display: Left::Nothing,
     },
     Run {
-        length: LENGTH,
-        words: WHOLE,
+        sample: Sample::Base,
+        words: SHORT,
         role: Events,
         nth: 1,
         status: Status::ReadFault {
@@ -298,11 +403,11 @@ const REFUSED: [Run; 12] = [
         notes: "read fault: Events\n",
         said: "",
         saved: Left::Nothing,
-        drawn: false,
+        display: Left::Nothing,
     },
     Run {
-        length: LENGTH,
-        words: WHOLE,
+        sample: Sample::Base,
+        words: SHORT,
         role: Events,
         nth: 2,
         status: Status::ReadFault {
@@ -312,11 +417,11 @@ const REFUSED: [Run; 12] = [
         notes: "read fault: Events\n",
         said: "",
         saved: Left::Nothing,
-        drawn: false,
+        display: Left::Nothing,
     },
     Run {
-        length: LENGTH,
-        words: WHOLE,
+        sample: Sample::Base,
+        words: SHORT,
         role: Saved,
         nth: 1,
         status: Status::WriteFault {
@@ -326,11 +431,11 @@ const REFUSED: [Run; 12] = [
         notes: "write fault: Saved\n",
         said: "",
         saved: Left::Nothing,
-        drawn: false,
+        display: Left::Nothing,
     },
     Run {
-        length: LENGTH,
-        words: WHOLE,
+        sample: Sample::Base,
+        words: SHORT,
         role: Saved,
         nth: 3,
         status: Status::WriteFault {
@@ -339,12 +444,12 @@ const REFUSED: [Run; 12] = [
         },
         notes: "write fault: Saved\n",
         said: "",
-        saved: Left::Part(100),
-        drawn: false,
+        saved: Left::Most(100),
+        display: Left::Nothing,
     },
     Run {
-        length: LENGTH,
-        words: WHOLE,
+        sample: Sample::Base,
+        words: SHORT,
         role: Display,
         nth: 1,
         status: Status::WriteFault {
@@ -353,12 +458,12 @@ const REFUSED: [Run; 12] = [
         },
         notes: "write fault: Display\n",
         said: "",
-        saved: Left::Part(LENGTH),
-        drawn: false,
+        saved: Left::All(LENGTH),
+        display: Left::Nothing,
     },
     Run {
-        length: LENGTH,
-        words: WHOLE,
+        sample: Sample::Base,
+        words: SHORT,
         role: Notes,
         nth: 1,
         status: Status::WriteFault {
@@ -367,42 +472,80 @@ const REFUSED: [Run; 12] = [
         },
         notes: "",
         said: "",
-        saved: Left::Part(LENGTH),
-        drawn: true,
+        saved: Left::All(LENGTH),
+        display: Left::All(0),
     },
     Run {
-        length: LENGTH - 1,
-        words: WHOLE,
-        role: Notes,
+        sample: Sample::Base,
+        words: SHORT,
+        role: Transcript,
         nth: 1,
-        status: Status::ImageBad { rule: 0, place: 0 },
-        notes: "",
+        status: Status::Done { ran: 2 },
+        notes: "ran 2\n",
+        said: "",
+        saved: Left::All(LENGTH),
+        display: Left::All(0),
+    },
+    Run {
+        sample: Sample::WideAssociation,
+        words: SHORT,
+        role: Work,
+        nth: 0,
+        status: Status::CoreFull {
+            ran: 0,
+            need: Need {
+                object: 8,
+                words: 4_097,
+                entries: 51,
+            },
+        },
+        notes: "core full after 0: object 8, 4097 words, 51 entries\n",
         said: "",
         saved: Left::Nothing,
-        drawn: false,
+        display: Left::Nothing,
     },
-];
-
-const LONG: &str = "run image events saved display 10000";
-
-/// How many bytes the image has that says a word and draws, before the run and after.
-const HELLO_LENGTH: usize = 3_104;
-
-// The last two are where what it says, or its picture, can't be written.
-const DRAWINGS: [Run; 3] = [
     Run {
-        length: HELLO_LENGTH,
+        sample: Sample::WideBits,
+        words: LONG,
+        role: Work,
+        nth: 0,
+        status: Status::CoreFull {
+            ran: 9,
+            need: Need {
+                object: 94,
+                words: 4_145,
+                entries: 81,
+            },
+        },
+        notes: "core full after 9: object 94, 4145 words, 81 entries\n",
+        said: "loom\n",
+        saved: Left::Nothing,
+        display: Left::Nothing,
+    },
+    Run {
+        sample: Sample::Hello,
         words: LONG,
         role: Work,
         nth: 0,
         status: Status::Quit { ran: 2_056 },
         notes: "quit after 2056\n",
         said: "loom\n",
-        saved: Left::Other(HELLO_LENGTH),
-        drawn: true,
+        saved: Left::All(HELLO_LENGTH),
+        display: Left::All(PICTURE_LENGTH),
     },
     Run {
-        length: HELLO_LENGTH,
+        sample: Sample::Hello,
+        words: LONG,
+        role: Work,
+        nth: 900,
+        status: Status::WorkFault { count: 1 },
+        notes: "work fault\n",
+        said: "loom\n",
+        saved: Left::Nothing,
+        display: Left::Nothing,
+    },
+    Run {
+        sample: Sample::Hello,
         words: LONG,
         role: Transcript,
         nth: 1,
@@ -413,10 +556,10 @@ const DRAWINGS: [Run; 3] = [
         notes: "write fault: Transcript\n",
         said: "",
         saved: Left::Nothing,
-        drawn: false,
+        display: Left::Nothing,
     },
     Run {
-        length: HELLO_LENGTH,
+        sample: Sample::Hello,
         words: LONG,
         role: Display,
         nth: 2,
@@ -426,82 +569,222 @@ const DRAWINGS: [Run; 3] = [
         },
         notes: "write fault: Display\n",
         said: "loom\n",
-        saved: Left::Other(HELLO_LENGTH),
-        drawn: true,
+        saved: Left::All(HELLO_LENGTH),
+        display: Left::Most(100),
+    },
+    Run {
+        sample: Sample::Hello,
+        words: LONG,
+        role: Display,
+        nth: 3,
+        status: Status::WriteFault {
+            role: Display,
+            count: 1,
+        },
+        notes: "write fault: Display\n",
+        said: "loom\n",
+        saved: Left::All(HELLO_LENGTH),
+        display: Left::Most(200),
+    },
+    Run {
+        sample: Sample::Hello,
+        words: LONG,
+        role: Notes,
+        nth: 1,
+        status: Status::WriteFault {
+            role: Notes,
+            count: 1,
+        },
+        notes: "",
+        said: "loom\n",
+        saved: Left::All(HELLO_LENGTH),
+        display: Left::All(PICTURE_LENGTH),
+    },
+    Run {
+        sample: Sample::Chain,
+        words: "run image events work saved display 4096 512 20026 0",
+        role: Work,
+        nth: 0,
+        status: Status::Done { ran: 0 },
+        notes: "ran 0\n",
+        said: "",
+        saved: Left::All(CHAIN_LENGTH),
+        display: Left::All(0),
+    },
+    Run {
+        sample: Sample::Chain,
+        words: "run image events work saved display 4096 512 20025 0",
+        role: Work,
+        nth: 0,
+        status: Status::WorkFull {
+            live: 20_026,
+            room: 20_025,
+        },
+        notes: "work full: 20026 objects, room 20025\n",
+        said: "",
+        saved: Left::Nothing,
+        display: Left::Nothing,
+    },
+    Run {
+        sample: Sample::Crowded,
+        words: "run image events work saved display 4096 512 1024 9",
+        role: Work,
+        nth: 0,
+        status: Status::WorkFull {
+            live: 1_025,
+            room: 1_024,
+        },
+        notes: "work full: 1025 objects, room 1024\n",
+        said: "",
+        saved: Left::Nothing,
+        display: Left::Nothing,
+    },
+    Run {
+        sample: Sample::Crowded,
+        words: "run image events work saved display 4096 512 1025 9",
+        role: Work,
+        nth: 0,
+        status: Status::Done { ran: 9 },
+        notes: "ran 9\n",
+        said: "",
+        saved: Left::All(CROWDED_LENGTH),
+        display: Left::All(0),
     },
 ];
 
-fn is_left(file: Option<&[u8]>, saved: Left, image: &[u8]) -> bool {
-    match (file, saved) {
+fn is_left(file: Option<&[u8]>, left: Left) -> bool {
+    match (file, left) {
         (None, Left::Nothing) => true,
-        (Some(file), Left::Part(n)) => Some(file) == image.get(..n),
-        (Some(file), Left::Other(n)) => file.len() == n,
+        (Some(file), Left::Most(most)) => file.len() <= most,
+        (Some(file), Left::All(length)) => file.len() == length,
+        (_, Left::Any) => true,
         _ => false,
     }
 }
 
-// Whether a host holds what is wanted of a run of this image.
-fn is_written(host: &MemoryHost, row: &Run, image: &[u8]) -> bool {
+// Whether what stands in a file begins as the whole does.
+fn begins(file: Option<&[u8]>, whole: Option<&[u8]>) -> bool {
+    match (file, whole) {
+        (Some(file), Some(whole)) => whole.starts_with(file),
+        _ => true,
+    }
+}
+
+// Whether a host holds what a row says.
+fn is_written(host: &MemoryHost, row: &Run) -> bool {
     host.notes() == row.notes.as_bytes()
         && host.transcript() == row.said.as_bytes()
-        && is_left(host.file("saved"), row.saved, image)
-        && host.file("display").is_some() == row.drawn
+        && is_left(host.file("saved"), row.saved)
+        && is_left(host.file("display"), row.display)
 }
 
-// Makes a run of this image, and says whether it comes out as its row says.
-fn is_right(alloc: Global, image: &[u8], row: &Run) -> Result<bool, AllocError> {
-    let mut host = host_with(alloc, image.get(..row.length).unwrap_or(&[]), b"")?;
+// Makes a run, and says whether it comes out as its row says.
+fn is_right(alloc: Global, row: &Run) -> Result<bool, Fail> {
+    let octets = octets_of(alloc, row.sample)?;
+    let image = octets
+        .bytes()
+        .get(..length_of(&octets, row.sample))
+        .unwrap_or(&[]);
+    let mut host = host_with(alloc, image)?;
     host.fail(row.role, row.nth)?;
     let status = ask(alloc, &mut host, row.words)?;
-    Ok(status == row.status && is_written(&host, row, image))
+    let whole = wanted(alloc, row.sample, image)?;
+    Ok(
+        status == row.status
+            && is_written(&host, row)
+            && begins(host.file("saved"), whole.as_deref()),
+    )
 }
 
-// The first run of a table that comes out otherwise.
-fn first_wrong(alloc: Global, image: &[u8], rows: &[Run]) -> Result<Option<usize>, AllocError> {
-    for (i, row) in rows.iter().enumerate() {
-        if !is_right(alloc, image, row)? {
-            return Ok(Some(i));
+#[test]
+fn runs_end_as_they_should(rt: HostRuntime) -> Result<(), Fail> {
+    for (i, row) in RUNS.iter().enumerate() {
+        assert_eq!(rt; (i, is_right(rt.alloc(), row)?), (i, true));
+    }
+    Ok(())
+}
+
+/// A run of the base image of which a call on Work fails.
+const FAILING: Run = Run {
+    sample: Sample::Base,
+    words: SHORT,
+    role: Work,
+    nth: 0,
+    status: Status::WorkFault { count: 1 },
+    notes: "work fault\n",
+    said: "",
+    saved: Left::Any,
+    display: Left::Nothing,
+};
+
+/// The same, where none fails.
+const WHOLE: Run = Run {
+    sample: Sample::Base,
+    words: SHORT,
+    role: Work,
+    nth: 0,
+    status: Status::Done { ran: 2 },
+    notes: "ran 2\n",
+    said: "",
+    saved: Left::All(LENGTH),
+    display: Left::All(0),
+};
+
+// Of the calls on Work the first, and then one of 25: the first of which the run doesn't tell that it failed, counted from 1.
+fn first_untold(alloc: Global) -> Result<u64, Fail> {
+    for turn in 0..1_000u64 {
+        let nth = 1 + 25 * turn;
+        if !is_right(alloc, &Run { nth, ..FAILING })? {
+            return Ok(nth);
         }
     }
-    Ok(None)
+    Err("some call is the last".into())
 }
 
+// A call on Work may fail at each stage of a run; and the first that isn't told was never made.
 #[test]
-fn runs_are_refused(rt: HostRuntime) -> Result<(), Fail> {
-    let image = base(rt.alloc())?.finish(rt.alloc(), NEXT)?;
-    assert_eq!(rt; first_wrong(rt.alloc(), image.bytes(), &REFUSED)?, None);
+fn calls_on_work_may_fail(rt: HostRuntime) -> Result<(), Fail> {
+    let nth = first_untold(rt.alloc())?;
+    assert!(rt; is_right(rt.alloc(), &Run { nth, ..WHOLE })?);
     Ok(())
 }
 
-// Of an image that says a word and draws.
-#[test]
-fn words_and_pictures_fail(rt: HostRuntime) -> Result<(), Fail> {
-    let image = hello(rt.alloc())?.finish(rt.alloc(), HELLO_NEXT)?;
-    assert_eq!(rt; first_wrong(rt.alloc(), image.bytes(), &DRAWINGS)?, None);
-    Ok(())
+/// A command, and whether Work is written between the first and the last that is said.
+struct Paging {
+    words: &'static str,
+    writes: bool,
 }
 
-/// How many objects the chain has.
-const LINKS: u32 = 20_000;
+// In the smallest core the first bitmap, which was changed, has to leave the core for the other. In a large one nothing has to leave.
+const PAGINGS: [Paging; 2] = [
+    Paging {
+        words: "run image none work saved display 4096 512 1024 100",
+        writes: true,
+    },
+    Paging {
+        words: "run image none work saved display 65536 32767 1024 100",
+        writes: false,
+    },
+];
 
-// The base image, where true holds the first of a chain of objects that each hold the next, and the last holds itself.
-fn chain(alloc: Global) -> Result<Builder, AllocError> {
-    let mut b = base(alloc)?;
-    for i in 0..LINKS {
-        let next = if i + 1 < LINKS { i + 1 } else { i };
-        let held = [object(NEXT + 2 * next)];
-        add_pointers(alloc, &mut b, name(NEXT + 2 * i), Name::ARRAY, &held)?;
+// Whether a run of the two bitmaps goes through, and writes Work as a row says.
+fn pages(alloc: Global, row: &Paging) -> Result<bool, Fail> {
+    let octets = octets_of(alloc, Sample::TwoBitmaps)?;
+    let mut host = host_with(alloc, octets.bytes())?;
+    host.add_file("none", b"")?;
+    let status = ask(alloc, &mut host, row.words)?;
+    let (first, last) = host.work_writes();
+    Ok(
+        status == Status::Quit { ran: 25 }
+            && host.transcript() == b"loom\nloom\n".as_slice()
+            && (first < last) == row.writes,
+    )
+}
+
+#[test]
+fn what_has_no_room_leaves_the_core(rt: HostRuntime) -> Result<(), Fail> {
+    for (i, row) in PAGINGS.iter().enumerate() {
+        assert_eq!(rt; (i, pages(rt.alloc(), row)?), (i, true));
     }
-    add_pointers(alloc, &mut b, Name::TRUE, Name::ARRAY, &[object(NEXT)])?;
-    Ok(b)
-}
-
-#[test]
-fn a_long_chain_is_kept(rt: HostRuntime) -> Result<(), Fail> {
-    let image = chain(rt.alloc())?.finish(rt.alloc(), NEXT + 2 * LINKS)?;
-    let mut host = host_with(rt.alloc(), image.bytes(), b"")?;
-    let status = ask(rt.alloc(), &mut host, "run image events saved display 0")?;
-    assert_eq!(rt; status, Status::Done { ran: 0 });
-    assert_eq!(rt; host.file("saved"), Some(image.bytes()));
     Ok(())
 }

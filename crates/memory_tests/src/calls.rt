@@ -1,19 +1,19 @@
 // Calls that ask first what a register names. Where it names something else, they are stuck with Shape.
 ghost use Rattle.std.specs.Prelude.{◌≤◌, ◌<◌};
 ghost use Rattle.object_memory.specs.Calls.{IsFit};
-ghost use Rattle.blue_model.specs.Machine.{MACHINE_REGISTERS};
+ghost use Rattle.long_names.specs.declared.limits.TheConstants.{MACHINE_REGISTERS};
 ghost use Rattle.contexts.specs.Calls.{StaysFit};
 
 use crate::steps::{Seen, Size};
 use contexts::parts::{field, make_bytes, make_method, make_pointers, make_words};
 use contexts::{Cause, Stop};
-use long_names::Name;
+use long_names::{Name, REGISTERS};
 use object_memory::{ObjectMemory, Reg, shape};
 
 /// The header of a method of two literals.
 const HEADER: i16 = 2;
 
-const LAST_REGISTER: u8 = 23;
+const LAST_REGISTER: u8 = REGISTERS as u8 - 1;
 
 /// The register into which `fill` puts the scheduler's association, the fourth of the known objects.
 const ASSOCIATION: Reg = Reg::RECEIVER;

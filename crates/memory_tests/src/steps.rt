@@ -2,7 +2,7 @@
 ghost use Rattle.std.specs.Prelude.{◌≡◌, ◌≤◌, true};
 ghost use Rattle.long_names.specs.Names.{is_known};
 ghost use Rattle.object_memory.specs.Calls.{IsFit};
-ghost use Rattle.blue_model.specs.Machine.{MACHINE_REGISTERS};
+ghost use Rattle.long_names.specs.declared.limits.TheConstants.{MACHINE_REGISTERS};
 ghost use Rattle.contexts.specs.Calls.{StaysFit};
 
 use crate::calls::{fill, make, mark, pin, read_bytes, read_words, remember, write_words};
