@@ -90,19 +90,20 @@ enum Sample {
 const WIDE: usize = 4_093;
 
 /// How many objects the long chain has, and the one of the crowded image.
-const LINKS: u32 = 20_000;
+const LINKS: u16 = 20_000;
 
-const FEW_LINKS: u32 = 998;
+const FEW_LINKS: u16 = 998;
 
 /// Makes a block of the active context, pops it, and jumps back.
 const BLOCKS: &[u8] = &[137, 117, 200, 135, 163, 250];
 
-fn chain(alloc: Global, links: u32) -> Result<Builder, AllocError> {
+fn chain(alloc: Global, links: u16) -> Result<Builder, AllocError> {
     let mut builder = base(alloc)?;
     for i in 0..links {
         let next = if i + 1 < links { i + 1 } else { i };
-        let held = [object(NEXT + 2 * next)];
-        add_pointers(alloc, &mut builder, name(NEXT + 2 * i), Name::ARRAY, &held)?;
+        let held = [object(NEXT + 2 * u32::from(next))];
+        let own = name(NEXT + 2 * u32::from(i));
+        add_pointers(alloc, &mut builder, own, Name::ARRAY, &held)?;
     }
     add_pointers(alloc, &mut builder, Name::NIL, Name::ARRAY, &[object(NEXT)])?;
     Ok(builder)
@@ -201,8 +202,8 @@ fn objects_of(alloc: Global, sample: Sample) -> Result<(Builder, u32), AllocErro
         Sample::WideAssociation => Ok((wide_association(alloc)?, NEXT)),
         Sample::Hello => Ok((hello(alloc)?, HELLO_NEXT)),
         Sample::WideBits => Ok((wide_bits(alloc)?, HELLO_NEXT)),
-        Sample::Chain => Ok((chain(alloc, LINKS)?, NEXT + 2 * LINKS)),
-        Sample::Crowded => Ok((crowded(alloc)?, NEXT + 2 * FEW_LINKS)),
+        Sample::Chain => Ok((chain(alloc, LINKS)?, NEXT + 2 * u32::from(LINKS))),
+        Sample::Crowded => Ok((crowded(alloc)?, NEXT + 2 * u32::from(FEW_LINKS))),
         Sample::TwoBitmaps => Ok((two_bitmaps(alloc)?, HELLO_NEXT + 2)),
     }
 }
