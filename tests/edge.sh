@@ -366,7 +366,7 @@ rm -f new.work
 display=old
 try 'WORK is a directory'               '' 'run base.loom none.events directory saved.loom display.pbm $sizes 2'     10 'work fault' saved.loom old.loom
 try 'WORK in no directory'              '' 'run base.loom none.events none/objects saved.loom display.pbm $sizes 2'  10 'work fault' saved.loom old.loom
-try 'WORK is for reading only'          '' 'run base.loom none.events /proc/version saved.loom display.pbm $sizes 2' 10 'work fault' saved.loom old.loom
+try 'WORK is for reading only'          '' 'run base.loom none.events /sys/kernel/uevent_seqnum saved.loom display.pbm $sizes 2' 10 'work fault' saved.loom old.loom
 try 'WORK is full'                      '' 'run base.loom none.events /dev/full saved.loom display.pbm $sizes 2'     10 'work fault' saved.loom old.loom
 try 'WORK is standard output'           '' 'run base.loom none.events out saved.loom display.pbm $sizes 2'           10 'work fault' saved.loom old.loom
 try 'WORK is standard error'            '' 'run base.loom none.events notes saved.loom display.pbm $sizes 2'         10 'work fault' saved.loom old.loom
@@ -558,14 +558,14 @@ if [ "$(id -u)" = 0 ]; then
     as='setpriv --reuid 65534 --regid 65534 --clear-groups --'
 fi
 if $as test -x "$loom" 2>/dev/null && ! $as test -w closed; then
-    before='chmod 666 saved.loom display.pbm'
+    before='chmod 666 saved.loom display.pbm; : >objects; chmod 666 objects'
     display=empty
     try 'a closed folder, SAVED'        '' 'run base.loom none.events objects closed/saved.loom display.pbm $sizes 2' 0 'ran 2' closed/saved.loom after.loom
     display=old
     try 'a closed folder, SAVED is new' '' 'run base.loom none.events objects closed/new.loom display.pbm $sizes 2'   11 'write fault: Saved' closed/new.loom none
     try 'a closed folder, WORK is new'  '' 'run base.loom none.events closed/objects saved.loom display.pbm $sizes 2' 10 'work fault' closed/objects none
     try 'a closed folder, SAVED is IMAGE' '' 'run closed/image.loom none.events objects closed/image.loom display.pbm $sizes 2' 11 'write fault: Saved' closed/image.loom base.loom
-    before='chmod 444 saved.loom'
+    before='chmod 444 saved.loom; : >objects; chmod 666 objects'
     try 'SAVED may only be read'        '' "$good" 11 'write fault: Saved' saved.loom old.loom
     before=
 else

@@ -1,0 +1,36 @@
+#!/bin/sh
+# Measures both memories and prints a table for docs/COSTS.md. It builds, beside the crates of this repository, one crate more from
+# tests/measure/main.txt, in a temporary folder whose crates are links to these; what isn't proved yet is proved first. Not in the gate.
+#
+#   tests/measure.sh [FOLDER]      FOLDER: where the temporary folder is made, with 300 MB free; /tmp if none is named
+set -eu
+top=$(cd "$(dirname "$0")/.." && pwd)
+where=$(mktemp -d "${1:-/tmp}/loom-measure.XXXXXX")
+trap 'rm -rf "$where"' EXIT
+
+mkdir -p "$where/crates/measure/src" "$where/crates/measure/proofs/walk"
+cp "$top/HANDLES" "$where/HANDLES"
+cp "$top/crates.txt" "$where/crates.txt"
+echo "measure: long_names loom_outside object_memory blue_model contexts event_file machine_run sample_images disk_objects image_reader loom_memory" >> "$where/crates.txt"
+for crate in "$top"/crates/*; do
+    ln -s "$crate" "$where/crates/$(basename "$crate")"
+done
+cp "$top/tests/measure/main.txt" "$where/crates/measure/src/main.rt"
+cp "$top/tests/measure/walk.txt" "$where/crates/measure/proofs/walk/Invariants.antt"
+
+cd "$where/crates/measure"
+rt run > "$where/build" 2>&1 || true
+program="$where/crates/measure/out/measure"
+if [ ! -x "$program" ]; then
+    cat "$where/build" >&2
+    exit 1
+fi
+
+cd "$where"
+"$program" spin | while read -r line; do
+    # WHAT STEPS NANOSECONDS
+    echo "$line" | awk '{ t = $NF; n = $(NF - 1); $NF = ""; $(NF - 1) = ""; printf "%-32s %8.1f ns a bytecode\n", $0, t / n }'
+done
+"$program" drain | grep -v '^left 26$' | awk '{ t = $NF; n = $(NF - 1); $NF = ""; $(NF - 1) = ""; printf "%-32s %7d objects %9.3f s\n", $0, n, t / 1e9 }'
+"$program" write
+/usr/bin/time -f "%e seconds and %M kB in all" "$program" load | awk '{ t = $NF; n = $(NF - 1); printf "load of %d objects of ten fields: %.2f s\n", n, t / 1e9 }'
