@@ -54,14 +54,14 @@ fn image(
     Ok(bytes)
 }
 
-/// A host with this image and an empty Work, whose call on Image of this number fails, counted from 1.
-fn host_with(alloc: Global, bytes: &[u8], failing: Option<u64>) -> Result<LyingHost, Fail> {
+/// A host with this image and an empty Work, of which the call of this number on a role fails, counted from 1.
+fn host_with(alloc: Global, bytes: &[u8], failing: Option<(Role, u64)>) -> Result<LyingHost, Fail> {
     let mut host = MemoryHost::new(alloc, 1_000)?;
     host.add_file("image", bytes)?;
     host.attach(Role::Work, "work")?;
     host.attach(Role::Image, "image")?;
-    if let Some(nth) = failing {
-        host.fail(Role::Image, nth)?;
+    if let Some((role, nth)) = failing {
+        host.fail(role, nth)?;
     }
     Ok(LyingHost::new(host, 0, 0))
 }
@@ -69,7 +69,7 @@ fn host_with(alloc: Global, bytes: &[u8], failing: Option<u64>) -> Result<LyingH
 fn loaded(
     alloc: Global,
     bytes: &[u8],
-    failing: Option<u64>,
+    failing: Option<(Role, u64)>,
     room: u32,
 ) -> Result<Result<u32, LoadFault>, Fail> {
     if room == 0 || room > MOST_NAMES {
@@ -210,7 +210,7 @@ const STATE: [u8; 20] = [0; 20];
 const FULL: LoadFault = LoadFault::Disk(DiskFault::Full { held: 26, room: 25 });
 
 // Lengths, room and states.
-const ROWS: [Row; 16] = [
+const ROWS: [Row; 17] = [
     Row {
         state: &[],
         changes: &[],
@@ -303,6 +303,17 @@ const ROWS: [Row; 16] = [
             place: 652,
         }),
     },
+    // more is stated than there is
+    Row {
+        state: &[],
+        changes: &[(11, 27)],
+        len: 652,
+        room: 1_024,
+        answer: Err(LoadFault::Bad {
+            rule: 9,
+            place: 652,
+        }),
+    },
     // the next name is no display, and a tick needs a timer
     Row {
         state: &STATE,
@@ -367,6 +378,21 @@ fn images_are_loaded_where_there_is_room(rt: HostRuntime) -> Result<(), Fail> {
 fn a_call_on_image_fails(rt: HostRuntime) -> Result<(), Fail> {
     let bytes = image(rt.alloc(), &[], &[], 652)?;
     let failed = Err(LoadFault::Read { count: 1 });
-    assert_eq!(rt; loaded(rt.alloc(), &bytes, Some(1), 1_024)?, failed);
+    assert_eq!(rt;
+        loaded(rt.alloc(), &bytes, Some((Role::Image, 1)), 1_024)?,
+        failed
+    );
+    Ok(())
+}
+
+// The greatest number of objects is stated where the file ends: then there is no call on Work.
+#[test]
+fn what_is_only_stated_costs_nothing(rt: HostRuntime) -> Result<(), Fail> {
+    let bytes = image(rt.alloc(), &[], &[(9, 16), (11, 0)], 16)?;
+    let ends = Err(LoadFault::Bad { rule: 9, place: 16 });
+    assert_eq!(rt;
+        loaded(rt.alloc(), &bytes, Some((Role::Work, 1)), MOST_NAMES)?,
+        ends
+    );
     Ok(())
 }
