@@ -3,12 +3,14 @@
 //! They are over public calls, and keep what no case of `loom_cases` runs: a call at values that are worked out by hand, a host over
 //! real files, and that a call which takes memory succeeds where there is enough. Hosts that fail are those of `work_tests` and
 //! `machine_tests`. A test is a table of rows with named fields, and one loop over them. There is one file for each crate: `names` for
-//! `long_names`, `hosts` for `loom_outside`, `records` for `image_format`, `builders` for `image_builder`. The crate has no function of
-//! its own.
+//! `long_names`, `hosts` for `loom_outside`, `records` for `image_format`, `builders` for `image_builder`, `generated` for `loom_gen`. The
+//! crate has no function of its own.
 #![tactic(auto)]
 
 #[cfg(test)]
 mod builders;
+#[cfg(test)]
+mod generated;
 #[cfg(test)]
 mod hosts;
 #[cfg(test)]

@@ -1,0 +1,5 @@
+pub mod Notation
+pub mod Messages
+pub mod Table
+pub mod Generated
+pub mod Inside
