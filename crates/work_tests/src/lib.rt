@@ -3,8 +3,8 @@
 //! They are over public calls and `LyingHost`, a host that tells nothing of Work: there any call may be made at any time, over calls on
 //! Work that fail and over bytes that no disk wrote, and Work shows what it holds, byte by byte. What holds over a host that tells Work
 //! is proved. There is one file for each crate: `directories` for `work_directory`, `spaces` for `work_space`, `objects` for
-//! `disk_objects`, `images` for `image_reader`. `ways` loads images and saves them again, over a host that tells Work, with a memory of two
-//! levels between or none, and has the refusals of `image_writer`. The crate has no function of its own.
+//! `disk_objects`, `images` for `image_reader`. `ways` loads images and saves them again, with a memory of two levels between or none, and
+//! has the refusals of `image_writer`. The crate has no function of its own.
 #![tactic(auto)]
 
 #[cfg(test)]
