@@ -1,6 +1,6 @@
 #!/bin/sh
 # Measures both memories and prints a table for docs/COSTS.md. It builds, beside the crates of this repository, one crate more from
-# tests/measure/main.txt, in a temporary folder whose crates are links to these; what isn't proved yet is proved first. Not in the gate.
+# tests/measure/main.txt, in a temporary folder with copies of these; what isn't proved yet is proved first. Not in the gate.
 #
 #   tests/measure.sh [FOLDER]      FOLDER: where the temporary folder is made, with 300 MB free; /tmp if none is named
 set -eu
@@ -12,8 +12,11 @@ mkdir -p "$where/crates/measure/src" "$where/crates/measure/proofs/walk"
 cp "$top/HANDLES" "$where/HANDLES"
 cp "$top/crates.txt" "$where/crates.txt"
 echo "measure: long_names loom_outside object_memory blue_model contexts event_file machine_run sample_images disk_objects image_reader loom_memory" >> "$where/crates.txt"
-for crate in "$top"/crates/*; do
-    ln -s "$crate" "$where/crates/$(basename "$crate")"
+(cd "$top" && tar -cf - --exclude='crates/*/out' crates) | tar -xf - -C "$where"
+for built in "$top"/crates/*/out/rlib; do
+    crate=$(basename "${built%/out/rlib}")
+    mkdir -p "$where/crates/$crate/out"
+    cp -al "$built" "$where/crates/$crate/out/" 2>/dev/null || cp -a "$built" "$where/crates/$crate/out/"
 done
 cp "$top/tests/measure/main.txt" "$where/crates/measure/src/main.rt"
 cp "$top/tests/measure/walk.txt" "$where/crates/measure/proofs/walk/Invariants.antt"
