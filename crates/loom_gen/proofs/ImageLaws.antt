@@ -1,5 +1,5 @@
 -- A generated heap is one that an image may have.
-use Rattle.std.proofs.Common.{◌≡◌, ◌⊎◌, inl, inr, ℕ, ◌+◌, ◌-◌, ◌*◌, ◌%◌, ◌<◌, ◌≤◌, ◌==◌, eqb, nat_lt, Bool, true, false, cond, ◌&&◌, ◌||◌, List, [], ◌∷◌, ◌++◌, map, Some, is_some, refl, sym, ◌∙◌, ap, ap₂, subst, lit<, arith}
+use Rattle.std.proofs.Common.{◌≡◌, ◌⊎◌, inl, inr, ℕ, ◌+◌, ◌-◌, ◌*◌, ◌/◌, ◌%◌, ◌<◌, ◌≤◌, ◌==◌, eqb, nat_lt, Bool, true, false, cond, ◌&&◌, ◌||◌, List, [], ◌∷◌, ◌++◌, map, Some, is_some, refl, sym, ◌∙◌, ap, ap₂, subst, lit<, arith}
 use Rattle.std.proofs.Math.Nat.{mod-lt, mod-eq_of_lt, add-mod_right}
 use Rattle.std.proofs.lemmas.Bool.{eqb-true, ltb-true, ltb-false, lt-ltb, eq-eqb, and_parts, and_from, or_left, or_right}
 use Rattle.std.proofs.lemmas.Grind.{common_steps}
@@ -143,7 +143,7 @@ any-front p xs ys e = list_any-append p xs ys ∙ or_left (list_any p xs) (list_
 
 known-at : (number n : ℕ) → is_known n ≡ true → is_some (object_named number n) ≡ true
 known-at number n known =
-    has-there number n (or_left (is_in_table n) (is_behind number n) (any-front (λ k. k == n) known_names (map (λ i. SCHEDULER + 2 * i) (range_with_len 0 49)) (sym (turned known_names n) ∙ known)))
+    has-there number n (or_left (is_in_table n) (is_behind number n) (any-front (λ k. k == n) known_names (map (λ i. SCHEDULER + 2 * i) (range_with_len 0 ((FIRST_CHARACTER - SCHEDULER) / 2))) (sym (turned known_names n) ∙ known)))
 
 head-is : (number : ℕ) → number ≤ 19 → IsHead (object_count (generated number)) (next_name number)
 head-is number small =

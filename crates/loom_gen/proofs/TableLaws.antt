@@ -2,25 +2,21 @@
 use Rattle.std.proofs.Common.{◌≡◌, ◌⊎◌, inl, inr, ℕ, ◌+◌, ◌-◌, ◌*◌, ◌/◌, ◌%◌, ◌^◌, ◌<◌, ◌≤◌, ◌==◌, nat_lt, nat_le, eqb, Bool, true, false, cond, ◌&&◌, ◌||◌, List, [], ◌∷◌, ◌++◌, length, take, drop, map, Option, Some, None, is_some, lit<, zero, suc, replicate, refl, sym, ◌∙◌, ap, subst, arith}
 use Rattle.std.proofs.lemmas.Bool.{ltb-true, ltb-false, leb-true, eqb-true, lt-ltb, le-leb, eq-eqb, and_parts, and_from, or_cases, or_right}
 use Rattle.std.proofs.lemmas.List.{length-replicate}
-use Rattle.std.specs.List.{list_all, list_any, range_with_len}
+use Rattle.std.specs.List.{list_all, list_any}
 use Rattle.std.specs.Map.{lookup}
 use Rattle.std.specs.Option.{option_map_or}
-use Rattle.long_names.specs.Names.{known_names, is_known, DISPLAY_BITMAP}
+use Rattle.long_names.specs.Names.{is_known, DISPLAY_BITMAP}
 use Rattle.long_names.specs.Objects.{holds}
 use Rattle.long_names.specs.declared.value.Value.TheVariants.{Ref}
 use Rattle.long_names.specs.declared.object.Object.{Object}
-use Rattle.loom_gen.specs.declared.names.TheConstants.{SCHEDULER, METHOD_1, CONTEXT_1, BITS, BUFFER, FIRST_CHARACTER, CHARACTERS, FIRST_NODE}
+use Rattle.loom_gen.specs.declared.names.TheConstants.{METHOD_1, CONTEXT_1, BITS, BUFFER, FIRST_CHARACTER, CHARACTERS, FIRST_NODE}
 use Rattle.loom_gen.specs.Notation.{nil, int, nils, zeros, words, string}
-use Rattle.loom_gen.specs.Table.{table, known_objects, processes, dictionary_objects, selectors, methods, media, context, characters, node_name}
+use Rattle.loom_gen.specs.Table.{table, table_names, known_objects, processes, dictionary_objects, selectors, methods, media, context, characters, node_name}
 use Rattle.loom_gen.specs.Generated.{node_count, next_name, character, node, object_named}
 use Rattle.loom_gen.proofs.NameLaws.{tabled-at, character-at, node-at}
 use Rattle.loom_gen.proofs.TestLaws.{name_passes, value_passes, are_below, object_passes, all-between, all-both}
 
 -- ---- its names
-
--- the known names, and behind them the even ones up to the first character
-abbrev pub table_names : List ℕ
-table_names = known_names ++ map (λ i. SCHEDULER + 2 * i) (range_with_len 0 49)
 
 pub names-are : (number : ℕ) → map (λ (e : ℕ × Object). e.0) (table number) ≡ table_names
 unfolding table

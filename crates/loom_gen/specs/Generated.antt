@@ -1,5 +1,5 @@
--- Generated images: one heap for each number. Its objects are those of the table, 256 characters, and 1,000 nodes more than the one
--- before it has, which form one ring.
+-- Generated images: one heap for each number. Its objects are those of the table, 256 characters, and nodes, 1,000 more than those of
+-- the number before. Each node holds another, so that they can be walked for ever.
 use Rattle.std.specs.Prelude.{ℕ, ◌+◌, ◌-◌, ◌*◌, ◌/◌, ◌%◌, ◌==◌, nat_lt, [], ◌∷◌, Option, Some, None, if◌then◌else◌}
 use Rattle.std.specs.Map.{lookup}
 use Rattle.long_names.specs.Names.{CHARACTER}
@@ -27,7 +27,7 @@ character k = of_class CHARACTER (int k ∷ [])
 abbrev pub node : ℕ → ℕ → Object
 node number j = array (Ref (node_name ((j + STRIDE) % node_count number)) ∷ nil ∷ [])
 
--- the object of a name, where there is one: behind the table all even names have one, first the characters and then the nodes
+-- the object of a name, where there is one: behind the table each even name has one, first the characters and then the nodes
 unfoldable pub object_named : ℕ → ℕ → Option Object
 object_named number n =
     if nat_lt n FIRST_CHARACTER then lookup (λ name. name == n) (table number)

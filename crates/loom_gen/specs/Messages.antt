@@ -11,7 +11,7 @@ use Rattle.loom_gen.specs.declared.names.TheConstants.{AT, AT_PUT, SIZE, NEW, NE
 use Rattle.loom_gen.specs.declared.names.TheConstants.{AT_METHOD, AT_PUT_METHOD, SIZE_METHOD, NEW_METHOD, NEXT_METHOD, NEXT_PUT_METHOD, AT_END_METHOD, SIGNAL_METHOD, WAIT_METHOD, COPY_BITS_METHOD, BE_DISPLAY_METHOD, SHOW_METHOD}
 use Rattle.loom_gen.specs.Notation.{nil, int, nils}
 
--- a message: the names of its selector and its method, the selector's text, the method's primitive, and the number of arguments
+-- a message: the names of its selector and its method, the selector's text, the method's primitive, and how many arguments it has
 pub record Message : Type 0 where
   pub selector : ℕ
   pub method : ℕ
@@ -54,7 +54,8 @@ abbrev pub free_slot : ℕ → List Value → ℕ → ℕ
 free_slot zero slots at = at
 free_slot (suc turns) slots at = if is_nil_at slots at then at else free_slot turns slots ((at + 1) % length slots)
 
--- a selector goes into the first free slot from the rest on that the index of its name leaves, and its method into the same place
+-- A selector goes into the first free slot from the place on that the lowest bits of its name's index say, and its method into the
+-- same place.
 abbrev pub with_message : Dictionary → Message → Dictionary
 with_message d m =
     let at = free_slot (length d.selectors) d.selectors (m.selector / 2 % length d.selectors) in

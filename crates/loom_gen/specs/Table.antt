@@ -1,7 +1,7 @@
 -- The objects of a generated image but its characters and its nodes, by rising name.
-use Rattle.std.specs.Prelude.{ℕ, ℤ, pos, ◌+◌, ◌*◌, List, [], ◌∷◌, ◌++◌, codes, map}
+use Rattle.std.specs.Prelude.{ℕ, ℤ, pos, ◌+◌, ◌-◌, ◌*◌, ◌/◌, List, [], ◌∷◌, ◌++◌, codes, map}
 use Rattle.std.specs.List.{range_with_len}
-use Rattle.long_names.specs.Names.{NIL, FALSE, TRUE, SCHEDULER_ASSOCIATION, SMALL_INTEGER, STRING, ARRAY, METHOD_CONTEXT, BLOCK_CONTEXT, POINT, LARGE_POSITIVE_INTEGER, DISPLAY_BITMAP, MESSAGE, COMPILED_METHOD, SEMAPHORE, CHARACTER, DOES_NOT_UNDERSTAND, CANNOT_RETURN, SPECIAL_SELECTORS, CHARACTER_TABLE, MUST_BE_BOOLEAN, LARGE_NEGATIVE_INTEGER}
+use Rattle.long_names.specs.Names.{known_names, NIL, FALSE, TRUE, SCHEDULER_ASSOCIATION, SMALL_INTEGER, STRING, ARRAY, METHOD_CONTEXT, BLOCK_CONTEXT, POINT, LARGE_POSITIVE_INTEGER, DISPLAY_BITMAP, MESSAGE, COMPILED_METHOD, SEMAPHORE, CHARACTER, DOES_NOT_UNDERSTAND, CANNOT_RETURN, SPECIAL_SELECTORS, CHARACTER_TABLE, MUST_BE_BOOLEAN, LARGE_NEGATIVE_INTEGER}
 use Rattle.long_names.specs.declared.value.Value.{Value}
 use Rattle.long_names.specs.declared.value.Value.TheVariants.{Int, Ref}
 use Rattle.long_names.specs.declared.object.Object.{Object}
@@ -127,6 +127,10 @@ media =
     ∷ []
 
 -- ---- all of them
+
+-- the names of a table: the known ones, and from the scheduler's on all even ones up to the first character
+abbrev pub table_names : List ℕ
+table_names = known_names ++ map (λ i. SCHEDULER + 2 * i) (range_with_len 0 ((FIRST_CHARACTER - SCHEDULER) / 2))
 
 unfoldable pub table : ℕ → List (ℕ × Object)
 table number = known_objects ++ (processes number ++ (dictionary_objects ++ (selectors ++ (methods ++ media))))

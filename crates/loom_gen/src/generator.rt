@@ -8,6 +8,7 @@ ghost use Rattle.loom_gen.specs.Table.{table};
 ghost use Rattle.loom_gen.specs.Generated.{object_named, generated};
 ghost use Rattle.loom_gen.specs.Generated as model;
 ghost use Rattle.std.specs.Map.{lookup};
+ghost use Rattle.loom_gen.specs.declared.names.TheConstants.{CHARACTERS};
 
 use crate::names::{FIRST_CHARACTER, FIRST_NODE};
 use crate::nodes::{STRIDE, name, node_count, node_name};
@@ -15,6 +16,9 @@ use crate::table::row;
 use image_builder::{BuildFault, Builder};
 use long_names::{Body, Name, Object, Octets, Value, Values};
 use std::alloc::{AllocError, Global};
+
+/// The greatest number that an image is made from.
+pub const LAST_NUMBER: u8 = 19;
 
 /// How many objects the image of a number has beside its nodes.
 const OBJECTS_BESIDE_NODES: u32 = 327;
@@ -37,7 +41,7 @@ pub fn object_count(number: u8) -> u32
 
 // A character holds its number.
 fn character(alloc: Global, k: u32) -> Result<Object, AllocError>
-    requires { k < 256 }
+    requires { k < CHARACTERS }
     ensures { IfOk result (λ object. object ≡ model.character k) }
 {
     let number = Value::Int(k as i16);
@@ -94,7 +98,7 @@ fn add_object(
     number: u8,
     name: Name,
 ) -> Result<(), AllocError>
-    requires number { number ≤ 19 }
+    requires number { number ≤ LAST_NUMBER }
     requires name { name < model.next_name number }
     requires absent { object_at builder.old name ≡ None }
     ensures { OnOk result ((n : ℕ) → object_at builder.new n ≡ (if n == name then object_named number n else object_at builder.old n)) }
@@ -107,7 +111,7 @@ fn add_object(
 
 /// A builder that has the objects of the image of this number.
 fn objects(alloc: Global, number: u8) -> Result<Builder, AllocError>
-    requires { number ≤ 19 }
+    requires { number ≤ LAST_NUMBER }
     ensures { IfOk result (λ builder. (n : ℕ) → object_at builder n ≡ object_named number n) }
 {
     let mut builder = Builder::new(alloc)?;
@@ -119,7 +123,7 @@ fn objects(alloc: Global, number: u8) -> Result<Builder, AllocError>
 
 /// The image of this number, of version 1.
 pub fn make(alloc: Global, number: u8) -> Result<Octets, AllocError>
-    requires { number ≤ 19 }
+    requires { number ≤ LAST_NUMBER }
     ensures text { IfOk result (λ image. image ≡ image_text (generated number)) }
     // It is the image of a heap that an image may have.
     ensures image { IsImageHeap (generated number) }

@@ -12,6 +12,15 @@ use crate::nodes::{name, node_name};
 use long_names::{Body, Name, Object, Octets, Value, Values};
 use std::alloc::{AllocError, Global};
 
+/// The header of a method of two literals, of which the first is a header extension.
+const EXTENDED_HEADER: i16 = -4094;
+
+/// In a header extension the number of arguments stands above an index below this.
+const PRIMITIVES: i16 = 256;
+
+/// The bytecode that returns self.
+const RETURN_SELF: u8 = 120;
+
 /// What a field of an object of the table is.
 #[derive(Clone, Copy)]
 pub(crate) enum Field {
@@ -137,11 +146,11 @@ fn primitive(alloc: Global, arguments: u8, index: u8) -> Result<Body, AllocError
     requires { arguments < 32 }
     ensures { IfOk result (λ body. body ≡ (notation.primitive arguments index).body) }
 {
-    let extension = Value::Int(i16::from(arguments) * 256 + i16::from(index));
+    let extension = Value::Int(i16::from(arguments) * PRIMITIVES + i16::from(index));
     Ok(Body::Method {
-        header: -4094,
+        header: EXTENDED_HEADER,
         literals: Values::from_slice(alloc, &[extension, Value::Ref(Name::NIL)])?,
-        code: Octets::from_slice(alloc, &[120])?,
+        code: Octets::from_slice(alloc, &[RETURN_SELF])?,
     })
 }
 

@@ -19,52 +19,52 @@ use crate::names::{
 use crate::rows::Field::{Int, Ref, Start};
 use crate::rows::{Field, Form, Row};
 
-const NOTHING: Field = Ref(NIL);
+const NIL_FIELD: Field = Ref(NIL);
 
 const EMPTY: Form = Form::Pointers(&[]);
 
 /// A class whose objects are pointers, without fixed fields and without indexes.
-const PLAIN_CLASS: Form = Form::Pointers(&[NOTHING, Ref(DICTIONARY), Int(-8192)]);
+const PLAIN_CLASS: Form = Form::Pointers(&[NIL_FIELD, Ref(DICTIONARY), Int(-8192)]);
 
 /// A class whose objects are pointers by index.
-const ARRAY_CLASS: Form = Form::Pointers(&[NOTHING, Ref(DICTIONARY), Int(-4096)]);
+const ARRAY_CLASS: Form = Form::Pointers(&[NIL_FIELD, Ref(DICTIONARY), Int(-4096)]);
 
 /// A class whose objects are bytes by index.
-const STRING_CLASS: Form = Form::Pointers(&[NOTHING, Ref(DICTIONARY), Int(4096)]);
+const STRING_CLASS: Form = Form::Pointers(&[NIL_FIELD, Ref(DICTIONARY), Int(4096)]);
 
 /// The special selectors in their order, each with its number of arguments. Those that the image has no selector for are nil.
 const SPECIALS: [Field; 64] = [
-    NOTHING, // +
+    NIL_FIELD, // +
     Int(1),
-    NOTHING, // -
+    NIL_FIELD, // -
     Int(1),
-    NOTHING, // <
+    NIL_FIELD, // <
     Int(1),
-    NOTHING, // >
+    NIL_FIELD, // >
     Int(1),
-    NOTHING, // <=
+    NIL_FIELD, // <=
     Int(1),
-    NOTHING, // >=
+    NIL_FIELD, // >=
     Int(1),
-    NOTHING, // =
+    NIL_FIELD, // =
     Int(1),
-    NOTHING, // ~=
+    NIL_FIELD, // ~=
     Int(1),
-    NOTHING, // *
+    NIL_FIELD, // *
     Int(1),
-    NOTHING, // /
+    NIL_FIELD, // /
     Int(1),
-    NOTHING, // \\
+    NIL_FIELD, // \\
     Int(1),
-    NOTHING, // @
+    NIL_FIELD, // @
     Int(1),
-    NOTHING, // bitShift:
+    NIL_FIELD, // bitShift:
     Int(1),
-    NOTHING, // //
+    NIL_FIELD, // //
     Int(1),
-    NOTHING, // bitAnd:
+    NIL_FIELD, // bitAnd:
     Int(1),
-    NOTHING, // bitOr:
+    NIL_FIELD, // bitOr:
     Int(1),
     Ref(AT), // at:
     Int(1),
@@ -78,30 +78,31 @@ const SPECIALS: [Field; 64] = [
     Int(1),
     Ref(AT_END), // atEnd
     Int(0),
-    NOTHING, // ==
+    NIL_FIELD, // ==
     Int(1),
-    NOTHING, // class
+    NIL_FIELD, // class
     Int(0),
-    NOTHING, // blockCopy:
+    NIL_FIELD, // blockCopy:
     Int(1),
-    NOTHING, // value
+    NIL_FIELD, // value
     Int(0),
-    NOTHING, // value:
+    NIL_FIELD, // value:
     Int(1),
-    NOTHING, // do:
+    NIL_FIELD, // do:
     Int(1),
-    NOTHING, // new
+    NIL_FIELD, // new
     Int(0),
     Ref(NEW), // new:
     Int(1),
-    NOTHING, // x
+    NIL_FIELD, // x
     Int(0),
-    NOTHING, // y
+    NIL_FIELD, // y
     Int(0),
 ];
 
 /// The known objects and the image's own, by rising name.
 const TABLE: [Row; 71] = [
+    // The known objects.
     Row {
         name: NIL,
         class: ARRAY,
@@ -120,7 +121,7 @@ const TABLE: [Row; 71] = [
     Row {
         name: SCHEDULER_ASSOCIATION,
         class: ARRAY,
-        form: Form::Pointers(&[NOTHING, Ref(SCHEDULER)]),
+        form: Form::Pointers(&[NIL_FIELD, Ref(SCHEDULER)]),
     },
     Row {
         name: SMALL_INTEGER,
@@ -212,6 +213,7 @@ const TABLE: [Row; 71] = [
         class: ARRAY,
         form: PLAIN_CLASS,
     },
+    // The processes.
     Row {
         name: SCHEDULER,
         class: ARRAY,
@@ -225,22 +227,22 @@ const TABLE: [Row; 71] = [
     Row {
         name: LIST_1,
         class: ARRAY,
-        form: Form::Pointers(&[NOTHING, NOTHING]),
+        form: Form::Pointers(&[NIL_FIELD, NIL_FIELD]),
     },
     Row {
         name: LIST_2,
         class: ARRAY,
-        form: Form::Pointers(&[NOTHING, NOTHING]),
+        form: Form::Pointers(&[NIL_FIELD, NIL_FIELD]),
     },
     Row {
         name: LIST_3,
         class: ARRAY,
-        form: Form::Pointers(&[NOTHING, NOTHING]),
+        form: Form::Pointers(&[NIL_FIELD, NIL_FIELD]),
     },
     Row {
         name: LIST_4,
         class: ARRAY,
-        form: Form::Pointers(&[NOTHING, NOTHING]),
+        form: Form::Pointers(&[NIL_FIELD, NIL_FIELD]),
     },
     Row {
         name: SEMAPHORE_2,
@@ -255,29 +257,29 @@ const TABLE: [Row; 71] = [
     Row {
         name: PROCESS_1,
         class: ARRAY,
-        form: Form::Pointers(&[NOTHING, Ref(CONTEXT_1), Int(2), NOTHING]),
+        form: Form::Pointers(&[NIL_FIELD, Ref(CONTEXT_1), Int(2), NIL_FIELD]),
     },
     Row {
         name: PROCESS_2,
         class: ARRAY,
-        form: Form::Pointers(&[NOTHING, Ref(CONTEXT_2), Int(4), Ref(SEMAPHORE_2)]),
+        form: Form::Pointers(&[NIL_FIELD, Ref(CONTEXT_2), Int(4), Ref(SEMAPHORE_2)]),
     },
     Row {
         name: PROCESS_3,
         class: ARRAY,
-        form: Form::Pointers(&[NOTHING, Ref(CONTEXT_3), Int(3), Ref(SEMAPHORE_3)]),
+        form: Form::Pointers(&[NIL_FIELD, Ref(CONTEXT_3), Int(3), Ref(SEMAPHORE_3)]),
     },
     Row {
         name: CONTEXT_1,
         class: METHOD_CONTEXT,
         form: Form::Padded(
             &[
-                NOTHING,
+                NIL_FIELD,
                 Int(13),
                 Int(1),
                 Ref(METHOD_1),
-                NOTHING,
-                NOTHING,
+                NIL_FIELD,
+                NIL_FIELD,
                 Start,
             ],
             11,
@@ -288,12 +290,12 @@ const TABLE: [Row; 71] = [
         class: METHOD_CONTEXT,
         form: Form::Padded(
             &[
-                NOTHING,
+                NIL_FIELD,
                 Int(17),
                 Int(1),
                 Ref(METHOD_2),
-                NOTHING,
-                NOTHING,
+                NIL_FIELD,
+                NIL_FIELD,
                 Ref(SEMAPHORE_2),
             ],
             11,
@@ -304,12 +306,12 @@ const TABLE: [Row; 71] = [
         class: METHOD_CONTEXT,
         form: Form::Padded(
             &[
-                NOTHING,
+                NIL_FIELD,
                 Int(17),
                 Int(1),
                 Ref(METHOD_3),
-                NOTHING,
-                NOTHING,
+                NIL_FIELD,
+                NIL_FIELD,
                 Ref(SEMAPHORE_3),
             ],
             11,
@@ -365,13 +367,14 @@ const TABLE: [Row; 71] = [
             code: &[33, 208, 135, 34, 35, 196, 135, 112, 36, 229, 135, 163, 243],
         },
     },
+    // The dictionary, its selectors and its methods.
     Row {
         name: DICTIONARY,
         class: ARRAY,
         form: Form::Pointers(&[
             Int(12),
             Ref(METHODS),
-            NOTHING,
+            NIL_FIELD,
             Ref(AT),
             Ref(AT_PUT),
             Ref(SIZE),
@@ -384,16 +387,16 @@ const TABLE: [Row; 71] = [
             Ref(COPY_BITS),
             Ref(BE_DISPLAY),
             Ref(SHOW),
-            NOTHING,
-            NOTHING,
-            NOTHING,
+            NIL_FIELD,
+            NIL_FIELD,
+            NIL_FIELD,
         ]),
     },
     Row {
         name: METHODS,
         class: ARRAY,
         form: Form::Pointers(&[
-            NOTHING,
+            NIL_FIELD,
             Ref(AT_METHOD),
             Ref(AT_PUT_METHOD),
             Ref(SIZE_METHOD),
@@ -406,9 +409,9 @@ const TABLE: [Row; 71] = [
             Ref(COPY_BITS_METHOD),
             Ref(BE_DISPLAY_METHOD),
             Ref(SHOW_METHOD),
-            NOTHING,
-            NOTHING,
-            NOTHING,
+            NIL_FIELD,
+            NIL_FIELD,
+            NIL_FIELD,
         ]),
     },
     Row {
@@ -567,10 +570,11 @@ const TABLE: [Row; 71] = [
             index: 128,
         },
     },
+    // What the processes work on.
     Row {
         name: FORM,
         class: ARRAY,
-        form: Form::Pointers(&[Ref(BITS), Int(640), Int(480), NOTHING]),
+        form: Form::Pointers(&[Ref(BITS), Int(640), Int(480), NIL_FIELD]),
     },
     Row {
         name: BITS,
@@ -582,8 +586,8 @@ const TABLE: [Row; 71] = [
         class: ARRAY,
         form: Form::Pointers(&[
             Ref(FORM),
-            NOTHING,
-            NOTHING,
+            NIL_FIELD,
+            NIL_FIELD,
             Int(6),
             Int(3),
             Int(4),
