@@ -79,10 +79,7 @@ const FILES: [(Role, usize); 4] = [
 ];
 
 // Tells the host which files a run will have, so that the work file, which is made first, takes the place of none of them.
-fn expect_files<R: Files + Alloc, T: Write, N: Write>(
-    host: &mut RealHost<R, T, N>,
-    words: &[String],
-) {
+fn expect_files<T: Write, N: Write>(host: &mut RealHost<HostRuntime, T, N>, words: &[String]) {
     for (role, place) in FILES {
         if let Some(word) = words.get(place) {
             host.expect(role, word.as_str());

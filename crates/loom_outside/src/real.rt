@@ -22,11 +22,12 @@ use crate::per_role::PerRole;
 use crate::real::attached::Attached;
 use crate::{Failed, Host, Role};
 use std::io::Write;
+use std::os::unix::fs::FileExt;
 use std::rt::Files;
 
 /// A host over files, and a writer each for Transcript and Notes. It tells nothing of bytes, and counts
 /// each failure, a call on a role that isn't attached among them. It keeps no bytes back: each call goes
-/// on to the file or the writer. A read, a write or a seek that a signal interrupts is made again, and
+/// on to the file or the writer. A read or a write that a signal interrupts is made again, and
 /// has failed only where that happened 1,000 times in a row. The opening of a file is made again by std.
 /// Saved is attached until another role is: then it has its name, and takes no more.
 #[derive(Drop)]
@@ -36,7 +37,10 @@ pub struct RealHost<R: Files + Alloc, T: Write, N: Write> {
     writes: u64,
 }
 
-impl<R: Files + Alloc, T: Write, N: Write> RealHost<R, T, N> {
+impl<R: Files + Alloc, T: Write, N: Write> RealHost<R, T, N>
+where
+    R::File: FileExt,
+{
     /// A host where nothing is attached and nothing failed. The writers are those of Transcript and Notes.
     pub fn new(rt: R, transcript: T, notes: N) -> RealHost<R, T, N>
         ensures faults { (r : Role) → ⟦<RealHost<R, T, N> as Host>⟧.faults result r ≡ 0 }
@@ -59,7 +63,10 @@ impl<R: Files + Alloc, T: Write, N: Write> RealHost<R, T, N> {
     }
 }
 
-impl<R: Files + Alloc, T: Write, N: Write> Host for RealHost<R, T, N> {
+impl<R: Files + Alloc, T: Write, N: Write> Host for RealHost<R, T, N>
+where
+    R::File: FileExt,
+{
     ghost tells = { λ _. false };
 
     ghost roles = { λ _ _. at_start };

@@ -11,6 +11,7 @@ use crate::real::saving::{Names, Saving};
 use crate::real::transfer::{read_some, read_whole, write_some, write_through, write_whole};
 use std::fs::{File, OpenFile, OpenOptions};
 use std::io::{self, ErrorKind, Write};
+use std::os::unix::fs::FileExt;
 use std::rt::Files;
 
 // The names of the standard streams.
@@ -300,17 +301,23 @@ impl<R: Files + Alloc, T: Write, N: Write> Attached<R, T, N> {
             None => None,
         }
     }
+}
 
-    pub fn read_at(&mut self, place: u64, buf: &mut [u8]) -> bool {
-        match &mut self.work {
-            Some(opened) => read_whole(&mut opened.file, place, buf),
+// What moves bytes of Work. False is a failure.
+impl<R: Files + Alloc, T: Write, N: Write> Attached<R, T, N>
+where
+    R::File: FileExt,
+{
+    pub fn read_at(&self, place: u64, buf: &mut [u8]) -> bool {
+        match &self.work {
+            Some(opened) => read_whole(&opened.file, place, buf),
             None => false,
         }
     }
 
-    pub fn write_at(&mut self, place: u64, buf: &[u8]) -> bool {
-        match &mut self.work {
-            Some(opened) => write_whole(&mut opened.file, place, buf),
+    pub fn write_at(&self, place: u64, buf: &[u8]) -> bool {
+        match &self.work {
+            Some(opened) => write_whole(&opened.file, place, buf),
             None => false,
         }
     }

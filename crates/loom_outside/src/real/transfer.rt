@@ -1,7 +1,8 @@
 // Calls on a file or a writer. One that a signal interrupts is made again.
 ghost use Rattle.std.specs.Prelude.{◌≡◌, ◌<◌, ◌≤◌, false, IfSome, length};
 
-use std::io::{ErrorKind, Read, Seek, SeekFrom, Write};
+use std::io::{ErrorKind, Read, Write};
+use std::os::unix::fs::FileExt;
 
 // How often a call is made at most, while signals interrupt it.
 const MOST_TRIES: u32 = 1_000;
@@ -60,26 +61,44 @@ pub fn write_through<W: Write>(sink: &mut W, buf: &[u8]) -> Option<usize>
     if flush(sink) { moved } else { None }
 }
 
-// Goes to a place, counted from the start; false where that failed.
-fn seek_to<F: Seek>(file: &mut F, place: u64) -> bool {
+// Some bytes from a place on to the front of the buffer, or None where that failed.
+fn read_some_at<F: FileExt>(file: &F, place: u64, buf: &mut [u8]) -> Option<usize>
+    ensures { IfSome result (λ n. n ≤ length buf.old) }
+{
     for _ in 0..MOST_TRIES {
-        match file.seek(SeekFrom::Start(place)) {
-            Ok(_) => return true,
+        match file.read_at(buf, place) {
+            Ok(n) => return Some(n),
             Err(error) if error.kind() == ErrorKind::Interrupted => {}
-            Err(_) => return false,
+            Err(_) => return None,
         }
     }
-    false
+    None
+}
+
+// Some bytes of the piece to a place on, or None where that failed. A file that takes nothing has failed.
+fn write_some_at<F: FileExt>(file: &F, place: u64, buf: &[u8]) -> Option<usize>
+    ensures bound { IfSome result (λ n. n ≤ length buf.now) }
+    ensures some { IfSome result (λ n. 0 < n) }
+{
+    for _ in 0..MOST_TRIES {
+        match file.write_at(buf, place) {
+            Ok(0) => return None,
+            Ok(n) => return Some(n),
+            Err(error) if error.kind() == ErrorKind::Interrupted => {}
+            Err(_) => return None,
+        }
+    }
+    None
 }
 
 // The whole piece from a place on, with zeros past the end; false where that failed.
-pub fn read_whole<F: Read + Seek>(file: &mut F, place: u64, buf: &mut [u8]) -> bool {
-    if !seek_to(file, place) {
-        return false;
-    }
+pub fn read_whole<F: FileExt>(file: &F, place: u64, buf: &mut [u8]) -> bool {
     let mut done = 0;
     while done < buf.len() {
-        match read_some(file, &mut buf[done..]) {
+        let Some(from) = place.checked_add(done as u64) else {
+            return false;
+        };
+        match read_some_at(file, from, &mut buf[done..]) {
             Some(0) => {
                 buf[done..].fill(0);
                 return true;
@@ -92,13 +111,13 @@ pub fn read_whole<F: Read + Seek>(file: &mut F, place: u64, buf: &mut [u8]) -> b
 }
 
 // The whole piece to a place on; false where that failed.
-pub fn write_whole<F: Write + Seek>(file: &mut F, place: u64, buf: &[u8]) -> bool {
-    if !seek_to(file, place) {
-        return false;
-    }
+pub fn write_whole<F: FileExt>(file: &F, place: u64, buf: &[u8]) -> bool {
     let mut done = 0;
     while done < buf.len() {
-        match write_some(file, &buf[done..]) {
+        let Some(from) = place.checked_add(done as u64) else {
+            return false;
+        };
+        match write_some_at(file, from, &buf[done..]) {
             Some(n) => done += n,
             None => return false,
         }
