@@ -5,7 +5,7 @@ use Rattle.std.proofs.lemmas.Bool.Decides.{nat_tests}
 use Rattle.probing.specs.Table.{IsTable, used, turned, apart, home_of, looked_up, map_of}
 use Rattle.probing.specs.Search.{without, Puts, IsClosedUp}
 use Rattle.std.specs.FinMap as map
-use Rattle.probing.proofs.TableLaws.{turned-below, turned-apart, used-more, equal_or_not, IsTable-same, turned-reaches, empty_slot}
+use Rattle.probing.proofs.TableLaws.{home-below, turned-below, turned-apart, used-more, equal_or_not, IsTable-same, turned-reaches, empty_slot}
 use Rattle.probing.proofs.MapLaws.{looked_up_some, looked_up_none, looked_up-same, removed_map}
 
 without-here : (f : ℕ → ℕ) (hole : ℕ) → without f hole hole ≡ 0
@@ -67,7 +67,7 @@ module _ (f : ℕ → ℕ) (n count at : ℕ) (t : IsTable f n count) (within : 
         (sym (without-other f at i a) ∙ same ∙ without-other f at j b);
     empty = without-here f at;
     reached = λ name d e named l is before.
-        let home : home_of name n < n = omega arith in
+        let home = home-below name n (omega arith) in
         let here : turned (home_of name n) d n ≢ at = λ h. named
         (sym is ∙ ap (without f at) h ∙ without-here f at) in
         let there = t.reached name d e named l (sym (without-other f at _ here) ∙ is) before in
@@ -92,7 +92,7 @@ module _ (v : ℕ → ℕ) (n count hole gap : ℕ) (t : IsNearTable v n count h
           → turned (home_of name n) e n ≡ hole → turned (home_of name n) (e + gap) n ≡ turned hole gap n → ⊥
       by_later name d e named l is more at next = elim (t.reached name d (e + gap) named l is more) [
         | inl used ↦ used (ap v next ∙ end)
-        | inr p ↦ absurd (let home : home_of name n < n = omega arith in
+        | inr p ↦ absurd (let home = home-below name n (omega arith) in
             let zero_gap : e ≡ e + gap = turned-apart (home_of name n) e (e + gap) n home (omega arith) (omega arith) (at ∙ sym p.0) in
             omega arith)
       ]
@@ -100,7 +100,7 @@ module _ (v : ℕ → ℕ) (n count hole gap : ℕ) (t : IsNearTable v n count h
       by_end : (name d e : ℕ) → name ≢ 0 → d < n → v (turned (home_of name n) d n) ≡ name → e < d
           → turned (home_of name n) e n ≡ hole → gap ≤ d - e → ⊥
       by_end name d e named l is before at far =
-          let home : home_of name n < n = omega arith in
+          let home = home-below name n (omega arith) in
           let next : turned (home_of name n) (e + gap) n ≡ turned hole gap n = sym
           (turned-turned (home_of name n) e gap n home (omega arith)) ∙ ap (λ k. turned k gap n) at in
           elim (eq-or-lt_of_le (let w : e + gap ≤ d = omega arith in w)) [
@@ -114,7 +114,7 @@ module _ (v : ℕ → ℕ) (n count hole gap : ℕ) (t : IsNearTable v n count h
           → v (turned (home_of name n) e n) ≢ 0
       by_side name d e named l is before (inl used) = used
       by_side name d e named l is before (inr p) =
-          let home : home_of name n < n = omega arith in
+          let home = home-below name n (omega arith) in
           let steps = ap (λ k. apart k (turned (home_of name n) d n) n) (sym p.0) ∙ apart-steps (home_of name n) d e n home l before in
           absurd (by_end name d e named l is before p.0 (rw steps at p.1))
 
@@ -135,7 +135,7 @@ module _ (v : ℕ → ℕ) (n count hole gap : ℕ) (t : IsNearTable v n count h
     same_slot : (name d e : ℕ) → d < n → v (turned (home_of name n) d n) ≡ name → e < d → turned (home_of name n) e n ≡ hole
         → gap ≡ apart hole (turned (home_of name n) d n) n → ⊥
     same_slot name d e l is before at far =
-        let home : home_of name n < n = omega arith in
+        let home = home-below name n (omega arith) in
         let below = turned-below (home_of name n) d n home l in
         let here : turned hole gap n ≡ turned (home_of name n) d n = ap (λ k. turned hole k n) far ∙ turned-apart_of hole
         (turned (home_of name n) d n) n within below in
@@ -234,7 +234,7 @@ module _ (v u : ℕ → ℕ) (n count hole gap : ℕ) (t : IsNearTable v n count
     distinct = moved_distinct;
     empty = moves.gone;
     reached = λ name d e named l is before.
-        let home : home_of name n < n = omega arith in
+        let home = home-below name n (omega arith) in
         let y = turned-below (home_of name n) d n home l in
         let x = turned-below (home_of name n) e n home (omega arith) in
         let other : turned (home_of name n) d n ≢ j = λ h. named (sym is ∙ ap u h ∙ moves.gone) in
@@ -245,7 +245,7 @@ module _ (v u : ℕ → ℕ) (n count hole gap : ℕ) (t : IsNearTable v n count
         → (turned (home_of name n) d n ≡ hole) ⊎ (turned (home_of name n) d n ≢ hole) → (v (turned (home_of name n) e n) ≢ 0) ⊎
         (turned (home_of name n) e n ≡ hole)
     was name d e named l is before (inr other) =
-        let home : home_of name n < n = omega arith in
+        let home = home-below name n (omega arith) in
         let y = turned-below (home_of name n) d n home l in
         let away : turned (home_of name n) d n ≢ j = λ h. named (sym is ∙ ap u h ∙ moves.gone) in
         elim (t.reached name d e named l (sym (moves.others _ y other away) ∙ is) before) [
@@ -253,7 +253,7 @@ module _ (v u : ℕ → ℕ) (n count hole gap : ℕ) (t : IsNearTable v n count
           | inr p ↦ inr p.0
         ]
     was name d e named l is before (inl at) =
-        let home : home_of name n < n = omega arith in
+        let home = home-below name n (omega arith) in
         let same : v j ≡ name = sym (ap u at ∙ moves.here) ∙ is in
         let far' : gap ≤ apart (home_of name n) j n = rw same at far in
         let wide : apart (home_of name n) j n < n = apart-below (home_of name n) j n home j_below in

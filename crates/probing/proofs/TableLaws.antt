@@ -1,12 +1,22 @@
 -- Laws of tables and of searches in them.
-use Rattle.std.proofs.Common.{◌≡◌, ◌≢◌, ℕ, zero, suc, ◌+◌, ◌-◌, ◌<◌, ◌≤◌, ◌⊎◌, ◌==◌, Bool, true, false, cond, refl, sym, ap, ◌∙◌, arith, inl, inr, below_more}
-use Rattle.std.proofs.Math.Nat.{eq-or-lt_of_le}
+use Rattle.std.proofs.Common.{◌≡◌, ◌≢◌, ℕ, zero, suc, ◌+◌, ◌-◌, ◌^◌, ◌<◌, ◌≤◌, ◌⊎◌, ◌==◌, Bool, true, false, cond, refl, sym, ap, ◌∙◌, arith, inl, inr, below_more}
+use Rattle.std.proofs.Math.Nat.{eq-or-lt_of_le, div-lt_iff_lt-mul, mul_comm, mul-lt-mul_of_pos_right}
 use Rattle.std.proofs.lemmas.Bool.Decides.{nat_tests}
+use Rattle.probing.specs.Spread.{spread}
 use Rattle.probing.specs.Table.{IsTable, used, turned, home_of}
 use Rattle.probing.specs.Search.{IsVacancy, IsPassed, Puts}
 
 pub below_or_past : (k m : ℕ) → (k < m) ⊎ (m ≤ k)
 below_or_past k m = grind arith
+
+spread-below : (name : ℕ) → spread name < 2 ^ 32
+unfolding spread
+spread-below name = omega arith
+
+-- a home is a slot
+pub home-below : (name n : ℕ) → 0 < n → home_of name n < n
+unfolding home_of
+home-below name n some = (div-lt_iff_lt-mul (omega arith)).1 (rw (mul_comm n (2 ^ 32)) (mul-lt-mul_of_pos_right (spread-below name) some))
 
 -- a turn stays below n
 pub turned-below : (home d n : ℕ) → home < n → d < n → turned home d n < n
@@ -59,7 +69,7 @@ passed_more f n name k p u o = record {
 pub not_all_passed : (f : ℕ → ℕ) (n name : ℕ) → used f n < n → IsPassed f n name n → ⊥
 not_all_passed f n name room p =
     let r = empty_slot f n room in
-    let home : home_of name n < n = omega arith in
+    let home = home-below name n (omega arith) in
     let d = turned-reaches (home_of name n) r.0 n home r.1 in
     p.used d.0 d.1 (ap f d.2 ∙ r.2)
 
@@ -71,7 +81,7 @@ absent f n count name at t some v i l is = elim (below_or_past d.0 v.steps) [
   | inr high ↦ by_equal (eq-or-lt_of_le high)
 ] where
   home : home_of name n < n
-  home = omega arith
+  home = home-below name n (omega arith)
 
   d : (d : ℕ) × (d < n) × (turned (home_of name n) d n ≡ i)
   d = turned-reaches (home_of name n) i n home l
@@ -134,7 +144,7 @@ module _ (f g : ℕ → ℕ) (n count at key : ℕ) (t : IsTable f n count) (som
   put_reached name d e named l is before = by_place (equal_or_not (turned (home_of name n) d n) at)
       (equal_or_not (turned (home_of name n) e n) at) where
         home : home_of name n < n
-        home = omega arith
+        home = home-below name n (omega arith)
 
         below_d : turned (home_of name n) d n < n
         below_d = turned-below (home_of name n) d n home l
@@ -169,7 +179,7 @@ IsTable-same f g n count same t = record {
   count_is = used-same f g n same ∙ t.count_is;
   distinct = λ i j l m some e. t.distinct i j l m (λ nought. some (same i l ∙ nought)) (sym (same i l) ∙ e ∙ same j m);
   reached = λ name d e some l is before.
-      let home : home_of name n < n = omega arith in
+      let home = home-below name n (omega arith) in
       let x = turned-below (home_of name n) d n home l in
       let y = turned-below (home_of name n) e n home (omega arith) in
       λ nought. t.reached name d e some l (sym (same _ x) ∙ is) before (sym (same _ y) ∙ nought);

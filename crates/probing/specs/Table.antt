@@ -1,16 +1,17 @@
 -- A table of slots with linear probing, as the function from a slot to the name in it. An empty slot has the name 0.
-use Rattle.std.specs.Prelude.{◌≡◌, ◌≢◌, ℕ, zero, suc, ◌+◌, ◌-◌, ◌/◌, ◌%◌, ◌<◌, ◌==◌, nat_lt, nat_le, if◌then◌else◌, List, [], ◌∷◌, Option, Some, None}
+use Rattle.std.specs.Prelude.{◌≡◌, ◌≢◌, ℕ, zero, suc, ◌+◌, ◌-◌, ◌*◌, ◌/◌, ◌^◌, ◌<◌, ◌==◌, nat_lt, nat_le, if◌then◌else◌, List, [], ◌∷◌, Option, Some, None}
 use Rattle.std.specs.Ordering.{nat_cmp}
 use Rattle.std.specs.FinMap as map
+use Rattle.probing.specs.Spread.{spread}
 
 -- how many of the first n slots are used
 unfoldable pub used : (ℕ → ℕ) → ℕ → ℕ
 used names zero = 0
 used names (suc n) = used names n + (if names n == 0 then 0 else 1)
 
--- where the search for a name begins among n slots: at its index, half the name
-abbrev pub home_of : ℕ → ℕ → ℕ
-home_of name n = name / 2 % n
+-- where the search for a name begins: as far among n slots as its key is among the numbers of 32 bits
+unfoldable pub home_of : ℕ → ℕ → ℕ
+home_of name n = spread name * n / 2 ^ 32
 
 -- d slots on from home, around the end
 unfoldable pub turned : ℕ → ℕ → ℕ → ℕ

@@ -2,9 +2,11 @@
 //!
 //! A name is looked for from its home on, slot by slot and around the end, up to an empty slot; where one is taken out, those behind it
 //! that a search would miss move up. `turn` and `distance` count such steps. The crates that keep slots search them and change them
-//! themselves; here are the words for it and the laws that they share.
+//! themselves; here are the words for it and the laws that they share. Homes spread: names that were made one after another fill no run
+//! of slots, so that a removal reads few slots whatever the order.
 //!
 //! ```text
+//! let home = home(name, slots);
 //! let at = turn(home, step, slots);
 //! let steps = distance(home, at, slots);      // step again
 //! ```
@@ -14,7 +16,21 @@
 #![tactic(auto)]
 
 ghost use Rattle.std.specs.Prelude.{◌≡◌, ◌<◌, ◌^◌};
-ghost use Rattle.probing.specs.Table.{turned, apart};
+ghost use Rattle.probing.specs.Table.{home_of, turned, apart};
+
+// 2^32 times the fraction of the golden ratio: odd, and its multiples lie evenly among the numbers of 32 bits.
+const SPREADER: u32 = 0x9e37_79b9;
+
+/// The slot where the search for a name begins.
+#[tactic(auto, unfolding(crate::specs::Spread::spread, crate::specs::Table::home_of))]
+pub fn home(name: u32, slots: u32) -> u32
+    requires some { 0 < slots }
+    ensures place { result ≡ home_of name slots }
+    ensures within { result < slots }
+{
+    let key = name.wrapping_mul(SPREADER);
+    ((u64::from(key) * u64::from(slots)) >> 32) as u32
+}
 
 /// The slot so many steps on from a slot, around the end.
 #[tactic(auto, unfolding(crate::specs::Table::turned))]

@@ -13,7 +13,7 @@ use Rattle.probing.specs.Table.{looked_up, IsTable}
 use Rattle.probing.proofs.MapLaws.{looked_up_none, looked_up_held, looked_up_vacant, put_looked_up}
 use Rattle.probing.proofs.TableLaws.{equal_or_not, put_table, puts-part}
 use Rattle.resident_table.specs.declared.probe.Slot.{Slot}
-use Rattle.resident_table.specs.Inside.{slot_at, key_at, short_at, no_slot, Ends}
+use Rattle.resident_table.specs.Inside.{slot_at, name_at, short_at, no_slot, Ends}
 
 other-zero : (n : ℕ) (a b : Option ℕ) → n ≢ 0 → cond (n == 0) a b ≡ b
 other-zero n a b h = let test : (n == 0) ≡ false = grind (arith, nat_tests) in rw test refl
@@ -28,9 +28,9 @@ puts slots n at slot low = record {
   others = λ j l away. get_or-set_other slots at j slot no_slot away;
 }
 
-pub puts-key : (slots : List Slot) (n at : ℕ) (slot : Slot) → at < length slots
-    → Puts (key_at slots) (key_at (slice_set slots at slot)) n at slot.key
-puts-key slots n at slot low = puts-part (λ (s : Slot). s.key) (slot_at slots) (slot_at (slice_set slots at slot)) n at slot (puts slots n at slot low)
+pub puts-name : (slots : List Slot) (n at : ℕ) (slot : Slot) → at < length slots
+    → Puts (name_at slots) (name_at (slice_set slots at slot)) n at slot.name
+puts-name slots n at slot low = puts-part (λ (s : Slot). s.name) (slot_at slots) (slot_at (slice_set slots at slot)) n at slot (puts slots n at slot low)
 
 pub puts-short : (slots : List Slot) (n at : ℕ) (slot : Slot) → at < length slots
     → Puts (short_at slots) (short_at (slice_set slots at slot)) n at slot.short
@@ -43,15 +43,15 @@ read slots at slot low e = e ∙ get_or_default slots at slot no_slot low
 -- ---- the map that slots stand for
 
 abbrev pub short_in : List Slot → ℕ → Option ℕ
-short_in slots key = cond (key == 0) None (looked_up (key_at slots) (short_at slots) (length slots) key)
+short_in slots name = cond (name == 0) None (looked_up (name_at slots) (short_at slots) (length slots) name)
 
--- a key is looked up
-pub short-is : (slots : List Slot) (key : ℕ) → key ≢ 0 → short_in slots key ≡ looked_up (key_at slots) (short_at slots) (length slots) key
-short-is slots key named = other-zero key None (looked_up (key_at slots) (short_at slots) (length slots) key) named
+-- a name is looked up
+pub short-is : (slots : List Slot) (name : ℕ) → name ≢ 0 → short_in slots name ≡ looked_up (name_at slots) (short_at slots) (length slots) name
+short-is slots name named = other-zero name None (looked_up (name_at slots) (short_at slots) (length slots) name) named
 
--- two maps that have the same at each key
+-- two maps that have the same at each name
 same-shorts : (old : ℕ → Option ℕ) (slots : List Slot) (n : ℕ) (s : Option ℕ) → n ≢ 0 → old 0 ≡ None
-    → ((q : ℕ) → q ≢ 0 → looked_up (key_at slots) (short_at slots) (length slots) q ≡ cond (q == n) s (old q)) → short_in slots ≡ put old n s
+    → ((q : ℕ) → q ≢ 0 → looked_up (name_at slots) (short_at slots) (length slots) q ≡ cond (q == n) s (old q)) → short_in slots ≡ put old n s
 same-shorts old slots n s named none same = fun_ext go
   where
     go : (q : ℕ) → short_in slots q ≡ cond (q == n) s (old q)
@@ -61,64 +61,64 @@ same-shorts old slots n s named none same = fun_ext go
         (equal_or_not q 0)
 
 -- a slot is filled
-pub short-put : (slots : List Slot) (count at : ℕ) (slot : Slot) → IsTable (key_at slots) (length slots) count → slot.key ≢ 0 → at < length slots
-    → IsVacancy (key_at slots) (length slots) slot.key at → short_in (slice_set slots at slot) ≡ put (short_in slots) slot.key (Some slot.short)
+pub short-put : (slots : List Slot) (count at : ℕ) (slot : Slot) → IsTable (name_at slots) (length slots) count → slot.name ≢ 0 → at < length slots
+    → IsVacancy (name_at slots) (length slots) slot.name at → short_in (slice_set slots at slot) ≡ put (short_in slots) slot.name (Some slot.short)
 short-put slots count at slot t named low v =
     let new = slice_set slots at slot in
-    let names = puts-key slots (length slots) at slot low in
+    let names = puts-name slots (length slots) at slot low in
     let shorts = puts-short slots (length slots) at slot low in
-    let table = put_table (key_at slots) (key_at new) (length slots) count at slot.key t named low v names in
-    same-shorts (short_in slots) new slot.key (Some slot.short) named refl
-    (λ q h. ap (λ (m : ℕ). looked_up (key_at new) (short_at new) m q) (length-set slots at slot)
-    ∙ put_looked_up (key_at slots) (key_at new) (short_at slots) (short_at new) (length slots) (count + 1) at slot.key slot.short table named low
+    let table = put_table (name_at slots) (name_at new) (length slots) count at slot.name t named low v names in
+    same-shorts (short_in slots) new slot.name (Some slot.short) named refl
+    (λ q h. ap (λ (m : ℕ). looked_up (name_at new) (short_at new) m q) (length-set slots at slot)
+    ∙ put_looked_up (name_at slots) (name_at new) (short_at slots) (short_at new) (length slots) (count + 1) at slot.name slot.short table named low
     (inl v.empty) names shorts q h
-    ∙ ap (λ (o : Option ℕ). cond (q == slot.key) (Some slot.short) o) (sym (short-is slots q h)))
+    ∙ ap (λ (o : Option ℕ). cond (q == slot.name) (Some slot.short) o) (sym (short-is slots q h)))
 
 -- a slot is taken out
-pub short-closed : (slots now : List Slot) (count at key : ℕ) → IsClosedUp (key_at slots) (key_at now) (short_at slots) (short_at now) (length slots) count at → length now ≡ length slots
-    → key_at slots at ≡ key → key ≢ 0 → short_in now ≡ put (short_in slots) key None
-short-closed slots now count at key closed size is named = same-shorts (short_in slots) now key None named refl
-    (λ q h. ap (λ (m : ℕ). looked_up (key_at now) (short_at now) m q) size ∙ closed.removed q h
-    ∙ ap (λ (m : ℕ). cond (q == m) None (looked_up (key_at slots) (short_at slots) (length slots) q)) is
-    ∙ ap (λ (o : Option ℕ). cond (q == key) None o) (sym (short-is slots q h)))
+pub short-closed : (slots now : List Slot) (count at name : ℕ) → IsClosedUp (name_at slots) (name_at now) (short_at slots) (short_at now) (length slots) count at → length now ≡ length slots
+    → name_at slots at ≡ name → name ≢ 0 → short_in now ≡ put (short_in slots) name None
+short-closed slots now count at name closed size is named = same-shorts (short_in slots) now name None named refl
+    (λ q h. ap (λ (m : ℕ). looked_up (name_at now) (short_at now) m q) size ∙ closed.removed q h
+    ∙ ap (λ (m : ℕ). cond (q == m) None (looked_up (name_at slots) (short_at slots) (length slots) q)) is
+    ∙ ap (λ (o : Option ℕ). cond (q == name) None o) (sym (short-is slots q h)))
 
 -- ---- where a search ended
 
--- at an empty slot, so the key has no short word
-pub ends-empty : (slots : List Slot) (count key at : ℕ) → IsTable (key_at slots) (length slots) count → key ≢ 0 → Ends (key_at slots) (length slots) key at
-    → key_at slots at ≡ 0 → short_in slots key ≡ None
-ends-empty slots count key at t named ends empty = short-is slots key named ∙ ⊎_elim
-    (λ (e : key_at slots at ≡ key). absurd (named (sym e ∙ empty)))
-    (λ (v : IsVacancy (key_at slots) (length slots) key at). looked_up_vacant (key_at slots) (short_at slots) (length slots) count key at t named v)
+-- at an empty slot, so the name has no short name
+pub ends-empty : (slots : List Slot) (count name at : ℕ) → IsTable (name_at slots) (length slots) count → name ≢ 0 → Ends (name_at slots) (length slots) name at
+    → name_at slots at ≡ 0 → short_in slots name ≡ None
+ends-empty slots count name at t named ends empty = short-is slots name named ∙ ⊎_elim
+    (λ (e : name_at slots at ≡ name). absurd (named (sym e ∙ empty)))
+    (λ (v : IsVacancy (name_at slots) (length slots) name at). looked_up_vacant (name_at slots) (short_at slots) (length slots) count name at t named v)
     ends
 
--- at a slot that isn't empty, so it is the key's
-pub ends-held : (slots : List Slot) (count key at : ℕ) → IsTable (key_at slots) (length slots) count → key ≢ 0 → at < length slots
-    → Ends (key_at slots) (length slots) key at → key_at slots at ≢ 0 → short_in slots key ≡ Some (short_at slots at)
-ends-held slots count key at t named low ends full = short-is slots key named ∙ ⊎_elim
-    (λ (e : key_at slots at ≡ key). looked_up_held (key_at slots) (short_at slots) (length slots) count key at t named low e)
-    (λ (v : IsVacancy (key_at slots) (length slots) key at). absurd (full v.empty))
+-- at a slot that isn't empty, so it is the name's
+pub ends-held : (slots : List Slot) (count name at : ℕ) → IsTable (name_at slots) (length slots) count → name ≢ 0 → at < length slots
+    → Ends (name_at slots) (length slots) name at → name_at slots at ≢ 0 → short_in slots name ≡ Some (short_at slots at)
+ends-held slots count name at t named low ends full = short-is slots name named ∙ ⊎_elim
+    (λ (e : name_at slots at ≡ name). looked_up_held (name_at slots) (short_at slots) (length slots) count name at t named low e)
+    (λ (v : IsVacancy (name_at slots) (length slots) name at). absurd (full v.empty))
     ends
 
--- the key has none, so at an empty slot
-pub ends-vacant : (slots : List Slot) (count key at : ℕ) → IsTable (key_at slots) (length slots) count → key ≢ 0 → at < length slots
-    → Ends (key_at slots) (length slots) key at → short_in slots key ≡ None → IsVacancy (key_at slots) (length slots) key at
-ends-vacant slots count key at t named low ends none = ⊎_elim
-    (λ (e : key_at slots at ≡ key). absurd (some-none
-    (sym (looked_up_held (key_at slots) (short_at slots) (length slots) count key at t named low e) ∙ sym (short-is slots key named) ∙ none)))
-    (λ (v : IsVacancy (key_at slots) (length slots) key at). v)
+-- the name has none, so at an empty slot
+pub ends-vacant : (slots : List Slot) (count name at : ℕ) → IsTable (name_at slots) (length slots) count → name ≢ 0 → at < length slots
+    → Ends (name_at slots) (length slots) name at → short_in slots name ≡ None → IsVacancy (name_at slots) (length slots) name at
+ends-vacant slots count name at t named low ends none = ⊎_elim
+    (λ (e : name_at slots at ≡ name). absurd (some-none
+    (sym (looked_up_held (name_at slots) (short_at slots) (length slots) count name at t named low e) ∙ sym (short-is slots name named) ∙ none)))
+    (λ (v : IsVacancy (name_at slots) (length slots) name at). v)
     ends
   where
     some-none : {s : ℕ} → Some s ≡ None → ⊥
     some-none e = cc e
 
--- the key has one, so at its slot
-pub ends-there : (slots : List Slot) (count key at : ℕ) → IsTable (key_at slots) (length slots) count → key ≢ 0
-    → Ends (key_at slots) (length slots) key at → IsSome (short_in slots key) → key_at slots at ≡ key
-ends-there slots count key at t named ends some = ⊎_elim
-    (λ (e : key_at slots at ≡ key). e)
-    (λ (v : IsVacancy (key_at slots) (length slots) key at).
-    absurd (none-some (subst (λ (o : Option ℕ). IsSome o) (short-is slots key named ∙ looked_up_vacant (key_at slots) (short_at slots) (length slots) count key at t named v) some)))
+-- the name has one, so at its slot
+pub ends-there : (slots : List Slot) (count name at : ℕ) → IsTable (name_at slots) (length slots) count → name ≢ 0
+    → Ends (name_at slots) (length slots) name at → IsSome (short_in slots name) → name_at slots at ≡ name
+ends-there slots count name at t named ends some = ⊎_elim
+    (λ (e : name_at slots at ≡ name). e)
+    (λ (v : IsVacancy (name_at slots) (length slots) name at).
+    absurd (none-some (subst (λ (o : Option ℕ). IsSome o) (short-is slots name named ∙ looked_up_vacant (name_at slots) (short_at slots) (length slots) count name at t named v) some)))
     ends
   where
     none-some : IsSome {T = ℕ} None → ⊥
@@ -126,8 +126,8 @@ ends-there slots count key at t named ends some = ⊎_elim
 
 -- ---- a new table
 
-pub slots-none : (slots : List Slot) (n : ℕ) → slots ≡ replicate n no_slot → (i : ℕ) → key_at slots i ≡ 0
-slots-none slots n e i = ap (λ (l : List Slot). (get_or l i no_slot).key) e ∙ ap (λ (s : Slot). s.key) (none n i)
+pub slots-none : (slots : List Slot) (n : ℕ) → slots ≡ replicate n no_slot → (i : ℕ) → name_at slots i ≡ 0
+slots-none slots n e i = ap (λ (l : List Slot). (get_or l i no_slot).name) e ∙ ap (λ (s : Slot). s.name) (none n i)
   where
     none : (n i : ℕ) → get_or (replicate n no_slot) i no_slot ≡ no_slot
     none n i = ⊎_elim
@@ -135,8 +135,8 @@ slots-none slots n e i = ap (λ (l : List Slot). (get_or l i no_slot).key) e ∙
         (λ (h : n ≤ i). get_or_past (replicate n no_slot) i no_slot (subst (λ (z : ℕ). z ≤ i) (sym (length-replicate n no_slot)) h))
         (cases_lt i n)
 
-pub short-none : (slots : List Slot) → ((i : ℕ) → key_at slots i ≡ 0) → short_in slots ≡ (λ key. None)
+pub short-none : (slots : List Slot) → ((i : ℕ) → name_at slots i ≡ 0) → short_in slots ≡ (λ name. None)
 short-none slots none = fun_ext (λ q. ⊎_elim
     (λ (h : q ≡ 0). subst (λ (z : ℕ). short_in slots z ≡ None) (sym h) refl)
-    (λ (h : q ≢ 0). short-is slots q h ∙ looked_up_none (key_at slots) (short_at slots) (length slots) q (λ i l e. h (sym e ∙ none i)))
+    (λ (h : q ≢ 0). short-is slots q h ∙ looked_up_none (name_at slots) (short_at slots) (length slots) q (λ i l e. h (sym e ∙ none i)))
     (equal_or_not q 0))

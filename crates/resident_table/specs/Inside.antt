@@ -1,23 +1,23 @@
--- The slots of a resident table, as a table with linear probing. A slot of the key 0 is empty.
+-- The slots of a resident table, as a table with linear probing. A slot of the name 0 is empty.
 use Rattle.std.specs.Prelude.{◌≡◌, ℕ, ◌⊎◌, List, slice_index_or}
 use Rattle.probing.specs.Search.{IsVacancy}
 use Rattle.resident_table.specs.declared.probe.Slot.{Slot}
 
 -- an empty slot
 abbrev pub no_slot : Slot
-no_slot = record { key = 0; short = 0 }
+no_slot = record { name = 0; short = 0 }
 
 -- the slots of a list
 abbrev pub slot_at : List Slot → ℕ → Slot
 slot_at slots i = slice_index_or slots i no_slot
 
--- the keys in them, and the short words with them
-abbrev pub key_at : List Slot → ℕ → ℕ
-key_at slots i = (slot_at slots i).key
+-- the names in them, and the short words with them
+abbrev pub name_at : List Slot → ℕ → ℕ
+name_at slots i = (slot_at slots i).name
 
 abbrev pub short_at : List Slot → ℕ → ℕ
 short_at slots i = (slot_at slots i).short
 
--- what the search for a key ends at: a slot of it, or an empty one
+-- what the search for a name ends at: a slot of it, or an empty one
 abbrev pub Ends : (ℕ → ℕ) → ℕ → ℕ → ℕ → Type 0
-Ends keys n key at = (keys at ≡ key) ⊎ IsVacancy keys n key at
+Ends names n name at = (names at ≡ name) ⊎ IsVacancy names n name at

@@ -2,12 +2,11 @@
 use Rattle.std.specs.Prelude.{ℕ, ◌==◌, Option, None, length, if◌then◌else◌}
 use Rattle.probing.specs.Table.{looked_up}
 use Rattle.resident_table.specs.declared.resident.Resident.{Resident}
-use Rattle.resident_table.specs.Inside.{key_at, short_at}
-use Rattle.resident_table.specs.Spread.{spread}
+use Rattle.resident_table.specs.Inside.{name_at, short_at}
 
 -- the short word of a name
 unfoldable pub short_of : Resident → ℕ → Option ℕ
-short_of r name = let key = spread name in if key == 0 then None else looked_up (key_at r.slots.items) (short_at r.slots.items) (length r.slots.items) key
+short_of r name = if name == 0 then None else looked_up (name_at r.slots.items) (short_at r.slots.items) (length r.slots.items) name
 
 -- how many names have one
 unfoldable pub held_of : Resident → ℕ

@@ -2,7 +2,7 @@
 //!
 //! A table stands for a map from names to short words, `short_of`, and `insert` and `remove` are one equation of whole maps each. `find`
 //! answers None exactly where a name has none. There is room for as many names as the table was made for, so no call but `new` takes
-//! memory, and each takes constant time on average, also where names were made one after another: homes are those of keys, which spread.
+//! memory, and each takes constant time on average, also where names were made one after another: homes spread.
 //!
 //! ```text
 //! let mut resident = Resident::new(alloc, table.entries())?;

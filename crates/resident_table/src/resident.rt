@@ -1,12 +1,12 @@
 // The resident table: names and their short names in slots, found by linear probing from a name's home.
 ghost use Rattle.std.specs.Prelude.{◌≡◌, ◌+◌, ◌*◌, ◌≤◌, length};
 ghost use Rattle.probing.specs.Table.{IsTable};
-ghost use Rattle.resident_table.specs.Inside.{key_at};
+ghost use Rattle.resident_table.specs.Inside.{name_at};
 
-use crate::probe::{Slot, close_up, key_of};
+use crate::probe::{Slot, close_up};
 use long_names::Name;
 use object_table::Short;
-use probing::turn;
+use probing::{home, turn};
 use std::alloc::{AllocError, Global};
 
 /// A map from names to short names, with room for as many as it was made for.
@@ -19,14 +19,14 @@ pub struct Resident {
     ghost size: { length slots.items ≡ 2 * room + 2 },
     ghost small: { length slots.items ≤ 131072 },
     ghost few: { held ≤ room },
-    ghost table: { IsTable (key_at slots.items) (length slots.items) held },
+    ghost table: { IsTable (name_at slots.items) (length slots.items) held },
 }
 
 impl Resident {
     ghost use Rattle.std.specs.Prelude.{◌≡◌, ◌≢◌, ◌+◌, ◌-◌, ◌<◌, ℕ, IfOk, IfSome, IfNone, Some, None, IsSome, length, option_map};
     ghost use Rattle.object_table.specs.declared.entry.Short.{Short};
     ghost use Rattle.object_table.specs.Entries.{put};
-    ghost use Rattle.resident_table.specs.Inside.{Ends, key_at};
+    ghost use Rattle.resident_table.specs.Inside.{Ends, name_at};
     ghost use Rattle.resident_table.specs.Resident.{short_of, held_of, room_of};
 
     /// An empty table with room for so many names.
@@ -42,18 +42,18 @@ impl Resident {
         })
     }
 
-    // Where the search for a key ends: at its slot, or at an empty one.
-    fn seek(&self, key: u32) -> usize
-        requires { 0 < key }
+    // Where the search for a name ends: at its slot, or at an empty one.
+    fn seek(&self, name: u32) -> usize
+        requires { 0 < name }
         ensures within { result < length self.now.slots.items }
-        ensures ends { Ends (key_at self.now.slots.items) (length self.now.slots.items) key result }
+        ensures ends { Ends (name_at self.now.slots.items) (length self.now.slots.items) name result }
     {
         let slots = self.slots.len() as u32;
-        let home = key / 2 % slots;
+        let home = home(name, slots);
         for step in 0..slots {
             let at = turn(home, step, slots) as usize;
             let slot = self.slots[at];
-            if slot.key == 0 || slot.key == key {
+            if slot.name == 0 || slot.name == name {
                 return at;
             }
         }
@@ -64,9 +64,9 @@ impl Resident {
     pub fn find(&self, name: Name) -> Option<Short>
         ensures { option_map (λ (s : Short). s.0) result ≡ short_of self.now name }
     {
-        let at = self.seek(key_of(name));
+        let at = self.seek(name.get());
         let slot = self.slots[at];
-        if slot.key == 0 {
+        if slot.name == 0 {
             return None;
         }
         Some(Short(slot.short))
@@ -80,9 +80,9 @@ impl Resident {
         ensures held { held_of self.new ≡ held_of self.old + 1 }
         ensures room { room_of self.new ≡ room_of self.old }
     {
-        let key = key_of(name);
-        let at = self.seek(key);
-        self.slots[at] = Slot { key, short: s.0 };
+        let name = name.get();
+        let at = self.seek(name);
+        self.slots[at] = Slot { name, short: s.0 };
         self.held += 1;
     }
 
@@ -93,7 +93,7 @@ impl Resident {
         ensures held { held_of self.new + 1 ≡ held_of self.old }
         ensures room { room_of self.new ≡ room_of self.old }
     {
-        let at = self.seek(key_of(name));
+        let at = self.seek(name.get());
         close_up(&mut self.slots, at);
         self.held -= 1;
     }

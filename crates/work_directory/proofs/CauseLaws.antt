@@ -1,12 +1,12 @@
 -- Why calls failed, from why the calls inside them did.
-use Rattle.std.proofs.Common.{◌≡◌, ℕ, ◌*◌, ◌<◌, ◌≤◌, Option, Some, None, IsTrue, IsSome, IfErr, refl, sym, subst, arith}
+use Rattle.std.proofs.Common.{◌≡◌, ℕ, ◌-◌, ◌*◌, ◌<◌, ◌≤◌, Option, Some, None, IsTrue, IsSome, IfErr, refl, sym, subst, arith}
 use Rattle.loom_outside.proofs.WorkLaws.{failed-later}
 use Rattle.loom_outside.specs.declared.outside.Host.{Ghosts}
 use Rattle.loom_outside.specs.declared.outside.Role.TheVariants.{Work as OfWork}
 use Rattle.loom_outside.specs.declared.outside.DiskFault.{DiskFault}
 use Rattle.loom_outside.specs.declared.outside.DiskFault.TheVariants.{Work, Full, Damaged}
-use Rattle.std.proofs.lemmas.Bool.Decides.{nat_tests}
-use Rattle.probing.specs.Table.{turned}
+use Rattle.probing.proofs.TableLaws.{home-below, turned-below}
+use Rattle.probing.specs.Table.{home_of}
 use Rattle.work_directory.specs.declared.directory.Found.{Found}
 use Rattle.work_directory.specs.declared.limits.TheConstants.{SLOT_BYTES}
 use Rattle.work_directory.specs.Inside.{IsLookCause, IsWriteCause, last_slot, search_end}
@@ -16,8 +16,7 @@ use Rattle.loom_outside.specs.Work.{work_of}
 
 -- the slot that a search reads last is one of them
 pub last-within : (n name : ℕ) → 0 < n → last_slot n name < n
-unfolding turned
-last-within n name some = grind (arith, nat_tests)
+last-within n name some = turned-below (home_of name n) (n - 1) n (home-below name n some) (omega arith)
 
 module _ {H : Type 0} (host : Ghosts H) where
   -- damage at a slot, over a host that doesn't tell Work

@@ -1,7 +1,7 @@
 -- A slot is taken out of Work, step by step, by the values that the code has.
 -- Bytes of a directory come in by `Writes`, one record for one written slot. Removal is carried by `IsUnderWay`, with one law
 -- each for its start, a slot that stays, one that moves, and its end.
-use Rattle.std.proofs.Common.{◌≡◌, ◌≢◌, ℕ, ◌+◌, ◌*◌, ◌/◌, ◌%◌, ◌<◌, ◌≤◌, List, Some, None, refl, sym, ap, ◌∙◌, subst}
+use Rattle.std.proofs.Common.{◌≡◌, ◌≢◌, ℕ, ◌+◌, ◌*◌, ◌<◌, ◌≤◌, List, Some, None, refl, sym, ap, ◌∙◌, subst}
 use Rattle.probing.specs.Search.{Puts}
 use Rattle.probing.specs.Table.{IsTable, turned, apart, home_of}
 use Rattle.probing.proofs.ClosingLaws.{IsClosing, closing_start, step_left, step_moved, step_end}
@@ -33,8 +33,8 @@ module _ (v u w : List ℕ) (n count at hole gap step place : ℕ) (way : IsUnde
   way_now : IsUnderWay v w n count at hole gap step
   way_now = subst (λ (x : List ℕ). IsUnderWay v x n count at hole gap step) (sym still) way
 
-  module _ (slot : Slot) (index d : ℕ) (read : Some slot ≡ used_slot (slot_at u place)) (half : index ≡ slot.name / 2)
-      (far : d ≡ apart (index % n) place n) where
+  module _ (slot : Slot) (home d : ℕ) (read : Some slot ≡ used_slot (slot_at u place)) (begins : home ≡ home_of slot.name n)
+      (far : d ≡ apart home place n) where
     slot_is : slot ≡ slot_at w place
     slot_is = (used_slot-some (slot_at u place) slot read).0 ∙ ap (λ (x : List ℕ). slot_at x place) (sym still)
 
@@ -46,7 +46,7 @@ module _ (v u w : List ℕ) (n count at hole gap step place : ℕ) (way : IsUnde
         (ap (λ (s : Slot). s.name) (sym (used_slot-some (slot_at u place) slot read).0) ∙ nought)
 
     far_is : d ≡ apart (home_of slot.name n) place n
-    far_is = far ∙ ap (λ (k : ℕ). apart (k % n) place n) half
+    far_is = far ∙ ap (λ (k : ℕ). apart k place n) begins
 
     pub left : d < gap → IsUnderWay v w n count at hole (gap + 1) (step + 1)
     left near = record {

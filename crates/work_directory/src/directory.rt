@@ -7,10 +7,10 @@ use crate::limits::{MOST_NAMES, SLOT_BYTES};
 use crate::slot::{Slot, clear, damaged, look, place_of, put};
 use long_names::Name;
 use loom_outside::{DiskFault, Host};
-use probing::{distance, turn};
+use probing::{distance, home, turn};
 
 /// The directory of the work file: the counts and places of the objects on disk. It has twice as many slots of 24 bytes as it has room
-/// for names, from the first byte of Work on. A name is looked for from its index on, slot by slot and around the end, up to an empty
+/// for names, from the first byte of Work on. A name is looked for from its home on, slot by slot and around the end, up to an empty
 /// slot; where one is removed, those behind it that a search would miss move up.
 ///
 /// Each call answers Work where a call of the host failed. It answers Damaged where a slot that it read is none, where it met no empty
@@ -41,7 +41,7 @@ fn search_end(found: Option<Found>, name: Name, slots: u32) -> Result<Found, Dis
 {
     match found {
         Some(found) => Ok(found),
-        None => Err(damaged(turn(name.index() % slots, slots - 1, slots), name)),
+        None => Err(damaged(turn(home(name.get(), slots), slots - 1, slots), name)),
     }
 }
 
@@ -116,7 +116,7 @@ impl Directory {
         ensures cause { IfErr result (IsCause H.Host host.old host.new (end_of self.now) name) }
     {
         let slots = self.slots();
-        let home = name.index() % slots;
+        let home = home(name.get(), slots);
         for step in 0..slots {
             let at = turn(home, step, slots);
             let Some(slot) = look(host, at, Some(name))? else {
@@ -263,7 +263,7 @@ impl Directory {
             let Some(slot) = look(host, place, Some(name))? else {
                 return clear(host, hole);
             };
-            let home = slot.name.index() % slots;
+            let home = home(slot.name.get(), slots);
             if distance(home, place, slots) < gap {
                 gap += 1;
             } else {

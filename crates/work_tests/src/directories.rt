@@ -118,20 +118,20 @@ fn first_wrong(
     Ok(None)
 }
 
-// With room for 4 names there are 8 slots. 14 and 30 have their home at slot 7, 16 at 0, 2 and 18 at 1.
+// With room for 4 names there are 8 slots. 8 and 16 have their home at slot 7, 18 at 0, 2 and 10 at 1.
 const FILLED: [Row; 30] = [
     Row {
-        call: Call::Find(14),
+        call: Call::Find(8),
         answer: Ok(None),
         held: 0,
     },
     Row {
-        call: Call::Add(14, 1, 192),
+        call: Call::Add(8, 1, 192),
         answer: Ok(None),
         held: 1,
     },
     Row {
-        call: Call::Add(30, 2, 224),
+        call: Call::Add(16, 2, 224),
         answer: Ok(None),
         held: 2,
     },
@@ -141,23 +141,23 @@ const FILLED: [Row; 30] = [
         held: 3,
     },
     Row {
-        call: Call::Add(16, 4, 288),
+        call: Call::Add(18, 4, 288),
         answer: Ok(None),
         held: 4,
     },
     Row {
-        call: Call::Add(18, 5, 320),
+        call: Call::Add(10, 5, 320),
         answer: Err(Full { held: 4, room: 4 }),
         held: 4,
     },
     Row {
-        call: Call::Find(14),
-        answer: Ok(Some((14, 1, 192))),
+        call: Call::Find(8),
+        answer: Ok(Some((8, 1, 192))),
         held: 4,
     },
     Row {
-        call: Call::Find(30),
-        answer: Ok(Some((30, 2, 224))),
+        call: Call::Find(16),
+        answer: Ok(Some((16, 2, 224))),
         held: 4,
     },
     Row {
@@ -166,23 +166,23 @@ const FILLED: [Row; 30] = [
         held: 4,
     },
     Row {
-        call: Call::Find(16),
-        answer: Ok(Some((16, 4, 288))),
+        call: Call::Find(18),
+        answer: Ok(Some((18, 4, 288))),
         held: 4,
     },
     Row {
-        call: Call::Find(18),
+        call: Call::Find(10),
         answer: Ok(None),
         held: 4,
     },
     Row {
         call: Call::Slot(7),
-        answer: Ok(Some((14, 1, 192))),
+        answer: Ok(Some((8, 1, 192))),
         held: 4,
     },
     Row {
         call: Call::Slot(0),
-        answer: Ok(Some((30, 2, 224))),
+        answer: Ok(Some((16, 2, 224))),
         held: 4,
     },
     Row {
@@ -192,7 +192,7 @@ const FILLED: [Row; 30] = [
     },
     Row {
         call: Call::Slot(2),
-        answer: Ok(Some((16, 4, 288))),
+        answer: Ok(Some((18, 4, 288))),
         held: 4,
     },
     Row {
@@ -201,18 +201,18 @@ const FILLED: [Row; 30] = [
         held: 4,
     },
     Row {
-        call: Call::Remove(14),
+        call: Call::Remove(8),
         answer: Ok(None),
         held: 3,
     },
     Row {
         call: Call::Slot(7),
-        answer: Ok(Some((30, 2, 224))),
+        answer: Ok(Some((16, 2, 224))),
         held: 3,
     },
     Row {
         call: Call::Slot(0),
-        answer: Ok(Some((16, 4, 288))),
+        answer: Ok(Some((18, 4, 288))),
         held: 3,
     },
     Row {
@@ -226,25 +226,25 @@ const FILLED: [Row; 30] = [
         held: 3,
     },
     Row {
-        call: Call::Find(14),
+        call: Call::Find(8),
         answer: Ok(None),
         held: 3,
     },
     Row {
-        call: Call::Set(16, 0x0102, 0x0304_0506),
+        call: Call::Set(18, 0x0102, 0x0304_0506),
         answer: Ok(None),
         held: 3,
     },
     Row {
-        call: Call::Find(16),
-        answer: Ok(Some((16, 0x0102, 0x0304_0506))),
+        call: Call::Find(18),
+        answer: Ok(Some((18, 0x0102, 0x0304_0506))),
         held: 3,
     },
     Row {
         call: Call::Read(
             0,
             [
-                0, 0, 0, 16, 0, 0, 0, 0, 0, 0, 0, 0, 0, 0, 1, 2, 0, 0, 0, 0, 3, 4, 5, 6,
+                0, 0, 0, 18, 0, 0, 0, 0, 0, 0, 0, 0, 0, 0, 1, 2, 0, 0, 0, 0, 3, 4, 5, 6,
             ],
         ),
         answer: Ok(None),
@@ -256,12 +256,12 @@ const FILLED: [Row; 30] = [
         held: 3,
     },
     Row {
-        call: Call::Remove(30),
+        call: Call::Remove(16),
         answer: Ok(None),
         held: 2,
     },
     Row {
-        call: Call::Remove(16),
+        call: Call::Remove(18),
         answer: Ok(None),
         held: 1,
     },
@@ -291,18 +291,18 @@ const DAMAGED: [Row; 17] = [
         held: 1,
     },
     Row {
-        call: Call::Set(18, 1, 192),
+        call: Call::Set(10, 1, 192),
         answer: Err(Damaged {
             place: 48,
-            name: 18,
+            name: 10,
         }),
         held: 1,
     },
     Row {
-        call: Call::Remove(18),
+        call: Call::Remove(10),
         answer: Err(Damaged {
             place: 48,
-            name: 18,
+            name: 10,
         }),
         held: 1,
     },
@@ -312,10 +312,10 @@ const DAMAGED: [Row; 17] = [
         held: 1,
     },
     Row {
-        call: Call::Find(18),
+        call: Call::Find(10),
         answer: Err(Damaged {
             place: 48,
-            name: 18,
+            name: 10,
         }),
         held: 1,
     },
@@ -350,10 +350,10 @@ const DAMAGED: [Row; 17] = [
         held: 1,
     },
     Row {
-        call: Call::Find(18),
+        call: Call::Find(10),
         answer: Err(Damaged {
             place: 48,
-            name: 18,
+            name: 10,
         }),
         held: 1,
     },
@@ -379,7 +379,7 @@ const DAMAGED: [Row; 17] = [
     },
 ];
 
-// No slot is empty: of the two slots, 2 has its home at the second.
+// No slot is empty: of the two slots, 2 and 4 have their home at the first, 6 and 8 at the second.
 const FULL_OF_NAMES: [Row; 5] = [
     Row {
         call: Call::Add(2, 1, 48),
@@ -387,23 +387,23 @@ const FULL_OF_NAMES: [Row; 5] = [
         held: 1,
     },
     Row {
-        call: Call::Write(0, [0, 0, 0, 4, 0, 0, 0, 0]),
+        call: Call::Write(24, [0, 0, 0, 6, 0, 0, 0, 0]),
         answer: Ok(None),
         held: 1,
     },
     Row {
         call: Call::Remove(2),
-        answer: Err(Damaged { place: 0, name: 2 }),
+        answer: Err(Damaged { place: 24, name: 2 }),
         held: 1,
     },
     Row {
-        call: Call::Find(6),
-        answer: Err(Damaged { place: 0, name: 6 }),
+        call: Call::Find(4),
+        answer: Err(Damaged { place: 24, name: 4 }),
         held: 1,
     },
     Row {
         call: Call::Find(8),
-        answer: Err(Damaged { place: 24, name: 8 }),
+        answer: Err(Damaged { place: 0, name: 8 }),
         held: 1,
     },
 ];
@@ -431,23 +431,23 @@ const FAILING: [Row; 13] = [
         held: 1,
     },
     Row {
-        call: Call::Add(18, 2, 224),
+        call: Call::Add(10, 2, 224),
         answer: Ok(None),
         held: 2,
     },
     Row {
-        call: Call::Find(18),
+        call: Call::Find(10),
         answer: Err(Work { count: 3 }),
         held: 2,
     },
     Row {
-        call: Call::Set(18, 3, 224),
+        call: Call::Set(10, 3, 224),
         answer: Err(Work { count: 4 }),
         held: 2,
     },
     Row {
-        call: Call::Find(18),
-        answer: Ok(Some((18, 2, 224))),
+        call: Call::Find(10),
+        answer: Ok(Some((10, 2, 224))),
         held: 2,
     },
     Row {
@@ -471,8 +471,8 @@ const FAILING: [Row; 13] = [
         held: 1,
     },
     Row {
-        call: Call::Find(18),
-        answer: Ok(Some((18, 2, 224))),
+        call: Call::Find(10),
+        answer: Ok(Some((10, 2, 224))),
         held: 1,
     },
 ];

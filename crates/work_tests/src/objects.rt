@@ -139,7 +139,10 @@ const FULL: DiskFault = Full { held: 4, room: 4 };
 const SLOT: DiskFault = Damaged { place: 24, name: 2 };
 
 // The empty slot where the search for the name 6 ends.
-const MISSING: DiskFault = Damaged { place: 72, name: 6 };
+const MISSING: DiskFault = Damaged {
+    place: 120,
+    name: 6,
+};
 
 // The block of the name 2.
 const RECORD: DiskFault = Damaged {

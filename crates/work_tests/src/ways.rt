@@ -270,7 +270,7 @@ fn is_right(alloc: Global, row: &Row) -> Result<bool, Fail> {
 // objects stay, and counts fall: of nil at 51, of the classes of arrays, contexts and methods at 179, 199 and 319; the association's second
 // field at 123 is nil.
 //
-// With room for 128 objects the directory has 6,144 bytes, and the slot of the name 2 is the second; its record stands in the first block. What
+// With room for 128 objects the directory has 6,144 bytes, and the slot of the name 2 is number 60; its record stands in the first block. What
 // is written: an odd name in the slot; and in the record another name, and a kind that is none. The head of 36 bytes was put before the
 // first record is read.
 const ROWS: [Row; 8] = [
@@ -351,9 +351,12 @@ const ROWS: [Row; 8] = [
     Row {
         sample: Sample::Base,
         words: None,
-        between: Between::Writes(24, &[0, 0, 0, 3, 0, 0, 0, 0]),
+        between: Between::Writes(1_440, &[0, 0, 0, 3, 0, 0, 0, 0]),
         state: State::NONE,
-        end: End::Unsaved(SaveFault::Disk(DiskFault::Damaged { place: 24, name: 3 })),
+        end: End::Unsaved(SaveFault::Disk(DiskFault::Damaged {
+            place: 1_440,
+            name: 3,
+        })),
         kept: [0; 5],
         changes: &[],
         len: 0,

@@ -1,16 +1,16 @@
 use Rattle.std.proofs.Common.{◌≡◌, ◌≤◌, ◌<◌, length}
 use Rattle.probing.specs.Table.{used}
 use Rattle.probing.proofs.ClosingLaws.{IsClosing}
-use Rattle.resident_table.specs.Inside.{key_at, short_at}
+use Rattle.resident_table.specs.Inside.{name_at, short_at}
 use Rattle.resident_table.proofs.probe.close_up.Given as goal
 
 abbrev pub invariant-loop-step : goal.invariant-loop-step
 invariant-loop-step l =
-    let f = key_at l.fn.slots.items in
+    let f = name_at l.fn.slots.items in
     record {
       low : 1 ≤ l.gap;
       high : l.gap ≤ l._step;
       within : l.hole < l.size;
       same : length l.slots.items ≡ l.size;
-      closing : IsClosing f (key_at l.slots.items) (short_at l.fn.slots.items) (short_at l.slots.items) l.size (used f l.size) l.fn.at l.hole l.gap l._step;
+      closing : IsClosing f (name_at l.slots.items) (short_at l.fn.slots.items) (short_at l.slots.items) l.size (used f l.size) l.fn.at l.hole l.gap l._step;
     }

@@ -1,14 +1,13 @@
-use Rattle.std.proofs.Common.{ℕ, ◌+◌, length, Some, refl, subst, sym, ap, ◌∙◌, arith}
+use Rattle.std.proofs.Common.{ℕ, ◌≢◌, ◌+◌, length, Some, refl, subst, sym, ap, ◌∙◌, arith}
 use Rattle.std.proofs.Math.ListN.{length-set}
 use Rattle.std.specs.List.{slice_set}
 use Rattle.object_table.specs.Entries.{put}
 use Rattle.probing.specs.Table.{IsTable}
 use Rattle.probing.proofs.TableLaws.{put_table}
 use Rattle.resident_table.specs.declared.probe.Slot.{Slot}
-use Rattle.resident_table.specs.Inside.{key_at}
+use Rattle.resident_table.specs.Inside.{name_at}
 use Rattle.resident_table.specs.Resident.{short_of, held_of, room_of}
-use Rattle.resident_table.proofs.SlotLaws.{short_in, puts-key, short-put, ends-vacant}
-use Rattle.resident_table.proofs.SpreadLaws.{by_name, put-spread}
+use Rattle.resident_table.proofs.SlotLaws.{puts-name, short-put, ends-vacant}
 use Rattle.resident_table.proofs.resident.Resident.insert.Goals as goal
 
 pub overflow_add-self : goal.overflow_add-self
@@ -20,18 +19,18 @@ unfolding short_of held_of room_of
 invariant_of-self c =
     let r = c.args.self.now in
     let slots = r.slots.items in
-    let key = c.key_of-key.result in
-    let used = c.key_of-key.ensures.some in
-    let slot : Slot = record { key = key; short = c.args.s.0 } in
-    let v = ends-vacant slots r.held key c.seek-at.result r.table used c.seek-at.ensures.within c.seek-at.ensures.ends (ap (short_in slots) c.key_of-key.ensures.key ∙ c.requires.absent) in
+    let name = c.get-name.result in
+    let named : name ≢ 0 = let up = c.get-name.ensures.name.above in omega (arith, c.get-name.ensures.value) in
+    let slot : Slot = record { name = name; short = c.args.s.0 } in
+    let v = ends-vacant slots r.held name c.seek-at.result r.table named c.seek-at.ensures.within c.seek-at.ensures.ends (ap (short_of r) c.get-name.ensures.value ∙ c.requires.absent) in
     let size = length-set slots c.seek-at.result slot in
     record {
       size = size ∙ r.size;
       small = let small = r.small in omega arith;
       few = let room = c.requires.room in omega arith;
-      table = subst (λ (n : ℕ). IsTable (key_at (slice_set slots c.seek-at.result slot)) n (r.held + 1)) (sym size)
-          (put_table (key_at slots) (key_at (slice_set slots c.seek-at.result slot)) (length slots) r.held c.seek-at.result key r.table used
-          c.seek-at.ensures.within v (puts-key slots (length slots) c.seek-at.result slot c.seek-at.ensures.within));
+      table = subst (λ (n : ℕ). IsTable (name_at (slice_set slots c.seek-at.result slot)) n (r.held + 1)) (sym size)
+          (put_table (name_at slots) (name_at (slice_set slots c.seek-at.result slot)) (length slots) r.held c.seek-at.result name r.table named
+          c.seek-at.ensures.within v (puts-name slots (length slots) c.seek-at.result slot c.seek-at.ensures.within));
     }
 
 pub returns-clause-find : goal.returns-clause-find
@@ -39,13 +38,12 @@ unfolding short_of
 returns-clause-find c =
     let r = c.args.self.now in
     let slots = r.slots.items in
-    let key = c.key_of-key.result in
-    let used = c.key_of-key.ensures.some in
-    let slot : Slot = record { key = key; short = c.args.s.0 } in
-    let v = ends-vacant slots r.held key c.seek-at.result r.table used c.seek-at.ensures.within c.seek-at.ensures.ends (ap (short_in slots) c.key_of-key.ensures.key ∙ c.requires.absent) in
-    ap by_name (short-put slots r.held c.seek-at.result slot r.table used c.seek-at.ensures.within v
-    ∙ ap (λ (k : ℕ). put (short_in slots) k (Some c.args.s.0)) c.key_of-key.ensures.key)
-    ∙ put-spread (short_in slots) c.args.name (Some c.args.s.0)
+    let name = c.get-name.result in
+    let named : name ≢ 0 = let up = c.get-name.ensures.name.above in omega (arith, c.get-name.ensures.value) in
+    let slot : Slot = record { name = name; short = c.args.s.0 } in
+    let v = ends-vacant slots r.held name c.seek-at.result r.table named c.seek-at.ensures.within c.seek-at.ensures.ends (ap (short_of r) c.get-name.ensures.value ∙ c.requires.absent) in
+    short-put slots r.held c.seek-at.result slot r.table named c.seek-at.ensures.within v
+    ∙ ap (λ (n : ℕ). put (short_of r) n (Some c.args.s.0)) c.get-name.ensures.value
 
 pub returns-clause-held : goal.returns-clause-held
 unfolding held_of

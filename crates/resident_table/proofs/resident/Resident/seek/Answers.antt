@@ -3,7 +3,7 @@ use Rattle.probing.specs.Search.{IsPassed}
 use Rattle.probing.specs.Table.{used, turned, home_of}
 use Rattle.probing.proofs.TableLaws.{passed_none, passed_more, not_all_passed}
 use Rattle.resident_table.specs.declared.probe.Slot.{Slot}
-use Rattle.resident_table.specs.Inside.{slot_at, key_at, Ends}
+use Rattle.resident_table.specs.Inside.{slot_at, name_at, Ends}
 use Rattle.resident_table.proofs.SlotLaws.{read}
 use Rattle.resident_table.proofs.resident.Resident.seek.Goals as goal
 
@@ -17,11 +17,12 @@ loop-step-preserved c =
     let size : length r.slots.items ≡ n = let a = r.slots.ok.0 in omega (arith, c.len-slots.ensures) in
     let next = c.turn-at.ensures.within in
     let slot : c.index-slot.result.now ≡ slot_at r.slots.items c.turn-at.result = read r.slots.items c.turn-at.result c.index-slot.result.now (omega arith) c.index-slot.ensures in
-    let here : c.index-slot.result.now.key ≡ key_at r.slots.items (turned (home_of c.args.key n) c.loop-step.step n) =
-    ap (λ (s : Slot). s.key) slot ∙ ap (key_at r.slots.items) c.turn-at.ensures.place in
+    let here : c.index-slot.result.now.name ≡ name_at r.slots.items (turned (home_of c.args.name n) c.loop-step.step n) =
+    ap (λ (s : Slot). s.name) slot ∙ ap (name_at r.slots.items) (c.turn-at.ensures.place
+    ∙ ap (λ (h : ℕ). turned h c.loop-step.step n) c.home-home.ensures.place) in
     record {
-      passed = passed_more (key_at r.slots.items) n c.args.key c.loop-step.step c.loop-step.invariant.passed
-          (λ e. c.if-slot-eq0.false (here ∙ e)) (λ e. c.if-slot-key.false (here ∙ e));
+      passed = passed_more (name_at r.slots.items) n c.args.name c.loop-step.step c.loop-step.invariant.passed
+          (λ e. c.if-slot-eq0.false (here ∙ e)) (λ e. c.if-slot-name.false (here ∙ e));
     }
 
 pub returns-then-slot-eq0-clause-ends : goal.returns-then-slot-eq0-clause-ends
@@ -31,16 +32,16 @@ returns-then-slot-eq0-clause-ends c =
     let size : length r.slots.items ≡ n = let a = r.slots.ok.0 in omega (arith, c.len-slots.ensures) in
     let next = c.turn-at.ensures.within in
     let slot : c.index-slot.result.now ≡ slot_at r.slots.items c.turn-at.result = read r.slots.items c.turn-at.result c.index-slot.result.now (omega arith) c.index-slot.ensures in
-    subst (λ (m : ℕ). Ends (key_at r.slots.items) m c.args.key c.turn-at.result) (sym size)
+    subst (λ (m : ℕ). Ends (name_at r.slots.items) m c.args.name c.turn-at.result) (sym size)
     (⊎_elim
-    (λ (e : c.index-slot.result.now.key ≡ 0). inr (record {
+    (λ (e : c.index-slot.result.now.name ≡ 0). inr (record {
       steps = c.loop-step.step;
       within = c.loop-step-test.true;
-      place_is = sym c.turn-at.ensures.place;
-      empty = ap (λ (s : Slot). s.key) (sym slot) ∙ e;
+      place_is = sym (c.turn-at.ensures.place ∙ ap (λ (h : ℕ). turned h c.loop-step.step n) c.home-home.ensures.place);
+      empty = ap (λ (s : Slot). s.name) (sym slot) ∙ e;
       passed = c.loop-step.invariant.passed;
     }))
-    (λ (e : (c.index-slot.result.now.key ≡ 0 → ⊥) × (c.index-slot.result.now.key ≡ c.args.key)). inl (ap (λ (s : Slot). s.key) (sym slot) ∙ e.1))
+    (λ (e : (c.index-slot.result.now.name ≡ 0 → ⊥) × (c.index-slot.result.now.name ≡ c.args.name)). inl (ap (λ (s : Slot). s.name) (sym slot) ∙ e.1))
     c.then-slot-eq0.either)
 
 pub unreachable-requires : goal.unreachable-requires
@@ -50,5 +51,5 @@ unreachable-requires c =
     let size : length r.slots.items ≡ n = let a = r.slots.ok.0 in omega (arith, c.len-slots.ensures) in
     let all : c.loop-step.step ≡ n = omega arith in
     let count = r.table.count_is in let few = r.few in let room = r.size in
-    not_all_passed (key_at r.slots.items) n c.args.key (subst (λ (m : ℕ). used (key_at r.slots.items) m < m) size (omega arith))
-    (subst (λ (k : ℕ). IsPassed (key_at r.slots.items) n c.args.key k) all c.loop-step.invariant.passed)
+    not_all_passed (name_at r.slots.items) n c.args.name (subst (λ (m : ℕ). used (name_at r.slots.items) m < m) size (omega arith))
+    (subst (λ (k : ℕ). IsPassed (name_at r.slots.items) n c.args.name k) all c.loop-step.invariant.passed)
