@@ -1,5 +1,5 @@
 // Room is made: objects leave the core until there is enough.
-ghost use Rattle.std.specs.Prelude.{◌≡◌, ◌⊎◌, ◌+◌, ◌≤◌, ◌<◌, ℕ, Some, None, true, false, IsTrue, IfOk, IfErr, OnOk};
+ghost use Rattle.std.specs.Prelude.{◌≡◌, ◌⊎◌, ◌+◌, ◌≤◌, ◌<◌, ℕ, Some, None, Ok, true, false, IsTrue, IfOk, IfErr, OnOk};
 ghost use Rattle.loom_outside.specs.Work.{IsWorkOnly};
 ghost use Rattle.object_table.specs.Entries.{is_short, is_used, place_of};
 ghost use Rattle.object_table.specs.Table.{bound_of, entries_of};
@@ -250,7 +250,8 @@ fn evict_more<H: Host>(
     ensures purged { IsPurged pinned.now.a pinned.now.b pinned.now.d (core_of p.old) (core_of p.new) }
     ensures gone { OnOk result (HasRoom p.new words entries
         ⊎ ((at : ℕ) → place_of ((core_of p.new).entries s.0).state ≡ Some at → is_among pinned.now.a pinned.now.b pinned.now.d s.0 ≡ true)) }
-    ensures enough { HasRoom p.old words entries → HasRoom p.new words entries }
+    ensures needless { HasRoom p.old words entries → (result ≡ Ok idle) × (p.new ≡ p.old)
+        × (disk.new.host.now ≡ disk.old.host.now) × (disk.new.rest ≡ disk.old.rest) }
     ensures sound { IsTrue (H.tells Role.Work) → OnOk result (KeepsSound H.Host p.old disk.old.host.now disk.old.rest p.new disk.new.host.now disk.new.rest) }
     ensures marks { LeavesMarks (core_of p.old) (core_of p.new) }
     ensures here { AreHere (core_of p.new) }

@@ -44,8 +44,8 @@ returns-then-not-may_leave-clause-gone g c = inr (c.may_leave.ensures.stays c.if
 pub returns-in_err-leave-clause-purged : goal.returns-in_err-leave-clause-purged
 returns-in_err-leave-clause-purged g c = c.leave.ensures.purged c.args.pinned.now.a c.args.pinned.now.b c.args.pinned.now.d (c.may_leave.ensures.loose c.if-not-may_leave.false)
 
-pub returns-in_err-leave-clause-enough : goal.returns-in_err-leave-clause-enough
-returns-in_err-leave-clause-enough g c = λ has. absurd (c.has_room.ensures.lacks c.if-has_room.false has)
+pub returns-in_err-leave-clause-needless : goal.returns-in_err-leave-clause-needless
+returns-in_err-leave-clause-needless g c = λ has. absurd (c.has_room.ensures.lacks c.if-has_room.false has)
 
 pub returns-in_err-leave-clause-fault : goal.returns-in_err-leave-clause-fault
 returns-in_err-leave-clause-fault g c =
@@ -60,8 +60,8 @@ returns-clause-purged g c = Purged-trans c.args.pinned.now.a c.args.pinned.now.b
 pub returns-clause-gone : goal.returns-clause-gone
 returns-clause-gone g c = ok-of c.free_enough.result (inr (λ at place. absurd (gone-purged c.args.pinned.now.a c.args.pinned.now.b c.args.pinned.now.d (core_of c.leave.new.p) (core_of c.free_enough.new.p) c.args.s.0 at (c.free_enough.ensures.purged c.args.pinned.now.a c.args.pinned.now.b c.args.pinned.now.d) c.in_ok-leave.ensures.gone place)))
 
-pub returns-clause-enough : goal.returns-clause-enough
-returns-clause-enough g c = λ has. absurd (c.has_room.ensures.lacks c.if-has_room.false has)
+pub returns-clause-needless : goal.returns-clause-needless
+returns-clause-needless g c = λ has. absurd (c.has_room.ensures.lacks c.if-has_room.false has)
 
 pub returns-clause-sound : goal.returns-clause-sound
 returns-clause-sound g c = λ told. ok-map c.free_enough.result (λ last. sound-trans g.H.Host c.args.p.now c.leave.new.p c.free_enough.new.p c.args.disk.now.host.now c.leave.new.disk.host.now c.free_enough.new.disk.host.now c.args.disk.now.rest c.leave.new.disk.rest c.free_enough.new.disk.rest (c.in_ok-leave.ensures.sound told) last) (c.free_enough.ensures.sound told)

@@ -1,7 +1,9 @@
-use Rattle.std.proofs.Common.{inl, inr, refl, ◌∙◌, arith, ⊎_elim}
+use Rattle.std.proofs.Common.{inl, inr, refl, sym, subst, ◌∙◌, arith, ⊎_elim}
 use Rattle.core_view.proofs.Core.{placed-used}
 use Rattle.core_view.proofs.Purge.{Purged-refl, Purged-trans, gone-first, gone-more}
+use Rattle.leaf_lambda.specs.declared.parts.Parts.{Parts}
 use Rattle.leaf_lambda.specs.Parts.{core_of}
+use Rattle.purger.specs.Purge.{HasRoom}
 use Rattle.purger.proofs.MarkLaws.{Marks-trans, Marks-same, Kept-refl}
 use Rattle.purger.proofs.RoomLaws.{bound-entries, disk-later, undisturbed-map, work-refl, work-trans}
 use Rattle.purger.proofs.SoundLaws.{has-after, has-number, sound-refl, sound-trans}
@@ -50,7 +52,7 @@ loop-i-preserved g c =
       parts = e.parts;
       tight = e.tight;
       purged = Purged-trans c.args.pinned.now.a c.args.pinned.now.b c.args.pinned.now.d (core_of c.args.p.now) (core_of c.loop-i.p) (core_of c.evict_more.new.p) i.purged e.purged;
-      gone = ⊎_elim (λ has. inl (e.enough has)) (λ before. ⊎_elim (λ has. inl has) (λ here. inr (λ s at low place. gone-more c.args.pinned.now.a c.args.pinned.now.b c.args.pinned.now.d c.loop-i.i s at (core_of c.loop-i.p) (core_of c.evict_more.new.p) e.parts.core e.purged before here low place)) r.gone) i.gone;
+      gone = ⊎_elim (λ has. inl (subst (λ (p : Parts). HasRoom p c.args.words c.args.entries) (sym (e.needless has).1) has)) (λ before. ⊎_elim (λ has. inl has) (λ here. inr (λ s at low place. gone-more c.args.pinned.now.a c.args.pinned.now.b c.args.pinned.now.d c.loop-i.i s at (core_of c.loop-i.p) (core_of c.evict_more.new.p) e.parts.core e.purged before here low place)) r.gone) i.gone;
       sound = λ told. sound-trans g.H.Host c.args.p.now c.loop-i.p c.evict_more.new.p c.args.disk.now.host.now c.loop-i.disk.host.now c.evict_more.new.disk.host.now c.args.disk.now.rest c.loop-i.disk.rest c.evict_more.new.disk.rest (i.sound told) (r.sound told);
       marks = Marks-trans (core_of c.args.p.now) (core_of c.loop-i.p) (core_of c.evict_more.new.p) i.marks e.marks;
       here = e.here;
