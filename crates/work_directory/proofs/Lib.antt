@@ -2,5 +2,6 @@ pub mod CauseLaws
 mod ChangeLaws
 pub mod ContentsLaws
 pub mod EntryLaws
+mod PieceLaws
 mod SlotLaws
 mod UnderWay

@@ -1,5 +1,5 @@
 -- What the functions inside say of written slots and of closing up.
-use Rattle.std.specs.Prelude.{◌≡◌, ℕ, ◌*◌, ◌-◌, List, Option, None, Some, Result, Ok, Err, IfSome, IsTrue}
+use Rattle.std.specs.Prelude.{◌≡◌, ℕ, ◌*◌, ◌-◌, ◌+◌, ◌<◌, ◌≤◌, take, drop, List, Option, None, Some, Result, Ok, Err, IfSome, IsTrue}
 use Rattle.loom_outside.specs.declared.outside.Host.{Ghosts}
 use Rattle.loom_outside.specs.declared.outside.Role.TheVariants.{Work as OfWork}
 use Rattle.loom_outside.specs.declared.outside.DiskFault.{DiskFault}
@@ -7,6 +7,7 @@ use Rattle.loom_outside.specs.declared.outside.DiskFault.TheVariants.{Work, Full
 use Rattle.probing.specs.Search.{Puts, IsClosedUp}
 use Rattle.probing.specs.Table.{home_of, turned}
 use Rattle.work_directory.specs.declared.directory.Found.{Found}
+use Rattle.work_directory.specs.declared.piece.Piece.{Piece}
 use Rattle.work_directory.specs.declared.slot.Slot.{Slot}
 use Rattle.work_directory.specs.declared.limits.TheConstants.{SLOT_BYTES}
 use Rattle.work_directory.specs.Slots.{slot_at, bytes_of, IsSpelled, AreSpelled}
@@ -47,3 +48,20 @@ last_slot n name = turned (home_of name n) (n - 1) n
 abbrev pub search_end : Option Found → ℕ → ℕ → Result Found DiskFault
 search_end (Some found) name n = Ok found
 search_end None name n = Err (Damaged (SLOT_BYTES * last_slot n name) name)
+
+-- ---- slots that were read at once
+
+-- a piece has slot i
+pub record HasSlot (p : Piece) (i : ℕ) : Type 0 where
+  pub low : p.first ≤ i
+  pub high : i < p.first + p.count
+
+-- the bytes that it has of slot i
+abbrev pub piece_bytes : Piece → ℕ → List ℕ
+piece_bytes p i = take SLOT_BYTES (drop (SLOT_BYTES * (i - p.first)) p.bytes)
+
+-- these spell no slot
+abbrev pub IsPieceDamage : Piece → ℕ → DiskFault → Type 0
+IsPieceDamage p i (Work count) = ⊥
+IsPieceDamage p i (Full held room) = ⊥
+IsPieceDamage p i (Damaged place about) = (IsSpelled (piece_bytes p i) → ⊥) × (place ≡ SLOT_BYTES * i)

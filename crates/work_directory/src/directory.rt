@@ -4,6 +4,7 @@ ghost use Rattle.work_directory.specs.Inside.{search_end};
 ghost use Rattle.work_directory.specs.declared.limits.TheConstants.{MOST_NAMES};
 
 use crate::limits::{MOST_NAMES, SLOT_BYTES};
+use crate::piece::Piece;
 use crate::slot::{Slot, clear, damaged, look, place_of, put};
 use long_names::Name;
 use loom_outside::{DiskFault, Host};
@@ -52,6 +53,7 @@ impl Directory {
     ghost use Rattle.loom_outside.specs.declared.outside.Role.{Role};
     ghost use Rattle.work_directory.specs.Directory.{room_of, held_of, slots_of, end_of, entries_of, found_entry, shown_at, AnswersSearch, IsIn, IsOfName, HoldsDirectory, entries_in, Holds, Lacks, Becomes};
     ghost use Rattle.work_directory.specs.Inside.{Closes};
+    ghost use Rattle.work_directory.specs.Pieces.{IsPieceOf};
     ghost use Rattle.work_directory.specs.Slots.{slot_at};
     ghost use Rattle.work_directory.specs.Table.{entry_of};
     ghost use Rattle.work_directory.specs.Work.{IsCause, IsSlotCause};
@@ -176,6 +178,26 @@ impl Directory {
         ensures cause { IfErr result (IsSlotCause H.Host host.old host.new i) }
     {
         look(host, i, None)
+    }
+
+    /// The same by a piece: where it doesn't have the slot, it is read with those behind it. So a look at each slot in turn takes one
+    /// read for many. The piece is as Work was when it was read, so nothing may have been written since.
+    pub fn slot_by<H: Host>(
+        &self,
+        host: &mut H,
+        piece: &mut Piece,
+        i: u32,
+    ) -> Result<Option<Slot>, DiskFault>
+        requires within { i < slots_of self.now }
+        requires stands { HoldsDirectory H.Host host.old self.now }
+        requires piece { IsTrue (H.tells Role.Work) → IsPieceOf (work_of H.Host host.old) piece.old }
+        ensures shown { IfOk result (λ slot. IsTrue (H.tells Role.Work) → slot ≡ shown_at (work_of H.Host host.old) i) }
+        ensures piece { IsTrue (H.tells Role.Work) → IsPieceOf (work_of H.Host host.old) piece.new }
+        ensures read { IsWorkRead H.Host host.old host.new }
+        ensures cause { IfErr result (IsSlotCause H.Host host.old host.new i) }
+    {
+        piece.turn_to(host, i)?;
+        piece.slot(i)
     }
 
     /// Adds a name that isn't held. Full exactly where as many are held as there is room for; nothing is done then.

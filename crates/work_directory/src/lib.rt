@@ -17,8 +17,10 @@
 mod directory;
 pub mod laws;
 mod limits;
+mod piece;
 mod slot;
 
 pub use directory::{Directory, Found};
 pub use limits::{MOST_NAMES, SLOT_BYTES};
+pub use piece::Piece;
 pub use slot::{Slot, damaged};

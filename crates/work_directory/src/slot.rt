@@ -51,7 +51,7 @@ fn spell(slot: &Slot) -> [u8; SLOT_BYTES]
 }
 
 // The slot that these bytes spell, None for an empty one. Where they spell none, the word in place of the name.
-fn parse(bytes: &[u8]) -> Result<Option<Slot>, u32>
+pub(crate) fn parse(bytes: &[u8]) -> Result<Option<Slot>, u32>
     requires size { length bytes.now ≡ SLOT_BYTES }
     ensures slot { IfOk result (λ slot. slot ≡ used_slot (slot_in bytes.now)) }
     ensures spelled { OnOk result (IsSpelled bytes.now) }
@@ -72,7 +72,7 @@ fn parse(bytes: &[u8]) -> Result<Option<Slot>, u32>
 }
 
 // The fault of a call on Work that has just failed.
-fn failed<H: Host>(host: &H) -> DiskFault
+pub(crate) fn failed<H: Host>(host: &H) -> DiskFault
     ensures { result ≡ DiskFault.Work (H.faults host.now Role.Work) }
 {
     DiskFault::Work {

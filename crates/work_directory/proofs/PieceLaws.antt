@@ -1,0 +1,62 @@
+-- Slots that were read at once.
+use Rattle.std.proofs.Common.{◌≡◌, ℕ, ◌+◌, ◌-◌, ◌*◌, ◌<◌, ◌≤◌, List, length, take, drop, get_or, Option, IsTrue, sym, ap, ◌∙◌, subst, arith}
+use Rattle.std.proofs.lemmas.List.{ext_get_or, length-take, length-drop, get_or-take, get_or-drop}
+use Rattle.loom_outside.specs.Bytes.{window}
+use Rattle.loom_outside.specs.declared.outside.DiskFault.{DiskFault}
+use Rattle.loom_outside.specs.declared.outside.DiskFault.TheVariants.{Work, Full, Damaged}
+use Rattle.loom_outside.specs.declared.outside.Host.{Ghosts}
+use Rattle.loom_outside.specs.declared.outside.Role.TheVariants.{Work as OfWork}
+use Rattle.loom_outside.proofs.Windows.{length-window, get_or-window}
+use Rattle.work_directory.specs.declared.piece.Piece.{Piece}
+use Rattle.work_directory.specs.declared.slot.Slot.{Slot}
+use Rattle.work_directory.specs.Directory.{shown_at}
+use Rattle.work_directory.specs.Inside.{HasSlot, IsPieceDamage, piece_bytes}
+use Rattle.work_directory.specs.Pieces.{IsPieceOf}
+use Rattle.work_directory.specs.Slots.{bytes_of, slot_at, slot_in, used_slot, IsSpelled}
+use Rattle.work_directory.specs.Work.{IsSlotCause}
+
+-- a part of a window
+window-taken : (w : List ℕ) (p m at n : ℕ) → at + n ≤ m → take n (drop at (window w p m)) ≡ window w (p + at) n
+window-taken w p m at n h =
+    let long : length (take n (drop at (window w p m))) ≡ n =
+    omega (arith, length-take n (drop at (window w p m)), length-drop at (window w p m), length-window w p m, h) in
+    ext_get_or 0 _ _ (long ∙ sym (length-window w (p + at) n)) (λ k l.
+    let below : k < n = rw long at l in
+    let same : p + (at + k) ≡ p + at + k = omega arith in
+    get_or-take n (drop at (window w p m)) k 0 below
+    ∙ get_or-drop at (window w p m) k 0
+    ∙ get_or-window w p m (at + k) (omega arith)
+    ∙ ap (λ j. get_or w j 0) same
+    ∙ sym (get_or-window w (p + at) n k below))
+
+pub empty-piece : (work : List ℕ) (p : Piece) → p.count ≡ 0 → IsPieceOf work p
+unfolding IsPieceOf
+empty-piece work p none = λ i has. let l = has.low in let h = has.high in absurd (omega (arith, none))
+
+pub filled-piece : (work : List ℕ) (p : Piece) (place : ℕ) → p.count ≡ 170 → place ≡ 24 * p.first → p.bytes ≡ window work place 4080
+    → IsPieceOf work p
+unfolding IsPieceOf
+filled-piece work p place all here is = λ i has.
+    let l = has.low in
+    let h = has.high in
+    let last : 24 * (i - p.first) + 24 ≤ 4080 = omega (arith, all) in
+    let at : place + 24 * (i - p.first) ≡ 24 * i = omega (arith, here) in
+    ap (λ (t : List ℕ). take 24 (drop (24 * (i - p.first)) t)) is
+    ∙ window-taken work place 4080 (24 * (i - p.first)) 24 last
+    ∙ ap (λ k. window work k 24) at
+
+pub piece-shown : (work : List ℕ) (p : Piece) (i : ℕ) (slot : Option Slot) → IsPieceOf work p → HasSlot p i
+    → slot ≡ used_slot (slot_in (piece_bytes p i)) → slot ≡ shown_at work i
+unfolding IsPieceOf shown_at slot_at
+piece-shown work p i slot of there is = is ∙ ap (λ (t : List ℕ). used_slot (slot_in t)) (of i there)
+
+pub piece-spelled : (work : List ℕ) (p : Piece) (i : ℕ) → IsPieceOf work p → HasSlot p i → IsSpelled (bytes_of work i)
+    → IsSpelled (piece_bytes p i)
+unfolding IsPieceOf
+piece-spelled work p i of there is = subst IsSpelled (sym (of i there)) is
+
+pub piece-cause : {H : Type 0} (host : Ghosts H) (a b : H) (p : Piece) (i : ℕ) (fault : DiskFault)
+    → (IsTrue (host.tells OfWork) → IsSpelled (piece_bytes p i)) → IsPieceDamage p i fault → IsSlotCause host a b i fault
+piece-cause host a b p i (Work count) spelled f = absurd f
+piece-cause host a b p i (Full held room) spelled f = absurd f
+piece-cause host a b p i (Damaged place about) spelled f = ((λ told. f.0 (spelled told)), f.1)
