@@ -16,8 +16,8 @@ use Rattle.long_names.specs.State.{object_at, part_at}
 use Rattle.object_memory.specs.Told.{Told, IsReady}
 use Rattle.object_memory.specs.Shape.{HasPartAt, Looks}
 use Rattle.object_memory.specs.Contract.{IsLater}
-use Rattle.object_memory.proofs.LaterLaws.{IsLater-trans}
-use Rattle.object_memory.proofs.LooksLaws.{part_looked, has_looked}
+use Rattle.object_memory.proofs.LaterLaws.{IsLater-refl, IsLater-trans}
+use Rattle.object_memory.proofs.LooksLaws.{Looks-refl, part_looked, has_looked}
 use Rattle.long_names.specs.Access.{answered, answer_of, ReadWords}
 use Rattle.long_names.specs.Access as access
 use Rattle.blue_model.specs.declared.cause.Cause.TheVariants.{Shape}
@@ -35,7 +35,7 @@ use Rattle.contexts.proofs.ReadLaws.{quiet, read_serves}
 use Rattle.devices.specs.declared.fault.PictureFault.{PictureFault}
 use Rattle.devices.specs.declared.fault.PictureFault.TheVariants as fault
 use Rattle.devices.specs.Inside.{form_in, HasRows, ReadsRow, words_told, row_at, HasWords, bits_found}
-use Rattle.devices.specs.Pictures.{DrawnBy, front_found, extent_of_form, IsShown, HasRow}
+use Rattle.devices.specs.Pictures.{HasGone, IsUndrawn, DrawnBy, front_found, extent_of_form, IsShown, HasRow}
 
 -- ---- the words of a row
 
@@ -132,17 +132,28 @@ module _ {t u : Told} {cpu : Cpu} (width height : ℕ) (form : Serves t cpu u cp
   drawn_stop v w stop later looks s =
       serves_then picture_of form (serves_stop _ (read_first ready (quiet [] u v refl ready later looks) (subst (λ (x : Value). Serves v cpu w cpu (part Shape words_in x) (Err stop)) (looks.regs 13 refl) (s cpu))))
 
-  drawn_not : (v w : Told) → Looks [] u v → IsLater v w → SaidNothing v w → IsLater t w × SaidNothing t w
-  drawn_not v w looks later silent =
+  has_gone : (v : Told) (text : List ℕ) (o : Outcome (List ℕ)) → Gives v cpu (Ok text) o → HasGone o
+  has_gone v text (Go bytes m log) goes = tt
+  has_gone v text (Halt c log) goes = goes
+  has_gone v text (Spent log) goes = goes
+
+  -- memory is asked for once the form is known, and the words of its bits can be read then
+  drawn_not : (v w : Told) → IsReady v → Looks [] u v → HasRows u 13 (width, height) → IsLater v w → SaidNothing v w → IsUndrawn t cpu w
+  drawn_not v w ready_then looks rows later silent =
       let early = IsLater-trans t u v form.later looks.later in
-      (IsLater-trans t v w early later, said_nothing t v w early (said_nothing t u v form.later form.silent looks.transcript) silent)
+      let whole = drawn v _ ready_then looks rows (λ told. refl) in
+      record {
+        later = IsLater-trans t v w early later;
+        silent = said_nothing t v w early (said_nothing t u v form.later form.silent looks.transcript) silent;
+        model = λ told m st. has_gone v _ (picture m) (whole.model told m st);
+      }
 
-  pub row_fails : (v w : Told) (f : PictureFault) → IsReady v → Looks [] u v → ReadsRow v w (Err f) → DrawnBy t cpu w (Err f)
-  row_fails v w (fault.Stop stop) later looks s = drawn_stop v w stop later looks s
-  row_fails v w fault.Memory later looks s = drawn_not v w looks s.0 s.1
+  pub row_fails : (v w : Told) (f : PictureFault) → IsReady v → Looks [] u v → HasRows u 13 (width, height) → ReadsRow v w (Err f) → DrawnBy t cpu w (Err f)
+  row_fails v w (fault.Stop stop) later looks rows s = drawn_stop v w stop later looks s
+  row_fails v w fault.Memory later looks rows s = drawn_not v w later looks rows s.0 s.1
 
-  pub head_fails : DrawnBy t cpu u (Err fault.Memory)
-  head_fails = (form.later, form.silent)
+  pub head_fails : HasRows u 13 (width, height) → DrawnBy t cpu u (Err fault.Memory)
+  head_fails rows = drawn_not u u ready (Looks-refl u) rows (IsLater-refl u) (λ speaks. refl)
 
 -- no form is the display
 pub drawn_none : {t u : Told} {cpu : Cpu} (text : List ℕ) → text ≡ [] → Serves t cpu u cpu display_form (Ok None) → Serves t cpu u cpu picture (Ok text)

@@ -1,5 +1,5 @@
 -- What drawing the display comes to.
-use Rattle.std.specs.Prelude.{◌≡◌, ◌<◌, ℕ, List, take, Option, Some, None, Result, Ok, Err, OnOk}
+use Rattle.std.specs.Prelude.{◌≡◌, ◌<◌, ℕ, List, take, Option, Some, None, Result, Ok, Err, OnOk, IsTrue}
 use Rattle.object_memory.specs.Told.{Told, IsReady}
 use Rattle.object_memory.specs.declared.memory.ObjectMemory.{Ghosts}
 use Rattle.object_memory.specs.Contract.{IsLater}
@@ -41,11 +41,23 @@ front_found (Err e) bytes = Err e
 
 -- ---- the picture
 
--- the picture is the model's, or the stop is its own; where memory is refused the transcript and what is told stay
+-- a rule went on
+abbrev pub HasGone : {A : Type 0} → Outcome A → Type 0
+HasGone (Go a m log) = Unit {0}
+HasGone (Halt c log) = ⊥
+HasGone (Spent log) = ⊥
+
+-- Memory was refused for a picture that the model has: the transcript and what is told stay.
+pub record IsUndrawn (old : Told) (cpu : Cpu) (new : Told) : Type 0 where
+  pub later : IsLater old new
+  pub silent : SaidNothing old new
+  pub model : IsTrue old.tells → (m : Machine) → Stands old cpu m → HasGone (picture m)
+
+-- the picture is the model's, or the stop is its own, or memory was refused for it
 abbrev pub DrawnBy : Told → Cpu → Told → Result (List ℕ) PictureFault → Type 0
 DrawnBy old cpu new (Ok bytes) = Serves old cpu new cpu picture (Ok bytes)
 DrawnBy old cpu new (Err (fault.Stop stop)) = Serves old cpu new cpu picture (Err stop)
-DrawnBy old cpu new (Err fault.Memory) = IsLater old new × SaidNothing old new
+DrawnBy old cpu new (Err fault.Memory) = IsUndrawn old cpu new
 
 -- sound after every answer but a fault that leaves nothing known
 abbrev pub DrawsSound : {A : Type 0} → Result A PictureFault → Type 0 → Type 0

@@ -4,7 +4,7 @@ use Rattle.object_memory.proofs.LooksLaws.{Looks-trans}
 use Rattle.blue_model.specs.Forms.{row_bytes}
 use Rattle.devices.specs.declared.fault.PictureFault.TheVariants as fault
 use Rattle.devices.specs.Inside.{words_told}
-use Rattle.devices.proofs.PictureLaws.{exits_drawn, form_fails, row_fails, drawn, drawn_none, row_there, rows_more, words_stay}
+use Rattle.devices.proofs.PictureLaws.{exits_drawn, form_fails, head_fails, row_fails, drawn, drawn_none, row_there, rows_more, words_stay}
 use Rattle.devices.proofs.drawing.picture.Goals as goal
 
 pub returns-in_err-width-clause-drawn : goal.returns-in_err-width-clause-drawn
@@ -12,6 +12,10 @@ returns-in_err-width-clause-drawn g c = exits_drawn _ _ _ (fault.Stop c.in_err-w
 
 pub returns-in_default-clause-drawn : goal.returns-in_default-clause-drawn
 returns-in_default-clause-drawn g c = drawn_none _ c.new.ensures (rw c.in_default.is at c.in_ok-width.ensures.serves)
+
+pub returns-in_err-text-clause-drawn : goal.returns-in_err-text-clause-drawn
+returns-in_err-text-clause-drawn g c = exits_drawn _ _ _ fault.Memory _ c.from_residual-in_err-text.ensures.1
+    (head_fails c.in-Some.width c.in-Some.height (rw c.in-Some.is at c.in_ok-width.ensures.serves) c.in_ok-width.ensures.fit.ready (rw c.in-Some.is at c.in_ok-width.ensures.rows))
 
 pub append_row-requires-clause-row : goal.append_row-requires-clause-row
 append_row-requires-clause-row g c =
@@ -22,7 +26,7 @@ pub returns-in_err-append_row-clause-drawn : goal.returns-in_err-append_row-clau
 returns-in_err-append_row-clause-drawn g c =
     let here = c.rows.invariant in
     exits_drawn _ _ _ c.in_err-append_row.field-0.0 _ c.from_residual-in_err-append_row.ensures.1
-    (row_fails c.in-Some.width c.in-Some.height (rw c.in-Some.is at c.in_ok-width.ensures.serves) c.in_ok-width.ensures.fit.ready _ _ c.in_err-append_row.field-0.0 here.fit.ready here.looks c.in_err-append_row.ensures.reads)
+    (row_fails c.in-Some.width c.in-Some.height (rw c.in-Some.is at c.in_ok-width.ensures.serves) c.in_ok-width.ensures.fit.ready _ _ c.in_err-append_row.field-0.0 here.fit.ready here.looks (rw c.in-Some.is at c.in_ok-width.ensures.rows) c.in_err-append_row.ensures.reads)
 
 pub rows-preserved : goal.rows-preserved
 rows-preserved g c =
