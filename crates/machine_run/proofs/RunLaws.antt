@@ -40,9 +40,9 @@ no_earlier c = ap (λ e. record c { ending = e }) (go c.ending)
     go (Stuck why ran said) = refl
 
 -- over a fresh memory a run says just what the model's run says
-pub ends-fresh : (h : Heap) (t new : Told) (run : Result Finished Halted) (events : List Line) (steps : ℕ) (state : State) → t ≡ fresh h → IsTrue t.tells → (IsTrue t.tells → (k : Heap) → Begins k t → EndsAs new run (course_with_earlier t.transcript (course events steps state k))) → EndsAs new run (course events steps state h)
+pub ends-fresh : (h : Heap) (t new : Told) (run : Result Finished Halted) (events : List Line) (steps : ℕ) (state : State) → t ≡ fresh h → IsTrue t.tells → (IsTrue t.tells → (k : Heap) → Begins k t → EndsAs new steps run (course_with_earlier t.transcript (course events steps state k))) → EndsAs new steps run (course events steps state h)
 ends-fresh h t new run events steps state e tells ends =
-    subst (EndsAs new run) (ap (λ (u : Told). course_with_earlier u.transcript (course events steps state h)) e ∙ no_earlier (course events steps state h)) (ends tells h (begins-fresh h t e))
+    subst (EndsAs new steps run) (ap (λ (u : Told). course_with_earlier u.transcript (course events steps state h)) e ∙ no_earlier (course events steps state h)) (ends tells h (begins-fresh h t e))
 
 -- no state names nothing
 pub nameless : (h : Heap) → HasState no_state h

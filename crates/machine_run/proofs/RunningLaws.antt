@@ -46,12 +46,13 @@ use Rattle.contexts.specs.Serves.{HasRest, Stands, IsGo, Gives, GivesAs, IsLogge
 use Rattle.contexts.proofs.SpeaksLaws.{GoesOn, goes_done, goes_then, goes_numbers, goes_set_numbers}
 use Rattle.contexts.proofs.ServesLaws.{fits_later, Gives-after, serves_stop, says_quietly}
 use Rattle.contexts.proofs.CacheLaws.{sound_follows}
+use Rattle.devices.specs.Pictures.{HasGone, IsUndrawn}
 use Rattle.machine_run.specs.States.{word_held, model_state, state_held}
 use Rattle.machine_run.specs.Run.{Reaches, IsSettled, IsFullIn, StopsIn, IsWorkFault, StopsAfter, RunsAs, HasFault, FaultsBy, CountsAll, Begins, HasSaid, IsHalt, Awaits, GoesThrough, GoesAs, DrawsAs, HaltsAs}
 use Rattle.machine_run.proofs.CourseLaws.{course_from, stopped_at_start, run_on, course_begun, logged_behind, rows_at_cycle, lives_at_cycle, next_cycle, said_at_start, rows_at_start, rows_at_end, said_at_end}
 use Rattle.machine_run.proofs.RoomLaws.{living_stands, full_lives, unmade}
 use Rattle.object_memory.specs.declared.fault.Need.{Need}
-use Rattle.blue_model.specs.Endings.{OnParked, OnDrawn, IsParkedBy, IsStuckBy, HasCounted, is_last, said_in}
+use Rattle.blue_model.specs.Endings.{OnParked, OnDrawn, IsParked, IsParkedBy, IsStuckBy, HasCounted, is_last, said_in}
 use Rattle.blue_model.proofs.EndingLaws.{last_stays, stopping_of, run_stopped, stopped_by, parked_by}
 use Rattle.machine_run.specs.declared.running.Reason.{Reason}
 use Rattle.machine_run.specs.declared.running.Reason.TheVariants.{ByStop, NoMemory}
@@ -311,40 +312,43 @@ abbrev IsFullAt : Stop → List ℕ → Type 0
 IsFullAt (Mem (WorkFull live room)) makings = IsLive live makings
 IsFullAt _ makings = Unit {0}
 
-halts : {A : Type 0} (w : Option A) (o : Outcome A) (new : Told) (now : Cpu) (e : Stop) (ran : ℕ) (c : Course) (said : List ℕ) → GivesAs w new now (Err e) o → ((why : Stopping) → stopping_of o ≡ Some why → c.ending ≡ model.Stuck why ran said) → c.said ran ≡ said → ((need : Need) → IsLogged need (log_of o) → IsLogged need (c.rows ran)) → (HasMaking new.heap.next (log_of o) → IsFullAt e (c.lives ran)) → (MaySay w new o → IsTrue new.speaks → (rest : List ℕ) × (c.said (ran + 1) ≡ new.transcript ++ rest)) → (IsTrue new.speaks → HasSaid e said new.transcript) → IsHalt e ran new c
-halts w (Halt d log) new now (Stuck x) ran c said g f at rows full more s =
+halts : {A : Type 0} (w : Option A) (o : Outcome A) (new : Told) (now : Cpu) (e : Stop) (ran steps : ℕ) (c : Course) (said : List ℕ) → GivesAs w new now (Err e) o → ((why : Stopping) → stopping_of o ≡ Some why → c.ending ≡ model.Stuck why ran said) → c.said ran ≡ said → ((need : Need) → IsLogged need (log_of o) → IsLogged need (c.rows ran)) → (HasMaking new.heap.next (log_of o) → IsFullAt e (c.lives ran)) → (MaySay w new o → (ran < steps) × (IsTrue new.speaks → (rest : List ℕ) × (c.said (ran + 1) ≡ new.transcript ++ rest))) → (IsTrue new.speaks → HasSaid e said new.transcript) → IsHalt e ran steps new c
+halts w (Halt d log) new now (Stuck x) ran steps c said g f at rows full more s =
     let is : c.ending ≡ model.Stuck (ByCause d) ran said = f (ByCause d) refl in
     let cause : d ≡ x = g in record {
       stops = subst (IsStuckBy (ByCause x) ran) (sym is) (ap (λ y. ByCause y) cause, refl);
+      before = tt;
       says = λ speaks. s speaks ∙ sym at;
       own = λ own speaks. s speaks ∙ sym (ap said_in is);
     }
-halts w (Go a n log) new now (Stuck x) ran c said g f at rows full more s = absurd g
-halts w (Spent log) new now (Stuck x) ran c said g f at rows full more s = absurd g
-halts w (Spent log) new now (Mem NamesSpent) ran c said g f at rows full more s =
+halts w (Go a n log) new now (Stuck x) ran steps c said g f at rows full more s = absurd g
+halts w (Spent log) new now (Stuck x) ran steps c said g f at rows full more s = absurd g
+halts w (Spent log) new now (Mem NamesSpent) ran steps c said g f at rows full more s =
     let is : c.ending ≡ model.Stuck BySpentNames ran said = f BySpentNames refl in record {
       stops = subst (IsStuckBy BySpentNames ran) (sym is) (refl, refl);
+      before = tt;
       says = λ speaks. s speaks ∙ sym at;
       own = λ own speaks. s speaks ∙ sym (ap said_in is);
     }
-halts w (Go a n log) new now (Mem NamesSpent) ran c said g f at rows full more s = absurd g
-halts w (Halt d log) new now (Mem NamesSpent) ran c said g f at rows full more s = absurd g
-halts w o new now (Mem (CoreFull need)) ran c said g f at rows full more s = record { stops = rows need g; says = λ speaks. s speaks ∙ sym at; own = λ own. never own }
-halts w o new now (Mem (WorkFull live room)) ran c said g f at rows full more s = record { stops = full g; says = λ speaks. s speaks ∙ sym at; own = λ own. never own }
-halts w o new now (Mem (WorkFault count)) ran c said g f at rows full more s = record { stops = tt; says = λ speaks. s speaks ∙ sym at; own = λ own. never own }
-halts w o new now (Mem (Damaged place name)) ran c said g f at rows full more s = absurd g
-halts w o new now (Mem (Said count)) ran c said g f at rows full more s = record {
+halts w (Go a n log) new now (Mem NamesSpent) ran steps c said g f at rows full more s = absurd g
+halts w (Halt d log) new now (Mem NamesSpent) ran steps c said g f at rows full more s = absurd g
+halts w o new now (Mem (CoreFull need)) ran steps c said g f at rows full more s = record { stops = rows need g; before = tt; says = λ speaks. s speaks ∙ sym at; own = λ own. never own }
+halts w o new now (Mem (WorkFull live room)) ran steps c said g f at rows full more s = record { stops = full g; before = tt; says = λ speaks. s speaks ∙ sym at; own = λ own. never own }
+halts w o new now (Mem (WorkFault count)) ran steps c said g f at rows full more s = record { stops = tt; before = tt; says = λ speaks. s speaks ∙ sym at; own = λ own. never own }
+halts w o new now (Mem (Damaged place name)) ran steps c said g f at rows full more s = absurd g
+halts w o new now (Mem (Said count)) ran steps c said g f at rows full more s = record {
   stops = tt;
-  says = λ speaks. (let part = s speaks in let next = more g speaks in (part.0, next.0, part.1 ∙ ap (λ (t : List ℕ). t ++ part.0) (sym at), next.1));
+  before = (more g).0;
+  says = λ speaks. (let part = s speaks in let next = (more g).1 speaks in (part.0, next.0, part.1 ∙ ap (λ (t : List ℕ). t ++ part.0) (sym at), next.1));
   own = λ own. never own;
 }
-halts w o new now (Mem Memory) ran c said g f at rows full more s = record { stops = tt; says = λ speaks. s speaks ∙ sym at; own = λ own. never own }
+halts w o new now (Mem Memory) ran steps c said g f at rows full more s = record { stops = tt; before = tt; says = λ speaks. s speaks ∙ sym at; own = λ own. never own }
 
 -- a stop in a cycle, of a run from the machine that a start came to
-pub run_stops : (events : List Line) (before : Machine) (old new : Told) (now : Cpu) (e : Stop) (steps : ℕ) (u : Unit {0}) (m : Machine) (log : List LogRow) → m.cpu.ran ≡ 0 → IsSettled old → StopsIn events old new now e steps m → IsHalt e now.ran new (course_from events steps before (Go u m log))
+pub run_stops : (events : List Line) (before : Machine) (old new : Told) (now : Cpu) (e : Stop) (steps : ℕ) (u : Unit {0}) (m : Machine) (log : List LogRow) → m.cpu.ran ≡ 0 → IsSettled old → StopsIn events old new now e steps m → IsHalt e now.ran steps new (course_from events steps before (Go u m log))
 run_stops events before old new now e steps u m log fresh settled x =
-    subst (λ k. IsHalt e k new (course_from events steps before (Go u m log))) same
-    (halts (Some Next) (cycle events x.machine) new now e x.done (course_from events steps before (Go u m log)) x.machine.transcript x.gives by (ap said_by x.ran) rows full more x.said)
+    subst (λ k. IsHalt e k steps new (course_from events steps before (Go u m log))) same
+    (halts (Some Next) (cycle events x.machine) new now e x.done steps (course_from events steps before (Go u m log)) x.machine.transcript x.gives by (ap said_by x.ran) rows full more x.said)
   where
     count : x.machine.cpu.ran ≡ x.done
     count = let all = runs_count events x.done m x.machine x.ran in omega arith
@@ -371,24 +375,27 @@ run_stops events before old new now e steps u m log fresh settled x =
     full : HasMaking new.heap.next (log_of (cycle events x.machine)) → IsFullAt e (lives_by events steps x.done (run events x.done m))
     full h = subst (IsFullAt e) (sym (lives_at_cycle events steps x.done m x.machine x.ran x.few)) (room e x.full)
 
-    more : MaySay (Some Next) new (cycle events x.machine) → IsTrue new.speaks → (rest : List ℕ) × (said_by (run events (x.done + 1) m) ≡ new.transcript ++ rest)
-    more h speaks = go (cycle events x.machine) refl h
+    said_more : IsTrue new.speaks → MaySay (Some Next) new (cycle events x.machine) → (rest : List ℕ) × (said_by (run events (x.done + 1) m) ≡ new.transcript ++ rest)
+    said_more speaks h = go (cycle events x.machine) refl h
       where
         go : (o : Outcome Step) → cycle events x.machine ≡ o → MaySay (Some Next) new o → (rest : List ℕ) × (said_by (run events (x.done + 1) m) ≡ new.transcript ++ rest)
         go (Go a n rows) f g = let told = g.1 speaks in (told.0, ap said_by (next_cycle events x.done m x.machine x.ran ∙ ap (run_of x.machine) f) ∙ told.1)
         go (Halt c rows) f g = absurd g
         go (Spent rows) f g = absurd g
 
+    more : MaySay (Some Next) new (cycle events x.machine) → (x.done < steps) × (IsTrue new.speaks → (rest : List ℕ) × (said_by (run events (x.done + 1) m) ≡ new.transcript ++ rest))
+    more h = (x.few, λ speaks. said_more speaks h)
+
 -- and one in a settling
-pub unsettled_stops : (events : List Line) (before : Machine) (new : Told) (now : Cpu) (e : Stop) (steps : ℕ) (u : Unit {0}) (m : Machine) (log : List LogRow) → m.cpu.ran ≡ 0 → StopsAfter events new now e steps m → IsHalt e now.ran new (course_from events steps before (Go u m log))
+pub unsettled_stops : (events : List Line) (before : Machine) (new : Told) (now : Cpu) (e : Stop) (steps : ℕ) (u : Unit {0}) (m : Machine) (log : List LogRow) → m.cpu.ran ≡ 0 → StopsAfter events new now e steps m → IsHalt e now.ran steps new (course_from events steps before (Go u m log))
 unsettled_stops events before new now e steps u m log fresh x = go e x.fault
   where
     at : said_by (run events now.ran m) ≡ x.machine.transcript
     at = subst (λ k. said_by (run events k m) ≡ x.machine.transcript) x.count (said_at_end events x.done x.end m x.machine fresh x.ran)
 
-    go : (e : Stop) → IsWorkFault e → IsHalt e now.ran new (course_from events steps before (Go u m log))
+    go : (e : Stop) → IsWorkFault e → IsHalt e now.ran steps new (course_from events steps before (Go u m log))
     go (Stuck c) h = absurd h
-    go (Mem (WorkFault count)) h = record { stops = tt; says = λ speaks. x.said speaks ∙ sym at; own = λ own. never own }
+    go (Mem (WorkFault count)) h = record { stops = tt; before = tt; says = λ speaks. x.said speaks ∙ sym at; own = λ own. never own }
     go (Mem (CoreFull need)) h = absurd h
     go (Mem (WorkFull live room)) h = absurd h
     go (Mem (Damaged place name)) h = absurd h
@@ -457,11 +464,11 @@ begun state h a mid cpu between told b s = subst (IsGo tt (Stands mid between)) 
 whole : (P : Course → Type 0) (events : List Line) (steps : ℕ) (state : State) (h : Heap) (a : Told) → P (course_from events steps (rested h a) (begin state (rested h a))) → P (course_with_earlier a.transcript (course events steps state h))
 whole P events steps state h a x = subst P (course_begun a.transcript events steps state h) x
 
-pub goes_start : (events : List Line) (steps : ℕ) (state : State) (h : Heap) (a new : Told) (cpu now : Cpu) (e : Stop) → IsTrue a.tells → Begins h a → Serves {A = Unit {0}} a cpu new now (begin state) (Err e) → now.ran ≡ 0 → IsHalt e now.ran new (course_with_earlier a.transcript (course events steps state h))
+pub goes_start : (events : List Line) (steps : ℕ) (state : State) (h : Heap) (a new : Told) (cpu now : Cpu) (e : Stop) → IsTrue a.tells → Begins h a → Serves {A = Unit {0}} a cpu new now (begin state) (Err e) → now.ran ≡ 0 → IsHalt e now.ran steps new (course_with_earlier a.transcript (course events steps state h))
 goes_start events steps state h a new cpu now e told b s same =
-    whole (IsHalt e now.ran new) events steps state h a
-    (subst (λ k. IsHalt e k new (course_from events steps (rested h a) (begin state (rested h a)))) (sym same)
-    (halts None (begin state (rested h a)) new now e 0 (course_from events steps (rested h a) (begin state (rested h a))) a.transcript
+    whole (IsHalt e now.ran steps new) events steps state h a
+    (subst (λ k. IsHalt e k steps new (course_from events steps (rested h a) (begin state (rested h a)))) (sym same)
+    (halts None (begin state (rested h a)) new now e 0 steps (course_from events steps (rested h a) (begin state (rested h a))) a.transcript
     (subst (Gives {A = Unit {0}} new now (Err e)) (begins_same state h a cpu) (s.model told (fresh_machine h a cpu) (fresh_stands h a cpu b)))
     (stopped_at_start events steps (rested h a) (begin state (rested h a)))
     (said_at_start events state (rested h a))
@@ -497,14 +504,14 @@ start_settled state h a mid cpu between told b ready rest s = at (begin state (r
     at (Halt c log) g e = absurd g
     at (Spent log) g e = absurd g
 
-pub goes_run : (events : List Line) (steps : ℕ) (state : State) (h : Heap) (a mid new : Told) (cpu between now : Cpu) (e : Stop) → IsTrue a.tells → Begins h a → Serves a cpu mid between (begin state) (Ok tt) → between.ran ≡ 0 → IsSettled mid → ((m : Machine) → Stands mid between m → RunsAs events mid new now steps m (Err e)) → IsHalt e now.ran new (course_with_earlier a.transcript (course events steps state h))
-goes_run events steps state h a mid new cpu between now e told b s fresh settled runs = whole (IsHalt e now.ran new) events steps state h a (go (begin state (rested h a)) (begun state h a mid cpu between told b s))
+pub goes_run : (events : List Line) (steps : ℕ) (state : State) (h : Heap) (a mid new : Told) (cpu between now : Cpu) (e : Stop) → IsTrue a.tells → Begins h a → Serves a cpu mid between (begin state) (Ok tt) → between.ran ≡ 0 → IsSettled mid → ((m : Machine) → Stands mid between m → RunsAs events mid new now steps m (Err e)) → IsHalt e now.ran steps new (course_with_earlier a.transcript (course events steps state h))
+goes_run events steps state h a mid new cpu between now e told b s fresh settled runs = whole (IsHalt e now.ran steps new) events steps state h a (go (begin state (rested h a)) (begun state h a mid cpu between told b s))
   where
-    either : (u : Unit {0}) (m : Machine) (log : List LogRow) → m.cpu.ran ≡ 0 → RunsAs events mid new now steps m (Err e) → IsHalt e now.ran new (course_from events steps (rested h a) (Go u m log))
+    either : (u : Unit {0}) (m : Machine) (log : List LogRow) → m.cpu.ran ≡ 0 → RunsAs events mid new now steps m (Err e) → IsHalt e now.ran steps new (course_from events steps (rested h a) (Go u m log))
     either u m log f (inl x) = run_stops events (rested h a) mid new now e steps u m log f settled x
     either u m log f (inr x) = unsettled_stops events (rested h a) new now e steps u m log f x
 
-    go : (o : Outcome (Unit {0})) → IsGo tt (Stands mid between) o → IsHalt e now.ran new (course_from events steps (rested h a) o)
+    go : (o : Outcome (Unit {0})) → IsGo tt (Stands mid between) o → IsHalt e now.ran steps new (course_from events steps (rested h a) o)
     go (Go u m log) g = either u m log (ap (λ (c : Cpu). c.ran) g.1.numbers ∙ fresh) (runs m g.1)
     go (Halt c log) g = absurd g
     go (Spent log) g = absurd g
@@ -516,15 +523,15 @@ rows_behind events steps end m n log ran fresh e count need h = logged_behind ne
 said_behind : (events : List Line) (steps : ℕ) (end : Step) (m n : Machine) (ran : ℕ) → m.cpu.ran ≡ 0 → run events steps m ≡ Ran end n → n.cpu.ran ≡ ran → said_by (run events ran m) ≡ n.transcript
 said_behind events steps end m n ran fresh e count = subst (λ k. said_by (run events k m) ≡ n.transcript) count (said_at_end events steps end m n fresh e)
 
-pub goes_park : (events : List Line) (end : Step) (steps : ℕ) (state : State) (h : Heap) (a mid far new : Told) (cpu between then now : Cpu) (e : Stop) → IsTrue a.tells → Begins h a → Serves a cpu mid between (begin state) (Ok tt) → between.ran ≡ 0 → ((m : Machine) → Stands mid between m → Reaches events far then end steps m) → IsTrue far.tells → Serves {A = Unit {0}} far then new now park (Err e) → now ≡ then → IsHalt e now.ran new (course_with_earlier a.transcript (course events steps state h))
+pub goes_park : (events : List Line) (end : Step) (steps : ℕ) (state : State) (h : Heap) (a mid far new : Told) (cpu between then now : Cpu) (e : Stop) → IsTrue a.tells → Begins h a → Serves a cpu mid between (begin state) (Ok tt) → between.ran ≡ 0 → ((m : Machine) → Stands mid between m → Reaches events far then end steps m) → IsTrue far.tells → Serves {A = Unit {0}} far then new now park (Err e) → now ≡ then → IsHalt e now.ran steps new (course_with_earlier a.transcript (course events steps state h))
 unfolding park_and_draw
-goes_park events end steps state h a mid far new cpu between then now e told b s fresh runs tells p same = whole (IsHalt e now.ran new) events steps state h a (go (begin state (rested h a)) (begun state h a mid cpu between told b s))
+goes_park events end steps state h a mid far new cpu between then now e told b s fresh runs tells p same = whole (IsHalt e now.ran steps new) events steps state h a (go (begin state (rested h a)) (begun state h a mid cpu between told b s))
   where
-    at : (u : Unit {0}) (m : Machine) (log : List LogRow) → m.cpu.ran ≡ 0 → Reaches events far then end steps m → IsHalt e now.ran new (course_from events steps (rested h a) (Go u m log))
+    at : (u : Unit {0}) (m : Machine) (log : List LogRow) → m.cpu.ran ≡ 0 → Reaches events far then end steps m → IsHalt e now.ran steps new (course_from events steps (rested h a) (Go u m log))
     at u m log f x =
         let count = ap (λ (c : Cpu). c.ran) (x.stands.numbers ∙ sym same) in
         let all : Serves {A = List ℕ} far then new now (park >>= λ _. picture) (Err e) = serves_stop (λ _. picture) p in
-        halts None (park_and_draw x.machine) new now e now.ran (course_from events steps (rested h a) (Go u m log)) x.machine.transcript (all.model tells x.machine x.stands)
+        halts None (park_and_draw x.machine) new now e now.ran steps (course_from events steps (rested h a) (Go u m log)) x.machine.transcript (all.model tells x.machine x.stands)
         (λ why g. ap ended x.ran ∙ parked_by end x.machine (park_and_draw x.machine) why g ∙ ap (λ k. model.Stuck why k x.machine.transcript) count)
         (said_behind events steps end m x.machine now.ran f x.ran count)
         (rows_behind events steps end m x.machine log now.ran f x.ran count)
@@ -532,7 +539,7 @@ goes_park events end steps state h a mid far new cpu between then now e told b s
         (λ may. absurd may)
         (λ speaks. let spoke = sym p.later.speaks ∙ speaks in said_before e far new x.machine.transcript spoke (x.stands.transcript spoke) p.silent)
 
-    go : (o : Outcome (Unit {0})) → IsGo tt (Stands mid between) o → IsHalt e now.ran new (course_from events steps (rested h a) o)
+    go : (o : Outcome (Unit {0})) → IsGo tt (Stands mid between) o → IsHalt e now.ran steps new (course_from events steps (rested h a) o)
     go (Go u m log) g = at u m log (ap (λ (c : Cpu). c.ran) g.1.numbers ∙ fresh) (runs m g.1)
     go (Halt c log) g = absurd g
     go (Spent log) g = absurd g
@@ -564,10 +571,10 @@ goes_through events end steps state h a mid far new cpu between then now told b 
     go (Halt c log) g = absurd g
     go (Spent log) g = absurd g
 
-pub goes_exit : (new : Told) (now : Cpu) (e : Stop) (r : Result Step Stop) (c : Course) → IsErrAnd r (λ y. y ≡ e) → IsHalt e now.ran new c → GoesAs new now r c
-goes_exit new now e r c is h =
+pub goes_exit : (new : Told) (now : Cpu) (steps : ℕ) (e : Stop) (r : Result Step Stop) (c : Course) → IsErrAnd r (λ y. y ≡ e) → IsHalt e now.ran steps new c → GoesAs new now steps r c
+goes_exit new now steps e r c is h =
     let q = err_from_is_err_and r is in
-    subst (λ (x : Result Step Stop). GoesAs new now x c) (sym (q.1 ∙ ap (λ y. Err y) q.2)) h
+    subst (λ (x : Result Step Stop). GoesAs new now steps x c) (sym (q.1 ∙ ap (λ y. Err y) q.2)) h
 
 -- ---- the largest object
 
@@ -618,9 +625,9 @@ draws_through mid new now end c finished tells x s last ran left = go (picture x
     go (Halt d rows) e g = absurd g
     go (Spent rows) e g = absurd g
 
-pub draws_stop : (mid new : Told) (now : Cpu) (end : Step) (c : Course) (e : Stop) → IsTrue mid.tells → Awaits mid now end c → Serves {A = List ℕ} mid now new now picture (Err e) → IsHalt e now.ran new c
-draws_stop mid new now end c e tells x s =
-    halts None (after x.log (picture x.machine)) new now e now.ran c x.last.transcript (Gives-after None new now x.log (picture x.machine) (Err e) (s.model tells x.machine x.stands))
+pub draws_stop : (mid new : Told) (now : Cpu) (steps : ℕ) (end : Step) (c : Course) (e : Stop) → IsTrue mid.tells → Awaits mid now end c → Serves {A = List ℕ} mid now new now picture (Err e) → IsHalt e now.ran steps new c
+draws_stop mid new now steps end c e tells x s =
+    halts None (after x.log (picture x.machine)) new now e now.ran steps c x.last.transcript (Gives-after None new now x.log (picture x.machine) (Err e) (s.model tells x.machine x.stands))
     (λ why f. x.ends ∙ parked_by end x.last (after x.log (picture x.machine)) why f ∙ ap (λ k. model.Stuck why k x.last.transcript) x.count)
     x.told x.rows
     (λ makes. absurd (unmade new.heap.next (log_of (after x.log (picture x.machine))) x.unmade makes))
@@ -640,6 +647,15 @@ draws_nothing mid new now end c tells x later silent speaks =
     go (Halt d rows) e told last = last
     go (Spent rows) e told last = last
 
-pub draw_halts : (mid new : Told) (now : Cpu) (end : Step) (c : Course) (why : Reason) → IsTrue mid.tells → Awaits mid now end c → DrawsAs mid now new (Err why) → HaltsAs why now.ran new c
-draw_halts mid new now end c (ByStop stop) tells x s = draws_stop mid new now end c stop tells x s
-draw_halts mid new now end c NoMemory tells x s = λ speaks. draws_nothing mid new now end c tells x s.0 s.1 speaks
+-- a machine whose picture the model has was parked
+draws_parked : (mid new : Told) (now : Cpu) (end : Step) (c : Course) → IsTrue mid.tells → Awaits mid now end c → IsUndrawn mid now new → IsParked c.ending
+draws_parked mid new now end c tells x s = subst IsParked (sym x.ends) (go (picture x.machine) (s.model tells x.machine x.stands))
+  where
+    go : (o : Outcome (List ℕ)) → HasGone o → IsParked (parked end x.last (after x.log o))
+    go (Go bytes m rows) gone = tt
+    go (Halt d rows) gone = gone
+    go (Spent rows) gone = gone
+
+pub draw_halts : (mid new : Told) (now : Cpu) (steps : ℕ) (end : Step) (c : Course) (why : Reason) → IsTrue mid.tells → Awaits mid now end c → DrawsAs mid now new (Err why) → HaltsAs why now.ran steps new c
+draw_halts mid new now steps end c (ByStop stop) tells x s = draws_stop mid new now steps end c stop tells x s
+draw_halts mid new now steps end c NoMemory tells x s = (draws_parked mid new now end c tells x s, λ speaks. draws_nothing mid new now end c tells x s.later s.silent speaks)

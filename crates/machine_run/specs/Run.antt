@@ -7,7 +7,7 @@ use Rattle.long_names.specs.Need.{Fits}
 use Rattle.long_names.specs.Thin.{IsThinner}
 use Rattle.object_memory.specs.Told.{Told, IsReady}
 use Rattle.object_memory.specs.declared.memory.ObjectMemory.{Ghosts}
-use Rattle.object_memory.specs.Contract.{IsLater, ForBounds, IfBounds, NoBounds, CountsKept, Lives, work_faults, said_faults}
+use Rattle.object_memory.specs.Contract.{ForBounds, IfBounds, NoBounds, CountsKept, Lives, work_faults, said_faults}
 use Rattle.object_memory.specs.declared.fault.Need.{Need}
 use Rattle.object_memory.specs.declared.fault.MemFault.{MemFault}
 use Rattle.object_memory.specs.declared.fault.MemFault.TheVariants.{CoreFull, WorkFull, WorkFault, Damaged, NamesSpent, Said, Memory}
@@ -19,12 +19,13 @@ use Rattle.blue_model.specs.Machine.{Machine, LogRow, log_of, after}
 use Rattle.blue_model.specs.Devices.{picture}
 use Rattle.blue_model.specs.Cycle.{Ran, ByCause, BySpentNames, Ending, cycle, parked}
 use Rattle.blue_model.specs.Logs.{Course, IsLive, lives, made_in}
-use Rattle.blue_model.specs.Endings.{OnParked, OnDrawn, said_in, IsStuckBy, IsParkedBy}
+use Rattle.blue_model.specs.Endings.{OnParked, OnDrawn, said_in, IsParked, IsStuckBy, IsParkedBy}
 use Rattle.blue_model.specs.Cycle as model
 use Rattle.contexts.specs.declared.stop.Stop.{Stop}
 use Rattle.contexts.specs.declared.stop.Stop.TheVariants.{Stuck, Mem}
-use Rattle.contexts.specs.Serves.{Stands, GivesAs, Serves, SaidNothing, IsLogged, IsCaused}
+use Rattle.contexts.specs.Serves.{Stands, GivesAs, Serves, IsLogged, IsCaused}
 use Rattle.contexts.specs.Serves as serves
+use Rattle.devices.specs.Pictures.{IsUndrawn}
 use Rattle.machine_run.specs.States.{model_state, state_held}
 use Rattle.machine_run.specs.declared.running.Finished.{Finished}
 use Rattle.machine_run.specs.declared.running.Halted.{Halted}
@@ -153,9 +154,15 @@ is_own (Stuck cause) = true
 is_own (Mem NamesSpent) = true
 is_own (Mem _) = false
 
--- a whole run stopped so after so many bytecodes
-pub record IsHalt (stop : Stop) (ran : ℕ) (new : Told) (c : Course) : Type 0 where
+-- of so many bytecodes one is still to come, where a machine's own saying failed
+abbrev pub ComesBefore : Stop → ℕ → ℕ → Type 0
+ComesBefore (Mem (Said count)) ran steps = ran < steps
+ComesBefore _ ran steps = Unit {0}
+
+-- a whole run of at most so many bytecodes stopped so after so many
+pub record IsHalt (stop : Stop) (ran steps : ℕ) (new : Told) (c : Course) : Type 0 where
   pub stops : StopsAs stop ran c
+  pub before : ComesBefore stop ran steps
   pub says : IsTrue new.speaks → SaysAs stop ran new c
   -- of a stop of the machine that is all that the run says
   pub own : IsTrue (is_own stop) → IsTrue new.speaks → new.transcript ≡ said_in c.ending
@@ -175,9 +182,9 @@ pub record Awaits (new : Told) (now : Cpu) (end : Step) (c : Course) : Type 0 wh
   pub unmade : made_in (log_of (after log (picture machine))) ≡ []
 
 -- the run up to the picture went as the model's, or stopped as it
-abbrev pub GoesAs : Told → Cpu → Result Step Stop → Course → Type 0
-GoesAs new now (Ok end) c = Awaits new now end c
-GoesAs new now (Err stop) c = IsHalt stop now.ran new c
+abbrev pub GoesAs : Told → Cpu → ℕ → Result Step Stop → Course → Type 0
+GoesAs new now steps (Ok end) c = Awaits new now end c
+GoesAs new now steps (Err stop) c = IsHalt stop now.ran steps new c
 
 -- The memory stands for the heap of the parked machine, whose picture and state these are, and said what the run said. Where bounds are told,
 -- the core has the words of the largest object that the run made.
@@ -189,20 +196,20 @@ pub record GoesThrough (new : Told) (finished : Finished) (c : Course) : Type 0 
   pub said : IsTrue new.speaks → new.transcript ≡ said_in c.ending
   pub fits : IfBounds new.bounds (λ b. OnParked c.ending (λ m. m.largest ≤ b.core))
 
--- drawing comes to the model's picture, or to its stop, or no memory was found
+-- drawing comes to the model's picture, or to its stop, or no memory was found for a picture that the model has
 abbrev pub DrawsAs : Told → Cpu → Told → Result (List ℕ) Reason → Type 0
 DrawsAs old cpu new (Ok bytes) = Serves old cpu new cpu picture (Ok bytes)
 DrawsAs old cpu new (Err (ByStop stop)) = Serves old cpu new cpu picture (Err stop)
-DrawsAs old cpu new (Err NoMemory) = IsLater old new × SaidNothing old new
+DrawsAs old cpu new (Err NoMemory) = IsUndrawn old cpu new
 
--- why a whole run halted, by what became of the model's
-abbrev pub HaltsAs : Reason → ℕ → Told → Course → Type 0
-HaltsAs (ByStop stop) ran new c = IsHalt stop ran new c
-HaltsAs NoMemory ran new c = IsTrue new.speaks → new.transcript ≡ said_in c.ending
+-- Why a whole run halted, by what became of the model's. Memory is wanted for the picture of a machine that went through and was parked.
+abbrev pub HaltsAs : Reason → ℕ → ℕ → Told → Course → Type 0
+HaltsAs (ByStop stop) ran steps new c = IsHalt stop ran steps new c
+HaltsAs NoMemory ran steps new c = IsParked c.ending × (IsTrue new.speaks → new.transcript ≡ said_in c.ending)
 
-abbrev pub EndsAs : Told → Result Finished Halted → Course → Type 0
-EndsAs new (Ok finished) c = GoesThrough new finished c
-EndsAs new (Err halted) c = HaltsAs halted.why halted.ran new c
+abbrev pub EndsAs : Told → ℕ → Result Finished Halted → Course → Type 0
+EndsAs new steps (Ok finished) c = GoesThrough new finished c
+EndsAs new steps (Err halted) c = HaltsAs halted.why halted.ran steps new c
 
 -- only a memory that refused answers a fault
 abbrev pub HaltsBy : Told → Told → Reason → Type 0

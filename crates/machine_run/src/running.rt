@@ -194,7 +194,7 @@ fn go_through<M: ObjectMemory>(
 ) -> Result<Step, Stop>
     requires fit { IsFit M.ObjectMemory m.old }
     requires state { IsTrue (M.told m.old).tells → KeepsState (M.told m.old) (model_state state.now) }
-    ensures ends { IsTrue (M.told m.old).tells → (h : Heap) → Begins h (M.told m.old) → GoesAs (M.told m.new) cpu.new result (course_with_earlier (M.told m.old).transcript (course events.now steps (model_state state.now) h)) }
+    ensures ends { IsTrue (M.told m.old).tells → (h : Heap) → Begins h (M.told m.old) → GoesAs (M.told m.new) cpu.new steps result (course_with_earlier (M.told m.old).transcript (course events.now steps (model_state state.now) h)) }
     ensures fault { IfErr result (FaultsBy (M.told m.old) (M.told m.new)) }
     ensures few { cpu.new.ran ≤ steps }
     ensures counted { IfOk result (λ end. HasCounted end cpu.new.ran steps) }
@@ -232,7 +232,7 @@ pub fn whole_run<M: ObjectMemory>(
 ) -> Result<Finished, Halted>
     requires fit { IsFit M.ObjectMemory m.old }
     requires state { IsTrue (M.told m.old).tells → KeepsState (M.told m.old) (model_state state.now) }
-    ensures ends { IsTrue (M.told m.old).tells → (h : Heap) → Begins h (M.told m.old) → EndsAs (M.told m.new) result (course_with_earlier (M.told m.old).transcript (course events.now steps (model_state state.now) h)) }
+    ensures ends { IsTrue (M.told m.old).tells → (h : Heap) → Begins h (M.told m.old) → EndsAs (M.told m.new) steps result (course_with_earlier (M.told m.old).transcript (course events.now steps (model_state state.now) h)) }
     ensures fault { IfErr result (λ halted. HaltsBy (M.told m.old) (M.told m.new) halted.why) }
     ensures ran { IfErr result (λ halted. halted.ran ≤ steps) }
     ensures counted { IfOk result (λ finished. HasCounted finished.end finished.ran steps) }

@@ -11,5 +11,5 @@ pub returns-in-Err-draw-clause-ends : goal.returns-in-Err-draw-clause-ends
 returns-in-Err-draw-clause-ends g c = λ told h begins.
     let at = g.M.ObjectMemory.told in
     let end = course_with_earlier (at c.args.m.now).transcript (course c.args.events.now c.args.steps (model_state c.args.state.now) h) in
-    subst (λ (x : Halted). HaltsAs x.why x.ran (at c.draw.new.m) end) (sym c.halt_of-in-Err-draw.ensures)
-    (draw_halts (at c.go_through.new.m) (at c.draw.new.m) c.go_through.new.cpu c.in-Ok.end end c.in-Err-draw.why (c.in-Ok.ensures.later.tells ∙ told) (c.in-Ok.ensures.ends told h begins) c.in-Err-draw.ensures.draws)
+    subst (λ (x : Halted). HaltsAs x.why x.ran c.args.steps (at c.draw.new.m) end) (sym c.halt_of-in-Err-draw.ensures)
+    (draw_halts (at c.go_through.new.m) (at c.draw.new.m) c.go_through.new.cpu c.args.steps c.in-Ok.end end c.in-Err-draw.why (c.in-Ok.ensures.later.tells ∙ told) (c.in-Ok.ensures.ends told h begins) c.in-Err-draw.ensures.draws)
