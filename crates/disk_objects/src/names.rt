@@ -11,6 +11,7 @@ use long_names::{Name, NameList};
 use loom_outside::{DiskFault, Host};
 use std::alloc::{AllocError, Global};
 use std::collections::BTreeSet;
+use work_directory::Piece;
 
 /// Why the names of a disk aren't told: a fault of the disk, or no memory for them.
 #[derive(Clone, Copy, Debug, PartialEq, Eq)]
@@ -56,8 +57,9 @@ impl DiskRest {
         ensures fault { IfErr result (IsNamesFault (H.tells Role.Work) (H.faults host.old Role.Work) (H.faults host.new Role.Work) self.now) }
     {
         let mut names = BTreeSet::new(alloc);
+        let mut piece = Piece::new();
         for i in 0..self.directory.slots() {
-            match self.directory.slot(host, i) {
+            match self.directory.slot_by(host, &mut piece, i) {
                 Ok(Some(slot)) => note(&mut names, slot.name)?,
                 Ok(None) => {}
                 Err(fault) => return Err(NamesFault::Disk(fault)),
