@@ -28,7 +28,7 @@ use blue_model::Step;
 use contexts::{Cause, Cpu, Stop, clear, fetch, pop};
 use event_file::EventList;
 use long_names::{MACHINE_REGISTERS, Name, REGISTERS};
-use object_memory::ObjectMemory;
+use object_memory::{ObjectMemory, Reg};
 
 /// What was done, after which the next bytecode follows.
 fn next(done: Result<(), Stop>) -> Result<Step, Stop>
@@ -174,7 +174,8 @@ fn rest<M: ObjectMemory>(m: &mut M)
     ensures rest { HasRest (M.told m.new) }
     ensures fit { StaysFit M.ObjectMemory m.old m.new (Ok result) }
 {
-    clear(m, 4, 6);
+    m.int(Reg::SELECTOR, 0);
+    m.int(Reg::NEW_METHOD, 0);
     clear(m, MACHINE_REGISTERS as u8, REGISTERS as u8);
 }
 
