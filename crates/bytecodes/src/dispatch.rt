@@ -1,14 +1,14 @@
 // The table of bytecodes, and one step of the machine.
-ghost use Rattle.std.specs.Prelude.{◌≡◌, ◌≤◌, List, Ok, OnOk};
+ghost use Rattle.std.specs.Prelude.{◌≡◌, ◌≤◌, List, Some, Ok, OnOk};
 ghost use Rattle.object_memory.specs.Told.{IsReady};
 ghost use Rattle.blue_model.specs.declared.event.Line.{Line};
 ghost use Rattle.blue_model.specs.declared.step.Step.TheVariants.{Next};
 ghost use Rattle.blue_model.specs.Bytecodes as model;
 ghost use Rattle.blue_model.specs.Cycle as cycle;
-ghost use Rattle.contexts.specs.Serves.{Serves, Speaks, StaysSound, HasRest};
+ghost use Rattle.contexts.specs.Serves.{Serves, ServesAs, Speaks, StaysSound, HasRest};
 ghost use Rattle.blue_model.specs.declared.cpu.Cpu.{Cpu as Numbers};
 ghost use Rattle.blue_model.specs.Machine as machine;
-ghost use Rattle.bytecodes.specs.Steps.{next_by};
+ghost use Rattle.bytecodes.specs.Steps.{IsPlain, next_by};
 ghost use Rattle.object_memory.specs.Calls.{IsFit};
 ghost use Rattle.contexts.specs.Calls.{StaysFit};
 ghost use Rattle.contexts.specs.Keeping.{StepsBy};
@@ -40,7 +40,63 @@ fn next(done: Result<(), Stop>) -> Result<Step, Stop>
     }
 }
 
-/// Does what a byte says (dispatchOnThisBytecode, chapter 28): the table of bytecodes, each row with its name in the book.
+/// Does what a byte says that is a push, a store, a pop, an unconditional jump or unused: rows of the table of bytecodes, each with its
+/// name in the book.
+fn plain_bytecode<M: ObjectMemory>(m: &mut M, cpu: &mut Cpu, byte: u8) -> Result<(), Stop>
+    requires fit { IsFit M.ObjectMemory m.old }
+    requires plain { IsPlain byte }
+    ensures serves { (events : List Line) → ServesAs (Some Next) (M.told m.old) cpu.old (M.told m.new) cpu.new (model.bytecode events byte) (next_by result) }
+    ensures fit { StaysFit M.ObjectMemory m.old m.new result }
+{
+    match byte {
+        // pushReceiverVariableBytecode
+        0..=15 => push_variable(m, cpu, Variable::Receiver, u32::from(byte)),
+        // pushTemporaryVariableBytecode
+        16..=31 => push_variable(m, cpu, Variable::Temporary, u32::from(byte - 16)),
+        // pushLiteralConstantBytecode
+        32..=63 => push_variable(m, cpu, Variable::Literal, u32::from(byte - 32)),
+        // pushLiteralVariableBytecode
+        64..=95 => push_variable(m, cpu, Variable::LiteralVariable, u32::from(byte - 64)),
+        // storeAndPopReceiverVariableBytecode
+        96..=103 => store_and_pop(m, cpu, Variable::Receiver, u32::from(byte - 96)),
+        // storeAndPopTemporaryVariableBytecode
+        104..=111 => store_and_pop(m, cpu, Variable::Temporary, u32::from(byte - 104)),
+        // pushReceiverBytecode
+        112 => push_receiver(m, cpu),
+        // pushConstantBytecode: true
+        113 => push_known(m, cpu, Name::TRUE),
+        // pushConstantBytecode: false
+        114 => push_known(m, cpu, Name::FALSE),
+        // pushConstantBytecode: nil
+        115 => push_known(m, cpu, Name::NIL),
+        // pushConstantBytecode: -1, 0, 1, 2
+        116..=119 => push_number(m, cpu, byte - 116),
+        // unused
+        126..=127 => Err(Stop::Stuck(Cause::Unused)),
+        // extendedPushBytecode
+        128 => extended_push(m, cpu),
+        // extendedStoreBytecode
+        129 => extended_store(m, cpu),
+        // extendedStoreAndPopBytecode
+        130 => extended_store_and_pop(m, cpu),
+        // popStackBytecode
+        135 => pop(cpu, 1),
+        // duplicateTopBytecode
+        136 => duplicate_top(m, cpu),
+        // pushActiveContextBytecode
+        137 => push_active_context(m, cpu),
+        // unused
+        138..=143 => Err(Stop::Stuck(Cause::Unused)),
+        // shortUnconditionalJump
+        144..=151 => short_jump(m, cpu, u32::from(byte - 144) + 1),
+        // longUnconditionalJump
+        160..=167 => long_jump(m, cpu, u32::from(byte - 160)),
+        _ => unreachable!(),
+    }
+}
+
+/// Does what a byte says (dispatchOnThisBytecode, chapter 28): the table of bytecodes, each row with its name in the book. The
+/// rows after which the next bytecode always follows are those of `plain_bytecode`, so that each of the two has one place for its result.
 pub(crate) fn bytecode<M: ObjectMemory>(
     m: &mut M,
     cpu: &mut Cpu,
@@ -53,28 +109,6 @@ pub(crate) fn bytecode<M: ObjectMemory>(
     ensures fit { StaysFit M.ObjectMemory m.old m.new result }
 {
     match byte {
-        // pushReceiverVariableBytecode
-        0..=15 => next(push_variable(m, cpu, Variable::Receiver, u32::from(byte))),
-        // pushTemporaryVariableBytecode
-        16..=31 => next(push_variable(m, cpu, Variable::Temporary, u32::from(byte - 16))),
-        // pushLiteralConstantBytecode
-        32..=63 => next(push_variable(m, cpu, Variable::Literal, u32::from(byte - 32))),
-        // pushLiteralVariableBytecode
-        64..=95 => next(push_variable(m, cpu, Variable::LiteralVariable, u32::from(byte - 64))),
-        // storeAndPopReceiverVariableBytecode
-        96..=103 => next(store_and_pop(m, cpu, Variable::Receiver, u32::from(byte - 96))),
-        // storeAndPopTemporaryVariableBytecode
-        104..=111 => next(store_and_pop(m, cpu, Variable::Temporary, u32::from(byte - 104))),
-        // pushReceiverBytecode
-        112 => next(push_receiver(m, cpu)),
-        // pushConstantBytecode: true
-        113 => next(push_known(m, cpu, Name::TRUE)),
-        // pushConstantBytecode: false
-        114 => next(push_known(m, cpu, Name::FALSE)),
-        // pushConstantBytecode: nil
-        115 => next(push_known(m, cpu, Name::NIL)),
-        // pushConstantBytecode: -1, 0, 1, 2
-        116..=119 => next(push_number(m, cpu, byte - 116)),
         // returnBytecode: the receiver
         120 => return_receiver(m, cpu, events),
         // returnBytecode: true
@@ -87,14 +121,6 @@ pub(crate) fn bytecode<M: ObjectMemory>(
         124 => return_top(m, cpu, events),
         // returnBytecode: the top, from the block
         125 => return_from_block(m, cpu, events),
-        // unused
-        126..=127 => Err(Stop::Stuck(Cause::Unused)),
-        // extendedPushBytecode
-        128 => next(extended_push(m, cpu)),
-        // extendedStoreBytecode
-        129 => next(extended_store(m, cpu)),
-        // extendedStoreAndPopBytecode
-        130 => next(extended_store_and_pop(m, cpu)),
         // singleExtendedSendBytecode
         131 => single_extended_send(m, cpu, events),
         // doubleExtendedSendBytecode
@@ -103,16 +129,6 @@ pub(crate) fn bytecode<M: ObjectMemory>(
         133 => single_extended_super(m, cpu, events),
         // doubleExtendedSuperBytecode
         134 => double_extended_super(m, cpu, events),
-        // popStackBytecode
-        135 => next(pop(cpu, 1)),
-        // duplicateTopBytecode
-        136 => next(duplicate_top(m, cpu)),
-        // pushActiveContextBytecode
-        137 => next(push_active_context(m, cpu)),
-        // unused
-        138..=143 => Err(Stop::Stuck(Cause::Unused)),
-        // shortUnconditionalJump
-        144..=151 => next(short_jump(m, cpu, u32::from(byte - 144) + 1)),
         // shortConditionalJump: where false
         152..=159 => jump_on(
             m,
@@ -122,8 +138,6 @@ pub(crate) fn bytecode<M: ObjectMemory>(
             Name::TRUE,
             u32::from(byte - 152) + 1,
         ),
-        // longUnconditionalJump
-        160..=167 => next(long_jump(m, cpu, u32::from(byte - 160))),
         // longConditionalJump: where true
         168..=171 => long_jump_on(
             m,
@@ -163,7 +177,9 @@ pub(crate) fn bytecode<M: ObjectMemory>(
         // sendLiteralSelectorBytecode: with one
         224..=239 => send_literal(m, cpu, events, u32::from(byte - 224), 1),
         // sendLiteralSelectorBytecode: with two
-        _ => send_literal(m, cpu, events, u32::from(byte - 240), 2),
+        240..=255 => send_literal(m, cpu, events, u32::from(byte - 240), 2),
+        // a push, a store, a pop, an unconditional jump, or unused
+        _ => next(plain_bytecode(m, cpu, byte)),
     }
 }
 

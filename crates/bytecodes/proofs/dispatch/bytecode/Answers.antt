@@ -4,56 +4,12 @@ use Rattle.blue_model.specs.Contexts.{jump, pop, pop_top}
 use Rattle.blue_model.specs.Machine.{halt, known, register}
 use Rattle.blue_model.specs.Sends.{special_send}
 use Rattle.blue_model.specs.declared.cause.Cause.TheVariants.{Unused}
-use Rattle.bytecodes.proofs.DispatchLaws.{after_next, dispatched, from_zero, next_serves}
+use Rattle.bytecodes.proofs.DispatchLaws.{after_next, dispatched}
 use Rattle.bytecodes.proofs.KeepLaws.{next_keeps}
 use Rattle.contexts.proofs.Steps.{halt_serves}
 use Rattle.long_names.specs.Names.{FALSE, NIL, TRUE}
 use Rattle.long_names.specs.State.{RECEIVER}
 use Rattle.bytecodes.proofs.dispatch.bytecode.Goals as goal
-
-pub returns-in-0-to-15-clause-serves : goal.returns-in-0-to-15-clause-serves
-unfolding bytecodes
-returns-in-0-to-15-clause-serves g c = after_next _ c.next-in-0-to-15.ensures (dispatched c.args.events.now c.args.byte 0 (next_from_to 0 15 (λ i. push_of (receiver_variable i))) (omega arith) refl refl (omega arith) (omega arith) (next_serves _ (from_zero (λ i. push_of (receiver_variable i)) c.args.byte (rw c.from.ensures at c.push_variable.ensures.serves))))
-
-pub returns-in-16-to-31-clause-serves : goal.returns-in-16-to-31-clause-serves
-unfolding bytecodes
-returns-in-16-to-31-clause-serves g c = after_next _ c.next-in-16-to-31.ensures (dispatched c.args.events.now c.args.byte 1 (next_from_to 16 31 (λ i. push_of (temporary i))) (omega arith) refl refl (omega arith) (omega arith) (next_serves _ (rw c.from-in-16-to-31.ensures at c.push_variable-in-16-to-31.ensures.serves)))
-
-pub returns-in-32-to-63-clause-serves : goal.returns-in-32-to-63-clause-serves
-unfolding bytecodes
-returns-in-32-to-63-clause-serves g c = after_next _ c.next-in-32-to-63.ensures (dispatched c.args.events.now c.args.byte 2 (next_from_to 32 63 (λ i. push_of (literal_constant i))) (omega arith) refl refl (omega arith) (omega arith) (next_serves _ (rw c.from-in-32-to-63.ensures at c.push_variable-in-32-to-63.ensures.serves)))
-
-pub returns-in-64-to-95-clause-serves : goal.returns-in-64-to-95-clause-serves
-unfolding bytecodes
-returns-in-64-to-95-clause-serves g c = after_next _ c.next-in-64-to-95.ensures (dispatched c.args.events.now c.args.byte 3 (next_from_to 64 95 (λ i. push_of (literal_variable i))) (omega arith) refl refl (omega arith) (omega arith) (next_serves _ (rw c.from-in-64-to-95.ensures at c.push_variable-in-64-to-95.ensures.serves)))
-
-pub returns-in-96-to-103-clause-serves : goal.returns-in-96-to-103-clause-serves
-unfolding bytecodes
-returns-in-96-to-103-clause-serves g c = after_next _ c.next-in-96-to-103.ensures (dispatched c.args.events.now c.args.byte 4 (next_from_to 96 103 (λ i. store_and_pop (store_receiver_variable i))) (omega arith) refl refl (omega arith) (omega arith) (next_serves _ (rw c.from-in-96-to-103.ensures at c.store_and_pop.ensures.serves)))
-
-pub returns-in-104-to-111-clause-serves : goal.returns-in-104-to-111-clause-serves
-unfolding bytecodes
-returns-in-104-to-111-clause-serves g c = after_next _ c.next-in-104-to-111.ensures (dispatched c.args.events.now c.args.byte 5 (next_from_to 104 111 (λ i. store_and_pop (store_temporary i))) (omega arith) refl refl (omega arith) (omega arith) (next_serves _ (rw c.from-in-104-to-111.ensures at c.store_and_pop-in-104-to-111.ensures.serves)))
-
-pub returns-in-112-clause-serves : goal.returns-in-112-clause-serves
-unfolding bytecodes
-returns-in-112-clause-serves g c = after_next _ c.next.ensures (dispatched c.args.events.now c.args.byte 6 (next_only 112 push_receiver) (omega arith) refl refl (omega arith) (omega arith) (next_serves _ c.push_receiver.ensures.serves))
-
-pub returns-in-113-clause-serves : goal.returns-in-113-clause-serves
-unfolding bytecodes
-returns-in-113-clause-serves g c = after_next _ c.next-in-113.ensures (dispatched c.args.events.now c.args.byte 7 (next_only 113 (push_known TRUE)) (omega arith) refl refl (omega arith) (omega arith) (next_serves _ c.push_known.ensures.serves))
-
-pub returns-in-114-clause-serves : goal.returns-in-114-clause-serves
-unfolding bytecodes
-returns-in-114-clause-serves g c = after_next _ c.next-in-114.ensures (dispatched c.args.events.now c.args.byte 8 (next_only 114 (push_known FALSE)) (omega arith) refl refl (omega arith) (omega arith) (next_serves _ c.push_known-in-114.ensures.serves))
-
-pub returns-in-115-clause-serves : goal.returns-in-115-clause-serves
-unfolding bytecodes
-returns-in-115-clause-serves g c = after_next _ c.next-in-115.ensures (dispatched c.args.events.now c.args.byte 9 (next_only 115 (push_known NIL)) (omega arith) refl refl (omega arith) (omega arith) (next_serves _ c.push_known-in-115.ensures.serves))
-
-pub returns-in-116-to-119-clause-serves : goal.returns-in-116-to-119-clause-serves
-unfolding bytecodes
-returns-in-116-to-119-clause-serves g c = after_next _ c.next-in-116-to-119.ensures (dispatched c.args.events.now c.args.byte 10 (next_from_to 116 119 push_number) (omega arith) refl refl (omega arith) (omega arith) (next_serves _ c.push_number.ensures.serves))
 
 pub returns-in-120-clause-serves : goal.returns-in-120-clause-serves
 unfolding bytecodes
@@ -79,22 +35,6 @@ pub returns-in-125-clause-serves : goal.returns-in-125-clause-serves
 unfolding bytecodes
 returns-in-125-clause-serves g c = dispatched c.args.events.now c.args.byte 16 (only 125 (return_from_block c.args.events.now)) (omega arith) refl refl (omega arith) (omega arith) c.return_from_block.ensures.serves
 
-pub returns-in-126-to-127-clause-serves : goal.returns-in-126-to-127-clause-serves
-unfolding bytecodes
-returns-in-126-to-127-clause-serves g c = dispatched c.args.events.now c.args.byte 17 (next_from_to 126 127 (λ i. halt Unused)) (omega arith) refl refl (omega arith) (omega arith) (next_serves _ halt_serves)
-
-pub returns-in-128-clause-serves : goal.returns-in-128-clause-serves
-unfolding bytecodes
-returns-in-128-clause-serves g c = after_next _ c.next-in-128.ensures (dispatched c.args.events.now c.args.byte 18 (next_only 128 extended_push) (omega arith) refl refl (omega arith) (omega arith) (next_serves _ c.extended_push.ensures.serves))
-
-pub returns-in-129-clause-serves : goal.returns-in-129-clause-serves
-unfolding bytecodes
-returns-in-129-clause-serves g c = after_next _ c.next-in-129.ensures (dispatched c.args.events.now c.args.byte 19 (next_only 129 extended_store) (omega arith) refl refl (omega arith) (omega arith) (next_serves _ c.extended_store.ensures.serves))
-
-pub returns-in-130-clause-serves : goal.returns-in-130-clause-serves
-unfolding bytecodes
-returns-in-130-clause-serves g c = after_next _ c.next-in-130.ensures (dispatched c.args.events.now c.args.byte 20 (next_only 130 extended_store_and_pop) (omega arith) refl refl (omega arith) (omega arith) (next_serves _ c.extended_store_and_pop.ensures.serves))
-
 pub returns-in-131-clause-serves : goal.returns-in-131-clause-serves
 unfolding bytecodes
 returns-in-131-clause-serves g c = dispatched c.args.events.now c.args.byte 21 (only 131 (single_extended (send_literal c.args.events.now))) (omega arith) refl refl (omega arith) (omega arith) c.single_extended_send.ensures.serves
@@ -111,33 +51,9 @@ pub returns-in-134-clause-serves : goal.returns-in-134-clause-serves
 unfolding bytecodes
 returns-in-134-clause-serves g c = dispatched c.args.events.now c.args.byte 24 (only 134 (double_extended (send_literal_super c.args.events.now))) (omega arith) refl refl (omega arith) (omega arith) c.double_extended_super.ensures.serves
 
-pub returns-in-135-clause-serves : goal.returns-in-135-clause-serves
-unfolding bytecodes
-returns-in-135-clause-serves g c = after_next _ c.next-in-135.ensures (dispatched c.args.events.now c.args.byte 25 (next_only 135 (pop 1)) (omega arith) refl refl (omega arith) (omega arith) (next_serves _ (c.pop.ensures.serves _ c.requires.fit.ready)))
-
-pub returns-in-136-clause-serves : goal.returns-in-136-clause-serves
-unfolding bytecodes
-returns-in-136-clause-serves g c = after_next _ c.next-in-136.ensures (dispatched c.args.events.now c.args.byte 26 (next_only 136 duplicate_top) (omega arith) refl refl (omega arith) (omega arith) (next_serves _ c.duplicate_top.ensures.serves))
-
-pub returns-in-137-clause-serves : goal.returns-in-137-clause-serves
-unfolding bytecodes
-returns-in-137-clause-serves g c = after_next _ c.next-in-137.ensures (dispatched c.args.events.now c.args.byte 27 (next_only 137 push_active_context) (omega arith) refl refl (omega arith) (omega arith) (next_serves _ c.push_active_context.ensures.serves))
-
-pub returns-in-138-to-143-clause-serves : goal.returns-in-138-to-143-clause-serves
-unfolding bytecodes
-returns-in-138-to-143-clause-serves g c = dispatched c.args.events.now c.args.byte 28 (next_from_to 138 143 (λ i. halt Unused)) (omega arith) refl refl (omega arith) (omega arith) (next_serves _ halt_serves)
-
-pub returns-in-144-to-151-clause-serves : goal.returns-in-144-to-151-clause-serves
-unfolding bytecodes
-returns-in-144-to-151-clause-serves g c = after_next _ c.next-in-144-to-151.ensures (dispatched c.args.events.now c.args.byte 29 (next_from_to 144 151 (λ i. jump (pos (i + 1)))) (omega arith) refl refl (omega arith) (omega arith) (next_serves _ (rw c.from-in-144-to-151.ensures at c.short_jump.ensures.serves)))
-
 pub returns-in-152-to-159-clause-serves : goal.returns-in-152-to-159-clause-serves
 unfolding bytecodes
-returns-in-152-to-159-clause-serves g c = dispatched c.args.events.now c.args.byte 30 (from_to 152 159 (λ i. jump_on c.args.events.now FALSE TRUE (pos (i + 1)))) (omega arith) refl refl (omega arith) (omega arith) (rw c.from-in-152-to-159.ensures at c.jump_on.ensures.serves)
-
-pub returns-in-160-to-167-clause-serves : goal.returns-in-160-to-167-clause-serves
-unfolding bytecodes
-returns-in-160-to-167-clause-serves g c = after_next _ c.next-in-160-to-167.ensures (dispatched c.args.events.now c.args.byte 31 (next_from_to 160 167 long_jump) (omega arith) refl refl (omega arith) (omega arith) (next_serves _ (rw c.from-in-160-to-167.ensures at c.long_jump.ensures.serves)))
+returns-in-152-to-159-clause-serves g c = dispatched c.args.events.now c.args.byte 30 (from_to 152 159 (λ i. jump_on c.args.events.now FALSE TRUE (pos (i + 1)))) (omega arith) refl refl (omega arith) (omega arith) (rw c.from.ensures at c.jump_on.ensures.serves)
 
 pub returns-in-168-to-171-clause-serves : goal.returns-in-168-to-171-clause-serves
 unfolding bytecodes
@@ -187,63 +103,12 @@ pub returns-in-224-to-239-clause-serves : goal.returns-in-224-to-239-clause-serv
 unfolding bytecodes
 returns-in-224-to-239-clause-serves g c = dispatched c.args.events.now c.args.byte 43 (from_to 224 239 (λ i. send_literal c.args.events.now i 1)) (omega arith) refl refl (omega arith) (omega arith) (rw c.from-in-224-to-239.ensures at c.send_literal-in-224-to-239.ensures.serves)
 
-pub returns-in_default-clause-serves : goal.returns-in_default-clause-serves
+pub returns-in-240-to-255-clause-serves : goal.returns-in-240-to-255-clause-serves
 unfolding bytecodes
-returns-in_default-clause-serves g c = dispatched c.args.events.now c.args.byte 44 (from_to 240 255 (λ i. send_literal c.args.events.now i 2)) (omega arith) refl refl (grind arith) (omega arith) (rw c.from-in_default.ensures at c.send_literal-in_default.ensures.serves)
+returns-in-240-to-255-clause-serves g c = dispatched c.args.events.now c.args.byte 44 (from_to 240 255 (λ i. send_literal c.args.events.now i 2)) (omega arith) refl refl (grind arith) (omega arith) (rw c.from-in-240-to-255.ensures at c.send_literal-in-240-to-255.ensures.serves)
 
-pub returns-in-0-to-15-clause-keeps : goal.returns-in-0-to-15-clause-keeps
-returns-in-0-to-15-clause-keeps g c = next_keeps _ _ c.next-in-0-to-15.ensures
+pub returns-in_default-clause-serves : goal.returns-in_default-clause-serves
+returns-in_default-clause-serves g c = after_next _ c.next.ensures (c.plain_bytecode.ensures.serves c.args.events.now)
 
-pub returns-in-16-to-31-clause-keeps : goal.returns-in-16-to-31-clause-keeps
-returns-in-16-to-31-clause-keeps g c = next_keeps _ _ c.next-in-16-to-31.ensures
-
-pub returns-in-32-to-63-clause-keeps : goal.returns-in-32-to-63-clause-keeps
-returns-in-32-to-63-clause-keeps g c = next_keeps _ _ c.next-in-32-to-63.ensures
-
-pub returns-in-64-to-95-clause-keeps : goal.returns-in-64-to-95-clause-keeps
-returns-in-64-to-95-clause-keeps g c = next_keeps _ _ c.next-in-64-to-95.ensures
-
-pub returns-in-96-to-103-clause-keeps : goal.returns-in-96-to-103-clause-keeps
-returns-in-96-to-103-clause-keeps g c = next_keeps _ _ c.next-in-96-to-103.ensures
-
-pub returns-in-104-to-111-clause-keeps : goal.returns-in-104-to-111-clause-keeps
-returns-in-104-to-111-clause-keeps g c = next_keeps _ _ c.next-in-104-to-111.ensures
-
-pub returns-in-112-clause-keeps : goal.returns-in-112-clause-keeps
-returns-in-112-clause-keeps g c = next_keeps _ _ c.next.ensures
-
-pub returns-in-113-clause-keeps : goal.returns-in-113-clause-keeps
-returns-in-113-clause-keeps g c = next_keeps _ _ c.next-in-113.ensures
-
-pub returns-in-114-clause-keeps : goal.returns-in-114-clause-keeps
-returns-in-114-clause-keeps g c = next_keeps _ _ c.next-in-114.ensures
-
-pub returns-in-115-clause-keeps : goal.returns-in-115-clause-keeps
-returns-in-115-clause-keeps g c = next_keeps _ _ c.next-in-115.ensures
-
-pub returns-in-116-to-119-clause-keeps : goal.returns-in-116-to-119-clause-keeps
-returns-in-116-to-119-clause-keeps g c = next_keeps _ _ c.next-in-116-to-119.ensures
-
-pub returns-in-128-clause-keeps : goal.returns-in-128-clause-keeps
-returns-in-128-clause-keeps g c = next_keeps _ _ c.next-in-128.ensures
-
-pub returns-in-129-clause-keeps : goal.returns-in-129-clause-keeps
-returns-in-129-clause-keeps g c = next_keeps _ _ c.next-in-129.ensures
-
-pub returns-in-130-clause-keeps : goal.returns-in-130-clause-keeps
-returns-in-130-clause-keeps g c = next_keeps _ _ c.next-in-130.ensures
-
-pub returns-in-135-clause-keeps : goal.returns-in-135-clause-keeps
-returns-in-135-clause-keeps g c = next_keeps _ _ c.next-in-135.ensures
-
-pub returns-in-136-clause-keeps : goal.returns-in-136-clause-keeps
-returns-in-136-clause-keeps g c = next_keeps _ _ c.next-in-136.ensures
-
-pub returns-in-137-clause-keeps : goal.returns-in-137-clause-keeps
-returns-in-137-clause-keeps g c = next_keeps _ _ c.next-in-137.ensures
-
-pub returns-in-144-to-151-clause-keeps : goal.returns-in-144-to-151-clause-keeps
-returns-in-144-to-151-clause-keeps g c = next_keeps _ _ c.next-in-144-to-151.ensures
-
-pub returns-in-160-to-167-clause-keeps : goal.returns-in-160-to-167-clause-keeps
-returns-in-160-to-167-clause-keeps g c = next_keeps _ _ c.next-in-160-to-167.ensures
+pub returns-in_default-clause-keeps : goal.returns-in_default-clause-keeps
+returns-in_default-clause-keeps g c = next_keeps _ _ c.next.ensures
