@@ -16,14 +16,17 @@ use Rattle.object_record.specs.Buffer.{long_at, word_at, kind_numbered, raw_of, 
 use Rattle.object_record.specs.Inside.{size_stated}
 use Rattle.object_record.proofs.Numbers.{AreBytes, AreBytes-take, AreBytes-drop, wide32, wide64}
 use Rattle.object_record.proofs.Calls.{length-text}
+use Rattle.object_record.proofs.Records.{longest-raw}
+use Rattle.loom_outside.specs.Work.{IsWorkFault}
+use Rattle.std.specs.Result.{IsErrAnd}
 use Rattle.object_record.proofs.Texts.{begun, kind-said, size-said, literals-said}
 use Rattle.work_space.specs.Blocks.{link_at}
 use Rattle.long_names.specs.Names.{IsLongName}
 use Rattle.disk_objects.specs.Disk.{IsLaid, link_to, names_text, tail_text, record_size, with_count}
 use Rattle.loom_outside.specs.declared.outside.DiskFault.{DiskFault}
-use Rattle.loom_outside.specs.declared.outside.DiskFault.TheVariants.{Damaged}
+use Rattle.loom_outside.specs.declared.outside.DiskFault.TheVariants.{Work, Full, Damaged}
 use Rattle.disk_objects.specs.declared.record.Head.{Head}
-use Rattle.disk_objects.specs.Inside.{Touches, Writes, IsHead, IsHeadFault, IsLinkFault, size_stated_in}
+use Rattle.disk_objects.specs.Inside.{Touches, Writes, IsHead, IsHeadFault, IsLinkFault, IsRecordFault, size_stated_in}
 use Rattle.disk_objects.proofs.WindowLaws.{window-taken}
 
 -- ---- the parts of a text
@@ -237,6 +240,58 @@ head-fault w bytes tells before now place name (Ok head) is why = tt
 head-fault w bytes tells before now place name (Err fault) is why =
     subst (IsHeadFault w tells before now place name) (sym why.0)
     (λ told. subst (λ (b : List ℕ). LONGEST_RECORD < size_stated_in b) (is told) why.1, refl, refl)
+
+-- ---- a record whose front was read
+
+pub front-head : (w bytes : List ℕ) (place : ℕ) → bytes ≡ window w place 256 → take 28 bytes ≡ window w place 28
+front-head w bytes place is =
+    let at : place + 0 ≡ place = omega arith in
+    ap (take 28) is ∙ window-taken w place 256 0 28 (omega arith) ∙ ap (λ (p : ℕ). window w p 28) at
+
+pub front-there : {T E : Type 0} {P : Type 0} (r : Result T E) → P → OnOk r P
+front-there (Ok x) p = p
+front-there (Err e) p = tt
+
+pub front-size : (w bytes : List ℕ) (place : ℕ) (r : Result Head DiskFault) → bytes ≡ window w place 256
+    → IfOk r (λ head. head.size ≡ size_stated_in (take 28 bytes)) → IfOk r (λ head. head.size ≡ size_stated_in (window w place 28))
+front-size w bytes place (Ok head) is size = size ∙ ap size_stated_in (front-head w bytes place is)
+front-size w bytes place (Err fault) is size = tt
+
+pub front-taken : (w front rest : List ℕ) (place size : ℕ) → size ≤ 256 → front ≡ window w place 256
+    → take size front ++ rest ≡ window w place size ++ rest
+front-taken w front rest place size most is =
+    let at : place + 0 ≡ place = omega arith in
+    ap (λ (t : List ℕ). t ++ rest)
+    (ap (take size) is ∙ window-taken w place 256 0 size (omega (arith, most)) ∙ ap (λ (p : ℕ). window w p size) at)
+
+-- the record that is laid there is no longer than a record may be
+pub laid-low : (w : List ℕ) (place : ℕ) (raw : RawRecord) (link : ℕ) → IsRawRecord raw → IsLaid w place raw link
+    → size_stated_in (window w place 28) ≤ LONGEST_RECORD
+laid-low w place raw link is laid = let same = size-laid w place raw link is laid in omega (arith, same, longest-raw raw is, length-text raw)
+
+-- so only a call that failed keeps it from being read
+pub head-work : (w : List ℕ) (tells : Bool) (before now place name : ℕ) (fault : DiskFault) → IsTrue tells
+    → size_stated_in (window w place 28) ≤ LONGEST_RECORD → IsHeadFault w tells before now place name fault → IsWorkFault before now fault
+head-work w tells before now place name (Work count) told low f = f
+head-work w tells before now place name (Full held room) told low f = f
+head-work w tells before now place name (Damaged at about) told low f = let high = f.0 told in absurd (omega (arith, low, high))
+
+pub head-record : (w : List ℕ) (tells : Bool) (before now place name : ℕ) (fault : DiskFault) → IsHeadFault w tells before now place name fault
+    → IsRecordFault before now place name fault
+head-record w tells before now place name (Work count) f = f
+head-record w tells before now place name (Full held room) f = f
+head-record w tells before now place name (Damaged at about) f = (f.1, f.2)
+
+pub work-record : (a b c place name : ℕ) (fault : DiskFault) → a ≤ b → IsWorkFault b c fault → IsRecordFault a c place name fault
+work-record a b c place name (Work count) l f = (f.0, let r = f.1 in omega arith)
+work-record a b c place name (Full held room) l f = f
+work-record a b c place name (Damaged at about) l f = absurd f
+
+-- a fault that leaves a call of two outcomes by a `?`
+pub exits-both : {T : Type 0} (r : Result T DiskFault) (gone : DiskFault) (Q : T → Type 0) (P : DiskFault → Type 0) → IsErrAnd r (λ y. y ≡ gone) → P gone
+    → MatchResult r Q P
+exits-both (Ok x) gone Q P e p = absurd e
+exits-both (Err y) gone Q P e p = subst P (sym e) p
 
 -- ---- a link that was read
 

@@ -19,7 +19,7 @@ use Rattle.disk_objects.proofs.StoredLaws.{Stays, alike-at, alike-kept, equal_or
 use Rattle.disk_objects.proofs.DiskLaws.{block-behind, space-front, space-inside, stays-apart, stays-front}
 use Rattle.disk_objects.specs.Inside.{IsHeld, IsSizedHeld}
 use Rattle.disk_objects.specs.declared.rest.Held.{Held}
-use Rattle.disk_objects.proofs.FoundLaws.{size-there, stored-there}
+use Rattle.disk_objects.proofs.FoundLaws.{stored-there}
 use Rattle.disk_objects.proofs.PutLaws.{held-class}
 
 renamed-raw : (r : RawRecord) (name : ℕ) → IsLongName name → IsRawRecord r → IsRawRecord (with_name r name)
@@ -267,8 +267,6 @@ pub record Swapping (rest : DiskRest) (v : List ℕ) (objects : Objects) (pendin
   pub block_b : IsInBlock v k.out (k.link b) b (record { count = two.count; place = two.place }) p
   pub link_a : one.head.link ≡ k.link a
   pub link_b : two.head.link ≡ k.link b
-  pub size_a : one.head.size ≡ record_size o.raw
-  pub size_b : two.head.size ≡ record_size p.raw
 
 pub swapping : (rest : DiskRest) (v : List ℕ) (objects : Objects) (pending : List ℕ) (k : IsDisk rest v objects pending) (a b : ℕ) (one two : Held)
     → IsHeld rest v a one → IsHeld rest v b two → IsSizedHeld one → IsSizedHeld two → Swapping rest v objects pending k a b one two
@@ -286,8 +284,6 @@ swapping rest v objects pending k a b one two ha hb sa sb =
       block_b = s.2;
       link_a = r.4;
       link_b = s.4;
-      size_a = ha.head.size ∙ size-there rest v objects pending k a (record { count = one.count; place = one.place }) r.0 r.2;
-      size_b = hb.head.size ∙ size-there rest v objects pending k b (record { count = two.count; place = two.place }) s.0 s.2;
     }
 
 module _ (rest : DiskRest) (u : List ℕ) (objects : Objects) (pending : List ℕ) (k : IsDisk rest u objects pending) (a b : ℕ) (one two : Held)

@@ -19,6 +19,9 @@ use loom_outside::{DiskFault, Host, Role};
 use object_record::{CONTENTS_AT, COUNT_AT, KIND_AT, LITERALS_AT, RecordBuf, SIZE_AT};
 use work_space::{LAST_END, Space, size_class_of};
 
+// How many bytes of a record are read before it is known how many it has: more than most records have.
+const FRONT_BYTES: usize = 256;
+
 /// What the first bytes of a record say.
 #[derive(Clone, Copy)]
 pub(crate) struct Head {
@@ -126,23 +129,69 @@ fn fill<H: Host>(host: &mut H, place: u64, size: usize, bytes: &mut [u8]) -> Res
     }
 }
 
-// Reads the record of a name, of so many bytes, into a buffer.
+// Reads the front of a record at a place, and what its first bytes say. Damage is told about a name.
+fn read_front<H: Host>(
+    host: &mut H,
+    place: u64,
+    name: Name,
+    front: &mut [u8],
+) -> Result<Head, DiskFault>
+    requires { length front.old ≡ FRONT_BYTES }
+    ensures front { IsTrue (H.tells Role.Work) → OnOk result (front.new ≡ window (work_of H.Host host.old) place FRONT_BYTES) }
+    ensures fits { (k : ℕ) → slice_index front.new k < 256 }
+    ensures len { length front.new ≡ FRONT_BYTES }
+    ensures size { IsTrue (H.tells Role.Work) → IfOk result (λ head. head.size ≡ size_stated_in (window (work_of H.Host host.old) place LITERALS_AT)) }
+    ensures sized { IfOk result IsSizedHead }
+    ensures read { IsWorkRead H.Host host.old host.new }
+    ensures fault { IfErr result (IsHeadFault (work_of H.Host host.old) (H.tells Role.Work) (H.faults host.old Role.Work) (H.faults host.new Role.Work) place name) }
+{
+    match host.read_at(place, front) {
+        Ok(()) => parse(&front[..LITERALS_AT], place, name),
+        Err(_) => Err(failed(host)),
+    }
+}
+
+// Puts so many bytes at a place to the front of a piece, of which the first were read.
+fn fetch<H: Host>(
+    host: &mut H,
+    place: u64,
+    size: usize,
+    front: &[u8],
+    bytes: &mut [u8],
+) -> Result<(), DiskFault>
+    requires room { size ≤ length bytes.old }
+    requires len { length front.now ≡ FRONT_BYTES }
+    ensures bytes { IsTrue (H.tells Role.Work) → front.now ≡ window (work_of H.Host host.old) place FRONT_BYTES →
+        OnOk result (bytes.new ≡ window (work_of H.Host host.old) place size ++ drop size bytes.old) }
+    ensures fits { (k : ℕ) → slice_index bytes.new k < 256 }
+    ensures len { length bytes.new ≡ length bytes.old }
+    ensures read { IsWorkRead H.Host host.old host.new }
+    ensures fault { IfErr result (IsWorkFault (H.faults host.old Role.Work) (H.faults host.new Role.Work)) }
+{
+    if size <= FRONT_BYTES {
+        bytes[..size].copy_from_slice(&front[..size]);
+        return Ok(());
+    }
+    fill(host, place, size, bytes)
+}
+
+// Reads the record of a name into a buffer: in one read, where it is no longer than its front.
 pub(crate) fn read_record<H: Host>(
     host: &mut H,
     place: u64,
-    size: u64,
     name: Name,
     buf: &mut RecordBuf,
 ) -> Result<(), DiskFault>
-    requires size { IsRecordSize size }
     ensures record { OnOk result (HasRecord buf.new × ((raw_of buf.new).name ≡ name)) }
-    ensures told { IsTrue (H.tells Role.Work) → (raw : RawRecord) (link : ℕ) → IsRawRecord raw → raw.name ≡ name → size ≡ record_size raw →
+    ensures told { IsTrue (H.tells Role.Work) → (raw : RawRecord) (link : ℕ) → IsRawRecord raw → raw.name ≡ name →
         IsLaid (work_of H.Host host.old) place raw link →
         MatchResult result (λ _. with_count (raw_of buf.new) 0 ≡ with_count raw 0) (IsWorkFault (H.faults host.old Role.Work) (H.faults host.new Role.Work)) }
     ensures read { IsWorkRead H.Host host.old host.new }
     ensures fault { IfErr result (IsRecordFault (H.faults host.old Role.Work) (H.faults host.new Role.Work) place name) }
 {
-    fill(host, place, size as usize, buf.space())?;
+    let mut front = [0; FRONT_BYTES];
+    let head = read_front(host, place, name, &mut front)?;
+    fetch(host, place, head.size as usize, &front, buf.space())?;
     if !buf.is_record(name) {
         return Err(DiskFault::Damaged {
             place,
@@ -235,21 +284,19 @@ pub(crate) fn write_record<H: Host>(
 pub(crate) fn rename_record<H: Host>(
     host: &mut H,
     place: u64,
-    size: u64,
     name: Name,
     other: Name,
     link: u64,
     buf: &mut RecordBuf,
 ) -> Result<(), DiskFault>
-    requires size { IsRecordSize size }
     requires place { place ≤ LAST_END }
-    ensures renamed { IsTrue (H.tells Role.Work) → (raw : RawRecord) (old : ℕ) → IsRawRecord raw → raw.name ≡ name → size ≡ record_size raw →
+    ensures renamed { IsTrue (H.tells Role.Work) → (raw : RawRecord) (old : ℕ) → IsRawRecord raw → raw.name ≡ name →
         IsLaid (work_of H.Host host.old) place raw old →
         MatchResult result (λ _. Writes (work_of H.Host host.old) (work_of H.Host host.new) place (with_name raw other) link) (IsWorkFault (H.faults host.old Role.Work) (H.faults host.new Role.Work)) }
     ensures work { IsWorkOnly H.Host host.old host.new }
     ensures fault { IfErr result (IsRecordFault (H.faults host.old Role.Work) (H.faults host.new Role.Work) place name) }
 {
-    read_record(host, place, size, name, buf)?;
+    read_record(host, place, name, buf)?;
     buf.rename(other);
     write_record(host, place, buf, link)
 }

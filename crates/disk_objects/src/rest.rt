@@ -216,10 +216,10 @@ impl DiskRest {
         ensures read { IsWorkRead H.Host host.old host.new }
         ensures fault { IfErr result (IsFault (H.tells Role.Work) (H.faults host.old Role.Work) (H.faults host.new Role.Work) (IsReadPlace self.now) name) }
     {
-        let Some(held) = self.look(host, name)? else {
+        let Some(slot) = self.find(host, name)? else {
             return Ok(false);
         };
-        read_record(host, held.place, held.head.size, name, buf)?;
+        read_record(host, slot.place, name, buf)?;
         Ok(true)
     }
 
@@ -238,9 +238,9 @@ impl DiskRest {
         ensures read { IsWorkRead H.Host host.old host.new }
         ensures fault { IfErr result (IsFault (H.tells Role.Work) (H.faults host.old Role.Work) (H.faults host.new Role.Work) (IsReadPlace self.now) name) }
     {
-        let held = self.look_held(host, name)?;
-        read_record(host, held.place, held.head.size, name, buf)?;
-        Ok(held.place)
+        let held = self.find_held(host, name)?;
+        read_record(host, held.slot.place, name, buf)?;
+        Ok(held.slot.place)
     }
 
     pub(crate) fn count<H: Host>(&self, host: &mut H, name: Name) -> Result<Option<u64>, DiskFault>
@@ -457,8 +457,8 @@ impl DiskRest {
         }
         let one = self.look_held(host, a)?;
         let two = self.look_held(host, b)?;
-        rename_record(host, one.place, one.head.size, a, b, two.head.link, buf)?;
-        rename_record(host, two.place, two.head.size, b, a, one.head.link, buf)?;
+        rename_record(host, one.place, a, b, two.head.link, buf)?;
+        rename_record(host, two.place, b, a, one.head.link, buf)?;
         self.exchange(host, one, two, a, b)
     }
 

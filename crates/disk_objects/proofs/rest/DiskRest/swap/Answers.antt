@@ -50,7 +50,7 @@ returns-in_err-rename_record-clause-fault g c =
     c.in_ok-one.ensures.sized c.in_ok-two.ensures.sized in
     let still : w ≡ v = work-same h c.look_held.new.host c.look_held-2.new.host c.in_ok-two.ensures.read ∙ work-same h c.args.host.now c.look_held.new.host c.in_ok-one.ensures.read in
     let laid : IsLaid w c.in_ok-one.one.place f.o.raw (s.2.link c.args.a) = subst (λ (u : List ℕ). IsLaid u c.in_ok-one.one.place f.o.raw (s.2.link c.args.a)) (sym still) f.block_a.laid in
-    c.in_err-rename_record.ensures.renamed told f.o.raw (s.2.link c.args.a) f.block_a.raw f.block_a.named f.size_a laid)
+    c.in_err-rename_record.ensures.renamed told f.o.raw (s.2.link c.args.a) f.block_a.raw f.block_a.named laid)
     (omega (arith, c.in_ok-one.ensures.read.later, c.in_ok-two.ensures.read.later)) c.in_err-rename_record.ensures.fault))
 
 pub returns-in_err-rename_record-2-clause-fault : goal.returns-in_err-rename_record-2-clause-fault
@@ -74,9 +74,9 @@ returns-in_err-rename_record-2-clause-fault g c =
     let x : List ℕ = work_of h c.rename_record.new.host in
     let first : Writes v x c.in_ok-one.one.place (with_name f.o.raw c.args.b) c.in_ok-two.two.head.link =
     subst (λ (u : List ℕ). Writes u x c.in_ok-one.one.place (with_name f.o.raw c.args.b) c.in_ok-two.two.head.link) still
-    (c.in_ok-rename_record.ensures.renamed told f.o.raw (s.2.link c.args.a) f.block_a.raw f.block_a.named f.size_a laid) in
+    (c.in_ok-rename_record.ensures.renamed told f.o.raw (s.2.link c.args.a) f.block_a.raw f.block_a.named laid) in
     let there = to-first c.args.self.now v s.0 s.1 s.2 c.args.a c.args.b c.in_ok-one.one c.in_ok-two.two f apart x first in
-    c.in_err-rename_record-2.ensures.renamed told f.p.raw (s.2.link c.args.b) f.block_b.raw f.block_b.named f.size_b there)
+    c.in_err-rename_record-2.ensures.renamed told f.p.raw (s.2.link c.args.b) f.block_b.raw f.block_b.named there)
     (omega (arith, c.in_ok-one.ensures.read.later, c.in_ok-two.ensures.read.later, c.in_ok-rename_record.ensures.work.later)) c.in_err-rename_record-2.ensures.fault))
 
 pub exchange-requires-clause-stands : goal.exchange-requires-clause-stands
@@ -94,11 +94,11 @@ exchange-requires-clause-stands g c told =
     let x : List ℕ = work_of h c.rename_record.new.host in
     let first : Writes v x c.in_ok-one.one.place (with_name f.o.raw c.args.b) c.in_ok-two.two.head.link =
     subst (λ (u : List ℕ). Writes u x c.in_ok-one.one.place (with_name f.o.raw c.args.b) c.in_ok-two.two.head.link) still
-    (c.in_ok-rename_record.ensures.renamed told f.o.raw (s.2.link c.args.a) f.block_a.raw f.block_a.named f.size_a laid) in
+    (c.in_ok-rename_record.ensures.renamed told f.o.raw (s.2.link c.args.a) f.block_a.raw f.block_a.named laid) in
     let there = to-first c.args.self.now v s.0 s.1 s.2 c.args.a c.args.b c.in_ok-one.one c.in_ok-two.two f apart x first in
     let y : List ℕ = work_of h c.rename_record-2.new.host in
     let second : Writes x y c.in_ok-two.two.place (with_name f.p.raw c.args.a) c.in_ok-one.one.head.link =
-    c.in_ok-rename_record-2.ensures.renamed told f.p.raw (s.2.link c.args.b) f.block_b.raw f.block_b.named f.size_b there in
+    c.in_ok-rename_record-2.ensures.renamed told f.p.raw (s.2.link c.args.b) f.block_b.raw f.block_b.named there in
     let both = to-second c.args.self.now v s.0 s.1 s.2 c.args.a c.args.b c.in_ok-one.one c.in_ok-two.two f apart x first y second in
     both.0
 
@@ -117,11 +117,11 @@ exchange-requires-clause-one g c told =
     let x : List ℕ = work_of h c.rename_record.new.host in
     let first : Writes v x c.in_ok-one.one.place (with_name f.o.raw c.args.b) c.in_ok-two.two.head.link =
     subst (λ (u : List ℕ). Writes u x c.in_ok-one.one.place (with_name f.o.raw c.args.b) c.in_ok-two.two.head.link) still
-    (c.in_ok-rename_record.ensures.renamed told f.o.raw (s.2.link c.args.a) f.block_a.raw f.block_a.named f.size_a laid) in
+    (c.in_ok-rename_record.ensures.renamed told f.o.raw (s.2.link c.args.a) f.block_a.raw f.block_a.named laid) in
     let there = to-first c.args.self.now v s.0 s.1 s.2 c.args.a c.args.b c.in_ok-one.one c.in_ok-two.two f apart x first in
     let y : List ℕ = work_of h c.rename_record-2.new.host in
     let second : Writes x y c.in_ok-two.two.place (with_name f.p.raw c.args.a) c.in_ok-one.one.head.link =
-    c.in_ok-rename_record-2.ensures.renamed told f.p.raw (s.2.link c.args.b) f.block_b.raw f.block_b.named f.size_b there in
+    c.in_ok-rename_record-2.ensures.renamed told f.p.raw (s.2.link c.args.b) f.block_b.raw f.block_b.named there in
     let both = to-second c.args.self.now v s.0 s.1 s.2 c.args.a c.args.b c.in_ok-one.one c.in_ok-two.two f apart x first y second in
     subst (λ (z : Option Entry). IsSome z) (sym (ap (λ (m : Entries). map.get m c.args.a) both.1 ∙ f.entry_a)) refl
 
@@ -140,11 +140,11 @@ exchange-requires-clause-two g c told =
     let x : List ℕ = work_of h c.rename_record.new.host in
     let first : Writes v x c.in_ok-one.one.place (with_name f.o.raw c.args.b) c.in_ok-two.two.head.link =
     subst (λ (u : List ℕ). Writes u x c.in_ok-one.one.place (with_name f.o.raw c.args.b) c.in_ok-two.two.head.link) still
-    (c.in_ok-rename_record.ensures.renamed told f.o.raw (s.2.link c.args.a) f.block_a.raw f.block_a.named f.size_a laid) in
+    (c.in_ok-rename_record.ensures.renamed told f.o.raw (s.2.link c.args.a) f.block_a.raw f.block_a.named laid) in
     let there = to-first c.args.self.now v s.0 s.1 s.2 c.args.a c.args.b c.in_ok-one.one c.in_ok-two.two f apart x first in
     let y : List ℕ = work_of h c.rename_record-2.new.host in
     let second : Writes x y c.in_ok-two.two.place (with_name f.p.raw c.args.a) c.in_ok-one.one.head.link =
-    c.in_ok-rename_record-2.ensures.renamed told f.p.raw (s.2.link c.args.b) f.block_b.raw f.block_b.named f.size_b there in
+    c.in_ok-rename_record-2.ensures.renamed told f.p.raw (s.2.link c.args.b) f.block_b.raw f.block_b.named there in
     let both = to-second c.args.self.now v s.0 s.1 s.2 c.args.a c.args.b c.in_ok-one.one c.in_ok-two.two f apart x first y second in
     subst (λ (z : Option Entry). IsSome z) (sym (ap (λ (m : Entries). map.get m c.args.b) both.1 ∙ f.entry_b)) refl
 
@@ -162,11 +162,11 @@ returns-clause-swapped g c told objects pending k =
     let x : List ℕ = work_of h c.rename_record.new.host in
     let first : Writes v x c.in_ok-one.one.place (with_name f.o.raw c.args.b) c.in_ok-two.two.head.link =
     subst (λ (u : List ℕ). Writes u x c.in_ok-one.one.place (with_name f.o.raw c.args.b) c.in_ok-two.two.head.link) still
-    (c.in_ok-rename_record.ensures.renamed told f.o.raw (k.link c.args.a) f.block_a.raw f.block_a.named f.size_a laid) in
+    (c.in_ok-rename_record.ensures.renamed told f.o.raw (k.link c.args.a) f.block_a.raw f.block_a.named laid) in
     let there = to-first c.args.self.now v objects pending k c.args.a c.args.b c.in_ok-one.one c.in_ok-two.two f apart x first in
     let y : List ℕ = work_of h c.rename_record-2.new.host in
     let second : Writes x y c.in_ok-two.two.place (with_name f.p.raw c.args.a) c.in_ok-one.one.head.link =
-    c.in_ok-rename_record-2.ensures.renamed told f.p.raw (k.link c.args.b) f.block_b.raw f.block_b.named f.size_b there in
+    c.in_ok-rename_record-2.ensures.renamed told f.p.raw (k.link c.args.b) f.block_b.raw f.block_b.named there in
     let both = to-second c.args.self.now v objects pending k c.args.a c.args.b c.in_ok-one.one c.in_ok-two.two f apart x first y second in
     let z : List ℕ = work_of h c.exchange.new.host in
     on_ok_weaker c.exchange.result (λ ch.
