@@ -1,5 +1,5 @@
 // Room is made: objects leave the core until there is enough.
-ghost use Rattle.std.specs.Prelude.{◌≡◌, ◌⊎◌, ◌+◌, ◌≤◌, ◌<◌, ℕ, Some, None, Ok, true, false, IsTrue, IfOk, IfErr, OnOk};
+ghost use Rattle.std.specs.Prelude.{◌≡◌, ◌⊎◌, ◌+◌, ◌≤◌, ◌<◌, ℕ, Some, None, Ok, true, false, IsTrue, IsOk, IfOk, IfErr, OnOk};
 ghost use Rattle.loom_outside.specs.Work.{IsWorkOnly};
 ghost use Rattle.object_table.specs.Entries.{is_short, is_used, place_of};
 ghost use Rattle.object_table.specs.Table.{bound_of, entries_of};
@@ -351,7 +351,7 @@ fn purge<H: Host>(
 }
 
 /// Makes room: so many words and entries are free after it, the words as one chunk, and three objects stay in the core. Where that many
-/// were free before, no body goes and Work isn't touched. Short only where nothing more can go and that many aren't free.
+/// were free before, it succeeds, no body goes and Work isn't touched. Short only where nothing more can go and that many aren't free.
 pub fn make_room<H: Host>(
     p: &mut Parts,
     disk: &mut DiskObjects<'_, H>,
@@ -372,6 +372,7 @@ pub fn make_room<H: Host>(
     ensures short { IfErr result (λ f. OnShort f (IsShort p.new pinned.now.a pinned.now.b pinned.now.d words entries)) }
     ensures needless { HasRoom p.old words entries → KeepsBodies (core_of p.old) (core_of p.new)
         × (disk.new.host.now ≡ disk.old.host.now) × (disk.new.rest ≡ disk.old.rest) }
+    ensures sure { HasRoom p.old words entries → IsOk result }
     ensures keeps { IsTrue (H.tells Role.Work) → Undisturbed result (KeepsOver (core_of p.old) (disk_of H.Host disk.old.host.now disk.old.rest) (core_of p.new) (disk_of H.Host disk.new.host.now disk.new.rest)) }
     ensures sound { IsTrue (H.tells Role.Work) → Undisturbed result (KeepsSound H.Host p.old disk.old.host.now disk.old.rest p.new disk.new.host.now disk.new.rest) }
     ensures counted { IsTrue (H.tells Role.Work) → Undisturbed result (disk_held disk.new.rest + fresh_of (core_of p.new) ≡ disk_held disk.old.rest + fresh_of (core_of p.old)) }

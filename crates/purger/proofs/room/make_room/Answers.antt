@@ -105,3 +105,9 @@ returns-in-Ok-clause-marked g c = λ has. absurd (c.has_room.ensures.lacks c.if-
 
 pub returns-in-Err-clause-marked : goal.returns-in-Err-clause-marked
 returns-in-Err-clause-marked g c = λ has. absurd (c.has_room.ensures.lacks c.if-has_room.false has)
+
+pub returns-in-Ok-clause-sure : goal.returns-in-Ok-clause-sure
+returns-in-Ok-clause-sure g c = λ has. absurd (c.has_room.ensures.lacks c.if-has_room.false has)
+
+pub returns-in-Err-clause-sure : goal.returns-in-Err-clause-sure
+returns-in-Err-clause-sure g c = λ has. absurd (c.has_room.ensures.lacks c.if-has_room.false has)
