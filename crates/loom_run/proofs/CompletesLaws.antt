@@ -1,5 +1,5 @@
 -- Right words, a right image, right events, room, and no fault give the model's own end.
-use Rattle.std.proofs.Common.{◌≡◌, ℕ, ◌≤◌, ◌++◌, Bool, false, List, Option, None, Some, nat_lt, IsTrue, refl, sym, ◌∙◌, ap, subst, append_assoc, arith}
+use Rattle.std.proofs.Common.{◌≡◌, ℕ, ◌≤◌, ◌++◌, Bool, false, List, Option, None, Some, nat_lt, IsTrue, inl, refl, sym, ◌∙◌, ap, subst, append_assoc, arith}
 use Rattle.std.proofs.lemmas.Bool.Decides.{nat_tests}
 use Rattle.loom_outside.specs.declared.outside.Role.{Role}
 use Rattle.loom_outside.specs.declared.outside.Role.TheVariants.{Image, Events, Work}
@@ -53,7 +53,7 @@ module _ (tells : Role → Bool) (before now : Meanings) (row : Row) (image : Is
 
   never-bad : (stage : Stage) (rule place : ℕ) → EndsAt tells before now row stage (answer.ImageBad rule place) → ⊥
   never-bad Opening rule place at = at.answer
-  never-bad Reading rule place at = none-some (first_break (bytes_of (now.roles Image))) (break rule place) (unbroken row.room _ can.right_image) (at.judges_image image work refl).1
+  never-bad Reading rule place at = none-some (first_break (bytes_of (now.roles Image))) (break rule place) (unbroken row.room _ can.right_image) (at.judges_image image refl (λ whole. inl work)).1
   never-bad Listening rule place at = at.answer
   never-bad Making rule place at = at.answer
   never-bad Running rule place at = at.answer
@@ -89,7 +89,7 @@ module _ (tells : Role → Bool) (before now : Meanings) (row : Row) (image : Is
 
   never-full : (stage : Stage) (live room : ℕ) → EndsAt tells before now row stage (answer.WorkFull live room) → ⊥
   never-full Opening live room at = at.answer
-  never-full Reading live room at = none-some (full_of row.room (bytes_of (now.roles Image))) live (roomy row.room _ can.right_image) (at.judges_image image work refl).2
+  never-full Reading live room at = none-some (full_of row.room (bytes_of (now.roles Image))) live (roomy row.room _ can.right_image) (at.judges_image image refl).2
   never-full Listening live room at = at.answer
   never-full Making live room at = at.answer
   never-full Running live room at =

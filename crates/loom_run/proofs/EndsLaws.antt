@@ -10,7 +10,7 @@ use Rattle.loom_outside.specs.declared.outside.Role.TheVariants.{Image, Events, 
 use Rattle.blue_model.specs.declared.event.Line.{Line}
 use Rattle.blue_model.specs.Logs.{course}
 use Rattle.machine_run.specs.States.{model_state}
-use Rattle.loom_run.specs.Ends.{AreEvents, IsCaused, IsRightImage, JudgesEvents, JudgesImage, RunOf, RunsTo, bytes_of}
+use Rattle.loom_run.specs.Ends.{AreEvents, IsCaused, IsRightImage, JudgesEvents, JudgesImage, RunOf, RunsTo, WasRead, bytes_of}
 use Rattle.loom_run.specs.Meanings.{Meanings, IsLeft}
 use Rattle.loom_run.specs.Stages.{Stage, Opening, Reading, Listening, Making, Running, passes, reaches}
 use Rattle.loom_run.specs.Steps.{Came, HasHeard, HasRead, IsRead, IsRefusal, RunEnds, Uses}
@@ -45,10 +45,12 @@ module _ (tells : Role → Bool) (before : Meanings) (row : Row) where
 
   -- what an end at a stage says of what was read, and of the machine
   pub record Judged (now : Meanings) (stage : Stage) (status : Status) : Type 0 where
-    pub judges_image : IsTrue (tells Image) → IsTrue (tells Work) → stage ≡ Reading → JudgesImage status row.room (bytes_of (now.roles Image))
+    pub judges_image : IsTrue (tells Image) → stage ≡ Reading → JudgesImage (tells Work) status row.room (bytes_of (now.roles Image))
     pub right_image : IsTrue (tells Image) → IsTrue (tells Work) → IsTrue (passes Reading stage) → IsRightImage row.room (bytes_of (now.roles Image))
     pub judges_events : IsTrue (tells Events) → stage ≡ Listening → JudgesEvents status (bytes_of (now.roles Events))
     pub right_events : IsTrue (tells Events) → IsTrue (passes Listening stage) → (lines : List Line) × AreEvents (bytes_of (now.roles Events)) lines
+    pub whole_image : IsTrue (tells Image) → IsTrue (passes Reading stage) → WasRead row.image (now.roles Image)
+    pub whole_events : IsTrue (tells Events) → IsTrue (passes Listening stage) → WasRead row.events (now.roles Events)
     pub run : IsTrue (tells Image) → IsTrue (tells Events) → IsTrue (tells Work) → IsTrue (reaches Running stage) → RunOf (bytes_of (now.roles Image)) (bytes_of (now.roles Events)) row.steps (RunsTo tells before now row stage status)
 
   pub ends-with : (mid now : Meanings) (stage : Stage) (status : Status) → ((role : Role) → before.faults role ≤ mid.faults role) → Uses tells before now row stage → IsLeft Notes before now → IsRefusal tells mid now row stage status → Judged now stage status → RunEnds tells before now row status
@@ -65,6 +67,9 @@ module _ (tells : Role → Bool) (before : Meanings) (row : Row) where
       right_image = judged.right_image;
       judges_events = judged.judges_events;
       right_events = judged.right_events;
+      whole_image = judged.whole_image;
+      whole_events = judged.whole_events;
+      named_work = uses.named;
       run = judged.run;
     };
     of_run = refused.of_run;
@@ -77,21 +82,25 @@ module _ (tells : Role → Bool) (before : Meanings) (row : Row) where
   -- where Work couldn't be attached
   pub ends-opening : (now : Meanings) (status : Status) → Uses tells before now row Opening → IsRefusal tells before now row Opening status → RunEnds tells before now row status
   ends-opening now status uses refused = ends-with before now Opening status (λ role. omega arith) uses (uses.unused Notes refl) refused record {
-    judges_image = λ image work at. absurd (cc);
+    judges_image = λ image at. absurd (cc);
     right_image = λ image work came. never came;
     judges_events = λ events at. absurd (cc);
     right_events = λ events came. never came;
+    whole_image = λ image came. never came;
+    whole_events = λ events came. never came;
     run = λ image events work came. never came;
   }
 
   -- where no image was read
   pub ends-reading : (mid now : Meanings) (status : Status) → ((role : Role) → before.faults role ≤ mid.faults role) → Uses tells before now row Reading → IsRefusal tells mid now row Reading status
-      → (IsTrue (tells Image) → IsTrue (tells Work) → JudgesImage status row.room (bytes_of (now.roles Image))) → RunEnds tells before now row status
+      → (IsTrue (tells Image) → JudgesImage (tells Work) status row.room (bytes_of (now.roles Image))) → RunEnds tells before now row status
   ends-reading mid now status since uses refused judges = ends-with mid now Reading status since uses (uses.unused Notes refl) refused record {
-    judges_image = λ image work at. judges image work;
+    judges_image = λ image at. judges image;
     right_image = λ image work came. never came;
     judges_events = λ events at. absurd (cc);
     right_events = λ events came. never came;
+    whole_image = λ image came. never came;
+    whole_events = λ events came. never came;
     run = λ image events work came. never came;
   }
 
@@ -102,20 +111,24 @@ module _ (tells : Role → Bool) (before : Meanings) (row : Row) where
   pub ends-listening : (mid now : Meanings) (status : Status) (state : Words) (heap : Heap) → ((role : Role) → before.faults role ≤ mid.faults role) → Uses tells before now row Listening → IsRefusal tells mid now row Listening status
       → HasRead tells now row state heap → (IsTrue (tells Events) → JudgesEvents status (bytes_of (now.roles Events))) → RunEnds tells before now row status
   ends-listening mid now status state heap since uses refused read judges = ends-with mid now Listening status since uses (uses.unused Notes refl) refused record {
-    judges_image = λ image work at. absurd (cc);
-    right_image = λ image work came. right (bytes_of (now.roles Image)) state heap (read image work);
+    judges_image = λ image at. absurd (cc);
+    right_image = λ image work came. right (bytes_of (now.roles Image)) state heap ((read image).1 work);
     judges_events = λ events at. judges events;
     right_events = λ events came. never came;
+    whole_image = λ image came. (read image).0;
+    whole_events = λ events came. never came;
     run = λ image events work came. never came;
   }
 
   -- where no memory was made
   pub ends-making : (now : Meanings) (state : Words) (heap : Heap) (lines : List Line) → Came tells before now row Making state heap lines → RunEnds tells before now row answer.OutOfMemory
   ends-making now state heap lines came = ends-with now now Making answer.OutOfMemory came.uses.later came.uses (came.uses.unused Notes refl) record { answer = tt; of_run = tt; ran = tt; cause = tt; whole = λ work damaged. damaged } record {
-    judges_image = λ image work at. absurd (cc);
-    right_image = λ image work past. right (bytes_of (now.roles Image)) state heap (came.read image work);
+    judges_image = λ image at. absurd (cc);
+    right_image = λ image work past. right (bytes_of (now.roles Image)) state heap ((came.read image).1 work);
     judges_events = λ events at. absurd (cc);
-    right_events = λ events past. (lines, came.heard events);
+    right_events = λ events past. (lines, (came.heard events).1);
+    whole_image = λ image past. (came.read image).0;
+    whole_events = λ events past. (came.heard events).0;
     run = λ image events work past. never past;
   }
 
@@ -137,20 +150,22 @@ module _ (tells : Role → Bool) (before : Meanings) (row : Row) where
   pub ends-later : (mid now : Meanings) (stage : Stage) (status : Status) (state : Words) (heap : Heap) (lines : List Line) → ((role : Role) → before.faults role ≤ mid.faults role) → Came tells before now row stage state heap lines → stage ≢ Reading → stage ≢ Listening → IsLeft Notes before now
       → IsRefusal tells mid now row stage status → (IsTrue (tells Work) → RunsTo tells before now row stage status (course lines row.steps (model_state state) heap)) → RunEnds tells before now row status
   ends-later mid now stage status state heap lines since came unread unheard untold refused run = ends-with mid now stage status since came.uses untold refused record {
-    judges_image = λ image work at. absurd (unread at);
-    right_image = λ image work past. right (bytes_of (now.roles Image)) state heap (came.read image work);
+    judges_image = λ image at. absurd (unread at);
+    right_image = λ image work past. right (bytes_of (now.roles Image)) state heap ((came.read image).1 work);
     judges_events = λ events at. absurd (unheard at);
-    right_events = λ events past. (lines, came.heard events);
-    run = λ image events work past. run-of now stage status (bytes_of (now.roles Image)) (bytes_of (now.roles Events)) state heap lines (came.read image work) (came.heard events) (run work);
+    right_events = λ events past. (lines, (came.heard events).1);
+    whole_image = λ image past. (came.read image).0;
+    whole_events = λ events past. (came.heard events).0;
+    run = λ image events work past. run-of now stage status (bytes_of (now.roles Image)) (bytes_of (now.roles Events)) state heap lines ((came.read image).1 work) (came.heard events).1 (run work);
   }
 
   -- ---- what was read stays so
 
   pub read-left : (mid now : Meanings) (state : Words) (heap : Heap) → now.roles Image ≡ mid.roles Image → HasRead tells mid row state heap → HasRead tells now row state heap
-  read-left mid now state heap same read = λ image work. subst (λ (s : RoleState). IsRead (bytes_of s) row.room state heap) (sym same) (read image work)
+  read-left mid now state heap same read = λ image. subst (λ (s : RoleState). WasRead row.image s × (IsTrue (tells Work) → IsRead (bytes_of s) row.room state heap)) (sym same) (read image)
 
-  pub heard-left : (mid now : Meanings) (lines : List Line) → now.roles Events ≡ mid.roles Events → HasHeard tells mid lines → HasHeard tells now lines
-  heard-left mid now lines same heard = λ events. subst (λ (s : RoleState). AreEvents (bytes_of s) lines) (sym same) (heard events)
+  pub heard-left : (mid now : Meanings) (lines : List Line) → now.roles Events ≡ mid.roles Events → HasHeard tells mid row lines → HasHeard tells now row lines
+  heard-left mid now lines same heard = λ events. subst (λ (s : RoleState). WasRead row.events s × AreEvents (bytes_of s) lines) (sym same) (heard events)
 
   pub came-on : (mid now : Meanings) (stage next : Stage) (state : Words) (heap : Heap) (lines : List Line) → Came tells before mid row stage state heap lines → Uses tells before now row next → now.roles Image ≡ mid.roles Image → now.roles Events ≡ mid.roles Events → Came tells before now row next state heap lines
   came-on mid now stage next state heap lines came uses image events = record { uses = uses; read = read-left mid now state heap image came.read; heard = heard-left mid now lines events came.heard }

@@ -47,7 +47,7 @@ quit-last Telling ran h = refl
 -- a run that was parked, and what was written of it
 module _ (tells : Role → Bool) (before now : Meanings) (row : Row) (status : Status) (told : TellsHeadline tells) (ran : ℕ) (end : Step) where
   parked : (r : RunOf (bytes_of (now.roles Image)) (bytes_of (now.roles Events)) row.steps (RunsTo tells before now row Telling status)) (e : Ending) → ending r.lines row.steps (model_state r.head.state) r.heap ≡ e → IsParkedBy end ran e → (now.roles Transcript).put ≡ (before.roles Transcript).put ++ said_in e
-      → OnParked e (λ m. WrittenBy true row.saved (image_of m) (before.roles Saved) (now.roles Saved)) → OnDrawn e (λ picture. WrittenBy true row.display picture (before.roles Display) (now.roles Display)) → HasHeadline before now row.steps end
+      → OnParked e (λ m. WrittenBy true row.saved (image_of m) (before.roles Saved) (now.roles Saved)) → OnDrawn e (λ picture. WrittenBy true row.display picture (before.roles Display) (now.roles Display)) → HasHeadline before now row.steps end ran
   parked r (Stuck why count said) same by says saves draws = absurd by
   parked r (Parked last machine picture) same by says saves draws = (
     r.head,
@@ -59,13 +59,14 @@ module _ (tells : Role → Bool) (before now : Meanings) (row : Row) (status : S
       image = r.is;
       events = r.list;
       ending = same ∙ ap (λ (s : Step). Parked s machine picture) by.0;
+      count = by.1;
       transcript = says;
       saved = saves.put;
       display = draws.put;
     },
   )
 
-  of-run : (r : RunOf (bytes_of (now.roles Image)) (bytes_of (now.roles Events)) row.steps (RunsTo tells before now row Telling status)) → IsParkedBy end ran (ending r.lines row.steps (model_state r.head.state) r.heap) → HasHeadline before now row.steps end
+  of-run : (r : RunOf (bytes_of (now.roles Image)) (bytes_of (now.roles Events)) row.steps (RunsTo tells before now row Telling status)) → IsParkedBy end ran (ending r.lines row.steps (model_state r.head.state) r.heap) → HasHeadline before now row.steps end ran
   of-run r by = parked r (ending r.lines row.steps (model_state r.head.state) r.heap) refl by (r.run.said told.transcript refl) (r.run.saves told.saved refl) (r.run.draws told.display refl)
 
 at-end : {tells : Role → Bool} {before now : Meanings} {row : Row} {status : Status} (stage : Stage) → EndsAt tells before now row stage status → stage ≡ Telling → EndsAt tells before now row Telling status

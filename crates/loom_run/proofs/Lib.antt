@@ -8,6 +8,7 @@ pub mod MemoryLaws
 pub mod Numbers
 pub mod ProgramLaws
 pub mod ReadLaws
+pub mod RefusalLaws
 pub mod Rows
 pub mod RunLaws
 pub mod SavedLaws

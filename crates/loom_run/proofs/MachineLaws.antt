@@ -99,7 +99,7 @@ module _ (old new : Told) (row : Row) (ran : ℕ) (c : Course) (later : IsLater 
   at : HasBounds row new
   at = bounds-later row old.bounds new.bounds bounds later.bounds
 
-  pub was-stopped : (why : Reason) → HaltsAs why ran new (course_with_earlier old.transcript c) → HaltsBy old new why → WasStopped old new row (status_by why ran) c
+  pub was-stopped : (why : Reason) → HaltsAs why ran row.steps new (course_with_earlier old.transcript c) → HaltsBy old new why → WasStopped old new row (status_by why ran) c
   was-stopped (ByStop (stop.Stuck cause)) h by = record { stops = (cause, stuck-earlier old.transcript _ ran c.ending h.stops, refl); says = λ speaks. h.says speaks }
   was-stopped (ByStop (stop.Mem (fault.CoreFull need))) h by = record { stops = (h.stops, fits-row row new.bounds need.words need.entries at by.cause); says = λ speaks. h.says speaks }
   was-stopped (ByStop (stop.Mem (fault.WorkFull live room))) h by =
@@ -115,10 +115,10 @@ module _ (old new : Told) (row : Row) (ran : ℕ) (c : Course) (later : IsLater 
         let part = s.0 in
         let rest = s.1 in
         let now : new.transcript ≡ old.transcript ++ (c.said ran ++ part) = s.2 ∙ append_assoc old.transcript (c.said ran) part in
-        (ran, part, rest, few, now, append_cancel_left old.transcript (c.said (ran + 1)) ((c.said ran ++ part) ++ rest) (s.3 ∙ ap (λ t. t ++ rest) now ∙ append_assoc old.transcript (c.said ran ++ part) rest));
+        (ran, part, rest, h.before, now, append_cancel_left old.transcript (c.said (ran + 1)) ((c.said ran ++ part) ++ rest) (s.3 ∙ ap (λ t. t ++ rest) now ∙ append_assoc old.transcript (c.said ran ++ part) rest));
   }
   was-stopped (ByStop (stop.Mem fault.Memory)) h by = absurd (bounded row new.bounds at by.cause)
-  was-stopped NoMemory h by = record { stops = tt; says = λ speaks. h speaks ∙ said-earlier old.transcript c.ending }
+  was-stopped NoMemory h by = record { stops = on-parked-earlier old.transcript (λ m. Unit {0}) c.ending h.0; says = λ speaks. h.1 speaks ∙ said-earlier old.transcript c.ending }
 
 -- ---- the answer of a fault
 

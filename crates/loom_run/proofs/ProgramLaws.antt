@@ -1,7 +1,7 @@
 -- What the parts of a run hand on to one another.
 -- Each part takes what came before it as a premise (`Uses`, `Came`, `CameThrough`), and says how the run ends from there. The laws here are its exits;
 -- `UsesLaws`, `EndsLaws` and `WrittenLaws` have the steps.
-use Rattle.std.proofs.Common.{◌≡◌, ℕ, Bool, true, false, List, IsTrue, refl, sym, ◌∙◌, ap, subst}
+use Rattle.std.proofs.Common.{◌≡◌, ℕ, Bool, true, false, List, Some, IsTrue, refl, sym, ◌∙◌, ap, subst}
 use Rattle.long_names.specs.Heap.{Heap}
 use Rattle.long_names.specs.Kept.{kept, no_roots}
 use Rattle.image_format.specs.declared.opening.State.{State as Words}
@@ -36,12 +36,12 @@ module _ (tells : Role → Bool) (before : Meanings) (row : Row) where
   pub opening-refused : (now : Meanings) (status : Status) → (IsTrue (tells Work) → AttachedOnce row.work (before.roles Work) (now.roles Work)) → LeavesBut (roles_at Opening) before now → IsRefusal tells before now row Opening status → RunEnds tells before now row status
   opening-refused now status attached others refused = ends-opening tells before row now status (uses-opening tells row before now attached others) refused
 
-  module _ (mid now : Meanings) (opened : (IsTrue (tells Work) → AttachedOnce row.work (before.roles Work) (mid.roles Work))) (first : LeavesBut (roles_at Opening) before mid)
+  module _ (mid now : Meanings) (opened : (IsTrue (tells Work) → AttachedOnce row.work (before.roles Work) (mid.roles Work))) (named : IsTrue (tells Work) → (mid.roles Work).name ≡ Some row.work) (first : LeavesBut (roles_at Opening) before mid)
       (attached : IsTrue (tells Image) → AttachedOnce row.image (mid.roles Image) (now.roles Image)) (file : IsTrue (tells Work) → IsSameFile (mid.roles Work) (now.roles Work)) (others : LeavesBut (roles_at Reading) mid now) where
     pub used-reading : Uses tells before now row Reading
-    used-reading = uses-reading tells row before mid now (uses-opening tells row before mid opened first) attached file others
+    used-reading = uses-reading tells row before mid now (uses-opening tells row before mid opened first) named attached file others
 
-    pub reading-refused : (status : Status) → IsRefusal tells mid now row Reading status → (IsTrue (tells Image) → IsTrue (tells Work) → JudgesImage status row.room (bytes_of (now.roles Image))) → RunEnds tells before now row status
+    pub reading-refused : (status : Status) → IsRefusal tells mid now row Reading status → (IsTrue (tells Image) → JudgesImage (tells Work) status row.room (bytes_of (now.roles Image))) → RunEnds tells before now row status
     reading-refused status refused judges = ends-reading tells before row mid now status first.later used-reading refused judges
 
   -- ---- Events
@@ -53,7 +53,7 @@ module _ (tells : Role → Bool) (before : Meanings) (row : Row) where
     read-listening : HasRead tells now row state heap
     read-listening = read-left tells before row mid now state heap (others.others Image (λ e. cc, tt)).state read
 
-    pub came-listening : (lines : List Line) → HasHeard tells now lines → Came tells before now row Listening state heap lines
+    pub came-listening : (lines : List Line) → HasHeard tells now row lines → Came tells before now row Listening state heap lines
     came-listening lines heard = record { uses = used-listening; read = read-listening; heard = heard }
 
     pub listening-refused : (status : Status) → IsRefusal tells mid now row Listening status → (IsTrue (tells Events) → JudgesEvents status (bytes_of (now.roles Events))) → RunEnds tells before now row status

@@ -1,5 +1,5 @@
 -- What was saved of a parked machine is an image, and what is read of its bytes is what was saved: the kept heap, and the machine's state.
-use Rattle.std.proofs.Common.{zero, suc, ◌≡◌, ℕ, ◌<◌, ◌≤◌, Bool, true, false, cond, List, Option, is_some, refl, sym, ◌∙◌, ap, ap₂, subst, arith, inl, inr}
+use Rattle.std.proofs.Common.{zero, suc, ◌≡◌, ℕ, ◌<◌, ◌≤◌, Bool, true, false, cond, List, ◌++◌, Option, is_some, refl, sym, ◌∙◌, ap, ap₂, subst, arith, inl, inr}
 use Rattle.std.specs.Prelude.{◌^◌}
 use Rattle.long_names.specs.declared.value.Value.{Value}
 use Rattle.long_names.specs.declared.value.Value.TheVariants.{Int, Ref}
@@ -12,9 +12,11 @@ use Rattle.image_format.specs.Rules.{IsState, IsStateWord}
 use Rattle.image_format.specs.Valid.{IsImageHeap}
 use Rattle.image_format.proofs.ImageLaws.{same_image}
 use Rattle.blue_model.specs.declared.event.Line.{Line}
-use Rattle.blue_model.specs.Machine.{Machine, at_rest}
+use Rattle.blue_model.specs.Contexts.{park}
+use Rattle.blue_model.specs.Machine.{Machine, LogRow, Go, after, at_rest}
 use Rattle.blue_model.specs.State.{State, begin, state_of, tick_or, tick_with, word_of}
-use Rattle.blue_model.specs.Loaded.{start_on_kept}
+use Rattle.blue_model.specs.Loaded.{HasLoaded, start_on_kept}
+use Rattle.blue_model.proofs.LoadedLaws.{loaded_found, loaded_starts}
 use Rattle.blue_model.specs.Cycle.{Ending, Parked, Stuck}
 use Rattle.blue_model.specs.Endings.{OnParked}
 use Rattle.blue_model.specs.Logs.{course}
@@ -74,6 +76,12 @@ module _ (m : Machine) (head : ImageHead) (heap : Heap) (saved : IsImageOf (imag
   -- and is the model's from there
   pub saved-course : (lines : List Line) (steps : ℕ) → course lines steps (model_state head.state) heap ≡ course lines steps (state_of m) (kept m.heap no_roots)
   saved-course lines steps = ap₂ (λ (s : State) (h : Heap). course lines steps s h) saved-state saved-heap
+
+-- where a machine was parked and started so, it is in the context that it was in, with its home, its method and its receiver
+pub saved-registers : (before m s : Machine) (head : ImageHead) (heap : Heap) (rows log : List LogRow) → park before ≡ Go tt m rows → IsImageOf (image_of m) (head_of m) (kept m.heap no_roots) → IsImageOf (image_of m) head heap → begin (model_state head.state) (at_rest heap) ≡ Go tt s log → HasLoaded m s
+unfolding start_on_kept
+saved-registers before m s head heap rows log parked saved read starts =
+    loaded_found before m s rows (rows ++ log) parked (loaded_starts before m rows parked ∙ ap (after rows) (sym (saved-start m head heap saved read) ∙ starts))
 
 -- ---- over a memory that keeps what the machine keeps
 

@@ -53,10 +53,10 @@ module _ {H : Type 0} (host : Ghosts H) (old mid new : H) (states : SameBut Imag
   pub bytes-reading : IsTrue (host.tells Image) → (host.roles mid Image).taken ≡ [] → bytes_of (host.roles new Image) ≡ (host.roles mid Image).left
   bytes-reading told fresh = (loading.image told).whole ∙ ap (λ t. t ++ (host.roles mid Image).left) fresh
 
-  pub bad-reading : (room rule place : ℕ) → IsTrue (host.tells Image) → IsTrue (host.tells Work) → (host.roles mid Image).taken ≡ [] → IsLoadFault host mid new room (load.Bad rule place) → JudgesImage (answer.ImageBad rule place) room (bytes_of (host.roles new Image))
-  bad-reading room rule place told work fresh h = subst (JudgesImage (answer.ImageBad rule place) room) (sym (bytes-reading told fresh)) (h told (λ whole. inl work))
+  pub bad-reading : (room rule place : ℕ) → IsTrue (host.tells Image) → (host.roles mid Image).taken ≡ [] → IsLoadFault host mid new room (load.Bad rule place) → JudgesImage (host.tells Work) (answer.ImageBad rule place) room (bytes_of (host.roles new Image))
+  bad-reading room rule place told fresh h = subst (JudgesImage (host.tells Work) (answer.ImageBad rule place) room) (sym (bytes-reading told fresh)) (h told)
 
-  pub judged-disk : (room : ℕ) (f : DiskFault) → IsTrue (host.tells Image) → (host.roles mid Image).taken ≡ [] → IsLoadFault host mid new room (load.Disk f) → JudgesImage (status_by_disk f) room (bytes_of (host.roles new Image))
+  pub judged-disk : (room : ℕ) (f : DiskFault) → IsTrue (host.tells Image) → (host.roles mid Image).taken ≡ [] → IsLoadFault host mid new room (load.Disk f) → JudgesImage (host.tells Work) (status_by_disk f) room (bytes_of (host.roles new Image))
   judged-disk room (disk.Work count) told fresh h = tt
   judged-disk room (disk.Full held most) told fresh h = (h.0, h.1, subst (λ b. full_of room b ≡ Some held) (sym (bytes-reading told fresh)) (h.2 told))
   judged-disk room (disk.Damaged place name) told fresh h = tt

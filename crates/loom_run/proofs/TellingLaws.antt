@@ -2,7 +2,7 @@
 use Rattle.std.proofs.Common.{◌≡◌, ◌≢◌, ℕ, Bool, true, false, List, [], ◌∷◌, Option, None, Some, IsTrue, inl, inr, refl, sym, ◌∙◌, ap, subst, arith}
 use Rattle.std.specs.Prelude.{◌⊎◌, IfSome, IsFalse, IsSome}
 use Rattle.long_names.specs.Counting.{Rose}
-use Rattle.loom_outside.specs.Outside.{RoleState}
+use Rattle.loom_outside.specs.Outside.{PutPrefix, RoleState}
 use Rattle.loom_outside.specs.declared.outside.Role.{Role}
 use Rattle.loom_outside.specs.declared.outside.Role.TheVariants.{Image, Events, Work, Saved, Display, Transcript, Notes}
 use Rattle.blue_model.specs.declared.event.Line.{Line}
@@ -11,12 +11,12 @@ use Rattle.blue_model.specs.declared.step.Step.TheVariants.{Next, Quit}
 use Rattle.blue_model.specs.Cycle.{Ending, Parked, Stuck}
 use Rattle.blue_model.specs.Endings.{IsParked, IsParkedBy, OnDrawn, OnParked}
 use Rattle.blue_model.specs.Logs.{Course}
-use Rattle.loom_run.specs.Ends.{AreEvents, AttachedOnce, GoesThrough, IsCaused, IsRightImage, JudgesEvents, JudgesImage, NotedBy, RunOf, RunsTo, SaysStopped, WrittenBy, bytes_of, image_of, word_for}
+use Rattle.loom_run.specs.Ends.{AreEvents, AttachedOnce, BeginsEnd, GoesThrough, IsCaused, IsRightImage, JudgesEvents, JudgesImage, NotedBy, RunOf, RunsTo, SaysStopped, WasRead, WrittenBy, bytes_of, image_of, word_for}
 use Rattle.loom_run.specs.Meanings.{Meanings, IsLeft, LeavesBut}
 use Rattle.loom_run.specs.Parts.{IsTold, unsaid}
 use Rattle.loom_run.specs.Promise.{EndsAt, Promise}
 use Rattle.loom_run.specs.Stages.{Stage, Telling, Saving, Drawing, passes, reaches, stage_of}
-use Rattle.loom_run.specs.Status.{usage_of}
+use Rattle.loom_run.specs.Status.{line_of, usage_of}
 use Rattle.loom_run.specs.Steps.{IsOfRun, RunEnds}
 use Rattle.loom_run.specs.Words.{Row, bad_word, row_of}
 use Rattle.loom_run.specs.declared.status.Status.{Status}
@@ -24,6 +24,7 @@ use Rattle.loom_run.specs.declared.status.Status.TheVariants as answer
 use Rattle.loom_run.proofs.HeadlineLaws.{done-last, quit-last}
 use Rattle.loom_run.proofs.Lines.{noted-own, noted-run}
 use Rattle.loom_run.proofs.UsesLaws.{left-then}
+use Rattle.loom_run.proofs.WrittenLaws.{cuts-none}
 
 -- ---- what the line leaves
 
@@ -57,8 +58,8 @@ module _ (mid now : Meanings) (leaves : LeavesBut (Notes ∷ []) mid now) where
   unless before role other (inl e) = inl e
   unless before role other (inr l) = inr (left-then role before mid now l (left role other))
 
-  runs-now : {tells : Role → Bool} {before : Meanings} {row : Row} {stage : Stage} {status : Status} (c : Course) → RunsTo tells before mid row stage status c → RunsTo tells before now row stage status c
-  runs-now {tells} {before} {row} {stage} {status} c r = record {
+  runs-now : {tells : Role → Bool} {before : Meanings} {row : Row} {stage : Stage} {status : Status} → IsOfRun status → (c : Course) → RunsTo tells before mid row stage status c → RunsTo tells before now row stage status c
+  runs-now {tells} {before} {row} {stage} {status} of_run c r = record {
     stops = r.stops;
     goes = r.goes;
     fits = r.fits;
@@ -66,6 +67,7 @@ module _ (mid now : Meanings) (leaves : LeavesBut (Notes ∷ []) mid now) where
     said = λ told past. ap (λ (s : RoleState). s.put) (same Transcript (λ e. cc)) ∙ r.said told past;
     saves = λ told past. subst (λ s. OnParked c.ending (λ m. WrittenBy (passes Saving stage) row.saved (image_of m) (before.roles Saved) s)) (sym (same Saved (λ e. cc))) (r.saves told past);
     draws = λ told past. subst (λ s. OnDrawn c.ending (λ picture. WrittenBy (passes Drawing stage) row.display picture (before.roles Display) s)) (sym (same Display (λ e. cc))) (r.draws told past);
+    cuts = λ told at. cuts-none status c (before.roles Notes) (now.roles Notes) of_run;
     image = r.image;
   }
 
@@ -80,14 +82,17 @@ module _ (mid now : Meanings) (leaves : LeavesBut (Notes ∷ []) mid now) where
     whole = at.whole;
     attached = attached;
     unused = unused;
-    judges_image = λ image work here. subst (λ (s : RoleState). JudgesImage status row.room (bytes_of s)) (sym (same Image (λ e. cc))) (at.judges_image image work here);
+    judges_image = λ image here. subst (λ (s : RoleState). JudgesImage (tells Work) status row.room (bytes_of s)) (sym (same Image (λ e. cc))) (at.judges_image image here);
     right_image = λ image work past. subst (λ (s : RoleState). IsRightImage row.room (bytes_of s)) (sym (same Image (λ e. cc))) (at.right_image image work past);
     judges_events = λ events here. subst (λ (s : RoleState). JudgesEvents status (bytes_of s)) (sym (same Events (λ e. cc))) (at.judges_events events here);
     right_events = λ events past. subst (λ (s : RoleState). (lines : List Line) × AreEvents (bytes_of s) lines) (sym (same Events (λ e. cc))) (at.right_events events past);
+    whole_image = λ image past. subst (WasRead row.image) (sym (same Image (λ e. cc))) (at.whole_image image past);
+    whole_events = λ events past. subst (WasRead row.events) (sym (same Events (λ e. cc))) (at.whole_events events past);
+    named_work = λ work past. ap (λ (s : RoleState). s.name) (same Work (λ e. cc)) ∙ at.named_work work past;
     run = λ image events work past.
         subst (λ (s : RoleState). RunOf (bytes_of s) (bytes_of (now.roles Events)) row.steps (RunsTo tells before now row stage status)) (sym (same Image (λ e. cc)))
         (subst (λ (s : RoleState). RunOf (bytes_of (mid.roles Image)) (bytes_of s) row.steps (RunsTo tells before now row stage status)) (sym (same Events (λ e. cc)))
-        (run-with (bytes_of (mid.roles Image)) (bytes_of (mid.roles Events)) runs-now (at.run image events work past)));
+        (run-with (bytes_of (mid.roles Image)) (bytes_of (mid.roles Events)) (runs-now of_run) (at.run image events work past)));
   }
     where
       attached : (role : Role) → IsTrue (tells role) → IsTrue (reaches (stage_of role) stage) → IfSome (word_for row role) (λ text. AttachedOnce text (before.roles role) (now.roles role))
@@ -115,8 +120,12 @@ module _ (tells : Role → Bool) (before now : Meanings) (row : Row) (rose : Ros
   parked end ran (Parked last m drawn) h = tt
   parked end ran (Stuck why count said) h = h
 
-  cut-run : {status : Status} (c : Course) → (GoesThrough status c → IsParked c.ending) → RunsTo tells before now row Telling status c → RunsTo tells before now row Telling (answer.WriteFault Notes (now.faults Notes)) c
-  cut-run c goes r = record {
+  -- the line of the run's own end was begun
+  abbrev Begins : Status → Type 0
+  Begins status = (c : Course) → GoesThrough status c → IsTrue (tells Notes) → BeginsEnd c (before.roles Notes) (now.roles Notes)
+
+  cut-run : {status : Status} (c : Course) → (GoesThrough status c → IsParked c.ending) → Begins status → RunsTo tells before now row Telling status c → RunsTo tells before now row Telling (answer.WriteFault Notes (now.faults Notes)) c
+  cut-run c goes begins r = record {
     stops = λ at. absurd (cc);
     goes = λ past. goes (r.goes past);
     fits = r.fits;
@@ -124,44 +133,48 @@ module _ (tells : Role → Bool) (before now : Meanings) (row : Row) (rose : Ros
     said = r.said;
     saves = r.saves;
     draws = r.draws;
+    cuts = λ told at. begins c (r.goes refl) told;
     image = r.image;
   }
 
-  cut-end : {status : Status} → ((c : Course) → GoesThrough status c → IsParked c.ending) → EndsAt tells before now row Telling status → EndsAt tells before now row Telling (answer.WriteFault Notes (now.faults Notes))
-  cut-end goes at = record {
+  cut-end : {status : Status} → ((c : Course) → GoesThrough status c → IsParked c.ending) → Begins status → EndsAt tells before now row Telling status → EndsAt tells before now row Telling (answer.WriteFault Notes (now.faults Notes))
+  cut-end goes begins at = record {
     answer = tt;
     ran = tt;
     cause = (refl, rose);
     whole = λ work damaged. damaged;
     attached = at.attached;
     unused = at.unused;
-    judges_image = λ image work here. absurd (cc);
+    judges_image = λ image here. absurd (cc);
     right_image = at.right_image;
     judges_events = λ events here. absurd (cc);
     right_events = at.right_events;
+    whole_image = at.whole_image;
+    whole_events = at.whole_events;
+    named_work = at.named_work;
     run = λ image events work past.
         let r = at.run image events work past in
-        record { head = r.head; heap = r.heap; is = r.is; lines = r.lines; list = r.list; run = cut-run _ (goes _) r.run };
+        record { head = r.head; heap = r.heap; is = r.is; lines = r.lines; list = r.list; run = cut-run _ (goes _) begins r.run };
   }
 
   telling : (stage : Stage) (status : Status) → EndsAt tells before now row stage status → stage ≡ Telling → EndsAt tells before now row Telling status
   telling stage status at e = subst (λ s. EndsAt tells before now row s status) e at
 
-  unsaid-end : (stage : Stage) (status : Status) → EndsAt tells before now row stage status → (last : Stage) × EndsAt tells before now row last (unsaid status (now.faults Notes))
-  unsaid-end stage (answer.Done ran) at = (Telling, cut-end (λ c goes. parked Next ran c.ending goes) (telling stage (answer.Done ran) at (done-last stage ran at.answer)))
-  unsaid-end stage (answer.Quit ran) at = (Telling, cut-end (λ c goes. parked Quit ran c.ending goes) (telling stage (answer.Quit ran) at (quit-last stage ran at.answer)))
-  unsaid-end stage (answer.Usage word) at = (stage, at)
-  unsaid-end stage (answer.ImageBad rule place) at = (stage, at)
-  unsaid-end stage (answer.EventsBad line) at = (stage, at)
-  unsaid-end stage (answer.Stuck cause ran) at = (stage, at)
-  unsaid-end stage (answer.CoreFull ran need) at = (stage, at)
-  unsaid-end stage (answer.NamesSpent ran) at = (stage, at)
-  unsaid-end stage (answer.WorkFull live room) at = (stage, at)
-  unsaid-end stage (answer.ReadFault role count) at = (stage, at)
-  unsaid-end stage (answer.WorkFault count) at = (stage, at)
-  unsaid-end stage (answer.WriteFault role count) at = (stage, at)
-  unsaid-end stage answer.OutOfMemory at = (stage, at)
-  unsaid-end stage (answer.Damaged place name) at = (stage, at)
+  unsaid-end : (stage : Stage) (status : Status) → (IsTrue (tells Notes) → PutPrefix (line_of status) (before.roles Notes) (now.roles Notes)) → EndsAt tells before now row stage status → (last : Stage) × EndsAt tells before now row last (unsaid status (now.faults Notes))
+  unsaid-end stage (answer.Done ran) put at = (Telling, cut-end (λ c goes. parked Next ran c.ending goes) (λ c goes told. inl (ran, goes, put told)) (telling stage (answer.Done ran) at (done-last stage ran at.answer)))
+  unsaid-end stage (answer.Quit ran) put at = (Telling, cut-end (λ c goes. parked Quit ran c.ending goes) (λ c goes told. inr (ran, goes, put told)) (telling stage (answer.Quit ran) at (quit-last stage ran at.answer)))
+  unsaid-end stage (answer.Usage word) put at = (stage, at)
+  unsaid-end stage (answer.ImageBad rule place) put at = (stage, at)
+  unsaid-end stage (answer.EventsBad line) put at = (stage, at)
+  unsaid-end stage (answer.Stuck cause ran) put at = (stage, at)
+  unsaid-end stage (answer.CoreFull ran need) put at = (stage, at)
+  unsaid-end stage (answer.NamesSpent ran) put at = (stage, at)
+  unsaid-end stage (answer.WorkFull live room) put at = (stage, at)
+  unsaid-end stage (answer.ReadFault role count) put at = (stage, at)
+  unsaid-end stage (answer.WorkFault count) put at = (stage, at)
+  unsaid-end stage (answer.WriteFault role count) put at = (stage, at)
+  unsaid-end stage answer.OutOfMemory put at = (stage, at)
+  unsaid-end stage (answer.Damaged place name) put at = (stage, at)
 
 -- ---- the promise
 
@@ -201,7 +214,7 @@ module _ (tells : Role → Bool) (before mid now : Meanings) (words : List (List
   ends : IsTold (tells Notes) status result mid now → (stage : Stage) × EndsAt tells before now (row_of words) stage result
   ends (inl whole) = (run.stage, subst (λ s. EndsAt tells before now (row_of words) run.stage s) (sym whole.answer) (at-now mid now leaves run.of_run run.at))
   ends (inr cut) =
-      let e = unsaid-end tells before now (row_of words) (subst (λ n. Rose n (now.faults Notes)) run.untold.faults cut.rose) run.stage status (at-now mid now leaves run.of_run run.at) in
+      let e = unsaid-end tells before now (row_of words) (subst (λ n. Rose n (now.faults Notes)) run.untold.faults cut.rose) run.stage status (λ told. subst (λ s. PutPrefix (line_of status) s (now.roles Notes)) run.untold.state (cut.put told)) (at-now mid now leaves run.of_run run.at) in
       (e.0, subst (λ s. EndsAt tells before now (row_of words) e.0 s) (sym cut.answer) e.1)
 
   usage : IsTold (tells Notes) status result mid now → usage_of result ≡ None

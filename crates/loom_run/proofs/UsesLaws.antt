@@ -1,14 +1,14 @@
 -- Which roles a run has used when it comes to a stage, by what its steps did.
 -- `uses-opening` begins, and each of the others takes what was used up to the stage before, and what the step of its own stage did: whether that went
 -- through or was refused makes no difference.
-use Rattle.std.proofs.Common.{◌≡◌, ℕ, Bool, true, false, List, IsTrue, refl, sym, ◌∙◌, ap, subst, arith}
+use Rattle.std.proofs.Common.{◌≡◌, ℕ, Bool, true, false, List, Some, IsTrue, refl, sym, ◌∙◌, ap, subst, arith}
 use Rattle.std.specs.Prelude.{IfSome, IsFalse}
 use Rattle.loom_outside.specs.Outside.{RoleState}
 use Rattle.loom_outside.specs.declared.outside.Role.{Role}
 use Rattle.loom_outside.specs.declared.outside.Role.TheVariants.{Image, Events, Work, Saved, Display, Transcript, Notes}
 use Rattle.loom_run.specs.Ends.{AttachedOnce, word_for}
 use Rattle.loom_run.specs.Meanings.{Meanings, IsLeft, LeavesBut}
-use Rattle.loom_run.specs.Stages.{Opening, Reading, Listening, Making, Running, Finishing, Saving, Drawing, Telling, reaches, roles_at, stage_of}
+use Rattle.loom_run.specs.Stages.{Opening, Reading, Listening, Making, Running, Finishing, Saving, Drawing, Telling, passes, reaches, roles_at, stage_of}
 use Rattle.loom_run.specs.Steps.{IsSameFile, Uses}
 use Rattle.loom_run.specs.Words.{Row}
 
@@ -35,8 +35,11 @@ attached-file text a b c x same = record {
 
 module _ (tells : Role → Bool) (row : Row) where
   pub uses-opening : (a b : Meanings) → (IsTrue (tells Work) → AttachedOnce row.work (a.roles Work) (b.roles Work)) → LeavesBut (roles_at Opening) a b → Uses tells a b row Opening
-  uses-opening a b own others = record { attached = attached; unused = unused; later = others.later }
+  uses-opening a b own others = record { attached = attached; named = named; unused = unused; later = others.later }
     where
+      named : IsTrue (tells Work) → IsTrue (passes Opening Opening) → (b.roles Work).name ≡ Some row.work
+      named told past = never past
+
       attached : (role : Role) → IsTrue (tells role) → IsTrue (reaches (stage_of role) Opening) → IfSome (word_for row role) (λ text. AttachedOnce text (a.roles role) (b.roles role))
       attached Image told came = never came
       attached Events told came = never came
@@ -55,9 +58,12 @@ module _ (tells : Role → Bool) (row : Row) where
       unused Transcript none = others.others Transcript (λ e. cc, tt)
       unused Notes none = others.others Notes (λ e. cc, tt)
 
-  pub uses-reading : (a b c : Meanings) → Uses tells a b row Opening → (IsTrue (tells Image) → AttachedOnce row.image (b.roles Image) (c.roles Image)) → (IsTrue (tells Work) → IsSameFile (b.roles Work) (c.roles Work)) → LeavesBut (roles_at Reading) b c → Uses tells a c row Reading
-  uses-reading a b c u own file others = record { attached = attached; unused = unused; later = λ r. let first = u.later r in let then = others.later r in omega (arith, first, then) }
+  pub uses-reading : (a b c : Meanings) → Uses tells a b row Opening → (IsTrue (tells Work) → (b.roles Work).name ≡ Some row.work) → (IsTrue (tells Image) → AttachedOnce row.image (b.roles Image) (c.roles Image)) → (IsTrue (tells Work) → IsSameFile (b.roles Work) (c.roles Work)) → LeavesBut (roles_at Reading) b c → Uses tells a c row Reading
+  uses-reading a b c u own_work own file others = record { attached = attached; named = named; unused = unused; later = λ r. let first = u.later r in let then = others.later r in omega (arith, first, then) }
     where
+      named : IsTrue (tells Work) → IsTrue (passes Opening Reading) → (c.roles Work).name ≡ Some row.work
+      named told past = ap (λ (s : RoleState). s.name) (file told) ∙ own_work told
+
       attached : (role : Role) → IsTrue (tells role) → IsTrue (reaches (stage_of role) Reading) → IfSome (word_for row role) (λ text. AttachedOnce text (a.roles role) (c.roles role))
       attached Image told came = attached-from _ _ _ _ (u.unused Image refl).state (own told)
       attached Events told came = never came
@@ -77,8 +83,11 @@ module _ (tells : Role → Bool) (row : Row) where
       unused Notes none = left-then Notes a b c (u.unused Notes refl) (others.others Notes (λ e. cc, (λ e. cc, tt)))
 
   pub uses-listening : (a b c : Meanings) → Uses tells a b row Reading → (IsTrue (tells Events) → AttachedOnce row.events (b.roles Events) (c.roles Events)) → LeavesBut (roles_at Listening) b c → Uses tells a c row Listening
-  uses-listening a b c u own others = record { attached = attached; unused = unused; later = λ r. let first = u.later r in let then = others.later r in omega (arith, first, then) }
+  uses-listening a b c u own others = record { attached = attached; named = named; unused = unused; later = λ r. let first = u.later r in let then = others.later r in omega (arith, first, then) }
     where
+      named : IsTrue (tells Work) → IsTrue (passes Opening Listening) → (c.roles Work).name ≡ Some row.work
+      named told past = ap (λ (s : RoleState). s.name) (others.others Work (λ e. cc, tt)).state ∙ u.named told refl
+
       attached : (role : Role) → IsTrue (tells role) → IsTrue (reaches (stage_of role) Listening) → IfSome (word_for row role) (λ text. AttachedOnce text (a.roles role) (c.roles role))
       attached Image told came = attached-left _ _ _ _ (u.attached Image told refl) (others.others Image (λ e. cc, tt)).state
       attached Events told came = attached-from _ _ _ _ (u.unused Events refl).state (own told)
@@ -98,8 +107,11 @@ module _ (tells : Role → Bool) (row : Row) where
       unused Notes none = left-then Notes a b c (u.unused Notes refl) (others.others Notes (λ e. cc, tt))
 
   pub uses-making : (a b c : Meanings) → Uses tells a b row Listening → LeavesBut (roles_at Making) b c → Uses tells a c row Making
-  uses-making a b c u others = record { attached = attached; unused = unused; later = λ r. let first = u.later r in let then = others.later r in omega (arith, first, then) }
+  uses-making a b c u others = record { attached = attached; named = named; unused = unused; later = λ r. let first = u.later r in let then = others.later r in omega (arith, first, then) }
     where
+      named : IsTrue (tells Work) → IsTrue (passes Opening Making) → (c.roles Work).name ≡ Some row.work
+      named told past = ap (λ (s : RoleState). s.name) (others.others Work tt).state ∙ u.named told refl
+
       attached : (role : Role) → IsTrue (tells role) → IsTrue (reaches (stage_of role) Making) → IfSome (word_for row role) (λ text. AttachedOnce text (a.roles role) (c.roles role))
       attached Image told came = attached-left _ _ _ _ (u.attached Image told refl) (others.others Image tt).state
       attached Events told came = attached-left _ _ _ _ (u.attached Events told refl) (others.others Events tt).state
@@ -119,8 +131,11 @@ module _ (tells : Role → Bool) (row : Row) where
       unused Notes none = left-then Notes a b c (u.unused Notes refl) (others.others Notes tt)
 
   pub uses-running : (a b c : Meanings) → Uses tells a b row Making → (IsTrue (tells Work) → IsSameFile (b.roles Work) (c.roles Work)) → LeavesBut (roles_at Running) b c → Uses tells a c row Running
-  uses-running a b c u file others = record { attached = attached; unused = unused; later = λ r. let first = u.later r in let then = others.later r in omega (arith, first, then) }
+  uses-running a b c u file others = record { attached = attached; named = named; unused = unused; later = λ r. let first = u.later r in let then = others.later r in omega (arith, first, then) }
     where
+      named : IsTrue (tells Work) → IsTrue (passes Opening Running) → (c.roles Work).name ≡ Some row.work
+      named told past = ap (λ (s : RoleState). s.name) (file told) ∙ u.named told refl
+
       attached : (role : Role) → IsTrue (tells role) → IsTrue (reaches (stage_of role) Running) → IfSome (word_for row role) (λ text. AttachedOnce text (a.roles role) (c.roles role))
       attached Image told came = attached-left _ _ _ _ (u.attached Image told refl) (others.others Image (λ e. cc, (λ e. cc, tt))).state
       attached Events told came = attached-left _ _ _ _ (u.attached Events told refl) (others.others Events (λ e. cc, (λ e. cc, tt))).state
@@ -140,8 +155,11 @@ module _ (tells : Role → Bool) (row : Row) where
       unused Notes none = left-then Notes a b c (u.unused Notes refl) (others.others Notes (λ e. cc, (λ e. cc, tt)))
 
   pub uses-finishing : (a b c : Meanings) → Uses tells a b row Running → (IsTrue (tells Work) → IsSameFile (b.roles Work) (c.roles Work)) → LeavesBut (roles_at Finishing) b c → Uses tells a c row Finishing
-  uses-finishing a b c u file others = record { attached = attached; unused = unused; later = λ r. let first = u.later r in let then = others.later r in omega (arith, first, then) }
+  uses-finishing a b c u file others = record { attached = attached; named = named; unused = unused; later = λ r. let first = u.later r in let then = others.later r in omega (arith, first, then) }
     where
+      named : IsTrue (tells Work) → IsTrue (passes Opening Finishing) → (c.roles Work).name ≡ Some row.work
+      named told past = ap (λ (s : RoleState). s.name) (file told) ∙ u.named told refl
+
       attached : (role : Role) → IsTrue (tells role) → IsTrue (reaches (stage_of role) Finishing) → IfSome (word_for row role) (λ text. AttachedOnce text (a.roles role) (c.roles role))
       attached Image told came = attached-left _ _ _ _ (u.attached Image told refl) (others.others Image (λ e. cc, (λ e. cc, tt))).state
       attached Events told came = attached-left _ _ _ _ (u.attached Events told refl) (others.others Events (λ e. cc, (λ e. cc, tt))).state
@@ -161,8 +179,11 @@ module _ (tells : Role → Bool) (row : Row) where
       unused Notes none = left-then Notes a b c (u.unused Notes refl) (others.others Notes (λ e. cc, (λ e. cc, tt)))
 
   pub uses-saving : (a b c : Meanings) → Uses tells a b row Finishing → (IsTrue (tells Saved) → AttachedOnce row.saved (b.roles Saved) (c.roles Saved)) → (IsTrue (tells Work) → IsSameFile (b.roles Work) (c.roles Work)) → LeavesBut (roles_at Saving) b c → Uses tells a c row Saving
-  uses-saving a b c u own file others = record { attached = attached; unused = unused; later = λ r. let first = u.later r in let then = others.later r in omega (arith, first, then) }
+  uses-saving a b c u own file others = record { attached = attached; named = named; unused = unused; later = λ r. let first = u.later r in let then = others.later r in omega (arith, first, then) }
     where
+      named : IsTrue (tells Work) → IsTrue (passes Opening Saving) → (c.roles Work).name ≡ Some row.work
+      named told past = ap (λ (s : RoleState). s.name) (file told) ∙ u.named told refl
+
       attached : (role : Role) → IsTrue (tells role) → IsTrue (reaches (stage_of role) Saving) → IfSome (word_for row role) (λ text. AttachedOnce text (a.roles role) (c.roles role))
       attached Image told came = attached-left _ _ _ _ (u.attached Image told refl) (others.others Image (λ e. cc, (λ e. cc, tt))).state
       attached Events told came = attached-left _ _ _ _ (u.attached Events told refl) (others.others Events (λ e. cc, (λ e. cc, tt))).state
@@ -182,8 +203,11 @@ module _ (tells : Role → Bool) (row : Row) where
       unused Notes none = left-then Notes a b c (u.unused Notes refl) (others.others Notes (λ e. cc, (λ e. cc, tt)))
 
   pub uses-drawing : (a b c : Meanings) → Uses tells a b row Saving → (IsTrue (tells Display) → AttachedOnce row.display (b.roles Display) (c.roles Display)) → LeavesBut (roles_at Drawing) b c → Uses tells a c row Drawing
-  uses-drawing a b c u own others = record { attached = attached; unused = unused; later = λ r. let first = u.later r in let then = others.later r in omega (arith, first, then) }
+  uses-drawing a b c u own others = record { attached = attached; named = named; unused = unused; later = λ r. let first = u.later r in let then = others.later r in omega (arith, first, then) }
     where
+      named : IsTrue (tells Work) → IsTrue (passes Opening Drawing) → (c.roles Work).name ≡ Some row.work
+      named told past = ap (λ (s : RoleState). s.name) (others.others Work (λ e. cc, tt)).state ∙ u.named told refl
+
       attached : (role : Role) → IsTrue (tells role) → IsTrue (reaches (stage_of role) Drawing) → IfSome (word_for row role) (λ text. AttachedOnce text (a.roles role) (c.roles role))
       attached Image told came = attached-left _ _ _ _ (u.attached Image told refl) (others.others Image (λ e. cc, tt)).state
       attached Events told came = attached-left _ _ _ _ (u.attached Events told refl) (others.others Events (λ e. cc, tt)).state
@@ -204,8 +228,11 @@ module _ (tells : Role → Bool) (row : Row) where
 
   -- the last line isn't put yet
   pub uses-telling : (a b : Meanings) → Uses tells a b row Drawing → Uses tells a b row Telling
-  uses-telling a b u = record { attached = attached; unused = unused; later = u.later }
+  uses-telling a b u = record { attached = attached; named = named; unused = unused; later = u.later }
     where
+      named : IsTrue (tells Work) → IsTrue (passes Opening Telling) → (b.roles Work).name ≡ Some row.work
+      named told past = u.named told refl
+
       attached : (role : Role) → IsTrue (tells role) → IsTrue (reaches (stage_of role) Telling) → IfSome (word_for row role) (λ text. AttachedOnce text (a.roles role) (b.roles role))
       attached Image told came = u.attached Image told refl
       attached Events told came = u.attached Events told refl

@@ -6,7 +6,7 @@ use Rattle.image_format.specs.declared.opening.State.{State as Words}
 use Rattle.image_writer.specs.Saved.{saved_text}
 use Rattle.loom_outside.specs.Outside.{RoleState}
 use Rattle.loom_outside.specs.declared.outside.Role.{Role}
-use Rattle.loom_outside.specs.declared.outside.Role.TheVariants.{Work, Saved, Display, Transcript, Notes}
+use Rattle.loom_outside.specs.declared.outside.Role.TheVariants.{Image, Events, Work, Saved, Display, Transcript, Notes}
 use Rattle.blue_model.specs.declared.event.Line.{Line}
 use Rattle.blue_model.specs.declared.step.Step.{Step}
 use Rattle.blue_model.specs.Cycle.{Ending, Parked, Stuck}
@@ -14,11 +14,11 @@ use Rattle.blue_model.specs.Endings.{IsParked, IsParkedBy, OnDrawn, OnParked, sa
 use Rattle.blue_model.specs.Logs.{Course, course}
 use Rattle.machine_run.specs.States.{model_state}
 use Rattle.machine_run.specs.declared.running.Finished.{Finished}
-use Rattle.loom_run.specs.Ends.{GoesThrough, HasRun, SaysStopped, Stops, WrittenBy, image_of}
+use Rattle.loom_run.specs.Ends.{CutsLine, GoesThrough, HasRun, SaysStopped, Stops, WrittenBy, image_of}
 use Rattle.loom_run.specs.Meanings.{Meanings, IsLeft}
 use Rattle.loom_run.specs.Parts.{IsFinished}
 use Rattle.loom_run.specs.Stages.{Running, Finishing, Saving, Drawing, Telling, Ends}
-use Rattle.loom_run.specs.Steps.{Came, CameThrough, IsRefusal, RunEnds}
+use Rattle.loom_run.specs.Steps.{Came, CameThrough, IsOfRun, IsRefusal, RunEnds}
 use Rattle.loom_run.specs.Words.{Row}
 use Rattle.loom_run.specs.declared.status.Status.{Status}
 use Rattle.loom_run.specs.declared.status.Status.TheVariants as answer
@@ -47,6 +47,29 @@ goes-refused (answer.WorkFault count) c done quit h = h
 goes-refused (answer.WriteFault role count) c done quit h = h
 goes-refused answer.OutOfMemory c done quit h = h
 goes-refused (answer.Damaged place name) c done quit h = h
+
+-- an answer that isn't about the last line cuts none
+pub cuts-none : (status : Status) (c : Course) (old new : RoleState) → IsOfRun status → CutsLine status c old new
+cuts-none (answer.WriteFault Notes count) c old new of_run = absurd (of_run refl)
+cuts-none (answer.WriteFault Image count) c old new of_run = tt
+cuts-none (answer.WriteFault Events count) c old new of_run = tt
+cuts-none (answer.WriteFault Work count) c old new of_run = tt
+cuts-none (answer.WriteFault Saved count) c old new of_run = tt
+cuts-none (answer.WriteFault Display count) c old new of_run = tt
+cuts-none (answer.WriteFault Transcript count) c old new of_run = tt
+cuts-none (answer.Done ran) c old new of_run = tt
+cuts-none (answer.Quit ran) c old new of_run = tt
+cuts-none (answer.Usage word) c old new of_run = tt
+cuts-none (answer.ImageBad rule place) c old new of_run = tt
+cuts-none (answer.EventsBad line) c old new of_run = tt
+cuts-none (answer.Stuck cause ran) c old new of_run = tt
+cuts-none (answer.CoreFull ran need) c old new of_run = tt
+cuts-none (answer.NamesSpent ran) c old new of_run = tt
+cuts-none (answer.WorkFull live room) c old new of_run = tt
+cuts-none (answer.ReadFault role count) c old new of_run = tt
+cuts-none (answer.WorkFault count) c old new of_run = tt
+cuts-none answer.OutOfMemory c old new of_run = tt
+cuts-none (answer.Damaged place name) c old new of_run = tt
 
 -- what is written of a parked machine
 written-of : (e : Ending) (b : Bool) (text bytes : List ℕ) (a mid now : RoleState) → OnParked e (λ m. bytes ≡ image_of m) → mid ≡ a → WrittenBy b text bytes mid now → OnParked e (λ m. WrittenBy b text (image_of m) a now)
@@ -77,6 +100,7 @@ module _ (tells : Role → Bool) (before : Meanings) (row : Row) (state : Words)
     said = λ told past. never past;
     saves = λ told past. never past;
     draws = λ told past. never past;
+    cuts = λ told at. absurd (cc);
     image = λ past. never past;
   })
 
@@ -91,6 +115,7 @@ module _ (tells : Role → Bool) (before : Meanings) (row : Row) (state : Words)
     said = λ told past. (went work).2 told;
     saves = λ told past. never past;
     draws = λ told past. never past;
+    cuts = λ told at. absurd (cc);
     image = λ past. never past;
   })
 
@@ -107,6 +132,7 @@ module _ (tells : Role → Bool) (before : Meanings) (row : Row) (state : Words)
       said = λ told past. ap (λ (s : RoleState). s.put) silent ∙ (through work).said told;
       saves = λ told past. written-of of.ending false row.saved _ (before.roles Saved) (mid.roles Saved) (now.roles Saved) (through work).saves (came.uses.unused Saved refl).state (put told work);
       draws = λ told past. never past;
+      cuts = λ told at. absurd (cc);
       image = λ past. (through work).image;
     })
 
@@ -124,6 +150,7 @@ module _ (tells : Role → Bool) (before : Meanings) (row : Row) (state : Words)
         said = λ told past. ap (λ (s : RoleState). s.put) (still ∙ silent) ∙ (through work).said told;
         saves = λ told past. on-parked-left of.ending true row.saved (before.roles Saved) (far.roles Saved) (now.roles Saved) saved (saved-far told work);
         draws = λ told past. drawn-of of.ending false row.display finished.picture (before.roles Display) (far.roles Display) (now.roles Display) (through work).drawn (undrawn ∙ (came.uses.unused Display refl).state) (drawn told);
+        cuts = λ told at. absurd (cc);
         image = λ past. (through work).image;
       })
 
@@ -138,6 +165,7 @@ module _ (tells : Role → Bool) (before : Meanings) (row : Row) (state : Words)
         said = λ told past. ap (λ (s : RoleState). s.put) (still ∙ silent) ∙ (through work).said told;
         saves = λ told past. on-parked-left of.ending true row.saved (before.roles Saved) (far.roles Saved) (now.roles Saved) saved (saved-far told work);
         draws = λ told past. drawn-of of.ending true row.display finished.picture (before.roles Display) (far.roles Display) (now.roles Display) (through work).drawn (undrawn ∙ (came.uses.unused Display refl).state) (drawn told);
+        cuts = λ told at. cuts-none status of (before.roles Notes) (now.roles Notes) answered.of_run;
         image = λ past. (through work).image;
       })
 

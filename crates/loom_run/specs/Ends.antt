@@ -1,5 +1,5 @@
 -- What a run leaves of the roles of its host, by the stage at which it ended and its answer.
-use Rattle.std.specs.Prelude.{◌≡◌, ℕ, ◌+◌, ◌≤◌, ◌<◌, List, ◌++◌, take, length, Bool, true, false, ◌⊎◌, Err, None, Some, IfSome, IsTrue, Option}
+use Rattle.std.specs.Prelude.{◌≡◌, ℕ, ◌+◌, ◌≤◌, ◌<◌, List, [], ◌++◌, take, length, Bool, true, false, ◌⊎◌, Err, None, Some, IfSome, IsTrue, Option}
 use Rattle.loom_outside.specs.Outside.{RoleState, Attached, puts, PutPrefix}
 use Rattle.long_names.specs.Counting.{counted, Rose}
 use Rattle.long_names.specs.Need.{Fits}
@@ -13,7 +13,7 @@ use Rattle.image_format.specs.declared.opening.State.{State as Words}
 use Rattle.image_format.specs.declared.opening.TheConstants.{STATE_VERSION}
 use Rattle.image_format.specs.Rules.{IsHeadOf, break, first_break, text_under}
 use Rattle.image_format.specs.Valid.{IsImageHeap}
-use Rattle.image_reader.specs.Loaded.{full_of}
+use Rattle.image_reader.specs.Loaded.{IsUnread, full_of, is_of_whole}
 use Rattle.blue_model.specs.declared.event.Line.{Line}
 use Rattle.blue_model.specs.declared.step.Step.TheVariants as step
 use Rattle.blue_model.specs.Machine.{Machine}
@@ -25,7 +25,7 @@ use Rattle.contexts.specs.Serves.{IsLogged}
 use Rattle.machine_run.specs.States.{model_state}
 use Rattle.event_file.specs.Text.{AreRight, events_text, IsBadAt}
 use Rattle.loom_run.specs.Meanings.{Meanings}
-use Rattle.loom_run.specs.Stages.{Stage, Running, Saving, Drawing, passes, reaches}
+use Rattle.loom_run.specs.Stages.{Stage, Running, Saving, Drawing, Telling, passes, reaches}
 use Rattle.loom_run.specs.Status.{line_of}
 use Rattle.loom_run.specs.Words.{Row}
 use Rattle.loom_run.specs.declared.status.Status.{Status}
@@ -67,6 +67,11 @@ word_for row Notes = None
 abbrev pub bytes_of : RoleState → List ℕ
 bytes_of s = s.taken ++ s.left
 
+-- the role was read to its end, and is the one of this name
+pub record WasRead (text : List ℕ) (s : RoleState) : Type 0 where
+  pub end : s.left ≡ []
+  pub name : s.name ≡ Some text
+
 -- the bytes are those of an image of this heap under this head, of either version
 pub record IsImageOf (bytes : List ℕ) (head : ImageHead) (heap : Heap) : Type 0 where
   pub is : IsImageHeap heap
@@ -85,11 +90,12 @@ abbrev pub AreEvents : List ℕ → List Line → Type 0
 AreEvents bytes lines = AreRight lines × (bytes ≡ events_text lines)
 
 -- What an answer says of the bytes of Image that came in reading them: the first rule that they break, where the objects that they state have
--- room; or how many they state, which is more than there is room for.
-abbrev pub JudgesImage : Status → ℕ → List ℕ → Type 0
-JudgesImage (ImageBad rule place) room image = (full_of room image ≡ None) × (first_break image ≡ Some (break rule place))
-JudgesImage (WorkFull live most) room image = (most ≡ room) × (room < live) × (full_of room image ≡ Some live)
-JudgesImage _ room image = Unit {0}
+-- room; or how many they state, which is more than there is room for. Of a rule that is judged of the whole image, while its objects lie in Work,
+-- it is said where the host tells of Work too, or no image can be read of the bytes.
+abbrev pub JudgesImage : Bool → Status → ℕ → List ℕ → Type 0
+JudgesImage work (ImageBad rule place) room image = (IsTrue (is_of_whole rule) → IsTrue work ⊎ IsUnread image) → (full_of room image ≡ None) × (first_break image ≡ Some (break rule place))
+JudgesImage work (WorkFull live most) room image = (most ≡ room) × (room < live) × (full_of room image ≡ Some live)
+JudgesImage work _ room image = Unit {0}
 
 -- and of those of Events, that came in reading them: this is their first bad line
 abbrev pub JudgesEvents : Status → List ℕ → Type 0
@@ -118,12 +124,14 @@ HasRun (NamesSpent ran) steps = ran ≤ steps
 HasRun _ steps = Unit {0}
 
 -- What an answer says of the run that it ended: after so many bytecodes the machine is stuck by this cause, or no name is left; or a row of the
--- next bytecode doesn't fit the core, or as many objects live at one of its makings as there is no room for.
+-- next bytecode doesn't fit the core, or as many objects live at one of its makings as there is no room for. Memory is wanted for the picture alone,
+-- of a machine that went through and was parked.
 abbrev pub Stops : Status → Row → Course → Type 0
 Stops (Stuck cause ran) row c = IsStuck cause ran c.ending
 Stops (NamesSpent ran) row c = IsStuckBy BySpentNames ran c.ending
 Stops (CoreFull ran need) row c = IsLogged need (c.rows ran) × (Fits row.core row.entries need.words need.entries → ⊥)
 Stops (WorkFull live room) row c = (room ≡ row.room) × (row.room < live) × ((ran : ℕ) × (ran ≤ row.steps) × IsLive live (c.lives ran))
+Stops OutOfMemory row c = IsParked c.ending
 Stops _ row c = Unit {0}
 
 -- And what it says of the bytes put to Transcript: what the machine said in so many bytecodes. A fault of Work may come after any number of
@@ -133,7 +141,7 @@ SaysStopped (Stuck cause ran) row c old new = new ≡ old ++ c.said ran
 SaysStopped (NamesSpent ran) row c old new = new ≡ old ++ c.said ran
 SaysStopped (CoreFull ran need) row c old new = new ≡ old ++ c.said ran
 SaysStopped (WorkFull live room) row c old new = (ran : ℕ) × (ran ≤ row.steps) × IsLive live (c.lives ran) × (new ≡ old ++ c.said ran)
-SaysStopped (WriteFault role count) row c old new = (ran : ℕ) × (part : List ℕ) × (rest : List ℕ) × (ran ≤ row.steps) × (new ≡ old ++ (c.said ran ++ part)) × (c.said (ran + 1) ≡ (c.said ran ++ part) ++ rest)
+SaysStopped (WriteFault role count) row c old new = (ran : ℕ) × (part : List ℕ) × (rest : List ℕ) × (ran < row.steps) × (new ≡ old ++ (c.said ran ++ part)) × (c.said (ran + 1) ≡ (c.said ran ++ part) ++ rest)
 SaysStopped OutOfMemory row c old new = new ≡ old ++ said_in c.ending
 SaysStopped _ row c old new = (ran : ℕ) × (ran ≤ row.steps) × (new ≡ old ++ c.said ran)
 
@@ -179,6 +187,15 @@ head_of m = record { opening = record { version = STATE_VERSION; objects = objec
 abbrev pub image_of : Machine → List ℕ
 image_of m = text_under (head_of m) (kept m.heap no_roots)
 
+-- the line of the run's own end was begun, with the count at which the model's run ended
+abbrev pub BeginsEnd : Course → RoleState → RoleState → Type 0
+BeginsEnd c old new = ((ran : ℕ) × IsParkedBy step.Next ran c.ending × PutPrefix (line_of (Done ran)) old new) ⊎ ((ran : ℕ) × IsParkedBy step.Quit ran c.ending × PutPrefix (line_of (Quit ran)) old new)
+
+-- which is so where a fault of Notes is answered
+abbrev pub CutsLine : Status → Course → RoleState → RoleState → Type 0
+CutsLine (WriteFault Notes count) c old new = BeginsEnd c old new
+CutsLine _ c old new = Unit {0}
+
 -- What a run came to, as far as it came: that is the model's.
 pub record RunsTo (tells : Role → Bool) (before now : Meanings) (row : Row) (stage : Stage) (status : Status) (c : Course) : Type 0 where
   -- It stopped for the reason that the answer says, or went through.
@@ -192,6 +209,8 @@ pub record RunsTo (tells : Role → Bool) (before now : Meanings) (row : Row) (s
   -- Saved has the image of what is kept of the parked machine's heap, and Display its picture, or a prefix where writing it failed.
   pub saves : IsTrue (tells Saved) → IsTrue (reaches Saving stage) → OnParked c.ending (λ m. WrittenBy (passes Saving stage) row.saved (image_of m) (before.roles Saved) (now.roles Saved))
   pub draws : IsTrue (tells Display) → IsTrue (reaches Drawing stage) → OnDrawn c.ending (λ picture. WrittenBy (passes Drawing stage) row.display picture (before.roles Display) (now.roles Display))
+  -- The last line, where it couldn't be written, is that of this end.
+  pub cuts : IsTrue (tells Notes) → stage ≡ Telling → CutsLine status c (before.roles Notes) (now.roles Notes)
   -- And that image is one: a next run may read it, as `a_run_goes_on_from_what_was_saved` says.
   pub image : IsTrue (reaches Saving stage) → OnParked c.ending (λ m. IsImageOf (image_of m) (head_of m) (kept m.heap no_roots))
 

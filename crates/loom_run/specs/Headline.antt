@@ -1,4 +1,4 @@
--- What a run comes to that answers Done or Quit: the promise in six lines, over a host that tells what Work and the five roles of these lines
+-- What a run comes to that answers Done or Quit: the promise in seven lines, over a host that tells what Work and the five roles of these lines
 -- hold. `headline` of `laws` says that `Promise` gives them.
 use Rattle.std.specs.Prelude.{◌≡◌, ℕ, List, ◌++◌, IsTrue, Bool}
 use Rattle.long_names.specs.Heap.{Heap}
@@ -19,7 +19,7 @@ use Rattle.loom_run.specs.declared.status.Status.{Status}
 use Rattle.loom_run.specs.declared.status.Status.TheVariants.{Done, Quit}
 
 -- Of a heap with the head of its image, lines of events, a machine and a picture: this is what a run of so many bytecodes read and wrote.
-pub record Headline (before now : Meanings) (steps : ℕ) (end : Step) (head : ImageHead) (heap : Heap) (lines : List Line) (machine : Machine) (picture : List ℕ) : Type 0 where
+pub record Headline (before now : Meanings) (steps : ℕ) (end : Step) (ran : ℕ) (head : ImageHead) (heap : Heap) (lines : List Line) (machine : Machine) (picture : List ℕ) : Type 0 where
   -- Image holds the image of the heap, of either version.
   pub image : IsImageOf (bytes_of (now.roles Image)) head heap
   -- Events holds the lines.
@@ -27,6 +27,8 @@ pub record Headline (before now : Meanings) (steps : ℕ) (end : Step) (head : I
   -- The Blue Book's machine over one unbounded memory of long names, started on this heap with the image's state under these lines, comes after
   -- so many bytecodes, or after the one that ends it, to the machine, which is parked, with the picture on its display.
   pub ending : ending lines steps (model_state head.state) heap ≡ Parked end machine picture
+  -- It has counted as many as the answer says.
+  pub count : machine.cpu.ran ≡ ran
   -- Transcript has what it said, behind what stood there before.
   pub transcript : (now.roles Transcript).put ≡ (before.roles Transcript).put ++ machine.transcript
   -- Saved holds the image of what is kept of its heap, with exact counts, and of its state.
@@ -35,13 +37,13 @@ pub record Headline (before now : Meanings) (steps : ℕ) (end : Step) (head : I
   pub display : (now.roles Display).put ≡ picture
 
 -- there are such a heap, lines, machine and picture
-abbrev pub HasHeadline : Meanings → Meanings → ℕ → Step → Type 0
-HasHeadline before now steps end = (head : ImageHead) × (heap : Heap) × (lines : List Line) × (machine : Machine) × (picture : List ℕ) × Headline before now steps end head heap lines machine picture
+abbrev pub HasHeadline : Meanings → Meanings → ℕ → Step → ℕ → Type 0
+HasHeadline before now steps end ran = (head : ImageHead) × (heap : Heap) × (lines : List Line) × (machine : Machine) × (picture : List ℕ) × Headline before now steps end ran head heap lines machine picture
 
 -- Done says that all bytecodes were run, and Quit that the last one ended the machine; of other answers nothing is said
 abbrev pub HeadlineBy : Status → Meanings → Meanings → ℕ → Type 0
-HeadlineBy (Done ran) before now steps = HasHeadline before now steps step.Next
-HeadlineBy (Quit ran) before now steps = HasHeadline before now steps step.Quit
+HeadlineBy (Done ran) before now steps = HasHeadline before now steps step.Next ran
+HeadlineBy (Quit ran) before now steps = HasHeadline before now steps step.Quit ran
 HeadlineBy _ before now steps = Unit {0}
 
 -- No object that the model makes in the run takes more words than the core has.

@@ -6,6 +6,7 @@ pub mod Headline
 pub mod Meanings
 pub mod Parts
 pub mod Promise
+pub mod Refusals
 pub mod Stages
 pub mod Status
 pub mod Steps

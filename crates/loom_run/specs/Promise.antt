@@ -1,12 +1,12 @@
 -- What a run of the program promises, over any host: read this first. Its words stand in `Stages` (the order of a run, and which answer comes
 -- where), `Ends` (what it leaves of each role), `Words` (the row of words), `Status` (the answers and their lines) and `Meanings`. The
 -- machine's rules are those of `blue_model`, event lists those of `event_file`, images those of `image_format`.
-use Rattle.std.specs.Prelude.{◌≡◌, ◌⊎◌, ℕ, ◌≤◌, Bool, List, [], ◌∷◌, None, IfSome, IsTrue, IsFalse, IsSome}
+use Rattle.std.specs.Prelude.{◌≡◌, ◌⊎◌, ℕ, ◌≤◌, Bool, List, [], ◌∷◌, None, Some, IfSome, IsTrue, IsFalse, IsSome}
 use Rattle.loom_outside.specs.declared.outside.Role.{Role}
 use Rattle.loom_outside.specs.declared.outside.Role.TheVariants.{Image, Events, Work, Notes}
-use Rattle.loom_run.specs.Ends.{AttachedOnce, IsCaused, IsDamaged, IsRightImage, AreEvents, JudgesImage, JudgesEvents, HasRun, RunOf, RunsTo, NotedBy, bytes_of, word_for}
+use Rattle.loom_run.specs.Ends.{AttachedOnce, IsCaused, IsDamaged, IsRightImage, WasRead, AreEvents, JudgesImage, JudgesEvents, HasRun, RunOf, RunsTo, NotedBy, bytes_of, word_for}
 use Rattle.loom_run.specs.Meanings.{Meanings, IsLeft, LeavesBut}
-use Rattle.loom_run.specs.Stages.{Stage, Reading, Listening, Running, Ends, passes, reaches, stage_of}
+use Rattle.loom_run.specs.Stages.{Stage, Opening, Reading, Listening, Running, Ends, passes, reaches, stage_of}
 use Rattle.loom_run.specs.Status.{usage_of}
 use Rattle.loom_run.specs.Words.{Row, bad_word, row_of}
 use Rattle.loom_run.specs.declared.status.Status.{Status}
@@ -27,10 +27,15 @@ pub record EndsAt (tells : Role → Bool) (before now : Meanings) (row : Row) (s
   pub unused : (role : Role) → IsFalse (reaches (stage_of role) stage) → (role ≡ Notes) ⊎ IsLeft role before now
   -- The bytes of Image are refused exactly with the first rule that they break and its place, or where they state more objects than there is
   -- room for; those of Events exactly at their first bad line. All later answers come only where both are right.
-  pub judges_image : IsTrue (tells Image) → IsTrue (tells Work) → stage ≡ Reading → JudgesImage result row.room (bytes_of (now.roles Image))
+  pub judges_image : IsTrue (tells Image) → stage ≡ Reading → JudgesImage (tells Work) result row.room (bytes_of (now.roles Image))
   pub right_image : IsTrue (tells Image) → IsTrue (tells Work) → IsTrue (passes Reading stage) → IsRightImage row.room (bytes_of (now.roles Image))
   pub judges_events : IsTrue (tells Events) → stage ≡ Listening → JudgesEvents result (bytes_of (now.roles Events))
   pub right_events : IsTrue (tells Events) → IsTrue (passes Listening stage) → (lines : List Line) × AreEvents (bytes_of (now.roles Events)) lines
+  -- Each of the two was read to its end by then. An attach that went through leaves the role its word, that of Work too; Saved and Display have
+  -- theirs by `WasWritten`.
+  pub whole_image : IsTrue (tells Image) → IsTrue (passes Reading stage) → WasRead row.image (now.roles Image)
+  pub whole_events : IsTrue (tells Events) → IsTrue (passes Listening stage) → WasRead row.events (now.roles Events)
+  pub named_work : IsTrue (tells Work) → IsTrue (passes Opening stage) → (now.roles Work).name ≡ Some row.work
   -- And then what comes of the machine's run is the model's over one unbounded memory of long names, and so are the bytes of Transcript, Saved
   -- and Display: `RunsTo` says how.
   pub run : IsTrue (tells Image) → IsTrue (tells Events) → IsTrue (tells Work) → IsTrue (reaches Running stage)

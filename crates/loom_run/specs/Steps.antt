@@ -1,5 +1,5 @@
 -- What the steps of a run do, one after the other: which roles were used by then, what was read, and what came of the machine.
-use Rattle.std.specs.Prelude.{◌≡◌, ◌≢◌, ℕ, ◌≤◌, List, ◌++◌, Bool, IfSome, IsTrue, IsFalse, Result, Ok, Err}
+use Rattle.std.specs.Prelude.{◌≡◌, ◌≢◌, ℕ, ◌≤◌, List, ◌++◌, Bool, Some, IfSome, IsTrue, IsFalse, Result, Ok, Err}
 use Rattle.loom_outside.specs.Outside.{RoleState, holds}
 use Rattle.loom_outside.specs.declared.outside.Role.{Role}
 use Rattle.loom_outside.specs.declared.outside.Role.TheVariants.{Image, Events, Work, Notes, Transcript}
@@ -18,10 +18,10 @@ use Rattle.blue_model.specs.Logs.{Course}
 use Rattle.blue_model.specs.Endings.{OnParked, OnDrawn, IsParkedBy, said_in}
 use Rattle.machine_run.specs.States.{model_state, state_held}
 use Rattle.machine_run.specs.declared.running.Finished.{Finished}
-use Rattle.loom_run.specs.Ends.{AreEvents, AttachedOnce, HasRun, IsCaused, IsDamaged, IsImageOf, SaysStopped, Stops, bytes_of, head_of, image_of, word_for}
+use Rattle.loom_run.specs.Ends.{AreEvents, AttachedOnce, HasRun, IsCaused, IsDamaged, IsImageOf, SaysStopped, Stops, WasRead, bytes_of, head_of, image_of, word_for}
 use Rattle.loom_run.specs.Meanings.{Meanings, IsLeft}
 use Rattle.loom_run.specs.Promise.{EndsAt}
-use Rattle.loom_run.specs.Stages.{Stage, Ends, reaches, stage_of}
+use Rattle.loom_run.specs.Stages.{Stage, Opening, Ends, passes, reaches, stage_of}
 use Rattle.loom_run.specs.Words.{Row}
 use Rattle.loom_run.specs.declared.status.Status.{Status}
 use Rattle.loom_run.specs.declared.status.Status.TheVariants.{Usage, ReadFault, WriteFault}
@@ -32,10 +32,12 @@ use Rattle.loom_run.specs.declared.status.Status.TheVariants.{Usage, ReadFault, 
 abbrev pub IsSameFile : RoleState → RoleState → Type 0
 IsSameFile old new = new ≡ holds new.contents old
 
--- A run came to this stage, or through it: each role up to it was attached once, by its word, and with the others nothing was done.
+-- A run came to this stage, or through it: each role up to it was attached once, by its word, and with the others nothing was done. Behind its
+-- attach Work has its word as its name.
 pub record Uses (tells : Role → Bool) (before now : Meanings) (row : Row) (stage : Stage) : Type 0 where
   pub attached : (role : Role) → IsTrue (tells role) → IsTrue (reaches (stage_of role) stage)
       → IfSome (word_for row role) (λ text. AttachedOnce text (before.roles role) (now.roles role))
+  pub named : IsTrue (tells Work) → IsTrue (passes Opening stage) → (now.roles Work).name ≡ Some row.work
   pub unused : (role : Role) → IsFalse (reaches (stage_of role) stage) → IsLeft role before now
   pub later : (role : Role) → before.faults role ≤ now.faults role
 
@@ -63,19 +65,20 @@ pub record IsRead (bytes : List ℕ) (room : ℕ) (state : Words) (heap : Heap) 
   pub roomy : head.opening.objects ≤ room
   pub state_is : head.state ≡ state
 
+-- Image was read to its end.
 abbrev pub HasRead : (Role → Bool) → Meanings → Row → Words → Heap → Type 0
-HasRead tells now row state heap = IsTrue (tells Image) → IsTrue (tells Work) → IsRead (bytes_of (now.roles Image)) row.room state heap
+HasRead tells now row state heap = IsTrue (tells Image) → WasRead row.image (now.roles Image) × (IsTrue (tells Work) → IsRead (bytes_of (now.roles Image)) row.room state heap)
 
--- The bytes of Events are these lines.
-abbrev pub HasHeard : (Role → Bool) → Meanings → List Line → Type 0
-HasHeard tells now lines = IsTrue (tells Events) → AreEvents (bytes_of (now.roles Events)) lines
+-- Events was read to its end, and its bytes are these lines.
+abbrev pub HasHeard : (Role → Bool) → Meanings → Row → List Line → Type 0
+HasHeard tells now row lines = IsTrue (tells Events) → WasRead row.events (now.roles Events) × AreEvents (bytes_of (now.roles Events)) lines
 
 -- A run came to a stage, over a host from one moment to another. The bytes of Image are those of an image of this heap, with this state, and
 -- those of Events are these lines.
 pub record Came (tells : Role → Bool) (before now : Meanings) (row : Row) (stage : Stage) (state : Words) (heap : Heap) (lines : List Line) : Type 0 where
   pub uses : Uses tells before now row stage
   pub read : HasRead tells now row state heap
-  pub heard : HasHeard tells now lines
+  pub heard : HasHeard tells now row lines
 
 -- ---- the machine
 

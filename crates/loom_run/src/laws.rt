@@ -8,9 +8,10 @@ ghost use Rattle.image_format.specs.Text.{image_text};
 ghost use Rattle.blue_model.specs.Base.{heap_running, base_code};
 ghost use Rattle.blue_model.specs.Cycle.{ending};
 ghost use Rattle.blue_model.specs.declared.event.Line.{Line};
-ghost use Rattle.blue_model.specs.Loaded.{start_on_kept};
+ghost use Rattle.blue_model.specs.Contexts.{park};
+ghost use Rattle.blue_model.specs.Loaded.{HasLoaded, start_on_kept};
 ghost use Rattle.blue_model.specs.Logs.{course};
-ghost use Rattle.blue_model.specs.Machine.{Machine, at_rest};
+ghost use Rattle.blue_model.specs.Machine.{Machine, LogRow, Go, at_rest};
 ghost use Rattle.blue_model.specs.State.{begin, no_state, state_of};
 ghost use Rattle.machine_run.specs.States.{model_state};
 ghost use Rattle.loom_run.specs.Base.{base_bytes, text_of_ending};
@@ -22,6 +23,8 @@ ghost use Rattle.loom_run.specs.Ends.{IsImageOf, bytes_of, head_of, image_of};
 ghost use Rattle.loom_run.specs.Headline.{HeadlineBy, SmallBy, TellsHeadline};
 ghost use Rattle.loom_run.specs.Meanings.{Meanings};
 ghost use Rattle.loom_run.specs.Promise.{Promise};
+ghost use Rattle.loom_run.specs.Refusals.{CameTo, LeavesFiles, role_of};
+ghost use Rattle.loom_run.specs.Status.{usage_of};
 ghost use Rattle.loom_run.specs.Words.{IsRow, bad_word, row_of};
 
 /// The base image as bytes, before two bytecodes and after them: its context's instruction pointer is field 1, 3 and then 5.
@@ -37,8 +40,8 @@ pub fn right_words()
 {}
 
 /// Over a host that tells what Image, Events, Work, Transcript, Saved and Display hold, what `loom` promises gives, with Done or Quit, the
-/// six lines of `Headline`: the image's heap and state, the events' lines, the ending of the model's run over both, and the bytes of
-/// Transcript, Saved and Display.
+/// seven lines of `Headline`: the image's heap and state, the events' lines, the ending of the model's run over both, its count, and the
+/// bytes of Transcript, Saved and Display.
 pub fn headline()
     ensures { (tells : Role → Bool) (before now : Meanings) (words : List (List ℕ)) (result : Status) → TellsHeadline tells → Promise tells before now words result → bad_word words ≡ None
         → HeadlineBy result before now (row_of words).steps }
@@ -57,9 +60,21 @@ pub fn a_run_comes_to_its_end()
         → Promise tells before now words result → CanEnd (bytes_of (now.roles Image)) (bytes_of (now.roles Events)) (row_of words) before.faults now.faults → IsOwnEnd result }
 {}
 
+/// No answer but Usage comes at once: the role that it is about was attached before it, or the last one that a run attaches before it can come
+/// to the answer.
+pub fn nothing_at_once()
+    ensures { (tells : Role → Bool) (before now : Meanings) (words : List (List ℕ)) (result : Status) → Promise tells before now words result → usage_of result ≡ None
+        → CameTo tells before now (row_of words) (role_of result) }
+{}
+
+/// A refusal leaves Display as it was, unless it came in drawing or in the last line; and Saved too, unless it may come in saving.
+pub fn what_a_refusal_leaves()
+    ensures { (tells : Role → Bool) (before now : Meanings) (words : List (List ℕ)) (result : Status) → Promise tells before now words result → LeavesFiles result before now }
+{}
+
 /// What is saved of a parked machine is an image, where what is kept of its heap is one's. And what is read of those bytes, as the image of a
-/// run, is what was saved: the kept heap, and the machine's state. So the run starts as the machine does on what is kept of it, and its course
-/// is the model's from there.
+/// run, is what was saved: the kept heap, and the machine's state. So the run starts as the machine does on what is kept of it, in the context
+/// that it was parked in, with its home, its method and its receiver; and its course is the model's from there.
 pub fn a_run_goes_on_from_what_was_saved()
     ensures image { (m : Machine) → IsImageHeap (kept m.heap no_roots) → (state_of m).tick < 2 ^ 32 → IsImageOf (image_of m) (head_of m) (kept m.heap no_roots) }
     ensures heap { (m : Machine) (head : ImageHead) (heap : Heap) → IsImageOf (image_of m) (head_of m) (kept m.heap no_roots) → IsImageOf (image_of m) head heap
@@ -68,6 +83,8 @@ pub fn a_run_goes_on_from_what_was_saved()
         → model_state head.state ≡ state_of m }
     ensures starts { (m : Machine) (head : ImageHead) (heap : Heap) → IsImageOf (image_of m) (head_of m) (kept m.heap no_roots) → IsImageOf (image_of m) head heap
         → begin (model_state head.state) (at_rest heap) ≡ start_on_kept m }
+    ensures registers { (before m s : Machine) (head : ImageHead) (heap : Heap) (rows log : List LogRow) → park before ≡ Go tt m rows → IsImageOf (image_of m) (head_of m) (kept m.heap no_roots)
+        → IsImageOf (image_of m) head heap → begin (model_state head.state) (at_rest heap) ≡ Go tt s log → HasLoaded m s }
     ensures course { (m : Machine) (head : ImageHead) (heap : Heap) → IsImageOf (image_of m) (head_of m) (kept m.heap no_roots) → IsImageOf (image_of m) head heap
         → (lines : List Line) (steps : ℕ) → course lines steps (model_state head.state) heap ≡ course lines steps (state_of m) (kept m.heap no_roots) }
 {}

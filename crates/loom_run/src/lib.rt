@@ -2,7 +2,7 @@
 //! a picture are written.
 //!
 //! `loom` does what the words of a command ask for, over any host. Its one clause is the record `Promise`: read `specs/Promise.antt`
-//! first, or `specs/Headline.antt`, which has it in six lines for a run that goes through, as the law `headline` says. When a run comes
+//! first, or `specs/Headline.antt`, which has it in seven lines for a run that goes through, as the law `headline` says. When a run comes
 //! to the model's own end is the law `a_run_comes_to_its_end`.
 //!
 //!     let status = loom(alloc, host, &words);   // run IMAGE EVENTS WORK SAVED DISPLAY CORE ENTRIES ROOM STEPS
@@ -10,8 +10,8 @@
 //!
 //! A run has stages (`specs/Stages.antt`), in the order in which it uses the roles of its host. `program` has them in that order; `reading`,
 //! `machine` and `writing` have the steps. Each step says what it did with its roles and why it was refused; each part of the run takes
-//! what came before it as a premise, and says how the whole run ends from there. Nothing is said of time, and want of memory may come in
-//! reading, in making the memory, in the picture and in saving.
+//! what came before it as a premise, and says how the whole run ends from there. Nothing is said of time. Want of memory may come in reading,
+//! in making the memory, in the picture of a machine that was parked and in saving, and never in a cycle.
 #![tactic(auto)]
 
 pub mod laws;

@@ -1,5 +1,5 @@
 // The steps that read: Work is attached, the image comes into it, and the events are read.
-ghost use Rattle.std.specs.Prelude.{◌≡◌, ◌≤◌, ℕ, List, [], IsTrue, IfOk, IfErr, OnOk};
+ghost use Rattle.std.specs.Prelude.{◌≡◌, ◌≤◌, ℕ, Bool, List, [], Some, IsTrue, IfOk, IfErr, OnOk};
 ghost use Rattle.loom_outside.specs.Outside.{SameBut};
 ghost use Rattle.std.specs.FinMap as map;
 ghost use Rattle.loom_outside.specs.Work.{work_of};
@@ -7,7 +7,7 @@ ghost use Rattle.disk_objects.specs.Disk.{IsDisk, disk_held, disk_room};
 ghost use Rattle.image_reader.specs.Loaded.{heap_on};
 ghost use Rattle.image_memory.specs.Image.{HasImage};
 ghost use Rattle.loom_run.specs.Command.{row_for};
-ghost use Rattle.loom_run.specs.Ends.{AreEvents, AttachedOnce, JudgesEvents, JudgesImage, bytes_of};
+ghost use Rattle.loom_run.specs.Ends.{AreEvents, AttachedOnce, JudgesEvents, JudgesImage, WasRead, bytes_of};
 ghost use Rattle.loom_run.specs.Meanings.{meanings, LeavesBut};
 ghost use Rattle.loom_run.specs.Stages.{Opening, Reading, Listening, roles_at};
 ghost use Rattle.loom_run.specs.Steps.{IsRead, IsRefusal, IsSameFile};
@@ -23,6 +23,7 @@ use std::alloc::Global;
 /// Attaches Work by its word.
 pub(crate) fn open_work<H: Host>(host: &mut H, command: &Command<'_>) -> Result<(), Status>
     ensures attached { IsTrue (H.tells Role.Work) → AttachedOnce command.now.work.now (H.roles host.old Role.Work) (H.roles host.new Role.Work) }
+    ensures named { IsTrue (H.tells Role.Work) → OnOk result ((H.roles host.new Role.Work).name ≡ Some command.now.work.now) }
     ensures empty { IsTrue (H.tells Role.Work) → OnOk result (work_of H.Host host.new ≡ []) }
     ensures others { LeavesBut (roles_at Opening) (meanings H.Host host.old) (meanings H.Host host.new) }
     ensures refused { IfErr result (IsRefusal H.tells (meanings H.Host host.old) (meanings H.Host host.new) (row_for command.now) Opening) }
@@ -38,6 +39,7 @@ pub(crate) fn open_work<H: Host>(host: &mut H, command: &Command<'_>) -> Result<
 // Attaches Image by its word. A refusal says nothing of its bytes.
 fn open_image<H: Host>(disk: &mut DiskObjects<'_, H>, command: &Command<'_>) -> Result<(), Status>
     ensures attached { IsTrue (H.tells Role.Image) → AttachedOnce command.now.image.now (H.roles disk.old.host.now Role.Image) (H.roles disk.new.host.now Role.Image) }
+    ensures named { IsTrue (H.tells Role.Image) → OnOk result ((H.roles disk.new.host.now Role.Image).name ≡ Some command.now.image.now) }
     ensures fresh { IsTrue (H.tells Role.Image) → OnOk result ((H.roles disk.new.host.now Role.Image).taken ≡ []) }
     ensures others { SameBut Role.Image (H.roles disk.old.host.now) (H.roles disk.new.host.now) }
     ensures other_faults { SameBut Role.Image (H.faults disk.old.host.now) (H.faults disk.new.host.now) }
@@ -46,7 +48,7 @@ fn open_image<H: Host>(disk: &mut DiskObjects<'_, H>, command: &Command<'_>) -> 
     ensures rest { disk.new.rest ≡ disk.old.rest }
     ensures same_host { disk.new.host.ghost_name ≡ disk.old.host.ghost_name }
     ensures refused { IfErr result (IsRefusal H.tells (meanings H.Host disk.old.host.now) (meanings H.Host disk.new.host.now) (row_for command.now) Reading) }
-    ensures judged { (room : ℕ) (bytes : List ℕ) → IfErr result (λ status. JudgesImage status room bytes) }
+    ensures judged { (work : Bool) (room : ℕ) (bytes : List ℕ) → IfErr result (λ status. JudgesImage work status room bytes) }
 {
     match disk.attach(Role::Image, command.image) {
         Ok(()) => Ok(()),
@@ -69,7 +71,8 @@ pub(crate) fn read_image<H: Host>(
     ensures attached { IsTrue (H.tells Role.Image) → AttachedOnce command.now.image.now (H.roles disk.old.host.now Role.Image) (H.roles disk.new.host.now Role.Image) }
     ensures image { IfOk result (HasImage H.Host disk.new.host.now disk.new.rest) }
     ensures read { IsTrue (H.tells Role.Image) → IsTrue (H.tells Role.Work) → IfOk result (λ x. IsRead (bytes_of (H.roles disk.new.host.now Role.Image)) command.now.room x.state (heap_on H.Host disk.new.host.now disk.new.rest x.next)) }
-    ensures judged { IsTrue (H.tells Role.Image) → IsTrue (H.tells Role.Work) → IfErr result (λ status. JudgesImage status command.now.room (bytes_of (H.roles disk.new.host.now Role.Image))) }
+    ensures end { IsTrue (H.tells Role.Image) → OnOk result (WasRead command.now.image.now (H.roles disk.new.host.now Role.Image)) }
+    ensures judged { IsTrue (H.tells Role.Image) → IfErr result (λ status. JudgesImage (H.tells Role.Work) status command.now.room (bytes_of (H.roles disk.new.host.now Role.Image))) }
     ensures file { IsTrue (H.tells Role.Work) → IsSameFile (H.roles disk.old.host.now Role.Work) (H.roles disk.new.host.now Role.Work) }
     ensures kept { disk_room disk.new.rest ≡ disk_room disk.old.rest }
     ensures same_host { disk.new.host.ghost_name ≡ disk.old.host.ghost_name }
@@ -97,6 +100,7 @@ pub(crate) fn read_lines<H: Host>(
 ) -> Result<EventList, Status>
     ensures attached { IsTrue (H.tells Role.Events) → AttachedOnce command.now.events.now (H.roles host.old Role.Events) (H.roles host.new Role.Events) }
     ensures list { IsTrue (H.tells Role.Events) → IfOk result (AreEvents (bytes_of (H.roles host.new Role.Events))) }
+    ensures end { IsTrue (H.tells Role.Events) → OnOk result (WasRead command.now.events.now (H.roles host.new Role.Events)) }
     ensures judged { IsTrue (H.tells Role.Events) → IfErr result (λ status. JudgesEvents status (bytes_of (H.roles host.new Role.Events))) }
     ensures others { LeavesBut (roles_at Listening) (meanings H.Host host.old) (meanings H.Host host.new) }
     ensures refused { IfErr result (IsRefusal H.tells (meanings H.Host host.old) (meanings H.Host host.new) (row_for command.now) Listening) }

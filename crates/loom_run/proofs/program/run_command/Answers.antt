@@ -29,7 +29,7 @@ returns-in-Err-read_image g c = record {
       let before = meanings g.H.Host c.args.host.now in
       let row = row_for c.args.command.now in
       same-host g.H.Host c.read_image.new.disk.host.now _ (λ m. RunEnds g.H.Host.tells before m row c.in-Err-read_image.status) (search rules)
-      (reading-refused g.H.Host.tells before row (meanings g.H.Host c.open_work.new.host) (meanings g.H.Host c.read_image.new.disk.host.now) c.open_work.ensures.attached c.open_work.ensures.others
+      (reading-refused g.H.Host.tells before row (meanings g.H.Host c.open_work.new.host) (meanings g.H.Host c.read_image.new.disk.host.now) c.open_work.ensures.attached c.in_default.ensures.named c.open_work.ensures.others
       (rw c.begin-disk.ensures.now at c.read_image.ensures.attached) (rw c.begin-disk.ensures.now at c.read_image.ensures.file) (rw c.begin-disk.ensures.now at c.read_image.ensures.others) c.in-Err-read_image.status (rw c.begin-disk.ensures.now at c.in-Err-read_image.ensures.refused) c.in-Err-read_image.ensures.judged);
 }
 
@@ -46,8 +46,8 @@ returns g c = record {
       let row = row_for c.args.command.now in
       let x = c.in-Ok.loaded in
       let end = c.read_image.new.disk in
-      let used = used-reading g.H.Host.tells before row (meanings g.H.Host c.open_work.new.host) (meanings g.H.Host end.host.now) c.open_work.ensures.attached c.open_work.ensures.others
+      let used = used-reading g.H.Host.tells before row (meanings g.H.Host c.open_work.new.host) (meanings g.H.Host end.host.now) c.open_work.ensures.attached c.in_default.ensures.named c.open_work.ensures.others
       (rw c.begin-disk.ensures.now at c.read_image.ensures.attached) (rw c.begin-disk.ensures.now at c.read_image.ensures.file) (rw c.begin-disk.ensures.now at c.read_image.ensures.others) in
       same-host g.H.Host c.run_image.new.host _ (λ m. RunEnds g.H.Host.tells before m row c.run_image.result) (search rules)
-      (c.run_image.ensures.ends before (rw c.apart-host.ensures.now used) (rw (c.apart-host.ensures.now, c.apart-host.ensures.rest) c.in-Ok.ensures.read));
+      (c.run_image.ensures.ends before (rw c.apart-host.ensures.now used) (rw (c.apart-host.ensures.now, c.apart-host.ensures.rest) (λ image. (c.in-Ok.ensures.end image, c.in-Ok.ensures.read image))));
 }

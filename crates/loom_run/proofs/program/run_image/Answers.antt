@@ -19,7 +19,7 @@ returns-in-Ok g c = record {
       let work = (c.read_lines.ensures.others.others Work (λ e. cc, tt)).state in
       c.run_under.ensures.ends before
       (came-listening tells before row (meanings g.H.Host c.args.host.now) (meanings g.H.Host c.read_lines.new.host) used c.read_lines.ensures.attached c.read_lines.ensures.others x.state (heap_on g.H.Host c.read_lines.new.host c.args.rest x.next)
-      (read-stays g.H.Host c.args.host.now c.read_lines.new.host row x.state c.args.rest x.next work read) c.in-Ok.events c.in-Ok.ensures.list);
+      (read-stays g.H.Host c.args.host.now c.read_lines.new.host row x.state c.args.rest x.next work read) c.in-Ok.events (λ events. (c.in-Ok.ensures.end events, c.in-Ok.ensures.list events)));
 }
 
 pub returns-in-Err : goal.returns-in-Err

@@ -1,12 +1,12 @@
 -- Attached and then loaded: a step of the host, and one of the disk.
-use Rattle.std.proofs.Common.{sym, subst}
+use Rattle.std.proofs.Common.{sym, ◌∙◌, subst}
 use Rattle.image_memory.proofs.ImageLaws.{image-is}
 use Rattle.loom_run.specs.Command.{row_for}
 use Rattle.loom_run.specs.Ends.{JudgesImage, bytes_of}
 use Rattle.loom_run.specs.Meanings.{meanings}
 use Rattle.loom_run.specs.Stages.{Reading}
 use Rattle.loom_run.specs.Steps.{IsRefusal}
-use Rattle.loom_outside.specs.declared.outside.Role.TheVariants.{Image}
+use Rattle.loom_outside.specs.declared.outside.Role.TheVariants.{Image, Work}
 use Rattle.loom_run.proofs.ReadLaws.{image-read}
 use Rattle.loom_run.proofs.StepLaws.{bad-reading, file-reading, judged-disk, leaves-reading, refused-disk, refused-read}
 use Rattle.loom_run.proofs.reading.read_image.Goals as goal
@@ -21,14 +21,20 @@ returns-in-Ok-clause-read g c = λ told work.
     let x = c.in-Ok.ensures.loads in
     image-read g.H.Host c.open_image.new.disk.host.now c.load.new.disk.host.now c.args.command.now.room c.load.new.disk.rest c.in-Ok.loaded x.0 x.1 x.3 x.4 told work (c.in_ok-open_image.ensures.fresh told) (c.load.ensures.loading.image told) (x.1.bytes told)
 
+pub returns-in-Ok-clause-end : goal.returns-in-Ok-clause-end
+returns-in-Ok-clause-end g c = λ told. record {
+  end = c.in-Ok.ensures.loads.1.end told;
+  name = (c.load.ensures.loading.image told).name ∙ c.in_ok-open_image.ensures.named told;
+}
+
 pub returns-in-Err-Bad-clause-judged : goal.returns-in-Err-Bad-clause-judged
-returns-in-Err-Bad-clause-judged g c = λ told work.
+returns-in-Err-Bad-clause-judged g c = λ told.
     bad-reading g.H.Host c.args.disk.now.host.now c.open_image.new.disk.host.now c.load.new.disk.host.now c.open_image.ensures.others c.open_image.ensures.other_faults c.open_image.ensures.later c.load.ensures.loading
-    c.args.command.now.room c.in-Err-Bad.rule c.in-Err-Bad.place told work (c.in_ok-open_image.ensures.fresh told) (rw c.in-Err-Bad.field-0-is at c.in-Err-Bad.ensures.fault)
+    c.args.command.now.room c.in-Err-Bad.rule c.in-Err-Bad.place told (c.in_ok-open_image.ensures.fresh told) (rw c.in-Err-Bad.field-0-is at c.in-Err-Bad.ensures.fault)
 
 pub returns-in-Err-Disk-clause-judged : goal.returns-in-Err-Disk-clause-judged
-returns-in-Err-Disk-clause-judged g c = λ told work.
-    subst (λ status. JudgesImage status c.args.command.now.room (bytes_of (g.H.Host.roles c.load.new.disk.host.now Image))) (sym c.status_of_disk.ensures)
+returns-in-Err-Disk-clause-judged g c = λ told.
+    subst (λ status. JudgesImage (g.H.Host.tells Work) status c.args.command.now.room (bytes_of (g.H.Host.roles c.load.new.disk.host.now Image))) (sym c.status_of_disk.ensures)
     (judged-disk g.H.Host c.args.disk.now.host.now c.open_image.new.disk.host.now c.load.new.disk.host.now c.open_image.ensures.others c.open_image.ensures.other_faults c.open_image.ensures.later c.load.ensures.loading
     c.args.command.now.room c.in-Err-Disk.fault told (c.in_ok-open_image.ensures.fresh told) (rw c.in-Err-Disk.field-0-is at c.in-Err-Disk.ensures.fault))
 

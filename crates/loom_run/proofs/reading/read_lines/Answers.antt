@@ -1,7 +1,14 @@
-use Rattle.std.proofs.Common.{ap, Err}
+use Rattle.std.proofs.Common.{◌∙◌, ap, Err}
+use Rattle.loom_outside.specs.Outside.{RoleState}
 use Rattle.loom_outside.specs.declared.outside.Role.TheVariants.{Events}
 use Rattle.loom_run.proofs.StepLaws.{bad_taken}
 use Rattle.loom_run.proofs.reading.read_lines.Goals as goal
+
+pub returns-in-Ok-read_events-clause-end : goal.returns-in-Ok-read_events-clause-end
+returns-in-Ok-read_events-clause-end g c = λ told. record {
+  end = c.in-Ok-read_events.ensures.end told;
+  name = ap (λ (s : RoleState). s.name) (c.in-Ok-read_events.ensures.taken told).3 ∙ (c.in-Ok.ensures.attached told).named;
+}
 
 pub returns-in-Err-Bad-clause-judged : goal.returns-in-Err-Bad-clause-judged
 returns-in-Err-Bad-clause-judged g c = λ told.

@@ -1,0 +1,138 @@
+-- No answer comes at once, and what a refusal leaves.
+use Rattle.std.proofs.Common.{◌≡◌, ◌≢◌, ℕ, Bool, true, false, List, [], ◌∷◌, None, Some, Option, IsTrue, inl, inr, refl, sym, ◌∙◌, subst}
+use Rattle.std.specs.Prelude.{◌⊎◌, IsFalse, IsSome}
+use Rattle.loom_outside.specs.declared.outside.Role.{Role}
+use Rattle.loom_outside.specs.declared.outside.Role.TheVariants.{Image, Events, Work, Saved, Display, Transcript, Notes}
+use Rattle.loom_run.specs.Meanings.{Meanings, IsLeft, LeavesBut}
+use Rattle.loom_run.specs.Promise.{EndsAt, Promise}
+use Rattle.loom_run.specs.Refusals.{CameTo, LeavesFiles, role_of}
+use Rattle.loom_run.specs.Stages.{Stage, Opening, Reading, Listening, Making, Running, Finishing, Saving, Drawing, Telling, Ends, reaches, stage_of}
+use Rattle.loom_run.specs.Status.{usage_of}
+use Rattle.loom_run.specs.Words.{Row, bad_word, row_of}
+use Rattle.loom_run.specs.declared.status.Status.{Status}
+use Rattle.loom_run.specs.declared.status.Status.TheVariants as answer
+
+-- ---- an answer comes at no stage before the one of its role
+
+reached : (stage : Stage) (status : Status) → Ends stage status → IsTrue (reaches (stage_of (role_of status)) stage)
+reached Opening (answer.WorkFault count) h = refl
+reached Opening _ h = absurd h
+reached Reading (answer.ImageBad rule place) h = refl
+reached Reading (answer.ReadFault Image count) h = refl
+reached Reading (answer.WorkFull live room) h = refl
+reached Reading (answer.WorkFault count) h = refl
+reached Reading (answer.Damaged place name) h = refl
+reached Reading answer.OutOfMemory h = refl
+reached Reading _ h = absurd h
+reached Listening (answer.EventsBad line) h = refl
+reached Listening (answer.ReadFault Events count) h = refl
+reached Listening answer.OutOfMemory h = refl
+reached Listening _ h = absurd h
+reached Making answer.OutOfMemory h = refl
+reached Making _ h = absurd h
+reached Running (answer.Stuck cause ran) h = refl
+reached Running (answer.CoreFull ran need) h = refl
+reached Running (answer.NamesSpent ran) h = refl
+reached Running (answer.WorkFull live room) h = refl
+reached Running (answer.WorkFault count) h = refl
+reached Running (answer.WriteFault Transcript count) h = refl
+reached Running (answer.Damaged place name) h = refl
+reached Running answer.OutOfMemory h = refl
+reached Running _ h = absurd h
+reached Finishing (answer.WorkFault count) h = refl
+reached Finishing (answer.Damaged place name) h = refl
+reached Finishing _ h = absurd h
+reached Saving (answer.WriteFault Saved count) h = refl
+reached Saving (answer.WorkFault count) h = refl
+reached Saving (answer.Damaged place name) h = refl
+reached Saving answer.OutOfMemory h = refl
+reached Saving _ h = absurd h
+reached Drawing (answer.WriteFault Display count) h = refl
+reached Drawing _ h = absurd h
+reached Telling (answer.Done ran) h = refl
+reached Telling (answer.Quit ran) h = refl
+reached Telling (answer.WriteFault Notes count) h = refl
+reached Telling _ h = absurd h
+
+pub came_from : (tells : Role → Bool) (before now : Meanings) (words : List (List ℕ)) (result : Status) → Promise tells before now words result → usage_of result ≡ None → CameTo tells before now (row_of words) (role_of result)
+came_from tells before now words result p none =
+    let e = p.ends (sym p.usage ∙ none) in
+    λ told. e.1.attached (role_of result) told (reached e.0 result e.1.answer)
+
+-- ---- what was not reached is left
+
+left-of : {before now : Meanings} (role : Role) → role ≢ Notes → (role ≡ Notes) ⊎ IsLeft role before now → IsLeft role before now
+left-of role other (inl e) = absurd (other e)
+left-of role other (inr left) = left
+
+module _ {tells : Role → Bool} {before now : Meanings} {row : Row} where
+  no-saved : {status : Status} (stage : Stage) → EndsAt tells before now row stage status → IsFalse (reaches Saving stage) → IsLeft Saved before now
+  no-saved stage at none = left-of Saved (λ e. cc) (at.unused Saved none)
+
+  no-display : {status : Status} (stage : Stage) → EndsAt tells before now row stage status → IsFalse (reaches Drawing stage) → IsLeft Display before now
+  no-display stage at none = left-of Display (λ e. cc) (at.unused Display none)
+
+  both : {status : Status} (stage : Stage) → EndsAt tells before now row stage status → IsFalse (reaches Saving stage) → IsFalse (reaches Drawing stage) → IsLeft Saved before now × IsLeft Display before now
+  both stage at first second = (no-saved stage at first, no-display stage at second)
+
+  leaves : (stage : Stage) (status : Status) → Ends stage status → EndsAt tells before now row stage status → LeavesFiles status before now
+  leaves Opening (answer.WorkFault count) h at = no-display Opening at refl
+  leaves Opening _ h at = absurd h
+  leaves Reading (answer.ImageBad rule place) h at = both Reading at refl refl
+  leaves Reading (answer.ReadFault Image count) h at = both Reading at refl refl
+  leaves Reading (answer.WorkFull live room) h at = both Reading at refl refl
+  leaves Reading (answer.WorkFault count) h at = no-display Reading at refl
+  leaves Reading (answer.Damaged place name) h at = no-display Reading at refl
+  leaves Reading answer.OutOfMemory h at = no-display Reading at refl
+  leaves Reading _ h at = absurd h
+  leaves Listening (answer.EventsBad line) h at = both Listening at refl refl
+  leaves Listening (answer.ReadFault Events count) h at = both Listening at refl refl
+  leaves Listening answer.OutOfMemory h at = no-display Listening at refl
+  leaves Listening _ h at = absurd h
+  leaves Making answer.OutOfMemory h at = no-display Making at refl
+  leaves Making _ h at = absurd h
+  leaves Running (answer.Stuck cause ran) h at = both Running at refl refl
+  leaves Running (answer.CoreFull ran need) h at = both Running at refl refl
+  leaves Running (answer.NamesSpent ran) h at = both Running at refl refl
+  leaves Running (answer.WorkFull live room) h at = both Running at refl refl
+  leaves Running (answer.WorkFault count) h at = no-display Running at refl
+  leaves Running (answer.WriteFault Transcript count) h at = both Running at refl refl
+  leaves Running (answer.Damaged place name) h at = no-display Running at refl
+  leaves Running answer.OutOfMemory h at = no-display Running at refl
+  leaves Running _ h at = absurd h
+  leaves Finishing (answer.WorkFault count) h at = no-display Finishing at refl
+  leaves Finishing (answer.Damaged place name) h at = no-display Finishing at refl
+  leaves Finishing _ h at = absurd h
+  leaves Saving (answer.WriteFault Saved count) h at = no-display Saving at refl
+  leaves Saving (answer.WorkFault count) h at = no-display Saving at refl
+  leaves Saving (answer.Damaged place name) h at = no-display Saving at refl
+  leaves Saving answer.OutOfMemory h at = no-display Saving at refl
+  leaves Saving _ h at = absurd h
+  leaves Drawing (answer.WriteFault Display count) h at = tt
+  leaves Drawing _ h at = absurd h
+  leaves Telling (answer.Done ran) h at = tt
+  leaves Telling (answer.Quit ran) h at = tt
+  leaves Telling (answer.WriteFault Notes count) h at = tt
+  leaves Telling _ h at = absurd h
+
+-- words that are no command leave all but Notes
+unasked : (tells : Role → Bool) (before now : Meanings) (words : List (List ℕ)) (result : Status) → Promise tells before now words result → IsSome (bad_word words) → LeavesFiles result before now
+unasked tells before now words result p some = of result (p.unasked some)
+  where
+    of : (status : Status) → LeavesBut (Notes ∷ []) before now → LeavesFiles status before now
+    of (answer.Done ran) l = tt
+    of (answer.Quit ran) l = tt
+    of (answer.WriteFault Saved count) l = l.others Display (λ e. cc, tt)
+    of (answer.WriteFault Display count) l = tt
+    of (answer.WriteFault Notes count) l = tt
+    of (answer.WorkFault count) l = l.others Display (λ e. cc, tt)
+    of (answer.Damaged place name) l = l.others Display (λ e. cc, tt)
+    of answer.OutOfMemory l = l.others Display (λ e. cc, tt)
+    of _ l = (l.others Saved (λ e. cc, tt), l.others Display (λ e. cc, tt))
+
+pub leaves_from : (tells : Role → Bool) (before now : Meanings) (words : List (List ℕ)) (result : Status) → Promise tells before now words result → LeavesFiles result before now
+leaves_from tells before now words result p = go (bad_word words) refl
+  where
+    go : (o : Option ℕ) → bad_word words ≡ o → LeavesFiles result before now
+    go None e = let end = p.ends e in leaves end.0 result end.1.answer end.1
+    go (Some word) e = unasked tells before now words result p (subst IsSome (sym e) refl)

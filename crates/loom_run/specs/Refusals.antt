@@ -1,0 +1,49 @@
+-- What an answer says of the calls that came before it, and of the files that it leaves.
+use Rattle.std.specs.Prelude.{Bool, IfSome, IsTrue}
+use Rattle.loom_outside.specs.declared.outside.Role.{Role}
+use Rattle.loom_outside.specs.declared.outside.Role.TheVariants.{Image, Events, Work, Saved, Display, Transcript, Notes}
+use Rattle.loom_run.specs.Ends.{AttachedOnce, word_for}
+use Rattle.loom_run.specs.Meanings.{Meanings, IsLeft}
+use Rattle.loom_run.specs.Words.{Row}
+use Rattle.loom_run.specs.declared.status.Status.{Status}
+use Rattle.loom_run.specs.declared.status.Status.TheVariants.{Done, Quit, Usage, ImageBad, EventsBad, Stuck, CoreFull, NamesSpent, WorkFull, ReadFault, WorkFault, WriteFault, OutOfMemory, Damaged}
+
+-- ---- no answer comes at once
+
+-- the role that an answer is about, or the last one that a run attaches before it can come to the answer
+abbrev pub role_of : Status → Role
+role_of (Done ran) = Display
+role_of (Quit ran) = Display
+role_of (Usage word) = Notes
+role_of (ImageBad rule place) = Image
+role_of (EventsBad line) = Events
+role_of (Stuck cause ran) = Events
+role_of (CoreFull ran need) = Events
+role_of (NamesSpent ran) = Events
+role_of (WorkFull live room) = Image
+role_of (ReadFault role count) = role
+role_of (WorkFault count) = Work
+role_of (WriteFault Saved count) = Saved
+role_of (WriteFault Transcript count) = Events
+role_of (WriteFault role count) = Display
+role_of OutOfMemory = Image
+role_of (Damaged place name) = Image
+
+-- it was attached, by its word
+abbrev pub CameTo : (Role → Bool) → Meanings → Meanings → Row → Role → Type 0
+CameTo tells before now row role = IsTrue (tells role) → IfSome (word_for row role) (λ text. AttachedOnce text (before.roles role) (now.roles role))
+
+-- ---- what a refusal leaves
+
+-- Saved and Display are as they were, where the answer came before the two or is about neither; Display where it came in saving. A run that went
+-- through, and one that was refused in drawing or in its last line, has written to both.
+abbrev pub LeavesFiles : Status → Meanings → Meanings → Type 0
+LeavesFiles (Done ran) before now = Unit {0}
+LeavesFiles (Quit ran) before now = Unit {0}
+LeavesFiles (WriteFault Saved count) before now = IsLeft Display before now
+LeavesFiles (WriteFault Display count) before now = Unit {0}
+LeavesFiles (WriteFault Notes count) before now = Unit {0}
+LeavesFiles (WorkFault count) before now = IsLeft Display before now
+LeavesFiles (Damaged place name) before now = IsLeft Display before now
+LeavesFiles OutOfMemory before now = IsLeft Display before now
+LeavesFiles _ before now = IsLeft Saved before now × IsLeft Display before now
