@@ -1,6 +1,6 @@
 -- Settling: dead objects go, and makings are counted anew.
 use Rattle.std.proofs.Common.{◌≡◌, ℕ, ◌+◌, ◌≤◌, true, Bool, Option, Some, None, Ok, Err, Result, IsTrue, refl, sym, ◌∙◌, ap, subst, arith, ⊎_elim}
-use Rattle.std.specs.Prelude.{IfErr, OnOk}
+use Rattle.std.specs.Prelude.{IfErr, IsOk, OnOk}
 use Rattle.std.specs.Option.{is_some}
 use Rattle.long_names.specs.Counting.{Rose}
 use Rattle.long_names.specs.Heap.{Heap, Has, object_count}
@@ -24,7 +24,12 @@ use Rattle.purger.specs.Draining.{KeepsHeld}
 use Rattle.loom_memory.specs.declared.ledger.Ledger.{Ledger}
 use Rattle.loom_memory.specs.declared.memory.LoomMemory.{LoomMemory}
 use Rattle.loom_memory.specs.Numbers.{IsNumbered}
-use Rattle.loom_memory.specs.Memory.{loom_told, told_of, IsQuiet, IsSound}
+use Rattle.loom_memory.specs.Memory.{loom_told, told_of, heap_if, IsQuiet, IsSound}
+use Rattle.loom_memory.specs.Own.{HasRested, IsIdle, KeepsCache}
+use Rattle.loom_memory.specs.Cache.{cache_of}
+use Rattle.method_cache.specs.Found.{found}
+use Rattle.core_view.specs.Held.{held}
+use Rattle.disk_objects.specs.Function.{disk_of}
 use Rattle.loom_memory.specs.Makings.{HasBegun, HasSettled, HasThinned, IsLost, IsRefusedCall}
 use Rattle.loom_memory.specs.Residents.{has_body, is_resident, fetched}
 use Rattle.loom_memory.proofs.AccessLaws.{left-ready, same-trans}
@@ -271,3 +276,36 @@ pub settle-stays : {H : Type 0} (r : Result (Unit {0}) MemFault) (host : Ghosts 
 settle-stays {H} (Ok x) host m u v core now more bodies same = λ enough told k here.
     subst (λ (z : LoomMemory H). Has (loom_told host z).heap k → IsTrue (is_resident z k)) (sym (same (omega (arith, more, enough)))) (held-residents m u (loom_told host u).heap core now (bodies told) k here)
 settle-stays {H} (Err f) host m u v core now more bodies same = tt
+
+-- ---- where there is nothing to do
+
+-- no object has to go, and entries enough are free
+pub rested : {H : Type 0} (r : Result (Unit {0}) MemFault) (m u v : LoomMemory H) → u ≡ (record m { ledger = record m.ledger { base = None; made = 0 } }) → (128 ≤ spare_of u.parts → IsOk r) → OnOk r (128 ≤ spare_of u.parts → v ≡ u)
+    → 128 ≤ spare_of m.parts → HasRested m v r
+rested {H} (Ok x) m u v same sure stays enough =
+    let spare = ap (λ (z : LoomMemory H). spare_of z.parts) same in
+    record { ok = refl; same = stays (omega (arith, spare, enough)) ∙ same }
+rested {H} (Err f) m u v same sure stays enough =
+    let spare = ap (λ (z : LoomMemory H). spare_of z.parts) same in
+    absurd (let is = sure (omega (arith, spare, enough)) in cc)
+
+pub rested-idle : {H : Type 0} (r : Result (Unit {0}) MemFault) (m v : LoomMemory H) → HasRested m v r → OnOk r (IsIdle m v)
+unfolding fetched
+rested-idle {H} (Ok x) m v is = record {
+  host = ap (λ (z : LoomMemory H). z.disk.host.now) is.same;
+  rest = ap (λ (z : LoomMemory H). z.disk.rest) is.same;
+  fetches = ap (λ (z : LoomMemory H). z.ledger.fetches) is.same;
+}
+rested-idle {H} (Err f) m v is = tt
+
+pub rested-cached : {H : Type 0} (r : Result (Unit {0}) MemFault) (host : Ghosts H) (m v : LoomMemory H) → HasRested m v r → OnOk r (KeepsCache host m v)
+unfolding loom_told
+rested-cached {H} (Ok x) host m v is = ap (λ (z : LoomMemory H). cache_of (core_of z.parts) (found z.ledger.rows) z.ledger.mark z.ledger.begun) is.same
+rested-cached {H} (Err f) host m v is = tt
+
+-- no object had to go: the heap is as it was, whatever left the core
+pub rested-whole : {H : Type 0} (r : Result (Unit {0}) MemFault) (host : Ghosts H) (m u v : LoomMemory H) → u ≡ (record m { ledger = record m.ledger { base = None; made = 0 } }) → OnOk r (IsQuiet (loom_told host u) (loom_told host v))
+    → OnOk r ((loom_told host v).heap ≡ (loom_told host m).heap)
+unfolding loom_told
+rested-whole {H} (Ok x) host m u v same quiet = ap (λ (z : Told). z.heap) quiet.same ∙ ap (λ (z : LoomMemory H). heap_if (host.tells Work) (held (core_of z.parts) (disk_of host z.disk.host.now z.disk.rest)) z.ledger.next) same
+rested-whole {H} (Err f) host m u v same quiet = tt

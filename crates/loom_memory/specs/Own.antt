@@ -1,7 +1,7 @@
 -- What a two-level memory promises of its core and of Work, beside what it tells: `IsSparing` of each access to an object that changes
 -- nothing of it, `IsSparingChange` of a store and a mark, `IsSearched` and `IsSearchedChange` of a field that may have been left on the
 -- disk, `IsSparingMaking` of a making, `IsPutAway` of a swap; and `IsAmple` says when an access is answered.
-use Rattle.std.specs.Prelude.{◌≡◌, ◌≢◌, ◌⊎◌, ◌+◌, ◌≤◌, ◌<◌, ℕ, false, Some, Result, OnOk, IfErr, IsTrue}
+use Rattle.std.specs.Prelude.{◌≡◌, ◌≢◌, ◌⊎◌, ◌+◌, ◌≤◌, ◌<◌, ℕ, false, None, Some, Result, IsOk, OnOk, IfErr, IsTrue}
 use Rattle.long_names.specs.declared.limits.TheConstants.{LAST_NAME, MAKINGS_BEFORE_FREEING}
 use Rattle.long_names.specs.Counting.{counted, Rose}
 use Rattle.long_names.specs.Heap.{Has}
@@ -129,6 +129,11 @@ pub record IsPutAway {H : Type 0} (old new : LoomMemory H) (a b : ℕ) : Type 0 
   pub others : (k : ℕ) → k ≢ a → k ≢ b → IsTrue (is_resident old k) → IsTrue (is_resident new k)
   pub fetches : fetched new ≡ fetched old
 
+-- A settling had nothing to do: it is answered, and nothing changed but that makings are counted anew.
+pub record HasRested {H : Type 0} (old new : LoomMemory H) (result : Result (Unit {0}) MemFault) : Type 0 where
+  pub ok : IsOk result
+  pub same : new ≡ (record old { ledger = record old.ledger { base = None; made = 0 } })
+
 -- A making frees nothing dead: there is room on the disk for its object, or fewer were made since the last settling than that.
 abbrev pub IsUndrained : {H : Type 0} → LoomMemory H → Type 0
 IsUndrained m = (m.ledger.held < disk_room m.disk.rest) ⊎ (m.ledger.made < MAKINGS_BEFORE_FREEING)
@@ -136,6 +141,14 @@ IsUndrained m = (m.ledger.held < disk_room m.disk.rest) ⊎ (m.ledger.made < MAK
 -- And as many words are free as its object takes, and as many entries as a call asks for.
 abbrev pub HasSpaceFor : {H : Type 0} → LoomMemory H → Making → Type 0
 HasSpaceFor m what = IsUndrained m × HasRoom m.parts (4 + body_words (body_made what)) SPARE_ENTRIES
+
+-- A making has all that it asks for: Work is told, a name and room on the disk are left, and as many words are free as its object takes, and
+-- as many entries as a call asks for.
+pub record HasAllFor {H : Type 0} (host : Ghosts H) (m : LoomMemory H) (what : Making) : Type 0 where
+  pub told : IsTrue (host.tells Work)
+  pub name : (loom_told host m).heap.next < LAST_NAME
+  pub room : m.ledger.held < disk_room m.disk.rest
+  pub space : HasRoom m.parts (4 + body_words (body_made what)) SPARE_ENTRIES
 
 -- An object was made. Where there was room for it, no object left the core, Work wasn't touched, and the method cache is as it was. Where
 -- dead objects were freed first, and the core had room, each object that is still there stays in the core.

@@ -1,5 +1,5 @@
 // Between bytecodes: dead objects go where the disk is nearly full, and entries are freed for what comes.
-ghost use Rattle.std.specs.Prelude.{◌≡◌, ◌⊎◌, ◌+◌, ◌≤◌, ◌<◌, ℕ, Some, None, true, IsTrue, OnOk, IfErr};
+ghost use Rattle.std.specs.Prelude.{◌≡◌, ◌⊎◌, ◌+◌, ◌≤◌, ◌<◌, ℕ, Some, None, true, IsTrue, IsOk, OnOk, IfErr};
 ghost use Rattle.core_view.specs.Purge.{fresh_by, fresh_of};
 ghost use Rattle.core_view.specs.Room.{IsBare};
 ghost use Rattle.object_table.specs.Entries.{is_short};
@@ -64,6 +64,7 @@ impl<'h, H: Host> LoomMemory<'h, H> {
     ghost use Rattle.purger.specs.Draining.{KeepsHeld};
     ghost use Rattle.loom_memory.specs.Memory.{loom_told, loom_outside, loom_lender, IsQuiet, IsSound};
     ghost use Rattle.loom_memory.specs.Numbers.{IsNumbered};
+    ghost use Rattle.loom_memory.specs.Own.{HasRested, IsIdle, KeepsCache};
     ghost use Rattle.loom_memory.specs.Residents.{fetched, is_resident};
     ghost use Rattle.loom_memory.specs.Makings.{HasBegun, HasKept, HasSettled, HasThinned, IsLost, IsRefusedCall, IsRefusedMaking};
 
@@ -120,6 +121,7 @@ impl<'h, H: Host> LoomMemory<'h, H> {
         ensures sound { IsSound H.Host self.new }
         ensures parts { self.new.parts ≡ self.old.parts }
         ensures disk { self.new.disk ≡ self.old.disk }
+        ensures same { self.new ≡ record self.old { ledger = record self.old.ledger { base = base; made = 0 } } }
     {
         self.ledger.base = base;
         self.ledger.made = 0;
@@ -136,6 +138,7 @@ impl<'h, H: Host> LoomMemory<'h, H> {
         ensures fetches { OnOk result (fetched self.new ≡ fetched self.old) }
         ensures bodies { OnOk result (IsTrue (H.tells Role.Work) → KeepsHeld (core_of self.old.parts) (core_of self.new.parts) (loom_told H.Host self.new).heap) }
         ensures entries { OnOk result (spare_of self.old.parts ≤ spare_of self.new.parts) }
+        ensures rests { self.old.ledger.held + MAKINGS ≤ disk_room self.old.disk.rest → HasRested self.old self.new result }
         ensures sound { KeepsSound result (IsSound H.Host self.new) }
         ensures err { IfErr result (IsRefusedCall (loom_told H.Host self.old) (loom_told H.Host self.new) Settles) }
         ensures lender { self.new.disk.host.ghost_name ≡ self.old.disk.host.ghost_name }
@@ -164,6 +167,7 @@ impl<'h, H: Host> LoomMemory<'h, H> {
         ensures ledger { OnOk result (self.new.ledger ≡ self.old.ledger) }
         ensures spare { OnOk result ((SETTLED ≤ spare_of self.new.parts) ⊎ IsBare self.new.pinned.a self.new.pinned.b self.new.pinned.d (core_of self.new.parts)) }
         ensures stays { OnOk result (SETTLED ≤ spare_of self.old.parts → self.new ≡ self.old) }
+        ensures sure { SETTLED ≤ spare_of self.old.parts → IsOk result }
         ensures sound { KeepsSound result (IsSound H.Host self.new) }
         ensures err { IfErr result (IsRefusedCall (loom_told H.Host self.old) (loom_told H.Host self.new) Settles) }
         ensures fault { IfErr result IsLost }
@@ -187,7 +191,8 @@ impl<'h, H: Host> LoomMemory<'h, H> {
 
     /// After it no making is counted. Where there was room for eight more, nothing is freed and the count isn't known; elsewhere it is that
     /// of what is held, of which nothing is dead. [`RESERVE`] entries are free then, or nothing but pinned objects has a body. No object comes
-    /// in; where that many were free before, each object in the core that is still held stays there.
+    /// in; where that many were free before, each object in the core that is still held stays there. With both, nothing is done: it is
+    /// answered, and nothing changes but that makings are counted anew.
     pub fn settle(&mut self) -> Result<(), MemFault>
         requires fit { MayCall (IsSound H.Host) (loom_told H.Host) self.old }
         ensures called { Called (loom_told H.Host self.old) (loom_told H.Host self.new) Settles result }
@@ -197,6 +202,10 @@ impl<'h, H: Host> LoomMemory<'h, H> {
         ensures spare { OnOk result ((SETTLED ≤ spare_of self.new.parts) ⊎ IsBare self.new.pinned.a self.new.pinned.b self.new.pinned.d (core_of self.new.parts)) }
         ensures fetches { OnOk result (fetched self.new ≡ fetched self.old) }
         ensures stays { OnOk result (SETTLED ≤ spare_of self.old.parts → IsTrue (H.tells Role.Work) → (k : ℕ) → IsTrue (is_resident self.old k) → Has (loom_told H.Host self.new).heap k → IsTrue (is_resident self.new k)) }
+        ensures whole { self.old.ledger.held + MAKINGS ≤ disk_room self.old.disk.rest → OnOk result ((loom_told H.Host self.new).heap ≡ (loom_told H.Host self.old).heap) }
+        ensures idle { self.old.ledger.held + MAKINGS ≤ disk_room self.old.disk.rest → SETTLED ≤ spare_of self.old.parts → OnOk result (IsIdle self.old self.new) }
+        ensures cached { self.old.ledger.held + MAKINGS ≤ disk_room self.old.disk.rest → SETTLED ≤ spare_of self.old.parts → OnOk result (KeepsCache H.Host self.old self.new) }
+        ensures rests { self.old.ledger.held + MAKINGS ≤ disk_room self.old.disk.rest → SETTLED ≤ spare_of self.old.parts → HasRested self.old self.new result }
         ensures fit { StaysCallable (IsSound H.Host) (loom_told H.Host) loom_lender (loom_outside H.Host) self.old self.new result }
     {
         match self.settle_disk() {

@@ -1,6 +1,6 @@
 use Rattle.std.proofs.Common.{◌∙◌}
 use Rattle.loom_memory.specs.Memory.{loom_told}
-use Rattle.loom_memory.proofs.SettleLaws.{settle-fetches, settle-last, settle-now, settle-stays, settled-ready}
+use Rattle.loom_memory.proofs.SettleLaws.{rested, rested-cached, rested-idle, rested-whole, settle-fetches, settle-last, settle-now, settle-stays, settled-ready}
 use Rattle.loom_memory.proofs.memory.LoomMemory.settle.Goals as goal
 
 pub spare_entries-requires-clause-ready : goal.spare_entries-requires-clause-ready
@@ -22,3 +22,18 @@ returns-in-Ok-clause-fetches g c = settle-fetches c.spare_entries.result c.args.
 
 pub returns-in-Ok-clause-stays : goal.returns-in-Ok-clause-stays
 returns-in-Ok-clause-stays g c = settle-stays c.spare_entries.result g.H.Host c.args.self.now c.settle_disk.new.self c.spare_entries.new.self c.requires.fit.sound.kept.parts.core c.in-Ok.ensures.sound.kept.parts.core c.in-Ok.ensures.entries c.in-Ok.ensures.bodies c.spare_entries.ensures.stays
+
+pub returns-in-Ok-clause-whole : goal.returns-in-Ok-clause-whole
+returns-in-Ok-clause-whole g c = λ room. rested-whole c.spare_entries.result g.H.Host c.args.self.now c.settle_disk.new.self c.spare_entries.new.self (c.in-Ok.ensures.rests room).same c.spare_entries.ensures.quiet
+
+pub returns-in-Ok-clause-rests : goal.returns-in-Ok-clause-rests
+returns-in-Ok-clause-rests g c = λ room enough. rested c.spare_entries.result c.args.self.now c.settle_disk.new.self c.spare_entries.new.self (c.in-Ok.ensures.rests room).same c.spare_entries.ensures.sure c.spare_entries.ensures.stays enough
+
+pub returns-in-Ok-clause-idle : goal.returns-in-Ok-clause-idle
+returns-in-Ok-clause-idle g c = λ room enough. rested-idle c.spare_entries.result c.args.self.now c.spare_entries.new.self (rested c.spare_entries.result c.args.self.now c.settle_disk.new.self c.spare_entries.new.self (c.in-Ok.ensures.rests room).same c.spare_entries.ensures.sure c.spare_entries.ensures.stays enough)
+
+pub returns-in-Ok-clause-cached : goal.returns-in-Ok-clause-cached
+returns-in-Ok-clause-cached g c = λ room enough. rested-cached c.spare_entries.result g.H.Host c.args.self.now c.spare_entries.new.self (rested c.spare_entries.result c.args.self.now c.settle_disk.new.self c.spare_entries.new.self (c.in-Ok.ensures.rests room).same c.spare_entries.ensures.sure c.spare_entries.ensures.stays enough)
+
+pub returns-in-Err-clause-rests : goal.returns-in-Err-clause-rests
+returns-in-Err-clause-rests g c = λ room enough. c.in-Err.ensures.rests room

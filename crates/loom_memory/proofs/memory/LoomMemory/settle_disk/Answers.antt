@@ -1,4 +1,4 @@
-use Rattle.std.proofs.Common.{Some, ◌∙◌, ap, arith}
+use Rattle.std.proofs.Common.{Some, ◌∙◌, ap, refl, arith}
 use Rattle.leaf_lambda.specs.declared.parts.Parts.{Parts}
 use Rattle.leaf_lambda.specs.Parts.{spare_of}
 use Rattle.loom_memory.specs.declared.ledger.Ledger.{Ledger}
@@ -44,3 +44,12 @@ returns-in-Ok-clause-bodies g c = λ told. bodies-anew c.args.self.now.parts (lo
 
 pub returns-in-Ok-clause-entries : goal.returns-in-Ok-clause-entries
 returns-in-Ok-clause-entries g c = let same = ap (λ (p : Parts). spare_of p) c.count_anew-in-Ok.ensures.parts in let less = c.in-Ok.ensures.entries in omega (arith, same, less)
+
+pub returns-then-self-room-clause-rests : goal.returns-then-self-room-clause-rests
+returns-then-self-room-clause-rests g c = λ room. record { ok = refl; same = c.count_anew.ensures.same }
+
+pub returns-in-Ok-clause-rests : goal.returns-in-Ok-clause-rests
+returns-in-Ok-clause-rests g c = λ room. absurd (let all = c.if-self-room.false in let is = c.room-room.ensures in omega (arith, room, all, is))
+
+pub returns-in-Err-clause-rests : goal.returns-in-Err-clause-rests
+returns-in-Err-clause-rests g c = λ room. absurd (let all = c.if-self-room.false in let is = c.room-room.ensures in omega (arith, room, all, is))
