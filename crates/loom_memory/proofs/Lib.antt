@@ -35,6 +35,7 @@ pub mod OwnLaws
 pub mod GentleLaws
 pub mod DamageLaws
 pub mod NewLaws
+pub mod SparedLaws
 pub mod MadeLaws
 pub mod MakingLaws
 pub mod RootLaws

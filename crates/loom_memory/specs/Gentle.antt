@@ -1,6 +1,7 @@
 -- Steps by which no object leaves the core.
-use Rattle.std.specs.Prelude.{◌≡◌, ℕ, Some}
+use Rattle.std.specs.Prelude.{◌≡◌, ℕ, IsTrue, Some}
 use Rattle.loom_outside.specs.declared.outside.Host.{Ghosts}
+use Rattle.loom_outside.specs.declared.outside.Role.TheVariants.{Work}
 use Rattle.loom_outside.specs.Work.{IsWorkRead}
 use Rattle.object_table.specs.Entries.{place_of}
 use Rattle.core_view.specs.Core.{Core}
@@ -8,7 +9,7 @@ use Rattle.leaf_lambda.specs.Parts.{core_of}
 use Rattle.loom_memory.specs.declared.memory.LoomMemory.{LoomMemory}
 use Rattle.loom_memory.specs.Memory.{loom_told, IsStill}
 use Rattle.loom_memory.specs.Residents.{words_resident, fetched}
-use Rattle.loom_memory.specs.Own.{IsIdle}
+use Rattle.loom_memory.specs.Own.{IsIdle, KeepsCache}
 
 -- each entry that has a body still has one, under its name
 abbrev pub Remains : Core → Core → Type 0
@@ -41,3 +42,9 @@ pub record IsGlance {H : Type 0} (host : Ghosts H) (old new : LoomMemory H) : Ty
   pub remains : Remains (core_of old.parts) (core_of new.parts)
   pub read : IsWorkRead host old.disk.host.now new.disk.host.now
   pub fetches : fetched new ≡ fetched old
+
+-- Work wasn't touched, and no object came in; where Work is told, no object left the core, and the method cache is as it was
+pub record IsSpared {H : Type 0} (host : Ghosts H) (old new : LoomMemory H) : Type 0 where
+  pub idle : IsIdle old new
+  pub remains : IsTrue (host.tells Work) → Remains (core_of old.parts) (core_of new.parts)
+  pub cached : IsTrue (host.tells Work) → KeepsCache host old new

@@ -25,7 +25,7 @@ impl<'h, H: Host> LoomMemory<'h, H> {
     ghost use Rattle.object_memory.specs.Fit.{MayCall, StaysCallable};
     ghost use Rattle.loom_memory.specs.Memory.{loom_told, loom_outside, loom_lender, IsSound};
     ghost use Rattle.loom_memory.specs.Residents.{is_resident, fetched};
-    ghost use Rattle.loom_memory.specs.Gentle.{IsPeek};
+    ghost use Rattle.loom_memory.specs.Gentle.{IsPeek, IsResting};
 
     /// More entries are asked for than there are, so everything leaves that may. That there are fewer is no refusal.
     pub fn purge_all(&mut self) -> Result<(), MemFault>
@@ -58,6 +58,7 @@ impl<'h, H: Host> LoomMemory<'h, H> {
         ensures one { largest_of self.new.parts.segment ≡ free_of self.old.parts.segment }
         ensures follows { Follows (loom_told H.Host self.old) (loom_told H.Host self.new) Thins }
         ensures peek { IsPeek H.Host self.old self.new }
+        ensures resting { IsResting self.old self.new }
         ensures fit { StaysCallable (IsSound H.Host) (loom_told H.Host) loom_lender (loom_outside H.Host) self.old self.new (Ok result) }
     {
         compact(&mut self.parts);

@@ -124,6 +124,7 @@ impl<'h, H: Host> LoomMemory<'h, H> {
         ensures found { IfOk result (λ s. IsEntryOf (core_of self.new.parts) s.0 name) }
         ensures err { IfErr result (IsRefusedOf (loom_told H.Host self.old) (loom_told H.Host self.new) name) }
         ensures steady { OnOk result (HasRoom self.old.parts 0 SPARE → IsSteady H.Host self.old self.new) }
+        ensures unspent { OnOk result ((IsSpent (core_of self.old.parts) (spare_of self.old.parts) name → ⊥) → IsSteady H.Host self.old self.new) }
         ensures lender { self.new.disk.host.ghost_name ≡ self.old.disk.host.ghost_name }
         ensures outside { loom_outside H.Host self.new ≡ loom_outside H.Host self.old }
     {
@@ -142,6 +143,7 @@ impl<'h, H: Host> LoomMemory<'h, H> {
         ensures sound { KeepsSound result (IsSound H.Host self.new) }
         ensures err { IfErr result (IsRefusedOf (loom_told H.Host self.old) (loom_told H.Host self.new) name) }
         ensures steady { OnOk result (HasRoom self.old.parts 0 SPARE → IsSteady H.Host self.old self.new) }
+        ensures unspent { OnOk result ((IsSpent (core_of self.old.parts) (spare_of self.old.parts) name → ⊥) → IsSteady H.Host self.old self.new) }
         ensures lender { self.new.disk.host.ghost_name ≡ self.old.disk.host.ghost_name }
         ensures outside { loom_outside H.Host self.new ≡ loom_outside H.Host self.old }
     {
@@ -161,6 +163,7 @@ impl<'h, H: Host> LoomMemory<'h, H> {
         ensures access { Accessed (loom_told H.Host self.old) (loom_told H.Host self.new) (Known to name) (λ _. Nothing) result }
         ensures name { OnOk result ((loom_told H.Host self.new).regs to ≡ Ref name) }
         ensures steady { OnOk result (HasRoom self.old.parts 0 SPARE → IsSteady H.Host self.old self.new) }
+        ensures unspent { OnOk result ((IsSpent (core_of self.old.parts) (spare_of self.old.parts) name → ⊥) → IsSteady H.Host self.old self.new) }
         ensures fit { StaysCallable (IsSound H.Host) (loom_told H.Host) loom_lender (loom_outside H.Host) self.old self.new result }
     {
         self.put_name(to, name)

@@ -1,5 +1,5 @@
 // New objects: names are asked first, then room on the disk, then the core.
-ghost use Rattle.std.specs.Prelude.{◌≡◌, ◌+◌, ◌≤◌, ◌<◌, ◌^◌, ℕ, true, false, IsTrue, OnOk, IfOk, IfErr, IfSome, IfNone};
+ghost use Rattle.std.specs.Prelude.{◌≡◌, ◌+◌, ◌≤◌, ◌<◌, ◌^◌, ℕ, true, false, IsTrue, IsOk, OnOk, IfOk, IfErr, IfSome, IfNone};
 ghost use Rattle.long_names.specs.declared.limits.TheConstants.{LAST_NAME as END, MAKINGS_BEFORE_FREEING as MAKINGS};
 ghost use Rattle.long_names.specs.Names.{IsLongName};
 ghost use Rattle.long_names.specs.Words.{literal_count};
@@ -49,7 +49,7 @@ impl<'h, H: Host> LoomMemory<'h, H> {
     ghost use Rattle.loom_memory.specs.Known.{IsEntryOf, IsNeedBeside};
     ghost use Rattle.loom_memory.specs.Memory.{loom_told, loom_outside, IsQuiet, IsSound};
     ghost use Rattle.loom_memory.specs.Makings.{HasAdded, HasMade, IsFullMaking, IsLost, IsNotFull, IsRefusedAs, IsRefusedMaking, OnCoreFull};
-    ghost use Rattle.loom_memory.specs.Gentle.{IsResting, Remains};
+    ghost use Rattle.loom_memory.specs.Gentle.{IsResting, IsSpared, Remains};
     ghost use Rattle.loom_memory.specs.Own.{KeepsCache};
     ghost use Rattle.loom_memory.specs.New.{making_of};
     ghost use Rattle.loom_memory.specs.Residents.{is_resident, fetched};
@@ -66,6 +66,7 @@ impl<'h, H: Host> LoomMemory<'h, H> {
         ensures err { IsFullMaking (loom_told H.Host self.old) (loom_told H.Host self.new) words result }
         ensures other { IsNotFull result }
         ensures kept { (self.new.disk ≡ self.old.disk) × (self.new.ledger.held ≡ self.old.ledger.held) }
+        ensures spared { IsSpared H.Host self.old self.new }
         ensures lender { self.new.disk.host.ghost_name ≡ self.old.disk.host.ghost_name }
         ensures outside { loom_outside H.Host self.new ≡ loom_outside H.Host self.old }
     {
@@ -87,6 +88,9 @@ impl<'h, H: Host> LoomMemory<'h, H> {
         ensures short { IfOk result (λ enough. enough ≡ false → IsShort self.new.parts self.new.pinned.a self.new.pinned.b self.new.pinned.d words SPARE) }
         ensures resting { OnOk result (HasRoom self.old.parts words SPARE → IsResting self.old self.new) }
         ensures cached { OnOk result (HasRoom self.old.parts words SPARE → KeepsCache H.Host self.old self.new) }
+        ensures spared { IfErr result (λ f. HasRoom self.old.parts words SPARE → IsSpared H.Host self.old self.new) }
+        ensures sure { HasRoom self.old.parts words SPARE → IsOk result }
+        ensures enough { IfOk result (λ enough. HasRoom self.old.parts words SPARE → IsTrue enough) }
         ensures err { IfErr result (IsRefusedMaking (loom_told H.Host self.old) (loom_told H.Host self.new)) }
         ensures other { IfErr result IsNotFull }
         ensures fault { IfErr result IsLost }
@@ -171,6 +175,8 @@ impl<'h, H: Host> LoomMemory<'h, H> {
         ensures fetches { OnOk result (fetched self.new ≡ fetched self.old) }
         ensures resting { OnOk result (IsResting self.old self.new) }
         ensures cached { OnOk result (KeepsCache H.Host self.old self.new) }
+        ensures spared { IfErr result (λ f. IsSpared H.Host self.old self.new) }
+        ensures sure { IfErr result (λ f. IsTrue (H.tells Role.Work) → ⊥) }
         ensures sound { KeepsSound result (IsSound H.Host self.new) }
         ensures err { IfErr result (IsRefusedMaking (loom_told H.Host self.old) (loom_told H.Host self.new)) }
         ensures other { IfErr result IsNotFull }
@@ -213,6 +219,8 @@ impl<'h, H: Host> LoomMemory<'h, H> {
         ensures fetches { OnOk result (fetched self.new ≡ fetched self.old) }
         ensures resting { OnOk result (HasRoom self.old.parts (words_for kind len (literal_count (int_of_short header)) + HEADER) SPARE → IsResting self.old self.new) }
         ensures cached { OnOk result (HasRoom self.old.parts (words_for kind len (literal_count (int_of_short header)) + HEADER) SPARE → KeepsCache H.Host self.old self.new) }
+        ensures spared { IfErr result (λ f. HasRoom self.old.parts (words_for kind len (literal_count (int_of_short header)) + HEADER) SPARE → IsSpared H.Host self.old self.new) }
+        ensures sure { IfErr result (λ f. IsTrue (H.tells Role.Work) → HasRoom self.old.parts (words_for kind len (literal_count (int_of_short header)) + HEADER) SPARE → ⊥) }
         ensures core { OnOk result (IfBounds (loom_told H.Host self.old).bounds (HasCore (loom_told H.Host self.old) (Make to class (making_of kind len header)))) }
         ensures sound { KeepsSound result (IsSound H.Host self.new) }
         ensures err { IfErr result (IsRefusedAs (loom_told H.Host self.old) (loom_told H.Host self.new) to class (making_of kind len header)) }
@@ -223,6 +231,8 @@ impl<'h, H: Host> LoomMemory<'h, H> {
     {
         let words = words_new(kind, len, header);
         if words > self.ledger.core {
+            // no more words are free than there are
+            chunks_never_overlap(&self.parts.segment);
             return Err(self.full_new(name, words));
         }
         match self.clear_new(words) {
@@ -253,7 +263,8 @@ impl<'h, H: Host> LoomMemory<'h, H> {
     ghost use Rattle.object_memory.specs.Fit.{MayCall, StaysCallable};
     ghost use Rattle.loom_memory.specs.Memory.{loom_told, loom_outside, loom_lender, IsSound};
     ghost use Rattle.loom_memory.specs.Makings.{HasThinned, IfNameless, IsNameless, IsRefusedMaking, OnCoreFull};
-    ghost use Rattle.loom_memory.specs.Own.{IsAskedLast, IsSparingMaking};
+    ghost use Rattle.loom_memory.specs.Gentle.{IsSpared};
+    ghost use Rattle.loom_memory.specs.Own.{HasAllFor, HasSpaceFor, IsAskedLast, IsSparingMaking, IsUndrained};
     ghost use Rattle.loom_memory.specs.New.{making_of};
     ghost use Rattle.loom_memory.specs.Residents.{is_resident, fetched};
 
@@ -266,6 +277,7 @@ impl<'h, H: Host> LoomMemory<'h, H> {
         ensures sound { IsSound H.Host self.new }
         ensures err { IsRefusedMaking (loom_told H.Host self.old) (loom_told H.Host self.new) result }
         ensures full { OnCoreFull result ⊥ }
+        ensures spared { IsSpared H.Host self.old self.new }
         ensures lender { self.new.disk.host.ghost_name ≡ self.old.disk.host.ghost_name }
         ensures outside { loom_outside H.Host self.new ≡ loom_outside H.Host self.old }
     {
@@ -339,6 +351,8 @@ impl<'h, H: Host> LoomMemory<'h, H> {
         ensures room { OnOk result ((words : ℕ) → HasRoom self.old.parts words SPARE → HasRoom self.new.parts words SPARE) }
         ensures err { IfErr result (IsRefusedMaking (loom_told H.Host self.old) (loom_told H.Host self.new)) }
         ensures full { IfErr result (λ f. OnCoreFull f ⊥) }
+        ensures spared { IfErr result (λ f. IsUndrained self.old → IsSpared H.Host self.old self.new) }
+        ensures sure { IfErr result (λ f. self.old.ledger.held < disk_room self.old.disk.rest → ⊥) }
         ensures lender { self.new.disk.host.ghost_name ≡ self.old.disk.host.ghost_name }
         ensures outside { loom_outside H.Host self.new ≡ loom_outside H.Host self.old }
     {
@@ -375,6 +389,8 @@ impl<'h, H: Host> LoomMemory<'h, H> {
             → OnOk result ((loom_told H.Host self.new).heap ≡ heap_after (loom_told H.Host self.old).heap (loom_told H.Host self.old).regs (Make to class (making_of kind len header)))) }
         ensures own { OnOk result (IsSparingMaking H.Host self.old self.new (making_of kind len header)) }
         ensures full { IfErr result (λ f. OnCoreFull f (IsAskedLast H.Host self.old self.new)) }
+        ensures spared { IfErr result (λ f. HasSpaceFor self.old (making_of kind len header) → IsSpared H.Host self.old self.new) }
+        ensures sure { IfErr result (λ f. HasAllFor H.Host self.old (making_of kind len header) → ⊥) }
         ensures fit { StaysCallable (IsSound H.Host) (loom_told H.Host) loom_lender (loom_outside H.Host) self.old self.new result }
     {
         match self.ask_room() {
@@ -391,6 +407,7 @@ impl<'h, H: Host> LoomMemory<'h, H> {
         ensures sound { IsSound H.Host self.new }
         ensures err { IfNameless (loom_told H.Host self.old) (loom_told H.Host self.new) result }
         ensures same { result ≡ f }
+        ensures spared { IsSpared H.Host self.old self.new }
         ensures lender { self.new.disk.host.ghost_name ≡ self.old.disk.host.ghost_name }
         ensures outside { loom_outside H.Host self.new ≡ loom_outside H.Host self.old }
     {
@@ -417,6 +434,8 @@ impl<'h, H: Host> LoomMemory<'h, H> {
             → OnOk result ((loom_told H.Host self.new).heap ≡ heap_after (loom_told H.Host self.old).heap (loom_told H.Host self.old).regs (Make to class (making_of kind len header)))) }
         ensures own { OnOk result (IsSparingMaking H.Host self.old self.new (making_of kind len header)) }
         ensures full { IfErr result (λ f. OnCoreFull f (IsAskedLast H.Host self.old self.new)) }
+        ensures spared { IfErr result (λ f. HasSpaceFor self.old (making_of kind len header) → IsSpared H.Host self.old self.new) }
+        ensures sure { IfErr result (λ f. HasAllFor H.Host self.old (making_of kind len header) → ⊥) }
         ensures fit { StaysCallable (IsSound H.Host) (loom_told H.Host) loom_lender (loom_outside H.Host) self.old self.new result }
     {
         let next = self.ledger.next;
@@ -444,6 +463,8 @@ impl<'h, H: Host> LoomMemory<'h, H> {
             → OnOk result ((loom_told H.Host self.new).heap ≡ heap_after (loom_told H.Host self.old).heap (loom_told H.Host self.old).regs (Make to class (OfPointers n)))) }
         ensures own { OnOk result (IsSparingMaking H.Host self.old self.new (OfPointers n)) }
         ensures full { IfErr result (λ f. OnCoreFull f (IsAskedLast H.Host self.old self.new)) }
+        ensures spared { IfErr result (λ f. HasSpaceFor self.old (OfPointers n) → IsSpared H.Host self.old self.new) }
+        ensures sure { IfErr result (λ f. HasAllFor H.Host self.old (OfPointers n) → ⊥) }
         ensures fit { StaysCallable (IsSound H.Host) (loom_told H.Host) loom_lender (loom_outside H.Host) self.old self.new result }
     {
         self.make_kind(to, class, Kind::Pointers, n, 1)
@@ -461,6 +482,8 @@ impl<'h, H: Host> LoomMemory<'h, H> {
             → OnOk result ((loom_told H.Host self.new).heap ≡ heap_after (loom_told H.Host self.old).heap (loom_told H.Host self.old).regs (Make to class (OfWords n)))) }
         ensures own { OnOk result (IsSparingMaking H.Host self.old self.new (OfWords n)) }
         ensures full { IfErr result (λ f. OnCoreFull f (IsAskedLast H.Host self.old self.new)) }
+        ensures spared { IfErr result (λ f. HasSpaceFor self.old (OfWords n) → IsSpared H.Host self.old self.new) }
+        ensures sure { IfErr result (λ f. HasAllFor H.Host self.old (OfWords n) → ⊥) }
         ensures fit { StaysCallable (IsSound H.Host) (loom_told H.Host) loom_lender (loom_outside H.Host) self.old self.new result }
     {
         self.make_kind(to, class, Kind::Words, n, 1)
@@ -478,6 +501,8 @@ impl<'h, H: Host> LoomMemory<'h, H> {
             → OnOk result ((loom_told H.Host self.new).heap ≡ heap_after (loom_told H.Host self.old).heap (loom_told H.Host self.old).regs (Make to class (OfBytes n)))) }
         ensures own { OnOk result (IsSparingMaking H.Host self.old self.new (OfBytes n)) }
         ensures full { IfErr result (λ f. OnCoreFull f (IsAskedLast H.Host self.old self.new)) }
+        ensures spared { IfErr result (λ f. HasSpaceFor self.old (OfBytes n) → IsSpared H.Host self.old self.new) }
+        ensures sure { IfErr result (λ f. HasAllFor H.Host self.old (OfBytes n) → ⊥) }
         ensures fit { StaysCallable (IsSound H.Host) (loom_told H.Host) loom_lender (loom_outside H.Host) self.old self.new result }
     {
         self.make_kind(to, class, Kind::Bytes, n, 1)
@@ -501,6 +526,8 @@ impl<'h, H: Host> LoomMemory<'h, H> {
             → OnOk result ((loom_told H.Host self.new).heap ≡ heap_after (loom_told H.Host self.old).heap (loom_told H.Host self.old).regs (Make to class (OfMethod header code)))) }
         ensures own { OnOk result (IsSparingMaking H.Host self.old self.new (OfMethod header code)) }
         ensures full { IfErr result (λ f. OnCoreFull f (IsAskedLast H.Host self.old self.new)) }
+        ensures spared { IfErr result (λ f. HasSpaceFor self.old (OfMethod header code) → IsSpared H.Host self.old self.new) }
+        ensures sure { IfErr result (λ f. HasAllFor H.Host self.old (OfMethod header code) → ⊥) }
         ensures fit { StaysCallable (IsSound H.Host) (loom_told H.Host) loom_lender (loom_outside H.Host) self.old self.new result }
     {
         self.make_kind(to, class, Kind::Method, code, short_int(header))

@@ -58,7 +58,7 @@ impl<'h, H: Host> LoomMemory<'h, H> {
 
 impl<'h, H: Host> LoomMemory<'h, H> {
     ghost use Rattle.purger.specs.Purge.{HasRoom, OnShort, OnDisk, Undisturbed, IsShort, IsPurgeFault};
-    ghost use Rattle.loom_memory.specs.Gentle.{IsResting};
+    ghost use Rattle.loom_memory.specs.Gentle.{IsResting, IsSpared};
     ghost use Rattle.loom_memory.specs.Own.{KeepsCache};
     ghost use Rattle.long_names.specs.State.{IsRef};
     ghost use Rattle.long_names.specs.Counting.{counted};
@@ -81,6 +81,7 @@ impl<'h, H: Host> LoomMemory<'h, H> {
         ensures short { IfErr result (λ f. OnShort f (IsShort self.new.parts self.old.pinned.a self.old.pinned.b self.old.pinned.d words entries)) }
         ensures fault { IfErr result (λ f. OnDisk f (IsPurgeFault H.Host self.old.disk.host.now self.new.disk.host.now)) }
         ensures leaves { (t : ℕ) → place_of ((core_of self.old.parts).entries t).state ≡ None → place_of ((core_of self.new.parts).entries t).state ≡ None }
+        ensures sure { HasRoom self.old.parts words entries → IsOk result }
         ensures needless { HasRoom self.old.parts words entries → IsResting self.old self.new }
         ensures cached { HasRoom self.old.parts words entries → KeepsCache H.Host self.old self.new }
         ensures buf { self.new.buf ≡ self.old.buf }
@@ -106,6 +107,7 @@ impl<'h, H: Host> LoomMemory<'h, H> {
         ensures sound { IsSound H.Host self.old → IsSound H.Host self.new }
         ensures kept { (self.new.disk ≡ self.old.disk) × (self.new.ledger.held ≡ self.old.ledger.held) }
         ensures later { (loom_told H.Host self.old).refusals ≤ counted (loom_told H.Host self.old).refusals }
+        ensures spared { IsSpared H.Host self.old self.new }
         ensures buf { self.new.buf ≡ self.old.buf }
         ensures rest { self.new.disk.rest ≡ self.old.disk.rest }
         ensures lender { self.new.disk.host.ghost_name ≡ self.old.disk.host.ghost_name }

@@ -1,6 +1,8 @@
-use Rattle.std.proofs.Common.{refl}
+use Rattle.std.proofs.Common.{◌<◌, refl, arith, ⊎_elim}
+use Rattle.disk_objects.specs.Disk.{disk_room}
 use Rattle.loom_memory.specs.Memory.{loom_told}
 use Rattle.loom_memory.proofs.SettleLaws.{bodies-same}
+use Rattle.loom_memory.proofs.SparedLaws.{err-each, spared-never}
 use Rattle.loom_memory.proofs.memory.LoomMemory.ask_room.Goals as goal
 
 pub returns-then-self-room-clause-bodies : goal.returns-then-self-room-clause-bodies
@@ -8,3 +10,15 @@ returns-then-self-room-clause-bodies g c = λ told. bodies-same c.args.self.now.
 
 pub returns-then-self-room-clause-room : goal.returns-then-self-room-clause-room
 returns-then-self-room-clause-room g c = λ words has. has
+
+pub returns-then-self-lt-MAKINGS_BEFORE_FREEING-clause-spared : goal.returns-then-self-lt-MAKINGS_BEFORE_FREEING-clause-spared
+returns-then-self-lt-MAKINGS_BEFORE_FREEING-clause-spared g c = λ undrained. c.crowded.ensures.spared
+
+pub returns-clause-spared : goal.returns-clause-spared
+returns-clause-spared g c = spared-never _ c.free_one.result (λ undrained. ⊎_elim (λ (h : c.args.self.now.ledger.held < disk_room c.args.self.now.disk.rest). let no = c.if-self-room.false in omega (arith, h, no)) (λ (h : c.args.self.now.ledger.made < 8). let no = c.if-self-lt-MAKINGS_BEFORE_FREEING.false in omega (arith, h, no)) undrained)
+
+pub returns-then-self-lt-MAKINGS_BEFORE_FREEING-clause-sure : goal.returns-then-self-lt-MAKINGS_BEFORE_FREEING-clause-sure
+returns-then-self-lt-MAKINGS_BEFORE_FREEING-clause-sure g c = λ low. let no = c.if-self-room.false in omega (arith, low, no)
+
+pub returns-clause-sure : goal.returns-clause-sure
+returns-clause-sure g c = err-each c.free_one.result (λ low. let no = c.if-self-room.false in omega (arith, low, no))

@@ -5,6 +5,7 @@ use Rattle.loom_memory.specs.Memory.{loom_told}
 use Rattle.loom_memory.proofs.AddLaws.{fault-lost, fault-making}
 use Rattle.object_memory.specs.declared.fault.MemFault.{MemFault}
 use Rattle.loom_memory.specs.Makings.{IsLost}
+use Rattle.loom_memory.proofs.SparedLaws.{rest-spared, spared-trans}
 use Rattle.loom_memory.proofs.memory.LoomMemory.clear_new.Goals as goal
 
 pub returns-in-Disk-clause-err : goal.returns-in-Disk-clause-err
@@ -16,3 +17,12 @@ returns-in-Disk-clause-err g c =
 
 pub returns-in-Disk-clause-fault : goal.returns-in-Disk-clause-fault
 returns-in-Disk-clause-fault g c = subst (λ (f : MemFault). IsLost f) (sym c.refuse.ensures.result) (fault-lost c.in-Disk.f c.refusal_of-f.result c.refusal_of-f.ensures)
+
+pub returns-in-Disk-clause-spared : goal.returns-in-Disk-clause-spared
+returns-in-Disk-clause-spared g c = λ room. spared-trans g.H.Host c.args.self.now c.room.new.self c.refuse.new.self (rest-spared g.H.Host c.args.self.now c.room.new.self (c.in-Err.ensures.needless room) (c.in-Err.ensures.cached room)) c.refuse.ensures.spared
+
+pub returns-in-Disk-clause-sure : goal.returns-in-Disk-clause-sure
+returns-in-Disk-clause-sure g c = λ room. absurd (let is = c.in-Err.ensures.sure room in cc)
+
+pub returns-in-Short-clause-enough : goal.returns-in-Short-clause-enough
+returns-in-Short-clause-enough g c = λ room. absurd (let is = c.in-Err.ensures.sure room in cc)

@@ -13,7 +13,7 @@ use Rattle.loom_memory.proofs.CalmLaws.{purged-calm, calm-kept, quiet-is}
 use Rattle.loom_memory.proofs.EndLaws.{quiet-thins, quiet-later}
 use Rattle.method_cache.specs.Found.{found}
 use Rattle.loom_memory.proofs.CacheLaws.{cache-same}
-use Rattle.loom_memory.proofs.GentleLaws.{fetched-same, purged-remains, read-refl}
+use Rattle.loom_memory.proofs.GentleLaws.{fetched-same, purged-remains, read-refl, rest-refl}
 use Rattle.loom_memory.proofs.memory.LoomMemory.compact.Goals as goal
 use Rattle.loom_memory.proofs.memory.LoomMemory.compact.Given as given
 
@@ -71,3 +71,6 @@ returns-clause-peek g c =
       };
       fetches = fetched-same m _ refl;
     }
+
+pub returns-clause-resting : goal.returns-clause-resting
+returns-clause-resting g c = rest-refl c.args.self.now _ (purged-remains (core_of c.args.self.now.parts) (core_of c.compact.new.p) c.compact.ensures.purged) refl refl refl

@@ -20,3 +20,6 @@ returns-clause-err g c =
 
 pub returns-clause-full : goal.returns-clause-full
 returns-clause-full g c = subst (λ (f : MemFault). OnCoreFull f ⊥) (sym c.refuse.ensures.result) tt
+
+pub returns-clause-spared : goal.returns-clause-spared
+returns-clause-spared g c = c.refuse.ensures.spared

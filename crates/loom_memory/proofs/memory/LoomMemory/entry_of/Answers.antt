@@ -7,6 +7,7 @@ use Rattle.loom_memory.proofs.KnownLaws.{quiet-still}
 use Rattle.leaf_lambda.specs.Parts.{spare_of}
 use Rattle.loom_memory.specs.Gentle.{IsSteady}
 use Rattle.loom_memory.proofs.GentleLaws.{none-wanting}
+use Rattle.loom_memory.proofs.SparedLaws.{unspent-never}
 use Rattle.loom_memory.proofs.memory.LoomMemory.entry_of.Goals as goal
 
 pub returns-in-Some-clause-quiet : goal.returns-in-Some-clause-quiet
@@ -29,3 +30,9 @@ returns-in-Some-clause-steady g c = λ room. c.entry_for.ensures.steady
 
 pub returns-in-None-clause-steady : goal.returns-in-None-clause-steady
 returns-in-None-clause-steady g c = none-wanting (IsSteady g.H.Host c.args.self.now c.free_entry.new.self) c.free_entry.result c.args.self.now.parts (spare_of c.args.self.now.parts) refl c.in-None.ensures.none.none
+
+pub returns-in-Some-clause-unspent : goal.returns-in-Some-clause-unspent
+returns-in-Some-clause-unspent g c = λ unspent. c.entry_for.ensures.steady
+
+pub returns-in-None-clause-unspent : goal.returns-in-None-clause-unspent
+returns-in-None-clause-unspent g c = unspent-never _ c.free_entry.result (λ unspent. unspent c.in-None.ensures.none)

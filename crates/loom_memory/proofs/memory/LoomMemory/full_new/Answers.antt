@@ -15,3 +15,6 @@ returns-clause-err g c =
 
 pub returns-clause-kept : goal.returns-clause-kept
 returns-clause-kept g c = c.refuse.ensures.kept
+
+pub returns-clause-spared : goal.returns-clause-spared
+returns-clause-spared g c = c.refuse.ensures.spared

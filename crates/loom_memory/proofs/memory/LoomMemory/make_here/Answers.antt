@@ -11,6 +11,7 @@ use Rattle.disk_objects.specs.Disk.{disk_room}
 use Rattle.purger.specs.Purge.{HasRoom}
 use Rattle.loom_memory.specs.declared.ledger.Ledger.{Ledger}
 use Rattle.loom_memory.proofs.KeepingLaws.{room-keeps}
+use Rattle.loom_memory.proofs.SparedLaws.{rest-spared, sure-then, spared-then, spared-trans}
 use Rattle.loom_memory.proofs.memory.LoomMemory.make_here.Goals as goal
 
 pub returns-then-words-self-clause-err : goal.returns-then-words-self-clause-err
@@ -36,7 +37,7 @@ full_new-requires-in-Ok-clause-ready g c = quiet-ready (loom_told g.H.Host c.arg
 pub full_new-requires-in-Ok-clause-unfit : goal.full_new-requires-in-Ok-clause-unfit
 full_new-requires-in-Ok-clause-unfit g c = λ need is.
     let n = c.clear_new.new.self in
-    unfit-new n.parts n.regs n.pinned n.ledger c.args.name c.words_new-words.result need c.in-Ok.ensures.sound.kept (c.in-Ok.ensures.short c.if-enough.false) c.entries_are_counted.ensures c.chunks_never_overlap.ensures is
+    unfit-new n.parts n.regs n.pinned n.ledger c.args.name c.words_new-words.result need c.in-Ok.ensures.sound.kept (c.in-Ok.ensures.short c.if-enough.false) c.entries_are_counted.ensures c.chunks_never_overlap-in-Ok.ensures is
 
 pub returns-else-enough-clause-err : goal.returns-else-enough-clause-err
 returns-else-enough-clause-err g c = after-quiet-as (loom_told g.H.Host c.args.self.now) (loom_told g.H.Host c.clear_new.new.self) (loom_told g.H.Host c.full_new-in-Ok.new.self) c.args.to c.args.class (making_of c.args.kind c.args.len c.args.header) c.full_new-in-Ok.result c.in-Ok.ensures.quiet c.requires.ready c.full_new-in-Ok.ensures.other
@@ -79,3 +80,38 @@ pub returns-then-enough-clause-cached : goal.returns-then-enough-clause-cached
 returns-then-enough-clause-cached g c =
     room-keeps c.put_object.result g.H.Host c.args.self.now c.clear_new.new.self c.put_object.new.self
     (λ room. c.in-Ok.ensures.cached (subst (λ (k : ℕ). HasRoom c.args.self.now.parts k 27) (sym c.words_new-words.ensures.words) room)) c.put_object.ensures.cached
+
+pub returns-then-words-self-clause-spared : goal.returns-then-words-self-clause-spared
+returns-then-words-self-clause-spared g c = λ room. c.full_new.ensures.spared
+
+pub returns-then-enough-clause-spared : goal.returns-then-enough-clause-spared
+returns-then-enough-clause-spared g c =
+    spared-then c.put_object.result g.H.Host c.args.self.now c.clear_new.new.self c.put_object.new.self
+    (λ room. c.in-Ok.ensures.resting (subst (λ (k : ℕ). HasRoom c.args.self.now.parts k 27) (sym c.words_new-words.ensures.words) room))
+    (λ room. c.in-Ok.ensures.cached (subst (λ (k : ℕ). HasRoom c.args.self.now.parts k 27) (sym c.words_new-words.ensures.words) room)) c.put_object.ensures.spared
+
+pub returns-else-enough-clause-spared : goal.returns-else-enough-clause-spared
+returns-else-enough-clause-spared g c = λ room.
+    let has = subst (λ (k : ℕ). HasRoom c.args.self.now.parts k 27) (sym c.words_new-words.ensures.words) room in
+    spared-trans g.H.Host c.args.self.now c.clear_new.new.self c.full_new-in-Ok.new.self (rest-spared g.H.Host c.args.self.now c.clear_new.new.self (c.in-Ok.ensures.resting has) (c.in-Ok.ensures.cached has)) c.full_new-in-Ok.ensures.spared
+
+pub returns-in-Err-clause-spared : goal.returns-in-Err-clause-spared
+returns-in-Err-clause-spared g c = λ room. c.in-Err.ensures.spared (subst (λ (k : ℕ). HasRoom c.args.self.now.parts k 27) (sym c.words_new-words.ensures.words) room)
+
+pub returns-then-words-self-clause-sure : goal.returns-then-words-self-clause-sure
+returns-then-words-self-clause-sure g c = λ told room.
+    let past = c.if-words-self.true in
+    let size = c.requires.sound.kept.size in
+    let all = c.chunks_never_overlap.ensures.all in
+    let same = c.words_new-words.ensures.words in
+    let low = room.0 in
+    omega (arith, past, size, all, same, low)
+
+pub returns-then-enough-clause-sure : goal.returns-then-enough-clause-sure
+returns-then-enough-clause-sure g c = sure-then _ _ c.put_object.result c.put_object.ensures.sure
+
+pub returns-else-enough-clause-sure : goal.returns-else-enough-clause-sure
+returns-else-enough-clause-sure g c = λ told room. let no = c.if-enough.false in let yes = c.in-Ok.ensures.enough (subst (λ (k : ℕ). HasRoom c.args.self.now.parts k 27) (sym c.words_new-words.ensures.words) room) in cc
+
+pub returns-in-Err-clause-sure : goal.returns-in-Err-clause-sure
+returns-in-Err-clause-sure g c = λ told room. let is = c.in-Err.ensures.sure (subst (λ (k : ℕ). HasRoom c.args.self.now.parts k 27) (sym c.words_new-words.ensures.words) room) in cc

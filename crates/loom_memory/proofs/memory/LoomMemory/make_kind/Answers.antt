@@ -43,3 +43,20 @@ returns-then-next-ge-LAST_NAME-clause-full g c = subst (λ (f : MemFault). OnCor
 
 pub returns-in-None-clause-full : goal.returns-in-None-clause-full
 returns-in-None-clause-full g c = subst (λ (f : MemFault). OnCoreFull f (IsAskedLast g.H.Host c.args.self.now c.nameless-in-None.new.self)) (sym c.nameless-in-None.ensures.same) tt
+
+pub returns-then-next-ge-LAST_NAME-clause-spared : goal.returns-then-next-ge-LAST_NAME-clause-spared
+returns-then-next-ge-LAST_NAME-clause-spared g c = λ space. c.nameless.ensures.spared
+
+pub returns-in-None-clause-spared : goal.returns-in-None-clause-spared
+returns-in-None-clause-spared g c = λ space. c.nameless-in-None.ensures.spared
+
+pub returns-then-next-ge-LAST_NAME-clause-sure : goal.returns-then-next-ge-LAST_NAME-clause-sure
+unfolding loom_told
+returns-then-next-ge-LAST_NAME-clause-sure g c = λ all. let same = told-next g.H.Host c.args.self.now all.told in let past = c.if-next-ge-LAST_NAME.true in let low = all.name in omega (arith, same, past, low)
+
+pub returns-in-None-clause-sure : goal.returns-in-None-clause-sure
+returns-in-None-clause-sure g c = λ all.
+    let m = c.args.self.now in
+    let long = next-long g.H.Host m.parts m.disk.host.now m.disk.rest m.ledger.next c.requires.fit.sound.exact all.told in
+    let is : IsName m.ledger.next = record { even = c.requires.fit.sound.over.based.even; above = omega (arith, long) } in
+    let both = c.in-None.ensures.name.1 is in cc

@@ -8,6 +8,7 @@ use Rattle.loom_memory.proofs.AddLaws.{making-words, next-low}
 use Rattle.loom_memory.proofs.MadeLaws.{asked-last, core-none, fetched-then, made-early, made-sparing}
 use Rattle.loom_memory.proofs.MakingLaws.{made-last, made-now, thinned-ready}
 use Rattle.loom_memory.specs.Own.{IsAskedLast}
+use Rattle.loom_memory.proofs.SparedLaws.{spared-making, sure-making}
 use Rattle.loom_memory.proofs.memory.LoomMemory.make_named.Goals as goal
 
 pub make_here-requires-clause-ready : goal.make_here-requires-clause-ready
@@ -56,3 +57,15 @@ returns-in-Ok-clause-full g c = asked-last c.make_here.result g.H.Host c.args.se
 
 pub returns-in-Err-clause-full : goal.returns-in-Err-clause-full
 returns-in-Err-clause-full g c = core-none c.in-Err.f (IsAskedLast g.H.Host c.args.self.now c.ask_room.new.self) c.in-Err.ensures.full
+
+pub returns-in-Ok-clause-spared : goal.returns-in-Ok-clause-spared
+returns-in-Ok-clause-spared g c = spared-making c.make_here.result g.H.Host c.args.self.now c.ask_room.new.self c.make_here.new.self (making_of c.args.kind c.args.len c.args.header) _ (making-words c.args.kind c.args.len c.args.header) c.in-Ok.ensures.roomy c.in-Ok.ensures.early c.make_here.ensures.spared
+
+pub returns-in-Err-clause-spared : goal.returns-in-Err-clause-spared
+returns-in-Err-clause-spared g c = λ space. c.in-Err.ensures.spared space.0
+
+pub returns-in-Ok-clause-sure : goal.returns-in-Ok-clause-sure
+returns-in-Ok-clause-sure g c = sure-making c.make_here.result g.H.Host c.args.self.now c.ask_room.new.self (making_of c.args.kind c.args.len c.args.header) _ (making-words c.args.kind c.args.len c.args.header) c.in-Ok.ensures.roomy c.make_here.ensures.sure
+
+pub returns-in-Err-clause-sure : goal.returns-in-Err-clause-sure
+returns-in-Err-clause-sure g c = λ all. c.in-Err.ensures.sure all.room

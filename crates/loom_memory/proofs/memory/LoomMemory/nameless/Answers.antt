@@ -7,3 +7,6 @@ returns-clause-err g c = nameless-now g.H.Host c.args.self.now (loom_told g.H.Ho
 
 pub returns-clause-same : goal.returns-clause-same
 returns-clause-same g c = c.refuse.ensures.result
+
+pub returns-clause-spared : goal.returns-clause-spared
+returns-clause-spared g c = c.refuse.ensures.spared

@@ -1,5 +1,5 @@
 use Rattle.std.proofs.Common.{◌≡◌, ◌<◌, ℤ, IsTrue, rules, subst}
-use Rattle.std.specs.Prelude.{OnOk}
+use Rattle.std.specs.Prelude.{IfErr, OnOk}
 use Rattle.std.specs.Int.{w16}
 use Rattle.std.proofs.lemmas.Int.{to_z-of_z}
 use mir.Val.{SFits}
@@ -10,7 +10,8 @@ use Rattle.long_names.specs.Objects.{OfMethod}
 use Rattle.loom_outside.specs.declared.outside.Role.TheVariants.{Work}
 use Rattle.object_memory.specs.Contract.{Accessed, IfBounds}
 use Rattle.loom_memory.specs.Memory.{loom_told}
-use Rattle.loom_memory.specs.Own.{IsSparingMaking}
+use Rattle.loom_memory.specs.Gentle.{IsSpared}
+use Rattle.loom_memory.specs.Own.{HasAllFor, HasSpaceFor, IsSparingMaking}
 use Rattle.loom_memory.proofs.memory.LoomMemory.new_method.Goals as goal
 
 pub returns-clause-access : goal.returns-clause-access
@@ -30,3 +31,15 @@ returns-clause-own g c =
     let fits : SFits w16 c.args.header = search rules in
     let same = to_z-of_z w16 c.args.header fits in
     subst (λ z. OnOk c.make_kind.result (IsSparingMaking g.H.Host c.args.self.now c.make_kind.new.self (OfMethod z c.args.code))) (subst (λ (z : ℤ). IsSmallInteger z → int_of_short c.short_int.result ≡ z) same c.short_int.ensures.value c.requires.may.ranges.0) c.make_kind.ensures.own
+
+pub returns-clause-spared : goal.returns-clause-spared
+returns-clause-spared g c =
+    let fits : SFits w16 c.args.header = search rules in
+    let same = to_z-of_z w16 c.args.header fits in
+    subst (λ z. IfErr c.make_kind.result (λ f. HasSpaceFor c.args.self.now (OfMethod z c.args.code) → IsSpared g.H.Host c.args.self.now c.make_kind.new.self)) (subst (λ (z : ℤ). IsSmallInteger z → int_of_short c.short_int.result ≡ z) same c.short_int.ensures.value c.requires.may.ranges.0) c.make_kind.ensures.spared
+
+pub returns-clause-sure : goal.returns-clause-sure
+returns-clause-sure g c =
+    let fits : SFits w16 c.args.header = search rules in
+    let same = to_z-of_z w16 c.args.header fits in
+    subst (λ z. IfErr c.make_kind.result (λ f. HasAllFor g.H.Host c.args.self.now (OfMethod z c.args.code) → ⊥)) (subst (λ (z : ℤ). IsSmallInteger z → int_of_short c.short_int.result ≡ z) same c.short_int.ensures.value c.requires.may.ranges.0) c.make_kind.ensures.sure

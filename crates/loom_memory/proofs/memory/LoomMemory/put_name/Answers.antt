@@ -24,3 +24,6 @@ returns-in-Ok-clause-naming g c =
 
 pub returns-in-Ok-clause-steady : goal.returns-in-Ok-clause-steady
 returns-in-Ok-clause-steady g c = λ room. steady-trans g.H.Host c.args.self.now c.entry_of.new.self c.put_word.new.self (c.in-Ok.ensures.steady room) c.put_word.ensures.steady
+
+pub returns-in-Ok-clause-unspent : goal.returns-in-Ok-clause-unspent
+returns-in-Ok-clause-unspent g c = λ unspent. steady-trans g.H.Host c.args.self.now c.entry_of.new.self c.put_word.new.self (c.in-Ok.ensures.unspent unspent) c.put_word.ensures.steady

@@ -9,6 +9,9 @@ use Rattle.loom_outside.specs.declared.outside.Role.TheVariants.{Work}
 use Rattle.object_memory.specs.declared.fault.MemFault.{MemFault}
 use Rattle.loom_memory.specs.Makings.{IsLost}
 use Rattle.loom_memory.proofs.GentleLaws.{rest-trans}
+use Rattle.loom_memory.specs.declared.ledger.Ledger.{Ledger}
+use Rattle.loom_memory.specs.Residents.{fetched}
+use Rattle.loom_memory.proofs.SparedLaws.{spared-trans}
 use Rattle.loom_memory.proofs.memory.LoomMemory.put_object.Goals as goal
 
 pub returns-in-Some-clause-made : goal.returns-in-Some-clause-made
@@ -54,3 +57,14 @@ returns-in-None-clause-fault g c = subst (λ (f : MemFault). IsLost f) (sym c.re
 
 pub returns-in-Some-clause-cached : goal.returns-in-Some-clause-cached
 returns-in-Some-clause-cached g c = c.put_word.ensures.steady.gentle.cache ∙ c.in-Some.ensures.cached
+
+pub returns-in-None-clause-spared : goal.returns-in-None-clause-spared
+unfolding fetched
+returns-in-None-clause-spared g c = spared-trans g.H.Host c.args.self.now c.add_object.new.self c.refuse.new.self (record {
+  idle = record { host = ap (λ d. d.host.now) c.add_object.ensures.disk; rest = ap (λ d. d.rest) c.add_object.ensures.disk; fetches = ap (λ (k : Ledger). k.fetches) c.in-None.ensures.ledger };
+  remains = λ told. absurd (c.in-None.ensures.none told);
+  cached = λ told. absurd (c.in-None.ensures.none told);
+}) c.refuse.ensures.spared
+
+pub returns-in-None-clause-sure : goal.returns-in-None-clause-sure
+returns-in-None-clause-sure g c = c.in-None.ensures.none

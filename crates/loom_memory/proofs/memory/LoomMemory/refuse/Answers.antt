@@ -2,6 +2,10 @@ use Rattle.std.proofs.Common.{refl, ap}
 use Rattle.leaf_lambda.specs.Parts.{core_of}
 use Rattle.loom_memory.specs.Memory.{loom_told, told_of, loom_outside}
 use Rattle.loom_memory.specs.declared.ledger.Ledger.{Ledger}
+use Rattle.method_cache.specs.Found.{found}
+use Rattle.loom_memory.specs.Cache.{cache_of}
+use Rattle.loom_memory.specs.Residents.{fetched}
+use Rattle.loom_memory.proofs.GentleLaws.{remains-refl}
 use Rattle.loom_memory.proofs.memory.LoomMemory.refuse.Goals as goal
 
 pub returns-clause-told : goal.returns-clause-told
@@ -18,3 +22,13 @@ returns-clause-outside g c = refl
 
 pub returns-clause-kept : goal.returns-clause-kept
 returns-clause-kept g c = (refl, ap (λ (k : Ledger). k.held) c.refuse.ensures.refused)
+
+pub returns-clause-spared : goal.returns-clause-spared
+unfolding loom_told fetched
+returns-clause-spared g c =
+    let m = c.args.self.now in
+    record {
+      idle = record { host = refl; rest = refl; fetches = ap (λ (k : Ledger). k.fetches) c.refuse.ensures.refused };
+      remains = λ told. remains-refl (core_of m.parts);
+      cached = λ told. ap (λ (k : Ledger). cache_of (core_of m.parts) (found k.rows) k.mark k.begun) c.refuse.ensures.refused;
+    }
