@@ -5,7 +5,7 @@ use Rattle.long_names.specs.Objects.{body_words}
 use Rattle.loom_outside.specs.declared.outside.DiskFault.{DiskFault}
 use Rattle.loom_outside.specs.declared.outside.DiskFault.TheVariants as fault
 use Rattle.object_memory.specs.declared.fault.MemFault.{MemFault}
-use Rattle.object_memory.specs.declared.fault.MemFault.TheVariants.{Damaged, CoreFull}
+use Rattle.object_memory.specs.declared.fault.MemFault.TheVariants.{Damaged, CoreFull, WorkFull, WorkFault, NamesSpent, Said, Memory}
 use Rattle.object_memory.specs.declared.fault.Need.{Need}
 use Rattle.object_record.specs.Buffer.{raw_of}
 use Rattle.object_record.specs.Objects.{object_in}
@@ -20,7 +20,7 @@ use Rattle.loom_outside.specs.declared.outside.Host.{Ghosts}
 use Rattle.object_memory.specs.Told.{Told}
 use Rattle.loom_memory.specs.Memory.{loom_told, word_in, IsQuiet, IsRefusalOf, IsSound}
 use Rattle.loom_memory.proofs.GentleLaws.{entry-at}
-use Rattle.loom_memory.specs.Damage.{IsDamageOf, IsDamaged, words_read}
+use Rattle.loom_memory.specs.Damage.{IsDamageOf, IsDamaged, IsUndamaged, words_read}
 
 -- the name of a register's object, after a quiet step
 quiet-name : {H : Type 0} (host : Ghosts H) (m u : LoomMemory H) (of s : ℕ) → IsSound host u → IsQuiet (loom_told host m) (loom_told host u) → IsRef ((loom_told host m).regs of) → s ≡ word_in u.regs of → name_at ((loom_told host m).regs of) ≡ ((core_of u.parts).entries s).name
@@ -71,3 +71,17 @@ pub quiet-damage : {T H : Type 0} (r : Result T MemFault) (host : Ghosts H) (m u
     → IfErr r (λ f. room → IsDamageOf rest (name_at ((loom_told host m).regs of)) f)
 quiet-damage {T} {H} (Ok x) host m u of s rest room sound quiet ref same is = tt
 quiet-damage {T} {H} (Err f) host m u of s rest room sound quiet ref same is = λ there. subst (λ (k : ℕ). IsDamageOf rest k f) (sym (quiet-name host m u of s sound quiet ref same)) is
+
+-- it isn't Damaged
+undamaged-each : (rest : DiskRest) (name : ℕ) (f : MemFault) → IsUndamaged f → IsDamageOf rest name f
+undamaged-each rest name (Damaged place about) none = absurd none
+undamaged-each rest name (CoreFull need) none = tt
+undamaged-each rest name (WorkFull live room) none = tt
+undamaged-each rest name (WorkFault count) none = tt
+undamaged-each rest name NamesSpent none = tt
+undamaged-each rest name (Said count) none = tt
+undamaged-each rest name Memory none = tt
+
+pub undamaged-of : {T H : Type 0} (r : Result T MemFault) (m n : LoomMemory H) (name : ℕ) → IfErr r IsUndamaged → IsDamaged m n name r
+undamaged-of {T} {H} (Ok x) m n name none = tt
+undamaged-of {T} {H} (Err f) m n name none = λ room. undamaged-each n.disk.rest name f none

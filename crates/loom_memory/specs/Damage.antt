@@ -24,3 +24,8 @@ words_read m = 4 + body_words (object_in (raw_of m.buf)).body
 -- so does that of an access to an object for whose words, and as many entries as a call asks for, there was room
 abbrev pub IsDamaged : {A H : Type 0} → LoomMemory H → LoomMemory H → ℕ → Result A MemFault → Type 0
 IsDamaged old new name result = IfErr result (λ f. HasRoom old.parts (words_read new) SPARE_ENTRIES → IsDamageOf new.disk.rest name f)
+
+-- no Damaged
+abbrev pub IsUndamaged : MemFault → Type 0
+IsUndamaged (Damaged place about) = ⊥
+IsUndamaged f = Unit {0}

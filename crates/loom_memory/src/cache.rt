@@ -71,6 +71,7 @@ fn refresh(p: &Parts, k: &mut Ledger)
 
 impl<'h, H: Host> LoomMemory<'h, H> {
     ghost use Rattle.loom_memory.specs.Gentle.{IsResting, IsSteady};
+    ghost use Rattle.loom_memory.specs.Damage.{IsDamaged};
     ghost use Rattle.loom_memory.specs.Own.{HasPlace, IsSparingChange};
     ghost use Rattle.long_names.specs.State.{name_at};
     ghost use Rattle.long_names.specs.Access.{Mark, Nothing};
@@ -114,6 +115,7 @@ impl<'h, H: Host> LoomMemory<'h, H> {
         ensures own { IsSparingChange H.Host self.old self.new (name_at ((loom_told H.Host self.old).regs r)) result }
         ensures cached { OnOk result (HasPlace H.Host self.old (name_at ((loom_told H.Host self.old).regs r))
             → (loom_told H.Host self.new).cache ≡ with_mark (loom_told H.Host self.old).cache (Some (name_at ((loom_told H.Host self.old).regs r)))) }
+        ensures damage { IsDamaged self.old self.new (name_at ((loom_told H.Host self.old).regs r)) result }
         ensures fit { StaysCallable (IsSound H.Host) (loom_told H.Host) loom_lender (loom_outside H.Host) self.old self.new result }
     {
         match self.load(r) {

@@ -36,6 +36,7 @@ fn has_text(kind: Kind) -> bool
 impl<'h, H: Host> LoomMemory<'h, H> {
     ghost use Rattle.long_names.specs.Counting.{Rose};
     ghost use Rattle.long_names.specs.State.{name_at};
+    ghost use Rattle.loom_memory.specs.Damage.{IsDamaged, IsUndamaged};
     ghost use Rattle.loom_memory.specs.Own.{IsHeard};
     ghost use Rattle.long_names.specs.Access.{Say, Nothing, said_by};
     ghost use Rattle.object_memory.specs.Told.{Told, IsReady};
@@ -71,6 +72,7 @@ impl<'h, H: Host> LoomMemory<'h, H> {
         requires text { IsTrue (H.tells Role.Work) → (all : List ℕ) × (said_by (loom_told H.Host self.old).heap (loom_told H.Host self.old).regs (Say of) ≡ Some all) × (run.now ≡ take (length run.now) (drop i all)) }
         ensures said { OnOk result ((t : Told) → IsSaid t (loom_told H.Host self.old) of i → IsSaid t (loom_told H.Host self.new) of (i + length run.now)) }
         ensures err { IfErr result (λ f. (t : Told) → IsReady t → IsSaid t (loom_told H.Host self.old) of i → IsRefused t (loom_told H.Host self.new) (Say of) f) }
+        ensures undamaged { IfErr result IsUndamaged }
         ensures sound { IsSound H.Host self.new }
         ensures parts { OnOk result (self.new.parts ≡ self.old.parts) }
         ensures regs { OnOk result (self.new.regs ≡ self.old.regs) }
@@ -99,6 +101,7 @@ impl<'h, H: Host> LoomMemory<'h, H> {
         requires long { length piece.old ≡ count }
         ensures said { OnOk result ((t : Told) → IsSaid t (loom_told H.Host self.old) of i → IsSaid t (loom_told H.Host self.new) of (i + count)) }
         ensures err { IfErr result (λ f. (t : Told) → IsReady t → IsSaid t (loom_told H.Host self.old) of i → IsRefused t (loom_told H.Host self.new) (Say of) f) }
+        ensures undamaged { IfErr result IsUndamaged }
         ensures sound { IsSound H.Host self.new }
         ensures parts { OnOk result (self.new.parts ≡ self.old.parts) }
         ensures speech { OnOk result (IsSpeech H.Host self.old self.new) }
@@ -117,6 +120,7 @@ impl<'h, H: Host> LoomMemory<'h, H> {
         requires few { count ≤ 256 }
         ensures said { OnOk result ((t : Told) → IsSaid t (loom_told H.Host self.old) of i → IsSaid t (loom_told H.Host self.new) of (i + count)) }
         ensures err { IfErr result (λ f. (t : Told) → IsReady t → IsSaid t (loom_told H.Host self.old) of i → IsRefused t (loom_told H.Host self.new) (Say of) f) }
+        ensures undamaged { IfErr result IsUndamaged }
         ensures sound { IsSound H.Host self.new }
         ensures parts { OnOk result (self.new.parts ≡ self.old.parts) }
         ensures speech { OnOk result (IsSpeech H.Host self.old self.new) }
@@ -134,6 +138,7 @@ impl<'h, H: Host> LoomMemory<'h, H> {
         requires len { len ≡ ((core_of self.old.parts).entries s.0).len }
         ensures said { OnOk result ((t : Told) → IsSaid t (loom_told H.Host self.old) of 0 → IsSaid t (loom_told H.Host self.new) of len) }
         ensures err { IfErr result (λ f. (t : Told) → IsReady t → IsSaid t (loom_told H.Host self.old) of 0 → IsRefused t (loom_told H.Host self.new) (Say of) f) }
+        ensures undamaged { IfErr result IsUndamaged }
         ensures sound { IsSound H.Host self.new }
         ensures speech { OnOk result (IsSpeech H.Host self.old self.new) }
         ensures lender { self.new.disk.host.ghost_name ≡ self.old.disk.host.ghost_name }
@@ -157,6 +162,7 @@ impl<'h, H: Host> LoomMemory<'h, H> {
         requires may { MayDo (loom_told H.Host self.old) (Say of) }
         ensures access { Accessed (loom_told H.Host self.old) (loom_told H.Host self.new) (Say of) (λ _. Nothing) result }
         ensures own { OnOk result (IsHeard H.Host self.old self.new (name_at ((loom_told H.Host self.old).regs of))) }
+        ensures damage { IsDamaged self.old self.new (name_at ((loom_told H.Host self.old).regs of)) result }
         ensures fit { StaysCallable (IsSound H.Host) (loom_told H.Host) loom_lender (loom_outside H.Host) self.old self.new result }
     {
         match self.load(of) {

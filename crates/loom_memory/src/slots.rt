@@ -40,6 +40,7 @@ impl<'h, H: Host> LoomMemory<'h, H> {
     ghost use Rattle.object_memory.specs.Fit.{KeepsCallable, MayCall, StaysCallable};
     ghost use Rattle.loom_memory.specs.Memory.{loom_told, loom_outside, loom_lender, name_if, IsPinned, IsSound};
     ghost use Rattle.loom_memory.specs.Gentle.{IsSteady};
+    ghost use Rattle.loom_memory.specs.Damage.{IsDamaged};
     ghost use Rattle.loom_memory.specs.Own.{IsSparing};
 
     // Puts the word of an entry with a body into a slot, or 0.
@@ -77,6 +78,7 @@ impl<'h, H: Host> LoomMemory<'h, H> {
         requires slot { slot < 3 }
         ensures access { Accessed (loom_told H.Host self.old) (loom_told H.Host self.new) (Pin slot r) (λ _. Nothing) result }
         ensures own { IsSparing H.Host self.old self.new (name_at ((loom_told H.Host self.old).regs r)) result }
+        ensures damage { IsDamaged self.old self.new (name_at ((loom_told H.Host self.old).regs r)) result }
         ensures fit { StaysCallable (IsSound H.Host) (loom_told H.Host) loom_lender (loom_outside H.Host) self.old self.new result }
     {
         match self.load(r) {

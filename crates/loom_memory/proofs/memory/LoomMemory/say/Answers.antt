@@ -15,6 +15,7 @@ use Rattle.loom_memory.proofs.SayLaws.{silent-refused}
 use Rattle.loom_memory.proofs.TextLaws.{text-loaded, text-none, text-long, said-from, failed-from, say-last, say-ready, keeps-sound, all-said}
 use Rattle.long_names.specs.State.{name_at}
 use Rattle.loom_memory.proofs.GentleLaws.{then-heard}
+use Rattle.loom_memory.proofs.DamageLaws.{amiss-damage, undamaged-of}
 use Rattle.loom_memory.proofs.memory.LoomMemory.say.Goals as goal
 use Rattle.loom_memory.proofs.memory.LoomMemory.say.Given as given
 
@@ -88,3 +89,9 @@ returns-in-Err-clause-access g c = refused-is (loom_told g.H.Host c.args.self.no
 
 pub returns-then-has_text-clause-own : goal.returns-then-has_text-clause-own
 returns-then-has_text-clause-own g c = then-heard c.say_text.result g.H.Host c.args.self.now c.load.new.self c.say_text.new.self (name_at ((loom_told g.H.Host c.args.self.now).regs c.args.of)) c.in-Ok.s c.in-Ok.ensures.own c.say_text.ensures.speech
+
+pub returns-then-has_text-clause-damage : goal.returns-then-has_text-clause-damage
+returns-then-has_text-clause-damage g c = undamaged-of c.say_text.result c.args.self.now c.say_text.new.self (name_at ((loom_told g.H.Host c.args.self.now).regs c.args.of)) c.say_text.ensures.undamaged
+
+pub returns-else-has_text-clause-damage : goal.returns-else-has_text-clause-damage
+returns-else-has_text-clause-damage g c = λ room. amiss-damage g.H.Host c.args.self.now c.load.new.self c.args.of c.in-Ok.s.0 c.amiss.new.self.disk.rest c.amiss.result c.in-Ok.ensures.sound c.in-Ok.ensures.quiet c.requires.may.names c.in-Ok.ensures.word c.amiss.ensures.is

@@ -7,6 +7,9 @@ use Rattle.loom_memory.proofs.StoreLaws.{store-last, store-ready}
 use Rattle.long_names.specs.State.{name_at}
 use Rattle.loom_memory.proofs.GentleLaws.{then-store, err-store}
 use Rattle.loom_memory.proofs.KeepingLaws.{then-keeps}
+use Rattle.purger.specs.Purge.{HasRoom}
+use Rattle.loom_memory.specs.Damage.{words_read}
+use Rattle.loom_memory.proofs.DamageLaws.{quiet-damage}
 use Rattle.loom_memory.proofs.memory.LoomMemory.set_byte.Goals as goal
 
 pub store_byte-requires-clause-ready : goal.store_byte-requires-clause-ready
@@ -38,3 +41,8 @@ returns-in-Err-clause-own g c = err-store g.H.Host c.args.self.now c.open.new.se
 
 pub returns-in-Ok-clause-cached : goal.returns-in-Ok-clause-cached
 returns-in-Ok-clause-cached g c = then-keeps c.store_byte.result g.H.Host c.args.self.now c.open.new.self c.store_byte.new.self c.in-Ok.ensures.cached c.store_byte.ensures.cached
+
+pub returns-in-Ok-clause-damage : goal.returns-in-Ok-clause-damage
+returns-in-Ok-clause-damage g c =
+    let m = c.args.self.now in
+    quiet-damage c.store_byte.result g.H.Host m c.open.new.self c.args.of c.in-Ok.s.0 c.store_byte.new.self.disk.rest (HasRoom m.parts (words_read c.store_byte.new.self) 27) c.in-Ok.ensures.sound c.in-Ok.ensures.quiet c.requires.may.names c.in-Ok.ensures.word c.store_byte.ensures.damage

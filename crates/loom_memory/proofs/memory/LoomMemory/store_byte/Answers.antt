@@ -20,6 +20,9 @@ use Rattle.loom_memory.proofs.OwingLaws.{exact-rewritten}
 use Rattle.loom_memory.proofs.GentleLaws.{rest-refl, store-remains}
 use Rattle.purger.proofs.MarkLaws.{within-marks}
 use Rattle.loom_memory.proofs.KeepingLaws.{marks-keep}
+use Rattle.purger.specs.declared.eviction.TheConstants.{NOWHERE}
+use Rattle.object_memory.specs.declared.fault.MemFault.TheVariants.{Damaged}
+use Rattle.loom_memory.proofs.DamageLaws.{nowhere-damage}
 use Rattle.loom_memory.proofs.memory.LoomMemory.store_byte.Goals as goal
 use Rattle.loom_memory.proofs.memory.LoomMemory.store_byte.Given as given
 
@@ -114,3 +117,7 @@ returns-then-fits-clause-cached g c =
     let m = c.args.self.now in
     let core = c.put_byte.ensures.parts.core in
     marks-keep g.H.Host m _ c.requires.sound core (within-marks (core_of m.parts) (core_of c.put_byte.new.p) c.args.s.0 c.requires.sound.kept.parts.core core c.put_byte.ensures.within) refl
+
+pub returns-clause-damage : goal.returns-clause-damage
+unfolding core_of
+returns-clause-damage g c = nowhere-damage c.refuse.new.self.disk.rest ((core_of c.args.self.now.parts).entries c.args.s.0).name c.refuse.result (c.refuse.ensures.result ∙ ap (Damaged NOWHERE) (c.get.ensures.value ∙ ap (λ (e : Entry). e.name) c.entry-e.ensures))

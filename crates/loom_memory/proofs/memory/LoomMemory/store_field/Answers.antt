@@ -11,6 +11,10 @@ use Rattle.loom_memory.proofs.StoreLaws.{stored-quiet}
 use Rattle.loom_memory.proofs.LoadLaws.{field-none, field-told}
 use Rattle.loom_memory.proofs.FieldLaws.{told-bounds, at-field, word-live, damaged-refused}
 use Rattle.loom_memory.proofs.GentleLaws.{glance-trans, peek-glance, rest-glance}
+use Rattle.purger.specs.declared.eviction.TheConstants.{NOWHERE}
+use Rattle.object_table.specs.declared.entry.Entry.{Entry}
+use Rattle.object_memory.specs.declared.fault.MemFault.TheVariants.{Damaged}
+use Rattle.loom_memory.proofs.DamageLaws.{nowhere-damage}
 use Rattle.loom_memory.proofs.memory.LoomMemory.store_field.Goals as goal
 use Rattle.loom_memory.proofs.memory.LoomMemory.store_field.Given as given
 
@@ -82,3 +86,7 @@ returns-in-Ok-clause-cached g c = c.exchange_field.ensures.cached ∙ c.in-Ok.en
 
 pub returns-clause-cached : goal.returns-clause-cached
 returns-clause-cached g c = c.exchange_field-2.ensures.cached
+
+pub returns-then-i-field_total-clause-damage : goal.returns-then-i-field_total-clause-damage
+unfolding core_of
+returns-then-i-field_total-clause-damage g c = nowhere-damage c.refuse.new.self.disk.rest ((core_of c.args.self.now.parts).entries c.args.s.0).name c.refuse.result (c.refuse.ensures.result ∙ ap (Damaged NOWHERE) (c.get-name.ensures.value ∙ ap (λ (e : Entry). e.name) c.entry.ensures))

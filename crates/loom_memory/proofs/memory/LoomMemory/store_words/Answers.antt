@@ -21,6 +21,9 @@ use Rattle.loom_memory.proofs.OwingLaws.{exact-rewritten}
 use Rattle.loom_memory.proofs.GentleLaws.{rest-refl, store-remains}
 use Rattle.purger.proofs.MarkLaws.{within-marks}
 use Rattle.loom_memory.proofs.KeepingLaws.{marks-keep}
+use Rattle.purger.specs.declared.eviction.TheConstants.{NOWHERE}
+use Rattle.object_memory.specs.declared.fault.MemFault.TheVariants.{Damaged}
+use Rattle.loom_memory.proofs.DamageLaws.{nowhere-damage}
 use Rattle.loom_memory.proofs.memory.LoomMemory.store_words.Goals as goal
 use Rattle.loom_memory.proofs.memory.LoomMemory.store_words.Given as given
 
@@ -115,3 +118,7 @@ returns-then-fits-clause-cached g c =
     let m = c.args.self.now in
     let core = c.put_words.ensures.parts.core in
     marks-keep g.H.Host m _ c.requires.sound core (within-marks (core_of m.parts) (core_of c.put_words.new.p) c.args.s.0 c.requires.sound.kept.parts.core core c.put_words.ensures.within) refl
+
+pub returns-clause-damage : goal.returns-clause-damage
+unfolding core_of
+returns-clause-damage g c = nowhere-damage c.refuse.new.self.disk.rest ((core_of c.args.self.now.parts).entries c.args.s.0).name c.refuse.result (c.refuse.ensures.result ∙ ap (Damaged NOWHERE) (c.get.ensures.value ∙ ap (λ (e : Entry). e.name) c.entry-e.ensures))
