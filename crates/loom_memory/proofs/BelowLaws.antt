@@ -1,5 +1,5 @@
 -- Names in a record that are below the next one: the loop that tests them, and that over a told heap it never says no.
-use Rattle.std.proofs.Common.{zero, suc, ◌≡◌, ◌↔◌, ℕ, ◌+◌, ◌%◌, ◌<◌, Bool, true, false, cond, eqb, ◌||◌, List, [], ◌∷◌, length, map, refl, sym, ◌∙◌, ap, subst, arith, Option, None, Some, Result, Ok, Err, IsTrue, ⊎_elim}
+use Rattle.std.proofs.Common.{zero, suc, ◌≡◌, ◌↔◌, ℕ, ◌%◌, ◌<◌, Bool, true, false, cond, eqb, ◌||◌, List, [], ◌∷◌, length, map, refl, sym, ◌∙◌, ap, subst, arith, Option, None, Some, Result, Ok, Err, IsTrue, ⊎_elim}
 use Rattle.std.proofs.lemmas.Grind.{common_steps}
 use Rattle.std.specs.Prelude.{nat_lt, slice_index}
 use Rattle.std.specs.List.{list_any}
@@ -7,7 +7,7 @@ use Rattle.std.specs.Result.{OnOk}
 use Rattle.long_names.specs.declared.value.Value.{Value}
 use Rattle.long_names.specs.declared.value.Value.TheVariants.{Int, Ref}
 use Rattle.long_names.specs.declared.object.Object.{Object}
-use Rattle.long_names.specs.Objects.{holds, is_ref, fields_of}
+use Rattle.long_names.specs.Objects.{is_ref, fields_of}
 use Rattle.long_names.specs.Heap.{Heap}
 use Rattle.long_names.specs.Thin.{IsWhole}
 use Rattle.long_names.proofs.ThinLemmas.{or_cases, or_first, holds-cases}

@@ -16,11 +16,9 @@ use Rattle.loom_memory.specs.declared.memory.LoomMemory.{LoomMemory}
 use Rattle.loom_memory.proofs.RegLaws.{kept-rooted, register-held, word-there}
 use Rattle.long_names.specs.State.{IsRef}
 use Rattle.long_names.specs.Need.{Fits}
-use Rattle.long_names.specs.Access.{Access}
 use Rattle.object_memory.specs.declared.fault.MemFault.{MemFault}
 use Rattle.object_memory.specs.declared.fault.Need.{Need}
 use Rattle.object_memory.specs.Told.{Told, IsReady}
-use Rattle.object_memory.specs.Contract.{makes}
 use Rattle.disk_objects.specs.Function.{disk_of}
 use Rattle.object_record.specs.Buffer.{raw_of}
 use Rattle.object_record.specs.Objects.{object_in}
@@ -39,7 +37,7 @@ use Rattle.purger.specs.declared.room.Pinned.{Pinned}
 use Rattle.loom_memory.specs.declared.ledger.Ledger.{Ledger}
 use Rattle.purger.specs.Purge.{IsShort}
 use Rattle.object_table.specs.Entries.{sum_below, used_by}
-use Rattle.loom_memory.specs.Memory.{heap_if, word_in, loom_told, IsSound, IsCalm, IsKept, IsQuiet, IsSilent, IsRefused, IsRefusedAt, IsNeed, IsRead, IsSized}
+use Rattle.loom_memory.specs.Memory.{heap_if, word_in, loom_told, IsSound, IsCalm, IsKept, IsQuiet, IsRefusedAt, IsNeed, IsRead, IsSized}
 use Rattle.core_view.proofs.Chunks.{words-few}
 use Rattle.loom_memory.proofs.CallLaws.{unfit-entries, unfit-words, refused-at}
 use Rattle.loom_memory.proofs.CacheLaws.{left-refl}

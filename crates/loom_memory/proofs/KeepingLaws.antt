@@ -1,5 +1,5 @@
 -- Calls that leave the method cache as it was: what they store into, or what goes, isn't marked.
-use Rattle.std.proofs.Common.{◌≡◌, ◌⊎◌, ℕ, Bool, false, refl, sym, ◌∙◌, ap, subst, Result, Ok, Err, ⊎_elim}
+use Rattle.std.proofs.Common.{◌≡◌, ◌⊎◌, ℕ, Bool, false, sym, ◌∙◌, ap, subst, Result, Ok, Err, ⊎_elim}
 use Rattle.std.specs.Result.{OnOk}
 use Rattle.long_names.specs.declared.value.Value.{Value}
 use Rattle.long_names.specs.State.{name_at, IsRef}

@@ -11,11 +11,9 @@ use Rattle.loom_memory.specs.Memory.{loom_told, IsRefusedAt}
 use Rattle.loom_memory.proofs.AccessLaws.{quiet-ready, quiet-trans}
 use Rattle.loom_memory.proofs.CallLaws.{leaf-words, refused-at}
 use Rattle.loom_memory.proofs.BringLaws.{leaf-still, still-read, read-sized, unfit}
-use Rattle.loom_memory.specs.Residents.{fetched}
 use Rattle.loom_memory.proofs.GentleLaws.{fetched-same, gentle-trans}
 use Rattle.loom_memory.proofs.DamageLaws.{full-damage}
 use Rattle.loom_memory.proofs.memory.LoomMemory.bring_leaf.Goals as goal
-use Rattle.loom_memory.proofs.memory.LoomMemory.bring_leaf.Given as given
 
 pub come-requires-clause-leaf : goal.come-requires-clause-leaf
 come-requires-clause-leaf g c = let still = leaf-still c.args.self.now.pinned (core_of c.args.self.now.parts) (core_of c.clear.new.self.parts) c.args.s.0 c.requires.sound.kept.parts.core c.in-Ok.ensures.sound.kept.parts.core c.in-Ok.ensures.calm c.in-Ok.ensures.leaves c.requires.out c.requires.leaf in (still.used, still.leaf)

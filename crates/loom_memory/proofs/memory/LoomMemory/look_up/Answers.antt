@@ -7,7 +7,7 @@ use Rattle.loom_memory.proofs.BelowLaws.{own-below}
 use Rattle.leaf_lambda.specs.Parts.{core_of}
 use Rattle.leaf_lambda.proofs.RecordLaws.{unresolved-words}
 use Rattle.disk_objects.specs.Function.{disk_of}
-use Rattle.loom_memory.specs.Memory.{loom_told, loom_outside, told_of}
+use Rattle.loom_memory.specs.Memory.{loom_told, loom_outside}
 use Rattle.purger.proofs.EvictLaws.{not-fetched, was-fetched}
 use Rattle.loom_memory.proofs.ExactLaws.{exact-read}
 use Rattle.loom_memory.proofs.CalmLaws.{read-over, work-outside}

@@ -17,7 +17,7 @@ use Rattle.leaf_lambda.proofs.RecordLaws.{fields-values, map-get}
 use Rattle.std.proofs.lemmas.Option.{slice_get_within}
 use Rattle.disk_objects.specs.Function.{disk_of}
 use Rattle.core_view.specs.Purge.{fresh_by}
-use Rattle.loom_memory.specs.Memory.{loom_told, loom_outside, told_of, IsCalm}
+use Rattle.loom_memory.specs.Memory.{loom_told, loom_outside, IsCalm}
 use Rattle.loom_memory.specs.Numbers.{IsNumbered}
 use Rattle.core_view.specs.Kept.{IsValued}
 use Rattle.loom_memory.proofs.ExactLaws.{exact-brought}
