@@ -4,9 +4,9 @@
 //   replace what Image or Events read. Work, which is attached first, isn't cut where another role is expected to have its file.
 // - What was written to a file is on the disk before the next role is attached, and Display's once each write is done; else
 //   that call fails.
-// - Saved is written beside its file, and takes its name when the next role is attached. So at any moment, also after a kill
-//   or a loss of power, the file of that name is the old one or the new one, whole. Only a file that is none of the kind, as
-//   a device, or one in a folder where none can be made, is written in its place.
+// - Saved is written beside its file, and takes its name when the next role is attached, or where a piece of no bytes ends it.
+//   So at any moment, also after a kill or a loss of power, the file of that name is the old one or the new one, whole. Only a
+//   file that is none of the kind, as a device, or one in a folder where none can be made, is written in its place.
 ghost use Rattle.std.specs.Prelude.{◌≡◌, false};
 ghost use Rattle.loom_outside.specs.Outside.{at_start};
 ghost use Rattle.loom_outside.specs.Real.{faults_counted, writes_counted};
@@ -29,7 +29,7 @@ use std::rt::Files;
 /// each failure, a call on a role that isn't attached among them. It keeps no bytes back: each call goes
 /// on to the file or the writer. A read or a write that a signal interrupts is made again, and
 /// has failed only where that happened 1,000 times in a row. The opening of a file is made again by std.
-/// Saved is attached until another role is: then it has its name, and takes no more.
+/// Saved is attached until another role is, or a piece of no bytes is put to it: then it has its name, and takes no more.
 #[derive(Drop)]
 pub struct RealHost<R: Files + Alloc, T: Write, N: Write> {
     files: Attached<R, T, N>,

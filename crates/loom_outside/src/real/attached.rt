@@ -274,12 +274,17 @@ impl<R: Files + Alloc, T: Write, N: Write> Attached<R, T, N> {
         }
     }
 
-    // Where it fails, Saved is given up, and the file of its name stays as it was.
+    // Where it fails, Saved is given up, and the file of its name stays as it was. A piece of no bytes ends it: then what was written is on
+    // the disk, and has its name.
     fn write_saved(&mut self, buf: &[u8]) -> Option<usize>
         ensures bound { IfSome result (λ n. n ≤ length buf.now) }
         ensures some { 0 < length buf.now → IfSome result (λ n. 0 < n) }
     {
         let mut saving = self.saving.take()?;
+        if buf.is_empty() {
+            self.saved = saving.finish(&self.rt).ok()?;
+            return Some(0);
+        }
         let moved = write_some(&mut saving.opened.file, buf);
         match moved {
             Some(_) => self.saving = Some(saving),
