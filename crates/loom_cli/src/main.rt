@@ -70,6 +70,9 @@ fn answer<H: Host>(alloc: Global, host: &mut H, words: Result<Vec<String>, Alloc
     ExitCode::from(status.code())
 }
 
+// The first word of a run.
+const RUN: &str = "run";
+
 // The files of a run beside the work file, with their places among the words.
 const FILES: [(Role, usize); 4] = [
     (Role::Image, 1),
@@ -78,8 +81,13 @@ const FILES: [(Role, usize); 4] = [
     (Role::Display, 5),
 ];
 
-// Tells the host which files a run will have, so that the work file, which is made first, takes the place of none of them.
+// Tells the host which files a run will have, so that the work file, which is made first, takes the place of none of them. Another command
+// has no work file.
 fn expect_files<T: Write, N: Write>(host: &mut RealHost<HostRuntime, T, N>, words: &[String]) {
+    let is_run = words.first().is_some_and(|word| word.as_str() == RUN);
+    if !is_run {
+        return;
+    }
     for (role, place) in FILES {
         if let Some(word) = words.get(place) {
             host.expect(role, word.as_str());

@@ -1,5 +1,6 @@
 -- Right words, a right image, right events, room, and no fault give the model's own end.
 use Rattle.std.proofs.Common.{◌≡◌, ℕ, ◌≤◌, ◌++◌, Bool, false, List, Option, None, Some, nat_lt, IsTrue, inl, refl, sym, ◌∙◌, ap, subst, append_assoc, arith}
+use Rattle.std.specs.Prelude.{IsFalse}
 use Rattle.std.proofs.lemmas.Bool.Decides.{nat_tests}
 use Rattle.loom_outside.specs.declared.outside.Role.{Role}
 use Rattle.loom_outside.specs.declared.outside.Role.TheVariants.{Image, Events, Work}
@@ -16,9 +17,10 @@ use Rattle.loom_run.specs.Ends.{IsRightImage, bytes_of}
 use Rattle.loom_run.specs.Meanings.{Meanings}
 use Rattle.loom_run.specs.Promise.{EndsAt, Promise}
 use Rattle.loom_run.specs.Stages.{Stage, Opening, Reading, Listening, Making, Running, Finishing, Saving, Drawing, Telling, Ends}
-use Rattle.loom_run.specs.Words.{Row, bad_word, row_of}
+use Rattle.loom_run.specs.Words.{Row, asks_make, bad_word, row_of}
 use Rattle.loom_run.specs.declared.status.Status.{Status}
 use Rattle.loom_run.specs.declared.status.Status.TheVariants as answer
+use Rattle.loom_run.proofs.HeadlineLaws.{made-never}
 
 -- ---- a right image
 
@@ -106,6 +108,7 @@ module _ (tells : Role → Bool) (before now : Meanings) (row : Row) (image : Is
   pub completes : (stage : Stage) (result : Status) → EndsAt tells before now row stage result → IsOwnEnd result
   completes stage (answer.Done ran) at = tt
   completes stage (answer.Quit ran) at = tt
+  completes stage (answer.Made objects) at = made-never stage objects at.answer
   completes stage (answer.Usage word) at = never-usage stage word at.answer
   completes stage (answer.ImageBad rule place) at = never-bad stage rule place at
   completes stage (answer.EventsBad line) at = never-line stage line at
@@ -119,6 +122,6 @@ module _ (tells : Role → Bool) (before now : Meanings) (row : Row) (image : Is
   completes stage answer.OutOfMemory at = tt
   completes stage (answer.Damaged place name) at = at.whole work tt
 
-pub completes_from : (tells : Role → Bool) (before now : Meanings) (words : List (List ℕ)) (result : Status) → IsTrue (tells Image) → IsTrue (tells Events) → IsTrue (tells Work) → bad_word words ≡ None → Promise tells before now words result
+pub completes_from : (tells : Role → Bool) (before now : Meanings) (words : List (List ℕ)) (result : Status) → IsTrue (tells Image) → IsTrue (tells Events) → IsTrue (tells Work) → IsFalse (asks_make words) → bad_word words ≡ None → Promise tells before now words result
     → CanEnd (bytes_of (now.roles Image)) (bytes_of (now.roles Events)) (row_of words) before.faults now.faults → IsOwnEnd result
-completes_from tells before now words result image events work right p can = let e = p.ends right in completes tells before now (row_of words) image events work can e.0 result e.1
+completes_from tells before now words result image events work run right p can = let e = p.ends run right in completes tells before now (row_of words) image events work can e.0 result e.1

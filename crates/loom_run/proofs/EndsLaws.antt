@@ -27,6 +27,7 @@ rose-since a b c low h = omega (arith, low, h)
 pub cause-since : (status : Status) (before mid now : Role → ℕ) → ((role : Role) → before role ≤ mid role) → IsCaused status mid now → IsCaused status before now
 cause-since (answer.Done ran) before mid now later h = tt
 cause-since (answer.Quit ran) before mid now later h = tt
+cause-since (answer.Made objects) before mid now later h = tt
 cause-since (answer.Usage word) before mid now later h = tt
 cause-since (answer.ImageBad rule place) before mid now later h = tt
 cause-since (answer.EventsBad line) before mid now later h = tt

@@ -1,5 +1,6 @@
 -- What the promise gives of a run that answers Done or Quit.
-use Rattle.std.proofs.Common.{◌≡◌, ℕ, ◌≤◌, ◌++◌, Bool, List, None, true, IsTrue, refl, ◌∙◌, ap, subst}
+use Rattle.std.proofs.Common.{◌≡◌, ℕ, ◌≤◌, ◌++◌, Bool, List, None, true, false, IsTrue, refl, ◌∙◌, ap, subst}
+use Rattle.std.specs.Prelude.{IsFalse}
 use Rattle.loom_outside.specs.declared.outside.Role.{Role}
 use Rattle.loom_outside.specs.declared.outside.Role.TheVariants.{Image, Events, Work, Saved, Display, Transcript}
 use Rattle.blue_model.specs.declared.step.Step.{Step}
@@ -17,7 +18,7 @@ use Rattle.loom_run.specs.Headline.{HasHeadline, HasSmall, HeadlineBy, SmallBy, 
 use Rattle.loom_run.specs.Meanings.{Meanings}
 use Rattle.loom_run.specs.Promise.{EndsAt, Promise}
 use Rattle.loom_run.specs.Stages.{Stage, Opening, Reading, Listening, Making, Running, Finishing, Saving, Drawing, Telling, Ends}
-use Rattle.loom_run.specs.Words.{Row, bad_word, row_of}
+use Rattle.loom_run.specs.Words.{Row, asks_make, bad_word, row_of}
 use Rattle.loom_run.specs.declared.status.Status.{Status}
 use Rattle.loom_run.specs.declared.status.Status.TheVariants as answer
 
@@ -43,6 +44,28 @@ quit-last Finishing ran h = absurd h
 quit-last Saving ran h = absurd h
 quit-last Drawing ran h = absurd h
 quit-last Telling ran h = refl
+
+-- Made comes at none, and Done and Quit of no making
+pub made-never : {P : Type 0} (stage : Stage) (objects : ℕ) → Ends stage (answer.Made objects) → P
+made-never Opening objects h = absurd h
+made-never Reading objects h = absurd h
+made-never Listening objects h = absurd h
+made-never Making objects h = absurd h
+made-never Running objects h = absurd h
+made-never Finishing objects h = absurd h
+made-never Saving objects h = absurd h
+made-never Drawing objects h = absurd h
+made-never Telling objects h = absurd h
+
+a-run : (asks : Bool) → (IsTrue asks → ⊥) → IsFalse asks
+a-run true never = absurd (never refl)
+a-run false never = refl
+
+done-run : (tells : Role → Bool) (before now : Meanings) (words : List (List ℕ)) (ran : ℕ) → bad_word words ≡ None → Promise tells before now words (answer.Done ran) → IsFalse (asks_make words)
+done-run tells before now words ran right p = a-run (asks_make words) (λ make. (p.makes make right).answer)
+
+quit-run : (tells : Role → Bool) (before now : Meanings) (words : List (List ℕ)) (ran : ℕ) → bad_word words ≡ None → Promise tells before now words (answer.Quit ran) → IsFalse (asks_make words)
+quit-run tells before now words ran right p = a-run (asks_make words) (λ make. (p.makes make right).answer)
 
 -- a run that was parked, and what was written of it
 module _ (tells : Role → Bool) (before now : Meanings) (row : Row) (status : Status) (told : TellsHeadline tells) (ran : ℕ) (end : Step) where
@@ -74,12 +97,12 @@ at-end {tells} {before} {now} {row} {status} stage at same = subst (λ s. EndsAt
 
 pub headline_from : (tells : Role → Bool) (before now : Meanings) (words : List (List ℕ)) (result : Status) → TellsHeadline tells → Promise tells before now words result → bad_word words ≡ None → HeadlineBy result before now (row_of words).steps
 headline_from tells before now words (answer.Done ran) told p right =
-    let e = p.ends right in
+    let e = p.ends (done-run tells before now words ran right p) right in
     let at = at-end e.0 e.1 (done-last e.0 ran e.1.answer) in
     let r = at.run told.image told.events told.work refl in
     of-run tells before now (row_of words) (answer.Done ran) told ran Next r (r.run.goes refl)
 headline_from tells before now words (answer.Quit ran) told p right =
-    let e = p.ends right in
+    let e = p.ends (quit-run tells before now words ran right p) right in
     let at = at-end e.0 e.1 (quit-last e.0 ran e.1.answer) in
     let r = at.run told.image told.events told.work refl in
     of-run tells before now (row_of words) (answer.Quit ran) told ran Quit r (r.run.goes refl)
@@ -103,9 +126,9 @@ small-of {tells} {before} {now} {row} {status} r = record {
 
 pub small_from : (tells : Role → Bool) (before now : Meanings) (words : List (List ℕ)) (result : Status) → IsTrue (tells Image) → IsTrue (tells Events) → IsTrue (tells Work) → Promise tells before now words result → bad_word words ≡ None → SmallBy result now (row_of words)
 small_from tells before now words (answer.Done ran) image events work p right =
-    let e = p.ends right in
+    let e = p.ends (done-run tells before now words ran right p) right in
     small-of ((at-end e.0 e.1 (done-last e.0 ran e.1.answer)).run image events work refl)
 small_from tells before now words (answer.Quit ran) image events work p right =
-    let e = p.ends right in
+    let e = p.ends (quit-run tells before now words ran right p) right in
     small-of ((at-end e.0 e.1 (quit-last e.0 ran e.1.answer)).run image events work refl)
 small_from tells before now words _ image events work p right = tt

@@ -4,6 +4,7 @@ pub mod Frames
 pub mod HeadlineLaws
 pub mod Lines
 pub mod MachineLaws
+pub mod MakingLaws
 pub mod MemoryLaws
 pub mod Numbers
 pub mod ProgramLaws

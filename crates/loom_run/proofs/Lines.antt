@@ -5,12 +5,12 @@ use Rattle.loom_outside.specs.Outside.{PutPrefix, puts}
 use Rattle.loom_outside.specs.declared.outside.Role.TheVariants.{Image, Events, Work, Saved, Display, Transcript, Notes}
 use Rattle.loom_run.specs.Meanings.{Meanings, IsLeft}
 use Rattle.loom_run.specs.Status.{line_of}
-use Rattle.loom_run.specs.Ends.{HasRun, Noted, NotedBy}
+use Rattle.loom_run.specs.Ends.{HasBegun, HasRun, Noted, NotedBy}
 use Rattle.long_names.specs.Counting.{Rose}
 use Rattle.loom_run.specs.Parts.{IsTold, unsaid}
 use Rattle.loom_run.specs.Steps.{IsOfRun}
 use Rattle.loom_run.specs.declared.status.Status.{Status}
-use Rattle.loom_run.specs.declared.status.Status.TheVariants.{Done, Quit, Usage, ImageBad, EventsBad, Stuck, CoreFull, NamesSpent, WorkFull, ReadFault, WorkFault, WriteFault, OutOfMemory, Damaged}
+use Rattle.loom_run.specs.declared.status.Status.TheVariants.{Done, Quit, Made, Usage, ImageBad, EventsBad, Stuck, CoreFull, NamesSpent, WorkFull, ReadFault, WorkFault, WriteFault, OutOfMemory, Damaged}
 
 -- a whole line, and a cut one
 noted-whole : (line : List ℕ) (before now : Meanings) → now.roles Notes ≡ puts line (before.roles Notes) → Noted line before now
@@ -28,15 +28,16 @@ noted-own status result before now stays (inl whole) p = (whole.answer, noted-wh
 noted-own status result before now stays (inr cut) p = (cut.answer ∙ stays, noted-cut (line_of status) before now cut.rose (cut.put p))
 
 -- the line is the same where nothing was done with Notes before it
-told-since : {told : Bool} (status result : Status) (before mid now : Meanings) → IsLeft Notes before mid → IsTold told status result mid now → IsTold told status result before now
+pub told-since : {told : Bool} (status result : Status) (before mid now : Meanings) → IsLeft Notes before mid → IsTold told status result mid now → IsTold told status result before now
 told-since status result before mid now left (inl whole) = inl record { answer = whole.answer; put = λ p. rw left.state at (whole.put p) }
 told-since status result before mid now left (inr cut) = inr record { answer = cut.answer; rose = rw left.faults at cut.rose; put = λ p. rw left.state at (cut.put p) }
 
-noted-told : {told : Bool} (status result : Status) (steps : ℕ) (before now : Meanings) → IsOfRun status → HasRun status steps → IsTold told status result before now → IsTrue told → NotedBy result steps before now
+noted-told : {told : Bool} (status result : Status) (steps : ℕ) (before now : Meanings) → IsOfRun status → HasRun status steps → IsTold told status result before now → IsTrue told → NotedBy result (HasBegun steps) before now
 noted-told (Done ran) result steps before now of_run run (inl whole) p = rw whole.answer (whole.put p)
 noted-told (Done ran) result steps before now of_run run (inr cut) p = rw (cut.answer, sym run) (inl (cut.put p))
 noted-told (Quit ran) result steps before now of_run run (inl whole) p = rw whole.answer (whole.put p)
 noted-told (Quit ran) result steps before now of_run run (inr cut) p = rw cut.answer (inr (ran, run, cut.put p))
+noted-told (Made objects) result steps before now of_run run told p = absurd of_run
 noted-told (Usage word) result steps before now of_run run told p = absurd of_run
 noted-told (ImageBad rule place) result steps before now of_run run told p = let own = noted-own _ _ _ _ refl told p in rw own.0 own.1
 noted-told (EventsBad line) result steps before now of_run run told p = let own = noted-own _ _ _ _ refl told p in rw own.0 own.1
@@ -57,5 +58,5 @@ noted-told (Damaged place name) result steps before now of_run run told p = let 
 noted-told OutOfMemory result steps before now of_run run told p = let own = noted-own _ _ _ _ refl told p in rw own.0 own.1
 
 -- what a run promises of Notes, where it answered this status before its line
-pub noted-run : {told : Bool} (status result : Status) (steps : ℕ) (before mid now : Meanings) → IsOfRun status → HasRun status steps → IsLeft Notes before mid → IsTold told status result mid now → IsTrue told → NotedBy result steps before now
+pub noted-run : {told : Bool} (status result : Status) (steps : ℕ) (before mid now : Meanings) → IsOfRun status → HasRun status steps → IsLeft Notes before mid → IsTold told status result mid now → IsTrue told → NotedBy result (HasBegun steps) before now
 noted-run status result steps before mid now of_run run left told = noted-told status result steps before now of_run run (told-since status result before mid now left told)

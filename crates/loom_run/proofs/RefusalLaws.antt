@@ -3,12 +3,13 @@ use Rattle.std.proofs.Common.{◌≡◌, ◌≢◌, ℕ, Bool, true, false, List
 use Rattle.std.specs.Prelude.{◌⊎◌, IsFalse, IsSome}
 use Rattle.loom_outside.specs.declared.outside.Role.{Role}
 use Rattle.loom_outside.specs.declared.outside.Role.TheVariants.{Image, Events, Work, Saved, Display, Transcript, Notes}
+use Rattle.loom_run.specs.Makes.{Makes}
 use Rattle.loom_run.specs.Meanings.{Meanings, IsLeft, LeavesBut}
 use Rattle.loom_run.specs.Promise.{EndsAt, Promise}
 use Rattle.loom_run.specs.Refusals.{CameTo, LeavesFiles, role_of}
 use Rattle.loom_run.specs.Stages.{Stage, Opening, Reading, Listening, Making, Running, Finishing, Saving, Drawing, Telling, Ends, reaches, stage_of}
 use Rattle.loom_run.specs.Status.{usage_of}
-use Rattle.loom_run.specs.Words.{Row, bad_word, row_of}
+use Rattle.loom_run.specs.Words.{MakeRow, Row, asks_make, bad_word, make_of, row_of}
 use Rattle.loom_run.specs.declared.status.Status.{Status}
 use Rattle.loom_run.specs.declared.status.Status.TheVariants as answer
 
@@ -54,9 +55,9 @@ reached Telling (answer.Quit ran) h = refl
 reached Telling (answer.WriteFault Notes count) h = refl
 reached Telling _ h = absurd h
 
-pub came_from : (tells : Role → Bool) (before now : Meanings) (words : List (List ℕ)) (result : Status) → Promise tells before now words result → usage_of result ≡ None → CameTo tells before now (row_of words) (role_of result)
-came_from tells before now words result p none =
-    let e = p.ends (sym p.usage ∙ none) in
+pub came_from : (tells : Role → Bool) (before now : Meanings) (words : List (List ℕ)) (result : Status) → Promise tells before now words result → IsFalse (asks_make words) → usage_of result ≡ None → CameTo tells before now (row_of words) (role_of result)
+came_from tells before now words result p asks none =
+    let e = p.ends asks (sym p.usage ∙ none) in
     λ told. e.1.attached (role_of result) told (reached e.0 result e.1.answer)
 
 -- ---- what was not reached is left
@@ -115,6 +116,14 @@ module _ {tells : Role → Bool} {before now : Meanings} {row : Row} where
   leaves Telling (answer.WriteFault Notes count) h at = tt
   leaves Telling _ h at = absurd h
 
+-- a making leaves Display
+made-leaves : (tells : Role → Bool) (before now : Meanings) (row : MakeRow) (status : Status) → Makes tells before now row status → LeavesFiles status before now
+made-leaves tells before now row (answer.Made objects) m = m.others.others Display (λ e. cc, (λ e. cc, tt))
+made-leaves tells before now row (answer.WriteFault Saved count) m = m.others.others Display (λ e. cc, (λ e. cc, tt))
+made-leaves tells before now row (answer.WriteFault Notes count) m = tt
+made-leaves tells before now row answer.OutOfMemory m = m.others.others Display (λ e. cc, tt)
+made-leaves tells before now row _ m = absurd m.answer
+
 -- words that are no command leave all but Notes
 unasked : (tells : Role → Bool) (before now : Meanings) (words : List (List ℕ)) (result : Status) → Promise tells before now words result → IsSome (bad_word words) → LeavesFiles result before now
 unasked tells before now words result p some = of result (p.unasked some)
@@ -122,6 +131,7 @@ unasked tells before now words result p some = of result (p.unasked some)
     of : (status : Status) → LeavesBut (Notes ∷ []) before now → LeavesFiles status before now
     of (answer.Done ran) l = tt
     of (answer.Quit ran) l = tt
+    of (answer.Made objects) l = l.others Display (λ e. cc, tt)
     of (answer.WriteFault Saved count) l = l.others Display (λ e. cc, tt)
     of (answer.WriteFault Display count) l = tt
     of (answer.WriteFault Notes count) l = tt
@@ -133,6 +143,10 @@ unasked tells before now words result p some = of result (p.unasked some)
 pub leaves_from : (tells : Role → Bool) (before now : Meanings) (words : List (List ℕ)) (result : Status) → Promise tells before now words result → LeavesFiles result before now
 leaves_from tells before now words result p = go (bad_word words) refl
   where
+    right : (b : Bool) → asks_make words ≡ b → bad_word words ≡ None → LeavesFiles result before now
+    right true asks e = made-leaves tells before now (make_of words) result (p.makes asks e)
+    right false asks e = let end = p.ends asks e in leaves end.0 result end.1.answer end.1
+
     go : (o : Option ℕ) → bad_word words ≡ o → LeavesFiles result before now
-    go None e = let end = p.ends e in leaves end.0 result end.1.answer end.1
+    go None e = right (asks_make words) refl e
     go (Some word) e = unasked tells before now words result p (subst IsSome (sym e) refl)

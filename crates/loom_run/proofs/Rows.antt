@@ -1,11 +1,12 @@
--- The words that are a run's.
-use Rattle.std.specs.Prelude.{◌≢◌, if◌then◌else◌, String}
-use Rattle.std.proofs.Common.{◌≡◌, ◌↔◌, ◌+◌, ◌≤◌, ◌<◌, ◌^◌, ℕ, List, [], ◌∷◌, Bool, true, false, Option, None, Some, Result, Err, length, refl, sym, ap, subst, ◌∙◌, arith, codes, decimal}
+-- The words that are a run's, and those that are a making's.
+use Rattle.std.specs.Prelude.{◌≢◌, ◌⊎◌, if◌then◌else◌, String}
+use Rattle.std.proofs.Common.{◌≡◌, ◌↔◌, ◌+◌, ◌≤◌, ◌<◌, ◌^◌, ℕ, List, [], ◌∷◌, Bool, true, false, Option, None, Some, Result, Err, inl, inr, length, refl, sym, ap, subst, ◌∙◌, arith, codes, decimal}
 use Rattle.std.proofs.lemmas.Slice.Eq.{bytes_eq-Decides}
 use Rattle.std.proofs.lemmas.Bool.Decides.{nat_tests}
 use Rattle.std.specs.Str.{bytes_eq}
 use Rattle.loom_run.proofs.Numbers.{number-decimal, number-least, number-most, decimal-number, decimal-value}
-use Rattle.loom_run.specs.Words.{Check, IsRow, Row, anything, bad_from, bad_word, error_of, texts_of, is_from, is_none_at, is_number, is_run, row_of}
+use Rattle.loom_gen.specs.declared.generator.TheConstants.{LAST_NUMBER}
+use Rattle.loom_run.specs.Words.{Check, IsMake, IsRow, MakeRow, Row, anything, asks_make, bad_from, bad_in, bad_word, error_of, texts_of, is_from, is_make, is_none_at, is_number, is_run, make_of, make_row, row_asked, row_of, run_row}
 use Rattle.loom_run.specs.declared.words.TheConstants.{LEAST_CORE, MOST_CORE, LEAST_ENTRIES, MOST_ENTRIES, LEAST_ROOM, MOST_ROOM, MOST_STEPS}
 
 -- the checks of a row by the files that it names, and those behind them
@@ -137,7 +138,7 @@ row-from_numbers all others a b c d e f begins right =
     in row-from_ten all a b c d e f g h i j (subst (λ ws. BeginsRun all ws a b c d e f) four begins) core entries room steps))))
 
 -- words of which none is bad are a row
-row-from_words : (words : List (List ℕ)) → bad_word words ≡ None → IsRow words (row_of words)
+row-from_words : (words : List (List ℕ)) → bad_in run_row words ≡ None → IsRow words (row_of words)
 row-from_words words right =
     take-word 1 is_run (anything ∷ anything ∷ work_check ∷ saved_check ∷ display_check ∷ number_checks) words words right (λ a w1 is1 command h1.
     take-word 2 anything (anything ∷ work_check ∷ saved_check ∷ display_check ∷ number_checks) words w1 h1 (λ b w2 is2 _ h2.
@@ -178,14 +179,14 @@ pub right-files : (all : List (List ℕ)) (image events work saved display : Lis
     → all ≡ codes "run" ∷ image ∷ events ∷ work ∷ saved ∷ display ∷ others
     → (work ≢ image) × (work ≢ events) × (work ≢ saved) × (work ≢ display)
     → (display ≢ image) × (display ≢ events) × (display ≢ saved)
-    → bad_word all ≡ bad_from 7 number_checks all others
+    → bad_in run_row all ≡ bad_from 7 number_checks all others
 right-files all image events work saved display others is work_apart display_apart =
     let row : List (List ℕ) = codes "run" ∷ image ∷ events ∷ work ∷ saved ∷ display ∷ others
     in let at_work : work_check row work ≡ true = work-right image events work (work ∷ saved ∷ display ∷ others) work_apart.0 work_apart.1
     in let at_saved : saved_check row saved ≡ true = saved-right image events work saved (saved ∷ display ∷ others) (flip work saved work_apart.2)
     in let at_display : display_check row display ≡ true =
     display-right image events work saved display (display ∷ others) display_apart.0 display_apart.1 (flip work display work_apart.3) display_apart.2
-    in subst (λ ws. bad_word ws ≡ bad_from 7 number_checks ws others) (sym is) (
+    in subst (λ ws. bad_in run_row ws ≡ bad_from 7 number_checks ws others) (sym is) (
     right-word 4 work_check (saved_check ∷ display_check ∷ number_checks) row work _ (saved ∷ display ∷ others) refl at_work
     ∙ right-word 5 saved_check (display_check ∷ number_checks) row saved _ (display ∷ others) refl at_saved
     ∙ right-word 6 display_check number_checks row display _ others refl at_display)
@@ -207,7 +208,7 @@ pub right-steps : (n : ℕ) (all words others : List (List ℕ)) → n ≤ MOST_
 right-steps n all words others within is = right-number 10 0 MOST_STEPS n [] all words others (omega arith) (omega arith) within is
 
 -- and of a row none is bad
-pub row-to_words : (words : List (List ℕ)) (row : Row) → IsRow words row → bad_word words ≡ None
+pub row-to_words : (words : List (List ℕ)) (row : Row) → IsRow words row → bad_in run_row words ≡ None
 row-to_words words row is =
     let w9 : List (List ℕ) = decimal row.steps ∷ []
     in let w8 : List (List ℕ) = decimal row.room ∷ w9
@@ -236,7 +237,74 @@ pub extra-word : {Z : Type 0} (all : List (List ℕ)) (words : List (String Z)) 
 extra-word all [] some = absurd (omega arith)
 extra-word all (word ∷ words) some = refl
 
-pub row-same : (words : List (List ℕ)) → (bad_word words ≡ None) ↔ IsRow words (row_of words)
-row-same words = (row-from_words words, row-to_words words (row_of words))
+-- ---- the words of a making
 
-pub ruleset row_rules = (row-same)
+abbrev pub file_checks : List Check
+file_checks = anything ∷ []
+
+abbrev pub make_checks : List Check
+make_checks = is_from 0 LAST_NUMBER ∷ file_checks
+
+-- behind `make` a number may be bad, and behind the number its file may be missing
+right-make : (all others : List (List ℕ)) → all ≡ codes "make" ∷ others → bad_in make_row all ≡ bad_from 2 make_checks all others
+right-make all others is = right-word 1 is_make make_checks all (codes "make") all others is refl
+
+pub right-image : (n : ℕ) (all words others : List (List ℕ)) → n ≤ LAST_NUMBER → words ≡ decimal n ∷ others → bad_from 2 make_checks all words ≡ bad_from 3 file_checks all others
+right-image n all words others low is = right-number 2 0 LAST_NUMBER n file_checks all words others (omega arith) (omega arith) low is
+
+pub right-file : (file : List ℕ) (all words others : List (List ℕ)) → words ≡ file ∷ others → bad_from 3 file_checks all words ≡ bad_from 4 [] all others
+right-file file all words others is = right-word 3 anything [] all file words others is refl
+
+pub make-to_words : (words : List (List ℕ)) (row : MakeRow) → IsMake words row → bad_in make_row words ≡ None
+make-to_words words row is =
+    let w3 : List (List ℕ) = row.file ∷ []
+    in let w2 : List (List ℕ) = decimal row.number ∷ w3
+    in right-make words w2 is.words_are ∙ right-image row.number words w2 w3 is.number refl ∙ right-file row.file words w3 [] refl
+
+three-make : (a b c : List ℕ) → bytes_eq a (codes "make") ≡ true → is_number 0 LAST_NUMBER b ≡ true → IsMake (a ∷ b ∷ c ∷ []) (make_of (a ∷ b ∷ c ∷ []))
+three-make a b c make number =
+    let command : a ≡ codes "make" = grind (arith, nat_tests, bytes_eq-Decides)
+    in record { words_are = rw (command, number-decimal 0 LAST_NUMBER b (omega arith) number) refl; number = number-most 0 LAST_NUMBER b number }
+
+make-from_words : (words : List (List ℕ)) → bad_in make_row words ≡ None → IsMake words (make_of words)
+make-from_words words right =
+    take-word 1 is_make make_checks words words right (λ a w1 is1 make h1.
+    take-word 2 (is_from 0 LAST_NUMBER) file_checks words w1 h1 (λ b w2 is2 number h2.
+    take-word 3 anything [] words w2 h2 (λ c w3 is3 _ h3.
+    let three : words ≡ a ∷ b ∷ c ∷ [] = is1 ∙ ap (λ ws. a ∷ ws) (is2 ∙ ap (λ ws. b ∷ ws) (is3 ∙ ap (λ ws. c ∷ ws) (take-end 4 words w3 h3)))
+    in subst (λ ws. IsMake ws (make_of ws)) (sym three) (three-make a b c make number))))
+
+pub make-of_texts : (words : List (List ℕ)) (row : MakeRow) → IsMake words row → row ≡ make_of words
+make-of_texts words row is = subst (λ ws. row ≡ make_of ws) (sym is.words_are) (rw (decimal-value row.number (let low = is.number in omega (arith, low))) refl)
+
+pub extra-file : {Z : Type 0} (all : List (List ℕ)) (words : List (String Z)) → 0 < length words → bad_from 4 [] all (texts_of words) ≡ Some 4
+extra-file all [] some = absurd (omega arith)
+extra-file all (word ∷ words) some = refl
+
+-- ---- the words of either
+
+right-from : (words : List (List ℕ)) (asks : Bool) → bad_in (row_asked asks) words ≡ None → IsRow words (row_of words) ⊎ IsMake words (make_of words)
+right-from words true right = inr (make-from_words words right)
+right-from words false right = inl (row-from_words words right)
+
+pub asked-row : (words : List (List ℕ)) (row : Row) → IsRow words row → asks_make words ≡ false
+asked-row words row is = ap asks_make is.words_are
+
+pub asked-make : (words : List (List ℕ)) (row : MakeRow) → IsMake words row → asks_make words ≡ true
+asked-make words row is = ap asks_make is.words_are
+
+-- the first word decides the row
+pub bad-make : (words others : List (List ℕ)) → words ≡ codes "make" ∷ others → bad_word words ≡ bad_from 2 make_checks words others
+bad-make words others is = ap (λ asks. bad_in (row_asked asks) words) (ap asks_make is) ∙ right-make words others is
+
+pub bad-run : (words : List (List ℕ)) → asks_make words ≡ false → bad_word words ≡ bad_in run_row words
+bad-run words asks = ap (λ asks. bad_in (row_asked asks) words) asks
+
+right-to : (words : List (List ℕ)) → IsRow words (row_of words) ⊎ IsMake words (make_of words) → bad_word words ≡ None
+right-to words (inl is) = ap (λ asks. bad_in (row_asked asks) words) (asked-row words (row_of words) is) ∙ row-to_words words (row_of words) is
+right-to words (inr is) = ap (λ asks. bad_in (row_asked asks) words) (asked-make words (make_of words) is) ∙ make-to_words words (make_of words) is
+
+pub right-same : (words : List (List ℕ)) → (bad_word words ≡ None) ↔ (IsRow words (row_of words) ⊎ IsMake words (make_of words))
+right-same words = (right-from words (asks_make words), right-to words)
+
+pub ruleset row_rules = (right-same)

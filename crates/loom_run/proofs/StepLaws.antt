@@ -1,6 +1,7 @@
 -- What the steps that read an image and save one leave of a host, and why they are refused.
-use Rattle.std.proofs.Common.{◌≡◌, ◌≢◌, ℕ, ◌≤◌, Bool, true, false, List, [], ◌++◌, None, Some, Result, IsTrue, inl, inr, refl, sym, ◌∙◌, ap, subst, take, drop, take-append-drop, append_assoc, arith}
+use Rattle.std.proofs.Common.{◌≡◌, ◌≢◌, ℕ, ◌≤◌, Bool, true, false, List, [], ◌++◌, None, Some, Result, IsTrue, inl, inr, refl, sym, ◌∙◌, ap, subst, length, take, drop, take-append-drop, append_assoc, arith}
 use Rattle.std.specs.Prelude.{is_ok}
+use Rattle.std.proofs.Math.Seq.{take-length}
 use Rattle.std.specs.Result.{IsErrAnd}
 use Rattle.std.proofs.lemmas.Result.{err_from_is_err_and}
 use Rattle.long_names.specs.Heap.{Heap}
@@ -117,6 +118,13 @@ written-from text bytes a b c opened same = record {
 
 pub begun-from : (text bytes : List ℕ) (a b c : RoleState) → WasWritten text [] a b → PutPrefix bytes b c → WasBegun text bytes a c
 begun-from text bytes a b c opened part = (part.0, part.1, written-from text (take part.0 bytes) a b c opened part.2)
+
+-- where all was put, and what was to end it failed
+pub begun-whole : (text bytes : List ℕ) (a b c : RoleState) → WasWritten text bytes a b → c ≡ b → WasBegun text bytes a c
+begun-whole text bytes a b c whole same = (length bytes, omega arith, rw take-length (subst (WasWritten text bytes a) (sym same) whole))
+
+pub begun-written : {T E : Type 0} (text bytes : List ℕ) (a b : RoleState) (r : Result T E) (e : E) → IsErrAnd r (λ y. y ≡ e) → WasBegun text bytes a b → WrittenBy (is_ok r) text bytes a b
+begun-written text bytes a b r e is begun = let q = err_from_is_err_and r is in subst (λ x. WrittenBy (is_ok x) text bytes a b) (sym q.1) (inr begun)
 
 -- the answer of a `?` is no whole writing
 pub not-written : {T : Type 0} (text bytes : List ℕ) (a b : RoleState) (r : Result T Status) (e : Status) → IsErrAnd r (λ y. y ≡ e) → WasRefused text a b → WrittenBy (is_ok r) text bytes a b

@@ -12,18 +12,19 @@ use Rattle.blue_model.specs.Cycle.{Ending, Parked, Stuck}
 use Rattle.blue_model.specs.Endings.{IsParked, IsParkedBy, OnDrawn, OnParked}
 use Rattle.blue_model.specs.Logs.{Course}
 use Rattle.loom_run.specs.Ends.{AreEvents, AttachedOnce, BeginsEnd, GoesThrough, IsCaused, IsRightImage, JudgesEvents, JudgesImage, NotedBy, RunOf, RunsTo, SaysStopped, WasRead, WrittenBy, bytes_of, image_of, word_for}
+use Rattle.loom_run.specs.Makes.{HasBegunFor}
 use Rattle.loom_run.specs.Meanings.{Meanings, IsLeft, LeavesBut}
 use Rattle.loom_run.specs.Parts.{IsTold, unsaid}
 use Rattle.loom_run.specs.Promise.{EndsAt, Promise}
 use Rattle.loom_run.specs.Stages.{Stage, Telling, Saving, Drawing, passes, reaches, stage_of}
 use Rattle.loom_run.specs.Status.{line_of, usage_of}
 use Rattle.loom_run.specs.Steps.{IsOfRun, RunEnds}
-use Rattle.loom_run.specs.Words.{Row, bad_word, row_of}
+use Rattle.loom_run.specs.Words.{Row, asks_make, bad_word, row_of}
 use Rattle.loom_run.specs.declared.status.Status.{Status}
 use Rattle.loom_run.specs.declared.status.Status.TheVariants as answer
-use Rattle.loom_run.proofs.HeadlineLaws.{done-last, quit-last}
+use Rattle.loom_run.proofs.HeadlineLaws.{done-last, made-never, quit-last}
 use Rattle.loom_run.proofs.Lines.{noted-own, noted-run}
-use Rattle.loom_run.proofs.UsesLaws.{left-then}
+use Rattle.loom_run.proofs.UsesLaws.{left-then, never}
 use Rattle.loom_run.proofs.WrittenLaws.{cuts-none}
 
 -- ---- what the line leaves
@@ -38,6 +39,7 @@ module _ (mid now : Meanings) (leaves : LeavesBut (Notes ∷ []) mid now) where
   cause-now : (status : Status) (before : Role → ℕ) → IsOfRun status → IsCaused status before mid.faults → IsCaused status before now.faults
   cause-now (answer.Done ran) before of_run h = tt
   cause-now (answer.Quit ran) before of_run h = tt
+  cause-now (answer.Made objects) before of_run h = tt
   cause-now (answer.Usage word) before of_run h = tt
   cause-now (answer.ImageBad rule place) before of_run h = tt
   cause-now (answer.EventsBad line) before of_run h = tt
@@ -163,6 +165,7 @@ module _ (tells : Role → Bool) (before now : Meanings) (row : Row) (rose : Ros
   unsaid-end : (stage : Stage) (status : Status) → (IsTrue (tells Notes) → PutPrefix (line_of status) (before.roles Notes) (now.roles Notes)) → EndsAt tells before now row stage status → (last : Stage) × EndsAt tells before now row last (unsaid status (now.faults Notes))
   unsaid-end stage (answer.Done ran) put at = (Telling, cut-end (λ c goes. parked Next ran c.ending goes) (λ c goes told. inl (ran, goes, put told)) (telling stage (answer.Done ran) at (done-last stage ran at.answer)))
   unsaid-end stage (answer.Quit ran) put at = (Telling, cut-end (λ c goes. parked Quit ran c.ending goes) (λ c goes told. inr (ran, goes, put told)) (telling stage (answer.Quit ran) at (quit-last stage ran at.answer)))
+  unsaid-end stage (answer.Made objects) put at = made-never stage objects at.answer
   unsaid-end stage (answer.Usage word) put at = (stage, at)
   unsaid-end stage (answer.ImageBad rule place) put at = (stage, at)
   unsaid-end stage (answer.EventsBad line) put at = (stage, at)
@@ -181,6 +184,7 @@ module _ (tells : Role → Bool) (before now : Meanings) (row : Row) (rose : Ros
 usage-none : (status : Status) → IsOfRun status → usage_of status ≡ None
 usage-none (answer.Done ran) h = refl
 usage-none (answer.Quit ran) h = refl
+usage-none (answer.Made objects) h = refl
 usage-none (answer.Usage word) h = absurd h
 usage-none (answer.ImageBad rule place) h = refl
 usage-none (answer.EventsBad line) h = refl
@@ -197,6 +201,7 @@ usage-none (answer.Damaged place name) h = refl
 usage-unsaid : (status : Status) (count : ℕ) → IsOfRun status → usage_of (unsaid status count) ≡ None
 usage-unsaid (answer.Done ran) count h = refl
 usage-unsaid (answer.Quit ran) count h = refl
+usage-unsaid (answer.Made objects) count h = refl
 usage-unsaid (answer.Usage word) count h = absurd h
 usage-unsaid (answer.ImageBad rule place) count h = refl
 usage-unsaid (answer.EventsBad line) count h = refl
@@ -210,7 +215,7 @@ usage-unsaid (answer.WriteFault role faults) count h = refl
 usage-unsaid answer.OutOfMemory count h = refl
 usage-unsaid (answer.Damaged place name) count h = refl
 
-module _ (tells : Role → Bool) (before mid now : Meanings) (words : List (List ℕ)) (status result : Status) (right : bad_word words ≡ None) (run : RunEnds tells before mid (row_of words) status) (leaves : LeavesBut (Notes ∷ []) mid now) where
+module _ (tells : Role → Bool) (before mid now : Meanings) (words : List (List ℕ)) (status result : Status) (asks : IsFalse (asks_make words)) (right : bad_word words ≡ None) (run : RunEnds tells before mid (row_of words) status) (leaves : LeavesBut (Notes ∷ []) mid now) where
   ends : IsTold (tells Notes) status result mid now → (stage : Stage) × EndsAt tells before now (row_of words) stage result
   ends (inl whole) = (run.stage, subst (λ s. EndsAt tells before now (row_of words) run.stage s) (sym whole.answer) (at-now mid now leaves run.of_run run.at))
   ends (inr cut) =
@@ -229,8 +234,9 @@ module _ (tells : Role → Bool) (before mid now : Meanings) (words : List (List
   promise-told told = record {
     usage = usage told ∙ sym right;
     unasked = asked (bad_word words) right;
-    ends = λ none. ends told;
-    noted = λ tells. noted-run status result (row_of words).steps before mid now run.of_run run.at.ran run.untold told tells;
+    ends = λ run none. ends told;
+    makes = λ make. never (subst IsTrue asks make);
+    noted = λ tells. subst (λ b. NotedBy result (HasBegunFor b words) before now) (sym asks) (noted-run status result (row_of words).steps before mid now run.of_run run.at.ran run.untold told tells);
     later = λ role. let first = run.later role in let then = leaves.later role in omega (arith, first, then);
   }
 
@@ -247,7 +253,8 @@ pub promise-usage : (tells : Role → Bool) (before now : Meanings) (words : Lis
 promise-usage tells before now words word result bad told leaves = record {
   usage = ap usage_of (usage-is word result before now told) ∙ bad;
   unasked = λ some. leaves;
-  ends = λ none. some-none word (bad_word words) bad none;
-  noted = λ tell. let own = noted-own (answer.Usage word) result before now refl told tell in subst (λ s. NotedBy s (row_of words).steps before now) (sym own.0) own.1;
+  ends = λ run none. some-none word (bad_word words) bad none;
+  makes = λ make none. some-none word (bad_word words) bad none;
+  noted = λ tell. let own = noted-own (answer.Usage word) result before now refl told tell in subst (λ s. NotedBy s (HasBegunFor (asks_make words) words) before now) (sym own.0) own.1;
   later = leaves.later;
 }

@@ -35,6 +35,7 @@ parked-of end ran (Stuck why count said) h = h
 goes-refused : (status : Status) (c : Course) → ((ran : ℕ) → status ≡ answer.Done ran → ⊥) → ((ran : ℕ) → status ≡ answer.Quit ran → ⊥) → IsParked c.ending → GoesThrough status c
 goes-refused (answer.Done ran) c done quit h = absurd (done ran refl)
 goes-refused (answer.Quit ran) c done quit h = absurd (quit ran refl)
+goes-refused (answer.Made objects) c done quit h = h
 goes-refused (answer.Usage word) c done quit h = h
 goes-refused (answer.ImageBad rule place) c done quit h = h
 goes-refused (answer.EventsBad line) c done quit h = h
@@ -59,6 +60,7 @@ cuts-none (answer.WriteFault Display count) c old new of_run = tt
 cuts-none (answer.WriteFault Transcript count) c old new of_run = tt
 cuts-none (answer.Done ran) c old new of_run = tt
 cuts-none (answer.Quit ran) c old new of_run = tt
+cuts-none (answer.Made objects) c old new of_run = tt
 cuts-none (answer.Usage word) c old new of_run = tt
 cuts-none (answer.ImageBad rule place) c old new of_run = tt
 cuts-none (answer.EventsBad line) c old new of_run = tt
@@ -173,6 +175,7 @@ module _ (tells : Role → Bool) (before : Meanings) (row : Row) (state : Words)
 pub finished-refusal : {tells : Role → Bool} (now : Meanings) (row : Row) (status : Status) → IsFinished status → HasRun status row.steps → IsRefusal tells now now row Telling status
 finished-refusal now row (answer.Done ran) fin ran_is = record { answer = tt; of_run = tt; ran = ran_is; cause = tt; whole = λ work damaged. damaged }
 finished-refusal now row (answer.Quit ran) fin ran_is = record { answer = tt; of_run = tt; ran = ran_is; cause = tt; whole = λ work damaged. damaged }
+finished-refusal now row (answer.Made objects) fin ran_is = absurd fin
 finished-refusal now row (answer.Usage word) fin ran_is = absurd fin
 finished-refusal now row (answer.ImageBad rule place) fin ran_is = absurd fin
 finished-refusal now row (answer.EventsBad line) fin ran_is = absurd fin

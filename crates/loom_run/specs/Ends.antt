@@ -29,7 +29,7 @@ use Rattle.loom_run.specs.Stages.{Stage, Running, Saving, Drawing, Telling, pass
 use Rattle.loom_run.specs.Status.{line_of}
 use Rattle.loom_run.specs.Words.{Row}
 use Rattle.loom_run.specs.declared.status.Status.{Status}
-use Rattle.loom_run.specs.declared.status.Status.TheVariants.{Done, Quit, ImageBad, EventsBad, Stuck, CoreFull, NamesSpent, WorkFull, ReadFault, WorkFault, WriteFault, OutOfMemory, Damaged}
+use Rattle.loom_run.specs.declared.status.Status.TheVariants.{Done, Quit, Made, ImageBad, EventsBad, Stuck, CoreFull, NamesSpent, WorkFull, ReadFault, WorkFault, WriteFault, OutOfMemory, Damaged}
 
 -- ---- faults
 
@@ -225,14 +225,15 @@ pub record Noted (line : List ℕ) (before now : Meanings) : Type 0 where
 abbrev pub HasBegun : ℕ → RoleState → RoleState → Type 0
 HasBegun steps old new = PutPrefix (line_of (Done steps)) old new ⊎ ((ran : ℕ) × (ran ≤ steps) × PutPrefix (line_of (Quit ran)) old new)
 
--- What was put to Notes. Done and Quit have their whole line there. Where that couldn't be written, the answer is a fault of Notes and no
--- second line is begun. Any other answer has its own line there, or as much of it as could be written.
-abbrev pub NotedFor : Role → ℕ → ℕ → Meanings → Meanings → Type 0
-NotedFor Notes count steps before now = HasBegun steps (before.roles Notes) (now.roles Notes)
-NotedFor role count steps before now = Noted (line_of (WriteFault role count)) before now
+-- What was put to Notes. Done, Quit and Made have their whole line there. Where that couldn't be written, the answer is a fault of Notes and no
+-- second line is begun: `Begun` says which line was. Any other answer has its own line there, or as much of it as could be written.
+abbrev pub NotedFor : Role → ℕ → (RoleState → RoleState → Type 0) → Meanings → Meanings → Type 0
+NotedFor Notes count Begun before now = Begun (before.roles Notes) (now.roles Notes)
+NotedFor role count Begun before now = Noted (line_of (WriteFault role count)) before now
 
-abbrev pub NotedBy : Status → ℕ → Meanings → Meanings → Type 0
-NotedBy (Done ran) steps before now = now.roles Notes ≡ puts (line_of (Done ran)) (before.roles Notes)
-NotedBy (Quit ran) steps before now = now.roles Notes ≡ puts (line_of (Quit ran)) (before.roles Notes)
-NotedBy (WriteFault role count) steps before now = NotedFor role count steps before now
-NotedBy status steps before now = Noted (line_of status) before now
+abbrev pub NotedBy : Status → (RoleState → RoleState → Type 0) → Meanings → Meanings → Type 0
+NotedBy (Done ran) Begun before now = now.roles Notes ≡ puts (line_of (Done ran)) (before.roles Notes)
+NotedBy (Quit ran) Begun before now = now.roles Notes ≡ puts (line_of (Quit ran)) (before.roles Notes)
+NotedBy (Made objects) Begun before now = now.roles Notes ≡ puts (line_of (Made objects)) (before.roles Notes)
+NotedBy (WriteFault role count) Begun before now = NotedFor role count Begun before now
+NotedBy status Begun before now = Noted (line_of status) before now

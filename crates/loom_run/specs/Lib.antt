@@ -3,6 +3,7 @@ pub mod Command
 pub mod Completes
 pub mod Ends
 pub mod Headline
+pub mod Makes
 pub mod Meanings
 pub mod Parts
 pub mod Promise

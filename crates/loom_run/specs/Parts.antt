@@ -14,7 +14,7 @@ use Rattle.machine_run.specs.declared.running.Reason.TheVariants.{ByStop, NoMemo
 use Rattle.loom_run.specs.Meanings.{Meanings}
 use Rattle.loom_run.specs.Status.{line_of}
 use Rattle.loom_run.specs.declared.status.Status.{Status}
-use Rattle.loom_run.specs.declared.status.Status.TheVariants.{Done, Quit, Stuck, CoreFull, NamesSpent, WorkFull, WorkFault, WriteFault, OutOfMemory, Damaged}
+use Rattle.loom_run.specs.declared.status.Status.TheVariants.{Done, Quit, Made, Stuck, CoreFull, NamesSpent, WorkFull, WorkFault, WriteFault, OutOfMemory, Damaged}
 
 -- ---- faults as answers
 
@@ -52,6 +52,7 @@ IsFinished _ = ⊥
 abbrev pub unsaid : Status → ℕ → Status
 unsaid (Done ran) now = WriteFault Notes now
 unsaid (Quit ran) now = WriteFault Notes now
+unsaid (Made objects) now = WriteFault Notes now
 unsaid status now = status
 
 -- the last line was put whole, or failed, where Notes is told or not

@@ -3,7 +3,7 @@ use Rattle.std.specs.Prelude.{ℕ, List, ◌++◌, codes, decimal, Option, Some,
 use Rattle.loom_outside.specs.declared.outside.Role.{Role}
 use Rattle.loom_outside.specs.declared.outside.Role.TheVariants.{Image, Events, Work, Saved, Display, Transcript, Notes}
 use Rattle.loom_run.specs.declared.status.Status.{Status}
-use Rattle.loom_run.specs.declared.status.Status.TheVariants.{Done, Quit, Usage, ImageBad, EventsBad, Stuck, CoreFull, NamesSpent, WorkFull, ReadFault, WorkFault, WriteFault, OutOfMemory, Damaged}
+use Rattle.loom_run.specs.declared.status.Status.TheVariants.{Done, Quit, Made, Usage, ImageBad, EventsBad, Stuck, CoreFull, NamesSpent, WorkFull, ReadFault, WorkFault, WriteFault, OutOfMemory, Damaged}
 
 -- what a role is called
 abbrev pub role_text : Role → List ℕ
@@ -19,6 +19,7 @@ role_text Notes = codes "Notes"
 abbrev pub text_of_status : Status → List ℕ
 text_of_status (Done ran) = codes "ran " ++ decimal ran
 text_of_status (Quit ran) = codes "quit after " ++ decimal ran
+text_of_status (Made objects) = codes "made " ++ decimal objects ++ codes " objects"
 text_of_status (Usage word) = codes "usage: word " ++ decimal word
 text_of_status (ImageBad rule place) = codes "image: rule " ++ decimal rule ++ codes " at " ++ decimal place
 text_of_status (EventsBad line) = codes "events: line " ++ decimal line
@@ -41,6 +42,7 @@ line_of status = text_of_status status ++ codes "\n"
 abbrev pub code_of : Status → ℕ
 code_of (Done ran) = 0
 code_of (Quit ran) = 0
+code_of (Made objects) = 0
 code_of (Usage word) = 2
 code_of (ImageBad rule place) = 3
 code_of (EventsBad line) = 4

@@ -19,12 +19,13 @@ use Rattle.blue_model.specs.Endings.{OnParked, OnDrawn, IsParkedBy, said_in}
 use Rattle.machine_run.specs.States.{model_state, state_held}
 use Rattle.machine_run.specs.declared.running.Finished.{Finished}
 use Rattle.loom_run.specs.Ends.{AreEvents, AttachedOnce, HasRun, IsCaused, IsDamaged, IsImageOf, SaysStopped, Stops, WasRead, bytes_of, head_of, image_of, word_for}
+use Rattle.loom_run.specs.Makes.{Makes}
 use Rattle.loom_run.specs.Meanings.{Meanings, IsLeft}
 use Rattle.loom_run.specs.Promise.{EndsAt}
 use Rattle.loom_run.specs.Stages.{Stage, Opening, Ends, passes, reaches, stage_of}
-use Rattle.loom_run.specs.Words.{Row}
+use Rattle.loom_run.specs.Words.{MakeRow, Row}
 use Rattle.loom_run.specs.declared.status.Status.{Status}
-use Rattle.loom_run.specs.declared.status.Status.TheVariants.{Usage, ReadFault, WriteFault}
+use Rattle.loom_run.specs.declared.status.Status.TheVariants.{Made, Usage, ReadFault, WriteFault}
 
 -- ---- the roles
 
@@ -41,9 +42,10 @@ pub record Uses (tells : Role → Bool) (before now : Meanings) (row : Row) (sta
   pub unused : (role : Role) → IsFalse (reaches (stage_of role) stage) → IsLeft role before now
   pub later : (role : Role) → before.faults role ≤ now.faults role
 
--- an answer that isn't about the words or the last line
+-- an answer of a run that isn't about the words or the last line
 abbrev pub IsOfRun : Status → Type 0
 IsOfRun (Usage word) = ⊥
+IsOfRun (Made objects) = ⊥
 IsOfRun (ReadFault role count) = role ≢ Notes
 IsOfRun (WriteFault role count) = role ≢ Notes
 IsOfRun _ = Unit {0}
@@ -130,3 +132,16 @@ pub record RunEnds (tells : Role → Bool) (before now : Meanings) (row : Row) (
   pub of_run : IsOfRun result
   pub untold : IsLeft Notes before now
   pub later : (role : Role) → before.faults role ≤ now.faults role
+
+-- ---- the end of a making, before its last line
+
+-- an answer that isn't about the last line
+abbrev pub IsOfMaking : Status → Type 0
+IsOfMaking (WriteFault role count) = role ≢ Notes
+IsOfMaking _ = Unit {0}
+
+-- It ended with this answer, and nothing was put to Notes.
+pub record MakeEnds (tells : Role → Bool) (before now : Meanings) (row : MakeRow) (result : Status) : Type 0 where
+  pub makes : Makes tells before now row result
+  pub of_making : IsOfMaking result
+  pub untold : IsLeft Notes before now

@@ -1,9 +1,11 @@
--- The words of a command: `run`, the files of the image and of the events, the work file, the files of the saved image and of the picture,
--- the words and the entries of the core, for how many objects there is room, and the number of bytecodes.
+-- The words of a command. Those of a run are `run`, the files of the image and of the events, the work file, the files of the saved image and
+-- of the picture, the words and the entries of the core, for how many objects there is room, and the number of bytecodes. Those of a making
+-- are `make`, the number of an image, and the file that it is written to.
 use Rattle.std.specs.Prelude.{◌≡◌, ◌≢◌, ℕ, ◌+◌, ◌≤◌, decimal, Bool, true, false, List, [], ◌∷◌, map, codes, Option, Some, None, Result, Ok, Err, if◌then◌else◌, ◌&&◌, nat_lt, nat_le, slice_index_or, string_bytes, String}
 use Rattle.std.specs.Char.{is_ascii_digit}
 use Rattle.std.specs.Str.{bytes_eq, all_ascii_digits}
 use Rattle.std.specs.Str.Parse.{digits_value}
+use Rattle.loom_gen.specs.declared.generator.TheConstants.{LAST_NUMBER}
 use Rattle.loom_run.specs.declared.words.TheConstants.{LEAST_CORE, MOST_CORE, LEAST_ENTRIES, MOST_ENTRIES, LEAST_ROOM, MOST_ROOM, MOST_STEPS}
 
 -- the words as bytes
@@ -20,7 +22,7 @@ is_plain_number (digit ∷ digits) = nat_lt 48 digit && all_ascii_digits (digit 
 abbrev pub is_number : ℕ → ℕ → List ℕ → Bool
 is_number least most word = is_plain_number word && (nat_le least (digits_value 10 word) && nat_le (digits_value 10 word) most)
 
--- ---- the row of a run
+-- ---- the rows of words
 
 -- Whether a word may stand at its place, behind these that stand before it.
 abbrev pub Check : Type 0
@@ -31,6 +33,9 @@ anything earlier word = true
 
 abbrev pub is_run : Check
 is_run earlier word = bytes_eq word (codes "run")
+
+abbrev pub is_make : Check
+is_make earlier word = bytes_eq word (codes "make")
 
 -- the word is none of those at these positions, counted from 0
 abbrev pub is_none_at : List ℕ → Check
@@ -56,6 +61,10 @@ run_row =
     ∷ is_from 0 MOST_STEPS
     ∷ []
 
+-- `make NUMBER FILE`
+abbrev pub make_row : List Check
+make_row = is_make ∷ is_from 0 LAST_NUMBER ∷ anything ∷ []
+
 -- the position, counted from this one on, of the first bad, missing or extra word; none where the words are right
 abbrev pub bad_from : ℕ → List Check → List (List ℕ) → List (List ℕ) → Option ℕ
 bad_from at [] all [] = None
@@ -63,9 +72,21 @@ bad_from at [] all (extra ∷ words) = Some at
 bad_from at (check ∷ checks) all [] = Some at
 bad_from at (check ∷ checks) all (word ∷ words) = if check all word then bad_from (at + 1) checks all words else Some at
 
--- counted from 1
+-- counted from 1, against this row
+abbrev pub bad_in : List Check → List (List ℕ) → Option ℕ
+bad_in row words = bad_from 1 row words words
+
+-- The first word decides which row the others are compared with: that of a making where it is `make`, else that of a run.
+abbrev pub asks_make : List (List ℕ) → Bool
+asks_make [] = false
+asks_make (word ∷ words) = bytes_eq word (codes "make")
+
+abbrev pub row_asked : Bool → List Check
+row_asked true = make_row
+row_asked false = run_row
+
 abbrev pub bad_word : List (List ℕ) → Option ℕ
-bad_word words = bad_from 1 run_row words words
+bad_word words = bad_in (row_asked (asks_make words)) words
 
 -- ---- what the words ask for
 
@@ -99,6 +120,14 @@ row_of words = record {
   steps = number_at words 9;
 }
 
+-- the number of an image, and the file that it is written to
+pub record MakeRow : Type 0 where
+  pub number : ℕ
+  pub file : List ℕ
+
+abbrev pub make_of : List (List ℕ) → MakeRow
+make_of words = record { number = number_at words 1; file = word_at words 2 }
+
 -- these are the words of a run
 pub record IsRow (words : List (List ℕ)) (row : Row) : Type 0 where
   pub words_are : words ≡ codes "run" ∷ row.image ∷ row.events ∷ row.work ∷ row.saved ∷ row.display
@@ -109,6 +138,11 @@ pub record IsRow (words : List (List ℕ)) (row : Row) : Type 0 where
   pub steps : row.steps ≤ MOST_STEPS
   pub work_apart : (row.work ≢ row.image) × (row.work ≢ row.events) × (row.work ≢ row.saved) × (row.work ≢ row.display)
   pub display_apart : (row.display ≢ row.image) × (row.display ≢ row.events) × (row.display ≢ row.saved)
+
+-- these are the words of a making
+pub record IsMake (words : List (List ℕ)) (row : MakeRow) : Type 0 where
+  pub words_are : words ≡ codes "make" ∷ decimal row.number ∷ row.file ∷ []
+  pub number : row.number ≤ LAST_NUMBER
 
 -- the position that a refusal names
 abbrev pub error_of : {T : Type 0} → Result T ℕ → Option ℕ

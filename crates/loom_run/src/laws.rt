@@ -1,5 +1,5 @@
 // Laws of the program. No code calls these functions: what each of them ensures is the law.
-ghost use Rattle.std.specs.Prelude.{◌↔◌, ◌<◌, ◌^◌, Bool, IsTrue, List, [], None, ◌≡◌, ℕ};
+ghost use Rattle.std.specs.Prelude.{◌↔◌, ◌⊎◌, ◌<◌, ◌^◌, Bool, IsFalse, IsTrue, List, [], None, ◌≡◌, ℕ};
 ghost use Rattle.long_names.specs.Heap.{Heap};
 ghost use Rattle.long_names.specs.Kept.{kept, no_roots};
 ghost use Rattle.image_format.specs.declared.opening.ImageHead.{ImageHead};
@@ -25,7 +25,7 @@ ghost use Rattle.loom_run.specs.Meanings.{Meanings};
 ghost use Rattle.loom_run.specs.Promise.{Promise};
 ghost use Rattle.loom_run.specs.Refusals.{CameTo, LeavesFiles, role_of};
 ghost use Rattle.loom_run.specs.Status.{usage_of};
-ghost use Rattle.loom_run.specs.Words.{IsRow, bad_word, row_of};
+ghost use Rattle.loom_run.specs.Words.{IsMake, IsRow, asks_make, bad_word, make_of, row_of};
 
 /// The base image as bytes, before two bytecodes and after them: its context's instruction pointer is field 1, 3 and then 5.
 pub fn base_text()
@@ -33,10 +33,10 @@ pub fn base_text()
     ensures after { text_of_ending (ending [] 2 no_state (heap_running base_code)) ≡ base_bytes 11 }
 {}
 
-/// Words of which none is bad are those of a run.
+/// Words of which none is bad are those of a run or of a making.
 #[tactic(auto, using(crate::proofs::Rows::row_rules))]
 pub fn right_words()
-    ensures { (words : List (List ℕ)) → (bad_word words ≡ None) ↔ IsRow words (row_of words) }
+    ensures { (words : List (List ℕ)) → (bad_word words ≡ None) ↔ (IsRow words (row_of words) ⊎ IsMake words (make_of words)) }
 {}
 
 /// Over a host that tells what Image, Events, Work, Transcript, Saved and Display hold, what `loom` promises gives, with Done or Quit, the
@@ -53,17 +53,17 @@ pub fn no_object_is_larger_than_the_core()
         → Promise tells before now words result → bad_word words ≡ None → SmallBy result now (row_of words) }
 {}
 
-/// Right words, an image and events that are right, a core and a work file with room for all that the model does with them, and no fault
+/// Right words of a run, an image and events that are right, a core and a work file with room for all that the model does with them, and no fault
 /// give the model's own end, or want of memory.
 pub fn a_run_comes_to_its_end()
-    ensures { (tells : Role → Bool) (before now : Meanings) (words : List (List ℕ)) (result : Status) → IsTrue (tells Image) → IsTrue (tells Events) → IsTrue (tells Work) → bad_word words ≡ None
+    ensures { (tells : Role → Bool) (before now : Meanings) (words : List (List ℕ)) (result : Status) → IsTrue (tells Image) → IsTrue (tells Events) → IsTrue (tells Work) → IsFalse (asks_make words) → bad_word words ≡ None
         → Promise tells before now words result → CanEnd (bytes_of (now.roles Image)) (bytes_of (now.roles Events)) (row_of words) before.faults now.faults → IsOwnEnd result }
 {}
 
-/// No answer but Usage comes at once: the role that it is about was attached before it, or the last one that a run attaches before it can come
+/// No answer of a run but Usage comes at once: the role that it is about was attached before it, or the last one that a run attaches before it can come
 /// to the answer.
 pub fn nothing_at_once()
-    ensures { (tells : Role → Bool) (before now : Meanings) (words : List (List ℕ)) (result : Status) → Promise tells before now words result → usage_of result ≡ None
+    ensures { (tells : Role → Bool) (before now : Meanings) (words : List (List ℕ)) (result : Status) → Promise tells before now words result → IsFalse (asks_make words) → usage_of result ≡ None
         → CameTo tells before now (row_of words) (role_of result) }
 {}
 

@@ -1,4 +1,4 @@
-// The whole program, in the order of a run. What the steps do stands in `reading`, `machine` and `writing`.
+// The whole program, in the order of a run. What the steps do stands in `reading`, `machine` and `writing`, and a making in `making`.
 ghost use Rattle.std.specs.Prelude.{◌≡◌, false, IsTrue, IfOk, IfErr, List};
 ghost use Rattle.image_format.specs.declared.opening.State.{State as Words};
 ghost use Rattle.loom_outside.specs.declared.outside.Role.TheVariants as role;
@@ -21,9 +21,10 @@ ghost use Rattle.loom_run.specs.Steps.{BeginsImage, Came, CameThrough, HasBounds
 ghost use Rattle.loom_run.specs.Words.{texts_of};
 
 use crate::machine::{run_machine, wind_up};
+use crate::making::make_image;
 use crate::reading::{open_work, read_image, read_lines};
 use crate::status::{Status, status_of_end};
-use crate::words::{Command, command_of};
+use crate::words::{Asked, Command, asked_of};
 use crate::writing::{tell, write_display, write_saved};
 use disk_objects::{DiskObjects, DiskRest};
 use event_file::EventList;
@@ -43,18 +44,25 @@ pub(crate) struct Ended {
     pub(crate) next: u32,
 }
 
-/// Does what the words after the program's name ask for: `run IMAGE EVENTS WORK SAVED DISPLAY CORE ENTRIES ROOM STEPS`.
+/// Does what the words after the program's name ask for: `run IMAGE EVENTS WORK SAVED DISPLAY CORE ENTRIES ROOM STEPS`, or
+/// `make NUMBER FILE`. The words are checked, and the last line goes to Notes.
 ///
-/// The words are checked. Work is attached; then Image, which is read to its end, its objects going to Work; then Events. The memory is
+/// A run: Work is attached; then Image, which is read to its end, its objects going to Work; then Events. The memory is
 /// made. The machine starts, runs STEPS bytecodes, or fewer where one ends it, and parks; what it says goes to Transcript as it is said.
-/// What nothing holds is freed. Saved is attached, and the image is written to it; then Display, and the picture. The last line goes to
-/// Notes. The first refusal ends the run: what comes later isn't attached, and only the line is still written.
+/// What nothing holds is freed. Saved is attached, and the image is written to it; then Display, and the picture. The first refusal ends the
+/// run: what comes later isn't attached, and only the line is still written.
+///
+/// A making: the image of the number is made; Saved is attached, and the image is written to it.
 pub fn loom<H: Host>(alloc: Global, host: &mut H, words: &[String]) -> Status
     ensures promise { Promise H.tells (meanings H.Host host.old) (meanings H.Host host.new) (texts_of words.now) result }
 {
-    match command_of(words) {
-        Ok(command) => {
+    match asked_of(words) {
+        Ok(Asked::Run(command)) => {
             let status = run_command(alloc, host, &command);
+            tell(host, status)
+        }
+        Ok(Asked::Make(making)) => {
+            let status = make_image(alloc, host, &making);
             tell(host, status)
         }
         Err(word) => tell(host, Status::Usage { word }),

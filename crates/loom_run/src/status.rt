@@ -1,4 +1,4 @@
-// How a run ends, and the line that says so.
+// How a command ends, and the line that says so.
 ghost use Rattle.std.specs.Prelude.{◌≡◌, ◌+◌, ◌≤◌, ◌++◌, ℕ, false, length, codes, decimal, IsFalse};
 ghost use Rattle.arrayvec.specs.ArrayString.{array_string_len};
 ghost use Rattle.blue_model.specs.Logs.{Course};
@@ -19,13 +19,15 @@ use object_memory::{MemFault, Need};
 /// The last line on Notes, with its newline. It takes no memory.
 pub(crate) type Line = ArrayString<160>;
 
-/// How a run ended.
+/// How a command ended.
 #[derive(Clone, Copy, Debug, PartialEq, Eq)]
 pub enum Status {
     /// So many bytecodes were run, and the saved image is written.
     Done { ran: u32 },
     /// The machine ended itself in the last of so many bytecodes, and the saved image is written.
     Quit { ran: u32 },
+    /// An image of so many objects is written.
+    Made { objects: u32 },
     /// The words are no command. `word` is the position, from 1, of the first bad, missing or extra one.
     Usage { word: u32 },
     /// The first rule that the image breaks, and its place: an offset, or from rule 10 on a name.
@@ -58,7 +60,7 @@ impl Status {
         ensures { result ≡ code_of self.now }
     {
         match self {
-            Status::Done { .. } | Status::Quit { .. } => 0,
+            Status::Done { .. } | Status::Quit { .. } | Status::Made { .. } => 0,
             Status::Usage { .. } => 2,
             Status::ImageBad { .. } => 3,
             Status::EventsBad { .. } => 4,
@@ -90,6 +92,7 @@ impl Status {
         match *self {
             Status::Done { ran } => numbered("ran ", ran as u64),
             Status::Quit { ran } => numbered("quit after ", ran as u64),
+            Status::Made { objects } => made(objects),
             Status::Usage { word } => numbered("usage: word ", word as u64),
             Status::ImageBad { rule, place } => {
                 twice_numbered("image: rule ", rule as u64, " at ", place)
@@ -211,6 +214,16 @@ fn twice_numbered(text: &str, number: u64, between: &str, other: u64) -> Line
     let mut line = numbered(text, number);
     line.push_str(between);
     put_number(&mut line, other);
+    line
+}
+
+// How many objects an image has.
+fn made(objects: u32) -> Line
+    ensures text { result.bytes ≡ codes "made " ++ decimal objects ++ codes " objects" }
+    ensures short { array_string_len result ≤ 40 }
+{
+    let mut line = numbered("made ", objects as u64);
+    line.push_str(" objects");
     line
 }
 

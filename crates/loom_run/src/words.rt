@@ -1,9 +1,11 @@
 // The words of a command.
 ghost use Rattle.std.specs.Prelude.{◌≡◌, ◌≢◌, codes, ◌↔◌, ◌≤◌, ◌∷◌, List, ℕ, IsTrue, decimal, IfOk, IfErr, IfSome, IsNone, Some, false, []};
-ghost use Rattle.loom_run.specs.Command.{HasLimits, row_for};
-ghost use Rattle.loom_run.specs.Words.{Check, bad_from, bad_word, error_of, is_from, is_number, row_of, texts_of};
+ghost use Rattle.loom_gen.specs.declared.generator.TheConstants.{LAST_NUMBER};
+ghost use Rattle.loom_run.specs.Command.{HasLimits, IsAsked, row_for};
+ghost use Rattle.loom_run.specs.Words.{Check, anything, asks_make, bad_from, bad_in, bad_word, error_of, is_from, is_number, row_of, run_row, texts_of};
 
 use itoa::Buffer;
+use loom_gen::LAST_NUMBER;
 
 /// The sizes of a core, in words and in entries, the number of objects for which the work file may have room, and the greatest number of
 /// bytecodes that a run may be asked for.
@@ -34,6 +36,20 @@ pub struct Command<'a> {
     pub entries: u16,
     pub room: u32,
     pub steps: u32,
+}
+
+/// A making: the number of an image, at most `LAST_NUMBER`, and the file that it is written to.
+#[derive(Clone, Copy, Debug)]
+pub struct Making<'a> {
+    pub number: u8,
+    pub file: &'a str,
+}
+
+/// What the words after the program's name ask for.
+#[derive(Clone, Copy, Debug)]
+pub enum Asked<'a> {
+    Run(Command<'a>),
+    Make(Making<'a>),
 }
 
 // The number from the least to the most that a word states, in decimal digits with no sign and no leading zero.
@@ -100,7 +116,7 @@ struct Files<'a> {
 
 // The words `run IMAGE EVENTS WORK SAVED DISPLAY`, and those behind them. The error is the position of the first bad or missing word.
 fn files_of(words: &[String]) -> Result<(Files<'_>, &[String]), u32>
-    ensures bad { IfErr result (λ at. bad_word (texts_of words.now) ≡ Some at) }
+    ensures bad { IfErr result (λ at. bad_in run_row (texts_of words.now) ≡ Some at) }
     ensures first { IfOk result (λ r. texts_of words.now ≡ codes "run" ∷ r.0.image.now ∷ r.0.events.now ∷ r.0.work.now ∷ r.0.saved.now ∷ r.0.display.now ∷ texts_of r.1.now) }
     ensures work_apart { IfOk result (λ r. (r.0.work.now ≢ r.0.image.now) × (r.0.work.now ≢ r.0.events.now) × (r.0.work.now ≢ r.0.saved.now) × (r.0.work.now ≢ r.0.display.now)) }
     ensures display_apart { IfOk result (λ r. (r.0.display.now ≢ r.0.image.now) × (r.0.display.now ≢ r.0.events.now) × (r.0.display.now ≢ r.0.saved.now)) }
@@ -135,11 +151,10 @@ fn files_of(words: &[String]) -> Result<(Files<'_>, &[String]), u32>
     ))
 }
 
-/// The command that the words after the program's name state:
-/// `run IMAGE EVENTS WORK SAVED DISPLAY CORE ENTRIES ROOM STEPS`. WORK is none of the other files, and DISPLAY none of those before it. The
-/// error is the position, from 1, of the first bad, missing or extra word.
-pub fn command_of(words: &[String]) -> Result<Command<'_>, u32>
-    ensures bad { error_of result ≡ bad_word (texts_of words.now) }
+// The run that words state: `run IMAGE EVENTS WORK SAVED DISPLAY CORE ENTRIES ROOM STEPS`. WORK is none of the other files, and DISPLAY none of
+// those before it. The error is the position, from 1, of the first bad, missing or extra word.
+fn command_of(words: &[String]) -> Result<Command<'_>, u32>
+    ensures bad { error_of result ≡ bad_in run_row (texts_of words.now) }
     ensures row { IfOk result (λ c. row_for c ≡ row_of (texts_of words.now)) }
     ensures limits { IfOk result HasLimits }
 {
@@ -162,4 +177,44 @@ pub fn command_of(words: &[String]) -> Result<Command<'_>, u32>
         room,
         steps,
     })
+}
+
+// The words behind `make`, where that is the first.
+fn behind_make(words: &[String]) -> Option<&[String]>
+    ensures some { IfSome result (λ others. texts_of words.now ≡ codes "make" ∷ texts_of others.now) }
+    ensures none { IsNone result → asks_make (texts_of words.now) ≡ false }
+{
+    match words.split_first() {
+        Some((word, others)) if word.as_str() == "make" => Some(others),
+        _ => None,
+    }
+}
+
+// The making that the words behind `make` state: `NUMBER FILE`. The error is the position of the first bad, missing or extra word.
+fn making_of(words: &[String]) -> Result<Making<'_>, u32>
+    ensures bad { (all : List (List ℕ)) → error_of result ≡ bad_from 2 (is_from 0 LAST_NUMBER ∷ anything ∷ []) all (texts_of words.now) }
+    ensures words { IfOk result (λ m. texts_of words.now ≡ decimal m.number ∷ m.file.now ∷ []) }
+    ensures limits { IfOk result (λ m. m.number ≤ LAST_NUMBER) }
+{
+    let (number, words) = next_number(words, 2, 0, LAST_NUMBER as u32)?;
+    let (file, words) = next_word(words, 3)?;
+    if !words.is_empty() {
+        return Err(4);
+    }
+    Ok(Making {
+        number: number as u8,
+        file,
+    })
+}
+
+/// What the words after the program's name ask for: a making where the first is `make`, else a run. The error is the position, from 1, of the
+/// first bad, missing or extra word.
+pub fn asked_of(words: &[String]) -> Result<Asked<'_>, u32>
+    ensures bad { error_of result ≡ bad_word (texts_of words.now) }
+    ensures asked { IfOk result (IsAsked (texts_of words.now)) }
+{
+    match behind_make(words) {
+        Some(others) => Ok(Asked::Make(making_of(others)?)),
+        None => Ok(Asked::Run(command_of(words)?)),
+    }
 }

@@ -93,7 +93,7 @@ pub(crate) fn write_display<H: Host>(
     Ok(())
 }
 
-/// Puts the last line to Notes. Only a Done and a Quit become another answer where that fails.
+/// Puts the last line to Notes. Only Done, Quit and Made become another answer where that fails.
 pub(crate) fn tell<H: Host>(host: &mut H, status: Status) -> Status
     ensures told { IsTold (H.tells Role.Notes) status result (meanings H.Host host.old) (meanings H.Host host.new) }
     ensures others { LeavesBut (Role.Notes ∷ []) (meanings H.Host host.old) (meanings H.Host host.new) }
@@ -105,12 +105,12 @@ pub(crate) fn tell<H: Host>(host: &mut H, status: Status) -> Status
     }
 }
 
-// The answer of a run whose last line couldn't be written.
+// The answer where the last line couldn't be written.
 fn unsaid<H: Host>(host: &H, status: Status) -> Status
     ensures { result ≡ unsaid status (H.faults host.now Role.Notes) }
 {
     match status {
-        Status::Done { .. } | Status::Quit { .. } => Status::WriteFault {
+        Status::Done { .. } | Status::Quit { .. } | Status::Made { .. } => Status::WriteFault {
             role: Role::Notes,
             count: host.fault_count(Role::Notes),
         },

@@ -3,11 +3,11 @@ use Rattle.std.proofs.Common.{◌≡◌, ◌∙◌, ◌<◌, [], ◌∷◌, leng
 use Rattle.std.proofs.lemmas.Bool.Decides.{nat_tests}
 use Rattle.std.proofs.lemmas.Result.{err_from_is_err_and}
 use Rattle.loom_run.proofs.Rows.{right-files, right-core, right-entries, right-room, right-steps, refused-at, texts-none, extra-word, row-to_words, row-of_texts, number_checks, entries_checks, room_checks, steps_checks}
-use Rattle.loom_run.specs.Words.{IsRow, Row, bad_from, bad_word, texts_of}
+use Rattle.loom_run.specs.Words.{IsRow, Row, bad_from, bad_in, run_row, texts_of}
 use Rattle.loom_run.proofs.words.command_of.Goals as goal
 use Rattle.loom_run.proofs.words.command_of.Goals.{In_ok-files, In_ok-core, In_ok-entries, In_ok-room, In_ok-steps}
 
-at-core : (c : In_ok-files) → bad_word (texts_of c.args.words.now) ≡ bad_from 7 number_checks (texts_of c.args.words.now) (texts_of c.in_ok-files.words.now)
+at-core : (c : In_ok-files) → bad_in run_row (texts_of c.args.words.now) ≡ bad_from 7 number_checks (texts_of c.args.words.now) (texts_of c.in_ok-files.words.now)
 at-core c =
     let files = c.in_ok-files.ensures
     in right-files _ _ _ _ _ _ _ files.first files.work_apart files.display_apart
