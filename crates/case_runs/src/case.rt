@@ -6,6 +6,7 @@ use crate::paragraph::{Paragraph, parts_of};
 use crate::pieces::{append_rising, append_times, bytes_of};
 use crate::sizes::{LEAST_CORE, LEAST_ENTRIES, LEAST_ROOM, Sizes};
 use anyhow::{Context, Result, bail};
+use loom_gen::{LAST_NUMBER, make};
 use std::alloc::Global;
 
 /// An image, how it is run, and what has to come out.
@@ -84,10 +85,7 @@ fn files_of(
     base: &[u8],
     paragraph: Paragraph<'_>,
 ) -> Result<(Vec<u8>, Option<Vec<u8>>)> {
-    let mut image = match paragraph.needed("image")? {
-        "base" => base.to_vec(alloc)?,
-        text => hex::decode(alloc, text).context("image")?,
-    };
+    let mut image = image_of(alloc, base, paragraph.needed("image")?)?;
     let mut saved = None;
     for line in paragraph.text().lines() {
         let (word, value) = parts_of(line);
@@ -101,6 +99,24 @@ fn files_of(
         }
     }
     Ok((image, saved))
+}
+
+// The stated image: the base image, that of a number, or these bytes.
+fn image_of(alloc: Global, base: &[u8], value: &str) -> Result<Vec<u8>> {
+    if value == "base" {
+        return Ok(base.to_vec(alloc)?);
+    }
+    match value.strip_prefix("make ") {
+        Some(number) => made(alloc, number.parse().context("image")?),
+        None => hex::decode(alloc, value).context("image"),
+    }
+}
+
+fn made(alloc: Global, number: u8) -> Result<Vec<u8>> {
+    if number > LAST_NUMBER {
+        bail!("no image of {number}");
+    }
+    Ok(make(alloc, number)?.bytes().to_vec(alloc)?)
 }
 
 // The file that is saved: the image itself as version 2, or these bytes.

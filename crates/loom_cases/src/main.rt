@@ -8,7 +8,7 @@
 use case_runs::{Largest, report_all};
 use std::{env, io};
 
-const FILES: [&str; 34] = [
+const FILES: [&str; 35] = [
     "runs.cases",
     "start.cases",
     "blocks.cases",
@@ -42,6 +42,7 @@ const FILES: [&str; 34] = [
     "states.cases",
     "core_refusals.cases",
     "large_image.cases",
+    "generated.cases",
     "wrong.cases",
 ];
 

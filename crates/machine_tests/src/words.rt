@@ -1,4 +1,4 @@
-// The words of a command: each that is bad, missing or extra, each size at its ends and one past them, and which files may be equal.
+// The words of the commands: each that is bad, missing or extra, each size at its ends and one past them, and which files may be equal.
 use loom_outside::MemoryHost;
 use loom_outside::Role::Image;
 use loom_run::{Status, loom};
@@ -14,15 +14,15 @@ pub(crate) fn ask(alloc: Global, host: &mut MemoryHost, line: &str) -> Result<St
     Ok(loom(alloc, host, &words))
 }
 
-/// An answer, its line, and commands that come to it over a host without files: of bad words the first is named, and right ones come to an
-/// image that isn't there.
+/// An answer, its line, and commands that come to it over a host without files: of bad words the first is named, and right ones make an image
+/// or come to one that isn't there.
 struct Words {
     status: Status,
     notes: &'static str,
     commands: &'static [&'static str],
 }
 
-const WORDS: [Words; 12] = [
+const WORDS: [Words; 13] = [
     Words {
         status: Status::Usage { word: 1 },
         notes: "usage: word 1\n",
@@ -31,24 +31,37 @@ const WORDS: [Words; 12] = [
             "walk",
             "--help",
             "--version",
-            "make 0 f",
+            "Make 0 f",
+            "makes 0 f",
             "Run a b c d e 4096 512 1024 0",
         ],
     },
     Words {
         status: Status::Usage { word: 2 },
         notes: "usage: word 2\n",
-        commands: &["run"],
+        commands: &[
+            "run",
+            "make",
+            "make 20 f",
+            "make 00 f",
+            "make 01 f",
+            "make +1 f",
+            "make -1 f",
+            "make 256 f",
+            "make x f",
+            "make 20 f g",
+        ],
     },
     Words {
         status: Status::Usage { word: 3 },
         notes: "usage: word 3\n",
-        commands: &["run a"],
+        commands: &["run a", "make 0", "make 19"],
     },
     Words {
         status: Status::Usage { word: 4 },
         notes: "usage: word 4\n",
         commands: &[
+            "make 0 f g",
             "run a b",
             "run a b a d e 4096 512 1024 1",
             "run a b b d e 4096 512 1024 1",
@@ -135,6 +148,11 @@ const WORDS: [Words; 12] = [
             "run a b c d e 4096 512 1024 1 x",
             "run a b c d e 16777216 32767 1048576 2147483647 x y",
         ],
+    },
+    Words {
+        status: Status::Made { objects: 1_327 },
+        notes: "made 1327 objects\n",
+        commands: &["make 0 f"],
     },
     Words {
         status: Status::ReadFault {
