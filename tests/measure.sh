@@ -1,6 +1,7 @@
 #!/bin/sh
-# Measures both memories and prints a table for docs/COSTS.md. It builds, beside the crates of this repository, one crate more from
-# tests/measure/main.txt, in a temporary folder with copies of these; what isn't proved yet is proved first. Not in the gate.
+# Measures both memories and what a small core costs, and prints tables for docs/COSTS.md. It builds, beside the crates of this
+# repository, one crate more from tests/measure/main.txt, in a temporary folder with copies of these; what isn't proved yet is proved
+# first. Not in the gate.
 #
 #   tests/measure.sh [FOLDER]      FOLDER: where the temporary folder is made, with 300 MB free; /tmp if none is named
 set -eu
@@ -37,3 +38,23 @@ done
 "$program" drain | grep -v '^left 26$' | awk '{ t = $NF; n = $(NF - 1); $NF = ""; $(NF - 1) = ""; printf "%-32s %7d objects %9.3f s\n", $0, n, t / 1e9 }'
 "$program" write
 /usr/bin/time -f "%e seconds and %M kB in all" "$program" load | awk '{ t = $NF; n = $(NF - 1); printf "load of %d objects of ten fields: %.2f s\n", n, t / 1e9 }'
+
+# What a small core costs: the large job, in cores from one that has room for its bitmap and little more. The two programs are those that
+# `rt ci` builds.
+loom=$top/crates/loom_cli/out/loom_cli
+fetches=$top/crates/fetches/out/fetches
+steps=999961
+if [ ! -x "$loom" ] || [ ! -x "$fetches" ]; then
+    echo "the large job: not measured, since rt ci hasn't built loom_cli and fetches" >&2
+    exit 0
+fi
+"$loom" make 19 large.loom 2>/dev/null
+: >none.events
+for entries in 4096 32767; do
+    for core in 24576 65536 262144 16777216; do
+        /usr/bin/time -f %e "$loom" run large.loom none.events objects saved.loom display.pbm $core $entries 65536 $steps >/dev/null 2>notes
+        seconds=$(tail -n 1 notes)
+        counts=$("$fetches" 19 $core $entries 65536 $steps)
+        echo "$core words, $entries entries: $seconds s, $(echo "$seconds $steps" | awk '{ printf "%d", $1 * 1e9 / $2 }') ns a bytecode; ${counts#*: }"
+    done
+done

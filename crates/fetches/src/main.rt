@@ -1,0 +1,145 @@
+//! Counts what a run asks of the memory of two levels: how many objects it brings into the core, and how often it reads and writes Work.
+//!
+//!     fetches NUMBER CORE ENTRIES ROOM STEPS
+//!
+//! The image of the number is loaded over a host in memory, a memory of these sizes is made over it, and so many bytecodes are run, or fewer
+//! where one ends the run. One line is printed, of the run alone, without loading and saving. The numbers belong to how the memory is written
+//! today, and no clause says them: nothing is proved of this program but that it is safe.
+#![tactic(auto)]
+
+mod counting;
+
+ghost use Rattle.object_memory.specs.Calls.{IsFit};
+
+use crate::counting::CountingHost;
+use contexts::{Cpu, Stop, start};
+use core_segment::{HEADER, MOST_WORDS};
+use disk_objects::DiskObjects;
+use event_file::EventList;
+use image_reader::load;
+use loom_gen::{LAST_NUMBER, make};
+use loom_memory::LoomMemory;
+use loom_outside::{Host, MemoryHost, Role};
+use machine_run::run;
+use object_memory::ObjectMemory;
+use object_table::MOST_ENTRIES;
+use std::alloc::Global;
+use std::env;
+use std::process::ExitCode;
+use work_directory::MOST_NAMES;
+
+/// The number of an image, the words and entries of a core, for how many objects there is room, and how many bytecodes.
+#[derive(Clone, Copy)]
+struct Job {
+    number: u8,
+    core: u32,
+    entries: u16,
+    room: u32,
+    steps: u32,
+}
+
+/// The numbers that the words state; none where one is missing or out of its bounds.
+fn job_of(words: &[String]) -> Option<Job> {
+    let [number, core, entries, room, steps] = words else {
+        return None;
+    };
+    Some(Job {
+        number: number.parse().ok()?,
+        core: core.parse().ok()?,
+        entries: entries.parse().ok()?,
+        room: room.parse().ok()?,
+        steps: steps.parse().ok()?,
+    })
+}
+
+/// Runs so many bytecodes.
+fn spin<M: ObjectMemory>(m: &mut M, alloc: Global, steps: u32) -> Result<(), Stop>
+    requires fit { IsFit M.ObjectMemory m.old }
+{
+    let mut cpu = Cpu::at_rest();
+    start(m, &mut cpu)?;
+    if cpu.ran > 0 {
+        return Ok(());
+    }
+    run(m, &mut cpu, &EventList::new(alloc), steps)?;
+    Ok(())
+}
+
+/// What a run asked of its memory.
+#[derive(Clone, Copy)]
+struct Costs {
+    fetches: u64,
+    reads: u64,
+    writes: u64,
+}
+
+/// The costs of a run over a host where Image has the image; none where a memory can't have these sizes or the run is refused.
+fn costs_over(alloc: Global, host: &mut CountingHost, job: Job) -> Option<Costs> {
+    if job.room == 0 || job.room > MOST_NAMES || job.entries > MOST_ENTRIES {
+        return None;
+    }
+    if job.core < HEADER || job.core > MOST_WORDS {
+        return None;
+    }
+    let mut disk = DiskObjects::begin(host, job.room);
+    let Ok(image) = load(alloc, &mut disk, job.room) else {
+        return None;
+    };
+    if image.next % 2 != 0 {
+        return None;
+    }
+    let (host, rest) = disk.apart();
+    let (reads, writes) = (host.reads, host.writes);
+    let disk = DiskObjects::again(host, rest);
+    let Ok(mut memory) = LoomMemory::make(alloc, disk, image.next, job.core, job.entries) else {
+        return None;
+    };
+    spin(&mut memory, alloc, job.steps).ok()?;
+    let fetches = memory.fetches();
+    let host = memory.into_disk().into_host();
+    Some(Costs {
+        fetches,
+        reads: host.reads.saturating_sub(reads),
+        writes: host.writes.saturating_sub(writes),
+    })
+}
+
+/// Makes the image of a job, runs it, and prints its costs.
+fn report(rt: HostRuntime, job: Job) -> Option<()> {
+    if job.number > LAST_NUMBER {
+        return None;
+    }
+    let image = make(rt.alloc(), job.number).ok()?;
+    let mut inner = MemoryHost::new(rt.alloc(), 65_536).ok()?;
+    inner.add_file("image", image.bytes()).ok()?;
+    inner.attach(Role::Work, "work").ok()?;
+    inner.attach(Role::Image, "image").ok()?;
+    let mut host = CountingHost::new(inner);
+    let costs = costs_over(rt.alloc(), &mut host, job)?;
+    let Job { core, steps, .. } = job;
+    let Costs {
+        fetches,
+        reads,
+        writes,
+    } = costs;
+    println!(rt;
+        "{steps} bytecodes in {core} words: {fetches} fetches, {reads} reads, {writes} writes"
+    ).ok()
+}
+
+fn main(rt: HostRuntime) -> ExitCode {
+    let Ok(args) = env::args(&rt) else {
+        return ExitCode::FAILURE;
+    };
+    let Ok(words) = args.skip(1).collect::<Vec<String>>(rt.alloc()) else {
+        return ExitCode::FAILURE;
+    };
+    let done = match job_of(&words) {
+        Some(job) => report(rt, job),
+        None => None,
+    };
+    match done {
+        Some(()) => ExitCode::SUCCESS,
+        None => ExitCode::FAILURE,
+    }
+}
