@@ -1,7 +1,8 @@
 #!/bin/sh
 # Tries the program at its edge, on real files and streams, where no contract speaks: standard streams that are closed
 # or full, files that can't be read or written, a file that two words name in different ways, the work file among them, an image
-# that is saved over itself, disks that are full at each stage, and a run that is killed while it saves. Prints a line for each case.
+# that is saved over itself, disks that are full at each stage, a run that is killed while it saves, and an image that is made. Prints a
+# line for each case.
 #
 #     tests/edge.sh [PROGRAM]
 set -u
@@ -545,6 +546,7 @@ if mount -t tmpfs -o size=1500k small small 2>/dev/null; then
     said=loom
     try 'a full disk, DISPLAY is new'   '' 'run hello.loom none.events objects saved.loom small/new.pbm $sizes 9999'       11 'write fault: Display' saved.loom drawn.loom
     said=
+    try 'a full disk, a large image'     '' 'make 0 small/old.loom' 11 'write fault: Saved' small/old.loom old.loom
     umount small
 else
     skip 'a full disk' 'no file system can be mounted'
@@ -596,20 +598,19 @@ if $as inject=chroot:error=EIO true 2>/dev/null; then
     printf '1000 purge\n' >purge.events
     purged='run hello.loom purge.events objects saved.loom display.pbm $sizes 9999'
     rm -f objects saved.loom
-    eval "strace -o writes -e trace=write,openat \"\$loom\" $purged" </dev/null >/dev/null 2>&1
+    eval "strace -o writes -e trace=pwrite64,openat \"\$loom\" $purged" </dev/null >/dev/null 2>&1
     numbers=$(awk '
-        /^write\(/ { count++ }
-        /^write\(/ && !/^write\(1,/ { if (!loading) loading = count; if (events && !running) running = count; finishing = count }
+        /^pwrite64\(/ { count++; if (!loading) loading = count; if (events && !running) running = count; finishing = count }
         /purge\.events/ { events = 1 }
         /saved\.loom/ { print loading, running, finishing; exit }' writes)
     set -- $numbers
     if [ $# = 3 ]; then
-        as="strace -o trace -e inject=write:error=ENOSPC:when=$1"
+        as="strace -o trace -e inject=pwrite64:error=ENOSPC:when=$1"
         try 'a disk that is full while the image is read' '' "$purged" 10 'work fault' saved.loom old.loom
         said=loom
-        as="strace -o trace -e inject=write:error=ENOSPC:when=$2"
+        as="strace -o trace -e inject=pwrite64:error=ENOSPC:when=$2"
         try 'a disk that is full while the machine runs' '' "$purged" 10 'work fault' saved.loom old.loom
-        as="strace -o trace -e inject=write:error=ENOSPC:when=$3"
+        as="strace -o trace -e inject=pwrite64:error=ENOSPC:when=$3"
         try 'a disk that is full while the memory is wound up' '' "$purged" 10 'work fault' saved.loom old.loom
         said=
     else
@@ -665,6 +666,35 @@ for moment in $(seq 0 49); do
 done
 tell 'killed at fifty moments of saving over IMAGE' "${why:+; it is neither the old image nor the new one at the moments$why}"
 rm -f both.loom.part
+
+# A large image is made. FILE is the old one or the new one, whole, and has its name before the line is written; nothing else is touched.
+display=old
+"$loom" make 0 made.loom 2>/dev/null
+make='make 0 saved.loom'
+try 'FILE is there'                     ''            "$make" 0  'made 1327 objects' saved.loom made.loom
+try 'FILE is no file yet'               ''            'make 0 new.loom' 0 'made 1327 objects' new.loom made.loom
+before='ln -sf saved.loom link.loom'
+try 'FILE is a symbolic link'           ''            'make 0 link.loom' 0 'made 1327 objects' saved.loom made.loom
+before='rm -f link.loom; echo left >saved.loom.part'
+try 'FILE.part was left by a making that was killed' '' "$make" 0 'made 1327 objects' saved.loom made.loom
+before='mkdir saved.loom.part'
+try 'FILE.part is a directory'          ''            "$make" 11 'write fault: Saved' saved.loom old.loom
+rmdir saved.loom.part
+before=
+for streams in '0<&-' '1>&-' '0<&- 1>&-' '1>/dev/full'; do
+    try "an image is made, $streams"    "$streams"    "$make" 0  'made 1327 objects' saved.loom made.loom
+done
+for streams in '2>&-' '0<&- 1>&- 2>&-' '2>/dev/full'; do
+    try "an image is made, $streams"    "$streams"    "$make" 11 ''      saved.loom made.loom
+done
+try 'FILE is full'                      ''            'make 0 /dev/full' 11 'write fault: Saved' saved.loom old.loom
+try 'FILE is a directory'               ''            'make 0 directory' 11 'write fault: Saved' saved.loom old.loom
+try 'FILE in no directory'              ''            'make 0 none/made.loom' 11 'write fault: Saved' none none
+try 'FILE is for reading only'          ''            'make 0 /proc/version' 11 'write fault: Saved' /proc/version version
+try 'a number that no image is made from' ''          'make 20 saved.loom' 2 'usage: word 2' saved.loom old.loom
+try 'a making of two words'             ''            'make 0' 2 'usage: word 3' saved.loom old.loom
+try 'a making of four words'            ''            'make 0 saved.loom display.pbm' 2 'usage: word 4' saved.loom old.loom
+
 
 # Words that are missing, extra or bad.
 display=old
