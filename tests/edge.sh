@@ -289,22 +289,27 @@ try 'no picture, DISPLAY is full'       ''            'run base.loom none.events
 
 # Too few descriptors to hold the places of the standard streams, and just enough: then there is none for WORK, for IMAGE, for EVENTS,
 # for SAVED, and for what is written beside it.
-most=4
-try 'four descriptors'                  ''            "$good" 1  ''      saved.loom old.loom
-most=6
-try 'six descriptors'                   ''            "$good" 10 'work fault' saved.loom old.loom
-most=7
-try 'seven descriptors'                 ''            "$good" 9  'read fault: Image' saved.loom old.loom
-most=8
-try 'eight descriptors'                 ''            "$good" 9  'read fault: Events' saved.loom old.loom
-most=9
-try 'nine descriptors'                  ''            "$good" 11 'write fault: Saved' saved.loom old.loom
-most=10
-try 'ten descriptors'                   ''            "$good" 11 'write fault: Saved' saved.loom old.loom
-most=11
-display=empty
-try 'eleven descriptors'                ''            "$good" 0  'ran 2' saved.loom after.loom
-most=
+# A descriptor past 9 that the caller left open would be one of them.
+if ls /proc/self/fd 2>/dev/null | grep -q ..; then
+    skip 'few descriptors' 'the caller left one past 9 open'
+else
+    most=4
+    try 'four descriptors'                  ''            "$good" 1  ''      saved.loom old.loom
+    most=6
+    try 'six descriptors'                   ''            "$good" 10 'work fault' saved.loom old.loom
+    most=7
+    try 'seven descriptors'                 ''            "$good" 9  'read fault: Image' saved.loom old.loom
+    most=8
+    try 'eight descriptors'                 ''            "$good" 9  'read fault: Events' saved.loom old.loom
+    most=9
+    try 'nine descriptors'                  ''            "$good" 11 'write fault: Saved' saved.loom old.loom
+    most=10
+    try 'ten descriptors'                   ''            "$good" 11 'write fault: Saved' saved.loom old.loom
+    most=11
+    display=empty
+    try 'eleven descriptors'                ''            "$good" 0  'ran 2' saved.loom after.loom
+    most=
+fi
 
 # Files that can't be read or written.
 display=old
