@@ -23,9 +23,12 @@ work_not_written role can e = subst CanWrite (sym e) can
 pub told-other : (role r : Role) (calls new_calls : PerRole Calls) (s t : Store) → r ≢ role → SameBut role (at_role calls) (at_role new_calls) → SameBut role (held_of s) (held_of t) → told (at_role new_calls r) (held_of t r) ≡ told (at_role calls r) (held_of s r)
 told-other role r calls new_calls s t apart same held = ap (λ (c : Calls). told c (held_of t r)) (same r apart) ∙ ap (told (at_role calls r)) (held r apart)
 
-pub told-same : (c d : Calls) (s t : RoleState) → d.attaches ≡ c.attaches → d.named ≡ c.named → t ≡ s → told d t ≡ told c s
-told-same c d s t attaches named held =
-    ap (told d) held ∙ ap (λ (n : ℕ). record s { attaches = n; name = if d.named then s.name else None }) attaches ∙ ap (λ (b : Bool). record s { attaches = c.attaches; name = if b then s.name else None }) named
+pub told-same : (c d : Calls) (s t : RoleState) → d.attaches ≡ c.attaches → d.named ≡ c.named → d.ended ≡ c.ended → t ≡ s → told d t ≡ told c s
+told-same c d s t attaches named ended held =
+    ap (told d) held
+    ∙ ap (λ (n : ℕ). record s { attaches = n; name = if d.named then s.name else None; ended = d.ended }) attaches
+    ∙ ap (λ (b : Bool). record s { attaches = c.attaches; name = if b then s.name else None; ended = d.ended }) named
+    ∙ ap (λ (b : Bool). record s { attaches = c.attaches; name = if c.named then s.name else None; ended = b }) ended
 
 pub at_is_err : {T E Q : Type 0} (r : Result T E) → is_err r ≡ true → OnErr r Q → Q
 at_is_err (Ok x) is q = absurd (search (rules, is))

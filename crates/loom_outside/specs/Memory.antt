@@ -12,9 +12,9 @@ use Rattle.loom_outside.specs.declared.calls.Calls.{Calls}
 use Rattle.loom_outside.specs.declared.marks.Marks.{Marks}
 use Rattle.loom_outside.specs.declared.memory.MemoryHost.{MemoryHost}
 
--- what is held, with the attaches that were counted. The name is told where the last of them answered Ok
+-- what is held, with the attaches that were counted, and whether it was ended. The name is told where the last attach answered Ok
 abbrev pub told : Calls → RoleState → RoleState
-told c s = record s { attaches = c.attaches; name = if c.named then s.name else None }
+told c s = record s { attaches = c.attaches; name = if c.named then s.name else None; ended = c.ended }
 
 unfoldable pub roles_of : MemoryHost → Role → RoleState
 roles_of h role = told (at_role h.calls role) (held_of h.store role)

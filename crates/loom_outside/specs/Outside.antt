@@ -13,14 +13,15 @@ pub record RoleState : Type 0 where
   -- of a role that is read: the bytes taken since the last attach that went through, and those left
   pub taken : List ℕ
   pub left : List ℕ
-  -- of a role that is written: the bytes put since then
+  -- of a role that is written: the bytes put since then, and whether a piece of no bytes was, which ends it
   pub put : List ℕ
+  pub ended : Bool
   -- of Work
   pub contents : List ℕ
 
 -- of a role where nothing has been done yet
 abbrev pub at_start : RoleState
-at_start = record { attaches = 0; name = None; taken = []; left = []; put = []; contents = [] }
+at_start = record { attaches = 0; name = None; taken = []; left = []; put = []; ended = false; contents = [] }
 
 -- with no name told
 abbrev pub unnamed : RoleState → RoleState
@@ -29,6 +30,10 @@ unnamed s = record s { name = None }
 -- after these bytes are put
 abbrev pub puts : List ℕ → RoleState → RoleState
 puts bytes s = record s { put = s.put ++ bytes }
+
+-- after a piece of no bytes is put
+abbrev pub ends : RoleState → RoleState
+ends s = record s { ended = true }
 
 -- after so many bytes are taken
 abbrev pub takes : ℕ → RoleState → RoleState
@@ -46,11 +51,13 @@ pub record Attached {T : Type 0} (text : List ℕ) (result : Result T Failed) (o
   pub still_taken : OnErr result (new.taken ≡ old.taken)
   pub still_left : OnErr result (new.left ≡ old.left)
   pub still_put : OnErr result (new.put ≡ old.put)
+  pub still_ended : OnErr result (new.ended ≡ old.ended)
 
--- nothing is taken of it, put to it or held by it
+-- nothing is taken of it, put to it or held by it, and it isn't ended
 pub record IsFresh (s : RoleState) : Type 0 where
   pub taken : s.taken ≡ []
   pub put : s.put ≡ []
+  pub ended : s.ended ≡ false
   pub contents : s.contents ≡ []
 
 -- n bytes were taken, and stand at the front of the buffer

@@ -5,7 +5,7 @@ ghost use Rattle.loom_outside.specs.Bytes.{window, overwritten};
 ghost use Rattle.loom_outside.specs.Lying.{but_work, inner_of, until_of, mask_of, masked, read_as, roles_in, faults_in, writes_in};
 ghost use Rattle.loom_outside.specs.Marks.{marked, stored};
 ghost use Rattle.loom_outside.specs.Memory.{OneCall, chunk_of, plan_of, marks_of, file_of, shown_of, room_of, refused};
-ghost use Rattle.loom_outside.specs.Outside.{SameBut, HasCause, CanAttach, CanRead, CanWrite, makes_file, Attached, IsFresh, Took, TookSome, PutPrefix, puts, holds};
+ghost use Rattle.loom_outside.specs.Outside.{SameBut, HasCause, CanAttach, CanRead, CanWrite, makes_file, Attached, IsFresh, Took, TookSome, PutPrefix, ends, puts, holds};
 ghost use Rattle.long_names.specs.Counting.{counted};
 ghost use Rattle.loom_outside.specs.Plans.{is_due};
 ghost use Rattle.loom_outside.specs.declared.outside.Role.{Role};
@@ -136,10 +136,11 @@ impl Host for LyingHost {
         requires { CanWrite role }
         ensures bound { IfOk result (λ n. n ≤ length buf.now) }
         ensures some { 0 < length buf.now → IfOk result (λ n. 0 < n) }
-        ensures put { IfOk result (λ n. roles_in self.new role ≡ puts (take n buf.now) (roles_in self.old role)) }
+        ensures put { 0 < length buf.now → IfOk result (λ n. roles_in self.new role ≡ puts (take n buf.now) (roles_in self.old role)) }
         ensures failed { OnErr result (PutPrefix buf.now (roles_in self.old role) (roles_in self.new role)) }
         ensures empty { length buf.now ≡ 0 → IfOk result (λ n. n ≡ 0) }
-        ensures still { length buf.now ≡ 0 → roles_in self.new role ≡ roles_in self.old role }
+        ensures ended { length buf.now ≡ 0 → OnOk result (roles_in self.new role ≡ ends (roles_in self.old role)) }
+        ensures still { length buf.now ≡ 0 → OnErr result (roles_in self.new role ≡ roles_in self.old role) }
         ensures others { SameBut role (roles_in self.old) (roles_in self.new) }
         ensures work { roles_in self.new Role.Work ≡ roles_in self.old Role.Work }
         ensures other_faults { SameBut role (faults_in self.old) (faults_in self.new) }

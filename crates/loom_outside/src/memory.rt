@@ -4,7 +4,7 @@ ghost use Rattle.std.specs.Str.{bytes_eq};
 ghost use Rattle.loom_outside.specs.Bytes.{window, overwritten};
 ghost use Rattle.loom_outside.specs.Marks.{marked, stored, unmarked};
 ghost use Rattle.loom_outside.specs.Memory.{OneCall, roles_of, faults_of, writes_of, chunk_of, plan_of, marks_of, file_of, shown_of, room_of, refused};
-ghost use Rattle.loom_outside.specs.Outside.{SameBut, HasCause, CanAttach, CanRead, CanWrite, makes_file, Attached, IsFresh, Took, TookSome, PutPrefix, at_start, puts, holds};
+ghost use Rattle.loom_outside.specs.Outside.{SameBut, HasCause, CanAttach, CanRead, CanWrite, makes_file, Attached, IsFresh, Took, TookSome, PutPrefix, at_start, ends, puts, holds};
 ghost use Rattle.long_names.specs.Counting.{counted};
 ghost use Rattle.loom_outside.specs.Plans.{is_due};
 ghost use Rattle.loom_outside.specs.declared.outside.Role.{Role};
@@ -127,6 +127,13 @@ impl MemoryHost {
         self.store.notes()
     }
 
+    /// Whether a piece of no bytes was put to a role since the last attach of it that answered Ok.
+    pub fn ended(&self, role: Role) -> bool
+        ensures { result ≡ (roles_of self.now role).ended }
+    {
+        self.calls.at(role).ended
+    }
+
     /// How many calls of `write_at` had answered Ok before the first and before the last `write` on
     /// Transcript. Both are 0 where there was none.
     pub fn work_writes(&self) -> (u64, u64)
@@ -218,10 +225,11 @@ impl Host for MemoryHost {
         requires { CanWrite role }
         ensures bound { IfOk result (λ n. n ≤ length buf.now) }
         ensures some { 0 < length buf.now → IfOk result (λ n. 0 < n) }
-        ensures put { IfOk result (λ n. roles_of self.new role ≡ puts (take n buf.now) (roles_of self.old role)) }
+        ensures put { 0 < length buf.now → IfOk result (λ n. roles_of self.new role ≡ puts (take n buf.now) (roles_of self.old role)) }
         ensures failed { OnErr result (PutPrefix buf.now (roles_of self.old role) (roles_of self.new role)) }
         ensures empty { length buf.now ≡ 0 → IfOk result (λ n. n ≡ 0) }
-        ensures still { length buf.now ≡ 0 → roles_of self.new role ≡ roles_of self.old role }
+        ensures ended { length buf.now ≡ 0 → OnOk result (roles_of self.new role ≡ ends (roles_of self.old role)) }
+        ensures still { length buf.now ≡ 0 → OnErr result (roles_of self.new role ≡ roles_of self.old role) }
         ensures others { SameBut role (roles_of self.old) (roles_of self.new) }
         ensures work { roles_of self.new Role.Work ≡ roles_of self.old Role.Work }
         ensures other_faults { SameBut role (faults_of self.old) (faults_of self.new) }
@@ -248,6 +256,7 @@ impl Host for MemoryHost {
         if self.store.put(role, &buf[..n]).is_err() {
             return self.faults.fail(role);
         }
+        self.calls.end_write(role, n);
         Ok(n)
     }
 

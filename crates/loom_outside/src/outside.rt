@@ -2,7 +2,7 @@
 ghost use Rattle.std.specs.Prelude.{◌≡◌, ◌+◌, ◌-◌, ◌^◌, ◌<◌, ◌≤◌, ℕ, Bool, IsTrue, IfOk, OnOk, OnErr, List, length, take, min};
 ghost use Rattle.loom_outside.specs.declared.outside.Role.{Role};
 ghost use Rattle.loom_outside.specs.Bytes.{window, overwritten};
-ghost use Rattle.loom_outside.specs.Outside.{RoleState, SameBut, HasCause, CanAttach, CanRead, CanWrite, Attached, IsFresh, Took, TookSome, PutPrefix, puts, holds};
+ghost use Rattle.loom_outside.specs.Outside.{RoleState, SameBut, HasCause, CanAttach, CanRead, CanWrite, Attached, IsFresh, Took, TookSome, PutPrefix, ends, puts, holds};
 ghost use Rattle.long_names.specs.Counting.{counted};
 
 /// What a run reads and writes. Image and Events are read in order, Saved and Display are written in
@@ -79,15 +79,18 @@ pub trait Host {
         ensures cause { HasCause (faults self.old role) (faults self.new role) result };
 
     /// Puts the first bytes of a piece to a role that is written, as many as it likes, and at least one
-    /// of a piece that isn't empty. Where it failed, some of the first bytes may have been put.
+    /// of a piece that isn't empty. Where it failed, some of the first bytes may have been put. A piece of
+    /// no bytes puts none, and ends the role: what was put since its attach is whole, and a host may take
+    /// it for that, as `RealHost` does Saved. Where that failed, the role is as it was.
     fn write(&mut self, role: Role, buf: &[u8]) -> Result<usize, Failed>
         requires { CanWrite role }
         ensures bound { IfOk result (λ n. n ≤ length buf.now) }
         ensures some { 0 < length buf.now → IfOk result (λ n. 0 < n) }
-        ensures put { IsTrue (tells role) → IfOk result (λ n. roles self.new role ≡ puts (take n buf.now) (roles self.old role)) }
+        ensures put { IsTrue (tells role) → 0 < length buf.now → IfOk result (λ n. roles self.new role ≡ puts (take n buf.now) (roles self.old role)) }
         ensures failed { IsTrue (tells role) → OnErr result (PutPrefix buf.now (roles self.old role) (roles self.new role)) }
         ensures empty { length buf.now ≡ 0 → IfOk result (λ n. n ≡ 0) }
-        ensures still { IsTrue (tells role) → length buf.now ≡ 0 → roles self.new role ≡ roles self.old role }
+        ensures ended { IsTrue (tells role) → length buf.now ≡ 0 → OnOk result (roles self.new role ≡ ends (roles self.old role)) }
+        ensures still { IsTrue (tells role) → length buf.now ≡ 0 → OnErr result (roles self.new role ≡ roles self.old role) }
         ensures others { SameBut role (roles self.old) (roles self.new) }
         ensures work { roles self.new Role.Work ≡ roles self.old Role.Work }
         ensures other_faults { SameBut role (faults self.old) (faults self.new) }

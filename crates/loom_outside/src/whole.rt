@@ -31,7 +31,7 @@ pub fn read_full<H: Host>(host: &mut H, role: Role, buf: &mut [u8]) -> Result<us
 }
 
 /// Puts the whole piece. Where that failed, some of its first bytes may have been put. For an empty
-/// piece it makes no call.
+/// piece it makes no call, and so ends nothing.
 pub fn write_full<H: Host>(host: &mut H, role: Role, buf: &[u8]) -> Result<(), Failed>
     requires { CanWrite role }
     ensures put { IsTrue (H.tells role) → OnOk result (H.roles host.new role ≡ puts buf.now (H.roles host.old role)) }

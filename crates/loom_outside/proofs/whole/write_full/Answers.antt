@@ -13,7 +13,7 @@ pub loop-done-preserved : goal.loop-done-preserved
 loop-done-preserved g c = record {
   within = search rules;
   none = search rules;
-  put = λ told. puts_more _ _ _ _ _ _ _ (take_rest c.args.buf.now c.loop-done.done) (c.loop-done.invariant.put told) (c.in_ok-done.ensures.put told);
+  put = λ told. puts_more _ _ _ _ _ _ _ (take_rest c.args.buf.now c.loop-done.done) (c.loop-done.invariant.put told) (c.in_ok-done.ensures.put told (search rules));
   others = search rules;
   work = search rules;
   other_faults = search rules;

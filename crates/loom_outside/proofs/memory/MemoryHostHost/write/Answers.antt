@@ -13,7 +13,7 @@ pub returns-then-is_err-clause-failed : goal.returns-then-is_err-clause-failed
 unfolding roles_of
 returns-then-is_err-clause-failed c =
     let held = at_is_err c.put.result (sym c.is_err.ensures.value ∙ c.if-is_err.true) c.put.ensures.err in
-    always_on_err c.fail-then-is_err.result (PutPrefix-none _ _ _ (told-same (at_role c.args.self.now.calls c.args.role) (at_role c.begin.new.self c.args.role) _ _ c.begin.ensures.attaches c.begin.ensures.named held))
+    always_on_err c.fail-then-is_err.result (PutPrefix-none _ _ _ (told-same (at_role c.args.self.now.calls c.args.role) (at_role c.begin.new.self c.args.role) _ _ c.begin.ensures.attaches c.begin.ensures.named c.begin.ensures.ended held))
 
 pub returns-then-is_err-clause-work : goal.returns-then-is_err-clause-work
 unfolding roles_of
@@ -21,4 +21,4 @@ returns-then-is_err-clause-work c = told-other c.args.role Work c.args.self.now.
 
 pub returns-clause-work : goal.returns-clause-work
 unfolding roles_of
-returns-clause-work c = told-other c.args.role Work c.args.self.now.calls c.begin.new.self c.args.self.now.store c.put.new.self (work_not_written c.args.role c.requires) c.begin.ensures.others c.put.ensures.others
+returns-clause-work c = told-other c.args.role Work c.args.self.now.calls c.end_write.new.self c.args.self.now.store c.put.new.self (work_not_written c.args.role c.requires) (λ r apart. c.end_write.ensures.others r apart ∙ c.begin.ensures.others r apart) c.put.ensures.others
