@@ -26,7 +26,7 @@ use Rattle.disk_objects.specs.Disk.{IsLaid, link_to, names_text, tail_text, reco
 use Rattle.loom_outside.specs.declared.outside.DiskFault.{DiskFault}
 use Rattle.loom_outside.specs.declared.outside.DiskFault.TheVariants.{Work, Full, Damaged}
 use Rattle.disk_objects.specs.declared.record.Head.{Head}
-use Rattle.disk_objects.specs.Inside.{Touches, Writes, IsHead, IsHeadFault, IsLinkFault, IsRecordFault, size_stated_in}
+use Rattle.disk_objects.specs.Inside.{Touches, Writes, linked, IsHead, IsHeadFault, IsLinkFault, IsRecordFault, size_stated_in}
 use Rattle.disk_objects.proofs.WindowLaws.{window-taken}
 
 -- ---- the parts of a text
@@ -94,6 +94,56 @@ unfolding link_at
 link-written w p link bytes here is fits =
     let shown : window w p 8 ≡ big_bytes 8 link = ap (λ (b : List ℕ). window w p (length b)) (sym is) ∙ here ∙ is in
     ap (λ (l : List ℕ). big_number 8 l) (shown ∙ sym (append-nil (big_bytes 8 link))) ∙ big_number-reads_back 8 link [] fits
+
+-- ---- a record that was written with its link at once
+
+linked-text : (raw : RawRecord) (link : ℕ) (bytes : List ℕ) → bytes ≡ raw_text raw → linked bytes link ≡ names_text raw ++ (big_bytes 8 link ++ tail_text raw)
+linked-text raw link bytes is =
+    ap (λ (t : List ℕ). take 8 t ++ (big_bytes 8 link ++ drop 16 t)) is
+    ∙ ap (λ (t : List ℕ). t ++ (big_bytes 8 link ++ drop 16 (raw_text raw))) (take-names raw)
+    ∙ ap (λ (t : List ℕ). names_text raw ++ (big_bytes 8 link ++ t)) (drop-tail raw)
+
+linked-tail : (raw : RawRecord) (link : ℕ) → drop 16 (names_text raw ++ (big_bytes 8 link ++ tail_text raw)) ≡ tail_text raw
+linked-tail raw link =
+    ap (drop 16) (sym (append_assoc (names_text raw) (big_bytes 8 link) (tail_text raw)))
+    ∙ drop_at (names_text raw ++ big_bytes 8 link) (tail_text raw) 16 (omega (arith, length-append (names_text raw) (big_bytes 8 link), length-names raw))
+
+pub record-linked : (v w : List ℕ) (place : ℕ) (raw : RawRecord) (link : ℕ) (bytes : List ℕ) → bytes ≡ raw_text raw → link < 256 ^ 8
+    → window w place (length bytes) ≡ linked bytes link → Touches v w place (length bytes) → Writes v w place raw link
+record-linked v w place raw link bytes is fits here touches =
+    let n : ℕ = length (tail_text raw) in
+    let size : length bytes ≡ record_size raw = ap length is ∙ length-text raw in
+    let tail : n + 16 ≡ record_size raw = length-tail raw in
+    let text = here ∙ linked-text raw link bytes is in
+    record {
+      laid = record {
+        names =
+            ap (λ (p : ℕ). window w p 8) (let e : place ≡ place + 0 = omega arith in e)
+            ∙ sym (window-taken w place (length bytes) 0 8 (omega (arith, size, tail)))
+            ∙ ap (take 8) text
+            ∙ take_at (names_text raw) (big_bytes 8 link ++ tail_text raw) 8 (length-names raw);
+        link_is = link-written w (place + 8) link (big_bytes 8 link)
+            (sym (window-taken w place (length bytes) 8 8 (omega (arith, size, tail)))
+            ∙ ap (λ (t : List ℕ). take 8 (drop 8 t)) text
+            ∙ ap (take 8) (drop_at (names_text raw) (big_bytes 8 link ++ tail_text raw) 8 (length-names raw))
+            ∙ take_at (big_bytes 8 link) (tail_text raw) 8 refl)
+            refl fits;
+        tail =
+            sym (window-taken w place (length bytes) 16 n (omega (arith, size, tail)))
+            ∙ ap (λ (t : List ℕ). take n (drop 16 t)) text
+            ∙ ap (take n) (linked-tail raw link)
+            ∙ take_all n (tail_text raw) (omega arith);
+      };
+      touches = subst (λ (k : ℕ). Touches v w place k) size touches;
+    }
+
+pub record-linked-both : {T E : Type 0} (v w : List ℕ) (place : ℕ) (raw : RawRecord) (link : ℕ) (bytes : List ℕ) (r : Result T E) → bytes ≡ raw_text raw → link < 256 ^ 8
+    → OnOk r (window w place (length bytes) ≡ linked bytes link) → OnOk r (Touches v w place (length bytes)) → OnOk r (Writes v w place raw link)
+record-linked-both v w place raw link bytes (Ok y) is fits here touches = record-linked v w place raw link bytes is fits here touches
+record-linked-both v w place raw link bytes (Err y) is fits here touches = tt
+
+pub long-record : (raw : RawRecord) (bytes : List ℕ) → bytes ≡ raw_text raw → 16 ≤ length bytes
+long-record raw bytes is = omega (arith, ap length is, length-text raw, length-tail raw)
 
 pub head-link : (w bytes : List ℕ) (place link : ℕ) → bytes ≡ window w place 28 → link ≡ big_number 8 (take 8 (drop 8 bytes)) → link ≡ link_at w (place + 8)
 unfolding link_at

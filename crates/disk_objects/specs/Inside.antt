@@ -1,6 +1,7 @@
 -- What the functions inside say of records in Work.
-use Rattle.std.specs.Prelude.{◌≡◌, ◌≢◌, ◌⊎◌, ℕ, ◌+◌, ◌%◌, ◌<◌, ◌≤◌, List, length, max, Bool, IsTrue, Option, None, Some, Result, Ok, Err, nat_le, if◌then◌else◌, ◌*◌}
+use Rattle.std.specs.Prelude.{◌≡◌, ◌≢◌, ◌⊎◌, ℕ, ◌+◌, ◌%◌, ◌<◌, ◌≤◌, List, length, ◌++◌, take, drop, max, Bool, IsTrue, Option, None, Some, Result, Ok, Err, nat_le, if◌then◌else◌, ◌*◌}
 use Rattle.std.specs.FinMap as map
+use Rattle.byteorder.specs.Endian.{big_bytes}
 use Rattle.long_names.specs.Counting.{Rose}
 use Rattle.long_names.specs.Names.{IsLongName}
 use Rattle.long_names.specs.Record.{padding}
@@ -8,7 +9,7 @@ use Rattle.loom_outside.specs.Bytes.{window}
 use Rattle.loom_outside.specs.declared.outside.DiskFault.{DiskFault}
 use Rattle.loom_outside.specs.declared.outside.DiskFault.TheVariants as fault
 use Rattle.long_names.specs.declared.limits.TheConstants.{LONGEST_RECORD}
-use Rattle.object_record.specs.declared.offsets.TheConstants.{CONTENTS_AT, COUNT_AT, LITERALS_AT}
+use Rattle.object_record.specs.declared.offsets.TheConstants.{CONTENTS_AT, COUNT_AT, KIND_AT, LITERALS_AT}
 use Rattle.work_directory.specs.declared.limits.TheConstants.{SLOT_BYTES}
 use Rattle.work_space.specs.declared.limits.TheConstants.{LAST_END}
 use Rattle.object_record.specs.Raw.{RawRecord}
@@ -30,6 +31,10 @@ use Rattle.disk_objects.specs.Disk.{IsSizeClass, IsLaid, IsOwned, AreKept, Objec
 -- how many bytes a record has that begins with these
 abbrev pub size_stated_in : List ℕ → ℕ
 size_stated_in bytes = end_stated bytes + padding (end_stated bytes)
+
+-- the bytes of a record, with this link where they have their count
+abbrev pub linked : List ℕ → ℕ → List ℕ
+linked bytes link = take COUNT_AT bytes ++ (big_bytes 8 link ++ drop KIND_AT bytes)
 
 -- what the first bytes of a record at a place say
 pub record IsHead (work : List ℕ) (place : ℕ) (head : Head) : Type 0 where

@@ -11,7 +11,7 @@ ghost use Rattle.loom_outside.specs.Work.{IsWorkOnly, IsWorkRead, work_of, IsWor
 ghost use Rattle.work_space.specs.Blocks.{AreFew, link_at};
 ghost use Rattle.work_space.specs.Space.{IsSpace, from_of};
 ghost use Rattle.disk_objects.specs.Disk.{IsSizeClass, IsLaid, link_to, record_size, with_count};
-ghost use Rattle.disk_objects.specs.Inside.{IsHead, IsHeadFault, IsLinkFault, IsRecordFault, IsRecordSize, IsSizedHead, IsStoreFault, Stores, Touches, Writes, size_stated_in};
+ghost use Rattle.disk_objects.specs.Inside.{IsHead, IsHeadFault, IsLinkFault, IsRecordFault, IsRecordSize, IsSizedHead, IsStoreFault, Stores, Touches, Writes, linked, size_stated_in};
 
 use byteorder::{BigEndian, ByteOrder};
 use long_names::{LONGEST_RECORD, Name};
@@ -19,7 +19,7 @@ use loom_outside::{DiskFault, Host, Role};
 use object_record::{CONTENTS_AT, COUNT_AT, KIND_AT, LITERALS_AT, RecordBuf, SIZE_AT};
 use work_space::{LAST_END, Space, size_class_of};
 
-// How many bytes of a record are read before it is known how many it has: more than most records have.
+// How many bytes of a record are read before it is known how many it has, or written at once with a link: more than most records have.
 const FRONT_BYTES: usize = 256;
 
 /// What the first bytes of a record say.
@@ -263,7 +263,32 @@ fn write<H: Host>(host: &mut H, place: u64, bytes: &[u8]) -> Result<(), DiskFaul
     }
 }
 
-// Writes the buffer's record to a place, and this link where a record has its count.
+// Puts the bytes of a record to the front of a piece, and this link where they have their count.
+fn link_front(front: &mut [u8], bytes: &[u8], link: u64)
+    requires size { KIND_AT ≤ length bytes.now }
+    requires room { length bytes.now ≤ length front.old }
+    ensures bytes { take (length bytes.now) front.new ≡ linked bytes.now link }
+    ensures len { length front.new ≡ length front.old }
+{
+    front[..bytes.len()].copy_from_slice(bytes);
+    BigEndian::write_u64(&mut front[COUNT_AT..KIND_AT], link);
+}
+
+// Writes a record that is no longer than a front to a place, in one write, with this link where it has its count.
+fn write_front<H: Host>(host: &mut H, place: u64, bytes: &[u8], link: u64) -> Result<(), DiskFault>
+    requires size { KIND_AT ≤ length bytes.now }
+    requires short { length bytes.now ≤ FRONT_BYTES }
+    ensures here { IsTrue (H.tells Role.Work) → OnOk result (window (work_of H.Host host.new) place (length bytes.now) ≡ linked bytes.now link) }
+    ensures touches { IsTrue (H.tells Role.Work) → OnOk result (Touches (work_of H.Host host.old) (work_of H.Host host.new) place (length bytes.now)) }
+    ensures work { IsWorkOnly H.Host host.old host.new }
+    ensures fault { IfErr result (IsWorkFault (H.faults host.old Role.Work) (H.faults host.new Role.Work)) }
+{
+    let mut front = [0; FRONT_BYTES];
+    link_front(&mut front, bytes, link);
+    write(host, place, &front[..bytes.len()])
+}
+
+// Writes the buffer's record to a place, and this link where a record has its count: in one write, where it is no longer than a front.
 pub(crate) fn write_record<H: Host>(
     host: &mut H,
     place: u64,
@@ -276,7 +301,11 @@ pub(crate) fn write_record<H: Host>(
     ensures work { IsWorkOnly H.Host host.old host.new }
     ensures fault { IfErr result (IsWorkFault (H.faults host.old Role.Work) (H.faults host.new Role.Work)) }
 {
-    write(host, place, buf.bytes())?;
+    let bytes = buf.bytes();
+    if bytes.len() <= FRONT_BYTES {
+        return write_front(host, place, bytes, link);
+    }
+    write(host, place, bytes)?;
     write_link(host, place, link)
 }
 
