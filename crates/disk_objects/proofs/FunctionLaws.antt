@@ -300,6 +300,11 @@ module _ {H : Type 0} (host : Ghosts H) (old new : H) (rest after : DiskRest) wh
         by_object None false got = got
     fetched (Err e) bytes name got = tt
 
+    pub fetched_counted : {E : Type 0} (r : Result (Option ℕ) E) (bytes : List ℕ) (name : ℕ) → IfOk r (λ count. IsGot bytes (map.get objects name) (is_some count))
+        → IfOk r (λ count. IsFetched bytes (disk_of host old rest name) (is_some count))
+    fetched_counted {E = E} (Ok count) bytes name got = fetched {E = E} (Ok (is_some count)) bytes name got
+    fetched_counted (Err e) bytes name got = tt
+
     pub counted : {E : Type 0} (r : Result (Option ℕ) E) (name : ℕ) → IfOk r (λ count. count ≡ count_held (map.get objects name)) → IfOk r (λ count. count ≡ counts_of host old rest name)
     counted (Ok c) name is = is ∙ sym (counts-is rest (work_of host old) objects pending name k)
     counted (Err e) name is = tt

@@ -1,5 +1,5 @@
 // A disk: what stands in Work of a host stands for a map of objects and a list of pending names.
-ghost use Rattle.std.specs.Prelude.{◌≡◌, ◌≢◌, ◌<◌, ◌≤◌, ◌^◌, ℕ, List, [], ◌∷◌, length, min, Option, None, Some, IsOk, IsTrue, true, IfOk, IfErr, IsErr, OnOk, OnErr, option_map, ◌⊎◌, ◌+◌};
+ghost use Rattle.std.specs.Prelude.{◌≡◌, ◌≢◌, ◌<◌, ◌≤◌, ◌^◌, ℕ, List, [], ◌∷◌, length, min, Option, None, Some, IsSome, is_some, IsOk, IsTrue, true, IfOk, IfErr, IsErr, OnOk, OnErr, option_map, ◌⊎◌, ◌+◌};
 ghost use Rattle.std.specs.FinMap as map;
 ghost use Rattle.loom_outside.specs.declared.outside.Role.{Role};
 ghost use Rattle.loom_outside.specs.Outside.{Attached, CanAttach, CanRead, CanWrite, HasCause, IsFresh, PutPrefix, SameBut, Took, TookSome, puts};
@@ -106,6 +106,27 @@ impl<'h, H: Host> DiskObjects<'h, H> {
         ensures fault { IfErr result (IsFault (H.tells Role.Work) (H.faults self.old.host.now Role.Work) (H.faults self.new.host.now Role.Work) (IsReadPlace self.old.rest) name) }
     {
         self.rest.get(self.host, name, buf)
+    }
+
+    /// Puts the record of a name into the buffer, and answers the name's count, by one search: None exactly where the name isn't held. The
+    /// record's count is any number. After None or a fault the buffer may hold anything.
+    pub fn get_counted(&mut self, name: Name, buf: &mut RecordBuf) -> Result<Option<u64>, DiskFault>
+        requires stands { HoldsObjects H.Host self.old.host.now self.old.rest }
+        ensures got { IsTrue (H.tells Role.Work) → (objects : Objects) (pending : List ℕ) →
+            IsDisk self.old.rest (work_of H.Host self.old.host.now) objects pending → IfOk result (λ count. IsGot buf.new (map.get objects name) (is_some count)) }
+        ensures count { IsTrue (H.tells Role.Work) → (objects : Objects) (pending : List ℕ) →
+            IsDisk self.old.rest (work_of H.Host self.old.host.now) objects pending →
+            IfOk result (λ count. count ≡ option_map (λ (o : DiskObject). o.count) (map.get objects name)) }
+        ensures record { IfOk result (λ count. IsSome count → HasRecord buf.new × ((raw_of buf.new).name ≡ name)) }
+        ensures found { IsTrue (H.tells Role.Work) → IfOk result (λ count. IsFetched buf.new (disk_of H.Host self.old.host.now self.old.rest name) (is_some count)) }
+        ensures counted { IsTrue (H.tells Role.Work) → IfOk result (λ count. count ≡ counts_of H.Host self.old.host.now self.old.rest name) }
+        ensures keeps { IsTrue (H.tells Role.Work) → KeepsObjects H.Host self.old.host.now self.new.host.now self.old.rest self.new.rest }
+        ensures rest { self.new.rest ≡ self.old.rest }
+        ensures read { IsWorkRead H.Host self.old.host.now self.new.host.now }
+        ensures same_host { self.new.host.ghost_name ≡ self.old.host.ghost_name }
+        ensures fault { IfErr result (IsFault (H.tells Role.Work) (H.faults self.old.host.now Role.Work) (H.faults self.new.host.now Role.Work) (IsReadPlace self.old.rest) name) }
+    {
+        self.rest.get_counted(self.host, name, buf)
     }
 
     /// Puts the record of a name that is held into the buffer, and answers the record's place in Work. After a fault the buffer may hold

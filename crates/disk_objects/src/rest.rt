@@ -1,5 +1,5 @@
 // What is known of a disk without its host, and what each call does with a host.
-ghost use Rattle.std.specs.Prelude.{◌≡◌, ◌≢◌, ◌<◌, ◌≤◌, ◌^◌, ◌+ℤ◌, ℕ, List, [], ◌∷◌, pos, unsigned_abs, Option, None, Some, IsSome, IsTrue, true, IfSome, IfOk, IfErr, IsErr, OnOk, OnErr, option_map, ◌⊎◌, ◌+◌, ◌*◌};
+ghost use Rattle.std.specs.Prelude.{◌≡◌, ◌≢◌, ◌<◌, ◌≤◌, ◌^◌, ◌+ℤ◌, ℕ, List, [], ◌∷◌, pos, unsigned_abs, Option, None, Some, IsSome, IsTrue, true, IfSome, IfOk, IfErr, IsErr, OnOk, OnErr, option_map, is_some, ◌⊎◌, ◌+◌, ◌*◌};
 ghost use Rattle.std.specs.FinMap as map;
 ghost use Rattle.std.specs.Int.{FitsUnsigned, w64};
 ghost use Rattle.std.specs.Option.{SomeIff};
@@ -203,6 +203,29 @@ impl DiskRest {
         })
     }
 
+    // The count of a name, whose record is put into the buffer; None where the name isn't held.
+    pub(crate) fn get_counted<H: Host>(
+        &self,
+        host: &mut H,
+        name: Name,
+        buf: &mut RecordBuf,
+    ) -> Result<Option<u64>, DiskFault>
+        requires stands { HoldsObjects H.Host host.old self.now }
+        ensures got { IsTrue (H.tells Role.Work) → (objects : Objects) (pending : List ℕ) → IsDisk self.now (work_of H.Host host.old) objects pending →
+            IfOk result (λ count. IsGot buf.new (map.get objects name) (is_some count)) }
+        ensures count { IsTrue (H.tells Role.Work) → (objects : Objects) (pending : List ℕ) → IsDisk self.now (work_of H.Host host.old) objects pending →
+            IfOk result (λ count. count ≡ option_map (λ (o : DiskObject). o.count) (map.get objects name)) }
+        ensures record { IfOk result (λ count. IsSome count → HasRecord buf.new × ((raw_of buf.new).name ≡ name)) }
+        ensures read { IsWorkRead H.Host host.old host.new }
+        ensures fault { IfErr result (IsFault (H.tells Role.Work) (H.faults host.old Role.Work) (H.faults host.new Role.Work) (IsReadPlace self.now) name) }
+    {
+        let Some(slot) = self.find(host, name)? else {
+            return Ok(None);
+        };
+        read_record(host, slot.place, name, buf)?;
+        Ok(Some(slot.count))
+    }
+
     pub(crate) fn get<H: Host>(
         &self,
         host: &mut H,
@@ -216,11 +239,8 @@ impl DiskRest {
         ensures read { IsWorkRead H.Host host.old host.new }
         ensures fault { IfErr result (IsFault (H.tells Role.Work) (H.faults host.old Role.Work) (H.faults host.new Role.Work) (IsReadPlace self.now) name) }
     {
-        let Some(slot) = self.find(host, name)? else {
-            return Ok(false);
-        };
-        read_record(host, slot.place, name, buf)?;
-        Ok(true)
+        let count = self.get_counted(host, name, buf)?;
+        Ok(count.is_some())
     }
 
     pub(crate) fn get_held<H: Host>(
