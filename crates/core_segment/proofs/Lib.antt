@@ -8,3 +8,6 @@ pub mod HeadLaws
 pub mod RegionLaws
 pub mod ChunkLaws
 pub mod TellLaws
+mod Lent
+pub mod Walks
+pub mod Cell

@@ -2,10 +2,9 @@
 use Rattle.std.proofs.Common.{◌≡◌, ◌≢◌, ℕ, ◌+◌, ◌-◌, ◌<◌, ◌≤◌, List, length, get_or, drop, sym, ◌∙◌, subst, arith, ⊎_elim}
 use Rattle.std.proofs.lemmas.Grind.{same_number_lists}
 use Rattle.std.proofs.lemmas.Bool.{cases_eq}
-use Rattle.std.proofs.lemmas.List.{get_or_default, get_or-take, get_or-drop, get_or-set_same, get_or-set_other, length-take, length-drop}
+use Rattle.std.proofs.lemmas.List.{get_or-take, get_or-drop, get_or-set_same, get_or-set_other, length-take, length-drop}
 use Rattle.std.proofs.Math.ListN.{length-set}
 use Rattle.std.specs.List.{slice_set, slice_range}
-use Rattle.core_segment.specs.Inside.{word_at}
 
 -- the words of a part
 pub length-range : (r : List ℕ) (a b : ℕ) → b ≤ length r → length (slice_range r a b) ≡ b - a
@@ -31,7 +30,3 @@ range-set r a b i w low inside = same_number_lists _ _
     (λ (e : j ≢ i). get_or-set_other r (a + i) (a + j) w 0 (λ f. e (omega arith))
     ∙ sym (range-at r a b j (omega arith)) ∙ sym (get_or-set_other (slice_range r a b) i j w 0 e))
     (cases_eq j i))
-
--- a word as it is read
-pub read : (r : List ℕ) (i w : ℕ) → i < length r → w ≡ get_or r i w → w ≡ word_at r i
-read r i w low e = e ∙ get_or_default r i w 0 low

@@ -137,6 +137,13 @@ pub record IsCleared (old new : List ℕ) (from to : ℕ) : Type 0 where
   pub below : (i : ℕ) → i < from → word_at new i ≡ word_at old i
   pub above : (i : ℕ) → to ≤ i → word_at new i ≡ word_at old i
 
+-- so many words were moved down, over what lay there
+pub record IsMovedDown (old new : List ℕ) (from to size : ℕ) : Type 0 where
+  pub same_size : length new ≡ length old
+  pub copied : (i : ℕ) → to ≤ i → i < to + size → word_at new i ≡ word_at old (from + (i - to))
+  pub below : (i : ℕ) → i < to → word_at new i ≡ word_at old i
+  pub above : (i : ℕ) → to + size ≤ i → word_at new i ≡ word_at old i
+
 -- so many words were moved down, and what they left is 0
 pub record IsShifted (old new : List ℕ) (from to size : ℕ) : Type 0 where
   pub same_size : length new ≡ length old

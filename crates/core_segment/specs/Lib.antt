@@ -1,3 +1,4 @@
 pub mod Chunks
 pub mod Segment
 pub mod Inside
+pub mod Memory

@@ -8,7 +8,7 @@ use Rattle.core_segment.specs.Inside.{placed, spans_of, largest_gap}
 
 -- the used chunks, by rising place
 unfoldable pub chunks_of : Segment → List Placed
-chunks_of g = map (placed g.region.items) (spans_of g.region.items)
+chunks_of g = map (placed g.region.cells.items) (spans_of g.region.cells.items)
 
 -- the used chunk that begins at a place
 unfoldable pub chunk_at : Segment → ℕ → Chunk
@@ -16,7 +16,7 @@ chunk_at g = at_place (chunks_of g)
 
 -- how many words the region has
 unfoldable pub size_of : Segment → ℕ
-size_of g = length g.region.items
+size_of g = length g.region.cells.items
 
 -- how many words are in no used chunk
 unfoldable pub free_of : Segment → ℕ
@@ -24,7 +24,7 @@ free_of g = g.free
 
 -- the words of the largest free chunk
 unfoldable pub largest_of : Segment → ℕ
-largest_of g = largest_gap 0 (spans_of g.region.items) (length g.region.items)
+largest_of g = largest_gap 0 (spans_of g.region.cells.items) (length g.region.cells.items)
 
 -- how far down the used chunks could go at most, all together
 unfoldable pub work_of : Segment → ℕ

@@ -13,12 +13,16 @@
 //! }
 //! ```
 //!
+//! The words lie in raw memory, which `words` alone knows: one block, asked for by `new` and given back by the drop.
+//!
 //! Read `specs/Chunks.antt` first, then `specs/Segment.antt`. `laws` says that chunks never overlap. An owner is a number to the segment,
 //! and what a word means it doesn't know.
 #![tactic(auto)]
 
 pub mod laws;
+mod memory;
 mod region;
 mod segment;
+mod words;
 
 pub use segment::{Addr, HEADER, MOST_WORDS, Moved, Segment};

@@ -4,6 +4,7 @@ ghost use Rattle.core_segment.specs.declared.segment.TheConstants.{MOST_WORDS};
 ghost use Rattle.core_segment.specs.Inside.{IsRegion, spans_of};
 
 use crate::region::{beyond, clear, earlier, later, open, shift, size_at};
+use crate::words::Words;
 use std::alloc::{AllocError, Global};
 
 /// The most words of a segment.
@@ -29,13 +30,13 @@ pub struct Moved {
 #[derive(Drop)]
 pub struct Segment {
     // A used chunk begins with its owner, which is not 0, and its size. Each free word is 0. So chunks are found from place to place.
-    region: Vec<u16>,
+    region: Words,
     free: u32,
     // Where searches begin and a compaction goes on: no word is free below `packed`, and each is from there to `next`.
     packed: u32,
     next: u32,
-    ghost small: { length region.items ≤ MOST_WORDS },
-    ghost whole: { IsRegion region.items (spans_of region.items) free packed next },
+    ghost small: { length region.cells.items ≤ MOST_WORDS },
+    ghost whole: { IsRegion region.cells.items (spans_of region.cells.items) free packed next },
 }
 
 impl Segment {
@@ -53,7 +54,7 @@ impl Segment {
         ensures free { IfOk result (λ g. (free_of g ≡ words) × (largest_of g ≡ words)) }
     {
         Ok(Segment {
-            region: vec![in alloc; 0; words as usize]?,
+            region: Words::make(alloc, words)?,
             free: words,
             packed: 0,
             next: 0,
@@ -89,7 +90,7 @@ impl Segment {
         requires { i < length (chunk_at self.now at.place).words }
         ensures { slice_get (chunk_at self.now at.place).words i ≡ Some result }
     {
-        self.region[at.place as usize + HEADER as usize + i as usize]
+        self.region.get(at.place + HEADER + i)
     }
 
     /// Changes a word of a chunk.
@@ -98,22 +99,22 @@ impl Segment {
         ensures chunks { chunk_at self.new ≡ with_word (chunk_at self.old) at.place i w }
         ensures room { SameRoom self.old self.new }
     {
-        self.region[at.place as usize + HEADER as usize + i as usize] = w;
+        self.region.put(at.place + HEADER + i, w);
     }
 
     // The first place from which on so many words are free: a chunk ends there, or the segment begins.
     fn find_gap(&self, words: u32) -> Option<u32>
         requires { 1 ≤ words }
         ensures none { IfNone result (largest_of self.now < words) }
-        ensures gap { IfSome result (λ p. (k : ℕ) × IsGap (spans_of self.now.region.items) (length self.now.region.items) words k p
-            × (p ≡ end_before (spans_of self.now.region.items) k)) }
+        ensures gap { IfSome result (λ p. (k : ℕ) × IsGap (spans_of self.now.region.cells.items) (length self.now.region.cells.items) words k p
+            × (p ≡ end_before (spans_of self.now.region.cells.items) k)) }
         ensures behind { IfSome result (λ p. self.now.packed ≤ p) }
     {
-        let size = self.region.len() as u32;
+        let size = self.region.size;
         let mut start = self.packed;
         let mut place = self.packed;
         while place < size {
-            let word = self.region[place as usize];
+            let word = self.region.get(place);
             if word == 0 {
                 place += 1;
                 if place - start == words {
@@ -165,14 +166,14 @@ impl Segment {
 
     // The first free word behind the chunks that are packed, or the end.
     fn end_of_packed(&self) -> u32
-        ensures packed { (k : ℕ) × IsPacked (spans_of self.now.region.items) (length self.now.region.items) k result self.now.next }
-        ensures free { word_at self.now.region.items result ≡ 0 }
-        ensures within { result ≤ length self.now.region.items }
+        ensures packed { (k : ℕ) × IsPacked (spans_of self.now.region.cells.items) (length self.now.region.cells.items) k result self.now.next }
+        ensures free { word_at self.now.region.cells.items result ≡ 0 }
+        ensures within { result ≤ length self.now.region.cells.items }
     {
-        let size = self.region.len() as u32;
+        let size = self.region.size;
         let mut place = self.packed;
         while place < size {
-            let word = self.region[place as usize];
+            let word = self.region.get(place);
             if word == 0 {
                 return place;
             }
@@ -183,16 +184,16 @@ impl Segment {
 
     // The next chunk from a free word on, or the end.
     fn end_of_gap(&self, from: u32) -> u32
-        requires { from ≤ length self.now.region.items }
-        ensures gap { (k : ℕ) → IsAt (spans_of self.now.region.items) k from → IsAt (spans_of self.now.region.items) k result }
-        ensures used { result < length self.now.region.items → word_at self.now.region.items result ≢ 0 }
+        requires { from ≤ length self.now.region.cells.items }
+        ensures gap { (k : ℕ) → IsAt (spans_of self.now.region.cells.items) k from → IsAt (spans_of self.now.region.cells.items) k result }
+        ensures used { result < length self.now.region.cells.items → word_at self.now.region.cells.items result ≢ 0 }
         ensures behind { from ≤ result }
-        ensures within { result ≤ length self.now.region.items }
+        ensures within { result ≤ length self.now.region.cells.items }
     {
-        let size = self.region.len() as u32;
+        let size = self.region.size;
         let mut place = from;
         while place < size {
-            let word = self.region[place as usize];
+            let word = self.region.get(place);
             if word != 0 {
                 return place;
             }
@@ -218,7 +219,7 @@ impl Segment {
             self.next = from;
             return None;
         }
-        let owner = self.region[from as usize];
+        let owner = self.region.get(from);
         let size = size_at(&self.region, from);
         shift(&mut self.region, from, to, size);
         self.packed = to + size;

@@ -49,4 +49,4 @@ laid-out region spans free laid all = record {
 
 pub returns : goal.returns
 unfolding chunks_of free_of size_of
-returns c = let g = c.args.segment.now in laid-out g.region.items (spans_of g.region.items) g.free g.whole.laid g.whole.counted
+returns c = let g = c.args.segment.now in laid-out g.region.cells.items (spans_of g.region.cells.items) g.free g.whole.laid g.whole.counted

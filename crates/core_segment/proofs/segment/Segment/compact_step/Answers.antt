@@ -1,7 +1,6 @@
 use Rattle.std.proofs.Common.{◌≤◌, refl, arith}
 use Rattle.core_segment.specs.Inside.{spans_of}
 use Rattle.core_segment.specs.Segment.{chunks_of, chunk_at, size_of, free_of, largest_of, work_of}
-use Rattle.core_segment.proofs.WordLaws.{read}
 use Rattle.core_segment.proofs.RegionLaws.{region-packed}
 use Rattle.core_segment.proofs.TellLaws.{next-at, none-left, movable, free-words, stepped}
 use Rattle.core_segment.proofs.segment.Segment.compact_step.Goals as goal
@@ -11,7 +10,7 @@ use Rattle.core_segment.proofs.segment.Segment.compact_step.Goals as goal
 pub invariant_of-self : goal.invariant_of-self
 invariant_of-self c =
     let g = c.args.self.now in
-    let region = g.region.items in
+    let region = g.region.cells.items in
     let spans = spans_of region in
     let packed = c.end_of_packed-to.ensures.packed in
     let next = next-at region spans g.free g.packed g.next packed.0 c.end_of_packed-to.result c.later.result c.end_of_gap-from.result g.whole packed.1 c.later.ensures
@@ -25,7 +24,7 @@ pub returns-then-from-to-clause-none : goal.returns-then-from-to-clause-none
 unfolding largest_of free_of chunk_at chunks_of
 returns-then-from-to-clause-none c =
     let g = c.args.self.now in
-    let region = g.region.items in
+    let region = g.region.cells.items in
     let spans = spans_of region in
     let packed = c.end_of_packed-to.ensures.packed in
     let next = next-at region spans g.free g.packed g.next packed.0 c.end_of_packed-to.result c.later.result c.end_of_gap-from.result g.whole packed.1 c.later.ensures
@@ -44,10 +43,10 @@ returns-then-from-to-clause-size c =
 
 -- ---- a step
 
-pub index-owner-requires : goal.index-owner-requires
-index-owner-requires c =
+pub get-owner-requires : goal.get-owner-requires
+get-owner-requires c =
     let g = c.args.self.now in
-    let region = g.region.items in
+    let region = g.region.cells.items in
     let spans = spans_of region in
     let packed = c.end_of_packed-to.ensures.packed in
     let next = next-at region spans g.free g.packed g.next packed.0 c.end_of_packed-to.result c.later.result c.end_of_gap-from.result g.whole packed.1 c.later.ensures
@@ -55,13 +54,13 @@ index-owner-requires c =
     let behind = c.end_of_gap-from.ensures.behind in
     let order : c.end_of_packed-to.result ≤ c.end_of_gap-from.result = omega (arith, c.later.ensures) in
     let is = movable region spans g.free g.packed g.next packed.0 c.end_of_packed-to.result c.end_of_gap-from.result g.whole packed.1 c.end_of_packed-to.ensures.free next order c.if-from-to.false in
-    let a = is.within in let b = is.some in let d = g.region.ok.0 in
+    let a = is.within in let b = is.some in let d = g.region.sized in
     omega arith
 
 pub size_at-size-requires : goal.size_at-size-requires
 size_at-size-requires c =
     let g = c.args.self.now in
-    let region = g.region.items in
+    let region = g.region.cells.items in
     let spans = spans_of region in
     let packed = c.end_of_packed-to.ensures.packed in
     let next = next-at region spans g.free g.packed g.next packed.0 c.end_of_packed-to.result c.later.result c.end_of_gap-from.result g.whole packed.1 c.later.ensures
@@ -75,7 +74,7 @@ size_at-size-requires c =
 pub shift-requires-clause-down : goal.shift-requires-clause-down
 shift-requires-clause-down c =
     let g = c.args.self.now in
-    let region = g.region.items in
+    let region = g.region.cells.items in
     let spans = spans_of region in
     let packed = c.end_of_packed-to.ensures.packed in
     let next = next-at region spans g.free g.packed g.next packed.0 c.end_of_packed-to.result c.later.result c.end_of_gap-from.result g.whole packed.1 c.later.ensures
@@ -88,7 +87,7 @@ shift-requires-clause-down c =
 pub shift-requires-clause-within : goal.shift-requires-clause-within
 shift-requires-clause-within c =
     let g = c.args.self.now in
-    let region = g.region.items in
+    let region = g.region.cells.items in
     let spans = spans_of region in
     let packed = c.end_of_packed-to.ensures.packed in
     let next = next-at region spans g.free g.packed g.next packed.0 c.end_of_packed-to.result c.later.result c.end_of_gap-from.result g.whole packed.1 c.later.ensures
@@ -102,7 +101,7 @@ shift-requires-clause-within c =
 pub shift-requires-clause-small : goal.shift-requires-clause-small
 shift-requires-clause-small c =
     let g = c.args.self.now in
-    let region = g.region.items in
+    let region = g.region.cells.items in
     let spans = spans_of region in
     let packed = c.end_of_packed-to.ensures.packed in
     let next = next-at region spans g.free g.packed g.next packed.0 c.end_of_packed-to.result c.later.result c.end_of_gap-from.result g.whole packed.1 c.later.ensures
@@ -116,7 +115,7 @@ shift-requires-clause-small c =
 pub shift-requires-clause-free : goal.shift-requires-clause-free
 shift-requires-clause-free c =
     let g = c.args.self.now in
-    let region = g.region.items in
+    let region = g.region.cells.items in
     let spans = spans_of region in
     let packed = c.end_of_packed-to.ensures.packed in
     let next = next-at region spans g.free g.packed g.next packed.0 c.end_of_packed-to.result c.later.result c.end_of_gap-from.result g.whole packed.1 c.later.ensures
@@ -126,7 +125,7 @@ shift-requires-clause-free c =
 pub overflow_add-self : goal.overflow_add-self
 overflow_add-self c =
     let g = c.args.self.now in
-    let region = g.region.items in
+    let region = g.region.cells.items in
     let spans = spans_of region in
     let packed = c.end_of_packed-to.ensures.packed in
     let next = next-at region spans g.free g.packed g.next packed.0 c.end_of_packed-to.result c.later.result c.end_of_gap-from.result g.whole packed.1 c.later.ensures
@@ -140,7 +139,7 @@ overflow_add-self c =
 pub overflow_add-self-2 : goal.overflow_add-self-2
 overflow_add-self-2 c =
     let g = c.args.self.now in
-    let region = g.region.items in
+    let region = g.region.cells.items in
     let spans = spans_of region in
     let packed = c.end_of_packed-to.ensures.packed in
     let next = next-at region spans g.free g.packed g.next packed.0 c.end_of_packed-to.result c.later.result c.end_of_gap-from.result g.whole packed.1 c.later.ensures
@@ -154,7 +153,7 @@ overflow_add-self-2 c =
 pub invariant_of-self-2 : goal.invariant_of-self-2
 invariant_of-self-2 c =
     let g = c.args.self.now in
-    let region = g.region.items in
+    let region = g.region.cells.items in
     let spans = spans_of region in
     let packed = c.end_of_packed-to.ensures.packed in
     let next = next-at region spans g.free g.packed g.next packed.0 c.end_of_packed-to.result c.later.result c.end_of_gap-from.result g.whole packed.1 c.later.ensures
@@ -162,8 +161,8 @@ invariant_of-self-2 c =
     let behind = c.end_of_gap-from.ensures.behind in
     let order : c.end_of_packed-to.result ≤ c.end_of_gap-from.result = omega (arith, c.later.ensures) in
     let is = movable region spans g.free g.packed g.next packed.0 c.end_of_packed-to.result c.end_of_gap-from.result g.whole packed.1 c.end_of_packed-to.ensures.free next order c.if-from-to.false in
-    let owner = read region c.end_of_gap-from.result c.index-owner.result.now (let a = is.within in let b = is.some in omega arith) c.index-owner.ensures in
-    let step = stepped region c.shift.new.region.items spans g.free g.packed g.next packed.0 c.index-owner.result.now c.end_of_packed-to.result c.end_of_gap-from.result c.size_at-size.result
+    let owner = c.get-owner.ensures in
+    let step = stepped region c.shift.new.region.cells.items spans g.free g.packed g.next packed.0 c.get-owner.result c.end_of_packed-to.result c.end_of_gap-from.result c.size_at-size.result
     g.whole packed.1 is owner c.size_at-size.ensures c.end_of_packed-to.ensures.free c.shift.ensures in
     record {
       small = let same = c.shift.ensures.same_size in let small = g.small in omega arith;
@@ -174,7 +173,7 @@ pub returns-clause-moved : goal.returns-clause-moved
 unfolding chunk_at chunks_of
 returns-clause-moved c =
     let g = c.args.self.now in
-    let region = g.region.items in
+    let region = g.region.cells.items in
     let spans = spans_of region in
     let packed = c.end_of_packed-to.ensures.packed in
     let next = next-at region spans g.free g.packed g.next packed.0 c.end_of_packed-to.result c.later.result c.end_of_gap-from.result g.whole packed.1 c.later.ensures
@@ -182,8 +181,8 @@ returns-clause-moved c =
     let behind = c.end_of_gap-from.ensures.behind in
     let order : c.end_of_packed-to.result ≤ c.end_of_gap-from.result = omega (arith, c.later.ensures) in
     let is = movable region spans g.free g.packed g.next packed.0 c.end_of_packed-to.result c.end_of_gap-from.result g.whole packed.1 c.end_of_packed-to.ensures.free next order c.if-from-to.false in
-    let owner = read region c.end_of_gap-from.result c.index-owner.result.now (let a = is.within in let b = is.some in omega arith) c.index-owner.ensures in
-    let step = stepped region c.shift.new.region.items spans g.free g.packed g.next packed.0 c.index-owner.result.now c.end_of_packed-to.result c.end_of_gap-from.result c.size_at-size.result
+    let owner = c.get-owner.ensures in
+    let step = stepped region c.shift.new.region.cells.items spans g.free g.packed g.next packed.0 c.get-owner.result c.end_of_packed-to.result c.end_of_gap-from.result c.size_at-size.result
     g.whole packed.1 is owner c.size_at-size.ensures c.end_of_packed-to.ensures.free c.shift.ensures in
     step.move
 
@@ -191,7 +190,7 @@ pub returns-clause-many : goal.returns-clause-many
 unfolding largest_of free_of
 returns-clause-many c =
     let g = c.args.self.now in
-    let region = g.region.items in
+    let region = g.region.cells.items in
     let spans = spans_of region in
     let packed = c.end_of_packed-to.ensures.packed in
     let next = next-at region spans g.free g.packed g.next packed.0 c.end_of_packed-to.result c.later.result c.end_of_gap-from.result g.whole packed.1 c.later.ensures
@@ -205,7 +204,7 @@ pub returns-clause-less : goal.returns-clause-less
 unfolding work_of chunks_of
 returns-clause-less c =
     let g = c.args.self.now in
-    let region = g.region.items in
+    let region = g.region.cells.items in
     let spans = spans_of region in
     let packed = c.end_of_packed-to.ensures.packed in
     let next = next-at region spans g.free g.packed g.next packed.0 c.end_of_packed-to.result c.later.result c.end_of_gap-from.result g.whole packed.1 c.later.ensures
@@ -213,8 +212,8 @@ returns-clause-less c =
     let behind = c.end_of_gap-from.ensures.behind in
     let order : c.end_of_packed-to.result ≤ c.end_of_gap-from.result = omega (arith, c.later.ensures) in
     let is = movable region spans g.free g.packed g.next packed.0 c.end_of_packed-to.result c.end_of_gap-from.result g.whole packed.1 c.end_of_packed-to.ensures.free next order c.if-from-to.false in
-    let owner = read region c.end_of_gap-from.result c.index-owner.result.now (let a = is.within in let b = is.some in omega arith) c.index-owner.ensures in
-    let step = stepped region c.shift.new.region.items spans g.free g.packed g.next packed.0 c.index-owner.result.now c.end_of_packed-to.result c.end_of_gap-from.result c.size_at-size.result
+    let owner = c.get-owner.ensures in
+    let step = stepped region c.shift.new.region.cells.items spans g.free g.packed g.next packed.0 c.get-owner.result c.end_of_packed-to.result c.end_of_gap-from.result c.size_at-size.result
     g.whole packed.1 is owner c.size_at-size.ensures c.end_of_packed-to.ensures.free c.shift.ensures in
     step.less
 

@@ -4,7 +4,7 @@ use Rattle.core_segment.proofs.segment.Segment.end_of_gap.Given as goal
 
 abbrev pub invariant-loop-place : goal.invariant-loop-place
 invariant-loop-place l =
-    let region = l.fn.self.region.items in
+    let region = l.fn.self.region.cells.items in
     record { gap : (k : ℕ) → IsAt (spans_of region) k l.from → IsAt (spans_of region) k l.place; behind : l.from ≤ l.place; within : l.place ≤ length region }
 
 abbrev pub decreases-loop-place : goal.decreases-loop-place

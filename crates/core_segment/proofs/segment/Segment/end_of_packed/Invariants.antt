@@ -4,7 +4,7 @@ use Rattle.core_segment.proofs.segment.Segment.end_of_packed.Given as goal
 
 abbrev pub invariant-loop-place : goal.invariant-loop-place
 invariant-loop-place l =
-    let region = l.fn.self.region.items in
+    let region = l.fn.self.region.cells.items in
     record { packed : (k : ℕ) × IsPacked (spans_of region) (length region) k l.place l.fn.self.next }
 
 abbrev pub decreases-loop-place : goal.decreases-loop-place

@@ -18,4 +18,4 @@ pub returns : goal.returns
 unfolding largest_of
 returns c =
     let g = c.args.self.now in
-    told (spans_of g.region.items) (length g.region.items) c.args.words c.find_gap.result c.is_some.result c.is_some.ensures c.find_gap.ensures.none c.find_gap.ensures.gap
+    told (spans_of g.region.cells.items) (length g.region.cells.items) c.args.words c.find_gap.result c.is_some.result c.is_some.ensures c.find_gap.ensures.none c.find_gap.ensures.gap

@@ -21,23 +21,26 @@ made items n e = region-none items n zeros (sym size)
         (λ (h : n ≤ i). get_or_past (replicate n 0) i 0 (subst (λ (z : ℕ). z ≤ i) (sym (length-replicate n 0)) h))
         (cases_lt i n)
 
+sized : (items : List ℕ) (n : ℕ) → items ≡ replicate n 0 → length items ≡ n
+sized items n e = ap (λ (l : List ℕ). length l) e ∙ length-replicate n 0
+
 pub invariant_of-result : goal.invariant_of-result
 invariant_of-result c =
-    let items = c.in_ok-vec.field-0.items in
+    let items = c.in_ok-make.field-0.cells.items in
     record {
-      small = let most = c.requires.most in omega (arith, c.in_ok-vec.ensures.len, c.in_ok-vec.field-0.ok.0);
-      whole = (made items c.args.words (c.in_ok-vec.ensures.items_if_clones_equal (λ y e. e))).whole;
+      small = let most = c.requires.most in let size = sized items c.args.words c.in_ok-make.ensures in omega arith;
+      whole = (made items c.args.words c.in_ok-make.ensures).whole;
     }
 
 pub returns-clause-chunks : goal.returns-clause-chunks
 unfolding chunk_at chunks_of
 returns-clause-chunks c =
-    let items = c.in_ok-vec.field-0.items in
-    ap (chunks items) (made items c.args.words (c.in_ok-vec.ensures.items_if_clones_equal (λ y e. e))).is
+    let items = c.in_ok-make.field-0.cells.items in
+    ap (chunks items) (made items c.args.words c.in_ok-make.ensures).is
 
 pub returns-clause-size : goal.returns-clause-size
 unfolding size_of
-returns-clause-size c = omega (arith, c.in_ok-vec.ensures.len, c.in_ok-vec.field-0.ok.0)
+returns-clause-size c = sized c.in_ok-make.field-0.cells.items c.args.words c.in_ok-make.ensures
 
 none : (size : ℕ) → largest_gap 0 [] size ≡ size
 none size = omega arith
@@ -45,6 +48,6 @@ none size = omega arith
 pub returns-clause-free : goal.returns-clause-free
 unfolding free_of largest_of
 returns-clause-free c =
-    let items = c.in_ok-vec.field-0.items in
-    let size : length items ≡ c.args.words = omega (arith, c.in_ok-vec.ensures.len, c.in_ok-vec.field-0.ok.0) in
-    (refl, ap (λ (spans : List Span). largest_gap 0 spans (length items)) (made items c.args.words (c.in_ok-vec.ensures.items_if_clones_equal (λ y e. e))).is ∙ none (length items) ∙ size)
+    let items = c.in_ok-make.field-0.cells.items in
+    let size : length items ≡ c.args.words = sized items c.args.words c.in_ok-make.ensures in
+    (refl, ap (λ (spans : List Span). largest_gap 0 spans (length items)) (made items c.args.words c.in_ok-make.ensures).is ∙ none (length items) ∙ size)

@@ -24,7 +24,7 @@ pub overflow_sub-self : goal.overflow_sub-self
 overflow_sub-self c =
     let g = c.args.self.now in
     let gap = c.in_ok-place.ensures.gap in
-    gap-free (spans_of g.region.items) (length g.region.items) g.free c.args.words gap.0 c.in_ok-place.place g.whole.laid g.whole.counted gap.1
+    gap-free (spans_of g.region.cells.items) (length g.region.cells.items) g.free c.args.words gap.0 c.in_ok-place.place g.whole.laid g.whole.counted gap.1
 
 -- the chunk that was taken
 abbrev taken_span : ℕ → ℕ → ℕ → Span
@@ -33,12 +33,12 @@ taken_span place words owner = record { place = place; len = words; owner = owne
 pub invariant_of-self : goal.invariant_of-self
 invariant_of-self c =
     let g = c.args.self.now in
-    let spans = spans_of g.region.items in
+    let spans = spans_of g.region.cells.items in
     let gap = c.in_ok-place.ensures.gap in
-    let fits = gap-free spans (length g.region.items) g.free c.args.words gap.0 c.in_ok-place.place g.whole.laid g.whole.counted gap.1 in
+    let fits = gap-free spans (length g.region.cells.items) g.free c.args.words gap.0 c.in_ok-place.place g.whole.laid g.whole.counted gap.1 in
     record {
       small = let same = c.open.ensures.same_size in let small = g.small in omega arith;
-      whole = rw c.beyond-self.ensures (region-insert g.region.items c.open.new.region.items spans g.free g.packed g.next gap.0 (taken_span c.in_ok-place.place c.args.words c.args.owner)
+      whole = rw c.beyond-self.ensures (region-insert g.region.cells.items c.open.new.region.cells.items spans g.free g.packed g.next gap.0 (taken_span c.in_ok-place.place c.args.words c.args.owner)
           g.whole gap.1 c.requires.some c.requires.owner c.open.ensures fits c.in_ok-place.ensures.behind).whole;
     }
 
@@ -52,13 +52,13 @@ pub returns-clause-taken : goal.returns-clause-taken
 unfolding chunk_at chunks_of
 returns-clause-taken c =
     let g = c.args.self.now in
-    let spans = spans_of g.region.items in
+    let spans = spans_of g.region.cells.items in
     let gap = c.in_ok-place.ensures.gap in
-    let fits = gap-free spans (length g.region.items) g.free c.args.words gap.0 c.in_ok-place.place g.whole.laid g.whole.counted gap.1 in
-    let new = region-insert g.region.items c.open.new.region.items spans g.free g.packed g.next gap.0 (taken_span c.in_ok-place.place c.args.words c.args.owner)
+    let fits = gap-free spans (length g.region.cells.items) g.free c.args.words gap.0 c.in_ok-place.place g.whole.laid g.whole.counted gap.1 in
+    let new = region-insert g.region.cells.items c.open.new.region.cells.items spans g.free g.packed g.next gap.0 (taken_span c.in_ok-place.place c.args.words c.args.owner)
     g.whole gap.1 c.requires.some c.requires.owner c.open.ensures fits c.in_ok-place.ensures.behind in
-    subst (λ (l : List Span). IsTaken (chunks g.region.items spans) (chunks c.open.new.region.items l) c.in_ok-place.place c.args.owner c.args.words) (sym new.is)
-    (taken g.region.items c.open.new.region.items spans g.free g.packed g.next gap.0 c.in_ok-place.place c.args.owner c.args.words g.whole gap.1
+    subst (λ (l : List Span). IsTaken (chunks g.region.cells.items spans) (chunks c.open.new.region.cells.items l) c.in_ok-place.place c.args.owner c.args.words) (sym new.is)
+    (taken g.region.cells.items c.open.new.region.cells.items spans g.free g.packed g.next gap.0 c.in_ok-place.place c.args.owner c.args.words g.whole gap.1
     c.requires.some c.requires.owner c.open.ensures)
 
 pub returns-clause-free : goal.returns-clause-free
@@ -66,7 +66,7 @@ unfolding free_of
 returns-clause-free c =
     let g = c.args.self.now in
     let gap = c.in_ok-place.ensures.gap in
-    let fits = gap-free (spans_of g.region.items) (length g.region.items) g.free c.args.words gap.0 c.in_ok-place.place g.whole.laid g.whole.counted gap.1 in
+    let fits = gap-free (spans_of g.region.cells.items) (length g.region.cells.items) g.free c.args.words gap.0 c.in_ok-place.place g.whole.laid g.whole.counted gap.1 in
     omega arith
 
 pub returns-clause-room : goal.returns-clause-room
@@ -74,19 +74,19 @@ unfolding largest_of
 returns-clause-room c =
     let g = c.args.self.now in
     let gap = c.in_ok-place.ensures.gap in
-    gap-le (spans_of g.region.items) (length g.region.items) c.args.words gap.0 c.in_ok-place.place 0 gap.1 (omega arith)
+    gap-le (spans_of g.region.cells.items) (length g.region.cells.items) c.args.words gap.0 c.in_ok-place.place 0 gap.1 (omega arith)
 
 pub returns-clause-largest : goal.returns-clause-largest
 unfolding largest_of
 returns-clause-largest c =
     let g = c.args.self.now in
-    let spans = spans_of g.region.items in
+    let spans = spans_of g.region.cells.items in
     let gap = c.in_ok-place.ensures.gap in
-    let fits = gap-free spans (length g.region.items) g.free c.args.words gap.0 c.in_ok-place.place g.whole.laid g.whole.counted gap.1 in
+    let fits = gap-free spans (length g.region.cells.items) g.free c.args.words gap.0 c.in_ok-place.place g.whole.laid g.whole.counted gap.1 in
     let t = taken_span c.in_ok-place.place c.args.words c.args.owner in
-    let new = region-insert g.region.items c.open.new.region.items spans g.free g.packed g.next gap.0 t
+    let new = region-insert g.region.cells.items c.open.new.region.cells.items spans g.free g.packed g.next gap.0 t
     g.whole gap.1 c.requires.some c.requires.owner c.open.ensures fits c.in_ok-place.ensures.behind in
-    less spans (spans_of c.open.new.region.items) (length g.region.items) (length c.open.new.region.items) gap.0 t gap.1.among gap.2 new.is c.open.ensures.same_size
+    less spans (spans_of c.open.new.region.cells.items) (length g.region.cells.items) (length c.open.new.region.cells.items) gap.0 t gap.1.among gap.2 new.is c.open.ensures.same_size
 
 pub returns-clause-size : goal.returns-clause-size
 unfolding size_of

@@ -1,0 +1,102 @@
+// Raw memory for words: asked for, filled, read and written through one pointer, and given back.
+ghost use Rattle.std.specs.Prelude.{◌≡◌, ℕ, ◌*◌, ◌^◌, ◌<◌, List, length, replicate, slice_get, slice_index_or, slice_set, Some, IfSome};
+ghost use denote.RawPtr.{Ptr};
+ghost use Rattle.core_segment.specs.Memory.{room_of, words_at, words_lent, words_type, IsSize};
+
+use std::alloc::Allocator;
+use std::marker::{Model, PhantomData};
+
+// Where the words begin. It owns nothing.
+#[derive(Clone, Copy)]
+pub(crate) struct Base {
+    ptr: *mut u16,
+}
+
+// The owner of the words. It takes no space.
+pub(crate) struct Cells {
+    ghost at: { Ptr },
+    ghost items: { List ℕ },
+}
+
+impl Model for Cells {
+    ghost also_owns = { λ c. words_at c.at c.items };
+
+    ghost also_shares = { λ c _ κ. words_lent c.at c.items κ };
+}
+
+// The owner of room for words in which nothing lies yet.
+pub(crate) struct Room {
+    ghost at: { Ptr },
+    ghost size: { ℕ },
+}
+
+impl Model for Room {
+    ghost also_owns = { λ r. room_of r.at r.size };
+}
+
+// The right to give so many words back to the allocator.
+pub(crate) struct Lease<A: Allocator> {
+    mark: PhantomData<A>,
+    ghost alloc: { A },
+    ghost at: { Ptr },
+    ghost size: { ℕ },
+}
+
+impl<A: Allocator> Model for Lease<A> {
+    ghost also_owns = { λ l. A.dealloc_token l.alloc (words_type l.size) l.at };
+}
+
+pub(crate) fn ask<A: Allocator>(alloc: &A, size: usize) -> Option<(Base, Room, Lease<A>)>
+    requires { IsSize size }
+    ensures { IfSome result (λ r. (r.1.at ≡ r.0.ptr) × (r.1.size ≡ size) × (r.2.at ≡ r.0.ptr) × (r.2.size ≡ size) × (r.2.alloc ≡ alloc.now)) }
+{
+    match alloc.allocate(size * 2, 2) {
+        Ok(block) => {
+            let base = Base {
+                ptr: block as *mut u16,
+            };
+            Some((base, Room {}, Lease { mark: PhantomData }))
+        }
+        Err(_) => None,
+    }
+}
+
+// Writes 0 into each word.
+pub(crate) fn clear(base: Base, size: usize, room: Room) -> Cells
+    requires { (room.at ≡ base.ptr) × (room.size ≡ size) × IsSize size }
+    ensures { (result.at ≡ base.ptr) × (result.items ≡ replicate size 0) }
+{
+    let Room {} = room;
+    let mut i = size;
+    while 0 < i {
+        unsafe { base.ptr.add(i - 1).write(0) };
+        i -= 1;
+    }
+    Cells {}
+}
+
+pub(crate) fn free<A: Allocator>(alloc: &A, base: Base, size: usize, cells: Cells, lease: Lease<A>)
+    requires { (cells.at ≡ base.ptr) × (length cells.items ≡ size) × IsSize size × (lease.at ≡ base.ptr) × (lease.size ≡ size) × (lease.alloc ≡ alloc.now) }
+{
+    let Cells {} = cells;
+    let Lease { mark: _ } = lease;
+    unsafe {
+        alloc.deallocate(base.ptr as *mut u8, size * 2, 2);
+    }
+}
+
+impl Cells {
+    pub(crate) fn get(&self, base: Base, i: usize) -> &u16
+        requires { (base.ptr ≡ self.now.at) × (i < length self.now.items) × IsSize (length self.now.items) }
+        ensures { result.now ≡ slice_index_or self.now.items i 0 }
+    {
+        unsafe { &*base.ptr.add(i) }
+    }
+
+    pub(crate) fn put(&mut self, base: Base, i: usize, w: u16)
+        requires { (base.ptr ≡ self.old.at) × (i < length self.old.items) × IsSize (length self.old.items) }
+        ensures { (self.new.at ≡ self.old.at) × (self.new.items ≡ slice_set self.old.items i w) }
+    {
+        unsafe { *base.ptr.add(i) = w };
+    }
+}
