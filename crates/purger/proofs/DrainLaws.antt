@@ -43,12 +43,17 @@ use Rattle.counted_core.proofs.CanLaws.{sum-is}
 use Rattle.counted_core.proofs.DeadLaws.{bounded, uncounted-unused}
 use Rattle.counted_core.proofs.QueueLaws.{entered-waits}
 use Rattle.delta_counts.specs.At.{IsReached, IsStoredAt}
+use Rattle.delta_counts.specs.Giving.{IsGiving}
 use Rattle.delta_counts.specs.Faults.{AreValues, IsWordsFault}
 use Rattle.delta_counts.proofs.StoredLaws.{object-at, remove-same}
 use Rattle.purger.specs.Draining.{IsDeadBy, IsForgotten, IsThinned, KeepsLevels, MayDrop, NoBodyDead, NoneDeadBelow, NotDeadAt}
+use Rattle.purger.specs.Marks.{AreHere, IsOut, MindsMarks}
 use Rattle.purger.specs.Purge.{IsReadFault, KeepsBodies}
-use Rattle.purger.proofs.ForgetLaws.{IsOwedAt, forgotten-held}
+use Rattle.purger.proofs.ForgetLaws.{IsOwedAt, forgotten-held, forgotten-here, forgotten-marks}
+use Rattle.purger.proofs.GivingLaws.{given-purged, giving-parts, giving-up}
 use Rattle.purger.proofs.MarkLaws.{low-short, odd-short}
+use Rattle.purger.proofs.MindLaws.{came-out, forgotten-came, forgotten-out, minds-kept, minds-trans, purged-came}
+use Rattle.purger.proofs.ThinLaws.{giving-minds}
 
 no-refs : (c : Core) (s : ℕ) → (c.entries s).refs ≡ 0 → outside c s ≡ 0
 unfolding outside
@@ -189,10 +194,21 @@ body-values t c s p r is x at object i v there =
     (held-at t.core (records_of t) (t.core.entries s).name s p (x.core.found s (placed-used (t.core.entries s).state p place)) place)
     (ap (λ (o : Object). slice_get (fields_of o.body) i) (sym same) ∙ ap (λ (vs : List Value). slice_get vs i) (fields-values r.body) ∙ there)
 
--- it went, and what it held has a word less
-pub freed-thinned : {H : Type 0} (host : Ghosts H) (p m q : Parts) (now after : H) (rest last : DiskRest) (t : Levels) (o : Object) (n s : ℕ) → core_of p ≡ t.core → IsSound t [] → IsDead t (t.core.entries s).name → n ≡ ((core_of p).entries s).name → IsForgotten s (core_of p) (core_of m) → KeepsBodies (core_of m) (core_of q)
+-- it went, and what it held has a word less: its name is out of the core, and marks stay where it had none
+pub forgotten-away : (p m q : Parts) (s a : ℕ) → IsParts p → IsParts m → place_of ((core_of p).entries s).state ≡ Some a → IsForgotten s (core_of p) (core_of m) → q.segment ≡ m.segment → IsGiving m.names q.names → IsOut (core_of q) ((core_of p).entries s).name
+forgotten-away p m q s a parts then at f same g =
+    came-out (core_of m) (core_of q) (purged-came (core_of m) (core_of q) (λ a b k. given-purged a b k (core_of m) (core_of q) (giving-parts m q then same g).core (giving-up m q then same g))) ((core_of p).entries s).name
+    (forgotten-out (core_of p) (core_of m) s parts.core (placed-used ((core_of p).entries s).state a at) f)
+
+pub forgotten-minds : (p m q : Parts) (s a : ℕ) → IsParts p → IsParts m → place_of ((core_of p).entries s).state ≡ Some a → ((core_of p).entries s).flags.marked ≡ false → AreHere (core_of p) → IsForgotten s (core_of p) (core_of m) → q.segment ≡ m.segment → IsGiving m.names q.names
+    → MindsMarks (core_of p) (core_of q)
+forgotten-minds p m q s a parts then at off here f same g = minds-trans (core_of p) (core_of m) (core_of q)
+    (minds-kept (core_of p) (core_of m) (forgotten-came (core_of p) (core_of m) s f) (forgotten-marks s a (core_of p) (core_of m) parts.core f at off here))
+    (giving-minds m q then (forgotten-here s a (core_of p) (core_of m) parts.core f at off here) same g)
+
+pub freed-thinned : {H : Type 0} (host : Ghosts H) (p m q : Parts) (now after : H) (rest last : DiskRest) (t : Levels) (o : Object) (n s : ℕ) → core_of p ≡ t.core → IsSound t [] → IsDead t (t.core.entries s).name → n ≡ ((core_of p).entries s).name → IsForgotten s (core_of p) (core_of m) → KeepsBodies (core_of m) (core_of q) → MindsMarks (core_of p) (core_of q)
     → (w : IsOwedAt host m now rest t o n) → IsReached host (Rattle.core_segment.specs.Segment.chunk_at q.segment) q.names after last w.levels [] → IsThinned host p q after last t
-freed-thinned host p m q now after rest last t o n s is x dead name f keeps w r = record {
+freed-thinned host p m q now after rest last t o n s is x dead name f keeps minds w r = record {
   levels = r.levels;
   at = r.at;
   sound = r.sound;
@@ -200,6 +216,7 @@ freed-thinned host p m q now after rest last t o n s is x dead name f keeps w r 
   bodies = λ i b at has.
       let first = forgotten-held s (core_of p) (core_of m) (heap_of r.levels) f gone i b at has in
       body-then (core_of p) (core_of m) (core_of q) i b first (keeps i first.at first.place);
+  minds = minds;
 }
   where
     own : n ≡ (t.core.entries s).name

@@ -4,6 +4,7 @@ pub mod SoundLaws
 pub mod GivingLaws
 pub mod EvictLaws
 pub mod RoomLaws
+pub mod MindLaws
 pub mod ThinLaws
 pub mod ForgetLaws
 pub mod DrainLaws

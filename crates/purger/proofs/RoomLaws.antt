@@ -110,6 +110,11 @@ undisturbed-map {T} (Ok v) f x = f x
 undisturbed-map {T} (Err Short) f x = f x
 undisturbed-map {T} (Err (Disk e)) f x = tt
 
+pub undisturbed-of : {T : Type 0} (r : Result T RoomFault) {A : Type 0} → A → Undisturbed r A
+undisturbed-of {T} (Ok v) x = x
+undisturbed-of {T} (Err Short) x = x
+undisturbed-of {T} (Err (Disk e)) x = tt
+
 pub stands-undisturbed : {T H : Type 0} (host : Ghosts H) (r : Result T RoomFault) (p q : Parts) (was now : H) (before rest : DiskRest) → HasSound host p was before → (IsTrue (host.tells Work) → Undisturbed r (KeepsSound host p was before q now rest)) → Undisturbed r (HoldsObjects host now rest)
 stands-undisturbed {T} {H} host (Ok v) p q was now before rest has f = has-objects host q now rest (has-after host p q was now before rest has f)
 stands-undisturbed {T} {H} host (Err Short) p q was now before rest has f = has-objects host q now rest (has-after host p q was now before rest has f)

@@ -32,9 +32,10 @@ use Rattle.delta_counts.proofs.DrainLaws.{first-none, first-one}
 use Rattle.delta_counts.proofs.NumberLaws.{held-on_disk}
 use Rattle.purger.specs.Counts.{HasSound, StandsFor}
 use Rattle.purger.specs.Draining.{AreNamed, DrainsBare, DrainsDead, IsThinned, KeepsHeld, KeepsLevels, LeavesRest, NoBodyDead, Thins}
-use Rattle.purger.specs.Marks.{AreHere, IsUnmarking, LeavesMarks}
+use Rattle.purger.specs.Marks.{AreHere, IsUnmarking, LeavesMarks, MindsMarks}
 use Rattle.purger.specs.Purge.{KeepsBodies}
 use Rattle.purger.proofs.MarkLaws.{Kept-refl, Marks-same, Marks-trans, unmarked-here, unmarked-purged, unmarked-tight, unmarked-same}
+use Rattle.purger.proofs.MindLaws.{minds-kept, minds-refl, minds-trans, purged-came}
 use Rattle.purger.proofs.RoomLaws.{all-pinned, bound-entries}
 use Rattle.purger.proofs.SoundLaws.{core-at, stored-read, unmarked-sound}
 use Rattle.purger.proofs.GivingLaws.{given-here, given-marks, given-purged, given-tight, giving-parts, giving-spare, giving-up}
@@ -97,6 +98,12 @@ giving-leaves p q parts tight here same g =
 pub giving-bodies : (p q : Parts) → IsParts p → q.segment ≡ p.segment → IsGiving p.names q.names → KeepsBodies (core_of p) (core_of q)
 giving-bodies p q parts same g = all-pinned (core_of p) (core_of q) (λ a b d. given-purged a b d (core_of p) (core_of q) (giving-parts p q parts same g).core (giving-up p q parts same g))
 
+pub giving-minds : (p q : Parts) → IsParts p → AreHere (core_of p) → q.segment ≡ p.segment → IsGiving p.names q.names → MindsMarks (core_of p) (core_of q)
+giving-minds p q parts here same g =
+    let now = giving-parts p q parts same g in
+    let up = giving-up p q parts same g in
+    minds-kept (core_of p) (core_of q) (purged-came (core_of p) (core_of q) (λ a b k. given-purged a b k (core_of p) (core_of q) now.core up)) (given-marks (core_of p) (core_of q) parts.core now.core up here)
+
 pub unmarked-leaves : (p q : Parts) → IsParts q → IsTight (core_of p) → AreHere (core_of p) → IsUnmarking (core_of p) (core_of q) → ((t : ℕ) → outside (core_of q) t ≡ outside (core_of p) t) → LeavesMarks (core_of p) (core_of q)
     → q.segment ≡ p.segment → spare_of q ≡ spare_of p → LeavesRest p q
 unmarked-leaves p q parts tight here step out marks same spare = record {
@@ -132,7 +139,7 @@ held-then a b c h s x f g r p at has =
 -- ---- thinner heaps, one after another
 
 pub thinned-first : {H : Type 0} (host : Ghosts H) (p : Parts) (now : H) (rest : DiskRest) → Thins host p now rest p now rest
-thinned-first host p now rest t at x = record { levels = t; at = at; sound = x; thinner = IsThinner-refl (heap_of t); bodies = λ s a there has. body-stays (core_of p) s a there }
+thinned-first host p now rest t at x = record { levels = t; at = at; sound = x; thinner = IsThinner-refl (heap_of t); bodies = λ s a there has. body-stays (core_of p) s a there; minds = minds-refl (core_of p) }
 
 pub thinned-then : {H : Type 0} (host : Ghosts H) (a b c : Parts) (y z : H) (l m : DiskRest) (t : Levels) (r : IsThinned host a b y l t) → IsThinned host b c z m r.levels → IsThinned host a c z m t
 thinned-then host a b c y z l m t r w = record {
@@ -141,25 +148,33 @@ thinned-then host a b c y z l m t r w = record {
   sound = w.sound;
   thinner = IsThinner-trans (heap_of t) (heap_of r.levels) (heap_of w.levels) r.thinner w.thinner r.sound.heap.closed;
   bodies = held-then (core_of a) (core_of b) (core_of c) (heap_of r.levels) (heap_of w.levels) w.thinner r.bodies w.bodies;
+  minds = minds-trans (core_of a) (core_of b) (core_of c) r.minds w.minds;
 }
 
 pub thinned-trans : {H : Type 0} (host : Ghosts H) (a b c : Parts) (x y z : H) (k l m : DiskRest) → Thins host a x k b y l → Thins host b y l c z m → Thins host a x k c z m
 thinned-trans host a b c x y z k l m f g t at s = let r = f t at s in thinned-then host a b c y z l m t r (g r.levels r.at r.sound)
 
 -- the same heap, and all bodies stay
-pub same-thinned : {H : Type 0} (host : Ghosts H) (p q : Parts) (now : H) (rest : DiskRest) (t : Levels) → KeepsBodies (core_of p) (core_of q) → IsReached host (chunk_at q.segment) q.names now rest t [] → IsThinned host p q now rest t
-same-thinned host p q now rest t bodies r = record {
+pub same-thinned : {H : Type 0} (host : Ghosts H) (p q : Parts) (now : H) (rest : DiskRest) (t : Levels) → KeepsBodies (core_of p) (core_of q) → MindsMarks (core_of p) (core_of q) → IsReached host (chunk_at q.segment) q.names now rest t [] → IsThinned host p q now rest t
+same-thinned host p q now rest t bodies minds r = record {
   levels = r.levels;
   at = r.at;
   sound = r.sound;
   thinner = subst (λ h. IsThinner (heap_of t) h) (sym r.heap) (IsThinner-refl (heap_of t));
   bodies = λ s a there has. bodies s a there;
+  minds = minds;
 }
 
 -- and then a thinner one
-pub same-then : {H : Type 0} (host : Ghosts H) (a b c : Parts) (y z : H) (l m : DiskRest) (t : Levels) → KeepsBodies (core_of a) (core_of b) → (r : IsReached host (chunk_at b.segment) b.names y l t []) → IsThinned host b c z m r.levels → IsThinned host a c z m t
-unfolding same-thinned
-same-then host a b c y z l m t bodies r w = thinned-then host a b c y z l m t (same-thinned host a b y l t bodies r) w
+pub same-then : {H : Type 0} (host : Ghosts H) (a b c : Parts) (y z : H) (l m : DiskRest) (t : Levels) → KeepsBodies (core_of a) (core_of b) → MindsMarks (core_of a) (core_of c) → (r : IsReached host (chunk_at b.segment) b.names y l t []) → IsThinned host b c z m r.levels → IsThinned host a c z m t
+same-then host a b c y z l m t bodies minds r w = record {
+  levels = w.levels;
+  at = w.at;
+  sound = w.sound;
+  thinner = subst (λ h. IsThinner h (heap_of w.levels)) r.heap w.thinner;
+  bodies = held-then (core_of a) (core_of b) (core_of c) (heap_of r.levels) (heap_of w.levels) w.thinner (λ s p there has. bodies s p there) w.bodies;
+  minds = minds;
+}
 
 -- where a heap is thinner it has no more objects
 least-there : (a b : Option Object) → ((o : Object) → a ≡ Some o → b ≡ Some o) → one_if_there a ≤ one_if_there b
@@ -195,9 +210,9 @@ thinned-has host p q was now before rest has f told =
 
 -- ---- one name is freed, or none without a body is dead
 
-pub one-thinned : {H : Type 0} (host : Ghosts H) (p q : Parts) (was now : H) (before rest : DiskRest) (b : Bool) → IsParts p → q.segment ≡ p.segment → IsGiving p.names q.names
+pub one-thinned : {H : Type 0} (host : Ghosts H) (p q : Parts) (was now : H) (before rest : DiskRest) (b : Bool) → IsParts p → AreHere (core_of p) → q.segment ≡ p.segment → IsGiving p.names q.names
     → ((chunks : ℕ → Chunk) (t : Levels) → IsAt host chunks p.names was before t → IsSound t [] → DrainsOne host chunks q.names now rest t b) → Thins host p was before q now rest
-one-thinned host p q was now before rest true parts same g f t at x =
+one-thinned host p q was now before rest true parts here same g f t at x =
     let d = f (chunk_at p.segment) t at x in
     record {
       levels = d.levels;
@@ -205,10 +220,11 @@ one-thinned host p q was now before rest true parts same g f t at x =
       sound = d.sound;
       thinner = d.thinner;
       bodies = λ s a there has. giving-bodies p q parts same g s a there;
+      minds = giving-minds p q parts here same g;
     }
-one-thinned host p q was now before rest false parts same g f t at x =
+one-thinned host p q was now before rest false parts here same g f t at x =
     let d = f (chunk_at p.segment) t at x in
-    same-thinned host p q now rest t (giving-bodies p q parts same g) (record {
+    same-thinned host p q now rest t (giving-bodies p q parts same g) (giving-minds p q parts here same g) (record {
       levels = d.0.levels;
       at = subst (λ (k : Segment). IsAt host (chunk_at k) q.names now rest d.0.levels) (sym same) d.0.at;
       sound = d.0.sound;
@@ -216,11 +232,11 @@ one-thinned host p q was now before rest false parts same g f t at x =
     })
 
 -- entries are given up
-pub given-thins : {H : Type 0} (host : Ghosts H) (p q : Parts) (was now : H) (before rest : DiskRest) → IsParts p → q.segment ≡ p.segment → IsGiving p.names q.names
+pub given-thins : {H : Type 0} (host : Ghosts H) (p q : Parts) (was now : H) (before rest : DiskRest) → IsParts p → AreHere (core_of p) → q.segment ≡ p.segment → IsGiving p.names q.names
     → ((chunks : ℕ → Chunk) (t : Levels) → IsAt host chunks p.names was before t → IsSound t [] → IsReached host chunks q.names now rest t []) → Thins host p was before q now rest
-given-thins host p q was now before rest parts same g f t at x =
+given-thins host p q was now before rest parts here same g f t at x =
     let d = f (chunk_at p.segment) t at x in
-    same-thinned host p q now rest t (giving-bodies p q parts same g) (record {
+    same-thinned host p q now rest t (giving-bodies p q parts same g) (giving-minds p q parts here same g) (record {
       levels = d.levels;
       at = subst (λ (k : Segment). IsAt host (chunk_at k) q.names now rest d.levels) (sym same) d.at;
       sound = d.sound;
@@ -228,21 +244,21 @@ given-thins host p q was now before rest parts same g f t at x =
     })
 
 -- a name that was pending is freed, or none was
-drains-thins : {H : Type 0} (host : Ghosts H) (p q : Parts) (was now : H) (before rest : DiskRest) (b : Bool) → IsParts p → q.segment ≡ p.segment → IsGiving p.names q.names
+drains-thins : {H : Type 0} (host : Ghosts H) (p q : Parts) (was now : H) (before rest : DiskRest) (b : Bool) → IsParts p → AreHere (core_of p) → q.segment ≡ p.segment → IsGiving p.names q.names
     → ((chunks : ℕ → Chunk) (t : Levels) → IsAt host chunks p.names was before t → IsSound t [] → Drains host chunks q.names now rest t b) → Thins host p was before q now rest
-drains-thins host p q was now before rest true parts same g f = one-thinned host p q was now before rest true parts same g (λ chunks t at x. first-one host chunks q.names now rest t true x refl (f chunks t at x))
-drains-thins host p q was now before rest false parts same g f = given-thins host p q was now before rest parts same g (λ chunks t at x. record { levels = t; at = first-none host chunks q.names now rest t false refl (f chunks t at x); sound = x; heap = refl })
+drains-thins host p q was now before rest true parts here same g f = one-thinned host p q was now before rest true parts here same g (λ chunks t at x. first-one host chunks q.names now rest t true x refl (f chunks t at x))
+drains-thins host p q was now before rest false parts here same g f = given-thins host p q was now before rest parts here same g (λ chunks t at x. record { levels = t; at = first-none host chunks q.names now rest t false refl (f chunks t at x); sound = x; heap = refl })
 
-pub drains-thins-if : {E H : Type 0} (host : Ghosts H) (r : Result Bool E) (p q : Parts) (was now : H) (before rest : DiskRest) → IsParts p → q.segment ≡ p.segment → IsGiving p.names q.names
+pub drains-thins-if : {E H : Type 0} (host : Ghosts H) (r : Result Bool E) (p q : Parts) (was now : H) (before rest : DiskRest) → IsParts p → AreHere (core_of p) → q.segment ≡ p.segment → IsGiving p.names q.names
     → ((chunks : ℕ → Chunk) (t : Levels) → IsAt host chunks p.names was before t → IsSound t [] → IfOk r (Drains host chunks q.names now rest t)) → OnOk r (Thins host p was before q now rest)
-drains-thins-if {E} {H} host (Ok b) p q was now before rest parts same g f = drains-thins host p q was now before rest b parts same g f
-drains-thins-if {E} {H} host (Err e) p q was now before rest parts same g f = tt
+drains-thins-if {E} {H} host (Ok b) p q was now before rest parts here same g f = drains-thins host p q was now before rest b parts here same g f
+drains-thins-if {E} {H} host (Err e) p q was now before rest parts here same g f = tt
 
 -- after others, none that has no body is dead
-pub last-bare : {H : Type 0} (host : Ghosts H) (a p q : Parts) (x was now : H) (k before rest : DiskRest) (b : Bool) → b ≡ false → IsParts p → q.segment ≡ p.segment → IsGiving p.names q.names → Thins host a x k p was before
+pub last-bare : {H : Type 0} (host : Ghosts H) (a p q : Parts) (x was now : H) (k before rest : DiskRest) (b : Bool) → b ≡ false → IsParts p → AreHere (core_of p) → q.segment ≡ p.segment → IsGiving p.names q.names → Thins host a x k p was before
     → ((chunks : ℕ → Chunk) (t : Levels) → IsAt host chunks p.names was before t → IsSound t [] → DrainsOne host chunks q.names now rest t b) → DrainsBare host a x k q now rest
-last-bare host a p q x was now k before rest true e parts same g f h t at s = absurd (let no : true ≡ false = e in cc)
-last-bare host a p q x was now k before rest false e parts same g f h t at s =
+last-bare host a p q x was now k before rest true e parts here same g f h t at s = absurd (let no : true ≡ false = e in cc)
+last-bare host a p q x was now k before rest false e parts here same g f h t at s =
     let r = f t at s in
     let d = h (chunk_at p.segment) r.levels r.at r.sound in
     record {
@@ -254,6 +270,7 @@ last-bare host a p q x was now k before rest false e parts same g f h t at s =
         bodies = λ i b there has.
             let first = r.bodies i b there (subst (λ (h : Heap). Has h ((core_of a).entries i).name) d.0.heap has) in
             body-then (core_of a) (core_of p) (core_of q) i b first (giving-bodies p q parts same g i first.at first.place);
+        minds = minds-trans (core_of a) (core_of p) (core_of q) r.minds (giving-minds p q parts here same g);
       };
       none = d.1;
     }
@@ -272,16 +289,16 @@ none-dead t core bare bodies q dead = go (t.core.find q) refl
         at None f = bare q dead (subst (λ o. bare_by t.core o) (sym e) f)
         at (Some a) f = bodies s a f (subst (λ n. IsDead t n) (sym (core.named q s e)) dead)
 
-pub all-drained : {H : Type 0} (host : Ghosts H) (a p q r : Parts) (x was mid now : H) (k before between rest : DiskRest) → Thins host a x k p was before → DrainsBare host p was before q mid between → KeepsLevels host q mid between r now rest NoBodyDead → DrainsDead host a x k r now rest
+pub all-drained : {H : Type 0} (host : Ghosts H) (a p q r : Parts) (x was mid now : H) (k before between rest : DiskRest) → Thins host a x k p was before → DrainsBare host p was before q mid between → Thins host q mid between r now rest → KeepsLevels host q mid between r now rest NoBodyDead → DrainsDead host a x k r now rest
 unfolding thinned-then
-all-drained host a p q r x was mid now k before between rest f g h t at s =
+all-drained host a p q r x was mid now k before between rest f g then h t at s =
     let first = f t at s in
     let bare = g first.levels first.at first.sound in
     let last = h bare.thinned.levels bare.thinned.at bare.thinned.sound in
     record {
       thinned = thinned-then host a p r was now before rest t first
           (thinned-then host p q r mid now between rest first.levels bare.thinned
-          (record { levels = bare.thinned.levels; at = last.0; sound = bare.thinned.sound; thinner = IsThinner-refl (heap_of bare.thinned.levels); bodies = λ i b there has. last.1 i b there }));
+          (record { levels = bare.thinned.levels; at = last.0; sound = bare.thinned.sound; thinner = IsThinner-refl (heap_of bare.thinned.levels); bodies = λ i b there has. last.1 i b there; minds = (then bare.thinned.levels bare.thinned.at bare.thinned.sound).minds }));
       none = none-dead bare.thinned.levels bare.thinned.sound.core bare.none last.2;
     }
 
@@ -339,6 +356,7 @@ read-thinned host p was now before rest rests read t at x = record {
   sound = x;
   thinner = IsThinner-refl (heap_of t);
   bodies = λ s a there has. body-stays (core_of p) s a there;
+  minds = minds-refl (core_of p);
 }
 
 -- ---- by answers

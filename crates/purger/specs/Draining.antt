@@ -20,7 +20,7 @@ use Rattle.counted_core.specs.Levels.{Stored, Levels, heap_of}
 use Rattle.counted_core.specs.Counted.{IsSound}
 use Rattle.counted_core.specs.Dead.{IsDead, NoneBareDead, NoneDead}
 use Rattle.purger.specs.Counts.{StandsFor}
-use Rattle.purger.specs.Marks.{AreHere, LeavesMarks}
+use Rattle.purger.specs.Marks.{AreHere, LeavesMarks, MindsMarks}
 use Rattle.purger.specs.Purge.{KeepsBodies}
 
 -- ---- what stays
@@ -52,13 +52,15 @@ KeepsHeld old new h = (s p : ℕ) → place_of (old.entries s).state ≡ Some p 
 
 -- ---- what is reached
 
--- Levels that are reached from others: sound, with a thinner heap, of which each object that had a body still has it.
+-- Levels that are reached from others: sound, with a thinner heap, of which each object that had a body still has it. Marks go only where one
+-- that was marked left the core.
 pub record IsThinned {H : Type 0} (host : Ghosts H) (old new : Parts) (now : H) (rest : DiskRest) (t : Levels) : Type 0 where
   pub levels : Levels
   pub at : StandsFor host new now rest levels
   pub sound : IsSound levels []
   pub thinner : IsThinner (heap_of t) (heap_of levels)
   pub bodies : KeepsHeld (core_of old) (core_of new) (heap_of levels)
+  pub minds : MindsMarks (core_of old) (core_of new)
 
 -- and no name without a body is dead there
 pub record IsBareThinned {H : Type 0} (host : Ghosts H) (old new : Parts) (now : H) (rest : DiskRest) (t : Levels) : Type 0 where

@@ -16,7 +16,7 @@ ghost use Rattle.counted_core.specs.Dead.{IsDead};
 ghost use Rattle.delta_counts.specs.At.{IsStoredAt};
 ghost use Rattle.purger.specs.Counts.{HasSound, StandsFor};
 ghost use Rattle.purger.specs.Draining.{DrainsBare, DrainsDead, HasDead, IsDeadBy, IsForgotten, IsThinned, KeepsLevels, LeavesRest, MayDrop, NoBodyDead, NotDeadAt, Thins};
-ghost use Rattle.purger.specs.Marks.{AreHere};
+ghost use Rattle.purger.specs.Marks.{AreHere, IsOut};
 ghost use Rattle.purger.specs.Purge.{IsReadFault};
 
 use crate::eviction::{NOWHERE, count_of, read_copy};
@@ -129,6 +129,7 @@ fn free_body<H: Host>(
     ensures leaves { LeavesRest p.old p.new }
     ensures freed { IsTrue (H.tells Role.Work) → (t : Levels) → StandsFor H.Host p.old disk.old.host.now disk.old.rest t → IsSound t [] →
         IsDead t (t.core.entries s.0).name → OnOk result (IsThinned H.Host p.old p.new disk.new.host.now disk.new.rest t) }
+    ensures out { OnOk result (IsOut (core_of p.new) ((core_of p.old).entries s.0).name) }
     ensures wider { OnOk result (free_of p.old.segment < free_of p.new.segment) }
     ensures record { OnOk result (HasRecord buf.new) }
     ensures held { OnOk result (disk_held disk.new.rest ≤ disk_held disk.old.rest) }

@@ -21,7 +21,7 @@ ghost use Rattle.counted_core.specs.Steps.{with_change};
 ghost use Rattle.delta_counts.specs.At.{IsStoredAt};
 ghost use Rattle.delta_counts.specs.Giving.{IsGiving};
 ghost use Rattle.purger.specs.Counts.{HasSound, KeepsSound, stored_as};
-ghost use Rattle.purger.specs.Marks.{AreHere, KeepsMarks, LeavesMarks};
+ghost use Rattle.purger.specs.Marks.{AreHere, KeepsMarks, LeavesMarks, MindsMarks};
 ghost use Rattle.purger.specs.Purge.{IsReadFault, IsReadDamage, IsEvictFault};
 
 use crate::marks::unmark_for;
@@ -324,6 +324,7 @@ pub fn evict<H: Host>(
     ensures folded { IsTrue (H.tells Role.Work) → OnOk result (((core_of p.new).entries s.0).change ≡ pos 0) }
     ensures marks { LeavesMarks (core_of p.old) (core_of p.new) }
     ensures unmarked { ((core_of p.old).entries s.0).flags.marked ≡ false → KeepsMarks (core_of p.old) (core_of p.new) }
+    ensures minds { OnOk result (MindsMarks (core_of p.old) (core_of p.new)) }
     ensures here { AreHere (core_of p.old) → AreHere (core_of p.new) }
     ensures tight { IsTight (core_of p.old) → IsTight (core_of p.new) }
     ensures spare { spare_of p.old ≤ spare_of p.new }

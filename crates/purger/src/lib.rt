@@ -9,7 +9,7 @@
 //!
 //! Each call keeps the held heap over what the disk has then (`keeps`), and references from outside, pinned bodies and the names of what is
 //! named from outside (`purged`, the record `IsPurged` of core_view). Marks stay, or all go at once, where a marked object is evicted
-//! (`LeavesMarks`). Counts stay exact (`sound`): from all sound levels that the parts and the disk stand for, sound ones are reached, with the
+//! (`LeavesMarks`); after a call that is done, only where one that was marked has left the core (`MindsMarks`). Counts stay exact (`sound`): from all sound levels that the parts and the disk stand for, sound ones are reached, with the
 //! same heap (`KeepsSound`). How many words and entries are free afterwards is not told but by `room`; by how much there was too little,
 //! core_view's `what_is_left_is_pinned` says.
 //!

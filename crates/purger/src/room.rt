@@ -12,7 +12,7 @@ ghost use Rattle.core_view.specs.Purge.{fresh_of, IsPurged, HasNoIdle};
 ghost use Rattle.core_view.specs.Room.{is_among};
 ghost use Rattle.leaf_lambda.specs.Parts.{core_of, spare_of, IsParts};
 ghost use Rattle.purger.specs.Counts.{HasSound, KeepsCounts, KeepsSound};
-ghost use Rattle.purger.specs.Marks.{AreHere, KeepsMarks, LeavesMarks};
+ghost use Rattle.purger.specs.Marks.{AreHere, KeepsMarks, LeavesMarks, MindsMarks};
 ghost use Rattle.purger.specs.Purge.{HasRoom, IsShort, KeepsBodies, OnShort, OnDisk, Undisturbed, IsPurgeFault};
 
 use crate::eviction::evict;
@@ -216,6 +216,7 @@ fn leave<H: Host>(
     ensures purged { (a b d : ℕ) → is_among a b d s.0 ≡ false → IsPurged a b d (core_of p.old) (core_of p.new) }
     ensures sound { IsTrue (H.tells Role.Work) → OnOk result (KeepsSound H.Host p.old disk.old.host.now disk.old.rest p.new disk.new.host.now disk.new.rest) }
     ensures marks { LeavesMarks (core_of p.old) (core_of p.new) }
+    ensures minds { OnOk result (MindsMarks (core_of p.old) (core_of p.new)) }
     ensures here { AreHere (core_of p.new) }
     ensures size { size_of p.new.segment ≡ size_of p.old.segment }
     ensures limit { disk_room disk.new.rest ≡ disk_room disk.old.rest }
@@ -254,6 +255,7 @@ fn evict_more<H: Host>(
         × (disk.new.host.now ≡ disk.old.host.now) × (disk.new.rest ≡ disk.old.rest) }
     ensures sound { IsTrue (H.tells Role.Work) → OnOk result (KeepsSound H.Host p.old disk.old.host.now disk.old.rest p.new disk.new.host.now disk.new.rest) }
     ensures marks { LeavesMarks (core_of p.old) (core_of p.new) }
+    ensures minds { OnOk result (MindsMarks (core_of p.old) (core_of p.new)) }
     ensures here { AreHere (core_of p.new) }
     ensures size { size_of p.new.segment ≡ size_of p.old.segment }
     ensures limit { disk_room disk.new.rest ≡ disk_room disk.old.rest }
@@ -288,7 +290,7 @@ fn last_room<H: Host>(
     requires sound { HasSound H.Host p.old disk.old.host.now disk.old.rest }
     ensures parts { IsParts p.new }
     ensures tight { IsTight (core_of p.new) }
-    ensures purged { IsPurged pinned.now.a pinned.now.b pinned.now.d (core_of p.old) (core_of p.new) }
+    ensures purged { (a b d : ℕ) → IsPurged a b d (core_of p.old) (core_of p.new) }
     ensures room { OnOk result ((words ≤ largest_of p.new.segment) × (entries ≤ spare_of p.new)) }
     ensures short { IfErr result (λ f. OnShort f (IsShort p.new pinned.now.a pinned.now.b pinned.now.d words entries)) }
     ensures sound { IsTrue (H.tells Role.Work) → Undisturbed result (KeepsSound H.Host p.old disk.old.host.now disk.old.rest p.new disk.new.host.now disk.new.rest) }
@@ -333,6 +335,7 @@ fn purge<H: Host>(
     ensures short { IfErr result (λ f. OnShort f (IsShort p.new pinned.now.a pinned.now.b pinned.now.d words entries)) }
     ensures sound { IsTrue (H.tells Role.Work) → Undisturbed result (KeepsSound H.Host p.old disk.old.host.now disk.old.rest p.new disk.new.host.now disk.new.rest) }
     ensures marks { LeavesMarks (core_of p.old) (core_of p.new) }
+    ensures minds { Undisturbed result (MindsMarks (core_of p.old) (core_of p.new)) }
     ensures here { AreHere (core_of p.new) }
     ensures size { size_of p.new.segment ≡ size_of p.old.segment }
     ensures limit { disk_room disk.new.rest ≡ disk_room disk.old.rest }
@@ -377,6 +380,7 @@ pub fn make_room<H: Host>(
     ensures sound { IsTrue (H.tells Role.Work) → Undisturbed result (KeepsSound H.Host p.old disk.old.host.now disk.old.rest p.new disk.new.host.now disk.new.rest) }
     ensures counted { IsTrue (H.tells Role.Work) → Undisturbed result (disk_held disk.new.rest + fresh_of (core_of p.new) ≡ disk_held disk.old.rest + fresh_of (core_of p.old)) }
     ensures marks { LeavesMarks (core_of p.old) (core_of p.new) }
+    ensures minds { Undisturbed result (MindsMarks (core_of p.old) (core_of p.new)) }
     ensures marked { HasRoom p.old words entries → KeepsMarks (core_of p.old) (core_of p.new) }
     ensures here { AreHere (core_of p.new) }
     ensures stands { Undisturbed result (HoldsObjects H.Host disk.new.host.now disk.new.rest) }

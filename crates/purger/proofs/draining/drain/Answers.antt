@@ -119,7 +119,7 @@ returns-then-free_words-before-clause-leaves g c = leaves-trans c.args.p.now c.d
 
 pub returns-then-free_words-before-clause-drained : goal.returns-then-free_words-before-clause-drained
 returns-then-free_words-before-clause-drained g c = λ told. all-drained g.H.Host c.args.p.now c.loop-p.p c.drain_bare.new.p c.free_dead.new.p c.args.disk.now.host.now c.loop-p.disk.host.now c.drain_bare.new.disk.host.now c.free_dead.new.disk.host.now c.args.disk.now.rest c.loop-p.disk.rest c.drain_bare.new.disk.rest c.free_dead.new.disk.rest
-    (c.loop-p.invariant.thins told) (c.in_ok-drain_bare.ensures.drained told)
+    (c.loop-p.invariant.thins told) (c.in_ok-drain_bare.ensures.drained told) (c.in_ok-free_dead.ensures.thins told)
     (c.in_ok-free_dead.ensures.none told (let same = c.if-free_words-before.true in let was = c.free_words-before.ensures in let now = c.free_words.ensures in omega arith))
 
 pub returns-then-free_words-before-clause-counted : goal.returns-then-free_words-before-clause-counted

@@ -36,7 +36,7 @@ loop-preserved g c =
     record {
       leaves = leaves-trans c.args.p.now c.loop.p q i.leaves (giving-leaves c.loop.p q i.leaves.parts i.leaves.tight i.leaves.here refl r.giving);
       thins = λ told. thinned-trans g.H.Host c.args.p.now c.loop.p q c.args.disk.now.host.now c.loop.disk.host.now c.drain_one.new.disk.host.now c.args.disk.now.rest c.loop.disk.rest c.drain_one.new.disk.rest (i.thins told)
-          (one-thinned g.H.Host c.loop.p q c.loop.disk.host.now c.drain_one.new.disk.host.now c.loop.disk.rest c.drain_one.new.disk.rest c.in_ok-drain_one.field-0 i.leaves.parts refl r.giving (λ chunks t at x. c.in_ok-drain_one.ensures.drained told chunks t at x));
+          (one-thinned g.H.Host c.loop.p q c.loop.disk.host.now c.drain_one.new.disk.host.now c.loop.disk.rest c.drain_one.new.disk.rest c.in_ok-drain_one.field-0 i.leaves.parts i.leaves.here refl r.giving (λ chunks t at x. c.in_ok-drain_one.ensures.drained told chunks t at x));
       segment = i.segment;
       limit = r.room ∙ i.limit;
       work = work-again g.H.Host c.args.disk.now.host.now c.loop.disk.host.now c.drain_one.new.disk.host.now i.work r.work;
@@ -58,7 +58,7 @@ returns-in_err-drain_one-clause-leaves g c =
 pub returns-then-not-branch-clause-drained : goal.returns-then-not-branch-clause-drained
 returns-then-not-branch-clause-drained g c = λ told.
     let q : Parts = record { segment = c.loop.p.segment; names = c.drain_one.new.p } in
-    last-bare g.H.Host c.args.p.now c.loop.p q c.args.disk.now.host.now c.loop.disk.host.now c.drain_one.new.disk.host.now c.args.disk.now.rest c.loop.disk.rest c.drain_one.new.disk.rest c.in_ok-drain_one.field-0 (let e = c.if-not-branch.true in e) c.loop.invariant.leaves.parts refl c.drain_one.ensures.giving (c.loop.invariant.thins told) (λ chunks t at x. c.in_ok-drain_one.ensures.drained told chunks t at x)
+    last-bare g.H.Host c.args.p.now c.loop.p q c.args.disk.now.host.now c.loop.disk.host.now c.drain_one.new.disk.host.now c.args.disk.now.rest c.loop.disk.rest c.drain_one.new.disk.rest c.in_ok-drain_one.field-0 (let e = c.if-not-branch.true in e) c.loop.invariant.leaves.parts c.loop.invariant.leaves.here refl c.drain_one.ensures.giving (c.loop.invariant.thins told) (λ chunks t at x. c.in_ok-drain_one.ensures.drained told chunks t at x)
 
 pub returns-in_err-drain_one-clause-fault : goal.returns-in_err-drain_one-clause-fault
 returns-in_err-drain_one-clause-fault g c =

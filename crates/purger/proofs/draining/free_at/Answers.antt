@@ -48,7 +48,7 @@ pub free_dead_at-requires-clause-sound : goal.free_dead_at-requires-clause-sound
 free_dead_at-requires-clause-sound g c =
     let q : Parts = record { segment = c.args.p.now.segment; names = c.give_idle_at.new.p } in
     thinned-has g.H.Host c.args.p.now q c.args.disk.now.host.now c.give_idle_at.new.disk.host.now c.args.disk.now.rest c.give_idle_at.new.disk.rest c.requires.sound
-    (λ told. given-thins g.H.Host c.args.p.now q c.args.disk.now.host.now c.give_idle_at.new.disk.host.now c.args.disk.now.rest c.give_idle_at.new.disk.rest c.requires.parts refl c.give_idle_at.ensures.giving (λ chunks t at x. c.in_ok-give_idle_at.ensures.given told chunks t at x))
+    (λ told. given-thins g.H.Host c.args.p.now q c.args.disk.now.host.now c.give_idle_at.new.disk.host.now c.args.disk.now.rest c.give_idle_at.new.disk.rest c.requires.parts c.requires.marks refl c.give_idle_at.ensures.giving (λ chunks t at x. c.in_ok-give_idle_at.ensures.given told chunks t at x))
 
 pub returns-clause-leaves : goal.returns-clause-leaves
 returns-clause-leaves g c =
@@ -59,7 +59,7 @@ pub returns-clause-thins : goal.returns-clause-thins
 returns-clause-thins g c = λ told.
     let q : Parts = record { segment = c.args.p.now.segment; names = c.give_idle_at.new.p } in
     ok-map c.free_dead_at.result (λ last. thinned-trans g.H.Host c.args.p.now q c.free_dead_at.new.p c.args.disk.now.host.now c.give_idle_at.new.disk.host.now c.free_dead_at.new.disk.host.now c.args.disk.now.rest c.give_idle_at.new.disk.rest c.free_dead_at.new.disk.rest
-    (given-thins g.H.Host c.args.p.now q c.args.disk.now.host.now c.give_idle_at.new.disk.host.now c.args.disk.now.rest c.give_idle_at.new.disk.rest c.requires.parts refl c.give_idle_at.ensures.giving (λ chunks t at x. c.in_ok-give_idle_at.ensures.given told chunks t at x)) last)
+    (given-thins g.H.Host c.args.p.now q c.args.disk.now.host.now c.give_idle_at.new.disk.host.now c.args.disk.now.rest c.give_idle_at.new.disk.rest c.requires.parts c.requires.marks refl c.give_idle_at.ensures.giving (λ chunks t at x. c.in_ok-give_idle_at.ensures.given told chunks t at x)) last)
     (c.free_dead_at.ensures.thins told)
 
 pub returns-clause-held : goal.returns-clause-held

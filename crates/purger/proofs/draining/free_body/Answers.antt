@@ -19,7 +19,7 @@ use Rattle.purger.specs.Purge.{IsReadFault}
 use Rattle.purger.proofs.SoundLaws.{core-at, disk-at, has-backed, has-objects, parts-names, sound-backed, stored-read}
 use Rattle.purger.proofs.ThinLaws.{giving-bodies, giving-leaves, leaves-refl, leaves-trans}
 use Rattle.purger.proofs.ForgetLaws.{forgotten-leaves, forgotten-owed}
-use Rattle.purger.proofs.DrainLaws.{body-values, entry-at, freed-thinned, may-drop, read-later, words-read-if}
+use Rattle.purger.proofs.DrainLaws.{body-values, entry-at, forgotten-away, forgotten-minds, freed-thinned, may-drop, read-later, words-read-if}
 use Rattle.purger.proofs.draining.free_body.Goals as goal
 
 pub entry-e-requires-clause-short : goal.entry-e-requires-clause-short
@@ -109,7 +109,8 @@ returns-clause-freed g c = λ told t at x dead.
     let name = ap (λ (e : Entry). e.name) c.entry-e.ensures in
     let w = forgotten-owed h c.forget.new.p c.drop_record.new.disk.host.now c.drop_record.new.disk.rest t (core_of p) (object_in (raw_of c.merge_out.new.buf)) c.entry-e.result.name c.args.s.0 a is x c.place_of_body-at.ensures dead gone name object stored in
     ok-map c.lower_words.result (λ r. freed-thinned h p c.forget.new.p q c.drop_record.new.disk.host.now c.lower_words.new.disk.host.now c.drop_record.new.disk.rest c.lower_words.new.disk.rest t (object_in (raw_of c.merge_out.new.buf)) c.entry-e.result.name c.args.s.0 is x dead name gone
-    (giving-bodies c.forget.new.p q c.forget.ensures.parts refl (counting-giving c.forget.new.p.names c.lower_words.new.p c.lower_words.ensures.counting)) w r)
+    (giving-bodies c.forget.new.p q c.forget.ensures.parts refl (counting-giving c.forget.new.p.names c.lower_words.new.p c.lower_words.ensures.counting))
+    (forgotten-minds p c.forget.new.p q c.args.s.0 c.requires.body.0 c.requires.parts c.forget.ensures.parts c.requires.body.1 c.requires.unmarked c.requires.marks gone refl (counting-giving c.forget.new.p.names c.lower_words.new.p c.lower_words.ensures.counting)) w r)
     (c.lower_words.ensures.lowered told (chunk_at c.forget.new.p.segment) w.levels w.at w.sound)
 
 pub returns-in_err-read_copy-clause-leaves : goal.returns-in_err-read_copy-clause-leaves
@@ -162,3 +163,9 @@ returns-clause-work g c = work-again g.H.Host c.args.disk.now.host.now c.drop_re
 
 pub returns-clause-held : goal.returns-clause-held
 returns-clause-held g c = ok-of c.lower_words.result (let a = ap disk_held c.read_copy.ensures.rest in let b = c.in_ok-drop_record.ensures.held in let d = c.lower_words.ensures.held in omega arith)
+
+pub returns-clause-out : goal.returns-clause-out
+returns-clause-out g c =
+    let q : Parts = record { segment = c.forget.new.p.segment; names = c.lower_words.new.p } in
+    let gone = subst (λ (m : Parts). IsForgotten c.args.s.0 (core_of m) (core_of c.forget.new.p)) c.merge_out.ensures.same c.forget.ensures.forgotten in
+    ok-of c.lower_words.result (forgotten-away c.args.p.now c.forget.new.p q c.args.s.0 c.requires.body.0 c.requires.parts c.forget.ensures.parts c.requires.body.1 gone refl (counting-giving c.forget.new.p.names c.lower_words.new.p c.lower_words.ensures.counting))

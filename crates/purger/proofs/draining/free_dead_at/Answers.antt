@@ -1,4 +1,4 @@
-use Rattle.std.proofs.Common.{◌≡◌, true, false, ◌∙◌, refl, ap, arith}
+use Rattle.std.proofs.Common.{◌≡◌, ℕ, true, false, ◌∙◌, refl, ap, subst, arith}
 use Rattle.loom_outside.proofs.WorkLaws.{exits, work-again, work-read}
 use Rattle.loom_outside.specs.declared.outside.Role.TheVariants.{Work}
 use Rattle.object_table.specs.declared.entry.Entry.{Entry}
@@ -8,8 +8,10 @@ use Rattle.core_segment.specs.Segment.{free_of}
 use Rattle.core_view.proofs.Core.{placed-used}
 use Rattle.core_view.proofs.Purge.{body-stays}
 use Rattle.leaf_lambda.specs.Parts.{core_of}
+use Rattle.purger.specs.Marks.{IsOut}
 use Rattle.purger.specs.Purge.{IsReadFault}
 use Rattle.purger.proofs.MarkLaws.{state-same, unmarked-here, unmarked-same, unmarked-tight}
+use Rattle.purger.proofs.MindLaws.{minds-after}
 use Rattle.purger.proofs.ThinLaws.{leaves-refl, leaves-trans, levels-read, read-thinned, same-then, unmarked-bodies, unmarked-dead, unmarked-leaves}
 use Rattle.purger.proofs.DrainLaws.{dead-no, dead-yes, read-later}
 use Rattle.purger.proofs.draining.free_dead_at.Goals as goal
@@ -97,9 +99,14 @@ returns-clause-thins g c = λ told t at x.
     let d = unmarked-dead g.H.Host c.args.p.now c.unmark_for.new.p c.is_dead.new.disk.host.now c.is_dead.new.disk.rest t c.args.s.0 c.unmark_for.ensures.parts c.unmark_for.ensures.stays c.unmark_for.ensures.step c.unmark_for.ensures.outside
     (levels-read g.H.Host c.args.p.now c.args.disk.now.host.now c.is_dead.new.disk.host.now c.args.disk.now.rest c.is_dead.new.disk.rest c.is_dead.ensures.rest c.is_dead.ensures.read t at) x
     (dead-yes c.in_ok-is_dead.field-0 c.args.s.0 t c.if-not-branch.false (c.in_ok-is_dead.ensures.dead told t at x)) in
+    let then = c.in_ok-free_body.ensures.freed told d.reached.levels d.reached.at d.reached.sound d.dead in
+    let body = c.in_ok-is_dead.ensures.body c.if-not-branch.false in
     same-then g.H.Host c.args.p.now c.unmark_for.new.p c.free_body.new.p c.is_dead.new.disk.host.now c.free_body.new.disk.host.now c.is_dead.new.disk.rest c.free_body.new.disk.rest t
-    (unmarked-bodies (core_of c.args.p.now) (core_of c.unmark_for.new.p) c.unmark_for.ensures.step c.unmark_for.ensures.outside) d.reached
-    (c.in_ok-free_body.ensures.freed told d.reached.levels d.reached.at d.reached.sound d.dead)
+    (unmarked-bodies (core_of c.args.p.now) (core_of c.unmark_for.new.p) c.unmark_for.ensures.step c.unmark_for.ensures.outside)
+    (minds-after (core_of c.args.p.now) (core_of c.unmark_for.new.p) (core_of c.free_body.new.p) c.args.s.0 c.requires.parts.core (placed-used ((core_of c.args.p.now).entries c.args.s.0).state body.0 body.1) c.unmark_for.ensures.step c.unmark_for.ensures.marks c.unmark_for.ensures.gone
+    (λ off. ap core_of (c.unmark_for.ensures.idle off)) then.minds
+    (subst (λ (n : ℕ). IsOut (core_of c.free_body.new.p) n) (unmarked-same (core_of c.args.p.now) (core_of c.unmark_for.new.p) c.args.s.0 (λ (e : Entry). e.name) c.unmark_for.ensures.step (λ e. refl)) c.in_ok-free_body.ensures.out))
+    d.reached then
 
 pub returns-clause-wider : goal.returns-clause-wider
 returns-clause-wider g c = λ on. let wider = c.in_ok-free_body.ensures.wider in let first = ap free_of c.unmark_for.ensures.segment in omega arith

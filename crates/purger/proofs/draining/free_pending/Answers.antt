@@ -22,7 +22,7 @@ returns-clause-leaves g c =
 pub returns-clause-thins : goal.returns-clause-thins
 returns-clause-thins g c = λ told.
     let q : Parts = record { segment = c.args.p.now.segment; names = c.drain_pending.new.p } in
-    drains-thins-if g.H.Host c.drain_pending.result c.args.p.now q c.args.disk.now.host.now c.drain_pending.new.disk.host.now c.args.disk.now.rest c.drain_pending.new.disk.rest c.requires.parts refl
+    drains-thins-if g.H.Host c.drain_pending.result c.args.p.now q c.args.disk.now.host.now c.drain_pending.new.disk.host.now c.args.disk.now.rest c.drain_pending.new.disk.rest c.requires.parts c.requires.marks refl
     (counting-giving c.args.p.now.names c.drain_pending.new.p c.drain_pending.ensures.counting) (λ chunks t at x. c.drain_pending.ensures.drained told chunks t at x)
 
 pub returns-clause-fault : goal.returns-clause-fault

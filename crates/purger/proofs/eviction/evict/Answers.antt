@@ -13,6 +13,7 @@ use Rattle.purger.proofs.SoundLaws.{has-after, has-over, has-number, sound-trans
 use Rattle.purger.proofs.GivingLaws.{giving-parts, giving-up, giving-spare, given-purged, given-gone, given-tight, given-here, one-marks, left-purged, read-evict-if}
 use Rattle.leaf_lambda.specs.declared.parts.Parts.{Parts}
 use Rattle.purger.specs.Marks.{KeepsMarks}
+use Rattle.purger.proofs.MindLaws.{came-trans, left-out, minds-after, minds-kept, purged-came, unmarked-came, within-came}
 use Rattle.purger.proofs.eviction.evict.Goals as goal
 
 pub unmark_for-requires-clause-used : goal.unmark_for-requires-clause-used
@@ -123,3 +124,21 @@ pub returns-clause-unmarked : goal.returns-clause-unmarked
 returns-clause-unmarked g c = λ off. Kept-trans (core_of c.args.p.now) (core_of c.evict_unmarked.new.p) (core_of c.fold_leaf.new.p)
     (subst (λ (q : Parts). KeepsMarks (core_of q) (core_of c.evict_unmarked.new.p)) (c.unmark_for.ensures.idle off) (within-marks (core_of c.unmark_for.new.p) (core_of c.evict_unmarked.new.p) c.args.s.0 c.unmark_for.ensures.parts.core c.evict_unmarked.ensures.parts.core c.evict_unmarked.ensures.within))
     (one-marks c.evict_unmarked.new.p c.fold_leaf.new.p c.args.s.0 c.evict_unmarked.ensures.parts (giving-parts c.evict_unmarked.new.p c.fold_leaf.new.p c.evict_unmarked.ensures.parts c.fold_leaf.ensures.segment c.fold_leaf.ensures.giving) (giving-up c.evict_unmarked.new.p c.fold_leaf.new.p c.evict_unmarked.ensures.parts c.fold_leaf.ensures.segment c.fold_leaf.ensures.giving) c.evict_unmarked.ensures.mark c.fold_leaf.ensures.others)
+
+-- marks go only where it was marked
+
+pub returns-clause-minds : goal.returns-clause-minds
+returns-clause-minds g c =
+    let p = core_of c.args.p.now in
+    let u = core_of c.unmark_for.new.p in
+    let v = core_of c.evict_unmarked.new.p in
+    let w = core_of c.fold_leaf.new.p in
+    let s = c.args.s.0 in
+    let now = giving-parts c.evict_unmarked.new.p c.fold_leaf.new.p c.evict_unmarked.ensures.parts c.fold_leaf.ensures.segment c.fold_leaf.ensures.giving in
+    let up = giving-up c.evict_unmarked.new.p c.fold_leaf.new.p c.evict_unmarked.ensures.parts c.fold_leaf.ensures.segment c.fold_leaf.ensures.giving in
+    let used = placed-used (p.entries s).state c.requires.body.0 c.requires.body.1 in
+    let came = came-trans u v w (within-came u v s c.evict_unmarked.ensures.within c.in_ok-evict_unmarked.ensures.gone) (purged-came v w (λ a b k. given-purged a b k v w now.core up)) in
+    let keeps = Kept-trans u v w (within-marks u v s c.unmark_for.ensures.parts.core c.evict_unmarked.ensures.parts.core c.evict_unmarked.ensures.within)
+    (one-marks c.evict_unmarked.new.p c.fold_leaf.new.p s c.evict_unmarked.ensures.parts now up c.evict_unmarked.ensures.mark c.fold_leaf.ensures.others) in
+    ok-of c.fold_leaf.result (minds-after p u w s c.requires.parts.core used c.unmark_for.ensures.step c.unmark_for.ensures.marks c.unmark_for.ensures.gone (λ off. ap core_of (c.unmark_for.ensures.idle off)) (minds-kept u w came keeps)
+    (left-out p w s c.requires.parts.core used (came-trans p u w (unmarked-came p u c.unmark_for.ensures.step) came) (given-gone v w s up c.in_ok-evict_unmarked.ensures.gone)))

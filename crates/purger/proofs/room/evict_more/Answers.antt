@@ -6,6 +6,7 @@ use Rattle.leaf_lambda.specs.Parts.{core_of}
 use Rattle.delta_counts.proofs.LowerLaws.{ok-map, ok-of}
 use Rattle.purger.specs.Purge.{IsPurgeFault}
 use Rattle.purger.proofs.MarkLaws.{Marks-trans, Marks-same, Kept-refl}
+use Rattle.purger.proofs.MindLaws.{minds-kept, minds-refl, minds-trans, purged-came}
 use Rattle.purger.proofs.RoomLaws.{work-refl, work-trans, gone-purged}
 use Rattle.purger.proofs.SoundLaws.{has-after, sound-refl, sound-trans}
 use Rattle.purger.proofs.GivingLaws.{purge-later-if}
@@ -83,3 +84,13 @@ returns-clause-same_host g c = c.free_enough.ensures.same_host ∙ c.leave.ensur
 
 pub returns-clause-fault : goal.returns-clause-fault
 returns-clause-fault g c = purge-later-if g.H.Host c.args.disk.now.host.now c.leave.new.disk.host.now c.free_enough.new.disk.host.now c.free_enough.result c.leave.ensures.work.later c.free_enough.ensures.fault
+
+pub returns-then-has_room-clause-minds : goal.returns-then-has_room-clause-minds
+returns-then-has_room-clause-minds g c = minds-refl (core_of c.args.p.now)
+
+pub returns-then-not-may_leave-clause-minds : goal.returns-then-not-may_leave-clause-minds
+returns-then-not-may_leave-clause-minds g c = minds-refl (core_of c.args.p.now)
+
+pub returns-clause-minds : goal.returns-clause-minds
+returns-clause-minds g c = ok-of c.free_enough.result (minds-trans (core_of c.args.p.now) (core_of c.leave.new.p) (core_of c.free_enough.new.p) c.in_ok-leave.ensures.minds
+    (minds-kept (core_of c.leave.new.p) (core_of c.free_enough.new.p) (purged-came (core_of c.leave.new.p) (core_of c.free_enough.new.p) c.free_enough.ensures.purged) c.free_enough.ensures.marks))

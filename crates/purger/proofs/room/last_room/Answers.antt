@@ -8,7 +8,7 @@ use Rattle.purger.proofs.SoundLaws.{quiet-keeps, sound-trans}
 use Rattle.purger.proofs.room.last_room.Goals as goal
 
 pub returns-in-Err-clause-purged : goal.returns-in-Err-clause-purged
-returns-in-Err-clause-purged g c = c.free_idle.ensures.purged c.args.pinned.now.a c.args.pinned.now.b c.args.pinned.now.d
+returns-in-Err-clause-purged g c = c.free_idle.ensures.purged
 
 pub returns-in-Err-clause-size : goal.returns-in-Err-clause-size
 returns-in-Err-clause-size g c = ap size_of c.free_idle.ensures.segment
@@ -17,8 +17,7 @@ pub returns-in-Err-clause-fault : goal.returns-in-Err-clause-fault
 returns-in-Err-clause-fault g c = c.in-Err.ensures.fault
 
 pub returns-then-has_room-clause-purged : goal.returns-then-has_room-clause-purged
-returns-then-has_room-clause-purged g c = Purged-trans c.args.pinned.now.a c.args.pinned.now.b c.args.pinned.now.d (core_of c.args.p.now) (core_of c.free_idle.new.p) (core_of c.gather.new.p)
-    (c.free_idle.ensures.purged c.args.pinned.now.a c.args.pinned.now.b c.args.pinned.now.d) (c.gather.ensures.purged c.args.pinned.now.a c.args.pinned.now.b c.args.pinned.now.d)
+returns-then-has_room-clause-purged g c = λ a b d. Purged-trans a b d (core_of c.args.p.now) (core_of c.free_idle.new.p) (core_of c.gather.new.p) (c.free_idle.ensures.purged a b d) (c.gather.ensures.purged a b d)
 
 pub returns-then-has_room-clause-sound : goal.returns-then-has_room-clause-sound
 returns-then-has_room-clause-sound g c = λ told. sound-trans g.H.Host c.args.p.now c.free_idle.new.p c.gather.new.p c.args.disk.now.host.now c.free_idle.new.disk.host.now c.free_idle.new.disk.host.now c.args.disk.now.rest c.free_idle.new.disk.rest c.free_idle.new.disk.rest (c.in-Ok.ensures.sound told)
@@ -31,7 +30,7 @@ pub returns-then-has_room-clause-size : goal.returns-then-has_room-clause-size
 returns-then-has_room-clause-size g c = c.gather.ensures.size ∙ ap size_of c.free_idle.ensures.segment
 
 pub returns-else-has_room-clause-purged : goal.returns-else-has_room-clause-purged
-returns-else-has_room-clause-purged g c = c.free_idle.ensures.purged c.args.pinned.now.a c.args.pinned.now.b c.args.pinned.now.d
+returns-else-has_room-clause-purged g c = c.free_idle.ensures.purged
 
 pub returns-else-has_room-clause-sound : goal.returns-else-has_room-clause-sound
 returns-else-has_room-clause-sound g c = λ told. c.in-Ok.ensures.sound told

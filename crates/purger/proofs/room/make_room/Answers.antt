@@ -3,6 +3,7 @@ use Rattle.core_segment.specs.Segment.{size_of}
 use Rattle.core_view.proofs.Purge.{Purged-trans}
 use Rattle.leaf_lambda.specs.Parts.{core_of}
 use Rattle.purger.proofs.MarkLaws.{Marks-same, Marks-trans}
+use Rattle.purger.proofs.MindLaws.{minds-kept, minds-trans, purged-came}
 use Rattle.purger.proofs.RoomLaws.{all-pinned, work-refl, work-trans, undisturbed-map, stands-undisturbed, disk-later}
 use Rattle.purger.proofs.SoundLaws.{has-after, has-number, has-objects, has-over, quiet-keeps, sound-trans}
 use Rattle.purger.proofs.room.make_room.Goals as goal
@@ -111,3 +112,10 @@ returns-in-Ok-clause-sure g c = λ has. absurd (c.has_room.ensures.lacks c.if-ha
 
 pub returns-in-Err-clause-sure : goal.returns-in-Err-clause-sure
 returns-in-Err-clause-sure g c = λ has. absurd (c.has_room.ensures.lacks c.if-has_room.false has)
+
+pub returns-then-has_room-clause-minds : goal.returns-then-has_room-clause-minds
+returns-then-has_room-clause-minds g c = minds-kept (core_of c.args.p.now) (core_of c.gather.new.p) (purged-came (core_of c.args.p.now) (core_of c.gather.new.p) c.gather.ensures.purged) c.gather.ensures.marks
+
+pub returns-in-Ok-clause-minds : goal.returns-in-Ok-clause-minds
+returns-in-Ok-clause-minds g c = undisturbed-map c.purge.result (λ last. minds-trans (core_of c.args.p.now) (core_of c.free_idle.new.p) (core_of c.purge.new.p)
+    (minds-kept (core_of c.args.p.now) (core_of c.free_idle.new.p) (purged-came (core_of c.args.p.now) (core_of c.free_idle.new.p) c.free_idle.ensures.purged) c.free_idle.ensures.marks) last) c.purge.ensures.minds

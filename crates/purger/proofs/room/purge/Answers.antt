@@ -5,7 +5,8 @@ use Rattle.leaf_lambda.specs.declared.parts.Parts.{Parts}
 use Rattle.leaf_lambda.specs.Parts.{core_of}
 use Rattle.purger.specs.Purge.{HasRoom}
 use Rattle.purger.proofs.MarkLaws.{Marks-trans, Marks-same, Kept-refl}
-use Rattle.purger.proofs.RoomLaws.{bound-entries, disk-later, undisturbed-map, work-refl, work-trans}
+use Rattle.purger.proofs.MindLaws.{minds-kept, minds-refl, minds-trans, purged-came}
+use Rattle.purger.proofs.RoomLaws.{bound-entries, disk-later, undisturbed-map, undisturbed-of, work-refl, work-trans}
 use Rattle.purger.proofs.SoundLaws.{has-after, has-number, sound-refl, sound-trans}
 use Rattle.purger.proofs.room.purge.Goals as goal
 
@@ -17,6 +18,7 @@ loop-i-init g c = record {
   gone = inr (λ s at low place. gone-first (core_of c.args.p.now) c.args.pinned.now.a c.args.pinned.now.b c.args.pinned.now.d s at c.requires.parts.core (omega arith) place);
   sound = λ told. sound-refl g.H.Host c.args.p.now c.args.disk.now.host.now c.args.disk.now.rest;
   marks = Marks-same (core_of c.args.p.now) (core_of c.args.p.now) (Kept-refl (core_of c.args.p.now));
+  minds = minds-refl (core_of c.args.p.now);
   here = c.requires.marks;
   size = refl;
   entries = refl;
@@ -55,6 +57,7 @@ loop-i-preserved g c =
       gone = ⊎_elim (λ has. inl (subst (λ (p : Parts). HasRoom p c.args.words c.args.entries) (sym (e.needless has).1) has)) (λ before. ⊎_elim (λ has. inl has) (λ here. inr (λ s at low place. gone-more c.args.pinned.now.a c.args.pinned.now.b c.args.pinned.now.d c.loop-i.i s at (core_of c.loop-i.p) (core_of c.evict_more.new.p) e.parts.core e.purged before here low place)) r.gone) i.gone;
       sound = λ told. sound-trans g.H.Host c.args.p.now c.loop-i.p c.evict_more.new.p c.args.disk.now.host.now c.loop-i.disk.host.now c.evict_more.new.disk.host.now c.args.disk.now.rest c.loop-i.disk.rest c.evict_more.new.disk.rest (i.sound told) (r.sound told);
       marks = Marks-trans (core_of c.args.p.now) (core_of c.loop-i.p) (core_of c.evict_more.new.p) i.marks e.marks;
+      minds = minds-trans (core_of c.args.p.now) (core_of c.loop-i.p) (core_of c.evict_more.new.p) i.minds r.minds;
       here = e.here;
       size = e.size ∙ i.size;
       entries = bound-entries c.loop-i.p c.evict_more.new.p e.purged.bound ∙ i.entries;
@@ -72,7 +75,7 @@ pub last_room-requires-clause-sound : goal.last_room-requires-clause-sound
 last_room-requires-clause-sound g c = has-after g.H.Host c.args.p.now c.loop-i.p c.args.disk.now.host.now c.loop-i.disk.host.now c.args.disk.now.rest c.loop-i.disk.rest c.requires.sound c.loop-i.invariant.sound
 
 pub returns-clause-purged : goal.returns-clause-purged
-returns-clause-purged g c = Purged-trans c.args.pinned.now.a c.args.pinned.now.b c.args.pinned.now.d (core_of c.args.p.now) (core_of c.loop-i.p) (core_of c.last_room.new.p) c.loop-i.invariant.purged c.last_room.ensures.purged
+returns-clause-purged g c = Purged-trans c.args.pinned.now.a c.args.pinned.now.b c.args.pinned.now.d (core_of c.args.p.now) (core_of c.loop-i.p) (core_of c.last_room.new.p) c.loop-i.invariant.purged (c.last_room.ensures.purged c.args.pinned.now.a c.args.pinned.now.b c.args.pinned.now.d)
 
 pub returns-clause-sound : goal.returns-clause-sound
 returns-clause-sound g c = λ told. undisturbed-map c.last_room.result (λ last. sound-trans g.H.Host c.args.p.now c.loop-i.p c.last_room.new.p c.args.disk.now.host.now c.loop-i.disk.host.now c.last_room.new.disk.host.now c.args.disk.now.rest c.loop-i.disk.rest c.last_room.new.disk.rest (c.loop-i.invariant.sound told) last) (c.last_room.ensures.sound told)
@@ -94,3 +97,7 @@ returns-clause-same_host g c = c.last_room.ensures.same_host ∙ c.loop-i.invari
 
 pub returns-clause-fault : goal.returns-clause-fault
 returns-clause-fault g c = disk-later g.H.Host c.args.disk.now.host.now c.loop-i.disk.host.now c.last_room.new.disk.host.now c.last_room.result c.loop-i.invariant.work.later c.last_room.ensures.fault
+
+pub returns-clause-minds : goal.returns-clause-minds
+returns-clause-minds g c = undisturbed-of c.last_room.result (minds-trans (core_of c.args.p.now) (core_of c.loop-i.p) (core_of c.last_room.new.p) c.loop-i.invariant.minds
+    (minds-kept (core_of c.loop-i.p) (core_of c.last_room.new.p) (purged-came (core_of c.loop-i.p) (core_of c.last_room.new.p) c.last_room.ensures.purged) c.last_room.ensures.marks))

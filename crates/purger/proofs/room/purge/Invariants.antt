@@ -10,7 +10,7 @@ use Rattle.core_view.specs.Purge.{IsPurged}
 use Rattle.core_view.specs.Room.{is_among}
 use Rattle.leaf_lambda.specs.Parts.{core_of, IsParts}
 use Rattle.purger.specs.Counts.{KeepsSound}
-use Rattle.purger.specs.Marks.{AreHere, LeavesMarks}
+use Rattle.purger.specs.Marks.{AreHere, LeavesMarks, MindsMarks}
 use Rattle.purger.specs.Purge.{HasRoom}
 use Rattle.purger.proofs.room.purge.Given as goal
 
@@ -22,6 +22,7 @@ invariant-loop-i g l = record {
   gone : HasRoom l.p l.fn.words l.fn.entries ⊎ ((s at : ℕ) → s < 2 * l.i + 2 → place_of ((core_of l.p).entries s).state ≡ Some at → is_among l.fn.pinned.a l.fn.pinned.b l.fn.pinned.d s ≡ true);
   sound : IsTrue (g.H.Host.tells Work) → KeepsSound g.H.Host l.fn.p l.fn.disk.host.now l.fn.disk.rest l.p l.disk.host.now l.disk.rest;
   marks : LeavesMarks (core_of l.fn.p) (core_of l.p);
+  minds : MindsMarks (core_of l.fn.p) (core_of l.p);
   here : AreHere (core_of l.p);
   size : size_of l.p.segment ≡ size_of l.fn.p.segment;
   entries : entries_of l.p.names.table ≡ entries_of l.fn.p.names.table;
