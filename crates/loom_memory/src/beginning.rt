@@ -87,6 +87,7 @@ impl<'h, H: Host> LoomMemory<'h, H> {
             out: tables.out,
             regs: [1; REGISTERS],
             pinned: Pinned { a: 0, b: 0, d: 0 },
+            hand: 0,
             ledger: Ledger {
                 core,
                 entries,

@@ -30,6 +30,8 @@ pub struct LoomMemory<'h, H: Host> {
     pub(crate) out: RecordBuf,
     pub(crate) regs: [u16; REGISTERS],
     pub(crate) pinned: Pinned,
+    // Where in the table what goes is looked for next.
+    pub(crate) hand: u16,
     pub(crate) ledger: Ledger,
 }
 
@@ -97,6 +99,7 @@ impl<'h, H: Host> LoomMemory<'h, H> {
             words,
             entries,
             &self.pinned,
+            &mut self.hand,
         )
     }
 

@@ -43,7 +43,8 @@ pub fn close<H: Host>(
     drain(p, disk, buf)?;
     let all = p.names.table.entries() + 1;
     let none = Pinned { a: 0, b: 0, d: 0 };
-    match make_room(p, disk, buf, 0, all, &none) {
+    let mut hand = 0;
+    match make_room(p, disk, buf, 0, all, &none, &mut hand) {
         Ok(()) => {
             // no more entries are free than there are
             entries_are_counted(&p.names.table);

@@ -1,16 +1,19 @@
 //! Room in a core: objects are evicted until so many words and entries are free, and what is dead is freed.
 //!
-//! `evict` writes an object back where it differs from its record, takes its body, and folds its change of count. `make_room` evicts objects in
-//! the order of the table while room is wanting, gives up leaves to which nothing refers, and moves bodies together; three pinned objects
-//! stay. Where there is room, nothing goes. It answers `Short` only where nothing but pinned objects is left and that isn't enough. It goes over
-//! the table once for objects and at most three times for leaves: before, where the leaves that evictions left are room enough, and at the end.
+//! `evict` writes an object back where it differs from its record, takes its body, and folds its change of count. `make_room` evicts objects
+//! while room is wanting, gives up leaves to which nothing refers, and moves bodies together; three pinned objects stay. Where there is room,
+//! nothing goes. What goes is looked for by a hand that goes round the table, from call to call: it takes what is neither pinned nor marked,
+//! over a 32nd part of the table at least, so that leaves are swept up and bodies moved together once for many objects. Where a whole round
+//! isn't enough, the table is gone over from its first entry on, and marked objects go too. `Short` is answered only where nothing but pinned
+//! objects is left and that isn't enough.
 //!
-//!     make_room(&mut parts, &mut disk, &mut buf, words, entries, &pinned)?;
+//!     make_room(&mut parts, &mut disk, &mut buf, words, entries, &pinned, &mut hand)?;
 //!
 //! Each call keeps the held heap over what the disk has then (`keeps`), and references from outside, pinned bodies and the names of what is
 //! named from outside (`purged`, the record `IsPurged` of core_view). Marks stay, or all go at once, where a marked object is evicted
-//! (`LeavesMarks`); after a call that is done, only where one that was marked has left the core (`MindsMarks`). Counts stay exact (`sound`): from all sound levels that the parts and the disk stand for, sound ones are reached, with the
-//! same heap (`KeepsSound`). How many words and entries are free afterwards is not told but by `room`; by how much there was too little,
+//! (`LeavesMarks`); after a call that is done, only where one that was marked has left the core (`MindsMarks`). Counts stay exact
+//! (`sound`): from all sound levels that the parts and the disk stand for, sound ones are reached, with the same heap (`KeepsSound`). How
+//! many words and entries are free afterwards is not told but by `room`; by how much there was too little,
 //! core_view's `what_is_left_is_pinned` says.
 //!
 //! `drain` frees what is dead, in the core and on disk, until nothing is: the heap is thinner by it, what stays keeps its body, and no dead object

@@ -32,6 +32,9 @@ pub enum RoomFault {
     Disk(DiskFault),
 }
 
+/// A round of the hand that has to look for what goes looks at this part of the table at least.
+const ROUND_PARTS: u16 = 32;
+
 /// The short words of three objects that stay; 0 for none.
 #[derive(Clone, Copy, Debug, PartialEq, Eq)]
 pub struct Pinned {
@@ -227,8 +230,43 @@ fn leave<H: Host>(
     evict(p, disk, buf, s)
 }
 
-// Evicts an object that may leave, unless there is room. Where the idle leaves are room enough then, as they are reckoned, they are given up: so
-// the table is swept for them once, and not after each eviction. Answers how many are reckoned.
+// Evicts an object. Where the idle leaves are room enough then, as they are reckoned, they are given up: so the table is swept for them
+// once, and not after each eviction. Answers how many are reckoned.
+fn evict_one<H: Host>(
+    p: &mut Parts,
+    disk: &mut DiskObjects<'_, H>,
+    buf: &mut RecordBuf,
+    s: Short,
+    words: u32,
+    entries: u16,
+    idle: u32,
+) -> Result<u32, DiskFault>
+    requires parts { IsParts p.old }
+    requires tight { IsTight (core_of p.old) }
+    requires marks { AreHere (core_of p.old) }
+    requires body { (at : ℕ) × (place_of ((core_of p.old).entries s.0).state ≡ Some at) }
+    requires sound { HasSound H.Host p.old disk.old.host.now disk.old.rest }
+    requires counted { IsTrue (H.tells Role.Work) → disk_held disk.old.rest + fresh_of (core_of p.old) ≤ disk_room disk.old.rest }
+    ensures parts { IsParts p.new }
+    ensures tight { IsTight (core_of p.new) }
+    ensures purged { (a b d : ℕ) → is_among a b d s.0 ≡ false → IsPurged a b d (core_of p.old) (core_of p.new) }
+    ensures gone { OnOk result (place_of ((core_of p.new).entries s.0).state ≡ None) }
+    ensures sound { IsTrue (H.tells Role.Work) → OnOk result (KeepsSound H.Host p.old disk.old.host.now disk.old.rest p.new disk.new.host.now disk.new.rest) }
+    ensures marks { LeavesMarks (core_of p.old) (core_of p.new) }
+    ensures minds { OnOk result (MindsMarks (core_of p.old) (core_of p.new)) }
+    ensures here { AreHere (core_of p.new) }
+    ensures size { size_of p.new.segment ≡ size_of p.old.segment }
+    ensures limit { disk_room disk.new.rest ≡ disk_room disk.old.rest }
+    ensures work { IsWorkOnly H.Host disk.old.host.now disk.new.host.now }
+    ensures same_host { disk.new.host.ghost_name ≡ disk.old.host.ghost_name }
+    ensures fault { IfErr result (IsPurgeFault H.Host disk.old.host.now disk.new.host.now) }
+{
+    let behind = idle_behind(p, s);
+    leave(p, disk, buf, s)?;
+    free_enough(p, disk, words, entries, idle.saturating_add(behind))
+}
+
+// Evicts an object that may leave, unless there is room.
 fn evict_more<H: Host>(
     p: &mut Parts,
     disk: &mut DiskObjects<'_, H>,
@@ -269,9 +307,121 @@ fn evict_more<H: Host>(
     if !may_leave(p, s, pinned) {
         return Ok(idle);
     }
-    let behind = idle_behind(p, s);
-    leave(p, disk, buf, s)?;
-    free_enough(p, disk, words, entries, idle.saturating_add(behind))
+    evict_one(p, disk, buf, s, words, entries, idle)
+}
+
+// Whether an object goes where the hand passes: it may leave, and isn't marked.
+fn may_go(p: &Parts, s: Short, pinned: &Pinned) -> bool
+    requires parts { IsParts p.now }
+    requires short { is_short s.0 ≡ true }
+    requires within { s.0 < bound_of p.now.names.table }
+    ensures body { IsTrue result → (at : ℕ) × (place_of ((core_of p.now).entries s.0).state ≡ Some at) }
+    ensures loose { IsTrue result → is_among pinned.now.a pinned.now.b pinned.now.d s.0 ≡ false }
+{
+    if p.names.table.entry(s).flags.marked {
+        return false;
+    }
+    may_leave(p, s, pinned)
+}
+
+// Evicts an object at which the hand is, if it goes. Answers how many idle leaves are reckoned.
+fn pass<H: Host>(
+    p: &mut Parts,
+    disk: &mut DiskObjects<'_, H>,
+    buf: &mut RecordBuf,
+    s: Short,
+    words: u32,
+    entries: u16,
+    pinned: &Pinned,
+    idle: u32,
+) -> Result<u32, DiskFault>
+    requires parts { IsParts p.old }
+    requires tight { IsTight (core_of p.old) }
+    requires marks { AreHere (core_of p.old) }
+    requires short { is_short s.0 ≡ true }
+    requires within { s.0 < bound_of p.old.names.table }
+    requires sound { HasSound H.Host p.old disk.old.host.now disk.old.rest }
+    requires counted { IsTrue (H.tells Role.Work) → disk_held disk.old.rest + fresh_of (core_of p.old) ≤ disk_room disk.old.rest }
+    ensures parts { IsParts p.new }
+    ensures tight { IsTight (core_of p.new) }
+    ensures purged { IsPurged pinned.now.a pinned.now.b pinned.now.d (core_of p.old) (core_of p.new) }
+    ensures sound { IsTrue (H.tells Role.Work) → OnOk result (KeepsSound H.Host p.old disk.old.host.now disk.old.rest p.new disk.new.host.now disk.new.rest) }
+    ensures marks { LeavesMarks (core_of p.old) (core_of p.new) }
+    ensures minds { OnOk result (MindsMarks (core_of p.old) (core_of p.new)) }
+    ensures here { AreHere (core_of p.new) }
+    ensures size { size_of p.new.segment ≡ size_of p.old.segment }
+    ensures limit { disk_room disk.new.rest ≡ disk_room disk.old.rest }
+    ensures work { IsWorkOnly H.Host disk.old.host.now disk.new.host.now }
+    ensures same_host { disk.new.host.ghost_name ≡ disk.old.host.ghost_name }
+    ensures fault { IfErr result (IsPurgeFault H.Host disk.old.host.now disk.new.host.now) }
+{
+    if !may_go(p, s, pinned) {
+        return Ok(idle);
+    }
+    evict_one(p, disk, buf, s, words, entries, idle)
+}
+
+// The entry at which the hand is. The hand moves on, and behind the last entry to the first.
+fn next_entry(p: &Parts, hand: &mut u16) -> Short
+    requires some { 0 < entries_of p.now.names.table }
+    ensures short { is_short result.0 ≡ true }
+    ensures within { result.0 < bound_of p.now.names.table }
+{
+    let at = if *hand < p.names.table.entries() {
+        *hand
+    } else {
+        0
+    };
+    *hand = at + 1;
+    Short(2 * at + 2)
+}
+
+// Whether a round ends: there is room, and the hand went over no entry, or over so many.
+fn has_turned(p: &Parts, words: u32, entries: u16, passed: u16, part: u16) -> bool {
+    if passed > 0 && passed < part {
+        return false;
+    }
+    has_room(p, words, entries)
+}
+
+// The hand goes on over the table, at most once round it, while there is no room. Where it has to go, it goes over a part of the table at
+// least, so that the table is swept for idle leaves, and bodies are moved together, once for many objects.
+fn go_round<H: Host>(
+    p: &mut Parts,
+    disk: &mut DiskObjects<'_, H>,
+    buf: &mut RecordBuf,
+    words: u32,
+    entries: u16,
+    pinned: &Pinned,
+    hand: &mut u16,
+) -> Result<(), DiskFault>
+    requires parts { IsParts p.old }
+    requires tight { IsTight (core_of p.old) }
+    requires marks { AreHere (core_of p.old) }
+    requires sound { HasSound H.Host p.old disk.old.host.now disk.old.rest }
+    requires counted { IsTrue (H.tells Role.Work) → disk_held disk.old.rest + fresh_of (core_of p.old) ≤ disk_room disk.old.rest }
+    ensures parts { IsParts p.new }
+    ensures tight { IsTight (core_of p.new) }
+    ensures purged { IsPurged pinned.now.a pinned.now.b pinned.now.d (core_of p.old) (core_of p.new) }
+    ensures sound { IsTrue (H.tells Role.Work) → OnOk result (KeepsSound H.Host p.old disk.old.host.now disk.old.rest p.new disk.new.host.now disk.new.rest) }
+    ensures marks { LeavesMarks (core_of p.old) (core_of p.new) }
+    ensures minds { OnOk result (MindsMarks (core_of p.old) (core_of p.new)) }
+    ensures here { AreHere (core_of p.new) }
+    ensures size { size_of p.new.segment ≡ size_of p.old.segment }
+    ensures limit { disk_room disk.new.rest ≡ disk_room disk.old.rest }
+    ensures work { IsWorkOnly H.Host disk.old.host.now disk.new.host.now }
+    ensures same_host { disk.new.host.ghost_name ≡ disk.old.host.ghost_name }
+    ensures fault { IfErr result (IsPurgeFault H.Host disk.old.host.now disk.new.host.now) }
+{
+    let mut idle = 0;
+    for i in 0..p.names.table.entries() {
+        if has_turned(p, words, entries, i, p.names.table.entries() / ROUND_PARTS) {
+            return Ok(());
+        }
+        let s = next_entry(p, hand);
+        idle = pass(p, disk, buf, s, words, entries, pinned, idle)?;
+    }
+    Ok(())
 }
 
 // The end of a purge: the idle leaves are given up, and there is room or nothing more can go.
@@ -314,8 +464,9 @@ fn last_room<H: Host>(
     }
 }
 
-// Makes room where there is none: once through the table, which is swept for idle leaves when they are room enough, and at the end.
-fn purge<H: Host>(
+// Makes room where a round made none: once through the table from its first entry on, marked objects too, until there is room or nothing
+// more can go.
+fn clear_out<H: Host>(
     p: &mut Parts,
     disk: &mut DiskObjects<'_, H>,
     buf: &mut RecordBuf,
@@ -353,8 +504,50 @@ fn purge<H: Host>(
     last_room(p, disk, words, entries, pinned)
 }
 
+// Makes room where there is none: by a round of the hand, or by clearing out what may leave.
+fn purge<H: Host>(
+    p: &mut Parts,
+    disk: &mut DiskObjects<'_, H>,
+    buf: &mut RecordBuf,
+    words: u32,
+    entries: u16,
+    pinned: &Pinned,
+    hand: &mut u16,
+) -> Result<(), RoomFault>
+    requires parts { IsParts p.old }
+    requires tight { IsTight (core_of p.old) }
+    requires marks { AreHere (core_of p.old) }
+    requires sound { HasSound H.Host p.old disk.old.host.now disk.old.rest }
+    requires counted { IsTrue (H.tells Role.Work) → disk_held disk.old.rest + fresh_of (core_of p.old) ≤ disk_room disk.old.rest }
+    ensures parts { IsParts p.new }
+    ensures tight { IsTight (core_of p.new) }
+    ensures purged { IsPurged pinned.now.a pinned.now.b pinned.now.d (core_of p.old) (core_of p.new) }
+    ensures room { OnOk result ((words ≤ largest_of p.new.segment) × (entries ≤ spare_of p.new)) }
+    ensures short { IfErr result (λ f. OnShort f (IsShort p.new pinned.now.a pinned.now.b pinned.now.d words entries)) }
+    ensures sound { IsTrue (H.tells Role.Work) → Undisturbed result (KeepsSound H.Host p.old disk.old.host.now disk.old.rest p.new disk.new.host.now disk.new.rest) }
+    ensures marks { LeavesMarks (core_of p.old) (core_of p.new) }
+    ensures minds { Undisturbed result (MindsMarks (core_of p.old) (core_of p.new)) }
+    ensures here { AreHere (core_of p.new) }
+    ensures size { size_of p.new.segment ≡ size_of p.old.segment }
+    ensures limit { disk_room disk.new.rest ≡ disk_room disk.old.rest }
+    ensures work { IsWorkOnly H.Host disk.old.host.now disk.new.host.now }
+    ensures same_host { disk.new.host.ghost_name ≡ disk.old.host.ghost_name }
+    ensures fault { IfErr result (λ f. OnDisk f (IsPurgeFault H.Host disk.old.host.now disk.new.host.now)) }
+{
+    match go_round(p, disk, buf, words, entries, pinned, hand) {
+        Ok(()) => {}
+        Err(f) => return Err(RoomFault::Disk(f)),
+    }
+    if has_room(p, words, entries) {
+        gather(p, words);
+        return Ok(());
+    }
+    clear_out(p, disk, buf, words, entries, pinned)
+}
+
 /// Makes room: so many words and entries are free after it, the words as one chunk, and three objects stay in the core. Where that many
 /// were free before, it succeeds, no body goes and Work isn't touched. Short only where nothing more can go and that many aren't free.
+/// `hand` is where in the table what goes is looked for first, and moves on; any number will do.
 pub fn make_room<H: Host>(
     p: &mut Parts,
     disk: &mut DiskObjects<'_, H>,
@@ -362,6 +555,7 @@ pub fn make_room<H: Host>(
     words: u32,
     entries: u16,
     pinned: &Pinned,
+    hand: &mut u16,
 ) -> Result<(), RoomFault>
     requires parts { IsParts p.old }
     requires tight { IsTight (core_of p.old) }
@@ -395,7 +589,7 @@ pub fn make_room<H: Host>(
         return Ok(());
     }
     match free_idle(p, disk) {
-        Ok(()) => purge(p, disk, buf, words, entries, pinned),
+        Ok(()) => purge(p, disk, buf, words, entries, pinned, hand),
         Err(f) => Err(RoomFault::Disk(f)),
     }
 }

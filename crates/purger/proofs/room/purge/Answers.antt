@@ -1,103 +1,61 @@
-use Rattle.std.proofs.Common.{inl, inr, refl, sym, subst, ◌∙◌, arith, ⊎_elim}
-use Rattle.core_view.proofs.Core.{placed-used}
-use Rattle.core_view.proofs.Purge.{Purged-refl, Purged-trans, gone-first, gone-more}
-use Rattle.leaf_lambda.specs.declared.parts.Parts.{Parts}
+use Rattle.std.proofs.Common.{◌∙◌, arith}
+use Rattle.core_view.proofs.Purge.{Purged-trans}
 use Rattle.leaf_lambda.specs.Parts.{core_of}
-use Rattle.purger.specs.Purge.{HasRoom}
-use Rattle.purger.proofs.MarkLaws.{Marks-trans, Marks-same, Kept-refl}
-use Rattle.purger.proofs.MindLaws.{minds-kept, minds-refl, minds-trans, purged-came}
-use Rattle.purger.proofs.RoomLaws.{bound-entries, disk-later, undisturbed-map, undisturbed-of, work-refl, work-trans}
-use Rattle.purger.proofs.SoundLaws.{has-after, has-number, sound-refl, sound-trans}
+use Rattle.purger.proofs.MarkLaws.{Marks-same, Marks-trans}
+use Rattle.purger.proofs.MindLaws.{minds-kept, minds-trans, purged-came}
+use Rattle.purger.proofs.RoomLaws.{work-trans, undisturbed-map, disk-later}
+use Rattle.purger.proofs.SoundLaws.{has-after, has-number, quiet-keeps, sound-trans}
 use Rattle.purger.proofs.room.purge.Goals as goal
 
-pub loop-i-init : goal.loop-i-init
-loop-i-init g c = record {
-  parts = c.requires.parts;
-  tight = c.requires.tight;
-  purged = Purged-refl c.args.pinned.now.a c.args.pinned.now.b c.args.pinned.now.d (core_of c.args.p.now);
-  gone = inr (λ s at low place. gone-first (core_of c.args.p.now) c.args.pinned.now.a c.args.pinned.now.b c.args.pinned.now.d s at c.requires.parts.core (omega arith) place);
-  sound = λ told. sound-refl g.H.Host c.args.p.now c.args.disk.now.host.now c.args.disk.now.rest;
-  marks = Marks-same (core_of c.args.p.now) (core_of c.args.p.now) (Kept-refl (core_of c.args.p.now));
-  minds = minds-refl (core_of c.args.p.now);
-  here = c.requires.marks;
-  size = refl;
-  entries = refl;
-  limit = refl;
-  work = work-refl g.H.Host c.args.disk.now.host.now;
-  same_host = refl;
-}
+pub returns-in-Err-clause-fault : goal.returns-in-Err-clause-fault
+returns-in-Err-clause-fault g c = c.in-Err.ensures.fault
 
-pub evict_more-requires-clause-within : goal.evict_more-requires-clause-within
-evict_more-requires-clause-within g c = let low = c.loop-i-test.true in let all = c.entries-i-end.ensures.entries in let same = c.loop-i.invariant.entries in omega arith
+pub returns-then-has_room-clause-purged : goal.returns-then-has_room-clause-purged
+returns-then-has_room-clause-purged g c = Purged-trans c.args.pinned.now.a c.args.pinned.now.b c.args.pinned.now.d (core_of c.args.p.now) (core_of c.go_round.new.p) (core_of c.gather.new.p) c.go_round.ensures.purged (c.gather.ensures.purged c.args.pinned.now.a c.args.pinned.now.b c.args.pinned.now.d)
 
-pub evict_more-requires-clause-sound : goal.evict_more-requires-clause-sound
-evict_more-requires-clause-sound g c = has-after g.H.Host c.args.p.now c.loop-i.p c.args.disk.now.host.now c.loop-i.disk.host.now c.args.disk.now.rest c.loop-i.disk.rest c.requires.sound c.loop-i.invariant.sound
+pub returns-then-has_room-clause-sound : goal.returns-then-has_room-clause-sound
+returns-then-has_room-clause-sound g c = λ told. sound-trans g.H.Host c.args.p.now c.go_round.new.p c.gather.new.p c.args.disk.now.host.now c.go_round.new.disk.host.now c.go_round.new.disk.host.now c.args.disk.now.rest c.go_round.new.disk.rest c.go_round.new.disk.rest (c.in-Ok.ensures.sound told)
+    (quiet-keeps g.H.Host c.go_round.new.p c.gather.new.p c.go_round.new.disk.host.now c.go_round.new.disk.rest c.gather.ensures.parts c.gather.ensures.stays c.gather.ensures.counts)
 
-pub evict_more-requires-clause-counted : goal.evict_more-requires-clause-counted
-evict_more-requires-clause-counted g c = λ told. let same = has-number g.H.Host c.args.p.now c.loop-i.p c.args.disk.now.host.now c.loop-i.disk.host.now c.args.disk.now.rest c.loop-i.disk.rest c.requires.sound told (c.loop-i.invariant.sound told) in let room = c.loop-i.invariant.limit in let most = c.requires.counted told in omega arith
+pub returns-then-has_room-clause-marks : goal.returns-then-has_room-clause-marks
+returns-then-has_room-clause-marks g c = Marks-trans (core_of c.args.p.now) (core_of c.go_round.new.p) (core_of c.gather.new.p) c.go_round.ensures.marks (Marks-same (core_of c.go_round.new.p) (core_of c.gather.new.p) c.gather.ensures.marks)
 
-pub returns-in-Err-clause-purged : goal.returns-in-Err-clause-purged
-returns-in-Err-clause-purged g c = Purged-trans c.args.pinned.now.a c.args.pinned.now.b c.args.pinned.now.d (core_of c.args.p.now) (core_of c.loop-i.p) (core_of c.evict_more.new.p) c.loop-i.invariant.purged c.evict_more.ensures.purged
+pub returns-then-has_room-clause-size : goal.returns-then-has_room-clause-size
+returns-then-has_room-clause-size g c = c.gather.ensures.size ∙ c.go_round.ensures.size
 
-pub returns-in-Err-clause-marks : goal.returns-in-Err-clause-marks
-returns-in-Err-clause-marks g c = Marks-trans (core_of c.args.p.now) (core_of c.loop-i.p) (core_of c.evict_more.new.p) c.loop-i.invariant.marks c.evict_more.ensures.marks
+pub clear_out-requires-clause-sound : goal.clear_out-requires-clause-sound
+clear_out-requires-clause-sound g c = has-after g.H.Host c.args.p.now c.go_round.new.p c.args.disk.now.host.now c.go_round.new.disk.host.now c.args.disk.now.rest c.go_round.new.disk.rest c.requires.sound (λ told. c.in-Ok.ensures.sound told)
 
-pub returns-in-Err-clause-work : goal.returns-in-Err-clause-work
-returns-in-Err-clause-work g c = work-trans g.H.Host c.args.disk.now.host.now c.loop-i.disk.host.now c.evict_more.new.disk.host.now c.loop-i.invariant.work c.evict_more.ensures.work
-
-pub loop-i-preserved : goal.loop-i-preserved
-loop-i-preserved g c =
-    let i = c.loop-i.invariant in
-    let e = c.evict_more.ensures in
-    let r = c.in-Ok.ensures in
-    record {
-      parts = e.parts;
-      tight = e.tight;
-      purged = Purged-trans c.args.pinned.now.a c.args.pinned.now.b c.args.pinned.now.d (core_of c.args.p.now) (core_of c.loop-i.p) (core_of c.evict_more.new.p) i.purged e.purged;
-      gone = ⊎_elim (λ has. inl (subst (λ (p : Parts). HasRoom p c.args.words c.args.entries) (sym (e.needless has).1) has)) (λ before. ⊎_elim (λ has. inl has) (λ here. inr (λ s at low place. gone-more c.args.pinned.now.a c.args.pinned.now.b c.args.pinned.now.d c.loop-i.i s at (core_of c.loop-i.p) (core_of c.evict_more.new.p) e.parts.core e.purged before here low place)) r.gone) i.gone;
-      sound = λ told. sound-trans g.H.Host c.args.p.now c.loop-i.p c.evict_more.new.p c.args.disk.now.host.now c.loop-i.disk.host.now c.evict_more.new.disk.host.now c.args.disk.now.rest c.loop-i.disk.rest c.evict_more.new.disk.rest (i.sound told) (r.sound told);
-      marks = Marks-trans (core_of c.args.p.now) (core_of c.loop-i.p) (core_of c.evict_more.new.p) i.marks e.marks;
-      minds = minds-trans (core_of c.args.p.now) (core_of c.loop-i.p) (core_of c.evict_more.new.p) i.minds r.minds;
-      here = e.here;
-      size = e.size ∙ i.size;
-      entries = bound-entries c.loop-i.p c.evict_more.new.p e.purged.bound ∙ i.entries;
-      limit = e.limit ∙ i.limit;
-      work = work-trans g.H.Host c.args.disk.now.host.now c.loop-i.disk.host.now c.evict_more.new.disk.host.now i.work e.work;
-      same_host = e.same_host ∙ i.same_host;
-    }
-
-pub last_room-requires-clause-gone : goal.last_room-requires-clause-gone
-unfolding core_of
-last_room-requires-clause-gone g c = ⊎_elim (λ has. inl has)
-    (λ gone. inr (λ s at place. gone s at (let low = c.loop-i.invariant.parts.core.within s (placed-used ((core_of c.loop-i.p).entries s).state at place) in let end = c.loop-i-test.false in let all = c.entries-i-end.ensures.entries in let same = c.loop-i.invariant.entries in omega arith) place)) c.loop-i.invariant.gone
-
-pub last_room-requires-clause-sound : goal.last_room-requires-clause-sound
-last_room-requires-clause-sound g c = has-after g.H.Host c.args.p.now c.loop-i.p c.args.disk.now.host.now c.loop-i.disk.host.now c.args.disk.now.rest c.loop-i.disk.rest c.requires.sound c.loop-i.invariant.sound
+pub clear_out-requires-clause-counted : goal.clear_out-requires-clause-counted
+clear_out-requires-clause-counted g c = λ told. let same = has-number g.H.Host c.args.p.now c.go_round.new.p c.args.disk.now.host.now c.go_round.new.disk.host.now c.args.disk.now.rest c.go_round.new.disk.rest c.requires.sound told (c.in-Ok.ensures.sound told) in let room = c.go_round.ensures.limit in let most = c.requires.counted told in omega arith
 
 pub returns-clause-purged : goal.returns-clause-purged
-returns-clause-purged g c = Purged-trans c.args.pinned.now.a c.args.pinned.now.b c.args.pinned.now.d (core_of c.args.p.now) (core_of c.loop-i.p) (core_of c.last_room.new.p) c.loop-i.invariant.purged (c.last_room.ensures.purged c.args.pinned.now.a c.args.pinned.now.b c.args.pinned.now.d)
+returns-clause-purged g c = Purged-trans c.args.pinned.now.a c.args.pinned.now.b c.args.pinned.now.d (core_of c.args.p.now) (core_of c.go_round.new.p) (core_of c.clear_out.new.p) c.go_round.ensures.purged c.clear_out.ensures.purged
 
 pub returns-clause-sound : goal.returns-clause-sound
-returns-clause-sound g c = λ told. undisturbed-map c.last_room.result (λ last. sound-trans g.H.Host c.args.p.now c.loop-i.p c.last_room.new.p c.args.disk.now.host.now c.loop-i.disk.host.now c.last_room.new.disk.host.now c.args.disk.now.rest c.loop-i.disk.rest c.last_room.new.disk.rest (c.loop-i.invariant.sound told) last) (c.last_room.ensures.sound told)
+returns-clause-sound g c = λ told. undisturbed-map c.clear_out.result (λ last. sound-trans g.H.Host c.args.p.now c.go_round.new.p c.clear_out.new.p c.args.disk.now.host.now c.go_round.new.disk.host.now c.clear_out.new.disk.host.now c.args.disk.now.rest c.go_round.new.disk.rest c.clear_out.new.disk.rest (c.in-Ok.ensures.sound told) last) (c.clear_out.ensures.sound told)
 
 pub returns-clause-marks : goal.returns-clause-marks
-returns-clause-marks g c = Marks-trans (core_of c.args.p.now) (core_of c.loop-i.p) (core_of c.last_room.new.p) c.loop-i.invariant.marks (Marks-same (core_of c.loop-i.p) (core_of c.last_room.new.p) c.last_room.ensures.marks)
+returns-clause-marks g c = Marks-trans (core_of c.args.p.now) (core_of c.go_round.new.p) (core_of c.clear_out.new.p) c.go_round.ensures.marks c.clear_out.ensures.marks
 
 pub returns-clause-size : goal.returns-clause-size
-returns-clause-size g c = c.last_room.ensures.size ∙ c.loop-i.invariant.size
+returns-clause-size g c = c.clear_out.ensures.size ∙ c.go_round.ensures.size
 
 pub returns-clause-limit : goal.returns-clause-limit
-returns-clause-limit g c = c.last_room.ensures.limit ∙ c.loop-i.invariant.limit
+returns-clause-limit g c = c.clear_out.ensures.limit ∙ c.go_round.ensures.limit
 
 pub returns-clause-work : goal.returns-clause-work
-returns-clause-work g c = work-trans g.H.Host c.args.disk.now.host.now c.loop-i.disk.host.now c.last_room.new.disk.host.now c.loop-i.invariant.work c.last_room.ensures.work
+returns-clause-work g c = work-trans g.H.Host c.args.disk.now.host.now c.go_round.new.disk.host.now c.clear_out.new.disk.host.now c.go_round.ensures.work c.clear_out.ensures.work
 
 pub returns-clause-same_host : goal.returns-clause-same_host
-returns-clause-same_host g c = c.last_room.ensures.same_host ∙ c.loop-i.invariant.same_host
+returns-clause-same_host g c = c.clear_out.ensures.same_host ∙ c.go_round.ensures.same_host
 
 pub returns-clause-fault : goal.returns-clause-fault
-returns-clause-fault g c = disk-later g.H.Host c.args.disk.now.host.now c.loop-i.disk.host.now c.last_room.new.disk.host.now c.last_room.result c.loop-i.invariant.work.later c.last_room.ensures.fault
+returns-clause-fault g c = disk-later g.H.Host c.args.disk.now.host.now c.go_round.new.disk.host.now c.clear_out.new.disk.host.now c.clear_out.result c.go_round.ensures.work.later c.clear_out.ensures.fault
+
+pub returns-then-has_room-clause-minds : goal.returns-then-has_room-clause-minds
+returns-then-has_room-clause-minds g c = minds-trans (core_of c.args.p.now) (core_of c.go_round.new.p) (core_of c.gather.new.p) c.in-Ok.ensures.minds
+    (minds-kept (core_of c.go_round.new.p) (core_of c.gather.new.p) (purged-came (core_of c.go_round.new.p) (core_of c.gather.new.p) c.gather.ensures.purged) c.gather.ensures.marks)
 
 pub returns-clause-minds : goal.returns-clause-minds
-returns-clause-minds g c = undisturbed-of c.last_room.result (minds-trans (core_of c.args.p.now) (core_of c.loop-i.p) (core_of c.last_room.new.p) c.loop-i.invariant.minds
-    (minds-kept (core_of c.loop-i.p) (core_of c.last_room.new.p) (purged-came (core_of c.loop-i.p) (core_of c.last_room.new.p) c.last_room.ensures.purged) c.last_room.ensures.marks))
+returns-clause-minds g c = undisturbed-map c.clear_out.result (λ last. minds-trans (core_of c.args.p.now) (core_of c.go_round.new.p) (core_of c.clear_out.new.p) c.in-Ok.ensures.minds last) c.clear_out.ensures.minds

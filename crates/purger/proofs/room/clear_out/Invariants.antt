@@ -12,7 +12,7 @@ use Rattle.leaf_lambda.specs.Parts.{core_of, IsParts}
 use Rattle.purger.specs.Counts.{KeepsSound}
 use Rattle.purger.specs.Marks.{AreHere, LeavesMarks, MindsMarks}
 use Rattle.purger.specs.Purge.{HasRoom}
-use Rattle.purger.proofs.room.purge.Given as goal
+use Rattle.purger.proofs.room.clear_out.Given as goal
 
 abbrev pub invariant-loop-i : goal.invariant-loop-i
 invariant-loop-i g l = record {

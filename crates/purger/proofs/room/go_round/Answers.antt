@@ -1,0 +1,70 @@
+use Rattle.std.proofs.Common.{refl, ◌∙◌, arith}
+use Rattle.loom_outside.proofs.WorkLaws.{exits}
+use Rattle.core_view.proofs.Purge.{Purged-refl, Purged-trans}
+use Rattle.leaf_lambda.specs.Parts.{core_of}
+use Rattle.purger.specs.Purge.{IsPurgeFault}
+use Rattle.purger.proofs.MarkLaws.{Marks-trans, Marks-same, Kept-refl}
+use Rattle.purger.proofs.GivingLaws.{purge-later}
+use Rattle.purger.proofs.MindLaws.{minds-refl, minds-trans}
+use Rattle.purger.proofs.RoomLaws.{bound-entries, work-refl, work-trans}
+use Rattle.purger.proofs.SoundLaws.{has-after, has-number, sound-refl, sound-trans}
+use Rattle.purger.proofs.room.go_round.Goals as goal
+
+pub loop-i-init : goal.loop-i-init
+loop-i-init g c = record {
+  parts = c.requires.parts;
+  tight = c.requires.tight;
+  purged = Purged-refl c.args.pinned.now.a c.args.pinned.now.b c.args.pinned.now.d (core_of c.args.p.now);
+  sound = λ told. sound-refl g.H.Host c.args.p.now c.args.disk.now.host.now c.args.disk.now.rest;
+  marks = Marks-same (core_of c.args.p.now) (core_of c.args.p.now) (Kept-refl (core_of c.args.p.now));
+  minds = minds-refl (core_of c.args.p.now);
+  here = c.requires.marks;
+  size = refl;
+  entries = refl;
+  limit = refl;
+  work = work-refl g.H.Host c.args.disk.now.host.now;
+  same_host = refl;
+}
+
+pub next_entry-s-requires : goal.next_entry-s-requires
+next_entry-s-requires g c = let low = c.loop-i-test.true in let all = c.entries-i-end.ensures.entries in let same = c.loop-i.invariant.entries in omega arith
+
+pub pass-requires-clause-sound : goal.pass-requires-clause-sound
+pass-requires-clause-sound g c = has-after g.H.Host c.args.p.now c.loop-i.p c.args.disk.now.host.now c.loop-i.disk.host.now c.args.disk.now.rest c.loop-i.disk.rest c.requires.sound c.loop-i.invariant.sound
+
+pub pass-requires-clause-counted : goal.pass-requires-clause-counted
+pass-requires-clause-counted g c = λ told. let same = has-number g.H.Host c.args.p.now c.loop-i.p c.args.disk.now.host.now c.loop-i.disk.host.now c.args.disk.now.rest c.loop-i.disk.rest c.requires.sound told (c.loop-i.invariant.sound told) in let room = c.loop-i.invariant.limit in let most = c.requires.counted told in omega arith
+
+pub returns-in_err-idle-clause-purged : goal.returns-in_err-idle-clause-purged
+returns-in_err-idle-clause-purged g c = Purged-trans c.args.pinned.now.a c.args.pinned.now.b c.args.pinned.now.d (core_of c.args.p.now) (core_of c.loop-i.p) (core_of c.pass.new.p) c.loop-i.invariant.purged c.pass.ensures.purged
+
+pub returns-in_err-idle-clause-marks : goal.returns-in_err-idle-clause-marks
+returns-in_err-idle-clause-marks g c = Marks-trans (core_of c.args.p.now) (core_of c.loop-i.p) (core_of c.pass.new.p) c.loop-i.invariant.marks c.pass.ensures.marks
+
+pub returns-in_err-idle-clause-work : goal.returns-in_err-idle-clause-work
+returns-in_err-idle-clause-work g c = work-trans g.H.Host c.args.disk.now.host.now c.loop-i.disk.host.now c.pass.new.disk.host.now c.loop-i.invariant.work c.pass.ensures.work
+
+pub returns-in_err-idle-clause-fault : goal.returns-in_err-idle-clause-fault
+returns-in_err-idle-clause-fault g c =
+    exits c.from_residual.result c.in_err-idle.field-0.0 (IsPurgeFault g.H.Host c.args.disk.now.host.now c.pass.new.disk.host.now) c.from_residual.ensures.1
+    (purge-later g.H.Host c.args.disk.now.host.now c.loop-i.disk.host.now c.pass.new.disk.host.now c.in_err-idle.field-0.0 c.loop-i.invariant.work.later c.in_err-idle.ensures.fault)
+
+pub loop-i-preserved : goal.loop-i-preserved
+loop-i-preserved g c =
+    let i = c.loop-i.invariant in
+    let e = c.pass.ensures in
+    let r = c.in_ok-idle.ensures in
+    record {
+      parts = e.parts;
+      tight = e.tight;
+      purged = Purged-trans c.args.pinned.now.a c.args.pinned.now.b c.args.pinned.now.d (core_of c.args.p.now) (core_of c.loop-i.p) (core_of c.pass.new.p) i.purged e.purged;
+      sound = λ told. sound-trans g.H.Host c.args.p.now c.loop-i.p c.pass.new.p c.args.disk.now.host.now c.loop-i.disk.host.now c.pass.new.disk.host.now c.args.disk.now.rest c.loop-i.disk.rest c.pass.new.disk.rest (i.sound told) (r.sound told);
+      marks = Marks-trans (core_of c.args.p.now) (core_of c.loop-i.p) (core_of c.pass.new.p) i.marks e.marks;
+      minds = minds-trans (core_of c.args.p.now) (core_of c.loop-i.p) (core_of c.pass.new.p) i.minds r.minds;
+      here = e.here;
+      size = e.size ∙ i.size;
+      entries = bound-entries c.loop-i.p c.pass.new.p e.purged.bound ∙ i.entries;
+      limit = e.limit ∙ i.limit;
+      work = work-trans g.H.Host c.args.disk.now.host.now c.loop-i.disk.host.now c.pass.new.disk.host.now i.work e.work;
+      same_host = e.same_host ∙ i.same_host;
+    }
