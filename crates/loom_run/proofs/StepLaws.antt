@@ -1,5 +1,5 @@
 -- What the steps that read an image and save one leave of a host, and why they are refused.
-use Rattle.std.proofs.Common.{◌≡◌, ◌≢◌, ℕ, ◌≤◌, Bool, true, false, List, [], ◌++◌, None, Some, Result, IsTrue, inl, inr, refl, sym, ◌∙◌, ap, subst, length, take, drop, take-append-drop, append_assoc, arith}
+use Rattle.std.proofs.Common.{◌≡◌, ◌≢◌, ℕ, ◌≤◌, Bool, true, false, List, [], ◌++◌, None, Some, Result, Ok, Err, OnOk, OnErr, IsTrue, inl, inr, refl, sym, ◌∙◌, ap, subst, length, take, drop, take-append-drop, append_assoc, arith}
 use Rattle.std.specs.Prelude.{is_ok}
 use Rattle.std.proofs.Math.Seq.{take-length}
 use Rattle.std.specs.Result.{IsErrAnd}
@@ -11,13 +11,14 @@ use Rattle.loom_outside.specs.declared.outside.DiskFault.TheVariants as disk
 use Rattle.loom_outside.specs.declared.outside.Host.{Ghosts}
 use Rattle.loom_outside.specs.declared.outside.Role.{Role}
 use Rattle.loom_outside.specs.declared.outside.Role.TheVariants.{Image, Work, Saved}
-use Rattle.loom_outside.specs.Outside.{IsFresh, PutPrefix, RoleState, SameBut, TookSome, holds, puts, takes}
+use Rattle.loom_outside.specs.Outside.{IsFresh, PutPrefix, RoleState, SameBut, TookSome, ends, holds, puts, takes}
 use Rattle.event_file.specs.Text.{IsBadAt}
 use Rattle.image_reader.specs.declared.fault.LoadFault.TheVariants as load
 use Rattle.image_reader.specs.Frames.{IsLoading}
 use Rattle.image_reader.specs.Loaded.{IsLoadFault, full_of}
 use Rattle.image_writer.specs.Puts as writer
 use Rattle.loom_run.specs.Ends.{JudgesImage, WasBegun, WasRefused, WasWritten, WrittenBy, bytes_of}
+use Rattle.loom_run.specs.Makes.{MadeBy}
 use Rattle.loom_run.specs.Meanings.{LeavesBut, meanings}
 use Rattle.loom_run.specs.Parts.{status_by_disk}
 use Rattle.loom_run.specs.Stages.{Reading, Saving, roles_at}
@@ -114,6 +115,7 @@ written-from text bytes a b c opened same = record {
   attaches = ap (λ (s : RoleState). s.attaches) same ∙ opened.attaches;
   name = ap (λ (s : RoleState). s.name) same ∙ opened.name;
   put = ap (λ (s : RoleState). s.put) same ∙ ap (λ t. t ++ bytes) opened.put;
+  unended = ap (λ (s : RoleState). s.ended) same ∙ opened.unended;
 }
 
 pub begun-from : (text bytes : List ℕ) (a b c : RoleState) → WasWritten text [] a b → PutPrefix bytes b c → WasBegun text bytes a c
@@ -123,8 +125,14 @@ begun-from text bytes a b c opened part = (part.0, part.1, written-from text (ta
 pub begun-whole : (text bytes : List ℕ) (a b c : RoleState) → WasWritten text bytes a b → c ≡ b → WasBegun text bytes a c
 begun-whole text bytes a b c whole same = (length bytes, omega arith, rw take-length (subst (WasWritten text bytes a) (sym same) whole))
 
-pub begun-written : {T E : Type 0} (text bytes : List ℕ) (a b : RoleState) (r : Result T E) (e : E) → IsErrAnd r (λ y. y ≡ e) → WasBegun text bytes a b → WrittenBy (is_ok r) text bytes a b
-begun-written text bytes a b r e is begun = let q = err_from_is_err_and r is in subst (λ x. WrittenBy (is_ok x) text bytes a b) (sym q.1) (inr begun)
+-- and where it was ended too
+pub made-by : {T E : Type 0} (text bytes : List ℕ) (a b c : RoleState) (r : Result T E) → WasWritten text bytes a b → OnOk r (c ≡ ends b) → OnErr r (c ≡ b) → MadeBy (is_ok r) text bytes a c
+made-by text bytes a b c (Ok x) whole ended still = (b, whole, ended)
+made-by text bytes a b c (Err e) whole ended still = inr (begun-whole text bytes a b c whole still)
+
+-- the answer of a `?` is no making
+pub not-made : {T E : Type 0} (text bytes : List ℕ) (a b : RoleState) (r : Result T E) (e : E) → IsErrAnd r (λ y. y ≡ e) → WrittenBy false text bytes a b → MadeBy (is_ok r) text bytes a b
+not-made text bytes a b r e is left = let q = err_from_is_err_and r is in subst (λ x. MadeBy (is_ok x) text bytes a b) (sym q.1) left
 
 -- the answer of a `?` is no whole writing
 pub not-written : {T : Type 0} (text bytes : List ℕ) (a b : RoleState) (r : Result T Status) (e : Status) → IsErrAnd r (λ y. y ≡ e) → WasRefused text a b → WrittenBy (is_ok r) text bytes a b

@@ -156,11 +156,12 @@ GoesThrough _ c = IsParked c.ending
 abbrev pub failed : Failed
 failed = record {}
 
--- the role was attached once more, by this name, and then these bytes were put to it
+-- the role was attached once more, by this name, and then these bytes were put to it; nothing has ended it
 pub record WasWritten (text bytes : List ℕ) (old new : RoleState) : Type 0 where
   pub attaches : new.attaches ≡ counted old.attaches
   pub name : new.name ≡ Some text
   pub put : new.put ≡ bytes
+  pub unended : new.ended ≡ false
 
 -- and likewise a prefix of these bytes
 abbrev pub WasBegun : List ℕ → List ℕ → RoleState → RoleState → Type 0

@@ -3,10 +3,10 @@ use Rattle.std.specs.Prelude.{◌≡◌, ℕ, Bool, true, false, List, [], ◌�
 use Rattle.long_names.specs.Heap.{object_count}
 use Rattle.image_format.specs.Text.{image_text}
 use Rattle.loom_gen.specs.Generated.{generated}
-use Rattle.loom_outside.specs.Outside.{RoleState, PutPrefix}
+use Rattle.loom_outside.specs.Outside.{RoleState, PutPrefix, ends}
 use Rattle.loom_outside.specs.declared.outside.Role.{Role}
 use Rattle.loom_outside.specs.declared.outside.Role.TheVariants.{Saved, Notes}
-use Rattle.loom_run.specs.Ends.{HasBegun, IsCaused, WrittenBy}
+use Rattle.loom_run.specs.Ends.{HasBegun, IsCaused, WasWritten, WrittenBy}
 use Rattle.loom_run.specs.Meanings.{Meanings, LeavesBut}
 use Rattle.loom_run.specs.Status.{line_of}
 use Rattle.loom_run.specs.Words.{MakeRow, make_of, row_of}
@@ -26,11 +26,17 @@ abbrev pub roles_of : Status → List Role
 roles_of OutOfMemory = Notes ∷ []
 roles_of _ = Saved ∷ Notes ∷ []
 
--- Saved was attached once, by the file's name, and has the image, or a prefix of it where writing it failed.
+-- The role was attached once, by this name; then these bytes were put to it, and then a piece of no bytes, which ends it. Or that failed:
+-- it is as a refused attach leaves it, or has a prefix of them and isn't ended.
+abbrev pub MadeBy : Bool → List ℕ → List ℕ → RoleState → RoleState → Type 0
+MadeBy true text bytes old new = (put : RoleState) × WasWritten text bytes old put × (new ≡ ends put)
+MadeBy false text bytes old new = WrittenBy false text bytes old new
+
+-- Saved was attached once, by the file's name, has the image and is ended. Where that failed it isn't ended, and has a prefix at most.
 abbrev pub SavesImage : Status → MakeRow → RoleState → RoleState → Type 0
 SavesImage OutOfMemory row old new = new ≡ old
-SavesImage (WriteFault Saved count) row old new = WrittenBy false row.file (image_text (generated row.number)) old new
-SavesImage _ row old new = WrittenBy true row.file (image_text (generated row.number)) old new
+SavesImage (WriteFault Saved count) row old new = MadeBy false row.file (image_text (generated row.number)) old new
+SavesImage _ row old new = MadeBy true row.file (image_text (generated row.number)) old new
 
 -- The words of a making gave this answer.
 pub record Makes (tells : Role → Bool) (before now : Meanings) (row : MakeRow) (result : Status) : Type 0 where
