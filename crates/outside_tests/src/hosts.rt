@@ -12,6 +12,8 @@ enum Step {
     Attach(Role, &'static str),
     Misses(Role, &'static str),
     Put(Role, &'static [u8]),
+    // a piece of no bytes
+    PutNone(Role),
     // these bytes are the next, and at the end fewer than asked for
     Take(Role, &'static [u8]),
     End(Role, &'static [u8]),
@@ -38,6 +40,14 @@ fn put<H: Host>(host: &mut H, role: Role, text: &[u8]) -> Result<bool, Failed> {
     }
     write_full(host, role, text)?;
     Ok(true)
+}
+
+fn put_none<H: Host>(host: &mut H, role: Role) -> Result<bool, Failed> {
+    if matches!(role, Role::Image | Role::Events | Role::Work) {
+        return Ok(false);
+    }
+    let n = host.write(role, &[])?;
+    Ok(n == 0)
 }
 
 // Takes as many bytes as a text has, and so many more where it is the end.
@@ -80,6 +90,7 @@ fn run<H: Host>(host: &mut H, step: Step) -> Result<bool, Failed> {
         Step::Attach(role, name) => attach(host, role, name),
         Step::Misses(role, name) => Ok(attach(host, role, name).is_err()),
         Step::Put(role, text) => put(host, role, text),
+        Step::PutNone(role) => put_none(host, role),
         Step::Take(role, text) => take(host, role, text, 0),
         Step::End(role, text) => take(host, role, text, 1),
         Step::WriteAt(place, text) => write_at(host, place, text),
@@ -100,12 +111,13 @@ fn first_wrong<H: Host>(host: &mut H, steps: &[Step]) -> Result<Option<usize>, F
 }
 
 // What holds over files as over memory.
-const STEPS: [Step; 31] = [
+const STEPS: [Step; 33] = [
     Step::Misses(Role::Image, "none"),
     Step::Faults(Role::Image, 1),
     Step::Attach(Role::Saved, "s"),
     Step::Put(Role::Saved, b"abc"),
     Step::Put(Role::Saved, b"def"),
+    Step::PutNone(Role::Saved),
     Step::Attach(Role::Image, "s"),
     Step::Take(Role::Image, b"abcd"),
     Step::Misses(Role::Events, "none"),
@@ -116,6 +128,7 @@ const STEPS: [Step; 31] = [
     Step::Put(Role::Saved, b"x"),
     Step::Attach(Role::Display, "d"),
     Step::Put(Role::Display, b"picture"),
+    Step::PutNone(Role::Display),
     Step::Attach(Role::Events, "s"),
     Step::End(Role::Events, b"abcdef"),
     Step::Attach(Role::Events, "d"),
@@ -276,6 +289,8 @@ fn is_whole(host: &MemoryHost) -> bool {
         && is_file(host, "t", b"x")
         && host.file("w").is_none()
         && host.work_writes() == (3, 3)
+        && host.ended(Role::Display)
+        && !host.ended(Role::Saved)
 }
 
 // Another write to Transcript is told, a read moves a chunk, and there isn't room for everything.
