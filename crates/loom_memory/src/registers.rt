@@ -52,7 +52,11 @@ impl<'h, H: Host> LoomMemory<'h, H> {
         ensures steady { IsSteady H.Host self.old self.new }
         ensures fit { KeepsCallable (IsSound H.Host) (loom_told H.Host) loom_lender (loom_outside H.Host) self.old self.new }
     {
-        self.put_word(to, short_int(v));
+        let w = short_int(v);
+        if self.word_of(to) == w {
+            return;
+        }
+        self.put_word(to, w);
     }
 
     /// The register is copied.
