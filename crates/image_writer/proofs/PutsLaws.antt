@@ -20,7 +20,7 @@ use Rattle.image_writer.specs.Puts.{IsSaveFault, Puts}
 -- ---- one role
 
 abbrev pub with_put : RoleState → List ℕ → RoleState
-with_put s p = record { attaches = s.attaches; name = s.name; taken = s.taken; left = s.left; put = p; contents = s.contents }
+with_put s p = record { attaches = s.attaches; name = s.name; taken = s.taken; left = s.left; put = p; ended = s.ended; contents = s.contents }
 
 pub puts_none : (s : RoleState) → s ≡ puts [] s
 puts_none s = ap (with_put s) (sym (append-nil s.put))
