@@ -31,7 +31,6 @@ use Rattle.core_view.specs.Room.{is_among, room_by, room_for}
 use Rattle.core_view.specs.Steps.{IsAt, IsRefStep}
 use Rattle.core_view.specs.Words.{pointers}
 use Rattle.core_view.proofs.Sums.{sum-same}
-use Rattle.core_view.proofs.Core.{placed-used}
 use Rattle.core_view.proofs.Steps.{outside-used}
 use Rattle.core_view.proofs.Words.{meant-short}
 use Rattle.leaf_lambda.specs.declared.parts.Parts.{Parts}
@@ -42,14 +41,15 @@ use Rattle.purger.specs.declared.room.Pinned.{Pinned}
 use Rattle.purger.proofs.RoomLaws.{all-pinned, none-of, some-of}
 use Rattle.loom_memory.specs.declared.ledger.Ledger.{Ledger}
 use Rattle.loom_memory.specs.declared.memory.LoomMemory.{LoomMemory}
-use Rattle.loom_memory.specs.Memory.{loom_told, word_in, IsCalm, IsQuiet, IsSized, IsSound}
+use Rattle.loom_memory.specs.Memory.{loom_told, word_in, IsCalm, IsQuiet, IsSized, IsSound, IsStill}
 use Rattle.loom_memory.specs.Stores.{IsRecount}
 use Rattle.loom_memory.specs.Says.{IsSpeech}
 use Rattle.loom_memory.specs.Cache.{cache_of, with_its_mark}
 use Rattle.method_cache.specs.Found.{found}
 use Rattle.loom_memory.specs.Residents.{has_body, is_resident, words_resident, fetched}
 use Rattle.loom_memory.specs.Gentle.{Remains, IsGentle, IsGlance, IsPeek, IsResting, IsSteady}
-use Rattle.loom_memory.specs.Own.{HasPlace, HasSpace, IsAtHand, IsHeard, IsReached, IsSearched, IsSearchedChange, IsSparing, IsSparingChange}
+use Rattle.loom_memory.specs.Own.{HasPlace, HasSpace, IsAtHand, IsBrought, IsHeard, IsReached, IsSearched, IsSearchedChange, IsSparing, IsSparingChange, MindsCache}
+use Rattle.loom_memory.proofs.MindLaws.{minds-parts, minds-refl, minds-step, minds-wide, remains-residents}
 use Rattle.loom_memory.proofs.BringLaws.{ref-short}
 use Rattle.loom_memory.proofs.CallLaws.{leaf-words}
 use Rattle.loom_memory.proofs.RegLaws.{kept-rooted, register-held, word-there}
@@ -152,21 +152,6 @@ resident-then {H} host m n of s p sound quiet ref same there =
     let same_ : (loom_told host n).regs of ≡ (loom_told host m).regs of = ap (λ (z : Told). z.regs of) quiet.same in
     ap (λ (v : Value). is_resident n (name_at v)) (sym same_) ∙ resident-at host n of s sound (subst IsRef (sym same_) ref) same ∙ ap (λ (x : Option ℕ). is_some x) there
 
-pub remains-residents : {H : Type 0} (m n : LoomMemory H) → IsCore (core_of m.parts) → IsCore (core_of n.parts) → Remains (core_of m.parts) (core_of n.parts) → (k : ℕ) → IsTrue (is_resident m k) → IsTrue (is_resident n k)
-unfolding is_resident
-remains-residents {H} m n core now remains k here = go ((core_of m.parts).find k) refl here
-  where
-    go : (x : Option ℕ) → (core_of m.parts).find k ≡ x → has_body (core_of m.parts) x ≡ true → has_body (core_of n.parts) ((core_of n.parts).find k) ≡ true
-    go None e here = absurd (cc)
-    go (Some s) e here = at (place_of ((core_of m.parts).entries s).state) refl here
-      where
-        at : (x : Option ℕ) → place_of ((core_of m.parts).entries s).state ≡ x → is_some x ≡ true → has_body (core_of n.parts) ((core_of n.parts).find k) ≡ true
-        at None f here = absurd (cc)
-        at (Some p) f here =
-            let still = remains s p f in
-            let found : (core_of n.parts).find k ≡ Some s = ap (core_of n.parts).find (sym (still.name ∙ core.named k s e)) ∙ now.found s (placed-used ((core_of n.parts).entries s).state still.at still.place) in
-            ap (λ (x : Option ℕ). has_body (core_of n.parts) x) found ∙ ap (λ (x : Option ℕ). is_some x) still.place
-
 -- ---- words
 
 pub bounded-at : {H : Type 0} (host : Ghosts H) (m : LoomMemory H) → IsSound host m → IsLaidOut (chunks_of m.parts.segment) (free_of m.parts.segment) (size_of m.parts.segment) → ForBounds (loom_told host m).bounds (λ b. words_resident m ≤ b.core)
@@ -218,8 +203,8 @@ here-reached {H} host m n there = record {
   comes = λ away. absurd (let both : true ≡ false = sym there ∙ away in cc);
 }
 
-pub here-sparing : {A H : Type 0} (host : Ghosts H) (m : LoomMemory H) (n : ℕ) (x : A) → IsTrue (is_resident m n) → ForBounds (loom_told host m).bounds (λ b. words_resident m ≤ b.core) → IsSparing host m m n (Ok x)
-here-sparing {A} {H} host m n x there bounded = record { reached = here-reached host m n there; sure = tt; bounded = bounded; cached = λ place. refl }
+pub here-sparing : {A H : Type 0} (host : Ghosts H) (m : LoomMemory H) (n : ℕ) (x : A) → IsSound host m → IsTrue (is_resident m n) → ForBounds (loom_told host m).bounds (λ b. words_resident m ≤ b.core) → IsSparing host m m n (Ok x)
+here-sparing {A} {H} host m n x sound there bounded = record { reached = here-reached host m n there; sure = tt; bounded = bounded; cached = λ place. refl; minds = minds-refl host m (IsBrought m m n) sound }
 
 by-place : {H : Type 0} (host : Ghosts H) (m u : LoomMemory H) (n : ℕ) → is_resident m n ≡ false → (IsTrue (host.tells Work) → HasRoom m.parts (words_at (loom_told host m).heap n) 27 → IsGentle host m u) → HasPlace host m n → IsGentle host m u
 by-place {H} host m u n away gentle place = ⊎_elim (λ (h : IsTrue (is_resident m n)). absurd (let both : true ≡ false = sym h ∙ away in cc)) (λ (h : IsTrue (host.tells Work) × HasRoom m.parts (words_at (loom_told host m).heap n) 27). gentle h.0 h.1) place
@@ -234,23 +219,23 @@ come-reached {H} host m u n core sound away there counts gentle = record {
 }
 
 pub come-sparing : {T H P : Type 0} (r : Result T MemFault) (host : Ghosts H) (m u : LoomMemory H) (n : ℕ) → IsCore (core_of m.parts) → KeepsSound r (IsSound host u) → is_resident m n ≡ false → P → OnOk r (IsTrue (is_resident u n)) → OnOk r (ForBounds (loom_told host u).bounds (λ b. words_resident u ≤ b.core)) → OnOk r (P → fetched u ≡ counted (fetched m))
-    → OnOk r (IsTrue (host.tells Work) → P → HasRoom m.parts (words_at (loom_told host m).heap n) 27 → IsGentle host m u) → IsSparing host m u n r
-come-sparing {T} {H} {P} (Ok x) host m u n core sound away leaf there bounded counts gentle =
+    → OnOk r (IsTrue (host.tells Work) → P → HasRoom m.parts (words_at (loom_told host m).heap n) 27 → IsGentle host m u) → OnOk r (MindsCache host None m u (IsBrought m u n)) → IsSparing host m u n r
+come-sparing {T} {H} {P} (Ok x) host m u n core sound away leaf there bounded counts gentle minds =
     let each = by-place host m u n away (λ told room. gentle told leaf room) in
-    record { reached = come-reached host m u n core sound away there (counts leaf) each; sure = tt; bounded = bounded; cached = λ place. (each place).cache }
-come-sparing {T} {H} {P} (Err f) host m u n core sound away leaf there bounded counts gentle = record { reached = tt; sure = λ told here. (let both : true ≡ false = sym here ∙ away in cc); bounded = tt; cached = tt }
+    record { reached = come-reached host m u n core sound away there (counts leaf) each; sure = tt; bounded = bounded; cached = λ place. (each place).cache; minds = minds }
+come-sparing {T} {H} {P} (Err f) host m u n core sound away leaf there bounded counts gentle minds = record { reached = tt; sure = λ told here. (let both : true ≡ false = sym here ∙ away in cc); bounded = tt; cached = tt; minds = tt }
 
 -- it is the same whatever is answered
 pub sparing-ok : {A B H : Type 0} (host : Ghosts H) (m u : LoomMemory H) (n : ℕ) (x : A) (y : B) → IsSparing {A = A} host m u n (Ok x) → IsSparing {A = B} host m u n (Ok y)
-sparing-ok {A} {B} {H} host m u n x y own = record { reached = own.reached; sure = tt; bounded = own.bounded; cached = own.cached }
+sparing-ok {A} {B} {H} host m u n x y own = record { reached = own.reached; sure = tt; bounded = own.bounded; cached = own.cached; minds = own.minds }
 
 pub sparing-err : {A B H : Type 0} (host : Ghosts H) (m u : LoomMemory H) (n : ℕ) (f : MemFault) → IsSparing {A = A} host m u n (Err f) → IsSparing {A = B} host m u n (Err f)
-sparing-err {A} {B} {H} host m u n f own = record { reached = tt; sure = own.sure; bounded = tt; cached = tt }
+sparing-err {A} {B} {H} host m u n f own = record { reached = tt; sure = own.sure; bounded = tt; cached = tt; minds = tt }
 
 -- what an access asks for isn't there, which can't be where the heap is told
 pub amiss-sparing : {A H : Type 0} (host : Ghosts H) (m u : LoomMemory H) (n : ℕ) (f : MemFault) → (IsTrue (loom_told host m).tells → ⊥) → IsSparing {A = A} host m u n (Err f)
 unfolding loom_told
-amiss-sparing {A} {H} host m u n f untold = record { reached = tt; sure = λ told here. untold told; bounded = tt; cached = tt }
+amiss-sparing {A} {H} host m u n f untold = record { reached = tt; sure = λ told here. untold told; bounded = tt; cached = tt; minds = tt }
 
 -- ---- a word that comes into a register
 
@@ -264,6 +249,13 @@ step-place x y s step = go (place_of (x.entries s).state) refl
 step-remains : (x y : Core) → IsRefStep x y → Remains x y
 step-remains x y step = λ s p at. let same = step.bodies s p at in record { at = p; place = ap (λ (z : Entry). place_of z.state) same ∙ at; name = ap (λ (z : Entry). z.name) same }
 
+pub step-none : (x y : Core) → IsRefStep x y → Remains y x
+step-none x y step = λ s p at. go s p at (place_of (x.entries s).state) refl
+  where
+    go : (s p : ℕ) → place_of (y.entries s).state ≡ Some p → (o : Option ℕ) → place_of (x.entries s).state ≡ o → IsStill y x s
+    go s p at None e = absurd (let both : None ≡ Some p = sym (step.leaves s e) ∙ at in cc)
+    go s p at (Some q) e = record { at = q; place = e; name = sym (ap (λ (z : Entry). z.name) (step.bodies s q e)) }
+
 step-words : (x y : Core) → IsRefStep x y → sum_below y.bound (room_for y) ≡ sum_below x.bound (room_for x)
 step-words x y step =
     ap (λ (n : ℕ). sum_below n (room_for y)) step.bound
@@ -275,6 +267,7 @@ steady-is {H} host m n step cache now rest ledger = record {
   gentle = record { remains = step-remains (core_of m.parts) (core_of n.parts) step; read = subst (λ (x : H). IsWorkRead host m.disk.host.now x) (sym now) (read-refl host m.disk.host.now); cache = cache };
   words = step-words (core_of m.parts) (core_of n.parts) step;
   idle = record { host = now; rest = rest; fetches = fetched-same m n ledger };
+  none = step-none (core_of m.parts) (core_of n.parts) step;
 }
 
 -- the object was reached before it came
@@ -289,12 +282,20 @@ rest-reached {H} host m u v n was rest core now =
       comes = λ away. rest.idle.fetches ∙ was.comes away;
     }
 
+-- no other object came
+pub brought-same : {H : Type 0} (m u v : LoomMemory H) (n k : ℕ) → fetched v ≡ fetched u → IsBrought m u n k → IsBrought m v n k
+brought-same {H} m u v n k same is = (is.0, same ∙ is.1)
+
+pub steady-minds : {H : Type 0} (host : Ghosts H) (m u v : LoomMemory H) (n : ℕ) → MindsCache host None m u (IsBrought m u n) → IsSteady host u v → IsCore (core_of u.parts) → IsCore (core_of v.parts) → MindsCache host None m v (IsBrought m v n)
+steady-minds {H} host m u v n was steady core now = minds-wide host None m v (IsBrought m u n) (IsBrought m v n) (λ k. brought-same m u v n k steady.idle.fetches) (minds-step host m u v (IsBrought m u n) was core now steady.gentle.remains steady.none steady.gentle.cache)
+
 pub steady-sparing : {A B H : Type 0} (host : Ghosts H) (m u v : LoomMemory H) (n : ℕ) (x : A) (y : B) → IsSparing {A = A} host m u n (Ok x) → IsSteady host u v → IsCore (core_of u.parts) → IsCore (core_of v.parts) → (loom_told host v).bounds ≡ (loom_told host u).bounds → IsSparing {A = B} host m v n (Ok y)
 steady-sparing {A} {B} {H} host m u v n x y was steady core now bounds = record {
   reached = rest-reached host m u v n was.reached (record { remains = steady.gentle.remains; idle = steady.idle }) core now;
   sure = tt;
   bounded = subst (λ (b : Option Bounds). ForBounds b (λ b. words_resident v ≤ b.core)) (sym bounds) (subst (λ (k : ℕ). ForBounds (loom_told host u).bounds (λ b. k ≤ b.core)) (sym steady.words) was.bounded);
   cached = λ place. steady.gentle.cache ∙ was.cached place;
+  minds = steady-minds host m u v n was.minds steady core now;
 }
 
 -- ---- stores
@@ -375,13 +376,13 @@ field-word-past c s p q i w at past is =
 -- ---- a field that may have been left on the disk
 
 pub steady-refl : {H : Type 0} (host : Ghosts H) (m : LoomMemory H) → IsSteady host m m
-steady-refl {H} host m = record { gentle = gentle-refl host m; words = refl; idle = record { host = refl; rest = refl; fetches = refl } }
+steady-refl {H} host m = record { gentle = gentle-refl host m; words = refl; idle = record { host = refl; rest = refl; fetches = refl }; none = remains-refl (core_of m.parts) }
 
 pub steady-peek : {H : Type 0} (host : Ghosts H) (m n : LoomMemory H) → IsSteady host m n → IsPeek host m n
-steady-peek {H} host m n steady = record { gentle = steady.gentle; fetches = steady.idle.fetches }
+steady-peek {H} host m n steady = record { gentle = steady.gentle; fetches = steady.idle.fetches; none = steady.none }
 
 pub peek-trans : {H : Type 0} (host : Ghosts H) (a b c : LoomMemory H) → IsPeek host a b → IsPeek host b c → IsPeek host a c
-peek-trans {H} host a b c x y = record { gentle = gentle-trans host a b c x.gentle y.gentle; fetches = y.fetches ∙ x.fetches }
+peek-trans {H} host a b c x y = record { gentle = gentle-trans host a b c x.gentle y.gentle; fetches = y.fetches ∙ x.fetches; none = remains-trans (core_of c.parts) (core_of b.parts) (core_of a.parts) y.none x.none }
 
 -- what holds of a body isn't said of a leaf
 pub no-body : {T : Type 0} (A : Type 0) (r : Result T MemFault) (o : Option ℕ) → o ≡ None → OnOk r ((at : ℕ) → o ≡ Some at → A)
@@ -392,14 +393,15 @@ no-body {T} A (Err f) o none = tt
 pub load-searched : {H : Type 0} (host : Ghosts H) (m u : LoomMemory H) (of : ℕ) → IsSound host m → IsSound host u → IsRef ((loom_told host m).regs of) → IsTrue (is_resident u (name_at ((loom_told host m).regs of)))
     → (place_of ((core_of m.parts).entries (word_in m.regs of)).state ≡ None → fetched u ≡ counted (fetched m))
     → (IsTrue (host.tells Work) → place_of ((core_of m.parts).entries (word_in m.regs of)).state ≡ None → HasRoom m.parts (words_at (loom_told host m).heap (name_at ((loom_told host m).regs of))) 27 → IsGentle host m u)
-    → ((at : ℕ) → place_of ((core_of m.parts).entries (word_in m.regs of)).state ≡ Some at → HasRoom m.parts 0 27 → u ≡ m) → IsSearched host m u (name_at ((loom_told host m).regs of))
-load-searched {H} host m u of sound now ref there counts gentle same = record {
+    → ((at : ℕ) → place_of ((core_of m.parts).entries (word_in m.regs of)).state ≡ Some at → HasRoom m.parts 0 27 → u ≡ m) → MindsCache host None m u (IsBrought m u (name_at ((loom_told host m).regs of))) → IsSearched host m u (name_at ((loom_told host m).regs of))
+load-searched {H} host m u of sound now ref there counts gentle same minds = record {
   there = there;
   stays = λ space. remains-residents m u sound.kept.parts.core now.kept.parts.core (each space).remains;
   cached = λ space. (each space).cache;
   read = λ space. (each space).read;
   comes = λ away. counts (none-of (place_of ((core_of m.parts).entries (word_in m.regs of)).state) (is_resident m (name_at ((loom_told host m).regs of))) is away);
   none = λ here room. ap (λ (z : LoomMemory H). fetched z) (still here room);
+  minds = minds;
 }
   where
     is : is_resident m (name_at ((loom_told host m).regs of)) ≡ is_some (place_of ((core_of m.parts).entries (word_in m.regs of)).state)
@@ -419,14 +421,15 @@ load-searched {H} host m u of sound now ref there counts gentle same = record {
     each space = ⊎_elim (λ (h : IsTrue (is_resident m (name_at ((loom_told host m).regs of))) × HasRoom m.parts 0 27). stands h.0 h.1)
         (λ (h : IsTrue (host.tells Work) × HasRoom m.parts (words_at (loom_told host m).heap (name_at ((loom_told host m).regs of))) 27). comes-in (is_resident m (name_at ((loom_told host m).regs of))) refl h.0 h.1) space
 
-pub here-searched : {H : Type 0} (host : Ghosts H) (m : LoomMemory H) (n : ℕ) → IsTrue (is_resident m n) → IsSearched host m m n
-here-searched {H} host m n there = record {
+pub here-searched : {H : Type 0} (host : Ghosts H) (m : LoomMemory H) (n : ℕ) → IsSound host m → IsTrue (is_resident m n) → IsSearched host m m n
+here-searched {H} host m n sound there = record {
   there = there;
   stays = λ space k here. here;
   cached = λ space. refl;
   read = λ space. read-refl host m.disk.host.now;
   comes = λ away. absurd (let both : true ≡ false = sym there ∙ away in cc);
   none = λ here room. refl;
+  minds = minds-refl host m (IsBrought m m n) sound;
 }
 
 pub peek-searched : {H : Type 0} (host : Ghosts H) (m u v : LoomMemory H) (n : ℕ) → IsSearched host m u n → IsPeek host u v → IsCore (core_of u.parts) → IsCore (core_of v.parts) → IsSearched host m v n
@@ -439,6 +442,7 @@ peek-searched {H} host m u v n was peek core now =
       read = λ space. read-trans host m.disk.host.now u.disk.host.now v.disk.host.now (was.read space) peek.gentle.read;
       comes = λ away. peek.fetches ∙ was.comes away;
       none = λ here room. peek.fetches ∙ was.none here room;
+      minds = minds-wide host None m v (IsBrought m u n) (IsBrought m v n) (λ k. brought-same m u v n k peek.fetches) (minds-step host m u v (IsBrought m u n) was.minds core now peek.gentle.remains peek.none peek.gentle.cache);
     }
 
 pub then-searched : {T H : Type 0} (r : Result T MemFault) (host : Ghosts H) (m u v : LoomMemory H) (n : ℕ) → IsSearched host m u n → OnOk r (IsPeek host u v) → IsCore (core_of u.parts) → KeepsSound r (IsSound host v) → OnOk r (IsSearched host m v n)
@@ -536,6 +540,7 @@ then-heard {T} {A} {H} (Ok y) host m u v n x was speech = record {
   writes = λ place. speech.writes ∙ (was.reached.read place).writes;
   none = λ here. fetched-same u v speech.ledger ∙ (was.reached.idle here).fetches;
   comes = λ away. fetched-same u v speech.ledger ∙ was.reached.comes away;
+  minds = minds-wide host None m v (IsBrought m u n) (IsBrought m v n) (λ k. brought-same m u v n k (fetched-same u v speech.ledger)) (minds-parts host m u v (IsBrought m u n) was.minds speech.parts (speech-cache host u v speech.parts speech.ledger));
 }
 then-heard {T} {A} {H} (Err f) host m u v n x was speech = tt
 
@@ -546,6 +551,7 @@ steady-trans {H} host a b c x y = record {
   gentle = gentle-trans host a b c x.gentle y.gentle;
   words = y.words ∙ x.words;
   idle = record { host = y.idle.host ∙ x.idle.host; rest = y.idle.rest ∙ x.idle.rest; fetches = y.idle.fetches ∙ x.idle.fetches };
+  none = remains-trans (core_of c.parts) (core_of b.parts) (core_of a.parts) y.none x.none;
 }
 
 -- no entry is wanting where some are free
@@ -565,3 +571,22 @@ mark-remains x y s is = λ t p at. ⊎_elim
     record { at = p; place = ap (λ (e : Entry). place_of e.state) same ∙ ap (λ (k : ℕ). place_of (x.entries k).state) (sym h) ∙ at; name = ap (λ (e : Entry). e.name) same ∙ ap (λ (k : ℕ). (x.entries k).name) (sym h) })
     (λ (h : t ≢ s). let same : y.entries t ≡ x.entries t = ap (λ (c : Core). c.entries t) is ∙ put-there x.entries s (with_its_mark (x.entries s)) t h in
     record { at = p; place = ap (λ (e : Entry). place_of e.state) same ∙ at; name = ap (λ (e : Entry). e.name) same }) (cases_eq t s)
+
+-- and none comes
+pub mark-none : (x y : Core) (s : ℕ) → y ≡ with_entry x s (with_its_mark (x.entries s)) → Remains y x
+mark-none x y s is = λ t p at. ⊎_elim
+    (λ (h : t ≡ s). let same : y.entries t ≡ with_its_mark (x.entries s) = ap (λ (c : Core). c.entries t) is ∙ ap (put x.entries s (with_its_mark (x.entries s))) h ∙ put-here x.entries s (with_its_mark (x.entries s)) in
+    record { at = p; place = ap (λ (k : ℕ). place_of (x.entries k).state) h ∙ ap (λ (e : Entry). place_of e.state) (sym same) ∙ at; name = ap (λ (k : ℕ). (x.entries k).name) h ∙ ap (λ (e : Entry). e.name) (sym same) })
+    (λ (h : t ≢ s). let same : y.entries t ≡ x.entries t = ap (λ (c : Core). c.entries t) is ∙ put-there x.entries s (with_its_mark (x.entries s)) t h in
+    record { at = p; place = ap (λ (e : Entry). place_of e.state) (sym same) ∙ at; name = ap (λ (e : Entry). e.name) (sym same) }) (cases_eq t s)
+
+-- and none comes where counts change
+pub recount-none : (x y : Core) → IsRecount x y → Remains y x
+recount-none x y step = λ s p at. let same = step.entries s in record { at = p; place = ap (λ (e : Entry). place_of e.state) (sym same) ∙ at; name = ap (λ (e : Entry). e.name) (sym same) }
+
+-- the entry of a register, after a quiet step
+pub entry-named : {H : Type 0} (host : Ghosts H) (m u : LoomMemory H) (of s : ℕ) → IsSound host u → IsQuiet (loom_told host m) (loom_told host u) → IsRef ((loom_told host m).regs of) → s ≡ word_in u.regs of → ((core_of u.parts).entries s).name ≡ name_at ((loom_told host m).regs of)
+entry-named {H} host m u of s sound quiet ref word =
+    let same : (loom_told host u).regs of ≡ (loom_told host m).regs of = ap (λ (z : Told). z.regs of) quiet.same in
+    let it = entry-at host u of s sound (subst IsRef (sym same) ref) word in
+    ap name_at (sym it.name ∙ same)

@@ -12,20 +12,12 @@ use Rattle.leaf_lambda.specs.Parts.{core_of}
 use Rattle.method_cache.specs.Found.{found}
 use Rattle.purger.specs.Marks.{KeepsMarks}
 use Rattle.purger.proofs.MarkLaws.{marked-at}
-use Rattle.loom_memory.specs.declared.ledger.Ledger.{Ledger}
 use Rattle.loom_memory.specs.declared.memory.LoomMemory.{LoomMemory}
 use Rattle.loom_memory.specs.Cache.{cache_of}
 use Rattle.loom_memory.specs.Memory.{loom_told, word_in, IsQuiet, IsSound}
 use Rattle.loom_memory.specs.Own.{HasSpace, IsAtHand, IsUnmarked, KeepsCache}
 use Rattle.loom_memory.proofs.CacheLaws.{cache-same}
 use Rattle.loom_memory.proofs.GentleLaws.{entry-at}
-
--- marks stay, and nothing was put
-pub marks-keep : {H : Type 0} (host : Ghosts H) (m n : LoomMemory H) → IsSound host m → IsCore (core_of n.parts) → KeepsMarks (core_of m.parts) (core_of n.parts) → n.ledger ≡ m.ledger → KeepsCache host m n
-unfolding loom_told
-marks-keep {H} host m n sound core keeps ledger =
-    ap (λ (k : Ledger). cache_of (core_of n.parts) (found k.rows) k.mark k.begun) ledger
-    ∙ cache-same (core_of m.parts) (core_of n.parts) (found m.ledger.rows) m.ledger.mark m.ledger.begun sound.kept.parts.core core keeps sound.kept.cached
 
 -- the entry of a register whose object isn't marked
 pub flag-off : {H : Type 0} (host : Ghosts H) (m : LoomMemory H) (of s : ℕ) → IsSound host m → IsRef ((loom_told host m).regs of) → s ≡ word_in m.regs of → IsUnmarked host m (name_at ((loom_told host m).regs of)) → ((core_of m.parts).entries s).flags.marked ≡ false

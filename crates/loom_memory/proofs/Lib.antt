@@ -32,6 +32,7 @@ pub mod TextLaws
 pub mod ResidentLaws
 pub mod LentLaws
 pub mod OwnLaws
+pub mod MindLaws
 pub mod GentleLaws
 pub mod DamageLaws
 pub mod NewLaws

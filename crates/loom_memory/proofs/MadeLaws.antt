@@ -29,7 +29,8 @@ use Rattle.loom_memory.specs.Memory.{loom_told, IsSound}
 use Rattle.loom_memory.specs.Own.{HasSpaceFor, IsAskedLast, IsSparingMaking, KeepsCache}
 use Rattle.loom_memory.specs.Residents.{has_body, is_resident}
 use Rattle.loom_memory.proofs.AddLaws.{next-absent, told-next}
-use Rattle.loom_memory.proofs.GentleLaws.{remains-residents, resident-is, rest-trans}
+use Rattle.loom_memory.proofs.GentleLaws.{resident-is, rest-trans}
+use Rattle.loom_memory.proofs.MindLaws.{remains-residents}
 use Rattle.loom_memory.proofs.MakingLaws.{set_here}
 use Rattle.loom_memory.proofs.SettleLaws.{held-residents}
 

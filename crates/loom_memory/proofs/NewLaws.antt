@@ -46,12 +46,14 @@ use Rattle.delta_counts.proofs.DrainLaws.{counting-giving}
 use Rattle.purger.specs.declared.room.Pinned.{Pinned}
 use Rattle.purger.specs.Marks.{KeepsMarks}
 use Rattle.purger.proofs.GivingLaws.{given-here, given-purged, given-tight, giving-parts, giving-stays, giving-up}
+use Rattle.purger.proofs.MindLaws.{others-came}
 use Rattle.purger.proofs.MarkLaws.{Kept-refl, Kept-trans, Marks-same, Marks-trans, within-marks}
 use Rattle.loom_memory.specs.Memory.{IsCalm}
 use Rattle.loom_memory.specs.New.{HasFew, IsNew, IsReadied, object_new, words_ahead}
 use Rattle.loom_memory.proofs.CalmLaws.{purged-calm, within-calm}
 use Rattle.loom_memory.proofs.LambdaLaws.{leaf-calm, still-calm}
 use Rattle.loom_memory.proofs.LastLaws.{leaf-keeps}
+use Rattle.loom_memory.proofs.GentleLaws.{remains-refl, remains-trans, step-none}
 
 -- ---- calm steps, one after another
 
@@ -80,6 +82,7 @@ readied-refl c = record {
   fresh = refl;
   live = λ t on. (on, refl);
   others = λ m away. refl;
+  none = remains-refl c;
 }
 
 pub readied-trans : (a b c : Core) → IsReadied a b → IsReadied b c → IsReadied a c
@@ -91,6 +94,7 @@ readied-trans a b c x y = record {
   fresh = y.fresh ∙ x.fresh;
   live = λ t on. let first = x.live t on in let then = y.live t first.0 in (then.0, then.1 ∙ first.1);
   others = λ m away. y.others m away ∙ x.others m away;
+  none = remains-trans c b a y.none x.none;
 }
 
 -- ---- a leaf for nil
@@ -104,6 +108,7 @@ leaf-readied x y s core now step is = record {
   fresh = ref-fresh x y step.step;
   live = λ t on. let same = step.used t on in (ap (λ (e : Entry). is_used e.state) same ∙ on, ap (λ (e : Entry). e.name) same);
   others = λ m away. ap (λ (c : Core). c.find m) is ∙ put-there x.find NIL (Some s) m away;
+  none = step-none x y step.step;
 }
 
 pub leaf-nil : (t : Levels) (y : Core) (s : ℕ) (owed : List Value) → IsSpare t.core s NIL → y ≡ with_leaf t.core s NIL → IsSound t owed → IsSound (with_core t y) owed
@@ -156,6 +161,7 @@ counting-readied p q parts same c =
           ∙ sum-same (core_of p).bound (λ s. fresh_by ((core_of p).entries s)) (λ s. fresh_by ((core_of q).entries s)) (λ s low. ap fresh_by (counting-entry p q s c));
       live = λ t on. let is = counting-entry p q t c in (ap (λ (e : Entry). is_used e.state) is ∙ on, ap (λ (e : Entry). e.name) is);
       others = λ m away. ap (λ (f : ℕ → Option ℕ). f m) (counting-find p q c);
+      none = λ s a at. let is = counting-entry p q s c in record { at = a; place = ap (λ (e : Entry). place_of e.state) (sym is) ∙ at; name = ap (λ (e : Entry). e.name) (sym is) };
     }
 
 -- the change of an entry rose by so many, where it stays a number
@@ -266,6 +272,7 @@ opened-new a m d name class nil k len header s x =
       backed = opened-backed a m d name class nil k len header s x;
       heap = opened-held a m d name class nil k len header s x;
       valued = opened-valued a m d name class nil k len header s x;
+      others = λ t p away at. let b = others-came m d s t p x.within away at in let first = step-none a m x.step.step t b.at b.place in record { at = first.at; place = first.place; name = first.name ∙ sym b.name };
     }
   where
     new-fresh : (at : ℕ) → IsMade s class at k len header nil m d → fresh_by (d.entries s) ≡ 1
@@ -357,6 +364,7 @@ new-after a b d name class k len header s on x y = record {
       y.heap disk keeps.backed ∙ ap (λ (f : Disk). put f name (Some (object_new (b.entries class).name k len header))) keeps.held
       ∙ ap (λ (c : ℕ). put (held a disk) name (Some (object_new c k len header))) (x.live class on).1;
   valued = λ disk backed valued. let keeps = x.stays disk backed in y.valued disk keeps.backed (subst (λ (f : Disk). IsValued f) (sym keeps.held) valued);
+  others = λ t p away at. let b = y.others t p away at in let first = x.none t b.at b.place in record { at = first.at; place = first.place; name = first.name ∙ b.name };
 }
 
 pub new-if : (r : Option Short) (a b d : Core) (name class : ℕ) (k : Kind) (len header : ℕ) → is_used (a.entries class).state ≡ true → IsReadied a b → IfSome r (λ s. IsNew b d name class k len header s.0) → IfSome r (λ s. IsNew a d name class k len header s.0)

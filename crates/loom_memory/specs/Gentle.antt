@@ -26,6 +26,7 @@ pub record IsSteady {H : Type 0} (host : Ghosts H) (old new : LoomMemory H) : Ty
   pub gentle : IsGentle host old new
   pub words : words_resident new ≡ words_resident old
   pub idle : IsIdle old new
+  pub none : Remains (core_of new.parts) (core_of old.parts)
 
 -- no object came or went, and Work wasn't touched
 pub record IsResting {H : Type 0} (old new : LoomMemory H) : Type 0 where
@@ -36,6 +37,7 @@ pub record IsResting {H : Type 0} (old new : LoomMemory H) : Type 0 where
 pub record IsPeek {H : Type 0} (host : Ghosts H) (old new : LoomMemory H) : Type 0 where
   pub gentle : IsGentle host old new
   pub fetches : fetched new ≡ fetched old
+  pub none : Remains (core_of new.parts) (core_of old.parts)
 
 -- the same, whatever became of the method cache
 pub record IsGlance {H : Type 0} (host : Ghosts H) (old new : LoomMemory H) : Type 0 where

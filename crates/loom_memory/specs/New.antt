@@ -8,7 +8,7 @@ use Rattle.long_names.specs.declared.object.Object.{Object}
 use Rattle.long_names.specs.Names.{NIL}
 use Rattle.long_names.specs.Heap.{count_of}
 use Rattle.long_names.specs.Objects.{Making, OfPointers, OfWords, OfBytes, OfMethod}
-use Rattle.object_table.specs.Entries.{put, is_used}
+use Rattle.object_table.specs.Entries.{put, is_used, place_of}
 use Rattle.core_view.specs.Core.{Core}
 use Rattle.core_view.specs.Words.{int_of_short}
 use Rattle.core_view.specs.Held.{Disk, held}
@@ -19,7 +19,8 @@ use Rattle.counted_core.specs.Levels.{Levels, heap_of}
 use Rattle.purger.specs.declared.room.Pinned.{Pinned}
 use Rattle.purger.specs.Marks.{KeepsMarks}
 use Rattle.loom_memory.specs.Known.{IsEntryOf}
-use Rattle.loom_memory.specs.Memory.{IsCalm}
+use Rattle.loom_memory.specs.Gentle.{Remains}
+use Rattle.loom_memory.specs.Memory.{IsCalm, IsStill}
 
 -- what is made of a kind, so many values, words or bytes, and the header word of a method
 abbrev pub making_of : Kind → ℕ → ℕ → Making
@@ -49,6 +50,7 @@ pub record IsReadied (old new : Core) : Type 0 where
   pub fresh : fresh_of new ≡ fresh_of old
   pub live : (t : ℕ) → is_used (old.entries t).state ≡ true → (is_used (new.entries t).state ≡ true) × ((new.entries t).name ≡ (old.entries t).name)
   pub others : (m : ℕ) → m ≢ NIL → new.find m ≡ old.find m
+  pub none : Remains new old
 
 -- An object that has no record came into a core, under a name that had no entry.
 pub record IsNew (old new : Core) (name class : ℕ) (k : Kind) (len header s : ℕ) : Type 0 where
@@ -60,3 +62,4 @@ pub record IsNew (old new : Core) (name class : ℕ) (k : Kind) (len header s : 
   pub backed : (disk : Disk) → IsBacked old disk → disk name ≡ None → IsBacked new disk
   pub heap : (disk : Disk) → IsBacked old disk → held new disk ≡ put (held old disk) name (Some (object_new (old.entries class).name k len header))
   pub valued : (disk : Disk) → IsBacked old disk → IsValued (held old disk) → IsValued (held new disk)
+  pub others : (t p : ℕ) → t ≢ s → place_of (new.entries t).state ≡ Some p → IsStill new old t

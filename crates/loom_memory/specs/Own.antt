@@ -1,7 +1,8 @@
 -- What a two-level memory promises of its core and of Work, beside what it tells: `IsSparing` of each access to an object that changes
 -- nothing of it, `IsSparingChange` of a store and a mark, `IsSearched` and `IsSearchedChange` of a field that may have been left on the
--- disk, `IsSparingMaking` of a making, `IsPutAway` of a swap; and `IsAmple` says when an access is answered.
-use Rattle.std.specs.Prelude.{◌≡◌, ◌≢◌, ◌⊎◌, ◌+◌, ◌≤◌, ◌<◌, ℕ, false, None, Some, Result, IsOk, OnOk, IfErr, IsTrue}
+-- disk, `IsSparingMaking` of a making, `IsPutAway` of a swap; why marks and rows go is `MindsCache`; and `IsAmple` says when an access is
+-- answered.
+use Rattle.std.specs.Prelude.{◌≡◌, ◌≢◌, ◌⊎◌, ◌+◌, ◌≤◌, ◌<◌, ℕ, true, false, Option, None, Some, Result, IsOk, OnOk, IfErr, IsTrue}
 use Rattle.long_names.specs.declared.limits.TheConstants.{LAST_NAME, MAKINGS_BEFORE_FREEING}
 use Rattle.long_names.specs.Counting.{counted, Rose}
 use Rattle.long_names.specs.Heap.{Has}
@@ -14,7 +15,7 @@ use Rattle.loom_outside.specs.Work.{IsWorkRead}
 use Rattle.object_memory.specs.declared.fault.MemFault.{MemFault}
 use Rattle.object_memory.specs.declared.fault.Need.{Need}
 use Rattle.object_memory.specs.Told.{Told, Bounds}
-use Rattle.object_memory.specs.Contract.{ForBounds, IsNeedOf, Lives, makes, work_faults, said_faults}
+use Rattle.object_memory.specs.Contract.{ForBounds, IsEmptied, IsNeedOf, Lives, makes, with_mark, work_faults, said_faults}
 use Rattle.disk_objects.specs.Disk.{disk_room}
 use Rattle.core_view.specs.Steps.{IsAt}
 use Rattle.leaf_lambda.specs.Parts.{core_of}
@@ -37,6 +38,25 @@ pub record IsIdle {H : Type 0} (old new : LoomMemory H) : Type 0 where
   pub host : new.disk.host.now ≡ old.disk.host.now
   pub rest : new.disk.rest ≡ old.disk.rest
   pub fetches : fetched new ≡ fetched old
+
+-- An object came in: that of the name n.
+abbrev pub IsBrought : {H : Type 0} → LoomMemory H → LoomMemory H → ℕ → ℕ → Type 0
+IsBrought old new n k = (k ≡ n) × (fetched new ≡ counted (fetched old))
+
+-- No mark and no row from before is left: an object that was marked isn't in the core any more, or is one that the call is about.
+pub record IsSwept {H : Type 0} (host : Ghosts H) (marked : Option ℕ) (old new : LoomMemory H) (about : ℕ → Type 0) : Type 0 where
+  pub emptied : IsEmptied marked (loom_told host old).cache (loom_told host new).cache
+  pub gone : (is_resident new emptied.taken ≡ false) ⊎ about emptied.taken
+
+-- Marks and rows of the method cache go for no other cause. A call may be about some objects: that which it brings in, those that it stores
+-- into. It may mark one.
+pub record MindsCache {H : Type 0} (host : Ghosts H) (marked : Option ℕ) (old new : LoomMemory H) (about : ℕ → Type 0) : Type 0 where
+  -- Each marked object is in the core,
+  pub here : (k : ℕ) → (loom_told host new).cache.marks k ≡ true → IsTrue (is_resident new k)
+  -- and none came there but one that the call is about.
+  pub others : (k : ℕ) → is_resident old k ≡ false → IsTrue (is_resident new k) → about k
+  -- Marks and rows are as they were, with the new mark; or none from before is left.
+  pub cache : ((loom_told host new).cache ≡ with_mark (loom_told host old).cache marked) ⊎ IsSwept host marked old new about
 
 -- The object of a name was reached.
 pub record IsReached {H : Type 0} (host : Ghosts H) (old new : LoomMemory H) (n : ℕ) : Type 0 where
@@ -75,6 +95,8 @@ pub record IsSearched {H : Type 0} (host : Ghosts H) (old new : LoomMemory H) (n
   -- Where it wasn't there before, one object came in; where it was, and there was room, none.
   pub comes : is_resident old n ≡ false → fetched new ≡ counted (fetched old)
   pub none : IsTrue (is_resident old n) → HasRoom old.parts 0 SPARE_ENTRIES → fetched new ≡ fetched old
+  -- Marks and rows go only where an object that was marked left the core, or was brought in again.
+  pub minds : MindsCache host None old new (IsBrought old new n)
 
 -- The object of a name was reached by a store into a field, which may have been left on the disk.
 pub record IsSearchedChange {H : Type 0} (host : Ghosts H) (old new : LoomMemory H) (n : ℕ) : Type 0 where
@@ -100,6 +122,8 @@ pub record IsHeard {H : Type 0} (host : Ghosts H) (old new : LoomMemory H) (n : 
   -- Where it was there before, nothing came in; where it wasn't, one object did.
   pub none : IsTrue (is_resident old n) → fetched new ≡ fetched old
   pub comes : is_resident old n ≡ false → fetched new ≡ counted (fetched old)
+  -- Marks and rows go only where an object that was marked left the core.
+  pub minds : MindsCache host None old new (IsBrought old new n)
 
 -- A store into the object of a name, and a mark of it, spares the core and Work. Where the object was there before, and Work is told, it isn't refused.
 pub record IsSparingChange {A H : Type 0} (host : Ghosts H) (old new : LoomMemory H) (n : ℕ) (result : Result A MemFault) : Type 0 where
@@ -107,12 +131,13 @@ pub record IsSparingChange {A H : Type 0} (host : Ghosts H) (old new : LoomMemor
   pub sure : IfErr result (λ f. IsTrue (host.tells Work) → IsTrue (is_resident old n) → ⊥)
 
 -- So does an access that changes nothing of it. What all objects in the core take is at most its words then; and where the object was there
--- before, or there was room for it, the method cache is as it was.
+-- before, or there was room for it, the method cache is as it was; else marks and rows go only where an object that was marked left the core.
 pub record IsSparing {A H : Type 0} (host : Ghosts H) (old new : LoomMemory H) (n : ℕ) (result : Result A MemFault) : Type 0 where
   pub reached : OnOk result (IsReached host old new n)
   pub sure : IfErr result (λ f. IsTrue (host.tells Work) → IsTrue (is_resident old n) → ⊥)
   pub bounded : OnOk result (ForBounds (loom_told host new).bounds (λ b. words_resident new ≤ b.core))
   pub cached : OnOk result (HasPlace host old n → (loom_told host new).cache ≡ (loom_told host old).cache)
+  pub minds : OnOk result (MindsCache host None old new (IsBrought old new n))
 
 -- The method cache is as it was.
 abbrev pub KeepsCache : {H : Type 0} → Ghosts H → LoomMemory H → LoomMemory H → Type 0

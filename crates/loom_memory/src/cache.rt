@@ -70,9 +70,9 @@ fn refresh(p: &Parts, k: &mut Ledger)
 }
 
 impl<'h, H: Host> LoomMemory<'h, H> {
-    ghost use Rattle.loom_memory.specs.Gentle.{IsResting, IsSteady};
+    ghost use Rattle.loom_memory.specs.Gentle.{IsResting, IsSteady, Remains};
     ghost use Rattle.loom_memory.specs.Damage.{IsDamaged};
-    ghost use Rattle.loom_memory.specs.Own.{HasPlace, IsSparingChange};
+    ghost use Rattle.loom_memory.specs.Own.{HasPlace, IsBrought, IsSparingChange, MindsCache};
     ghost use Rattle.long_names.specs.State.{name_at};
     ghost use Rattle.long_names.specs.Access.{Mark, Nothing};
     ghost use Rattle.object_memory.specs.Contract.{Accessed, IsFound, IsPut, IsUnknown, MayDo, is_marked, with_mark};
@@ -97,6 +97,7 @@ impl<'h, H: Host> LoomMemory<'h, H> {
         ensures marked { IsMarking (loom_told H.Host self.old) (loom_told H.Host self.new) ((core_of self.old.parts).entries s.0).name }
         ensures sound { IsSound H.Host self.new }
         ensures resting { IsResting self.old self.new }
+        ensures none { Remains (core_of self.new.parts) (core_of self.old.parts) }
         ensures cached { (loom_told H.Host self.new).cache ≡ with_mark (loom_told H.Host self.old).cache (Some ((core_of self.old.parts).entries s.0).name) }
         ensures lender { self.new.disk.host.ghost_name ≡ self.old.disk.host.ghost_name }
         ensures outside { loom_outside H.Host self.new ≡ loom_outside H.Host self.old }
@@ -115,6 +116,7 @@ impl<'h, H: Host> LoomMemory<'h, H> {
         ensures own { IsSparingChange H.Host self.old self.new (name_at ((loom_told H.Host self.old).regs r)) result }
         ensures cached { OnOk result (HasPlace H.Host self.old (name_at ((loom_told H.Host self.old).regs r))
             → (loom_told H.Host self.new).cache ≡ with_mark (loom_told H.Host self.old).cache (Some (name_at ((loom_told H.Host self.old).regs r)))) }
+        ensures minds { OnOk result (MindsCache H.Host (Some (name_at ((loom_told H.Host self.old).regs r))) self.old self.new (IsBrought self.old self.new (name_at ((loom_told H.Host self.old).regs r)))) }
         ensures damage { IsDamaged self.old self.new (name_at ((loom_told H.Host self.old).regs r)) result }
         ensures fit { StaysCallable (IsSound H.Host) (loom_told H.Host) loom_lender (loom_outside H.Host) self.old self.new result }
     {

@@ -1,5 +1,5 @@
 // Objects leave the core, or lie together in it.
-ghost use Rattle.std.specs.Prelude.{◌≡◌, ◌<◌, ℕ, IsTrue, OnOk};
+ghost use Rattle.std.specs.Prelude.{◌≡◌, ◌<◌, ℕ, None, IsTrue, OnOk};
 ghost use Rattle.core_segment.specs.Segment.{largest_of, free_of};
 ghost use Rattle.object_table.specs.Table.{entries_of};
 
@@ -26,6 +26,7 @@ impl<'h, H: Host> LoomMemory<'h, H> {
     ghost use Rattle.loom_memory.specs.Memory.{loom_told, loom_outside, loom_lender, IsSound};
     ghost use Rattle.loom_memory.specs.Residents.{is_resident, fetched};
     ghost use Rattle.loom_memory.specs.Gentle.{IsPeek, IsResting};
+    ghost use Rattle.loom_memory.specs.Own.{MindsCache};
 
     /// More entries are asked for than there are, so everything leaves that may. That there are fewer is no refusal.
     pub fn purge_all(&mut self) -> Result<(), MemFault>
@@ -33,6 +34,7 @@ impl<'h, H: Host> LoomMemory<'h, H> {
         ensures called { Called (loom_told H.Host self.old) (loom_told H.Host self.new) Thins result }
         ensures pinned { OnOk result ((n : ℕ) → IsTrue (is_resident self.new n) → IsTrue (has_slot (loom_told H.Host self.new).slots n)) }
         ensures fetches { OnOk result (fetched self.new ≡ fetched self.old) }
+        ensures minds { OnOk result (MindsCache H.Host None self.old self.new (λ k. ⊥)) }
         ensures fit { StaysCallable (IsSound H.Host) (loom_told H.Host) loom_lender (loom_outside H.Host) self.old self.new result }
     {
         let entries = too_many(&self.parts);

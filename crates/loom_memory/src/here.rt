@@ -35,7 +35,7 @@ impl<'h, H: Host> LoomMemory<'h, H> {
     ghost use Rattle.loom_memory.specs.Gentle.{IsGentle};
     ghost use Rattle.loom_memory.specs.Below.{IsTested};
     ghost use Rattle.loom_memory.specs.Damage.{IsDamaged};
-    ghost use Rattle.loom_memory.specs.Own.{IsSparing};
+    ghost use Rattle.loom_memory.specs.Own.{IsSparing, MindsCache};
     ghost use Rattle.loom_memory.specs.Memory.{loom_told, loom_outside, word_in, IsSound, IsQuiet, IsCalm, IsSilent};
 
     // Moves bodies together where so many words are free, but not as one chunk.
@@ -51,6 +51,7 @@ impl<'h, H: Host> LoomMemory<'h, H> {
         ensures ledger { self.new.ledger ≡ self.old.ledger }
         ensures room { (words ≤ largest_of self.new.parts.segment) × (SPARE ≤ spare_of self.new.parts) }
         ensures gentle { IsGentle H.Host self.old self.new }
+        ensures minds { MindsCache H.Host None self.old self.new (λ k. ⊥) }
         ensures idle { words ≡ 0 → self.new ≡ self.old }
         ensures buf { self.new.buf ≡ self.old.buf }
         ensures lender { self.new.disk.host.ghost_name ≡ self.old.disk.host.ghost_name }

@@ -27,7 +27,7 @@ impl<'h, H: Host> LoomMemory<'h, H> {
     ghost use Rattle.loom_memory.specs.Memory.{loom_told, loom_outside, loom_lender, IsSound, IsQuiet};
     ghost use Rattle.purger.specs.Purge.{HasRoom};
     ghost use Rattle.loom_memory.specs.Gentle.{IsSteady};
-    ghost use Rattle.loom_memory.specs.Own.{IsSparing};
+    ghost use Rattle.loom_memory.specs.Own.{IsSparing, MindsCache};
     ghost use Rattle.loom_memory.specs.Damage.{IsDamaged};
     ghost use Rattle.loom_memory.specs.Known.{IsEntryOf, IsNameable, IsSpent, IsNeedBeside, IsRefusedOf, IsNaming};
 
@@ -101,6 +101,7 @@ impl<'h, H: Host> LoomMemory<'h, H> {
         ensures quiet { OnOk result (IsQuiet (loom_told H.Host self.old) (loom_told H.Host self.new)) }
         ensures sound { KeepsSound result (IsSound H.Host self.new) }
         ensures found { IfOk result (λ s. IsEntryOf (core_of self.new.parts) s.0 name) }
+        ensures minds { OnOk result (MindsCache H.Host None self.old self.new (λ k. ⊥)) }
         ensures err { IfErr result (IsRefusedOf (loom_told H.Host self.old) (loom_told H.Host self.new) name) }
         ensures lender { self.new.disk.host.ghost_name ≡ self.old.disk.host.ghost_name }
         ensures outside { loom_outside H.Host self.new ≡ loom_outside H.Host self.old }
@@ -122,6 +123,7 @@ impl<'h, H: Host> LoomMemory<'h, H> {
         ensures quiet { OnOk result (IsQuiet (loom_told H.Host self.old) (loom_told H.Host self.new)) }
         ensures sound { KeepsSound result (IsSound H.Host self.new) }
         ensures found { IfOk result (λ s. IsEntryOf (core_of self.new.parts) s.0 name) }
+        ensures minds { OnOk result (MindsCache H.Host None self.old self.new (λ k. ⊥)) }
         ensures err { IfErr result (IsRefusedOf (loom_told H.Host self.old) (loom_told H.Host self.new) name) }
         ensures steady { OnOk result (HasRoom self.old.parts 0 SPARE → IsSteady H.Host self.old self.new) }
         ensures unspent { OnOk result ((IsSpent (core_of self.old.parts) (spare_of self.old.parts) name → ⊥) → IsSteady H.Host self.old self.new) }
@@ -140,6 +142,7 @@ impl<'h, H: Host> LoomMemory<'h, H> {
         requires ready { IsReady (loom_told H.Host self.old) }
         requires named { IsTrue (H.tells Role.Work) → IsNameable (loom_told H.Host self.old).heap name }
         ensures naming { OnOk result (IsNaming (loom_told H.Host self.old) (loom_told H.Host self.new) to name) }
+        ensures minds { OnOk result (MindsCache H.Host None self.old self.new (λ k. ⊥)) }
         ensures sound { KeepsSound result (IsSound H.Host self.new) }
         ensures err { IfErr result (IsRefusedOf (loom_told H.Host self.old) (loom_told H.Host self.new) name) }
         ensures steady { OnOk result (HasRoom self.old.parts 0 SPARE → IsSteady H.Host self.old self.new) }
@@ -164,6 +167,7 @@ impl<'h, H: Host> LoomMemory<'h, H> {
         ensures name { OnOk result ((loom_told H.Host self.new).regs to ≡ Ref name) }
         ensures steady { OnOk result (HasRoom self.old.parts 0 SPARE → IsSteady H.Host self.old self.new) }
         ensures unspent { OnOk result ((IsSpent (core_of self.old.parts) (spare_of self.old.parts) name → ⊥) → IsSteady H.Host self.old self.new) }
+        ensures minds { OnOk result (MindsCache H.Host None self.old self.new (λ k. ⊥)) }
         ensures fit { StaysCallable (IsSound H.Host) (loom_told H.Host) loom_lender (loom_outside H.Host) self.old self.new result }
     {
         self.put_name(to, name)
@@ -179,6 +183,7 @@ impl<'h, H: Host> LoomMemory<'h, H> {
         ensures own { IsRef ((loom_told H.Host self.old).regs of) → IsSparing H.Host self.old self.new (name_at ((loom_told H.Host self.old).regs of)) result }
         ensures damage { IsRef ((loom_told H.Host self.old).regs of) → IsDamaged self.old self.new (name_at ((loom_told H.Host self.old).regs of)) result }
         ensures steady { OnOk result (IsSome (int_of ((loom_told H.Host self.old).regs of)) → HasRoom self.old.parts 0 SPARE → IsSteady H.Host self.old self.new) }
+        ensures minds { OnOk result (IsSome (int_of ((loom_told H.Host self.old).regs of)) → MindsCache H.Host None self.old self.new (λ k. ⊥)) }
         ensures fit { StaysCallable (IsSound H.Host) (loom_told H.Host) loom_lender (loom_outside H.Host) self.old self.new result }
     {
         let w = self.word_of(of);

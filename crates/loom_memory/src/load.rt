@@ -123,6 +123,7 @@ impl<'h, H: Host> LoomMemory<'h, H> {
     ghost use Rattle.loom_memory.specs.Residents.{is_resident, words_resident};
     ghost use Rattle.loom_memory.specs.Gentle.{IsGentle};
     ghost use Rattle.loom_memory.specs.Below.{IsTested};
+    ghost use Rattle.loom_memory.specs.Own.{IsBrought, MindsCache};
     ghost use Rattle.loom_memory.specs.Damage.{IsDamageOf, IsDamaged};
     ghost use Rattle.loom_memory.specs.Memory.{loom_told, loom_outside, word_in, words_in_row, IsNeed, IsRead, IsSized, IsSound, IsQuiet, IsCalm, IsSilent, IsRefused, IsRefusedAt};
 
@@ -143,6 +144,7 @@ impl<'h, H: Host> LoomMemory<'h, H> {
         ensures buf { self.new.buf ≡ self.old.buf }
         ensures next { self.new.ledger.next ≡ self.old.ledger.next }
         ensures gentle { IsGentle H.Host self.old self.new }
+        ensures minds { MindsCache H.Host None self.old self.new (λ k. k ≡ ((core_of self.old.parts).entries s.0).name) }
         ensures lender { self.new.disk.host.ghost_name ≡ self.old.disk.host.ghost_name }
         ensures outside { loom_outside H.Host self.new ≡ loom_outside H.Host self.old }
     {
@@ -229,6 +231,7 @@ impl<'h, H: Host> LoomMemory<'h, H> {
         ensures short { IfOk result (λ enough. enough ≡ false → IsShort self.new.parts self.new.pinned.a self.new.pinned.b self.new.pinned.d words SPARE) }
         ensures ledger { OnOk result (self.new.ledger ≡ self.old.ledger) }
         ensures gentle { OnOk result (HasRoom self.old.parts words SPARE → IsGentle H.Host self.old self.new) }
+        ensures minds { OnOk result (MindsCache H.Host None self.old self.new (λ k. ⊥)) }
         ensures idle { OnOk result (HasRoom self.old.parts words SPARE → words ≡ 0 → self.new ≡ self.old) }
         ensures buf { self.new.buf ≡ self.old.buf }
         ensures sure { IfErr result (λ f. HasRoom self.old.parts words SPARE → ⊥) }
@@ -337,6 +340,7 @@ impl<'h, H: Host> LoomMemory<'h, H> {
         ensures damage { IfErr result (λ f. HasRoom self.old.parts words SPARE → IsDamageOf self.new.disk.rest ((core_of self.old.parts).entries s.0).name f) }
         ensures next { OnOk result (self.new.ledger.next ≡ self.old.ledger.next) }
         ensures gentle { OnOk result (HasRoom self.old.parts words SPARE → IsGentle H.Host self.old self.new) }
+        ensures minds { OnOk result (MindsCache H.Host None self.old self.new (λ k. k ≡ ((core_of self.old.parts).entries s.0).name)) }
         ensures err { IfErr result (IsRefusedAt (loom_told H.Host self.old) (loom_told H.Host self.new) ((core_of self.old.parts).entries s.0).name) }
         ensures lender { self.new.disk.host.ghost_name ≡ self.old.disk.host.ghost_name }
         ensures outside { loom_outside H.Host self.new ≡ loom_outside H.Host self.old }
@@ -375,6 +379,7 @@ impl<'h, H: Host> LoomMemory<'h, H> {
         ensures damage { IsDamaged self.old self.new ((core_of self.old.parts).entries s.0).name result }
         ensures tested { OnOk result (place_of ((core_of self.old.parts).entries s.0).state ≡ None → IsTested self.new ((core_of self.old.parts).entries s.0).name) }
         ensures gentle { OnOk result (IsTrue (H.tells Role.Work) → place_of ((core_of self.old.parts).entries s.0).state ≡ None → HasRoom self.old.parts (words_at (loom_told H.Host self.old).heap ((core_of self.old.parts).entries s.0).name) SPARE → IsGentle H.Host self.old self.new) }
+        ensures minds { OnOk result (MindsCache H.Host None self.old self.new (IsBrought self.old self.new ((core_of self.old.parts).entries s.0).name)) }
         ensures err { IfErr result (IsRefusedAt (loom_told H.Host self.old) (loom_told H.Host self.new) ((core_of self.old.parts).entries s.0).name) }
         ensures lender { self.new.disk.host.ghost_name ≡ self.old.disk.host.ghost_name }
         ensures outside { loom_outside H.Host self.new ≡ loom_outside H.Host self.old }
@@ -406,6 +411,7 @@ impl<'h, H: Host> LoomMemory<'h, H> {
         ensures damage { IsDamaged self.old self.new (name_at ((loom_told H.Host self.old).regs of)) result }
         ensures tested { OnOk result (place_of ((core_of self.old.parts).entries (word_in self.old.regs of)).state ≡ None → IsTested self.new (name_at ((loom_told H.Host self.old).regs of))) }
         ensures gentle { OnOk result (IsTrue (H.tells Role.Work) → place_of ((core_of self.old.parts).entries (word_in self.old.regs of)).state ≡ None → HasRoom self.old.parts (words_at (loom_told H.Host self.old).heap (name_at ((loom_told H.Host self.old).regs of))) SPARE → IsGentle H.Host self.old self.new) }
+        ensures minds { OnOk result (MindsCache H.Host None self.old self.new (IsBrought self.old self.new (name_at ((loom_told H.Host self.old).regs of)))) }
         ensures err { IfErr result (λ f. (a : Access) → target_of a ≡ Some of → makes a ≡ 0 → IsSilent a → IsLater (loom_told H.Host self.old) (loom_told H.Host self.new) × Refuses (loom_told H.Host self.old) (loom_told H.Host self.new) (Does a) f) }
         ensures lender { self.new.disk.host.ghost_name ≡ self.old.disk.host.ghost_name }
         ensures outside { loom_outside H.Host self.new ≡ loom_outside H.Host self.old }

@@ -1,5 +1,5 @@
 // New objects: names are asked first, then room on the disk, then the core.
-ghost use Rattle.std.specs.Prelude.{◌≡◌, ◌+◌, ◌≤◌, ◌<◌, ◌^◌, ℕ, true, false, IsTrue, IsOk, OnOk, IfOk, IfErr, IfSome, IfNone};
+ghost use Rattle.std.specs.Prelude.{◌≡◌, ◌+◌, ◌≤◌, ◌<◌, ◌^◌, ℕ, None, true, false, IsTrue, IsOk, OnOk, IfOk, IfErr, IfSome, IfNone};
 ghost use Rattle.long_names.specs.declared.limits.TheConstants.{LAST_NAME as END, MAKINGS_BEFORE_FREEING as MAKINGS};
 ghost use Rattle.long_names.specs.Names.{IsLongName};
 ghost use Rattle.long_names.specs.Words.{literal_count};
@@ -50,7 +50,8 @@ impl<'h, H: Host> LoomMemory<'h, H> {
     ghost use Rattle.loom_memory.specs.Memory.{loom_told, loom_outside, IsQuiet, IsSound};
     ghost use Rattle.loom_memory.specs.Makings.{HasAdded, HasMade, IsFullMaking, IsLost, IsNotFull, IsRefusedAs, IsRefusedMaking, OnCoreFull};
     ghost use Rattle.loom_memory.specs.Gentle.{IsResting, IsSpared, Remains};
-    ghost use Rattle.loom_memory.specs.Own.{KeepsCache};
+    ghost use Rattle.loom_memory.specs.Own.{KeepsCache, MindsCache};
+    ghost use Rattle.long_names.specs.declared.value.Value.TheVariants.{Ref};
     ghost use Rattle.loom_memory.specs.New.{making_of};
     ghost use Rattle.loom_memory.specs.Residents.{is_resident, fetched};
 
@@ -88,6 +89,7 @@ impl<'h, H: Host> LoomMemory<'h, H> {
         ensures short { IfOk result (λ enough. enough ≡ false → IsShort self.new.parts self.new.pinned.a self.new.pinned.b self.new.pinned.d words SPARE) }
         ensures resting { OnOk result (HasRoom self.old.parts words SPARE → IsResting self.old self.new) }
         ensures cached { OnOk result (HasRoom self.old.parts words SPARE → KeepsCache H.Host self.old self.new) }
+        ensures minds { OnOk result (MindsCache H.Host None self.old self.new (λ k. ⊥)) }
         ensures spared { IfErr result (λ f. HasRoom self.old.parts words SPARE → IsSpared H.Host self.old self.new) }
         ensures sure { HasRoom self.old.parts words SPARE → IsOk result }
         ensures enough { IfOk result (λ enough. HasRoom self.old.parts words SPARE → IsTrue enough) }
@@ -135,6 +137,7 @@ impl<'h, H: Host> LoomMemory<'h, H> {
         ensures remains { IfSome result (λ s. Remains (core_of self.old.parts) (core_of self.new.parts)) }
         ensures fetches { IfSome result (λ s. fetched self.new ≡ fetched self.old) }
         ensures cached { IfSome result (λ s. KeepsCache H.Host self.old self.new) }
+        ensures minds { IfSome result (λ s. MindsCache H.Host None self.old self.new (λ k. k ≡ name)) }
         ensures sound { IfSome result (λ s. IsSound H.Host self.new) }
         ensures none { IfNone result (IsTrue (H.tells Role.Work) → ⊥) }
         ensures disk { self.new.disk ≡ self.old.disk }
@@ -175,6 +178,7 @@ impl<'h, H: Host> LoomMemory<'h, H> {
         ensures fetches { OnOk result (fetched self.new ≡ fetched self.old) }
         ensures resting { OnOk result (IsResting self.old self.new) }
         ensures cached { OnOk result (KeepsCache H.Host self.old self.new) }
+        ensures minds { OnOk result (MindsCache H.Host None self.old self.new (λ k. (loom_told H.Host self.new).regs to ≡ Ref k)) }
         ensures spared { IfErr result (λ f. IsSpared H.Host self.old self.new) }
         ensures sure { IfErr result (λ f. IsTrue (H.tells Role.Work) → ⊥) }
         ensures sound { KeepsSound result (IsSound H.Host self.new) }
@@ -219,6 +223,7 @@ impl<'h, H: Host> LoomMemory<'h, H> {
         ensures fetches { OnOk result (fetched self.new ≡ fetched self.old) }
         ensures resting { OnOk result (HasRoom self.old.parts (words_for kind len (literal_count (int_of_short header)) + HEADER) SPARE → IsResting self.old self.new) }
         ensures cached { OnOk result (HasRoom self.old.parts (words_for kind len (literal_count (int_of_short header)) + HEADER) SPARE → KeepsCache H.Host self.old self.new) }
+        ensures minds { OnOk result (MindsCache H.Host None self.old self.new (λ k. (loom_told H.Host self.new).regs to ≡ Ref k)) }
         ensures spared { IfErr result (λ f. HasRoom self.old.parts (words_for kind len (literal_count (int_of_short header)) + HEADER) SPARE → IsSpared H.Host self.old self.new) }
         ensures sure { IfErr result (λ f. IsTrue (H.tells Role.Work) → HasRoom self.old.parts (words_for kind len (literal_count (int_of_short header)) + HEADER) SPARE → ⊥) }
         ensures core { OnOk result (IfBounds (loom_told H.Host self.old).bounds (HasCore (loom_told H.Host self.old) (Make to class (making_of kind len header)))) }
@@ -264,7 +269,8 @@ impl<'h, H: Host> LoomMemory<'h, H> {
     ghost use Rattle.loom_memory.specs.Memory.{loom_told, loom_outside, loom_lender, IsSound};
     ghost use Rattle.loom_memory.specs.Makings.{HasThinned, IfNameless, IsNameless, IsRefusedMaking, OnCoreFull};
     ghost use Rattle.loom_memory.specs.Gentle.{IsSpared};
-    ghost use Rattle.loom_memory.specs.Own.{HasAllFor, HasSpaceFor, IsAskedLast, IsSparingMaking, IsUndrained};
+    ghost use Rattle.loom_memory.specs.Own.{HasAllFor, HasSpaceFor, IsAskedLast, IsSparingMaking, IsUndrained, MindsCache};
+    ghost use Rattle.long_names.specs.declared.value.Value.TheVariants.{Ref};
     ghost use Rattle.loom_memory.specs.New.{making_of};
     ghost use Rattle.loom_memory.specs.Residents.{is_resident, fetched};
 
@@ -318,6 +324,7 @@ impl<'h, H: Host> LoomMemory<'h, H> {
         ensures held { OnOk result (self.new.ledger.held < disk_room self.new.disk.rest) }
         ensures next { OnOk result (self.new.ledger.next ≡ self.old.ledger.next) }
         ensures fetches { OnOk result (fetched self.new ≡ fetched self.old) }
+        ensures minds { OnOk result (IsTrue (H.tells Role.Work) → MindsCache H.Host None self.old self.new (λ k. ⊥)) }
         ensures bodies { OnOk result (IsTrue (H.tells Role.Work) → KeepsHeld (core_of self.old.parts) (core_of self.new.parts) (loom_told H.Host self.new).heap) }
         ensures room { OnOk result ((words : ℕ) → HasRoom self.old.parts words SPARE → HasRoom self.new.parts words SPARE) }
         ensures err { IfErr result (IsRefusedMaking (loom_told H.Host self.old) (loom_told H.Host self.new)) }
@@ -345,6 +352,7 @@ impl<'h, H: Host> LoomMemory<'h, H> {
         ensures held { OnOk result (self.new.ledger.held < disk_room self.new.disk.rest) }
         ensures next { OnOk result (self.new.ledger.next ≡ self.old.ledger.next) }
         ensures fetches { OnOk result (fetched self.new ≡ fetched self.old) }
+        ensures minds { OnOk result (IsTrue (H.tells Role.Work) → MindsCache H.Host None self.old self.new (λ k. ⊥)) }
         ensures roomy { OnOk result (self.old.ledger.held < disk_room self.old.disk.rest → self.new ≡ self.old) }
         ensures early { OnOk result (self.old.ledger.made < MAKINGS → self.new ≡ self.old) }
         ensures bodies { OnOk result (IsTrue (H.tells Role.Work) → KeepsHeld (core_of self.old.parts) (core_of self.new.parts) (loom_told H.Host self.new).heap) }
@@ -388,6 +396,7 @@ impl<'h, H: Host> LoomMemory<'h, H> {
         ensures early { IsTrue (H.tells Role.Work) → IfBounds (loom_told H.Host self.old).bounds (λ b. b.made < MAKINGS
             → OnOk result ((loom_told H.Host self.new).heap ≡ heap_after (loom_told H.Host self.old).heap (loom_told H.Host self.old).regs (Make to class (making_of kind len header)))) }
         ensures own { OnOk result (IsSparingMaking H.Host self.old self.new (making_of kind len header)) }
+        ensures minds { OnOk result (IsTrue (H.tells Role.Work) → MindsCache H.Host None self.old self.new (λ k. (loom_told H.Host self.new).regs to ≡ Ref k)) }
         ensures full { IfErr result (λ f. OnCoreFull f (IsAskedLast H.Host self.old self.new)) }
         ensures spared { IfErr result (λ f. HasSpaceFor self.old (making_of kind len header) → IsSpared H.Host self.old self.new) }
         ensures sure { IfErr result (λ f. HasAllFor H.Host self.old (making_of kind len header) → ⊥) }
@@ -433,6 +442,7 @@ impl<'h, H: Host> LoomMemory<'h, H> {
         ensures early { IsTrue (H.tells Role.Work) → IfBounds (loom_told H.Host self.old).bounds (λ b. b.made < MAKINGS
             → OnOk result ((loom_told H.Host self.new).heap ≡ heap_after (loom_told H.Host self.old).heap (loom_told H.Host self.old).regs (Make to class (making_of kind len header)))) }
         ensures own { OnOk result (IsSparingMaking H.Host self.old self.new (making_of kind len header)) }
+        ensures minds { OnOk result (IsTrue (H.tells Role.Work) → MindsCache H.Host None self.old self.new (λ k. (loom_told H.Host self.new).regs to ≡ Ref k)) }
         ensures full { IfErr result (λ f. OnCoreFull f (IsAskedLast H.Host self.old self.new)) }
         ensures spared { IfErr result (λ f. HasSpaceFor self.old (making_of kind len header) → IsSpared H.Host self.old self.new) }
         ensures sure { IfErr result (λ f. HasAllFor H.Host self.old (making_of kind len header) → ⊥) }
@@ -462,6 +472,7 @@ impl<'h, H: Host> LoomMemory<'h, H> {
         ensures early { IsTrue (H.tells Role.Work) → IfBounds (loom_told H.Host self.old).bounds (λ b. b.made < MAKINGS
             → OnOk result ((loom_told H.Host self.new).heap ≡ heap_after (loom_told H.Host self.old).heap (loom_told H.Host self.old).regs (Make to class (OfPointers n)))) }
         ensures own { OnOk result (IsSparingMaking H.Host self.old self.new (OfPointers n)) }
+        ensures minds { OnOk result (IsTrue (H.tells Role.Work) → MindsCache H.Host None self.old self.new (λ k. (loom_told H.Host self.new).regs to ≡ Ref k)) }
         ensures full { IfErr result (λ f. OnCoreFull f (IsAskedLast H.Host self.old self.new)) }
         ensures spared { IfErr result (λ f. HasSpaceFor self.old (OfPointers n) → IsSpared H.Host self.old self.new) }
         ensures sure { IfErr result (λ f. HasAllFor H.Host self.old (OfPointers n) → ⊥) }
@@ -481,6 +492,7 @@ impl<'h, H: Host> LoomMemory<'h, H> {
         ensures early { IsTrue (H.tells Role.Work) → IfBounds (loom_told H.Host self.old).bounds (λ b. b.made < MAKINGS
             → OnOk result ((loom_told H.Host self.new).heap ≡ heap_after (loom_told H.Host self.old).heap (loom_told H.Host self.old).regs (Make to class (OfWords n)))) }
         ensures own { OnOk result (IsSparingMaking H.Host self.old self.new (OfWords n)) }
+        ensures minds { OnOk result (IsTrue (H.tells Role.Work) → MindsCache H.Host None self.old self.new (λ k. (loom_told H.Host self.new).regs to ≡ Ref k)) }
         ensures full { IfErr result (λ f. OnCoreFull f (IsAskedLast H.Host self.old self.new)) }
         ensures spared { IfErr result (λ f. HasSpaceFor self.old (OfWords n) → IsSpared H.Host self.old self.new) }
         ensures sure { IfErr result (λ f. HasAllFor H.Host self.old (OfWords n) → ⊥) }
@@ -500,6 +512,7 @@ impl<'h, H: Host> LoomMemory<'h, H> {
         ensures early { IsTrue (H.tells Role.Work) → IfBounds (loom_told H.Host self.old).bounds (λ b. b.made < MAKINGS
             → OnOk result ((loom_told H.Host self.new).heap ≡ heap_after (loom_told H.Host self.old).heap (loom_told H.Host self.old).regs (Make to class (OfBytes n)))) }
         ensures own { OnOk result (IsSparingMaking H.Host self.old self.new (OfBytes n)) }
+        ensures minds { OnOk result (IsTrue (H.tells Role.Work) → MindsCache H.Host None self.old self.new (λ k. (loom_told H.Host self.new).regs to ≡ Ref k)) }
         ensures full { IfErr result (λ f. OnCoreFull f (IsAskedLast H.Host self.old self.new)) }
         ensures spared { IfErr result (λ f. HasSpaceFor self.old (OfBytes n) → IsSpared H.Host self.old self.new) }
         ensures sure { IfErr result (λ f. HasAllFor H.Host self.old (OfBytes n) → ⊥) }
@@ -525,6 +538,7 @@ impl<'h, H: Host> LoomMemory<'h, H> {
         ensures early { IsTrue (H.tells Role.Work) → IfBounds (loom_told H.Host self.old).bounds (λ b. b.made < MAKINGS
             → OnOk result ((loom_told H.Host self.new).heap ≡ heap_after (loom_told H.Host self.old).heap (loom_told H.Host self.old).regs (Make to class (OfMethod header code)))) }
         ensures own { OnOk result (IsSparingMaking H.Host self.old self.new (OfMethod header code)) }
+        ensures minds { OnOk result (IsTrue (H.tells Role.Work) → MindsCache H.Host None self.old self.new (λ k. (loom_told H.Host self.new).regs to ≡ Ref k)) }
         ensures full { IfErr result (λ f. OnCoreFull f (IsAskedLast H.Host self.old self.new)) }
         ensures spared { IfErr result (λ f. HasSpaceFor self.old (OfMethod header code) → IsSpared H.Host self.old self.new) }
         ensures sure { IfErr result (λ f. HasAllFor H.Host self.old (OfMethod header code) → ⊥) }

@@ -61,7 +61,7 @@ impl<'h, H: Host> LoomMemory<'h, H> {
 impl<'h, H: Host> LoomMemory<'h, H> {
     ghost use Rattle.purger.specs.Purge.{HasRoom, OnShort, OnDisk, Undisturbed, IsShort, IsPurgeFault};
     ghost use Rattle.loom_memory.specs.Gentle.{IsResting, IsSpared};
-    ghost use Rattle.loom_memory.specs.Own.{KeepsCache};
+    ghost use Rattle.loom_memory.specs.Own.{KeepsCache, MindsCache};
     ghost use Rattle.long_names.specs.State.{IsRef};
     ghost use Rattle.long_names.specs.Counting.{counted};
     ghost use Rattle.long_names.specs.Access.{Access, target_of};
@@ -86,6 +86,7 @@ impl<'h, H: Host> LoomMemory<'h, H> {
         ensures sure { HasRoom self.old.parts words entries → IsOk result }
         ensures needless { HasRoom self.old.parts words entries → IsResting self.old self.new }
         ensures cached { HasRoom self.old.parts words entries → KeepsCache H.Host self.old self.new }
+        ensures minds { Undisturbed result (MindsCache H.Host None self.old self.new (λ k. ⊥)) }
         ensures buf { self.new.buf ≡ self.old.buf }
         ensures work { IsWorkOnly H.Host self.old.disk.host.now self.new.disk.host.now }
         ensures limit { disk_room self.new.disk.rest ≡ disk_room self.old.disk.rest }

@@ -64,7 +64,7 @@ impl<'h, H: Host> LoomMemory<'h, H> {
     ghost use Rattle.purger.specs.Draining.{KeepsHeld};
     ghost use Rattle.loom_memory.specs.Memory.{loom_told, loom_outside, loom_lender, IsQuiet, IsSound};
     ghost use Rattle.loom_memory.specs.Numbers.{IsNumbered};
-    ghost use Rattle.loom_memory.specs.Own.{HasRested, IsIdle, KeepsCache};
+    ghost use Rattle.loom_memory.specs.Own.{HasRested, IsIdle, KeepsCache, MindsCache};
     ghost use Rattle.loom_memory.specs.Residents.{fetched, is_resident};
     ghost use Rattle.loom_memory.specs.Makings.{HasBegun, HasKept, HasSettled, HasThinned, IsLost, IsRefusedCall, IsRefusedMaking};
 
@@ -92,6 +92,7 @@ impl<'h, H: Host> LoomMemory<'h, H> {
         ensures bodies { OnOk result (IsTrue (H.tells Role.Work) → KeepsHeld (core_of self.old.parts) (core_of self.new.parts) (loom_told H.Host self.new).heap) }
         ensures entries { OnOk result (spare_of self.old.parts ≤ spare_of self.new.parts) }
         ensures words { OnOk result (free_of self.old.parts.segment ≤ free_of self.new.parts.segment) }
+        ensures minds { OnOk result (IsTrue (H.tells Role.Work) → MindsCache H.Host None self.old self.new (λ k. ⊥)) }
         ensures sound { KeepsSound result (IsSound H.Host self.new) }
         ensures making { IfErr result (IsRefusedMaking (loom_told H.Host self.old) (loom_told H.Host self.new)) }
         ensures settling { IfErr result (IsRefusedCall (loom_told H.Host self.old) (loom_told H.Host self.new) Settles) }
@@ -138,6 +139,7 @@ impl<'h, H: Host> LoomMemory<'h, H> {
         ensures fetches { OnOk result (fetched self.new ≡ fetched self.old) }
         ensures bodies { OnOk result (IsTrue (H.tells Role.Work) → KeepsHeld (core_of self.old.parts) (core_of self.new.parts) (loom_told H.Host self.new).heap) }
         ensures entries { OnOk result (spare_of self.old.parts ≤ spare_of self.new.parts) }
+        ensures minds { OnOk result (IsTrue (H.tells Role.Work) → MindsCache H.Host None self.old self.new (λ k. ⊥)) }
         ensures rests { self.old.ledger.held + MAKINGS ≤ disk_room self.old.disk.rest → HasRested self.old self.new result }
         ensures sound { KeepsSound result (IsSound H.Host self.new) }
         ensures err { IfErr result (IsRefusedCall (loom_told H.Host self.old) (loom_told H.Host self.new) Settles) }
@@ -167,6 +169,7 @@ impl<'h, H: Host> LoomMemory<'h, H> {
         ensures ledger { OnOk result (self.new.ledger ≡ self.old.ledger) }
         ensures spare { OnOk result ((SETTLED ≤ spare_of self.new.parts) ⊎ IsBare self.new.pinned.a self.new.pinned.b self.new.pinned.d (core_of self.new.parts)) }
         ensures stays { OnOk result (SETTLED ≤ spare_of self.old.parts → self.new ≡ self.old) }
+        ensures minds { OnOk result (MindsCache H.Host None self.old self.new (λ k. ⊥)) }
         ensures sure { SETTLED ≤ spare_of self.old.parts → IsOk result }
         ensures sound { KeepsSound result (IsSound H.Host self.new) }
         ensures err { IfErr result (IsRefusedCall (loom_told H.Host self.old) (loom_told H.Host self.new) Settles) }
@@ -205,6 +208,7 @@ impl<'h, H: Host> LoomMemory<'h, H> {
         ensures whole { self.old.ledger.held + MAKINGS ≤ disk_room self.old.disk.rest → OnOk result ((loom_told H.Host self.new).heap ≡ (loom_told H.Host self.old).heap) }
         ensures idle { self.old.ledger.held + MAKINGS ≤ disk_room self.old.disk.rest → SETTLED ≤ spare_of self.old.parts → OnOk result (IsIdle self.old self.new) }
         ensures cached { self.old.ledger.held + MAKINGS ≤ disk_room self.old.disk.rest → SETTLED ≤ spare_of self.old.parts → OnOk result (KeepsCache H.Host self.old self.new) }
+        ensures minds { OnOk result (IsTrue (H.tells Role.Work) → MindsCache H.Host None self.old self.new (λ k. ⊥)) }
         ensures rests { self.old.ledger.held + MAKINGS ≤ disk_room self.old.disk.rest → SETTLED ≤ spare_of self.old.parts → HasRested self.old self.new result }
         ensures fit { StaysCallable (IsSound H.Host) (loom_told H.Host) loom_lender (loom_outside H.Host) self.old self.new result }
     {

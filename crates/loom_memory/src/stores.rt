@@ -1,5 +1,5 @@
 // Stores into objects: fields, words and bytes.
-ghost use Rattle.std.specs.Prelude.{◌≡◌, ◌≢◌, ◌⊎◌, ◌+◌, ◌+ℤ◌, pos, negsuc, ◌≤◌, ◌<◌, ℕ, [], ◌∷◌, Some, true, false, IsTrue, OnOk, IfOk, IfErr, length};
+ghost use Rattle.std.specs.Prelude.{◌≡◌, ◌≢◌, ◌⊎◌, ◌+◌, ◌+ℤ◌, pos, negsuc, ◌≤◌, ◌<◌, ℕ, [], ◌∷◌, None, Some, true, false, IsTrue, OnOk, IfOk, IfErr, length};
 ghost use Rattle.long_names.specs.declared.object.Kind.TheVariants as sort;
 ghost use Rattle.object_table.specs.Entries.{is_short, is_used, place_of};
 ghost use Rattle.core_view.specs.Steps.{IsAt};
@@ -92,8 +92,8 @@ impl<'h, H: Host> LoomMemory<'h, H> {
     ghost use Rattle.loom_memory.specs.Stores.{IsStored};
     ghost use Rattle.long_names.specs.State.{name_at};
     ghost use Rattle.loom_memory.specs.Damage.{IsDamageOf, IsDamaged};
-    ghost use Rattle.loom_memory.specs.Gentle.{IsGlance, IsResting};
-    ghost use Rattle.loom_memory.specs.Own.{HasPlace, HasSpace, IsAtHand, IsSearchedChange, IsSparingChange, IsUnmarked, KeepsCache};
+    ghost use Rattle.loom_memory.specs.Gentle.{IsGlance, IsResting, Remains};
+    ghost use Rattle.loom_memory.specs.Own.{HasPlace, HasSpace, IsAtHand, IsSearchedChange, IsSparingChange, IsUnmarked, KeepsCache, MindsCache};
 
     // Before an object is stored into: all marks go where it is marked.
     fn unmark(&mut self, s: Short)
@@ -107,6 +107,7 @@ impl<'h, H: Host> LoomMemory<'h, H> {
         ensures resting { IsResting self.old self.new }
         ensures field { (at i w : ℕ) → IsAt (core_of self.old.parts) s.0 at i w → IsAt (core_of self.new.parts) s.0 at i w }
         ensures idle { ((core_of self.old.parts).entries s.0).flags.marked ≡ false → self.new ≡ self.old }
+        ensures minds { MindsCache H.Host None self.old self.new (λ k. k ≡ ((core_of self.old.parts).entries s.0).name) }
         ensures spare { spare_of self.new.parts ≡ spare_of self.old.parts }
         ensures lender { self.new.disk.host.ghost_name ≡ self.old.disk.host.ghost_name }
         ensures outside { loom_outside H.Host self.new ≡ loom_outside H.Host self.old }
@@ -126,6 +127,7 @@ impl<'h, H: Host> LoomMemory<'h, H> {
         ensures gone { IfOk result (λ s. ((core_of self.new.parts).entries s.0).flags.marked ≡ false) }
         ensures own { IsSparingChange H.Host self.old self.new (name_at ((loom_told H.Host self.old).regs of)) result }
         ensures cached { OnOk result (HasPlace H.Host self.old (name_at ((loom_told H.Host self.old).regs of)) → IsUnmarked H.Host self.old (name_at ((loom_told H.Host self.old).regs of)) → KeepsCache H.Host self.old self.new) }
+        ensures minds { OnOk result (MindsCache H.Host None self.old self.new (λ k. k ≡ name_at ((loom_told H.Host self.old).regs of))) }
         ensures damage { IsDamaged self.old self.new (name_at ((loom_told H.Host self.old).regs of)) result }
         ensures core { OnOk result ((a : Access) → target_of a ≡ Some of → makes a ≡ 0 → IfBounds (loom_told H.Host self.old).bounds (HasCore (loom_told H.Host self.old) a)) }
         ensures err { IfErr result (λ f. (a : Access) → target_of a ≡ Some of → makes a ≡ 0 → IsSilent a → IsRefused (loom_told H.Host self.old) (loom_told H.Host self.new) a f) }
@@ -154,6 +156,7 @@ impl<'h, H: Host> LoomMemory<'h, H> {
         ensures spare { OnOk result (SPARE_BEHIND_CLASS ≤ spare_of self.new.parts) }
         ensures searched { OnOk result (IsSearchedChange H.Host self.old self.new (name_at ((loom_told H.Host self.old).regs of))) }
         ensures cached { OnOk result (HasSpace H.Host self.old (name_at ((loom_told H.Host self.old).regs of)) → IsUnmarked H.Host self.old (name_at ((loom_told H.Host self.old).regs of)) → KeepsCache H.Host self.old self.new) }
+        ensures minds { OnOk result (MindsCache H.Host None self.old self.new (λ k. k ≡ name_at ((loom_told H.Host self.old).regs of))) }
         ensures damage { IsDamaged self.old self.new (name_at ((loom_told H.Host self.old).regs of)) result }
         ensures core { OnOk result ((a : Access) → target_of a ≡ Some of → makes a ≡ 0 → IfBounds (loom_told H.Host self.old).bounds (HasCore (loom_told H.Host self.old) a)) }
         ensures err { IfErr result (λ f. (a : Access) → target_of a ≡ Some of → makes a ≡ 0 → IsSilent a → IsRefused (loom_told H.Host self.old) (loom_told H.Host self.new) a f) }
@@ -181,6 +184,7 @@ impl<'h, H: Host> LoomMemory<'h, H> {
         ensures stored { IsStored (loom_told H.Host self.old) (loom_told H.Host self.new) (SetField of i from) }
         ensures sound { IsSound H.Host self.new }
         ensures resting { IsResting self.old self.new }
+        ensures none { Remains (core_of self.new.parts) (core_of self.old.parts) }
         ensures cached { KeepsCache H.Host self.old self.new }
         ensures lender { self.new.disk.host.ghost_name ≡ self.old.disk.host.ghost_name }
         ensures outside { loom_outside H.Host self.new ≡ loom_outside H.Host self.old }
@@ -203,6 +207,7 @@ impl<'h, H: Host> LoomMemory<'h, H> {
         ensures stored { OnOk result (IsStored (loom_told H.Host self.old) (loom_told H.Host self.new) (SetField of i from)) }
         ensures sound { KeepsSound result (IsSound H.Host self.new) }
         ensures glance { OnOk result (IsGlance H.Host self.old self.new) }
+        ensures none { OnOk result (Remains (core_of self.new.parts) (core_of self.old.parts)) }
         ensures cached { OnOk result (KeepsCache H.Host self.old self.new) }
         ensures damage { IfErr result (IsDamageOf self.new.disk.rest ((core_of self.old.parts).entries s.0).name) }
         ensures err { IfErr result (IsRefused (loom_told H.Host self.old) (loom_told H.Host self.new) (SetField of i from)) }
@@ -240,6 +245,7 @@ impl<'h, H: Host> LoomMemory<'h, H> {
         ensures sound { IsSound H.Host self.new }
         ensures resting { IsResting self.old self.new }
         ensures cached { ((core_of self.old.parts).entries s.0).flags.marked ≡ false → KeepsCache H.Host self.old self.new }
+        ensures minds { MindsCache H.Host None self.old self.new (λ k. k ≡ ((core_of self.old.parts).entries s.0).name) }
         ensures lender { self.new.disk.host.ghost_name ≡ self.old.disk.host.ghost_name }
         ensures outside { loom_outside H.Host self.new ≡ loom_outside H.Host self.old }
     {
@@ -255,6 +261,7 @@ impl<'h, H: Host> LoomMemory<'h, H> {
         ensures access { Accessed (loom_told H.Host self.old) (loom_told H.Host self.new) (SetField of i from) (λ _. Nothing) result }
         ensures searched { OnOk result (IsSearchedChange H.Host self.old self.new (name_at ((loom_told H.Host self.old).regs of))) }
         ensures cached { OnOk result (HasSpace H.Host self.old (name_at ((loom_told H.Host self.old).regs of)) → IsUnmarked H.Host self.old (name_at ((loom_told H.Host self.old).regs of)) → KeepsCache H.Host self.old self.new) }
+        ensures minds { OnOk result (MindsCache H.Host None self.old self.new (λ k. k ≡ name_at ((loom_told H.Host self.old).regs of))) }
         ensures damage { IsDamaged self.old self.new (name_at ((loom_told H.Host self.old).regs of)) result }
         ensures fit { StaysCallable (IsSound H.Host) (loom_told H.Host) loom_lender (loom_outside H.Host) self.old self.new result }
     {
@@ -272,6 +279,7 @@ impl<'h, H: Host> LoomMemory<'h, H> {
         ensures own { IsAtHand self.old (name_at ((loom_told H.Host self.old).regs of)) i → IsSparingChange H.Host self.old self.new (name_at ((loom_told H.Host self.old).regs of)) result }
         ensures searched { OnOk result (IsSearchedChange H.Host self.old self.new (name_at ((loom_told H.Host self.old).regs of))) }
         ensures cached { OnOk result (IsAtHand self.old (name_at ((loom_told H.Host self.old).regs of)) i ⊎ HasSpace H.Host self.old (name_at ((loom_told H.Host self.old).regs of)) → IsUnmarked H.Host self.old (name_at ((loom_told H.Host self.old).regs of)) → KeepsCache H.Host self.old self.new) }
+        ensures minds { OnOk result (MindsCache H.Host None self.old self.new (λ k. k ≡ name_at ((loom_told H.Host self.old).regs of))) }
         ensures damage { IsDamaged self.old self.new (name_at ((loom_told H.Host self.old).regs of)) result }
         ensures fit { StaysCallable (IsSound H.Host) (loom_told H.Host) loom_lender (loom_outside H.Host) self.old self.new result }
     {
@@ -298,6 +306,7 @@ impl<'h, H: Host> LoomMemory<'h, H> {
         ensures stored { OnOk result (IsStored (loom_told H.Host self.old) (loom_told H.Host self.new) (WriteWords of at run.now)) }
         ensures sound { KeepsSound result (IsSound H.Host self.new) }
         ensures resting { OnOk result (IsResting self.old self.new) }
+        ensures none { OnOk result (Remains (core_of self.new.parts) (core_of self.old.parts)) }
         ensures cached { OnOk result (KeepsCache H.Host self.old self.new) }
         ensures sure { IfErr result (λ f. IsTrue (H.tells Role.Work) → ⊥) }
         ensures damage { IfErr result (IsDamageOf self.new.disk.rest ((core_of self.old.parts).entries s.0).name) }
@@ -325,6 +334,7 @@ impl<'h, H: Host> LoomMemory<'h, H> {
         ensures access { Accessed (loom_told H.Host self.old) (loom_told H.Host self.new) (SetWord of i w) (λ _. Nothing) result }
         ensures own { IsSparingChange H.Host self.old self.new (name_at ((loom_told H.Host self.old).regs of)) result }
         ensures cached { OnOk result (HasPlace H.Host self.old (name_at ((loom_told H.Host self.old).regs of)) → IsUnmarked H.Host self.old (name_at ((loom_told H.Host self.old).regs of)) → KeepsCache H.Host self.old self.new) }
+        ensures minds { OnOk result (MindsCache H.Host None self.old self.new (λ k. k ≡ name_at ((loom_told H.Host self.old).regs of))) }
         ensures damage { IsDamaged self.old self.new (name_at ((loom_told H.Host self.old).regs of)) result }
         ensures fit { StaysCallable (IsSound H.Host) (loom_told H.Host) loom_lender (loom_outside H.Host) self.old self.new result }
     {
@@ -341,6 +351,7 @@ impl<'h, H: Host> LoomMemory<'h, H> {
         ensures access { Accessed (loom_told H.Host self.old) (loom_told H.Host self.new) (WriteWords of at from.now) (λ _. Nothing) result }
         ensures own { IsSparingChange H.Host self.old self.new (name_at ((loom_told H.Host self.old).regs of)) result }
         ensures cached { OnOk result (HasPlace H.Host self.old (name_at ((loom_told H.Host self.old).regs of)) → IsUnmarked H.Host self.old (name_at ((loom_told H.Host self.old).regs of)) → KeepsCache H.Host self.old self.new) }
+        ensures minds { OnOk result (MindsCache H.Host None self.old self.new (λ k. k ≡ name_at ((loom_told H.Host self.old).regs of))) }
         ensures damage { IsDamaged self.old self.new (name_at ((loom_told H.Host self.old).regs of)) result }
         ensures fit { StaysCallable (IsSound H.Host) (loom_told H.Host) loom_lender (loom_outside H.Host) self.old self.new result }
     {
@@ -361,6 +372,7 @@ impl<'h, H: Host> LoomMemory<'h, H> {
         ensures stored { OnOk result (IsStored (loom_told H.Host self.old) (loom_told H.Host self.new) (SetByte of i b)) }
         ensures sound { KeepsSound result (IsSound H.Host self.new) }
         ensures resting { OnOk result (IsResting self.old self.new) }
+        ensures none { OnOk result (Remains (core_of self.new.parts) (core_of self.old.parts)) }
         ensures cached { OnOk result (KeepsCache H.Host self.old self.new) }
         ensures sure { IfErr result (λ f. IsTrue (H.tells Role.Work) → ⊥) }
         ensures damage { IfErr result (IsDamageOf self.new.disk.rest ((core_of self.old.parts).entries s.0).name) }
@@ -388,6 +400,7 @@ impl<'h, H: Host> LoomMemory<'h, H> {
         ensures access { Accessed (loom_told H.Host self.old) (loom_told H.Host self.new) (SetByte of i b) (λ _. Nothing) result }
         ensures own { IsSparingChange H.Host self.old self.new (name_at ((loom_told H.Host self.old).regs of)) result }
         ensures cached { OnOk result (HasPlace H.Host self.old (name_at ((loom_told H.Host self.old).regs of)) → IsUnmarked H.Host self.old (name_at ((loom_told H.Host self.old).regs of)) → KeepsCache H.Host self.old self.new) }
+        ensures minds { OnOk result (MindsCache H.Host None self.old self.new (λ k. k ≡ name_at ((loom_told H.Host self.old).regs of))) }
         ensures damage { IsDamaged self.old self.new (name_at ((loom_told H.Host self.old).regs of)) result }
         ensures fit { StaysCallable (IsSound H.Host) (loom_told H.Host) loom_lender (loom_outside H.Host) self.old self.new result }
     {

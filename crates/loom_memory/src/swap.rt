@@ -1,5 +1,5 @@
 // Two objects change places under their names: both leave the core, and their records are exchanged.
-ghost use Rattle.std.specs.Prelude.{◌≡◌, ◌≢◌, ℕ, IsTrue, OnOk, IfErr};
+ghost use Rattle.std.specs.Prelude.{◌≡◌, ◌≢◌, ℕ, None, IsTrue, OnOk, IfErr};
 
 use crate::bring::refusal_of;
 use crate::memory::LoomMemory;
@@ -17,7 +17,7 @@ impl<'h, H: Host> LoomMemory<'h, H> {
     ghost use Rattle.object_memory.specs.Fit.{MayCall, StaysCallable};
     ghost use Rattle.loom_memory.specs.Memory.{loom_told, loom_outside, loom_lender, IsSound, IsQuiet, IsSilent, IsRefused};
     ghost use Rattle.loom_memory.specs.Stores.{IsAway, IsStored};
-    ghost use Rattle.loom_memory.specs.Own.{IsPutAway, IsUnmarked, KeepsCache};
+    ghost use Rattle.loom_memory.specs.Own.{IsPutAway, IsUnmarked, KeepsCache, MindsCache};
     ghost use Rattle.loom_memory.specs.Residents.{is_resident, fetched};
 
     // The object of a register leaves the core.
@@ -33,6 +33,7 @@ impl<'h, H: Host> LoomMemory<'h, H> {
         ensures others { OnOk result ((k : ℕ) → k ≢ name_at ((loom_told H.Host self.old).regs of) → IsTrue (is_resident self.old k) → IsTrue (is_resident self.new k)) }
         ensures fetches { OnOk result (fetched self.new ≡ fetched self.old) }
         ensures cached { OnOk result (IsUnmarked H.Host self.old (name_at ((loom_told H.Host self.old).regs of)) → KeepsCache H.Host self.old self.new) }
+        ensures minds { OnOk result (MindsCache H.Host None self.old self.new (λ k. ⊥)) }
         ensures err { IfErr result (λ f. (a : Access) → IsSilent a → makes a ≡ 0 → IsRefused (loom_told H.Host self.old) (loom_told H.Host self.new) a f) }
         ensures lender { self.new.disk.host.ghost_name ≡ self.old.disk.host.ghost_name }
         ensures outside { loom_outside H.Host self.new ≡ loom_outside H.Host self.old }
@@ -89,6 +90,7 @@ impl<'h, H: Host> LoomMemory<'h, H> {
         ensures own { OnOk result (IsPutAway self.old self.new (name_at ((loom_told H.Host self.old).regs a)) (name_at ((loom_told H.Host self.old).regs b))) }
         ensures cached { OnOk result (IsUnmarked H.Host self.old (name_at ((loom_told H.Host self.old).regs a)) → IsUnmarked H.Host self.old (name_at ((loom_told H.Host self.old).regs b))
             → KeepsCache H.Host self.old self.new) }
+        ensures minds { OnOk result (MindsCache H.Host None self.old self.new (λ k. ⊥)) }
         ensures fit { StaysCallable (IsSound H.Host) (loom_told H.Host) loom_lender (loom_outside H.Host) self.old self.new result }
     {
         match self.put_away(a) {

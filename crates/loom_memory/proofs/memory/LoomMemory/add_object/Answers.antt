@@ -7,6 +7,7 @@ use Rattle.loom_memory.proofs.MadeLaws.{entry-resident}
 use Rattle.loom_memory.proofs.RegLaws.{few-held, kept-rooted}
 use Rattle.loom_memory.proofs.GentleLaws.{calm-remains}
 use Rattle.loom_memory.proofs.KeepingLaws.{counts-keep}
+use Rattle.loom_memory.proofs.MindLaws.{minds-made}
 use Rattle.loom_memory.proofs.memory.LoomMemory.add_object.Goals as goal
 
 pub make_object-requires-clause-light : goal.make_object-requires-clause-light
@@ -55,3 +56,6 @@ pub returns-in-Some-clause-cached : goal.returns-in-Some-clause-cached
 returns-in-Some-clause-cached g c =
     let count = c.count_making.ensures in
     counts-keep g.H.Host c.args.self.now _ c.requires.sound c.in-Some.ensures.parts.core c.in-Some.ensures.made.marks (ap (λ (k : Ledger). k.rows) count) (ap (λ (k : Ledger). k.mark) count) (ap (λ (k : Ledger). k.begun) count)
+
+pub returns-in-Some-clause-minds : goal.returns-in-Some-clause-minds
+returns-in-Some-clause-minds g c = minds-made g.H.Host c.args.self.now _ c.in-Some.new.0 c.args.name c.requires.sound (returns-in-Some-clause-sound g c) c.in-Some.ensures.made.entry.named c.in-Some.ensures.made.others (returns-in-Some-clause-cached g c)

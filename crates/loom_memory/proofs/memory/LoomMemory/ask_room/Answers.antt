@@ -3,6 +3,7 @@ use Rattle.disk_objects.specs.Disk.{disk_room}
 use Rattle.loom_memory.specs.Memory.{loom_told}
 use Rattle.loom_memory.proofs.SettleLaws.{bodies-same}
 use Rattle.loom_memory.proofs.SparedLaws.{err-each, spared-never}
+use Rattle.loom_memory.proofs.MindLaws.{minds-refl}
 use Rattle.loom_memory.proofs.memory.LoomMemory.ask_room.Goals as goal
 
 pub returns-then-self-room-clause-bodies : goal.returns-then-self-room-clause-bodies
@@ -22,3 +23,6 @@ returns-then-self-lt-MAKINGS_BEFORE_FREEING-clause-sure g c = λ low. let no = c
 
 pub returns-clause-sure : goal.returns-clause-sure
 returns-clause-sure g c = err-each c.free_one.result (λ low. let no = c.if-self-room.false in omega (arith, low, no))
+
+pub returns-then-self-room-clause-minds : goal.returns-then-self-room-clause-minds
+returns-then-self-room-clause-minds g c = λ told. minds-refl g.H.Host c.args.self.now (λ k. ⊥) c.requires.sound

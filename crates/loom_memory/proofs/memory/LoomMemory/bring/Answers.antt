@@ -14,6 +14,8 @@ use Rattle.loom_memory.specs.Residents.{fetched}
 use Rattle.loom_memory.proofs.GentleLaws.{count-after, fetched-same, brought-gentle, no-body}
 use Rattle.loom_memory.proofs.BelowLaws.{tested-after}
 use Rattle.loom_memory.proofs.DamageLaws.{damage-read}
+use Rattle.loom_memory.specs.Own.{IsBrought}
+use Rattle.loom_memory.proofs.MindLaws.{minds-brought, minds-refl}
 use Rattle.loom_memory.proofs.memory.LoomMemory.bring.Goals as goal
 
 pub entry-requires-clause-within : goal.entry-requires-clause-within
@@ -101,3 +103,14 @@ returns-in-Ok-clause-damage g c = damage-read c.bring_leaf.result c.args.self.no
 
 pub returns-in-Err-clause-damage : goal.returns-in-Err-clause-damage
 returns-in-Err-clause-damage g c = λ room. c.in-Err.ensures.damage
+
+pub returns-then-is_some-clause-minds : goal.returns-then-is_some-clause-minds
+returns-then-is_some-clause-minds g c = minds-refl g.H.Host c.args.self.now (IsBrought c.args.self.now c.args.self.now ((core_of c.args.self.now.parts).entries c.args.s.0).name) c.requires.sound
+
+pub returns-in-Ok-clause-minds : goal.returns-in-Ok-clause-minds
+returns-in-Ok-clause-minds g c =
+    let m = c.args.self.now in
+    let u = c.look.new.self in
+    let s = c.args.s.0 in
+    minds-brought c.bring_leaf.result g.H.Host m u c.bring_leaf.new.self ((core_of m.parts).entries s).name ((core_of u.parts).entries s).name c.requires.sound c.in-Ok.ensures.parts c.in-Ok.ensures.gentle.cache (ap (λ (p : Parts). ((core_of p).entries s).name) c.in-Ok.ensures.parts)
+    (fetched-same m u c.in-Ok.ensures.ledger) c.bring_leaf.ensures.counted c.bring_leaf.ensures.minds

@@ -1,4 +1,4 @@
-use Rattle.std.proofs.Common.{ℕ, ◌∙◌, ap, subst, arith}
+use Rattle.std.proofs.Common.{◌≡◌, ℕ, ◌∙◌, ap, subst, arith}
 use Rattle.loom_outside.specs.declared.outside.Role.TheVariants.{Work}
 use Rattle.object_record.specs.Buffer.{raw_of}
 use Rattle.object_record.specs.Objects.{object_in}
@@ -13,6 +13,7 @@ use Rattle.loom_memory.proofs.CallLaws.{leaf-words, refused-at}
 use Rattle.loom_memory.proofs.BringLaws.{leaf-still, still-read, read-sized, unfit}
 use Rattle.loom_memory.proofs.GentleLaws.{fetched-same, gentle-trans}
 use Rattle.loom_memory.proofs.DamageLaws.{full-damage}
+use Rattle.loom_memory.proofs.MindLaws.{minds-then}
 use Rattle.loom_memory.proofs.memory.LoomMemory.bring_leaf.Goals as goal
 
 pub come-requires-clause-leaf : goal.come-requires-clause-leaf
@@ -103,3 +104,10 @@ returns-else-enough-clause-buf g c = c.full-in-Ok.ensures.buf ∙ c.in-Ok.ensure
 
 pub returns-in-Err-clause-damage : goal.returns-in-Err-clause-damage
 returns-in-Err-clause-damage g c = λ room. absurd (c.in-Err.ensures.sure room)
+
+pub returns-then-enough-clause-minds : goal.returns-then-enough-clause-minds
+returns-then-enough-clause-minds g c =
+    let m = c.args.self.now in
+    let u = c.clear.new.self in
+    let s = c.args.s.0 in
+    minds-then g.H.Host m u c.come.new.self (λ k. ⊥) (λ k. k ≡ ((core_of u.parts).entries s).name) (λ k. k ≡ ((core_of m.parts).entries s).name) (λ k no. absurd no) (λ k is. is ∙ c.in-Ok.ensures.calm.live s c.requires.out) c.in-Ok.ensures.minds c.come.ensures.minds

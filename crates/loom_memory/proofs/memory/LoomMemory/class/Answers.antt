@@ -1,4 +1,4 @@
-use Rattle.std.proofs.Common.{◌≡◌, [], refl, sym, ◌∙◌, ap, subst}
+use Rattle.std.proofs.Common.{◌≡◌, [], None, refl, sym, ◌∙◌, ap, subst}
 use Rattle.long_names.specs.Names.{SMALL_INTEGER}
 use Rattle.long_names.specs.State.{IsRef}
 use Rattle.long_names.specs.declared.value.Value.TheVariants.{Int, Ref}
@@ -13,6 +13,7 @@ use Rattle.long_names.specs.Objects.{int_of}
 use Rattle.purger.specs.Purge.{HasRoom}
 use Rattle.loom_memory.specs.Gentle.{IsSteady}
 use Rattle.loom_memory.proofs.GentleLaws.{then-number}
+use Rattle.loom_memory.specs.Own.{MindsCache}
 use Rattle.loom_memory.proofs.memory.LoomMemory.class.Goals as goal
 use Rattle.loom_memory.proofs.memory.LoomMemory.class.Given as given
 
@@ -76,3 +77,9 @@ returns-then-is_name-clause-damage g c = λ ref. c.class_of_object.ensures.damag
 
 pub returns-clause-damage : goal.returns-clause-damage
 returns-clause-damage g c = λ ref. absurd (subst IsRef (number-is g c) ref)
+
+pub returns-then-is_name-clause-minds : goal.returns-then-is_name-clause-minds
+returns-then-is_name-clause-minds g c = no-number c.class_of_object.result ((loom_told g.H.Host c.args.self.now).regs c.args.of) ((core_of c.args.self.now.parts).entries c.word_of-w.result).name _ (name-is g c)
+
+pub returns-clause-minds : goal.returns-clause-minds
+returns-clause-minds g c = then-number (IsSome (int_of ((loom_told g.H.Host c.args.self.now).regs c.args.of))) (MindsCache g.H.Host None c.args.self.now c.put_name.new.self (λ k. ⊥)) c.put_name.result c.put_name.ensures.minds

@@ -22,6 +22,7 @@ use Rattle.loom_memory.proofs.CalmLaws.{within-calm, calm-kept, quiet-is}
 use Rattle.loom_memory.proofs.FieldLaws.{read-only}
 use Rattle.loom_memory.proofs.CacheLaws.{cache-same}
 use Rattle.loom_memory.proofs.GentleLaws.{within-remains}
+use Rattle.loom_memory.proofs.MindLaws.{minds-come}
 use Rattle.loom_memory.proofs.memory.LoomMemory.come.Goals as goal
 use Rattle.loom_memory.proofs.memory.LoomMemory.come.Given as given
 
@@ -95,3 +96,6 @@ returns-clause-gentle g c =
 
 pub returns-clause-next : goal.returns-clause-next
 returns-clause-next g c = ap (λ (k : Ledger). k.next) c.count_fetch.ensures
+
+pub returns-clause-minds : goal.returns-clause-minds
+returns-clause-minds g c = minds-come g.H.Host c.args.self.now _ c.args.s.0 c.requires.sound (returns-clause-sound g c) c.translate_in.ensures.within (c.translate_in.ensures.within.live c.args.s.0 c.requires.leaf.0).1 (returns-clause-gentle g c).cache

@@ -14,6 +14,8 @@ use Rattle.loom_memory.proofs.EndLaws.{quiet-thins, quiet-later}
 use Rattle.method_cache.specs.Found.{found}
 use Rattle.loom_memory.proofs.CacheLaws.{cache-same}
 use Rattle.loom_memory.proofs.GentleLaws.{fetched-same, purged-remains, read-refl, rest-refl}
+use Rattle.purger.proofs.MindLaws.{purged-came}
+use Rattle.loom_memory.proofs.MindLaws.{came-remains}
 use Rattle.loom_memory.proofs.memory.LoomMemory.compact.Goals as goal
 use Rattle.loom_memory.proofs.memory.LoomMemory.compact.Given as given
 
@@ -70,6 +72,7 @@ returns-clause-peek g c =
         cache = cache-same (core_of m.parts) (core_of c.compact.new.p) (found m.ledger.rows) m.ledger.mark m.ledger.begun c.requires.fit.sound.kept.parts.core c.compact.ensures.parts.core c.compact.ensures.marks c.requires.fit.sound.kept.cached;
       };
       fetches = fetched-same m _ refl;
+      none = came-remains (core_of m.parts) (core_of c.compact.new.p) (purged-came (core_of m.parts) (core_of c.compact.new.p) c.compact.ensures.purged);
     }
 
 pub returns-clause-resting : goal.returns-clause-resting

@@ -8,6 +8,7 @@ use Rattle.leaf_lambda.specs.Parts.{spare_of}
 use Rattle.loom_memory.specs.Gentle.{IsSteady}
 use Rattle.loom_memory.proofs.GentleLaws.{none-wanting}
 use Rattle.loom_memory.proofs.SparedLaws.{unspent-never}
+use Rattle.loom_memory.proofs.MindLaws.{minds-steady, steady-then}
 use Rattle.loom_memory.proofs.memory.LoomMemory.entry_of.Goals as goal
 
 pub returns-in-Some-clause-quiet : goal.returns-in-Some-clause-quiet
@@ -36,3 +37,9 @@ returns-in-Some-clause-unspent g c = λ unspent. c.entry_for.ensures.steady
 
 pub returns-in-None-clause-unspent : goal.returns-in-None-clause-unspent
 returns-in-None-clause-unspent g c = unspent-never _ c.free_entry.result (λ unspent. unspent c.in-None.ensures.none)
+
+pub returns-in-Some-clause-minds : goal.returns-in-Some-clause-minds
+returns-in-Some-clause-minds g c = minds-steady g.H.Host c.args.self.now c.entry_for.new.self (λ k. ⊥) c.requires.sound c.entry_for.ensures.sound.kept.parts.core c.entry_for.ensures.steady
+
+pub returns-in-None-clause-minds : goal.returns-in-None-clause-minds
+returns-in-None-clause-minds g c = steady-then c.free_entry.result g.H.Host c.args.self.now c.entry_for.new.self c.free_entry.new.self (λ k. ⊥) c.requires.sound c.entry_for.ensures.sound.kept.parts.core c.entry_for.ensures.steady c.free_entry.ensures.minds

@@ -20,9 +20,10 @@ use Rattle.loom_memory.proofs.RecountLaws.{recount-kept, recount-marks, recount-
 use Rattle.loom_memory.proofs.StoreLaws.{stored-is, stored-kept, stored-over, stored-between}
 use Rattle.loom_memory.proofs.LoadLaws.{field-before, stored-told}
 use Rattle.loom_memory.proofs.OwingLaws.{exact-raised, exact-exchanged, exact-lowered}
-use Rattle.loom_memory.proofs.GentleLaws.{recount-remains, remains-trans, rest-refl, store-remains}
+use Rattle.loom_memory.proofs.GentleLaws.{recount-none, recount-remains, remains-trans, rest-refl, store-remains}
 use Rattle.purger.proofs.MarkLaws.{Kept-trans, within-marks}
-use Rattle.loom_memory.proofs.KeepingLaws.{marks-keep}
+use Rattle.loom_memory.proofs.MindLaws.{marks-keep}
+use Rattle.loom_memory.proofs.MindLaws.{came-remains, stored-came}
 use Rattle.loom_memory.proofs.memory.LoomMemory.exchange_field.Goals as goal
 use Rattle.loom_memory.proofs.memory.LoomMemory.exchange_field.Given as given
 
@@ -166,3 +167,11 @@ returns-clause-cached g c =
     let d = core_of c.lower_word.new.p in
     marks-keep g.H.Host c.args.self.now _ c.requires.sound c.lower_word.ensures.parts.core
     (Kept-trans x a d (recount-marks x a c.raise_word.ensures.recount) (Kept-trans a b d (within-marks a b c.args.s.0 c.raise_word.ensures.parts.core c.put_field.ensures.parts.core c.put_field.ensures.within) (recount-marks b d c.lower_word.ensures.recount))) refl
+
+pub returns-clause-none : goal.returns-clause-none
+returns-clause-none g c =
+    let x = core_of c.args.self.now.parts in
+    let a = core_of c.raise_word.new.p in
+    let b = core_of c.put_field.new.p in
+    let d = core_of c.lower_word.new.p in
+    remains-trans d a x (remains-trans d b a (recount-none b d c.lower_word.ensures.recount) (came-remains a b (stored-came a b c.args.s.0 c.put_field.ensures.within (ap (λ (e : Entry). place_of e.state) c.put_field.ensures.entry) (ap (λ (e : Entry). e.name) c.put_field.ensures.entry)))) (recount-none x a c.raise_word.ensures.recount)

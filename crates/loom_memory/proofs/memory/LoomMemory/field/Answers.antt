@@ -49,7 +49,7 @@ pub returns-in-Some-word_in_body-clause-own : goal.returns-in-Some-word_in_body-
 returns-in-Some-word_in_body-clause-own g c = λ hand.
     let m = c.args.self.now in
     let n = name_at ((loom_told g.H.Host m).regs c.args.of) in
-    steady-sparing g.H.Host m m c.put_word.new.self n c.in-Some.s _ (here-sparing g.H.Host m n c.in-Some.s c.in-Some.ensures.there c.in-Some.ensures.bounded) c.put_word.ensures.steady c.requires.fit.sound.kept.parts.core c.put_word.ensures.sound.kept.parts.core (ap (λ (t : Told). t.bounds) c.put_word.ensures.told)
+    steady-sparing g.H.Host m m c.put_word.new.self n c.in-Some.s _ (here-sparing g.H.Host m n c.in-Some.s c.requires.fit.sound c.in-Some.ensures.there c.in-Some.ensures.bounded) c.put_word.ensures.steady c.requires.fit.sound.kept.parts.core c.put_word.ensures.sound.kept.parts.core (ap (λ (t : Told). t.bounds) c.put_word.ensures.told)
 
 pub returns-in-None-word_in_body-clause-own : goal.returns-in-None-word_in_body-clause-own
 returns-in-None-word_in_body-clause-own g c = λ hand. absurd (not-at-hand g.H.Host c.args.self.now c.args.of c.in-Some.s.0 c.args.i c.requires.fit.sound c.requires.may.names c.in-Some.ensures.word c.in-None-word_in_body.ensures.none hand)
@@ -62,4 +62,4 @@ returns-in-Some-word_in_body-clause-searched g c =
     let m = c.args.self.now in
     let v = c.put_word.new.self in
     let n = name_at ((loom_told g.H.Host m).regs c.args.of) in
-    peek-searched g.H.Host m m v n (here-searched g.H.Host m n c.in-Some.ensures.there) (steady-peek g.H.Host m v c.put_word.ensures.steady) c.requires.fit.sound.kept.parts.core c.put_word.ensures.sound.kept.parts.core
+    peek-searched g.H.Host m m v n (here-searched g.H.Host m n c.requires.fit.sound c.in-Some.ensures.there) (steady-peek g.H.Host m v c.put_word.ensures.steady) c.requires.fit.sound.kept.parts.core c.put_word.ensures.sound.kept.parts.core

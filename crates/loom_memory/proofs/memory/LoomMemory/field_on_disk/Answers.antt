@@ -40,7 +40,7 @@ returns-in-Ok-clause-searched g c =
     let m = c.args.self.now in
     let u = c.load_with_room.new.self in
     let load = c.in-Ok.ensures in
-    then-searched c.take_field.result g.H.Host m u c.take_field.new.self (name_at ((loom_told g.H.Host m).regs c.args.of)) (load-searched g.H.Host m u c.args.of c.requires.fit.sound load.sound c.requires.may.names load.there load.counted load.gentle load.idle)
+    then-searched c.take_field.result g.H.Host m u c.take_field.new.self (name_at ((loom_told g.H.Host m).regs c.args.of)) (load-searched g.H.Host m u c.args.of c.requires.fit.sound load.sound c.requires.may.names load.there load.counted load.gentle load.idle load.minds)
     c.take_field.ensures.peek load.sound.kept.parts.core c.take_field.ensures.sound
 
 pub returns-in-Ok-clause-damage : goal.returns-in-Ok-clause-damage

@@ -7,6 +7,7 @@ use Rattle.loom_memory.specs.Memory.{loom_told, IsQuiet}
 use Rattle.loom_memory.specs.Known.{IsNameable}
 use Rattle.loom_memory.proofs.AccessLaws.{quiet-ready}
 use Rattle.loom_memory.proofs.KnownLaws.{spent-then, bare-by, bare-then, refused-of}
+use Rattle.loom_memory.proofs.MindLaws.{minds-step}
 use Rattle.loom_memory.proofs.memory.LoomMemory.free_entry.Goals as goal
 
 pub entry_for-requires-clause-named : goal.entry_for-requires-clause-named
@@ -37,3 +38,8 @@ returns-in-None-clause-err g c = refused-of (loom_told g.H.Host c.args.self.now)
 
 pub returns-in-Err-clause-err : goal.returns-in-Err-clause-err
 returns-in-Err-clause-err g c = λ a row silent none. c.in-Err.ensures.err a silent none
+
+pub returns-in-Some-clause-minds : goal.returns-in-Some-clause-minds
+returns-in-Some-clause-minds g c =
+    let s = c.entry_for.ensures.steady in
+    minds-step g.H.Host c.args.self.now c.clear.new.self c.entry_for.new.self (λ k. ⊥) c.in-Ok.ensures.minds c.in-Ok.ensures.sound.kept.parts.core c.entry_for.ensures.sound.kept.parts.core s.gentle.remains s.none s.gentle.cache

@@ -44,3 +44,6 @@ returns-then-self-room-clause-room g c = λ words has.
     let first = has.0 in
     let second = has.1 in
     (omega (arith, wider, first), omega (arith, more, second))
+
+pub returns-then-self-room-clause-minds : goal.returns-then-self-room-clause-minds
+returns-then-self-room-clause-minds g c = c.in-Ok.ensures.minds

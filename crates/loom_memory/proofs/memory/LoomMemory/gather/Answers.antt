@@ -14,6 +14,8 @@ use Rattle.loom_memory.proofs.CacheLaws.{cache-same}
 use Rattle.loom_memory.proofs.CalmLaws.{purged-calm, calm-kept, quiet-is}
 use Rattle.loom_memory.proofs.LambdaLaws.{still-calm}
 use Rattle.loom_memory.proofs.GentleLaws.{gentle-refl, purged-remains, read-refl}
+use Rattle.purger.proofs.MindLaws.{minds-kept, purged-came}
+use Rattle.loom_memory.proofs.MindLaws.{minds-core, minds-refl}
 use Rattle.loom_memory.proofs.memory.LoomMemory.gather.Goals as goal
 use Rattle.loom_memory.proofs.memory.LoomMemory.gather.Goals.{After-compact}
 use Rattle.loom_memory.proofs.memory.LoomMemory.gather.Given as given
@@ -88,3 +90,11 @@ returns-clause-idle g c = λ none. absurd (let both = sym (c.is_together.ensures
 pub returns-clause-outside : goal.returns-clause-outside
 unfolding loom_outside
 returns-clause-outside g c = refl
+
+pub returns-then-is_together-clause-minds : goal.returns-then-is_together-clause-minds
+returns-then-is_together-clause-minds g c = minds-refl g.H.Host c.args.self.now (λ k. ⊥) c.requires.sound
+
+pub returns-clause-minds : goal.returns-clause-minds
+returns-clause-minds g c =
+    let m = c.args.self.now in
+    minds-core g.H.Host m _ c.requires.sound (returns-clause-sound g c) refl (minds-kept (core_of m.parts) (core_of c.compact.new.p) (purged-came (core_of m.parts) (core_of c.compact.new.p) c.compact.ensures.purged) c.compact.ensures.marks)

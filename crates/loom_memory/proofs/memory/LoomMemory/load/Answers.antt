@@ -10,7 +10,7 @@ pub returns-in-Some-clause-quiet : goal.returns-in-Some-clause-quiet
 returns-in-Some-clause-quiet g c = quiet-same g.H.Host c.args.self.now
 
 pub returns-in-Some-clause-own : goal.returns-in-Some-clause-own
-returns-in-Some-clause-own g c = here-sparing g.H.Host c.args.self.now (name_at ((loom_told g.H.Host c.args.self.now).regs c.args.of)) _ c.in-Some.ensures.there c.in-Some.ensures.bounded
+returns-in-Some-clause-own g c = here-sparing g.H.Host c.args.self.now (name_at ((loom_told g.H.Host c.args.self.now).regs c.args.of)) _ c.requires.sound c.in-Some.ensures.there c.in-Some.ensures.bounded
 
 pub returns-in-None-clause-idle : goal.returns-in-None-clause-idle
 returns-in-None-clause-idle g c = λ here. absurd (let both : true ≡ false = sym here ∙ c.in-None.ensures.away in cc)
@@ -20,7 +20,7 @@ returns-in-None-clause-own g c =
     let m = c.args.self.now in
     let r = c.load_with_room.result in
     let all = c.load_with_room.ensures in
-    come-sparing r g.H.Host m c.load_with_room.new.self (name_at ((loom_told g.H.Host m).regs c.args.of)) c.requires.sound.kept.parts.core all.sound c.in-None.ensures.away c.in-None.ensures.leaf all.there all.bounded all.counted all.gentle
+    come-sparing r g.H.Host m c.load_with_room.new.self (name_at ((loom_told g.H.Host m).regs c.args.of)) c.requires.sound.kept.parts.core all.sound c.in-None.ensures.away c.in-None.ensures.leaf all.there all.bounded all.counted all.gentle all.minds
 
 pub returns-in-Some-clause-tested : goal.returns-in-Some-clause-tested
 returns-in-Some-clause-tested g c = λ away. absurd (let both : true ≡ false = sym c.in-Some.ensures.there ∙ away in cc)

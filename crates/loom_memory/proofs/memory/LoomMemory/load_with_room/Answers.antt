@@ -21,6 +21,8 @@ use Rattle.loom_memory.proofs.GentleLaws.{bounded-at, entry-at, fetched-same, ge
 use Rattle.loom_memory.specs.Below.{IsTested}
 use Rattle.loom_memory.specs.Damage.{IsDamageOf, words_read}
 use Rattle.loom_memory.proofs.DamageLaws.{room-same}
+use Rattle.loom_memory.specs.Own.{IsBrought}
+use Rattle.loom_memory.proofs.MindLaws.{minds-then}
 use Rattle.loom_memory.proofs.memory.LoomMemory.load_with_room.Goals as goal
 use Rattle.loom_memory.proofs.memory.LoomMemory.load_with_room.Given as given
 
@@ -160,3 +162,14 @@ returns-else-enough-clause-damage g c = λ room.
     let is = word-is m.regs c.index.result c.args.of c.index.ensures.same c.index.ensures.within c.requires.sound.kept.many in
     let named = named-then g.H.Host m c.clear.new.self c.args.of s c.requires.sound c.in-Ok.ensures.sound.kept.parts.core (quiet-ready (loom_told g.H.Host m) (loom_told g.H.Host c.clear.new.self) c.in-Ok.ensures.quiet c.requires.ready) c.requires.name is c.in-Ok.ensures.calm c.in-Ok.ensures.quiet in
     subst (λ (k : ℕ). IsDamageOf c.want.new.self.disk.rest k c.want.result) (sym (ap name_at named.name)) c.want.ensures.damage
+
+pub returns-in-Ok-bring-clause-minds : goal.returns-in-Ok-bring-clause-minds
+returns-in-Ok-bring-clause-minds g c =
+    let m = c.args.self.now in
+    let u = c.clear.new.self in
+    let n = c.bring.new.self in
+    let s = slice_index_or m.regs c.index.result 0 in
+    let named = named-then g.H.Host m u c.args.of s c.requires.sound c.in-Ok.ensures.sound.kept.parts.core (quiet-ready (loom_told g.H.Host m) (loom_told g.H.Host u) c.in-Ok.ensures.quiet c.requires.ready) c.requires.name (word-here g c) c.in-Ok.ensures.calm c.in-Ok.ensures.quiet in
+    let own = ((core_of u.parts).entries s).name in
+    let name = name_at ((loom_told g.H.Host m).regs c.args.of) in
+    minds-then g.H.Host m u n (λ k. ⊥) (IsBrought u n own) (IsBrought m n name) (λ k no. absurd no) (λ k is. (is.0 ∙ sym (ap name_at named.name), is.1 ∙ ap counted (fetched-same m u c.in-Ok.ensures.ledger))) c.in-Ok.ensures.minds c.in-Ok-bring.ensures.minds

@@ -1,4 +1,4 @@
-use Rattle.std.proofs.Common.{◌<◌, ◌∙◌, ℕ, ap, sym, subst, arith}
+use Rattle.std.proofs.Common.{◌≡◌, ◌<◌, ◌∙◌, ℕ, ap, sym, subst, arith}
 use Rattle.loom_memory.specs.Memory.{loom_told}
 use Rattle.loom_memory.specs.New.{making_of}
 use Rattle.loom_memory.specs.Residents.{fetched}
@@ -12,6 +12,8 @@ use Rattle.purger.specs.Purge.{HasRoom}
 use Rattle.loom_memory.specs.declared.ledger.Ledger.{Ledger}
 use Rattle.loom_memory.proofs.KeepingLaws.{room-keeps}
 use Rattle.loom_memory.proofs.SparedLaws.{rest-spared, sure-then, spared-then, spared-trans}
+use Rattle.long_names.specs.declared.value.Value.TheVariants.{Ref}
+use Rattle.loom_memory.proofs.MindLaws.{minds-after}
 use Rattle.loom_memory.proofs.memory.LoomMemory.make_here.Goals as goal
 
 pub returns-then-words-self-clause-err : goal.returns-then-words-self-clause-err
@@ -115,3 +117,6 @@ returns-else-enough-clause-sure g c = λ told room. let no = c.if-enough.false i
 
 pub returns-in-Err-clause-sure : goal.returns-in-Err-clause-sure
 returns-in-Err-clause-sure g c = λ told room. let is = c.in-Err.ensures.sure (subst (λ (k : ℕ). HasRoom c.args.self.now.parts k 27) (sym c.words_new-words.ensures.words) room) in cc
+
+pub returns-then-enough-clause-minds : goal.returns-then-enough-clause-minds
+returns-then-enough-clause-minds g c = minds-after c.put_object.result g.H.Host c.args.self.now c.clear_new.new.self c.put_object.new.self (λ k. (loom_told g.H.Host c.put_object.new.self).regs c.args.to ≡ Ref k) c.in-Ok.ensures.minds c.put_object.ensures.minds

@@ -1,4 +1,4 @@
-use Rattle.std.proofs.Common.{◌∙◌}
+use Rattle.std.proofs.Common.{◌≡◌, IsTrue, ◌∙◌}
 use Rattle.long_names.specs.Access.{Make, Nothing}
 use Rattle.loom_memory.specs.Memory.{loom_told}
 use Rattle.loom_memory.specs.New.{making_of}
@@ -9,6 +9,9 @@ use Rattle.loom_memory.proofs.MadeLaws.{asked-last, core-none, fetched-then, mad
 use Rattle.loom_memory.proofs.MakingLaws.{made-last, made-now, thinned-ready}
 use Rattle.loom_memory.specs.Own.{IsAskedLast}
 use Rattle.loom_memory.proofs.SparedLaws.{spared-making, sure-making}
+use Rattle.long_names.specs.declared.value.Value.TheVariants.{Ref}
+use Rattle.loom_outside.specs.declared.outside.Role.TheVariants.{Work}
+use Rattle.loom_memory.proofs.MindLaws.{minds-told}
 use Rattle.loom_memory.proofs.memory.LoomMemory.make_named.Goals as goal
 
 pub make_here-requires-clause-ready : goal.make_here-requires-clause-ready
@@ -69,3 +72,6 @@ returns-in-Ok-clause-sure g c = sure-making c.make_here.result g.H.Host c.args.s
 
 pub returns-in-Err-clause-sure : goal.returns-in-Err-clause-sure
 returns-in-Err-clause-sure g c = λ all. c.in-Err.ensures.sure all.room
+
+pub returns-in-Ok-clause-minds : goal.returns-in-Ok-clause-minds
+returns-in-Ok-clause-minds g c = minds-told c.make_here.result (IsTrue (g.H.Host.tells Work)) g.H.Host c.args.self.now c.ask_room.new.self c.make_here.new.self (λ k. (loom_told g.H.Host c.make_here.new.self).regs c.args.to ≡ Ref k) c.in-Ok.ensures.minds c.make_here.ensures.minds

@@ -12,6 +12,7 @@ use Rattle.long_names.specs.State.{name_at}
 use Rattle.loom_memory.proofs.GentleLaws.{changed-sparing, refused-change}
 use Rattle.object_memory.specs.Told.{Told, Cache}
 use Rattle.object_memory.specs.Contract.{with_mark}
+use Rattle.loom_memory.proofs.MindLaws.{minds-mark}
 use Rattle.loom_memory.proofs.memory.LoomMemory.mark.Goals as goal
 use Rattle.loom_memory.proofs.memory.LoomMemory.mark.Given as given
 
@@ -57,3 +58,13 @@ returns-in-Ok-clause-cached g c = λ place.
     let s = (core_of c.load.new.self.parts).entries c.in-Ok.s.0 in
     let name : s.name ≡ name_at ((loom_told g.H.Host m).regs c.args.r) = ap name_at (sym (name-of g c)) ∙ ap (λ (z : Told). name_at (z.regs c.args.r)) c.in-Ok.ensures.quiet.same in
     c.note_mark.ensures.cached ∙ ap (λ (z : Cache). with_mark z (Some s.name)) (c.in-Ok.ensures.own.cached place) ∙ ap (λ n. with_mark (loom_told g.H.Host m).cache (Some n)) name
+
+pub returns-in-Ok-clause-minds : goal.returns-in-Ok-clause-minds
+returns-in-Ok-clause-minds g c =
+    let m = c.args.self.now in
+    let u = c.load.new.self in
+    let s = (core_of u.parts).entries c.in-Ok.s.0 in
+    let n = name_at ((loom_told g.H.Host m).regs c.args.r) in
+    let name : s.name ≡ n = ap name_at (sym (name-of g c)) ∙ ap (λ (z : Told). name_at (z.regs c.args.r)) c.in-Ok.ensures.quiet.same in
+    minds-mark g.H.Host m u c.note_mark.new.self n c.in-Ok.ensures.own.minds c.in-Ok.ensures.sound.kept.parts.core c.note_mark.ensures.sound.kept.parts.core c.note_mark.ensures.resting.remains c.note_mark.ensures.none c.note_mark.ensures.resting.idle.fetches c.in-Ok.ensures.own.reached.there
+    (c.note_mark.ensures.cached ∙ ap (λ k. with_mark (loom_told g.H.Host u).cache (Some k)) name)

@@ -13,7 +13,7 @@ use Rattle.loom_memory.proofs.RowLaws.{marking-exact, marking-kept, marking-cach
 use Rattle.loom_memory.proofs.ExactLaws.{mark-exact}
 use Rattle.loom_memory.proofs.MarkingLaws.{IsCaching, mark-told, mark-kept, mark-over}
 use Rattle.loom_memory.specs.Residents.{fetched}
-use Rattle.loom_memory.proofs.GentleLaws.{mark-remains}
+use Rattle.loom_memory.proofs.GentleLaws.{mark-none, mark-remains}
 use Rattle.loom_memory.proofs.memory.LoomMemory.note_mark.Goals as goal
 use Rattle.loom_memory.proofs.memory.LoomMemory.note_mark.Given as given
 
@@ -73,3 +73,6 @@ returns-clause-cached g c =
     ap (λ (y : Core). cache_of y (found k.rows) c.args.s.0 k.begun) c.set_mark.ensures.core
     ∙ marking-exact x (found k.rows) k.mark c.args.s.0 k.begun c.requires.sound.kept.parts.core (used-of g c) c.refresh.ensures.fresh
     ∙ ap (λ (z : Cache). with_mark z (Some (x.entries c.args.s.0).name)) c.refresh.ensures.cache
+
+pub returns-clause-none : goal.returns-clause-none
+returns-clause-none g c = mark-none (core_of c.args.self.now.parts) (core_of c.set_mark.new.p) c.args.s.0 c.set_mark.ensures.core

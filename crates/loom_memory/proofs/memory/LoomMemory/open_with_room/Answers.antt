@@ -1,4 +1,4 @@
-use Rattle.std.proofs.Common.{ℕ, List, sym, ◌∙◌, ap, arith}
+use Rattle.std.proofs.Common.{◌≡◌, ℕ, List, sym, ◌∙◌, ap, arith}
 use Rattle.core_view.proofs.Core.{placed-used}
 use Rattle.leaf_lambda.specs.Parts.{core_of}
 use Rattle.loom_memory.specs.Memory.{loom_told, word_in}
@@ -6,6 +6,9 @@ use Rattle.loom_memory.proofs.AccessLaws.{quiet-trans}
 use Rattle.long_names.specs.State.{name_at}
 use Rattle.loom_memory.proofs.GentleLaws.{load-searched, searched-change}
 use Rattle.loom_memory.proofs.KeepingLaws.{opened-keeps}
+use Rattle.loom_memory.specs.Own.{IsBrought}
+use Rattle.loom_memory.proofs.MindLaws.{minds-then}
+use Rattle.loom_memory.proofs.GentleLaws.{entry-named}
 use Rattle.loom_memory.proofs.memory.LoomMemory.open_with_room.Goals as goal
 
 pub unmark-requires-clause-used : goal.unmark-requires-clause-used
@@ -28,7 +31,7 @@ returns-in-Ok-clause-searched g c =
     let m = c.args.self.now in
     let u = c.load_with_room.new.self in
     let load = c.in-Ok.ensures in
-    searched-change g.H.Host m u c.unmark.new.self (name_at ((loom_told g.H.Host m).regs c.args.of)) (load-searched g.H.Host m u c.args.of c.requires.sound load.sound c.requires.name load.there load.counted load.gentle load.idle)
+    searched-change g.H.Host m u c.unmark.new.self (name_at ((loom_told g.H.Host m).regs c.args.of)) (load-searched g.H.Host m u c.args.of c.requires.sound load.sound c.requires.name load.there load.counted load.gentle load.idle load.minds)
     c.unmark.ensures.resting load.sound.kept.parts.core c.unmark.ensures.sound.kept.parts.core
 
 pub returns-in-Ok-clause-cached : goal.returns-in-Ok-clause-cached
@@ -37,4 +40,12 @@ returns-in-Ok-clause-cached g c =
     let u = c.load_with_room.new.self in
     let load = c.in-Ok.ensures in
     opened-keeps g.H.Host m u c.unmark.new.self c.args.of c.in-Ok.s.0 load.sound load.quiet c.requires.name load.word
-    (load-searched g.H.Host m u c.args.of c.requires.sound load.sound c.requires.name load.there load.counted load.gentle load.idle).cached c.unmark.ensures.idle
+    (load-searched g.H.Host m u c.args.of c.requires.sound load.sound c.requires.name load.there load.counted load.gentle load.idle load.minds).cached c.unmark.ensures.idle
+
+pub returns-in-Ok-clause-minds : goal.returns-in-Ok-clause-minds
+returns-in-Ok-clause-minds g c =
+    let m = c.args.self.now in
+    let u = c.load_with_room.new.self in
+    let s = c.in-Ok.s.0 in
+    let n = name_at ((loom_told g.H.Host m).regs c.args.of) in
+    minds-then g.H.Host m u c.unmark.new.self (IsBrought m u n) (λ k. k ≡ ((core_of u.parts).entries s).name) (λ k. k ≡ n) (λ k is. is.0) (λ k is. is ∙ entry-named g.H.Host m u c.args.of s c.in-Ok.ensures.sound c.in-Ok.ensures.quiet c.requires.name c.in-Ok.ensures.word) c.in-Ok.ensures.minds c.unmark.ensures.minds

@@ -1,4 +1,4 @@
-use Rattle.std.proofs.Common.{refl, ap, subst, arith}
+use Rattle.std.proofs.Common.{None, refl, ap, subst, arith}
 use Rattle.purger.specs.declared.room.RoomFault.{RoomFault}
 use Rattle.purger.specs.Purge.{OnDisk, OnShort, IsPurgeFault, IsShort}
 use Rattle.leaf_lambda.specs.Parts.{core_of}
@@ -9,6 +9,7 @@ use Rattle.loom_memory.proofs.EndLaws.{thins-refused}
 use Rattle.loom_memory.proofs.KnownLaws.{bare-then}
 use Rattle.loom_memory.proofs.ResidentLaws.{only-pinned}
 use Rattle.loom_memory.proofs.GentleLaws.{fetched-same}
+use Rattle.loom_memory.specs.Own.{MindsCache}
 use Rattle.loom_memory.proofs.memory.LoomMemory.purge_all.Goals as goal
 
 pub returns-in-Disk-clause-called : goal.returns-in-Disk-clause-called
@@ -57,3 +58,6 @@ returns-in-Ok-clause-fetches g c = fetched-same c.args.self.now c.room.new.self 
 
 pub returns-in-Short-clause-fetches : goal.returns-in-Short-clause-fetches
 returns-in-Short-clause-fetches g c = fetched-same c.args.self.now c.room.new.self c.room.ensures.ledger
+
+pub returns-in-Short-clause-minds : goal.returns-in-Short-clause-minds
+returns-in-Short-clause-minds g c = subst (λ (z : RoomFault). OnShort z (MindsCache g.H.Host None c.args.self.now c.room.new.self (λ k. ⊥))) c.in-Short.is c.in-Err.ensures.minds

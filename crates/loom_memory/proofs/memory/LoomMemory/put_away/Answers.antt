@@ -16,7 +16,9 @@ use Rattle.loom_memory.proofs.CalmLaws.{purged-calm, calm-kept, quiet-is, over-i
 use Rattle.loom_memory.proofs.CallLaws.{purge-refused}
 use Rattle.loom_memory.proofs.SwapLaws.{left-others, named-now, unpinned-is}
 use Rattle.loom_memory.specs.Residents.{fetched}
-use Rattle.loom_memory.proofs.KeepingLaws.{flag-off, marks-keep}
+use Rattle.loom_memory.proofs.KeepingLaws.{flag-off}
+use Rattle.loom_memory.proofs.MindLaws.{marks-keep}
+use Rattle.loom_memory.proofs.MindLaws.{minds-core, minds-refl}
 use Rattle.loom_memory.proofs.memory.LoomMemory.put_away.Goals as goal
 use Rattle.loom_memory.proofs.memory.LoomMemory.put_away.Given as given
 
@@ -121,3 +123,9 @@ returns-in-Ok-clause-cached g c = λ off.
     let m = c.args.self.now in
     let word = word-is m.regs c.index.result c.args.of c.index.ensures.same c.index.ensures.within c.requires.sound.kept.many in
     marks-keep g.H.Host m _ c.requires.sound c.evict.ensures.parts.core (c.evict.ensures.unmarked (flag-off g.H.Host m c.args.of (slice_index_or m.regs c.index.result 0) c.requires.sound c.requires.name word off)) refl
+
+pub returns-in-Ok-clause-minds : goal.returns-in-Ok-clause-minds
+returns-in-Ok-clause-minds g c = minds-core g.H.Host c.args.self.now _ c.requires.sound (returns-in-Ok-clause-sound g c) refl c.in-Ok.ensures.minds
+
+pub returns-clause-minds : goal.returns-clause-minds
+returns-clause-minds g c = minds-refl g.H.Host c.args.self.now (λ k. ⊥) c.requires.sound

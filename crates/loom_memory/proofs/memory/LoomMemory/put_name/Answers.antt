@@ -8,6 +8,7 @@ use Rattle.loom_memory.specs.Memory.{loom_told}
 use Rattle.loom_memory.proofs.ClassLaws.{short-some}
 use Rattle.loom_memory.proofs.KnownLaws.{naming-is}
 use Rattle.loom_memory.proofs.GentleLaws.{steady-trans}
+use Rattle.loom_memory.proofs.MindLaws.{minds-step}
 use Rattle.loom_memory.proofs.memory.LoomMemory.put_name.Goals as goal
 
 pub put_word-requires-clause-used : goal.put_word-requires-clause-used
@@ -27,3 +28,8 @@ returns-in-Ok-clause-steady g c = λ room. steady-trans g.H.Host c.args.self.now
 
 pub returns-in-Ok-clause-unspent : goal.returns-in-Ok-clause-unspent
 returns-in-Ok-clause-unspent g c = λ unspent. steady-trans g.H.Host c.args.self.now c.entry_of.new.self c.put_word.new.self (c.in-Ok.ensures.unspent unspent) c.put_word.ensures.steady
+
+pub returns-in-Ok-clause-minds : goal.returns-in-Ok-clause-minds
+returns-in-Ok-clause-minds g c =
+    let s = c.put_word.ensures.steady in
+    minds-step g.H.Host c.args.self.now c.entry_of.new.self c.put_word.new.self (λ k. ⊥) c.in-Ok.ensures.minds c.in-Ok.ensures.sound.kept.parts.core c.put_word.ensures.sound.kept.parts.core s.gentle.remains s.none s.gentle.cache

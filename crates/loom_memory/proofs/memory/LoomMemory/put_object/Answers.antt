@@ -12,6 +12,7 @@ use Rattle.loom_memory.proofs.GentleLaws.{rest-trans}
 use Rattle.loom_memory.specs.declared.ledger.Ledger.{Ledger}
 use Rattle.loom_memory.specs.Residents.{fetched}
 use Rattle.loom_memory.proofs.SparedLaws.{spared-trans}
+use Rattle.loom_memory.proofs.MindLaws.{minds-put}
 use Rattle.loom_memory.proofs.memory.LoomMemory.put_object.Goals as goal
 
 pub returns-in-Some-clause-made : goal.returns-in-Some-clause-made
@@ -68,3 +69,9 @@ returns-in-None-clause-spared g c = spared-trans g.H.Host c.args.self.now c.add_
 
 pub returns-in-None-clause-sure : goal.returns-in-None-clause-sure
 returns-in-None-clause-sure g c = c.in-None.ensures.none
+
+pub returns-in-Some-clause-minds : goal.returns-in-Some-clause-minds
+returns-in-Some-clause-minds g c =
+    let n = c.add_object.new.self in
+    minds-put g.H.Host c.args.self.now n c.put_word.new.self c.args.to c.args.name c.in-Some.ensures.minds c.in-Some.ensures.sound.kept.parts.core c.put_word.ensures.sound.kept.parts.core c.put_word.ensures.steady
+    (c.put_word.ensures.told ∙ ap (λ (v : Value). record (loom_told g.H.Host n) { regs = set_register (loom_told g.H.Host n).regs c.args.to v }) (entry-means (core_of n.parts) c.in-Some.s.0 c.args.name c.in-Some.ensures.entry))

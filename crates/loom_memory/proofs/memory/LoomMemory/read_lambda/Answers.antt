@@ -34,6 +34,7 @@ use Rattle.loom_memory.specs.Below.{IsBelow}
 use Rattle.object_memory.specs.declared.fault.MemFault.TheVariants.{Damaged}
 use Rattle.purger.specs.declared.eviction.TheConstants.{NOWHERE}
 use Rattle.loom_memory.proofs.DamageLaws.{nowhere-damage, refusal-damage}
+use Rattle.loom_memory.proofs.MindLaws.{came-remains, stored-came}
 use Rattle.loom_memory.proofs.memory.LoomMemory.read_lambda.Goals as goal
 use Rattle.loom_memory.proofs.memory.LoomMemory.read_lambda.Given as given
 
@@ -200,6 +201,7 @@ returns-else-not-is_below-clause-peek g c =
         cache = cache-same x y (found m.ledger.rows) m.ledger.mark m.ledger.begun core now (within-marks x y c.args.s.0 core now c.resolve.ensures.within) c.requires.sound.kept.cached;
       };
       fetches = fetched-same m _ refl;
+      none = came-remains x y (stored-came x y c.args.s.0 c.resolve.ensures.within (ap (λ (e : Entry). place_of e.state) c.resolve.ensures.entry) (ap (λ (e : Entry). e.name) c.resolve.ensures.entry));
     }
 
 pub returns-else-not-is_below-clause-below : goal.returns-else-not-is_below-clause-below

@@ -1,4 +1,4 @@
-use Rattle.std.proofs.Common.{List, ℕ, [], sym, ◌∙◌, ap}
+use Rattle.std.proofs.Common.{◌≡◌, List, ℕ, [], sym, ◌∙◌, ap}
 use Rattle.long_names.specs.Access.{SetField}
 use Rattle.loom_outside.specs.declared.outside.Role.TheVariants.{Work}
 use Rattle.core_view.specs.Words.{meant}
@@ -10,6 +10,7 @@ use Rattle.loom_memory.proofs.FieldLaws.{word-live}
 use Rattle.loom_memory.proofs.LoadLaws.{field-told}
 use Rattle.loom_memory.proofs.StoreLaws.{stored-quiet}
 use Rattle.loom_memory.proofs.GentleLaws.{at-place-of, rest-trans}
+use Rattle.loom_memory.proofs.MindLaws.{minds-step}
 use Rattle.loom_memory.proofs.memory.LoomMemory.replace_field.Goals as goal
 
 pub unmark-requires-clause-used : goal.unmark-requires-clause-used
@@ -47,3 +48,9 @@ returns-clause-resting g c = rest-trans c.args.self.now c.unmark.new.self c.exch
 
 pub returns-clause-cached : goal.returns-clause-cached
 returns-clause-cached g c = λ off. c.exchange_field.ensures.cached ∙ ap (λ z. (loom_told g.H.Host z).cache) (c.unmark.ensures.idle off)
+
+pub returns-clause-minds : goal.returns-clause-minds
+returns-clause-minds g c =
+    let m = c.args.self.now in
+    let u = c.unmark.new.self in
+    minds-step g.H.Host m u c.exchange_field.new.self (λ k. k ≡ ((core_of m.parts).entries c.args.s.0).name) c.unmark.ensures.minds c.unmark.ensures.sound.kept.parts.core c.exchange_field.ensures.sound.kept.parts.core c.exchange_field.ensures.resting.remains c.exchange_field.ensures.none c.exchange_field.ensures.cached

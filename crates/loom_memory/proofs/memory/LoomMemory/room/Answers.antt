@@ -5,7 +5,8 @@ use Rattle.loom_memory.proofs.RegLaws.{kept-rooted}
 use Rattle.loom_memory.proofs.ExactLaws.{exact-has, exact-if}
 use Rattle.loom_memory.proofs.CalmLaws.{purged-calm, calm-kept, quiet-if, sound-if, work-outside, kept-if}
 use Rattle.loom_memory.proofs.GentleLaws.{bodies-remain, rest-refl}
-use Rattle.loom_memory.proofs.KeepingLaws.{marks-keep}
+use Rattle.loom_memory.proofs.MindLaws.{marks-keep}
+use Rattle.loom_memory.proofs.MindLaws.{minds-room}
 use Rattle.loom_memory.proofs.memory.LoomMemory.room.Goals as goal
 use Rattle.loom_memory.proofs.memory.LoomMemory.room.Given as given
 
@@ -42,3 +43,6 @@ returns-clause-needless g c = λ room. let is = c.make_room.ensures.needless roo
 
 pub returns-clause-cached : goal.returns-clause-cached
 returns-clause-cached g c = λ room. marks-keep g.H.Host c.args.self.now _ c.requires.sound c.make_room.ensures.parts.core (c.make_room.ensures.marked room) refl
+
+pub returns-clause-minds : goal.returns-clause-minds
+returns-clause-minds g c = minds-room c.make_room.result g.H.Host c.args.self.now _ c.requires.sound (returns-clause-sound g c) refl c.make_room.ensures.minds

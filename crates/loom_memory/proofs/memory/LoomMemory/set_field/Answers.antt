@@ -1,4 +1,5 @@
-use Rattle.std.proofs.Common.{Ok, refl}
+use Rattle.std.proofs.Common.{◌≡◌, None, Ok, refl, ◌∙◌}
+use Rattle.leaf_lambda.specs.Parts.{core_of}
 use Rattle.long_names.specs.Access.{SetField}
 use Rattle.long_names.specs.State.{name_at}
 use Rattle.loom_memory.specs.Memory.{loom_told}
@@ -6,6 +7,8 @@ use Rattle.loom_memory.proofs.BringLaws.{quiet-same}
 use Rattle.loom_memory.proofs.StoreLaws.{store-last, store-ready}
 use Rattle.loom_memory.proofs.GentleLaws.{here-searched, here-sparing, changed-sparing, not-at-hand, leaf-no-hand, searched-change}
 use Rattle.loom_memory.proofs.KeepingLaws.{flag-off, other-keeps}
+use Rattle.loom_memory.proofs.MindLaws.{minds-wide}
+use Rattle.loom_memory.proofs.GentleLaws.{entry-named}
 use Rattle.loom_memory.proofs.memory.LoomMemory.set_field.Goals as goal
 
 pub word_in_body-requires-clause-there : goal.word_in_body-requires-clause-there
@@ -32,7 +35,7 @@ pub returns-in-Some-word_in_body-clause-own : goal.returns-in-Some-word_in_body-
 returns-in-Some-word_in_body-clause-own g c = λ hand.
     let m = c.args.self.now in
     let n = name_at ((loom_told g.H.Host m).regs c.args.of) in
-    changed-sparing g.H.Host m m c.replace_field.new.self n c.in-Some.s _ (here-sparing g.H.Host m n c.in-Some.s c.in-Some.ensures.there c.in-Some.ensures.bounded) c.replace_field.ensures.resting c.requires.fit.sound.kept.parts.core c.replace_field.ensures.sound.kept.parts.core
+    changed-sparing g.H.Host m m c.replace_field.new.self n c.in-Some.s _ (here-sparing g.H.Host m n c.in-Some.s c.requires.fit.sound c.in-Some.ensures.there c.in-Some.ensures.bounded) c.replace_field.ensures.resting c.requires.fit.sound.kept.parts.core c.replace_field.ensures.sound.kept.parts.core
 
 pub returns-in-None-word_in_body-clause-own : goal.returns-in-None-word_in_body-clause-own
 returns-in-None-word_in_body-clause-own g c = λ hand. absurd (not-at-hand g.H.Host c.args.self.now c.args.of c.in-Some.s.0 c.args.i c.requires.fit.sound c.requires.may.names c.in-Some.ensures.word c.in-None-word_in_body.ensures.none hand)
@@ -44,7 +47,7 @@ pub returns-in-Some-word_in_body-clause-searched : goal.returns-in-Some-word_in_
 returns-in-Some-word_in_body-clause-searched g c =
     let m = c.args.self.now in
     let n = name_at ((loom_told g.H.Host m).regs c.args.of) in
-    searched-change g.H.Host m m c.replace_field.new.self n (here-searched g.H.Host m n c.in-Some.ensures.there) c.replace_field.ensures.resting c.requires.fit.sound.kept.parts.core c.replace_field.ensures.sound.kept.parts.core
+    searched-change g.H.Host m m c.replace_field.new.self n (here-searched g.H.Host m n c.requires.fit.sound c.in-Some.ensures.there) c.replace_field.ensures.resting c.requires.fit.sound.kept.parts.core c.replace_field.ensures.sound.kept.parts.core
 
 pub returns-in-Some-word_in_body-clause-cached : goal.returns-in-Some-word_in_body-clause-cached
 returns-in-Some-word_in_body-clause-cached g c = λ either off. c.replace_field.ensures.cached (flag-off g.H.Host c.args.self.now c.args.of c.in-Some.s.0 c.requires.fit.sound c.requires.may.names c.in-Some.ensures.word off)
@@ -58,3 +61,10 @@ pub returns-in-None-clause-cached : goal.returns-in-None-clause-cached
 returns-in-None-clause-cached g c =
     let m = c.args.self.now in
     other-keeps c.set_field_on_disk-in-None.result g.H.Host m c.set_field_on_disk-in-None.new.self (name_at ((loom_told g.H.Host m).regs c.args.of)) c.args.i (leaf-no-hand g.H.Host m c.args.of c.args.i c.requires.fit.sound c.requires.may.names c.in-None.ensures.leaf) c.set_field_on_disk-in-None.ensures.cached
+
+pub returns-in-Some-word_in_body-clause-minds : goal.returns-in-Some-word_in_body-clause-minds
+returns-in-Some-word_in_body-clause-minds g c =
+    let m = c.args.self.now in
+    let s = c.in-Some.s.0 in
+    let n = name_at ((loom_told g.H.Host m).regs c.args.of) in
+    minds-wide g.H.Host None m c.replace_field.new.self (λ k. k ≡ ((core_of m.parts).entries s).name) (λ k. k ≡ n) (λ k is. is ∙ entry-named g.H.Host m m c.args.of s c.requires.fit.sound (quiet-same g.H.Host m) c.requires.may.names c.in-Some.ensures.word) c.replace_field.ensures.minds

@@ -1,4 +1,4 @@
-use Rattle.std.proofs.Common.{refl, ◌∙◌}
+use Rattle.std.proofs.Common.{◌≡◌, refl, ◌∙◌}
 use Rattle.long_names.specs.Access.{SetField, Nothing}
 use Rattle.loom_memory.specs.Memory.{loom_told}
 use Rattle.loom_memory.proofs.AccessLaws.{refused-is, quiet-ready}
@@ -10,6 +10,7 @@ use Rattle.loom_memory.proofs.KeepingLaws.{then-keeps}
 use Rattle.purger.specs.Purge.{HasRoom}
 use Rattle.loom_memory.specs.Damage.{words_read}
 use Rattle.loom_memory.proofs.DamageLaws.{quiet-damage}
+use Rattle.loom_memory.proofs.MindLaws.{minds-found}
 use Rattle.loom_memory.proofs.memory.LoomMemory.set_field_on_disk.Goals as goal
 
 pub store_field-requires-clause-ready : goal.store_field-requires-clause-ready
@@ -45,3 +46,8 @@ pub returns-in-Ok-clause-damage : goal.returns-in-Ok-clause-damage
 returns-in-Ok-clause-damage g c =
     let m = c.args.self.now in
     quiet-damage c.store_field.result g.H.Host m c.open_with_room.new.self c.args.of c.in-Ok.s.0 c.store_field.new.self.disk.rest (HasRoom m.parts (words_read c.store_field.new.self) 27) c.in-Ok.ensures.sound c.in-Ok.ensures.quiet c.requires.may.names c.in-Ok.ensures.word c.store_field.ensures.damage
+
+pub returns-in-Ok-clause-minds : goal.returns-in-Ok-clause-minds
+returns-in-Ok-clause-minds g c =
+    let n = name_at ((loom_told g.H.Host c.args.self.now).regs c.args.of) in
+    minds-found c.store_field.result g.H.Host c.args.self.now c.open_with_room.new.self c.store_field.new.self (λ k. k ≡ n) c.in-Ok.ensures.minds c.in-Ok.ensures.sound.kept.parts.core c.store_field.ensures.sound c.store_field.ensures.glance c.store_field.ensures.none c.store_field.ensures.cached

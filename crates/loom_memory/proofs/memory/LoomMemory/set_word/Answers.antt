@@ -1,4 +1,4 @@
-use Rattle.std.proofs.Common.{refl, ◌∙◌}
+use Rattle.std.proofs.Common.{◌≡◌, refl, ◌∙◌}
 use Rattle.long_names.specs.Access.{SetWord, Nothing}
 use Rattle.loom_memory.specs.Memory.{loom_told}
 use Rattle.loom_memory.proofs.AccessLaws.{refused-is, quiet-ready}
@@ -10,6 +10,7 @@ use Rattle.loom_memory.proofs.KeepingLaws.{then-keeps}
 use Rattle.purger.specs.Purge.{HasRoom}
 use Rattle.loom_memory.specs.Damage.{words_read}
 use Rattle.loom_memory.proofs.DamageLaws.{quiet-damage}
+use Rattle.loom_memory.proofs.MindLaws.{minds-stored}
 use Rattle.loom_memory.proofs.memory.LoomMemory.set_word.Goals as goal
 
 pub store_words-requires-clause-ready : goal.store_words-requires-clause-ready
@@ -46,3 +47,8 @@ pub returns-in-Ok-clause-damage : goal.returns-in-Ok-clause-damage
 returns-in-Ok-clause-damage g c =
     let m = c.args.self.now in
     quiet-damage c.store_words.result g.H.Host m c.open.new.self c.args.of c.in-Ok.s.0 c.store_words.new.self.disk.rest (HasRoom m.parts (words_read c.store_words.new.self) 27) c.in-Ok.ensures.sound c.in-Ok.ensures.quiet c.requires.may.names c.in-Ok.ensures.word c.store_words.ensures.damage
+
+pub returns-in-Ok-clause-minds : goal.returns-in-Ok-clause-minds
+returns-in-Ok-clause-minds g c =
+    let n = name_at ((loom_told g.H.Host c.args.self.now).regs c.args.of) in
+    minds-stored c.store_words.result g.H.Host c.args.self.now c.open.new.self c.store_words.new.self (λ k. k ≡ n) c.in-Ok.ensures.minds c.in-Ok.ensures.sound.kept.parts.core c.store_words.ensures.sound c.store_words.ensures.resting c.store_words.ensures.none c.store_words.ensures.cached

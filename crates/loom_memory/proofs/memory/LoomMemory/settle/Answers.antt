@@ -1,6 +1,8 @@
-use Rattle.std.proofs.Common.{◌∙◌}
+use Rattle.std.proofs.Common.{IsTrue, ◌∙◌}
+use Rattle.loom_outside.specs.declared.outside.Role.TheVariants.{Work}
 use Rattle.loom_memory.specs.Memory.{loom_told}
 use Rattle.loom_memory.proofs.SettleLaws.{rested, rested-cached, rested-idle, rested-whole, settle-fetches, settle-last, settle-now, settle-stays, settled-ready}
+use Rattle.loom_memory.proofs.MindLaws.{minds-told}
 use Rattle.loom_memory.proofs.memory.LoomMemory.settle.Goals as goal
 
 pub spare_entries-requires-clause-ready : goal.spare_entries-requires-clause-ready
@@ -37,3 +39,6 @@ returns-in-Ok-clause-cached g c = λ room enough. rested-cached c.spare_entries.
 
 pub returns-in-Err-clause-rests : goal.returns-in-Err-clause-rests
 returns-in-Err-clause-rests g c = λ room enough. c.in-Err.ensures.rests room
+
+pub returns-in-Ok-clause-minds : goal.returns-in-Ok-clause-minds
+returns-in-Ok-clause-minds g c = minds-told c.spare_entries.result (IsTrue (g.H.Host.tells Work)) g.H.Host c.args.self.now c.settle_disk.new.self c.spare_entries.new.self (λ k. ⊥) c.in-Ok.ensures.minds c.spare_entries.ensures.minds

@@ -1,4 +1,4 @@
-use Rattle.std.proofs.Common.{Some, ◌∙◌, ap, refl, arith}
+use Rattle.std.proofs.Common.{None, Some, ◌∙◌, ap, refl, arith}
 use Rattle.leaf_lambda.specs.declared.parts.Parts.{Parts}
 use Rattle.leaf_lambda.specs.Parts.{spare_of}
 use Rattle.loom_memory.specs.declared.ledger.Ledger.{Ledger}
@@ -7,6 +7,7 @@ use Rattle.loom_memory.specs.Memory.{loom_told, loom_outside, others_of}
 use Rattle.loom_memory.proofs.AddLaws.{room-most}
 use Rattle.loom_memory.proofs.SettleLaws.{bodies-anew, bodies-same, settled-some}
 use Rattle.loom_outside.specs.declared.outside.Role.TheVariants.{Work}
+use Rattle.loom_memory.proofs.MindLaws.{minds-anew, minds-refl}
 use Rattle.loom_memory.proofs.memory.LoomMemory.settle_disk.Goals as goal
 
 pub returns-in-Ok-clause-settled : goal.returns-in-Ok-clause-settled
@@ -53,3 +54,9 @@ returns-in-Ok-clause-rests g c = λ room. absurd (let all = c.if-self-room.false
 
 pub returns-in-Err-clause-rests : goal.returns-in-Err-clause-rests
 returns-in-Err-clause-rests g c = λ room. absurd (let all = c.if-self-room.false in let is = c.room-room.ensures in omega (arith, room, all, is))
+
+pub returns-then-self-room-clause-minds : goal.returns-then-self-room-clause-minds
+returns-then-self-room-clause-minds g c = λ told. minds-anew g.H.Host c.args.self.now c.args.self.now c.count_anew.new.self None (minds-refl g.H.Host c.args.self.now (λ k. ⊥) c.requires.sound) c.count_anew.ensures.same
+
+pub returns-in-Ok-clause-minds : goal.returns-in-Ok-clause-minds
+returns-in-Ok-clause-minds g c = λ told. minds-anew g.H.Host c.args.self.now c.thin.new.self c.count_anew-in-Ok.new.self (Some c.thin.new.self.ledger.held) (c.in-Ok.ensures.minds told) c.count_anew-in-Ok.ensures.same

@@ -6,6 +6,7 @@ use Rattle.purger.specs.declared.room.RoomFault.{RoomFault}
 use Rattle.purger.specs.Purge.{OnShort, OnDisk, IsShort, IsPurgeFault}
 use Rattle.loom_memory.specs.Memory.{loom_told}
 use Rattle.loom_memory.proofs.AddLaws.{fault-settling}
+use Rattle.loom_memory.proofs.MindLaws.{minds-refl}
 use Rattle.loom_memory.proofs.memory.LoomMemory.spare_entries.Goals as goal
 
 pub returns-in-Disk-clause-err : goal.returns-in-Disk-clause-err
@@ -35,3 +36,6 @@ returns-in-Short-clause-stays g c = λ enough. absurd (c.has_room.ensures.lacks 
 
 pub returns-in-Disk-clause-sure : goal.returns-in-Disk-clause-sure
 returns-in-Disk-clause-sure g c = λ enough. absurd (c.has_room.ensures.lacks c.if-has_room.false (omega arith, enough))
+
+pub returns-then-has_room-clause-minds : goal.returns-then-has_room-clause-minds
+returns-then-has_room-clause-minds g c = minds-refl g.H.Host c.args.self.now (λ k. ⊥) c.requires.sound

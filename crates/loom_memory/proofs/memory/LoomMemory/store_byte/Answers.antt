@@ -19,10 +19,11 @@ use Rattle.loom_memory.proofs.StoreLaws.{stored-kept, stored-over, bytes-fields,
 use Rattle.loom_memory.proofs.OwingLaws.{exact-rewritten}
 use Rattle.loom_memory.proofs.GentleLaws.{rest-refl, store-remains}
 use Rattle.purger.proofs.MarkLaws.{within-marks}
-use Rattle.loom_memory.proofs.KeepingLaws.{marks-keep}
+use Rattle.loom_memory.proofs.MindLaws.{marks-keep}
 use Rattle.purger.specs.declared.eviction.TheConstants.{NOWHERE}
 use Rattle.object_memory.specs.declared.fault.MemFault.TheVariants.{Damaged}
 use Rattle.loom_memory.proofs.DamageLaws.{nowhere-damage}
+use Rattle.loom_memory.proofs.MindLaws.{came-remains, stored-came}
 use Rattle.loom_memory.proofs.memory.LoomMemory.store_byte.Goals as goal
 use Rattle.loom_memory.proofs.memory.LoomMemory.store_byte.Given as given
 
@@ -121,3 +122,9 @@ returns-then-fits-clause-cached g c =
 pub returns-clause-damage : goal.returns-clause-damage
 unfolding core_of
 returns-clause-damage g c = nowhere-damage c.refuse.new.self.disk.rest ((core_of c.args.self.now.parts).entries c.args.s.0).name c.refuse.result (c.refuse.ensures.result ∙ ap (Damaged NOWHERE) (c.get.ensures.value ∙ ap (λ (e : Entry). e.name) c.entry-e.ensures))
+
+pub returns-then-fits-clause-none : goal.returns-then-fits-clause-none
+returns-then-fits-clause-none g c =
+    let x = core_of c.args.self.now.parts in
+    let y = core_of c.put_byte.new.p in
+    came-remains x y (stored-came x y c.args.s.0 c.put_byte.ensures.within (place-same g c) (name-same g c))

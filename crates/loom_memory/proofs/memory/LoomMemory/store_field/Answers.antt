@@ -10,7 +10,7 @@ use Rattle.disk_objects.specs.Function.{disk_of}
 use Rattle.loom_memory.proofs.StoreLaws.{stored-quiet}
 use Rattle.loom_memory.proofs.LoadLaws.{field-none, field-told}
 use Rattle.loom_memory.proofs.FieldLaws.{told-bounds, at-field, word-live, damaged-refused}
-use Rattle.loom_memory.proofs.GentleLaws.{glance-trans, peek-glance, rest-glance}
+use Rattle.loom_memory.proofs.GentleLaws.{glance-trans, peek-glance, remains-trans, rest-glance}
 use Rattle.purger.specs.declared.eviction.TheConstants.{NOWHERE}
 use Rattle.object_table.specs.declared.entry.Entry.{Entry}
 use Rattle.object_memory.specs.declared.fault.MemFault.TheVariants.{Damaged}
@@ -90,3 +90,6 @@ returns-clause-cached g c = c.exchange_field-2.ensures.cached
 pub returns-then-i-field_total-clause-damage : goal.returns-then-i-field_total-clause-damage
 unfolding core_of
 returns-then-i-field_total-clause-damage g c = nowhere-damage c.refuse.new.self.disk.rest ((core_of c.args.self.now.parts).entries c.args.s.0).name c.refuse.result (c.refuse.ensures.result ∙ ap (Damaged NOWHERE) (c.get-name.ensures.value ∙ ap (λ (e : Entry). e.name) c.entry.ensures))
+
+pub returns-in-Ok-clause-none : goal.returns-in-Ok-clause-none
+returns-in-Ok-clause-none g c = remains-trans (core_of c.exchange_field.new.self.parts) (core_of c.lambda_word.new.self.parts) (core_of c.args.self.now.parts) c.exchange_field.ensures.none c.in-Ok.ensures.peek.none

@@ -8,6 +8,7 @@ use Rattle.loom_memory.proofs.StoreLaws.{store-last, store-ready}
 use Rattle.loom_memory.proofs.SwapLaws.{put-away, swap-core}
 use Rattle.loom_memory.specs.Own.{IsUnmarked}
 use Rattle.loom_memory.proofs.KeepingLaws.{both-keep}
+use Rattle.loom_memory.proofs.MindLaws.{minds-swapped}
 use Rattle.loom_memory.proofs.memory.LoomMemory.swap.Goals as goal
 use Rattle.loom_memory.proofs.memory.LoomMemory.swap.Goals.{After-exchange}
 use Rattle.loom_memory.proofs.memory.LoomMemory.swap.Given as given
@@ -64,3 +65,6 @@ pub returns-in-Ok-put_away-clause-cached : goal.returns-in-Ok-put_away-clause-ca
 returns-in-Ok-put_away-clause-cached g c =
     let m = c.args.self.now in
     both-keep c.exchange.result g.H.Host m c.put_away.new.self c.put_away-in-Ok.new.self c.exchange.new.self c.args.b c.in-Ok.ensures.quiet (IsUnmarked g.H.Host m (name_at ((loom_told g.H.Host m).regs c.args.a))) c.in-Ok.ensures.cached c.in-Ok-put_away.ensures.cached c.exchange.ensures.cached
+
+pub returns-in-Ok-put_away-clause-minds : goal.returns-in-Ok-put_away-clause-minds
+returns-in-Ok-put_away-clause-minds g c = minds-swapped c.exchange.result g.H.Host c.args.self.now c.put_away.new.self c.put_away-in-Ok.new.self c.exchange.new.self c.in-Ok.ensures.minds c.in-Ok-put_away.ensures.minds c.exchange.ensures.parts c.exchange.ensures.cached

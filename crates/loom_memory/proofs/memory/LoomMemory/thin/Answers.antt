@@ -5,6 +5,7 @@ use Rattle.loom_memory.proofs.CalmLaws.{work-outside}
 use Rattle.loom_memory.proofs.ThinLaws.{fault-purge, thin-again, thin-bodies, thin-count, thin-exact, thin-is-kept, thin-kept, thin-over, thin-step, thin-told}
 use Rattle.object_memory.specs.declared.fault.MemFault.{MemFault}
 use Rattle.loom_memory.specs.Makings.{IsLost}
+use Rattle.loom_memory.proofs.MindLaws.{minds-left}
 use Rattle.loom_memory.proofs.memory.LoomMemory.thin.Goals as goal
 
 pub returns-in-Ok-clause-thinned : goal.returns-in-Ok-clause-thinned
@@ -74,3 +75,9 @@ returns-in-Err-clause-fault g c = subst (λ (f : MemFault). IsLost f) (sym c.ref
 
 pub returns-in-Ok-clause-words : goal.returns-in-Ok-clause-words
 returns-in-Ok-clause-words g c = c.in-Ok.ensures.leaves.words
+
+pub returns-in-Ok-clause-minds : goal.returns-in-Ok-clause-minds
+returns-in-Ok-clause-minds g c = λ told.
+    let m = c.args.self.now in
+    let x = c.requires.sound.exact told in
+    minds-left g.H.Host m _ c.requires.sound (returns-in-Ok-clause-sound g c) refl refl refl (c.in-Ok.ensures.drained told x.0 x.1 x.2).thinned.minds

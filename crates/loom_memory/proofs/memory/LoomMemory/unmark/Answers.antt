@@ -7,6 +7,7 @@ use Rattle.loom_memory.proofs.StoreLaws.{unmark-calm, unmark-quiet, unmark-sound
 use Rattle.loom_memory.proofs.GentleLaws.{rest-refl, unmark-remains}
 use Rattle.loom_memory.proofs.GentleLaws.{unmark-at}
 use Rattle.leaf_lambda.specs.declared.parts.Parts.{Parts}
+use Rattle.loom_memory.proofs.MindLaws.{minds-unmark}
 use Rattle.loom_memory.proofs.memory.LoomMemory.unmark.Goals as goal
 use Rattle.loom_memory.proofs.memory.LoomMemory.unmark.Given as given
 
@@ -35,3 +36,6 @@ returns-clause-field g c = λ at i w is. unmark-at (core_of c.args.self.now.part
 
 pub returns-clause-idle : goal.returns-clause-idle
 returns-clause-idle g c = λ off. ap (λ (p : Parts). record c.args.self.now { parts = p }) (c.unmark_for.ensures.idle off)
+
+pub returns-clause-minds : goal.returns-clause-minds
+returns-clause-minds g c = minds-unmark g.H.Host c.args.self.now _ c.args.s.0 c.requires.sound (returns-clause-sound g c) refl c.requires.used c.unmark_for.ensures.step c.unmark_for.ensures.marks (returns-clause-idle g c)
