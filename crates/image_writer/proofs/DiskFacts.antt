@@ -1,5 +1,6 @@
 -- What a disk holds after calls that only read Work.
 use Rattle.std.proofs.Common.{◌≡◌, ℕ, ◌<◌, Bool, true, false, cond, eqb, List, Option, Some, None, is_some, option_map, IsTrue, refl, sym, ap, ap₂, subst, ◌∙◌, arith}
+use Rattle.std.specs.Option.{IsSome}
 use Rattle.std.specs.FinMap as map
 use Rattle.std.proofs.lemmas.Bool.{eqb-true}
 use Rattle.long_names.specs.Names.{IsName}
@@ -121,12 +122,14 @@ there h n has = go (h.at n) refl has
 some_is : (a b : ℕ) → ◌≡◌ {A = Option ℕ} (Some a) (Some b) → a ≡ b
 some_is a b e = cc
 
-pub held_text : {H : Type 0} (host : Ghosts H) (old mid : H) (rest after : DiskRest) (h : Heap) (name : ℕ) (bytes : List ℕ) (found : Option ℕ) (count : ℕ) (held : Bool)
+pub held_text : {H : Type 0} (host : Ghosts H) (old : H) (rest : DiskRest) (h : Heap) (name : ℕ) (bytes : List ℕ) (found : Option ℕ) (count : ℕ)
     → IsHeapOf host old rest h → Has h name → found ≡ counts_of host old rest name → found ≡ Some count
-    → disk_of host mid after ≡ disk_of host old rest → IsFetched bytes (disk_of host mid after name) held → held ≡ true → HasRecord bytes → (raw_of bytes).name ≡ name
+    → IsFetched bytes (disk_of host old rest name) (is_some found) → (IsSome found → HasRecord bytes × ((raw_of bytes).name ≡ name))
     → raw_text (with_count (raw_of bytes) count) ≡ name_text h name
-held_text host old mid rest after h name bytes found count held is has counted some_count same got yes_held record_there named =
+held_text host old rest h name bytes found count is has counted some_count got record_there =
     let o = there h name has in
-    let on_disk : disk_of host mid after name ≡ Some o.0 = ap (λ (f : ℕ → Option Object). f name) (same ∙ sym is.at) ∙ o.1 in
+    let held : is_some found ≡ true = ap is_some some_count in
+    let bytes_there = record_there held in
+    let on_disk : disk_of host old rest name ≡ Some o.0 = ap (λ (f : ℕ → Option Object). f name) (sym is.at) ∙ o.1 in
     let counts : ◌≡◌ {A = Option ℕ} (Some count) (Some (count_of h name)) = sym some_count ∙ counted ∙ is.counts name has in
-    text_of_held h name o.0 (raw_of bytes) count o.1 (fetched bytes (disk_of host mid after name) held o.0 got on_disk yes_held) record_there.is named (some_is count (count_of h name) counts)
+    text_of_held h name o.0 (raw_of bytes) count o.1 (fetched bytes (disk_of host old rest name) (is_some found) o.0 got on_disk held) bytes_there.0.is bytes_there.1 (some_is count (count_of h name) counts)

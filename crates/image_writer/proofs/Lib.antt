@@ -1,4 +1,5 @@
 pub mod PutsLaws
+pub mod GatherLaws
 pub mod NameTexts
 pub mod RecordTexts
 pub mod DiskFacts

@@ -2,7 +2,8 @@
 //!
 //! `save` puts the head, with the machine's state, and then each record with its count, by rising name, to Saved. It reads record by
 //! record, so it takes memory for one record and for the names alone. Where Work tells what it holds, the bytes are the text of the
-//! disk's heap (`saved_text`); after a refusal a prefix of it was put.
+//! disk's heap (`saved_text`); after a refusal a prefix of it was put. The bytes go to Saved some 16,000 at a time, whatever record they are
+//! of: a record makes no write of its own, unless it is longer than that.
 //!
 //! ```text
 //! disk.attach(Role::Saved, name)?;
@@ -13,6 +14,7 @@
 #![tactic(auto)]
 
 mod fault;
+mod gathered;
 mod pieces;
 mod saving;
 

@@ -1,5 +1,5 @@
 // The pieces of an image: bytes, records, and what is kept of the state.
-ghost use Rattle.std.specs.Prelude.{◌≡◌, ◌-◌, ◌^◌, IsTrue, IfOk, IfErr};
+ghost use Rattle.std.specs.Prelude.{◌≡◌, ◌-◌, ◌^◌, [], IsTrue, IfOk, IfErr, OnOk};
 ghost use Rattle.long_names.specs.Heap.{Heap, Has};
 ghost use Rattle.object_record.specs.Buffer.{HasRecord, raw_of};
 ghost use Rattle.object_record.specs.Raw.{raw_text};
@@ -7,7 +7,7 @@ ghost use Rattle.disk_objects.specs.Calls.{HoldsObjects};
 ghost use Rattle.disk_objects.specs.Disk.{with_count};
 ghost use Rattle.disk_objects.specs.Function.{disk_of};
 ghost use Rattle.loom_outside.specs.Work.{IsWorkRead};
-ghost use Rattle.image_writer.specs.Inside.{IsHeapOf};
+ghost use Rattle.image_writer.specs.Inside.{Gathers, IsHeapOf};
 ghost use Rattle.image_writer.specs.Puts.{IsSaveFault, Puts, name_text};
 ghost use Rattle.image_writer.specs.Saved as saved;
 ghost use Rattle.image_writer.specs.declared.fault.SaveFault.TheVariants as fault;
@@ -15,6 +15,7 @@ ghost use Rattle.loom_outside.specs.declared.outside.DiskFault.TheVariants as di
 ghost use Rattle.loom_outside.specs.declared.outside.Role.{Role};
 
 use crate::fault::SaveFault;
+use crate::gathered::{Gathered, PIECE};
 use disk_objects::DiskObjects;
 use image_format::{State, bytes_of_u64};
 use long_names::Name;
@@ -22,7 +23,7 @@ use loom_outside::{DiskFault, Host, Role};
 use object_record::{COUNT_AT, KIND_AT, RecordBuf};
 
 /// Puts bytes to Saved.
-pub(crate) fn put<H: Host>(disk: &mut DiskObjects<'_, H>, bytes: &[u8]) -> Result<(), SaveFault>
+fn write<H: Host>(disk: &mut DiskObjects<'_, H>, bytes: &[u8]) -> Result<(), SaveFault>
     ensures puts { Puts H.Host disk.old.host.now disk.new.host.now bytes.now result }
     ensures rest { disk.new.rest ≡ disk.old.rest }
     ensures same_host { disk.new.host.ghost_name ≡ disk.old.host.ghost_name }
@@ -35,22 +36,60 @@ pub(crate) fn put<H: Host>(disk: &mut DiskObjects<'_, H>, bytes: &[u8]) -> Resul
     }
 }
 
+/// Puts what is gathered to Saved.
+pub(crate) fn flush<H: Host>(
+    disk: &mut DiskObjects<'_, H>,
+    gathered: &mut Gathered,
+) -> Result<(), SaveFault>
+    ensures gathers { Gathers H.Host disk.old.host.now disk.new.host.now gathered.old [] [] result }
+    ensures none { OnOk result (gathered.new ≡ []) }
+    ensures rest { disk.new.rest ≡ disk.old.rest }
+    ensures same_host { disk.new.host.ghost_name ≡ disk.old.host.ghost_name }
+{
+    write(disk, gathered.bytes())?;
+    gathered.clear();
+    Ok(())
+}
+
+/// Puts bytes to Saved, or gathers them where there is room, behind those that are gathered.
+pub(crate) fn put<H: Host>(
+    disk: &mut DiskObjects<'_, H>,
+    gathered: &mut Gathered,
+    bytes: &[u8],
+) -> Result<(), SaveFault>
+    ensures gathers { Gathers H.Host disk.old.host.now disk.new.host.now gathered.old gathered.new bytes.now result }
+    ensures rest { disk.new.rest ≡ disk.old.rest }
+    ensures same_host { disk.new.host.ghost_name ≡ disk.old.host.ghost_name }
+{
+    if bytes.len() <= gathered.room() {
+        gathered.push(bytes);
+        return Ok(());
+    }
+    flush(disk, gathered)?;
+    if bytes.len() <= PIECE {
+        gathered.push(bytes);
+        return Ok(());
+    }
+    write(disk, bytes)
+}
+
 /// Puts the buffer's record with this count.
 pub(crate) fn put_counted<H: Host>(
     disk: &mut DiskObjects<'_, H>,
+    gathered: &mut Gathered,
     buf: &RecordBuf,
     count: u64,
 ) -> Result<(), SaveFault>
     requires { HasRecord buf.now }
-    ensures puts { Puts H.Host disk.old.host.now disk.new.host.now (raw_text (with_count (raw_of buf.now) count)) result }
+    ensures gathers { Gathers H.Host disk.old.host.now disk.new.host.now gathered.old gathered.new (raw_text (with_count (raw_of buf.now) count)) result }
     ensures rest { disk.new.rest ≡ disk.old.rest }
     ensures same_host { disk.new.host.ghost_name ≡ disk.old.host.ghost_name }
 {
     let bytes = buf.bytes();
     let (_, tail) = bytes.split_at(KIND_AT);
-    put(disk, &bytes[..COUNT_AT])?;
-    put(disk, &bytes_of_u64(count))?;
-    put(disk, tail)
+    put(disk, gathered, &bytes[..COUNT_AT])?;
+    put(disk, gathered, &bytes_of_u64(count))?;
+    put(disk, gathered, tail)
 }
 
 /// A name that the disk told, and of which it tells no record.
@@ -66,23 +105,21 @@ fn lost(name: Name) -> SaveFault
 /// Puts the record of a name with its count.
 pub(crate) fn put_record<H: Host>(
     disk: &mut DiskObjects<'_, H>,
+    gathered: &mut Gathered,
     buf: &mut RecordBuf,
     name: Name,
 ) -> Result<(), SaveFault>
     requires stands { HoldsObjects H.Host disk.old.host.now disk.old.rest }
-    ensures puts { (h : Heap) → (IsTrue (H.tells Role.Work) → IsHeapOf H.Host disk.old.host.now disk.old.rest h × Has h name)
-        → Puts H.Host disk.old.host.now disk.new.host.now (name_text h name) result }
+    ensures gathers { (h : Heap) → (IsTrue (H.tells Role.Work) → IsHeapOf H.Host disk.old.host.now disk.old.rest h × Has h name)
+        → Gathers H.Host disk.old.host.now disk.new.host.now gathered.old gathered.new (name_text h name) result }
     ensures work { H.roles disk.new.host.now Role.Work ≡ H.roles disk.old.host.now Role.Work }
     ensures rest { disk.new.rest ≡ disk.old.rest }
     ensures same_host { disk.new.host.ghost_name ≡ disk.old.host.ghost_name }
 {
-    let Some(count) = disk.count(name)? else {
+    let Some(count) = disk.get_counted(name, buf)? else {
         return Err(lost(name));
     };
-    if !disk.get(name, buf)? {
-        return Err(lost(name));
-    }
-    put_counted(disk, buf, count)
+    put_counted(disk, gathered, buf, count)
 }
 
 /// A word of the state, 0 where the disk doesn't hold the name.

@@ -9,12 +9,13 @@ ghost use Rattle.image_format.specs.Heads.{opening_text, state_text};
 ghost use Rattle.image_format.specs.declared.opening.TheConstants.{STATE_VERSION};
 ghost use Rattle.disk_objects.specs.Disk.{IsDisk, Objects, disk_held};
 ghost use Rattle.loom_outside.specs.Work.{IsWorkRead, work_of};
-ghost use Rattle.image_writer.specs.Inside.{IsHeapOf, opening_of};
+ghost use Rattle.image_writer.specs.Inside.{Gathers, IsHeapOf, opening_of};
 ghost use Rattle.image_writer.specs.Puts.{IsSaveFault, Puts, name_text};
 ghost use Rattle.image_writer.specs.Saved.{IsExact, disk_heap, saved_text};
 
 use crate::fault::SaveFault;
-use crate::pieces::{kept_state, put, put_record};
+use crate::gathered::Gathered;
+use crate::pieces::{flush, kept_state, put, put_record};
 use disk_objects::{DiskObjects, NamesFault};
 use image_format::{Opening, STATE_VERSION, State};
 use long_names::NameList;
@@ -25,10 +26,11 @@ use std::alloc::Global;
 /// Puts the head of version 2.
 fn put_head<H: Host>(
     disk: &mut DiskObjects<'_, H>,
+    gathered: &mut Gathered,
     next: u32,
     state: &State,
 ) -> Result<(), SaveFault>
-    ensures puts { Puts H.Host disk.old.host.now disk.new.host.now (opening_text (opening_of (disk_held disk.old.rest) next) ++ state_text state.now) result }
+    ensures gathers { Gathers H.Host disk.old.host.now disk.new.host.now gathered.old gathered.new (opening_text (opening_of (disk_held disk.old.rest) next) ++ state_text state.now) result }
     ensures rest { disk.new.rest ≡ disk.old.rest }
     ensures same_host { disk.new.host.ghost_name ≡ disk.old.host.ghost_name }
 {
@@ -37,25 +39,26 @@ fn put_head<H: Host>(
         objects: disk.len(),
         next,
     };
-    put(disk, &opening.bytes())?;
-    put(disk, &state.bytes())
+    put(disk, gathered, &opening.bytes())?;
+    put(disk, gathered, &state.bytes())
 }
 
 /// Puts the records of these names.
 fn put_records<H: Host>(
     disk: &mut DiskObjects<'_, H>,
+    gathered: &mut Gathered,
     names: &NameList,
     buf: &mut RecordBuf,
 ) -> Result<(), SaveFault>
     requires stands { HoldsObjects H.Host disk.old.host.now disk.old.rest }
-    ensures puts { (h : Heap) → (IsTrue (H.tells Role.Work) → IsHeapOf H.Host disk.old.host.now disk.old.rest h × All (Has h) names.now)
-        → Puts H.Host disk.old.host.now disk.new.host.now (flat_map (name_text h) names.now) result }
+    ensures gathers { (h : Heap) → (IsTrue (H.tells Role.Work) → IsHeapOf H.Host disk.old.host.now disk.old.rest h × All (Has h) names.now)
+        → Gathers H.Host disk.old.host.now disk.new.host.now gathered.old gathered.new (flat_map (name_text h) names.now) result }
     ensures rest { disk.new.rest ≡ disk.old.rest }
     ensures same_host { disk.new.host.ghost_name ≡ disk.old.host.ghost_name }
 {
     for i in 0..names.len() {
         let name = *names.item(i);
-        put_record(disk, buf, name)?;
+        put_record(disk, gathered, buf, name)?;
     }
     Ok(())
 }
@@ -77,6 +80,26 @@ fn names_of<H: Host>(alloc: Global, disk: &mut DiskObjects<'_, H>) -> Result<Nam
     }
 }
 
+/// Puts the head of version 2 and the records of these names.
+fn put_image<H: Host>(
+    disk: &mut DiskObjects<'_, H>,
+    next: u32,
+    state: &State,
+    names: &NameList,
+    buf: &mut RecordBuf,
+) -> Result<(), SaveFault>
+    requires stands { HoldsObjects H.Host disk.old.host.now disk.old.rest }
+    ensures puts { (h : Heap) → (IsTrue (H.tells Role.Work) → IsHeapOf H.Host disk.old.host.now disk.old.rest h × All (Has h) names.now)
+        → Puts H.Host disk.old.host.now disk.new.host.now ((opening_text (opening_of (disk_held disk.old.rest) next) ++ state_text state.now) ++ flat_map (name_text h) names.now) result }
+    ensures rest { disk.new.rest ≡ disk.old.rest }
+    ensures same_host { disk.new.host.ghost_name ≡ disk.old.host.ghost_name }
+{
+    let mut gathered = Gathered::new();
+    put_head(disk, &mut gathered, next, state)?;
+    put_records(disk, &mut gathered, names, buf)?;
+    flush(disk, &mut gathered)
+}
+
 /// Puts the image of the disk's objects to Saved, which is attached: of version 2, with their counts, the next name, and this state, of which a name that the disk doesn't hold is left out, and the tick with its timer. After a refusal a prefix of the image was put.
 ///
 /// The condition is that names are below the next name, and that the counts are exact.
@@ -95,6 +118,5 @@ pub fn save<H: Host>(
     let names = names_of(alloc, disk)?;
     let mut buf = RecordBuf::new(alloc)?;
     let kept = kept_state(disk, state)?;
-    put_head(disk, next, &kept)?;
-    put_records(disk, &names, &mut buf)
+    put_image(disk, next, &kept, &names, &mut buf)
 }

@@ -11,7 +11,7 @@ use Rattle.image_writer.specs.Inside.{opening_of}
 use Rattle.image_writer.specs.Puts.{name_text}
 use Rattle.image_writer.specs.Saved.{disk_heap, kept_state, saved_text}
 use Rattle.image_writer.proofs.DiskFacts.{still_holds, same_disk, same_heap}
-use Rattle.image_writer.proofs.PutsLaws.{then_puts, stop_puts, read_puts, read_then, fault_after, exit_read, untold_puts}
+use Rattle.image_writer.proofs.PutsLaws.{then_puts, read_puts, read_then, fault_after, exit_read, untold_puts}
 use Rattle.image_writer.proofs.SaveLaws.{names_there, text_is, exact_heap}
 use Rattle.image_writer.proofs.saving.save.Goals as goal
 
@@ -25,26 +25,10 @@ returns-in_err-kept-clause-saved g c =
     (fault_after g.H.Host c.args.disk.now.host.now c.names_of.new.disk.host.now c.kept_state.new.disk.host.now c.in_err-kept.field-0.0 c.names_of.ensures.read c.in_err-kept.ensures.fault)
     c.from_residual-in_err-kept.ensures.1
 
-pub returns-in_err-put_head-clause-saved : goal.returns-in_err-put_head-clause-saved
-returns-in_err-put_head-clause-saved g c =
-    let h = disk_heap g.H.Host c.args.disk.now.host.now c.args.disk.now.rest c.args.next in
-    let a = opening_text (opening_of (disk_held c.kept_state.new.disk.rest) c.args.next) ++ state_text c.in_ok-kept.kept in
-    let b = flat_map (name_text h) c.in_ok-names.names in
-    let reads = read_then g.H.Host c.args.disk.now.host.now c.names_of.new.disk.host.now c.kept_state.new.disk.host.now c.names_of.ensures.read c.kept_state.ensures.read in
-    let same = same_disk g.H.Host c.args.disk.now.host.now c.names_of.new.disk.host.now c.args.disk.now.rest c.names_of.new.disk.rest (c.names_of.ensures.read.roles Work) c.names_of.ensures.rest in
-    let held = ap (λ (r : DiskRest). disk_held r) (c.kept_state.ensures.rest ∙ c.names_of.ensures.rest) in
-    untold_puts g.H.Host c.args.disk.now.host.now c.put_head.new.disk.host.now (a ++ b) (saved_text h c.args.state.now) c.from_residual-in_err-put_head.result
-    (λ told. text_is g.H.Host c.args.disk.now.host.now c.args.disk.now.rest c.args.next (c.requires.stands told).0 (c.requires.stands told).1 (c.requires.stands told).2 c.args.state.now c.in_ok-kept.kept c.in_ok-names.names (disk_held c.kept_state.new.disk.rest) (c.requires.exact told)
-    (c.in_ok-names.ensures.names told (c.requires.stands told).0 (c.requires.stands told).1 (c.requires.stands told).2)
-    (c.in_ok-kept.ensures.state told ∙ ap (λ (at : ℕ → Option Object). kept_state at c.args.state.now) same) held)
-    (then_puts g.H.Host c.args.disk.now.host.now c.kept_state.new.disk.host.now c.put_head.new.disk.host.now [] (a ++ b) (tt {0}) c.from_residual-in_err-put_head.result (read_puts g.H.Host c.args.disk.now.host.now c.kept_state.new.disk.host.now (tt {0}) reads)
-    (stop_puts g.H.Host c.kept_state.new.disk.host.now c.put_head.new.disk.host.now a b c.in_err-put_head.field-0.0 c.from_residual-in_err-put_head.result c.in_err-put_head.ensures.puts c.from_residual-in_err-put_head.ensures.1))
-
-pub put_records-requires : goal.put_records-requires
-put_records-requires g c = record {
-  stands = still_holds g.H.Host c.args.disk.now.host.now c.put_head.new.disk.host.now c.args.disk.now.rest c.put_head.new.disk.rest
-      (c.in_ok-put_head.ensures.puts.others Work (λ e. cc) ∙ c.kept_state.ensures.read.roles Work ∙ c.names_of.ensures.read.roles Work)
-      (c.put_head.ensures.rest ∙ c.kept_state.ensures.rest ∙ c.names_of.ensures.rest) c.requires.stands;
+pub put_image-requires : goal.put_image-requires
+put_image-requires g c = record {
+  stands = still_holds g.H.Host c.args.disk.now.host.now c.kept_state.new.disk.host.now c.args.disk.now.rest c.kept_state.new.disk.rest
+      (c.kept_state.ensures.read.roles Work ∙ c.names_of.ensures.read.roles Work) (c.kept_state.ensures.rest ∙ c.names_of.ensures.rest) c.requires.stands;
 }
 
 pub returns-clause-saved : goal.returns-clause-saved
@@ -54,19 +38,17 @@ returns-clause-saved g c =
     let b = flat_map (name_text h) c.in_ok-names.names in
     let reads = read_then g.H.Host c.args.disk.now.host.now c.names_of.new.disk.host.now c.kept_state.new.disk.host.now c.names_of.ensures.read c.kept_state.ensures.read in
     let same = same_disk g.H.Host c.args.disk.now.host.now c.names_of.new.disk.host.now c.args.disk.now.rest c.names_of.new.disk.rest (c.names_of.ensures.read.roles Work) c.names_of.ensures.rest in
-    let held = ap (λ (r : DiskRest). disk_held r) (c.kept_state.ensures.rest ∙ c.names_of.ensures.rest) in
-    let work = c.in_ok-put_head.ensures.puts.others Work (λ e. cc) ∙ c.kept_state.ensures.read.roles Work ∙ c.names_of.ensures.read.roles Work in
-    let rest = c.put_head.ensures.rest ∙ c.kept_state.ensures.rest ∙ c.names_of.ensures.rest in
-    untold_puts g.H.Host c.args.disk.now.host.now c.put_records.new.disk.host.now (a ++ b) (saved_text h c.args.state.now) c.put_records.result
+    let work = c.kept_state.ensures.read.roles Work ∙ c.names_of.ensures.read.roles Work in
+    let rest = c.kept_state.ensures.rest ∙ c.names_of.ensures.rest in
+    untold_puts g.H.Host c.args.disk.now.host.now c.put_image.new.disk.host.now (a ++ b) (saved_text h c.args.state.now) c.put_image.result
     (λ told. text_is g.H.Host c.args.disk.now.host.now c.args.disk.now.rest c.args.next (c.requires.stands told).0 (c.requires.stands told).1 (c.requires.stands told).2 c.args.state.now c.in_ok-kept.kept c.in_ok-names.names (disk_held c.kept_state.new.disk.rest) (c.requires.exact told)
     (c.in_ok-names.ensures.names told (c.requires.stands told).0 (c.requires.stands told).1 (c.requires.stands told).2)
-    (c.in_ok-kept.ensures.state told ∙ ap (λ (at : ℕ → Option Object). kept_state at c.args.state.now) same) held)
-    (then_puts g.H.Host c.args.disk.now.host.now c.kept_state.new.disk.host.now c.put_records.new.disk.host.now [] (a ++ b) (tt {0}) c.put_records.result (read_puts g.H.Host c.args.disk.now.host.now c.kept_state.new.disk.host.now (tt {0}) reads)
-    (then_puts g.H.Host c.kept_state.new.disk.host.now c.put_head.new.disk.host.now c.put_records.new.disk.host.now a b _ c.put_records.result c.in_ok-put_head.ensures.puts
-    (c.put_records.ensures.puts h (λ told. (
-      same_heap g.H.Host c.args.disk.now.host.now c.put_head.new.disk.host.now c.args.disk.now.rest c.put_head.new.disk.rest h work rest (exact_heap g.H.Host c.args.disk.now.host.now c.args.disk.now.rest c.args.next (c.requires.exact told)),
+    (c.in_ok-kept.ensures.state told ∙ ap (λ (at : ℕ → Option Object). kept_state at c.args.state.now) same) (ap (λ (r : DiskRest). disk_held r) rest))
+    (then_puts g.H.Host c.args.disk.now.host.now c.kept_state.new.disk.host.now c.put_image.new.disk.host.now [] (a ++ b) (tt {0}) c.put_image.result (read_puts g.H.Host c.args.disk.now.host.now c.kept_state.new.disk.host.now (tt {0}) reads)
+    (c.put_image.ensures.puts h (λ told. (
+      same_heap g.H.Host c.args.disk.now.host.now c.kept_state.new.disk.host.now c.args.disk.now.rest c.kept_state.new.disk.rest h work rest (exact_heap g.H.Host c.args.disk.now.host.now c.args.disk.now.rest c.args.next (c.requires.exact told)),
       subst (λ (ns : List ℕ). All (Has h) ns) (sym (c.in_ok-names.ensures.names told (c.requires.stands told).0 (c.requires.stands told).1 (c.requires.stands told).2)) (names_there g.H.Host c.args.disk.now.host.now c.args.disk.now.rest c.args.next (c.requires.stands told).0 (c.requires.stands told).1 (c.requires.stands told).2),
-    )))))
+    ))))
 
 pub returns-clause-rest : goal.returns-clause-rest
-returns-clause-rest g c = c.put_records.ensures.rest ∙ c.put_head.ensures.rest ∙ c.kept_state.ensures.rest ∙ c.names_of.ensures.rest
+returns-clause-rest g c = c.put_image.ensures.rest ∙ c.kept_state.ensures.rest ∙ c.names_of.ensures.rest
