@@ -58,3 +58,6 @@ for entries in 4096 32767; do
         echo "$core words, $entries entries: $seconds s, $(echo "$seconds $steps" | awk '{ printf "%d", $1 * 1e9 / $2 }') ns a bytecode; ${counts#*: }"
     done
 done
+
+# What other rules of eviction would fetch.
+"$top/tests/evictions.sh" "$loom" "$fetches" 19 $steps 20480 57344 200000

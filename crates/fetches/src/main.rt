@@ -1,17 +1,24 @@
 //! Counts what a run asks of the memory of two levels: how many objects it brings into the core, and how often it reads and writes Work.
 //!
 //!     fetches NUMBER CORE ENTRIES ROOM STEPS
+//!     fetches log NUMBER CORE ENTRIES ROOM STEPS
 //!
 //! The image of the number is loaded over a host in memory, a memory of these sizes is made over it, and so many bytecodes are run, or fewer
-//! where one ends the run. One line is printed, of the run alone, without loading and saving. The numbers belong to how the memory is written
-//! today, and no clause says them: nothing is proved of this program but that it is safe.
+//! where one ends the run. One line is printed, of the run alone, without loading and saving; or, behind `log`, a line for each object that an
+//! access touched, one after another: its name, and the words that it takes in a core where it was made there, 0 else. From these lines
+//! `tests/evictions.sh` reckons what other rules of eviction would fetch. The numbers belong to how the memory is written today, and no clause
+//! says them: nothing is proved of this program but that it is safe.
 #![tactic(auto)]
 
 mod counting;
+mod logging;
 
+ghost use Rattle.std.specs.Prelude.{IfSome};
 ghost use Rattle.object_memory.specs.Calls.{IsFit};
+ghost use Rattle.loom_memory.specs.Memory.{IsSound};
 
 use crate::counting::CountingHost;
+use crate::logging::{Log, LoggedMemory};
 use contexts::{Cpu, Stop, start};
 use core_segment::{HEADER, MOST_WORDS};
 use disk_objects::DiskObjects;
@@ -37,6 +44,9 @@ struct Job {
     room: u32,
     steps: u32,
 }
+
+/// For how many touches of a bytecode a log has room, on average.
+const TOUCHES: usize = 16;
 
 /// The numbers that the words state; none where one is missing or out of its bounds.
 fn job_of(words: &[String]) -> Option<Job> {
@@ -73,8 +83,14 @@ struct Costs {
     writes: u64,
 }
 
-/// The costs of a run over a host where Image has the image; none where a memory can't have these sizes or the run is refused.
-fn costs_over(alloc: Global, host: &mut CountingHost, job: Job) -> Option<Costs> {
+/// A memory over a host where Image has the image; none where a memory can't have these sizes.
+fn memory_over<'h>(
+    alloc: Global,
+    host: &'h mut CountingHost,
+    job: Job,
+) -> Option<LoomMemory<'h, CountingHost>>
+    ensures sound { IfSome result (IsSound ⟦<CountingHost as Host>⟧) }
+{
     if job.room == 0 || job.room > MOST_NAMES || job.entries > MOST_ENTRIES {
         return None;
     }
@@ -89,32 +105,52 @@ fn costs_over(alloc: Global, host: &mut CountingHost, job: Job) -> Option<Costs>
         return None;
     }
     let (host, rest) = disk.apart();
-    let (reads, writes) = (host.reads, host.writes);
+    host.begin();
     let disk = DiskObjects::again(host, rest);
-    let Ok(mut memory) = LoomMemory::make(alloc, disk, image.next, job.core, job.entries) else {
-        return None;
-    };
+    LoomMemory::make(alloc, disk, image.next, job.core, job.entries).ok()
+}
+
+/// The costs of a run; none where it is refused.
+fn costs_over(alloc: Global, host: &mut CountingHost, job: Job) -> Option<Costs> {
+    let mut memory = memory_over(alloc, host, job)?;
     spin(&mut memory, alloc, job.steps).ok()?;
     let fetches = memory.fetches();
     let host = memory.into_disk().into_host();
     Some(Costs {
         fetches,
-        reads: host.reads.saturating_sub(reads),
-        writes: host.writes.saturating_sub(writes),
+        reads: host.reads,
+        writes: host.writes,
     })
+}
+
+/// The log of a run; none where it is refused.
+fn log_over(alloc: Global, host: &mut CountingHost, job: Job) -> Option<Log> {
+    let inner = memory_over(alloc, host, job)?;
+    let room = (job.steps as usize).saturating_mul(TOUCHES);
+    let log = Log::new(alloc, room).ok()?;
+    let mut memory = LoggedMemory { inner, log };
+    spin(&mut memory, alloc, job.steps).ok()?;
+    let LoggedMemory { inner, log } = memory;
+    let _host = inner.into_disk().into_host();
+    Some(log)
+}
+
+/// A host where Image has the image of a number.
+fn host_of(alloc: Global, number: u8) -> Option<CountingHost> {
+    if number > LAST_NUMBER {
+        return None;
+    }
+    let image = make(alloc, number).ok()?;
+    let mut inner = MemoryHost::new(alloc, 65_536).ok()?;
+    inner.add_file("image", image.bytes()).ok()?;
+    inner.attach(Role::Work, "work").ok()?;
+    inner.attach(Role::Image, "image").ok()?;
+    Some(CountingHost::new(inner))
 }
 
 /// Makes the image of a job, runs it, and prints its costs.
 fn report(rt: HostRuntime, job: Job) -> Option<()> {
-    if job.number > LAST_NUMBER {
-        return None;
-    }
-    let image = make(rt.alloc(), job.number).ok()?;
-    let mut inner = MemoryHost::new(rt.alloc(), 65_536).ok()?;
-    inner.add_file("image", image.bytes()).ok()?;
-    inner.attach(Role::Work, "work").ok()?;
-    inner.attach(Role::Image, "image").ok()?;
-    let mut host = CountingHost::new(inner);
+    let mut host = host_of(rt.alloc(), job.number)?;
     let costs = costs_over(rt.alloc(), &mut host, job)?;
     let Job { core, steps, .. } = job;
     let Costs {
@@ -127,6 +163,24 @@ fn report(rt: HostRuntime, job: Job) -> Option<()> {
     ).ok()
 }
 
+/// The same, and prints what it touched.
+fn tell(rt: HostRuntime, job: Job) -> Option<()> {
+    let mut host = host_of(rt.alloc(), job.number)?;
+    let log = log_over(rt.alloc(), &mut host, job)?;
+    for touch in log.touches() {
+        println!(rt; "{} {}", touch.name, touch.made).ok()?;
+    }
+    Some(())
+}
+
+/// Does what the words say.
+fn take(rt: HostRuntime, words: &[String]) -> Option<()> {
+    match words {
+        [first, rest @ ..] if first.as_str() == "log" => tell(rt, job_of(rest)?),
+        _ => report(rt, job_of(words)?),
+    }
+}
+
 fn main(rt: HostRuntime) -> ExitCode {
     let Ok(args) = env::args(&rt) else {
         return ExitCode::FAILURE;
@@ -134,11 +188,7 @@ fn main(rt: HostRuntime) -> ExitCode {
     let Ok(words) = args.skip(1).collect::<Vec<String>>(rt.alloc()) else {
         return ExitCode::FAILURE;
     };
-    let done = match job_of(&words) {
-        Some(job) => report(rt, job),
-        None => None,
-    };
-    match done {
+    match take(rt, &words) {
         Some(()) => ExitCode::SUCCESS,
         None => ExitCode::FAILURE,
     }
