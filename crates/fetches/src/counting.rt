@@ -1,5 +1,5 @@
 // A host over another, which counts how often Work is read and written.
-ghost use Rattle.std.specs.Prelude.{◌≡◌, false};
+ghost use Rattle.std.specs.Prelude.{false};
 ghost use Rattle.loom_outside.specs.Outside.{at_start};
 
 use loom_outside::{Failed, Host, MemoryHost, Role};
@@ -20,14 +20,6 @@ impl CountingHost {
             reads: 0,
             writes: 0,
         }
-    }
-
-    /// Counts from here on.
-    pub fn begin(&mut self)
-        ensures { self.new.inner ≡ self.old.inner }
-    {
-        self.reads = 0;
-        self.writes = 0;
     }
 }
 

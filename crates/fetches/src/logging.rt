@@ -1,4 +1,6 @@
 // A memory over another, which logs the objects that its calls touch.
+ghost use Rattle.std.specs.Prelude.{◌≡◌};
+
 use core_segment::HEADER;
 use long_names::{Kind, Name, literal_count};
 use object_memory::{MemFault, ObjectMemory, Reg};

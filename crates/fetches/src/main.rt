@@ -13,9 +13,7 @@
 mod counting;
 mod logging;
 
-ghost use Rattle.std.specs.Prelude.{IfSome};
 ghost use Rattle.object_memory.specs.Calls.{IsFit};
-ghost use Rattle.loom_memory.specs.Memory.{IsSound};
 
 use crate::counting::CountingHost;
 use crate::logging::{Log, LoggedMemory};
@@ -83,14 +81,9 @@ struct Costs {
     writes: u64,
 }
 
-/// A memory over a host where Image has the image; none where a memory can't have these sizes.
-fn memory_over<'h>(
-    alloc: Global,
-    host: &'h mut CountingHost,
-    job: Job,
-) -> Option<LoomMemory<'h, CountingHost>>
-    ensures sound { IfSome result (IsSound ⟦<CountingHost as Host>⟧) }
-{
+/// The costs of a run over a host where Image has the image, and what it touched, where the log has room for so much; none where a memory
+/// can't have these sizes or the run is refused.
+fn run_over(alloc: Global, host: &mut CountingHost, job: Job, room: usize) -> Option<(Costs, Log)> {
     if job.room == 0 || job.room > MOST_NAMES || job.entries > MOST_ENTRIES {
         return None;
     }
@@ -105,34 +98,23 @@ fn memory_over<'h>(
         return None;
     }
     let (host, rest) = disk.apart();
-    host.begin();
+    let (reads, writes) = (host.reads, host.writes);
     let disk = DiskObjects::again(host, rest);
-    LoomMemory::make(alloc, disk, image.next, job.core, job.entries).ok()
-}
-
-/// The costs of a run; none where it is refused.
-fn costs_over(alloc: Global, host: &mut CountingHost, job: Job) -> Option<Costs> {
-    let mut memory = memory_over(alloc, host, job)?;
-    spin(&mut memory, alloc, job.steps).ok()?;
-    let fetches = memory.fetches();
-    let host = memory.into_disk().into_host();
-    Some(Costs {
-        fetches,
-        reads: host.reads,
-        writes: host.writes,
-    })
-}
-
-/// The log of a run; none where it is refused.
-fn log_over(alloc: Global, host: &mut CountingHost, job: Job) -> Option<Log> {
-    let inner = memory_over(alloc, host, job)?;
-    let room = (job.steps as usize).saturating_mul(TOUCHES);
+    let Ok(inner) = LoomMemory::make(alloc, disk, image.next, job.core, job.entries) else {
+        return None;
+    };
     let log = Log::new(alloc, room).ok()?;
     let mut memory = LoggedMemory { inner, log };
     spin(&mut memory, alloc, job.steps).ok()?;
     let LoggedMemory { inner, log } = memory;
-    let _host = inner.into_disk().into_host();
-    Some(log)
+    let fetches = inner.fetches();
+    let host = inner.into_disk().into_host();
+    let costs = Costs {
+        fetches,
+        reads: host.reads.saturating_sub(reads),
+        writes: host.writes.saturating_sub(writes),
+    };
+    Some((costs, log))
 }
 
 /// A host where Image has the image of a number.
@@ -151,7 +133,7 @@ fn host_of(alloc: Global, number: u8) -> Option<CountingHost> {
 /// Makes the image of a job, runs it, and prints its costs.
 fn report(rt: HostRuntime, job: Job) -> Option<()> {
     let mut host = host_of(rt.alloc(), job.number)?;
-    let costs = costs_over(rt.alloc(), &mut host, job)?;
+    let (costs, _log) = run_over(rt.alloc(), &mut host, job, 0)?;
     let Job { core, steps, .. } = job;
     let Costs {
         fetches,
@@ -166,7 +148,8 @@ fn report(rt: HostRuntime, job: Job) -> Option<()> {
 /// The same, and prints what it touched.
 fn tell(rt: HostRuntime, job: Job) -> Option<()> {
     let mut host = host_of(rt.alloc(), job.number)?;
-    let log = log_over(rt.alloc(), &mut host, job)?;
+    let room = (job.steps as usize).saturating_mul(TOUCHES);
+    let (_costs, log) = run_over(rt.alloc(), &mut host, job, room)?;
     for touch in log.touches() {
         println!(rt; "{} {}", touch.name, touch.made).ok()?;
     }
