@@ -8,6 +8,7 @@ use Rattle.std.proofs.lemmas.List.{take-append-drop}
 use Rattle.long_names.specs.Record.{eight_bytes}
 use Rattle.long_names.specs.declared.limits.TheConstants.{LONGEST_RECORD}
 use Rattle.long_names.specs.declared.object.Object.{Object}
+use Rattle.loom_outside.proofs.Windows.{window-taken}
 use Rattle.loom_outside.specs.Bytes.{window}
 use Rattle.loom_outside.specs.Work.{work_of}
 use Rattle.loom_outside.specs.declared.outside.Host.{Ghosts}
@@ -29,7 +30,6 @@ use Rattle.disk_objects.specs.Function.{ChangesCount, IsFetched, KeepsObjects, P
 use Rattle.disk_objects.proofs.KeyLaws.{disk-len}
 use Rattle.disk_objects.proofs.RecordLaws.{length-tail, text-parts}
 use Rattle.disk_objects.proofs.StoredLaws.{equal_or_not, insert-at, insert-there, remove-at, remove-there}
-use Rattle.disk_objects.proofs.WindowLaws.{window-taken}
 
 -- ---- a record that stands in a block
 

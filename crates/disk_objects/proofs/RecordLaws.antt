@@ -10,7 +10,7 @@ use Rattle.long_names.specs.declared.object.Kind.TheVariants as kind
 use Rattle.byteorder.specs.Endian.{big_number, big_bytes}
 use Rattle.byteorder.specs.Numbers.{big_number-reads_back}
 use Rattle.loom_outside.specs.Bytes.{window}
-use Rattle.loom_outside.proofs.Windows.{length-window}
+use Rattle.loom_outside.proofs.Windows.{length-window, window-taken}
 use Rattle.object_record.specs.Raw.{RawBody, RawPointers, RawWords, RawBytes, RawMethod, RawRecord, IsRawRecord, raw_kind, raw_len, raw_literals, raw_size, raw_end, raw_text, with_name}
 use Rattle.object_record.specs.Buffer.{long_at, word_at, kind_numbered, raw_of, HasRecord}
 use Rattle.object_record.specs.Inside.{size_stated}
@@ -27,7 +27,6 @@ use Rattle.loom_outside.specs.declared.outside.DiskFault.{DiskFault}
 use Rattle.loom_outside.specs.declared.outside.DiskFault.TheVariants.{Work, Full, Damaged}
 use Rattle.disk_objects.specs.declared.record.Head.{Head}
 use Rattle.disk_objects.specs.Inside.{Touches, Writes, linked, IsHead, IsHeadFault, IsLinkFault, IsRecordFault, size_stated_in}
-use Rattle.disk_objects.proofs.WindowLaws.{window-taken}
 
 -- ---- the parts of a text
 

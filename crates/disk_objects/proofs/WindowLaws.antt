@@ -1,23 +1,8 @@
 -- Windows within windows, and contents of Work of which only some bytes changed.
 use Rattle.std.proofs.Common.{◌≡◌, ℕ, ◌+◌, ◌<◌, ◌≤◌, List, length, take, drop, get_or, sym, ap, ◌∙◌, arith}
-use Rattle.std.proofs.lemmas.List.{ext_get_or, length-take, length-drop, get_or-take, get_or-drop}
 use Rattle.loom_outside.specs.Bytes.{window, overwritten}
-use Rattle.loom_outside.proofs.Windows.{length-window, get_or-window, length-overwritten, window-overwritten_apart, window-overwritten_same}
+use Rattle.loom_outside.proofs.Windows.{get_or-window, length-overwritten, window-overwritten_apart, window-overwritten_same, window-taken}
 use Rattle.disk_objects.specs.Inside.{Touches}
-
--- a part of a window
-pub window-taken : (w : List ℕ) (p m at n : ℕ) → at + n ≤ m → take n (drop at (window w p m)) ≡ window w (p + at) n
-window-taken w p m at n h =
-    let long : length (take n (drop at (window w p m))) ≡ n =
-    omega (arith, length-take n (drop at (window w p m)), length-drop at (window w p m), length-window w p m, h) in
-    ext_get_or 0 _ _ (long ∙ sym (length-window w (p + at) n)) (λ k l.
-    let below : k < n = rw long at l in
-    let same : p + (at + k) ≡ p + at + k = omega arith in
-    get_or-take n (drop at (window w p m)) k 0 below
-    ∙ get_or-drop at (window w p m) k 0
-    ∙ get_or-window w p m (at + k) (omega arith)
-    ∙ ap (λ j. get_or w j 0) same
-    ∙ sym (get_or-window w (p + at) n k below))
 
 -- a shorter window
 pub window-shorter : (v w : List ℕ) (p m at n : ℕ) → at + n ≤ m → window w p m ≡ window v p m → window w (p + at) n ≡ window v (p + at) n

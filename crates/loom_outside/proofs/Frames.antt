@@ -1,7 +1,7 @@
 -- What a call leaves of the roles.
 -- What a host tells goes by role, and each call has one clause over the other roles (`SameBut`): a caller carries one fact and
 -- not six.
-use Rattle.std.proofs.Common.{◌≡◌, ◌≢◌, ℕ, List, ◌∙◌, ap, sym, subst, arith, rules, Bool, true, None, Result, Ok, Err, OnErr, is_err, if◌then◌else◌}
+use Rattle.std.proofs.Common.{◌≡◌, ◌≢◌, ℕ, List, ◌∙◌, ap, sym, subst, arith, rules, Bool, true, Option, None, Result, Ok, Err, OnErr, is_err, if◌then◌else◌}
 use Rattle.std.proofs.lemmas.List.{append-nil}
 use Rattle.loom_outside.specs.Memory.{told}
 use Rattle.loom_outside.specs.Outside.{RoleState, SameBut, CanRead, CanWrite, PutPrefix, holds}
@@ -28,7 +28,7 @@ told-same c d s t attaches named ended held =
     ap (told d) held
     ∙ ap (λ (n : ℕ). record s { attaches = n; name = if d.named then s.name else None; ended = d.ended }) attaches
     ∙ ap (λ (b : Bool). record s { attaches = c.attaches; name = if b then s.name else None; ended = d.ended }) named
-    ∙ ap (λ (b : Bool). record s { attaches = c.attaches; name = if c.named then s.name else None; ended = b }) ended
+    ∙ ap (λ (e : Option ℕ). record s { attaches = c.attaches; name = if c.named then s.name else None; ended = e }) ended
 
 pub at_is_err : {T E Q : Type 0} (r : Result T E) → is_err r ≡ true → OnErr r Q → Q
 at_is_err (Ok x) is q = absurd (search (rules, is))

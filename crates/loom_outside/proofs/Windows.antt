@@ -1,9 +1,9 @@
 -- What a window shows after a write.
 -- A loop over pieces, as in `read_full` and `write_full`, keeps that what was done and the rest are the text; the laws of one
 -- piece after another stand in `Pieces`. The crates of the work file cite the windows here.
-use Rattle.std.proofs.Common.{◌≡◌, ℕ, ◌+◌, ◌-◌, ◌<◌, ◌≤◌, ◌⊎◌, ◌&&◌, List, [], replicate, length, length-append, ◌++◌, map, get_or, nat_le, nat_lt, true, false, cond, max, refl, sym, ap, ◌∙◌, arith, inl, inr}
+use Rattle.std.proofs.Common.{◌≡◌, ℕ, ◌+◌, ◌-◌, ◌<◌, ◌≤◌, ◌⊎◌, ◌&&◌, List, [], replicate, length, length-append, ◌++◌, map, take, drop, get_or, nat_le, nat_lt, true, false, cond, max, refl, sym, ap, ◌∙◌, arith, inl, inr}
 use Rattle.std.specs.List.{range_with_len}
-use Rattle.std.proofs.lemmas.List.{ext_get_or, get_or_past, get_or_append_left, get_or-append_right, get_or-replicate, length-replicate}
+use Rattle.std.proofs.lemmas.List.{ext_get_or, get_or_past, get_or_append_left, get_or-append_right, get_or-replicate, get_or-take, get_or-drop, length-replicate, length-take, length-drop}
 use Rattle.std.proofs.lemmas.List.FromFn.{length-map-range_with_len, get_or-map-range_with_len}
 use Rattle.std.proofs.lemmas.Bool.Decides.{nat_tests}
 use Rattle.loom_outside.specs.Bytes.{window, overwritten, byte_after}
@@ -15,6 +15,20 @@ length-window w at n = length-map-range_with_len (λ k. get_or w k 0) at n
 pub get_or-window : (w : List ℕ) (at n k : ℕ) → k < n → get_or (window w at n) k 0 ≡ get_or w (at + k) 0
 unfolding window
 get_or-window w at n k h = get_or-map-range_with_len (λ j. get_or w j 0) at n k (at + k) 0 h refl
+
+-- a part of a window
+pub window-taken : (w : List ℕ) (p m at n : ℕ) → at + n ≤ m → take n (drop at (window w p m)) ≡ window w (p + at) n
+window-taken w p m at n h =
+    let long : length (take n (drop at (window w p m))) ≡ n =
+    omega (arith, length-take n (drop at (window w p m)), length-drop at (window w p m), length-window w p m, h) in
+    ext_get_or 0 _ _ (long ∙ sym (length-window w (p + at) n)) (λ k l.
+    let below : k < n = rw long at l in
+    let same : p + (at + k) ≡ p + at + k = omega arith in
+    get_or-take n (drop at (window w p m)) k 0 below
+    ∙ get_or-drop at (window w p m) k 0
+    ∙ get_or-window w p m (at + k) (omega arith)
+    ∙ ap (λ j. get_or w j 0) same
+    ∙ sym (get_or-window w (p + at) n k below))
 
 pub length-overwritten : (w : List ℕ) (at : ℕ) (bytes : List ℕ) → length (overwritten w at bytes) ≡ max (length w) (at + length bytes)
 unfolding overwritten

@@ -12,7 +12,7 @@ use Rattle.loom_outside.specs.declared.calls.Calls.{Calls}
 use Rattle.loom_outside.specs.declared.marks.Marks.{Marks}
 use Rattle.loom_outside.specs.declared.memory.MemoryHost.{MemoryHost}
 
--- what is held, with the attaches that were counted, and whether it was ended. The name is told where the last attach answered Ok
+-- what is held, with the attaches that were counted, and the bytes that had been put when it was ended. The name is told where the last attach answered Ok
 abbrev pub told : Calls → RoleState → RoleState
 told c s = record s { attaches = c.attaches; name = if c.named then s.name else None; ended = c.ended }
 

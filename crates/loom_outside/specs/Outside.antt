@@ -13,15 +13,15 @@ pub record RoleState : Type 0 where
   -- of a role that is read: the bytes taken since the last attach that went through, and those left
   pub taken : List ℕ
   pub left : List ℕ
-  -- of a role that is written: the bytes put since then, and whether a piece of no bytes was, which ends it
+  -- of a role that is written: the bytes put since then, and how many of them had been put when a piece of no bytes last ended it
   pub put : List ℕ
-  pub ended : Bool
+  pub ended : Option ℕ
   -- of Work
   pub contents : List ℕ
 
 -- of a role where nothing has been done yet
 abbrev pub at_start : RoleState
-at_start = record { attaches = 0; name = None; taken = []; left = []; put = []; ended = false; contents = [] }
+at_start = record { attaches = 0; name = None; taken = []; left = []; put = []; ended = None; contents = [] }
 
 -- with no name told
 abbrev pub unnamed : RoleState → RoleState
@@ -33,7 +33,7 @@ puts bytes s = record s { put = s.put ++ bytes }
 
 -- after a piece of no bytes is put
 abbrev pub ends : RoleState → RoleState
-ends s = record s { ended = true }
+ends s = record s { ended = Some (length s.put) }
 
 -- after so many bytes are taken
 abbrev pub takes : ℕ → RoleState → RoleState
@@ -57,7 +57,7 @@ pub record Attached {T : Type 0} (text : List ℕ) (result : Result T Failed) (o
 pub record IsFresh (s : RoleState) : Type 0 where
   pub taken : s.taken ≡ []
   pub put : s.put ≡ []
-  pub ended : s.ended ≡ false
+  pub ended : s.ended ≡ None
   pub contents : s.contents ≡ []
 
 -- n bytes were taken, and stand at the front of the buffer

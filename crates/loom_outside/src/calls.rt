@@ -1,5 +1,5 @@
 // The calls on each role of a host in memory.
-ghost use Rattle.std.specs.Prelude.{◌≡◌, ◌<◌, ◌++◌, ◌∷◌, [], true, false, OnOk, OnErr};
+ghost use Rattle.std.specs.Prelude.{◌≡◌, ◌<◌, ◌++◌, ◌∷◌, [], true, false, None, Some, OnOk, OnErr};
 ghost use Rattle.loom_outside.specs.Outside.{SameBut};
 ghost use Rattle.long_names.specs.Counting.{counted};
 ghost use Rattle.loom_outside.specs.PerRole.{at_role};
@@ -14,8 +14,8 @@ pub struct Calls {
     pub attaches: u64,
     // whether the last attach answered Ok
     pub named: bool,
-    // whether a piece of no bytes was put since the last attach that answered Ok
-    pub ended: bool,
+    // how many bytes had been put when a piece of no bytes last was, since the last attach that answered Ok
+    pub ended: Option<usize>,
     // how many calls there are until each that is to fail
     pub plan: Vec<u64>,
 }
@@ -24,13 +24,13 @@ impl Calls {
     pub fn new(alloc: Global) -> Calls
         ensures attaches { result.attaches ≡ 0 }
         ensures named { result.named ≡ false }
-        ensures ended { result.ended ≡ false }
+        ensures ended { result.ended ≡ None }
         ensures plan { result.plan.items ≡ [] }
     {
         Calls {
             attaches: 0,
             named: false,
-            ended: false,
+            ended: None,
             plan: Vec::new(alloc),
         }
     }
@@ -55,7 +55,7 @@ impl PerRole<Calls> {
     pub fn none(alloc: Global) -> PerRole<Calls>
         ensures attaches { (role : Role) → (at_role result role).attaches ≡ 0 }
         ensures named { (role : Role) → (at_role result role).named ≡ false }
-        ensures ended { (role : Role) → (at_role result role).ended ≡ false }
+        ensures ended { (role : Role) → (at_role result role).ended ≡ None }
         ensures plan { (role : Role) → (at_role result role).plan.items ≡ [] }
     {
         PerRole {
@@ -101,25 +101,25 @@ impl PerRole<Calls> {
         ensures plan { (at_role self.new role).plan.items ≡ (at_role self.old role).plan.items }
         ensures attaches { (at_role self.new role).attaches ≡ (at_role self.old role).attaches }
         ensures named { (at_role self.new role).named ≡ true }
-        ensures ended { (at_role self.new role).ended ≡ false }
+        ensures ended { (at_role self.new role).ended ≡ None }
         ensures others { SameBut role (at_role self.old) (at_role self.new) }
     {
         let calls = self.at_mut(role);
         calls.named = true;
-        calls.ended = false;
+        calls.ended = None;
     }
 
-    // A write of so many bytes answers Ok: one of none ends the role.
-    pub fn end_write(&mut self, role: Role, bytes: usize)
+    // A write of so many bytes answers Ok, with which so many are put in all: one of none ends the role.
+    pub fn end_write(&mut self, role: Role, bytes: usize, put: usize)
         ensures plan { (at_role self.new role).plan.items ≡ (at_role self.old role).plan.items }
         ensures attaches { (at_role self.new role).attaches ≡ (at_role self.old role).attaches }
         ensures named { (at_role self.new role).named ≡ (at_role self.old role).named }
-        ensures ended { bytes ≡ 0 → (at_role self.new role).ended ≡ true }
+        ensures ended { bytes ≡ 0 → (at_role self.new role).ended ≡ Some put }
         ensures goes_on { 0 < bytes → (at_role self.new role).ended ≡ (at_role self.old role).ended }
         ensures others { SameBut role (at_role self.old) (at_role self.new) }
     {
         if bytes == 0 {
-            self.at_mut(role).ended = true;
+            self.at_mut(role).ended = Some(put);
         }
     }
 

@@ -127,8 +127,8 @@ impl MemoryHost {
         self.store.notes()
     }
 
-    /// Whether a piece of no bytes was put to a role since the last attach of it that answered Ok.
-    pub fn ended(&self, role: Role) -> bool
+    /// How many bytes had been put to a role when a piece of no bytes last ended it, since the last attach of it that answered Ok.
+    pub fn ended(&self, role: Role) -> Option<usize>
         ensures { result ≡ (roles_of self.now role).ended }
     {
         self.calls.at(role).ended
@@ -256,7 +256,7 @@ impl Host for MemoryHost {
         if self.store.put(role, &buf[..n]).is_err() {
             return self.faults.fail(role);
         }
-        self.calls.end_write(role, n);
+        self.calls.end_write(role, n, self.store.put_length(role));
         Ok(n)
     }
 

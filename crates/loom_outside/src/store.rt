@@ -245,6 +245,19 @@ impl Store {
         }
     }
 
+    // How many bytes were put to a role that is written.
+    pub fn put_length(&self, role: Role) -> usize
+        requires { CanWrite role }
+        ensures { result ≡ length (held_of self.now role).put }
+    {
+        match role {
+            Role::Saved => self.files[self.saved.file].bytes.len(),
+            Role::Display => self.files[self.display.file].bytes.len(),
+            Role::Transcript => self.transcript.len(),
+            _ => self.notes.len(),
+        }
+    }
+
     pub fn transcript(&self) -> &[u8]
         ensures { result.now ≡ (held_of self.now Role.Transcript).put }
     {

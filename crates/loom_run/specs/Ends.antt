@@ -161,7 +161,7 @@ pub record WasWritten (text bytes : List ℕ) (old new : RoleState) : Type 0 whe
   pub attaches : new.attaches ≡ counted old.attaches
   pub name : new.name ≡ Some text
   pub put : new.put ≡ bytes
-  pub unended : new.ended ≡ false
+  pub unended : new.ended ≡ None
 
 -- and likewise a prefix of these bytes
 abbrev pub WasBegun : List ℕ → List ℕ → RoleState → RoleState → Type 0

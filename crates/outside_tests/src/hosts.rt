@@ -289,8 +289,8 @@ fn is_whole(host: &MemoryHost) -> bool {
         && is_file(host, "t", b"x")
         && host.file("w").is_none()
         && host.work_writes() == (3, 3)
-        && host.ended(Role::Display)
-        && !host.ended(Role::Saved)
+        && host.ended(Role::Display) == Some(7)
+        && host.ended(Role::Saved).is_none()
 }
 
 // Another write to Transcript is told, a read moves a chunk, and there isn't room for everything.

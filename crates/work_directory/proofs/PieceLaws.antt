@@ -1,12 +1,11 @@
 -- Slots that were read at once.
 use Rattle.std.proofs.Common.{◌≡◌, ℕ, ◌+◌, ◌-◌, ◌*◌, ◌<◌, ◌≤◌, List, length, take, drop, get_or, Option, IsTrue, sym, ap, ◌∙◌, subst, arith}
-use Rattle.std.proofs.lemmas.List.{ext_get_or, length-take, length-drop, get_or-take, get_or-drop}
 use Rattle.loom_outside.specs.Bytes.{window}
 use Rattle.loom_outside.specs.declared.outside.DiskFault.{DiskFault}
 use Rattle.loom_outside.specs.declared.outside.DiskFault.TheVariants.{Work, Full, Damaged}
 use Rattle.loom_outside.specs.declared.outside.Host.{Ghosts}
 use Rattle.loom_outside.specs.declared.outside.Role.TheVariants.{Work as OfWork}
-use Rattle.loom_outside.proofs.Windows.{length-window, get_or-window}
+use Rattle.loom_outside.proofs.Windows.{window-taken}
 use Rattle.work_directory.specs.declared.piece.Piece.{Piece}
 use Rattle.work_directory.specs.declared.slot.Slot.{Slot}
 use Rattle.work_directory.specs.Directory.{shown_at}
@@ -14,20 +13,6 @@ use Rattle.work_directory.specs.Inside.{HasSlot, IsPieceDamage, piece_bytes}
 use Rattle.work_directory.specs.Pieces.{IsPieceOf}
 use Rattle.work_directory.specs.Slots.{bytes_of, slot_at, slot_in, used_slot, IsSpelled}
 use Rattle.work_directory.specs.Work.{IsSlotCause}
-
--- a part of a window
-window-taken : (w : List ℕ) (p m at n : ℕ) → at + n ≤ m → take n (drop at (window w p m)) ≡ window w (p + at) n
-window-taken w p m at n h =
-    let long : length (take n (drop at (window w p m))) ≡ n =
-    omega (arith, length-take n (drop at (window w p m)), length-drop at (window w p m), length-window w p m, h) in
-    ext_get_or 0 _ _ (long ∙ sym (length-window w (p + at) n)) (λ k l.
-    let below : k < n = rw long at l in
-    let same : p + (at + k) ≡ p + at + k = omega arith in
-    get_or-take n (drop at (window w p m)) k 0 below
-    ∙ get_or-drop at (window w p m) k 0
-    ∙ get_or-window w p m (at + k) (omega arith)
-    ∙ ap (λ j. get_or w j 0) same
-    ∙ sym (get_or-window w (p + at) n k below))
 
 pub empty-piece : (work : List ℕ) (p : Piece) → p.count ≡ 0 → IsPieceOf work p
 unfolding IsPieceOf
