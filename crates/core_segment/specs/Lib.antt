@@ -1,4 +1,11 @@
-pub mod Chunks
-pub mod Segment
-pub mod Inside
 pub mod Memory
+pub mod Heads
+pub mod Inside
+pub mod Lists
+pub mod Chunks
+pub mod Layout
+pub mod Taking
+pub mod Segment
+pub mod Props
+pub mod Order
+pub mod Compact

@@ -1,14 +1,14 @@
 -- What a segment stands for: chunks at their places, and how much is free.
-use Rattle.std.specs.Prelude.{◌≡◌, ℕ, ◌+◌, ◌<◌, List, length, map, sum_by}
+use Rattle.std.specs.Prelude.{◌≡◌, ℕ, ◌+◌, ◌<◌, List, length, sum_by}
 use Rattle.core_segment.specs.declared.segment.TheConstants.{HEADER}
 use Rattle.core_segment.specs.declared.segment.Moved.{Moved}
 use Rattle.core_segment.specs.declared.segment.Segment.{Segment}
 use Rattle.core_segment.specs.Chunks.{Chunk, Placed, no_chunk, at_place, with_chunk}
-use Rattle.core_segment.specs.Inside.{placed, spans_of, largest_gap}
+use Rattle.core_segment.specs.Layout.{placed_in, tiles_of, largest_in}
 
 -- the used chunks, by rising place
 unfoldable pub chunks_of : Segment → List Placed
-chunks_of g = map (placed g.region.cells.items) (spans_of g.region.cells.items)
+chunks_of g = placed_in g.region.cells.items (tiles_of g.region.cells.items)
 
 -- the used chunk that begins at a place
 unfoldable pub chunk_at : Segment → ℕ → Chunk
@@ -24,7 +24,7 @@ free_of g = g.free
 
 -- the words of the largest free chunk
 unfoldable pub largest_of : Segment → ℕ
-largest_of g = largest_gap 0 (spans_of g.region.cells.items) (length g.region.cells.items)
+largest_of g = largest_in (tiles_of g.region.cells.items)
 
 -- how far down the used chunks could go at most, all together
 unfoldable pub work_of : Segment → ℕ

@@ -1,9 +1,13 @@
-// The segment: a region of words, in which used chunks tell where they end. What no chunk takes is free.
+// The segment: a region of words that chunks tile. Used chunks and free ones tell where they end, and free ones stand in lists.
 ghost use Rattle.std.specs.Prelude.{◌≡◌, ◌≤◌, length};
 ghost use Rattle.core_segment.specs.declared.segment.TheConstants.{MOST_WORDS};
-ghost use Rattle.core_segment.specs.Inside.{IsRegion, spans_of};
+ghost use Rattle.core_segment.specs.Layout.{IsLaid, tiles_of};
+ghost use Rattle.core_segment.specs.Order.{IsGoingOn, IsGoingOn-prop};
+ghost use Rattle.core_segment.specs.Props.{IsLaid-prop};
 
-use crate::region::{beyond, clear, earlier, later, open, shift, size_at};
+use crate::heads::{FEWEST, owner_at, size_at};
+use crate::lists::{Lists, Spot};
+use crate::order::{first_free, rise, thread};
 use crate::words::Words;
 use std::alloc::{AllocError, Global};
 
@@ -29,20 +33,22 @@ pub struct Moved {
 /// A region of words, of which parts are given out as chunks.
 #[derive(Drop)]
 pub struct Segment {
-    // A used chunk begins with its owner, which is not 0, and its size. Each free word is 0. So chunks are found from place to place.
     region: Words,
+    lists: Lists,
     free: u32,
-    // Where searches begin and a compaction goes on: no word is free below `packed`, and each is from there to `next`.
-    packed: u32,
-    next: u32,
+    // How far a compaction is: no chunk is free below this place, and each list goes up. None where that isn't known.
+    reached: Option<u32>,
     ghost small: { length region.cells.items ≤ MOST_WORDS },
-    ghost whole: { IsRegion region.cells.items (spans_of region.cells.items) free packed next },
+    ghost whole: { IsLaid region.cells.items lists.firsts (tiles_of region.cells.items) free } by { IsLaid-prop region.cells.items lists.firsts (tiles_of region.cells.items) free },
+    ghost going: { IsGoingOn region.cells.items lists.firsts (tiles_of region.cells.items) reached } by { IsGoingOn-prop region.cells.items lists.firsts (tiles_of region.cells.items) reached },
 }
 
 impl Segment {
     ghost use Rattle.std.specs.Prelude.{◌≡◌, ◌≢◌, ◌+◌, ◌-◌, ◌*◌, ◌<◌, ◌≤◌, ◌^◌, ◌↔◌, ℕ, IfOk, IfSome, IfNone, IsTrue, Some, length, slice_get};
     ghost use Rattle.core_segment.specs.Chunks.{Chunk, no_chunk, with_chunk, with_word};
-    ghost use Rattle.core_segment.specs.Inside.{IsAt, IsGap, IsPacked, end_before, spans_of, word_at};
+    ghost use Rattle.core_segment.specs.Compact.{IsJoined};
+    ghost use Rattle.core_segment.specs.Heads.{owner_in, size_in};
+    ghost use Rattle.core_segment.specs.Taking.{IsSpot};
     ghost use Rattle.core_segment.specs.Segment.{chunk_at, size_of, free_of, largest_of, work_of, SameRoom, IsTaken, IsMove};
 
     /// A segment of so many words, all of them free.
@@ -53,11 +59,14 @@ impl Segment {
         ensures size { IfOk result (λ g. size_of g ≡ words) }
         ensures free { IfOk result (λ g. (free_of g ≡ words) × (largest_of g ≡ words)) }
     {
+        let mut region = Words::make(alloc, words)?;
+        let mut lists = Lists::none();
+        lists.push(&mut region, 0, words);
         Ok(Segment {
-            region: Words::make(alloc, words)?,
+            region,
+            lists,
             free: words,
-            packed: 0,
-            next: 0,
+            reached: None,
         })
     }
 
@@ -77,12 +86,40 @@ impl Segment {
         size_at(&self.region, at.place) - HEADER
     }
 
+    // A free chunk of at least so many words. None exactly where no free chunk has so many.
+    fn find(&self, words: u32) -> Option<Spot>
+        requires { FEWEST ≤ words }
+        ensures some { IfSome result (λ s. IsSpot self.now.region.cells.items self.now.lists.firsts s.class s.before s.place) }
+        ensures enough { IfSome result (λ s. words ≤ size_in self.now.region.cells.items s.place) }
+        ensures room { IfSome result (λ s. words ≤ largest_of self.now) }
+        ensures none { IfNone result (largest_of self.now < words) }
+    {
+        self.lists.find(&self.region, words)
+    }
+
+    // Whether a free chunk has so many words, by a walk over all chunks.
+    fn has_scrap(&self, words: u32) -> bool
+        requires { 1 ≤ words }
+        ensures { IsTrue result ↔ (words ≤ largest_of self.now) }
+    {
+        let mut place = 0;
+        while place < self.region.size {
+            let size = size_at(&self.region, place);
+            if owner_at(&self.region, place) == 0 && words <= size {
+                return true;
+            }
+            place += size;
+        }
+        false
+    }
+
     /// Whether so many words are free together, so that `take` gives them.
     pub fn has_room(&self, words: u32) -> bool
         requires { 1 ≤ words }
         ensures { IsTrue result ↔ (words ≤ largest_of self.now) }
     {
-        self.find_gap(words).is_some()
+        let least = if words < FEWEST { FEWEST } else { words };
+        self.find(least).is_some() || (words < FEWEST && self.has_scrap(words))
     }
 
     /// A word of a chunk. The first of its user's words has the index 0.
@@ -102,32 +139,6 @@ impl Segment {
         self.region.put(at.place + HEADER + i, w);
     }
 
-    // The first place from which on so many words are free: a chunk ends there, or the segment begins.
-    fn find_gap(&self, words: u32) -> Option<u32>
-        requires { 1 ≤ words }
-        ensures none { IfNone result (largest_of self.now < words) }
-        ensures gap { IfSome result (λ p. (k : ℕ) × IsGap (spans_of self.now.region.cells.items) (length self.now.region.cells.items) words k p
-            × (p ≡ end_before (spans_of self.now.region.cells.items) k)) }
-        ensures behind { IfSome result (λ p. self.now.packed ≤ p) }
-    {
-        let size = self.region.size;
-        let mut start = self.packed;
-        let mut place = self.packed;
-        while place < size {
-            let word = self.region.get(place);
-            if word == 0 {
-                place += 1;
-                if place - start == words {
-                    return Some(start);
-                }
-            } else {
-                place += size_at(&self.region, place);
-                start = place;
-            }
-        }
-        None
-    }
-
     /// Gives a chunk of so many words, four of them the segment's own, to an owner. None exactly where no free chunk has so many. They
     /// come from an end of one free chunk, so the largest one gets smaller by so many at most.
     pub fn take(&mut self, words: u32, owner: u16) -> Option<Addr>
@@ -140,12 +151,12 @@ impl Segment {
         ensures none { IfNone result ((largest_of self.old < words) × (self.new ≡ self.old)) }
         ensures size { size_of self.new ≡ size_of self.old }
     {
-        let place = self.find_gap(words)?;
-        open(&mut self.region, place, owner, words);
+        let spot = self.find(words)?;
+        self.lists.cut(&mut self.region, spot);
+        self.lists.carve(&mut self.region, spot.place, owner, words);
         self.free -= words;
-        self.packed = beyond(self.packed, place, words);
-        self.next = self.packed;
-        Some(Addr { place })
+        self.reached = None;
+        Some(Addr { place: spot.place })
     }
 
     /// Frees a chunk. No free chunk gets smaller by it, and the words of this one are free together.
@@ -158,48 +169,90 @@ impl Segment {
         ensures size { size_of self.new ≡ size_of self.old }
     {
         let size = size_at(&self.region, at.place);
-        clear(&mut self.region, at.place, at.place + size);
+        self.lists.push(&mut self.region, at.place, size);
         self.free += size;
-        self.packed = earlier(self.packed, at.place);
-        self.next = self.packed;
+        self.reached = None;
     }
 
-    // The first free word behind the chunks that are packed, or the end.
-    fn end_of_packed(&self) -> u32
-        ensures packed { (k : ℕ) × IsPacked (spans_of self.now.region.cells.items) (length self.now.region.cells.items) k result self.now.next }
-        ensures free { word_at self.now.region.cells.items result ≡ 0 }
-        ensures within { result ≤ length self.now.region.cells.items }
+    // Goes on with a compaction, or begins one with the lists made anew. Answers the first free chunk, or the end.
+    fn reach(&mut self) -> u32
+        ensures joined { IsJoined self.old self.new }
+        ensures reached { self.new.reached ≡ Some result }
     {
-        let size = self.region.size;
-        let mut place = self.packed;
-        while place < size {
-            let word = self.region.get(place);
-            if word == 0 {
-                return place;
-            }
-            place += size_at(&self.region, place);
+        if let Some(place) = self.reached {
+            return place;
         }
+        let last = thread(&mut self.region);
+        self.lists = rise(&mut self.region, last);
+        let place = first_free(&self.region);
+        self.reached = Some(place);
         place
     }
 
-    // The next chunk from a free word on, or the end.
-    fn end_of_gap(&self, from: u32) -> u32
-        requires { from ≤ length self.now.region.cells.items }
-        ensures gap { (k : ℕ) → IsAt (spans_of self.now.region.cells.items) k from → IsAt (spans_of self.now.region.cells.items) k result }
-        ensures used { result < length self.now.region.cells.items → word_at self.now.region.cells.items result ≢ 0 }
-        ensures behind { from ≤ result }
-        ensures within { result ≤ length self.now.region.cells.items }
+    // Joins the free chunk behind the first one to it. Answers how many words are free together then.
+    fn join_next(&mut self, to: u32, gap: u32) -> u32
+        requires reached { self.old.reached ≡ Some to }
+        requires gap { size_in self.old.region.cells.items to ≡ gap }
+        requires many { gap < self.old.free }
+        requires free { owner_in self.old.region.cells.items (to + gap) ≡ 0 }
+        ensures joined { IsJoined self.old self.new }
+        ensures reached { self.new.reached ≡ Some to }
+        ensures gap { size_in self.new.region.cells.items to ≡ result }
+        ensures more { gap < result }
+        ensures few { result ≤ self.new.free }
     {
-        let size = self.region.size;
-        let mut place = from;
-        while place < size {
-            let word = self.region.get(place);
-            if word != 0 {
-                return place;
+        let from = to + gap;
+        let more = size_at(&self.region, from);
+        let size = gap + more;
+        self.lists.leave(&self.region, to, gap);
+        self.lists.leave(&self.region, from, more);
+        self.lists.push(&mut self.region, to, size);
+        size
+    }
+
+    // Joins all free chunks that follow the first one to it. Answers how many words are free together then.
+    fn join(&mut self, to: u32) -> u32
+        requires reached { self.old.reached ≡ Some to }
+        requires some { to < length self.old.region.cells.items }
+        ensures joined { IsJoined self.old self.new }
+        ensures reached { self.new.reached ≡ Some to }
+        ensures gap { size_in self.new.region.cells.items to ≡ result }
+        ensures used { result < self.new.free → 0 < owner_in self.new.region.cells.items (to + result) }
+        ensures few { result ≤ self.new.free }
+    {
+        let mut gap = size_at(&self.region, to);
+        while gap < self.free {
+            if owner_at(&self.region, to + gap) != 0 {
+                return gap;
             }
-            place += 1;
+            gap = self.join_next(to, gap);
         }
-        place
+        gap
+    }
+
+    // Moves the chunk behind the first free one down over it.
+    fn move_down(&mut self, to: u32, gap: u32) -> Moved
+        requires reached { self.old.reached ≡ Some to }
+        requires gap { size_in self.old.region.cells.items to ≡ gap }
+        requires many { gap < self.old.free }
+        requires used { 0 < owner_in self.old.region.cells.items (to + gap) }
+        ensures moved { IsMove (chunk_at self.old) (chunk_at self.new) result }
+        ensures many { largest_of self.old < free_of self.old }
+        ensures less { work_of self.new < work_of self.old }
+        ensures free { free_of self.new ≡ free_of self.old }
+        ensures size { size_of self.new ≡ size_of self.old }
+    {
+        let from = to + gap;
+        let owner = owner_at(&self.region, from);
+        let size = size_at(&self.region, from);
+        self.lists.leave(&self.region, to, gap);
+        self.region.shift(from, to, size);
+        self.lists.push(&mut self.region, to + size, gap);
+        self.reached = Some(to + size);
+        Moved {
+            owner,
+            to: Addr { place: to },
+        }
     }
 
     /// Moves one chunk down, so that less than before lies between free words. None where all free words are one chunk or none, after
@@ -212,21 +265,14 @@ impl Segment {
         ensures free { free_of self.new ≡ free_of self.old }
         ensures size { size_of self.new ≡ size_of self.old }
     {
-        let to = self.end_of_packed();
-        let from = self.end_of_gap(later(to, self.next));
-        if from - to == self.free {
-            self.packed = to;
-            self.next = from;
+        let to = self.reach();
+        if to == self.region.size {
             return None;
         }
-        let owner = self.region.get(from);
-        let size = size_at(&self.region, from);
-        shift(&mut self.region, from, to, size);
-        self.packed = to + size;
-        self.next = from + size;
-        Some(Moved {
-            owner,
-            to: Addr { place: to },
-        })
+        let gap = self.join(to);
+        if gap == self.free {
+            return None;
+        }
+        Some(self.move_down(to, gap))
     }
 }

@@ -14,6 +14,8 @@ mod entries;
 #[cfg(test)]
 mod objects;
 #[cfg(test)]
+mod patterns;
+#[cfg(test)]
 mod residents;
 #[cfg(test)]
 mod segments;

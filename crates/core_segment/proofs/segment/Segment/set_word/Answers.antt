@@ -1,81 +1,86 @@
-use Rattle.std.proofs.Common.{ℕ, ◌≡◌, ◌+◌, ◌<◌, ◌≤◌, List, length, get_or, ap, arith, refl, sym, ◌∙◌, subst}
+use Rattle.std.proofs.Common.{ℕ, ◌+◌, ◌<◌, List, ◌∷◌, ◌++◌, length, refl, sym, ap, subst, ◌∙◌, arith}
 use Rattle.std.proofs.Math.ListN.{length-set}
+use Rattle.std.proofs.Math.Path.{fun_ext}
 use Rattle.std.specs.List.{slice_set}
-use Rattle.core_segment.specs.Inside.{Span, no_span, end_of, spans_of, largest_gap, IsRegion}
+use Rattle.core_segment.specs.Lists.{Tile}
+use Rattle.core_segment.specs.Layout.{IsLaid, tiles_of, largest_in}
+use Rattle.core_segment.specs.Order.{IsGoingOn}
 use Rattle.core_segment.specs.Segment.{chunks_of, chunk_at, size_of, free_of, largest_of}
-use Rattle.core_segment.proofs.RegionLaws.{IsRenewed, region-set}
-use Rattle.core_segment.proofs.ChunkLaws.{chunks, set-chunks, word-there}
+use Rattle.core_segment.proofs.OrderLaws.{going-same}
+use Rattle.core_segment.proofs.PlaceLaws.{chunk}
+use Rattle.core_segment.proofs.ToldLaws.{IsTold, IsWritten, told, owned, written}
 use Rattle.core_segment.proofs.segment.Segment.set_word.Goals as goal
 
-pub put-requires : goal.put-requires
-unfolding chunk_at chunks_of
-put-requires c =
-    let g = c.args.self.now in
-    let word = word-there g.region.cells.items (spans_of g.region.cells.items) c.args.at.place c.args.i g.whole.laid c.requires in
-    let a = word.inside in let b = word.within in let size = g.region.sized in
-    omega arith
+-- the chunk of which a word is written
+writes-to : (region firsts : List ℕ) (ts : List Tile) (free p i : ℕ) → IsLaid region firsts ts free → i < length (chunk region ts p).words → IsTold region ts p
+writes-to region firsts ts free p i laid low = told region firsts ts free p laid (owned region ts p (omega arith))
 
--- the region with another word in a chunk
-with : (region : List ℕ) (spans : List Span) (free full next p i w : ℕ) → IsRegion region spans free full next → i < length (chunks region spans p).words
-    → IsRenewed (slice_set region (p + 4 + i) w) spans free full next
-with region spans free full next p i w whole low =
-    let word = word-there region spans p i whole.laid low in
-    let f = word.there.is in
-    let place : f.index < length spans = f.low in
-    let from : (get_or spans f.index no_span).place + 4 ≤ p + 4 + i = let e : (get_or spans f.index no_span).place ≡ p = ap (λ (s : Span). s.place) f.there ∙ f.place in omega arith in
-    let to : p + 4 + i < end_of (get_or spans f.index no_span) = subst (λ (s : Span). p + 4 + i < end_of s) (sym f.there) word.inside in
-    region-set region spans free full next f.index (p + 4 + i) w whole f.low from to
+writes : (region firsts : List ℕ) (ts : List Tile) (free p i w : ℕ) → IsLaid region firsts ts free → i < length (chunk region ts p).words
+    → IsWritten region firsts ts free p i w
+writes region firsts ts free p i w laid low =
+    let t = writes-to region firsts ts free p i laid low in
+    let s = subst (λ (us : List Tile). IsLaid region firsts us free) t.split laid in
+    let words = t.words in
+    subst (λ (us : List Tile). IsWritten region firsts us free p i w) (sym t.split)
+    (subst (λ (z : ℕ). IsWritten region firsts (t.before ++ t.tile ∷ t.after) free z i w) t.place
+    (written region firsts free i w t.before t.tile t.after t.own s (omega arith)))
 
 pub overflow_add-at : goal.overflow_add-at
 unfolding chunk_at chunks_of
 overflow_add-at c =
-    let g = c.args.self.now in
-    let word = word-there g.region.cells.items (spans_of g.region.cells.items) c.args.at.place c.args.i g.whole.laid c.requires in
-    let a = word.inside in let b = word.within in let small = g.small in
+    let g = c.args.self.now in let items = g.region.cells.items in
+    let t = writes-to items g.lists.firsts (tiles_of items) g.free c.args.at.place c.args.i g.whole c.requires in
+    let r = c.requires in let a = t.words in let b = t.low in let d = g.small in
     omega arith
 
 pub overflow_add-at-2 : goal.overflow_add-at-2
 unfolding chunk_at chunks_of
 overflow_add-at-2 c =
-    let g = c.args.self.now in
-    let word = word-there g.region.cells.items (spans_of g.region.cells.items) c.args.at.place c.args.i g.whole.laid c.requires in
-    let a = word.inside in let b = word.within in let small = g.small in
+    let g = c.args.self.now in let items = g.region.cells.items in
+    let t = writes-to items g.lists.firsts (tiles_of items) g.free c.args.at.place c.args.i g.whole c.requires in
+    let r = c.requires in let a = t.words in let b = t.low in let d = g.small in
+    omega arith
+
+pub put-requires : goal.put-requires
+unfolding chunk_at chunks_of
+put-requires c =
+    let g = c.args.self.now in let items = g.region.cells.items in
+    let t = writes-to items g.lists.firsts (tiles_of items) g.free c.args.at.place c.args.i g.whole c.requires in
+    let r = c.requires in let a = t.words in let b = t.low in
     omega arith
 
 pub invariant_of-self : goal.invariant_of-self
 unfolding chunk_at chunks_of
 invariant_of-self c =
-    let g = c.args.self.now in
-    let items = c.put.new.self.cells.items in
+    let g = c.args.self.now in let items = g.region.cells.items in
+    let s = writes items g.lists.firsts (tiles_of items) g.free c.args.at.place c.args.i c.args.w g.whole c.requires in
     record {
       small =
-          let size = length-set g.region.cells.items (c.args.at.place + 4 + c.args.i) c.args.w in let small = g.small in
-          let same : length items ≡ length (slice_set g.region.cells.items (c.args.at.place + 4 + c.args.i) c.args.w) = ap (λ (l : List ℕ). length l) c.put.ensures in
+          let size = length-set items (c.args.at.place + 4 + c.args.i) c.args.w in let small = g.small in
+          let same = ap (λ (l : List ℕ). length l) c.put.ensures in
           omega arith;
-      whole = subst (λ (l : List ℕ). IsRegion l (spans_of l) g.free g.packed g.next) (sym c.put.ensures)
-          (with g.region.cells.items (spans_of g.region.cells.items) g.free g.packed g.next c.args.at.place c.args.i c.args.w g.whole c.requires).whole;
+      whole = subst (λ (l : List ℕ). IsLaid l g.lists.firsts (tiles_of l) g.free) (sym c.put.ensures) s.renew.whole;
+      going = subst (λ (l : List ℕ). IsGoingOn l g.lists.firsts (tiles_of l) g.reached) (sym c.put.ensures)
+          (subst (λ (us : List Tile). IsGoingOn (slice_set items (c.args.at.place + 4 + c.args.i) c.args.w) g.lists.firsts us g.reached) (sym s.renew.is)
+          (going-same items (slice_set items (c.args.at.place + 4 + c.args.i) c.args.w) g.lists.firsts (tiles_of items) g.reached g.going s.links
+          (length-set items (c.args.at.place + 4 + c.args.i) c.args.w)));
     }
 
 pub returns-clause-chunks : goal.returns-clause-chunks
 unfolding chunk_at chunks_of
 returns-clause-chunks c =
-    let g = c.args.self.now in
-    ap (λ (l : List ℕ). chunks l (spans_of l)) c.put.ensures
-    ∙ ap (chunks (slice_set g.region.cells.items (c.args.at.place + 4 + c.args.i) c.args.w))
-    (with g.region.cells.items (spans_of g.region.cells.items) g.free g.packed g.next c.args.at.place c.args.i c.args.w g.whole c.requires).is
-    ∙ set-chunks g.region.cells.items (spans_of g.region.cells.items) c.args.at.place c.args.i (c.args.at.place + 4 + c.args.i) c.args.w refl g.whole.laid c.requires
+    let g = c.args.self.now in let items = g.region.cells.items in
+    let s = writes items g.lists.firsts (tiles_of items) g.free c.args.at.place c.args.i c.args.w g.whole c.requires in
+    fun_ext (λ k. ap (λ (l : List ℕ). chunk l (tiles_of l) k) c.put.ensures
+    ∙ ap (λ (us : List Tile). chunk (slice_set items (c.args.at.place + 4 + c.args.i) c.args.w) us k) s.renew.is ∙ s.chunks k)
 
 pub returns-clause-room : goal.returns-clause-room
 unfolding size_of free_of largest_of chunk_at chunks_of
 returns-clause-room c =
-    let g = c.args.self.now in
-    let region = slice_set g.region.cells.items (c.args.at.place + 4 + c.args.i) c.args.w in
-    let size = length-set g.region.cells.items (c.args.at.place + 4 + c.args.i) c.args.w in
+    let g = c.args.self.now in let items = g.region.cells.items in
+    let s = writes items g.lists.firsts (tiles_of items) g.free c.args.at.place c.args.i c.args.w g.whole c.requires in
     record {
-      size = ap (λ (l : List ℕ). length l) c.put.ensures ∙ size;
+      size = ap (λ (l : List ℕ). length l) c.put.ensures ∙ length-set items (c.args.at.place + 4 + c.args.i) c.args.w;
       free = refl;
-      largest = ap (λ (l : List ℕ). largest_gap 0 (spans_of l) (length l)) c.put.ensures
-          ∙ ap (λ (l : List Span). largest_gap 0 l (length region))
-          (with g.region.cells.items (spans_of g.region.cells.items) g.free g.packed g.next c.args.at.place c.args.i c.args.w g.whole c.requires).is
-          ∙ ap (largest_gap 0 (spans_of g.region.cells.items)) size;
+      largest = ap (λ (l : List ℕ). largest_in (tiles_of l)) c.put.ensures ∙ ap (λ (us : List Tile). largest_in us) s.renew.is;
     }

@@ -1,0 +1,106 @@
+// The first words of a chunk.
+//
+// A used chunk begins with 0, its owner and its size, in two words. A free one of fewer than four words says its size in its first word. A
+// longer free one begins with its size, or with 0 where it has more than 64 words, and with the owner 0; then comes a link, in two words, to
+// the next chunk of its list, and where the size isn't in the first word it comes last, in two words.
+ghost use Rattle.std.specs.Prelude.{◌≡◌, ◌+◌, ◌<◌, ◌≤◌, ◌^◌, length};
+ghost use Rattle.core_segment.specs.Heads.{HasHead, IsClosed, IsOpened, IsPaired, link_in, owner_in, pair_in, size_in};
+
+use crate::words::Words;
+
+// How many values a word has.
+pub(crate) const RADIX: u32 = 65_536;
+
+// The fewest words of a free chunk that stands in a list, and the most that have a list for each size.
+pub(crate) const FEWEST: u32 = 4;
+
+pub(crate) const SHORT: u32 = 64;
+
+// A number in two words.
+fn pair_at(region: &Words, i: u32) -> u32
+    requires { i + 1 < length region.now.cells.items }
+    ensures { result ≡ pair_in region.now.cells.items i }
+{
+    u32::from(region.get(i)) + RADIX * u32::from(region.get(i + 1))
+}
+
+fn put_pair(region: &mut Words, i: u32, n: u32)
+    requires { i + 1 < length region.old.cells.items }
+    ensures { IsPaired region.old.cells.items region.new.cells.items i n }
+{
+    region.put(i, (n % RADIX) as u16);
+    region.put(i + 1, (n / RADIX) as u16);
+}
+
+// The owner of the chunk that begins at a place, and 0 of a free one.
+pub(crate) fn owner_at(region: &Words, place: u32) -> u16
+    requires { HasHead region.now.cells.items place }
+    ensures { result ≡ owner_in region.now.cells.items place }
+{
+    if region.get(place) != 0 {
+        return 0;
+    }
+    region.get(place + 1)
+}
+
+// The size of the chunk that begins at a place.
+pub(crate) fn size_at(region: &Words, place: u32) -> u32
+    requires { HasHead region.now.cells.items place }
+    ensures { result ≡ size_in region.now.cells.items place }
+{
+    let short = region.get(place);
+    if short != 0 {
+        return u32::from(short);
+    }
+    if region.get(place + 1) != 0 {
+        pair_at(region, place + 2)
+    } else {
+        pair_at(region, place + 4)
+    }
+}
+
+// Where the chunk behind a free one in its list begins, and one more; 0 behind the last.
+pub(crate) fn link_at(region: &Words, place: u32) -> u32
+    requires { place + 3 < length region.now.cells.items }
+    ensures { result ≡ link_in region.now.cells.items place }
+{
+    pair_at(region, place + 2)
+}
+
+pub(crate) fn put_link(region: &mut Words, place: u32, link: u32)
+    requires { place + 3 < length region.old.cells.items }
+    ensures { IsPaired region.old.cells.items region.new.cells.items (place + 2) link }
+{
+    put_pair(region, place + 2, link);
+}
+
+// Writes the first words of a used chunk.
+pub(crate) fn open(region: &mut Words, place: u32, owner: u16, size: u32)
+    requires within { place + 3 < length region.old.cells.items }
+    requires owner { 0 < owner }
+    ensures { IsOpened region.old.cells.items region.new.cells.items place owner size }
+{
+    region.put(place, 0);
+    region.put(place + 1, owner);
+    put_pair(region, place + 2, size);
+}
+
+// Writes the first words of a free chunk.
+pub(crate) fn close(region: &mut Words, place: u32, size: u32, link: u32)
+    requires within { place + size ≤ length region.old.cells.items }
+    requires some { 0 < size }
+    ensures { IsClosed region.old.cells.items region.new.cells.items place size link }
+{
+    if size < FEWEST {
+        region.put(place, size as u16);
+        return;
+    }
+    region.put(place + 1, 0);
+    put_link(region, place, link);
+    if size <= SHORT {
+        region.put(place, size as u16);
+    } else {
+        region.put(place, 0);
+        put_pair(region, place + 4, size);
+    }
+}
