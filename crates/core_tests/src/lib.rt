@@ -2,9 +2,9 @@
 //! back, and the rows of a method cache.
 //!
 //! They are over public calls, and show what no contract says: that each call which takes memory succeeds where there is enough, and
-//! each once at values that are worked out by hand. There is one file for each crate: `entries` for `object_table`, `residents` for
-//! `resident_table`, `segments` for `core_segment`, `objects` for `leaf_lambda`, `caches` for `method_cache`. The crate has no function of
-//! its own.
+//! each once at values that are worked out by hand. Each crate has its files: `entries` for `object_table`, `residents` for
+//! `resident_table`, `segments` and `patterns` for `core_segment`, `objects` for `leaf_lambda`, `caches` for `method_cache`. The crate has
+//! no function of its own.
 #![tactic(auto)]
 
 #[cfg(test)]

@@ -1,5 +1,5 @@
 // Ten thousand takes, gives and steps of compaction, against a list of what was written.
-ghost use Rattle.std.specs.Prelude.{◌≡◌, ◌+◌, ℕ, None, Some, length, slice_index_or};
+ghost use Rattle.std.specs.Prelude.{◌≡◌, ◌+◌, ◌<◌, ℕ, None, Some, length, slice_index_or};
 ghost use Rattle.core_tests.specs.declared.patterns.TheConstants.{OWNERS};
 ghost use Rattle.core_segment.specs.declared.segment.Addr.{Addr};
 ghost use Rattle.core_segment.specs.Segment.{chunk_at};
@@ -138,7 +138,11 @@ fn a_pattern_is_kept(rt: HostRuntime) -> Result<(), Fail> {
         seed = seed.wrapping_mul(1_664_525).wrapping_add(1_013_904_223);
         let most = if turn % 5 == 0 { 600 } else { 60 };
         let words = HEADER + (seed / 65_536) % most;
-        kept.turn(((seed / 1_024) % u32::from(OWNERS)) as u16, words, (seed % 65_536) as u16)?;
+        kept.turn(
+            ((seed / 1_024) % u32::from(OWNERS)) as u16,
+            words,
+            (seed % 65_536) as u16,
+        )?;
         if turn % 7 == 0 {
             kept.step();
         }
