@@ -1,6 +1,6 @@
 -- Why calls failed, from why the steps inside them did, and the places that Damaged tells.
-use Rattle.std.proofs.Common.{◌≡◌, ℕ, ◌*◌, ◌<◌, ◌≤◌, inl, inr, cond, Bool, true, false, Option, Some, None, Ok, Err, IfOk, IfErr, IfSome, IsTrue, refl, sym, ap, subst, arith}
-use Rattle.std.specs.Prelude.{nat_le, option_map}
+use Rattle.std.proofs.Common.{◌≡◌, ℕ, ◌*◌, ◌<◌, ◌≤◌, inl, inr, cond, Bool, true, false, Option, Some, None, Ok, Err, IfOk, IfErr, IsTrue, refl, sym, ap, subst, arith}
+use Rattle.std.specs.Prelude.{nat_le}
 use Rattle.std.proofs.lemmas.Bool.Decides.{nat_tests}
 use Rattle.loom_outside.specs.declared.outside.DiskFault.{DiskFault}
 use Rattle.loom_outside.specs.declared.outside.DiskFault.TheVariants.{Work, Full, Damaged}
@@ -21,7 +21,7 @@ use Rattle.disk_objects.specs.declared.rest.DiskRest.{DiskRest}
 use Rattle.disk_objects.specs.declared.rest.HeldSlot.{HeldSlot}
 use Rattle.disk_objects.specs.Calls.{IsFault, IsEitherFault, IsSlotsFault}
 use Rattle.disk_objects.specs.Disk.{IsSizeClass, record_size}
-use Rattle.disk_objects.specs.Inside.{IsStepFault, IsStoreFault, found_slot, held_slot}
+use Rattle.disk_objects.specs.Inside.{IsStepFault, IsStoreFault, IsPlaced, checked_found, held_slot}
 use Rattle.disk_objects.specs.Places.{IsReadPlace, IsSlotPlace}
 use Rattle.disk_objects.proofs.StoredLaws.{none-is-some}
 
@@ -84,19 +84,20 @@ high : (p : ℕ) → nat_le p LAST_END ≡ false → LAST_END < p
 high p is = grind (arith, nat_tests)
 
 module _ (name : ℕ) where
-  pub found-entry : (found : Found) (entry : Option Entry) → found_entry found ≡ entry → IfOk (found_slot found name) (λ slot. option_map entry_of slot ≡ entry)
-  found-entry (Held at slot) entry is = either (λ r. IfOk r (λ s. option_map entry_of s ≡ entry)) (nat_le slot.place LAST_END) (Ok (Some slot)) (Err (Damaged (SLOT_BYTES * at) name)) (λ t. is) (λ f. tt)
-  found-entry (Vacant at) entry is = is
+  -- what holds of the search's end
+  pub found-end : (P : Found → Type 0) (found : Found) → P found → IfOk (checked_found found name) P
+  found-end P (Held at slot) is = either (λ r. IfOk r P) (nat_le slot.place LAST_END) (Ok (Held at slot)) (Err (Damaged (SLOT_BYTES * at) name)) (λ t. is) (λ f. tt)
+  found-end P (Vacant at) is = is
 
-  pub found-place : (found : Found) → IfOk (found_slot found name) (λ slot. IfSome slot (λ s. s.place ≤ LAST_END))
-  found-place (Held at slot) = either (λ r. IfOk r (λ o. IfSome o (λ s. s.place ≤ LAST_END))) (nat_le slot.place LAST_END) (Ok (Some slot)) (Err (Damaged (SLOT_BYTES * at) name)) (λ t. low slot.place t) (λ f. tt)
+  pub found-place : (found : Found) → IfOk (checked_found found name) IsPlaced
+  found-place (Held at slot) = either (λ r. IfOk r IsPlaced) (nat_le slot.place LAST_END) (Ok (Held at slot)) (Err (Damaged (SLOT_BYTES * at) name)) (λ t. low slot.place t) (λ f. tt)
   found-place (Vacant at) = tt
 
   pub found-fault : (rest : DiskRest) (tells : Bool) (a c : ℕ) (found : Found) → IsOfName (slots_of rest.directory) name found
       → (IsTrue tells → (e : Entry) → found_entry found ≡ Some e → e.place ≤ LAST_END)
-      → IfErr (found_slot found name) (IsFault tells a c (IsSlotPlace rest) name)
+      → IfErr (checked_found found name) (IsFault tells a c (IsSlotPlace rest) name)
   found-fault rest tells a c (Held at slot) of right =
-      either (λ r. IfErr r (IsFault tells a c (IsSlotPlace rest) name)) (nat_le slot.place LAST_END) (Ok (Some slot)) (Err (Damaged (SLOT_BYTES * at) name)) (λ t. tt)
+      either (λ r. IfErr r (IsFault tells a c (IsSlotPlace rest) name)) (nat_le slot.place LAST_END) (Ok (Held at slot)) (Err (Damaged (SLOT_BYTES * at) name)) (λ t. tt)
       (λ f. ((λ told. let x = high slot.place f in let y = right told (entry_of slot) refl in omega (arith, x, y)), slot-place rest at of.0, refl))
   found-fault rest tells a c (Vacant at) of right = tt
 
@@ -114,6 +115,11 @@ module _ (name : ℕ) where
   held-at n (Held at slot) of =
       either (λ r. IfOk r (λ (held : HeldSlot). held.at < n)) (nat_le slot.place LAST_END) (Ok (record { at = at; slot = slot })) (Err (Damaged (SLOT_BYTES * at) name)) (λ t. of.0) (λ f. tt)
   held-at n (Vacant at) of = tt
+
+  pub held-end : (P : Found → Type 0) (found : Found) → P found → IfOk (held_slot found name) (λ held. P (Held held.at held.slot))
+  held-end P (Held at slot) is =
+      either (λ r. IfOk r (λ (held : HeldSlot). P (Held held.at held.slot))) (nat_le slot.place LAST_END) (Ok (record { at = at; slot = slot })) (Err (Damaged (SLOT_BYTES * at) name)) (λ t. is) (λ f. tt)
+  held-end P (Vacant at) is = tt
 
   pub held-fault : (rest : DiskRest) (tells : Bool) (a c : ℕ) (found : Found) → IsOfName (slots_of rest.directory) name found
       → (IsTrue tells → (e : Entry) × (found_entry found ≡ Some e) × (e.place ≤ LAST_END))

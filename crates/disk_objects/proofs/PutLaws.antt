@@ -1,12 +1,18 @@
 -- What a whole put or remove makes of a disk, from what its steps did.
-use Rattle.std.proofs.Common.{◌≡◌, ◌≢◌, ℕ, ◌-◌, ◌<◌, ◌≤◌, cond, List, Option, Some, None, Bool, true, false, refl, sym, ap, subst, ◌∙◌, arith}
-use Rattle.std.specs.Prelude.{IsSome, is_some}
+use Rattle.std.proofs.Common.{◌≡◌, ◌≢◌, ℕ, ◌-◌, ◌<◌, ◌≤◌, inl, cond, List, Some, None, Bool, true, false, refl, sym, ap, subst, ◌∙◌, arith}
+use Rattle.std.specs.Prelude.{is_some}
 use Rattle.std.specs.Cmp.{nat_cmp_total}
 use Rattle.std.specs.FinMap as map
 use Rattle.object_record.specs.Raw.{RawRecord, IsRawRecord}
-use Rattle.work_directory.specs.Directory.{room_of, held_of, entries_of, IsIn, IsChanged}
+use Rattle.work_directory.specs.Directory.{room_of, held_of, slots_of, end_of, entries_of, AnswersSearch, EndsAt, StandsAt, IsIn, IsOfName, IsChanged}
 use Rattle.work_directory.specs.Table.{Entry, Entries}
 use Rattle.work_directory.specs.declared.directory.Directory.{Directory}
+use Rattle.work_directory.specs.declared.directory.Found.{Found}
+use Rattle.work_directory.specs.declared.directory.Found.TheVariants as found
+use Rattle.work_directory.proofs.EntryLaws.{search-kept}
+use Rattle.loom_outside.specs.Work.{IsWorkRead}
+use Rattle.loom_outside.specs.declared.outside.Host.{Ghosts}
+use Rattle.loom_outside.proofs.WorkLaws.{work-same}
 use Rattle.work_space.specs.Space.{from_of}
 use Rattle.work_space.specs.declared.space.Space.{Space}
 use Rattle.work_space.proofs.BlockLaws.{some-inside}
@@ -15,7 +21,8 @@ use Rattle.disk_objects.specs.declared.rest.Held.{Held}
 use Rattle.disk_objects.specs.Disk.{DiskObject, Objects, IsSizeClass, IsInBlock, IsDisk, record_size, object_of}
 use Rattle.disk_objects.specs.Inside.{Stores, Writes, IsOpen, IsHeld}
 use Rattle.disk_objects.proofs.StoredLaws.{places_of, place-among, length-places, insert-at, insert-again, remove-there}
-use Rattle.disk_objects.proofs.DiskLaws.{with_space, with_directory, store-open, open-added, open-moved, disk-rewritten, disk-recounted}
+use Rattle.disk_objects.proofs.TouchLaws.{before-touched}
+use Rattle.disk_objects.proofs.DiskLaws.{block-behind, with_space, with_directory, store-open, open-added, open-moved, disk-rewritten, disk-recounted}
 use Rattle.disk_objects.proofs.FoundLaws.{absent-there, stored-there, size-there, link-there, class-same}
 
 pub held-most : (d : Directory) → held_of d ≤ room_of d
@@ -26,6 +33,16 @@ room-least : (d : Directory) → 0 < room_of d
 unfolding room_of
 room-least d = d.some
 
+-- ---- where a search ends
+
+-- after a read
+pub ends-read : {H : Type 0} (host : Ghosts H) (a b : H) (d : Directory) (name : ℕ) (f : Found) → IsWorkRead host a b → EndsAt host a d name f → EndsAt host b d name f
+ends-read host a b d name f read is =
+    (is.0, λ told. subst (λ (w : List ℕ). AnswersSearch w (slots_of d) name f) (sym (work-same host a b read)) (is.1 told))
+
+pub stands-read : {H : Type 0} (host : Ghosts H) (a b : H) (d : Directory) (name at : ℕ) → IsWorkRead host a b → StandsAt host a d name at → StandsAt host b d name at
+stands-read host a b d name at read is = (is.0, ends-read host a b d name (found.Held at is.0) read is.1)
+
 -- ---- a name that isn't held
 
 module _ (rest : DiskRest) (new : Space) (v w : List ℕ) (objects : Objects) (pending : List ℕ) (raw : RawRecord) (link place : ℕ)
@@ -33,6 +50,14 @@ module _ (rest : DiskRest) (new : Space) (v w : List ℕ) (objects : Objects) (p
   abbrev pub Opened : Type 0
   Opened = (o : IsOpen (with_space rest new) w objects pending place s.class) × (o.link ≡ k.link) × (entries_of rest.directory w ≡ entries_of rest.directory v)
       × ((p e : ℕ) → k.out p ≡ Some e → o.out p ≡ Some e)
+
+  -- where a search ends stays
+  pub store-ends : (name : ℕ) (f : Found) → IsOfName (slots_of rest.directory) name f → AnswersSearch v (slots_of rest.directory) name f
+      → AnswersSearch w (slots_of rest.directory) name f
+  store-ends name f =
+      let low : end_of rest.directory ≤ place = subst (λ (n : ℕ). n ≤ place) k.kept.space.from_is s.takes.behind in
+      let t = s.writes.touches in
+      search-kept rest.directory v w name f (before-touched (end_of rest.directory) v w (λ at n before. t.rest at n (inl (omega arith))))
 
   pub store-added : held_of rest.directory < room_of rest.directory → Opened
   store-added short =
@@ -104,17 +129,29 @@ put-rewritten rest d' v w x objects pending raw count held k raw_is h is want wr
     subst (λ (y : Objects). IsDisk (with_directory rest d') x y pending) (insert-again objects name o (object_of raw count))
     (disk-recounted rest d' w x (map.insert objects name o) pending name count first.0 e o there (insert-at objects name o name refl) room ch)
 
--- what the directory is asked when the record is written in its place
-pub rewritten-entries : (rest : DiskRest) (v w : List ℕ) (objects : Objects) (pending : List ℕ) (raw : RawRecord) (held : Held)
+-- the directory stands when the record is written in its place
+pub rewritten-in : (rest : DiskRest) (v w : List ℕ) (objects : Objects) (pending : List ℕ) (raw : RawRecord) (held : Held)
     (k : IsDisk rest v objects pending) → IsRawRecord raw → IsHeld rest v raw.name held → IsSizeClass held.head.class held.head.size → IsSizeClass held.head.class (record_size raw)
     → Writes v w held.place raw held.head.link
-    → IsIn rest.directory w × (map.get (entries_of rest.directory w) raw.name ≡ Some (record { count = held.count; place = held.place }))
-rewritten-entries rest v w objects pending raw held k raw_is h is want wrote =
+    → IsIn rest.directory w
+rewritten-in rest v w objects pending raw held k raw_is h is want wrote =
     let name : ℕ = raw.name in
     let e : Entry = record { count = held.count; place = held.place } in
     let r = held-class rest v objects pending k name held h is in
     let first = disk-rewritten rest v w objects pending name k e r.0 raw held.head.link h.entry r.2 raw_is refl (subst (λ (c : ℕ). IsSizeClass c (record_size raw)) (sym r.3) want) r.4 wrote in
-    (first.0.kept.directory, ap (λ (m : Entries). map.get m name) first.1 ∙ h.entry)
+    first.0.kept.directory
+
+-- where a search ends stays
+pub rewritten-ends : (rest : DiskRest) (v w : List ℕ) (objects : Objects) (pending : List ℕ) (raw : RawRecord) (held : Held)
+    (k : IsDisk rest v objects pending) → IsHeld rest v raw.name held → IsSizeClass held.head.class held.head.size → Writes v w held.place raw held.head.link
+    → (name : ℕ) (f : Found) → IsOfName (slots_of rest.directory) name f → AnswersSearch v (slots_of rest.directory) name f
+    → AnswersSearch w (slots_of rest.directory) name f
+rewritten-ends rest v w objects pending raw held k h is wrote name f =
+    let d : Directory = rest.directory in
+    let st = (held-class rest v objects pending k raw.name held h is).2 in
+    let low : end_of d ≤ held.place = (block-behind d rest.space v w k.laid k.out k.kept.space held.place st.class st.block).0 in
+    let t = wrote.touches in
+    search-kept d v w name f (before-touched (end_of d) v w (λ at n before. t.rest at n (inl (omega arith))))
 
 module _ (rest : DiskRest) (new : Space) (v w : List ℕ) (objects : Objects) (pending : List ℕ) (raw : RawRecord) (place : ℕ) (held : Held)
     (k : IsDisk rest v objects pending) (s : Stores rest.space new v w k.laid k.out raw held.head.link place) (from_is : from_of new ≡ from_of rest.space)
@@ -131,9 +168,9 @@ module _ (rest : DiskRest) (new : Space) (v w : List ℕ) (objects : Objects) (p
         r.4,
       )
 
-  -- what the directory is asked
-  pub relocated-entries : IsIn rest.directory w × (map.get (entries_of rest.directory w) raw.name ≡ Some (record { count = held.count; place = held.place }))
-  relocated-entries = let r = relocated in (r.0.0.kept.directory, ap (λ (m : Entries). map.get m raw.name) r.0.2 ∙ h.entry)
+  -- the directory stands
+  pub relocated-in : IsIn rest.directory w
+  relocated-in = relocated.0.0.kept.directory
 
   -- the old block is left over then
   pub put-moved : (d' : Directory) (x : List ℕ) (count : ℕ) → room_of d' ≡ room_of rest.directory
@@ -145,6 +182,3 @@ module _ (rest : DiskRest) (new : Space) (v w : List ℕ) (objects : Objects) (p
       open-moved (with_space rest new) d' w x objects pending place s.class r.0.0 raw.name count held.head.link raw s.is_class s.writes.laid raw_is refl room ch
       (λ _. r.2 ∙ ap (λ (f : ℕ → ℕ). f raw.name) (sym r.0.1)) e held.head.class
       (ap (λ (m : Entries). map.get m raw.name) r.0.2 ∙ h.entry) (r.0.3 held.place held.head.class r.1)
-
-pub some-there : (m : Entries) (name n : ℕ) (e : Entry) → n ≡ name → map.get m name ≡ Some e → IsSome (map.get m n)
-some-there m name n e same there = subst (λ (o : Option Entry). IsSome o) (sym (ap (map.get m) same ∙ there)) refl

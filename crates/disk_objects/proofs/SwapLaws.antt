@@ -4,17 +4,19 @@ use Rattle.std.specs.Prelude.{IsSome}
 use Rattle.std.specs.FinMap as map
 use Rattle.long_names.specs.Names.{IsLongName}
 use Rattle.object_record.specs.Raw.{RawRecord, IsRawRecord, with_name}
-use Rattle.work_directory.specs.Directory.{end_of, entries_of, IsIn, IsChanged}
+use Rattle.work_directory.specs.Directory.{slots_of, end_of, entries_of, AnswersSearch, IsIn, IsOfName, IsChanged}
+use Rattle.work_directory.specs.declared.directory.Found.{Found}
 use Rattle.work_directory.specs.Table.{Entry, Entries}
 use Rattle.work_directory.specs.declared.directory.Directory.{Directory}
 use Rattle.work_directory.proofs.ContentsLaws.{same-again}
+use Rattle.work_directory.proofs.EntryLaws.{search-kept}
 use Rattle.work_space.specs.Blocks.{block_size, put}
 use Rattle.work_space.proofs.BlockLaws.{put-at, put-there, some-inside}
 use Rattle.disk_objects.specs.declared.rest.DiskRest.{DiskRest}
 use Rattle.disk_objects.specs.Calls.{renamed, swapped, swapped_by}
 use Rattle.disk_objects.specs.Disk.{DiskObject, Objects, IsLaid, IsInBlock, AreInBlocks, AreAlike, HasSpace, IsDisk, IsOwned, record_size}
 use Rattle.disk_objects.specs.Inside.{Writes}
-use Rattle.disk_objects.proofs.TouchLaws.{directory-kept, laid-kept}
+use Rattle.disk_objects.proofs.TouchLaws.{before-touched, directory-kept, laid-kept}
 use Rattle.disk_objects.proofs.StoredLaws.{Stays, alike-at, alike-kept, equal_or_not, insert-again, insert-at, insert-same, insert-there, pending-insert}
 use Rattle.disk_objects.proofs.DiskLaws.{block-behind, space-front, space-inside, stays-apart, stays-front}
 use Rattle.disk_objects.specs.Inside.{IsHeld, IsSizedHeld}
@@ -304,6 +306,16 @@ module _ (rest : DiskRest) (u : List ℕ) (objects : Objects) (pending : List �
     pub to-second : IsIn rest.directory w × (entries_of rest.directory w ≡ entries_of rest.directory u)
     to-second = second-directory rest u objects pending k a b (record { count = one.count; place = one.place }) (record { count = two.count; place = two.place }) s.o s.p apart
         s.entry_a s.entry_b s.block_a s.block_b v first-linked w second-linked
+
+    -- and so is where a search ends
+    pub to-second-ends : (name : ℕ) (f : Found) → IsOfName (slots_of rest.directory) name f → AnswersSearch u (slots_of rest.directory) name f
+        → AnswersSearch w (slots_of rest.directory) name f
+    to-second-ends name f of is =
+        let d : Directory = rest.directory in
+        let low_a : end_of d ≤ one.place = (block-behind d rest.space u w k.laid k.out k.kept.space one.place s.block_a.class s.block_a.block).0 in
+        let low_b : end_of d ≤ two.place = (block-behind d rest.space u w k.laid k.out k.kept.space two.place s.block_b.class s.block_b.block).0 in
+        search-kept d v w name f (before-touched (end_of d) v w (λ at n before. second.touches.rest at n (inl (omega arith)))) of
+        (search-kept d u v name f (before-touched (end_of d) u v (λ at n before. first.touches.rest at n (inl (omega arith)))) of is)
 
     pub to-last : (x : List ℕ) → IsChanged rest.directory (map.insert (map.insert (entries_of rest.directory w) a (record { count = one.count; place = two.place })) b (record { count = two.count; place = one.place })) w x
         → IsDisk rest x (swapped objects a b) pending

@@ -94,10 +94,13 @@ front-touched n v w same = record {
   end = let e = same.end in omega arith;
 }
 
+pub before-touched : (place : ℕ) (v w : List ℕ) → ((at n : ℕ) → at + n ≤ place → window w at n ≡ window v at n) → SameBefore place v w
+before-touched place v w rest = λ k l. sym (byte-in_window w k) ∙ ap (λ (t : List ℕ). get_or t 0 0) (rest k 1 (omega arith)) ∙ byte-in_window v k
+
 pub directory-kept : (d : Directory) (v w : List ℕ) → ((at n : ℕ) → at + n ≤ end_of d → window w at n ≡ window v at n) → IsIn d v
     → IsIn d w × (entries_of d w ≡ entries_of d v)
 directory-kept d v w rest is =
-    let same : SameBefore (end_of d) v w = λ k l. sym (byte-in_window w k) ∙ ap (λ (t : List ℕ). get_or t 0 0) (rest k 1 (omega arith)) ∙ byte-in_window v k in
+    let same = before-touched (end_of d) v w rest in
     (in-kept d v w same is, entries-kept d v w same)
 
 -- ---- records

@@ -14,14 +14,16 @@ use Rattle.work_directory.specs.declared.limits.TheConstants.{SLOT_BYTES}
 use Rattle.work_space.specs.declared.limits.TheConstants.{LAST_END}
 use Rattle.object_record.specs.Raw.{RawRecord}
 use Rattle.object_record.specs.Inside.{end_stated}
-use Rattle.work_directory.specs.Directory.{entries_of}
+use Rattle.work_directory.specs.Directory.{entries_of, EndsAt, StandsAt}
 use Rattle.work_space.specs.Blocks.{link_at}
 use Rattle.work_space.specs.Space.{Takes}
 use Rattle.work_space.specs.declared.space.Space.{Space}
 use Rattle.disk_objects.specs.declared.rest.DiskRest.{DiskRest}
 use Rattle.disk_objects.specs.declared.rest.Held.{Held}
 use Rattle.disk_objects.specs.declared.rest.HeldSlot.{HeldSlot}
-use Rattle.work_directory.specs.declared.slot.Slot.{Slot}
+use Rattle.disk_objects.specs.declared.rest.Sought.{Sought}
+use Rattle.disk_objects.specs.declared.rest.Sought.TheVariants as sought
+use Rattle.loom_outside.specs.declared.outside.Host.{Ghosts}
 use Rattle.work_directory.specs.declared.directory.Found.{Found}
 use Rattle.work_directory.specs.declared.directory.Found.TheVariants as found
 use Rattle.disk_objects.specs.Places.{IsBlockPlace, IsPutDamage}
@@ -103,10 +105,15 @@ IsStepFault tells before now rest raw (fault.Damaged at about) = (IsTrue tells �
 
 -- ---- slots that searches found
 
--- the slot that a search found, None where it ended at an empty one; a slot whose place can't be one is damage there
-abbrev pub found_slot : Found → ℕ → Result (Option Slot) DiskFault
-found_slot (found.Held at slot) name = if nat_le slot.place LAST_END then Ok (Some slot) else Err (fault.Damaged (SLOT_BYTES * at) name)
-found_slot (found.Vacant at) name = Ok None
+-- what a search found; a slot whose place can't be one is damage there
+abbrev pub checked_found : Found → ℕ → Result Found DiskFault
+checked_found (found.Held at slot) name = if nat_le slot.place LAST_END then Ok (found.Held at slot) else Err (fault.Damaged (SLOT_BYTES * at) name)
+checked_found (found.Vacant at) name = Ok (found.Vacant at)
+
+-- the place of a slot that was found can be one
+abbrev pub IsPlaced : Found → Type 0
+IsPlaced (found.Held at slot) = slot.place ≤ LAST_END
+IsPlaced (found.Vacant at) = Unit {0}
 
 -- the slot of a name that is to be held; damage is told of the slot where the search ended
 abbrev pub held_slot : Found → ℕ → Result HeldSlot DiskFault
@@ -119,14 +126,23 @@ pub record IsHeld (rest : DiskRest) (work : List ℕ) (name : ℕ) (held : Held)
   pub entry : map.get (entries_of rest.directory work) name ≡ Some (record { count = held.count; place = held.place })
   pub head : IsHead work held.place held.head
 
--- what was found of a name: None where it isn't held
-abbrev pub IsFound : DiskRest → List ℕ → ℕ → Option Held → Type 0
-IsFound rest work name None = map.get (entries_of rest.directory work) name ≡ None
-IsFound rest work name (Some held) = IsHeld rest work name held
+-- what was found of a name, vacant where it isn't held
+abbrev pub IsFound : DiskRest → List ℕ → ℕ → Sought → Type 0
+IsFound rest work name (sought.Vacant at) = map.get (entries_of rest.directory work) name ≡ None
+IsFound rest work name (sought.Held held) = IsHeld rest work name held
+
+-- the search for the name ends there
+abbrev pub IsSought : {H : Type 0} → Ghosts H → H → DiskRest → ℕ → Sought → Type 0
+IsSought host now rest name (sought.Vacant at) = EndsAt host now rest.directory name (found.Vacant at)
+IsSought host now rest name (sought.Held held) = StandsAt host now rest.directory name held.at
 
 pub record IsSizedHeld (held : Held) : Type 0 where
   pub place : held.place ≤ LAST_END
   pub head : IsSizedHead held.head
+
+abbrev pub IsSizedSought : Sought → Type 0
+IsSizedSought (sought.Vacant at) = Unit {0}
+IsSizedSought (sought.Held held) = IsSizedHeld held
 
 -- a disk with one block more, of this place and size class, that no name has
 pub record IsOpen (rest : DiskRest) (work : List ℕ) (objects : Objects) (pending : List ℕ) (spare class : ℕ) : Type 0 where

@@ -7,8 +7,8 @@ ghost use Rattle.long_names.specs.Names.{IsName};
 ghost use Rattle.loom_outside.specs.declared.outside.Role.{Role};
 ghost use Rattle.object_record.specs.Buffer.{HasRecord, raw_of};
 ghost use Rattle.disk_objects.specs.Disk.{link_to};
-ghost use Rattle.disk_objects.specs.Inside.{found_slot, held_slot};
-ghost use Rattle.work_directory.specs.Directory.{Holds, HoldsDirectory, IsChanged, entries_of, slots_of};
+ghost use Rattle.disk_objects.specs.Inside.{checked_found, held_slot};
+ghost use Rattle.work_directory.specs.Directory.{EndsAt, StandsAt, found_entry, Holds, HoldsDirectory, IsChanged, entries_of, slots_of};
 ghost use Rattle.work_directory.specs.Table.{Entry, entry_of};
 ghost use Rattle.loom_outside.specs.Work.{IsWorkOnly, IsWorkRead, work_of};
 
@@ -30,9 +30,10 @@ pub struct DiskRest {
     first: Option<Name>,
 }
 
-// Where the object of a name stands.
+// Where the object of a name stands, and which slot says so.
 #[derive(Clone, Copy)]
 pub(crate) struct Held {
+    at: u32,
     count: u64,
     place: u64,
     head: Head,
@@ -45,19 +46,26 @@ pub(crate) struct HeldSlot {
     slot: Slot,
 }
 
-// The slot that a search for a name found, None where it ended at an empty one. Damage is told of the slot.
-fn found_slot(found: Found, name: Name) -> Result<Option<Slot>, DiskFault>
-    ensures { result ≡ found_slot found name }
+// What was found of a name: where its object stands, or the empty slot where the search for it ended.
+#[derive(Clone, Copy)]
+pub(crate) enum Sought {
+    Held(Held),
+    Vacant { at: u32 },
+}
+
+// What a search for a name found. Damage is told of a slot whose place can't be one.
+fn checked_found(found: Found, name: Name) -> Result<Found, DiskFault>
+    ensures { result ≡ checked_found found name }
 {
     match found {
         Found::Held { at, slot } => {
             if slot.place <= LAST_END {
-                Ok(Some(slot))
+                Ok(Found::Held { at, slot })
             } else {
                 Err(damaged(at, name))
             }
         }
-        Found::Vacant { .. } => Ok(None),
+        Found::Vacant { at } => Ok(Found::Vacant { at }),
     }
 }
 
@@ -109,7 +117,7 @@ impl DiskRest {
     ghost use Rattle.disk_objects.specs.Calls.{AreHeldNames, CanChange, HoldsObjects, HoldsSuch, IsEitherFault, IsFault, IsGot, IsHeldName, IsIdle, IsPutFault, TookFirst, changed_by, swapped};
     ghost use Rattle.disk_objects.specs.Places.{IsReadPlace, IsSlotPlace};
     ghost use Rattle.disk_objects.specs.Disk.{DiskObject, IsSizeClass, IsDisk, Objects, disk_first, disk_held, disk_room, object_of, record_size};
-    ghost use Rattle.disk_objects.specs.Inside.{IsFound, IsHeld, IsSizedHeld, IsStepFault};
+    ghost use Rattle.disk_objects.specs.Inside.{IsFound, IsHeld, IsPlaced, IsSizedHeld, IsSizedSought, IsSought, IsStepFault};
 
     pub(crate) fn new(room: u32) -> DiskRest
         requires some { 0 < room }
@@ -142,16 +150,17 @@ impl DiskRest {
         self.directory.room()
     }
 
-    // The slot of a name, None where it isn't held.
-    fn find<H: Host>(&self, host: &mut H, name: Name) -> Result<Option<Slot>, DiskFault>
+    // Where the search for a name ends.
+    fn find<H: Host>(&self, host: &mut H, name: Name) -> Result<Found, DiskFault>
         requires stands { HoldsObjects H.Host host.old self.now }
-        ensures found { IfOk result (λ slot. IsTrue (H.tells Role.Work) → option_map entry_of slot ≡ map.get (entries_of self.now.directory (work_of H.Host host.old)) name) }
-        ensures place { IfOk result (λ slot. IfSome slot (λ s. s.place ≤ LAST_END)) }
+        ensures found { IfOk result (λ found. IsTrue (H.tells Role.Work) → found_entry found ≡ map.get (entries_of self.now.directory (work_of H.Host host.old)) name) }
+        ensures end { IfOk result (EndsAt H.Host host.old self.now.directory name) }
+        ensures place { IfOk result IsPlaced }
         ensures read { IsWorkRead H.Host host.old host.new }
         ensures fault { IfErr result (IsFault (H.tells Role.Work) (H.faults host.old Role.Work) (H.faults host.new Role.Work) (IsSlotPlace self.now) name) }
     {
         let found = self.directory.seek(host, name)?;
-        found_slot(found, name)
+        checked_found(found, name)
     }
 
     // The slot of a name that is held.
@@ -160,6 +169,7 @@ impl DiskRest {
         ensures found { IfOk result (λ held. IsTrue (H.tells Role.Work) → map.get (entries_of self.now.directory (work_of H.Host host.old)) name ≡ Some (entry_of held.slot)) }
         ensures place { IfOk result (λ held. held.slot.place ≤ LAST_END) }
         ensures at { IfOk result (λ held. held.at < slots_of self.now.directory) }
+        ensures end { IfOk result (λ held. EndsAt H.Host host.old self.now.directory name (Found.Held held.at held.slot)) }
         ensures read { IsWorkRead H.Host host.old host.new }
         ensures fault { IfErr result (IsFault (H.tells Role.Work) (H.faults host.old Role.Work) (H.faults host.new Role.Work) (IsSlotPlace self.now) name) }
     {
@@ -168,22 +178,27 @@ impl DiskRest {
     }
 
     // Where the object of a name stands, and what the first bytes of its record say.
-    fn look<H: Host>(&self, host: &mut H, name: Name) -> Result<Option<Held>, DiskFault>
+    fn look<H: Host>(&self, host: &mut H, name: Name) -> Result<Sought, DiskFault>
         requires stands { HoldsObjects H.Host host.old self.now }
         ensures found { IsTrue (H.tells Role.Work) → IfOk result (IsFound self.now (work_of H.Host host.old) name) }
-        ensures sized { IfOk result (λ held. IfSome held IsSizedHeld) }
+        ensures sized { IfOk result IsSizedSought }
+        ensures end { IfOk result (IsSought H.Host host.old self.now name) }
         ensures read { IsWorkRead H.Host host.old host.new }
         ensures fault { IfErr result (IsFault (H.tells Role.Work) (H.faults host.old Role.Work) (H.faults host.new Role.Work) (IsReadPlace self.now) name) }
     {
-        let Some(slot) = self.find(host, name)? else {
-            return Ok(None);
-        };
-        let head = read_head(host, slot.place, name)?;
-        Ok(Some(Held {
-            count: slot.count,
-            place: slot.place,
-            head,
-        }))
+        let found = self.find(host, name)?;
+        match found {
+            Found::Held { at, slot } => {
+                let head = read_head(host, slot.place, name)?;
+                Ok(Sought::Held(Held {
+                    at,
+                    count: slot.count,
+                    place: slot.place,
+                    head,
+                }))
+            }
+            Found::Vacant { at } => Ok(Sought::Vacant { at }),
+        }
     }
 
     // The same of a name that is held.
@@ -191,12 +206,14 @@ impl DiskRest {
         requires stands { HoldsSuch H.Host host.old self.now (IsHeldName name) }
         ensures found { IsTrue (H.tells Role.Work) → IfOk result (IsHeld self.now (work_of H.Host host.old) name) }
         ensures sized { IfOk result IsSizedHeld }
+        ensures end { IfOk result (λ held. StandsAt H.Host host.old self.now.directory name held.at) }
         ensures read { IsWorkRead H.Host host.old host.new }
         ensures fault { IfErr result (IsFault (H.tells Role.Work) (H.faults host.old Role.Work) (H.faults host.new Role.Work) (IsReadPlace self.now) name) }
     {
         let held = self.find_held(host, name)?;
         let head = read_head(host, held.slot.place, name)?;
         Ok(Held {
+            at: held.at,
             count: held.slot.count,
             place: held.slot.place,
             head,
@@ -219,7 +236,8 @@ impl DiskRest {
         ensures read { IsWorkRead H.Host host.old host.new }
         ensures fault { IfErr result (IsFault (H.tells Role.Work) (H.faults host.old Role.Work) (H.faults host.new Role.Work) (IsReadPlace self.now) name) }
     {
-        let Some(slot) = self.find(host, name)? else {
+        let found = self.find(host, name)?;
+        let Found::Held { slot, .. } = found else {
             return Ok(None);
         };
         read_record(host, slot.place, name, buf)?;
@@ -271,8 +289,8 @@ impl DiskRest {
         ensures fault { IfErr result (IsFault (H.tells Role.Work) (H.faults host.old Role.Work) (H.faults host.new Role.Work) (IsSlotPlace self.now) name) }
     {
         match self.find(host, name)? {
-            Some(slot) => Ok(Some(slot.count)),
-            None => Ok(None),
+            Found::Held { slot, .. } => Ok(Some(slot.count)),
+            Found::Vacant { .. } => Ok(None),
         }
     }
 
@@ -298,7 +316,7 @@ impl DiskRest {
             count,
             place: held.slot.place,
         };
-        self.directory.set(host, slot)?;
+        self.directory.set_at(host, held.at, slot)?;
         Ok(count)
     }
 
@@ -337,10 +355,17 @@ impl DiskRest {
         Ok(Some(name))
     }
 
-    // Adds the buffer's record, whose name isn't held, with this count.
-    fn add<H: Host>(&mut self, host: &mut H, buf: &RecordBuf, count: u64) -> Result<(), DiskFault>
+    // Adds the buffer's record with this count. Its name isn't held, and the search for it ends at this empty slot.
+    fn add<H: Host>(
+        &mut self,
+        host: &mut H,
+        at: u32,
+        buf: &RecordBuf,
+        count: u64,
+    ) -> Result<(), DiskFault>
         requires record { HasRecord buf.now }
         requires stands { HoldsObjects H.Host host.old self.old }
+        requires vacant { EndsAt H.Host host.old self.old.directory (raw_of buf.now).name (Found.Vacant at) }
         requires absent { IsTrue (H.tells Role.Work) → map.get (entries_of self.old.directory (work_of H.Host host.old)) (raw_of buf.now).name ≡ None }
         requires room { disk_held self.old < disk_room self.old }
         ensures put { IsTrue (H.tells Role.Work) → (objects : Objects) (pending : List ℕ) → IsDisk self.old (work_of H.Host host.old) objects pending →
@@ -353,7 +378,7 @@ impl DiskRest {
     {
         let place = store(&mut self.space, host, buf, 0)?;
         let name = buf.name();
-        self.directory.add(host, Slot { name, count, place })
+        self.directory.add_at(host, at, Slot { name, count, place })
     }
 
     // Writes the buffer's record, which wants a block of the same class, in the place of the one that is held.
@@ -367,6 +392,7 @@ impl DiskRest {
         requires record { HasRecord buf.now }
         requires stands { HoldsObjects H.Host host.old self.old }
         requires held { IsTrue (H.tells Role.Work) → IsHeld self.old (work_of H.Host host.old) (raw_of buf.now).name held }
+        requires at { StandsAt H.Host host.old self.old.directory (raw_of buf.now).name held.at }
         requires sized { IsSizedHeld held }
         requires class { IsSizeClass held.head.class (record_size (raw_of buf.now)) }
         ensures put { IsTrue (H.tells Role.Work) → (objects : Objects) (pending : List ℕ) → IsDisk self.old (work_of H.Host host.old) objects pending →
@@ -379,7 +405,8 @@ impl DiskRest {
         let place = held.place;
         write_record(host, place, buf, held.head.link)?;
         let name = buf.name();
-        self.directory.set(host, Slot { name, count, place })
+        self.directory
+            .set_at(host, held.at, Slot { name, count, place })
     }
 
     // Stores the buffer's record, which wants a block of another class, and gives back the block of the one that is held.
@@ -393,6 +420,7 @@ impl DiskRest {
         requires record { HasRecord buf.now }
         requires stands { HoldsObjects H.Host host.old self.old }
         requires held { IsTrue (H.tells Role.Work) → IsHeld self.old (work_of H.Host host.old) (raw_of buf.now).name held }
+        requires at { StandsAt H.Host host.old self.old.directory (raw_of buf.now).name held.at }
         requires sized { IsSizedHeld held }
         requires class { IsSizeClass held.head.class (record_size (raw_of buf.now)) → ⊥ }
         ensures put { IsTrue (H.tells Role.Work) → (objects : Objects) (pending : List ℕ) → IsDisk self.old (work_of H.Host host.old) objects pending →
@@ -404,7 +432,8 @@ impl DiskRest {
     {
         let place = store(&mut self.space, host, buf, held.head.link)?;
         let name = buf.name();
-        self.directory.set(host, Slot { name, count, place })?;
+        self.directory
+            .set_at(host, held.at, Slot { name, count, place })?;
         self.space.give(host, held.place, held.head.class)
     }
 
@@ -426,13 +455,17 @@ impl DiskRest {
         ensures work { IsWorkOnly H.Host host.old host.new }
         ensures fault { IfErr result (IsPutFault H.Host host.old host.new self.old self.new (raw_of buf.now)) }
     {
-        let Some(held) = self.look(host, buf.name())? else {
-            let held = self.directory.len();
-            let room = self.directory.room();
-            if held == room {
-                return Err(DiskFault::Full { held, room });
+        let sought = self.look(host, buf.name())?;
+        let held = match sought {
+            Sought::Held(held) => held,
+            Sought::Vacant { at } => {
+                let held = self.directory.len();
+                let room = self.directory.room();
+                if held == room {
+                    return Err(DiskFault::Full { held, room });
+                }
+                return self.add(host, at, buf, count);
             }
-            return self.add(host, buf, count);
         };
         if size_class_for(buf) == held.head.class {
             self.rewrite(host, held, buf, count)
@@ -492,7 +525,7 @@ impl DiskRest {
         b: Name,
     ) -> Result<(), DiskFault>
         requires stands { HoldsDirectory H.Host host.old self.old.directory }
-        requires one { Holds H.Host host.old self.old.directory a }
+        requires one { StandsAt H.Host host.old self.old.directory a one.at }
         requires two { Holds H.Host host.old self.old.directory b }
         ensures exchanged { IsTrue (H.tells Role.Work) → OnOk result (IsChanged self.old.directory
             (map.insert (map.insert (entries_of self.old.directory (work_of H.Host host.old)) a (record { count = one.count; place = two.place })) b (record { count = two.count; place = one.place }))
@@ -506,7 +539,7 @@ impl DiskRest {
             count: one.count,
             place: two.place,
         };
-        self.directory.set(host, first)?;
+        self.directory.set_at(host, one.at, first)?;
         let second = Slot {
             name: b,
             count: two.count,

@@ -2,12 +2,14 @@
 use Rattle.std.proofs.Common.{◌≡◌, ◌≢◌, ℕ, ◌*◌, ◌<◌, ◌≤◌, ◌⊎◌, List, [], Option, Some, None, refl, sym, ap, ◌∙◌, subst, arith, inl, inr}
 use Rattle.std.specs.FinMap as map
 use Rattle.loom_outside.specs.Bytes.{overwritten}
-use Rattle.probing.specs.Table.{map_of, IsTable}
+use Rattle.probing.specs.Table.{map_of, home_of, turned, IsTable}
 use Rattle.probing.proofs.MapLaws.{map_of-same, len-map_of, get-map_of, get-map_of-zero, get-map_of_held, held_at, empty_map}
-use Rattle.probing.proofs.TableLaws.{IsTable-same, equal_or_not, empty_table}
+use Rattle.probing.proofs.TableLaws.{IsTable-same, equal_or_not, empty_table, home-below, turned-below}
 use Rattle.work_directory.specs.declared.slot.Slot.{Slot}
 use Rattle.work_directory.specs.declared.directory.Directory.{Directory}
-use Rattle.work_directory.specs.Directory.{held_of, slots_of, end_of, entries_of, shown_at, IsIn}
+use Rattle.work_directory.specs.declared.directory.Found.{Found}
+use Rattle.work_directory.specs.declared.directory.Found.TheVariants.{Held, Vacant}
+use Rattle.work_directory.specs.Directory.{held_of, slots_of, end_of, entries_of, shown_at, AnswersSearch, IsIn, IsOfName}
 use Rattle.work_directory.specs.Slots.{slot_at, slot_in, used_slot, bytes_of, IsSpelled, AreSpelled}
 use Rattle.work_directory.specs.Table.{Entry, entry_of, name_at, entry_at}
 use Rattle.work_directory.specs.Work.{SameBefore}
@@ -47,6 +49,26 @@ pub in-kept : (d : Directory) (v w : List ℕ) → SameBefore (end_of d) v w →
 in-kept d v w same is =
     in-table d w (spelled-same d v w same is.spelled)
     (IsTable-same (name_at v) (name_at w) (slots_of d) (held_of d) (λ j l. ap (λ (s : Slot). s.name) (slot-same d v w same j l)) is.table)
+
+-- and where a search ends
+pub search-kept : (d : Directory) (v w : List ℕ) (name : ℕ) (found : Found) → SameBefore (end_of d) v w → IsOfName (slots_of d) name found
+    → AnswersSearch v (slots_of d) name found → AnswersSearch w (slots_of d) name found
+search-kept d v w name (Held at slot) same of is = slot-same d v w same at of.0 ∙ is
+search-kept d v w name (Vacant at) same of is =
+    let n : ℕ = slots_of d in
+    let names : (j : ℕ) → j < n → name_at w j ≡ name_at v j = λ j l. ap (λ (s : Slot). s.name) (slot-same d v w same j l) in
+    let home : home_of name n < n = home-below name n (let l = of.0 in omega (arith, l)) in
+    let below : (e : ℕ) → e < is.steps → turned (home_of name n) e n < n = λ e l. turned-below (home_of name n) e n home (let s = is.within in omega (arith, s, l)) in
+    record {
+      steps = is.steps;
+      within = is.within;
+      place_is = is.place_is;
+      empty = names at of.0 ∙ is.empty;
+      passed = record {
+        used = λ e l nought. is.passed.used e l (sym (names _ (below e l)) ∙ nought);
+        others = λ e l named. is.passed.others e l (sym (names _ (below e l)) ∙ named);
+      };
+    }
 
 -- ---- slots and entries
 

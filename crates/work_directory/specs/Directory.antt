@@ -90,6 +90,14 @@ Holds host now d name = IsTrue (host.tells Work) → IsSome (map.get (entries_in
 abbrev pub Lacks : {H : Type 0} → Ghosts H → H → Directory → ℕ → Type 0
 Lacks host now d name = IsTrue (host.tells Work) → map.get (entries_in host now d) name ≡ None
 
+-- the search for a name ends so
+abbrev pub EndsAt : {H : Type 0} → Ghosts H → H → Directory → ℕ → Found → Type 0
+EndsAt host now d name found = IsOfName (slots_of d) name found × (IsTrue (host.tells Work) → AnswersSearch (work_of host now) (slots_of d) name found)
+
+-- it ends at this slot, which has the name
+abbrev pub StandsAt : {H : Type 0} → Ghosts H → H → Directory → ℕ → ℕ → Type 0
+StandsAt host now d name at = (held : Slot) × EndsAt host now d name (Held at held)
+
 -- Work holds the directory with these entries after a call, and behind it what it held before
 abbrev pub Becomes : {H : Type 0} → Ghosts H → H → H → Directory → Entries → Type 0
 Becomes host old new d entries = IsTrue (host.tells Work) → IsChanged d entries (work_of host old) (work_of host new)

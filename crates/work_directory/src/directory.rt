@@ -51,7 +51,7 @@ impl Directory {
     ghost use Rattle.std.specs.FinMap as map;
     ghost use Rattle.loom_outside.specs.declared.outside.DiskFault.TheVariants.{Full};
     ghost use Rattle.loom_outside.specs.declared.outside.Role.{Role};
-    ghost use Rattle.work_directory.specs.Directory.{room_of, held_of, slots_of, end_of, entries_of, found_entry, shown_at, AnswersSearch, IsIn, IsOfName, HoldsDirectory, entries_in, Holds, Lacks, Becomes};
+    ghost use Rattle.work_directory.specs.Directory.{room_of, held_of, slots_of, end_of, entries_of, found_entry, shown_at, AnswersSearch, IsIn, IsOfName, HoldsDirectory, entries_in, Holds, Lacks, EndsAt, StandsAt, Becomes};
     ghost use Rattle.work_directory.specs.Inside.{Closes};
     ghost use Rattle.work_directory.specs.Pieces.{IsPieceOf};
     ghost use Rattle.work_directory.specs.Slots.{slot_at};
@@ -228,6 +228,28 @@ impl Directory {
         Ok(())
     }
 
+    /// Adds a name that isn't held at the empty slot where the search for it ended, so that nothing is read. Full as `add`.
+    #[tactic(auto, unfolding(crate::specs::Directory::room_of, crate::specs::Directory::held_of))]
+    pub fn add_at<H: Host>(&mut self, host: &mut H, at: u32, slot: Slot) -> Result<(), DiskFault>
+        requires stands { HoldsDirectory H.Host host.old self.old }
+        requires vacant { EndsAt H.Host host.old self.old slot.name (Found.Vacant at) }
+        ensures added { OnOk result (Becomes H.Host host.old host.new self.new (map.insert (entries_in H.Host host.old self.old) slot.name (entry_of slot))) }
+        ensures held { OnOk result (held_of self.new ≡ held_of self.old + 1) }
+        ensures still { OnErr result (self.new ≡ self.old) }
+        ensures room { room_of self.new ≡ room_of self.old }
+        ensures full { held_of self.old ≡ room_of self.old → (result ≡ Err (Full (held_of self.old) (room_of self.old))) × (host.new ≡ host.old) }
+        ensures work { IsWorkOnly H.Host host.old host.new }
+        ensures cause { held_of self.old ≢ room_of self.old → IfErr result (IsCause H.Host host.old host.new (end_of self.old) slot.name) }
+    {
+        let Directory { held, room, .. } = *self;
+        if held == room {
+            return Err(DiskFault::Full { held, room });
+        }
+        put(host, at, &slot)?;
+        self.held += 1;
+        Ok(())
+    }
+
     /// Sets the count and the place of a name that is held.
     #[tactic(auto, unfolding(crate::specs::Directory::room_of, crate::specs::Directory::held_of))]
     pub fn set<H: Host>(&mut self, host: &mut H, slot: Slot) -> Result<(), DiskFault>
@@ -242,6 +264,18 @@ impl Directory {
             Found::Held { at, .. } => put(host, at, &slot),
             Found::Vacant { at } => Err(damaged(at, slot.name)),
         }
+    }
+
+    /// Sets the count and the place of a name at the slot where the search for it ended, so that nothing is read.
+    pub fn set_at<H: Host>(&mut self, host: &mut H, at: u32, slot: Slot) -> Result<(), DiskFault>
+        requires stands { HoldsDirectory H.Host host.old self.old }
+        requires there { StandsAt H.Host host.old self.old slot.name at }
+        ensures set { OnOk result (Becomes H.Host host.old host.new self.new (map.insert (entries_in H.Host host.old self.old) slot.name (entry_of slot))) }
+        ensures still { self.new ≡ self.old }
+        ensures work { IsWorkOnly H.Host host.old host.new }
+        ensures cause { IfErr result (IsCause H.Host host.old host.new (end_of self.old) slot.name) }
+    {
+        put(host, at, &slot)
     }
 
     /// Removes a name that is held.

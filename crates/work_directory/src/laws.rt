@@ -1,16 +1,19 @@
 // Laws of a directory in Work. No code calls these functions: what each of them ensures is the law.
 ghost use Rattle.std.specs.Prelude.{◌≡◌, ◌<◌, ℕ, List, Some};
 ghost use Rattle.std.specs.FinMap as map;
-ghost use Rattle.work_directory.specs.Directory.{slots_of, end_of, entries_of, shown_at, IsIn};
+ghost use Rattle.work_directory.specs.Directory.{slots_of, end_of, entries_of, shown_at, AnswersSearch, IsIn, IsOfName};
 ghost use Rattle.work_directory.specs.Table.{Entry, entry_of};
 ghost use Rattle.work_directory.specs.Work.{SameBefore};
 ghost use Rattle.work_directory.specs.declared.directory.Directory.{Directory};
+ghost use Rattle.work_directory.specs.declared.directory.Found.{Found};
 ghost use Rattle.work_directory.specs.declared.slot.Slot.{Slot};
 
-/// What is written behind a directory leaves it and its entries as they were.
+/// What is written behind a directory leaves it, its entries and where a search ends as they were.
 pub fn what_stands_behind_is_no_part_of_it()
     ensures stands { (d : Directory) (v w : List ℕ) → SameBefore (end_of d) v w → IsIn d v → IsIn d w }
     ensures entries { (d : Directory) (v w : List ℕ) → SameBefore (end_of d) v w → entries_of d w ≡ entries_of d v }
+    ensures ends { (d : Directory) (v w : List ℕ) (name : ℕ) (found : Found) → SameBefore (end_of d) v w → IsOfName (slots_of d) name found →
+        AnswersSearch v (slots_of d) name found → AnswersSearch w (slots_of d) name found }
 {}
 
 /// What the slots show are its entries, and each has one slot.

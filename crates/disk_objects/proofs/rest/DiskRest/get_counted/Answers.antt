@@ -12,31 +12,31 @@ use Rattle.disk_objects.proofs.rest.DiskRest.get_counted.Goals as goal
 pub returns-in_err-read_record-clause-fault : goal.returns-in_err-read_record-clause-fault
 returns-in_err-read_record-clause-fault g c =
     let h = g.H.Host in
-    let slot = c.in-Some.slot in
+    let slot = c.in-Held.slot in
     let fault = c.in_err-read_record.field-0.0 in
     exits c.from_residual-in_err-read_record.result fault
     (IsFault (h.tells Work) (h.faults c.args.host.now Work) (h.faults c.read_record.new.host Work) (IsReadPlace c.args.self.now) c.args.name)
     c.from_residual-in_err-read_record.ensures.1
-    (record-sound (h.tells Work) (h.faults c.args.host.now Work) (h.faults c.find.new.host Work) (h.faults c.read_record.new.host Work) slot.place c.args.name (IsReadPlace c.args.self.now) fault (inr (rw c.in-Some.is at c.in_ok-slot.ensures.place))
+    (record-sound (h.tells Work) (h.faults c.args.host.now Work) (h.faults c.find.new.host Work) (h.faults c.read_record.new.host Work) slot.place c.args.name (IsReadPlace c.args.self.now) fault (inr (rw c.in-Held.is at c.in_ok-found.ensures.place))
     (λ told.
     let v : List ℕ = work_of h c.args.host.now in
     let s = c.requires.stands told in
-    let found = rw c.in-Some.is at (c.in_ok-slot.ensures.found told) in
+    let found = rw c.in-Held.is at (c.in_ok-found.ensures.found told) in
     let st = stored-there c.args.self.now v s.0 s.1 s.2 c.args.name (entry_of slot) (sym found) in
     let link : ℕ = s.2.link c.args.name in
     c.in_err-read_record.ensures.told told st.0.raw link st.2.raw st.2.named
-    (subst (λ (w : List ℕ). IsLaid w slot.place st.0.raw link) (sym (work-same h c.args.host.now c.find.new.host c.in_ok-slot.ensures.read)) st.2.laid))
-    c.in_ok-slot.ensures.read.later c.in_err-read_record.ensures.fault)
+    (subst (λ (w : List ℕ). IsLaid w slot.place st.0.raw link) (sym (work-same h c.args.host.now c.find.new.host c.in_ok-found.ensures.read)) st.2.laid))
+    c.in_ok-found.ensures.read.later c.in_err-read_record.ensures.fault)
 
 pub returns-clause-got : goal.returns-clause-got
 returns-clause-got g c told objects pending k =
     let h = g.H.Host in
-    let slot = c.in-Some.slot in
+    let slot = c.in-Held.slot in
     let v : List ℕ = work_of h c.args.host.now in
-    let found = rw c.in-Some.is at (c.in_ok-slot.ensures.found told) in
+    let found = rw c.in-Held.is at (c.in_ok-found.ensures.found told) in
     let st = stored-there c.args.self.now v objects pending k c.args.name (entry_of slot) (sym found) in
     let link : ℕ = k.link c.args.name in
     got-there _ _ st.0 st.1 c.in_ok-read_record.ensures.record.0
     (c.in_ok-read_record.ensures.told told st.0.raw link st.2.raw st.2.named
-    (subst (λ (w : List ℕ). IsLaid w slot.place st.0.raw link) (sym (work-same h c.args.host.now c.find.new.host c.in_ok-slot.ensures.read)) st.2.laid))
+    (subst (λ (w : List ℕ). IsLaid w slot.place st.0.raw link) (sym (work-same h c.args.host.now c.find.new.host c.in_ok-found.ensures.read)) st.2.laid))
     st.2.uncounted

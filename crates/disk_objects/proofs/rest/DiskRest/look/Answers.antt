@@ -11,18 +11,21 @@ use Rattle.loom_outside.proofs.WorkLaws.{work-same, exits}
 use Rattle.disk_objects.proofs.FoundLaws.{head-sound, size-low}
 use Rattle.disk_objects.proofs.rest.DiskRest.look.Goals as goal
 
-pub returns-in_err-head-clause-fault : goal.returns-in_err-head-clause-fault
-returns-in_err-head-clause-fault g c =
+pub returns-in_err-head-in-Held-clause-fault : goal.returns-in_err-head-in-Held-clause-fault
+returns-in_err-head-in-Held-clause-fault g c =
     let h = g.H.Host in
-    let place : ℕ = c.in-Some.slot.place in
-    exits c.from_residual-in_err-head.result c.in_err-head.field-0.0
+    let place : ℕ = c.in-Held.slot.place in
+    exits c.from_residual-in_err-head-in-Held.result c.in_err-head-in-Held.field-0.0
     (IsFault (h.tells Work) (h.faults c.args.host.now Work) (h.faults c.read_head.new.host Work) (IsReadPlace c.args.self.now) c.args.name)
-    c.from_residual-in_err-head.ensures.1
+    c.from_residual-in_err-head-in-Held.ensures.1
     (head-sound (work_of h c.find.new.host) (h.tells Work) (h.faults c.args.host.now Work) (h.faults c.find.new.host Work) (h.faults c.read_head.new.host Work)
-    place c.args.name (IsReadPlace c.args.self.now) c.in_err-head.field-0.0 (inr (rw c.in-Some.is at c.in_ok-slot.ensures.place))
+    place c.args.name (IsReadPlace c.args.self.now) c.in_err-head-in-Held.field-0.0 (inr (rw c.in-Held.is at c.in_ok-found.ensures.place))
     (λ told.
     let s = c.requires.stands told in
-    let found = rw c.in-Some.is at (c.in_ok-slot.ensures.found told) in
-    subst (λ (w : List ℕ). size_stated_in (window w place 28) ≤ LONGEST_RECORD) (sym (work-same h c.args.host.now c.find.new.host c.in_ok-slot.ensures.read))
-    (size-low c.args.self.now (work_of h c.args.host.now) s.0 s.1 s.2 c.args.name (entry_of c.in-Some.slot) (sym found)))
-    c.in_ok-slot.ensures.read.later c.in_err-head.ensures.fault)
+    let found = rw c.in-Held.is at (c.in_ok-found.ensures.found told) in
+    subst (λ (w : List ℕ). size_stated_in (window w place 28) ≤ LONGEST_RECORD) (sym (work-same h c.args.host.now c.find.new.host c.in_ok-found.ensures.read))
+    (size-low c.args.self.now (work_of h c.args.host.now) s.0 s.1 s.2 c.args.name (entry_of c.in-Held.slot) (sym found)))
+    c.in_ok-found.ensures.read.later c.in_err-head-in-Held.ensures.fault)
+
+pub returns-in-Vacant-clause-end : goal.returns-in-Vacant-clause-end
+returns-in-Vacant-clause-end g c = rw c.in-Vacant.is at c.in_ok-found.ensures.end

@@ -25,3 +25,6 @@ returns-in_err-head-clause-fault g c =
     subst (λ (w : List ℕ). size_stated_in (window w place 28) ≤ LONGEST_RECORD) (sym (work-same h c.args.host.now c.find_held.new.host c.in_ok-held.ensures.read))
     (size-low c.args.self.now (work_of h c.args.host.now) s.0 s.1 s.2 c.args.name (entry_of c.in_ok-held.held.slot) (c.in_ok-held.ensures.found told)))
     c.in_ok-held.ensures.read.later c.in_err-head.ensures.fault)
+
+pub returns-clause-end : goal.returns-clause-end
+returns-clause-end g c = (c.in_ok-held.held.slot, c.in_ok-held.ensures.end)
