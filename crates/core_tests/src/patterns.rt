@@ -1,4 +1,4 @@
-// Ten thousand takes, gives and steps of compaction, against a list of what was written.
+// Takes, gives and steps of compaction by a pattern, against a list of what was written.
 ghost use Rattle.std.specs.Prelude.{◌≡◌, ◌+◌, ◌<◌, ℕ, None, Some, length, slice_index_or};
 ghost use Rattle.core_tests.specs.declared.patterns.TheConstants.{OWNERS};
 ghost use Rattle.core_segment.specs.declared.segment.Addr.{Addr};
@@ -7,8 +7,11 @@ ghost use Rattle.core_segment.specs.Segment.{chunk_at};
 use core_segment::{Addr, HEADER, MOST_WORDS, Segment};
 use std::test::Fail;
 
-// How many owners there are, and turns.
-const OWNERS: u16 = 64;
+// How many owners there are.
+const OWNERS: u16 = 512;
+
+// Of the long pattern: how many owners have a part in it, and its turns.
+const PARTAKERS: u32 = 64;
 
 const TURNS: u32 = 10_000;
 
@@ -100,10 +103,16 @@ impl Kept {
         let Some(moved) = self.segment.compact_step() else {
             return false;
         };
+        // No other owner ever took a chunk, but that isn't told.
         if moved.owner <= OWNERS {
             self.places[usize::from(moved.owner - 1)] = Some(moved.to);
         }
         true
+    }
+
+    // Steps until nothing is left to move.
+    fn compact(&mut self) {
+        while self.step() {}
     }
 
     // Gives back what an owner has, or takes a chunk for it. Where none is taken there was no room, and a whole compaction makes one chunk
@@ -120,7 +129,7 @@ impl Kept {
             if self.segment.has_room(words) {
                 return Err("there is room, and none is taken".into());
             }
-            while self.step() {}
+            self.compact();
             let free = self.segment.free_words();
             if 0 < free && !self.segment.has_room(free) {
                 return Err("what is free isn't one chunk".into());
@@ -139,7 +148,7 @@ fn a_pattern_is_kept(rt: HostRuntime) -> Result<(), Fail> {
         let most = if turn % 5 == 0 { 600 } else { 60 };
         let words = HEADER + (seed / 65_536) % most;
         kept.turn(
-            ((seed / 1_024) % u32::from(OWNERS)) as u16,
+            ((seed / 1_024) % PARTAKERS) as u16,
             words,
             (seed % 65_536) as u16,
         )?;
@@ -151,5 +160,25 @@ fn a_pattern_is_kept(rt: HostRuntime) -> Result<(), Fail> {
         assert!(rt; kept.give(k), "owner {k}");
     }
     assert_eq!(rt; kept.segment.free_words(), 4_096);
+    Ok(())
+}
+
+#[test]
+fn every_second_chunk_is_given_back(rt: HostRuntime) -> Result<(), Fail> {
+    let mut kept = Kept::new(&rt, 4_096)?;
+    for k in 0..OWNERS {
+        assert!(rt; kept.take(k, 8, k), "owner {k}");
+    }
+    assert_eq!(rt; kept.segment.free_words(), 0);
+    for k in 0..OWNERS / 2 {
+        assert!(rt; kept.give(2 * k), "owner {k}");
+    }
+    assert!(rt; !kept.take(0, 9, 0));
+    kept.compact();
+    assert!(rt; kept.take(0, 2_048, 1));
+    assert_eq!(rt; kept.segment.free_words(), 0);
+    for k in 0..OWNERS {
+        assert!(rt; kept.give(k), "owner {k}");
+    }
     Ok(())
 }

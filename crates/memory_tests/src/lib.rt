@@ -6,7 +6,8 @@
 //!
 //! `steps` has calls of a memory as data, with `calls`; `runs` takes them. The tables: `tables` has all calls of the trait over several cores,
 //! `refusals` each cause of a refusal with its numbers, `freeing` what dies and what stays, `cached` rows of the method cache, `lookups`
-//! what a send's lookup leaves in it, `lines` what a purge line does, and `faults` hosts that fail or lie. The crate has no function of its own.
+//! what a send's lookup leaves in it, `lines` what a purge line does, and `faults` hosts that fail or lie. The crate has no function of its
+//! own.
 #![tactic(auto)]
 
 #[cfg(test)]
