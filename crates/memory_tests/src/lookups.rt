@@ -116,28 +116,28 @@ const ROWS: [Row; 12] = [
     },
 ];
 
-/// Classes below the one that has the method, a core of so many words, and whether a lookup is cached: where the core has no room for all
-/// that the lookup looks at, a mark of its path is lost on the way.
+/// Classes below the one that has the method, whether the core has 65,536 words or 4,096, and whether a lookup is cached: where the core has
+/// no room for all that the lookup looks at, a mark of its path is lost on the way.
 struct Chain {
     classes: u32,
-    core: u32,
+    is_large: bool,
     cached: bool,
 }
 
 const CHAINS: [Chain; 3] = [
     Chain {
         classes: 600,
-        core: 65_536,
+        is_large: true,
         cached: true,
     },
     Chain {
         classes: 600,
-        core: 4_096,
+        is_large: false,
         cached: false,
     },
     Chain {
         classes: 100,
-        core: 4_096,
+        is_large: false,
         cached: true,
     },
 ];
@@ -269,7 +269,8 @@ fn is_right_along(alloc: Global, chain: &Chain) -> Result<bool, Fail> {
     let Ok(_image) = load(alloc, &mut disk, 1_024) else {
         return Err("the image is loaded".into());
     };
-    let mut m = LoomMemory::make(alloc, disk, NEXT, chain.core, 2_048)?;
+    let core = if chain.is_large { 65_536 } else { 4_096 };
+    let mut m = LoomMemory::make(alloc, disk, NEXT, core, 2_048)?;
     Ok(is_along(&mut m, chain)?)
 }
 
