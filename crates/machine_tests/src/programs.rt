@@ -538,7 +538,7 @@ const RUNS: [Run; 28] = [
         sample: Sample::Hello,
         words: LONG,
         role: Work,
-        nth: 900,
+        nth: 700,
         status: Status::WorkFault { count: 1 },
         notes: "work fault\n",
         said: "loom\n",

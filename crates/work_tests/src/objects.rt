@@ -251,7 +251,7 @@ fn what_cannot_be_so_is_damaged(rt: HostRuntime) -> Result<(), Fail> {
 
 #[test]
 fn calls_on_work_fail(rt: HostRuntime) -> Result<(), Fail> {
-    check(&rt, rt.alloc(), &[2, 8, 12], &FAILING)
+    check(&rt, rt.alloc(), &[2, 7, 11], &FAILING)
 }
 
 /// How many objects there is room for on a larger disk.
