@@ -14,7 +14,7 @@ pub struct Calls {
     pub attaches: u64,
     // whether the last attach answered Ok
     pub named: bool,
-    // how many bytes had been put when a piece of no bytes last was, since the last attach that answered Ok
+    // how many bytes had been put when a piece of no bytes last was, since the last attach that answered Ok; None where none was
     pub ended: Option<usize>,
     // how many calls there are until each that is to fail
     pub plan: Vec<u64>,

@@ -127,7 +127,8 @@ impl MemoryHost {
         self.store.notes()
     }
 
-    /// How many bytes had been put to a role when a piece of no bytes last ended it, since the last attach of it that answered Ok.
+    /// How many bytes had been put to a role when a piece of no bytes last ended it, since the last attach of it that answered Ok. None
+    /// where none has ended it since then.
     pub fn ended(&self, role: Role) -> Option<usize>
         ensures { result ≡ (roles_of self.now role).ended }
     {
