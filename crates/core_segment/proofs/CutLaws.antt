@@ -1,15 +1,14 @@
 -- A free chunk comes out of its list.
-use Rattle.std.proofs.Common.{◌≡◌, ◌≢◌, ℕ, ◌+◌, ◌-◌, ◌<◌, ◌≤◌, ◌==◌, ◌⊎◌, inl, inr, Bool, true, false, cond, List, [], ◌∷◌, ◌++◌, length, refl, sym, ◌∙◌, ap, subst, arith, ⊎_elim}
+use Rattle.std.proofs.Common.{◌≡◌, ◌≢◌, ℕ, ◌+◌, ◌-◌, ◌<◌, ◌≤◌, ◌⊎◌, inl, inr, List, [], ◌∷◌, ◌++◌, length, refl, sym, ◌∙◌, ap, subst, arith, ⊎_elim}
 use Rattle.std.proofs.lemmas.Bool.{cases_eq, cases_lt}
-use Rattle.std.proofs.lemmas.Bool.Decides.{nat_tests}
 use Rattle.std.proofs.lemmas.List.{get_or-set_same, get_or-set_other}
 use Rattle.std.specs.List.{slice_set}
-use Rattle.core_segment.specs.Heads.{word_at, pair_in, link_in, IsPaired}
+use Rattle.core_segment.specs.Heads.{pair_in, link_in, IsPaired}
 use Rattle.core_segment.specs.Lists.{Tile, free_tile, class_in, first_in, Leads, list_in, weigh, weight, weigh_free, IsListed}
-use Rattle.core_segment.specs.Layout.{IsTile, AreTiles, Spans, tiles_of, free_in}
+use Rattle.core_segment.specs.Layout.{AreTiles, Spans, tiles_of, free_in}
 use Rattle.core_segment.specs.Taking.{IsWhole, IsSpot, IsUnlisted, passed_to}
 use Rattle.core_segment.proofs.ListLaws.{at, at-itself, there, listed, with_list, with-same, with-other, weight-free, weight-other, weigh-split, leads-same}
-use Rattle.core_segment.proofs.LayoutLaws.{SameWords, spans-order, are-cut, are-join, are-same}
+use Rattle.core_segment.proofs.LayoutLaws.{SameWords, spans-order, are-cut, are-join, are-same, tile-linked}
 use Rattle.core_segment.proofs.PlaceLaws.{chunk, chunk-free, IsEdit, edit-outside, edit-new, edit-old}
 use Rattle.core_segment.proofs.GiveLaws.{links-same, links-join, length-split}
 use Rattle.core_segment.proofs.SpotLaws.{IsFree, free-told, once, weigh-passed, leads-on, first-of, behind}
@@ -46,58 +45,6 @@ module _ (region region' firsts firsts' : List ℕ) (before : List Tile) (p size
           (cases_eq c (class_in size))
 
 -- ---- another link in a free chunk
-
--- a free chunk in which nothing changes but its link
-pub tile-linked : (region region' : List ℕ) (t : Tile) → IsTile region t → t.owner ≡ 0 → ((i : ℕ) → i < t.place + 2 → word_at region' i ≡ word_at region i)
-    → ((i : ℕ) → t.place + 4 ≤ i → word_at region' i ≡ word_at region i) → IsTile region' t
-tile-linked region region' t is own below above = ⊎_elim
-    (λ (e : word_at region t.place ≡ 0). long e)
-    (λ (e : word_at region t.place ≢ 0). short e)
-    (cases_eq (word_at region t.place) 0)
-  where
-    first : word_at region' t.place ≡ word_at region t.place
-    first = below t.place (omega arith)
-
-    second : word_at region' (t.place + 1) ≡ word_at region (t.place + 1)
-    second = below (t.place + 1) (omega arith)
-
-    -- the choice that the first words make
-    sizes : List ℕ → ℕ → ℕ → ℕ
-    sizes r a b = cond (a == 0) (cond (b == 0) (pair_in r (t.place + 4)) (pair_in r (t.place + 2))) a
-
-    short : word_at region t.place ≢ 0 → IsTile region' t
-    short e =
-        let a : (word_at region t.place == 0) ≡ false = grind (arith, nat_tests) in
-        let b : (word_at region' t.place == 0) ≡ false = ap (λ (w : ℕ). w == 0) first ∙ a in
-        record {
-          sized = ap (λ (x : Bool). cond x (cond (word_at region' (t.place + 1) == 0) (pair_in region' (t.place + 4)) (pair_in region' (t.place + 2))) (word_at region' t.place)) b ∙ first
-              ∙ sym (ap (λ (x : Bool). cond x (cond (word_at region (t.place + 1) == 0) (pair_in region (t.place + 4)) (pair_in region (t.place + 2))) (word_at region t.place)) a) ∙ is.sized;
-          owned = ap (λ (x : Bool). cond x (word_at region' (t.place + 1)) 0) b ∙ sym (ap (λ (x : Bool). cond x (word_at region (t.place + 1)) 0) a) ∙ is.owned;
-          used = is.used;
-          long = λ h. is.long (sym first ∙ h);
-        }
-
-    long : word_at region t.place ≡ 0 → IsTile region' t
-    long e =
-        let a : (word_at region t.place == 0) ≡ true = grind (arith, nat_tests) in
-        let word : word_at region (t.place + 1) ≡ t.owner = sym (ap (λ (x : Bool). cond x (word_at region (t.place + 1)) 0) a) ∙ is.owned in
-        let b : (word_at region (t.place + 1) == 0) ≡ true = grind (arith, nat_tests) in
-        let fifth : word_at region' (t.place + 4) ≡ word_at region (t.place + 4) = above (t.place + 4) (omega arith) in
-        let sixth : word_at region' (t.place + 4 + 1) ≡ word_at region (t.place + 4 + 1) = above (t.place + 4 + 1) (omega arith) in
-        record {
-          sized = ap (λ (w : ℕ). cond (w == 0) (cond (word_at region' (t.place + 1) == 0) (pair_in region' (t.place + 4)) (pair_in region' (t.place + 2))) w) first
-              ∙ ap (λ (x : Bool). cond x (cond (word_at region' (t.place + 1) == 0) (pair_in region' (t.place + 4)) (pair_in region' (t.place + 2))) (word_at region t.place)) a
-              ∙ ap (λ (w : ℕ). cond (w == 0) (pair_in region' (t.place + 4)) (pair_in region' (t.place + 2))) second
-              ∙ ap (λ (x : Bool). cond x (pair_in region' (t.place + 4)) (pair_in region' (t.place + 2))) b
-              ∙ (omega arith)
-              ∙ sym (ap (λ (x : Bool). cond x (pair_in region (t.place + 4)) (pair_in region (t.place + 2))) b)
-              ∙ sym (ap (λ (x : Bool). cond x (cond (word_at region (t.place + 1) == 0) (pair_in region (t.place + 4)) (pair_in region (t.place + 2))) (word_at region t.place)) a)
-              ∙ is.sized;
-          owned = ap (λ (w : ℕ). cond (w == 0) (word_at region' (t.place + 1)) 0) first
-              ∙ ap (λ (w : ℕ). cond (word_at region t.place == 0) w 0) second ∙ is.owned;
-          used = is.used;
-          long = λ h. is.long e;
-        }
 
 -- what stays as it was when the link in a free chunk becomes another
 pub record IsLinked (region region' : List ℕ) (ts : List Tile) (c b : ℕ) : Type 0 where
@@ -151,7 +98,7 @@ module _ (region region' : List ℕ) (before : List Tile) (b size : ℕ) (after 
       let cut = are-cut region before (free_tile b size ∷ after) are in
       record {
         tiles = are-join region' before (free_tile b size ∷ after) (are-same region region' 0 b before left cut.0 below) (
-          tile-linked region region' (free_tile b size) cut.1.0 refl (λ i h. paired.below i h) (λ i h. paired.above i (omega arith)),
+          tile-linked region region' (free_tile b size) cut.1.0 refl (λ i h l. paired.below i l) (λ i h l. paired.above i (omega arith)),
           are-same region region' (b + size) (length region) after right cut.1.1 above,
         );
         chunks = λ k. ⊎_elim

@@ -1,7 +1,7 @@
 -- Segments whose free chunks were joined.
 use Rattle.std.proofs.Common.{refl, ◌∙◌, arith}
 use Rattle.core_segment.specs.declared.segment.Segment.{Segment}
-use Rattle.core_segment.specs.Compact.{IsJoined}
+use Rattle.core_segment.specs.Segment.{IsJoined}
 
 pub joined-none : (g : Segment) → IsJoined g g
 joined-none g = record { chunks = refl; free = refl; largest = omega arith; size = refl }

@@ -40,84 +40,93 @@ are-join region (t ∷ ts) after a b = (a.0, are-join region ts after a.1 b)
 abbrev pub SameWords : List ℕ → List ℕ → ℕ → ℕ → Type 0
 SameWords region region' p q = (i : ℕ) → p ≤ i → i < q → word_at region' i ≡ word_at region i
 
+-- the first words of a chunk that tell its size and its owner are as they were
+pub record SameHead (region region' : List ℕ) (p : ℕ) : Type 0 where
+  pub first : word_at region' p ≡ word_at region p
+  pub second : word_at region p ≡ 0 → word_at region' (p + 1) ≡ word_at region (p + 1)
+  pub used : word_at region p ≡ 0 → word_at region (p + 1) ≢ 0 → pair_in region' (p + 2) ≡ pair_in region (p + 2)
+  pub free : word_at region p ≡ 0 → word_at region (p + 1) ≡ 0 → pair_in region' (p + 4) ≡ pair_in region (p + 4)
+
+module _ (region region' : List ℕ) (p : ℕ) (same : SameHead region region' p) where
+  -- the size behind a first word 0
+  abbrev later : List ℕ → ℕ → ℕ
+  later r w = cond (w == 0) (pair_in r (p + 4)) (pair_in r (p + 2))
+
+  same-later : word_at region p ≡ 0 → later region' (word_at region' (p + 1)) ≡ later region (word_at region (p + 1))
+  same-later e = ap (later region') (same.second e) ∙ ⊎_elim
+      (λ (f : word_at region (p + 1) ≡ 0).
+      let b : (word_at region (p + 1) == 0) ≡ true = grind (arith, nat_tests) in
+      ap (λ (x : Bool). cond x (pair_in region' (p + 4)) (pair_in region' (p + 2))) b ∙ same.free e f
+      ∙ sym (ap (λ (x : Bool). cond x (pair_in region (p + 4)) (pair_in region (p + 2))) b))
+      (λ (f : word_at region (p + 1) ≢ 0).
+      let b : (word_at region (p + 1) == 0) ≡ false = grind (arith, nat_tests) in
+      ap (λ (x : Bool). cond x (pair_in region' (p + 4)) (pair_in region' (p + 2))) b ∙ same.used e f
+      ∙ sym (ap (λ (x : Bool). cond x (pair_in region (p + 4)) (pair_in region (p + 2))) b))
+      (cases_eq (word_at region (p + 1)) 0)
+
+  same-size : size_in region' p ≡ size_in region p
+  same-size = ap (λ (w : ℕ). cond (w == 0) (later region' (word_at region' (p + 1))) w) same.first ∙ ⊎_elim
+      (λ (e : word_at region p ≡ 0).
+      ap (λ (z : ℕ). cond (word_at region p == 0) z (word_at region p)) (same-later e))
+      (λ (e : word_at region p ≢ 0).
+      let a : (word_at region p == 0) ≡ false = grind (arith, nat_tests) in
+      ap (λ (x : Bool). cond x (later region' (word_at region' (p + 1))) (word_at region p)) a
+      ∙ sym (ap (λ (x : Bool). cond x (later region (word_at region (p + 1))) (word_at region p)) a))
+      (cases_eq (word_at region p) 0)
+
+  same-owner : owner_in region' p ≡ owner_in region p
+  same-owner = ap (λ (w : ℕ). cond (w == 0) (word_at region' (p + 1)) 0) same.first ∙ ⊎_elim
+      (λ (e : word_at region p ≡ 0).
+      ap (λ (z : ℕ). cond (word_at region p == 0) z 0) (same.second e))
+      (λ (e : word_at region p ≢ 0).
+      let a : (word_at region p == 0) ≡ false = grind (arith, nat_tests) in
+      ap (λ (x : Bool). cond x (word_at region' (p + 1)) 0) a ∙ sym (ap (λ (x : Bool). cond x (word_at region (p + 1)) 0) a))
+      (cases_eq (word_at region p) 0)
+
+pub tile-told : (region region' : List ℕ) (t : Tile) → IsTile region t → SameHead region region' t.place → IsTile region' t
+tile-told region region' t is same = record {
+  sized = same-size region region' t.place same ∙ is.sized;
+  owned = same-owner region region' t.place same ∙ is.owned;
+  used = is.used;
+  long = λ h. is.long (sym same.first ∙ h);
+}
+
+-- behind a first word 0 the second one is the owner
+pub second-owner : (region : List ℕ) (t : Tile) → IsTile region t → word_at region t.place ≡ 0 → word_at region (t.place + 1) ≡ t.owner
+second-owner region t is e = let a : (word_at region t.place == 0) ≡ true = grind (arith, nat_tests) in
+    sym (ap (λ (x : Bool). cond x (word_at region (t.place + 1)) 0) a) ∙ is.owned
+
+-- a used chunk whose first four words are as they were
+pub tile-kept : (region region' : List ℕ) (t : Tile) → IsTile region t → 0 < t.owner → SameWords region region' t.place (t.place + 4) → IsTile region' t
+tile-kept region region' t is own same = tile-told region region' t is (record {
+  first = same t.place (omega arith) (omega arith);
+  second = λ e. same (t.place + 1) (omega arith) (omega arith);
+  used = λ e f. let third = same (t.place + 2) (omega arith) (omega arith) in let fourth = same (t.place + 2 + 1) (omega arith) (omega arith) in omega arith;
+  free = λ e f. let owner = second-owner region t is e in absurd (omega arith);
+})
+
+-- a free chunk in which nothing changes but its link
+pub tile-linked : (region region' : List ℕ) (t : Tile) → IsTile region t → t.owner ≡ 0 → SameWords region region' t.place (t.place + 2)
+    → SameWords region region' (t.place + 4) (t.place + t.size) → IsTile region' t
+tile-linked region region' t is own below above = tile-told region region' t is (record {
+  first = below t.place (omega arith) (omega arith);
+  second = λ e. below (t.place + 1) (omega arith) (omega arith);
+  used = λ e f. let owner = second-owner region t is e in absurd (f (owner ∙ own));
+  free = λ e f. let long = is.long e own in
+      let fifth = above (t.place + 4) (omega arith) (omega arith) in let sixth = above (t.place + 4 + 1) (omega arith) (omega arith) in omega arith;
+})
+
 pub tile-same : (region region' : List ℕ) (t : Tile) → IsTile region t → 0 < t.size → SameWords region region' t.place (t.place + t.size) → IsTile region' t
 tile-same region region' t is some same = ⊎_elim
-    (λ (e : word_at region t.place ≡ 0). ⊎_elim
-    (λ (f : word_at region (t.place + 1) ≡ 0). free e f)
-    (λ (f : word_at region (t.place + 1) ≢ 0). used e f)
-    (cases_eq (word_at region (t.place + 1)) 0))
-    (λ (e : word_at region t.place ≢ 0). short e)
-    (cases_eq (word_at region t.place) 0)
-  where
-    first : word_at region' t.place ≡ word_at region t.place
-    first = same t.place (omega arith) (omega arith)
-
-    -- the choice that the first words make
-    size : (a b x y z : ℕ) → ℕ
-    size a b x y z = cond (a == 0) (cond (b == 0) x y) z
-
-    owner : (a b : ℕ) → ℕ
-    owner a b = cond (a == 0) b 0
-
-    short : word_at region t.place ≢ 0 → IsTile region' t
-    short e =
-        let a : (word_at region t.place == 0) ≡ false = grind (arith, nat_tests) in
-        let b : (word_at region' t.place == 0) ≡ false = ap (λ (w : ℕ). w == 0) first ∙ a in
-        record {
-          sized = ap (λ (x : Bool). cond x (cond (word_at region' (t.place + 1) == 0) (pair_in region' (t.place + 4)) (pair_in region' (t.place + 2))) (word_at region' t.place)) b ∙ first
-              ∙ sym (ap (λ (x : Bool). cond x (cond (word_at region (t.place + 1) == 0) (pair_in region (t.place + 4)) (pair_in region (t.place + 2))) (word_at region t.place)) a) ∙ is.sized;
-          owned = ap (λ (x : Bool). cond x (word_at region' (t.place + 1)) 0) b ∙ sym (ap (λ (x : Bool). cond x (word_at region (t.place + 1)) 0) a) ∙ is.owned;
-          used = is.used;
-          long = λ h. is.long (sym first ∙ h);
-        }
-
-    used : word_at region t.place ≡ 0 → word_at region (t.place + 1) ≢ 0 → IsTile region' t
-    used e f =
-        let a : (word_at region t.place == 0) ≡ true = grind (arith, nat_tests) in
-        let b : (word_at region (t.place + 1) == 0) ≡ false = grind (arith, nat_tests) in
-        let own : word_at region (t.place + 1) ≡ t.owner = sym (ap (λ (x : Bool). cond x (word_at region (t.place + 1)) 0) a) ∙ is.owned in
-        let some : 4 ≤ t.size = is.used (omega arith) in
-        let second : word_at region' (t.place + 1) ≡ word_at region (t.place + 1) = same (t.place + 1) (omega arith) (omega arith) in
-        let third : word_at region' (t.place + 2) ≡ word_at region (t.place + 2) = same (t.place + 2) (omega arith) (omega arith) in
-        let fourth : word_at region' (t.place + 2 + 1) ≡ word_at region (t.place + 2 + 1) = same (t.place + 2 + 1) (omega arith) (omega arith) in
-        record {
-          sized = ap (λ (w : ℕ). cond (w == 0) (cond (word_at region' (t.place + 1) == 0) (pair_in region' (t.place + 4)) (pair_in region' (t.place + 2))) w) first
-              ∙ ap (λ (x : Bool). cond x (cond (word_at region' (t.place + 1) == 0) (pair_in region' (t.place + 4)) (pair_in region' (t.place + 2))) (word_at region t.place)) a
-              ∙ ap (λ (w : ℕ). cond (w == 0) (pair_in region' (t.place + 4)) (pair_in region' (t.place + 2))) second
-              ∙ ap (λ (x : Bool). cond x (pair_in region' (t.place + 4)) (pair_in region' (t.place + 2))) b
-              ∙ (omega arith)
-              ∙ sym (ap (λ (x : Bool). cond x (pair_in region (t.place + 4)) (pair_in region (t.place + 2))) b)
-              ∙ sym (ap (λ (x : Bool). cond x (cond (word_at region (t.place + 1) == 0) (pair_in region (t.place + 4)) (pair_in region (t.place + 2))) (word_at region t.place)) a)
-              ∙ is.sized;
-          owned = ap (λ (w : ℕ). cond (w == 0) (word_at region' (t.place + 1)) 0) first
-              ∙ ap (λ (w : ℕ). cond (word_at region t.place == 0) w 0) second ∙ is.owned;
-          used = is.used;
-          long = λ h. is.long e;
-        }
-
-    free : word_at region t.place ≡ 0 → word_at region (t.place + 1) ≡ 0 → IsTile region' t
-    free e f =
-        let a : (word_at region t.place == 0) ≡ true = grind (arith, nat_tests) in
-        let b : (word_at region (t.place + 1) == 0) ≡ true = grind (arith, nat_tests) in
-        let own : word_at region (t.place + 1) ≡ t.owner = sym (ap (λ (x : Bool). cond x (word_at region (t.place + 1)) 0) a) ∙ is.owned in
-        let some : 64 < t.size = is.long e (sym own ∙ f) in
-        let second : word_at region' (t.place + 1) ≡ word_at region (t.place + 1) = same (t.place + 1) (omega arith) (omega arith) in
-        let fifth : word_at region' (t.place + 4) ≡ word_at region (t.place + 4) = same (t.place + 4) (omega arith) (omega arith) in
-        let sixth : word_at region' (t.place + 4 + 1) ≡ word_at region (t.place + 4 + 1) = same (t.place + 4 + 1) (omega arith) (omega arith) in
-        record {
-          sized = ap (λ (w : ℕ). cond (w == 0) (cond (word_at region' (t.place + 1) == 0) (pair_in region' (t.place + 4)) (pair_in region' (t.place + 2))) w) first
-              ∙ ap (λ (x : Bool). cond x (cond (word_at region' (t.place + 1) == 0) (pair_in region' (t.place + 4)) (pair_in region' (t.place + 2))) (word_at region t.place)) a
-              ∙ ap (λ (w : ℕ). cond (w == 0) (pair_in region' (t.place + 4)) (pair_in region' (t.place + 2))) second
-              ∙ ap (λ (x : Bool). cond x (pair_in region' (t.place + 4)) (pair_in region' (t.place + 2))) b
-              ∙ (omega arith)
-              ∙ sym (ap (λ (x : Bool). cond x (pair_in region (t.place + 4)) (pair_in region (t.place + 2))) b)
-              ∙ sym (ap (λ (x : Bool). cond x (cond (word_at region (t.place + 1) == 0) (pair_in region (t.place + 4)) (pair_in region (t.place + 2))) (word_at region t.place)) a)
-              ∙ is.sized;
-          owned = ap (λ (w : ℕ). cond (w == 0) (word_at region' (t.place + 1)) 0) first
-              ∙ ap (λ (w : ℕ). cond (word_at region t.place == 0) w 0) second ∙ is.owned;
-          used = is.used;
-          long = λ h. is.long e;
-        }
+    (λ (own : t.owner ≡ 0). tile-told region region' t is (record {
+      first = same t.place (omega arith) (omega arith);
+      second = λ e. let long = is.long e own in same (t.place + 1) (omega arith) (omega arith);
+      used = λ e f. let owner = second-owner region t is e in absurd (f (owner ∙ own));
+      free = λ e f. let long = is.long e own in
+          let fifth = same (t.place + 4) (omega arith) (omega arith) in let sixth = same (t.place + 4 + 1) (omega arith) (omega arith) in omega arith;
+    }))
+    (λ (own : t.owner ≢ 0). let four = is.used (omega arith) in tile-kept region region' t is (omega arith) (λ i h l. same i h (omega arith)))
+    (cases_eq t.owner 0)
 
 pub are-same : (region region' : List ℕ) (p q : ℕ) (ts : List Tile) → Spans p ts q → AreTiles region ts → SameWords region region' p q → AreTiles region' ts
 are-same region region' p q [] s a same = tt

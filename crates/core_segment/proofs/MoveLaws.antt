@@ -5,8 +5,7 @@ use Rattle.std.proofs.lemmas.Bool.Decides.{nat_tests}
 use Rattle.std.proofs.lemmas.List.Sums.{sum_by-append}
 use Rattle.std.specs.List.{sum_by}
 use Rattle.core_segment.specs.Chunks.{Chunk, Placed, no_chunk, with_chunk}
-use Rattle.core_segment.specs.Heads.{word_at, pair_in, link_in, IsClosed}
-use Rattle.core_segment.specs.Inside.{IsMovedDown}
+use Rattle.core_segment.specs.Heads.{word_at, pair_in, link_in, IsClosed, IsMovedDown}
 use Rattle.core_segment.specs.Lists.{Tile, free_tile, class_in, first_in, with_first}
 use Rattle.core_segment.specs.Layout.{IsTile, AreTiles, IsLaid, placed_in, tiles_of, free_in}
 use Rattle.core_segment.specs.Order.{AreInOrder, IsGoingOn, first_free}

@@ -6,10 +6,10 @@ use Rattle.std.proofs.lemmas.List.{get_or-set_other}
 use Rattle.std.proofs.Math.ListN.{length-set}
 use Rattle.std.specs.List.{slice_set}
 use Rattle.core_segment.specs.Chunks.{Chunk, with_word}
-use Rattle.core_segment.specs.Heads.{word_at, size_in, pair_in, HasHead}
+use Rattle.core_segment.specs.Heads.{word_at, size_in, HasHead}
 use Rattle.core_segment.specs.Lists.{Tile, IsListed}
-use Rattle.core_segment.specs.Layout.{IsTile, AreTiles, Spans, IsLaid}
-use Rattle.core_segment.proofs.LayoutLaws.{SameWords, spans-cut, spans-order, are-cut, are-join, are-same, has-head}
+use Rattle.core_segment.specs.Layout.{AreTiles, Spans, IsLaid}
+use Rattle.core_segment.proofs.LayoutLaws.{spans-cut, spans-order, are-cut, are-join, are-same, has-head, tile-kept}
 use Rattle.core_segment.proofs.ListLaws.{at, SameLinks, weight-used, listed-same}
 use Rattle.core_segment.proofs.WordLaws.{length-range, range-set}
 use Rattle.core_segment.proofs.PlaceLaws.{chunk_in, chunk, chunk-here, chunk-next, chunk-free, IsEdit, edit-outside, edit-new, edit-old}
@@ -68,32 +68,6 @@ owned region (t ∷ ts) p h =
     (cases_eq t.owner 0))
     (λ (e : t.place ≢ p). later (chunk-next region t ts p e))
     (cases_eq t.place p)
-
--- ---- a used chunk whose first words are as they were
-
-pub tile-kept : (region region' : List ℕ) (t : Tile) → IsTile region t → 0 < t.owner → SameWords region region' t.place (t.place + 4) → IsTile region' t
-tile-kept region region' t is own same =
-    let first : word_at region' t.place ≡ word_at region t.place = same t.place (omega arith) (omega arith) in
-    let second : word_at region' (t.place + 1) ≡ word_at region (t.place + 1) = same (t.place + 1) (omega arith) (omega arith) in
-    let third : word_at region' (t.place + 2) ≡ word_at region (t.place + 2) = same (t.place + 2) (omega arith) (omega arith) in
-    let fourth : word_at region' (t.place + 2 + 1) ≡ word_at region (t.place + 2 + 1) = same (t.place + 2 + 1) (omega arith) (omega arith) in
-    let a : (word_at region t.place == 0) ≡ true = grind (arith, nat_tests) in
-    let own' : word_at region (t.place + 1) ≡ t.owner = sym (ap (λ (x : Bool). cond x (word_at region (t.place + 1)) 0) a) ∙ is.owned in
-    let b : (word_at region (t.place + 1) == 0) ≡ false = grind (arith, nat_tests) in
-    record {
-      sized = ap (λ (w : ℕ). cond (w == 0) (cond (word_at region' (t.place + 1) == 0) (pair_in region' (t.place + 4)) (pair_in region' (t.place + 2))) w) first
-          ∙ ap (λ (x : Bool). cond x (cond (word_at region' (t.place + 1) == 0) (pair_in region' (t.place + 4)) (pair_in region' (t.place + 2))) (word_at region t.place)) a
-          ∙ ap (λ (w : ℕ). cond (w == 0) (pair_in region' (t.place + 4)) (pair_in region' (t.place + 2))) second
-          ∙ ap (λ (x : Bool). cond x (pair_in region' (t.place + 4)) (pair_in region' (t.place + 2))) b
-          ∙ (omega arith)
-          ∙ sym (ap (λ (x : Bool). cond x (pair_in region (t.place + 4)) (pair_in region (t.place + 2))) b)
-          ∙ sym (ap (λ (x : Bool). cond x (cond (word_at region (t.place + 1) == 0) (pair_in region (t.place + 4)) (pair_in region (t.place + 2))) (word_at region t.place)) a)
-          ∙ is.sized;
-      owned = ap (λ (w : ℕ). cond (w == 0) (word_at region' (t.place + 1)) 0) first
-          ∙ ap (λ (w : ℕ). cond (word_at region t.place == 0) w 0) second ∙ is.owned;
-      used = is.used;
-      long = λ h e. absurd (omega arith);
-    }
 
 -- ---- a word of it is another one
 

@@ -1,5 +1,5 @@
--- The first words of a chunk, used or free.
-use Rattle.std.specs.Prelude.{◌≡◌, ℕ, ◌+◌, ◌*◌, ◌<◌, ◌≤◌, ◌==◌, List, length, slice_index_or, if◌then◌else◌}
+-- The words of a region, and the first ones of a chunk, used or free.
+use Rattle.std.specs.Prelude.{◌≡◌, ℕ, ◌+◌, ◌-◌, ◌*◌, ◌<◌, ◌≤◌, ◌==◌, List, length, slice_index_or, if◌then◌else◌}
 use Rattle.core_segment.specs.declared.heads.TheConstants.{RADIX, FEWEST, SHORT}
 
 -- a word of a region, and 0 past its end
@@ -55,3 +55,10 @@ pub record IsClosed (old new : List ℕ) (place size link : ℕ) : Type 0 where
   pub linked : FEWEST ≤ size → link_in new place ≡ link
   pub below : (i : ℕ) → i < place → word_at new i ≡ word_at old i
   pub above : (i : ℕ) → place + size ≤ i → word_at new i ≡ word_at old i
+
+-- so many words were moved down, over what lay there
+pub record IsMovedDown (old new : List ℕ) (from to size : ℕ) : Type 0 where
+  pub same_size : length new ≡ length old
+  pub copied : (i : ℕ) → to ≤ i → i < to + size → word_at new i ≡ word_at old (from + (i - to))
+  pub below : (i : ℕ) → i < to → word_at new i ≡ word_at old i
+  pub above : (i : ℕ) → to + size ≤ i → word_at new i ≡ word_at old i

@@ -1,6 +1,5 @@
 pub mod Memory
 pub mod Heads
-pub mod Inside
 pub mod Lists
 pub mod Chunks
 pub mod Layout
@@ -8,4 +7,3 @@ pub mod Taking
 pub mod Segment
 pub mod Props
 pub mod Order
-pub mod Compact

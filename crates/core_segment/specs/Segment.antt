@@ -1,5 +1,5 @@
 -- What a segment stands for: chunks at their places, and how much is free.
-use Rattle.std.specs.Prelude.{◌≡◌, ℕ, ◌+◌, ◌<◌, List, length, sum_by}
+use Rattle.std.specs.Prelude.{◌≡◌, ℕ, ◌+◌, ◌<◌, ◌≤◌, List, length, sum_by}
 use Rattle.core_segment.specs.declared.segment.TheConstants.{HEADER}
 use Rattle.core_segment.specs.declared.segment.Moved.{Moved}
 use Rattle.core_segment.specs.declared.segment.Segment.{Segment}
@@ -42,6 +42,13 @@ pub record IsTaken (old new : ℕ → Chunk) (p owner words : ℕ) : Type 0 wher
   pub size : length text + HEADER ≡ words
   pub vacant : (old p).owner ≡ 0
   pub chunks : new ≡ with_chunk old p (record { owner = owner; words = text })
+
+-- used chunks are as they were, and free ones were joined
+pub record IsJoined (old new : Segment) : Type 0 where
+  pub chunks : chunks_of new ≡ chunks_of old
+  pub free : free_of new ≡ free_of old
+  pub largest : largest_of old ≤ largest_of new
+  pub size : size_of new ≡ size_of old
 
 -- One used chunk was moved down, to a place where none began, with its owner and its words.
 pub record IsMove (old new : ℕ → Chunk) (m : Moved) : Type 0 where

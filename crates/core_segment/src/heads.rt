@@ -3,7 +3,7 @@
 // A used chunk begins with 0, its owner and its size, in two words. A free one of fewer than four words says its size in its first word. A
 // longer free one begins with its size, or with 0 where it has more than 64 words, and with the owner 0; then comes a link, in two words, to
 // the next chunk of its list, and where the size isn't in the first word it comes last, in two words.
-ghost use Rattle.std.specs.Prelude.{◌≡◌, ◌+◌, ◌<◌, ◌≤◌, ◌^◌, length};
+ghost use Rattle.std.specs.Prelude.{◌≡◌, ◌+◌, ◌<◌, ◌≤◌, length};
 ghost use Rattle.core_segment.specs.Heads.{HasHead, IsClosed, IsOpened, IsPaired, link_in, owner_in, pair_in, size_in};
 
 use crate::words::Words;

@@ -3,9 +3,9 @@
 //! A segment stands for a function from places to used chunks, `chunk_at`, each with an owner and words. `take`, `give` and `set_word`
 //! change one chunk, and `compact_step` moves one down, with its words; each is one equation of whole functions. `take` answers None
 //! exactly where no free chunk has so many words (`has_room` tells), and once `compact_step` answered None all free words are one chunk.
-//! No call but `new` takes memory, and there is none beside the region: chunks tell in their first words where they end, and free ones
-//! are linked into lists by their sizes. The first step of a compaction makes the lists anew, by rising place, and the steps after it go
-//! over the region once.
+//! No call but `new` takes memory. Chunks tell in their first words where they end, and free ones are linked there into lists by their
+//! sizes; beside the region stand only the first links of these lists. The first step of a compaction makes the lists anew, by rising
+//! place, and the steps after it go over the region once.
 //!
 //! ```text
 //! let mut segment = Segment::new(alloc, 4096)?;

@@ -1,9 +1,13 @@
 // The lists of free chunks: one for each size from 4 to 64, and one for all that are longer.
 ghost use Rattle.std.specs.Prelude.{◌≡◌, length};
+ghost use Rattle.core_segment.specs.declared.lists.TheConstants.{LISTS};
 ghost use Rattle.core_segment.specs.Lists.{class_in};
 
 use crate::heads::{FEWEST, SHORT, close, link_at, open, put_link, size_at};
 use crate::words::Words;
+
+// How many lists there are.
+const LISTS: usize = SHORT as usize + 2;
 
 // Which list a free chunk of a size stands in. Those of the sizes below 4 stay empty.
 pub(crate) fn class_of(size: u32) -> u32
@@ -23,21 +27,21 @@ pub(crate) struct Spot {
 // The first link of each list: the place of a chunk and one more, or 0.
 #[derive(Drop)]
 pub(crate) struct Lists {
-    firsts: [u32; 66],
-    ghost many: { length firsts ≡ 66 },
+    firsts: [u32; LISTS],
+    ghost many: { length firsts ≡ LISTS },
 }
 
 impl Lists {
-    ghost use Rattle.std.specs.Prelude.{◌≡◌, ◌+◌, ◌-◌, ◌<◌, ◌≤◌, ℕ, IfNone, IfSome, length, replicate, slice_set};
+    ghost use Rattle.std.specs.Prelude.{◌≡◌, ◌+◌, ◌<◌, ◌≤◌, ℕ, IfNone, IfSome, length, replicate};
     ghost use Rattle.core_segment.specs.Heads.{HasHead, IsClosed, link_in, size_in};
     ghost use Rattle.core_segment.specs.Layout.{largest_in, tiles_of};
     ghost use Rattle.core_segment.specs.Lists.{class_in, first_in, with_first};
     ghost use Rattle.core_segment.specs.Taking.{IsCarved, IsSpot, IsUnlisted, IsWhole};
 
     pub(crate) fn none() -> Lists
-        ensures { result.firsts ≡ replicate 66 0 }
+        ensures { result.firsts ≡ replicate LISTS 0 }
     {
-        Lists { firsts: [0; 66] }
+        Lists { firsts: [0; LISTS] }
     }
 
     // The first link of a list.

@@ -1,5 +1,5 @@
 // Raw memory for words: asked for, filled, read and written through one pointer, and given back.
-ghost use Rattle.std.specs.Prelude.{◌≡◌, ℕ, ◌*◌, ◌^◌, ◌<◌, List, length, replicate, slice_get, slice_index_or, slice_set, Some, IfSome};
+ghost use Rattle.std.specs.Prelude.{◌≡◌, ℕ, ◌<◌, List, length, replicate, slice_index_or, slice_set, Some, IfSome};
 ghost use denote.RawPtr.{Ptr};
 ghost use Rattle.core_segment.specs.Memory.{room_of, words_at, words_lent, words_type, IsSize};
 

@@ -44,12 +44,11 @@ pub struct Segment {
 }
 
 impl Segment {
-    ghost use Rattle.std.specs.Prelude.{◌≡◌, ◌≢◌, ◌+◌, ◌-◌, ◌*◌, ◌<◌, ◌≤◌, ◌^◌, ◌↔◌, ℕ, IfOk, IfSome, IfNone, IsTrue, Some, length, slice_get};
-    ghost use Rattle.core_segment.specs.Chunks.{Chunk, no_chunk, with_chunk, with_word};
-    ghost use Rattle.core_segment.specs.Compact.{IsJoined};
+    ghost use Rattle.std.specs.Prelude.{◌≡◌, ◌+◌, ◌<◌, ◌≤◌, ◌↔◌, IfOk, IfSome, IfNone, IsTrue, Some, length, slice_get};
+    ghost use Rattle.core_segment.specs.Chunks.{no_chunk, with_chunk, with_word};
     ghost use Rattle.core_segment.specs.Heads.{owner_in, size_in};
     ghost use Rattle.core_segment.specs.Taking.{IsSpot};
-    ghost use Rattle.core_segment.specs.Segment.{chunk_at, size_of, free_of, largest_of, work_of, SameRoom, IsTaken, IsMove};
+    ghost use Rattle.core_segment.specs.Segment.{chunk_at, size_of, free_of, largest_of, work_of, SameRoom, IsTaken, IsJoined, IsMove};
 
     /// A segment of so many words, all of them free.
     pub fn new(alloc: Global, words: u32) -> Result<Segment, AllocError>

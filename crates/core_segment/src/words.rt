@@ -32,7 +32,7 @@ impl Drop for Words {
 
 impl Words {
     ghost use Rattle.std.specs.Prelude.{◌≡◌, ◌+◌, ◌<◌, ◌≤◌, length, replicate, slice_set, IfOk};
-    ghost use Rattle.core_segment.specs.Inside.{word_at, IsMovedDown};
+    ghost use Rattle.core_segment.specs.Heads.{word_at, IsMovedDown};
 
     // So many words, each 0.
     pub(crate) fn make(alloc: Global, n: u32) -> Result<Words, AllocError>

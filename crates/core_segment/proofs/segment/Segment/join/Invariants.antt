@@ -1,5 +1,5 @@
 use Rattle.std.proofs.Common.{◌≡◌, ◌-◌, ◌≤◌, Some}
-use Rattle.core_segment.specs.Compact.{IsJoined}
+use Rattle.core_segment.specs.Segment.{IsJoined}
 use Rattle.core_segment.specs.Heads.{size_in}
 use Rattle.core_segment.proofs.segment.Segment.join.Given as goal
 

@@ -1,7 +1,6 @@
 use Rattle.std.proofs.Common.{ℕ, ◌≡◌, ◌+◌, ◌<◌, List, length, refl, sym, ◌∙◌, ap, subst, arith}
 use Rattle.std.proofs.Math.Path.{fun_ext}
-use Rattle.core_segment.specs.Heads.{size_in, owner_in, link_in, IsClosed}
-use Rattle.core_segment.specs.Inside.{IsMovedDown}
+use Rattle.core_segment.specs.Heads.{size_in, owner_in, link_in, IsClosed, IsMovedDown}
 use Rattle.core_segment.specs.Lists.{class_in, first_in, with_first}
 use Rattle.core_segment.specs.Layout.{tiles_of}
 use Rattle.core_segment.specs.Segment.{chunks_of, chunk_at, work_of, size_of, free_of, largest_of}

@@ -1,4 +1,4 @@
-use Rattle.core_segment.specs.Inside.{IsMovedDown}
+use Rattle.core_segment.specs.Heads.{IsMovedDown}
 use Rattle.core_segment.proofs.words.Words.shift.Given as goal
 
 abbrev pub invariant-loop-k : goal.invariant-loop-k
