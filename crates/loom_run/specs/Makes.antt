@@ -26,8 +26,8 @@ abbrev pub roles_of : Status → List Role
 roles_of OutOfMemory = Notes ∷ []
 roles_of _ = Saved ∷ Notes ∷ []
 
--- The role was attached once, by this name; then these bytes were put to it, and behind all of them a piece of no bytes, which ends it. Or that failed:
--- it is as a refused attach leaves it, or has a prefix of them and isn't ended.
+-- The role was attached once, by this name; then these bytes were put to it, and behind all of them a piece of no bytes, which ends it. Or
+-- that failed: it is as a refused attach leaves it, or has a prefix of them and isn't ended.
 abbrev pub MadeBy : Bool → List ℕ → List ℕ → RoleState → RoleState → Type 0
 MadeBy true text bytes old new = (put : RoleState) × WasWritten text bytes old put × (new ≡ ends put)
 MadeBy false text bytes old new = WrittenBy false text bytes old new
