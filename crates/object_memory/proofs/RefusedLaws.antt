@@ -1,5 +1,5 @@
 -- A call that is refused after reads is refused as it would have been before them, and reads of one object are one.
-use Rattle.std.proofs.Common.{◌≡◌, ℕ, ◌+◌, ◌≤◌, Bool, true, ◌||◌, List, [], ◌++◌, Option, Some, None, Result, Ok, Err, IsTrue, inl, inr, refl, sym, ◌∙◌, ap, subst, arith}
+use Rattle.std.proofs.Common.{◌≡◌, ◌≢◌, ℕ, ◌+◌, ◌≤◌, Bool, true, ◌||◌, List, [], ◌++◌, Option, Some, None, Result, Ok, Err, IsTrue, inl, inr, refl, sym, ◌∙◌, ap, subst, arith}
 use Rattle.std.specs.Result.{IsErrAnd}
 use Rattle.std.proofs.lemmas.Grind.{common_steps}
 use Rattle.long_names.specs.declared.value.Value.{Value}
@@ -136,13 +136,13 @@ cause_after a b c x Memory before ready can l cause = cause
 
 -- ---- the transcript, and what is left
 
-said_after : (a b c : Told) (of : ℕ) → (IsTrue b.tells → IsThinning a.heap b.heap b.regs b.slots) → Looks [] a b → (IsTrue b.speaks → (z rest : List ℕ) × (c.transcript ≡ b.transcript ++ z) × (IsTrue b.tells → said_by b.heap b.regs (Say of) ≡ Some (z ++ rest))) → IsTrue a.speaks → (z rest : List ℕ) × (c.transcript ≡ a.transcript ++ z) × (IsTrue a.tells → said_by a.heap a.regs (Say of) ≡ Some (z ++ rest))
+said_after : (a b c : Told) (of : ℕ) → (IsTrue b.tells → IsThinning a.heap b.heap b.regs b.slots) → Looks [] a b → (IsTrue b.speaks → (z rest : List ℕ) × (c.transcript ≡ b.transcript ++ z) × (IsTrue b.tells → (said_by b.heap b.regs (Say of) ≡ Some (z ++ rest)) × (z ++ rest ≢ []))) → IsTrue a.speaks → (z rest : List ℕ) × (c.transcript ≡ a.transcript ++ z) × (IsTrue a.tells → (said_by a.heap a.regs (Say of) ≡ Some (z ++ rest)) × (z ++ rest ≢ []))
 said_after a b c of thin l said speaks =
     let now = said (l.later.speaks ∙ speaks) in (
       now.0,
       now.1,
       now.2 ∙ ap (λ s. s ++ now.0) (l.transcript speaks),
-      λ told. (let after = l.later.tells ∙ told in ap (λ (regs : ℕ → Value). said_by a.heap regs (Say of)) (sym (regs_looked a b l)) ∙ said-same a.heap b.heap b.regs b.slots (thin after) (Say of) ∙ now.3 after),
+      λ told. (let after = l.later.tells ∙ told in let it = now.3 after in (ap (λ (regs : ℕ → Value). said_by a.heap regs (Say of)) (sym (regs_looked a b l)) ∙ said-same a.heap b.heap b.regs b.slots (thin after) (Say of) ∙ it.0, it.1)),
     )
 
 silent_after : (a b c : Told) → Looks [] a b → (IsTrue b.speaks → c.transcript ≡ b.transcript) → IsTrue a.speaks → c.transcript ≡ a.transcript

@@ -1,5 +1,5 @@
 -- What a call of a memory does, and why it is refused.
-use Rattle.std.specs.Prelude.{◌≡◌, ℕ, ◌+◌, ◌≤◌, ◌<◌, ◌==◌, ◌||◌, ◌⊎◌, Bool, true, false, List, ◌++◌, Option, Some, None, Result, Ok, Err, IsTrue, OnOk, IfOk, IfErr}
+use Rattle.std.specs.Prelude.{◌≡◌, ◌≢◌, ℕ, ◌+◌, ◌≤◌, ◌<◌, ◌==◌, ◌||◌, ◌⊎◌, Bool, true, false, List, [], ◌++◌, Option, Some, None, Result, Ok, Err, IsTrue, OnOk, IfOk, IfErr}
 use Rattle.std.specs.Option.{option_map_or, option_and_then}
 use Rattle.long_names.specs.declared.value.Value.{Value}
 use Rattle.long_names.specs.declared.value.Value.TheVariants.{Int, Ref}
@@ -293,9 +293,10 @@ LeavesAll NamesSpent P = P
 LeavesAll (Said count) P = P
 LeavesAll Memory P = P
 
--- the transcript after a refusal: as before, and after Said a prefix of the object's bytes joined it
+-- The transcript after a refusal: as before. After Said a prefix of the object's bytes joined it, maybe none or all of them, and where
+-- the heap is told the object has bytes.
 abbrev pub SaysRefused : Call → Told → Told → MemFault → Type 0
-SaysRefused (Does (Say of)) old new (Said count) = IsTrue old.speaks → (z rest : List ℕ) × (new.transcript ≡ old.transcript ++ z) × (IsTrue old.tells → said_by old.heap old.regs (Say of) ≡ Some (z ++ rest))
+SaysRefused (Does (Say of)) old new (Said count) = IsTrue old.speaks → (z rest : List ℕ) × (new.transcript ≡ old.transcript ++ z) × (IsTrue old.tells → (said_by old.heap old.regs (Say of) ≡ Some (z ++ rest)) × (z ++ rest ≢ []))
 SaysRefused call old new f = IsTrue old.speaks → new.transcript ≡ old.transcript
 
 pub record Refuses (old new : Told) (call : Call) (f : MemFault) : Type 0 where
