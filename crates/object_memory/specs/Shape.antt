@@ -1,10 +1,11 @@
 -- What a caller knows of the object that a register names, and what reads leave.
-use Rattle.std.specs.Prelude.{◌≡◌, ◌↔◌, ℕ, ◌==◌, Bool, false, List, length, Option, Some, None, Result, IsTrue, IsSome, OnOk, OnErr}
+use Rattle.std.specs.Prelude.{◌≡◌, ◌↔◌, ℕ, ◌+◌, ◌-◌, ◌*◌, ◌==◌, nat_le, Bool, false, List, length, slice_get, Option, Some, None, Result, IsTrue, IsSome, OnOk, OnErr, if◌then◌else◌}
 use Rattle.std.specs.Option.{option_map}
 use Rattle.std.specs.List.{list_any}
 use Rattle.long_names.specs.declared.object.Kind.{Kind}
 use Rattle.long_names.specs.declared.object.Kind.TheVariants as kind
 use Rattle.long_names.specs.declared.object.Body.{Body}
+use Rattle.long_names.specs.declared.object.Body.TheVariants.{Pointers, Words, Bytes, Method}
 use Rattle.long_names.specs.Objects.{kind_of, len_of, pointers_of, literals_of, words_of, bytes_of}
 use Rattle.long_names.specs.Thin.{IsThinner}
 use Rattle.long_names.specs.State.{IsRef, part_at, HasPart}
@@ -31,6 +32,13 @@ byte_count body = option_map length (bytes_of body)
 
 abbrev pub literals_count : Body → Option ℕ
 literals_count body = option_map length (literals_of body)
+
+-- the byte of a method's code at a place that counts from its header on, which takes two bytes, as each literal does
+abbrev pub code_at : ℕ → Body → Option ℕ
+code_at place (Pointers values) = None
+code_at place (Words words) = None
+code_at place (Bytes bytes) = None
+code_at place (Method header literals code) = if nat_le (2 * (length literals + 1)) place then slice_get code (place - 2 * (length literals + 1)) else None
 
 -- these numbers by kind and length
 abbrev pub fields_by : Kind → ℕ → Option ℕ

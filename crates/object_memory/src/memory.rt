@@ -17,6 +17,7 @@ pub trait ObjectMemory {
     ghost use Rattle.long_names.specs.State.{set_register, set_slot, name_at, part_at, IsRef};
     ghost use Rattle.long_names.specs.declared.value.Value.TheVariants.{Int, Ref};
     ghost use Rattle.object_memory.specs.Told.{Told, has_slot};
+    ghost use Rattle.object_memory.specs.Shape.{code_at};
     ghost use Rattle.object_memory.specs.Contract.{MayDo, Accessed, Called, Follows, IsLater, Settles, Thins, is_marked, IsFound, IsUnknown, IsPut};
     ghost use Rattle.object_memory.specs.Fit.{MayCall, StaysCallable, KeepsCallable};
 
@@ -151,6 +152,12 @@ pub trait ObjectMemory {
         requires may { MayDo (told self.old) (Byte of i) }
         ensures access { Accessed (told self.old) (told self.new) (Byte of i) OfNumber result }
         ensures fit { StaysCallable sound told lender outside self.old self.new result };
+
+    /// The byte of a method at a place that counts in bytes from its header on, as an instruction pointer does, where the method is at
+    /// hand. No object comes in for it. None says nothing.
+    fn code_byte(&self, of: Reg, place: u32) -> Option<u8>
+        requires { sound self.now }
+        ensures { IfSome result (λ byte. IsTrue (told self.now).tells → part_at (told self.now).heap ((told self.now).regs of) (code_at place) ≡ Some byte) };
 
     /// Stores byte i, of code too (storeByte:ofObject:withValue:).
     fn set_byte(&mut self, of: Reg, i: u32, b: u8) -> Result<(), MemFault>

@@ -316,6 +316,11 @@ impl ObjectMemory for PlainMemory {
         Ok(*bytes.item(i as usize))
     }
 
+    fn code_byte(&self, of: Reg, place: u32) -> Option<u8> {
+        // in one map nothing is nearer than anything else
+        None
+    }
+
     fn set_byte(&mut self, of: Reg, i: u32, b: u8) -> Result<(), MemFault> {
         let name = self.registers.name(of);
         self.objects.put_bytes(name, i as usize, &[b]);
