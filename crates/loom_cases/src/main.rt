@@ -8,9 +8,10 @@
 use case_runs::{Largest, report_all};
 use std::{env, io};
 
-const FILES: [&str; 35] = [
+const FILES: [&str; 36] = [
     "runs.cases",
     "start.cases",
+    "bad_machines.cases",
     "blocks.cases",
     "bytecodes.cases",
     "variables.cases",
