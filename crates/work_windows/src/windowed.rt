@@ -1,0 +1,84 @@
+// A host with windows over the Work of another host.
+ghost use Rattle.std.specs.Prelude.{IsTrue, All};
+ghost use Rattle.loom_outside.specs.Work.{work_of};
+ghost use Rattle.loom_outside.specs.declared.outside.Role.TheVariants.{Work};
+ghost use Rattle.work_windows.specs.Windows.{Shows};
+
+use crate::windows::Windows;
+use loom_outside::{Failed, Host, Role};
+use std::alloc::Global;
+
+/// A host over another, which answers a read of Work from a window over it, of `LEAST` to `MOST` bytes and where no edge of a window
+/// is in the piece. Every other call goes on to the host inside, and a read makes at most one call of it, so it fails only where that one does.
+/// It holds `COUNT` windows of `WIDTH` bytes, or none where memory for them is refused.
+#[derive(Drop)]
+pub struct Windowed<H: Host + Drop> {
+    inner: H,
+    windows: Windows,
+    ghost current: { IsTrue (H.tells Work) → All (Shows (work_of H.Host inner)) windows.items.items },
+}
+
+impl<H: Host + Drop> Windowed<H> {
+    ghost use Rattle.std.specs.Prelude.{◌≡◌};
+
+    /// A host over this one, with windows of nothing.
+    pub fn new(alloc: Global, inner: H) -> Windowed<H>
+        ensures { result.inner ≡ inner }
+    {
+        Windowed {
+            inner,
+            windows: Windows::new(alloc),
+        }
+    }
+
+    /// The host inside.
+    pub fn inner(&self) -> &H
+        ensures { result.now ≡ self.now.inner }
+    {
+        &self.inner
+    }
+}
+
+impl<H: Host + Drop> Host for Windowed<H> {
+    ghost tells = { H.tells };
+
+    ghost roles = { λ w. H.roles w.inner };
+
+    ghost faults = { λ w. H.faults w.inner };
+
+    ghost writes = { λ w. H.writes w.inner };
+
+    fn attach(&mut self, role: Role, name: &str) -> Result<(), Failed> {
+        self.windows.forget();
+        self.inner.attach(role, name)
+    }
+
+    fn read(&mut self, role: Role, buf: &mut [u8]) -> Result<usize, Failed> {
+        self.inner.read(role, buf)
+    }
+
+    fn write(&mut self, role: Role, buf: &[u8]) -> Result<usize, Failed> {
+        self.inner.write(role, buf)
+    }
+
+    fn read_at(&mut self, place: u64, buf: &mut [u8]) -> Result<(), Failed> {
+        self.windows.read_at(&mut self.inner, place, buf)
+    }
+
+    fn write_at(&mut self, place: u64, buf: &[u8]) -> Result<(), Failed> {
+        match self.inner.write_at(place, buf) {
+            Ok(()) => {
+                self.windows.follow(place, buf);
+                Ok(())
+            }
+            Err(failed) => {
+                self.windows.forget();
+                Err(failed)
+            }
+        }
+    }
+
+    fn fault_count(&self, role: Role) -> u64 {
+        self.inner.fault_count(role)
+    }
+}
