@@ -28,6 +28,7 @@ use std::fs::File;
 use std::io::{self, ErrorKind, Write};
 use std::process::ExitCode;
 use std::rt::Files;
+use work_windows::Windowed;
 
 const NULL_DEVICE: &str = "/dev/null";
 
@@ -104,5 +105,6 @@ fn main(rt: HostRuntime) -> ExitCode {
     if let Ok(words) = &words {
         expect_files(&mut host, words);
     }
+    let mut host = Windowed::new(rt.alloc(), host);
     answer(rt.alloc(), &mut host, words)
 }

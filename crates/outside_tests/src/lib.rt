@@ -3,8 +3,8 @@
 //! They are over public calls, and keep what no case of `loom_cases` runs: a call at values that are worked out by hand, a host over
 //! real files, and that a call which takes memory succeeds where there is enough. Hosts that fail are those of `work_tests` and
 //! `machine_tests`. A test is a table of rows with named fields, and one loop over them. There is one file for each crate: `names` for
-//! `long_names`, `hosts` for `loom_outside`, `records` for `image_format`, `builders` for `image_builder`, `generated` for `loom_gen`. The
-//! crate has no function of its own.
+//! `long_names`, `hosts` for `loom_outside`, `records` for `image_format`, `builders` for `image_builder`, `generated` for `loom_gen`,
+//! `windows` for `work_windows`. The crate has no function of its own.
 #![tactic(auto)]
 
 #[cfg(test)]
@@ -17,3 +17,5 @@ mod hosts;
 mod names;
 #[cfg(test)]
 mod records;
+#[cfg(test)]
+mod windows;
