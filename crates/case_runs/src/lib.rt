@@ -4,7 +4,8 @@
 //! program. `report_all` runs those of some files through `loom` over a host in memory: on the smallest machine that a case fits, on a
 //! larger one and some of them on the largest; where it goes through, also with a purge and a compact before each bytecode. The answers have to be the
 //! same. A line is printed for each case that can't be read or differs, and one for each file with the number of its cases, so nothing is
-//! left out silently. The programs `loom_cases` and `primitive_cases` have the files.
+//! left out silently. The programs `loom_cases` and `primitive_cases` have the files. `fault_runs` reads cases by `case_of`, and runs them over
+//! hosts of `host_of` that fail or lie.
 //!
 //!     report_all(&rt, "data", &["runs.cases"], Largest::Eighth)?;
 //!
@@ -23,4 +24,8 @@ mod report;
 mod run;
 mod sizes;
 
+pub use answer::Answer;
+pub use case::{Case, case_of};
 pub use report::{Largest, report_all};
+pub use run::{DISPLAY, SAVED, Way, host_of, words_of};
+pub use sizes::Sizes;

@@ -15,9 +15,10 @@ const EVENTS: &str = "events";
 
 const WORK: &str = "work";
 
-const SAVED: &str = "saved";
+/// The name of the file that a run saves, and of that of its picture.
+pub const SAVED: &str = "saved";
 
-const DISPLAY: &str = "display";
+pub const DISPLAY: &str = "display";
 
 /// How a case is run: under these events, on a machine of these sizes, over a host that moves so many bytes at most in one call.
 #[derive(Clone, Copy, Debug)]
@@ -31,9 +32,7 @@ pub struct Way<'a> {
 pub fn answer_to(alloc: Global, case: &Case<'_>, way: Way<'_>) -> Result<Answer, AllocError>
     requires { 0 < way.chunk }
 {
-    let mut host = MemoryHost::new(alloc, way.chunk)?;
-    host.add_file(IMAGE, &case.image)?;
-    host.add_file(EVENTS, way.events)?;
+    let mut host = host_of(alloc, case, way)?;
     let words = words_of(alloc, way.sizes, case.steps)?;
     let status = loom(alloc, &mut host, &words);
     Ok(Answer {
@@ -45,8 +44,18 @@ pub fn answer_to(alloc: Global, case: &Case<'_>, way: Way<'_>) -> Result<Answer,
     })
 }
 
-// The words `run IMAGE EVENTS WORK SAVED DISPLAY CORE ENTRIES ROOM STEPS`.
-fn words_of(alloc: Global, sizes: Sizes<'_>, steps: &str) -> Result<Vec<String>, AllocError> {
+/// A host that has the image of a case and the events of a way as the files that `words_of` names.
+pub fn host_of(alloc: Global, case: &Case<'_>, way: Way<'_>) -> Result<MemoryHost, AllocError>
+    requires { 0 < way.chunk }
+{
+    let mut host = MemoryHost::new(alloc, way.chunk)?;
+    host.add_file(IMAGE, &case.image)?;
+    host.add_file(EVENTS, way.events)?;
+    Ok(host)
+}
+
+/// The words `run IMAGE EVENTS WORK SAVED DISPLAY CORE ENTRIES ROOM STEPS`.
+pub fn words_of(alloc: Global, sizes: Sizes<'_>, steps: &str) -> Result<Vec<String>, AllocError> {
     let mut words = Vec::new(alloc);
     for word in [
         "run",

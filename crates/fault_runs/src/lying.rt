@@ -1,0 +1,112 @@
+// Each read of Work lies in turn.
+use crate::failing::{is_whole, own_way};
+use anyhow::{Context, Result, bail};
+use case_runs::{Case, DISPLAY, SAVED, Sizes, host_of, words_of};
+use loom_outside::{LyingHost, MemoryHost};
+use loom_run::{Status, loom};
+use std::alloc::Global;
+
+/// What is xored into each byte of a read.
+const MASKS: [u8; 3] = [1, 128, 255];
+
+/// How many exit statuses there are.
+const CODES: usize = 14;
+
+/// How many runs came to each exit status.
+#[derive(Clone, Copy, Debug)]
+pub struct Tally {
+    pub by_code: [u64; CODES],
+}
+
+impl Tally {
+    fn count(&mut self, code: u8) {
+        if let Some(count) = self.by_code.get_mut(code as usize) {
+            *count = count.saturating_add(1);
+        }
+    }
+}
+
+// The numbers that an answer may have.
+#[derive(Clone, Copy, Debug)]
+struct Bounds {
+    core: u32,
+    entries: u32,
+    room: u32,
+    steps: u32,
+}
+
+fn bounds_of(sizes: Sizes<'_>, steps: &str) -> Result<Bounds> {
+    Ok(Bounds {
+        core: sizes.core.parse().context("core")?,
+        entries: sizes.entries.parse().context("entries")?,
+        room: sizes.room.parse().context("room")?,
+        steps: steps.parse().context("steps")?,
+    })
+}
+
+/// Runs a case once with each mask for each of so many reads of Work, and once where none lies. It is refused where one of these runs
+/// comes to an answer that can't be, or the last one comes out wrong.
+pub fn lie(alloc: Global, case: &Case<'_>, reads: u64) -> Result<Tally> {
+    let bounds = bounds_of(case.sizes, case.steps)?;
+    let (status, host) = run_lying(alloc, case, 0, 0)?;
+    if !is_whole(case, status, host.inner()) {
+        bail!("without a lie it comes out wrong");
+    }
+    let mut tally = Tally {
+        by_code: [0; CODES],
+    };
+    for read in 0..reads {
+        let nth = read.saturating_add(1);
+        for mask in MASKS {
+            let (status, host) = run_lying(alloc, case, nth, mask)?;
+            if !is_possible(&bounds, status) || !is_left_right(status, host.inner()) {
+                bail!("read {nth}, mask {mask}: {status:?}");
+            }
+            tally.count(status.code());
+        }
+    }
+    Ok(tally)
+}
+
+// A run of which the nth read of Work lies.
+fn run_lying(alloc: Global, case: &Case<'_>, nth: u64, mask: u8) -> Result<(Status, LyingHost)> {
+    let host = host_of(alloc, case, own_way(case))?;
+    let mut host = LyingHost::new(host, nth, mask);
+    let words = words_of(alloc, case.sizes, case.steps)?;
+    let status = loom(alloc, &mut host, &words);
+    Ok((status, host))
+}
+
+// Whether a run of which no call fails, but a read may lie, may come to this answer.
+fn is_possible(bounds: &Bounds, status: Status) -> bool {
+    match status {
+        Status::Done { ran } => ran == bounds.steps,
+        Status::Quit { ran } => 0 < ran && ran <= bounds.steps,
+        Status::ImageBad { rule, .. } => 1 <= rule && rule <= 14,
+        Status::Stuck { cause, ran } => 1 <= cause && cause <= 7 && ran <= bounds.steps,
+        Status::CoreFull { ran, need } => {
+            ran <= bounds.steps && (need.words > bounds.core || need.entries > bounds.entries)
+        }
+        Status::NamesSpent { ran } => ran < bounds.steps,
+        Status::WorkFull { live, room } => room == bounds.room && live > room,
+        Status::Damaged { .. } => true,
+        Status::OutOfMemory
+        | Status::Made { .. }
+        | Status::Usage { .. }
+        | Status::EventsBad { .. }
+        | Status::ReadFault { .. }
+        | Status::WorkFault { .. }
+        | Status::WriteFault { .. } => false,
+    }
+}
+
+// Whether there is a saved image, a picture and a line of an answer. What is damaged may be found in saving.
+fn is_left_right(status: Status, host: &MemoryHost) -> bool {
+    let ended = status.code() == 0;
+    let saved = host.file(SAVED).is_some();
+    let files = match status {
+        Status::Damaged { .. } => true,
+        _ => saved == ended,
+    };
+    files && host.file(DISPLAY).is_some() == ended && host.notes().ends_with(b"\n")
+}
