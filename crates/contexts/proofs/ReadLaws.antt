@@ -33,7 +33,7 @@ use Rattle.long_names.specs.declared.limits.TheConstants.{MACHINE_REGISTERS}
 use Rattle.contexts.specs.declared.stop.Stop.{Stop}
 use Rattle.contexts.specs.declared.stop.Stop.TheVariants.{Stuck, Mem}
 use Rattle.contexts.proofs.RoomLaws.{kept_left, lives_left}
-use Rattle.contexts.specs.Serves.{Stands, HasNeed, IsLogged, Allows, Gives, GivesAs, IsCaused, IsRefused, ServesAs, Serves, with_value}
+use Rattle.contexts.specs.Serves.{Stands, HasNeed, IsLogged, Allows, Gives, GivesAs, IsCaused, IsRefused, with_before, ServesAs, Serves, with_value}
 use Rattle.contexts.proofs.CacheLaws.{sound_looked}
 use Rattle.contexts.proofs.ServesLaws.{IsCounted-refl, Gives-after, serves_stop}
 use Rattle.contexts.proofs.Steps.{IsQuiet, quiet_looked, read_first, read_last, stuck_last}
@@ -114,8 +114,8 @@ part_first {A} {B} {w} {t} {new} {cpu} {now} {rest} {answer} c f r there s = rec
   silent = s.silent;
   model = λ told m st.
       let it = there told in
-      let P : Outcome A → Type 0 = λ o. GivesAs w new now answer (then_do o (λ _. rest)) in
-      subst P (sym (goes_here c f t cpu m (t.regs r) it.0 st it.1)) (Gives-after w new now (rows_at m (t.regs r) ++ []) (rest m) answer (s.model told m st));
+      let P : Outcome A → Type 0 = λ o. GivesAs (with_before w t.transcript) new now answer (then_do o (λ _. rest)) in
+      subst P (sym (goes_here c f t cpu m (t.regs r) it.0 st it.1)) (Gives-after (with_before w t.transcript) new now (rows_at m (t.regs r) ++ []) (rest m) answer (s.model told m st));
 }
 
 -- a part of a part is taken out in two steps
@@ -143,7 +143,7 @@ part_steps {A} {B} {w} {old} {new} {cpu} {now} {answer} c f g v s = record {
   counts = s.counts;
   vault = s.vault;
   silent = s.silent;
-  model = λ told m st. subst (GivesAs w new now answer) (sym (part_by c f g v m)) (s.model told m st);
+  model = λ told m st. subst (GivesAs (with_before w old.transcript) new now answer) (sym (part_by c f g v m)) (s.model told m st);
 }
 
 -- ---- a part, with reads around it

@@ -13,7 +13,7 @@ use Rattle.blue_model.specs.declared.cpu.Cpu.{Cpu}
 use Rattle.blue_model.specs.Machine.{Machine, LogRow, Outcome, Go, Halt, Spent, Rule, log_of, after, then_do, ◌>>=◌}
 use Rattle.contexts.specs.declared.stop.Stop.{Stop}
 use Rattle.contexts.specs.declared.stop.Stop.TheVariants.{Stuck, Mem}
-use Rattle.contexts.specs.Serves.{Stands, IsLogged, HasMaking, IsGo, MaySay, Allows, AllowsAs, Gives, GivesAs, IsCounted, IsCaused, HasReason, SaidNothing, Says, ServesAs, Serves}
+use Rattle.contexts.specs.Serves.{Stands, IsLogged, HasMaking, IsGo, MaySay, Allows, AllowsAs, Gives, GivesAs, IsCounted, IsCaused, HasReason, SaidNothing, Says, with_before, ServesAs, Serves}
 
 -- ---- counts
 
@@ -141,13 +141,13 @@ go_after rows a P (Go b m log) h = h
 go_after rows a P (Halt c log) h = h
 go_after rows a P (Spent log) h = h
 
-says_after : {A : Type 0} (w : Option A) (t : Told) (rows : List LogRow) (o : Outcome A) → MaySay w t o → MaySay w t (after rows o)
+says_after : {A : Type 0} (w : Option (A × List ℕ)) (t : Told) (rows : List LogRow) (o : Outcome A) → MaySay w t o → MaySay w t (after rows o)
 says_after None t rows o h = h
-says_after (Some b) t rows (Go a m log) h = h
-says_after (Some b) t rows (Halt c log) h = h
-says_after (Some b) t rows (Spent log) h = h
+says_after (Some (b, before)) t rows (Go a m log) h = h
+says_after (Some (b, before)) t rows (Halt c log) h = h
+says_after (Some (b, before)) t rows (Spent log) h = h
 
-allows_after : {A : Type 0} (w : Option A) (t : Told) (rows : List LogRow) (f : MemFault) (o : Outcome A) → AllowsAs w t f o → AllowsAs w t f (after rows o)
+allows_after : {A : Type 0} (w : Option (A × List ℕ)) (t : Told) (rows : List LogRow) (f : MemFault) (o : Outcome A) → AllowsAs w t f o → AllowsAs w t f (after rows o)
 allows_after w t rows (CoreFull need) o h = subst (IsLogged need) (sym (log_after rows o)) (IsLogged-after need rows (log_of o) h)
 allows_after w t rows (WorkFull live room) o h = subst (HasMaking t.heap.next) (sym (log_after rows o)) (HasMaking-after t.heap.next rows (log_of o) h)
 allows_after w t rows (WorkFault count) o h = tt
@@ -158,7 +158,7 @@ allows_after w t rows NamesSpent (Spent log) h = tt
 allows_after w t rows (Said count) o h = says_after w t rows o h
 allows_after w t rows Memory o h = tt
 
-pub Gives-after : {A : Type 0} (w : Option A) (t : Told) (cpu : Cpu) (rows : List LogRow) (o : Outcome A) (r : Result A Stop) → GivesAs w t cpu r o → GivesAs w t cpu r (after rows o)
+pub Gives-after : {A : Type 0} (w : Option (A × List ℕ)) (t : Told) (cpu : Cpu) (rows : List LogRow) (o : Outcome A) (r : Result A Stop) → GivesAs w t cpu r o → GivesAs w t cpu r (after rows o)
 Gives-after w t cpu rows o (Ok a) h = go_after rows a (Stands t cpu) o h
 Gives-after w t cpu rows o (Err (Mem f)) h = allows_after w t rows f o h
 Gives-after w t cpu rows (Go a m log) (Err (Stuck d)) h = absurd h
@@ -167,7 +167,7 @@ Gives-after w t cpu rows (Spent log) (Err (Stuck d)) h = absurd h
 
 -- ---- a rule that may say something, and says nothing
 
-allows_quietly : {A : Type 0} (w : Option A) (t : Told) (f : MemFault) (o : Outcome A) → Allows t f o → AllowsAs w t f o
+allows_quietly : {A : Type 0} (w : Option (A × List ℕ)) (t : Told) (f : MemFault) (o : Outcome A) → Allows t f o → AllowsAs w t f o
 allows_quietly w t (CoreFull need) o h = h
 allows_quietly w t (WorkFull live room) o h = h
 allows_quietly w t (WorkFault count) o h = tt
@@ -176,15 +176,41 @@ allows_quietly w t NamesSpent o h = h
 allows_quietly w t (Said count) o h = absurd h
 allows_quietly w t Memory o h = tt
 
-gives_quietly : {A : Type 0} (w : Option A) (t : Told) (cpu : Cpu) (r : Result A Stop) (o : Outcome A) → Gives t cpu r o → GivesAs w t cpu r o
+gives_quietly : {A : Type 0} (w : Option (A × List ℕ)) (t : Told) (cpu : Cpu) (r : Result A Stop) (o : Outcome A) → Gives t cpu r o → GivesAs w t cpu r o
 gives_quietly w t cpu (Ok a) o h = h
 gives_quietly w t cpu (Err (Stuck c)) o h = h
 gives_quietly w t cpu (Err (Mem f)) o h = allows_quietly w t f o h
 
+-- ---- a rule whose transcript before was the same
+
+may_say_earlier : {A : Type 0} (w : Option A) (before between : List ℕ) (new : Told) (o : Outcome A) → (IsTrue new.speaks → between ≡ before) → MaySay (with_before w between) new o → MaySay (with_before w before) new o
+may_say_earlier None before between new o same h = absurd h
+may_say_earlier (Some b) before between new (Go a m log) same h = (h.0, λ speaks. (let it = h.1 speaks in (it.0, it.1, λ none. it.2 (none ∙ sym (same speaks)))))
+may_say_earlier (Some b) before between new (Halt c log) same h = absurd h
+may_say_earlier (Some b) before between new (Spent log) same h = absurd h
+
+allows_earlier : {A : Type 0} (w : Option A) (before between : List ℕ) (new : Told) (f : MemFault) (o : Outcome A) → (IsTrue new.speaks → between ≡ before) → AllowsAs (with_before w between) new f o → AllowsAs (with_before w before) new f o
+allows_earlier w before between new (CoreFull need) o same h = h
+allows_earlier w before between new (WorkFull live room) o same h = h
+allows_earlier w before between new (WorkFault count) o same h = tt
+allows_earlier w before between new (Damaged place name) o same h = absurd h
+allows_earlier w before between new NamesSpent o same h = h
+allows_earlier w before between new (Said count) o same h = may_say_earlier w before between new o same h
+allows_earlier w before between new Memory o same h = tt
+
+pub gives_earlier : {A : Type 0} (w : Option A) (before between : List ℕ) (new : Told) (cpu : Cpu) (r : Result A Stop) (o : Outcome A) → (IsTrue new.speaks → between ≡ before) → GivesAs (with_before w between) new cpu r o → GivesAs (with_before w before) new cpu r o
+gives_earlier w before between new cpu (Ok a) o same h = h
+gives_earlier w before between new cpu (Err (Stuck c)) o same h = h
+gives_earlier w before between new cpu (Err (Mem f)) o same h = allows_earlier w before between new f o same h
+
+-- nothing was said before
+pub gives_later : {A : Type 0} (w : Option A) (a b c : Told) (cpu : Cpu) (r : Result A Stop) (o : Outcome A) → IsLater a b → IsLater b c → SaidNothing a b → GivesAs (with_before w b.transcript) c cpu r o → GivesAs (with_before w a.transcript) c cpu r o
+gives_later w a b c cpu r o first rest silent h = gives_earlier w a.transcript b.transcript c cpu r o (λ speaks. silent (sym first.speaks ∙ sym rest.speaks ∙ speaks)) h
+
 -- ---- a rule after another
 
 -- one that went on, and another
-pub Gives-then : {A B : Type 0} (w : Option B) (mid new : Told) (cpu now : Cpu) (o : Outcome A) (k : A → Rule B) (a : A) (r : Result B Stop) → Gives mid cpu (Ok a) o → ((m : Machine) → Stands mid cpu m → GivesAs w new now r (k a m)) → GivesAs w new now r (then_do o k)
+pub Gives-then : {A B : Type 0} (w : Option (B × List ℕ)) (mid new : Told) (cpu now : Cpu) (o : Outcome A) (k : A → Rule B) (a : A) (r : Result B Stop) → Gives mid cpu (Ok a) o → ((m : Machine) → Stands mid cpu m → GivesAs w new now r (k a m)) → GivesAs w new now r (then_do o k)
 Gives-then w mid new cpu now (Go b m log) k a r h next = Gives-after w new now log (k b m) r (subst (λ x. GivesAs w new now r (k x m)) (sym h.0) (next m h.1))
 Gives-then w mid new cpu now (Halt c log) k a r h next = absurd h
 Gives-then w mid new cpu now (Spent log) k a r h next = absurd h
@@ -199,7 +225,7 @@ making_then n (Go b m log) k h = subst (HasMaking n) (sym (log_after log (k b m)
 making_then n (Halt c log) k h = h
 making_then n (Spent log) k h = h
 
-allows_then : {A B : Type 0} (w : Option B) (new : Told) (o : Outcome A) (k : A → Rule B) (f : MemFault) → Allows new f o → AllowsAs w new f (then_do o k)
+allows_then : {A B : Type 0} (w : Option (B × List ℕ)) (new : Told) (o : Outcome A) (k : A → Rule B) (f : MemFault) → Allows new f o → AllowsAs w new f (then_do o k)
 allows_then w new o k (CoreFull need) h = logged_then need o k h
 allows_then w new o k (WorkFull live room) h = making_then new.heap.next o k h
 allows_then w new o k (WorkFault count) h = tt
@@ -211,7 +237,7 @@ allows_then w new o k (Said count) h = absurd h
 allows_then w new o k Memory h = tt
 
 -- one at which it stopped
-pub Gives-stop : {A B : Type 0} (w : Option B) (new : Told) (now : Cpu) (o : Outcome A) (k : A → Rule B) (e : Stop) → Gives new now (Err e) o → GivesAs w new now (Err e) (then_do o k)
+pub Gives-stop : {A B : Type 0} (w : Option (B × List ℕ)) (new : Told) (now : Cpu) (o : Outcome A) (k : A → Rule B) (e : Stop) → Gives new now (Err e) o → GivesAs w new now (Err e) (then_do o k)
 Gives-stop w new now o k (Mem f) h = allows_then w new o k f h
 Gives-stop w new now (Go b m log) k (Stuck c) h = absurd h
 Gives-stop w new now (Halt d log) k (Stuck c) h = h
@@ -228,7 +254,7 @@ speaks_quiet {A} {w} {old} {new} {cpu} {now} {rule} {answer} s = record {
   counts = s.counts;
   vault = s.vault;
   silent = says_quietly w old new answer s.silent;
-  model = λ told m st. gives_quietly w new now answer (rule m) (s.model told m st);
+  model = λ told m st. gives_quietly (with_before w old.transcript) new now answer (rule m) (s.model told m st);
 }
 
 -- two calls in a row serve the two rules in a row
@@ -241,7 +267,7 @@ serves_then {A} {B} {w} {old} {mid} {new} {cpu} {between} {now} {p} k {a} {answe
   counts = counts_trans old mid new answer f.later f.counts s.counts;
   vault = vault_then cpu between now answer f.vault s.vault;
   silent = says_later w old mid new answer f.later f.silent s.silent;
-  model = λ told m st. Gives-then w mid new between now (p m) k a answer (f.model told m st) (λ n sn. s.model (f.later.tells ∙ told) n sn);
+  model = λ told m st. Gives-then (with_before w old.transcript) mid new between now (p m) k a answer (f.model told m st) (λ n sn. gives_later w old mid new now answer (k a n) f.later s.later f.silent (s.model (f.later.tells ∙ told) n sn));
 }
 
 -- the reason of a stop names no rule
@@ -259,7 +285,7 @@ serves_stop {A} {B} {w} {old} {new} {cpu} {now} {p} k {e} f = record {
   counts = tt;
   vault = tt;
   silent = says_quietly w old new (Err e) f.silent;
-  model = λ told m st. Gives-stop w new now (p m) k e (f.model told m st);
+  model = λ told m st. Gives-stop (with_before w old.transcript) new now (p m) k e (f.model told m st);
 }
 
 -- the exit of a `?`

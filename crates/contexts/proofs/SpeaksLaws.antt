@@ -1,5 +1,5 @@
 -- Rules that may say something as the last thing that they do: what follows them, and the access that says.
-use Rattle.std.proofs.Common.{◌≡◌, ℕ, ◌≤◌, Bool, false, List, [], ◌++◌, append_assoc, Option, Some, None, Result, Ok, Err, IsTrue, inl, inr, refl, sym, ◌∙◌, ap, ap₂, subst, arith}
+use Rattle.std.proofs.Common.{◌≡◌, ℕ, ◌≤◌, Bool, false, List, [], ◌∷◌, ◌++◌, append_assoc, Option, Some, None, Result, Ok, Err, IsTrue, inl, inr, refl, sym, ◌∙◌, ap, ap₂, subst, arith}
 use Rattle.std.specs.Result.{IsErrAnd}
 use Rattle.std.proofs.lemmas.Result.{err_from_is_err_and}
 use Rattle.long_names.specs.declared.value.Value.{Value}
@@ -51,7 +51,7 @@ speaks_then {A} {B} {b} {c} {old} {mid} {new} {cpu} {between} {now} {p} k {a} {d
   counts = counts_trans old mid new (Ok d) f.later f.counts s.counts;
   vault = λ may. f.vault (s.vault may);
   silent = silent f.silent;
-  model = λ told m st. Gives-then (Some c) mid new between now (p m) k a (Ok d) (f.model told m st) (λ n sn. s.model (f.later.tells ∙ told) n sn);
+  model = λ told m st. Gives-then (Some (c, old.transcript)) mid new between now (p m) k a (Ok d) (f.model told m st) (λ n sn. s.model (f.later.tells ∙ told) n sn);
 }
   where
     silent : Says (Some b) old mid (Ok a) → Says (Some c) old new (Ok d)
@@ -113,25 +113,25 @@ says_other b c old new (Mem (Said count)) h = h
 says_other b c old new (Mem Memory) h = h
 
 -- a refusal to say something
-said_then : {A B : Type 0} (b : A) (c : B) (new : Told) (o : Outcome A) (k : A → Rule B) → GoesOn c (k b) → WasSaying b new o → WasSaying c new (then_do o k)
-said_then {A} {B} b c new (Go a m log) k rest h = onward (k a m) (subst (λ x. IsGo c (λ s. s.transcript ≡ m.transcript) (k x m)) (sym h.0) (rest.leaves m))
+said_then : {A B : Type 0} (b : A) (c : B) (before : List ℕ) (new : Told) (o : Outcome A) (k : A → Rule B) → GoesOn c (k b) → WasSaying b before new o → WasSaying c before new (then_do o k)
+said_then {A} {B} b c before new (Go a m log) k rest h = onward (k a m) (subst (λ x. IsGo c (λ s. s.transcript ≡ m.transcript) (k x m)) (sym h.0) (rest.leaves m))
   where
-    onward : (o : Outcome B) → IsGo c (λ s. s.transcript ≡ m.transcript) o → WasSaying c new (after log o)
-    onward (Go d s rows) g = (g.0, λ speaks. (let it = h.1 speaks in (it.0, g.1 ∙ it.1)))
+    onward : (o : Outcome B) → IsGo c (λ s. s.transcript ≡ m.transcript) o → WasSaying c before new (after log o)
+    onward (Go d s rows) g = (g.0, λ speaks. (let it = h.1 speaks in (it.0, g.1 ∙ it.1, λ none. it.2 (sym g.1 ∙ none))))
     onward (Halt d rows) g = absurd g
     onward (Spent rows) g = absurd g
-said_then b c new (Halt d log) k rest h = absurd h
-said_then b c new (Spent log) k rest h = absurd h
+said_then b c before new (Halt d log) k rest h = absurd h
+said_then b c before new (Spent log) k rest h = absurd h
 
-gives_said : {A B : Type 0} (b : A) (c : B) (new : Told) (now : Cpu) (o : Outcome A) (k : A → Rule B) (e : Stop) → GoesOn c (k b) → GivesAs (Some b) new now (Err e) o → GivesAs (Some c) new now (Err e) (then_do o k)
-gives_said b c new now o k (Mem (Said count)) rest h = said_then b c new o k rest h
-gives_said b c new now o k (Mem (CoreFull need)) rest h = Gives-stop (Some c) new now o k (Mem (CoreFull need)) h
-gives_said b c new now o k (Mem (WorkFull live room)) rest h = Gives-stop (Some c) new now o k (Mem (WorkFull live room)) h
-gives_said b c new now o k (Mem (WorkFault count)) rest h = tt
-gives_said b c new now o k (Mem (Damaged place name)) rest h = absurd h
-gives_said b c new now o k (Mem NamesSpent) rest h = Gives-stop (Some c) new now o k (Mem NamesSpent) h
-gives_said b c new now o k (Mem Memory) rest h = tt
-gives_said b c new now o k (Stuck d) rest h = Gives-stop (Some c) new now o k (Stuck d) h
+gives_said : {A B : Type 0} (b : A) (c : B) (before : List ℕ) (new : Told) (now : Cpu) (o : Outcome A) (k : A → Rule B) (e : Stop) → GoesOn c (k b) → GivesAs (Some (b, before)) new now (Err e) o → GivesAs (Some (c, before)) new now (Err e) (then_do o k)
+gives_said b c before new now o k (Mem (Said count)) rest h = said_then b c before new o k rest h
+gives_said b c before new now o k (Mem (CoreFull need)) rest h = Gives-stop (Some (c, before)) new now o k (Mem (CoreFull need)) h
+gives_said b c before new now o k (Mem (WorkFull live room)) rest h = Gives-stop (Some (c, before)) new now o k (Mem (WorkFull live room)) h
+gives_said b c before new now o k (Mem (WorkFault count)) rest h = tt
+gives_said b c before new now o k (Mem (Damaged place name)) rest h = absurd h
+gives_said b c before new now o k (Mem NamesSpent) rest h = Gives-stop (Some (c, before)) new now o k (Mem NamesSpent) h
+gives_said b c before new now o k (Mem Memory) rest h = tt
+gives_said b c before new now o k (Stuck d) rest h = Gives-stop (Some (c, before)) new now o k (Stuck d) h
 
 -- A call that stopped, maybe while it said something: the rest, after what it answers then, goes on to c and says nothing.
 pub speaks_stop : {A B : Type 0} {b : A} {c : B} {old new : Told} {cpu now : Cpu} {p : Rule A} (k : A → Rule B) {e : Stop} → Speaks b old cpu new now p (Err e) → GoesOn c (k b) → Speaks c old cpu new now (p >>= k) (Err e)
@@ -143,7 +143,7 @@ speaks_stop {A} {B} {b} {c} {old} {new} {cpu} {now} {p} k {e} f rest = record {
   counts = tt;
   vault = tt;
   silent = says_other b c old new e f.silent;
-  model = λ told m st. gives_said b c new now (p m) k e rest (f.model told m st);
+  model = λ told m st. gives_said b c old.transcript new now (p m) k e rest (f.model told m st);
 }
 
 -- the exit of its `?`
@@ -159,6 +159,14 @@ text_here : (t : Told) (cpu : Cpu) (m : Machine) (of : ℕ) → IsReady t → Is
 text_here t cpu m of ready told st may =
     let it = may.heap told in
     (it.0, part-same m.heap t.heap t.regs t.slots (thinned_here t cpu m ready told st) of text_of ∙ it.1, it.1)
+
+-- what joined a list and left it as it was is empty
+none_joined : (xs ys : List ℕ) → xs ++ ys ≡ xs → ys ≡ []
+none_joined [] ys e = e
+none_joined (x ∷ xs) ys e = none_joined xs ys (tail e)
+  where
+    tail : x ∷ (xs ++ ys) ≡ x ∷ xs → xs ++ ys ≡ xs
+    tail e = cc
 
 same_text : (h : Heap) (v : Value) (xs ys : List ℕ) → part_at h v text_of ≡ Some xs → part_at h v text_of ≡ Some ys → xs ≡ ys
 same_text h v xs ys e f = let same : Some xs ≡ Some ys = sym e ∙ f in cc
@@ -218,20 +226,21 @@ say_refused {Z} {old} {new} {cpu} {f} of ready may x = record {
     silent (Said count) h = λ speaks. (let it = h speaks in (it.0, it.2))
     silent Memory h = h
 
-    saying : (told : IsTrue old.tells) (m : Machine) → Stands old cpu m → SaysRefused (Does (Say of)) old new (Said 0) → WasSaying (tt {0}) new (spoken m (old.regs of) (part_at m.heap (old.regs of) text_of))
+    saying : (told : IsTrue old.tells) (m : Machine) → Stands old cpu m → SaysRefused (Does (Say of)) old new (Said 0) → WasSaying (tt {0}) old.transcript new (spoken m (old.regs of) (part_at m.heap (old.regs of) text_of))
     saying told m st h =
         let it = text_here old cpu m of ready told st may in
-        subst (λ (text : Option (List ℕ)). WasSaying (tt {0}) new (spoken m (old.regs of) text)) (sym it.1) (
+        subst (λ (text : Option (List ℕ)). WasSaying (tt {0}) old.transcript new (spoken m (old.regs of) text)) (sym it.1) (
           refl,
           λ speaks. (
               let spoke = sym x.later.speaks ∙ speaks in
               let said = h spoke in
-              let bytes = same_text old.heap (old.regs of) it.0 (said.0 ++ said.1) it.2 (said.3 told) in
+              let says = said.3 told in
+              let bytes = same_text old.heap (old.regs of) it.0 (said.0 ++ said.1) it.2 says.0 in
               let begun = said.2 ∙ ap (λ (s : List ℕ). s ++ said.0) (st.transcript spoke) in
-              (said.1, ap (λ (s : List ℕ). m.transcript ++ s) bytes ∙ sym (append_assoc m.transcript said.0 said.1) ∙ ap (λ (s : List ℕ). s ++ said.1) (sym begun))),
+              (said.1, ap (λ (s : List ℕ). m.transcript ++ s) bytes ∙ sym (append_assoc m.transcript said.0 said.1) ∙ ap (λ (s : List ℕ). s ++ said.1) (sym begun), λ none. says.1 (sym bytes ∙ none_joined m.transcript it.0 (none ∙ st.transcript spoke)))),
         )
 
-    allows : (told : IsTrue old.tells) (m : Machine) → Stands old cpu m → (f : MemFault) → Refuses old new (Does (Say of)) f → AllowsAs (Some (tt {0})) new f (spoken m (old.regs of) (part_at m.heap (old.regs of) text_of))
+    allows : (told : IsTrue old.tells) (m : Machine) → Stands old cpu m → (f : MemFault) → Refuses old new (Does (Say of)) f → AllowsAs (Some (tt {0}, old.transcript)) new f (spoken m (old.regs of) (part_at m.heap (old.regs of) text_of))
     allows told m st (CoreFull need) r =
         let row = subst (λ n. IsLogged n (rows_at m (old.regs of))) (sym (r.cause.1 told)) (logged_here old cpu m (old.regs of) (ready.whole told) (names_object old of ready told may.names) st) in
         subst (IsLogged need) (sym (log_spoken m (old.regs of) (part_at m.heap (old.regs of) text_of))) row

@@ -19,8 +19,8 @@ use Rattle.long_names.specs.declared.limits.TheConstants.{MACHINE_REGISTERS}
 use Rattle.contexts.specs.declared.stop.Stop.{Stop}
 use Rattle.contexts.specs.declared.stop.Stop.TheVariants.{Stuck}
 use Rattle.contexts.specs.Cache.{IsSound}
-use Rattle.contexts.specs.Serves.{Stands, IsGo, Gives, GivesAs, IsCounted, ServesAs, Serves}
-use Rattle.contexts.proofs.ServesLaws.{fits_later, IsCounted-refl, IsCounted-trans, counts_trans, HasReason-earlier, says_later, says_quietly, Gives-after, serves_then, serves_stop, serves_exit}
+use Rattle.contexts.specs.Serves.{Stands, IsGo, Gives, GivesAs, IsCounted, with_before, ServesAs, Serves}
+use Rattle.contexts.proofs.ServesLaws.{fits_later, IsCounted-refl, IsCounted-trans, counts_trans, HasReason-earlier, says_later, says_quietly, Gives-after, gives_later, serves_then, serves_stop, serves_exit}
 
 -- ---- ends of a rule
 
@@ -47,7 +47,7 @@ register_then {B} {w} {t} {new} {cpu} {now} r k {answer} low s = record {
   counts = s.counts;
   vault = s.vault;
   silent = s.silent;
-  model = λ told m st. Gives-after w new now [] (k (m.regs r) m) answer (subst (λ v. GivesAs w new now answer (k v m)) (sym (st.regs r (ltb-true r MACHINE_REGISTERS low))) (s.model told m st));
+  model = λ told m st. Gives-after (with_before w t.transcript) new now [] (k (m.regs r) m) answer (subst (λ v. GivesAs (with_before w t.transcript) new now answer (k v m)) (sym (st.regs r (ltb-true r MACHINE_REGISTERS low))) (s.model told m st));
 }
 
 -- Registers that a memory cleared. Its own are as it left them.
@@ -86,7 +86,7 @@ numbers_then {B} {w} {t} {new} {cpu} {now} k {answer} s = record {
   counts = s.counts;
   vault = s.vault;
   silent = s.silent;
-  model = λ told m st. Gives-after w new now [] (k m.cpu m) answer (subst (λ n. GivesAs w new now answer (k n m)) (sym st.numbers) (s.model told m st));
+  model = λ told m st. Gives-after (with_before w t.transcript) new now [] (k m.cpu m) answer (subst (λ n. GivesAs (with_before w t.transcript) new now answer (k n m)) (sym st.numbers) (s.model told m st));
 }
 
 -- numbers that don't open the vault
@@ -116,7 +116,7 @@ given_then {A} {B} {w} {t} {new} {cpu} {now} c o k a {answer} e s = record {
   counts = s.counts;
   vault = s.vault;
   silent = s.silent;
-  model = λ told m st. (let P : Option A → Type 0 = λ x. GivesAs w new now answer (then_do (given c x m) k) in subst P (sym (e told)) (Gives-after w new now [] (k a m) answer (s.model told m st)));
+  model = λ told m st. (let P : Option A → Type 0 = λ x. GivesAs (with_before w t.transcript) new now answer (then_do (given c x m) k) in subst P (sym (e told)) (Gives-after (with_before w t.transcript) new now [] (k a m) answer (s.model told m st)));
 }
 
 pub given_stuck : {A B : Type 0} {w : Option B} {t : Told} {cpu now : Cpu} {c : Cause} (o : Option A) (k : A → Rule B) → (IsTrue t.tells → o ≡ None) → ServesAs w t cpu t now (given c o >>= k) (Err (Stuck c))
@@ -285,7 +285,7 @@ read_first {B} {w} {old} {mid} {new} {cpu} {now} {rule} {answer} ready q s = rec
   counts = counts_trans old mid new answer q.later (0, q.counts) s.counts;
   vault = s.vault;
   silent = says_later w old mid new answer q.later q.silent s.silent;
-  model = λ told m st. s.model (q.later.tells ∙ told) m (stands_quietly old mid cpu m ready q told st);
+  model = λ told m st. gives_later w old mid new now answer (rule m) q.later s.later q.silent (s.model (q.later.tells ∙ told) m (stands_quietly old mid cpu m ready q told st));
 }
 
 -- and after it,

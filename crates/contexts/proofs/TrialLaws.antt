@@ -9,7 +9,7 @@ use Rattle.blue_model.specs.declared.cpu.Cpu.{Cpu}
 use Rattle.blue_model.specs.Machine.{Rule, done, pick}
 use Rattle.blue_model.specs.Trials.{failed, where_some, where_true, ◌>>?◌, Primitive, with_arguments, primitive_in}
 use Rattle.contexts.specs.declared.stop.Stop.{Stop}
-use Rattle.contexts.specs.Serves.{GivesAs, ServesAs, Serves}
+use Rattle.contexts.specs.Serves.{GivesAs, with_before, ServesAs, Serves}
 use Rattle.contexts.proofs.ServesLaws.{IsCounted-refl, says_quietly, serves_then, serves_stop, serves_exit}
 
 -- ---- ends
@@ -30,7 +30,7 @@ some_then {A} {w} {t} {new} {cpu} {now} o k a {answer} e s = record {
   counts = s.counts;
   vault = s.vault;
   silent = s.silent;
-  model = λ told m st. (let P : Option A → Type 0 = λ x. GivesAs w new now answer (where_some x k m) in subst P (sym (e told)) (s.model told m st));
+  model = λ told m st. (let P : Option A → Type 0 = λ x. GivesAs (with_before w t.transcript) new now answer (where_some x k m) in subst P (sym (e told)) (s.model told m st));
 }
 
 pub none_fails : {A : Type 0} {w : Option Answer} {t : Told} {cpu : Cpu} (o : Option A) (k : A → Rule Answer) → IsReady t → (IsTrue t.tells → o ≡ None) → ServesAs w t cpu t cpu (where_some o k) (Ok Failed)
@@ -44,7 +44,7 @@ none_fails {A} {w} {t} {cpu} o k ready e =
       counts = s.counts;
       vault = s.vault;
       silent = s.silent;
-      model = λ told m st. (let P : Option A → Type 0 = λ x. GivesAs w t cpu (Ok Failed) (where_some x k m) in subst P (sym (e told)) (s.model told m st));
+      model = λ told m st. (let P : Option A → Type 0 = λ x. GivesAs (with_before w t.transcript) t cpu (Ok Failed) (where_some x k m) in subst P (sym (e told)) (s.model told m st));
     }
 
 -- ---- a test
@@ -58,7 +58,7 @@ true_then {w} {t} {new} {cpu} {now} b p {answer} e s = record {
   counts = s.counts;
   vault = s.vault;
   silent = s.silent;
-  model = λ told m st. (let P : Bool → Type 0 = λ x. GivesAs w new now answer (where_true x p m) in subst P (sym (e told)) (s.model told m st));
+  model = λ told m st. (let P : Bool → Type 0 = λ x. GivesAs (with_before w t.transcript) new now answer (where_true x p m) in subst P (sym (e told)) (s.model told m st));
 }
 
 pub false_fails : {w : Option Answer} {t : Told} {cpu : Cpu} (b : Bool) (p : Rule Answer) → IsReady t → (IsTrue t.tells → b ≡ false) → ServesAs w t cpu t cpu (where_true b p) (Ok Failed)
@@ -72,7 +72,7 @@ false_fails {w} {t} {cpu} b p ready e =
       counts = s.counts;
       vault = s.vault;
       silent = s.silent;
-      model = λ told m st. (let P : Bool → Type 0 = λ x. GivesAs w t cpu (Ok Failed) (where_true x p m) in subst P (sym (e told)) (s.model told m st));
+      model = λ told m st. (let P : Bool → Type 0 = λ x. GivesAs (with_before w t.transcript) t cpu (Ok Failed) (where_true x p m) in subst P (sym (e told)) (s.model told m st));
     }
 
 -- ---- a call that finds one, and then the rest

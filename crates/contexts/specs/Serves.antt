@@ -1,5 +1,5 @@
 -- When what a memory did serves a rule of the model: read this first.
-use Rattle.std.specs.Prelude.{◌≡◌, ℕ, ◌+◌, ◌*◌, ◌<◌, ◌≤◌, ◌⊎◌, pos, Bool, true, false, List, [], ◌∷◌, ◌++◌, Option, Some, None, Result, Ok, Err, IsTrue, OnOk}
+use Rattle.std.specs.Prelude.{◌≡◌, ◌≢◌, ℕ, ◌+◌, ◌*◌, ◌<◌, ◌≤◌, ◌⊎◌, pos, Bool, true, false, List, [], ◌∷◌, ◌++◌, Option, Some, None, Result, Ok, Err, IsTrue, OnOk}
 use Rattle.std.specs.Option.{option_map}
 use Rattle.long_names.specs.Counting.{Rose}
 use Rattle.long_names.specs.Need.{Fits}
@@ -67,22 +67,23 @@ abbrev pub IsStop : {A : Type 0} → Stop → Outcome A → Type 0
 IsStop (Stuck c) (Halt d log) = d ≡ c
 IsStop _ _ = ⊥
 
--- The rule had said what it says, and went on with this answer: of what it has said by then, the memory has said the first part.
-abbrev pub WasSaying : {A : Type 0} → A → Told → Outcome A → Type 0
-WasSaying b new (Go a m log) = (a ≡ b) × (IsTrue new.speaks → (rest : List ℕ) × (m.transcript ≡ new.transcript ++ rest))
-WasSaying b new (Halt c log) = ⊥
-WasSaying b new (Spent log) = ⊥
+-- The rule had said what it says, and went on with this answer: of what it has said by then, the memory has said the first part. It has
+-- said something, since the transcript before was another.
+abbrev pub WasSaying : {A : Type 0} → A → List ℕ → Told → Outcome A → Type 0
+WasSaying b before new (Go a m log) = (a ≡ b) × (IsTrue new.speaks → (rest : List ℕ) × (m.transcript ≡ new.transcript ++ rest) × (m.transcript ≢ before))
+WasSaying b before new (Halt c log) = ⊥
+WasSaying b before new (Spent log) = ⊥
 
--- only where a rule may say something can a memory refuse to say it
-abbrev pub MaySay : {A : Type 0} → Option A → Told → Outcome A → Type 0
+-- only where a rule says something can a memory refuse to say it
+abbrev pub MaySay : {A : Type 0} → Option (A × List ℕ) → Told → Outcome A → Type 0
 MaySay None new o = ⊥
-MaySay (Some b) new o = WasSaying b new o
+MaySay (Some (b, before)) new o = WasSaying b before new o
 
 -- The rule allows a fault, after which this is told: a need that doesn't fit is that of a row of its log, room is missing for an
 -- object that it makes, and names are spent where it says so. Faults of the outside and want of memory may come anywhere. A memory
--- that tells its heap is never damaged. The first argument is None for a rule that says nothing, and Some b for one that may say
--- something as the last thing that it does, and answers b then.
-abbrev pub AllowsAs : {A : Type 0} → Option A → Told → MemFault → Outcome A → Type 0
+-- that tells its heap is never damaged. The first argument is None for a rule that says nothing. For one that may say something as the last
+-- thing that it does it has the answer that the rule gives then, and the transcript before it.
+abbrev pub AllowsAs : {A : Type 0} → Option (A × List ℕ) → Told → MemFault → Outcome A → Type 0
 AllowsAs w new (CoreFull need) o = IsLogged need (log_of o)
 AllowsAs w new (WorkFull live room) o = HasMaking new.heap.next (log_of o)
 AllowsAs w new (WorkFault count) o = Unit {0}
@@ -95,7 +96,7 @@ abbrev pub Allows : {A : Type 0} → Told → MemFault → Outcome A → Type 0
 Allows new f o = AllowsAs None new f o
 
 -- the answer is the rule's, and what is told now stands for its machine; or it is the rule's stop, or a fault that it allows
-abbrev pub GivesAs : {A : Type 0} → Option A → Told → Cpu → Result A Stop → Outcome A → Type 0
+abbrev pub GivesAs : {A : Type 0} → Option (A × List ℕ) → Told → Cpu → Result A Stop → Outcome A → Type 0
 GivesAs w new now (Ok a) o = IsGo a (Stands new now) o
 GivesAs w new now (Err (Stuck c)) o = IsStop (Stuck c) o
 GivesAs w new now (Err (Mem f)) o = AllowsAs w new f o
@@ -151,6 +152,11 @@ Says (Some b) old new answer = SaysLast b old new answer
 
 -- ---- serving
 
+-- what a rule that may say something answers then, with the transcript before it
+abbrev pub with_before : {A : Type 0} → Option A → List ℕ → Option (A × List ℕ)
+with_before None before = None
+with_before (Some b) before = Some (b, before)
+
 -- What was done from old to new, with this answer, serves a rule: for each machine that the memory stood for, the answer is the
 -- rule's, and the memory stands for the rule's next machine. No access was made whose row isn't in the log, since it might have been
 -- refused. A memory that tells no heap serves every rule as far as its own counts and causes go. The first argument is None for what
@@ -163,7 +169,7 @@ pub record ServesAs {A : Type 0} (w : Option A) (old : Told) (cpu : Cpu) (new : 
   -- no rule opens the vault
   pub vault : OnOk answer (IsTrue now.vault → IsTrue cpu.vault)
   pub silent : Says w old new answer
-  pub model : IsTrue old.tells → (m : Machine) → Stands old cpu m → GivesAs w new now answer (rule m)
+  pub model : IsTrue old.tells → (m : Machine) → Stands old cpu m → GivesAs (with_before w old.transcript) new now answer (rule m)
 
 -- it serves a rule that says nothing
 abbrev pub Serves : {A : Type 0} → Told → Cpu → Told → Cpu → Rule A → Result A Stop → Type 0

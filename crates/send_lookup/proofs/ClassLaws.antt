@@ -13,7 +13,7 @@ use Rattle.blue_model.specs.declared.cpu.Cpu.{Cpu}
 use Rattle.blue_model.specs.Machine.{Machine, Rule, looked, ◌>>=◌, look}
 use Rattle.contexts.specs.declared.stop.Stop.{Stop}
 use Rattle.contexts.specs.declared.stop.Stop.TheVariants.{Stuck}
-use Rattle.contexts.specs.Serves.{Gives, GivesAs, ServesAs, Serves}
+use Rattle.contexts.specs.Serves.{Gives, GivesAs, with_before, ServesAs, Serves}
 use Rattle.contexts.proofs.ServesLaws.{serves_stop}
 
 -- ---- rules that come to the same
@@ -26,7 +26,7 @@ serves_same {A} {w} {old} {new} {cpu} {now} {p} {q} {answer} same s = record {
   counts = s.counts;
   vault = s.vault;
   silent = s.silent;
-  model = λ told m st. subst (GivesAs w new now answer) (sym (same m)) (s.model told m st);
+  model = λ told m st. subst (GivesAs (with_before w old.transcript) new now answer) (sym (same m)) (s.model told m st);
 }
 
 -- ---- a look
