@@ -343,6 +343,11 @@ impl ObjectMemory for BoundedMemory {
         self.memory.byte(of, i)
     }
 
+    fn code_byte(&self, of: Reg, place: u32) -> Option<u8> {
+        // in one map nothing is nearer than anything else
+        None
+    }
+
     fn set_byte(&mut self, of: Reg, i: u32, b: u8) -> Result<(), MemFault> {
         self.fits(of)?;
         self.memory.set_byte(of, i, b)

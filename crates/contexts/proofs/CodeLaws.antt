@@ -13,17 +13,17 @@ use Rattle.long_names.specs.declared.object.Object.{Object}
 use Rattle.long_names.specs.Heap.{Heap}
 use Rattle.long_names.specs.declared.object.Body.{Body}
 use Rattle.long_names.specs.declared.object.Body.TheVariants.{Pointers, Words, Bytes, Method}
-use Rattle.long_names.specs.Objects.{bytes_of, len_of}
+use Rattle.long_names.specs.Objects.{bytes_of, literals_of, len_of}
 use Rattle.long_names.specs.State.{object_at, part_at}
 use Rattle.object_memory.specs.Told.{Told, IsReady}
-use Rattle.object_memory.specs.Shape.{IsPartAt, byte_count, literals_count}
+use Rattle.object_memory.specs.Shape.{IsPartAt, byte_count, code_at, literals_count}
 use Rattle.object_memory.proofs.LaterLaws.{IsLater-refl}
 use Rattle.blue_model.specs.declared.cause.Cause.{Cause}
 use Rattle.blue_model.specs.declared.cause.Cause.TheVariants.{Pointer, Shape}
 use Rattle.blue_model.specs.declared.cpu.Cpu.{Cpu}
 use Rattle.blue_model.specs.declared.limits.TheConstants.{LAST_BYTE}
 use Rattle.blue_model.specs.Machine.{Rule, given}
-use Rattle.blue_model.specs.Parts.{code_of, byte_at}
+use Rattle.blue_model.specs.Parts.{Code, code_by, code_of, byte_at}
 use Rattle.blue_model.specs.Contexts.{byte_of}
 use Rattle.contexts.specs.declared.stop.Stop.TheVariants.{Stuck}
 use Rattle.contexts.specs.Places.{code_place, code_index}
@@ -138,6 +138,46 @@ byte_past {t} {cpu} {some} {counted} r ip place n len ready literals is bytes co
 pub byte_none : {t : Told} {cpu : Cpu} {found : Option ℕ} (r : ℕ) (ip : ℤ) → IsReady t → IsPartAt t r literals_count found → found ≡ None → Serves t cpu t cpu (byte_of ip (t.regs r)) (Err (Stuck Shape))
 unfolding byte_of
 byte_none r ip ready literals none = serves_stop (λ x. given Pointer (byte_at ip x)) (part_stuck code_of r ready (code_none literals none))
+
+-- ---- the byte of a number, which was at hand
+
+-- the byte of a number among those of a method
+abbrev numbered : ℕ → Code → Option ℕ
+numbered n code = if nat_le (2 * (code.literals + 1)) n then slice_get code.bytes (n - 2 * (code.literals + 1)) else None
+
+-- the method has code, and the byte in it
+hand_code : (h : Heap) (v : Value) (n byte : ℕ) → part_at h v (code_at n) ≡ Some byte → (code : Code) × (option_and_then code_of (object_at h v) ≡ Some code) × (numbered n code ≡ Some byte)
+unfolding code_of
+hand_code h v n byte e = go (object_at h v) e
+  where
+    of_body : (b : Body) → code_at n b ≡ Some byte → (code : Code) × (option_and_then (code_by (bytes_of b)) (literals_of b) ≡ Some code) × (numbered n code ≡ Some byte)
+    of_body (Pointers values) e = let no : ◌≡◌ {A = Option ℕ} None (Some byte) = e in absurd (cc)
+    of_body (Words words) e = let no : ◌≡◌ {A = Option ℕ} None (Some byte) = e in absurd (cc)
+    of_body (Bytes bytes) e = let no : ◌≡◌ {A = Option ℕ} None (Some byte) = e in absurd (cc)
+    of_body (Method header literals code) e = (record { literals = length literals; bytes = code }, refl, e)
+
+    go : (x : Option Object) → option_and_then (λ (o : Object). code_at n o.body) x ≡ Some byte → (code : Code) × (option_and_then (λ (o : Object). option_and_then (code_by (bytes_of o.body)) (literals_of o.body)) x ≡ Some code) × (numbered n code ≡ Some byte)
+    go None e = let no : ◌≡◌ {A = Option ℕ} None (Some byte) = e in absurd (cc)
+    go (Some o) e = of_body o.body e
+
+-- its number is one that an instruction pointer may have
+hand_byte : (ip : ℤ) (n byte : ℕ) (code : Code) → Some n ≡ code_place ip → numbered n code ≡ Some byte → byte_at ip code ≡ Some byte
+hand_byte (negsuc k) n byte code p e = let no : ◌≡◌ {A = Option ℕ} (Some n) None = p in absurd (cc)
+hand_byte (pos k) n byte code p e = go (nat_le k LAST_BYTE) p
+  where
+    here : (a : Bool) (x : Option ℕ) → (if a then x else None) ≡ Some byte → cond (a && true) x None ≡ Some byte
+    here true x e = e
+    here false x e = e
+
+    go : (c : Bool) → ◌≡◌ {A = Option ℕ} (Some n) (if c then Some k else None) → cond (nat_le (2 * (code.literals + 1)) k && c) (slice_get code.bytes (k - 2 * (code.literals + 1))) None ≡ Some byte
+    go true f = let same : n ≡ k = cc in here (nat_le (2 * (code.literals + 1)) k) (slice_get code.bytes (k - 2 * (code.literals + 1))) (ap (λ (x : ℕ). numbered x code) (sym same) ∙ e)
+    go false f = let no : ◌≡◌ {A = Option ℕ} (Some n) None = f in absurd (cc)
+
+pub hand_serves : {t : Told} {cpu : Cpu} {place : Option ℕ} (r : ℕ) (ip : ℤ) (n byte : ℕ) → IsReady t → place ≡ code_place ip → place ≡ Some n → (IsTrue t.tells → part_at t.heap (t.regs r) (code_at n) ≡ Some byte) → Serves t cpu t cpu (byte_of ip (t.regs r)) (Ok byte)
+unfolding byte_of
+hand_serves {t} {cpu} {place} r ip n byte ready p is answer = told_serves ready (λ told.
+    let code = hand_code t.heap (t.regs r) n byte (answer told) in
+    serves_then (λ x. given Pointer (byte_at ip x)) (part_serves Shape code_of r code.0 ready (λ now. code.1)) (given_serves Pointer _ byte ready (λ now. hand_byte ip n byte code.0 (sym is ∙ p) code.2)))
 
 -- where the number of a byte comes from
 pub place_is : (z : ℤ) (n : ℕ) → Some n ≡ code_place z → pos n ≡ z

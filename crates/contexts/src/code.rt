@@ -14,9 +14,10 @@ use crate::stop::Stop;
 use blue_model::{Cause, Cpu};
 use object_memory::{ObjectMemory, Reg, shape};
 
-/// The byte of a number of the method that a register names, whose length is that of its code. Stuck with Pointer where the method has
-/// none, or there is no number.
-fn byte_of<M: ObjectMemory>(m: &mut M, method: Reg, place: Option<u32>) -> Result<u8, Stop>
+/// The byte of a number of the method that a register names, whose length is that of its code; the method comes in for it. Stuck with
+/// Pointer where the method has none, or there is no number.
+#[cold]
+fn load_byte<M: ObjectMemory>(m: &mut M, method: Reg, place: Option<u32>) -> Result<u8, Stop>
     requires fit { IsFit M.ObjectMemory m.old }
     ensures serves { (cpu : Numbers) (ip : ℤ) → place ≡ code_place ip → Serves (M.told m.old) cpu (M.told m.new) cpu (model.byte_of ip ((M.told m.old).regs method)) result }
     ensures placed { OnOk result (IsSome place) }
@@ -32,6 +33,23 @@ fn byte_of<M: ObjectMemory>(m: &mut M, method: Reg, place: Option<u32>) -> Resul
     };
     let byte = m.byte(method, i)?;
     Ok(byte)
+}
+
+/// The byte of a number of the method that a register names, which comes in for it unless it is at hand. Stuck with Pointer where the
+/// method has none, or there is no number.
+fn byte_of<M: ObjectMemory>(m: &mut M, method: Reg, place: Option<u32>) -> Result<u8, Stop>
+    requires fit { IsFit M.ObjectMemory m.old }
+    ensures serves { (cpu : Numbers) (ip : ℤ) → place ≡ code_place ip → Serves (M.told m.old) cpu (M.told m.new) cpu (model.byte_of ip ((M.told m.old).regs method)) result }
+    ensures placed { OnOk result (IsSome place) }
+    ensures looks { OnOk result (Looks [] (M.told m.old) (M.told m.new)) }
+    ensures fit { StaysFit M.ObjectMemory m.old m.new result }
+{
+    if let Some(number) = place {
+        if let Some(byte) = m.code_byte(method, number) {
+            return Ok(byte);
+        }
+    }
+    load_byte(m, method, place)
 }
 
 /// The byte at the instruction pointer, which goes on by 1 (fetchByte, chapter 28). Stuck with Pointer where it is none of the method's.

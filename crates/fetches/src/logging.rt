@@ -174,6 +174,11 @@ impl<M: ObjectMemory> ObjectMemory for LoggedMemory<M> {
         self.inner.byte(of, i)
     }
 
+    fn code_byte(&self, of: Reg, place: u32) -> Option<u8> {
+        // the method is logged by the calls that answer where this one doesn't
+        None
+    }
+
     fn set_byte(&mut self, of: Reg, i: u32, b: u8) -> Result<(), MemFault> {
         self.note(of);
         self.inner.set_byte(of, i, b)
