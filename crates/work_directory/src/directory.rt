@@ -219,32 +219,25 @@ impl Directory {
                 room: self.room,
             });
         }
-        let at = match self.search(host, slot.name)? {
-            Found::Held { at, .. } => return Err(damaged(at, slot.name)),
-            Found::Vacant { at } => at,
-        };
-        put(host, at, &slot)?;
-        self.held += 1;
-        Ok(())
+        match self.search(host, slot.name)? {
+            Found::Held { at, .. } => Err(damaged(at, slot.name)),
+            Found::Vacant { at } => self.add_at(host, at, slot),
+        }
     }
 
-    /// Adds a name that isn't held at the empty slot where the search for it ended, so that nothing is read. Full as `add`.
+    /// Adds a name that isn't held at the empty slot where the search for it ended, so that nothing is read.
     #[tactic(auto, unfolding(crate::specs::Directory::room_of, crate::specs::Directory::held_of))]
     pub fn add_at<H: Host>(&mut self, host: &mut H, at: u32, slot: Slot) -> Result<(), DiskFault>
         requires stands { HoldsDirectory H.Host host.old self.old }
         requires vacant { EndsAt H.Host host.old self.old slot.name (Found.Vacant at) }
+        requires room { held_of self.old < room_of self.old }
         ensures added { OnOk result (Becomes H.Host host.old host.new self.new (map.insert (entries_in H.Host host.old self.old) slot.name (entry_of slot))) }
         ensures held { OnOk result (held_of self.new ≡ held_of self.old + 1) }
         ensures still { OnErr result (self.new ≡ self.old) }
         ensures room { room_of self.new ≡ room_of self.old }
-        ensures full { held_of self.old ≡ room_of self.old → (result ≡ Err (Full (held_of self.old) (room_of self.old))) × (host.new ≡ host.old) }
         ensures work { IsWorkOnly H.Host host.old host.new }
-        ensures cause { held_of self.old ≢ room_of self.old → IfErr result (IsCause H.Host host.old host.new (end_of self.old) slot.name) }
+        ensures cause { IfErr result (IsCause H.Host host.old host.new (end_of self.old) slot.name) }
     {
-        let Directory { held, room, .. } = *self;
-        if held == room {
-            return Err(DiskFault::Full { held, room });
-        }
         put(host, at, &slot)?;
         self.held += 1;
         Ok(())

@@ -8,7 +8,7 @@ ghost use Rattle.loom_outside.specs.Work.{work_of, IsWorkOnly, IsWorkRead};
 use crate::limits::SLOT_BYTES;
 use byteorder::{BigEndian, ByteOrder};
 use long_names::Name;
-use loom_outside::{DiskFault, Failed, Host, Role};
+use loom_outside::{DiskFault, Host, Role};
 
 /// What a directory has under a name.
 #[derive(Clone, Copy, Debug, PartialEq, Eq)]

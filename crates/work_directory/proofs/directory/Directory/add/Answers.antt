@@ -1,8 +1,13 @@
-use Rattle.std.proofs.Common.{refl}
-use Rattle.work_directory.specs.Directory.{room_of, held_of, slots_of}
+use Rattle.std.proofs.Common.{List, ℕ, sym, subst}
+use Rattle.std.proofs.lemmas.Result.{on_ok_weaker, IfErr-weaker}
+use Rattle.std.specs.FinMap as map
+use Rattle.work_directory.specs.declared.directory.Found.TheVariants.{Vacant}
+use Rattle.work_directory.specs.Directory.{slots_of, end_of, entries_of, AnswersSearch, IsIn, IsChanged}
+use Rattle.work_directory.specs.Table.{entry_of}
+use Rattle.work_directory.specs.Work.{IsCause}
 use Rattle.loom_outside.specs.Work.{work_of}
-use Rattle.work_directory.proofs.CauseLaws.{damaged-cause}
-use Rattle.work_directory.proofs.ChangeLaws.{found-held, some-absent, added}
+use Rattle.work_directory.proofs.CauseLaws.{damaged-cause, cause-later}
+use Rattle.work_directory.proofs.ChangeLaws.{found-held, some-absent}
 use Rattle.loom_outside.proofs.WorkLaws.{work-same}
 use Rattle.work_directory.proofs.directory.Directory.add.Goals as goal
 
@@ -18,13 +23,29 @@ returns-in-Held-clause-cause g c = λ room.
     some-absent _ _ (found-held d (work_of h c.args.host.now) c.args.slot.name c.in-Held.at c.in-Held.slot (c.requires.stands told) of
     here) (c.requires.absent told))
 
-pub returns-clause-added : goal.returns-clause-added
-unfolding room_of held_of
-returns-clause-added g c = λ told.
+pub add_at-requires-clause-stands : goal.add_at-requires-clause-stands
+add_at-requires-clause-stands g c told =
+    subst (IsIn c.args.self.now) (sym (work-same g.H.Host c.args.host.now c.search.new.host c.in_ok-at.ensures.read)) (c.requires.stands told)
+
+pub add_at-requires-clause-vacant : goal.add_at-requires-clause-vacant
+add_at-requires-clause-vacant g c = (
+  (rw c.in-Vacant.is at c.in_ok-at.ensures.name),
+  λ told. subst (λ (w : List ℕ). AnswersSearch w (slots_of c.args.self.now) c.args.slot.name (Vacant c.in-Vacant.at))
+      (sym (work-same g.H.Host c.args.host.now c.search.new.host c.in_ok-at.ensures.read)) (rw c.in-Vacant.is at (c.in_ok-at.ensures.found told)),
+)
+
+pub returns-in-Vacant-clause-added : goal.returns-in-Vacant-clause-added
+returns-in-Vacant-clause-added g c =
     let h = g.H.Host in
     let d = c.args.self.now in
-    let of = rw c.in-Vacant.is at c.in_ok-at.ensures.name in
-    let vacancy = rw c.in-Vacant.is at (c.in_ok-at.ensures.found told) in
-    added d _ (work_of h c.args.host.now) (work_of h c.search.new.host) (work_of h c.put.new.host) c.in-Vacant.at c.args.slot
-    (work-same h c.args.host.now c.search.new.host c.in_ok-at.ensures.read) (c.requires.stands told) refl of.1 of.0
-    (c.in_ok-put.ensures.writes told (slots_of d) of.0) refl vacancy
+    on_ok_weaker c.add_at.result (λ changed told.
+    subst (λ (v : List ℕ). IsChanged c.add_at.new.self (map.insert (entries_of d v) c.args.slot.name (entry_of c.args.slot)) v (work_of h c.add_at.new.host))
+    (work-same h c.args.host.now c.search.new.host c.in_ok-at.ensures.read) (changed told)) c.add_at.ensures.added
+
+pub returns-in-Vacant-clause-cause : goal.returns-in-Vacant-clause-cause
+returns-in-Vacant-clause-cause g c = λ room.
+    let h = g.H.Host in
+    let end = end_of c.args.self.now in
+    IfErr-weaker c.add_at.result (IsCause h c.search.new.host c.add_at.new.host end c.args.slot.name)
+    (IsCause h c.args.host.now c.add_at.new.host end c.args.slot.name)
+    (λ fault. cause-later h c.args.host.now c.search.new.host c.add_at.new.host end c.args.slot.name fault c.in_ok-at.ensures.read.later) c.add_at.ensures.cause
