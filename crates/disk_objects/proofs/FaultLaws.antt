@@ -21,7 +21,7 @@ use Rattle.disk_objects.specs.declared.rest.DiskRest.{DiskRest}
 use Rattle.disk_objects.specs.declared.rest.HeldSlot.{HeldSlot}
 use Rattle.disk_objects.specs.Calls.{IsFault, IsEitherFault, IsSlotsFault}
 use Rattle.disk_objects.specs.Disk.{IsSizeClass, record_size}
-use Rattle.disk_objects.specs.Inside.{IsStepFault, IsStoreFault, IsPlaced, checked_found, held_slot}
+use Rattle.disk_objects.specs.Inside.{IsStepFault, IsStoreFault, IsPlaced, check_place, held_slot}
 use Rattle.disk_objects.specs.Places.{IsReadPlace, IsSlotPlace}
 use Rattle.disk_objects.proofs.StoredLaws.{none-is-some}
 
@@ -85,17 +85,17 @@ high p is = grind (arith, nat_tests)
 
 module _ (name : ℕ) where
   -- what holds of the search's end
-  pub found-end : (P : Found → Type 0) (found : Found) → P found → IfOk (checked_found found name) P
+  pub found-end : (P : Found → Type 0) (found : Found) → P found → IfOk (check_place found name) P
   found-end P (Held at slot) is = either (λ r. IfOk r P) (nat_le slot.place LAST_END) (Ok (Held at slot)) (Err (Damaged (SLOT_BYTES * at) name)) (λ t. is) (λ f. tt)
   found-end P (Vacant at) is = is
 
-  pub found-place : (found : Found) → IfOk (checked_found found name) IsPlaced
+  pub found-place : (found : Found) → IfOk (check_place found name) IsPlaced
   found-place (Held at slot) = either (λ r. IfOk r IsPlaced) (nat_le slot.place LAST_END) (Ok (Held at slot)) (Err (Damaged (SLOT_BYTES * at) name)) (λ t. low slot.place t) (λ f. tt)
   found-place (Vacant at) = tt
 
   pub found-fault : (rest : DiskRest) (tells : Bool) (a c : ℕ) (found : Found) → IsOfName (slots_of rest.directory) name found
       → (IsTrue tells → (e : Entry) → found_entry found ≡ Some e → e.place ≤ LAST_END)
-      → IfErr (checked_found found name) (IsFault tells a c (IsSlotPlace rest) name)
+      → IfErr (check_place found name) (IsFault tells a c (IsSlotPlace rest) name)
   found-fault rest tells a c (Held at slot) of right =
       either (λ r. IfErr r (IsFault tells a c (IsSlotPlace rest) name)) (nat_le slot.place LAST_END) (Ok (Held at slot)) (Err (Damaged (SLOT_BYTES * at) name)) (λ t. tt)
       (λ f. ((λ told. let x = high slot.place f in let y = right told (entry_of slot) refl in omega (arith, x, y)), slot-place rest at of.0, refl))

@@ -21,8 +21,8 @@ use Rattle.work_space.specs.declared.space.Space.{Space}
 use Rattle.disk_objects.specs.declared.rest.DiskRest.{DiskRest}
 use Rattle.disk_objects.specs.declared.rest.Held.{Held}
 use Rattle.disk_objects.specs.declared.rest.HeldSlot.{HeldSlot}
-use Rattle.disk_objects.specs.declared.rest.Sought.{Sought}
-use Rattle.disk_objects.specs.declared.rest.Sought.TheVariants as sought
+use Rattle.disk_objects.specs.declared.rest.FoundObject.{FoundObject}
+use Rattle.disk_objects.specs.declared.rest.FoundObject.TheVariants as found_object
 use Rattle.loom_outside.specs.declared.outside.Host.{Ghosts}
 use Rattle.work_directory.specs.declared.directory.Found.{Found}
 use Rattle.work_directory.specs.declared.directory.Found.TheVariants as found
@@ -106,9 +106,9 @@ IsStepFault tells before now rest raw (fault.Damaged at about) = (IsTrue tells �
 -- ---- slots that searches found
 
 -- what a search found; a slot whose place can't be one is damage there
-abbrev pub checked_found : Found → ℕ → Result Found DiskFault
-checked_found (found.Held at slot) name = if nat_le slot.place LAST_END then Ok (found.Held at slot) else Err (fault.Damaged (SLOT_BYTES * at) name)
-checked_found (found.Vacant at) name = Ok (found.Vacant at)
+abbrev pub check_place : Found → ℕ → Result Found DiskFault
+check_place (found.Held at slot) name = if nat_le slot.place LAST_END then Ok (found.Held at slot) else Err (fault.Damaged (SLOT_BYTES * at) name)
+check_place (found.Vacant at) name = Ok (found.Vacant at)
 
 -- the place of a slot that was found can be one
 abbrev pub IsPlaced : Found → Type 0
@@ -127,22 +127,22 @@ pub record IsHeld (rest : DiskRest) (work : List ℕ) (name : ℕ) (held : Held)
   pub head : IsHead work held.place held.head
 
 -- what was found of a name, vacant where it isn't held
-abbrev pub IsFound : DiskRest → List ℕ → ℕ → Sought → Type 0
-IsFound rest work name (sought.Vacant at) = map.get (entries_of rest.directory work) name ≡ None
-IsFound rest work name (sought.Held held) = IsHeld rest work name held
+abbrev pub IsFound : DiskRest → List ℕ → ℕ → FoundObject → Type 0
+IsFound rest work name (found_object.Vacant at) = map.get (entries_of rest.directory work) name ≡ None
+IsFound rest work name (found_object.Held held) = IsHeld rest work name held
 
 -- the search for the name ends there
-abbrev pub IsSought : {H : Type 0} → Ghosts H → H → DiskRest → ℕ → Sought → Type 0
-IsSought host now rest name (sought.Vacant at) = EndsAt host now rest.directory name (found.Vacant at)
-IsSought host now rest name (sought.Held held) = StandsAt host now rest.directory name held.at
+abbrev pub SearchEnds : {H : Type 0} → Ghosts H → H → DiskRest → ℕ → FoundObject → Type 0
+SearchEnds host now rest name (found_object.Vacant at) = EndsAt host now rest.directory name (found.Vacant at)
+SearchEnds host now rest name (found_object.Held held) = StandsAt host now rest.directory name held.at
 
 pub record IsSizedHeld (held : Held) : Type 0 where
   pub place : held.place ≤ LAST_END
   pub head : IsSizedHead held.head
 
-abbrev pub IsSizedSought : Sought → Type 0
-IsSizedSought (sought.Vacant at) = Unit {0}
-IsSizedSought (sought.Held held) = IsSizedHeld held
+abbrev pub IsSizedFound : FoundObject → Type 0
+IsSizedFound (found_object.Vacant at) = Unit {0}
+IsSizedFound (found_object.Held held) = IsSizedHeld held
 
 -- a disk with one block more, of this place and size class, that no name has
 pub record IsOpen (rest : DiskRest) (work : List ℕ) (objects : Objects) (pending : List ℕ) (spare class : ℕ) : Type 0 where

@@ -1,5 +1,5 @@
 // A disk: what stands in Work of a host stands for a map of objects and a list of pending names.
-ghost use Rattle.std.specs.Prelude.{◌≡◌, ◌≢◌, ◌<◌, ◌≤◌, ◌^◌, ℕ, List, [], ◌∷◌, length, min, Option, None, Some, IsSome, is_some, IsOk, IsTrue, true, IfOk, IfErr, IsErr, OnOk, OnErr, option_map, ◌⊎◌, ◌+◌};
+ghost use Rattle.std.specs.Prelude.{◌≡◌, ◌≢◌, ◌<◌, ◌≤◌, ℕ, List, [], ◌∷◌, length, min, Option, None, Some, IsSome, is_some, IsOk, IsTrue, true, IfOk, IfErr, IsErr, OnOk, OnErr, option_map, ◌⊎◌, ◌+◌};
 ghost use Rattle.std.specs.FinMap as map;
 ghost use Rattle.loom_outside.specs.declared.outside.Role.{Role};
 ghost use Rattle.loom_outside.specs.Outside.{Attached, CanAttach, CanRead, CanWrite, HasCause, IsFresh, PutPrefix, SameBut, Took, TookSome, puts};

@@ -11,7 +11,7 @@ ghost use Rattle.loom_outside.specs.Work.{IsWorkOnly, IsWorkRead, work_of, IsWor
 ghost use Rattle.work_space.specs.Blocks.{AreFew, link_at};
 ghost use Rattle.work_space.specs.Space.{IsSpace, from_of};
 ghost use Rattle.disk_objects.specs.Disk.{IsSizeClass, IsLaid, link_to, record_size, with_count};
-ghost use Rattle.disk_objects.specs.Inside.{IsHead, IsHeadFault, IsLinkFault, IsRecordFault, IsRecordSize, IsSizedHead, IsStoreFault, Stores, Touches, Writes, linked, size_stated_in};
+ghost use Rattle.disk_objects.specs.Inside.{IsHead, IsHeadFault, IsLinkFault, IsRecordFault, IsSizedHead, IsStoreFault, Stores, Touches, Writes, linked, size_stated_in};
 
 use byteorder::{BigEndian, ByteOrder};
 use long_names::{LONGEST_RECORD, Name};

@@ -1,13 +1,12 @@
 // What is known of a disk without its host, and what each call does with a host.
-ghost use Rattle.std.specs.Prelude.{◌≡◌, ◌≢◌, ◌<◌, ◌≤◌, ◌^◌, ◌+ℤ◌, ℕ, List, [], ◌∷◌, pos, unsigned_abs, Option, None, Some, IsSome, IsTrue, true, IfSome, IfOk, IfErr, IsErr, OnOk, OnErr, option_map, is_some, ◌⊎◌, ◌+◌, ◌*◌};
+ghost use Rattle.std.specs.Prelude.{◌≡◌, ◌<◌, ◌≤◌, ◌+ℤ◌, ℕ, List, [], ◌∷◌, pos, unsigned_abs, Option, None, Some, IsSome, IsTrue, true, IfOk, IfErr, IsErr, OnOk, OnErr, option_map, is_some, ◌⊎◌, ◌+◌, ◌*◌};
 ghost use Rattle.std.specs.FinMap as map;
 ghost use Rattle.std.specs.Int.{FitsUnsigned, w64};
 ghost use Rattle.std.specs.Option.{SomeIff};
-ghost use Rattle.long_names.specs.Names.{IsName};
 ghost use Rattle.loom_outside.specs.declared.outside.Role.{Role};
 ghost use Rattle.object_record.specs.Buffer.{HasRecord, raw_of};
 ghost use Rattle.disk_objects.specs.Disk.{link_to};
-ghost use Rattle.disk_objects.specs.Inside.{checked_found, held_slot};
+ghost use Rattle.disk_objects.specs.Inside.{check_place, held_slot};
 ghost use Rattle.work_directory.specs.Directory.{EndsAt, StandsAt, found_entry, Holds, HoldsDirectory, IsChanged, entries_of, slots_of};
 ghost use Rattle.work_directory.specs.Table.{Entry, entry_of};
 ghost use Rattle.loom_outside.specs.Work.{IsWorkOnly, IsWorkRead, work_of};
@@ -48,14 +47,14 @@ pub(crate) struct HeldSlot {
 
 // What was found of a name: where its object stands, or the empty slot where the search for it ended.
 #[derive(Clone, Copy)]
-pub(crate) enum Sought {
+pub(crate) enum FoundObject {
     Held(Held),
     Vacant { at: u32 },
 }
 
 // What a search for a name found. Damage is told of a slot whose place can't be one.
-fn checked_found(found: Found, name: Name) -> Result<Found, DiskFault>
-    ensures { result ≡ checked_found found name }
+fn check_place(found: Found, name: Name) -> Result<Found, DiskFault>
+    ensures { result ≡ check_place found name }
 {
     match found {
         Found::Held { at, slot } => {
@@ -117,7 +116,7 @@ impl DiskRest {
     ghost use Rattle.disk_objects.specs.Calls.{AreHeldNames, CanChange, HoldsObjects, HoldsSuch, IsEitherFault, IsFault, IsGot, IsHeldName, IsIdle, IsPutFault, TookFirst, changed_by, swapped};
     ghost use Rattle.disk_objects.specs.Places.{IsReadPlace, IsSlotPlace};
     ghost use Rattle.disk_objects.specs.Disk.{DiskObject, IsSizeClass, IsDisk, Objects, disk_first, disk_held, disk_room, object_of, record_size};
-    ghost use Rattle.disk_objects.specs.Inside.{IsFound, IsHeld, IsPlaced, IsSizedHeld, IsSizedSought, IsSought, IsStepFault};
+    ghost use Rattle.disk_objects.specs.Inside.{IsFound, IsHeld, IsPlaced, IsSizedFound, IsSizedHeld, IsStepFault, SearchEnds};
 
     pub(crate) fn new(room: u32) -> DiskRest
         requires some { 0 < room }
@@ -160,7 +159,7 @@ impl DiskRest {
         ensures fault { IfErr result (IsFault (H.tells Role.Work) (H.faults host.old Role.Work) (H.faults host.new Role.Work) (IsSlotPlace self.now) name) }
     {
         let found = self.directory.seek(host, name)?;
-        checked_found(found, name)
+        check_place(found, name)
     }
 
     // The slot of a name that is held.
@@ -178,11 +177,11 @@ impl DiskRest {
     }
 
     // Where the object of a name stands, and what the first bytes of its record say.
-    fn look<H: Host>(&self, host: &mut H, name: Name) -> Result<Sought, DiskFault>
+    fn look<H: Host>(&self, host: &mut H, name: Name) -> Result<FoundObject, DiskFault>
         requires stands { HoldsObjects H.Host host.old self.now }
         ensures found { IsTrue (H.tells Role.Work) → IfOk result (IsFound self.now (work_of H.Host host.old) name) }
-        ensures sized { IfOk result IsSizedSought }
-        ensures end { IfOk result (IsSought H.Host host.old self.now name) }
+        ensures sized { IfOk result IsSizedFound }
+        ensures end { IfOk result (SearchEnds H.Host host.old self.now name) }
         ensures read { IsWorkRead H.Host host.old host.new }
         ensures fault { IfErr result (IsFault (H.tells Role.Work) (H.faults host.old Role.Work) (H.faults host.new Role.Work) (IsReadPlace self.now) name) }
     {
@@ -190,14 +189,14 @@ impl DiskRest {
         match found {
             Found::Held { at, slot } => {
                 let head = read_head(host, slot.place, name)?;
-                Ok(Sought::Held(Held {
+                Ok(FoundObject::Held(Held {
                     at,
                     count: slot.count,
                     place: slot.place,
                     head,
                 }))
             }
-            Found::Vacant { at } => Ok(Sought::Vacant { at }),
+            Found::Vacant { at } => Ok(FoundObject::Vacant { at }),
         }
     }
 
@@ -455,10 +454,10 @@ impl DiskRest {
         ensures work { IsWorkOnly H.Host host.old host.new }
         ensures fault { IfErr result (IsPutFault H.Host host.old host.new self.old self.new (raw_of buf.now)) }
     {
-        let sought = self.look(host, buf.name())?;
-        let held = match sought {
-            Sought::Held(held) => held,
-            Sought::Vacant { at } => {
+        let found = self.look(host, buf.name())?;
+        let held = match found {
+            FoundObject::Held(held) => held,
+            FoundObject::Vacant { at } => {
                 let held = self.directory.len();
                 let room = self.directory.room();
                 if held == room {
