@@ -37,6 +37,7 @@ fn load_byte<M: ObjectMemory>(m: &mut M, method: Reg, place: Option<u32>) -> Res
 
 /// The byte of a number of the method that a register names, which comes in for it unless it is at hand. Stuck with Pointer where the
 /// method has none, or there is no number.
+#[inline]
 fn byte_of<M: ObjectMemory>(m: &mut M, method: Reg, place: Option<u32>) -> Result<u8, Stop>
     requires fit { IsFit M.ObjectMemory m.old }
     ensures serves { (cpu : Numbers) (ip : ℤ) → place ≡ code_place ip → Serves (M.told m.old) cpu (M.told m.new) cpu (model.byte_of ip ((M.told m.old).regs method)) result }
@@ -53,6 +54,7 @@ fn byte_of<M: ObjectMemory>(m: &mut M, method: Reg, place: Option<u32>) -> Resul
 }
 
 /// The byte at the instruction pointer, which goes on by 1 (fetchByte, chapter 28). Stuck with Pointer where it is none of the method's.
+#[inline]
 pub fn fetch<M: ObjectMemory>(m: &mut M, cpu: &mut Cpu) -> Result<u8, Stop>
     requires fit { IsFit M.ObjectMemory m.old }
     ensures serves { Serves (M.told m.old) cpu.old (M.told m.new) cpu.new model.fetch result }
