@@ -1,5 +1,5 @@
 -- The words and bytes of a body, and why what an access asks for is there.
-use Rattle.std.proofs.Common.{zero, suc, ◌≡◌, ◌≢◌, ℕ, ℤ, ◌+◌, ◌/◌, ◌%◌, ◌<◌, ◌≤◌, Bool, true, false, cond, eqb, List, [], ◌∷◌, length, take, drop, refl, sym, ◌∙◌, ap, subst, arith, Option, Some, None}
+use Rattle.std.proofs.Common.{zero, suc, ◌≡◌, ◌≢◌, ℕ, ℤ, pos, negsuc, ◌+◌, ◌-◌, ◌*◌, ◌/◌, ◌%◌, ◌<◌, ◌≤◌, Bool, true, false, cond, eqb, nat_le, nat_lt, if◌then◌else◌, List, [], ◌∷◌, length, take, drop, refl, sym, ◌∙◌, ap, subst, arith, Option, Some, None}
 use Rattle.std.proofs.lemmas.Grind.{common_steps}
 use Rattle.std.specs.List.{slice_get}
 use Rattle.std.specs.Option.{option_and_then}
@@ -13,7 +13,7 @@ use Rattle.long_names.specs.Objects.{len_of, words_of, bytes_of, header_of, fiel
 use Rattle.long_names.specs.State.{part_at, object_at as object_of_value}
 use Rattle.object_table.specs.declared.entry.Entry.{Entry}
 use Rattle.object_table.specs.Entries.{place_of}
-use Rattle.core_view.specs.Words.{meant, bytes_in, literals_in, header_in, int_of_short, words_for, most_len, body_in}
+use Rattle.core_view.specs.Words.{meant, bytes_in, literals_in, code_in, header_in, int_of_short, words_for, most_len, body_in}
 use Rattle.core_view.specs.Core.{Core}
 use Rattle.core_view.specs.Held.{Disk, fields_there, object_at}
 use Rattle.core_view.specs.Kept.{IsCore}
@@ -21,8 +21,9 @@ use Rattle.core_view.proofs.Lists.{length-values}
 use Rattle.leaf_lambda.proofs.FillLaws.{all-same}
 use Rattle.leaf_lambda.proofs.MergeLaws.{bytes-get, drop-get, take-at, length-bytes, length-drop-of, length-take-of, literals-length, code-drop}
 use Rattle.object_memory.specs.Told.{Told}
+use Rattle.object_memory.specs.Shape.{code_at}
 use Rattle.loom_memory.specs.Memory.{IsQuiet}
-use Rattle.loom_memory.specs.Bodies.{OfBody, HasRun, LacksRun, bytes_from}
+use Rattle.loom_memory.specs.Bodies.{OfBody, HasRun, LacksRun, bytes_from, code_start, code_from}
 
 -- ---- bodies
 
@@ -161,6 +162,60 @@ get-some [] i low none = omega arith
 get-some (x ∷ xs) zero low none = cc
 get-some (x ∷ xs) (suc i) low none = get-some xs i (omega arith) none
 
+-- ---- code
+
+-- how many literals the header word of a method says
+pub short-literals : (w : ℕ) → w < 65536 → literal_count (int_of_short w) ≡ w / 2 % 64
+short-literals w low = go (nat_lt (w / 2) 16384) refl
+  where
+    go : (b : Bool) → nat_lt (w / 2) 16384 ≡ b → literal_count (if b then pos (w / 2) else negsuc (32767 - w / 2)) ≡ w / 2 % 64
+    go true e = omega arith
+    go false e = let high : 16384 ≤ w / 2 = grind (arith, common_steps) in omega arith
+
+-- a byte of the words behind so many
+bytes-behind : (n : ℕ) (ws : List ℕ) (i : ℕ) → slice_get (bytes_in ws) (2 * n + i) ≡ slice_get (bytes_in (drop n ws)) i
+bytes-behind zero ws i = ap (λ (j : ℕ). slice_get (bytes_in ws) j) (omega arith)
+bytes-behind (suc n) [] i = refl
+bytes-behind (suc n) (w ∷ ws) i = ap (λ (j : ℕ). slice_get (bytes_in (w ∷ ws)) j) (shift n i) ∙ bytes-behind n ws i
+  where
+    shift : (n i : ℕ) → 2 * suc n + i ≡ suc (suc (2 * n + i))
+    shift n i = omega arith
+
+pub code-past : (ws : List ℕ) (len place : ℕ) → length ws ≡ words_for kind.Method len (literal_count (header_in ws)) → code_start ws ≤ place → len ≤ place - code_start ws → code_from ws len place ≡ None
+code-past ws len place long low past =
+    let is : nat_le (code_start ws) place ≡ true = grind (arith, common_steps) in
+    let count = bytes-count ws len (1 + literal_count (header_in ws)) long in
+    ap (λ (b : Bool). if b then slice_get (take len (bytes_in (drop (1 + literal_count (header_in ws)) ws))) (place - code_start ws) else None) is
+    ∙ past-none (take len (bytes_in (drop (1 + literal_count (header_in ws)) ws))) (place - code_start ws) (omega arith)
+
+pub code-found : (ws : List ℕ) (len place byte : ℕ) → code_start ws ≤ place → place - code_start ws < len → slice_get (bytes_in ws) place ≡ Some byte → code_from ws len place ≡ Some byte
+code-found ws len place byte low within found =
+    let is : nat_le (code_start ws) place ≡ true = grind (arith, common_steps) in
+    let n = literal_count (header_in ws) in
+    let same : place ≡ 2 * (1 + literal_count (header_in ws)) + (place - code_start ws) = omega arith in
+    ap (λ (b : Bool). if b then slice_get (take len (bytes_in (drop (1 + literal_count (header_in ws)) ws))) (place - code_start ws) else None) is
+    ∙ byte-among (bytes_in (drop (1 + literal_count (header_in ws)) ws)) len (place - code_start ws) within
+    ∙ sym (bytes-behind (1 + literal_count (header_in ws)) ws (place - code_start ws))
+    ∙ ap (λ (j : ℕ). slice_get (bytes_in ws) j) (sym same)
+    ∙ found
+
+-- of a body
+pub code-is : (entries : ℕ → Entry) (old : List Value) (ws : List ℕ) (k : Kind) (len place : ℕ) → k ≡ kind.Method → length ws ≡ words_for k len (literal_count (header_in ws)) → code_at place (body_in entries old ws k len) ≡ code_from ws len place
+unfolding body_in
+code-is entries old ws kind.Pointers len place is long = cc
+code-is entries old ws kind.Words len place is long = cc
+code-is entries old ws kind.Bytes len place is long = cc
+code-is entries old ws kind.Method len place is long =
+    ap (λ (n : ℕ). if nat_le (2 * (n + 1)) place then slice_get (take len (bytes_in (code_in ws))) (place - 2 * (n + 1)) else None) (length-values (meant entries old) (literals_in ws) ∙ literals-length ws len long)
+    ∙ ap (λ (xs : List ℕ). if nat_le (code_start ws) place then slice_get (take len (bytes_in xs)) (place - code_start ws) else None) (code-drop ws (literal_count (header_in ws)) refl (omega arith))
+
+pub code-none : (entries : ℕ → Entry) (old : List Value) (ws : List ℕ) (k : Kind) (len place : ℕ) → (k ≡ kind.Method → ⊥) → code_at place (body_in entries old ws k len) ≡ None
+unfolding body_in
+code-none entries old ws kind.Pointers len place not = refl
+code-none entries old ws kind.Words len place not = refl
+code-none entries old ws kind.Bytes len place not = refl
+code-none entries old ws kind.Method len place not = absurd (not refl)
+
 -- ---- the body of an entry
 
 -- what holds where the body lies holds of it
@@ -208,6 +263,12 @@ bytes-at c disk s p first core at is = bytes-is c.entries (fields_there (disk (c
 
 pub no-bytes-at : (c : Core) (disk : Disk) (s p : ℕ) → bytes_from (c.entries s).kind (c.chunks p).words ≡ None → bytes_of (object_at c disk (c.entries s) p).body ≡ None
 no-bytes-at c disk s p is = bytes-none c.entries (fields_there (disk (c.entries s).name)) (c.chunks p).words (c.entries s).kind (c.entries s).len is
+
+pub code-at : (c : Core) (disk : Disk) (s p place : ℕ) → IsCore c → place_of (c.entries s).state ≡ Some p → (c.entries s).kind ≡ kind.Method → code_at place (object_at c disk (c.entries s) p).body ≡ code_from (c.chunks p).words (c.entries s).len place
+code-at c disk s p place core at is = code-is c.entries (fields_there (disk (c.entries s).name)) (c.chunks p).words (c.entries s).kind (c.entries s).len place is (core.long s p at)
+
+pub no-code-at : (c : Core) (disk : Disk) (s p place : ℕ) → ((c.entries s).kind ≡ kind.Method → ⊥) → code_at place (object_at c disk (c.entries s) p).body ≡ None
+no-code-at c disk s p place not = code-none c.entries (fields_there (disk (c.entries s).name)) (c.chunks p).words (c.entries s).kind (c.entries s).len place not
 
 pub bytes-room-at : (c : Core) (s p first : ℕ) → IsCore c → place_of (c.entries s).state ≡ Some p → bytes_from (c.entries s).kind (c.chunks p).words ≡ Some first → length (c.chunks p).words ≡ first + ((c.entries s).len + 1) / 2
 bytes-room-at c s p first core at is = bytes-room (c.chunks p).words (c.entries s).kind (c.entries s).len first (core.long s p at) is

@@ -1,13 +1,15 @@
 // Words and bytes of a body in the core.
-ghost use Rattle.std.specs.Prelude.{◌≡◌, ◌+◌, ◌/◌, ◌<◌, ◌≤◌, ◌^◌, ℕ, Some, MatchBool, IfSome, length, drop, slice_get};
+ghost use Rattle.std.specs.Prelude.{◌≡◌, ◌+◌, ◌*◌, ◌/◌, ◌<◌, ◌≤◌, ◌^◌, ℕ, Some, true, MatchBool, IfSome, IsSome, OnSome, length, drop, slice_get};
 ghost use Rattle.std.specs.Option.{option_and_then};
-ghost use Rattle.long_names.specs.Words.{IsSmallInteger};
+ghost use Rattle.long_names.specs.Words.{IsSmallInteger, literal_count};
+ghost use Rattle.long_names.specs.declared.object.Kind.TheVariants as kind;
 ghost use Rattle.long_names.specs.Objects.{words_of, bytes_of, header_of};
-ghost use Rattle.object_table.specs.Entries.{place_of};
+ghost use Rattle.object_memory.specs.Shape.{code_at};
+ghost use Rattle.object_table.specs.Entries.{is_used, place_of};
 ghost use Rattle.core_segment.specs.Segment.{chunk_at};
-ghost use Rattle.core_view.specs.Words.{bytes_in};
+ghost use Rattle.core_view.specs.Words.{bytes_in, header_in, int_of_short, words_for};
 ghost use Rattle.leaf_lambda.specs.Parts.{core_of, IsParts};
-ghost use Rattle.loom_memory.specs.Bodies.{OfBody, HasRun, LacksRun, bytes_from};
+ghost use Rattle.loom_memory.specs.Bodies.{OfBody, HasRun, LacksRun, bytes_from, code_from};
 
 use core_segment::{Addr, Segment};
 use leaf_lambda::Parts;
@@ -130,6 +132,45 @@ pub(crate) fn byte_at(p: &Parts, s: Short, i: u32) -> Option<u8>
             }
             None
         }
+        None => None,
+    }
+}
+
+// The place of a method's first byte of code, by its header word: behind the header and the literals, of two bytes each.
+fn code_first(header: u16) -> u32
+    ensures { result ≡ 2 * (literal_count (int_of_short header) + 1) }
+{
+    2 * u32::from(header / 2 % 64) + 2
+}
+
+// The byte at a place among those of a chunk's words, which are a method with so many bytes of code. None where it isn't one of these.
+fn code_byte(g: &Segment, at: Addr, len: u32, place: u32) -> Option<u8>
+    requires long { length (chunk_at g.now at.place).words ≡ words_for kind.Method len (literal_count (header_in (chunk_at g.now at.place).words)) }
+    ensures { result ≡ code_from (chunk_at g.now at.place).words len place }
+{
+    let first = code_first(g.word(at, 0));
+    if place < first {
+        return None;
+    }
+    if place - first < len {
+        return Some(byte_from(g, at, 0, place));
+    }
+    None
+}
+
+// The byte of a method's code at a place that counts from its header on. None where there is none, or no body.
+pub(crate) fn code_byte_at(p: &Parts, s: Short, place: u32) -> Option<u8>
+    requires parts { IsParts p.now }
+    requires used { is_used ((core_of p.now).entries s.0).state ≡ true }
+    ensures byte { OfBody (core_of p.now) s.0 (λ b. result ≡ code_at place b) }
+    ensures there { OnSome result (IsSome (place_of ((core_of p.now).entries s.0).state)) }
+{
+    let e = p.names.table.entry(s);
+    match e.place() {
+        Some(body) => match e.kind {
+            Kind::Method => code_byte(&p.segment, Addr { place: body }, e.len, place),
+            _ => None,
+        },
         None => None,
     }
 }

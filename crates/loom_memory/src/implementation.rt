@@ -86,6 +86,10 @@ impl<'h, H: Host> ObjectMemory for LoomMemory<'h, H> {
         LoomMemory::byte(self, of, i)
     }
 
+    fn code_byte(&self, of: Reg, place: u32) -> Option<u8> {
+        LoomMemory::code_byte(self, of, place)
+    }
+
     fn set_byte(&mut self, of: Reg, i: u32, b: u8) -> Result<(), MemFault> {
         LoomMemory::set_byte(self, of, i, b)
     }

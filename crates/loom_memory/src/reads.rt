@@ -1,12 +1,13 @@
 // What an object is, and its words and bytes.
-ghost use Rattle.std.specs.Prelude.{◌≡◌, ◌+◌, ◌<◌, ℕ, Some, true, IsTrue, IfOk, OnOk, length};
+ghost use Rattle.std.specs.Prelude.{◌≡◌, ◌+◌, ◌<◌, ◌⊎◌, ℕ, Some, None, true, false, IsTrue, IfSome, IfNone, IfOk, OnOk, length};
 ghost use Rattle.long_names.specs.declared.limits.TheConstants.{MOST_FIELDS};
 ghost use Rattle.object_table.specs.Entries.{is_used};
 ghost use Rattle.leaf_lambda.specs.Parts.{core_of};
 ghost use Rattle.purger.specs.declared.eviction.TheConstants.{NOWHERE};
 
-use crate::bodies::{byte_at, bytes_into, header_at, word_at, words_into};
+use crate::bodies::{byte_at, bytes_into, code_byte_at, header_at, word_at, words_into};
 use crate::memory::LoomMemory;
+use leaf_lambda::fields::is_name;
 use long_names::Kind;
 use loom_outside::Host;
 use object_memory::{MemFault, Reg};
@@ -18,9 +19,11 @@ impl<'h, H: Host> LoomMemory<'h, H> {
     ghost use Rattle.long_names.specs.State.{name_at, part_at, IsRef};
     ghost use Rattle.long_names.specs.Access.{Access, Class, KindOf, Length, Header, Word, Byte, ReadWords, ReadBytes, OfKind, OfNumber, OfSigned, OfRun, Nothing};
     ghost use Rattle.object_memory.specs.Told.{Told, IsReady};
+    ghost use Rattle.object_memory.specs.Shape.{code_at};
     ghost use Rattle.object_memory.specs.Contract.{Accessed, LeavesAll, MayDo, makes};
     ghost use Rattle.object_memory.specs.Fit.{MayCall, StaysCallable};
     ghost use Rattle.loom_memory.specs.Memory.{loom_told, loom_outside, loom_lender, IsSound, IsQuiet, IsSilent, IsRefused};
+    ghost use Rattle.loom_memory.specs.Residents.{is_resident};
     ghost use Rattle.loom_memory.specs.Own.{IsSparing};
     ghost use Rattle.loom_memory.specs.Damage.{IsDamaged};
 
@@ -144,6 +147,20 @@ impl<'h, H: Host> LoomMemory<'h, H> {
             },
             Err(f) => Err(f),
         }
+    }
+
+    /// The byte of a method at a place that counts in bytes from its header on, as an instruction pointer does, where the method is in the
+    /// core. None else, and where no byte of its code is there.
+    pub fn code_byte(&self, of: Reg, place: u32) -> Option<u8>
+        requires { IsSound H.Host self.now }
+        ensures byte { IfSome result (λ byte. IsTrue (loom_told H.Host self.now).tells → part_at (loom_told H.Host self.now).heap ((loom_told H.Host self.now).regs of) (code_at place) ≡ Some byte) }
+        ensures away { IfNone result ((is_resident self.now (name_at ((loom_told H.Host self.now).regs of)) ≡ false) ⊎ (IsTrue (loom_told H.Host self.now).tells → part_at (loom_told H.Host self.now).heap ((loom_told H.Host self.now).regs of) (code_at place) ≡ None)) }
+    {
+        let w = self.word_of(of);
+        if !is_name(w) {
+            return None;
+        }
+        code_byte_at(&self.parts, Short(w), place)
     }
 
     /// A run of words from a place on. An empty run needs the place to be at most the length.
