@@ -7,7 +7,7 @@ ghost use Rattle.blue_model.specs.Forms.{bit};
 ghost use Rattle.blue_model.specs.BitBlt.{put_words};
 ghost use Rattle.contexts.specs.Serves.{Serves, StaysSound};
 ghost use Rattle.forms.specs.declared.form.TheConstants.{HALFTONE_WORDS};
-ghost use Rattle.bitblt.specs.declared.rows.TheConstants.{BUFFER_WORDS};
+ghost use Rattle.bitblt.specs.declared.rows.TheConstants.{BUFFER_WORDS, RUN_WORDS};
 ghost use Rattle.bitblt.specs.Transfers.{Fits, source_pixel, skip_of, run_length, row_words, words_after};
 ghost use Rattle.bitblt.specs.Transfers as transfers;
 ghost use Rattle.bitblt.specs.Blits.{dest_words, source_words, HasRooms, look_at_source, blit_words, IsWritten};
@@ -94,12 +94,14 @@ fn blend_run<M: ObjectMemory>(
     Ok(())
 }
 
-/// Changes a row.
+/// Changes a row. The buffers are for the words of the row that it reads and of the one that it writes.
 fn blend_one<M: ObjectMemory>(
     m: &mut M,
     t: &Transfer,
     halftone: &[u16],
     y: usize,
+    source: &mut [u16],
+    run: &mut [u16],
 ) -> Result<(), Stop>
     requires fit { IsFit M.ObjectMemory m.old }
     requires fits { Fits t.now }
@@ -107,15 +109,15 @@ fn blend_one<M: ObjectMemory>(
     requires row { t.now.top ≤ y }
     requires below { y < t.now.bottom }
     requires halftone { length halftone.now ≡ HALFTONE_WORDS }
+    requires room { length source.old ≡ BUFFER_WORDS }
+    requires run { length run.old ≡ RUN_WORDS }
     ensures serves { (cpu : Numbers) → Serves (M.told m.old) cpu (M.told m.new) cpu (blit_words t.now.has_source ((M.told m.old).regs 14) ((M.told m.old).regs 13) (row_words t.now (source_words t.now.has_source (M.told m.old)) halftone.now (dest_words (M.told m.old)) y)) result }
     ensures written { OnOk result (IsWritten t.now (M.told m.old) (M.told m.new) (row_words t.now (source_words t.now.has_source (M.told m.old)) halftone.now (dest_words (M.told m.old)) y)) }
     ensures fit { StaysFit M.ObjectMemory m.old m.new result }
 {
-    let mut source = [0u16; BUFFER_WORDS];
-    read_source(m, t, y, &mut source)?;
-    let mut run = [0u16; RUN_WORDS];
+    read_source(m, t, y, source)?;
     let count = (t.right - 1) / 16 - t.left / 16 + 1;
-    blend_run(m, t, halftone, &source, y, &mut run[..count])
+    blend_run(m, t, halftone, source, y, &mut run[..count])
 }
 
 /// Whether the words that the row reads begin before those that it writes.
@@ -149,15 +151,17 @@ pub(crate) fn blend_rows<M: ObjectMemory>(
     ensures regs { OnOk result ((M.told m.new).regs ≡ (M.told m.old).regs) }
     ensures fit { StaysFit M.ObjectMemory m.old m.new result }
 {
+    let mut source = [0; BUFFER_WORDS];
+    let mut run = [0; RUN_WORDS];
     for i in 0..t.bottom - t.top {
         let y = t.bottom - 1 - i;
         if reads_before(t, y) {
-            blend_one(m, t, halftone, y)?;
+            blend_one(m, t, halftone, y, &mut source, &mut run)?;
         }
     }
     for y in t.top..t.bottom {
         if !reads_before(t, y) {
-            blend_one(m, t, halftone, y)?;
+            blend_one(m, t, halftone, y, &mut source, &mut run)?;
         }
     }
     Ok(())
