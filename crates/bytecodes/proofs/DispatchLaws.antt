@@ -38,7 +38,3 @@ pub next_serves : {w : Option Step} {old new : Told} {cpu now : Cpu} {p : Rule (
 unfolding then_next
 next_serves (Ok tt) s = serves_then _ s (done_serves s.ready)
 next_serves (Err e) s = serves_stop _ s
-
--- and its answer
-pub after_next : {w : Option Step} {old new : Told} {cpu now : Cpu} {rule : Rule Step} {answer : Result Step Stop} (r : Result (Unit {0}) Stop) → answer ≡ next_by r → ServesAs w old cpu new now rule (next_by r) → ServesAs w old cpu new now rule answer
-after_next {w} {old} {new} {cpu} {now} {rule} r e s = subst (ServesAs w old cpu new now rule) (sym e) s

@@ -1,5 +1,5 @@
 -- Where a bytecode answers that the machine is to be kept, the vault was open before it.
-use Rattle.std.proofs.Common.{◌≡◌, Bool, Result, Ok, Err, IsTrue, refl, sym, ◌∙◌, ap, subst}
+use Rattle.std.proofs.Common.{◌≡◌, Bool, Result, Ok, Err, IsTrue, refl, sym, ◌∙◌, ap}
 use Rattle.blue_model.specs.declared.answer.Answer.{Answer}
 use Rattle.blue_model.specs.declared.answer.Answer.TheVariants.{Done, Failed, Execute, Quit, Keep}
 use Rattle.blue_model.specs.declared.step.Step.{Step}
@@ -8,7 +8,6 @@ use Rattle.blue_model.specs.Primitives.{step_of}
 use Rattle.contexts.specs.declared.stop.Stop.{Stop}
 use Rattle.contexts.specs.Keeping.{is_keep, is_kept, StepsBy}
 use Rattle.devices.proofs.KeepLaws.{shut}
-use Rattle.bytecodes.specs.Steps.{next_by}
 
 -- after a call that didn't open it
 pub keeps_after : (a b : Bool) (r : Result Step Stop) → (IsTrue b → IsTrue a) → StepsBy b r → StepsBy a r
@@ -16,13 +15,6 @@ keeps_after a b (Ok s) f h = λ k. f (h k)
 keeps_after a b (Err e) f h = tt
 
 -- a bytecode after which the next always follows
-pub next_keeps : (b : Bool) {answer : Result Step Stop} (r : Result (Unit {0}) Stop) → answer ≡ next_by r → StepsBy b answer
-next_keeps b {answer} r e = subst (λ x. StepsBy b x) (sym e) (go r)
-  where
-    go : (r : Result (Unit {0}) Stop) → StepsBy b (next_by r)
-    go (Ok tt) = λ k. shut b k
-    go (Err e) = tt
-
 pub goes_next : {b : Bool} → IsTrue (is_kept Next) → IsTrue b
 goes_next {b} k = shut b k
 

@@ -1,5 +1,5 @@
 -- Bytecodes after which the next always follows, how they end, and the activation of a method as an answer.
-use Rattle.std.specs.Prelude.{ℕ, ◌&&◌, ◌||◌, nat_le, IsTrue, Result, Ok, Err}
+use Rattle.std.specs.Prelude.{ℕ, ◌&&◌, ◌||◌, nat_le, Bool, Result, Ok, Err}
 use Rattle.blue_model.specs.declared.answer.Answer.{Answer}
 use Rattle.blue_model.specs.declared.answer.Answer.TheVariants.{Done}
 use Rattle.blue_model.specs.declared.step.Step.{Step}
@@ -8,8 +8,8 @@ use Rattle.blue_model.specs.Machine.{Rule, ◌>>◌, done}
 use Rattle.blue_model.specs.Messages.{activate}
 
 -- a push, a store, a pop, an unconditional jump, or a byte that is unused
-abbrev pub IsPlain : ℕ → Type 0
-IsPlain byte = IsTrue (nat_le byte 119 || ((nat_le 126 byte && nat_le byte 130) || ((nat_le 135 byte && nat_le byte 151) || (nat_le 160 byte && nat_le byte 167))))
+abbrev pub is_plain : ℕ → Bool
+is_plain byte = nat_le byte 119 || ((nat_le 126 byte && nat_le byte 130) || ((nat_le 135 byte && nat_le byte 151) || (nat_le 160 byte && nat_le byte 167)))
 
 abbrev pub next_by : {E : Type 0} → Result (Unit {0}) E → Result Step E
 next_by (Ok u) = Ok Next

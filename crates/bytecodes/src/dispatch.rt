@@ -1,5 +1,5 @@
 // The table of bytecodes, and one step of the machine.
-ghost use Rattle.std.specs.Prelude.{◌≡◌, ◌≤◌, List, Some, Ok, OnOk};
+ghost use Rattle.std.specs.Prelude.{◌≡◌, ◌≤◌, true, false, List, Some, Ok, OnOk};
 ghost use Rattle.object_memory.specs.Told.{IsReady};
 ghost use Rattle.blue_model.specs.declared.event.Line.{Line};
 ghost use Rattle.blue_model.specs.declared.step.Step.TheVariants.{Next};
@@ -8,7 +8,8 @@ ghost use Rattle.blue_model.specs.Cycle as cycle;
 ghost use Rattle.contexts.specs.Serves.{Serves, ServesAs, Speaks, StaysSound, HasRest};
 ghost use Rattle.blue_model.specs.declared.cpu.Cpu.{Cpu as Numbers};
 ghost use Rattle.blue_model.specs.Machine as machine;
-ghost use Rattle.bytecodes.specs.Steps.{IsPlain, next_by};
+ghost use Rattle.bytecodes.specs.Steps as steps;
+ghost use Rattle.bytecodes.specs.Steps.{next_by};
 ghost use Rattle.object_memory.specs.Calls.{IsFit};
 ghost use Rattle.contexts.specs.Calls.{StaysFit};
 ghost use Rattle.contexts.specs.Keeping.{StepsBy};
@@ -30,21 +31,18 @@ use event_file::EventList;
 use long_names::{MACHINE_REGISTERS, Name, REGISTERS};
 use object_memory::{ObjectMemory, Reg};
 
-/// What was done, after which the next bytecode follows.
-fn next(done: Result<(), Stop>) -> Result<Step, Stop>
-    ensures { result ≡ next_by done }
+/// Whether a byte says a push, a store, a pop or an unconditional jump, or is unused.
+fn is_plain(byte: u8) -> bool
+    ensures { result ≡ steps.is_plain byte }
 {
-    match done {
-        Ok(()) => Ok(Step::Next),
-        Err(stop) => Err(stop),
-    }
+    matches!(byte, 0..=119 | 126..=130 | 135..=151 | 160..=167)
 }
 
 /// Does what a byte says that is a push, a store, a pop, an unconditional jump or unused: rows of the table of bytecodes, each with its
 /// name in the book.
 fn plain_bytecode<M: ObjectMemory>(m: &mut M, cpu: &mut Cpu, byte: u8) -> Result<(), Stop>
     requires fit { IsFit M.ObjectMemory m.old }
-    requires plain { IsPlain byte }
+    requires plain { steps.is_plain byte ≡ true }
     ensures serves { (events : List Line) → ServesAs (Some Next) (M.told m.old) cpu.old (M.told m.new) cpu.new (model.bytecode events byte) (next_by result) }
     ensures fit { StaysFit M.ObjectMemory m.old m.new result }
 {
@@ -95,15 +93,15 @@ fn plain_bytecode<M: ObjectMemory>(m: &mut M, cpu: &mut Cpu, byte: u8) -> Result
     }
 }
 
-/// Does what a byte says (dispatchOnThisBytecode, chapter 28): the table of bytecodes, each row with its name in the book. The
-/// rows after which the next bytecode always follows are those of `plain_bytecode`, so that each of the two has one place for its result.
-pub(crate) fn bytecode<M: ObjectMemory>(
+/// Does what a byte says (dispatchOnThisBytecode, chapter 28): the other rows of the table of bytecodes, each with its name in the book.
+fn bytecode<M: ObjectMemory>(
     m: &mut M,
     cpu: &mut Cpu,
     events: &EventList,
     byte: u8,
 ) -> Result<Step, Stop>
     requires fit { IsFit M.ObjectMemory m.old }
+    requires other { steps.is_plain byte ≡ false }
     ensures serves { Speaks Next (M.told m.old) cpu.old (M.told m.new) cpu.new (model.bytecode events.now byte) result }
     ensures keeps { StepsBy cpu.old.vault result }
     ensures fit { StaysFit M.ObjectMemory m.old m.new result }
@@ -178,8 +176,7 @@ pub(crate) fn bytecode<M: ObjectMemory>(
         224..=239 => send_literal(m, cpu, events, u32::from(byte - 224), 1),
         // sendLiteralSelectorBytecode: with two
         240..=255 => send_literal(m, cpu, events, u32::from(byte - 240), 2),
-        // a push, a store, a pop, an unconditional jump, or unused
-        _ => next(plain_bytecode(m, cpu, byte)),
+        _ => unreachable!(),
     }
 }
 
@@ -205,6 +202,11 @@ pub fn step<M: ObjectMemory>(m: &mut M, cpu: &mut Cpu, events: &EventList) -> Re
     ensures fit { StaysFit M.ObjectMemory m.old m.new result }
 {
     let byte = fetch(m, cpu)?;
+    if is_plain(byte) {
+        plain_bytecode(m, cpu, byte)?;
+        rest(m);
+        return Ok(Step::Next);
+    }
     let step = bytecode(m, cpu, events, byte)?;
     rest(m);
     Ok(step)

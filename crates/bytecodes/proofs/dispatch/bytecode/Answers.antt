@@ -4,8 +4,7 @@ use Rattle.blue_model.specs.Contexts.{jump, pop, pop_top}
 use Rattle.blue_model.specs.Machine.{halt, known, register}
 use Rattle.blue_model.specs.Sends.{special_send}
 use Rattle.blue_model.specs.declared.cause.Cause.TheVariants.{Unused}
-use Rattle.bytecodes.proofs.DispatchLaws.{after_next, dispatched}
-use Rattle.bytecodes.proofs.KeepLaws.{next_keeps}
+use Rattle.bytecodes.proofs.DispatchLaws.{dispatched}
 use Rattle.contexts.proofs.Steps.{halt_serves}
 use Rattle.long_names.specs.Names.{FALSE, NIL, TRUE}
 use Rattle.long_names.specs.State.{RECEIVER}
@@ -106,9 +105,3 @@ returns-in-224-to-239-clause-serves g c = dispatched c.args.events.now c.args.by
 pub returns-in-240-to-255-clause-serves : goal.returns-in-240-to-255-clause-serves
 unfolding bytecodes
 returns-in-240-to-255-clause-serves g c = dispatched c.args.events.now c.args.byte 44 (from_to 240 255 (λ i. send_literal c.args.events.now i 2)) (omega arith) refl refl (grind arith) (omega arith) (rw c.from-in-240-to-255.ensures at c.send_literal-in-240-to-255.ensures.serves)
-
-pub returns-in_default-clause-serves : goal.returns-in_default-clause-serves
-returns-in_default-clause-serves g c = after_next _ c.next.ensures (c.plain_bytecode.ensures.serves c.args.events.now)
-
-pub returns-in_default-clause-keeps : goal.returns-in_default-clause-keeps
-returns-in_default-clause-keeps g c = next_keeps _ _ c.next.ensures

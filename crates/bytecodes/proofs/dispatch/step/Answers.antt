@@ -2,11 +2,27 @@ use Rattle.blue_model.specs.Cycle.{is_message, step}
 use Rattle.contexts.proofs.ServesLaws.{serves_then, serves_exit}
 use Rattle.contexts.proofs.Steps.{done_serves}
 use Rattle.contexts.proofs.SpeaksLaws.{speaks_then, speaks_exit, goes_done, goes_clear, goes_then}
+use Rattle.bytecodes.proofs.KeepLaws.{goes_next}
 use Rattle.bytecodes.proofs.dispatch.step.Goals as goal
 
 pub returns-in_err-byte-clause-serves : goal.returns-in_err-byte-clause-serves
 unfolding step
 returns-in_err-byte-clause-serves g c = serves_exit _ _ c.in_err-byte.ensures.serves c.from_residual.ensures.1
+
+pub returns-in_err-plain_bytecode-clause-serves : goal.returns-in_err-plain_bytecode-clause-serves
+unfolding step
+returns-in_err-plain_bytecode-clause-serves g c =
+    serves_then _ c.in_ok-byte.ensures.serves
+    (speaks_exit _ _ (c.in_err-plain_bytecode.ensures.serves c.args.events.now) (goes_then _ (goes_clear is_message) goes_done) c.from_residual-in_err-plain_bytecode.ensures.1)
+
+pub returns-then-is_plain-clause-serves : goal.returns-then-is_plain-clause-serves
+unfolding step
+returns-then-is_plain-clause-serves g c =
+    serves_then _ c.in_ok-byte.ensures.serves
+    (speaks_then _ (c.in_ok-plain_bytecode.ensures.serves c.args.events.now) (serves_then _ (c.rest.ensures.serves _) (done_serves c.rest.ensures.fit.ready)) (λ e. e))
+
+pub returns-then-is_plain-clause-keeps : goal.returns-then-is_plain-clause-keeps
+returns-then-is_plain-clause-keeps g c = goes_next
 
 pub returns-in_err-step-clause-serves : goal.returns-in_err-step-clause-serves
 unfolding step
@@ -15,7 +31,7 @@ returns-in_err-step-clause-serves g c = serves_then _ c.in_ok-byte.ensures.serve
 pub returns-clause-serves : goal.returns-clause-serves
 unfolding step
 returns-clause-serves g c =
-    serves_then _ c.in_ok-byte.ensures.serves (speaks_then _ c.in_ok-step.ensures.serves (serves_then _ (c.rest.ensures.serves _) (done_serves c.rest.ensures.fit.ready)) (λ e. e))
+    serves_then _ c.in_ok-byte.ensures.serves (speaks_then _ c.in_ok-step.ensures.serves (serves_then _ (c.rest-2.ensures.serves _) (done_serves c.rest-2.ensures.fit.ready)) (λ e. e))
 
 pub returns-clause-keeps : goal.returns-clause-keeps
 returns-clause-keeps g c = λ k. c.in_ok-byte.ensures.serves.vault (c.in_ok-step.ensures.keeps k)
