@@ -1,9 +1,10 @@
--- Right words, a right image, right events, room, and no fault give the model's own end.
+-- Right words, a right image, right events, room, and no fault give the model's own end; and right words of a making and no fault its image.
 use Rattle.std.proofs.Common.{◌≡◌, ℕ, ◌≤◌, ◌++◌, Bool, false, List, Option, None, Some, nat_lt, IsTrue, inl, refl, sym, ◌∙◌, ap, subst, append_assoc, arith}
 use Rattle.std.specs.Prelude.{IsFalse}
 use Rattle.std.proofs.lemmas.Bool.Decides.{nat_tests}
+use Rattle.long_names.specs.Counting.{Rose}
 use Rattle.loom_outside.specs.declared.outside.Role.{Role}
-use Rattle.loom_outside.specs.declared.outside.Role.TheVariants.{Image, Events, Work}
+use Rattle.loom_outside.specs.declared.outside.Role.TheVariants.{Image, Events, Work, Saved, Notes}
 use Rattle.image_format.specs.Heads.{opening_at, opening_text, stated_text}
 use Rattle.image_format.specs.Rules.{first_break, break}
 use Rattle.image_format.specs.Text.{records_below}
@@ -12,12 +13,13 @@ use Rattle.image_format.proofs.Openings.{opening_again}
 use Rattle.image_reader.specs.Loaded.{full_of, too_many}
 use Rattle.event_file.specs.Text.{IsBadAt}
 use Rattle.event_file.proofs.OneReading.{none-bad}
-use Rattle.loom_run.specs.Completes.{CanEnd, IsOwnEnd}
+use Rattle.loom_run.specs.Completes.{CanEnd, IsMadeOf, IsOwnEnd}
+use Rattle.loom_run.specs.Makes.{Makes}
 use Rattle.loom_run.specs.Ends.{IsRightImage, bytes_of}
 use Rattle.loom_run.specs.Meanings.{Meanings}
 use Rattle.loom_run.specs.Promise.{EndsAt, Promise}
 use Rattle.loom_run.specs.Stages.{Stage, Opening, Reading, Listening, Making, Running, Finishing, Saving, Drawing, Telling, Ends}
-use Rattle.loom_run.specs.Words.{Row, asks_make, bad_word, row_of}
+use Rattle.loom_run.specs.Words.{MakeRow, Row, asks_make, bad_word, make_of, row_of}
 use Rattle.loom_run.specs.declared.status.Status.{Status}
 use Rattle.loom_run.specs.declared.status.Status.TheVariants as answer
 use Rattle.loom_run.proofs.HeadlineLaws.{made-never}
@@ -125,3 +127,16 @@ module _ (tells : Role → Bool) (before now : Meanings) (row : Row) (image : Is
 pub completes_from : (tells : Role → Bool) (before now : Meanings) (words : List (List ℕ)) (result : Status) → IsTrue (tells Image) → IsTrue (tells Events) → IsTrue (tells Work) → IsFalse (asks_make words) → bad_word words ≡ None → Promise tells before now words result
     → CanEnd (bytes_of (now.roles Image)) (bytes_of (now.roles Events)) (row_of words) before.faults now.faults → IsOwnEnd result
 completes_from tells before now words result image events work run right p can = let e = p.ends run right in completes tells before now (row_of words) image events work can e.0 result e.1
+
+-- ---- a making
+
+made : (tells : Role → Bool) (before now : Meanings) (row : MakeRow) (result : Status) → Makes tells before now row result → ((role : Role) → Rose (before.faults role) (now.faults role) → ⊥) → IsMadeOf row.number result
+made tells before now row (answer.Made objects) m still = m.answer
+made tells before now row (answer.WriteFault Saved count) m still = absurd (still Saved m.cause.1)
+made tells before now row (answer.WriteFault Notes count) m still = absurd (still Notes m.cause.1)
+made tells before now row answer.OutOfMemory m still = tt
+made tells before now row _ m still = absurd m.answer
+
+pub made_from : (tells : Role → Bool) (before now : Meanings) (words : List (List ℕ)) (result : Status) → IsTrue (asks_make words) → bad_word words ≡ None → Promise tells before now words result → ((role : Role) → Rose (before.faults role) (now.faults role) → ⊥)
+    → IsMadeOf (make_of words).number result
+made_from tells before now words result asks right p still = made tells before now (make_of words) result (p.makes asks right) still

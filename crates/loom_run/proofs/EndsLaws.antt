@@ -62,6 +62,7 @@ module _ (tells : Role → Bool) (before : Meanings) (row : Row) where
       ran = refused.ran;
       cause = cause-since status before.faults mid.faults now.faults since refused.cause;
       whole = refused.whole;
+      limits = refused.limits;
       attached = uses.attached;
       unused = λ role none. inr (uses.unused role none);
       judges_image = judged.judges_image;
@@ -123,7 +124,7 @@ module _ (tells : Role → Bool) (before : Meanings) (row : Row) where
 
   -- where no memory was made
   pub ends-making : (now : Meanings) (state : Words) (heap : Heap) (lines : List Line) → Came tells before now row Making state heap lines → RunEnds tells before now row answer.OutOfMemory
-  ends-making now state heap lines came = ends-with now now Making answer.OutOfMemory came.uses.later came.uses (came.uses.unused Notes refl) record { answer = tt; of_run = tt; ran = tt; cause = tt; whole = λ work damaged. damaged } record {
+  ends-making now state heap lines came = ends-with now now Making answer.OutOfMemory came.uses.later came.uses (came.uses.unused Notes refl) record { answer = tt; of_run = tt; ran = tt; cause = tt; whole = λ work damaged. damaged; limits = tt } record {
     judges_image = λ image at. absurd (cc);
     right_image = λ image work past. right (bytes_of (now.roles Image)) state heap ((came.read image).1 work);
     judges_events = λ events at. absurd (cc);

@@ -60,7 +60,7 @@ said-earlier z (Stuck reason count said) = refl
 abbrev AreBounds : Row → Option Bounds → Type 0
 AreBounds row o = ForBounds o (λ b. (b.core ≡ row.core) × (b.entries ≡ row.entries) × (b.room ≡ row.room))
 
-bounds-later : (row : Row) (a b : Option Bounds) → AreBounds row a → SameBounds a b → AreBounds row b
+pub bounds-later : (row : Row) (a b : Option Bounds) → AreBounds row a → SameBounds a b → AreBounds row b
 bounds-later row None b has same = absurd has
 bounds-later row (Some x) None has same = absurd same
 bounds-later row (Some x) (Some y) has same = (same.0 ∙ has.0, same.1 ∙ has.1, same.2 ∙ has.2)
@@ -122,21 +122,21 @@ module _ (old new : Told) (row : Row) (ran : ℕ) (c : Course) (later : IsLater 
 
 -- ---- the answer of a fault
 
-module _ {H : Type 0} (host : Ghosts H) (m n : LoomMemory H) (row : Row) (ran : ℕ) (few : ran ≤ row.steps) where
+module _ {H : Type 0} (host : Ghosts H) (m n : LoomMemory H) (row : Row) (ran : ℕ) (few : ran ≤ row.steps) (bounds : HasBounds row (loom_told host n)) where
   pub refused-by : (f : MemFault) → HasFault (loom_told host m) (loom_told host n) f → IsRefusal host.tells (meanings host m.disk.host.now) (meanings host n.disk.host.now) row Running (status_by_fault f ran)
   unfolding loom_told
-  refused-by (fault.CoreFull need) h = record { answer = tt; of_run = tt; ran = few; cause = tt; whole = λ work damaged. damaged }
-  refused-by (fault.WorkFull live room) h = record { answer = tt; of_run = tt; ran = tt; cause = tt; whole = λ work damaged. damaged }
-  refused-by (fault.WorkFault count) h = record { answer = tt; of_run = tt; ran = tt; cause = (sym h.0, h.1); whole = λ work damaged. damaged }
-  refused-by (fault.Damaged place name) h = record { answer = tt; of_run = tt; ran = tt; cause = tt; whole = λ work damaged. h work }
-  refused-by fault.NamesSpent h = record { answer = tt; of_run = tt; ran = few; cause = tt; whole = λ work damaged. damaged }
-  refused-by (fault.Said count) h = record { answer = tt; of_run = λ e. cc; ran = tt; cause = (sym h.0, h.1); whole = λ work damaged. damaged }
-  refused-by fault.Memory h = record { answer = tt; of_run = tt; ran = tt; cause = tt; whole = λ work damaged. damaged }
+  refused-by (fault.CoreFull need) h = record { answer = tt; of_run = tt; ran = few; cause = tt; whole = λ work damaged. damaged; limits = fits-row row (loom_told host n).bounds need.words need.entries bounds h }
+  refused-by (fault.WorkFull live room) h = record { answer = tt; of_run = tt; ran = tt; cause = tt; whole = λ work damaged. damaged; limits = full-row _ row (loom_told host n).bounds live room bounds h }
+  refused-by (fault.WorkFault count) h = record { answer = tt; of_run = tt; ran = tt; cause = (sym h.0, h.1); whole = λ work damaged. damaged; limits = tt }
+  refused-by (fault.Damaged place name) h = record { answer = tt; of_run = tt; ran = tt; cause = tt; whole = λ work damaged. h work; limits = tt }
+  refused-by fault.NamesSpent h = record { answer = tt; of_run = tt; ran = few; cause = tt; whole = λ work damaged. damaged; limits = tt }
+  refused-by (fault.Said count) h = record { answer = tt; of_run = λ e. cc; ran = tt; cause = (sym h.0, h.1); whole = λ work damaged. damaged; limits = tt }
+  refused-by fault.Memory h = record { answer = tt; of_run = tt; ran = tt; cause = tt; whole = λ work damaged. damaged; limits = tt }
 
   pub refused-running : (why : Reason) → HaltsBy (loom_told host m) (loom_told host n) why → IsRefusal host.tells (meanings host m.disk.host.now) (meanings host n.disk.host.now) row Running (status_by why ran)
-  refused-running (ByStop (stop.Stuck cause)) h = record { answer = tt; of_run = tt; ran = few; cause = tt; whole = λ work damaged. damaged }
+  refused-running (ByStop (stop.Stuck cause)) h = record { answer = tt; of_run = tt; ran = few; cause = tt; whole = λ work damaged. damaged; limits = tt }
   refused-running (ByStop (stop.Mem f)) h = refused-by f h.cause
-  refused-running NoMemory h = record { answer = tt; of_run = tt; ran = tt; cause = tt; whole = λ work damaged. damaged }
+  refused-running NoMemory h = record { answer = tt; of_run = tt; ran = tt; cause = tt; whole = λ work damaged. damaged; limits = tt }
 
 -- ---- the other roles
 
@@ -185,8 +185,8 @@ module _ {H : Type 0} (host : Ghosts H) (m n : LoomMemory H) (row : Row) (ran : 
   unfolding loom_told
   refused-lost (fault.CoreFull need) lost h = absurd lost
   refused-lost (fault.WorkFull live room) lost h = absurd lost
-  refused-lost (fault.WorkFault count) lost h = record { answer = tt; of_run = tt; ran = tt; cause = (sym h.0, h.1); whole = λ work damaged. damaged }
-  refused-lost (fault.Damaged place name) lost h = record { answer = tt; of_run = tt; ran = tt; cause = tt; whole = λ work damaged. h work }
+  refused-lost (fault.WorkFault count) lost h = record { answer = tt; of_run = tt; ran = tt; cause = (sym h.0, h.1); whole = λ work damaged. damaged; limits = tt }
+  refused-lost (fault.Damaged place name) lost h = record { answer = tt; of_run = tt; ran = tt; cause = tt; whole = λ work damaged. h work; limits = tt }
   refused-lost fault.NamesSpent lost h = absurd lost
   refused-lost (fault.Said count) lost h = absurd lost
   refused-lost fault.Memory lost h = absurd lost

@@ -63,13 +63,13 @@ module _ {H : Type 0} (host : Ghosts H) (old mid new : H) (states : SameBut Imag
   judged-disk room (disk.Full held most) told fresh h = (h.0, h.1, subst (λ b. full_of room b ≡ Some held) (sym (bytes-reading told fresh)) (h.2 told))
   judged-disk room (disk.Damaged place name) told fresh h = tt
 
-  pub refused-disk : (row : Row) (room : ℕ) (f : DiskFault) → IsLoadFault host mid new room (load.Disk f) → IsRefusal host.tells (meanings host old) (meanings host new) row Reading (status_by_disk f)
-  refused-disk row room (disk.Work count) h = record { answer = tt; of_run = tt; ran = tt; cause = (h.0, rose-from (host.faults old Work) (host.faults mid Work) (host.faults new Work) (faults Work (λ e. cc)) h.1); whole = λ work damaged. damaged }
-  refused-disk row room (disk.Full held most) h = record { answer = tt; of_run = tt; ran = tt; cause = tt; whole = λ work damaged. damaged }
-  refused-disk row room (disk.Damaged place name) h = record { answer = tt; of_run = tt; ran = tt; cause = tt; whole = λ work damaged. h work }
+  pub refused-disk : (row : Row) (room : ℕ) (f : DiskFault) → room ≡ row.room → IsLoadFault host mid new room (load.Disk f) → IsRefusal host.tells (meanings host old) (meanings host new) row Reading (status_by_disk f)
+  refused-disk row room (disk.Work count) same h = record { answer = tt; of_run = tt; ran = tt; cause = (h.0, rose-from (host.faults old Work) (host.faults mid Work) (host.faults new Work) (faults Work (λ e. cc)) h.1); whole = λ work damaged. damaged; limits = tt }
+  refused-disk row room (disk.Full held most) same h = record { answer = tt; of_run = tt; ran = tt; cause = tt; whole = λ work damaged. damaged; limits = (h.0 ∙ same, subst (λ most. most < held) same h.1) }
+  refused-disk row room (disk.Damaged place name) same h = record { answer = tt; of_run = tt; ran = tt; cause = tt; whole = λ work damaged. h work; limits = tt }
 
   pub refused-read : (row : Row) (room count : ℕ) → IsLoadFault host mid new room (load.Read count) → IsRefusal host.tells (meanings host old) (meanings host new) row Reading (answer.ReadFault Image count)
-  refused-read row room count h = record { answer = tt; of_run = λ e. cc; ran = tt; cause = (h.0, (let rose = h.1 in omega (arith, later, rose))); whole = λ work damaged. damaged }
+  refused-read row room count h = record { answer = tt; of_run = λ e. cc; ran = tt; cause = (h.0, (let rose = h.1 in omega (arith, later, rose))); whole = λ work damaged. damaged; limits = tt }
 
 -- ---- an image is saved: a role is attached, and then it is put
 
@@ -92,12 +92,12 @@ module _ {H : Type 0} (host : Ghosts H) (old mid new : H) (states : SameBut Save
   file-saving = others Work (λ e. cc) ∙ states Work (λ e. cc)
 
   pub refused-saving : (row : Row) (f : DiskFault) → writer.IsDiskFault host mid new f → IsRefusal host.tells (meanings host old) (meanings host new) row Saving (status_by_disk f)
-  refused-saving row (disk.Work count) h = record { answer = tt; of_run = tt; ran = tt; cause = (h.0, rose-from (host.faults old Work) (host.faults mid Work) (host.faults new Work) (faults Work (λ e. cc)) h.1); whole = λ work damaged. damaged }
+  refused-saving row (disk.Work count) h = record { answer = tt; of_run = tt; ran = tt; cause = (h.0, rose-from (host.faults old Work) (host.faults mid Work) (host.faults new Work) (faults Work (λ e. cc)) h.1); whole = λ work damaged. damaged; limits = tt }
   refused-saving row (disk.Full held most) h = absurd h
-  refused-saving row (disk.Damaged place name) h = record { answer = tt; of_run = tt; ran = tt; cause = tt; whole = λ work damaged. h work }
+  refused-saving row (disk.Damaged place name) h = record { answer = tt; of_run = tt; ran = tt; cause = tt; whole = λ work damaged. h work; limits = tt }
 
   pub refused-put : (row : Row) (count : ℕ) → (count ≡ host.faults new Saved) × Rose (host.faults mid Saved) (host.faults new Saved) → IsRefusal host.tells (meanings host old) (meanings host new) row Saving (answer.WriteFault Saved count)
-  refused-put row count h = record { answer = tt; of_run = λ e. cc; ran = tt; cause = (h.0, (let rose = h.1 in omega (arith, later, rose))); whole = λ work damaged. damaged }
+  refused-put row count h = record { answer = tt; of_run = λ e. cc; ran = tt; cause = (h.0, (let rose = h.1 in omega (arith, later, rose))); whole = λ work damaged. damaged; limits = tt }
 
 -- ---- a line that is bad
 

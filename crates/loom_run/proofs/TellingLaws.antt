@@ -82,6 +82,7 @@ module _ (mid now : Meanings) (leaves : LeavesBut (Notes ∷ []) mid now) where
     ran = at.ran;
     cause = cause-now status before.faults of_run at.cause;
     whole = at.whole;
+    limits = at.limits;
     attached = attached;
     unused = unused;
     judges_image = λ image here. subst (λ (s : RoleState). JudgesImage (tells Work) status row.room (bytes_of s)) (sym (same Image (λ e. cc))) (at.judges_image image here);
@@ -145,6 +146,7 @@ module _ (tells : Role → Bool) (before now : Meanings) (row : Row) (rose : Ros
     ran = tt;
     cause = (refl, rose);
     whole = λ work damaged. damaged;
+    limits = tt;
     attached = at.attached;
     unused = at.unused;
     judges_image = λ image here. absurd (cc);

@@ -173,8 +173,8 @@ module _ (tells : Role → Bool) (before : Meanings) (row : Row) (state : Words)
 
 -- an answer of a run that went through is no refusal
 pub finished-refusal : {tells : Role → Bool} (now : Meanings) (row : Row) (status : Status) → IsFinished status → HasRun status row.steps → IsRefusal tells now now row Telling status
-finished-refusal now row (answer.Done ran) fin ran_is = record { answer = tt; of_run = tt; ran = ran_is; cause = tt; whole = λ work damaged. damaged }
-finished-refusal now row (answer.Quit ran) fin ran_is = record { answer = tt; of_run = tt; ran = ran_is; cause = tt; whole = λ work damaged. damaged }
+finished-refusal now row (answer.Done ran) fin ran_is = record { answer = tt; of_run = tt; ran = ran_is; cause = tt; whole = λ work damaged. damaged; limits = tt }
+finished-refusal now row (answer.Quit ran) fin ran_is = record { answer = tt; of_run = tt; ran = ran_is; cause = tt; whole = λ work damaged. damaged; limits = tt }
 finished-refusal now row (answer.Made objects) fin ran_is = absurd fin
 finished-refusal now row (answer.Usage word) fin ran_is = absurd fin
 finished-refusal now row (answer.ImageBad rule place) fin ran_is = absurd fin

@@ -1,7 +1,7 @@
--- When a run comes to the model's own end.
-use Rattle.std.specs.Prelude.{ℕ, ◌≤◌, List}
+-- When a run comes to the model's own end, and a making to its image.
+use Rattle.std.specs.Prelude.{◌≡◌, ℕ, ◌≤◌, List}
 use Rattle.long_names.specs.Counting.{Rose}
-use Rattle.long_names.specs.Heap.{Heap}
+use Rattle.long_names.specs.Heap.{Heap, object_count}
 use Rattle.long_names.specs.Need.{Fits}
 use Rattle.loom_outside.specs.declared.outside.Role.{Role}
 use Rattle.image_format.specs.declared.opening.ImageHead.{ImageHead}
@@ -13,7 +13,8 @@ use Rattle.machine_run.specs.States.{model_state}
 use Rattle.loom_run.specs.Ends.{AreEvents, IsImageOf, IsRightImage}
 use Rattle.loom_run.specs.Words.{Row}
 use Rattle.loom_run.specs.declared.status.Status.{Status}
-use Rattle.loom_run.specs.declared.status.Status.TheVariants.{Done, Quit, Stuck, NamesSpent, OutOfMemory}
+use Rattle.loom_gen.specs.Generated.{generated}
+use Rattle.loom_run.specs.declared.status.Status.TheVariants.{Done, Quit, Made, Stuck, NamesSpent, OutOfMemory}
 
 -- each row of a course fits the core, and at each of its makings as many objects live as there is room for
 pub record HasRoom (row : Row) (c : Course) : Type 0 where
@@ -35,3 +36,9 @@ IsOwnEnd (Stuck cause ran) = Unit {0}
 IsOwnEnd (NamesSpent ran) = Unit {0}
 IsOwnEnd OutOfMemory = Unit {0}
 IsOwnEnd _ = ⊥
+
+-- the image of the number was made, or memory was wanted
+abbrev pub IsMadeOf : ℕ → Status → Type 0
+IsMadeOf number (Made objects) = objects ≡ object_count (generated number)
+IsMadeOf number OutOfMemory = Unit {0}
+IsMadeOf number _ = ⊥

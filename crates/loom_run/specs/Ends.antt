@@ -40,6 +40,13 @@ IsCaused (WriteFault role count) before now = (count ≡ now role) × Rose (befo
 IsCaused (WorkFault count) before now = (count ≡ now Work) × Rose (before Work) (now Work)
 IsCaused _ before now = Unit {0}
 
+-- What is refused for want of room is past a limit of the words, over any host: the need doesn't fit the core or the entries, and more objects
+-- live, or are stated, than there is room for.
+abbrev pub IsPastLimits : Row → Status → Type 0
+IsPastLimits row (CoreFull ran need) = Fits row.core row.entries need.words need.entries → ⊥
+IsPastLimits row (WorkFull live room) = (room ≡ row.room) × (row.room < live)
+IsPastLimits row _ = Unit {0}
+
 abbrev pub IsDamaged : Status → Type 0
 IsDamaged (Damaged place name) = Unit {0}
 IsDamaged _ = ⊥

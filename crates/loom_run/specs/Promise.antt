@@ -4,7 +4,7 @@
 use Rattle.std.specs.Prelude.{◌≡◌, ◌⊎◌, ℕ, ◌≤◌, Bool, List, [], ◌∷◌, None, Some, IfSome, IsTrue, IsFalse, IsSome}
 use Rattle.loom_outside.specs.declared.outside.Role.{Role}
 use Rattle.loom_outside.specs.declared.outside.Role.TheVariants.{Image, Events, Work, Notes}
-use Rattle.loom_run.specs.Ends.{AttachedOnce, IsCaused, IsDamaged, IsRightImage, WasRead, AreEvents, JudgesImage, JudgesEvents, HasRun, RunOf, RunsTo, NotedBy, bytes_of, word_for}
+use Rattle.loom_run.specs.Ends.{AttachedOnce, IsCaused, IsDamaged, IsPastLimits, IsRightImage, WasRead, AreEvents, JudgesImage, JudgesEvents, HasRun, RunOf, RunsTo, NotedBy, bytes_of, word_for}
 use Rattle.loom_run.specs.Makes.{HasBegunFor, Makes}
 use Rattle.loom_run.specs.Meanings.{Meanings, IsLeft, LeavesBut}
 use Rattle.loom_run.specs.Stages.{Stage, Opening, Reading, Listening, Running, Ends, passes, reaches, stage_of}
@@ -22,6 +22,8 @@ pub record EndsAt (tells : Role → Bool) (before now : Meanings) (row : Row) (s
   -- A fault is answered only where it rose in this run, and with its count. Over a host that tells Work nothing is damaged.
   pub cause : IsCaused result before.faults now.faults
   pub whole : IsTrue (tells Work) → IsDamaged result → ⊥
+  -- Want of room comes only past a limit that the words state.
+  pub limits : IsPastLimits row result
   -- Each role is attached at most once, by its own word, when its stage comes; before that nothing is done with it.
   pub attached : (role : Role) → IsTrue (tells role) → IsTrue (reaches (stage_of role) stage)
       → IfSome (word_for row role) (λ text. AttachedOnce text (before.roles role) (now.roles role))

@@ -18,7 +18,7 @@ use Rattle.blue_model.specs.Logs.{Course}
 use Rattle.blue_model.specs.Endings.{OnParked, OnDrawn, IsParkedBy, said_in}
 use Rattle.machine_run.specs.States.{model_state, state_held}
 use Rattle.machine_run.specs.declared.running.Finished.{Finished}
-use Rattle.loom_run.specs.Ends.{AreEvents, AttachedOnce, HasRun, IsCaused, IsDamaged, IsImageOf, SaysStopped, Stops, WasRead, bytes_of, head_of, image_of, word_for}
+use Rattle.loom_run.specs.Ends.{AreEvents, AttachedOnce, HasRun, IsCaused, IsDamaged, IsImageOf, IsPastLimits, SaysStopped, Stops, WasRead, bytes_of, head_of, image_of, word_for}
 use Rattle.loom_run.specs.Makes.{Makes}
 use Rattle.loom_run.specs.Meanings.{Meanings, IsLeft}
 use Rattle.loom_run.specs.Promise.{EndsAt}
@@ -57,6 +57,7 @@ pub record IsRefusal (tells : Role → Bool) (before now : Meanings) (row : Row)
   pub ran : HasRun status row.steps
   pub cause : IsCaused status before.faults now.faults
   pub whole : IsTrue (tells Work) → IsDamaged status → ⊥
+  pub limits : IsPastLimits row status
 
 -- ---- what was read
 

@@ -13,12 +13,19 @@ ghost use Rattle.blue_model.specs.Loaded.{HasLoaded, start_on_kept};
 ghost use Rattle.blue_model.specs.Logs.{course};
 ghost use Rattle.blue_model.specs.Machine.{Machine, LogRow, Go, at_rest};
 ghost use Rattle.blue_model.specs.State.{begin, no_state, state_of};
+ghost use Rattle.contexts.specs.declared.stop.Stop.TheVariants.{Mem};
+ghost use Rattle.long_names.specs.Counting.{Rose};
+ghost use Rattle.loom_memory.specs.declared.memory.LoomMemory.{LoomMemory};
+ghost use Rattle.loom_memory.specs.Memory.{loom_told};
+ghost use Rattle.machine_run.specs.Run.{HaltsBy};
 ghost use Rattle.machine_run.specs.States.{model_state};
+ghost use Rattle.machine_run.specs.declared.running.Reason.TheVariants.{ByStop};
+ghost use Rattle.object_memory.specs.declared.fault.MemFault.TheVariants.{Memory};
 ghost use Rattle.loom_run.specs.Base.{base_bytes, text_of_ending};
 ghost use Rattle.loom_outside.specs.declared.outside.Role.{Role};
 ghost use Rattle.loom_outside.specs.declared.outside.Role.TheVariants.{Image, Events, Work};
 ghost use Rattle.loom_run.specs.declared.status.Status.{Status};
-ghost use Rattle.loom_run.specs.Completes.{CanEnd, IsOwnEnd};
+ghost use Rattle.loom_run.specs.Completes.{CanEnd, IsMadeOf, IsOwnEnd};
 ghost use Rattle.loom_run.specs.Ends.{IsImageOf, bytes_of, head_of, image_of};
 ghost use Rattle.loom_run.specs.Headline.{HeadlineBy, SmallBy, TellsHeadline};
 ghost use Rattle.loom_run.specs.Meanings.{Meanings};
@@ -26,6 +33,8 @@ ghost use Rattle.loom_run.specs.Promise.{Promise};
 ghost use Rattle.loom_run.specs.Refusals.{CameTo, LeavesFiles, role_of};
 ghost use Rattle.loom_run.specs.Status.{usage_of};
 ghost use Rattle.loom_run.specs.Words.{IsMake, IsRow, asks_make, bad_word, make_of, row_of};
+
+use loom_outside::Host;
 
 /// The base image as bytes, before two bytecodes and after them: its context's instruction pointer is field 1, 3 and then 5.
 pub fn base_text()
@@ -58,6 +67,18 @@ pub fn no_object_is_larger_than_the_core()
 pub fn a_run_comes_to_its_end()
     ensures { (tells : Role → Bool) (before now : Meanings) (words : List (List ℕ)) (result : Status) → IsTrue (tells Image) → IsTrue (tells Events) → IsTrue (tells Work) → IsFalse (asks_make words) → bad_word words ≡ None
         → Promise tells before now words result → CanEnd (bytes_of (now.roles Image)) (bytes_of (now.roles Events)) (row_of words) before.faults now.faults → IsOwnEnd result }
+{}
+
+/// Right words of a making and no fault give Made, with as many objects as the image of the number has, or want of memory.
+pub fn a_making_comes_to_its_end()
+    ensures { (tells : Role → Bool) (before now : Meanings) (words : List (List ℕ)) (result : Status) → IsTrue (asks_make words) → bad_word words ≡ None → Promise tells before now words result
+        → ((role : Role) → Rose (before.faults role) (now.faults role) → ⊥) → IsMadeOf (make_of words).number result }
+{}
+
+/// No cycle wants memory, over any host: whatever a run over the memory of two levels ends with, it isn't that. Want of memory comes in reading, in
+/// making the memory, in drawing and in saving.
+pub fn no_cycle_wants_memory<H: Host>()
+    ensures { (m n : LoomMemory H) → HaltsBy (loom_told H.Host m) (loom_told H.Host n) (ByStop (Mem Memory)) → ⊥ }
 {}
 
 /// No answer of a run but Usage comes at once: the role that it is about was attached before it, or the last one that a run attaches before it can come

@@ -6,7 +6,7 @@ use Rattle.loom_run.specs.Command.{row_for}
 use Rattle.loom_run.specs.Meanings.{meanings}
 use Rattle.loom_run.specs.Stages.{Running}
 use Rattle.loom_run.specs.Steps.{IsRefusal, WasStopped}
-use Rattle.loom_run.proofs.MachineLaws.{file-left, outside-leaves, refused-running, was-stopped, went-through}
+use Rattle.loom_run.proofs.MachineLaws.{bounds-later, file-left, outside-leaves, refused-running, was-stopped, went-through}
 use Rattle.loom_run.proofs.MemoryLaws.{begins-run, keeps-state}
 use Rattle.loom_run.proofs.machine.run_machine.Goals as goal
 
@@ -56,4 +56,4 @@ returns-in-Err-clause-refused g c =
     let n = c.whole_run.new.m in
     let row = row_for c.args.command.now in
     subst (λ status. IsRefusal g.H.Host.tells (meanings g.H.Host m.disk.host.now) (meanings g.H.Host n.disk.host.now) row Running status) (sym c.status_of.ensures)
-    (refused-running g.H.Host m n row c.in-Err.halted.ran c.in-Err.ensures.ran c.in-Err.halted.why c.in-Err.ensures.fault)
+    (refused-running g.H.Host m n row c.in-Err.halted.ran c.in-Err.ensures.ran (bounds-later row (loom_told g.H.Host m).bounds (loom_told g.H.Host n).bounds c.requires.bounds c.whole_run.ensures.later.bounds) c.in-Err.halted.why c.in-Err.ensures.fault)

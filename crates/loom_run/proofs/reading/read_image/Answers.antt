@@ -1,5 +1,5 @@
 -- Attached and then loaded: a step of the host, and one of the disk.
-use Rattle.std.proofs.Common.{sym, ◌∙◌, subst}
+use Rattle.std.proofs.Common.{refl, sym, ◌∙◌, subst}
 use Rattle.image_memory.proofs.ImageLaws.{image-is}
 use Rattle.loom_run.specs.Command.{row_for}
 use Rattle.loom_run.specs.Ends.{JudgesImage, bytes_of}
@@ -42,7 +42,7 @@ pub returns-in-Err-Disk-clause-refused : goal.returns-in-Err-Disk-clause-refused
 returns-in-Err-Disk-clause-refused g c =
     subst (λ status. IsRefusal g.H.Host.tells (meanings g.H.Host c.args.disk.now.host.now) (meanings g.H.Host c.load.new.disk.host.now) (row_for c.args.command.now) Reading status) (sym c.status_of_disk.ensures)
     (refused-disk g.H.Host c.args.disk.now.host.now c.open_image.new.disk.host.now c.load.new.disk.host.now c.open_image.ensures.others c.open_image.ensures.other_faults c.open_image.ensures.later c.load.ensures.loading
-    (row_for c.args.command.now) c.args.command.now.room c.in-Err-Disk.fault (rw c.in-Err-Disk.field-0-is at c.in-Err-Disk.ensures.fault))
+    (row_for c.args.command.now) c.args.command.now.room c.in-Err-Disk.fault refl (rw c.in-Err-Disk.field-0-is at c.in-Err-Disk.ensures.fault))
 
 pub returns-in-Err-Read-clause-refused : goal.returns-in-Err-Read-clause-refused
 returns-in-Err-Read-clause-refused g c =
