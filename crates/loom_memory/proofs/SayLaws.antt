@@ -1,5 +1,5 @@
 -- What an object says: pieces that join the transcript one after the other, and what a refusal leaves of them.
-use Rattle.std.proofs.Common.{zero, suc, ◌≡◌, ◌≢◌, ℕ, ◌+◌, ◌≤◌, Bool, true, false, List, [], ◌∷◌, ◌++◌, length, take, drop, Option, Some, None, Ok, IsTrue, refl, sym, ◌∙◌, ap, subst, add-zero, arith}
+use Rattle.std.proofs.Common.{zero, suc, ◌≡◌, ◌≢◌, ℕ, ◌+◌, ◌≤◌, ◌<◌, Bool, true, false, List, [], ◌∷◌, ◌++◌, length, take, drop, Option, Some, None, Ok, IsTrue, refl, sym, ◌∙◌, ap, subst, add-zero, arith}
 use Rattle.std.proofs.Math.Path.{fun_ext}
 use Rattle.std.proofs.Math.Seq.{take-add}
 use Rattle.std.proofs.lemmas.List.{append_assoc, append-nil, take-append-drop}
@@ -100,9 +100,22 @@ faults-below None (Some b) x = absurd x
 faults-below (Some a) None x = absurd x
 faults-below (Some a) (Some b) x = x.4
 
+no-run : (n i : ℕ) → ◌≡◌ {A = List ℕ} (take n (drop i [])) []
+no-run zero zero = refl
+no-run zero (suc i) = refl
+no-run (suc n) zero = refl
+no-run (suc n) (suc i) = refl
+
+-- an object has bytes where a run of them has
+pub some-bytes : (all run : List ℕ) (i : ℕ) → run ≡ take (length run) (drop i all) → 0 < length run → all ≢ []
+some-bytes all run i is some = λ none.
+    let empty : run ≡ [] = is ∙ ap (λ (xs : List ℕ). take (length run) (drop i xs)) none ∙ no-run (length run) i in
+    let long : length run ≡ 0 = ap length empty in
+    absurd (omega (arith, long, some))
+
 -- a prefix of it was said
 pub said-refused : (t u w v : Told) (of k count : ℕ) → SameBounds t.bounds u.bounds → IsSaid t w of k → IsReady t → v ≡ refused w (Said count) → t.refusals ≤ counted t.refusals → ForBounds w.bounds (λ b. b.said_faults ≡ count) → Rose (said_faults u.bounds) (said_faults w.bounds)
-    → (IsTrue t.tells → (all : List ℕ) × (said_by t.heap t.regs (Say of) ≡ Some all)) → IsRefused t v (Say of) (Said count)
+    → (IsTrue t.tells → (all : List ℕ) × (said_by t.heap t.regs (Say of) ≡ Some all) × (all ≢ [])) → IsRefused t v (Say of) (Said count)
 said-refused t u w v of k count quiet said ready is later is_count rose there =
     let text : List ℕ = option_map_or (λ (x : List ℕ). x) (said_by t.heap t.regs (Say of)) [] in
     let left = left-ready t w.bounds w.cache said.cache ready in
@@ -123,7 +136,8 @@ said-refused t u w v of k count quiet said ready is later is_count rose there =
               part.joined,
               λ told.
                   let all = there told in
-                  all.1 ∙ ap Some (sym (ap (λ (x : Option (List ℕ)). part.bytes ++ drop k (option_map_or (λ (y : List ℕ). y) x [])) all.1 ∙ ap (λ (x : List ℕ). x ++ drop k all.0) (part.first told all.0 all.1) ∙ take-append-drop k all.0)),
+                  let whole : part.bytes ++ drop k text ≡ all.0 = ap (λ (x : Option (List ℕ)). part.bytes ++ drop k (option_map_or (λ (y : List ℕ). y) x [])) all.1 ∙ ap (λ (x : List ℕ). x ++ drop k all.0) (part.first told all.0 all.1) ∙ take-append-drop k all.0 in
+                  (all.1 ∙ ap Some (sym whole), λ none. all.2 (sym whole ∙ none)),
             );
         left = record { regs = refl; slots = refl; heap = λ told. IsThinner-refl t.heap; ready = record { whole = left.whole; marked = left.marked; cached = left.cached }; cache = said.cache };
       },

@@ -70,6 +70,7 @@ impl<'h, H: Host> LoomMemory<'h, H> {
     fn say_piece(&mut self, of: Reg, i: u32, run: &[u8]) -> Result<(), MemFault>
         requires sound { IsSound H.Host self.old }
         requires text { IsTrue (H.tells Role.Work) → (all : List ℕ) × (said_by (loom_told H.Host self.old).heap (loom_told H.Host self.old).regs (Say of) ≡ Some all) × (run.now ≡ take (length run.now) (drop i all)) }
+        requires some { 0 < length run.now }
         ensures said { OnOk result ((t : Told) → IsSaid t (loom_told H.Host self.old) of i → IsSaid t (loom_told H.Host self.new) of (i + length run.now)) }
         ensures err { IfErr result (λ f. (t : Told) → IsReady t → IsSaid t (loom_told H.Host self.old) of i → IsRefused t (loom_told H.Host self.new) (Say of) f) }
         ensures undamaged { IfErr result IsUndamaged }
@@ -99,6 +100,7 @@ impl<'h, H: Host> LoomMemory<'h, H> {
         requires text { IsText H.Host self.old of s.0 }
         requires within { i + count ≤ ((core_of self.old.parts).entries s.0).len }
         requires long { length piece.old ≡ count }
+        requires some { 0 < count }
         ensures said { OnOk result ((t : Told) → IsSaid t (loom_told H.Host self.old) of i → IsSaid t (loom_told H.Host self.new) of (i + count)) }
         ensures err { IfErr result (λ f. (t : Told) → IsReady t → IsSaid t (loom_told H.Host self.old) of i → IsRefused t (loom_told H.Host self.new) (Say of) f) }
         ensures undamaged { IfErr result IsUndamaged }
@@ -118,6 +120,7 @@ impl<'h, H: Host> LoomMemory<'h, H> {
         requires text { IsText H.Host self.old of s.0 }
         requires within { i + count ≤ ((core_of self.old.parts).entries s.0).len }
         requires few { count ≤ 256 }
+        requires some { 0 < count }
         ensures said { OnOk result ((t : Told) → IsSaid t (loom_told H.Host self.old) of i → IsSaid t (loom_told H.Host self.new) of (i + count)) }
         ensures err { IfErr result (λ f. (t : Told) → IsReady t → IsSaid t (loom_told H.Host self.old) of i → IsRefused t (loom_told H.Host self.new) (Say of) f) }
         ensures undamaged { IfErr result IsUndamaged }

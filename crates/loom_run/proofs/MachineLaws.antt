@@ -115,7 +115,7 @@ module _ (old new : Told) (row : Row) (ran : ℕ) (c : Course) (later : IsLater 
         let part = s.0 in
         let rest = s.1 in
         let now : new.transcript ≡ old.transcript ++ (c.said ran ++ part) = s.2 ∙ append_assoc old.transcript (c.said ran) part in
-        (ran, part, rest, h.before, now, append_cancel_left old.transcript (c.said (ran + 1)) ((c.said ran ++ part) ++ rest) (s.3 ∙ ap (λ t. t ++ rest) now ∙ append_assoc old.transcript (c.said ran ++ part) rest));
+        (ran, part, rest, h.before, now, append_cancel_left old.transcript (c.said (ran + 1)) ((c.said ran ++ part) ++ rest) (s.3 ∙ ap (λ t. t ++ rest) now ∙ append_assoc old.transcript (c.said ran ++ part) rest), λ none. s.4 (ap (λ t. old.transcript ++ t) none));
   }
   was-stopped (ByStop (stop.Mem fault.Memory)) h by = absurd (bounded row new.bounds at by.cause)
   was-stopped NoMemory h by = record { stops = on-parked-earlier old.transcript (λ m. Unit {0}) c.ending h.0; says = λ speaks. h.1 speaks ∙ said-earlier old.transcript c.ending }

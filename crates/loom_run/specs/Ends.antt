@@ -1,5 +1,5 @@
 -- What a run leaves of the roles of its host, by the stage at which it ended and its answer.
-use Rattle.std.specs.Prelude.{◌≡◌, ℕ, ◌+◌, ◌≤◌, ◌<◌, List, [], ◌++◌, take, length, Bool, true, false, ◌⊎◌, Err, None, Some, IfSome, IsTrue, Option}
+use Rattle.std.specs.Prelude.{◌≡◌, ◌≢◌, ℕ, ◌+◌, ◌≤◌, ◌<◌, List, [], ◌++◌, take, length, Bool, true, false, ◌⊎◌, Err, None, Some, IfSome, IsTrue, Option}
 use Rattle.loom_outside.specs.Outside.{RoleState, Attached, puts, PutPrefix}
 use Rattle.long_names.specs.Counting.{counted, Rose}
 use Rattle.long_names.specs.Need.{Fits}
@@ -142,13 +142,14 @@ Stops OutOfMemory row c = IsParked c.ending
 Stops _ row c = Unit {0}
 
 -- And what it says of the bytes put to Transcript: what the machine said in so many bytecodes. A fault of Work may come after any number of
--- them, and a fault of Transcript leaves a part of what the next one says. Where there is no memory for the picture all was said.
+-- them. A fault of Transcript comes only where the next one says something, and leaves a part of that. Where there is no memory for the picture
+-- all was said.
 abbrev pub SaysStopped : Status → Row → Course → List ℕ → List ℕ → Type 0
 SaysStopped (Stuck cause ran) row c old new = new ≡ old ++ c.said ran
 SaysStopped (NamesSpent ran) row c old new = new ≡ old ++ c.said ran
 SaysStopped (CoreFull ran need) row c old new = new ≡ old ++ c.said ran
 SaysStopped (WorkFull live room) row c old new = (ran : ℕ) × (ran ≤ row.steps) × IsLive live (c.lives ran) × (new ≡ old ++ c.said ran)
-SaysStopped (WriteFault role count) row c old new = (ran : ℕ) × (part : List ℕ) × (rest : List ℕ) × (ran < row.steps) × (new ≡ old ++ (c.said ran ++ part)) × (c.said (ran + 1) ≡ (c.said ran ++ part) ++ rest)
+SaysStopped (WriteFault role count) row c old new = (ran : ℕ) × (part : List ℕ) × (rest : List ℕ) × (ran < row.steps) × (new ≡ old ++ (c.said ran ++ part)) × (c.said (ran + 1) ≡ (c.said ran ++ part) ++ rest) × (c.said (ran + 1) ≢ c.said ran)
 SaysStopped OutOfMemory row c old new = new ≡ old ++ said_in c.ending
 SaysStopped _ row c old new = (ran : ℕ) × (ran ≤ row.steps) × (new ≡ old ++ c.said ran)
 

@@ -4,7 +4,7 @@
 -- `goes_through` for a whole run. `halts` is the one law of stops: what an outcome's stop is, the ending's is, what was said, and
 -- which row or making a refusal names. That a model's run stopped there for good is `run_stopped`; what the course of a run is at
 -- that bytecode stands in `CourseLaws`, and how many objects live in `RoomLaws`.
-use Rattle.std.proofs.Common.{suc, ◌≡◌, ℕ, ◌+◌, ◌<◌, ◌≤◌, nat_lt, Bool, true, false, cond, eqb, ◌⊎◌, List, [], ◌++◌, Option, Some, None, is_some, Result, Ok, Err, IsTrue, OnOk, IfErr, inl, inr, refl, sym, ◌∙◌, ap, subst, arith}
+use Rattle.std.proofs.Common.{suc, ◌≡◌, ◌≢◌, ℕ, ◌+◌, ◌<◌, ◌≤◌, nat_lt, Bool, true, false, cond, eqb, ◌⊎◌, List, [], ◌++◌, Option, Some, None, is_some, Result, Ok, Err, IsTrue, OnOk, IfErr, inl, inr, refl, sym, ◌∙◌, ap, subst, arith}
 use borrow.Author.Tests.{ltb-true, ltb-false}
 use Rattle.std.proofs.Math.Path.{fun_ext}
 use Rattle.std.specs.Result.{IsErrAnd}
@@ -44,7 +44,7 @@ use Rattle.contexts.specs.declared.stop.Stop.{Stop}
 use Rattle.contexts.specs.declared.stop.Stop.TheVariants.{Stuck, Mem}
 use Rattle.contexts.specs.Serves.{HasRest, Stands, IsGo, Gives, GivesAs, IsLogged, HasMaking, MaySay, IsCaused, HasReason, SaidNothing, SaysLast, Serves, ServesAs, Speaks}
 use Rattle.contexts.proofs.SpeaksLaws.{GoesOn, goes_done, goes_then, goes_numbers, goes_set_numbers}
-use Rattle.contexts.proofs.ServesLaws.{fits_later, Gives-after, serves_stop, says_quietly}
+use Rattle.contexts.proofs.ServesLaws.{fits_later, Gives-after, gives_earlier, serves_stop, says_quietly}
 use Rattle.contexts.proofs.CacheLaws.{sound_follows}
 use Rattle.devices.specs.Pictures.{HasGone, IsUndrawn}
 use Rattle.machine_run.specs.States.{word_held, model_state, state_held}
@@ -235,7 +235,7 @@ stops_in events old new between now m e told ready rest same st s = record {
   ran = refl;
   count = ap (λ (c : Cpu). c.ran) st.numbers ∙ sym same;
   said = λ speaks. (let spoke = sym s.later.speaks ∙ speaks in has_said e old new m.transcript spoke (st.transcript spoke) s.silent);
-  gives = s.model told m st;
+  gives = gives_earlier (Some Next) m.transcript old.transcript new now (Err e) (cycle events m) (λ speaks. st.transcript (sym s.later.speaks ∙ speaks)) (s.model told m st);
   full = full_in events old new between now m e told ready rest st s;
 }
 
@@ -312,7 +312,7 @@ abbrev IsFullAt : Stop → List ℕ → Type 0
 IsFullAt (Mem (WorkFull live room)) makings = IsLive live makings
 IsFullAt _ makings = Unit {0}
 
-halts : {A : Type 0} (w : Option A) (o : Outcome A) (new : Told) (now : Cpu) (e : Stop) (ran steps : ℕ) (c : Course) (said : List ℕ) → GivesAs w new now (Err e) o → ((why : Stopping) → stopping_of o ≡ Some why → c.ending ≡ model.Stuck why ran said) → c.said ran ≡ said → ((need : Need) → IsLogged need (log_of o) → IsLogged need (c.rows ran)) → (HasMaking new.heap.next (log_of o) → IsFullAt e (c.lives ran)) → (MaySay w new o → (ran < steps) × (IsTrue new.speaks → (rest : List ℕ) × (c.said (ran + 1) ≡ new.transcript ++ rest))) → (IsTrue new.speaks → HasSaid e said new.transcript) → IsHalt e ran steps new c
+halts : {A : Type 0} (w : Option (A × List ℕ)) (o : Outcome A) (new : Told) (now : Cpu) (e : Stop) (ran steps : ℕ) (c : Course) (said : List ℕ) → GivesAs w new now (Err e) o → ((why : Stopping) → stopping_of o ≡ Some why → c.ending ≡ model.Stuck why ran said) → c.said ran ≡ said → ((need : Need) → IsLogged need (log_of o) → IsLogged need (c.rows ran)) → (HasMaking new.heap.next (log_of o) → IsFullAt e (c.lives ran)) → (MaySay w new o → (ran < steps) × (IsTrue new.speaks → (rest : List ℕ) × (c.said (ran + 1) ≡ new.transcript ++ rest) × (c.said (ran + 1) ≢ said))) → (IsTrue new.speaks → HasSaid e said new.transcript) → IsHalt e ran steps new c
 halts w (Halt d log) new now (Stuck x) ran steps c said g f at rows full more s =
     let is : c.ending ≡ model.Stuck (ByCause d) ran said = f (ByCause d) refl in
     let cause : d ≡ x = g in record {
@@ -339,7 +339,7 @@ halts w o new now (Mem (Damaged place name)) ran steps c said g f at rows full m
 halts w o new now (Mem (Said count)) ran steps c said g f at rows full more s = record {
   stops = tt;
   before = (more g).0;
-  says = λ speaks. (let part = s speaks in let next = (more g).1 speaks in (part.0, next.0, part.1 ∙ ap (λ (t : List ℕ). t ++ part.0) (sym at), next.1));
+  says = λ speaks. (let part = s speaks in let next = (more g).1 speaks in (part.0, next.0, part.1 ∙ ap (λ (t : List ℕ). t ++ part.0) (sym at), next.1, λ none. next.2 (none ∙ at)));
   own = λ own. never own;
 }
 halts w o new now (Mem Memory) ran steps c said g f at rows full more s = record { stops = tt; before = tt; says = λ speaks. s speaks ∙ sym at; own = λ own. never own }
@@ -348,7 +348,7 @@ halts w o new now (Mem Memory) ran steps c said g f at rows full more s = record
 pub run_stops : (events : List Line) (before : Machine) (old new : Told) (now : Cpu) (e : Stop) (steps : ℕ) (u : Unit {0}) (m : Machine) (log : List LogRow) → m.cpu.ran ≡ 0 → IsSettled old → StopsIn events old new now e steps m → IsHalt e now.ran steps new (course_from events steps before (Go u m log))
 run_stops events before old new now e steps u m log fresh settled x =
     subst (λ k. IsHalt e k steps new (course_from events steps before (Go u m log))) same
-    (halts (Some Next) (cycle events x.machine) new now e x.done steps (course_from events steps before (Go u m log)) x.machine.transcript x.gives by (ap said_by x.ran) rows full more x.said)
+    (halts (Some (Next, x.machine.transcript)) (cycle events x.machine) new now e x.done steps (course_from events steps before (Go u m log)) x.machine.transcript x.gives by (ap said_by x.ran) rows full more x.said)
   where
     count : x.machine.cpu.ran ≡ x.done
     count = let all = runs_count events x.done m x.machine x.ran in omega arith
@@ -375,15 +375,18 @@ run_stops events before old new now e steps u m log fresh settled x =
     full : HasMaking new.heap.next (log_of (cycle events x.machine)) → IsFullAt e (lives_by events steps x.done (run events x.done m))
     full h = subst (IsFullAt e) (sym (lives_at_cycle events steps x.done m x.machine x.ran x.few)) (room e x.full)
 
-    said_more : IsTrue new.speaks → MaySay (Some Next) new (cycle events x.machine) → (rest : List ℕ) × (said_by (run events (x.done + 1) m) ≡ new.transcript ++ rest)
+    said_more : IsTrue new.speaks → MaySay (Some (Next, x.machine.transcript)) new (cycle events x.machine) → (rest : List ℕ) × (said_by (run events (x.done + 1) m) ≡ new.transcript ++ rest) × (said_by (run events (x.done + 1) m) ≢ x.machine.transcript)
     said_more speaks h = go (cycle events x.machine) refl h
       where
-        go : (o : Outcome Step) → cycle events x.machine ≡ o → MaySay (Some Next) new o → (rest : List ℕ) × (said_by (run events (x.done + 1) m) ≡ new.transcript ++ rest)
-        go (Go a n rows) f g = let told = g.1 speaks in (told.0, ap said_by (next_cycle events x.done m x.machine x.ran ∙ ap (run_of x.machine) f) ∙ told.1)
+        go : (o : Outcome Step) → cycle events x.machine ≡ o → MaySay (Some (Next, x.machine.transcript)) new o → (rest : List ℕ) × (said_by (run events (x.done + 1) m) ≡ new.transcript ++ rest) × (said_by (run events (x.done + 1) m) ≢ x.machine.transcript)
+        go (Go a n rows) f g =
+            let told = g.1 speaks in
+            let is : said_by (run events (x.done + 1) m) ≡ n.transcript = ap said_by (next_cycle events x.done m x.machine x.ran ∙ ap (run_of x.machine) f) in
+            (told.0, is ∙ told.1, λ none. told.2 (sym is ∙ none))
         go (Halt c rows) f g = absurd g
         go (Spent rows) f g = absurd g
 
-    more : MaySay (Some Next) new (cycle events x.machine) → (x.done < steps) × (IsTrue new.speaks → (rest : List ℕ) × (said_by (run events (x.done + 1) m) ≡ new.transcript ++ rest))
+    more : MaySay (Some (Next, x.machine.transcript)) new (cycle events x.machine) → (x.done < steps) × (IsTrue new.speaks → (rest : List ℕ) × (said_by (run events (x.done + 1) m) ≡ new.transcript ++ rest) × (said_by (run events (x.done + 1) m) ≢ x.machine.transcript))
     more h = (x.few, λ speaks. said_more speaks h)
 
 -- and one in a settling

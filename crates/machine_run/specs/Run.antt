@@ -1,5 +1,5 @@
 -- What a run over a memory has to do with a run of the model.
-use Rattle.std.specs.Prelude.{◌≡◌, ◌⊎◌, ℕ, ◌+◌, ◌<◌, ◌≤◌, Bool, true, false, List, [], ◌++◌, Option, Some, None, Result, Ok, Err, IsTrue, OnOk}
+use Rattle.std.specs.Prelude.{◌≡◌, ◌≢◌, ◌⊎◌, ℕ, ◌+◌, ◌<◌, ◌≤◌, Bool, true, false, List, [], ◌++◌, Option, Some, None, Result, Ok, Err, IsTrue, OnOk}
 use Rattle.long_names.specs.Counting.{Rose}
 use Rattle.long_names.specs.Heap.{Heap, object_count}
 use Rattle.long_names.specs.Kept.{kept}
@@ -65,7 +65,7 @@ pub record StopsIn (events : List Line) (old new : Told) (now : Cpu) (stop : Sto
   pub ran : model.run events done m ≡ Ran Next machine
   pub count : machine.cpu.ran ≡ now.ran
   pub said : IsTrue new.speaks → HasSaid stop machine.transcript new.transcript
-  pub gives : GivesAs (Some Next) new now (Err stop) (cycle events machine)
+  pub gives : GivesAs (Some (Next, machine.transcript)) new now (Err stop) (cycle events machine)
   pub full : IsFullIn events old new stop done machine
 
 abbrev pub IsWorkFault : Stop → Type 0
@@ -142,10 +142,10 @@ abbrev pub StopsAs : Stop → ℕ → Course → Type 0
 StopsAs (Stuck cause) ran c = IsStuckBy (ByCause cause) ran c.ending
 StopsAs (Mem fault) ran c = FaultsAs fault ran c
 
--- What was said is the model's transcript after so many bytecodes. Where its own saying failed, a part of what the next bytecode says
--- joined that.
+-- What was said is the model's transcript after so many bytecodes. Where its own saying failed, the next bytecode says something, and a part
+-- of that joined it.
 abbrev pub SaysAs : Stop → ℕ → Told → Course → Type 0
-SaysAs (Mem (Said count)) ran new c = (z rest : List ℕ) × (new.transcript ≡ c.said ran ++ z) × (c.said (ran + 1) ≡ new.transcript ++ rest)
+SaysAs (Mem (Said count)) ran new c = (z rest : List ℕ) × (new.transcript ≡ c.said ran ++ z) × (c.said (ran + 1) ≡ new.transcript ++ rest) × (c.said (ran + 1) ≢ c.said ran)
 SaysAs _ ran new c = new.transcript ≡ c.said ran
 
 -- the stop is one of the machine, and no fault of a memory beside spent names

@@ -32,6 +32,11 @@ say_from-requires-clause-within g c =
     let all = c.requires.len in
     subst (λ (p : Parts). c.loop-i.i + c.piece_of-count.result ≤ ((core_of p).entries c.args.s.0).len) (sym c.loop-i.invariant.parts) (omega (arith, part, low, all))
 
+pub say_from-requires-clause-some : goal.say_from-requires-clause-some
+say_from-requires-clause-some g c =
+    let low = c.loop-i-test.true in
+    c.piece_of-count.ensures.some (omega (arith, low))
+
 pub loop-i-preserved : goal.loop-i-preserved
 loop-i-preserved g c =
     let i = c.loop-i.invariant in
