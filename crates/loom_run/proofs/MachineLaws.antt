@@ -9,7 +9,7 @@ use Rattle.loom_outside.specs.declared.outside.Host.{Ghosts}
 use Rattle.loom_outside.specs.declared.outside.Role.{Role}
 use Rattle.loom_outside.specs.declared.outside.Role.TheVariants.{Image, Events, Work, Saved, Display, Transcript, Notes}
 use Rattle.object_memory.specs.Told.{Told, Bounds}
-use Rattle.object_memory.specs.Contract.{ForBounds, HasCause, IfBounds, NoBounds, SameBounds, Thins, IsLater}
+use Rattle.object_memory.specs.Contract.{ForBounds, HasCause, IfBounds, Lives, NoBounds, SameBounds, Thins, IsLater}
 use Rattle.object_memory.specs.declared.fault.MemFault.{MemFault}
 use Rattle.object_memory.specs.declared.fault.MemFault.TheVariants as fault
 use Rattle.contexts.specs.declared.stop.Stop.TheVariants as stop
@@ -126,7 +126,7 @@ module _ {H : Type 0} (host : Ghosts H) (m n : LoomMemory H) (row : Row) (ran : 
   pub refused-by : (f : MemFault) → HasFault (loom_told host m) (loom_told host n) f → IsRefusal host.tells (meanings host m.disk.host.now) (meanings host n.disk.host.now) row Running (status_by_fault f ran)
   unfolding loom_told
   refused-by (fault.CoreFull need) h = record { answer = tt; of_run = tt; ran = few; cause = tt; whole = λ work damaged. damaged; limits = fits-row row (loom_told host n).bounds need.words need.entries bounds h }
-  refused-by (fault.WorkFull live room) h = record { answer = tt; of_run = tt; ran = tt; cause = tt; whole = λ work damaged. damaged; limits = full-row _ row (loom_told host n).bounds live room bounds h }
+  refused-by (fault.WorkFull live room) h = record { answer = tt; of_run = tt; ran = tt; cause = tt; whole = λ work damaged. damaged; limits = full-row (λ b. Lives (loom_told host n) b live) row (loom_told host n).bounds live room bounds h }
   refused-by (fault.WorkFault count) h = record { answer = tt; of_run = tt; ran = tt; cause = (sym h.0, h.1); whole = λ work damaged. damaged; limits = tt }
   refused-by (fault.Damaged place name) h = record { answer = tt; of_run = tt; ran = tt; cause = tt; whole = λ work damaged. h work; limits = tt }
   refused-by fault.NamesSpent h = record { answer = tt; of_run = tt; ran = few; cause = tt; whole = λ work damaged. damaged; limits = tt }

@@ -1,5 +1,5 @@
 -- What the steps that read an image and save one leave of a host, and why they are refused.
-use Rattle.std.proofs.Common.{◌≡◌, ◌≢◌, ℕ, ◌≤◌, Bool, true, false, List, [], ◌++◌, None, Some, Result, Ok, Err, OnOk, OnErr, IsTrue, inl, inr, refl, sym, ◌∙◌, ap, subst, length, take, drop, take-append-drop, append_assoc, arith}
+use Rattle.std.proofs.Common.{◌≡◌, ◌≢◌, ℕ, ◌<◌, ◌≤◌, Bool, true, false, List, [], ◌++◌, None, Some, Result, Ok, Err, OnOk, OnErr, IsTrue, inl, inr, refl, sym, ◌∙◌, ap, subst, length, take, drop, take-append-drop, append_assoc, arith}
 use Rattle.std.specs.Prelude.{is_ok}
 use Rattle.std.proofs.Math.Seq.{take-length}
 use Rattle.std.specs.Result.{IsErrAnd}
