@@ -4,7 +4,7 @@
 # that come short; and, where `rt` is on the path, the cases of `crates/fault_runs` with each allocation refused in turn. Prints a line for
 # each case. Not in the gate; what `tests/edge.sh` tries isn't tried here again. Takes some minutes, and each part is bounded in time.
 #
-#     tests/faults.sh [PROGRAM [PART..]]      PART: killed, reads, writes, growths; all without one
+#     tests/faults.sh [PROGRAM [FAULT_RUNS [PART..]]]      PART: killed, reads, writes, growths; all without one
 set -u
 top=$(cd "$(dirname "$0")/.." && pwd) || exit 1
 loom=${1:-$top/crates/loom_cli/out/loom_cli}

@@ -15,9 +15,10 @@ const EVENTS: &str = "events";
 
 const WORK: &str = "work";
 
-/// The name of the file that a run saves, and of that of its picture.
+/// The name of the file that a run saves.
 pub const SAVED: &str = "saved";
 
+/// The name of the file of its picture.
 pub const DISPLAY: &str = "display";
 
 /// How a case is run: under these events, on a machine of these sizes, over a host that moves so many bytes at most in one call.

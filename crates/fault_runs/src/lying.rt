@@ -44,7 +44,8 @@ fn bounds_of(sizes: Sizes<'_>, steps: &str) -> Result<Bounds> {
     })
 }
 
-/// Runs a case once with each mask for each of so many reads of Work, and once where none lies. It is refused where one of these runs
+/// Runs a case once with each mask for each number up to so many, by which read of Work lies, and once where none does. Past the last read none
+/// does either. It is refused where one of these runs
 /// comes to an answer that can't be, or the last one comes out wrong.
 pub fn lie(alloc: Global, case: &Case<'_>, reads: u64) -> Result<Tally> {
     let bounds = bounds_of(case.sizes, case.steps)?;

@@ -126,7 +126,7 @@ fn take<R: Files + Print + AllocGlobal>(rt: &R, words: &[String]) -> Result<Exit
     match words {
         [] => report_all(rt, false)?,
         [first] if first.as_str() == "counts" => report_all(rt, true)?,
-        [first, file, number] => {
+        [first, file, number] if first.as_str() == "grow" || first.as_str() == "plain" => {
             return try_growths(
                 rt,
                 file.as_str(),

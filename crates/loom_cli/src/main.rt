@@ -3,7 +3,7 @@
 //! `answer` says that the process ends with the code of a status which `loom` promises for the words after the program's name
 //! (`promised`), or with 12 and the host as it was where memory for them is refused (`refused`). Before anything else the standard
 //! streams that are closed are filled with the null device, so that no file of the run becomes one, and the host is told which files the
-//! run will have, so that its work file becomes none of them.
+//! run will have, so that its work file becomes none of them. Over the host of the files stands one with windows over the work file.
 //!
 //! There is no other code here: read `specs/Promise.antt` of `loom_run`. What files and streams do isn't promised; `tests/edge.sh` tries
 //! the program on them.

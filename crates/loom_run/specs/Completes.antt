@@ -37,7 +37,7 @@ IsOwnEnd (NamesSpent ran) = Unit {0}
 IsOwnEnd OutOfMemory = Unit {0}
 IsOwnEnd _ = ⊥
 
--- the image of the number was made, or memory was wanted
+-- Made, with as many objects as the image of the number has, or want of memory
 abbrev pub IsMadeOf : ℕ → Status → Type 0
 IsMadeOf number (Made objects) = objects ≡ object_count (generated number)
 IsMadeOf number OutOfMemory = Unit {0}

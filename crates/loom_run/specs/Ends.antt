@@ -40,8 +40,8 @@ IsCaused (WriteFault role count) before now = (count ≡ now role) × Rose (befo
 IsCaused (WorkFault count) before now = (count ≡ now Work) × Rose (before Work) (now Work)
 IsCaused _ before now = Unit {0}
 
--- What is refused for want of room is past a limit of the words, over any host: the need doesn't fit the core or the entries, and more objects
--- live, or are stated, than there is room for.
+-- The numbers of an answer for want of room are past a limit of the words, over any host: a need that doesn't fit the core and the entries, a
+-- count above the room.
 abbrev pub IsPastLimits : Row → Status → Type 0
 IsPastLimits row (CoreFull ran need) = Fits row.core row.entries need.words need.entries → ⊥
 IsPastLimits row (WorkFull live room) = (room ≡ row.room) × (row.room < live)

@@ -22,7 +22,7 @@ pub record EndsAt (tells : Role → Bool) (before now : Meanings) (row : Row) (s
   -- A fault is answered only where it rose in this run, and with its count. Over a host that tells Work nothing is damaged.
   pub cause : IsCaused result before.faults now.faults
   pub whole : IsTrue (tells Work) → IsDamaged result → ⊥
-  -- Want of room comes only past a limit that the words state.
+  -- The numbers of an answer for want of room are past a limit that the words state.
   pub limits : IsPastLimits row result
   -- Each role is attached at most once, by its own word, when its stage comes; before that nothing is done with it.
   pub attached : (role : Role) → IsTrue (tells role) → IsTrue (reaches (stage_of role) stage)

@@ -75,8 +75,8 @@ pub fn a_making_comes_to_its_end()
         → ((role : Role) → Rose (before.faults role) (now.faults role) → ⊥) → IsMadeOf (make_of words).number result }
 {}
 
-/// No cycle wants memory, over any host: whatever a run over the memory of two levels ends with, it isn't that. Want of memory comes in reading, in
-/// making the memory, in drawing and in saving.
+/// No refusal of the memory for want of memory ends a run, over any host: no call in a cycle takes any. That the picture alone wants memory then is
+/// said where Work is told (`Stops`).
 pub fn no_cycle_wants_memory<H: Host>()
     ensures { (m n : LoomMemory H) → HaltsBy (loom_told H.Host m) (loom_told H.Host n) (ByStop (Mem Memory)) → ⊥ }
 {}

@@ -80,7 +80,7 @@ const STEPS: [Step; 33] = [
     Step::Read(0, 100),
 ];
 
-// A call fails: the third, which reads, or the fourth, which writes.
+// Each of the first four calls on Work fails in turn.
 const FAILING: [Step; 8] = [
     Step::Attach,
     Step::Write(0, b"abc"),

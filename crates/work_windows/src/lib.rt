@@ -1,8 +1,8 @@
 //! A host that answers short reads of Work from windows over it.
 //!
 //! `Windowed` is a host over another. What it tells, its faults and its writes are those of the host inside, and each call goes on to that
-//! host, but for a read of a short piece that lies in a window which was read before: that one is answered from memory. So whatever holds
-//! over every host holds over it. No byte that is written is kept back.
+//! host as it is, but for short reads of Work: for one of these the whole window that it lies in is read, unless it was before. So whatever
+//! holds over every host holds over it. No byte that is written is kept back.
 //!
 //! ```text
 //! let mut host = Windowed::new(alloc, RealHost::new(rt, rt.stdout(), rt.stderr()));
@@ -17,6 +17,6 @@ mod window;
 mod windowed;
 mod windows;
 
-pub use window::{WIDTH, Window};
+pub use window::WIDTH;
 pub use windowed::Windowed;
-pub use windows::{COUNT, LEAST, MOST, Windows};
+pub use windows::{COUNT, LEAST, MOST};

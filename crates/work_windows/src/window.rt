@@ -14,7 +14,7 @@ pub const WIDTH: usize = 4_096;
 
 /// So many bytes of Work from a place on, as they were read and written since.
 #[derive(Clone, Copy)]
-pub struct Window {
+pub(crate) struct Window {
     // None where none were read.
     pub place: Option<u64>,
     pub bytes: [u8; WIDTH],

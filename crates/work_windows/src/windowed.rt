@@ -8,9 +8,9 @@ use crate::windows::Windows;
 use loom_outside::{Failed, Host, Role};
 use std::alloc::Global;
 
-/// A host over another, which answers a read of Work from a window over it, of `LEAST` to `MOST` bytes and where no edge of a window
-/// is in the piece. Every other call goes on to the host inside, and a read makes at most one call of it, so it fails only where that one does.
-/// It holds `COUNT` windows of `WIDTH` bytes, or none where memory for them is refused.
+/// A host over another. A read of `LEAST` to `MOST` bytes of Work in which no edge of a window lies is answered from that window, which is
+/// read first unless it was before; every other call goes on as it is. It holds `COUNT` windows of `WIDTH` bytes, or none where memory for
+/// them is refused.
 #[derive(Drop)]
 pub struct Windowed<H: Host + Drop> {
     inner: H,
@@ -18,12 +18,14 @@ pub struct Windowed<H: Host + Drop> {
     ghost current: { IsTrue (H.tells Work) → All (Shows (work_of H.Host inner)) windows.items.items },
 }
 
+#[tactic(auto, unfolding(crate::specs::Windowed::inside))]
 impl<H: Host + Drop> Windowed<H> {
     ghost use Rattle.std.specs.Prelude.{◌≡◌};
+    ghost use Rattle.work_windows.specs.Windowed.{inside};
 
     /// A host over this one, with windows of nothing.
     pub fn new(alloc: Global, inner: H) -> Windowed<H>
-        ensures { result.inner ≡ inner }
+        ensures { inside result ≡ inner }
     {
         Windowed {
             inner,
@@ -33,20 +35,23 @@ impl<H: Host + Drop> Windowed<H> {
 
     /// The host inside.
     pub fn inner(&self) -> &H
-        ensures { result.now ≡ self.now.inner }
+        ensures { result.now ≡ inside self.now }
     {
         &self.inner
     }
 }
 
+#[tactic(auto, unfolding(crate::specs::Windowed::inside))]
 impl<H: Host + Drop> Host for Windowed<H> {
+    ghost use Rattle.work_windows.specs.Windowed.{inside};
+
     ghost tells = { H.tells };
 
-    ghost roles = { λ w. H.roles w.inner };
+    ghost roles = { λ w. H.roles (inside w) };
 
-    ghost faults = { λ w. H.faults w.inner };
+    ghost faults = { λ w. H.faults (inside w) };
 
-    ghost writes = { λ w. H.writes w.inner };
+    ghost writes = { λ w. H.writes (inside w) };
 
     fn attach(&mut self, role: Role, name: &str) -> Result<(), Failed> {
         self.windows.forget();

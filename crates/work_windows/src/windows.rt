@@ -22,7 +22,7 @@ pub const MOST: usize = 512;
 
 /// Windows over Work, each over the bytes from a multiple of `WIDTH` on.
 #[derive(Drop)]
-pub struct Windows {
+pub(crate) struct Windows {
     pub items: Vec<Window>,
 }
 
