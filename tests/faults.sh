@@ -1,7 +1,7 @@
 #!/bin/sh
 # Tries the program on a disk that fails, over real files: a run that is killed at a hundred moments, from its start to its end; a disk that
 # is full from one write to WORK on, for writes spread over the run; reads of WORK that fail once or now and then, that are interrupted and
-# that come short; and, where `rt` is on the path, the cases of `crates/fault_runs` with each allocation refused in turn. Prints a line for
+# that come short; and, where gcc makes a library, a run over files and cases of `crates/fault_runs` with each allocation refused in turn. Prints a line for
 # each case. Not in the gate; what `tests/edge.sh` tries isn't tried here again. Takes some minutes, and each part is bounded in time.
 #
 #     tests/faults.sh [PROGRAM [FAULT_RUNS [PART..]]]      PART: killed, reads, writes, growths; all without one

@@ -1,9 +1,9 @@
 // A case on a host that takes no memory in the run, so that each allocation that is refused there is one of the program's own.
-use crate::failing::is_whole;
+use crate::failing::{ROLES, is_whole};
 use crate::left::{Left, is_file_left, is_left};
 use anyhow::Result;
 use case_runs::{Case, DISPLAY, SAVED, Way, host_of, words_of};
-use loom_outside::{MemoryHost, Role};
+use loom_outside::MemoryHost;
 use loom_run::{Status, loom};
 use std::alloc::Global;
 
@@ -17,18 +17,10 @@ pub enum End {
     Wrong,
 }
 
-/// Room for all that a case puts to a role.
+/// Room for all that a case puts to a role, and for its name.
 const ROOM: u64 = 65_536;
 
 const CHUNK: usize = 65_536;
-
-const WRITTEN: [Role; 5] = [
-    Role::Work,
-    Role::Saved,
-    Role::Display,
-    Role::Transcript,
-    Role::Notes,
-];
 
 /// How a case ends. It is refused where memory is before the run.
 pub fn grow(alloc: Global, case: &Case<'_>) -> Result<End> {
@@ -38,7 +30,7 @@ pub fn grow(alloc: Global, case: &Case<'_>) -> Result<End> {
         chunk: CHUNK,
     };
     let mut host = host_of(alloc, case, way)?;
-    for role in WRITTEN {
+    for role in ROLES {
         host.reserve(role, ROOM)?;
     }
     let words = words_of(alloc, case.sizes, case.steps)?;

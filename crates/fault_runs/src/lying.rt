@@ -83,7 +83,8 @@ fn is_possible(bounds: &Bounds, status: Status) -> bool {
     match status {
         Status::Done { ran } => ran == bounds.steps,
         Status::Quit { ran } => 0 < ran && ran <= bounds.steps,
-        Status::ImageBad { rule, .. } => 1 <= rule && rule <= 14,
+        // the image is right, so a lie can break only what is judged of it as a whole, from Work
+        Status::ImageBad { rule, .. } => matches!(rule, 10..=12 | 14),
         Status::Stuck { cause, ran } => 1 <= cause && cause <= 7 && ran <= bounds.steps,
         Status::CoreFull { ran, need } => {
             ran <= bounds.steps && (need.words > bounds.core || need.entries > bounds.entries)
