@@ -313,6 +313,11 @@ impl ObjectMemory for BoundedMemory {
         self.memory.len(of)
     }
 
+    fn field_count(&self, of: Reg) -> Option<u32> {
+        // whoever wants it asks `kind` and `len`
+        None
+    }
+
     fn header(&mut self, of: Reg) -> Result<i16, MemFault> {
         self.fits(of)?;
         self.memory.header(of)
@@ -344,7 +349,7 @@ impl ObjectMemory for BoundedMemory {
     }
 
     fn code_byte(&self, of: Reg, place: u32) -> Option<u8> {
-        // in one map nothing is nearer than anything else
+        // whoever wants it asks `byte`
         None
     }
 

@@ -1,5 +1,5 @@
 // Parts of objects that rules read, and the store into a field.
-ghost use Rattle.std.specs.Prelude.{◌≡◌, ◌+◌, ◌≤◌, ◌<◌, ℕ, [], ◌∷◌, OnOk, IfOk, length, true};
+ghost use Rattle.std.specs.Prelude.{◌≡◌, ◌+◌, ◌≤◌, ◌<◌, ℕ, [], ◌∷◌, OnOk, OnErr, IfOk, IfSome, length, true};
 ghost use Rattle.long_names.specs.Names.{is_known};
 ghost use Rattle.long_names.specs.Objects.{pointers_of, OfPointers, OfWords, OfBytes, OfMethod};
 ghost use Rattle.long_names.specs.declared.limits.TheConstants.{MACHINE_REGISTERS, MOST_CODE, MOST_FIELDS};
@@ -7,7 +7,7 @@ ghost use Rattle.long_names.specs.State.{IsRef};
 ghost use Rattle.long_names.specs.Words.{IsSmallInteger};
 ghost use Rattle.long_names.specs.declared.value.Value.TheVariants.{Ref};
 ghost use Rattle.object_memory.specs.Told.{IsReady};
-ghost use Rattle.object_memory.specs.Shape.{HasPartAt, Looks};
+ghost use Rattle.object_memory.specs.Shape.{field_count, FindsPart, HasPartAt, Looks, ReadsObject};
 ghost use Rattle.blue_model.specs.declared.cause.Cause.TheVariants.{Shape};
 ghost use Rattle.blue_model.specs.declared.indexes.TheConstants.{TEMP_FRAME_START as CONTEXT_FIELDS};
 ghost use Rattle.blue_model.specs.declared.cpu.Cpu.{Cpu as Numbers};
@@ -16,14 +16,31 @@ ghost use Rattle.blue_model.specs.Messages.{last_literal, literal_before_last, e
 ghost use Rattle.blue_model.specs.Parts.{size, field, number, heading, literal, home_of};
 ghost use Rattle.blue_model.specs.Contexts.{store_field, need_method};
 ghost use Rattle.contexts.specs.Serves.{Serves, StaysSound, with_value};
-ghost use Rattle.object_memory.specs.Calls.{IsFit};
+ghost use Rattle.object_memory.specs.Calls.{IsFit, KeepsFit};
 ghost use Rattle.contexts.specs.Calls.{StaysFit};
 
 use crate::stop::Stop;
 use blue_model::Cause;
 use blue_model::indexes::{HOME_INDEX, METHOD_INDEX, TEMP_FRAME_START};
 use long_names::Name;
-use object_memory::{ObjectMemory, Reg, shape};
+use object_memory::{MemFault, ObjectMemory, Reg, shape};
+
+/// How many fields the object of pointers has that a register names, which comes in unless it is at hand. None where the register names
+/// no such object.
+#[inline]
+fn fields_of<M: ObjectMemory>(m: &mut M, of: Reg) -> Result<Option<u32>, MemFault>
+    requires fit { IsFit M.ObjectMemory m.old }
+    ensures looks { OnOk result (Looks [] (M.told m.old) (M.told m.new)) }
+    ensures fields { IfOk result (FindsPart (M.told m.old) (M.told m.new) of field_count) }
+    ensures bound { IfOk result (λ len. IfSome len (λ n. n < MOST_FIELDS + 1)) }
+    ensures refused { OnErr result (ReadsObject (M.told m.old) (M.told m.new) of result) }
+    ensures fit { KeepsFit M.ObjectMemory m.old m.new result }
+{
+    if let Some(len) = m.field_count(of) {
+        return Ok(Some(len));
+    }
+    shape::fields(m, of)
+}
 
 /// How many fields the object of pointers has that a register names. It has at least so many.
 pub fn size<M: ObjectMemory>(m: &mut M, of: Reg, least: u32) -> Result<u32, Stop>
@@ -35,7 +52,7 @@ pub fn size<M: ObjectMemory>(m: &mut M, of: Reg, least: u32) -> Result<u32, Stop
     ensures bound { IfOk result (λ len. len < MOST_FIELDS + 1) }
     ensures fit { StaysFit M.ObjectMemory m.old m.new result }
 {
-    let Some(len) = shape::fields(m, of)? else {
+    let Some(len) = fields_of(m, of)? else {
         return Err(Stop::Stuck(Cause::Shape));
     };
     if len < least {
@@ -52,7 +69,7 @@ pub fn field<M: ObjectMemory>(m: &mut M, to: Reg, of: Reg, least: u32, i: u32) -
     ensures looks { OnOk result (Looks (to ∷ []) (M.told m.old) (M.told m.new)) }
     ensures fit { StaysFit M.ObjectMemory m.old m.new result }
 {
-    let Some(len) = shape::fields(m, of)? else {
+    let Some(len) = fields_of(m, of)? else {
         return Err(Stop::Stuck(Cause::Shape));
     };
     if len < least || len <= i {

@@ -144,6 +144,11 @@ impl<M: ObjectMemory> ObjectMemory for LoggedMemory<M> {
         self.inner.len(of)
     }
 
+    fn field_count(&self, of: Reg) -> Option<u32> {
+        // the object is logged by the calls that answer where this one doesn't
+        None
+    }
+
     fn header(&mut self, of: Reg) -> Result<i16, MemFault> {
         self.note(of);
         self.inner.header(of)

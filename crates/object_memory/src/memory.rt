@@ -17,7 +17,7 @@ pub trait ObjectMemory {
     ghost use Rattle.long_names.specs.State.{set_register, set_slot, name_at, part_at, IsRef};
     ghost use Rattle.long_names.specs.declared.value.Value.TheVariants.{Int, Ref};
     ghost use Rattle.object_memory.specs.Told.{Told, has_slot};
-    ghost use Rattle.object_memory.specs.Shape.{code_at};
+    ghost use Rattle.object_memory.specs.Shape.{code_at, field_count, IsPartAt};
     ghost use Rattle.object_memory.specs.Contract.{MayDo, Accessed, Called, Follows, IsLater, Settles, Thins, is_marked, IsFound, IsUnknown, IsPut};
     ghost use Rattle.object_memory.specs.Fit.{MayCall, StaysCallable, KeepsCallable};
 
@@ -108,6 +108,12 @@ pub trait ObjectMemory {
         ensures access { Accessed (told self.old) (told self.new) (Length of) OfNumber result }
         ensures bound { IfOk result (λ n. n < MOST_FIELDS + 1) }
         ensures fit { StaysCallable sound told lender outside self.old self.new result };
+
+    /// How many values an object of pointers has, where it is at hand. No object comes in for it. None says nothing.
+    fn field_count(&self, of: Reg) -> Option<u32>
+        requires { sound self.now }
+        ensures fields { IfSome result (λ n. IsPartAt (told self.now) of field_count (Some n)) }
+        ensures bound { IfSome result (λ n. n < MOST_FIELDS + 1) };
 
     /// A method's header. The method has as many literals as it says.
     fn header(&mut self, of: Reg) -> Result<i16, MemFault>

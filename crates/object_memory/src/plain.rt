@@ -272,6 +272,11 @@ impl ObjectMemory for PlainMemory {
         Ok(self.object(of).body.len() as u32)
     }
 
+    fn field_count(&self, of: Reg) -> Option<u32> {
+        // whoever wants it asks `kind` and `len`
+        None
+    }
+
     fn header(&mut self, of: Reg) -> Result<i16, MemFault>
         requires fit { IsPlainFit self.old }
         requires may { MayDo (plain_told self.old) (Header of) }
@@ -317,7 +322,7 @@ impl ObjectMemory for PlainMemory {
     }
 
     fn code_byte(&self, of: Reg, place: u32) -> Option<u8> {
-        // in one map nothing is nearer than anything else
+        // whoever wants it asks `byte`
         None
     }
 
