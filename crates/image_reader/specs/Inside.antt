@@ -1,4 +1,4 @@
--- What the parts of loading speak of. No public clause stands on it.
+-- What loading and its parts speak of.
 use Rattle.std.specs.Prelude.{◌≡◌, ℕ, ◌+◌, ◌-◌, ◌*◌, ◌<◌, ◌≤◌, ◌^◌, ◌&&◌, ◌==◌, nat_lt, not, if◌then◌else◌, Bool, false, IsTrue, List, [], ◌∷◌, ◌++◌, All, Option, None, Some, Result, Ok, Err, length}
 use Rattle.long_names.specs.Counting.{Rose}
 use Rattle.long_names.specs.Objects.{IsRecord}

@@ -71,7 +71,7 @@ fn count_object<H: Host>(
 }
 
 /// Counts the words of all objects, until one is a name that is no object's: the name of the object that holds it is the answer.
-fn first_unclosed<H: Host>(
+pub fn first_unclosed<H: Host>(
     disk: &mut DiskObjects<'_, H>,
     tally: &mut Tally,
     buf: &mut RecordBuf,
@@ -208,7 +208,7 @@ fn judge_state(tally: &Tally, state: &State) -> Result<(), LoadFault>
 }
 
 /// Judges rule 12 and then 14.
-fn judge_names(tally: &Tally, state: &State) -> Result<(), LoadFault>
+pub fn judge_names(tally: &Tally, state: &State) -> Result<(), LoadFault>
     ensures ok { OnOk result (names_missed (counted tally.now) state.now ≡ None) }
     ensures bad { IfErr result (IsJudged (names_missed (counted tally.now) state.now)) }
     ensures rule { IfErr result IsOfWhole }

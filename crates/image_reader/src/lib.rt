@@ -10,7 +10,9 @@
 //! let loaded = load(alloc, &mut disk, room)?;
 //! ```
 //!
-//! Its condition is that the disk is empty and has this room. Read `specs/Loaded.antt`.
+//! Its condition is that the disk is empty and has this room. Read `specs/Loaded.antt`. Whoever reads images that are spelled otherwise has
+//! the bytes of Image as they come (`Window`), the words that hold each name (`Tally`, `first_unclosed`), and the rules on the known
+//! objects and on the state (`judge_names`).
 #![tactic(auto)]
 
 mod fault;
@@ -22,4 +24,7 @@ mod tally;
 mod window;
 
 pub use fault::LoadFault;
+pub use judging::{first_unclosed, judge_names};
 pub use loading::{Loaded, load};
+pub use tally::Tally;
+pub use window::Window;

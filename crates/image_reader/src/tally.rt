@@ -10,7 +10,7 @@ use std::alloc::{AllocError, Global};
 
 /// The names of an image's objects, and beside each the number of words that were counted.
 #[derive(Drop)]
-pub(crate) struct Tally {
+pub struct Tally {
     names: NameList,
     counts: Vec<u64>,
     ghost rising: { IsRising names },
@@ -30,7 +30,7 @@ impl Tally {
     ghost use Rattle.image_reader.specs.Tally.{counted, IsFresh, Raises, HasRoom, Counts};
 
     /// These names, with no word counted.
-    pub(crate) fn new(alloc: Global, names: NameList) -> Result<Tally, AllocError>
+    pub fn new(alloc: Global, names: NameList) -> Result<Tally, AllocError>
         requires { IsRising names }
         ensures names { IfOk result (λ t. t.names ≡ names) }
         ensures fresh { IfOk result (IsFresh names) }
@@ -40,14 +40,14 @@ impl Tally {
     }
 
     /// How many names there are.
-    pub(crate) fn len(&self) -> usize
+    pub fn len(&self) -> usize
         ensures { result ≡ length self.now.names }
     {
         self.names.len()
     }
 
     /// The name at a place.
-    pub(crate) fn name(&self, i: usize) -> Name
+    pub fn name(&self, i: usize) -> Name
         requires { i < length self.now.names }
         ensures { slice_get self.now.names i ≡ Some result }
     {
@@ -77,7 +77,7 @@ impl Tally {
     }
 
     /// The count of a word. None where no object has the name that it is.
-    fn count(&self, word: u32) -> Option<u64>
+    pub fn count(&self, word: u32) -> Option<u64>
         ensures { result ≡ counted self.now word }
     {
         let i = self.place(word)?;
@@ -132,7 +132,7 @@ impl Tally {
     }
 
     /// Counts the words of the buffer's object, its class word and its fields, until one holds a name that is no object's.
-    pub(crate) fn count_object(&mut self, buf: &RecordBuf) -> bool
+    pub fn count_object(&mut self, buf: &RecordBuf) -> bool
         requires record { HasRecord buf.now }
         requires room { HasRoom (MOST_FIELDS + 1) self.old }
         ensures counts { Counts (object_in (raw_of buf.now)) self.old self.new result }
@@ -146,7 +146,7 @@ impl Tally {
     }
 
     /// Whether a name is counted just as often as is stated, and is held, or known.
-    pub(crate) fn is_exact(&self, name: Name, stated: u64) -> bool
+    pub fn is_exact(&self, name: Name, stated: u64) -> bool
         ensures { result ≡ judged.is_exact (counted self.now name) name stated }
     {
         match self.count(name.get()) {
@@ -163,7 +163,7 @@ impl Tally {
     }
 
     /// The first known name that is no object's.
-    pub(crate) fn first_missing(&self) -> Option<Name>
+    pub fn first_missing(&self) -> Option<Name>
         ensures { result ≡ judged.missing_among (counted self.now) known_names }
     {
         let known = Name::known();
@@ -188,7 +188,7 @@ impl Tally {
     }
 
     /// The lowest name of the state that is no object's.
-    pub(crate) fn first_lost(&self, state: &State) -> Option<u32>
+    pub fn first_lost(&self, state: &State) -> Option<u32>
         ensures { result ≡ judged.lost_in (counted self.now) state.now }
     {
         let display = self.lost(state.display);

@@ -19,7 +19,7 @@ pub(crate) const ENOUGH: usize = LONGEST_RECORD as usize + 4;
 
 /// The bytes of Image that were read and not yet used. They stand from `at` on, and `place` bytes of the file stand before them.
 #[derive(Drop)]
-pub(crate) struct Window {
+pub struct Window {
     bytes: Vec<u8>,
     at: usize,
     ended: bool,
@@ -39,7 +39,7 @@ impl Model for Window {
 
 impl Window {
     /// Nothing was read yet. It takes no memory.
-    pub(crate) fn new(alloc: Global) -> Window
+    pub fn new(alloc: Global) -> Window
         ensures bytes { result.bytes ≡ [] }
         ensures ended { result.ended ≡ false }
         ensures place { result.place ≡ 0 }
@@ -53,28 +53,35 @@ impl Window {
     }
 
     /// The bytes that stand there.
-    pub(crate) fn bytes(&self) -> &[u8]
+    pub fn bytes(&self) -> &[u8]
         ensures { result.now ≡ self.now.bytes }
     {
         &self.bytes[self.at..]
     }
 
     /// How many bytes of the file stand before them.
-    pub(crate) fn place(&self) -> u64
+    pub fn place(&self) -> u64
         ensures { result ≡ self.now.place }
     {
         self.place
     }
 
     /// Whether nothing stands there.
-    pub(crate) fn is_empty(&self) -> bool
+    pub fn is_empty(&self) -> bool
         ensures { result ≡ (length self.now.bytes == 0) }
     {
         self.at == self.bytes.len()
     }
 
+    /// Whether the file ends behind them.
+    pub fn has_ended(&self) -> bool
+        ensures { result ≡ self.now.ended }
+    {
+        self.ended
+    }
+
     /// The first bytes have been used.
-    pub(crate) fn skip(&mut self, count: usize)
+    pub fn skip(&mut self, count: usize)
         requires within { count ≤ length self.old.bytes }
         requires far { self.old.place + count < 2 ^ 64 }
         ensures bytes { self.new.bytes ≡ drop count self.old.bytes }
@@ -108,7 +115,7 @@ impl Window {
     }
 
     /// Reads one more piece.
-    fn read_piece<H: Host>(&mut self, disk: &mut DiskObjects<'_, H>) -> Result<(), LoadFault>
+    pub fn read_piece<H: Host>(&mut self, disk: &mut DiskObjects<'_, H>) -> Result<(), LoadFault>
         requires { IsTrue (H.tells Role.Image) → EndsTruly self.old (H.roles disk.old.host.now Role.Image) }
         ensures rest { IsTrue (H.tells Role.Image) → OnOk result (unused self.new (H.roles disk.new.host.now Role.Image) ≡ unused self.old (H.roles disk.old.host.now Role.Image)) }
         ensures ends { IsTrue (H.tells Role.Image) → OnOk result (EndsTruly self.new (H.roles disk.new.host.now Role.Image)) }
@@ -132,7 +139,7 @@ impl Window {
     }
 
     /// Reads until what stands there decides what the next record is, or the end came. It makes no more room than the file fills.
-    pub(crate) fn fill<H: Host>(&mut self, disk: &mut DiskObjects<'_, H>) -> Result<(), LoadFault>
+    pub fn fill<H: Host>(&mut self, disk: &mut DiskObjects<'_, H>) -> Result<(), LoadFault>
         requires { IsTrue (H.tells Role.Image) → EndsTruly self.old (H.roles disk.old.host.now Role.Image) }
         ensures rest { IsTrue (H.tells Role.Image) → OnOk result (unused self.new (H.roles disk.new.host.now Role.Image) ≡ unused self.old (H.roles disk.old.host.now Role.Image)) }
         ensures ends { IsTrue (H.tells Role.Image) → OnOk result (EndsTruly self.new (H.roles disk.new.host.now Role.Image)) }

@@ -1,4 +1,4 @@
--- What the parts of saving speak of. No public clause stands on it.
+-- What saving and its parts speak of.
 use Rattle.std.specs.Prelude.{◌≡◌, ℕ, List, ◌++◌, Some, IsTrue, Result, OnOk}
 use Rattle.long_names.specs.Heap.{Heap, Has, count_of}
 use Rattle.loom_outside.specs.declared.outside.Host.{Ghosts}

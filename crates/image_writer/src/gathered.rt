@@ -9,7 +9,7 @@ pub(crate) const PIECE: usize = 16_384;
 
 /// Bytes that are to be put to Saved, one after the other.
 #[derive(Drop)]
-pub(crate) struct Gathered {
+pub struct Gathered {
     bytes: [u8; PIECE],
     len: usize,
 }
@@ -29,7 +29,7 @@ impl Gathered {
     ghost use Rattle.std.specs.Prelude.{◌≡◌, ◌++◌, ◌+◌, [], length};
 
     /// No bytes.
-    pub(crate) fn new() -> Gathered
+    pub fn new() -> Gathered
         ensures { result ≡ [] }
     {
         Gathered {
@@ -39,21 +39,21 @@ impl Gathered {
     }
 
     /// The bytes.
-    pub(crate) fn bytes(&self) -> &[u8]
+    pub fn bytes(&self) -> &[u8]
         ensures { result.now ≡ self.now }
     {
         &self.bytes[..self.len]
     }
 
     /// For how many more there is room.
-    pub(crate) fn room(&self) -> usize
+    pub fn room(&self) -> usize
         ensures { length self.now + result ≡ PIECE }
     {
         PIECE - self.len
     }
 
     /// Appends bytes.
-    pub(crate) fn push(&mut self, bytes: &[u8])
+    pub fn push(&mut self, bytes: &[u8])
         requires { length self.old + length bytes.now ≤ PIECE }
         ensures { self.new ≡ self.old ++ bytes.now }
     {
@@ -63,7 +63,7 @@ impl Gathered {
     }
 
     /// Lets all go.
-    pub(crate) fn clear(&mut self)
+    pub fn clear(&mut self)
         ensures { self.new ≡ [] }
     {
         self.len = 0;

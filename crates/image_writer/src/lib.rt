@@ -10,7 +10,8 @@
 //! save(alloc, &mut disk, next, &state)?;
 //! ```
 //!
-//! Its condition is that the disk's counts are those of its heap. Read `specs/Saved.antt`.
+//! Its condition is that the disk's counts are those of its heap. Read `specs/Saved.antt`. Whoever spells a disk's objects otherwise has the
+//! names (`names_of`) and the bytes that are gathered for Saved (`Gathered`, `put`, `flush`).
 #![tactic(auto)]
 
 mod fault;
@@ -19,4 +20,6 @@ mod pieces;
 mod saving;
 
 pub use fault::SaveFault;
-pub use saving::save;
+pub use gathered::Gathered;
+pub use pieces::{flush, put};
+pub use saving::{names_of, save};

@@ -37,7 +37,7 @@ fn write<H: Host>(disk: &mut DiskObjects<'_, H>, bytes: &[u8]) -> Result<(), Sav
 }
 
 /// Puts what is gathered to Saved.
-pub(crate) fn flush<H: Host>(
+pub fn flush<H: Host>(
     disk: &mut DiskObjects<'_, H>,
     gathered: &mut Gathered,
 ) -> Result<(), SaveFault>
@@ -52,7 +52,7 @@ pub(crate) fn flush<H: Host>(
 }
 
 /// Puts bytes to Saved, or gathers them where there is room, behind those that are gathered.
-pub(crate) fn put<H: Host>(
+pub fn put<H: Host>(
     disk: &mut DiskObjects<'_, H>,
     gathered: &mut Gathered,
     bytes: &[u8],

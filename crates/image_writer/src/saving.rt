@@ -64,7 +64,10 @@ fn put_records<H: Host>(
 }
 
 /// The names of the disk's objects, rising.
-fn names_of<H: Host>(alloc: Global, disk: &mut DiskObjects<'_, H>) -> Result<NameList, SaveFault>
+pub fn names_of<H: Host>(
+    alloc: Global,
+    disk: &mut DiskObjects<'_, H>,
+) -> Result<NameList, SaveFault>
     requires stands { HoldsObjects H.Host disk.old.host.now disk.old.rest }
     ensures names { IsTrue (H.tells Role.Work) → (objects : Objects) (pending : List ℕ) →
         IsDisk disk.old.rest (work_of H.Host disk.old.host.now) objects pending → IfOk result (λ names. names ≡ map.keys objects) }
