@@ -21,7 +21,7 @@ use Rattle.core_view.proofs.Lists.{length-values}
 use Rattle.leaf_lambda.proofs.FillLaws.{all-same}
 use Rattle.leaf_lambda.proofs.MergeLaws.{bytes-get, drop-get, take-at, length-bytes, length-drop-of, length-take-of, literals-length, code-drop}
 use Rattle.object_memory.specs.Told.{Told}
-use Rattle.object_memory.specs.Shape.{code_at}
+use Rattle.object_memory.specs.Shape.{code_at, field_count}
 use Rattle.loom_memory.specs.Memory.{IsQuiet}
 use Rattle.loom_memory.specs.Bodies.{OfBody, HasRun, LacksRun, bytes_from, code_start, code_from}
 
@@ -216,6 +216,22 @@ code-none entries old ws kind.Words len place not = refl
 code-none entries old ws kind.Bytes len place not = refl
 code-none entries old ws kind.Method len place not = absurd (not refl)
 
+-- ---- fields
+
+pub count-is : (entries : ℕ → Entry) (old : List Value) (ws : List ℕ) (k : Kind) (len n : ℕ) → length ws ≡ words_for k len n → k ≡ kind.Pointers → field_count (body_in entries old ws k len) ≡ Some len
+unfolding body_in
+count-is entries old ws kind.Pointers len n long is = ap (λ (n : ℕ). Some n) (length-values (meant entries old) ws ∙ long)
+count-is entries old ws kind.Words len n long is = cc
+count-is entries old ws kind.Bytes len n long is = cc
+count-is entries old ws kind.Method len n long is = cc
+
+pub count-none : (entries : ℕ → Entry) (old : List Value) (ws : List ℕ) (k : Kind) (len : ℕ) → (k ≡ kind.Pointers → ⊥) → field_count (body_in entries old ws k len) ≡ None
+unfolding body_in
+count-none entries old ws kind.Pointers len not = absurd (not refl)
+count-none entries old ws kind.Words len not = refl
+count-none entries old ws kind.Bytes len not = refl
+count-none entries old ws kind.Method len not = refl
+
 -- ---- the body of an entry
 
 -- what holds where the body lies holds of it
@@ -263,6 +279,12 @@ bytes-at c disk s p first core at is = bytes-is c.entries (fields_there (disk (c
 
 pub no-bytes-at : (c : Core) (disk : Disk) (s p : ℕ) → bytes_from (c.entries s).kind (c.chunks p).words ≡ None → bytes_of (object_at c disk (c.entries s) p).body ≡ None
 no-bytes-at c disk s p is = bytes-none c.entries (fields_there (disk (c.entries s).name)) (c.chunks p).words (c.entries s).kind (c.entries s).len is
+
+pub count-at : (c : Core) (disk : Disk) (s p : ℕ) → IsCore c → place_of (c.entries s).state ≡ Some p → (c.entries s).kind ≡ kind.Pointers → field_count (object_at c disk (c.entries s) p).body ≡ Some (c.entries s).len
+count-at c disk s p core at is = count-is c.entries (fields_there (disk (c.entries s).name)) (c.chunks p).words (c.entries s).kind (c.entries s).len (literal_count (header_in (c.chunks p).words)) (core.long s p at) is
+
+pub no-count-at : (c : Core) (disk : Disk) (s p : ℕ) → ((c.entries s).kind ≡ kind.Pointers → ⊥) → field_count (object_at c disk (c.entries s) p).body ≡ None
+no-count-at c disk s p not = count-none c.entries (fields_there (disk (c.entries s).name)) (c.chunks p).words (c.entries s).kind (c.entries s).len not
 
 pub code-at : (c : Core) (disk : Disk) (s p place : ℕ) → IsCore c → place_of (c.entries s).state ≡ Some p → (c.entries s).kind ≡ kind.Method → code_at place (object_at c disk (c.entries s) p).body ≡ code_from (c.chunks p).words (c.entries s).len place
 code-at c disk s p place core at is = code-is c.entries (fields_there (disk (c.entries s).name)) (c.chunks p).words (c.entries s).kind (c.entries s).len place is (core.long s p at)

@@ -34,6 +34,7 @@ pub mod LentLaws
 pub mod OwnLaws
 pub mod MindLaws
 pub mod GentleLaws
+pub mod GlanceLaws
 pub mod DamageLaws
 pub mod NewLaws
 pub mod SparedLaws

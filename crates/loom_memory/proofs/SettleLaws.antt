@@ -1,6 +1,6 @@
 -- Settling: dead objects go, and makings are counted anew.
 use Rattle.std.proofs.Common.{◌≡◌, ℕ, ◌+◌, ◌≤◌, true, Bool, Option, Some, None, Ok, Err, Result, IsTrue, refl, sym, ◌∙◌, ap, subst, arith, ⊎_elim}
-use Rattle.std.specs.Prelude.{IfErr, IsOk, OnOk}
+use Rattle.std.specs.Prelude.{IfErr, OnOk}
 use Rattle.std.specs.Option.{is_some}
 use Rattle.long_names.specs.Counting.{Rose}
 use Rattle.long_names.specs.Heap.{Heap, Has, object_count}
@@ -278,16 +278,6 @@ settle-stays {H} (Ok x) host m u v core now more bodies same = λ enough told k 
 settle-stays {H} (Err f) host m u v core now more bodies same = tt
 
 -- ---- where there is nothing to do
-
--- no object has to go, and entries enough are free
-pub rested : {H : Type 0} (r : Result (Unit {0}) MemFault) (m u v : LoomMemory H) → u ≡ (record m { ledger = record m.ledger { base = None; made = 0 } }) → (128 ≤ spare_of u.parts → IsOk r) → OnOk r (128 ≤ spare_of u.parts → v ≡ u)
-    → 128 ≤ spare_of m.parts → HasRested m v r
-rested {H} (Ok x) m u v same sure stays enough =
-    let spare = ap (λ (z : LoomMemory H). spare_of z.parts) same in
-    record { ok = refl; same = stays (omega (arith, spare, enough)) ∙ same }
-rested {H} (Err f) m u v same sure stays enough =
-    let spare = ap (λ (z : LoomMemory H). spare_of z.parts) same in
-    absurd (let is = sure (omega (arith, spare, enough)) in cc)
 
 pub rested-idle : {H : Type 0} (r : Result (Unit {0}) MemFault) (m v : LoomMemory H) → HasRested m v r → OnOk r (IsIdle m v)
 unfolding fetched

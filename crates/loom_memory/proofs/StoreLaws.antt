@@ -1,5 +1,6 @@
 -- Stores into an object in the core.
-use Rattle.std.proofs.Common.{◌≡◌, ℕ, ◌+◌, ◌<◌, ◌≤◌, length, take, length-take, Bool, true, false, cond, eqb, List, [], ◌∷◌, Option, Some, None, is_some, Result, Ok, Err, IsTrue, inl, refl, sym, ◌∙◌, ap, subst, add-zero, arith, ⊎_elim}
+use Rattle.std.proofs.Common.{◌≡◌, ◌≢◌, ℕ, ◌+◌, ◌<◌, ◌≤◌, length, take, length-take, Bool, true, false, cond, eqb, List, [], ◌∷◌, Option, Some, None, is_some, Result, Ok, Err, IsTrue, inl, refl, sym, ◌∙◌, ap, subst, add-zero, arith, ⊎_elim}
+use Rattle.std.proofs.Math.Path.{fun_ext}
 use Rattle.std.proofs.lemmas.Grind.{common_steps}
 use Rattle.std.specs.Result.{OnOk, IfErr}
 use Rattle.std.specs.Option.{option_map_or, option_and_then}
@@ -8,8 +9,8 @@ use Rattle.long_names.specs.declared.value.Value.TheVariants.{Int, Ref}
 use Rattle.long_names.specs.declared.object.Body.{Body}
 use Rattle.long_names.specs.declared.object.Body.TheVariants.{Pointers, Words, Bytes, Method}
 use Rattle.long_names.specs.declared.object.Object.{Object}
-use Rattle.long_names.specs.Objects.{is_ref, fields_of, words_of, bytes_of, with_field, with_words, with_bytes}
-use Rattle.long_names.specs.State.{HasPart}
+use Rattle.long_names.specs.Objects.{is_ref, field_of, fields_of, words_of, bytes_of, with_field, with_words, with_bytes}
+use Rattle.long_names.specs.State.{HasPart, part_at}
 use Rattle.long_names.specs.Words.{literal_count}
 use Rattle.long_names.specs.declared.object.Kind.{Kind}
 use Rattle.long_names.specs.declared.object.Kind.TheVariants as kind
@@ -36,7 +37,8 @@ use Rattle.core_view.specs.Purge.{fresh_by}
 use Rattle.core_view.specs.Kept.{IsCore, IsBacked, IsValued, Stays}
 use Rattle.core_view.proofs.Fresh.{fresh-stays}
 use Rattle.core_view.proofs.Core.{placed-used}
-use Rattle.core_view.proofs.Words.{meant-short}
+use Rattle.core_view.specs.Steps.{IsAt}
+use Rattle.core_view.proofs.Words.{meant-short, set-same}
 use Rattle.leaf_lambda.specs.declared.parts.Parts.{Parts}
 use Rattle.leaf_lambda.specs.Parts.{core_of, IsParts, IsWithin}
 use Rattle.leaf_lambda.specs.Making.{HasBytes, InBytes, InMethod}
@@ -48,12 +50,12 @@ use Rattle.purger.proofs.NamingLaws.{unmarking-counts}
 use Rattle.purger.proofs.RoomLaws.{work-refl}
 use Rattle.loom_memory.specs.declared.memory.LoomMemory.{LoomMemory}
 use Rattle.loom_memory.specs.declared.ledger.Ledger.{Ledger}
-use Rattle.loom_memory.specs.Memory.{heap_if, told_of, word_in, IsCalm, IsKept, IsOver, IsQuiet, IsRefused, IsSilent, IsSound}
+use Rattle.loom_memory.specs.Memory.{heap_if, loom_told, told_of, word_in, IsCalm, IsKept, IsOver, IsQuiet, IsRefused, IsSilent, IsSound}
 use Rattle.loom_memory.specs.Stores.{IsStored}
 use Rattle.loom_memory.proofs.AccessLaws.{after-quiet, refused-is, same-trans, raised-trans}
 use Rattle.loom_memory.proofs.CacheLaws.{cache-same, left-then}
 use Rattle.loom_memory.proofs.CalmLaws.{purged-calm, store-calm, store-told, calm-kept, quiet-is, over-is}
-use Rattle.loom_memory.proofs.LoadLaws.{object-told}
+use Rattle.loom_memory.proofs.LoadLaws.{field-told, object-told}
 use Rattle.loom_memory.proofs.ExactLaws.{exact-counts}
 use Rattle.loom_memory.proofs.RegLaws.{kept-rooted}
 
@@ -266,6 +268,54 @@ stored-is {H} host m q a of s p kept parts within at place name off is target wo
           let it : n ≡ ((core_of m.parts).entries s).name = ref-name n ((core_of m.parts).entries s).name (sym (touched-is regs a of n is target ∙ ap (is_ref n) ref) ∙ touched) in
           ap (marked_of (core_of m.parts)) it ∙ marked-at (core_of m.parts) s core used ∙ off);
       stored = heap;
+    }
+
+-- ---- a store of what is there
+
+field-own : (b : Body) (i : ℕ) (v : Value) → field_of b i ≡ Some v → with_field b i v ≡ b
+field-own (Pointers values) i v is = ap Pointers (set-same values i v is)
+field-own (Words words) i v is = refl
+field-own (Bytes bytes) i v is = refl
+field-own (Method header literals code) i v is = ap (λ (vs : List Value). Method header vs code) (set-same literals i v is)
+
+put-own : (h : Heap) (n : ℕ) (o : Object) → h.at n ≡ Some o → put_object h n o ≡ h
+put-own h n o is = ap (λ (f : ℕ → Option Object). let x : Heap = record { at = f; next = h.next } in x) (fun_ext (λ k. go k (eqb k n) refl))
+  where
+    go : (k : ℕ) (b : Bool) → eqb k n ≡ b → cond b (Some o) (h.at k) ≡ h.at k
+    go k true e = let same : k ≡ n = grind (arith, common_steps) in sym (ap h.at same ∙ is)
+    go k false e = refl
+
+-- the heap is as it was
+body-own : (h : Heap) (w : Value) (i : ℕ) (v : Value) → part_at h w (λ b. field_of b i) ≡ Some v → with_body h w (λ b. with_field b i v) ≡ h
+body-own h (Int z) i v is = refl
+body-own h (Ref n) i v is = go (h.at n) refl is
+  where
+    go : (x : Option Object) → h.at n ≡ x → option_and_then (λ (o : Object). field_of o.body i) x ≡ Some v → option_map_or (λ (o : Object). put_object h n (record { class = o.class; body = with_field o.body i v })) x h ≡ h
+    go None e is = refl
+    go (Some o) e is = ap (λ (b : Body). put_object h n (record { class = o.class; body = b })) (field-own o.body i v is) ∙ put-own h n o e
+
+-- an object with a body, without a mark, has this word in a field
+pub stored-own : {H : Type 0} (host : Ghosts H) (m : LoomMemory H) (of i from s p w : ℕ) → IsSound host m → IsAt (core_of m.parts) s p i w → w ≢ 0 → ((core_of m.parts).entries s).flags.marked ≡ false → s ≡ word_in m.regs of → w ≡ word_in m.regs from
+    → IsStored (loom_told host m) (loom_told host m) (SetField of i from)
+unfolding loom_told
+stored-own {H} host m of i from s p w sound at some off word same =
+    let core = sound.kept.parts.core in
+    let used = placed-used ((core_of m.parts).entries s).state p at.place in
+    let ref : meant (core_of m.parts).entries [] 0 (word_in m.regs of) ≡ Ref ((core_of m.parts).entries s).name = ap (meant (core_of m.parts).entries [] 0) (sym word) ∙ meant-short (core_of m.parts).entries [] 0 s (core.short s used) in
+    let disk = disk_of host m.disk.host.now m.disk.rest in
+    let regs : ℕ → Value = λ r. meant (core_of m.parts).entries [] 0 (word_in m.regs r) in
+    record {
+      heap = heap_if (host.tells Work) (held (core_of m.parts) disk) m.ledger.next;
+      bounds = (refl, refl, refl, omega arith, omega arith);
+      counts = (refl, sym (add-zero m.ledger.made));
+      same = refl;
+      cache = kept-cache (touched_by regs (SetField of i from)) _ _ refl
+          (λ n touched.
+          let it : n ≡ ((core_of m.parts).entries s).name = ref-name n ((core_of m.parts).entries s).name (sym (ap (is_ref n) ref) ∙ touched) in
+          ap (marked_of (core_of m.parts)) it ∙ marked-at (core_of m.parts) s core used ∙ off);
+      stored = λ told. sym (body-own (heap_if (host.tells Work) (held (core_of m.parts) disk) m.ledger.next) (regs of) i (regs from)
+          (field-told (host.tells Work) (core_of m.parts) disk m.ledger.next s p 0 of i w regs told core at some (ap (meant (core_of m.parts).entries [] 0) (sym word))
+          ∙ ap (λ (k : ℕ). Some (meant (core_of m.parts).entries [] 0 k)) same));
     }
 
 -- another body, as the access says it

@@ -2,9 +2,10 @@
 ghost use Rattle.std.specs.Prelude.{◌≡◌, ◌+◌, ◌*◌, ◌/◌, ◌<◌, ◌≤◌, ◌^◌, ℕ, Some, true, MatchBool, IfSome, IsSome, OnSome, length, drop, slice_get};
 ghost use Rattle.std.specs.Option.{option_and_then};
 ghost use Rattle.long_names.specs.Words.{IsSmallInteger, literal_count};
+ghost use Rattle.long_names.specs.declared.limits.TheConstants.{MOST_FIELDS};
 ghost use Rattle.long_names.specs.declared.object.Kind.TheVariants as kind;
 ghost use Rattle.long_names.specs.Objects.{words_of, bytes_of, header_of};
-ghost use Rattle.object_memory.specs.Shape.{code_at};
+ghost use Rattle.object_memory.specs.Shape.{code_at, field_count};
 ghost use Rattle.object_table.specs.Entries.{is_used, place_of};
 ghost use Rattle.core_segment.specs.Segment.{chunk_at};
 ghost use Rattle.core_view.specs.Words.{bytes_in, header_in, int_of_short, words_for};
@@ -98,6 +99,25 @@ pub(crate) fn word_at(p: &Parts, s: Short, i: u32) -> Option<u16>
             }
             None
         }
+        _ => None,
+    }
+}
+
+// How many values a body of pointers has. None where it is of another kind, or there is no body.
+#[inline]
+pub(crate) fn field_count_at(p: &Parts, s: Short) -> Option<u32>
+    requires parts { IsParts p.now }
+    requires used { is_used ((core_of p.now).entries s.0).state ≡ true }
+    ensures count { OfBody (core_of p.now) s.0 (λ b. result ≡ field_count b) }
+    ensures there { OnSome result (IsSome (place_of ((core_of p.now).entries s.0).state)) }
+    ensures bound { IfSome result (λ n. n < MOST_FIELDS + 1) }
+{
+    let e = p.names.table.entry(s);
+    if !e.place().is_some() {
+        return None;
+    }
+    match e.kind {
+        Kind::Pointers => Some(e.len),
         _ => None,
     }
 }

@@ -62,6 +62,10 @@ impl<'h, H: Host> ObjectMemory for LoomMemory<'h, H> {
         LoomMemory::len(self, of)
     }
 
+    fn field_count(&self, of: Reg) -> Option<u32> {
+        LoomMemory::field_count(self, of)
+    }
+
     fn header(&mut self, of: Reg) -> Result<i16, MemFault> {
         LoomMemory::header(self, of)
     }

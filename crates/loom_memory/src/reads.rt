@@ -5,7 +5,9 @@ ghost use Rattle.object_table.specs.Entries.{is_used};
 ghost use Rattle.leaf_lambda.specs.Parts.{core_of};
 ghost use Rattle.purger.specs.declared.eviction.TheConstants.{NOWHERE};
 
-use crate::bodies::{byte_at, bytes_into, code_byte_at, header_at, word_at, words_into};
+use crate::bodies::{
+    byte_at, bytes_into, code_byte_at, field_count_at, header_at, word_at, words_into,
+};
 use crate::memory::LoomMemory;
 use leaf_lambda::fields::is_name;
 use long_names::Kind;
@@ -19,7 +21,7 @@ impl<'h, H: Host> LoomMemory<'h, H> {
     ghost use Rattle.long_names.specs.State.{name_at, part_at, IsRef};
     ghost use Rattle.long_names.specs.Access.{Access, Class, KindOf, Length, Header, Word, Byte, ReadWords, ReadBytes, OfKind, OfNumber, OfSigned, OfRun, Nothing};
     ghost use Rattle.object_memory.specs.Told.{Told, IsReady};
-    ghost use Rattle.object_memory.specs.Shape.{code_at};
+    ghost use Rattle.object_memory.specs.Shape.{code_at, field_count, IsPartAt};
     ghost use Rattle.object_memory.specs.Contract.{Accessed, LeavesAll, MayDo, makes};
     ghost use Rattle.object_memory.specs.Fit.{MayCall, StaysCallable};
     ghost use Rattle.loom_memory.specs.Memory.{loom_told, loom_outside, loom_lender, IsSound, IsQuiet, IsSilent, IsRefused};
@@ -91,6 +93,21 @@ impl<'h, H: Host> LoomMemory<'h, H> {
             Ok(s) => Ok(self.parts.names.table.entry(s).len),
             Err(f) => Err(f),
         }
+    }
+
+    /// How many values an object of pointers has, where it is in the core. None else, and where it is of another kind.
+    #[inline]
+    pub fn field_count(&self, of: Reg) -> Option<u32>
+        requires { IsSound H.Host self.now }
+        ensures fields { IfSome result (λ n. IsPartAt (loom_told H.Host self.now) of field_count (Some n)) }
+        ensures bound { IfSome result (λ n. n < MOST_FIELDS + 1) }
+        ensures away { IfNone result ((is_resident self.now (name_at ((loom_told H.Host self.now).regs of)) ≡ false) ⊎ (IsTrue (loom_told H.Host self.now).tells → part_at (loom_told H.Host self.now).heap ((loom_told H.Host self.now).regs of) field_count ≡ None)) }
+    {
+        let w = self.word_of(of);
+        if !is_name(w) {
+            return None;
+        }
+        field_count_at(&self.parts, Short(w))
     }
 
     /// A method's header. The method has as many literals as it says.

@@ -22,6 +22,7 @@ impl<'h, H: Host> LoomMemory<'h, H> {
     ghost use Rattle.loom_memory.specs.Gentle.{IsSteady};
 
     // The word of a register: a number, or the short word of an entry.
+    #[inline]
     pub(crate) fn word_of(&self, r: Reg) -> u16
         requires { IsSound H.Host self.now }
         ensures word { result ≡ word_in self.now.regs r }

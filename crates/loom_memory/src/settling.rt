@@ -1,5 +1,5 @@
 // Between bytecodes: dead objects go where the disk is nearly full, and entries are freed for what comes.
-ghost use Rattle.std.specs.Prelude.{◌≡◌, ◌⊎◌, ◌+◌, ◌≤◌, ◌<◌, ℕ, Some, None, true, IsTrue, IsOk, OnOk, IfErr};
+ghost use Rattle.std.specs.Prelude.{◌≡◌, ◌⊎◌, ◌+◌, ◌≤◌, ◌<◌, ℕ, Some, None, true, false, IsTrue, OnOk, IfErr};
 ghost use Rattle.core_view.specs.Purge.{fresh_by, fresh_of};
 ghost use Rattle.core_view.specs.Room.{IsBare};
 ghost use Rattle.object_table.specs.Entries.{is_short};
@@ -114,6 +114,7 @@ impl<'h, H: Host> LoomMemory<'h, H> {
     }
 
     // No making is counted, and so many objects were there, if that is known.
+    #[inline]
     fn count_anew(&mut self, base: Option<u32>)
         requires sound { IsSound H.Host self.old }
         requires numbers { IsNumbered base 0 self.old.ledger.held self.old.ledger.next (disk_room self.old.disk.rest) }
@@ -170,7 +171,6 @@ impl<'h, H: Host> LoomMemory<'h, H> {
         ensures spare { OnOk result ((SETTLED ≤ spare_of self.new.parts) ⊎ IsBare self.new.pinned.a self.new.pinned.b self.new.pinned.d (core_of self.new.parts)) }
         ensures stays { OnOk result (SETTLED ≤ spare_of self.old.parts → self.new ≡ self.old) }
         ensures minds { OnOk result (MindsCache H.Host None self.old self.new (λ k. ⊥)) }
-        ensures sure { SETTLED ≤ spare_of self.old.parts → IsOk result }
         ensures sound { KeepsSound result (IsSound H.Host self.new) }
         ensures err { IfErr result (IsRefusedCall (loom_told H.Host self.old) (loom_told H.Host self.new) Settles) }
         ensures fault { IfErr result IsLost }
@@ -189,6 +189,38 @@ impl<'h, H: Host> LoomMemory<'h, H> {
                     Err(self.refuse(f))
                 }
             },
+        }
+    }
+
+    // Whether settling has nothing to do: there is room for eight more, and entries enough are free.
+    #[inline]
+    fn is_settled(&self) -> bool
+        requires { IsSound H.Host self.now }
+        ensures yes { result ≡ true → (self.now.ledger.held + MAKINGS ≤ disk_room self.now.disk.rest) × (SETTLED ≤ spare_of self.now.parts) }
+        ensures no { result ≡ false → self.now.ledger.held + MAKINGS ≤ disk_room self.now.disk.rest → SETTLED ≤ spare_of self.now.parts → ⊥ }
+    {
+        let room = self.disk.room();
+        self.ledger.held + MAKINGS_BEFORE_FREEING <= room && has_room(&self.parts, 0, RESERVE)
+    }
+
+    // Frees dead objects where the disk is nearly full, then entries where too few are free.
+    #[cold]
+    fn settle_slowly(&mut self) -> Result<(), MemFault>
+        requires fit { MayCall (IsSound H.Host) (loom_told H.Host) self.old }
+        ensures called { Called (loom_told H.Host self.old) (loom_told H.Host self.new) Settles result }
+        ensures none { OnOk result (self.new.ledger.made ≡ 0) }
+        ensures room { self.old.ledger.held + MAKINGS ≤ disk_room self.old.disk.rest → OnOk result ((self.new.ledger.base ≡ None) × (self.new.ledger.held ≡ self.old.ledger.held)) }
+        ensures full { disk_room self.old.disk.rest < self.old.ledger.held + MAKINGS → OnOk result (self.new.ledger.base ≡ Some self.new.ledger.held) }
+        ensures spare { OnOk result ((SETTLED ≤ spare_of self.new.parts) ⊎ IsBare self.new.pinned.a self.new.pinned.b self.new.pinned.d (core_of self.new.parts)) }
+        ensures fetches { OnOk result (fetched self.new ≡ fetched self.old) }
+        ensures stays { OnOk result (SETTLED ≤ spare_of self.old.parts → IsTrue (H.tells Role.Work) → (k : ℕ) → IsTrue (is_resident self.old k) → Has (loom_told H.Host self.new).heap k → IsTrue (is_resident self.new k)) }
+        ensures whole { self.old.ledger.held + MAKINGS ≤ disk_room self.old.disk.rest → OnOk result ((loom_told H.Host self.new).heap ≡ (loom_told H.Host self.old).heap) }
+        ensures minds { OnOk result (IsTrue (H.tells Role.Work) → MindsCache H.Host None self.old self.new (λ k. ⊥)) }
+        ensures fit { StaysCallable (IsSound H.Host) (loom_told H.Host) loom_lender (loom_outside H.Host) self.old self.new result }
+    {
+        match self.settle_disk() {
+            Ok(()) => self.spare_entries(),
+            Err(f) => Err(f),
         }
     }
 
@@ -212,9 +244,10 @@ impl<'h, H: Host> LoomMemory<'h, H> {
         ensures rests { self.old.ledger.held + MAKINGS ≤ disk_room self.old.disk.rest → SETTLED ≤ spare_of self.old.parts → HasRested self.old self.new result }
         ensures fit { StaysCallable (IsSound H.Host) (loom_told H.Host) loom_lender (loom_outside H.Host) self.old self.new result }
     {
-        match self.settle_disk() {
-            Ok(()) => self.spare_entries(),
-            Err(f) => Err(f),
+        if self.is_settled() {
+            self.count_anew(None);
+            return Ok(());
         }
+        self.settle_slowly()
     }
 }

@@ -236,7 +236,7 @@ impl<'h, H: Host> LoomMemory<'h, H> {
         Ok(())
     }
 
-    // Stores into field i of an object in the core that has this word there.
+    // Stores into field i of an object in the core that has this word there. Where the register has it too, nothing changes but marks.
     fn replace_field(&mut self, of: Reg, s: Short, i: u32, from: Reg, w: u16)
         requires sound { IsSound H.Host self.old }
         requires word { s.0 ≡ word_in self.old.regs of }
@@ -250,6 +250,9 @@ impl<'h, H: Host> LoomMemory<'h, H> {
         ensures outside { loom_outside H.Host self.new ≡ loom_outside H.Host self.old }
     {
         self.unmark(s);
+        if self.word_of(from) == w {
+            return;
+        }
         let at = place_of_body(&self.parts, s);
         self.exchange_field(of, s, at, i, from, w);
     }

@@ -8,7 +8,7 @@ use Rattle.leaf_lambda.specs.Parts.{core_of}
 use Rattle.loom_memory.specs.Memory.{loom_told, word_in}
 use Rattle.loom_memory.proofs.FieldLaws.{word-live}
 use Rattle.loom_memory.proofs.LoadLaws.{field-told}
-use Rattle.loom_memory.proofs.StoreLaws.{stored-quiet}
+use Rattle.loom_memory.proofs.StoreLaws.{stored-own, stored-quiet}
 use Rattle.loom_memory.proofs.GentleLaws.{at-place-of, rest-trans}
 use Rattle.loom_memory.proofs.MindLaws.{minds-step}
 use Rattle.loom_memory.proofs.memory.LoomMemory.replace_field.Goals as goal
@@ -39,6 +39,21 @@ exchange_field-requires-clause-before g c = λ told.
     let there = c.requires.there in
     field-told (g.H.Host.tells Work) (core_of n.parts) (disk_of g.H.Host n.disk.host.now n.disk.rest) n.ledger.next c.args.s.0 there.0 0 c.args.of c.args.i c.args.w (loom_told g.H.Host n).regs told c.unmark.ensures.sound.kept.parts.core (c.unmark.ensures.field there.0 c.args.i c.args.w there.1) there.2
     (ap (meant (core_of n.parts).entries [] 0) (sym (c.requires.word ∙ ap (λ (regs : List ℕ). word_in regs c.args.of) (sym c.unmark.ensures.regs))))
+
+-- ---- the word is there
+
+pub returns-then-word_of-w-clause-stored : goal.returns-then-word_of-w-clause-stored
+returns-then-word_of-w-clause-stored g c =
+    let u = c.unmark.new.self in
+    let there = c.requires.there in
+    stored-quiet (loom_told g.H.Host c.args.self.now) (loom_told g.H.Host u) (loom_told g.H.Host u) (SetField c.args.of c.args.i c.args.from) c.unmark.ensures.quiet
+    (stored-own g.H.Host u c.args.of c.args.i c.args.from c.args.s.0 there.0 c.args.w c.unmark.ensures.sound (c.unmark.ensures.field there.0 c.args.i c.args.w there.1) there.2 c.unmark.ensures.gone (c.requires.word ∙ ap (λ (regs : List ℕ). word_in regs c.args.of) (sym c.unmark.ensures.regs))
+    (sym c.if-word_of-w.true ∙ c.word_of.ensures.word))
+
+pub returns-then-word_of-w-clause-cached : goal.returns-then-word_of-w-clause-cached
+returns-then-word_of-w-clause-cached g c = λ off. ap (λ z. (loom_told g.H.Host z).cache) (c.unmark.ensures.idle off)
+
+-- ---- or it is exchanged
 
 pub returns-clause-stored : goal.returns-clause-stored
 returns-clause-stored g c = stored-quiet (loom_told g.H.Host c.args.self.now) (loom_told g.H.Host c.unmark.new.self) (loom_told g.H.Host c.exchange_field.new.self) (SetField c.args.of c.args.i c.args.from) c.unmark.ensures.quiet c.exchange_field.ensures.stored

@@ -1,44 +1,79 @@
-use Rattle.std.proofs.Common.{IsTrue, ◌∙◌}
+use Rattle.std.proofs.Common.{◌≡◌, None, Ok, refl, sym, ap, subst, inl, arith, true}
 use Rattle.loom_outside.specs.declared.outside.Role.TheVariants.{Work}
-use Rattle.loom_memory.specs.Memory.{loom_told}
-use Rattle.loom_memory.proofs.SettleLaws.{rested, rested-cached, rested-idle, rested-whole, settle-fetches, settle-last, settle-now, settle-stays, settled-ready}
-use Rattle.loom_memory.proofs.MindLaws.{minds-told}
+use Rattle.disk_objects.specs.Disk.{disk_room}
+use Rattle.leaf_lambda.specs.declared.parts.Parts.{Parts}
+use Rattle.leaf_lambda.specs.Parts.{core_of, spare_of}
+use Rattle.object_memory.specs.Told.{Told}
+use Rattle.loom_memory.specs.declared.ledger.Ledger.{Ledger}
+use Rattle.loom_memory.specs.Memory.{loom_told, loom_outside, others_of}
+use Rattle.loom_memory.specs.Own.{HasRested}
+use Rattle.loom_memory.specs.Residents.{fetched, has_body, is_resident}
+use Rattle.loom_memory.proofs.MindLaws.{minds-anew, minds-refl}
+use Rattle.loom_memory.proofs.SettleLaws.{numbers-none, rested-cached, rested-idle, settled-called, settled-none, settled-ready}
 use Rattle.loom_memory.proofs.memory.LoomMemory.settle.Goals as goal
+use Rattle.loom_memory.proofs.memory.LoomMemory.settle.Given as given
 
-pub spare_entries-requires-clause-ready : goal.spare_entries-requires-clause-ready
-spare_entries-requires-clause-ready g c = settled-ready (loom_told g.H.Host c.args.self.now) (loom_told g.H.Host c.settle_disk.new.self) c.in-Ok.ensures.settled c.requires.fit.ready
+pub count_anew-requires-clause-numbers : goal.count_anew-requires-clause-numbers
+count_anew-requires-clause-numbers g c =
+    let m = c.args.self.now in
+    numbers-none m.ledger.base m.ledger.made m.ledger.held m.ledger.next (disk_room m.disk.rest) c.requires.fit.sound.over.based (c.is_settled.ensures.yes c.if-is_settled.true).0
 
-pub returns-in-Ok-clause-called : goal.returns-in-Ok-clause-called
-returns-in-Ok-clause-called g c = settle-last c.spare_entries.result (loom_told g.H.Host c.args.self.now) (loom_told g.H.Host c.settle_disk.new.self) (loom_told g.H.Host c.spare_entries.new.self) c.in-Ok.ensures.settled c.spare_entries.ensures.quiet c.spare_entries.ensures.err c.spare_entries.ensures.fault
+-- ---- nothing had to be done
 
-pub returns-in-Ok-clause-fit : goal.returns-in-Ok-clause-fit
-returns-in-Ok-clause-fit g c = record {
-  sound = c.spare_entries.ensures.sound;
-  ready = settle-now c.spare_entries.result (loom_told g.H.Host c.args.self.now) (loom_told g.H.Host c.settle_disk.new.self) (loom_told g.H.Host c.spare_entries.new.self) c.in-Ok.ensures.settled c.spare_entries.ensures.quiet c.requires.fit.ready;
-  lender = c.spare_entries.ensures.lender ∙ c.settle_disk.ensures.lender;
-  outside = c.spare_entries.ensures.outside ∙ c.settle_disk.ensures.outside;
+has-rested : (g : given.Over) (c : goal.After-count_anew g) → HasRested c.args.self.now c.count_anew.new.self (Ok tt)
+has-rested g c = record { ok = refl; same = c.count_anew.ensures.same }
+
+pub returns-then-is_settled-clause-called : goal.returns-then-is_settled-clause-called
+returns-then-is_settled-clause-called g c =
+    let t = loom_told g.H.Host c.args.self.now in
+    let u = loom_told g.H.Host c.count_anew.new.self in
+    settled-called t u (settled-none t u c.requires.fit.ready c.count_anew.ensures.begun)
+
+pub returns-then-is_settled-clause-full : goal.returns-then-is_settled-clause-full
+returns-then-is_settled-clause-full g c = λ less. absurd (let enough = (c.is_settled.ensures.yes c.if-is_settled.true).0 in omega (arith, less, enough))
+
+pub returns-then-is_settled-clause-spare : goal.returns-then-is_settled-clause-spare
+returns-then-is_settled-clause-spare g c = inl (let enough = (c.is_settled.ensures.yes c.if-is_settled.true).1 in let same = ap (λ (p : Parts). spare_of p) c.count_anew.ensures.parts in omega (arith, enough, same))
+
+pub returns-then-is_settled-clause-fetches : goal.returns-then-is_settled-clause-fetches
+unfolding fetched
+returns-then-is_settled-clause-fetches g c = ap (λ (k : Ledger). k.fetches) c.count_anew.ensures.ledger
+
+pub returns-then-is_settled-clause-stays : goal.returns-then-is_settled-clause-stays
+unfolding is_resident
+returns-then-is_settled-clause-stays g c = λ enough told k here has. subst (λ (p : Parts). has_body (core_of p) ((core_of p).find k) ≡ true) (sym c.count_anew.ensures.parts) here
+
+pub returns-then-is_settled-clause-whole : goal.returns-then-is_settled-clause-whole
+returns-then-is_settled-clause-whole g c = λ room. ap (λ (z : Told). z.heap) c.count_anew.ensures.begun.same
+
+pub returns-then-is_settled-clause-idle : goal.returns-then-is_settled-clause-idle
+returns-then-is_settled-clause-idle g c = λ room enough. rested-idle (Ok tt) c.args.self.now c.count_anew.new.self (has-rested g c)
+
+pub returns-then-is_settled-clause-cached : goal.returns-then-is_settled-clause-cached
+returns-then-is_settled-clause-cached g c = λ room enough. rested-cached (Ok tt) g.H.Host c.args.self.now c.count_anew.new.self (has-rested g c)
+
+pub returns-then-is_settled-clause-minds : goal.returns-then-is_settled-clause-minds
+returns-then-is_settled-clause-minds g c = λ told. minds-anew g.H.Host c.args.self.now c.args.self.now c.count_anew.new.self None (minds-refl g.H.Host c.args.self.now (λ k. ⊥) c.requires.fit.sound) c.count_anew.ensures.same
+
+pub returns-then-is_settled-clause-rests : goal.returns-then-is_settled-clause-rests
+returns-then-is_settled-clause-rests g c = λ room enough. has-rested g c
+
+pub returns-then-is_settled-clause-fit : goal.returns-then-is_settled-clause-fit
+unfolding loom_outside
+returns-then-is_settled-clause-fit g c = record {
+  sound = c.count_anew.ensures.sound;
+  ready = settled-ready (loom_told g.H.Host c.args.self.now) (loom_told g.H.Host c.count_anew.new.self) (settled-none (loom_told g.H.Host c.args.self.now) (loom_told g.H.Host c.count_anew.new.self) c.requires.fit.ready c.count_anew.ensures.begun) c.requires.fit.ready;
+  lender = ap (λ d. d.host.ghost_name) c.count_anew.ensures.disk;
+  outside = ap (λ d. (λ r. others_of (g.H.Host.tells Work) r (g.H.Host.roles d.host.now r) (g.H.Host.faults d.host.now r))) c.count_anew.ensures.disk;
 }
 
-pub returns-in-Ok-clause-fetches : goal.returns-in-Ok-clause-fetches
-returns-in-Ok-clause-fetches g c = settle-fetches c.spare_entries.result c.args.self.now c.settle_disk.new.self c.spare_entries.new.self c.in-Ok.ensures.fetches c.spare_entries.ensures.ledger
+-- ---- something had to
 
-pub returns-in-Ok-clause-stays : goal.returns-in-Ok-clause-stays
-returns-in-Ok-clause-stays g c = settle-stays c.spare_entries.result g.H.Host c.args.self.now c.settle_disk.new.self c.spare_entries.new.self c.requires.fit.sound.kept.parts.core c.in-Ok.ensures.sound.kept.parts.core c.in-Ok.ensures.entries c.in-Ok.ensures.bodies c.spare_entries.ensures.stays
+pub returns-clause-idle : goal.returns-clause-idle
+returns-clause-idle g c = λ room enough. absurd (c.is_settled.ensures.no c.if-is_settled.false room enough)
 
-pub returns-in-Ok-clause-whole : goal.returns-in-Ok-clause-whole
-returns-in-Ok-clause-whole g c = λ room. rested-whole c.spare_entries.result g.H.Host c.args.self.now c.settle_disk.new.self c.spare_entries.new.self (c.in-Ok.ensures.rests room).same c.spare_entries.ensures.quiet
+pub returns-clause-cached : goal.returns-clause-cached
+returns-clause-cached g c = λ room enough. absurd (c.is_settled.ensures.no c.if-is_settled.false room enough)
 
-pub returns-in-Ok-clause-rests : goal.returns-in-Ok-clause-rests
-returns-in-Ok-clause-rests g c = λ room enough. rested c.spare_entries.result c.args.self.now c.settle_disk.new.self c.spare_entries.new.self (c.in-Ok.ensures.rests room).same c.spare_entries.ensures.sure c.spare_entries.ensures.stays enough
-
-pub returns-in-Ok-clause-idle : goal.returns-in-Ok-clause-idle
-returns-in-Ok-clause-idle g c = λ room enough. rested-idle c.spare_entries.result c.args.self.now c.spare_entries.new.self (rested c.spare_entries.result c.args.self.now c.settle_disk.new.self c.spare_entries.new.self (c.in-Ok.ensures.rests room).same c.spare_entries.ensures.sure c.spare_entries.ensures.stays enough)
-
-pub returns-in-Ok-clause-cached : goal.returns-in-Ok-clause-cached
-returns-in-Ok-clause-cached g c = λ room enough. rested-cached c.spare_entries.result g.H.Host c.args.self.now c.spare_entries.new.self (rested c.spare_entries.result c.args.self.now c.settle_disk.new.self c.spare_entries.new.self (c.in-Ok.ensures.rests room).same c.spare_entries.ensures.sure c.spare_entries.ensures.stays enough)
-
-pub returns-in-Err-clause-rests : goal.returns-in-Err-clause-rests
-returns-in-Err-clause-rests g c = λ room enough. c.in-Err.ensures.rests room
-
-pub returns-in-Ok-clause-minds : goal.returns-in-Ok-clause-minds
-returns-in-Ok-clause-minds g c = minds-told c.spare_entries.result (IsTrue (g.H.Host.tells Work)) g.H.Host c.args.self.now c.settle_disk.new.self c.spare_entries.new.self (λ k. ⊥) c.in-Ok.ensures.minds c.spare_entries.ensures.minds
+pub returns-clause-rests : goal.returns-clause-rests
+returns-clause-rests g c = λ room enough. absurd (c.is_settled.ensures.no c.if-is_settled.false room enough)

@@ -34,8 +34,5 @@ returns-in-Ok-clause-stays g c = λ enough. absurd (c.has_room.ensures.lacks c.i
 pub returns-in-Short-clause-stays : goal.returns-in-Short-clause-stays
 returns-in-Short-clause-stays g c = λ enough. absurd (c.has_room.ensures.lacks c.if-has_room.false (omega arith, enough))
 
-pub returns-in-Disk-clause-sure : goal.returns-in-Disk-clause-sure
-returns-in-Disk-clause-sure g c = λ enough. absurd (c.has_room.ensures.lacks c.if-has_room.false (omega arith, enough))
-
 pub returns-then-has_room-clause-minds : goal.returns-then-has_room-clause-minds
 returns-then-has_room-clause-minds g c = minds-refl g.H.Host c.args.self.now (λ k. ⊥) c.requires.sound

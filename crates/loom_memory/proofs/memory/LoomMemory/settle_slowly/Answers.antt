@@ -1,0 +1,32 @@
+use Rattle.std.proofs.Common.{IsTrue, ◌∙◌}
+use Rattle.loom_outside.specs.declared.outside.Role.TheVariants.{Work}
+use Rattle.loom_memory.specs.Memory.{loom_told}
+use Rattle.loom_memory.proofs.SettleLaws.{rested-whole, settle-fetches, settle-last, settle-now, settle-stays, settled-ready}
+use Rattle.loom_memory.proofs.MindLaws.{minds-told}
+use Rattle.loom_memory.proofs.memory.LoomMemory.settle_slowly.Goals as goal
+
+pub spare_entries-requires-clause-ready : goal.spare_entries-requires-clause-ready
+spare_entries-requires-clause-ready g c = settled-ready (loom_told g.H.Host c.args.self.now) (loom_told g.H.Host c.settle_disk.new.self) c.in-Ok.ensures.settled c.requires.fit.ready
+
+pub returns-in-Ok-clause-called : goal.returns-in-Ok-clause-called
+returns-in-Ok-clause-called g c = settle-last c.spare_entries.result (loom_told g.H.Host c.args.self.now) (loom_told g.H.Host c.settle_disk.new.self) (loom_told g.H.Host c.spare_entries.new.self) c.in-Ok.ensures.settled c.spare_entries.ensures.quiet c.spare_entries.ensures.err c.spare_entries.ensures.fault
+
+pub returns-in-Ok-clause-fit : goal.returns-in-Ok-clause-fit
+returns-in-Ok-clause-fit g c = record {
+  sound = c.spare_entries.ensures.sound;
+  ready = settle-now c.spare_entries.result (loom_told g.H.Host c.args.self.now) (loom_told g.H.Host c.settle_disk.new.self) (loom_told g.H.Host c.spare_entries.new.self) c.in-Ok.ensures.settled c.spare_entries.ensures.quiet c.requires.fit.ready;
+  lender = c.spare_entries.ensures.lender ∙ c.settle_disk.ensures.lender;
+  outside = c.spare_entries.ensures.outside ∙ c.settle_disk.ensures.outside;
+}
+
+pub returns-in-Ok-clause-fetches : goal.returns-in-Ok-clause-fetches
+returns-in-Ok-clause-fetches g c = settle-fetches c.spare_entries.result c.args.self.now c.settle_disk.new.self c.spare_entries.new.self c.in-Ok.ensures.fetches c.spare_entries.ensures.ledger
+
+pub returns-in-Ok-clause-stays : goal.returns-in-Ok-clause-stays
+returns-in-Ok-clause-stays g c = settle-stays c.spare_entries.result g.H.Host c.args.self.now c.settle_disk.new.self c.spare_entries.new.self c.requires.fit.sound.kept.parts.core c.in-Ok.ensures.sound.kept.parts.core c.in-Ok.ensures.entries c.in-Ok.ensures.bodies c.spare_entries.ensures.stays
+
+pub returns-in-Ok-clause-whole : goal.returns-in-Ok-clause-whole
+returns-in-Ok-clause-whole g c = λ room. rested-whole c.spare_entries.result g.H.Host c.args.self.now c.settle_disk.new.self c.spare_entries.new.self (c.in-Ok.ensures.rests room).same c.spare_entries.ensures.quiet
+
+pub returns-in-Ok-clause-minds : goal.returns-in-Ok-clause-minds
+returns-in-Ok-clause-minds g c = minds-told c.spare_entries.result (IsTrue (g.H.Host.tells Work)) g.H.Host c.args.self.now c.settle_disk.new.self c.spare_entries.new.self (λ k. ⊥) c.in-Ok.ensures.minds c.spare_entries.ensures.minds
