@@ -1,21 +1,33 @@
 -- What a window shows, and what a write leaves of it.
-use Rattle.std.proofs.Common.{◌≡◌, ◌⊎◌, inl, inr, ℕ, ◌+◌, ◌-◌, ◌<◌, ◌≤◌, List, ◌++◌, length, get_or, take, drop, Option, Some, subst, sym, ap, ◌∙◌, arith}
+use Rattle.std.proofs.Common.{◌≡◌, ◌⊎◌, inl, inr, ℕ, ◌+◌, ◌-◌, ◌<◌, ◌≤◌, ◌%◌, ◌/◌, ◌≢◌, List, ◌++◌, length, get_or, take, drop, Option, Some, sym, ap, ◌∙◌, arith}
 use Rattle.std.specs.Option.{unwrap_or}
 use Rattle.std.proofs.lemmas.Grind.{elements, common_steps}
 use Rattle.loom_outside.specs.Bytes.{window, overwritten}
 use Rattle.loom_outside.proofs.Windows.{length-window, get_or-window, window-by_bytes, get_or-overwritten, byte_after_inside, byte_after_outside, window-overwritten_apart, window-taken}
-use Rattle.work_windows.specs.Windows.{Shows}
+use Rattle.work_windows.specs.Windows.{IsPageOf, Shows}
 use Rattle.work_windows.specs.declared.window.TheConstants.{WIDTH}
 use Rattle.work_windows.specs.declared.window.Window.{Window}
+use Rattle.work_windows.specs.declared.windows.TheConstants.{COUNT}
 
 -- one place is enough
-pub shows-at : (work : List ℕ) (w : Window) (own : ℕ) → w.place ≡ Some own → w.bytes ≡ window work own WIDTH → Shows work w
-shows-at work w own at same place is = subst (λ p. w.bytes ≡ window work p WIDTH) (ap (λ (o : Option ℕ). unwrap_or o 0) (sym at ∙ is)) same
+pub one-place : (p : Option ℕ) (x y : ℕ) → p ≡ Some x → p ≡ Some y → x ≡ y
+one-place p x y here there = ap (λ (o : Option ℕ). unwrap_or o 0) (sym here ∙ there)
 
--- a write before a window or behind it
-pub shows-apart : (work : List ℕ) (w : Window) (own place : ℕ) (piece : List ℕ) → w.place ≡ Some own → (own + WIDTH ≤ place) ⊎ (place + length piece ≤ own) → Shows work w → Shows (overwritten work place piece) w
-shows-apart work w own place piece at apart shows =
-    shows-at (overwritten work place piece) w own at (shows own at ∙ sym (window-overwritten_apart work place piece own WIDTH apart))
+-- a page that begins elsewhere ends before what is written within one, or begins behind it
+pub pages-apart : (own place from n : ℕ) → own % WIDTH ≡ 0 → place % WIDTH ≡ 0 → from + n ≤ WIDTH → own ≢ place → (own + WIDTH ≤ place + from) ⊎ (place + from + n ≤ own)
+pages-apart own place from n page written fits other = grind arith
+
+-- and so does one that another window shows
+pub indexes-apart : (own place n i : ℕ) → IsPageOf i own → place % WIDTH + n ≤ WIDTH → i ≢ place / WIDTH % COUNT → (own + WIDTH ≤ place) ⊎ (place + n ≤ own)
+indexes-apart own place n i page fits other = grind arith
+
+-- the page of a place
+pub page-of : (place i : ℕ) → i ≡ place / WIDTH % COUNT → IsPageOf i (place - place % WIDTH)
+page-of place i is = (omega arith, omega (arith, is))
+
+-- what is written apart from a page leaves it as it is
+pub shows-apart : (work : List ℕ) (i : ℕ) (w : Window) (place : ℕ) (piece : List ℕ) → ((own : ℕ) → w.place ≡ Some own → (own + WIDTH ≤ place) ⊎ (place + length piece ≤ own)) → Shows work i w → Shows (overwritten work place piece) i w
+shows-apart work i w place piece apart shows = λ own at. ((shows own at).0, (shows own at).1 ∙ sym (window-overwritten_apart work place piece own WIDTH (apart own at)))
 
 inside_or_out : (at b k : ℕ) → ((at ≤ k) × (k < at + b)) ⊎ ((k < at) ⊎ (at + b ≤ k))
 inside_or_out at b k = grind arith
@@ -50,17 +62,13 @@ window-pasted work room own at n b is fits =
 rest_behind : (at : ℕ) (b room : List ℕ) → drop (at + length b - at) (drop at room) ≡ drop (at + length b) room
 rest_behind at b room = grind (arith, elements)
 
--- a window with a piece put into it, under the place that it begins at
-pub put-shows : (work room new : List ℕ) (own place x : ℕ) (b : List ℕ) (p : Option ℕ) → room ≡ window work own WIDTH → new ≡ b → own ≤ place → place - own + length b ≤ WIDTH → p ≡ Some own → p ≡ Some x → take (place - own) room ++ (new ++ drop (place - own + length b - (place - own)) (drop (place - own) room)) ≡ window (overwritten work place b) x WIDTH
-put-shows work room new own place x b p is same low fits here there =
-    let at = place - own in
-    let begins : own + at ≡ place = omega arith in
-    let begins_there : own ≡ x = ap (λ (o : Option ℕ). unwrap_or o 0) (sym here ∙ there) in
-    ap (λ (ys : List ℕ). take at room ++ (ys ++ drop (at + length b - at) (drop at room))) same
-    ∙ ap (λ (rest : List ℕ). take at room ++ (b ++ rest)) (rest_behind at b room)
-    ∙ window-pasted work room own at WIDTH b is fits
-    ∙ ap (λ (q : ℕ). window (overwritten work q b) own WIDTH) begins
-    ∙ ap (λ (q : ℕ). window (overwritten work place b) q WIDTH) begins_there
+-- a page with a piece put into it
+pub put-shows : (work room new : List ℕ) (own from x : ℕ) (b : List ℕ) → room ≡ window work x WIDTH → new ≡ b → from + length b ≤ WIDTH → x ≡ own → take from room ++ (new ++ drop (from + length b - from) (drop from room)) ≡ window (overwritten work (own + from) b) x WIDTH
+put-shows work room new own from x b is same fits here =
+    ap (λ (ys : List ℕ). take from room ++ (ys ++ drop (from + length b - from) (drop from room))) same
+    ∙ ap (λ (rest : List ℕ). take from room ++ (b ++ rest)) (rest_behind from b room)
+    ∙ window-pasted work room x from WIDTH b is fits
+    ∙ ap (λ (q : ℕ). window (overwritten work (q + from) b) x WIDTH) here
 
 -- a piece that was copied out of a window
 pub piece-shown : (work bytes new : List ℕ) (place from n : ℕ) → bytes ≡ window work place WIDTH → from + n ≤ WIDTH → new ≡ take (from + n - from) (drop from bytes) → new ≡ window work (place + from) n

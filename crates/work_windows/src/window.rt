@@ -4,7 +4,7 @@ ghost use Rattle.loom_outside.specs.Bytes.{window, overwritten};
 ghost use Rattle.loom_outside.specs.Outside.{HasCause};
 ghost use Rattle.loom_outside.specs.Work.{work_of, IsWorkRead};
 ghost use Rattle.loom_outside.specs.declared.outside.Role.{Role};
-ghost use Rattle.work_windows.specs.Windows.{Shows};
+ghost use Rattle.work_windows.specs.Windows.{IsPageOf, Shows};
 ghost use Rattle.work_windows.specs.declared.window.TheConstants.{WIDTH};
 
 use loom_outside::{Failed, Host, Role};
@@ -12,12 +12,14 @@ use loom_outside::{Failed, Host, Role};
 /// The bytes of a window.
 pub const WIDTH: usize = 4_096;
 
-/// So many bytes of Work from a place on, as they were read and written since.
+/// A page of Work, as it was read and written since.
 #[derive(Clone, Copy)]
 pub(crate) struct Window {
-    // None where none were read.
+    // Its first byte, None where none was read.
     pub place: Option<u64>,
     pub bytes: [u8; WIDTH],
+    // The page that was asked for last where it didn't show it.
+    pub asked: Option<u64>,
 }
 
 impl Window {
@@ -28,6 +30,7 @@ impl Window {
         Window {
             place: None,
             bytes: [0; WIDTH],
+            asked: None,
         }
     }
 
@@ -41,10 +44,23 @@ impl Window {
         }
     }
 
-    // Reads the bytes from a place on, unless it has them.
+    /// Whether the page from a place on is one to be shown: it is shown, or was asked for last. It is the one that was asked for last then.
+    pub fn is_wanted(&mut self, place: u64) -> bool
+        ensures place { self.new.place ≡ self.old.place }
+        ensures bytes { self.new.bytes ≡ self.old.bytes }
+    {
+        if self.is_at(place) {
+            return true;
+        }
+        let again = self.asked == Some(place);
+        self.asked = Some(place);
+        again
+    }
+
+    // Reads the page from a place on, unless it has that.
     fn show<H: Host>(&mut self, host: &mut H, place: u64) -> Result<(), Failed>
         ensures place { OnOk result (self.new.place ≡ Some place) }
-        ensures shows { IsTrue (H.tells Role.Work) → Shows (work_of H.Host host.old) self.old → Shows (work_of H.Host host.old) self.new }
+        ensures shows { (i : ℕ) → IsPageOf i place → IsTrue (H.tells Role.Work) → Shows (work_of H.Host host.old) i self.old → Shows (work_of H.Host host.old) i self.new }
         ensures read { IsWorkRead H.Host host.old host.new }
         ensures cause { HasCause (H.faults host.old Role.Work) (H.faults host.new Role.Work) result }
     {
@@ -57,7 +73,7 @@ impl Window {
         Ok(())
     }
 
-    /// Reads the bytes from so many behind a place on, and first the window from this place on, unless it has that.
+    /// Reads the bytes from so many behind a place on, and first the page from this place on, unless it has that.
     pub fn read_at<H: Host>(
         &mut self,
         host: &mut H,
@@ -66,8 +82,8 @@ impl Window {
         buf: &mut [u8],
     ) -> Result<(), Failed>
         requires { from + length buf.old ≤ WIDTH }
-        ensures bytes { IsTrue (H.tells Role.Work) → Shows (work_of H.Host host.old) self.old → OnOk result (buf.new ≡ window (work_of H.Host host.old) (place + from) (length buf.old)) }
-        ensures shows { IsTrue (H.tells Role.Work) → Shows (work_of H.Host host.old) self.old → Shows (work_of H.Host host.old) self.new }
+        ensures bytes { (i : ℕ) → IsPageOf i place → IsTrue (H.tells Role.Work) → Shows (work_of H.Host host.old) i self.old → OnOk result (buf.new ≡ window (work_of H.Host host.old) (place + from) (length buf.old)) }
+        ensures shows { (i : ℕ) → IsPageOf i place → IsTrue (H.tells Role.Work) → Shows (work_of H.Host host.old) i self.old → Shows (work_of H.Host host.old) i self.new }
         ensures read { IsWorkRead H.Host host.old host.new }
         ensures cause { HasCause (H.faults host.old Role.Work) (H.faults host.new Role.Work) result }
     {
@@ -76,24 +92,13 @@ impl Window {
         Ok(())
     }
 
-    /// Takes over what was written to a place. Where that stands over an edge of the window, it is a window of nothing.
-    pub fn follow(&mut self, place: u64, piece: &[u8])
-        ensures { (work : List ℕ) → Shows work self.old → Shows (overwritten work place piece.now) self.new }
+    /// Takes over what was written so many bytes behind a place, if it is the page from this place on that it shows.
+    pub fn follow(&mut self, place: u64, from: usize, piece: &[u8])
+        requires { from + length piece.now ≤ WIDTH }
+        ensures { (work : List ℕ) (i j : ℕ) → IsPageOf i place → Shows work j self.old → Shows (overwritten work (place + from) piece.now) j self.new }
     {
-        let Some(own) = self.place else {
-            return;
-        };
-        if place < own {
-            if own - place < piece.len() as u64 {
-                self.place = None;
-            }
-        } else if place - own < WIDTH as u64 {
-            let at = (place - own) as usize;
-            if piece.len() <= WIDTH - at {
-                self.bytes[at..at + piece.len()].copy_from_slice(piece);
-            } else {
-                self.place = None;
-            }
+        if self.is_at(place) {
+            self.bytes[from..from + piece.len()].copy_from_slice(piece);
         }
     }
 }

@@ -1,8 +1,8 @@
 // A host with windows over the Work of another host.
-ghost use Rattle.std.specs.Prelude.{IsTrue, All};
+ghost use Rattle.std.specs.Prelude.{IsTrue};
 ghost use Rattle.loom_outside.specs.Work.{work_of};
 ghost use Rattle.loom_outside.specs.declared.outside.Role.TheVariants.{Work};
-ghost use Rattle.work_windows.specs.Windows.{Shows};
+ghost use Rattle.work_windows.specs.Windows.{AllShow};
 
 use crate::windows::Windows;
 use loom_outside::{Failed, Host, Role};
@@ -15,7 +15,7 @@ use std::alloc::Global;
 pub struct Windowed<H: Host + Drop> {
     inner: H,
     windows: Windows,
-    ghost current: { IsTrue (H.tells Work) → All (Shows (work_of H.Host inner)) windows.items.items },
+    ghost current: { IsTrue (H.tells Work) → AllShow (work_of H.Host inner) windows.items.items },
 }
 
 #[tactic(auto, unfolding(crate::specs::Windowed::inside))]

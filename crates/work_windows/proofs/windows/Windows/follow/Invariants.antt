@@ -1,9 +1,11 @@
-use Rattle.std.proofs.Common.{ℕ, List, length}
-use Rattle.std.specs.List.{All, AllWithin}
+use Rattle.std.proofs.Common.{ℕ, ◌≤◌, ◌-◌, List, length, take}
 use Rattle.loom_outside.specs.Bytes.{overwritten}
-use Rattle.work_windows.specs.Windows.{Shows}
+use Rattle.work_windows.specs.Windows.{AllShow}
 use Rattle.work_windows.proofs.windows.Windows.follow.Given as goal
 
--- the windows up to here show what was written, and the others what was there
-abbrev pub invariant-loop-item : goal.invariant-loop-item
-invariant-loop-item l = (work : List ℕ) → All (Shows work) l.initial.item-items → AllWithin (Shows (overwritten work l.place l.piece)) l.item-items 0 l.item-index × AllWithin (Shows work) l.item-items l.item-index (length l.item-items)
+-- the windows show what was written up to here
+abbrev pub invariant-loop-done : goal.invariant-loop-done
+invariant-loop-done l = (l.done ≤ length l.piece) × ((work : List ℕ) → AllShow work l.initial.self.items.items → AllShow (overwritten work l.place (take l.done l.piece)) l.self.items.items)
+
+abbrev pub decreases-loop-done : goal.decreases-loop-done
+decreases-loop-done l = length l.piece - l.done
