@@ -1,0 +1,3 @@
+pub mod PutSteps
+pub mod LineLaws
+pub mod NameLines

@@ -1,0 +1,8 @@
+//! The parts of a line of text, which single spaces set apart, and the numbers, values, words, bytes and kinds that they spell.
+#![tactic(auto)]
+
+mod numbers;
+mod parts;
+
+pub use numbers::{byte_in, kind_in, long_in, name_in, number_in, small_in, value_in, word_in};
+pub use parts::{Parts, first_part};
