@@ -1,8 +1,9 @@
 #!/bin/sh
 # Tries the program on a disk that fails, over real files: a run that is killed at a hundred moments, from its start to its end; a disk that
 # is full from one write to WORK on, for writes spread over the run; reads of WORK that fail once or now and then, that are interrupted and
-# that come short; and, where gcc makes a library, a run over files and cases of `crates/fault_runs` with each allocation refused in turn. Prints a line for
-# each case. Not in the gate; what `tests/edge.sh` tries isn't tried here again. Takes some minutes, and each part is bounded in time.
+# that come short; and, where gcc makes a library, a run over files and cases of `crates/fault_runs` with each allocation refused in turn.
+# Prints a line for each case. Not in the gate; what `tests/edge.sh` tries isn't tried here again. Takes some minutes, and each part is
+# bounded in time.
 #
 #     tests/faults.sh [PROGRAM [FAULT_RUNS [PART..]]]      PART: killed, reads, writes, growths; all without one
 set -u
@@ -419,6 +420,7 @@ try_growths() {
     growths 'the base image' 'grow faults.cases 1'
     growths 'a message that nobody understands' 'grow faults.cases 2'
     growths 'a message that nobody understands, by a builder and one map' 'plain faults.cases 2'
+    growths 'the base image by a builder, and two of its refusals' build
     growths 'a line and a picture' 'grow faults.cases 3'
     for number in 1 2 3 4 5; do
         growths "event file $number" "grow event_lines.cases $number"

@@ -4,20 +4,23 @@
 //!     fault_runs counts       the same, with the numbers that belong to how the memory is written today
 //!     fault_runs grow FILE N  the Nth case of a file, counted from 1, on a host that takes no memory in the run
 //!     fault_runs plain FILE N the Nth case, which has to be a message that nobody understands, by a builder and one map
+//!     fault_runs build        the base image by a builder, and two of its refusals
 //!
 //! The first two print a line for each role of each case, with how many calls failed, and one for the reads that lie; or why one of them
 //! came out wrong. What has to come out is what the case says, which is the answer of a reference machine, and of that the part that
-//! each failure leaves (`failing`). The last two are for `tests/faults.sh`, which refuses each allocation in turn: they end with 0 and say
+//! each failure leaves (`failing`). The last three are for `tests/faults.sh`, which refuses each allocation in turn: they end with 0 and say
 //! `whole`, with 12 where memory was refused and what was left is right, with 1 where memory was refused outside of the run, and say
 //! anything else with 0 where it came out wrong.
 #![tactic(auto)]
 
+mod building;
 mod failing;
 mod growing;
 mod left;
 mod lying;
 mod plain;
 
+use crate::building::build;
 use crate::failing::{ROLES, count_calls};
 use crate::growing::{End, grow};
 use crate::lying::{Tally, lie};
@@ -42,20 +45,37 @@ const MANY: u64 = 100;
 /// The exit status of a run that memory was refused to.
 const NO_MEMORY: u8 = 12;
 
-// The tables of a case. Of Work no number is told unless it is asked for.
-fn report<R: Print + AllocGlobal>(rt: &R, name: &str, case: &Case<'_>, counts: bool) -> Result<()> {
-    let mut reads = 0;
+// How many calls on a role failed. Of Work no number is told unless it is asked for.
+fn tell_calls<R: Print>(rt: &R, name: &str, role: Role, calls: u64, counts: bool) -> Result<()> {
+    if role != Role::Work || calls < MANY || counts {
+        println!(rt; "{name}: {role:?}: {calls} calls")?;
+    } else {
+        println!(rt; "{name}: {role:?}: each call")?;
+    }
+    Ok(())
+}
+
+// The table of calls that fail of a case. How many calls on Work a run of it makes is the answer.
+fn fail_each<R: Print + AllocGlobal>(
+    rt: &R,
+    name: &str,
+    case: &Case<'_>,
+    counts: bool,
+) -> Result<u64> {
+    let mut of_work = 0;
     for role in ROLES {
         let calls = count_calls(rt.alloc(), case, role)?;
         if role == Role::Work {
-            reads = calls;
+            of_work = calls;
         }
-        if role != Role::Work || calls < MANY || counts {
-            println!(rt; "{name}: {role:?}: {calls} calls")?;
-        } else {
-            println!(rt; "{name}: {role:?}: each call")?;
-        }
+        tell_calls(rt, name, role, calls, counts)?;
     }
+    Ok(of_work)
+}
+
+// The tables of a case.
+fn report<R: Print + AllocGlobal>(rt: &R, name: &str, case: &Case<'_>, counts: bool) -> Result<()> {
+    let reads = fail_each(rt, name, case, counts)?;
     let tally = lie(rt.alloc(), case, reads).context("a lying read")?;
     println!(rt; "{name}: each read with each mask")?;
     if counts {
@@ -113,7 +133,20 @@ fn try_growths<R: Files + Print + AllocGlobal>(
 ) -> Result<ExitCode> {
     let base = fs::read(rt, BASE)?;
     let text = fs::read_to_string(rt, file)?;
-    match end_of(rt.alloc(), &base, text.as_str(), number, plain)? {
+    let end = end_of(rt.alloc(), &base, text.as_str(), number, plain)?;
+    tell_end(rt, end)
+}
+
+// The base image by a builder, where memory may be refused.
+fn try_building<R: Files + Print + AllocGlobal>(rt: &R) -> Result<ExitCode> {
+    let base = fs::read(rt, BASE)?;
+    let end = build(rt.alloc(), &base)?;
+    tell_end(rt, end)
+}
+
+// Says how it ended.
+fn tell_end<R: Print>(rt: &R, end: End) -> Result<ExitCode> {
+    match end {
         End::Whole => println!(rt; "whole")?,
         End::NoMemory => return Ok(ExitCode::from(NO_MEMORY)),
         End::Wrong => println!(rt; "wrong")?,
@@ -126,6 +159,7 @@ fn take<R: Files + Print + AllocGlobal>(rt: &R, words: &[String]) -> Result<Exit
     match words {
         [] => report_all(rt, false)?,
         [first] if first.as_str() == "counts" => report_all(rt, true)?,
+        [first] if first.as_str() == "build" => return try_building(rt),
         [first, file, number] if first.as_str() == "grow" || first.as_str() == "plain" => {
             return try_growths(
                 rt,

@@ -41,38 +41,44 @@ const ONE_ARGUMENT: Header = Header {
     is_large: false,
 };
 
-// The objects of the case.
-fn objects(alloc: Global) -> Result<Builder, AllocError> {
-    let mut builder = base(alloc)?;
+// The class Array, and its dictionary of one method.
+fn add_class(alloc: Global, builder: &mut Builder) -> Result<(), AllocError> {
     let class = [NIL, object(DICTIONARY), Value::Int(0)];
-    add_pointers(alloc, &mut builder, Name::ARRAY, Name::ARRAY, &class)?;
+    add_pointers(alloc, builder, Name::ARRAY, Name::ARRAY, &class)?;
     let dictionary = [
         Value::Int(1),
         object(METHODS),
         Value::Ref(Name::DOES_NOT_UNDERSTAND),
     ];
+    add_pointers(alloc, builder, name(DICTIONARY), Name::ARRAY, &dictionary)?;
     add_pointers(
         alloc,
-        &mut builder,
-        name(DICTIONARY),
-        Name::ARRAY,
-        &dictionary,
-    )?;
-    add_pointers(
-        alloc,
-        &mut builder,
+        builder,
         name(METHODS),
         Name::ARRAY,
         &[object(ANSWER)],
-    )?;
+    )
+}
+
+// The objects of the case.
+fn objects(alloc: Global) -> Result<Builder, AllocError> {
+    let mut builder = base(alloc)?;
+    add_class(alloc, &mut builder)?;
     add_bytes(alloc, &mut builder, name(SELECTOR), Name::STRING, b"a:b:")?;
-    add_methods(alloc, &mut builder)?;
+    add_method(
+        alloc,
+        &mut builder,
+        name(ANSWER),
+        ONE_ARGUMENT,
+        &[],
+        &[16, 124],
+    )?;
+    add_sender(alloc, &mut builder)?;
     Ok(builder)
 }
 
-// The method that answers, the one that sends, and the context at its first byte.
-fn add_methods(alloc: Global, builder: &mut Builder) -> Result<(), AllocError> {
-    add_method(alloc, builder, name(ANSWER), ONE_ARGUMENT, &[], &[16, 124])?;
+// The method that sends, and the context at its first byte.
+fn add_sender(alloc: Global, builder: &mut Builder) -> Result<(), AllocError> {
     let sends = [112, 118, 119, 240];
     add_method(
         alloc,
@@ -126,11 +132,23 @@ fn end_of(why: Reason) -> End {
     }
 }
 
+// Whether these objects are those of the case's image.
+fn is_image(alloc: Global, case: &Case<'_>, builder: &Builder) -> Result<bool> {
+    let image = builder.finish(alloc, NEXT)?;
+    Ok(image.bytes() == case.image.as_slice())
+}
+
+// Whether what one map keeps is the case's saved image, and nothing was said.
+fn is_saved(alloc: Global, case: &Case<'_>, m: &PlainMemory, state: &State) -> Result<bool> {
+    let recs = m.kept_recs(alloc)?;
+    let saved = image_of(alloc, &recs, m.next(), state)?;
+    Ok(m.transcript().is_empty() && case.want.saved.as_deref() == Some(saved.bytes()))
+}
+
 /// How the case ends. It is refused where memory is in building its image or in writing what was kept.
 pub fn run_plain(alloc: Global, case: &Case<'_>) -> Result<End> {
     let builder = objects(alloc)?;
-    let image = builder.finish(alloc, NEXT)?;
-    if image.bytes() != case.image.as_slice() {
+    if !is_image(alloc, case, &builder)? {
         return Ok(End::Wrong);
     }
     let mut m = memory(alloc, &builder, NEXT)?;
@@ -138,12 +156,7 @@ pub fn run_plain(alloc: Global, case: &Case<'_>) -> Result<End> {
         Ok(finished) => finished,
         Err(halted) => return Ok(end_of(halted.why)),
     };
-    if !m.transcript().is_empty() {
-        return Ok(End::Wrong);
-    }
-    let recs = m.kept_recs(alloc)?;
-    let saved = image_of(alloc, &recs, m.next(), &finished.state)?;
-    if case.want.saved.as_deref() == Some(saved.bytes()) {
+    if is_saved(alloc, case, &m, &finished.state)? {
         Ok(End::Whole)
     } else {
         Ok(End::Wrong)
