@@ -18,7 +18,7 @@ use Rattle.disk_objects.specs.Function.{IsFetched}
 use Rattle.text_parts.specs.Spelling.{byte_text, kind_text, value_text, word_text}
 use Rattle.image_text.specs.Items.{head_text, item_text, spaced_contents}
 use Rattle.image_text.specs.declared.spelling.Items.TheVariants.{Values, Words, Bytes}
-use Rattle.image_text.specs.Spelling.{contents_parts, line_of, name_line, object_parts}
+use Rattle.text_lines.specs.Spelling.{contents_parts, line_of, name_line, object_parts}
 
 -- ---- parts with a space before each
 

@@ -16,7 +16,7 @@ use Rattle.image_format.specs.declared.opening.State.{State}
 use Rattle.image_writer.specs.Saved.{disk_heap}
 use Rattle.image_writer.proofs.NameTexts.{AreNames, Rises, any}
 use Rattle.image_writer.proofs.SaveLaws.{names_are}
-use Rattle.image_text.specs.Spelling.{head_parts, heap_text, line_of, lines_below, name_line, object_parts}
+use Rattle.text_lines.specs.Spelling.{head_parts, heap_text, line_of, lines_below, name_line, object_parts}
 
 -- ---- the names below a number
 

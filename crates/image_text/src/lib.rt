@@ -9,10 +9,27 @@
 //! list(alloc, &mut disk, next, &state)?;
 //! ```
 //!
-//! Read `specs/Spelling.antt`.
+//! `assemble` reads such a text from Image, line by line, and puts its objects to a disk that is empty, without counts. Then it judges the
+//! rules of the whole, in three steps over the names: that all names which objects hold have their objects (rule 10), that each object is
+//! held or known (rule 11), and that the known objects and those of the state are there (12 and 14). Between the last two it gives each
+//! object its count. After Ok the text was that of the disk's heap and of the state; Bad has the line and the rule that break first.
+//!
+//! ```text
+//! disk.attach(Role::Image, name)?;
+//! let loaded = assemble(alloc, &mut disk, MOST_OBJECTS)?;
+//! ```
+//!
+//! Read `specs/Spelling.antt` and `specs/Breaks.antt` of text_lines, and then `specs/Assembled.antt`.
 #![tactic(auto)]
 
+mod assembling;
+mod fault;
+mod judging;
+mod lines;
 mod listing;
+mod reading;
 mod spelling;
 
+pub use assembling::assemble;
+pub use fault::TextFault;
 pub use listing::list;

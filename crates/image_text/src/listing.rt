@@ -15,7 +15,7 @@ ghost use Rattle.image_writer.specs.Puts.{Puts};
 ghost use Rattle.image_writer.specs.Saved.{disk_heap};
 ghost use Rattle.image_writer.specs.declared.fault.SaveFault.TheVariants as fault;
 ghost use Rattle.image_text.specs.Items.{spaced_contents, item_text, items_of};
-ghost use Rattle.image_text.specs.Spelling.{head_parts, heap_text, line_of, name_line, object_parts};
+ghost use Rattle.text_lines.specs.Spelling.{head_parts, heap_text, line_of, name_line, object_parts};
 
 use crate::spelling::{Items, first_line, item_part, object_head, value_part};
 use disk_objects::DiskObjects;

@@ -6,7 +6,7 @@ ghost use Rattle.object_record.specs.Buffer.{HasRecord, raw_of};
 ghost use Rattle.object_record.specs.Objects.{value_in};
 ghost use Rattle.text_parts.specs.Spelling as spelling;
 ghost use Rattle.text_parts.specs.Spelling.{byte_text, value_text, word_text};
-ghost use Rattle.image_text.specs.Spelling.{head_parts, line_of};
+ghost use Rattle.text_lines.specs.Spelling.{head_parts, line_of};
 ghost use Rattle.image_text.specs.Items.{head_text, item_text, items_of};
 
 use arrayvec::ArrayString;

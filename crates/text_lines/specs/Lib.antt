@@ -1,2 +1,5 @@
 pub mod Grammar
 pub mod Inside
+pub mod Spelling
+pub mod Breaks
+pub mod Texts

@@ -7,7 +7,7 @@ use Rattle.image_writer.specs.Saved.{disk_heap}
 use Rattle.image_writer.proofs.DiskFacts.{still_holds, same_disk}
 use Rattle.image_writer.proofs.PutsLaws.{then_puts, read_puts, untold_puts}
 use Rattle.image_writer.proofs.SaveLaws.{names_there}
-use Rattle.image_text.specs.Spelling.{head_parts, heap_text, line_of, name_line}
+use Rattle.text_lines.specs.Spelling.{head_parts, heap_text, line_of, name_line}
 use Rattle.image_text.proofs.NameLines.{text_is}
 use Rattle.image_text.proofs.listing.list.Goals as goal
 

@@ -4,7 +4,7 @@ use Rattle.disk_objects.specs.Places.{IsReadPlace}
 use Rattle.object_record.specs.Buffer.{raw_of}
 use Rattle.object_record.specs.Objects.{object_in}
 use Rattle.image_writer.proofs.GatherLaws.{then_gathers, read_gathers, read_stops_gathers, untold_gathers, disk_stops_gathers}
-use Rattle.image_text.specs.Spelling.{line_of, name_line, object_parts}
+use Rattle.text_lines.specs.Spelling.{line_of, name_line, object_parts}
 use Rattle.image_text.proofs.LineLaws.{name_line_is, not_lost}
 use Rattle.image_text.proofs.listing.put_object.Goals as goal
 

@@ -4,7 +4,7 @@ use Rattle.long_names.specs.Heap.{Has}
 use Rattle.image_writer.proofs.DiskFacts.{still_holds, same_disk}
 use Rattle.image_writer.proofs.GatherLaws.{gathers_of, no_gathers}
 use Rattle.image_writer.proofs.PutsLaws.{more_text, rest_text, all_text, all_at}
-use Rattle.image_text.specs.Spelling.{name_line}
+use Rattle.text_lines.specs.Spelling.{name_line}
 use Rattle.image_text.proofs.PutSteps.{then_part, stop_part}
 use Rattle.image_text.proofs.listing.put_objects.Goals as goal
 

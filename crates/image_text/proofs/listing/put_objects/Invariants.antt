@@ -5,7 +5,7 @@ use Rattle.long_names.specs.Heap.{Heap, Has}
 use Rattle.loom_outside.specs.declared.outside.Role.TheVariants.{Work}
 use Rattle.disk_objects.specs.Function.{disk_of}
 use Rattle.image_writer.specs.Inside.{Gathers}
-use Rattle.image_text.specs.Spelling.{name_line}
+use Rattle.text_lines.specs.Spelling.{name_line}
 use Rattle.image_text.proofs.listing.put_objects.Given as goal
 
 abbrev pub invariant-loop-i : goal.invariant-loop-i

@@ -4,7 +4,7 @@ use Rattle.std.specs.List.{flat_map}
 use Rattle.loom_outside.specs.declared.outside.Role.TheVariants.{Work}
 use Rattle.image_writer.proofs.DiskFacts.{still_holds, same_disk}
 use Rattle.image_writer.proofs.GatherLaws.{gathered_puts}
-use Rattle.image_text.specs.Spelling.{head_parts, line_of, name_line}
+use Rattle.text_lines.specs.Spelling.{head_parts, line_of, name_line}
 use Rattle.image_text.proofs.PutSteps.{then_part, stop_part, stop_first}
 use Rattle.image_text.proofs.listing.put_text.Goals as goal
 

@@ -1,0 +1,9 @@
+//! What holds of the texts of images, whatever reads or writes them.
+//!
+//! Each part, each line and each text is read back as it is spelled, and has one spelling: `laws` of parts in `parts`, of lines in `lines`,
+//! of whole texts in `texts`. So `text_break` is None exactly for the texts of images, and a text is that of one heap and one state.
+#![tactic(auto)]
+
+pub mod lines;
+pub mod parts;
+pub mod texts;
