@@ -14,11 +14,11 @@ ghost use Rattle.std.specs.IoError.{error_kind};
 ghost use Rattle.std.specs.Process.{exit_status};
 ghost use Rattle.std.specs.Vec.Iter.{into_iter_items};
 ghost use Rattle.std.specs.declared.io.ErrorKind.TheVariants.{OutOfMemory};
-ghost use Rattle.loom_run.specs.declared.status.Status.{Status};
+ghost use Rattle.loom_words.specs.declared.status.Status.{Status};
 ghost use Rattle.loom_run.specs.Meanings.{meanings};
 ghost use Rattle.loom_run.specs.Promise.{Promise};
-ghost use Rattle.loom_run.specs.Status.{code_of};
-ghost use Rattle.loom_run.specs.Words.{texts_of};
+ghost use Rattle.loom_words.specs.Status.{code_of};
+ghost use Rattle.loom_words.specs.Words.{texts_of};
 
 use loom_outside::{Host, RealHost, Role};
 use loom_run::{Status, loom};
@@ -71,25 +71,35 @@ fn answer<H: Host>(alloc: Global, host: &mut H, words: Result<Vec<String>, Alloc
     ExitCode::from(status.code())
 }
 
-// The first word of a run.
-const RUN: &str = "run";
-
 // The files of a run beside the work file, with their places among the words.
-const FILES: [(Role, usize); 4] = [
+const RUN_FILES: [(Role, usize); 4] = [
     (Role::Image, 1),
     (Role::Events, 2),
     (Role::Saved, 4),
     (Role::Display, 5),
 ];
 
-// Tells the host which files a run will have, so that the work file, which is made first, takes the place of none of them. Another command
-// has no work file.
-fn expect_files<T: Write, N: Write>(host: &mut RealHost<HostRuntime, T, N>, words: &[String]) {
-    let is_run = words.first().is_some_and(|word| word.as_str() == RUN);
-    if !is_run {
-        return;
+// And those of a listing or an assembling.
+const CONVERSION_FILES: [(Role, usize); 2] = [(Role::Image, 1), (Role::Saved, 3)];
+
+// The files that a command has beside the work file. One that has no work file has none.
+fn files_of(words: &[String]) -> &'static [(Role, usize)] {
+    let Some(word) = words.first() else {
+        return &[];
+    };
+    let word = word.as_str();
+    if word == "run" {
+        &RUN_FILES
+    } else if word == "list" || word == "asm" {
+        &CONVERSION_FILES
+    } else {
+        &[]
     }
-    for (role, place) in FILES {
+}
+
+// Tells the host which files a command will have, so that the work file, which is made first, takes the place of none of them.
+fn expect_files<T: Write, N: Write>(host: &mut RealHost<HostRuntime, T, N>, words: &[String]) {
+    for &(role, place) in files_of(words) {
         if let Some(word) = words.get(place) {
             host.expect(role, word.as_str());
         }

@@ -1,6 +1,5 @@
 -- Right words, a right image, right events, room, and no fault give the model's own end; and right words of a making and no fault its image.
 use Rattle.std.proofs.Common.{◌≡◌, ℕ, ◌≤◌, ◌++◌, Bool, false, List, Option, None, Some, nat_lt, IsTrue, inl, refl, sym, ◌∙◌, ap, subst, append_assoc, arith}
-use Rattle.std.specs.Prelude.{IsFalse}
 use Rattle.std.proofs.lemmas.Bool.Decides.{nat_tests}
 use Rattle.long_names.specs.Counting.{Rose}
 use Rattle.loom_outside.specs.declared.outside.Role.{Role}
@@ -19,10 +18,10 @@ use Rattle.loom_run.specs.Ends.{IsRightImage, bytes_of}
 use Rattle.loom_run.specs.Meanings.{Meanings}
 use Rattle.loom_run.specs.Promise.{EndsAt, Promise}
 use Rattle.loom_run.specs.Stages.{Stage, Opening, Reading, Listening, Making, Running, Finishing, Saving, Drawing, Telling, Ends}
-use Rattle.loom_run.specs.Words.{MakeRow, Row, asks_make, bad_word, make_of, row_of}
-use Rattle.loom_run.specs.declared.status.Status.{Status}
-use Rattle.loom_run.specs.declared.status.Status.TheVariants as answer
-use Rattle.loom_run.proofs.HeadlineLaws.{made-never}
+use Rattle.loom_words.specs.Words.{MakeRow, Row, ToMake, ToRun, bad_word, make_of, row_of, verb_of}
+use Rattle.loom_words.specs.declared.status.Status.{Status}
+use Rattle.loom_words.specs.declared.status.Status.TheVariants as answer
+use Rattle.loom_run.proofs.HeadlineLaws.{assembled-never, listed-never, made-never}
 
 -- ---- a right image
 
@@ -32,13 +31,13 @@ unbroken room bytes r = unbroken_from bytes (record { heap = r.heap; head = r.he
 few : (room objects : ℕ) → objects ≤ room → nat_lt room objects ≡ false
 few room objects le = grind (arith, nat_tests)
 
-roomy : (room : ℕ) (bytes : List ℕ) → IsRightImage room bytes → full_of room bytes ≡ None
+pub roomy : (room : ℕ) (bytes : List ℕ) → IsRightImage room bytes → full_of room bytes ≡ None
 roomy room bytes r =
     let opening = (image_read bytes r.heap r.head r.image.is r.image.of_heap r.image.text).head.opening in
     let text : bytes ≡ opening_text r.head.opening ++ (stated_text r.head ++ records_below r.heap r.heap.next) = r.image.text ∙ append_assoc (opening_text r.head.opening) (stated_text r.head) (records_below r.heap r.heap.next) in
     ap (too_many room) (ap opening_at text ∙ opening_again r.head.opening _ opening) ∙ rw (few room r.head.opening.objects r.roomy) refl
 
-none-some : {A : Type 0} {P : Type 0} (o : Option A) (x : A) → o ≡ None → o ≡ Some x → P
+pub none-some : {A : Type 0} {P : Type 0} (o : Option A) (x : A) → o ≡ None → o ≡ Some x → P
 none-some {A} {P} o x none some = let no : ◌≡◌ {A = Option A} None (Some x) = sym none ∙ some in absurd (cc)
 
 -- ---- the ends
@@ -54,6 +53,17 @@ module _ (tells : Role → Bool) (before now : Meanings) (row : Row) (image : Is
   never-usage Saving word h = h
   never-usage Drawing word h = h
   never-usage Telling word h = h
+
+  never-text : (stage : Stage) (line rule : ℕ) → Ends stage (answer.TextBad line rule) → ⊥
+  never-text Opening line rule h = h
+  never-text Reading line rule h = h
+  never-text Listening line rule h = h
+  never-text Making line rule h = h
+  never-text Running line rule h = h
+  never-text Finishing line rule h = h
+  never-text Saving line rule h = h
+  never-text Drawing line rule h = h
+  never-text Telling line rule h = h
 
   never-bad : (stage : Stage) (rule place : ℕ) → EndsAt tells before now row stage (answer.ImageBad rule place) → ⊥
   never-bad Opening rule place at = at.answer
@@ -111,9 +121,12 @@ module _ (tells : Role → Bool) (before now : Meanings) (row : Row) (image : Is
   completes stage (answer.Done ran) at = tt
   completes stage (answer.Quit ran) at = tt
   completes stage (answer.Made objects) at = made-never stage objects at.answer
+  completes stage (answer.Listed objects) at = listed-never stage objects at.answer
+  completes stage (answer.Assembled objects) at = assembled-never stage objects at.answer
   completes stage (answer.Usage word) at = never-usage stage word at.answer
   completes stage (answer.ImageBad rule place) at = never-bad stage rule place at
   completes stage (answer.EventsBad line) at = never-line stage line at
+  completes stage (answer.TextBad line rule) at = never-text stage line rule at.answer
   completes stage (answer.Stuck cause ran) at = tt
   completes stage (answer.CoreFull ran need) at = never-core stage ran need at
   completes stage (answer.NamesSpent ran) at = tt
@@ -124,7 +137,7 @@ module _ (tells : Role → Bool) (before now : Meanings) (row : Row) (image : Is
   completes stage answer.OutOfMemory at = tt
   completes stage (answer.Damaged place name) at = at.whole work tt
 
-pub completes_from : (tells : Role → Bool) (before now : Meanings) (words : List (List ℕ)) (result : Status) → IsTrue (tells Image) → IsTrue (tells Events) → IsTrue (tells Work) → IsFalse (asks_make words) → bad_word words ≡ None → Promise tells before now words result
+pub completes_from : (tells : Role → Bool) (before now : Meanings) (words : List (List ℕ)) (result : Status) → IsTrue (tells Image) → IsTrue (tells Events) → IsTrue (tells Work) → verb_of words ≡ ToRun → bad_word words ≡ None → Promise tells before now words result
     → CanEnd (bytes_of (now.roles Image)) (bytes_of (now.roles Events)) (row_of words) before.faults now.faults → IsOwnEnd result
 completes_from tells before now words result image events work run right p can = let e = p.ends run right in completes tells before now (row_of words) image events work can e.0 result e.1
 
@@ -137,6 +150,6 @@ made tells before now row (answer.WriteFault Notes count) m still = absurd (stil
 made tells before now row answer.OutOfMemory m still = tt
 made tells before now row _ m still = absurd m.answer
 
-pub made_from : (tells : Role → Bool) (before now : Meanings) (words : List (List ℕ)) (result : Status) → IsTrue (asks_make words) → bad_word words ≡ None → Promise tells before now words result → ((role : Role) → Rose (before.faults role) (now.faults role) → ⊥)
+pub made_from : (tells : Role → Bool) (before now : Meanings) (words : List (List ℕ)) (result : Status) → verb_of words ≡ ToMake → bad_word words ≡ None → Promise tells before now words result → ((role : Role) → Rose (before.faults role) (now.faults role) → ⊥)
     → IsMadeOf (make_of words).number result
 made_from tells before now words result asks right p still = made tells before now (make_of words) result (p.makes asks right) still

@@ -14,9 +14,9 @@ use Rattle.loom_run.specs.Ends.{AreEvents, IsCaused, IsRightImage, JudgesEvents,
 use Rattle.loom_run.specs.Meanings.{Meanings, IsLeft}
 use Rattle.loom_run.specs.Stages.{Stage, Opening, Reading, Listening, Making, Running, passes, reaches}
 use Rattle.loom_run.specs.Steps.{Came, HasHeard, HasRead, IsRead, IsRefusal, RunEnds, Uses}
-use Rattle.loom_run.specs.Words.{Row}
-use Rattle.loom_run.specs.declared.status.Status.{Status}
-use Rattle.loom_run.specs.declared.status.Status.TheVariants as answer
+use Rattle.loom_words.specs.Words.{Row}
+use Rattle.loom_words.specs.declared.status.Status.{Status}
+use Rattle.loom_words.specs.declared.status.Status.TheVariants as answer
 use Rattle.loom_run.proofs.UsesLaws.{never}
 
 -- ---- causes
@@ -28,9 +28,12 @@ pub cause-since : (status : Status) (before mid now : Role → ℕ) → ((role :
 cause-since (answer.Done ran) before mid now later h = tt
 cause-since (answer.Quit ran) before mid now later h = tt
 cause-since (answer.Made objects) before mid now later h = tt
+cause-since (answer.Listed objects) before mid now later h = tt
+cause-since (answer.Assembled objects) before mid now later h = tt
 cause-since (answer.Usage word) before mid now later h = tt
 cause-since (answer.ImageBad rule place) before mid now later h = tt
 cause-since (answer.EventsBad line) before mid now later h = tt
+cause-since (answer.TextBad line rule) before mid now later h = tt
 cause-since (answer.Stuck cause ran) before mid now later h = tt
 cause-since (answer.CoreFull ran need) before mid now later h = tt
 cause-since (answer.NamesSpent ran) before mid now later h = tt

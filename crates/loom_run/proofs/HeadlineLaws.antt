@@ -1,6 +1,5 @@
 -- What the promise gives of a run that answers Done or Quit.
-use Rattle.std.proofs.Common.{◌≡◌, ℕ, ◌≤◌, ◌++◌, Bool, List, None, true, false, IsTrue, refl, ◌∙◌, ap, subst}
-use Rattle.std.specs.Prelude.{IsFalse}
+use Rattle.std.proofs.Common.{◌≡◌, ℕ, ◌≤◌, ◌++◌, Bool, List, None, true, IsTrue, refl, ◌∙◌, ap, subst}
 use Rattle.loom_outside.specs.declared.outside.Role.{Role}
 use Rattle.loom_outside.specs.declared.outside.Role.TheVariants.{Image, Events, Work, Saved, Display, Transcript}
 use Rattle.blue_model.specs.declared.step.Step.{Step}
@@ -15,12 +14,16 @@ use Rattle.long_names.specs.Heap.{Heap}
 use Rattle.machine_run.specs.States.{model_state}
 use Rattle.loom_run.specs.Ends.{RunOf, RunsTo, WrittenBy, bytes_of, image_of}
 use Rattle.loom_run.specs.Headline.{HasHeadline, HasSmall, HeadlineBy, SmallBy, TellsHeadline}
+use Rattle.loom_run.specs.Converts.{EndsConversion}
+use Rattle.loom_run.specs.declared.converting.Way.{Way}
+use Rattle.loom_run.specs.declared.converting.Way.TheVariants.{Listing, Assembling}
+use Rattle.loom_run.specs.Makes.{EndsMaking}
 use Rattle.loom_run.specs.Meanings.{Meanings}
 use Rattle.loom_run.specs.Promise.{EndsAt, Promise}
 use Rattle.loom_run.specs.Stages.{Stage, Opening, Reading, Listening, Making, Running, Finishing, Saving, Drawing, Telling, Ends}
-use Rattle.loom_run.specs.Words.{Row, asks_make, bad_word, row_of}
-use Rattle.loom_run.specs.declared.status.Status.{Status}
-use Rattle.loom_run.specs.declared.status.Status.TheVariants as answer
+use Rattle.loom_words.specs.Words.{Row, ToAssemble, ToList, ToMake, ToRun, Verb, bad_word, make_of, row_of, verb_of}
+use Rattle.loom_words.specs.declared.status.Status.{Status}
+use Rattle.loom_words.specs.declared.status.Status.TheVariants as answer
 
 -- Done and Quit come at the last stage alone
 pub done-last : (stage : Stage) (ran : ℕ) → Ends stage (answer.Done ran) → stage ≡ Telling
@@ -45,7 +48,7 @@ quit-last Saving ran h = absurd h
 quit-last Drawing ran h = absurd h
 quit-last Telling ran h = refl
 
--- Made comes at none, and Done and Quit of no making
+-- Made comes at none, nor do Listed and Assembled, and Done and Quit of no making
 pub made-never : {P : Type 0} (stage : Stage) (objects : ℕ) → Ends stage (answer.Made objects) → P
 made-never Opening objects h = absurd h
 made-never Reading objects h = absurd h
@@ -57,15 +60,70 @@ made-never Saving objects h = absurd h
 made-never Drawing objects h = absurd h
 made-never Telling objects h = absurd h
 
-a-run : (asks : Bool) → (IsTrue asks → ⊥) → IsFalse asks
-a-run true never = absurd (never refl)
-a-run false never = refl
+pub listed-never : {P : Type 0} (stage : Stage) (objects : ℕ) → Ends stage (answer.Listed objects) → P
+listed-never Opening objects h = absurd h
+listed-never Reading objects h = absurd h
+listed-never Listening objects h = absurd h
+listed-never Making objects h = absurd h
+listed-never Running objects h = absurd h
+listed-never Finishing objects h = absurd h
+listed-never Saving objects h = absurd h
+listed-never Drawing objects h = absurd h
+listed-never Telling objects h = absurd h
 
-done-run : (tells : Role → Bool) (before now : Meanings) (words : List (List ℕ)) (ran : ℕ) → bad_word words ≡ None → Promise tells before now words (answer.Done ran) → IsFalse (asks_make words)
-done-run tells before now words ran right p = a-run (asks_make words) (λ make. (p.makes make right).answer)
+pub assembled-never : {P : Type 0} (stage : Stage) (objects : ℕ) → Ends stage (answer.Assembled objects) → P
+assembled-never Opening objects h = absurd h
+assembled-never Reading objects h = absurd h
+assembled-never Listening objects h = absurd h
+assembled-never Making objects h = absurd h
+assembled-never Running objects h = absurd h
+assembled-never Finishing objects h = absurd h
+assembled-never Saving objects h = absurd h
+assembled-never Drawing objects h = absurd h
+assembled-never Telling objects h = absurd h
 
-quit-run : (tells : Role → Bool) (before now : Meanings) (words : List (List ℕ)) (ran : ℕ) → bad_word words ≡ None → Promise tells before now words (answer.Quit ran) → IsFalse (asks_make words)
-quit-run tells before now words ran right p = a-run (asks_make words) (λ make. (p.makes make right).answer)
+-- and of no conversion
+done-converted : (stage : Stage) (way : Way) (ran : ℕ) → EndsConversion stage way (answer.Done ran) → ⊥
+done-converted Opening way ran h = h
+done-converted Reading Listing ran h = h
+done-converted Reading Assembling ran h = h
+done-converted Listening way ran h = h
+done-converted Making way ran h = h
+done-converted Running way ran h = h
+done-converted Finishing way ran h = h
+done-converted Saving way ran h = h
+done-converted Drawing way ran h = h
+done-converted Telling Listing ran h = h
+done-converted Telling Assembling ran h = h
+
+quit-converted : (stage : Stage) (way : Way) (ran : ℕ) → EndsConversion stage way (answer.Quit ran) → ⊥
+quit-converted Opening way ran h = h
+quit-converted Reading Listing ran h = h
+quit-converted Reading Assembling ran h = h
+quit-converted Listening way ran h = h
+quit-converted Making way ran h = h
+quit-converted Running way ran h = h
+quit-converted Finishing way ran h = h
+quit-converted Saving way ran h = h
+quit-converted Drawing way ran h = h
+quit-converted Telling Listing ran h = h
+quit-converted Telling Assembling ran h = h
+
+-- an answer that is none of the other commands' is a run's
+a-run : (tells : Role → Bool) (before now : Meanings) (words : List (List ℕ)) (result : Status) → bad_word words ≡ None → Promise tells before now words result → (EndsMaking (make_of words).number result → ⊥) → ((stage : Stage) (way : Way) → EndsConversion stage way result → ⊥) → verb_of words ≡ ToRun
+a-run tells before now words result right p made converted = go (verb_of words) refl
+  where
+    go : (verb : Verb) → verb_of words ≡ verb → verb ≡ ToRun
+    go ToRun is = refl
+    go ToMake is = absurd (made (p.makes is right).answer)
+    go ToList is = let x = p.converts Listing is right in absurd (converted x.0 Listing x.1.answer)
+    go ToAssemble is = let x = p.converts Assembling is right in absurd (converted x.0 Assembling x.1.answer)
+
+done-run : (tells : Role → Bool) (before now : Meanings) (words : List (List ℕ)) (ran : ℕ) → bad_word words ≡ None → Promise tells before now words (answer.Done ran) → verb_of words ≡ ToRun
+done-run tells before now words ran right p = a-run tells before now words (answer.Done ran) right p (λ made. made) (λ stage way. done-converted stage way ran)
+
+quit-run : (tells : Role → Bool) (before now : Meanings) (words : List (List ℕ)) (ran : ℕ) → bad_word words ≡ None → Promise tells before now words (answer.Quit ran) → verb_of words ≡ ToRun
+quit-run tells before now words ran right p = a-run tells before now words (answer.Quit ran) right p (λ made. made) (λ stage way. quit-converted stage way ran)
 
 -- a run that was parked, and what was written of it
 module _ (tells : Role → Bool) (before now : Meanings) (row : Row) (status : Status) (told : TellsHeadline tells) (ran : ℕ) (end : Step) where

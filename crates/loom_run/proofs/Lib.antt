@@ -1,4 +1,6 @@
 pub mod CompletesLaws
+pub mod ConvertLaws
+pub mod ConvertSteps
 pub mod EndsLaws
 pub mod Frames
 pub mod HeadlineLaws
@@ -6,14 +8,14 @@ pub mod Lines
 pub mod MachineLaws
 pub mod MakingLaws
 pub mod MemoryLaws
-pub mod Numbers
 pub mod ProgramLaws
 pub mod ReadLaws
 pub mod RefusalLaws
-pub mod Rows
 pub mod RunLaws
 pub mod SavedLaws
+pub mod SpellingLaws
 pub mod StepLaws
 pub mod TellingLaws
+pub mod TraceLaws
 pub mod UsesLaws
 pub mod WrittenLaws

@@ -4,13 +4,13 @@ use Rattle.std.proofs.Math.Seq.{take-length}
 use Rattle.loom_outside.specs.Outside.{PutPrefix, puts}
 use Rattle.loom_outside.specs.declared.outside.Role.TheVariants.{Image, Events, Work, Saved, Display, Transcript, Notes}
 use Rattle.loom_run.specs.Meanings.{Meanings, IsLeft}
-use Rattle.loom_run.specs.Status.{line_of}
+use Rattle.loom_words.specs.Status.{line_of}
 use Rattle.loom_run.specs.Ends.{HasBegun, HasRun, Noted, NotedBy}
 use Rattle.long_names.specs.Counting.{Rose}
 use Rattle.loom_run.specs.Parts.{IsTold, unsaid}
 use Rattle.loom_run.specs.Steps.{IsOfRun}
-use Rattle.loom_run.specs.declared.status.Status.{Status}
-use Rattle.loom_run.specs.declared.status.Status.TheVariants.{Done, Quit, Made, Usage, ImageBad, EventsBad, Stuck, CoreFull, NamesSpent, WorkFull, ReadFault, WorkFault, WriteFault, OutOfMemory, Damaged}
+use Rattle.loom_words.specs.declared.status.Status.{Status}
+use Rattle.loom_words.specs.declared.status.Status.TheVariants.{Done, Quit, Made, Listed, Assembled, Usage, ImageBad, EventsBad, TextBad, Stuck, CoreFull, NamesSpent, WorkFull, ReadFault, WorkFault, WriteFault, OutOfMemory, Damaged}
 
 -- a whole line, and a cut one
 noted-whole : (line : List ℕ) (before now : Meanings) → now.roles Notes ≡ puts line (before.roles Notes) → Noted line before now
@@ -38,9 +38,12 @@ noted-told (Done ran) result steps before now of_run run (inr cut) p = rw (cut.a
 noted-told (Quit ran) result steps before now of_run run (inl whole) p = rw whole.answer (whole.put p)
 noted-told (Quit ran) result steps before now of_run run (inr cut) p = rw cut.answer (inr (ran, run, cut.put p))
 noted-told (Made objects) result steps before now of_run run told p = absurd of_run
+noted-told (Listed objects) result steps before now of_run run told p = absurd of_run
+noted-told (Assembled objects) result steps before now of_run run told p = absurd of_run
 noted-told (Usage word) result steps before now of_run run told p = absurd of_run
 noted-told (ImageBad rule place) result steps before now of_run run told p = let own = noted-own _ _ _ _ refl told p in rw own.0 own.1
 noted-told (EventsBad line) result steps before now of_run run told p = let own = noted-own _ _ _ _ refl told p in rw own.0 own.1
+noted-told (TextBad line rule) result steps before now of_run run told p = let own = noted-own _ _ _ _ refl told p in rw own.0 own.1
 noted-told (Stuck cause ran) result steps before now of_run run told p = let own = noted-own _ _ _ _ refl told p in rw own.0 own.1
 noted-told (CoreFull ran need) result steps before now of_run run told p = let own = noted-own _ _ _ _ refl told p in rw own.0 own.1
 noted-told (NamesSpent ran) result steps before now of_run run told p = let own = noted-own _ _ _ _ refl told p in rw own.0 own.1

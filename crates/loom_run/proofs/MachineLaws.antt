@@ -30,7 +30,7 @@ use Rattle.loom_run.specs.Meanings.{IsLeft, IsNoneOf, LeavesBut, meanings}
 use Rattle.loom_run.specs.Parts.{status_by, status_by_fault}
 use Rattle.loom_run.specs.Stages.{Running, Finishing}
 use Rattle.loom_run.specs.Steps.{HasBounds, IsRefusal, IsSameFile, WasStopped, WentThrough}
-use Rattle.loom_run.specs.Words.{Row}
+use Rattle.loom_words.specs.Words.{Row}
 
 -- ---- what had been said
 

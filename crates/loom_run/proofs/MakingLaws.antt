@@ -1,6 +1,6 @@
 -- A making, and the last line behind it. It ends in one of three ways (`ended`), and each law goes by them.
 use Rattle.std.proofs.Common.{◌≡◌, ◌⊎◌, ℕ, Bool, true, false, List, [], ◌∷◌, IsTrue, None, Some, Option, inl, inr, refl, sym, ◌∙◌, ap, subst, arith}
-use Rattle.std.specs.Prelude.{IsFalse, IsSome}
+use Rattle.std.specs.Prelude.{IsSome}
 use Rattle.long_names.specs.Counting.{Rose}
 use Rattle.long_names.specs.Heap.{object_count}
 use Rattle.loom_gen.specs.Generated.{generated}
@@ -11,13 +11,14 @@ use Rattle.loom_run.specs.Makes.{EndsMaking, HasBegunFor, HasBegunImage, Makes, 
 use Rattle.loom_run.specs.Meanings.{Meanings, IsLeft, LeavesBut}
 use Rattle.loom_run.specs.Parts.{IsTold, unsaid}
 use Rattle.loom_run.specs.Promise.{Promise}
-use Rattle.loom_run.specs.Status.{usage_of}
+use Rattle.loom_words.specs.Status.{usage_of}
 use Rattle.loom_run.specs.Steps.{IsOfMaking, MakeEnds}
-use Rattle.loom_run.specs.Words.{MakeRow, asks_make, bad_word, make_of}
-use Rattle.loom_run.specs.declared.status.Status.{Status}
-use Rattle.loom_run.specs.declared.status.Status.TheVariants as answer
+use Rattle.loom_words.specs.Words.{MakeRow, ToMake, ToRun, Verb, bad_word, make_of, verb_of}
+use Rattle.loom_words.specs.declared.status.Status.{Status}
+use Rattle.loom_words.specs.declared.status.Status.TheVariants as answer
+use Rattle.loom_run.proofs.ConvertLaws.{converts-not}
 use Rattle.loom_run.proofs.Lines.{noted-own, told-since}
-use Rattle.loom_run.proofs.UsesLaws.{always, left-then}
+use Rattle.loom_run.proofs.UsesLaws.{left-then}
 
 -- ---- the ways to end
 
@@ -28,9 +29,12 @@ ended : (number : ℕ) (status : Status) → EndsMaking number status → IsOfMa
 ended number (answer.Done ran) h of = absurd h
 ended number (answer.Quit ran) h of = absurd h
 ended number (answer.Made objects) h of = inl (ap (λ n. answer.Made n) h)
+ended number (answer.Listed objects) h of = absurd h
+ended number (answer.Assembled objects) h of = absurd h
 ended number (answer.Usage word) h of = absurd h
 ended number (answer.ImageBad rule place) h of = absurd h
 ended number (answer.EventsBad line) h of = absurd h
+ended number (answer.TextBad line rule) h of = absurd h
 ended number (answer.Stuck cause ran) h of = absurd h
 ended number (answer.CoreFull ran need) h of = absurd h
 ended number (answer.NamesSpent ran) h of = absurd h
@@ -124,14 +128,15 @@ right-some : {P : Type 0} (o : Option ℕ) → o ≡ None → IsSome o → P
 right-some None e some = let no : ◌≡◌ {A = Bool} false true = some in absurd (cc)
 right-some (Some word) e some = let no : ◌≡◌ {A = Option ℕ} (Some word) None = e in absurd (cc)
 
-pub promise-made : (tells : Role → Bool) (before mid now : Meanings) (words : List (List ℕ)) (status result : Status) → IsTrue (asks_make words) → bad_word words ≡ None → MakeEnds tells before mid (make_of words) status → LeavesBut (Notes ∷ []) mid now → IsTold (tells Notes) status result mid now → Promise tells before now words result
+pub promise-made : (tells : Role → Bool) (before mid now : Meanings) (words : List (List ℕ)) (status result : Status) → verb_of words ≡ ToMake → bad_word words ≡ None → MakeEnds tells before mid (make_of words) status → LeavesBut (Notes ∷ []) mid now → IsTold (tells Notes) status result mid now → Promise tells before now words result
 promise-made tells before mid now words status result asks right ends leaves is =
     let a = after tells before mid now (make_of words) leaves (tells Notes) ends.untold status result ends (told-since status result before mid now ends.untold is) in
     record {
       usage = a.usage ∙ sym right;
       unasked = right-some (bad_word words) right;
-      ends = λ run none. always (subst IsFalse asks run);
+      ends = λ run none. (let no : ◌≡◌ {A = Verb} ToMake ToRun = sym asks ∙ run in absurd (cc));
       makes = λ make none. a.makes;
-      noted = λ tell. subst (λ b. NotedBy result (HasBegunFor b words) before now) (sym asks) (a.noted tell);
+      converts = λ way asked none. converts-not way words ToMake asks (inr refl) asked;
+      noted = λ tell. subst (λ (verb : Verb). NotedBy result (HasBegunFor verb words) before now) (sym asks) (a.noted tell);
       later = a.makes.others.later;
     }

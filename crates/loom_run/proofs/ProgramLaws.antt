@@ -22,9 +22,9 @@ use Rattle.loom_run.specs.Ends.{AttachedOnce, GoesThrough, JudgesEvents, JudgesI
 use Rattle.loom_run.specs.Meanings.{Meanings, LeavesBut, meanings}
 use Rattle.loom_run.specs.Stages.{Opening, Reading, Listening, Making, Running, Finishing, Saving, Drawing, Telling, roles_at}
 use Rattle.loom_run.specs.Steps.{Came, CameThrough, HasHeard, HasRead, IsRefusal, IsSameFile, RunEnds, Uses}
-use Rattle.loom_run.specs.Words.{Row}
-use Rattle.loom_run.specs.declared.status.Status.{Status}
-use Rattle.loom_run.specs.declared.status.Status.TheVariants.{OutOfMemory}
+use Rattle.loom_words.specs.Words.{Row}
+use Rattle.loom_words.specs.declared.status.Status.{Status}
+use Rattle.loom_words.specs.declared.status.Status.TheVariants.{OutOfMemory}
 use Rattle.loom_run.proofs.EndsLaws.{came-on, ends-listening, ends-making, ends-opening, ends-reading, read-left}
 use Rattle.loom_run.proofs.Frames.{leaves-all}
 use Rattle.loom_run.proofs.UsesLaws.{left-then, uses-drawing, uses-finishing, uses-listening, uses-making, uses-opening, uses-reading, uses-running, uses-saving, uses-telling}

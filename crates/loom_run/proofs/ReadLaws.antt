@@ -1,7 +1,7 @@
 -- An image that was loaded, as the promise has it: the bytes of Image are those of the heap that is on the disk.
 use Rattle.std.proofs.Common.{◌≡◌, ℕ, ◌<◌, ◌≤◌, ◌^◌, List, [], ◌++◌, length, Option, None, Result, Ok, IsTrue, sym, ◌∙◌, ap, subst}
 use Rattle.std.specs.Prelude.{All}
-use Rattle.long_names.specs.Heap.{Heap}
+use Rattle.long_names.specs.Heap.{Heap, object_count}
 use Rattle.long_names.specs.declared.object.Object.{Object}
 use Rattle.loom_outside.specs.declared.outside.Host.{Ghosts}
 use Rattle.loom_outside.specs.declared.outside.Role.TheVariants.{Image, Work}
@@ -46,3 +46,14 @@ module _ {H : Type 0} (host : Ghosts H) (mid new : H) (room : ℕ) (rest : DiskR
         roomy = subst (λ n. n ≤ room) (ap (λ (i : rules.Image). i.head.opening.objects) same) loads.roomy;
         state_is = sym (ap (λ (i : rules.Image). i.head.state) same) ∙ sym state;
       }
+
+  -- as many objects are stated as the heap has
+  pub image-counts : IsTrue (host.tells Image) → IsTrue (host.tells Work) → All (λ b. b < 2 ^ 8) (host.roles mid Image).left → x.objects ≡ image.head.opening.objects → x.objects ≡ object_count (heap_on host new rest x.next)
+  image-counts told work range objects =
+      let bytes = (host.roles mid Image).left in
+      let v : IsValidImage bytes = valid_from bytes (bytes_of_all bytes range) (whole-break bytes image (loads.read told) (loads.whole work)) in
+      let same : image ≡ image_of v.head v.heap = read-is image (image_of v.head v.heap) (sym (loads.read told) ∙ image_again bytes (image_of v.head v.heap) (image_read bytes v.heap v.head v.is v.of_heap v.text)) in
+      let heap : v.heap ≡ heap_on host new rest x.next = heap-is v.heap (disk_of host new rest) x.next
+      ((loads.stored work).at ∙ ap (λ (i : rules.Image). object_in i.recs) same ∙ objects_are v.heap v.is.bounded.bounded)
+      (next ∙ ap (λ (i : rules.Image). i.head.opening.next) same ∙ v.of_heap.next) in
+      objects ∙ ap (λ (i : rules.Image). i.head.opening.objects) same ∙ v.of_heap.objects ∙ ap object_count heap

@@ -1,17 +1,20 @@
 -- No answer comes at once, and what a refusal leaves.
-use Rattle.std.proofs.Common.{◌≡◌, ◌≢◌, ℕ, Bool, true, false, List, [], ◌∷◌, None, Some, Option, IsTrue, inl, inr, refl, sym, ◌∙◌, subst}
+use Rattle.std.proofs.Common.{◌≡◌, ◌≢◌, ℕ, Bool, List, [], ◌∷◌, None, Some, Option, IsTrue, inl, inr, refl, sym, ◌∙◌, subst}
 use Rattle.std.specs.Prelude.{◌⊎◌, IsFalse, IsSome}
 use Rattle.loom_outside.specs.declared.outside.Role.{Role}
-use Rattle.loom_outside.specs.declared.outside.Role.TheVariants.{Image, Events, Work, Saved, Display, Transcript, Notes}
+use Rattle.loom_outside.specs.declared.outside.Role.TheVariants.{Image, Events, Saved, Display, Transcript, Notes}
+use Rattle.loom_run.specs.Converts.{ConvertsAt, EndsConversion, EndsSource, EndsWhole, is_unused}
+use Rattle.loom_run.specs.declared.converting.Way.{Way}
+use Rattle.loom_run.specs.declared.converting.Way.TheVariants.{Listing, Assembling}
 use Rattle.loom_run.specs.Makes.{Makes}
 use Rattle.loom_run.specs.Meanings.{Meanings, IsLeft, LeavesBut}
 use Rattle.loom_run.specs.Promise.{EndsAt, Promise}
 use Rattle.loom_run.specs.Refusals.{CameTo, LeavesFiles, role_of}
 use Rattle.loom_run.specs.Stages.{Stage, Opening, Reading, Listening, Making, Running, Finishing, Saving, Drawing, Telling, Ends, reaches, stage_of}
-use Rattle.loom_run.specs.Status.{usage_of}
-use Rattle.loom_run.specs.Words.{MakeRow, Row, asks_make, bad_word, make_of, row_of}
-use Rattle.loom_run.specs.declared.status.Status.{Status}
-use Rattle.loom_run.specs.declared.status.Status.TheVariants as answer
+use Rattle.loom_words.specs.Status.{usage_of}
+use Rattle.loom_words.specs.Words.{MakeRow, Paths, Row, ToAssemble, ToList, ToMake, ToRun, Verb, bad_word, make_of, row_of, verb_of}
+use Rattle.loom_words.specs.declared.status.Status.{Status}
+use Rattle.loom_words.specs.declared.status.Status.TheVariants as answer
 
 -- ---- an answer comes at no stage before the one of its role
 
@@ -55,7 +58,7 @@ reached Telling (answer.Quit ran) h = refl
 reached Telling (answer.WriteFault Notes count) h = refl
 reached Telling _ h = absurd h
 
-pub came_from : (tells : Role → Bool) (before now : Meanings) (words : List (List ℕ)) (result : Status) → Promise tells before now words result → IsFalse (asks_make words) → usage_of result ≡ None → CameTo tells before now (row_of words) (role_of result)
+pub came_from : (tells : Role → Bool) (before now : Meanings) (words : List (List ℕ)) (result : Status) → Promise tells before now words result → verb_of words ≡ ToRun → usage_of result ≡ None → CameTo tells before now (row_of words) (role_of result)
 came_from tells before now words result p asks none =
     let e = p.ends asks (sym p.usage ∙ none) in
     λ told. e.1.attached (role_of result) told (reached e.0 result e.1.answer)
@@ -124,6 +127,53 @@ made-leaves tells before now row (answer.WriteFault Notes count) m = tt
 made-leaves tells before now row answer.OutOfMemory m = m.others.others Display (λ e. cc, tt)
 made-leaves tells before now row _ m = absurd m.answer
 
+-- a listing and an assembling leave Display, and Saved where they read none
+module _ {tells : Role → Bool} {before now : Meanings} {way : Way} {paths : Paths} where
+  undrawn : {status : Status} (stage : Stage) → ConvertsAt tells before now way paths stage status → IsLeft Display before now
+  undrawn stage at = at.unused Display refl
+
+  unwritten : {status : Status} (stage : Stage) → ConvertsAt tells before now way paths stage status → IsTrue (is_unused Saved stage) → IsLeft Saved before now × IsLeft Display before now
+  unwritten stage at none = (at.unused Saved none, at.unused Display refl)
+
+  source-leaves : (w : Way) (status : Status) → EndsSource w status → ConvertsAt tells before now way paths Reading status → LeavesFiles status before now
+  source-leaves Listing (answer.ImageBad rule place) h at = unwritten Reading at refl
+  source-leaves Listing (answer.ReadFault Image count) h at = unwritten Reading at refl
+  source-leaves Listing (answer.WorkFull live room) h at = unwritten Reading at refl
+  source-leaves Listing (answer.WorkFault count) h at = undrawn Reading at
+  source-leaves Listing (answer.Damaged place name) h at = undrawn Reading at
+  source-leaves Listing answer.OutOfMemory h at = undrawn Reading at
+  source-leaves Listing _ h at = absurd h
+  source-leaves Assembling (answer.TextBad line rule) h at = unwritten Reading at refl
+  source-leaves Assembling (answer.ReadFault Image count) h at = unwritten Reading at refl
+  source-leaves Assembling (answer.WorkFault count) h at = undrawn Reading at
+  source-leaves Assembling (answer.Damaged place name) h at = undrawn Reading at
+  source-leaves Assembling answer.OutOfMemory h at = undrawn Reading at
+  source-leaves Assembling _ h at = absurd h
+
+  whole-leaves : (w : Way) (status : Status) → EndsWhole w status → ConvertsAt tells before now way paths Telling status → LeavesFiles status before now
+  whole-leaves Listing (answer.Listed objects) h at = undrawn Telling at
+  whole-leaves Listing (answer.WriteFault Notes count) h at = tt
+  whole-leaves Listing _ h at = absurd h
+  whole-leaves Assembling (answer.Assembled objects) h at = undrawn Telling at
+  whole-leaves Assembling (answer.WriteFault Notes count) h at = tt
+  whole-leaves Assembling _ h at = absurd h
+
+  conversion-leaves : (stage : Stage) (status : Status) → EndsConversion stage way status → ConvertsAt tells before now way paths stage status → LeavesFiles status before now
+  conversion-leaves Opening (answer.WorkFault count) h at = undrawn Opening at
+  conversion-leaves Opening _ h at = absurd h
+  conversion-leaves Reading status h at = source-leaves way status h at
+  conversion-leaves Saving (answer.WriteFault Saved count) h at = undrawn Saving at
+  conversion-leaves Saving (answer.WorkFault count) h at = undrawn Saving at
+  conversion-leaves Saving (answer.Damaged place name) h at = undrawn Saving at
+  conversion-leaves Saving answer.OutOfMemory h at = undrawn Saving at
+  conversion-leaves Saving _ h at = absurd h
+  conversion-leaves Telling status h at = whole-leaves way status h at
+  conversion-leaves Listening status h at = absurd h
+  conversion-leaves Making status h at = absurd h
+  conversion-leaves Running status h at = absurd h
+  conversion-leaves Finishing status h at = absurd h
+  conversion-leaves Drawing status h at = absurd h
+
 -- words that are no command leave all but Notes
 unasked : (tells : Role → Bool) (before now : Meanings) (words : List (List ℕ)) (result : Status) → Promise tells before now words result → IsSome (bad_word words) → LeavesFiles result before now
 unasked tells before now words result p some = of result (p.unasked some)
@@ -132,6 +182,8 @@ unasked tells before now words result p some = of result (p.unasked some)
     of (answer.Done ran) l = tt
     of (answer.Quit ran) l = tt
     of (answer.Made objects) l = l.others Display (λ e. cc, tt)
+    of (answer.Listed objects) l = l.others Display (λ e. cc, tt)
+    of (answer.Assembled objects) l = l.others Display (λ e. cc, tt)
     of (answer.WriteFault Saved count) l = l.others Display (λ e. cc, tt)
     of (answer.WriteFault Display count) l = tt
     of (answer.WriteFault Notes count) l = tt
@@ -143,10 +195,12 @@ unasked tells before now words result p some = of result (p.unasked some)
 pub leaves_from : (tells : Role → Bool) (before now : Meanings) (words : List (List ℕ)) (result : Status) → Promise tells before now words result → LeavesFiles result before now
 leaves_from tells before now words result p = go (bad_word words) refl
   where
-    right : (b : Bool) → asks_make words ≡ b → bad_word words ≡ None → LeavesFiles result before now
-    right true asks e = made-leaves tells before now (make_of words) result (p.makes asks e)
-    right false asks e = let end = p.ends asks e in leaves end.0 result end.1.answer end.1
+    right : (verb : Verb) → verb_of words ≡ verb → bad_word words ≡ None → LeavesFiles result before now
+    right ToRun asks e = let end = p.ends asks e in leaves end.0 result end.1.answer end.1
+    right ToMake asks e = made-leaves tells before now (make_of words) result (p.makes asks e)
+    right ToList asks e = let end = p.converts Listing asks e in conversion-leaves end.0 result end.1.answer end.1
+    right ToAssemble asks e = let end = p.converts Assembling asks e in conversion-leaves end.0 result end.1.answer end.1
 
     go : (o : Option ℕ) → bad_word words ≡ o → LeavesFiles result before now
-    go None e = right (asks_make words) refl e
+    go None e = right (verb_of words) refl e
     go (Some word) e = unasked tells before now words result p (subst IsSome (sym e) refl)

@@ -30,8 +30,8 @@ use Rattle.loom_run.specs.Ends.{SaysStopped}
 use Rattle.loom_run.specs.Meanings.{Meanings, LeavesBut, meanings}
 use Rattle.loom_run.specs.Stages.{Listening, Running, Finishing, roles_at}
 use Rattle.loom_run.specs.Steps.{BeginsImage, Came, CameThrough, HasBounds, IsRefusal, IsSameFile, RunEnds, WasStopped, WentThrough}
-use Rattle.loom_run.specs.Words.{Row}
-use Rattle.loom_run.specs.declared.status.Status.{Status}
+use Rattle.loom_words.specs.Words.{Row}
+use Rattle.loom_words.specs.declared.status.Status.{Status}
 use Rattle.loom_run.proofs.MemoryLaws.{images-run, long-kept, saves-run}
 use Rattle.loom_run.proofs.ProgramLaws.{came-finishing, came-running}
 use Rattle.loom_run.proofs.WrittenLaws.{ends-finishing, ends-running}

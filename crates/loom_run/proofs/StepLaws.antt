@@ -1,6 +1,6 @@
 -- What the steps that read an image and save one leave of a host, and why they are refused.
 use Rattle.std.proofs.Common.{◌≡◌, ◌≢◌, ℕ, ◌<◌, ◌≤◌, Bool, true, false, List, [], ◌++◌, None, Some, Result, Ok, Err, OnOk, OnErr, IsTrue, inl, inr, refl, sym, ◌∙◌, ap, subst, length, take, drop, take-append-drop, append_assoc, arith}
-use Rattle.std.specs.Prelude.{is_ok}
+use Rattle.std.specs.Prelude.{IfErr, is_ok}
 use Rattle.std.proofs.Math.Seq.{take-length}
 use Rattle.std.specs.Result.{IsErrAnd}
 use Rattle.std.proofs.lemmas.Result.{err_from_is_err_and}
@@ -17,15 +17,14 @@ use Rattle.image_reader.specs.declared.fault.LoadFault.TheVariants as load
 use Rattle.image_reader.specs.Frames.{IsLoading}
 use Rattle.image_reader.specs.Loaded.{IsLoadFault, full_of}
 use Rattle.image_writer.specs.Puts as writer
-use Rattle.loom_run.specs.Ends.{JudgesImage, WasBegun, WasRefused, WasWritten, WrittenBy, bytes_of}
-use Rattle.loom_run.specs.Makes.{MadeBy}
+use Rattle.loom_run.specs.Ends.{JudgesImage, MadeBy, WasBegun, WasRefused, WasWritten, WrittenBy, bytes_of}
 use Rattle.loom_run.specs.Meanings.{LeavesBut, meanings}
 use Rattle.loom_run.specs.Parts.{status_by_disk}
 use Rattle.loom_run.specs.Stages.{Reading, Saving, roles_at}
 use Rattle.loom_run.specs.Steps.{IsRefusal, IsSameFile}
-use Rattle.loom_run.specs.Words.{Row}
-use Rattle.loom_run.specs.declared.status.Status.{Status}
-use Rattle.loom_run.specs.declared.status.Status.TheVariants as answer
+use Rattle.loom_words.specs.Words.{Row}
+use Rattle.loom_words.specs.declared.status.Status.{Status}
+use Rattle.loom_words.specs.declared.status.Status.TheVariants as answer
 use Rattle.loom_run.proofs.Frames.{is-role}
 use Rattle.loom_run.proofs.UsesLaws.{never}
 
@@ -137,6 +136,11 @@ not-made text bytes a b r e is left = let q = err_from_is_err_and r is in subst 
 -- the answer of a `?` is no whole writing
 pub not-written : {T : Type 0} (text bytes : List ℕ) (a b : RoleState) (r : Result T Status) (e : Status) → IsErrAnd r (λ y. y ≡ e) → WasRefused text a b → WrittenBy (is_ok r) text bytes a b
 not-written text bytes a b r e is refused = let q = err_from_is_err_and r is in subst (λ x. WrittenBy (is_ok x) text bytes a b) (sym q.1) (inl refused)
+
+-- the answer of a `?` is the one that was refused
+pub refuses : {T : Type 0} (P : Status → Type 0) (r : Result T Status) (e : Status) → IsErrAnd r (λ y. y ≡ e) → P e → IfErr r P
+refuses P (Ok x) e is h = tt
+refuses P (Err y) e is h = subst P (sym is) h
 
 -- of a heap that is known where something is told
 pub some-heap : (told : Bool) (P : Heap → Type 0) → (IsTrue told → (h : Heap) × P h) → (h : Heap) × (IsTrue told → P h)

@@ -17,14 +17,15 @@ use Rattle.loom_run.specs.Meanings.{Meanings, IsLeft, LeavesBut}
 use Rattle.loom_run.specs.Parts.{IsTold, unsaid}
 use Rattle.loom_run.specs.Promise.{EndsAt, Promise}
 use Rattle.loom_run.specs.Stages.{Stage, Telling, Saving, Drawing, passes, reaches, stage_of}
-use Rattle.loom_run.specs.Status.{line_of, usage_of}
+use Rattle.loom_words.specs.Status.{line_of, usage_of}
 use Rattle.loom_run.specs.Steps.{IsOfRun, RunEnds}
-use Rattle.loom_run.specs.Words.{Row, asks_make, bad_word, row_of}
-use Rattle.loom_run.specs.declared.status.Status.{Status}
-use Rattle.loom_run.specs.declared.status.Status.TheVariants as answer
-use Rattle.loom_run.proofs.HeadlineLaws.{done-last, made-never, quit-last}
+use Rattle.loom_words.specs.Words.{Row, ToMake, ToRun, Verb, bad_word, row_of, verb_of}
+use Rattle.loom_words.specs.declared.status.Status.{Status}
+use Rattle.loom_words.specs.declared.status.Status.TheVariants as answer
+use Rattle.loom_run.proofs.ConvertLaws.{converts-not}
+use Rattle.loom_run.proofs.HeadlineLaws.{assembled-never, done-last, listed-never, made-never, quit-last}
 use Rattle.loom_run.proofs.Lines.{noted-own, noted-run}
-use Rattle.loom_run.proofs.UsesLaws.{left-then, never}
+use Rattle.loom_run.proofs.UsesLaws.{left-then}
 use Rattle.loom_run.proofs.WrittenLaws.{cuts-none}
 
 -- ---- what the line leaves
@@ -40,9 +41,12 @@ module _ (mid now : Meanings) (leaves : LeavesBut (Notes ∷ []) mid now) where
   cause-now (answer.Done ran) before of_run h = tt
   cause-now (answer.Quit ran) before of_run h = tt
   cause-now (answer.Made objects) before of_run h = tt
+  cause-now (answer.Listed objects) before of_run h = tt
+  cause-now (answer.Assembled objects) before of_run h = tt
   cause-now (answer.Usage word) before of_run h = tt
   cause-now (answer.ImageBad rule place) before of_run h = tt
   cause-now (answer.EventsBad line) before of_run h = tt
+  cause-now (answer.TextBad line rule) before of_run h = tt
   cause-now (answer.Stuck cause ran) before of_run h = tt
   cause-now (answer.CoreFull ran need) before of_run h = tt
   cause-now (answer.NamesSpent ran) before of_run h = tt
@@ -168,9 +172,12 @@ module _ (tells : Role → Bool) (before now : Meanings) (row : Row) (rose : Ros
   unsaid-end stage (answer.Done ran) put at = (Telling, cut-end (λ c goes. parked Next ran c.ending goes) (λ c goes told. inl (ran, goes, put told)) (telling stage (answer.Done ran) at (done-last stage ran at.answer)))
   unsaid-end stage (answer.Quit ran) put at = (Telling, cut-end (λ c goes. parked Quit ran c.ending goes) (λ c goes told. inr (ran, goes, put told)) (telling stage (answer.Quit ran) at (quit-last stage ran at.answer)))
   unsaid-end stage (answer.Made objects) put at = made-never stage objects at.answer
+  unsaid-end stage (answer.Listed objects) put at = listed-never stage objects at.answer
+  unsaid-end stage (answer.Assembled objects) put at = assembled-never stage objects at.answer
   unsaid-end stage (answer.Usage word) put at = (stage, at)
   unsaid-end stage (answer.ImageBad rule place) put at = (stage, at)
   unsaid-end stage (answer.EventsBad line) put at = (stage, at)
+  unsaid-end stage (answer.TextBad line rule) put at = (stage, at)
   unsaid-end stage (answer.Stuck cause ran) put at = (stage, at)
   unsaid-end stage (answer.CoreFull ran need) put at = (stage, at)
   unsaid-end stage (answer.NamesSpent ran) put at = (stage, at)
@@ -187,9 +194,12 @@ usage-none : (status : Status) → IsOfRun status → usage_of status ≡ None
 usage-none (answer.Done ran) h = refl
 usage-none (answer.Quit ran) h = refl
 usage-none (answer.Made objects) h = refl
+usage-none (answer.Listed objects) h = refl
+usage-none (answer.Assembled objects) h = refl
 usage-none (answer.Usage word) h = absurd h
 usage-none (answer.ImageBad rule place) h = refl
 usage-none (answer.EventsBad line) h = refl
+usage-none (answer.TextBad line rule) h = refl
 usage-none (answer.Stuck cause ran) h = refl
 usage-none (answer.CoreFull ran need) h = refl
 usage-none (answer.NamesSpent ran) h = refl
@@ -204,9 +214,12 @@ usage-unsaid : (status : Status) (count : ℕ) → IsOfRun status → usage_of (
 usage-unsaid (answer.Done ran) count h = refl
 usage-unsaid (answer.Quit ran) count h = refl
 usage-unsaid (answer.Made objects) count h = refl
+usage-unsaid (answer.Listed objects) count h = refl
+usage-unsaid (answer.Assembled objects) count h = refl
 usage-unsaid (answer.Usage word) count h = absurd h
 usage-unsaid (answer.ImageBad rule place) count h = refl
 usage-unsaid (answer.EventsBad line) count h = refl
+usage-unsaid (answer.TextBad line rule) count h = refl
 usage-unsaid (answer.Stuck cause ran) count h = refl
 usage-unsaid (answer.CoreFull ran need) count h = refl
 usage-unsaid (answer.NamesSpent ran) count h = refl
@@ -217,7 +230,7 @@ usage-unsaid (answer.WriteFault role faults) count h = refl
 usage-unsaid answer.OutOfMemory count h = refl
 usage-unsaid (answer.Damaged place name) count h = refl
 
-module _ (tells : Role → Bool) (before mid now : Meanings) (words : List (List ℕ)) (status result : Status) (asks : IsFalse (asks_make words)) (right : bad_word words ≡ None) (run : RunEnds tells before mid (row_of words) status) (leaves : LeavesBut (Notes ∷ []) mid now) where
+module _ (tells : Role → Bool) (before mid now : Meanings) (words : List (List ℕ)) (status result : Status) (asks : verb_of words ≡ ToRun) (right : bad_word words ≡ None) (run : RunEnds tells before mid (row_of words) status) (leaves : LeavesBut (Notes ∷ []) mid now) where
   ends : IsTold (tells Notes) status result mid now → (stage : Stage) × EndsAt tells before now (row_of words) stage result
   ends (inl whole) = (run.stage, subst (λ s. EndsAt tells before now (row_of words) run.stage s) (sym whole.answer) (at-now mid now leaves run.of_run run.at))
   ends (inr cut) =
@@ -228,6 +241,9 @@ module _ (tells : Role → Bool) (before mid now : Meanings) (words : List (List
   usage (inl whole) = ap usage_of whole.answer ∙ usage-none status run.of_run
   usage (inr cut) = ap usage_of cut.answer ∙ usage-unsaid status (now.faults Notes) run.of_run
 
+  other-verb : {P : Type 0} → verb_of words ≡ ToMake → P
+  other-verb make = let no : ◌≡◌ {A = Verb} ToRun ToMake = sym asks ∙ make in absurd (cc)
+
   asked : (o : Option ℕ) → o ≡ None → IsSome o → LeavesBut (Notes ∷ []) before now
   asked None e some = let no : ◌≡◌ {A = Bool} false true = some in absurd (cc)
   asked (Some word) e some = let no : ◌≡◌ {A = Option ℕ} (Some word) None = e in absurd (cc)
@@ -237,8 +253,9 @@ module _ (tells : Role → Bool) (before mid now : Meanings) (words : List (List
     usage = usage told ∙ sym right;
     unasked = asked (bad_word words) right;
     ends = λ run none. ends told;
-    makes = λ make. never (subst IsTrue asks make);
-    noted = λ tells. subst (λ b. NotedBy result (HasBegunFor b words) before now) (sym asks) (noted-run status result (row_of words).steps before mid now run.of_run run.at.ran run.untold told tells);
+    makes = λ make. other-verb make;
+    converts = λ way asked. converts-not way words ToRun asks (inl refl) asked;
+    noted = λ tells. subst (λ (verb : Verb). NotedBy result (HasBegunFor verb words) before now) (sym asks) (noted-run status result (row_of words).steps before mid now run.of_run run.at.ran run.untold told tells);
     later = λ role. let first = run.later role in let then = leaves.later role in omega (arith, first, then);
   }
 
@@ -257,6 +274,7 @@ promise-usage tells before now words word result bad told leaves = record {
   unasked = λ some. leaves;
   ends = λ run none. some-none word (bad_word words) bad none;
   makes = λ make none. some-none word (bad_word words) bad none;
-  noted = λ tell. let own = noted-own (answer.Usage word) result before now refl told tell in subst (λ s. NotedBy s (HasBegunFor (asks_make words) words) before now) (sym own.0) own.1;
+  converts = λ way asked none. some-none word (bad_word words) bad none;
+  noted = λ tell. let own = noted-own (answer.Usage word) result before now refl told tell in subst (λ s. NotedBy s (HasBegunFor (verb_of words) words) before now) (sym own.0) own.1;
   later = leaves.later;
 }

@@ -10,7 +10,7 @@ use Rattle.loom_run.specs.Ends.{AttachedOnce, word_for}
 use Rattle.loom_run.specs.Meanings.{Meanings, IsLeft, LeavesBut}
 use Rattle.loom_run.specs.Stages.{Opening, Reading, Listening, Making, Running, Finishing, Saving, Drawing, Telling, passes, reaches, roles_at, stage_of}
 use Rattle.loom_run.specs.Steps.{IsSameFile, Uses}
-use Rattle.loom_run.specs.Words.{Row}
+use Rattle.loom_words.specs.Words.{Row}
 
 pub never : {P : Type 0} → IsTrue false → P
 never e = absurd (cc)
@@ -21,13 +21,13 @@ always e = absurd (cc)
 pub left-then : (role : Role) (a b c : Meanings) → IsLeft role a b → IsLeft role b c → IsLeft role a c
 left-then role a b c p q = record { state = q.state ∙ p.state; faults = q.faults ∙ p.faults }
 
-attached-from : (text : List ℕ) (a b c : RoleState) → b ≡ a → AttachedOnce text b c → AttachedOnce text a c
+pub attached-from : (text : List ℕ) (a b c : RoleState) → b ≡ a → AttachedOnce text b c → AttachedOnce text a c
 attached-from text a b c same x = subst (λ s. AttachedOnce text s c) same x
 
-attached-left : (text : List ℕ) (a b c : RoleState) → AttachedOnce text a b → c ≡ b → AttachedOnce text a c
+pub attached-left : (text : List ℕ) (a b c : RoleState) → AttachedOnce text a b → c ≡ b → AttachedOnce text a c
 attached-left text a b c x same = subst (λ s. AttachedOnce text a s) (sym same) x
 
-attached-file : (text : List ℕ) (a b c : RoleState) → AttachedOnce text a b → IsSameFile b c → AttachedOnce text a c
+pub attached-file : (text : List ℕ) (a b c : RoleState) → AttachedOnce text a b → IsSameFile b c → AttachedOnce text a c
 attached-file text a b c x same = record {
   attaches = ap (λ (s : RoleState). s.attaches) same ∙ x.attaches;
   name = subst (λ n. IfSome n (λ t. t ≡ text)) (sym (ap (λ (s : RoleState). s.name) same)) x.name;

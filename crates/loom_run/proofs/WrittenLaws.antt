@@ -19,9 +19,9 @@ use Rattle.loom_run.specs.Meanings.{Meanings, IsLeft}
 use Rattle.loom_run.specs.Parts.{IsFinished}
 use Rattle.loom_run.specs.Stages.{Running, Finishing, Saving, Drawing, Telling, Ends}
 use Rattle.loom_run.specs.Steps.{Came, CameThrough, IsOfRun, IsRefusal, RunEnds}
-use Rattle.loom_run.specs.Words.{Row}
-use Rattle.loom_run.specs.declared.status.Status.{Status}
-use Rattle.loom_run.specs.declared.status.Status.TheVariants as answer
+use Rattle.loom_words.specs.Words.{Row}
+use Rattle.loom_words.specs.declared.status.Status.{Status}
+use Rattle.loom_words.specs.declared.status.Status.TheVariants as answer
 use Rattle.loom_run.proofs.UsesLaws.{never}
 use Rattle.loom_run.proofs.EndsLaws.{ends-later}
 
@@ -36,9 +36,12 @@ goes-refused : (status : Status) (c : Course) → ((ran : ℕ) → status ≡ an
 goes-refused (answer.Done ran) c done quit h = absurd (done ran refl)
 goes-refused (answer.Quit ran) c done quit h = absurd (quit ran refl)
 goes-refused (answer.Made objects) c done quit h = h
+goes-refused (answer.Listed objects) c done quit h = h
+goes-refused (answer.Assembled objects) c done quit h = h
 goes-refused (answer.Usage word) c done quit h = h
 goes-refused (answer.ImageBad rule place) c done quit h = h
 goes-refused (answer.EventsBad line) c done quit h = h
+goes-refused (answer.TextBad line rule) c done quit h = h
 goes-refused (answer.Stuck cause ran) c done quit h = h
 goes-refused (answer.CoreFull ran need) c done quit h = h
 goes-refused (answer.NamesSpent ran) c done quit h = h
@@ -61,9 +64,12 @@ cuts-none (answer.WriteFault Transcript count) c old new of_run = tt
 cuts-none (answer.Done ran) c old new of_run = tt
 cuts-none (answer.Quit ran) c old new of_run = tt
 cuts-none (answer.Made objects) c old new of_run = tt
+cuts-none (answer.Listed objects) c old new of_run = tt
+cuts-none (answer.Assembled objects) c old new of_run = tt
 cuts-none (answer.Usage word) c old new of_run = tt
 cuts-none (answer.ImageBad rule place) c old new of_run = tt
 cuts-none (answer.EventsBad line) c old new of_run = tt
+cuts-none (answer.TextBad line rule) c old new of_run = tt
 cuts-none (answer.Stuck cause ran) c old new of_run = tt
 cuts-none (answer.CoreFull ran need) c old new of_run = tt
 cuts-none (answer.NamesSpent ran) c old new of_run = tt
@@ -176,9 +182,12 @@ pub finished-refusal : {tells : Role → Bool} (now : Meanings) (row : Row) (sta
 finished-refusal now row (answer.Done ran) fin ran_is = record { answer = tt; of_run = tt; ran = ran_is; cause = tt; whole = λ work damaged. damaged; limits = tt }
 finished-refusal now row (answer.Quit ran) fin ran_is = record { answer = tt; of_run = tt; ran = ran_is; cause = tt; whole = λ work damaged. damaged; limits = tt }
 finished-refusal now row (answer.Made objects) fin ran_is = absurd fin
+finished-refusal now row (answer.Listed objects) fin ran_is = absurd fin
+finished-refusal now row (answer.Assembled objects) fin ran_is = absurd fin
 finished-refusal now row (answer.Usage word) fin ran_is = absurd fin
 finished-refusal now row (answer.ImageBad rule place) fin ran_is = absurd fin
 finished-refusal now row (answer.EventsBad line) fin ran_is = absurd fin
+finished-refusal now row (answer.TextBad line rule) fin ran_is = absurd fin
 finished-refusal now row (answer.Stuck cause ran) fin ran_is = absurd fin
 finished-refusal now row (answer.CoreFull ran need) fin ran_is = absurd fin
 finished-refusal now row (answer.NamesSpent ran) fin ran_is = absurd fin

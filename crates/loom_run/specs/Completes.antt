@@ -1,4 +1,4 @@
--- When a run comes to the model's own end, and a making to its image.
+-- When a run comes to the model's own end, a making to its image, and a listing or an assembling to what it writes.
 use Rattle.std.specs.Prelude.{◌≡◌, ℕ, ◌≤◌, List}
 use Rattle.long_names.specs.Counting.{Rose}
 use Rattle.long_names.specs.Heap.{Heap, object_count}
@@ -10,11 +10,15 @@ use Rattle.blue_model.specs.declared.event.Line.{Line}
 use Rattle.blue_model.specs.Logs.{Course, IsLive, course}
 use Rattle.contexts.specs.Serves.{IsLogged}
 use Rattle.machine_run.specs.States.{model_state}
+use Rattle.image_format.specs.Rules.{IsValidImage}
+use Rattle.text_lines.specs.Texts.{IsImageText}
+use Rattle.loom_run.specs.declared.converting.Way.{Way}
+use Rattle.loom_run.specs.declared.converting.Way.TheVariants.{Listing, Assembling}
 use Rattle.loom_run.specs.Ends.{AreEvents, IsImageOf, IsRightImage}
-use Rattle.loom_run.specs.Words.{Row}
-use Rattle.loom_run.specs.declared.status.Status.{Status}
+use Rattle.loom_words.specs.Words.{Row}
+use Rattle.loom_words.specs.declared.status.Status.{Status}
 use Rattle.loom_gen.specs.Generated.{generated}
-use Rattle.loom_run.specs.declared.status.Status.TheVariants.{Done, Quit, Made, Stuck, NamesSpent, OutOfMemory}
+use Rattle.loom_words.specs.declared.status.Status.TheVariants.{Done, Quit, Made, Listed, Assembled, Stuck, NamesSpent, OutOfMemory}
 
 -- each row of a course fits the core, and at each of its makings as many objects live as there is room for
 pub record HasRoom (row : Row) (c : Course) : Type 0 where
@@ -42,3 +46,23 @@ abbrev pub IsMadeOf : ℕ → Status → Type 0
 IsMadeOf number (Made objects) = objects ≡ object_count (generated number)
 IsMadeOf number OutOfMemory = Unit {0}
 IsMadeOf number _ = ⊥
+
+-- the bytes are an image, or the text of one
+abbrev pub IsSource : Way → List ℕ → Type 0
+IsSource Listing bytes = IsValidImage bytes
+IsSource Assembling bytes = IsImageText bytes
+
+abbrev pub IsListed : Status → Type 0
+IsListed (Listed objects) = Unit {0}
+IsListed OutOfMemory = Unit {0}
+IsListed _ = ⊥
+
+abbrev pub IsAssembled : Status → Type 0
+IsAssembled (Assembled objects) = Unit {0}
+IsAssembled OutOfMemory = Unit {0}
+IsAssembled _ = ⊥
+
+-- Listed, or Assembled, or want of memory
+abbrev pub IsConverted : Way → Status → Type 0
+IsConverted Listing status = IsListed status
+IsConverted Assembling status = IsAssembled status

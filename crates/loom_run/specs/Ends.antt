@@ -1,6 +1,6 @@
 -- What a run leaves of the roles of its host, by the stage at which it ended and its answer.
 use Rattle.std.specs.Prelude.{◌≡◌, ◌≢◌, ℕ, ◌+◌, ◌≤◌, ◌<◌, List, [], ◌++◌, take, length, Bool, true, false, ◌⊎◌, Err, None, Some, IfSome, IsTrue, Option}
-use Rattle.loom_outside.specs.Outside.{RoleState, Attached, puts, PutPrefix}
+use Rattle.loom_outside.specs.Outside.{RoleState, Attached, ends, puts, PutPrefix}
 use Rattle.long_names.specs.Counting.{counted, Rose}
 use Rattle.long_names.specs.Need.{Fits}
 use Rattle.loom_outside.specs.declared.outside.Failed.{Failed}
@@ -26,10 +26,10 @@ use Rattle.machine_run.specs.States.{model_state}
 use Rattle.event_file.specs.Text.{AreRight, events_text, IsBadAt}
 use Rattle.loom_run.specs.Meanings.{Meanings}
 use Rattle.loom_run.specs.Stages.{Stage, Running, Saving, Drawing, Telling, passes, reaches}
-use Rattle.loom_run.specs.Status.{line_of}
-use Rattle.loom_run.specs.Words.{Row}
-use Rattle.loom_run.specs.declared.status.Status.{Status}
-use Rattle.loom_run.specs.declared.status.Status.TheVariants.{Done, Quit, Made, ImageBad, EventsBad, Stuck, CoreFull, NamesSpent, WorkFull, ReadFault, WorkFault, WriteFault, OutOfMemory, Damaged}
+use Rattle.loom_words.specs.Status.{line_of}
+use Rattle.loom_words.specs.Words.{Row}
+use Rattle.loom_words.specs.declared.status.Status.{Status}
+use Rattle.loom_words.specs.declared.status.Status.TheVariants.{Done, Quit, Made, Listed, Assembled, ImageBad, EventsBad, Stuck, CoreFull, NamesSpent, WorkFull, ReadFault, WorkFault, WriteFault, OutOfMemory, Damaged}
 
 -- ---- faults
 
@@ -184,6 +184,12 @@ abbrev pub WrittenBy : Bool → List ℕ → List ℕ → RoleState → RoleStat
 WrittenBy true text bytes old new = WasWritten text bytes old new
 WrittenBy false text bytes old new = WasRefused text old new ⊎ WasBegun text bytes old new
 
+-- The role was attached once, by this name; then these bytes were put to it, and behind all of them a piece of no bytes, which ends it. Or
+-- that failed: it is as a refused attach leaves it, or has a prefix of them and isn't ended.
+abbrev pub MadeBy : Bool → List ℕ → List ℕ → RoleState → RoleState → Type 0
+MadeBy true text bytes old new = (put : RoleState) × WasWritten text bytes old put × (new ≡ ends put)
+MadeBy false text bytes old new = WrittenBy false text bytes old new
+
 -- a state of the model in the words of an image
 abbrev pub words_of : State → Words
 words_of s = record { clock = s.clock; display = s.display; input = s.input; timer = s.timer; tick = s.tick }
@@ -234,7 +240,7 @@ pub record Noted (line : List ℕ) (before now : Meanings) : Type 0 where
 abbrev pub HasBegun : ℕ → RoleState → RoleState → Type 0
 HasBegun steps old new = PutPrefix (line_of (Done steps)) old new ⊎ ((ran : ℕ) × (ran ≤ steps) × PutPrefix (line_of (Quit ran)) old new)
 
--- What was put to Notes. Done, Quit and Made have their whole line there. Where that couldn't be written, the answer is a fault of Notes and no
+-- What was put to Notes. Done, Quit, Made, Listed and Assembled have their whole line there. Where that couldn't be written, the answer is a fault of Notes and no
 -- second line is begun: `Begun` says which line was. Any other answer has its own line there, or as much of it as could be written.
 abbrev pub NotedFor : Role → ℕ → (RoleState → RoleState → Type 0) → Meanings → Meanings → Type 0
 NotedFor Notes count Begun before now = Begun (before.roles Notes) (now.roles Notes)
@@ -244,5 +250,7 @@ abbrev pub NotedBy : Status → (RoleState → RoleState → Type 0) → Meaning
 NotedBy (Done ran) Begun before now = now.roles Notes ≡ puts (line_of (Done ran)) (before.roles Notes)
 NotedBy (Quit ran) Begun before now = now.roles Notes ≡ puts (line_of (Quit ran)) (before.roles Notes)
 NotedBy (Made objects) Begun before now = now.roles Notes ≡ puts (line_of (Made objects)) (before.roles Notes)
+NotedBy (Listed objects) Begun before now = now.roles Notes ≡ puts (line_of (Listed objects)) (before.roles Notes)
+NotedBy (Assembled objects) Begun before now = now.roles Notes ≡ puts (line_of (Assembled objects)) (before.roles Notes)
 NotedBy (WriteFault role count) Begun before now = NotedFor role count Begun before now
 NotedBy status Begun before now = Noted (line_of status) before now

@@ -14,9 +14,9 @@ use Rattle.blue_model.specs.Logs.{AreWithin}
 use Rattle.machine_run.specs.States.{model_state}
 use Rattle.loom_run.specs.Ends.{AreEvents, IsImageOf, RunOf, bytes_of, image_of}
 use Rattle.loom_run.specs.Meanings.{Meanings}
-use Rattle.loom_run.specs.Words.{Row}
-use Rattle.loom_run.specs.declared.status.Status.{Status}
-use Rattle.loom_run.specs.declared.status.Status.TheVariants.{Done, Quit}
+use Rattle.loom_words.specs.Words.{Row}
+use Rattle.loom_words.specs.declared.status.Status.{Status}
+use Rattle.loom_words.specs.declared.status.Status.TheVariants.{Done, Quit}
 
 -- Of a heap with the head of its image, lines of events, a machine and a picture: this is what a run of so many bytecodes read and wrote.
 pub record Headline (before now : Meanings) (steps : ℕ) (end : Step) (ran : ℕ) (head : ImageHead) (heap : Heap) (lines : List Line) (machine : Machine) (picture : List ℕ) : Type 0 where

@@ -1,6 +1,6 @@
 pub mod Base
-pub mod Command
 pub mod Completes
+pub mod Converts
 pub mod Ends
 pub mod Headline
 pub mod Makes
@@ -9,6 +9,5 @@ pub mod Parts
 pub mod Promise
 pub mod Refusals
 pub mod Stages
-pub mod Status
 pub mod Steps
-pub mod Words
+pub mod Traces

@@ -6,12 +6,14 @@ use Rattle.loom_gen.specs.Generated.{generated}
 use Rattle.loom_outside.specs.Outside.{RoleState, PutPrefix, ends}
 use Rattle.loom_outside.specs.declared.outside.Role.{Role}
 use Rattle.loom_outside.specs.declared.outside.Role.TheVariants.{Saved, Notes}
-use Rattle.loom_run.specs.Ends.{HasBegun, IsCaused, WasWritten, WrittenBy}
+use Rattle.loom_run.specs.Converts.{HasBegunCount}
+use Rattle.loom_run.specs.declared.converting.Way.TheVariants.{Listing, Assembling}
+use Rattle.loom_run.specs.Ends.{HasBegun, IsCaused, MadeBy}
 use Rattle.loom_run.specs.Meanings.{Meanings, LeavesBut}
-use Rattle.loom_run.specs.Status.{line_of}
-use Rattle.loom_run.specs.Words.{MakeRow, make_of, row_of}
-use Rattle.loom_run.specs.declared.status.Status.{Status}
-use Rattle.loom_run.specs.declared.status.Status.TheVariants.{Made, WriteFault, OutOfMemory}
+use Rattle.loom_words.specs.Status.{line_of}
+use Rattle.loom_words.specs.Words.{MakeRow, ToAssemble, ToList, ToMake, ToRun, Verb, make_of, row_of}
+use Rattle.loom_words.specs.declared.status.Status.{Status}
+use Rattle.loom_words.specs.declared.status.Status.TheVariants.{Made, WriteFault, OutOfMemory}
 
 -- The answers: how many objects the image has, a fault of a role that is written, or want of memory.
 abbrev pub EndsMaking : ℕ → Status → Type 0
@@ -25,12 +27,6 @@ EndsMaking number _ = ⊥
 abbrev pub roles_of : Status → List Role
 roles_of OutOfMemory = Notes ∷ []
 roles_of _ = Saved ∷ Notes ∷ []
-
--- The role was attached once, by this name; then these bytes were put to it, and behind all of them a piece of no bytes, which ends it. Or
--- that failed: it is as a refused attach leaves it, or has a prefix of them and isn't ended.
-abbrev pub MadeBy : Bool → List ℕ → List ℕ → RoleState → RoleState → Type 0
-MadeBy true text bytes old new = (put : RoleState) × WasWritten text bytes old put × (new ≡ ends put)
-MadeBy false text bytes old new = WrittenBy false text bytes old new
 
 -- Saved was attached once, by the file's name, has the image and is ended. Where that failed it isn't ended, and has a prefix at most.
 abbrev pub SavesImage : Status → MakeRow → RoleState → RoleState → Type 0
@@ -50,7 +46,9 @@ pub record Makes (tells : Role → Bool) (before now : Meanings) (row : MakeRow)
 abbrev pub HasBegunImage : ℕ → RoleState → RoleState → Type 0
 HasBegunImage number old new = PutPrefix (line_of (Made (object_count (generated number)))) old new
 
--- the line that is begun where Notes failed: that of a making, or of a run
-abbrev pub HasBegunFor : Bool → List (List ℕ) → RoleState → RoleState → Type 0
-HasBegunFor true words = HasBegunImage (make_of words).number
-HasBegunFor false words = HasBegun (row_of words).steps
+-- the line that is begun where Notes failed: that of a run, or of another command
+abbrev pub HasBegunFor : Verb → List (List ℕ) → RoleState → RoleState → Type 0
+HasBegunFor ToRun words = HasBegun (row_of words).steps
+HasBegunFor ToMake words = HasBegunImage (make_of words).number
+HasBegunFor ToList words = HasBegunCount Listing
+HasBegunFor ToAssemble words = HasBegunCount Assembling

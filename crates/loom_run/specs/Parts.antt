@@ -12,9 +12,9 @@ use Rattle.loom_outside.specs.declared.outside.Role.TheVariants.{Notes, Transcri
 use Rattle.machine_run.specs.declared.running.Reason.{Reason}
 use Rattle.machine_run.specs.declared.running.Reason.TheVariants.{ByStop, NoMemory}
 use Rattle.loom_run.specs.Meanings.{Meanings}
-use Rattle.loom_run.specs.Status.{line_of}
-use Rattle.loom_run.specs.declared.status.Status.{Status}
-use Rattle.loom_run.specs.declared.status.Status.TheVariants.{Done, Quit, Made, Stuck, CoreFull, NamesSpent, WorkFull, WorkFault, WriteFault, OutOfMemory, Damaged}
+use Rattle.loom_words.specs.Status.{line_of}
+use Rattle.loom_words.specs.declared.status.Status.{Status}
+use Rattle.loom_words.specs.declared.status.Status.TheVariants.{Done, Quit, Made, Listed, Assembled, Stuck, CoreFull, NamesSpent, WorkFull, WorkFault, WriteFault, OutOfMemory, Damaged}
 
 -- ---- faults as answers
 
@@ -53,6 +53,8 @@ abbrev pub unsaid : Status → ℕ → Status
 unsaid (Done ran) now = WriteFault Notes now
 unsaid (Quit ran) now = WriteFault Notes now
 unsaid (Made objects) now = WriteFault Notes now
+unsaid (Listed objects) now = WriteFault Notes now
+unsaid (Assembled objects) now = WriteFault Notes now
 unsaid status now = status
 
 -- the last line was put whole, or failed, where Notes is told or not

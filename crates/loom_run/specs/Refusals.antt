@@ -4,9 +4,9 @@ use Rattle.loom_outside.specs.declared.outside.Role.{Role}
 use Rattle.loom_outside.specs.declared.outside.Role.TheVariants.{Image, Events, Work, Saved, Display, Transcript, Notes}
 use Rattle.loom_run.specs.Ends.{AttachedOnce, word_for}
 use Rattle.loom_run.specs.Meanings.{Meanings, IsLeft}
-use Rattle.loom_run.specs.Words.{Row}
-use Rattle.loom_run.specs.declared.status.Status.{Status}
-use Rattle.loom_run.specs.declared.status.Status.TheVariants.{Done, Quit, Made, Usage, ImageBad, EventsBad, Stuck, CoreFull, NamesSpent, WorkFull, ReadFault, WorkFault, WriteFault, OutOfMemory, Damaged}
+use Rattle.loom_words.specs.Words.{Row}
+use Rattle.loom_words.specs.declared.status.Status.{Status}
+use Rattle.loom_words.specs.declared.status.Status.TheVariants.{Done, Quit, Made, Listed, Assembled, Usage, ImageBad, EventsBad, TextBad, Stuck, CoreFull, NamesSpent, WorkFull, ReadFault, WorkFault, WriteFault, OutOfMemory, Damaged}
 
 -- ---- no answer comes at once
 
@@ -15,9 +15,12 @@ abbrev pub role_of : Status → Role
 role_of (Done ran) = Display
 role_of (Quit ran) = Display
 role_of (Made objects) = Saved
+role_of (Listed objects) = Saved
+role_of (Assembled objects) = Saved
 role_of (Usage word) = Notes
 role_of (ImageBad rule place) = Image
 role_of (EventsBad line) = Events
+role_of (TextBad line rule) = Image
 role_of (Stuck cause ran) = Events
 role_of (CoreFull ran need) = Events
 role_of (NamesSpent ran) = Events
@@ -37,11 +40,13 @@ CameTo tells before now row role = IsTrue (tells role) → IfSome (word_for row 
 -- ---- what a refusal leaves
 
 -- Saved and Display are as they were, where the answer came before the two or is about neither; Display where it came in saving. A run that went
--- through, and one that was refused in drawing or in its last line, has written to both. A making has nothing to do with Display.
+-- through, and one that was refused in drawing or in its last line, has written to both. A making, a listing and an assembling have nothing to do with Display.
 abbrev pub LeavesFiles : Status → Meanings → Meanings → Type 0
 LeavesFiles (Done ran) before now = Unit {0}
 LeavesFiles (Quit ran) before now = Unit {0}
 LeavesFiles (Made objects) before now = IsLeft Display before now
+LeavesFiles (Listed objects) before now = IsLeft Display before now
+LeavesFiles (Assembled objects) before now = IsLeft Display before now
 LeavesFiles (WriteFault Saved count) before now = IsLeft Display before now
 LeavesFiles (WriteFault Display count) before now = Unit {0}
 LeavesFiles (WriteFault Notes count) before now = Unit {0}

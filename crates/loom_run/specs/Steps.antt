@@ -1,15 +1,20 @@
 -- What the steps of a run do, one after the other: which roles were used by then, what was read, and what came of the machine.
-use Rattle.std.specs.Prelude.{◌≡◌, ◌≢◌, ℕ, ◌≤◌, List, ◌++◌, Bool, Some, IfSome, IsTrue, IsFalse, Result, Ok, Err}
+use Rattle.std.specs.Prelude.{◌≡◌, ◌≢◌, ℕ, ◌≤◌, List, [], ◌++◌, Bool, Some, IfSome, IsTrue, IsFalse, Result, Ok, Err}
 use Rattle.loom_outside.specs.Outside.{RoleState, holds}
 use Rattle.loom_outside.specs.declared.outside.Role.{Role}
-use Rattle.loom_outside.specs.declared.outside.Role.TheVariants.{Image, Events, Work, Notes, Transcript}
-use Rattle.long_names.specs.Heap.{Heap}
+use Rattle.loom_outside.specs.declared.outside.Role.TheVariants.{Image, Events, Work, Saved, Notes, Transcript}
+use Rattle.long_names.specs.Heap.{Heap, object_count}
 use Rattle.long_names.specs.Kept.{kept, no_roots}
 use Rattle.long_names.specs.Thin.{IsThinner}
 use Rattle.image_format.specs.declared.opening.ImageHead.{ImageHead}
 use Rattle.image_format.specs.declared.opening.State.{State as Words}
 use Rattle.image_format.specs.Valid.{IsImageHeap}
 use Rattle.image_writer.specs.Saved.{saved_text}
+use Rattle.image_reader.specs.Loaded.{IsLoadedHeap}
+use Rattle.disk_objects.specs.Disk.{IsDisk, Objects}
+use Rattle.disk_objects.specs.declared.rest.DiskRest.{DiskRest}
+use Rattle.loom_outside.specs.Work.{work_of}
+use Rattle.loom_outside.specs.declared.outside.Host.{Ghosts}
 use Rattle.image_memory.specs.Image.{BeginsWith, IsStateOf}
 use Rattle.object_memory.specs.Contract.{ForBounds}
 use Rattle.object_memory.specs.Told.{Told}
@@ -18,14 +23,16 @@ use Rattle.blue_model.specs.Logs.{Course}
 use Rattle.blue_model.specs.Endings.{OnParked, OnDrawn, IsParkedBy, said_in}
 use Rattle.machine_run.specs.States.{model_state, state_held}
 use Rattle.machine_run.specs.declared.running.Finished.{Finished}
-use Rattle.loom_run.specs.Ends.{AreEvents, AttachedOnce, HasRun, IsCaused, IsDamaged, IsImageOf, IsPastLimits, SaysStopped, Stops, WasRead, bytes_of, head_of, image_of, word_for}
+use Rattle.loom_run.specs.Ends.{AreEvents, AttachedOnce, HasRun, IsCaused, IsDamaged, IsImageOf, IsPastLimits, SaysStopped, Stops, WasRead, WasWritten, bytes_of, head_of, image_of, word_for}
+use Rattle.loom_run.specs.Converts.{ConvertsAt, IsAboveRoom, Reads, bytes_by, is_unused, path_for}
 use Rattle.loom_run.specs.Makes.{Makes}
-use Rattle.loom_run.specs.Meanings.{Meanings, IsLeft}
+use Rattle.loom_run.specs.Meanings.{Meanings, IsLeft, LeavesBut}
 use Rattle.loom_run.specs.Promise.{EndsAt}
-use Rattle.loom_run.specs.Stages.{Stage, Opening, Ends, passes, reaches, stage_of}
-use Rattle.loom_run.specs.Words.{MakeRow, Row}
-use Rattle.loom_run.specs.declared.status.Status.{Status}
-use Rattle.loom_run.specs.declared.status.Status.TheVariants.{Made, Usage, ReadFault, WriteFault}
+use Rattle.loom_run.specs.declared.converting.Way.{Way}
+use Rattle.loom_run.specs.Stages.{Stage, Opening, Reading, Saving, Ends, passes, reaches, roles_at, stage_of}
+use Rattle.loom_words.specs.Words.{MakeRow, Paths, Row}
+use Rattle.loom_words.specs.declared.status.Status.{Status}
+use Rattle.loom_words.specs.declared.status.Status.TheVariants.{Made, Listed, Assembled, Usage, ReadFault, WriteFault}
 
 -- ---- the roles
 
@@ -46,6 +53,8 @@ pub record Uses (tells : Role → Bool) (before now : Meanings) (row : Row) (sta
 abbrev pub IsOfRun : Status → Type 0
 IsOfRun (Usage word) = ⊥
 IsOfRun (Made objects) = ⊥
+IsOfRun (Listed objects) = ⊥
+IsOfRun (Assembled objects) = ⊥
 IsOfRun (ReadFault role count) = role ≢ Notes
 IsOfRun (WriteFault role count) = role ≢ Notes
 IsOfRun _ = Unit {0}
@@ -58,6 +67,18 @@ pub record IsRefusal (tells : Role → Bool) (before now : Meanings) (row : Row)
   pub cause : IsCaused status before.faults now.faults
   pub whole : IsTrue (tells Work) → IsDamaged status → ⊥
   pub limits : IsPastLimits row status
+
+-- at reading, of any run with this room; at another stage of any run
+abbrev pub IsReadRefusal : (Role → Bool) → Meanings → Meanings → ℕ → Status → Type 0
+IsReadRefusal tells before now room status = (row : Row) → row.room ≡ room → IsRefusal tells before now row Reading status
+
+abbrev pub IsRefusalAt : (Role → Bool) → Meanings → Meanings → Stage → Status → Type 0
+IsRefusalAt tells before now stage status = (row : Row) → IsRefusal tells before now row stage status
+
+-- Image couldn't be attached
+abbrev pub IsUnopened : Status → Type 0
+IsUnopened (ReadFault Image count) = Unit {0}
+IsUnopened _ = ⊥
 
 -- ---- what was read
 
@@ -146,3 +167,56 @@ pub record MakeEnds (tells : Role → Bool) (before now : Meanings) (row : MakeR
   pub makes : Makes tells before now row result
   pub of_making : IsOfMaking result
   pub untold : IsLeft Notes before now
+
+-- ---- the end of a conversion, before its last line
+
+-- Work was attached by its word, and nothing else was done.
+pub record HasOpened (tells : Role → Bool) (before now : Meanings) (work : List ℕ) : Type 0 where
+  pub attached : IsTrue (tells Work) → AttachedOnce work (before.roles Work) (now.roles Work)
+  pub named : IsTrue (tells Work) → (now.roles Work).name ≡ Some work
+  pub others : LeavesBut (roles_at Opening) before now
+
+-- The disk is the heap of an image with exact counts, and nothing is pending.
+pub record HasSource {H : Type 0} (host : Ghosts H) (now : H) (rest : DiskRest) (next : ℕ) : Type 0 where
+  pub heap : IsTrue (host.tells Work) → IsLoadedHeap host now rest next
+  pub idle : IsTrue (host.tells Work) → (objects : Objects) × IsDisk rest (work_of host now) objects []
+
+-- an answer that isn't about the words or the last line
+abbrev pub IsOfConversion : Status → Type 0
+IsOfConversion (Usage word) = ⊥
+IsOfConversion (ReadFault role count) = role ≢ Notes
+IsOfConversion (WriteFault role count) = role ≢ Notes
+IsOfConversion _ = Unit {0}
+
+-- Why a step of a conversion was refused: by one of these answers, with its cause.
+pub record IsRefusedBy (tells : Role → Bool) (before now : Meanings) (Answers : Status → Type 0) (status : Status) : Type 0 where
+  pub answer : Answers status
+  pub of_conversion : IsOfConversion status
+  pub cause : IsCaused status before.faults now.faults
+  pub whole : IsTrue (tells Work) → IsDamaged status → ⊥
+  pub room : IsAboveRoom status
+
+-- It ended at one of its stages, and nothing was put to Notes.
+pub record ConversionEnds (tells : Role → Bool) (before now : Meanings) (way : Way) (paths : Paths) (result : Status) : Type 0 where
+  pub stage : Stage
+  pub at : ConvertsAt tells before now way paths stage result
+  pub of_conversion : IsOfConversion result
+  pub untold : IsLeft Notes before now
+  pub later : (role : Role) → before.faults role ≤ now.faults role
+
+-- A conversion came to this stage, or through it: each role up to it was attached once, by its word, and with the others nothing was done.
+pub record UsesPaths (tells : Role → Bool) (before now : Meanings) (paths : Paths) (stage : Stage) : Type 0 where
+  pub attached : (role : Role) → IsTrue (tells role) → IsTrue (reaches (stage_of role) stage) → IfSome (path_for paths role) (λ text. AttachedOnce text (before.roles role) (now.roles role))
+  pub named : IsTrue (tells Work) → IsTrue (passes Opening stage) → (now.roles Work).name ≡ Some paths.work
+  pub unused : (role : Role) → IsTrue (is_unused role stage) → IsLeft role before now
+  pub untold : IsLeft Notes before now
+  pub later : (role : Role) → before.faults role ≤ now.faults role
+
+-- All was put, and Saved isn't ended yet: a heap and a state were read, and their bytes stand there.
+pub record HasPut (tells : Role → Bool) (before now : Meanings) (way : Way) (paths : Paths) (objects : ℕ) : Type 0 where
+  pub uses : UsesPaths tells before now paths Saving
+  pub whole : IsTrue (tells Image) → WasRead paths.source (now.roles Image)
+  pub heap : Heap
+  pub state : Words
+  pub read : IsTrue (tells Image) → IsTrue (tells Work) → Reads way (bytes_of (now.roles Image)) heap state × (objects ≡ object_count heap)
+  pub put : IsTrue (tells Image) → IsTrue (tells Work) → IsTrue (tells Saved) → WasWritten paths.target (bytes_by way heap state) (before.roles Saved) (now.roles Saved)

@@ -1,5 +1,5 @@
 // Laws of the program. No code calls these functions: what each of them ensures is the law.
-ghost use Rattle.std.specs.Prelude.{◌↔◌, ◌⊎◌, ◌<◌, ◌^◌, Bool, IsFalse, IsTrue, List, [], None, ◌≡◌, ℕ};
+ghost use Rattle.std.specs.Prelude.{◌<◌, ◌^◌, Bool, IsTrue, List, [], None, ◌≡◌, ℕ};
 ghost use Rattle.long_names.specs.Heap.{Heap};
 ghost use Rattle.long_names.specs.Kept.{kept, no_roots};
 ghost use Rattle.image_format.specs.declared.opening.ImageHead.{ImageHead};
@@ -24,15 +24,21 @@ ghost use Rattle.object_memory.specs.declared.fault.MemFault.TheVariants.{Memory
 ghost use Rattle.loom_run.specs.Base.{base_bytes, text_of_ending};
 ghost use Rattle.loom_outside.specs.declared.outside.Role.{Role};
 ghost use Rattle.loom_outside.specs.declared.outside.Role.TheVariants.{Image, Events, Work};
-ghost use Rattle.loom_run.specs.declared.status.Status.{Status};
-ghost use Rattle.loom_run.specs.Completes.{CanEnd, IsMadeOf, IsOwnEnd};
+ghost use Rattle.loom_words.specs.declared.status.Status.{Status};
+ghost use Rattle.loom_run.specs.Completes.{CanEnd, IsConverted, IsMadeOf, IsOwnEnd, IsSource};
+ghost use Rattle.loom_run.specs.Converts.{bytes_by, head_under, verb_for};
+ghost use Rattle.loom_run.specs.declared.converting.Way.{Way};
+ghost use Rattle.loom_run.specs.declared.converting.Way.TheVariants.{Listing, Assembling};
+ghost use Rattle.text_lines.specs.Texts.{IsTextOf};
+ghost use Rattle.image_format.specs.declared.opening.State.{State as Words};
+ghost use Rattle.image_format.specs.declared.opening.TheConstants.{STATE_VERSION};
 ghost use Rattle.loom_run.specs.Ends.{IsImageOf, bytes_of, head_of, image_of};
 ghost use Rattle.loom_run.specs.Headline.{HeadlineBy, SmallBy, TellsHeadline};
 ghost use Rattle.loom_run.specs.Meanings.{Meanings};
 ghost use Rattle.loom_run.specs.Promise.{Promise};
 ghost use Rattle.loom_run.specs.Refusals.{CameTo, LeavesFiles, role_of};
-ghost use Rattle.loom_run.specs.Status.{usage_of};
-ghost use Rattle.loom_run.specs.Words.{IsMake, IsRow, asks_make, bad_word, make_of, row_of};
+ghost use Rattle.loom_words.specs.Status.{usage_of};
+ghost use Rattle.loom_words.specs.Words.{ToMake, ToRun, bad_word, make_of, row_of, verb_of};
 
 use loom_outside::Host;
 
@@ -40,12 +46,6 @@ use loom_outside::Host;
 pub fn base_text()
     ensures before { image_text (heap_running base_code) ≡ base_bytes 7 }
     ensures after { text_of_ending (ending [] 2 no_state (heap_running base_code)) ≡ base_bytes 11 }
-{}
-
-/// Words of which none is bad are those of a run or of a making.
-#[tactic(auto, using(crate::proofs::Rows::row_rules))]
-pub fn right_words()
-    ensures { (words : List (List ℕ)) → (bad_word words ≡ None) ↔ (IsRow words (row_of words) ⊎ IsMake words (make_of words)) }
 {}
 
 /// Over a host that tells what Image, Events, Work, Transcript, Saved and Display hold, what `loom` promises gives, with Done or Quit, the
@@ -65,14 +65,30 @@ pub fn no_object_is_larger_than_the_core()
 /// Right words of a run, an image and events that are right, a core and a work file with room for all that the model does with them, and no fault
 /// give the model's own end, or want of memory.
 pub fn a_run_comes_to_its_end()
-    ensures { (tells : Role → Bool) (before now : Meanings) (words : List (List ℕ)) (result : Status) → IsTrue (tells Image) → IsTrue (tells Events) → IsTrue (tells Work) → IsFalse (asks_make words) → bad_word words ≡ None
+    ensures { (tells : Role → Bool) (before now : Meanings) (words : List (List ℕ)) (result : Status) → IsTrue (tells Image) → IsTrue (tells Events) → IsTrue (tells Work) → verb_of words ≡ ToRun → bad_word words ≡ None
         → Promise tells before now words result → CanEnd (bytes_of (now.roles Image)) (bytes_of (now.roles Events)) (row_of words) before.faults now.faults → IsOwnEnd result }
 {}
 
 /// Right words of a making and no fault give Made, with as many objects as the image of the number has, or want of memory.
 pub fn a_making_comes_to_its_end()
-    ensures { (tells : Role → Bool) (before now : Meanings) (words : List (List ℕ)) (result : Status) → IsTrue (asks_make words) → bad_word words ≡ None → Promise tells before now words result
+    ensures { (tells : Role → Bool) (before now : Meanings) (words : List (List ℕ)) (result : Status) → verb_of words ≡ ToMake → bad_word words ≡ None → Promise tells before now words result
         → ((role : Role) → Rose (before.faults role) (now.faults role) → ⊥) → IsMadeOf (make_of words).number result }
+{}
+
+/// Right words of a listing or an assembling, an image or a text that is right, and no fault give Listed or Assembled, or want of memory.
+pub fn a_conversion_comes_to_its_end()
+    ensures { (tells : Role → Bool) (before now : Meanings) (words : List (List ℕ)) (result : Status) (way : Way) → IsTrue (tells Image) → IsTrue (tells Work) → verb_of words ≡ verb_for way → bad_word words ≡ None
+        → Promise tells before now words result → IsSource way (bytes_of (now.roles Image)) → ((role : Role) → Rose (before.faults role) (now.faults role) → ⊥) → IsConverted way result }
+{}
+
+/// An image and a text are two spellings of one heap and one state. What a listing writes of an image is a text, and what an assembling writes
+/// of a text is an image. An assembling of a listing writes the bytes of an image of version 2 again, and of one of version 1 its heap in
+/// version 2; and a listing of what was assembled writes the text again.
+pub fn each_spelling_gives_the_other()
+    ensures listed { (bytes : List ℕ) (head : ImageHead) (heap : Heap) → IsImageOf bytes head heap → IsTextOf (bytes_by Listing heap head.state) heap head.state }
+    ensures assembled { (text : List ℕ) (heap : Heap) (state : Words) → IsTextOf text heap state → IsImageOf (bytes_by Assembling heap state) (head_under heap state) heap }
+    ensures image { (bytes : List ℕ) (head : ImageHead) (heap g : Heap) (state : Words) → IsImageOf bytes head heap → IsTextOf (bytes_by Listing heap head.state) g state → head.opening.version ≡ STATE_VERSION → bytes_by Assembling g state ≡ bytes }
+    ensures text { (text : List ℕ) (heap g : Heap) (state : Words) (head : ImageHead) → IsTextOf text heap state → IsImageOf (bytes_by Assembling heap state) head g → bytes_by Listing g head.state ≡ text }
 {}
 
 /// No refusal of the memory for want of memory ends a run, over any host: no call in a cycle takes any. That the picture alone wants memory then is
@@ -84,7 +100,7 @@ pub fn no_cycle_wants_memory<H: Host>()
 /// No answer of a run but Usage comes at once: the role that it is about was attached before it, or the last one that a run attaches before it can come
 /// to the answer.
 pub fn nothing_at_once()
-    ensures { (tells : Role → Bool) (before now : Meanings) (words : List (List ℕ)) (result : Status) → Promise tells before now words result → IsFalse (asks_make words) → usage_of result ≡ None
+    ensures { (tells : Role → Bool) (before now : Meanings) (words : List (List ℕ)) (result : Status) → Promise tells before now words result → verb_of words ≡ ToRun → usage_of result ≡ None
         → CameTo tells before now (row_of words) (role_of result) }
 {}
 

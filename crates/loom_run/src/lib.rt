@@ -1,29 +1,34 @@
 //! The program: an image and its events are read, so many bytecodes are run over the memory of two levels, and what was said, an image and
-//! a picture are written. Or a large image is made from a number, and written.
+//! a picture are written. Or a large image is made from a number, and written; or an image is written as text, or a text as its image.
 //!
 //! `loom` does what the words of a command ask for, over any host. Its one clause is the record `Promise`: read `specs/Promise.antt`
 //! first, or `specs/Headline.antt`, which has it in seven lines for a run that goes through, as the law `headline` says. When a run comes
 //! to the model's own end is the law `a_run_comes_to_its_end`.
 //!
-//!     let status = loom(alloc, host, &words);   // run IMAGE EVENTS WORK SAVED DISPLAY CORE ENTRIES ROOM STEPS, or make NUMBER FILE
-//!     ExitCode::from(status.code())
+//!     let status = loom(alloc, host, &words);   // run IMAGE EVENTS WORK SAVED DISPLAY CORE ENTRIES ROOM STEPS, make NUMBER FILE,
+//!     ExitCode::from(status.code())             // list IMAGE WORK TEXT, or asm TEXT WORK IMAGE
 //!
 //! A run has stages (`specs/Stages.antt`), in the order in which it uses the roles of its host. `program` has them in that order; `reading`,
 //! `machine` and `writing` have the steps. Each step says what it did with its roles and why it was refused; each part of the run takes
 //! what came before it as a premise, and says how the whole run ends from there. Nothing is said of time. Want of memory may come in reading,
 //! in making the memory, in the picture of a machine that was parked and in saving, and never in a cycle. A making has one
-//! step (`making`), and leaves what `specs/Makes.antt` says.
+//! step (`making`), and leaves what `specs/Makes.antt` says. A listing and an assembling are one function with two ways (`converting`), and leave
+//! what `specs/Converts.antt` says.
+//!
+//! `trace` runs over a memory as `run` does, and puts a line to Saved for each bytecode (`specs/Traces.antt`).
 #![tactic(auto)]
 
+mod converting;
 pub mod laws;
 mod machine;
 mod making;
 mod program;
 mod reading;
 mod status;
-mod words;
+mod tracing;
 mod writing;
 
+pub use loom_words::Status;
 pub use machine_run::{Finished, Halted, Reason, State, run, whole_run};
 pub use program::loom;
-pub use status::Status;
+pub use tracing::{TraceStop, trace};

@@ -10,17 +10,17 @@ ghost use Rattle.object_memory.specs.Told.{IsReady};
 ghost use Rattle.loom_memory.specs.Memory.{loom_told, loom_lender, IsSound};
 ghost use Rattle.machine_run.specs.States.{model_state};
 ghost use Rattle.image_memory.specs.Image.{HasEnded};
-ghost use Rattle.loom_run.specs.Command.{row_for};
+ghost use Rattle.loom_words.specs.Command.{row_for};
 ghost use Rattle.loom_run.specs.Meanings.{meanings, LeavesBut};
 ghost use Rattle.loom_run.specs.Stages.{Running, Finishing, roles_at};
 ghost use Rattle.loom_run.specs.Steps.{BeginsImage, HasBounds, IsRefusal, IsSameFile, RunsAs};
 
-use crate::status::{Status, status_of, status_of_fault};
-use crate::words::Command;
+use crate::status::{status_of, status_of_fault};
 use event_file::EventList;
 use image_format::State;
 use loom_memory::LoomMemory;
 use loom_outside::{Host, Role};
+use loom_words::{Command, Status};
 use machine_run::{Finished, whole_run};
 use std::alloc::Global;
 

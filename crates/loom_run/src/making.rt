@@ -2,16 +2,15 @@
 ghost use Rattle.std.specs.Prelude.{◌≡◌, ◌≤◌, [], ◌∷◌, is_ok, IsErr, IsTrue, OnErr, OnOk};
 ghost use Rattle.long_names.specs.Counting.{Rose};
 ghost use Rattle.loom_gen.specs.declared.generator.TheConstants.{LAST_NUMBER};
-ghost use Rattle.loom_run.specs.Command.{make_for};
+ghost use Rattle.loom_words.specs.Command.{make_for};
 ghost use Rattle.loom_outside.specs.Outside.{HasCause, SameBut, ends};
-ghost use Rattle.loom_run.specs.Makes.{MadeBy};
+ghost use Rattle.loom_run.specs.Ends.{MadeBy};
 ghost use Rattle.loom_run.specs.Meanings.{meanings, LeavesBut};
 ghost use Rattle.loom_run.specs.Steps.{MakeEnds};
 
-use crate::status::Status;
-use crate::words::Making;
 use loom_gen::{make, object_count};
 use loom_outside::{Failed, Host, Role, write_full};
+use loom_words::{Making, Status};
 use std::alloc::Global;
 
 /// Makes the image of a number, attaches Saved by the name of its file, puts the image to it, and ends it. Without memory for the image
@@ -45,8 +44,8 @@ fn write_image<H: Host>(host: &mut H, file: &str, image: &[u8]) -> Result<(), Fa
     end_saved(host)
 }
 
-// Ends Saved by a piece of no bytes: what was put to it is whole.
-fn end_saved<H: Host>(host: &mut H) -> Result<(), Failed>
+/// Ends Saved by a piece of no bytes: what was put to it is whole.
+pub(crate) fn end_saved<H: Host>(host: &mut H) -> Result<(), Failed>
     ensures ended { IsTrue (H.tells Role.Saved) → OnOk result (H.roles host.new Role.Saved ≡ ends (H.roles host.old Role.Saved)) }
     ensures still { IsTrue (H.tells Role.Saved) → OnErr result (H.roles host.new Role.Saved ≡ H.roles host.old Role.Saved) }
     ensures others { SameBut Role.Saved (H.roles host.old) (H.roles host.new) }

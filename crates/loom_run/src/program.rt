@@ -13,18 +13,18 @@ ghost use Rattle.image_memory.specs.Image.{HasEnded, HasImage};
 ghost use Rattle.loom_memory.specs.Memory.{loom_lender, loom_told, IsSound};
 ghost use Rattle.machine_run.specs.States.{model_state};
 ghost use Rattle.object_memory.specs.Told.{IsReady};
-ghost use Rattle.loom_run.specs.Command.{HasLimits, row_for};
+ghost use Rattle.loom_words.specs.Command.{HasLimits, row_for};
 ghost use Rattle.loom_run.specs.Meanings.{meanings, Meanings};
 ghost use Rattle.loom_run.specs.Promise.{Promise};
 ghost use Rattle.loom_run.specs.Stages.{Reading, Listening, Finishing};
 ghost use Rattle.loom_run.specs.Steps.{BeginsImage, Came, CameThrough, HasBounds, HasRead, RunEnds, Uses};
-ghost use Rattle.loom_run.specs.Words.{texts_of};
+ghost use Rattle.loom_words.specs.Words.{texts_of};
 
+use crate::converting::{Way, convert};
 use crate::machine::{run_machine, wind_up};
 use crate::making::make_image;
 use crate::reading::{open_work, read_image, read_lines};
-use crate::status::{Status, status_of_end};
-use crate::words::{Asked, Command, asked_of};
+use crate::status::status_of_end;
 use crate::writing::{tell, write_display, write_saved};
 use disk_objects::{DiskObjects, DiskRest};
 use event_file::EventList;
@@ -33,6 +33,7 @@ use image_memory::begin_memory;
 use image_reader::Loaded;
 use loom_memory::{CoreTables, LoomMemory};
 use loom_outside::Host;
+use loom_words::{Asked, Command, Status, asked_of};
 use machine_run::Finished;
 use std::alloc::Global;
 
@@ -44,8 +45,8 @@ pub(crate) struct Ended {
     pub(crate) next: u32,
 }
 
-/// Does what the words after the program's name ask for: `run IMAGE EVENTS WORK SAVED DISPLAY CORE ENTRIES ROOM STEPS`, or
-/// `make NUMBER FILE`. The words are checked, and the last line goes to Notes.
+/// Does what the words after the program's name ask for: `run IMAGE EVENTS WORK SAVED DISPLAY CORE ENTRIES ROOM STEPS`,
+/// `make NUMBER FILE`, `list IMAGE WORK TEXT`, or `asm TEXT WORK IMAGE`. The words are checked, and the last line goes to Notes.
 ///
 /// A run: Work is attached; then Image, which is read to its end, its objects going to Work; then Events. The memory is
 /// made. The machine starts, runs STEPS bytecodes, or fewer where one ends it, and parks; what it says goes to Transcript as it is said.
@@ -53,6 +54,9 @@ pub(crate) struct Ended {
 /// run: what comes later isn't attached, and only the line is still written.
 ///
 /// A making: the image of the number is made; Saved is attached, and the image is written to it.
+///
+/// A listing or an assembling: Work is attached; then Image, which is read to its end, as an image or as a text, its objects going to Work;
+/// then Saved, and the text or the image is written to it.
 pub fn loom<H: Host>(alloc: Global, host: &mut H, words: &[String]) -> Status
     ensures promise { Promise H.tells (meanings H.Host host.old) (meanings H.Host host.new) (texts_of words.now) result }
 {
@@ -65,6 +69,14 @@ pub fn loom<H: Host>(alloc: Global, host: &mut H, words: &[String]) -> Status
             let status = make_image(alloc, host, &making);
             tell(host, status)
         }
+        Ok(Asked::List(conversion)) => {
+            let status = convert(alloc, host, &conversion, Way::Listing);
+            tell(host, status)
+        }
+        Ok(Asked::Assemble(conversion)) => {
+            let status = convert(alloc, host, &conversion, Way::Assembling);
+            tell(host, status)
+        }
         Err(word) => tell(host, Status::Usage { word }),
     }
 }
@@ -74,11 +86,11 @@ fn run_command<H: Host>(alloc: Global, host: &mut H, command: &Command<'_>) -> S
     requires limits { HasLimits command.now }
     ensures ends { RunEnds H.tells (meanings H.Host host.old) (meanings H.Host host.new) (row_for command.now) result }
 {
-    if let Err(status) = open_work(host, command) {
+    if let Err(status) = open_work(host, command.work) {
         return status;
     }
     let mut disk = DiskObjects::begin(host, command.room);
-    let loaded = match read_image(alloc, &mut disk, command) {
+    let loaded = match read_image(alloc, &mut disk, command.image, command.room) {
         Ok(loaded) => loaded,
         Err(status) => {
             let _host = disk.into_host();

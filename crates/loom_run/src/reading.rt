@@ -6,29 +6,30 @@ ghost use Rattle.loom_outside.specs.Work.{work_of};
 ghost use Rattle.disk_objects.specs.Disk.{IsDisk, disk_held, disk_room};
 ghost use Rattle.image_reader.specs.Loaded.{heap_on};
 ghost use Rattle.image_memory.specs.Image.{HasImage};
-ghost use Rattle.loom_run.specs.Command.{row_for};
+ghost use Rattle.long_names.specs.Heap.{object_count};
+ghost use Rattle.loom_words.specs.Command.{row_for};
 ghost use Rattle.loom_run.specs.Ends.{AreEvents, AttachedOnce, JudgesEvents, JudgesImage, WasRead, bytes_of};
 ghost use Rattle.loom_run.specs.Meanings.{meanings, LeavesBut};
 ghost use Rattle.loom_run.specs.Stages.{Opening, Reading, Listening, roles_at};
-ghost use Rattle.loom_run.specs.Steps.{IsRead, IsRefusal, IsSameFile};
+ghost use Rattle.loom_run.specs.Steps.{IsRead, IsReadRefusal, IsRefusal, IsRefusalAt, IsSameFile, IsUnopened};
 
-use crate::status::{Status, status_of_disk};
-use crate::words::Command;
+use crate::status::status_of_disk;
 use disk_objects::DiskObjects;
 use event_file::{EventFault, EventList, read_events};
 use image_reader::{LoadFault, Loaded, load};
 use loom_outside::{Host, Role};
+use loom_words::{Command, Status};
 use std::alloc::Global;
 
 /// Attaches Work by its word.
-pub(crate) fn open_work<H: Host>(host: &mut H, command: &Command<'_>) -> Result<(), Status>
-    ensures attached { IsTrue (H.tells Role.Work) → AttachedOnce command.now.work.now (H.roles host.old Role.Work) (H.roles host.new Role.Work) }
-    ensures named { IsTrue (H.tells Role.Work) → OnOk result ((H.roles host.new Role.Work).name ≡ Some command.now.work.now) }
+pub(crate) fn open_work<H: Host>(host: &mut H, work: &str) -> Result<(), Status>
+    ensures attached { IsTrue (H.tells Role.Work) → AttachedOnce work.now (H.roles host.old Role.Work) (H.roles host.new Role.Work) }
+    ensures named { IsTrue (H.tells Role.Work) → OnOk result ((H.roles host.new Role.Work).name ≡ Some work.now) }
     ensures empty { IsTrue (H.tells Role.Work) → OnOk result (work_of H.Host host.new ≡ []) }
     ensures others { LeavesBut (roles_at Opening) (meanings H.Host host.old) (meanings H.Host host.new) }
-    ensures refused { IfErr result (IsRefusal H.tells (meanings H.Host host.old) (meanings H.Host host.new) (row_for command.now) Opening) }
+    ensures refused { IfErr result (IsRefusalAt H.tells (meanings H.Host host.old) (meanings H.Host host.new) Opening) }
 {
-    match host.attach(Role::Work, command.work) {
+    match host.attach(Role::Work, work) {
         Ok(()) => Ok(()),
         Err(_) => Err(Status::WorkFault {
             count: host.fault_count(Role::Work),
@@ -36,10 +37,10 @@ pub(crate) fn open_work<H: Host>(host: &mut H, command: &Command<'_>) -> Result<
     }
 }
 
-// Attaches Image by its word. A refusal says nothing of its bytes.
-fn open_image<H: Host>(disk: &mut DiskObjects<'_, H>, command: &Command<'_>) -> Result<(), Status>
-    ensures attached { IsTrue (H.tells Role.Image) → AttachedOnce command.now.image.now (H.roles disk.old.host.now Role.Image) (H.roles disk.new.host.now Role.Image) }
-    ensures named { IsTrue (H.tells Role.Image) → OnOk result ((H.roles disk.new.host.now Role.Image).name ≡ Some command.now.image.now) }
+/// Attaches Image by its word. A refusal says nothing of its bytes.
+pub(crate) fn open_image<H: Host>(disk: &mut DiskObjects<'_, H>, image: &str) -> Result<(), Status>
+    ensures attached { IsTrue (H.tells Role.Image) → AttachedOnce image.now (H.roles disk.old.host.now Role.Image) (H.roles disk.new.host.now Role.Image) }
+    ensures named { IsTrue (H.tells Role.Image) → OnOk result ((H.roles disk.new.host.now Role.Image).name ≡ Some image.now) }
     ensures fresh { IsTrue (H.tells Role.Image) → OnOk result ((H.roles disk.new.host.now Role.Image).taken ≡ []) }
     ensures others { SameBut Role.Image (H.roles disk.old.host.now) (H.roles disk.new.host.now) }
     ensures other_faults { SameBut Role.Image (H.faults disk.old.host.now) (H.faults disk.new.host.now) }
@@ -47,10 +48,11 @@ fn open_image<H: Host>(disk: &mut DiskObjects<'_, H>, command: &Command<'_>) -> 
     ensures writes { H.writes disk.new.host.now ≡ H.writes disk.old.host.now }
     ensures rest { disk.new.rest ≡ disk.old.rest }
     ensures same_host { disk.new.host.ghost_name ≡ disk.old.host.ghost_name }
-    ensures refused { IfErr result (IsRefusal H.tells (meanings H.Host disk.old.host.now) (meanings H.Host disk.new.host.now) (row_for command.now) Reading) }
+    ensures refused { IfErr result (IsRefusalAt H.tells (meanings H.Host disk.old.host.now) (meanings H.Host disk.new.host.now) Reading) }
+    ensures unopened { IfErr result IsUnopened }
     ensures judged { (work : Bool) (room : ℕ) (bytes : List ℕ) → IfErr result (λ status. JudgesImage work status room bytes) }
 {
-    match disk.attach(Role::Image, command.image) {
+    match disk.attach(Role::Image, image) {
         Ok(()) => Ok(()),
         Err(_) => Err(Status::ReadFault {
             role: Role::Image,
@@ -63,24 +65,26 @@ fn open_image<H: Host>(disk: &mut DiskObjects<'_, H>, command: &Command<'_>) -> 
 pub(crate) fn read_image<H: Host>(
     alloc: Global,
     disk: &mut DiskObjects<'_, H>,
-    command: &Command<'_>,
+    image: &str,
+    room: u32,
 ) -> Result<Loaded, Status>
-    requires room { command.now.room ≡ disk_room disk.old.rest }
+    requires room { room ≡ disk_room disk.old.rest }
     requires empty { IsTrue (H.tells Role.Work) → IsDisk disk.old.rest (work_of H.Host disk.old.host.now) map.empty [] }
     requires none { disk_held disk.old.rest ≡ 0 }
-    ensures attached { IsTrue (H.tells Role.Image) → AttachedOnce command.now.image.now (H.roles disk.old.host.now Role.Image) (H.roles disk.new.host.now Role.Image) }
+    ensures attached { IsTrue (H.tells Role.Image) → AttachedOnce image.now (H.roles disk.old.host.now Role.Image) (H.roles disk.new.host.now Role.Image) }
     ensures image { IfOk result (HasImage H.Host disk.new.host.now disk.new.rest) }
-    ensures read { IsTrue (H.tells Role.Image) → IsTrue (H.tells Role.Work) → IfOk result (λ x. IsRead (bytes_of (H.roles disk.new.host.now Role.Image)) command.now.room x.state (heap_on H.Host disk.new.host.now disk.new.rest x.next)) }
-    ensures end { IsTrue (H.tells Role.Image) → OnOk result (WasRead command.now.image.now (H.roles disk.new.host.now Role.Image)) }
-    ensures judged { IsTrue (H.tells Role.Image) → IfErr result (λ status. JudgesImage (H.tells Role.Work) status command.now.room (bytes_of (H.roles disk.new.host.now Role.Image))) }
+    ensures read { IsTrue (H.tells Role.Image) → IsTrue (H.tells Role.Work) → IfOk result (λ x. IsRead (bytes_of (H.roles disk.new.host.now Role.Image)) room x.state (heap_on H.Host disk.new.host.now disk.new.rest x.next)) }
+    ensures objects { IsTrue (H.tells Role.Image) → IsTrue (H.tells Role.Work) → IfOk result (λ x. x.objects ≡ object_count (heap_on H.Host disk.new.host.now disk.new.rest x.next)) }
+    ensures end { IsTrue (H.tells Role.Image) → OnOk result (WasRead image.now (H.roles disk.new.host.now Role.Image)) }
+    ensures judged { IsTrue (H.tells Role.Image) → IfErr result (λ status. JudgesImage (H.tells Role.Work) status room (bytes_of (H.roles disk.new.host.now Role.Image))) }
     ensures file { IsTrue (H.tells Role.Work) → IsSameFile (H.roles disk.old.host.now Role.Work) (H.roles disk.new.host.now Role.Work) }
     ensures kept { disk_room disk.new.rest ≡ disk_room disk.old.rest }
     ensures same_host { disk.new.host.ghost_name ≡ disk.old.host.ghost_name }
     ensures others { LeavesBut (roles_at Reading) (meanings H.Host disk.old.host.now) (meanings H.Host disk.new.host.now) }
-    ensures refused { IfErr result (IsRefusal H.tells (meanings H.Host disk.old.host.now) (meanings H.Host disk.new.host.now) (row_for command.now) Reading) }
+    ensures refused { IfErr result (IsReadRefusal H.tells (meanings H.Host disk.old.host.now) (meanings H.Host disk.new.host.now) room) }
 {
-    open_image(disk, command)?;
-    match load(alloc, disk, command.room) {
+    open_image(disk, image)?;
+    match load(alloc, disk, room) {
         Ok(loaded) => Ok(loaded),
         Err(LoadFault::Bad { rule, place }) => Err(Status::ImageBad { rule, place }),
         Err(LoadFault::Read { count }) => Err(Status::ReadFault {

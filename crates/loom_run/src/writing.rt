@@ -5,35 +5,35 @@ ghost use Rattle.long_names.specs.Heap.{Heap};
 ghost use Rattle.long_names.specs.Kept.{kept, no_roots};
 ghost use Rattle.image_writer.specs.Saved.{saved_text};
 ghost use Rattle.image_memory.specs.Image.{HasEnded};
-ghost use Rattle.loom_run.specs.Command.{row_for};
+ghost use Rattle.loom_words.specs.Command.{row_for};
 ghost use Rattle.loom_run.specs.Ends.{AttachedOnce, WasRefused, WasWritten, WrittenBy};
 ghost use Rattle.loom_run.specs.Meanings.{meanings, LeavesBut};
 ghost use Rattle.loom_run.specs.Parts.{IsTold, unsaid};
 ghost use Rattle.loom_run.specs.Stages.{Saving, Drawing, roles_at};
-ghost use Rattle.loom_run.specs.Steps.{IsRefusal};
+ghost use Rattle.loom_run.specs.Steps.{IsRefusal, IsRefusalAt};
 
-use crate::status::{Status, status_of_disk};
-use crate::words::Command;
+use crate::status::status_of_disk;
 use disk_objects::DiskObjects;
 use image_format::State;
 use image_memory::save_kept;
 use image_writer::SaveFault;
 use loom_outside::{Host, Role, write_full};
+use loom_words::{Command, Status};
 use std::alloc::Global;
 
-// Attaches Saved by its word.
-fn open_saved<H: Host>(disk: &mut DiskObjects<'_, H>, command: &Command<'_>) -> Result<(), Status>
-    ensures refusal { IsTrue (H.tells Role.Saved) → OnErr result (WasRefused command.now.saved.now (H.roles disk.old.host.now Role.Saved) (H.roles disk.new.host.now Role.Saved)) }
-    ensures opened { IsTrue (H.tells Role.Saved) → OnOk result (WasWritten command.now.saved.now [] (H.roles disk.old.host.now Role.Saved) (H.roles disk.new.host.now Role.Saved)) }
-    ensures once { IsTrue (H.tells Role.Saved) → AttachedOnce command.now.saved.now (H.roles disk.old.host.now Role.Saved) (H.roles disk.new.host.now Role.Saved) }
+/// Attaches Saved by its word.
+pub(crate) fn open_saved<H: Host>(disk: &mut DiskObjects<'_, H>, saved: &str) -> Result<(), Status>
+    ensures refusal { IsTrue (H.tells Role.Saved) → OnErr result (WasRefused saved.now (H.roles disk.old.host.now Role.Saved) (H.roles disk.new.host.now Role.Saved)) }
+    ensures opened { IsTrue (H.tells Role.Saved) → OnOk result (WasWritten saved.now [] (H.roles disk.old.host.now Role.Saved) (H.roles disk.new.host.now Role.Saved)) }
+    ensures once { IsTrue (H.tells Role.Saved) → AttachedOnce saved.now (H.roles disk.old.host.now Role.Saved) (H.roles disk.new.host.now Role.Saved) }
     ensures others { SameBut Role.Saved (H.roles disk.old.host.now) (H.roles disk.new.host.now) }
     ensures other_faults { SameBut Role.Saved (H.faults disk.old.host.now) (H.faults disk.new.host.now) }
     ensures later { H.faults disk.old.host.now Role.Saved ≤ H.faults disk.new.host.now Role.Saved }
     ensures rest { disk.new.rest ≡ disk.old.rest }
     ensures same_host { disk.new.host.ghost_name ≡ disk.old.host.ghost_name }
-    ensures refused { IfErr result (IsRefusal H.tells (meanings H.Host disk.old.host.now) (meanings H.Host disk.new.host.now) (row_for command.now) Saving) }
+    ensures refused { IfErr result (IsRefusalAt H.tells (meanings H.Host disk.old.host.now) (meanings H.Host disk.new.host.now) Saving) }
 {
-    match disk.attach(Role::Saved, command.saved) {
+    match disk.attach(Role::Saved, saved) {
         Ok(()) => Ok(()),
         Err(_) => Err(Status::WriteFault {
             role: Role::Saved,
@@ -59,7 +59,7 @@ pub(crate) fn write_saved<H: Host>(
     ensures others { LeavesBut (roles_at Saving) (meanings H.Host disk.old.host.now) (meanings H.Host disk.new.host.now) }
     ensures refused { IfErr result (IsRefusal H.tells (meanings H.Host disk.old.host.now) (meanings H.Host disk.new.host.now) (row_for command.now) Saving) }
 {
-    open_saved(disk, command)?;
+    open_saved(disk, command.saved)?;
     match save_kept(alloc, disk, next, state) {
         Ok(()) => Ok(()),
         Err(SaveFault::Write { count }) => Err(Status::WriteFault {
@@ -93,7 +93,7 @@ pub(crate) fn write_display<H: Host>(
     Ok(())
 }
 
-/// Puts the last line to Notes. Only Done, Quit and Made become another answer where that fails.
+/// Puts the last line to Notes. Only Done, Quit, Made, Listed and Assembled become another answer where that fails.
 pub(crate) fn tell<H: Host>(host: &mut H, status: Status) -> Status
     ensures told { IsTold (H.tells Role.Notes) status result (meanings H.Host host.old) (meanings H.Host host.new) }
     ensures others { LeavesBut (Role.Notes ∷ []) (meanings H.Host host.old) (meanings H.Host host.new) }
@@ -110,7 +110,11 @@ fn unsaid<H: Host>(host: &H, status: Status) -> Status
     ensures { result ≡ unsaid status (H.faults host.now Role.Notes) }
 {
     match status {
-        Status::Done { .. } | Status::Quit { .. } | Status::Made { .. } => Status::WriteFault {
+        Status::Done { .. }
+        | Status::Quit { .. }
+        | Status::Made { .. }
+        | Status::Listed { .. }
+        | Status::Assembled { .. } => Status::WriteFault {
             role: Role::Notes,
             count: host.fault_count(Role::Notes),
         },

@@ -2,4 +2,5 @@ pub mod CourseLaws
 pub mod RoomLaws
 pub mod RunLaws
 pub mod RunningLaws
+pub mod SightLaws
 pub mod StateLaws

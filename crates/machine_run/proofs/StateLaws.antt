@@ -95,10 +95,10 @@ keeps-begun h t (suc n) b ready told bounded has =
 
 -- ---- what is kept of what is left
 
-long_is : (n : ℕ) → IsLongName n → is_long_name n ≡ true
+pub long_is : (n : ℕ) → IsLongName n → is_long_name n ≡ true
 long_is n l = let even = l.0.even in let above = l.0.above in let low = l.1 in grind (arith, nat_tests)
 
-is_long : (n : ℕ) → is_long_name n ≡ true → (n % 2 ≡ 0) × (0 < n) × (n < 2 ^ 32)
+pub is_long : (n : ℕ) → is_long_name n ≡ true → (n % 2 ≡ 0) × (0 < n) × (n < 2 ^ 32)
 is_long n e = (grind (arith, nat_tests), grind (arith, nat_tests), grind (arith, nat_tests))
 
 zero_left : (h : Heap) → word_left h 0 ≡ 0

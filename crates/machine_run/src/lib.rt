@@ -10,6 +10,9 @@
 //!     finished.end == Step::Quit                                                // or Next, where all were run
 //!     finished.state                                                            // what a next run goes on from
 //!
+//! `traced_cycle` does one cycle of a run that is traced: it also tells the active context, the instruction pointer and the byte there, as the
+//! machine came to its bytecode (`specs/Sights.antt`).
+//!
 //! It reads no image and writes nothing: what a memory is made of and what becomes of it is its caller's. Over a memory that doesn't tell
 //! its heap nothing is said but of counts and faults.
 #![tactic(auto)]
@@ -17,7 +20,9 @@
 pub mod laws;
 mod running;
 mod states;
+mod tracing;
 
 pub use blue_model::Step;
 pub use image_format::State;
-pub use running::{Finished, Halted, Reason, run, whole_run};
+pub use running::{Finished, Halted, Reason, is_last, run, settle, whole_run};
+pub use tracing::{Sight, Traced, traced_cycle};

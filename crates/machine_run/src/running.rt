@@ -30,7 +30,7 @@ use process_sched::switch;
 use std::alloc::Global;
 
 /// A process switch, where one waits (checkProcessSwitch, chapter 28).
-fn check_switch<M: ObjectMemory>(m: &mut M, cpu: &mut Cpu) -> Result<(), Stop>
+pub(crate) fn check_switch<M: ObjectMemory>(m: &mut M, cpu: &mut Cpu) -> Result<(), Stop>
     requires fit { IsFit M.ObjectMemory m.old }
     ensures serves { Serves (M.told m.old) cpu.old (M.told m.new) cpu.new processes.check_switch result }
     ensures fit { StaysFit M.ObjectMemory m.old m.new result }
@@ -80,7 +80,7 @@ fn cycle<M: ObjectMemory>(m: &mut M, cpu: &mut Cpu, events: &EventList) -> Resul
 
 /// The end of a bytecode: what nothing holds any more may go, and no making is counted then.
 #[tactic(auto, using(crate::proofs::RunningLaws::settled_by))]
-fn settle<M: ObjectMemory>(m: &mut M) -> Result<(), MemFault>
+pub fn settle<M: ObjectMemory>(m: &mut M) -> Result<(), MemFault>
     requires fit { IsFit M.ObjectMemory m.old }
     ensures called { Called (M.told m.old) (M.told m.new) Settles result }
     ensures settled { OnOk result (IsSettled (M.told m.new)) }
@@ -115,7 +115,7 @@ fn settled_cycle<M: ObjectMemory>(
 }
 
 /// Whether no bytecode follows: the machine ended, or is to be kept.
-fn is_last(step: Step) -> bool
+pub fn is_last(step: Step) -> bool
     ensures { result ≡ endings.is_last step }
 {
     match step {

@@ -29,7 +29,7 @@ pub(crate) fn begin<M: ObjectMemory>(m: &mut M, cpu: &mut Cpu, state: &State) ->
 }
 
 /// The name in a register, as a word of a state; 0 where it holds none, or isn't in use.
-fn word_in<M: ObjectMemory>(m: &M, r: Reg, in_use: bool) -> u32
+pub(crate) fn word_in<M: ObjectMemory>(m: &M, r: Reg, in_use: bool) -> u32
     requires { M.sound m.now }
     ensures { result ≡ word_held in_use ((M.told m.now).regs r) }
 {

@@ -2,7 +2,7 @@ use Rattle.std.proofs.Common.{sym, subst}
 use Rattle.blue_model.specs.Logs.{course}
 use Rattle.machine_run.specs.States.{model_state}
 use Rattle.loom_memory.specs.Memory.{loom_told}
-use Rattle.loom_run.specs.Command.{row_for}
+use Rattle.loom_words.specs.Command.{row_for}
 use Rattle.loom_run.specs.Meanings.{meanings}
 use Rattle.loom_run.specs.Stages.{Running}
 use Rattle.loom_run.specs.Steps.{IsRefusal, WasStopped}

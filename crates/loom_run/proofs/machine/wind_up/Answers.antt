@@ -1,7 +1,7 @@
 use Rattle.std.proofs.Common.{sym, subst, arith}
 use Rattle.image_memory.proofs.EndLaws.{ended-is}
 use Rattle.image_memory.proofs.KeptLaws.{image-kept}
-use Rattle.loom_run.specs.Command.{row_for}
+use Rattle.loom_words.specs.Command.{row_for}
 use Rattle.loom_run.specs.Meanings.{meanings}
 use Rattle.loom_run.specs.Stages.{Finishing}
 use Rattle.loom_run.specs.Steps.{IsRefusal}

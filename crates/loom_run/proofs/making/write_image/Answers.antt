@@ -1,5 +1,5 @@
 -- The image was put whole, and then it was ended, or not.
-use Rattle.std.proofs.Common.{[], inl, inr}
+use Rattle.std.proofs.Common.{[], inr}
 use Rattle.loom_outside.specs.declared.outside.Role.TheVariants.{Saved}
 use Rattle.loom_run.specs.Ends.{WasWritten}
 use Rattle.loom_run.proofs.StepLaws.{begun-from, made-by, not-made, written-from}

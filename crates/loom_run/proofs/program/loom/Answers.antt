@@ -1,9 +1,11 @@
--- The line is that of the answer of a run or of a making.
+-- The line is that of the answer of a command.
 use Rattle.std.proofs.Common.{sym, ◌∙◌, ap, subst}
-use Rattle.loom_run.specs.Command.{IsAsked}
+use Rattle.loom_words.specs.Command.{IsAsked}
 use Rattle.loom_run.specs.Meanings.{meanings}
-use Rattle.loom_run.specs.Steps.{MakeEnds, RunEnds}
-use Rattle.loom_run.specs.Words.{error_of, texts_of}
+use Rattle.loom_run.specs.declared.converting.Way.TheVariants.{Listing, Assembling}
+use Rattle.loom_run.specs.Steps.{ConversionEnds, MakeEnds, RunEnds}
+use Rattle.loom_words.specs.Words.{error_of, texts_of}
+use Rattle.loom_run.proofs.ConvertLaws.{promise-converted}
 use Rattle.loom_run.proofs.MakingLaws.{promise-made}
 use Rattle.loom_run.proofs.TellingLaws.{promise-told}
 use Rattle.loom_run.proofs.program.loom.Goals as goal
@@ -30,4 +32,28 @@ returns-in-Ok-Make g c =
     record {
       promise = promise-made tells before mid (meanings g.H.Host c.tell-in-Ok-Make.new.host) words c.make_image-status.result c.tell-in-Ok-Make.result asked.0 (sym c.asked_of.ensures.bad ∙ ap error_of c.in-Ok-Make.is)
           (subst (λ row. MakeEnds tells before mid row c.make_image-status.result) asked.1 c.make_image-status.ensures.ends) c.tell-in-Ok-Make.ensures.others c.tell-in-Ok-Make.ensures.told;
+    }
+
+pub returns-in-Ok-List : goal.returns-in-Ok-List
+returns-in-Ok-List g c =
+    let tells = g.H.Host.tells in
+    let before = meanings g.H.Host c.args.host.now in
+    let mid = meanings g.H.Host c.convert-status.new.host in
+    let words = texts_of c.args.words.now in
+    let asked = subst (IsAsked words) c.in-Ok-List.field-0-is c.in-Ok-List.ensures.asked in
+    record {
+      promise = promise-converted tells before mid (meanings g.H.Host c.tell-in-Ok-List.new.host) words Listing c.convert-status.result c.tell-in-Ok-List.result asked.0 (sym c.asked_of.ensures.bad ∙ ap error_of c.in-Ok-List.is)
+          (subst (λ paths. ConversionEnds tells before mid Listing paths c.convert-status.result) asked.1 c.convert-status.ensures.ends) c.tell-in-Ok-List.ensures.others c.tell-in-Ok-List.ensures.told;
+    }
+
+pub returns-in-Ok-Assemble : goal.returns-in-Ok-Assemble
+returns-in-Ok-Assemble g c =
+    let tells = g.H.Host.tells in
+    let before = meanings g.H.Host c.args.host.now in
+    let mid = meanings g.H.Host c.convert-status-in-Ok-Assemble.new.host in
+    let words = texts_of c.args.words.now in
+    let asked = subst (IsAsked words) c.in-Ok-Assemble.field-0-is c.in-Ok-Assemble.ensures.asked in
+    record {
+      promise = promise-converted tells before mid (meanings g.H.Host c.tell-in-Ok-Assemble.new.host) words Assembling c.convert-status-in-Ok-Assemble.result c.tell-in-Ok-Assemble.result asked.0 (sym c.asked_of.ensures.bad ∙ ap error_of c.in-Ok-Assemble.is)
+          (subst (λ paths. ConversionEnds tells before mid Assembling paths c.convert-status-in-Ok-Assemble.result) asked.1 c.convert-status-in-Ok-Assemble.ensures.ends) c.tell-in-Ok-Assemble.ensures.others c.tell-in-Ok-Assemble.ensures.told;
     }

@@ -1,9 +1,9 @@
 -- A disk begins over the host as it is, and is taken apart: each of these leaves the host as it was.
-use Rattle.std.proofs.Common.{◌≡◌, rules, sym, ◌∙◌, ap, subst}
+use Rattle.std.proofs.Common.{◌≡◌, refl, rules, sym, ◌∙◌, ap, subst}
 use Rattle.loom_outside.specs.declared.outside.Host.{Ghosts}
 use Rattle.disk_objects.specs.declared.rest.DiskRest.{DiskRest}
 use Rattle.disk_objects.specs.Disk.{disk_room}
-use Rattle.loom_run.specs.Command.{row_for}
+use Rattle.loom_words.specs.Command.{row_for}
 use Rattle.loom_run.specs.Meanings.{Meanings, meanings}
 use Rattle.loom_run.specs.Steps.{RunEnds}
 use Rattle.loom_run.proofs.ProgramLaws.{opening-refused, reading-refused, used-reading}
@@ -14,7 +14,7 @@ same-host host now end P same x = subst (λ h. P (meanings host h)) (sym same) x
 
 pub returns-in-Err : goal.returns-in-Err
 returns-in-Err g c = record {
-  ends = opening-refused g.H.Host.tells (meanings g.H.Host c.args.host.now) (row_for c.args.command.now) (meanings g.H.Host c.open_work.new.host) c.in-Err.status c.open_work.ensures.attached c.open_work.ensures.others c.in-Err.ensures.refused;
+  ends = opening-refused g.H.Host.tells (meanings g.H.Host c.args.host.now) (row_for c.args.command.now) (meanings g.H.Host c.open_work.new.host) c.in-Err.status c.open_work.ensures.attached c.open_work.ensures.others (c.in-Err.ensures.refused (row_for c.args.command.now));
 }
 
 pub read_image-requires-clause-room : goal.read_image-requires-clause-room
@@ -30,7 +30,7 @@ returns-in-Err-read_image g c = record {
       let row = row_for c.args.command.now in
       same-host g.H.Host c.read_image.new.disk.host.now _ (λ m. RunEnds g.H.Host.tells before m row c.in-Err-read_image.status) (search rules)
       (reading-refused g.H.Host.tells before row (meanings g.H.Host c.open_work.new.host) (meanings g.H.Host c.read_image.new.disk.host.now) c.open_work.ensures.attached c.in_default.ensures.named c.open_work.ensures.others
-      (rw c.begin-disk.ensures.now at c.read_image.ensures.attached) (rw c.begin-disk.ensures.now at c.read_image.ensures.file) (rw c.begin-disk.ensures.now at c.read_image.ensures.others) c.in-Err-read_image.status (rw c.begin-disk.ensures.now at c.in-Err-read_image.ensures.refused) c.in-Err-read_image.ensures.judged);
+      (rw c.begin-disk.ensures.now at c.read_image.ensures.attached) (rw c.begin-disk.ensures.now at c.read_image.ensures.file) (rw c.begin-disk.ensures.now at c.read_image.ensures.others) c.in-Err-read_image.status (rw c.begin-disk.ensures.now at (c.in-Err-read_image.ensures.refused row refl)) c.in-Err-read_image.ensures.judged);
 }
 
 pub run_image-requires-clause-image : goal.run_image-requires-clause-image

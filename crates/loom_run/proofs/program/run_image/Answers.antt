@@ -2,7 +2,7 @@ use Rattle.std.proofs.Common.{refl}
 use Rattle.loom_outside.specs.declared.outside.Role.TheVariants.{Work}
 use Rattle.image_reader.specs.Loaded.{heap_on}
 use Rattle.image_memory.proofs.ImageLaws.{image-stays}
-use Rattle.loom_run.specs.Command.{row_for}
+use Rattle.loom_words.specs.Command.{row_for}
 use Rattle.loom_run.specs.Meanings.{meanings}
 use Rattle.loom_run.proofs.ProgramLaws.{came-listening, listening-refused, read-stays}
 use Rattle.loom_run.proofs.program.run_image.Goals as goal

@@ -4,7 +4,7 @@ use Rattle.loom_outside.specs.declared.outside.Role.TheVariants.{Work}
 use Rattle.blue_model.specs.Logs.{course}
 use Rattle.machine_run.specs.States.{model_state}
 use Rattle.loom_memory.specs.Memory.{loom_told}
-use Rattle.loom_run.specs.Command.{row_for}
+use Rattle.loom_words.specs.Command.{row_for}
 use Rattle.loom_run.specs.Meanings.{Meanings, meanings}
 use Rattle.loom_run.specs.Stages.{Listening}
 use Rattle.loom_run.specs.Steps.{BeginsImage, Came, RunEnds, WentThrough}

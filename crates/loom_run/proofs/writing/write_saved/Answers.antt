@@ -8,12 +8,12 @@ use Rattle.image_memory.proofs.EndLaws.{ended-stays}
 use Rattle.image_memory.specs.Image.{HasEnded}
 use Rattle.loom_outside.specs.declared.outside.Role.TheVariants.{Saved, Work}
 use Rattle.loom_outside.specs.Outside.{RoleState}
-use Rattle.loom_run.specs.Command.{row_for}
+use Rattle.loom_words.specs.Command.{row_for}
 use Rattle.loom_run.specs.Ends.{AttachedOnce}
 use Rattle.loom_run.specs.Meanings.{meanings}
 use Rattle.loom_run.specs.Stages.{Saving}
 use Rattle.loom_run.specs.Steps.{IsRefusal}
-use Rattle.loom_run.proofs.StepLaws.{begun-from, file-saving, leaves-saving, not-written, refused-put, refused-saving, some-heap, written-from}
+use Rattle.loom_run.proofs.StepLaws.{begun-from, file-saving, leaves-saving, not-written, refused-put, refused-saving, refuses, some-heap, written-from}
 use Rattle.loom_run.proofs.writing.write_saved.Goals as goal
 
 -- what is put afterwards leaves how often it was attached, and its name
@@ -152,3 +152,7 @@ returns-in-Err-Memory-clause-attached g c = λ told.
     let mid = c.open_saved.new.disk in
     let x = some-heap (g.H.Host.tells Work) (λ (h : Heap). HasEnded g.H.Host mid.host.now mid.rest c.args.next h) (λ work. let y = c.requires.ended work in (y.0, ended-stays g.H.Host c.args.disk.now.host.now mid.host.now c.args.disk.now.rest mid.rest c.args.next y.0 (c.open_saved.ensures.others Work (λ e. cc)) c.open_saved.ensures.rest y.1)) in
     attached-put c.args.command.now.saved.now (g.H.Host.roles c.args.disk.now.host.now Saved) (g.H.Host.roles mid.host.now Saved) (g.H.Host.roles c.save_kept.new.disk.host.now Saved) (c.open_saved.ensures.once told) ((c.save_kept.ensures.saved x.0 x.1).only_put told)
+
+pub returns-in_err-open_saved-clause-refused : goal.returns-in_err-open_saved-clause-refused
+returns-in_err-open_saved-clause-refused g c =
+    refuses (IsRefusal g.H.Host.tells (meanings g.H.Host c.args.disk.now.host.now) (meanings g.H.Host c.open_saved.new.disk.host.now) (row_for c.args.command.now) Saving) c.from_residual.result c.in_err-open_saved.field-0.0 c.from_residual.ensures.1 (c.in_err-open_saved.ensures.refused (row_for c.args.command.now))

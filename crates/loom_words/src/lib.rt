@@ -1,0 +1,29 @@
+//! The words of the program: those of each command, and those that it says.
+//!
+//! `asked_of` reads what the words behind the program's name ask for: `IsAsked` of `specs/Command.antt`. It refuses exactly at the first bad,
+//! missing or extra word, by the rows of `specs/Words.antt`: a row is a list of checks, one a word, and the first word decides which row the
+//! others are compared with. Which words are right then is the law `right_words`.
+//!
+//!     match asked_of(&words) {
+//!         Ok(Asked::Run(command)) => ..,                          // run IMAGE EVENTS WORK SAVED DISPLAY CORE ENTRIES ROOM STEPS
+//!         Ok(Asked::Make(making)) => ..,                          // make NUMBER FILE
+//!         Ok(Asked::List(conversion)) => ..,                      // list IMAGE WORK TEXT
+//!         Ok(Asked::Assemble(conversion)) => ..,                  // asm TEXT WORK IMAGE
+//!         Err(word) => say(&Status::Usage { word }.line()),       // "usage: word 3\n"
+//!     }
+//!
+//! `Status` says how a command ended, with its line and the exit status (`specs/Status.antt`). Nothing here takes memory, and nothing knows
+//! a host or a machine.
+#![tactic(auto)]
+
+pub mod laws;
+mod status;
+mod trace;
+mod words;
+
+pub use status::{Line, Status};
+pub use trace::trace_line;
+pub use words::{
+    Asked, Command, Conversion, LEAST_CORE, LEAST_ENTRIES, LEAST_ROOM, MOST_CORE, MOST_ENTRIES,
+    MOST_ROOM, MOST_STEPS, Making, asked_of,
+};
