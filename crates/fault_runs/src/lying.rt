@@ -94,6 +94,9 @@ fn is_possible(bounds: &Bounds, status: Status) -> bool {
         Status::Damaged { .. } => true,
         Status::OutOfMemory
         | Status::Made { .. }
+        | Status::Listed { .. }
+        | Status::Assembled { .. }
+        | Status::TextBad { .. }
         | Status::Usage { .. }
         | Status::EventsBad { .. }
         | Status::ReadFault { .. }

@@ -1,10 +1,11 @@
-//! Tests of what stands below any memory: names and values, the hosts, records as bytes, and the builder of images.
+//! Tests of what stands below any memory: names and values, the hosts, records as bytes, the builder of images, and the lines of a
+//! trace.
 //!
 //! They are over public calls, and keep what no case of `loom_cases` runs: a call at values that are worked out by hand, a host over
 //! real files, and that a call which takes memory succeeds where there is enough. Hosts that fail are those of `work_tests` and
 //! `machine_tests`. A test is a table of rows with named fields, and one loop over them. There is one file for each crate: `names` for
 //! `long_names`, `hosts` for `loom_outside`, `records` for `image_format`, `builders` for `image_builder`, `generated` for `loom_gen`,
-//! `windows` for `work_windows`. The crate has no function of its own.
+//! `windows` for `work_windows`, `traces` for `loom_words`. The crate has no function of its own.
 #![tactic(auto)]
 
 #[cfg(test)]
@@ -17,5 +18,7 @@ mod hosts;
 mod names;
 #[cfg(test)]
 mod records;
+#[cfg(test)]
+mod traces;
 #[cfg(test)]
 mod windows;

@@ -13,7 +13,7 @@ use std::test::Fail;
 const ROOM: u32 = 1_024;
 
 /// The text of the base image.
-const BASE: &str = "\
+pub(crate) const BASE: &str = "\
 loom 68 0 0 0 0 0\n\
 2 16 pointers\n\
 4 16 pointers\n\
