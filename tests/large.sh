@@ -1,6 +1,7 @@
 #!/bin/sh
 # The large job: makes the image of 19, runs 999,961 bytecodes of it in a core of 65,536 words and in one of 16,777,216, and compares what
-# comes out with what the machine has to give, and the one with the other. Says how many seconds each took. Not in the gate.
+# comes out with what the machine has to give, and the one with the other. Then a text of a million objects is assembled, in 256 MB of address
+# space, and its image is listed again, and so is the image of 19. Says how many seconds each took. Not in the gate.
 #
 #     tests/large.sh [PROGRAM]
 set -u
@@ -74,5 +75,38 @@ run 16777216
 for part in saved pbm transcript; do
     check "the same $part in both" cmp "65536.$part" "16777216.$part"
 done
+
+# million: a text of 1,000,000 objects: those of the base image, and a chain that its context holds, each of which holds the next one.
+million() {
+    names=$((1000000 - 26))
+    echo "loom $((68 + 2 * names)) 0 0 0 0 0"
+    sed -e 1d -e '$s/2$/68/' "$top/crates/loom_images/data/base.text"
+    seq 68 2 $((64 + 2 * names)) | awk '{ print $1, "16 pointers", $1 + 2 }'
+    echo "$((66 + 2 * names)) 16 pointers"
+}
+
+# convert COMMAND FILE FILE LINE: a listing or an assembling that says this line.
+convert() {
+    began=$(date +%s)
+    (
+        ulimit -v 262144
+        exec "$loom" "$1" "$2" objects "$3"
+    ) 2>notes
+    code=$?
+    seconds=$(($(date +%s) - began))
+    check "$1 $2: the exit status, $code" [ "$code" = 0 ]
+    check "$1 $2: the line" [ "$(cat notes)" = "$4" ]
+    echo "$1 $2: $seconds seconds"
+}
+
+million >million.text
+convert asm million.text million.loom 'assembled 1000000 objects'
+check 'the image of a million objects' [ "$(head_of million.loom)" = '1000000 2000016' ]
+convert list million.loom again.text 'listed 1000000 objects'
+check 'the text of a million objects' cmp million.text again.text
+convert list g.loom g.text 'listed 20327 objects'
+convert asm g.text again.loom 'assembled 20327 objects'
+convert list again.loom again.text 'listed 20327 objects'
+check 'the text of the image of 19' cmp g.text again.text
 echo "large: $passed passed, $failed failed"
 [ "$failed" = 0 ]
