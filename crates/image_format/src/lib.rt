@@ -32,5 +32,6 @@ pub use encoding::{encode_object, encode_rec};
 pub use fault::{Break, RecFault};
 pub use head::{FEWEST_OBJECTS, HEAD_LEN, Head, LOWEST_NEXT, MOST_OBJECTS, VERSION, decode_head};
 pub use opening::{
-    ImageHead, LOOM, Opening, STATE_LEN, STATE_VERSION, State, read_head, read_opening,
+    ImageHead, LOOM, Opening, STATE_LEN, STATE_VERSION, State, is_next, is_state_word, is_tick,
+    read_head, read_opening,
 };

@@ -103,19 +103,22 @@ fn is_count(number: u32) -> bool
     number >= FEWEST_OBJECTS && number <= MOST_OBJECTS
 }
 
-fn is_next(number: u32) -> bool
+/// Whether an image may state this next name.
+pub fn is_next(number: u32) -> bool
     ensures { result ≡ heads.is_next number }
 {
     number >= LOWEST_NEXT && number % 2 == 0
 }
 
-fn is_state_word(next: u32, word: u32) -> bool
+/// Whether the word of a state is none or a name below the next one.
+pub fn is_state_word(next: u32, word: u32) -> bool
     ensures { result ≡ heads.is_state_word next word }
 {
     word == 0 || (word % 2 == 0 && word < next)
 }
 
-fn is_tick(timer: u32, tick: u32) -> bool
+/// Whether a state with this timer may have this tick.
+pub fn is_tick(timer: u32, tick: u32) -> bool
     ensures { result ≡ heads.is_tick timer tick }
 {
     tick == 0 || timer > 0

@@ -74,23 +74,6 @@ fn judge_record(
     }
 }
 
-/// Puts bytes in the place of the first ones.
-fn copy_front(space: &mut [u8], bytes: &[u8])
-    requires { length bytes.now ≤ length space.old }
-    ensures bytes { space.new ≡ bytes.now ++ drop (length bytes.now) space.old }
-    ensures len { length space.new ≡ length space.old }
-{
-    space[..bytes.len()].copy_from_slice(bytes);
-}
-
-/// Puts the bytes of a record into the buffer.
-fn fill_front(buf: &mut RecordBuf, bytes: &[u8])
-    requires { length bytes.now ≤ LONGEST_RECORD }
-    ensures { buf.new ≡ bytes.now ++ drop (length bytes.now) buf.old }
-{
-    copy_front(buf.space(), bytes);
-}
-
 /// Takes the record that the window begins with, and puts its bytes into the buffer.
 fn take_record(
     alloc: Global,
@@ -111,7 +94,7 @@ fn take_record(
     ensures fault { IfErr result IsRuleFault }
 {
     let (rec, len) = judge_record(alloc, window.bytes(), window.place(), last, next)?;
-    fill_front(buf, &window.bytes()[..len]);
+    buf.fill(&window.bytes()[..len]);
     window.skip(len);
     Ok(rec)
 }

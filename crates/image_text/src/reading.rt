@@ -26,31 +26,13 @@ ghost use Rattle.image_text.specs.Lines.{IsBreak, IsWithin, head_read, lines_of,
 use crate::fault::TextFault;
 use crate::lines::{Line, next_line};
 use disk_objects::DiskObjects;
-use image_format::{FEWEST_OBJECTS, LOWEST_NEXT, MOST_OBJECTS, encode_rec};
+use image_format::{FEWEST_OBJECTS, MOST_OBJECTS, encode_rec, is_next, is_state_word, is_tick};
 use image_reader::Window;
 use long_names::{Body, MOST_CODE, Name, NameList, Octets, Rec, literal_count};
 use loom_outside::{Host, Role};
 use object_record::RecordBuf;
 use std::alloc::{AllocError, Global};
 use text_lines::{Head, Stated, head_in, object_in};
-
-fn is_next(next: u32) -> bool
-    ensures { result ≡ heads.is_next next }
-{
-    next >= LOWEST_NEXT && next % 2 == 0
-}
-
-fn is_state_word(next: u32, word: u32) -> bool
-    ensures { result ≡ heads.is_state_word next word }
-{
-    word == 0 || (word % 2 == 0 && word < next)
-}
-
-fn is_tick(timer: u32, tick: u32) -> bool
-    ensures { result ≡ heads.is_tick timer tick }
-{
-    tick == 0 || timer > 0
-}
 
 fn keeps_state(head: &Head) -> bool
     ensures { result ≡ breaks.keeps_state (head_read head.now) }
@@ -154,23 +136,6 @@ fn judge_object(
     }
 }
 
-/// Puts bytes in the place of the first ones.
-fn copy_front(space: &mut [u8], bytes: &[u8])
-    requires { length bytes.now ≤ length space.old }
-    ensures bytes { space.new ≡ bytes.now ++ drop (length bytes.now) space.old }
-    ensures len { length space.new ≡ length space.old }
-{
-    space[..bytes.len()].copy_from_slice(bytes);
-}
-
-/// Puts the bytes of a record into the buffer.
-fn fill_front(buf: &mut RecordBuf, bytes: &[u8])
-    requires { length bytes.now ≤ LONGEST_RECORD }
-    ensures { buf.new ≡ bytes.now ++ drop (length bytes.now) buf.old }
-{
-    copy_front(buf.space(), bytes);
-}
-
 /// Puts a record into the buffer.
 fn fill_record(alloc: Global, buf: &mut RecordBuf, rec: &Rec) -> Result<(), AllocError>
     requires { IsBody rec.now.body }
@@ -179,7 +144,7 @@ fn fill_record(alloc: Global, buf: &mut RecordBuf, rec: &Rec) -> Result<(), Allo
 {
     let mut out = Octets::new(alloc);
     encode_rec(rec, &mut out)?;
-    fill_front(buf, out.bytes());
+    buf.fill(out.bytes());
     Ok(())
 }
 

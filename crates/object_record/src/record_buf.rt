@@ -1,6 +1,7 @@
 // A buffer of one record. Where it has a record, each call reads or sets one part of it, and no other.
-ghost use Rattle.std.specs.Prelude.{◌≡◌, ◌↔◌, ◌<◌, ◌≤◌, IsTrue, length, replicate, slice_index, IfOk, Some};
+ghost use Rattle.std.specs.Prelude.{◌≡◌, ◌↔◌, ◌<◌, ◌≤◌, ◌++◌, IsTrue, length, drop, replicate, slice_index, IfOk, Some};
 ghost use Rattle.long_names.specs.declared.object.Kind.TheVariants.{Method};
+ghost use Rattle.long_names.specs.declared.limits.TheConstants.{LONGEST_RECORD};
 ghost use Rattle.object_record.specs.Raw.{raw_kind, raw_len, raw_literals, raw_header, longs_of, raw_words, raw_bytes, raw_text, with_name, with_long, with_header, with_word, with_byte, blank_record, CanBlank, stated_literals};
 ghost use Rattle.object_record.specs.Buffer.{raw_of, HasRecord};
 
@@ -50,6 +51,14 @@ impl RecordBuf {
         ensures len { length result.now ≡ LONGEST_RECORD }
     {
         &mut self.bytes
+    }
+
+    /// Puts these bytes in the place of the first ones.
+    pub fn fill(&mut self, bytes: &[u8])
+        requires { length bytes.now ≤ LONGEST_RECORD }
+        ensures { self.new ≡ bytes.now ++ drop (length bytes.now) self.old }
+    {
+        put(&mut self.bytes, 0, bytes);
     }
 
     /// The name of the record's object.
