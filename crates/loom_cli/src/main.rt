@@ -79,6 +79,9 @@ const RUN_FILES: [(Role, usize); 4] = [
     (Role::Display, 5),
 ];
 
+// Those of a trace, which has no picture. Its lines are what it saves.
+const TRACE_FILES: [(Role, usize); 3] = [(Role::Image, 1), (Role::Events, 2), (Role::Saved, 4)];
+
 // And those of a listing or an assembling.
 const CONVERSION_FILES: [(Role, usize); 2] = [(Role::Image, 1), (Role::Saved, 3)];
 
@@ -90,6 +93,8 @@ fn files_of(words: &[String]) -> &'static [(Role, usize)] {
     let word = word.as_str();
     if word == "run" {
         &RUN_FILES
+    } else if word == "trace" {
+        &TRACE_FILES
     } else if word == "list" || word == "asm" {
         &CONVERSION_FILES
     } else {

@@ -25,7 +25,7 @@ use Rattle.loom_run.proofs.HeadlineLaws.{assembled-never, listed-never, made-nev
 
 -- ---- a right image
 
-unbroken : (room : ℕ) (bytes : List ℕ) → IsRightImage room bytes → first_break bytes ≡ None
+pub unbroken : (room : ℕ) (bytes : List ℕ) → IsRightImage room bytes → first_break bytes ≡ None
 unbroken room bytes r = unbroken_from bytes (record { heap = r.heap; head = r.head; is = r.image.is; of_heap = r.image.of_heap; text = r.image.text })
 
 few : (room objects : ℕ) → objects ≤ room → nat_lt room objects ≡ false

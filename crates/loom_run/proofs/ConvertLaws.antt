@@ -20,7 +20,7 @@ use Rattle.loom_run.specs.Promise.{Promise}
 use Rattle.loom_run.specs.Stages.{Stage, Opening, Reading, Listening, Making, Running, Finishing, Saving, Drawing, Telling, Ends, EndsOpening, EndsReading, EndsSaving, passes, reaches, roles_at, stage_of}
 use Rattle.loom_run.specs.Steps.{ConversionEnds, HasOpened, HasPut, IsOfConversion, IsOfRun, IsReadRefusal, IsRefusal, IsRefusalAt, IsRefusedBy, IsSameFile, IsUnopened, UsesPaths}
 use Rattle.loom_words.specs.Status.{line_of, usage_of}
-use Rattle.loom_words.specs.Words.{Paths, Row, ToAssemble, ToList, ToMake, ToRun, Verb, bad_word, paths_of, verb_of}
+use Rattle.loom_words.specs.Words.{Paths, Row, ToAssemble, ToList, ToMake, ToRun, ToTrace, Verb, bad_word, paths_of, verb_of}
 use Rattle.loom_words.specs.declared.words.TheConstants.{MOST_ROOM}
 use Rattle.loom_words.specs.declared.status.Status.{Status}
 use Rattle.loom_words.specs.declared.status.Status.TheVariants as answer
@@ -585,18 +585,14 @@ module _ (tells : Role → Bool) (before mid now : Meanings) (way : Way) (paths 
 
 -- ---- the promise
 
-right-some : {P : Type 0} (o : Option ℕ) → o ≡ None → IsSome o → P
+-- right words aren't bad
+pub right-some : {P : Type 0} (o : Option ℕ) → o ≡ None → IsSome o → P
 right-some None e some = let no : ◌≡◌ {A = Bool} false true = some in absurd (cc)
 right-some (Some word) e some = let no : ◌≡◌ {A = Option ℕ} (Some word) None = e in absurd (cc)
 
--- words ask for one of the four
-run-not : {P : Type 0} (way : Way) (verb : Verb) → verb ≡ verb_for way → verb ≡ ToRun → P
-run-not Listing verb is other = let no : ◌≡◌ {A = Verb} ToList ToRun = sym is ∙ other in absurd (cc)
-run-not Assembling verb is other = let no : ◌≡◌ {A = Verb} ToAssemble ToRun = sym is ∙ other in absurd (cc)
-
-make-not : {P : Type 0} (way : Way) (verb : Verb) → verb ≡ verb_for way → verb ≡ ToMake → P
-make-not Listing verb is other = let no : ◌≡◌ {A = Verb} ToList ToMake = sym is ∙ other in absurd (cc)
-make-not Assembling verb is other = let no : ◌≡◌ {A = Verb} ToAssemble ToMake = sym is ∙ other in absurd (cc)
+-- words ask for one of the five
+pub asks-other : {P : Type 0} (words : List (List ℕ)) (verb other : Verb) → verb_of words ≡ verb → verb ≢ other → verb_of words ≡ other → P
+asks-other words verb other asks apart is = absurd (apart (sym asks ∙ is))
 
 way-is : (way other : Way) → verb_for way ≡ verb_for other → way ≡ other
 way-is Listing Listing e = refl
@@ -604,10 +600,10 @@ way-is Assembling Assembling e = refl
 way-is Listing Assembling e = let no : ◌≡◌ {A = Verb} ToList ToAssemble = e in absurd (cc)
 way-is Assembling Listing e = let no : ◌≡◌ {A = Verb} ToAssemble ToList = e in absurd (cc)
 
--- words of a run or of a making are those of no conversion
-pub converts-not : {P : Type 0} (way : Way) (words : List (List ℕ)) (verb : Verb) → verb_of words ≡ verb → (verb ≡ ToRun) ⊎ (verb ≡ ToMake) → verb_of words ≡ verb_for way → P
-converts-not way words verb is (inl run) asks = run-not way (verb_of words) asks (is ∙ run)
-converts-not way words verb is (inr make) asks = make-not way (verb_of words) asks (is ∙ make)
+-- words of another command are those of no conversion
+pub converts-not : {P : Type 0} (way : Way) (words : List (List ℕ)) (verb : Verb) → verb_of words ≡ verb → verb ≢ ToList → verb ≢ ToAssemble → verb_of words ≡ verb_for way → P
+converts-not Listing words verb asks list asm is = asks-other words verb ToList asks list is
+converts-not Assembling words verb asks list asm is = asks-other words verb ToAssemble asks asm is
 
 pub promise-converted : (tells : Role → Bool) (before mid now : Meanings) (words : List (List ℕ)) (way : Way) (status result : Status) → verb_of words ≡ verb_for way → bad_word words ≡ None → ConversionEnds tells before mid way (paths_of words) status → LeavesBut (Notes ∷ []) mid now → IsTold (tells Notes) status result mid now → Promise tells before now words result
 promise-converted tells before mid now words way status result asks right ends leaves is =
@@ -615,9 +611,10 @@ promise-converted tells before mid now words way status result asks right ends l
     record {
       usage = a.usage ∙ sym right;
       unasked = right-some (bad_word words) right;
-      ends = λ run none. run-not way (verb_of words) asks run;
-      makes = λ make none. make-not way (verb_of words) asks make;
+      ends = λ run none. converts-not way words ToRun run (λ e. cc) (λ e. cc) asks;
+      makes = λ make none. converts-not way words ToMake make (λ e. cc) (λ e. cc) asks;
       converts = λ other asked none. subst (λ (w : Way). (stage : Stage) × ConvertsAt tells before now w (paths_of words) stage result) (way-is way other (sym asks ∙ asked)) (a.stage, a.at);
+      traces = λ trace none. converts-not way words ToTrace trace (λ e. cc) (λ e. cc) asks;
       noted = λ tell. subst (λ (verb : Verb). NotedBy result (HasBegunFor verb words) before now) (sym asks) (noted-for way result (a.noted tell));
       later = λ role. let first = ends.later role in let then = leaves.later role in omega (arith, first, then);
     }

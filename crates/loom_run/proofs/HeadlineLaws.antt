@@ -14,14 +14,10 @@ use Rattle.long_names.specs.Heap.{Heap}
 use Rattle.machine_run.specs.States.{model_state}
 use Rattle.loom_run.specs.Ends.{RunOf, RunsTo, WrittenBy, bytes_of, image_of}
 use Rattle.loom_run.specs.Headline.{HasHeadline, HasSmall, HeadlineBy, SmallBy, TellsHeadline}
-use Rattle.loom_run.specs.Converts.{EndsConversion}
-use Rattle.loom_run.specs.declared.converting.Way.{Way}
-use Rattle.loom_run.specs.declared.converting.Way.TheVariants.{Listing, Assembling}
-use Rattle.loom_run.specs.Makes.{EndsMaking}
 use Rattle.loom_run.specs.Meanings.{Meanings}
 use Rattle.loom_run.specs.Promise.{EndsAt, Promise}
 use Rattle.loom_run.specs.Stages.{Stage, Opening, Reading, Listening, Making, Running, Finishing, Saving, Drawing, Telling, Ends}
-use Rattle.loom_words.specs.Words.{Row, ToAssemble, ToList, ToMake, ToRun, Verb, bad_word, make_of, row_of, verb_of}
+use Rattle.loom_words.specs.Words.{Row, ToRun, bad_word, row_of, verb_of}
 use Rattle.loom_words.specs.declared.status.Status.{Status}
 use Rattle.loom_words.specs.declared.status.Status.TheVariants as answer
 
@@ -48,7 +44,7 @@ quit-last Saving ran h = absurd h
 quit-last Drawing ran h = absurd h
 quit-last Telling ran h = refl
 
--- Made comes at none, nor do Listed and Assembled, and Done and Quit of no making
+-- Made comes at none, nor do Listed and Assembled
 pub made-never : {P : Type 0} (stage : Stage) (objects : ℕ) → Ends stage (answer.Made objects) → P
 made-never Opening objects h = absurd h
 made-never Reading objects h = absurd h
@@ -82,49 +78,6 @@ assembled-never Saving objects h = absurd h
 assembled-never Drawing objects h = absurd h
 assembled-never Telling objects h = absurd h
 
--- and of no conversion
-done-converted : (stage : Stage) (way : Way) (ran : ℕ) → EndsConversion stage way (answer.Done ran) → ⊥
-done-converted Opening way ran h = h
-done-converted Reading Listing ran h = h
-done-converted Reading Assembling ran h = h
-done-converted Listening way ran h = h
-done-converted Making way ran h = h
-done-converted Running way ran h = h
-done-converted Finishing way ran h = h
-done-converted Saving way ran h = h
-done-converted Drawing way ran h = h
-done-converted Telling Listing ran h = h
-done-converted Telling Assembling ran h = h
-
-quit-converted : (stage : Stage) (way : Way) (ran : ℕ) → EndsConversion stage way (answer.Quit ran) → ⊥
-quit-converted Opening way ran h = h
-quit-converted Reading Listing ran h = h
-quit-converted Reading Assembling ran h = h
-quit-converted Listening way ran h = h
-quit-converted Making way ran h = h
-quit-converted Running way ran h = h
-quit-converted Finishing way ran h = h
-quit-converted Saving way ran h = h
-quit-converted Drawing way ran h = h
-quit-converted Telling Listing ran h = h
-quit-converted Telling Assembling ran h = h
-
--- an answer that is none of the other commands' is a run's
-a-run : (tells : Role → Bool) (before now : Meanings) (words : List (List ℕ)) (result : Status) → bad_word words ≡ None → Promise tells before now words result → (EndsMaking (make_of words).number result → ⊥) → ((stage : Stage) (way : Way) → EndsConversion stage way result → ⊥) → verb_of words ≡ ToRun
-a-run tells before now words result right p made converted = go (verb_of words) refl
-  where
-    go : (verb : Verb) → verb_of words ≡ verb → verb ≡ ToRun
-    go ToRun is = refl
-    go ToMake is = absurd (made (p.makes is right).answer)
-    go ToList is = let x = p.converts Listing is right in absurd (converted x.0 Listing x.1.answer)
-    go ToAssemble is = let x = p.converts Assembling is right in absurd (converted x.0 Assembling x.1.answer)
-
-done-run : (tells : Role → Bool) (before now : Meanings) (words : List (List ℕ)) (ran : ℕ) → bad_word words ≡ None → Promise tells before now words (answer.Done ran) → verb_of words ≡ ToRun
-done-run tells before now words ran right p = a-run tells before now words (answer.Done ran) right p (λ made. made) (λ stage way. done-converted stage way ran)
-
-quit-run : (tells : Role → Bool) (before now : Meanings) (words : List (List ℕ)) (ran : ℕ) → bad_word words ≡ None → Promise tells before now words (answer.Quit ran) → verb_of words ≡ ToRun
-quit-run tells before now words ran right p = a-run tells before now words (answer.Quit ran) right p (λ made. made) (λ stage way. quit-converted stage way ran)
-
 -- a run that was parked, and what was written of it
 module _ (tells : Role → Bool) (before now : Meanings) (row : Row) (status : Status) (told : TellsHeadline tells) (ran : ℕ) (end : Step) where
   parked : (r : RunOf (bytes_of (now.roles Image)) (bytes_of (now.roles Events)) row.steps (RunsTo tells before now row Telling status)) (e : Ending) → ending r.lines row.steps (model_state r.head.state) r.heap ≡ e → IsParkedBy end ran e → (now.roles Transcript).put ≡ (before.roles Transcript).put ++ said_in e
@@ -153,18 +106,18 @@ module _ (tells : Role → Bool) (before now : Meanings) (row : Row) (status : S
 at-end : {tells : Role → Bool} {before now : Meanings} {row : Row} {status : Status} (stage : Stage) → EndsAt tells before now row stage status → stage ≡ Telling → EndsAt tells before now row Telling status
 at-end {tells} {before} {now} {row} {status} stage at same = subst (λ s. EndsAt tells before now row s status) same at
 
-pub headline_from : (tells : Role → Bool) (before now : Meanings) (words : List (List ℕ)) (result : Status) → TellsHeadline tells → Promise tells before now words result → bad_word words ≡ None → HeadlineBy result before now (row_of words).steps
-headline_from tells before now words (answer.Done ran) told p right =
-    let e = p.ends (done-run tells before now words ran right p) right in
+pub headline_from : (tells : Role → Bool) (before now : Meanings) (words : List (List ℕ)) (result : Status) → TellsHeadline tells → Promise tells before now words result → verb_of words ≡ ToRun → bad_word words ≡ None → HeadlineBy result before now (row_of words).steps
+headline_from tells before now words (answer.Done ran) told p asks right =
+    let e = p.ends asks right in
     let at = at-end e.0 e.1 (done-last e.0 ran e.1.answer) in
     let r = at.run told.image told.events told.work refl in
     of-run tells before now (row_of words) (answer.Done ran) told ran Next r (r.run.goes refl)
-headline_from tells before now words (answer.Quit ran) told p right =
-    let e = p.ends (quit-run tells before now words ran right p) right in
+headline_from tells before now words (answer.Quit ran) told p asks right =
+    let e = p.ends asks right in
     let at = at-end e.0 e.1 (quit-last e.0 ran e.1.answer) in
     let r = at.run told.image told.events told.work refl in
     of-run tells before now (row_of words) (answer.Quit ran) told ran Quit r (r.run.goes refl)
-headline_from tells before now words _ told p right = tt
+headline_from tells before now words _ told p asks right = tt
 
 -- ---- what the run made
 
@@ -182,11 +135,11 @@ small-of {tells} {before} {now} {row} {status} r = record {
   run = small-rows row.core r.lines row.steps (model_state r.head.state) r.heap (ending r.lines row.steps (model_state r.head.state) r.heap) refl (r.run.fits refl);
 }
 
-pub small_from : (tells : Role → Bool) (before now : Meanings) (words : List (List ℕ)) (result : Status) → IsTrue (tells Image) → IsTrue (tells Events) → IsTrue (tells Work) → Promise tells before now words result → bad_word words ≡ None → SmallBy result now (row_of words)
-small_from tells before now words (answer.Done ran) image events work p right =
-    let e = p.ends (done-run tells before now words ran right p) right in
+pub small_from : (tells : Role → Bool) (before now : Meanings) (words : List (List ℕ)) (result : Status) → IsTrue (tells Image) → IsTrue (tells Events) → IsTrue (tells Work) → Promise tells before now words result → verb_of words ≡ ToRun → bad_word words ≡ None → SmallBy result now (row_of words)
+small_from tells before now words (answer.Done ran) image events work p asks right =
+    let e = p.ends asks right in
     small-of ((at-end e.0 e.1 (done-last e.0 ran e.1.answer)).run image events work refl)
-small_from tells before now words (answer.Quit ran) image events work p right =
-    let e = p.ends (quit-run tells before now words ran right p) right in
+small_from tells before now words (answer.Quit ran) image events work p asks right =
+    let e = p.ends asks right in
     small-of ((at-end e.0 e.1 (quit-last e.0 ran e.1.answer)).run image events work refl)
-small_from tells before now words _ image events work p right = tt
+small_from tells before now words _ image events work p asks right = tt

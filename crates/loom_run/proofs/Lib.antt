@@ -2,6 +2,8 @@ pub mod CompletesLaws
 pub mod ConvertLaws
 pub mod ConvertSteps
 pub mod EndsLaws
+pub mod FollowLaws
+pub mod FollowSteps
 pub mod Frames
 pub mod HeadlineLaws
 pub mod Lines
@@ -13,9 +15,15 @@ pub mod ReadLaws
 pub mod RefusalLaws
 pub mod RunLaws
 pub mod SavedLaws
+pub mod ShowsLaws
 pub mod SpellingLaws
 pub mod StepLaws
 pub mod TellingLaws
 pub mod TraceLaws
+pub mod TracedCompletes
+pub mod TracedEnds
+pub mod TracedRun
+pub mod TracedTelling
+pub mod TracedUses
 pub mod UsesLaws
 pub mod WrittenLaws

@@ -65,15 +65,15 @@ bounds-later row None b has same = absurd has
 bounds-later row (Some x) None has same = absurd same
 bounds-later row (Some x) (Some y) has same = (same.0 ∙ has.0, same.1 ∙ has.1, same.2 ∙ has.2)
 
-fits-row : (row : Row) (o : Option Bounds) (words entries : ℕ) → AreBounds row o → ForBounds o (λ b. Fits b.core b.entries words entries → ⊥) → Fits row.core row.entries words entries → ⊥
+pub fits-row : (row : Row) (o : Option Bounds) (words entries : ℕ) → AreBounds row o → ForBounds o (λ b. Fits b.core b.entries words entries → ⊥) → Fits row.core row.entries words entries → ⊥
 fits-row row None words entries has unfit fits = has
 fits-row row (Some b) words entries has unfit fits = unfit (subst (λ k. Fits k b.entries words entries) (sym has.0) (subst (λ k. Fits row.core k words entries) (sym has.1) fits))
 
-full-row : (P : Bounds → Type 0) (row : Row) (o : Option Bounds) (live room : ℕ) → AreBounds row o → ForBounds o (λ b. (b.room ≡ room) × (room < live) × P b) → (room ≡ row.room) × (row.room < live)
+pub full-row : (P : Bounds → Type 0) (row : Row) (o : Option Bounds) (live room : ℕ) → AreBounds row o → ForBounds o (λ b. (b.room ≡ room) × (room < live) × P b) → (room ≡ row.room) × (row.room < live)
 full-row P row None live room has full = absurd has
 full-row P row (Some b) live room has full = let same : room ≡ row.room = sym full.0 ∙ has.2 in (same, subst (λ k. k < live) same full.1)
 
-bounded : (row : Row) (o : Option Bounds) → AreBounds row o → NoBounds o → ⊥
+pub bounded : (row : Row) (o : Option Bounds) → AreBounds row o → NoBounds o → ⊥
 bounded row None has none = has
 bounded row (Some b) has none = none
 
@@ -140,6 +140,10 @@ module _ {H : Type 0} (host : Ghosts H) (m n : LoomMemory H) (row : Row) (ran : 
 
 -- ---- the other roles
 
+pub file-of : (told : Bool) (s t : RoleState) (i k : ℕ) → IsTrue told → others_of told Work s i ≡ others_of told Work t k → s ≡ holds s.contents t
+file-of true s t i k told e = ap (λ (o : Others). holds s.contents o.role) e
+file-of false s t i k told e = let no : ◌≡◌ {A = Bool} false true = told in absurd (cc)
+
 module _ {H : Type 0} (host : Ghosts H) (m n : LoomMemory H) (same : loom_outside host n ≡ loom_outside host m) where
   others-at : (r : Role) → loom_outside host n r ≡ loom_outside host m r
   others-at r = ap (λ (f : Role → Others). f r) same
@@ -169,10 +173,6 @@ module _ {H : Type 0} (host : Ghosts H) (m n : LoomMemory H) (same : loom_outsid
       later Display = stays Display (λ e. cc, (λ e. cc, tt))
       later Transcript = bounds.4
       later Notes = stays Notes (λ e. cc, (λ e. cc, tt))
-
-  file-of : (told : Bool) (s t : RoleState) (i k : ℕ) → IsTrue told → others_of told Work s i ≡ others_of told Work t k → s ≡ holds s.contents t
-  file-of true s t i k told e = ap (λ (o : Others). holds s.contents o.role) e
-  file-of false s t i k told e = let no : ◌≡◌ {A = Bool} false true = told in absurd (cc)
 
   pub file-left : IsTrue (host.tells Work) → IsSameFile (host.roles m.disk.host.now Work) (host.roles n.disk.host.now Work)
   unfolding loom_outside

@@ -1,6 +1,5 @@
 -- A making, and the last line behind it. It ends in one of three ways (`ended`), and each law goes by them.
-use Rattle.std.proofs.Common.{◌≡◌, ◌⊎◌, ℕ, Bool, true, false, List, [], ◌∷◌, IsTrue, None, Some, Option, inl, inr, refl, sym, ◌∙◌, ap, subst, arith}
-use Rattle.std.specs.Prelude.{IsSome}
+use Rattle.std.proofs.Common.{◌≡◌, ◌⊎◌, ℕ, Bool, List, [], ◌∷◌, IsTrue, None, inl, inr, refl, sym, ◌∙◌, ap, subst, arith}
 use Rattle.long_names.specs.Counting.{Rose}
 use Rattle.long_names.specs.Heap.{object_count}
 use Rattle.loom_gen.specs.Generated.{generated}
@@ -13,10 +12,10 @@ use Rattle.loom_run.specs.Parts.{IsTold, unsaid}
 use Rattle.loom_run.specs.Promise.{Promise}
 use Rattle.loom_words.specs.Status.{usage_of}
 use Rattle.loom_run.specs.Steps.{IsOfMaking, MakeEnds}
-use Rattle.loom_words.specs.Words.{MakeRow, ToMake, ToRun, Verb, bad_word, make_of, verb_of}
+use Rattle.loom_words.specs.Words.{MakeRow, ToMake, ToRun, ToTrace, Verb, bad_word, make_of, verb_of}
 use Rattle.loom_words.specs.declared.status.Status.{Status}
 use Rattle.loom_words.specs.declared.status.Status.TheVariants as answer
-use Rattle.loom_run.proofs.ConvertLaws.{converts-not}
+use Rattle.loom_run.proofs.ConvertLaws.{asks-other, converts-not, right-some}
 use Rattle.loom_run.proofs.Lines.{noted-own, told-since}
 use Rattle.loom_run.proofs.UsesLaws.{left-then}
 
@@ -124,19 +123,16 @@ module _ (tells : Role → Bool) (before mid now : Meanings) (row : MakeRow) (le
 
 -- ---- the promise
 
-right-some : {P : Type 0} (o : Option ℕ) → o ≡ None → IsSome o → P
-right-some None e some = let no : ◌≡◌ {A = Bool} false true = some in absurd (cc)
-right-some (Some word) e some = let no : ◌≡◌ {A = Option ℕ} (Some word) None = e in absurd (cc)
-
 pub promise-made : (tells : Role → Bool) (before mid now : Meanings) (words : List (List ℕ)) (status result : Status) → verb_of words ≡ ToMake → bad_word words ≡ None → MakeEnds tells before mid (make_of words) status → LeavesBut (Notes ∷ []) mid now → IsTold (tells Notes) status result mid now → Promise tells before now words result
 promise-made tells before mid now words status result asks right ends leaves is =
     let a = after tells before mid now (make_of words) leaves (tells Notes) ends.untold status result ends (told-since status result before mid now ends.untold is) in
     record {
       usage = a.usage ∙ sym right;
       unasked = right-some (bad_word words) right;
-      ends = λ run none. (let no : ◌≡◌ {A = Verb} ToMake ToRun = sym asks ∙ run in absurd (cc));
+      ends = λ run none. asks-other words ToMake ToRun asks (λ e. cc) run;
       makes = λ make none. a.makes;
-      converts = λ way asked none. converts-not way words ToMake asks (inr refl) asked;
+      converts = λ way asked none. converts-not way words ToMake asks (λ e. cc) (λ e. cc) asked;
+      traces = λ trace none. asks-other words ToMake ToTrace asks (λ e. cc) trace;
       noted = λ tell. subst (λ (verb : Verb). NotedBy result (HasBegunFor verb words) before now) (sym asks) (a.noted tell);
       later = a.makes.others.later;
     }

@@ -9,12 +9,14 @@ use Rattle.loom_run.specs.declared.converting.Way.TheVariants.{Listing, Assembli
 use Rattle.loom_run.specs.Makes.{Makes}
 use Rattle.loom_run.specs.Meanings.{Meanings, IsLeft, LeavesBut}
 use Rattle.loom_run.specs.Promise.{EndsAt, Promise}
-use Rattle.loom_run.specs.Refusals.{CameTo, LeavesFiles, role_of}
+use Rattle.loom_run.specs.Refusals.{CameTo, LeavesFiles, LeavesTraced, role_of}
 use Rattle.loom_run.specs.Stages.{Stage, Opening, Reading, Listening, Making, Running, Finishing, Saving, Drawing, Telling, Ends, reaches, stage_of}
+use Rattle.loom_run.specs.Traced.{EndsTrace, TracesAt, is_untraced}
 use Rattle.loom_words.specs.Status.{usage_of}
-use Rattle.loom_words.specs.Words.{MakeRow, Paths, Row, ToAssemble, ToList, ToMake, ToRun, Verb, bad_word, make_of, row_of, verb_of}
+use Rattle.loom_words.specs.Words.{MakeRow, Paths, Row, ToAssemble, ToList, ToMake, ToRun, ToTrace, Verb, bad_word, make_of, row_of, verb_of}
 use Rattle.loom_words.specs.declared.status.Status.{Status}
 use Rattle.loom_words.specs.declared.status.Status.TheVariants as answer
+use Rattle.loom_run.proofs.UsesLaws.{never}
 
 -- ---- an answer comes at no stage before the one of its role
 
@@ -174,33 +176,73 @@ module _ {tells : Role → Bool} {before now : Meanings} {way : Way} {paths : Pa
   conversion-leaves Finishing status h at = absurd h
   conversion-leaves Drawing status h at = absurd h
 
--- words that are no command leave all but Notes
-unasked : (tells : Role → Bool) (before now : Meanings) (words : List (List ℕ)) (result : Status) → Promise tells before now words result → IsSome (bad_word words) → LeavesFiles result before now
-unasked tells before now words result p some = of result (p.unasked some)
-  where
-    of : (status : Status) → LeavesBut (Notes ∷ []) before now → LeavesFiles status before now
-    of (answer.Done ran) l = tt
-    of (answer.Quit ran) l = tt
-    of (answer.Made objects) l = l.others Display (λ e. cc, tt)
-    of (answer.Listed objects) l = l.others Display (λ e. cc, tt)
-    of (answer.Assembled objects) l = l.others Display (λ e. cc, tt)
-    of (answer.WriteFault Saved count) l = l.others Display (λ e. cc, tt)
-    of (answer.WriteFault Display count) l = tt
-    of (answer.WriteFault Notes count) l = tt
-    of (answer.WorkFault count) l = l.others Display (λ e. cc, tt)
-    of (answer.Damaged place name) l = l.others Display (λ e. cc, tt)
-    of answer.OutOfMemory l = l.others Display (λ e. cc, tt)
-    of _ l = (l.others Saved (λ e. cc, tt), l.others Display (λ e. cc, tt))
+-- a trace leaves Display, and Saved where it came before the lines
+module _ {tells : Role → Bool} {before now : Meanings} {row : Row} where
+  undrawn-trace : {status : Status} (stage : Stage) → TracesAt tells before now row stage status → IsLeft Display before now
+  undrawn-trace stage at = at.unused Display refl
 
-pub leaves_from : (tells : Role → Bool) (before now : Meanings) (words : List (List ℕ)) (result : Status) → Promise tells before now words result → LeavesFiles result before now
-leaves_from tells before now words result p = go (bad_word words) refl
+  untraced : {status : Status} (stage : Stage) → TracesAt tells before now row stage status → IsTrue (is_untraced Saved stage) → IsLeft Saved before now × IsLeft Display before now
+  untraced stage at none = (at.unused Saved none, at.unused Display refl)
+
+  trace-leaves : (stage : Stage) (status : Status) → EndsTrace stage status → TracesAt tells before now row stage status → LeavesTraced status before now
+  trace-leaves Opening (answer.WorkFault count) h at = undrawn-trace Opening at
+  trace-leaves Opening _ h at = absurd h
+  trace-leaves Reading (answer.ImageBad rule place) h at = untraced Reading at refl
+  trace-leaves Reading (answer.ReadFault Image count) h at = untraced Reading at refl
+  trace-leaves Reading (answer.WorkFull live room) h at = undrawn-trace Reading at
+  trace-leaves Reading (answer.WorkFault count) h at = undrawn-trace Reading at
+  trace-leaves Reading (answer.Damaged place name) h at = undrawn-trace Reading at
+  trace-leaves Reading answer.OutOfMemory h at = undrawn-trace Reading at
+  trace-leaves Reading _ h at = absurd h
+  trace-leaves Listening (answer.EventsBad line) h at = untraced Listening at refl
+  trace-leaves Listening (answer.ReadFault Events count) h at = untraced Listening at refl
+  trace-leaves Listening answer.OutOfMemory h at = undrawn-trace Listening at
+  trace-leaves Listening _ h at = absurd h
+  trace-leaves Making (answer.WriteFault Saved count) h at = undrawn-trace Making at
+  trace-leaves Making answer.OutOfMemory h at = undrawn-trace Making at
+  trace-leaves Making _ h at = absurd h
+  trace-leaves Running (answer.Stuck cause ran) h at = undrawn-trace Running at
+  trace-leaves Running (answer.CoreFull ran need) h at = undrawn-trace Running at
+  trace-leaves Running (answer.NamesSpent ran) h at = undrawn-trace Running at
+  trace-leaves Running (answer.WorkFull live room) h at = undrawn-trace Running at
+  trace-leaves Running (answer.WorkFault count) h at = undrawn-trace Running at
+  trace-leaves Running (answer.WriteFault Transcript count) h at = undrawn-trace Running at
+  trace-leaves Running (answer.WriteFault Saved count) h at = undrawn-trace Running at
+  trace-leaves Running (answer.Damaged place name) h at = undrawn-trace Running at
+  trace-leaves Running _ h at = absurd h
+  trace-leaves Telling (answer.Done ran) h at = undrawn-trace Telling at
+  trace-leaves Telling (answer.Quit ran) h at = undrawn-trace Telling at
+  trace-leaves Telling (answer.WriteFault Notes count) h at = undrawn-trace Telling at
+  trace-leaves Telling _ h at = absurd h
+  trace-leaves Finishing status h at = absurd h
+  trace-leaves Saving status h at = absurd h
+  trace-leaves Drawing status h at = absurd h
+
+-- words that are no command leave all but Notes
+unasked : {before now : Meanings} (status : Status) → IsSome (usage_of status) → LeavesBut (Notes ∷ []) before now → LeavesFiles status before now × LeavesTraced status before now
+unasked (answer.Usage word) is l = ((l.others Saved (λ e. cc, tt), l.others Display (λ e. cc, tt)), (l.others Saved (λ e. cc, tt), l.others Display (λ e. cc, tt)))
+unasked _ is l = never is
+
+unasked-leaves : (tells : Role → Bool) (before now : Meanings) (words : List (List ℕ)) (result : Status) (word : ℕ) → Promise tells before now words result → bad_word words ≡ Some word → LeavesFiles result before now × LeavesTraced result before now
+unasked-leaves tells before now words result word p is = unasked result (subst IsSome (sym (p.usage ∙ is)) refl) (p.unasked (subst IsSome (sym is) refl))
+
+pub leaves_from : (tells : Role → Bool) (before now : Meanings) (words : List (List ℕ)) (result : Status) → Promise tells before now words result → verb_of words ≢ ToTrace → LeavesFiles result before now
+leaves_from tells before now words result p other = go (bad_word words) refl
   where
     right : (verb : Verb) → verb_of words ≡ verb → bad_word words ≡ None → LeavesFiles result before now
     right ToRun asks e = let end = p.ends asks e in leaves end.0 result end.1.answer end.1
     right ToMake asks e = made-leaves tells before now (make_of words) result (p.makes asks e)
     right ToList asks e = let end = p.converts Listing asks e in conversion-leaves end.0 result end.1.answer end.1
     right ToAssemble asks e = let end = p.converts Assembling asks e in conversion-leaves end.0 result end.1.answer end.1
+    right ToTrace asks e = absurd (other asks)
 
     go : (o : Option ℕ) → bad_word words ≡ o → LeavesFiles result before now
     go None e = right (verb_of words) refl e
-    go (Some word) e = unasked tells before now words result p (subst IsSome (sym e) refl)
+    go (Some word) e = (unasked-leaves tells before now words result word p e).0
+
+pub traced_leaves_from : (tells : Role → Bool) (before now : Meanings) (words : List (List ℕ)) (result : Status) → Promise tells before now words result → verb_of words ≡ ToTrace → LeavesTraced result before now
+traced_leaves_from tells before now words result p asks = go (bad_word words) refl
+  where
+    go : (o : Option ℕ) → bad_word words ≡ o → LeavesTraced result before now
+    go None e = let end = p.traces asks e in trace-leaves end.0 result end.1.answer end.1
+    go (Some word) e = (unasked-leaves tells before now words result word p e).1

@@ -1,6 +1,6 @@
 -- The last line, put behind a run: the promise is that of the run, with the answer that the line left.
-use Rattle.std.proofs.Common.{◌≡◌, ◌≢◌, ℕ, Bool, true, false, List, [], ◌∷◌, Option, None, Some, IsTrue, inl, inr, refl, sym, ◌∙◌, ap, subst, arith}
-use Rattle.std.specs.Prelude.{◌⊎◌, IfSome, IsFalse, IsSome}
+use Rattle.std.proofs.Common.{◌≡◌, ◌≢◌, ℕ, Bool, List, [], ◌∷◌, Option, None, Some, IsTrue, inl, inr, refl, sym, ◌∙◌, ap, subst, arith}
+use Rattle.std.specs.Prelude.{◌⊎◌, IfSome, IsFalse}
 use Rattle.long_names.specs.Counting.{Rose}
 use Rattle.loom_outside.specs.Outside.{PutPrefix, RoleState}
 use Rattle.loom_outside.specs.declared.outside.Role.{Role}
@@ -19,10 +19,10 @@ use Rattle.loom_run.specs.Promise.{EndsAt, Promise}
 use Rattle.loom_run.specs.Stages.{Stage, Telling, Saving, Drawing, passes, reaches, stage_of}
 use Rattle.loom_words.specs.Status.{line_of, usage_of}
 use Rattle.loom_run.specs.Steps.{IsOfRun, RunEnds}
-use Rattle.loom_words.specs.Words.{Row, ToMake, ToRun, Verb, bad_word, row_of, verb_of}
+use Rattle.loom_words.specs.Words.{Row, ToMake, ToRun, ToTrace, Verb, bad_word, row_of, verb_of}
 use Rattle.loom_words.specs.declared.status.Status.{Status}
 use Rattle.loom_words.specs.declared.status.Status.TheVariants as answer
-use Rattle.loom_run.proofs.ConvertLaws.{converts-not}
+use Rattle.loom_run.proofs.ConvertLaws.{asks-other, converts-not, right-some}
 use Rattle.loom_run.proofs.HeadlineLaws.{assembled-never, done-last, listed-never, made-never, quit-last}
 use Rattle.loom_run.proofs.Lines.{noted-own, noted-run}
 use Rattle.loom_run.proofs.UsesLaws.{left-then}
@@ -31,13 +31,13 @@ use Rattle.loom_run.proofs.WrittenLaws.{cuts-none}
 -- ---- what the line leaves
 
 module _ (mid now : Meanings) (leaves : LeavesBut (Notes ∷ []) mid now) where
-  left : (role : Role) → role ≢ Notes → IsLeft role mid now
+  pub left : (role : Role) → role ≢ Notes → IsLeft role mid now
   left role other = leaves.others role (other, tt)
 
-  same : (role : Role) → role ≢ Notes → now.roles role ≡ mid.roles role
+  pub same : (role : Role) → role ≢ Notes → now.roles role ≡ mid.roles role
   same role other = (left role other).state
 
-  cause-now : (status : Status) (before : Role → ℕ) → IsOfRun status → IsCaused status before mid.faults → IsCaused status before now.faults
+  pub cause-now : (status : Status) (before : Role → ℕ) → IsOfRun status → IsCaused status before mid.faults → IsCaused status before now.faults
   cause-now (answer.Done ran) before of_run h = tt
   cause-now (answer.Quit ran) before of_run h = tt
   cause-now (answer.Made objects) before of_run h = tt
@@ -57,7 +57,7 @@ module _ (mid now : Meanings) (leaves : LeavesBut (Notes ∷ []) mid now) where
   cause-now answer.OutOfMemory before of_run h = tt
   cause-now (answer.Damaged place name) before of_run h = tt
 
-  once : (text : List ℕ) (before : RoleState) (role : Role) → role ≢ Notes → AttachedOnce text before (mid.roles role) → AttachedOnce text before (now.roles role)
+  pub once : (text : List ℕ) (before : RoleState) (role : Role) → role ≢ Notes → AttachedOnce text before (mid.roles role) → AttachedOnce text before (now.roles role)
   once text before role other x = subst (AttachedOnce text before) (sym (same role other)) x
 
   unless : (before : Meanings) (role : Role) → role ≢ Notes → (role ≡ Notes) ⊎ IsLeft role before mid → (role ≡ Notes) ⊎ IsLeft role before now
@@ -190,7 +190,7 @@ module _ (tells : Role → Bool) (before now : Meanings) (row : Row) (rose : Ros
 
 -- ---- the promise
 
-usage-none : (status : Status) → IsOfRun status → usage_of status ≡ None
+pub usage-none : (status : Status) → IsOfRun status → usage_of status ≡ None
 usage-none (answer.Done ran) h = refl
 usage-none (answer.Quit ran) h = refl
 usage-none (answer.Made objects) h = refl
@@ -210,7 +210,7 @@ usage-none (answer.WriteFault role count) h = refl
 usage-none answer.OutOfMemory h = refl
 usage-none (answer.Damaged place name) h = refl
 
-usage-unsaid : (status : Status) (count : ℕ) → IsOfRun status → usage_of (unsaid status count) ≡ None
+pub usage-unsaid : (status : Status) (count : ℕ) → IsOfRun status → usage_of (unsaid status count) ≡ None
 usage-unsaid (answer.Done ran) count h = refl
 usage-unsaid (answer.Quit ran) count h = refl
 usage-unsaid (answer.Made objects) count h = refl
@@ -241,20 +241,14 @@ module _ (tells : Role → Bool) (before mid now : Meanings) (words : List (List
   usage (inl whole) = ap usage_of whole.answer ∙ usage-none status run.of_run
   usage (inr cut) = ap usage_of cut.answer ∙ usage-unsaid status (now.faults Notes) run.of_run
 
-  other-verb : {P : Type 0} → verb_of words ≡ ToMake → P
-  other-verb make = let no : ◌≡◌ {A = Verb} ToRun ToMake = sym asks ∙ make in absurd (cc)
-
-  asked : (o : Option ℕ) → o ≡ None → IsSome o → LeavesBut (Notes ∷ []) before now
-  asked None e some = let no : ◌≡◌ {A = Bool} false true = some in absurd (cc)
-  asked (Some word) e some = let no : ◌≡◌ {A = Option ℕ} (Some word) None = e in absurd (cc)
-
   pub promise-told : IsTold (tells Notes) status result mid now → Promise tells before now words result
   promise-told told = record {
     usage = usage told ∙ sym right;
-    unasked = asked (bad_word words) right;
+    unasked = right-some (bad_word words) right;
     ends = λ run none. ends told;
-    makes = λ make. other-verb make;
-    converts = λ way asked. converts-not way words ToRun asks (inl refl) asked;
+    makes = λ make. asks-other words ToRun ToMake asks (λ e. cc) make;
+    converts = λ way asked. converts-not way words ToRun asks (λ e. cc) (λ e. cc) asked;
+    traces = λ trace. asks-other words ToRun ToTrace asks (λ e. cc) trace;
     noted = λ tells. subst (λ (verb : Verb). NotedBy result (HasBegunFor verb words) before now) (sym asks) (noted-run status result (row_of words).steps before mid now run.of_run run.at.ran run.untold told tells);
     later = λ role. let first = run.later role in let then = leaves.later role in omega (arith, first, then);
   }
@@ -275,6 +269,7 @@ promise-usage tells before now words word result bad told leaves = record {
   ends = λ run none. some-none word (bad_word words) bad none;
   makes = λ make none. some-none word (bad_word words) bad none;
   converts = λ way asked none. some-none word (bad_word words) bad none;
+  traces = λ trace none. some-none word (bad_word words) bad none;
   noted = λ tell. let own = noted-own (answer.Usage word) result before now refl told tell in subst (λ s. NotedBy s (HasBegunFor (verb_of words) words) before now) (sym own.0) own.1;
   later = leaves.later;
 }

@@ -30,7 +30,7 @@ use Rattle.machine_run.specs.declared.tracing.Sight.{Sight}
 use Rattle.machine_run.proofs.CourseLaws.{run_on}
 use Rattle.machine_run.proofs.RunningLaws.{faults_earlier, reaches_more, reaches_start, stops_on}
 use Rattle.loom_words.specs.Trace.{trace_text}
-use Rattle.loom_run.specs.Traces.{CutsIn, EndsBy, HasTraced, IsUnwritten, PutsLines, PutsText, TraceFit, TraceSound, TracesAs, line_after, line_by, line_in, trace_of}
+use Rattle.loom_run.specs.Traces.{CutsIn, EndsBy, HasTraced, IsUnwritten, OnlyPut, PutsLines, PutsText, TraceFit, TraceSound, TracesAs, line_after, line_by, line_in, trace_of}
 use Rattle.loom_run.specs.declared.tracing.TraceStop.{TraceStop}
 use Rattle.loom_run.specs.declared.tracing.TraceStop.TheVariants.{Stop, Write}
 
@@ -55,6 +55,19 @@ puts-none s = ap (λ (bytes : List ℕ). record s { put = bytes }) (sym (append-
 
 pub puts-more : (a b : List ℕ) (s t u : RoleState) → t ≡ puts a s → u ≡ puts b t → u ≡ puts (a ++ b) s
 puts-more a b s t u first then = then ∙ ap (puts b) first ∙ ap (λ (bytes : List ℕ). record s { put = bytes }) (append_assoc s.put a b)
+
+-- only what was put changed
+pub only-puts : (bytes : List ℕ) (s t : RoleState) → t ≡ puts bytes s → OnlyPut s t
+only-puts bytes s t e = e ∙ ap (λ (p : List ℕ). record s { put = p }) (sym (ap (λ (r : RoleState). r.put) e))
+
+pub only-part : (bytes : List ℕ) (s t : RoleState) → PutPrefix bytes s t → OnlyPut s t
+only-part bytes s t part = only-puts (take part.0 bytes) s t part.2
+
+pub only-same : (s t : RoleState) → t ≡ s → OnlyPut s t
+only-same s t e = e ∙ ap (λ (p : List ℕ). record s { put = p }) (sym (ap (λ (r : RoleState). r.put) e))
+
+pub only-then : (s t u : RoleState) → OnlyPut s t → OnlyPut t u → OnlyPut s u
+only-then s t u first then = then ∙ ap (λ (r : RoleState). record r { put = u.put }) first
 
 -- the line that a buffer begins with
 pub line-text : (text rest out : List ℕ) (n : ℕ) → out ≡ text ++ rest → n ≡ length text → take n out ≡ text
@@ -182,6 +195,7 @@ fit-stopped host old new A stop sound same lender = record {
   lender = lender;
   others = others-left host old new same;
   faults = (let left = faults-left host old new same in omega arith);
+  only = λ saved. only-same (loom_outside host old Saved).role (loom_outside host new Saved).role (role-left host old new same Saved);
 }
 
 -- the line was cut
@@ -190,7 +204,10 @@ cut-sound before faults (Stop stop) P cut h = absurd cut
 cut-sound before faults (Write count) P cut h = h
 
 -- the memory after the cycle, and after its line
-module _ {H : Type 0} (host : Ghosts H) (old mid new : LoomMemory H) (same : loom_outside host mid ≡ loom_outside host old) (lender : loom_lender mid ≡ loom_lender old) (others : SameBut Saved (loom_outside host mid) (loom_outside host new)) (later : (loom_outside host mid Saved).faults ≤ (loom_outside host new Saved).faults) (lent : loom_lender new ≡ loom_lender mid) where
+module _ {H : Type 0} (host : Ghosts H) (old mid new : LoomMemory H) (same : loom_outside host mid ≡ loom_outside host old) (lender : loom_lender mid ≡ loom_lender old) (others : SameBut Saved (loom_outside host mid) (loom_outside host new)) (later : (loom_outside host mid Saved).faults ≤ (loom_outside host new Saved).faults) (lent : loom_lender new ≡ loom_lender mid) (only : IsTrue (host.tells Saved) → OnlyPut (loom_outside host mid Saved).role (loom_outside host new Saved).role) where
+  only-after : IsTrue (host.tells Saved) → OnlyPut (loom_outside host old Saved).role (loom_outside host new Saved).role
+  only-after saved = only-then (loom_outside host old Saved).role (loom_outside host mid Saved).role (loom_outside host new Saved).role (only-same (loom_outside host old Saved).role (loom_outside host mid Saved).role (role-left host old mid same Saved)) (only saved)
+
   others-after : SameBut Saved (loom_outside host old) (loom_outside host new)
   others-after = λ r other. others r other ∙ ap (λ (f : Role → Others). f r) same
 
@@ -204,6 +221,7 @@ module _ {H : Type 0} (host : Ghosts H) (old mid new : LoomMemory H) (same : loo
     lender = lent ∙ lender;
     others = others-after;
     faults = faults-after;
+    only = only-after;
   }
 
   -- and after the settling behind it
@@ -214,6 +232,7 @@ module _ {H : Type 0} (host : Ghosts H) (old mid new : LoomMemory H) (same : loo
     lender = borrowed ∙ lent ∙ lender;
     others = others-then Saved (loom_outside host old) (loom_outside host new) (loom_outside host last) others-after behind;
     faults = (let left = faults-left host new last behind in let far = faults-after in omega (arith, left, far));
+    only = λ saved. only-then (loom_outside host old Saved).role (loom_outside host new Saved).role (loom_outside host last Saved).role (only-after saved) (only-same (loom_outside host new Saved).role (loom_outside host last Saved).role (role-left host new last behind Saved));
   }
 
 -- ---- one cycle behind others
@@ -259,11 +278,12 @@ ends-earlier old mid new before between now (Write count) later low h = (h.0, ro
     rose-earlier a b c low h = omega arith
 
 -- what a cycle leaves, seen from further back
-pub fit-earlier : {H : Type 0} (host : Ghosts H) (old mid new : LoomMemory H) (r : Result Step TraceStop) → SameBut Saved (loom_outside host old) (loom_outside host mid) → loom_lender mid ≡ loom_lender old → (loom_outside host old Saved).faults ≤ (loom_outside host mid Saved).faults → TraceFit host mid new r → TraceFit host old new r
-fit-earlier host old mid new r others lender low x = record {
+pub fit-earlier : {H : Type 0} (host : Ghosts H) (old mid new : LoomMemory H) (r : Result Step TraceStop) → SameBut Saved (loom_outside host old) (loom_outside host mid) → loom_lender mid ≡ loom_lender old → (loom_outside host old Saved).faults ≤ (loom_outside host mid Saved).faults → (IsTrue (host.tells Saved) → OnlyPut (loom_outside host old Saved).role (loom_outside host mid Saved).role) → TraceFit host mid new r → TraceFit host old new r
+fit-earlier host old mid new r others lender low only x = record {
   sound = x.sound;
   ready = x.ready;
   lender = x.lender ∙ lender;
   others = λ role other. x.others role other ∙ others role other;
   faults = (let high = x.faults in omega (arith, low, high));
+  only = λ saved. only-then (loom_outside host old Saved).role (loom_outside host mid Saved).role (loom_outside host new Saved).role (only saved) (x.only saved);
 }

@@ -1,4 +1,4 @@
--- When a run comes to the model's own end, a making to its image, and a listing or an assembling to what it writes.
+-- When a run or a trace comes to the model's own end, a making to its image, and a listing or an assembling to what it writes.
 use Rattle.std.specs.Prelude.{◌≡◌, ℕ, ◌≤◌, List}
 use Rattle.long_names.specs.Counting.{Rose}
 use Rattle.long_names.specs.Heap.{Heap, object_count}

@@ -2,12 +2,15 @@ pub mod Base
 pub mod Completes
 pub mod Converts
 pub mod Ends
+pub mod Following
 pub mod Headline
 pub mod Makes
 pub mod Meanings
 pub mod Parts
 pub mod Promise
 pub mod Refusals
+pub mod Shows
 pub mod Stages
 pub mod Steps
+pub mod Traced
 pub mod Traces

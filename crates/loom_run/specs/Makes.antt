@@ -3,7 +3,7 @@ use Rattle.std.specs.Prelude.{◌≡◌, ℕ, Bool, true, false, List, [], ◌�
 use Rattle.long_names.specs.Heap.{object_count}
 use Rattle.image_format.specs.Text.{image_text}
 use Rattle.loom_gen.specs.Generated.{generated}
-use Rattle.loom_outside.specs.Outside.{RoleState, PutPrefix, ends}
+use Rattle.loom_outside.specs.Outside.{RoleState, PutPrefix}
 use Rattle.loom_outside.specs.declared.outside.Role.{Role}
 use Rattle.loom_outside.specs.declared.outside.Role.TheVariants.{Saved, Notes}
 use Rattle.loom_run.specs.Converts.{HasBegunCount}
@@ -11,7 +11,7 @@ use Rattle.loom_run.specs.declared.converting.Way.TheVariants.{Listing, Assembli
 use Rattle.loom_run.specs.Ends.{HasBegun, IsCaused, MadeBy}
 use Rattle.loom_run.specs.Meanings.{Meanings, LeavesBut}
 use Rattle.loom_words.specs.Status.{line_of}
-use Rattle.loom_words.specs.Words.{MakeRow, ToAssemble, ToList, ToMake, ToRun, Verb, make_of, row_of}
+use Rattle.loom_words.specs.Words.{MakeRow, ToAssemble, ToList, ToMake, ToRun, ToTrace, Verb, make_of, row_of, trace_row_of}
 use Rattle.loom_words.specs.declared.status.Status.{Status}
 use Rattle.loom_words.specs.declared.status.Status.TheVariants.{Made, WriteFault, OutOfMemory}
 
@@ -52,3 +52,4 @@ HasBegunFor ToRun words = HasBegun (row_of words).steps
 HasBegunFor ToMake words = HasBegunImage (make_of words).number
 HasBegunFor ToList words = HasBegunCount Listing
 HasBegunFor ToAssemble words = HasBegunCount Assembling
+HasBegunFor ToTrace words = HasBegun (trace_row_of words).steps

@@ -1,6 +1,7 @@
 -- What the program promises, over any host: read this first. Its words stand in `Stages` (the order of a run, and which answer comes
--- where), `Ends` (what it leaves of each role), `Makes` (the same of a making), `Converts` (of a listing and an assembling), `Words` (the rows of words), `Status` (the answers and their
--- lines) and `Meanings`. The machine's rules are those of `blue_model`, event lists those of `event_file`, images those of `image_format`.
+-- where), `Ends` (what it leaves of each role), `Makes` (the same of a making), `Converts` (of a listing and an assembling), `Traced` (of a
+-- trace), `Words` (the rows of words), `Status` (the answers and their lines) and `Meanings`. The machine's rules are those of `blue_model`,
+-- event lists those of `event_file`, images those of `image_format`.
 use Rattle.std.specs.Prelude.{◌≡◌, ◌⊎◌, ℕ, ◌≤◌, Bool, List, [], ◌∷◌, None, Some, IfSome, IsTrue, IsFalse, IsSome}
 use Rattle.loom_outside.specs.declared.outside.Role.{Role}
 use Rattle.loom_outside.specs.declared.outside.Role.TheVariants.{Image, Events, Work, Notes}
@@ -10,8 +11,9 @@ use Rattle.loom_run.specs.Makes.{HasBegunFor, Makes}
 use Rattle.loom_run.specs.Meanings.{Meanings, IsLeft, LeavesBut}
 use Rattle.loom_run.specs.declared.converting.Way.{Way}
 use Rattle.loom_run.specs.Stages.{Stage, Opening, Reading, Listening, Running, Ends, passes, reaches, stage_of}
+use Rattle.loom_run.specs.Traced.{TracesAt}
 use Rattle.loom_words.specs.Status.{usage_of}
-use Rattle.loom_words.specs.Words.{Row, ToMake, ToRun, bad_word, make_of, paths_of, row_of, verb_of}
+use Rattle.loom_words.specs.Words.{Row, ToMake, ToRun, ToTrace, bad_word, make_of, paths_of, row_of, trace_row_of, verb_of}
 use Rattle.loom_words.specs.declared.status.Status.{Status}
 use Rattle.blue_model.specs.declared.event.Line.{Line}
 
@@ -50,15 +52,17 @@ pub record EndsAt (tells : Role → Bool) (before now : Meanings) (row : Row) (s
 pub record Promise (tells : Role → Bool) (before now : Meanings) (words : List (List ℕ)) (result : Status) : Type 0 where
   -- Usage comes exactly where a word is bad, missing or extra, and names the first such word; then nothing is done but the line on Notes.
   -- `right_words` of loom_words says which words are right: `run IMAGE EVENTS WORK SAVED DISPLAY CORE ENTRIES ROOM STEPS`, `make NUMBER FILE`,
-  -- `list IMAGE WORK TEXT`, and `asm TEXT WORK IMAGE`.
+  -- `list IMAGE WORK TEXT`, `asm TEXT WORK IMAGE`, and `trace IMAGE EVENTS WORK TEXT CORE ENTRIES ROOM STEPS`.
   pub usage : usage_of result ≡ bad_word words
   pub unasked : IsSome (bad_word words) → LeavesBut (Notes ∷ []) before now
   -- Where the words are right, a run ends at one of its stages,
   pub ends : verb_of words ≡ ToRun → bad_word words ≡ None → (stage : Stage) × EndsAt tells before now (row_of words) stage result
   -- a making as `Makes` says,
   pub makes : verb_of words ≡ ToMake → bad_word words ≡ None → Makes tells before now (make_of words) result
-  -- and a listing or an assembling at one of its stages, as `Converts` says.
+  -- a listing or an assembling at one of its stages, as `Converts` says,
   pub converts : (way : Way) → verb_of words ≡ verb_for way → bad_word words ≡ None → (stage : Stage) × ConvertsAt tells before now way (paths_of words) stage result
+  -- and a trace at one of its stages, as `Traced` says.
+  pub traces : verb_of words ≡ ToTrace → bad_word words ≡ None → (stage : Stage) × TracesAt tells before now (trace_row_of words) stage result
   -- Notes has the answer's line, or a prefix of it where Notes failed. Only Done, Quit, Made, Listed and Assembled become another answer then.
   pub noted : IsTrue (tells Notes) → NotedBy result (HasBegunFor (verb_of words) words) before now
   -- No count of faults falls.

@@ -54,3 +54,11 @@ LeavesFiles (WorkFault count) before now = IsLeft Display before now
 LeavesFiles (Damaged place name) before now = IsLeft Display before now
 LeavesFiles OutOfMemory before now = IsLeft Display before now
 LeavesFiles _ before now = IsLeft Saved before now × IsLeft Display before now
+
+-- A trace has nothing to do with Display. Saved is as it was, where the answer comes at no stage but before it is attached for the lines.
+abbrev pub LeavesTraced : Status → Meanings → Meanings → Type 0
+LeavesTraced (Usage word) before now = IsLeft Saved before now × IsLeft Display before now
+LeavesTraced (ImageBad rule place) before now = IsLeft Saved before now × IsLeft Display before now
+LeavesTraced (EventsBad line) before now = IsLeft Saved before now × IsLeft Display before now
+LeavesTraced (ReadFault role count) before now = IsLeft Saved before now × IsLeft Display before now
+LeavesTraced _ before now = IsLeft Display before now

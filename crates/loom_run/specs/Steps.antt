@@ -80,6 +80,11 @@ abbrev pub IsUnopened : Status → Type 0
 IsUnopened (ReadFault Image count) = Unit {0}
 IsUnopened _ = ⊥
 
+-- nor Saved
+abbrev pub IsUnsaved : Status → Type 0
+IsUnsaved (WriteFault Saved count) = Unit {0}
+IsUnsaved _ = ⊥
+
 -- ---- what was read
 
 -- The bytes of Image are those of an image of this heap, with this state, whose objects have room.

@@ -1,5 +1,5 @@
 -- The trace of a run: a line for each of its bytecodes.
-use Rattle.std.specs.Prelude.{zero, suc, ◌≡◌, ℕ, ◌+◌, ◌≤◌, List, [], ◌++◌, Result, Ok, Err, OnOk}
+use Rattle.std.specs.Prelude.{zero, suc, ◌≡◌, ℕ, ◌+◌, ◌≤◌, List, [], ◌++◌, Result, Ok, Err, OnOk, IsTrue}
 use Rattle.long_names.specs.Counting.{Rose}
 use Rattle.loom_outside.specs.Outside.{RoleState, PutPrefix, SameBut, puts}
 use Rattle.loom_outside.specs.declared.outside.Host.{Ghosts}
@@ -99,6 +99,10 @@ TraceSound (Ok a) P = P
 TraceSound (Err (Stop stop)) P = StaysSound {A = Unit {0}} (Err stop) P
 TraceSound (Err (Write count)) P = P
 
+-- of a role nothing but what was put changed
+abbrev pub OnlyPut : RoleState → RoleState → Type 0
+OnlyPut old new = new ≡ record old { put = new.put }
+
 -- The memory may be called again, but after a fault that leaves nothing known. Its loan is as before, and all that it leaves of its host but
 -- Saved, whose faults don't fall.
 pub record TraceFit {H A : Type 0} (host : Ghosts H) (old new : LoomMemory H) (answer : Result A TraceStop) : Type 0 where
@@ -107,3 +111,4 @@ pub record TraceFit {H A : Type 0} (host : Ghosts H) (old new : LoomMemory H) (a
   pub lender : loom_lender new ≡ loom_lender old
   pub others : SameBut Saved (loom_outside host old) (loom_outside host new)
   pub faults : (loom_outside host old Saved).faults ≤ (loom_outside host new Saved).faults
+  pub only : IsTrue (host.tells Saved) → OnlyPut (loom_outside host old Saved).role (loom_outside host new Saved).role

@@ -1,5 +1,5 @@
 // Laws of the program. No code calls these functions: what each of them ensures is the law.
-ghost use Rattle.std.specs.Prelude.{◌<◌, ◌^◌, Bool, IsTrue, List, [], None, ◌≡◌, ℕ};
+ghost use Rattle.std.specs.Prelude.{◌<◌, ◌^◌, Bool, IsTrue, List, [], None, ◌≡◌, ◌≢◌, ℕ};
 ghost use Rattle.long_names.specs.Heap.{Heap};
 ghost use Rattle.long_names.specs.Kept.{kept, no_roots};
 ghost use Rattle.image_format.specs.declared.opening.ImageHead.{ImageHead};
@@ -36,9 +36,10 @@ ghost use Rattle.loom_run.specs.Ends.{IsImageOf, bytes_of, head_of, image_of};
 ghost use Rattle.loom_run.specs.Headline.{HeadlineBy, SmallBy, TellsHeadline};
 ghost use Rattle.loom_run.specs.Meanings.{Meanings};
 ghost use Rattle.loom_run.specs.Promise.{Promise};
-ghost use Rattle.loom_run.specs.Refusals.{CameTo, LeavesFiles, role_of};
+ghost use Rattle.loom_run.specs.Refusals.{CameTo, LeavesFiles, LeavesTraced, role_of};
+ghost use Rattle.loom_run.specs.Shows.{ShowsBy, TellsTrace};
 ghost use Rattle.loom_words.specs.Status.{usage_of};
-ghost use Rattle.loom_words.specs.Words.{ToMake, ToRun, bad_word, make_of, row_of, verb_of};
+ghost use Rattle.loom_words.specs.Words.{ToMake, ToRun, ToTrace, bad_word, make_of, row_of, trace_row_of, verb_of};
 
 use loom_outside::Host;
 
@@ -48,18 +49,18 @@ pub fn base_text()
     ensures after { text_of_ending (ending [] 2 no_state (heap_running base_code)) ≡ base_bytes 11 }
 {}
 
-/// Over a host that tells what Image, Events, Work, Transcript, Saved and Display hold, what `loom` promises gives, with Done or Quit, the
-/// seven lines of `Headline`: the image's heap and state, the events' lines, the ending of the model's run over both, its count, and the
+/// Over a host that tells what Image, Events, Work, Transcript, Saved and Display hold, what `loom` promises of a run gives, with Done or Quit,
+/// the seven lines of `Headline`: the image's heap and state, the events' lines, the ending of the model's run over both, its count, and the
 /// bytes of Transcript, Saved and Display.
 pub fn headline()
-    ensures { (tells : Role → Bool) (before now : Meanings) (words : List (List ℕ)) (result : Status) → TellsHeadline tells → Promise tells before now words result → bad_word words ≡ None
+    ensures { (tells : Role → Bool) (before now : Meanings) (words : List (List ℕ)) (result : Status) → TellsHeadline tells → Promise tells before now words result → verb_of words ≡ ToRun → bad_word words ≡ None
         → HeadlineBy result before now (row_of words).steps }
 {}
 
-/// Where the model makes an object that takes more words than the core has, the answer is neither Done nor Quit.
+/// Where the model makes an object that takes more words than the core has, the answer of a run is neither Done nor Quit.
 pub fn no_object_is_larger_than_the_core()
     ensures { (tells : Role → Bool) (before now : Meanings) (words : List (List ℕ)) (result : Status) → IsTrue (tells Image) → IsTrue (tells Events) → IsTrue (tells Work)
-        → Promise tells before now words result → bad_word words ≡ None → SmallBy result now (row_of words) }
+        → Promise tells before now words result → verb_of words ≡ ToRun → bad_word words ≡ None → SmallBy result now (row_of words) }
 {}
 
 /// Right words of a run, an image and events that are right, a core and a work file with room for all that the model does with them, and no fault
@@ -67,6 +68,20 @@ pub fn no_object_is_larger_than_the_core()
 pub fn a_run_comes_to_its_end()
     ensures { (tells : Role → Bool) (before now : Meanings) (words : List (List ℕ)) (result : Status) → IsTrue (tells Image) → IsTrue (tells Events) → IsTrue (tells Work) → verb_of words ≡ ToRun → bad_word words ≡ None
         → Promise tells before now words result → CanEnd (bytes_of (now.roles Image)) (bytes_of (now.roles Events)) (row_of words) before.faults now.faults → IsOwnEnd result }
+{}
+
+/// Right words of a trace, and the same image, events, room and no fault, give the model's own end, or want of memory, too.
+pub fn a_trace_comes_to_its_end()
+    ensures { (tells : Role → Bool) (before now : Meanings) (words : List (List ℕ)) (result : Status) → IsTrue (tells Image) → IsTrue (tells Events) → IsTrue (tells Work) → verb_of words ≡ ToTrace → bad_word words ≡ None
+        → Promise tells before now words result → CanEnd (bytes_of (now.roles Image)) (bytes_of (now.roles Events)) (trace_row_of words) before.faults now.faults → IsOwnEnd result }
+{}
+
+/// Over a host that tells what Image, Events, Work, Saved and Transcript hold, what `loom` promises of a trace gives, with Done or Quit, what
+/// `Shows` says: the image's heap and state, the events' lines, the model's machine before its first bytecode and after so many, a line for
+/// each of them in Saved, and what they said in Transcript.
+pub fn a_trace_shows_the_run()
+    ensures { (tells : Role → Bool) (before now : Meanings) (words : List (List ℕ)) (result : Status) → TellsTrace tells → Promise tells before now words result → verb_of words ≡ ToTrace → bad_word words ≡ None
+        → ShowsBy result before now (trace_row_of words) }
 {}
 
 /// Right words of a making and no fault give Made, with as many objects as the image of the number has, or want of memory.
@@ -104,9 +119,11 @@ pub fn nothing_at_once()
         → CameTo tells before now (row_of words) (role_of result) }
 {}
 
-/// A refusal leaves Display as it was, unless it came in drawing or in the last line; and Saved too, unless it may come in saving.
+/// A refusal leaves Display as it was, unless it came in drawing or in the last line; and Saved too, unless it may come in saving. A trace always
+/// leaves Display, and Saved unless the answer may come once that is attached for the lines.
 pub fn what_a_refusal_leaves()
-    ensures { (tells : Role → Bool) (before now : Meanings) (words : List (List ℕ)) (result : Status) → Promise tells before now words result → LeavesFiles result before now }
+    ensures files { (tells : Role → Bool) (before now : Meanings) (words : List (List ℕ)) (result : Status) → Promise tells before now words result → verb_of words ≢ ToTrace → LeavesFiles result before now }
+    ensures traced { (tells : Role → Bool) (before now : Meanings) (words : List (List ℕ)) (result : Status) → Promise tells before now words result → verb_of words ≡ ToTrace → LeavesTraced result before now }
 {}
 
 /// What is saved of a parked machine is an image, where what is kept of its heap is one's. And what is read of those bytes, as the image of a

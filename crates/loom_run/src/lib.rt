@@ -1,12 +1,14 @@
 //! The program: an image and its events are read, so many bytecodes are run over the memory of two levels, and what was said, an image and
-//! a picture are written. Or a large image is made from a number, and written; or an image is written as text, or a text as its image.
+//! a picture are written. Or a large image is made from a number, and written; or an image is written as text, or a text as its image; or
+//! a run is written as a trace, a line for each bytecode.
 //!
 //! `loom` does what the words of a command ask for, over any host. Its one clause is the record `Promise`: read `specs/Promise.antt`
-//! first, or `specs/Headline.antt`, which has it in seven lines for a run that goes through, as the law `headline` says. When a run comes
-//! to the model's own end is the law `a_run_comes_to_its_end`.
+//! first, or `specs/Headline.antt`, which has it in seven lines for a run that goes through, as the law `headline` says, or `specs/Shows.antt`,
+//! the same for a trace (`a_trace_shows_the_run`). When a run comes to the model's own end is the law `a_run_comes_to_its_end`.
 //!
 //!     let status = loom(alloc, host, &words);   // run IMAGE EVENTS WORK SAVED DISPLAY CORE ENTRIES ROOM STEPS, make NUMBER FILE,
-//!     ExitCode::from(status.code())             // list IMAGE WORK TEXT, or asm TEXT WORK IMAGE
+//!     ExitCode::from(status.code())             // list IMAGE WORK TEXT, asm TEXT WORK IMAGE,
+//!                                               // or trace IMAGE EVENTS WORK TEXT CORE ENTRIES ROOM STEPS
 //!
 //! A run has stages (`specs/Stages.antt`), in the order in which it uses the roles of its host. `program` has them in that order; `reading`,
 //! `machine` and `writing` have the steps. Each step says what it did with its roles and why it was refused; each part of the run takes
@@ -15,10 +17,12 @@
 //! step (`making`), and leaves what `specs/Makes.antt` says. A listing and an assembling are one function with two ways (`converting`), and leave
 //! what `specs/Converts.antt` says.
 //!
-//! `trace` runs over a memory as `run` does, and puts a line to Saved for each bytecode (`specs/Traces.antt`).
+//! A trace (`following`) has the stages of a run as far as the memory is made, with Saved attached before it; then `trace` of `tracing` runs over
+//! it as `run` does, and puts a line to Saved for each bytecode (`specs/Traces.antt`). What it leaves says `specs/Traced.antt`.
 #![tactic(auto)]
 
 mod converting;
+mod following;
 pub mod laws;
 mod machine;
 mod making;

@@ -1,4 +1,5 @@
-// The whole program, in the order of a run. What the steps do stands in `reading`, `machine` and `writing`, and a making in `making`.
+// The whole program, in the order of a run. What the steps do stands in `reading`, `machine` and `writing`, a making in `making`, a listing
+// and an assembling in `converting`, and a trace in `following`.
 ghost use Rattle.std.specs.Prelude.{◌≡◌, false, IsTrue, IfOk, IfErr, List};
 ghost use Rattle.image_format.specs.declared.opening.State.{State as Words};
 ghost use Rattle.loom_outside.specs.declared.outside.Role.TheVariants as role;
@@ -21,6 +22,7 @@ ghost use Rattle.loom_run.specs.Steps.{BeginsImage, Came, CameThrough, HasBounds
 ghost use Rattle.loom_words.specs.Words.{texts_of};
 
 use crate::converting::{Way, convert};
+use crate::following::trace_command;
 use crate::machine::{run_machine, wind_up};
 use crate::making::make_image;
 use crate::reading::{open_work, read_image, read_lines};
@@ -46,7 +48,8 @@ pub(crate) struct Ended {
 }
 
 /// Does what the words after the program's name ask for: `run IMAGE EVENTS WORK SAVED DISPLAY CORE ENTRIES ROOM STEPS`,
-/// `make NUMBER FILE`, `list IMAGE WORK TEXT`, or `asm TEXT WORK IMAGE`. The words are checked, and the last line goes to Notes.
+/// `make NUMBER FILE`, `list IMAGE WORK TEXT`, `asm TEXT WORK IMAGE`, or `trace IMAGE EVENTS WORK TEXT CORE ENTRIES ROOM STEPS`. The words are
+/// checked, and the last line goes to Notes.
 ///
 /// A run: Work is attached; then Image, which is read to its end, its objects going to Work; then Events. The memory is
 /// made. The machine starts, runs STEPS bytecodes, or fewer where one ends it, and parks; what it says goes to Transcript as it is said.
@@ -57,6 +60,10 @@ pub(crate) struct Ended {
 ///
 /// A listing or an assembling: Work is attached; then Image, which is read to its end, as an image or as a text, its objects going to Work;
 /// then Saved, and the text or the image is written to it.
+///
+/// A trace: Work is attached; then Image, which is read as in a run; then Events; then Saved, for the lines. The memory is made. The machine
+/// starts, and runs STEPS bytecodes, or fewer where one ends it; behind each its line is put to Saved, and what it says goes to Transcript as it
+/// is said. Then Saved is ended, after a stop too, but not where a line couldn't be put. No image is saved, and nothing is drawn.
 pub fn loom<H: Host>(alloc: Global, host: &mut H, words: &[String]) -> Status
     ensures promise { Promise H.tells (meanings H.Host host.old) (meanings H.Host host.new) (texts_of words.now) result }
 {
@@ -67,6 +74,10 @@ pub fn loom<H: Host>(alloc: Global, host: &mut H, words: &[String]) -> Status
         }
         Ok(Asked::Make(making)) => {
             let status = make_image(alloc, host, &making);
+            tell(host, status)
+        }
+        Ok(Asked::Trace(command)) => {
+            let status = trace_command(alloc, host, &command);
             tell(host, status)
         }
         Ok(Asked::List(conversion)) => {

@@ -11,7 +11,7 @@ ghost use Rattle.contexts.specs.declared.stop.Stop.TheVariants.{Mem};
 ghost use Rattle.loom_memory.specs.Memory.{IsSound, loom_lender, loom_outside, loom_told};
 ghost use Rattle.loom_words.specs.Trace.{trace_text};
 ghost use Rattle.machine_run.specs.Run.{IsSettled};
-ghost use Rattle.loom_run.specs.Traces.{EndsBy, HasTraced, IsUnwritten, PutsText, TraceFit, TracesAs};
+ghost use Rattle.loom_run.specs.Traces.{EndsBy, HasTraced, IsUnwritten, OnlyPut, PutsText, TraceFit, TracesAs};
 ghost use Rattle.loom_run.specs.declared.tracing.TraceStop.TheVariants as variants;
 
 use contexts::{Cpu, Stop};
@@ -53,6 +53,7 @@ fn put_line<H: Host>(m: &mut LoomMemory<'_, H>, k: u32, sight: &Sight) -> Result
     ensures told { loom_told H.Host m.new ≡ loom_told H.Host m.old }
     ensures sound { IsSound H.Host m.new }
     ensures line { IsTrue (H.tells Role.Saved) → PutsText result (trace_text k sight.now.context sight.now.ip sight.now.byte) (loom_outside H.Host m.old Role.Saved).role (loom_outside H.Host m.new Role.Saved).role }
+    ensures only { IsTrue (H.tells Role.Saved) → OnlyPut (loom_outside H.Host m.old Role.Saved).role (loom_outside H.Host m.new Role.Saved).role }
     ensures faults { (loom_outside H.Host m.old Role.Saved).faults ≤ (loom_outside H.Host m.new Role.Saved).faults }
     ensures cause { IfErr result (IsUnwritten (loom_outside H.Host m.old Role.Saved).faults (loom_outside H.Host m.new Role.Saved).faults) }
     ensures others { SameBut Role.Saved (loom_outside H.Host m.old) (loom_outside H.Host m.new) }

@@ -10,7 +10,7 @@ ghost use Rattle.loom_run.specs.Ends.{AttachedOnce, WasRefused, WasWritten, Writ
 ghost use Rattle.loom_run.specs.Meanings.{meanings, LeavesBut};
 ghost use Rattle.loom_run.specs.Parts.{IsTold, unsaid};
 ghost use Rattle.loom_run.specs.Stages.{Saving, Drawing, roles_at};
-ghost use Rattle.loom_run.specs.Steps.{IsRefusal, IsRefusalAt};
+ghost use Rattle.loom_run.specs.Steps.{IsRefusal, IsRefusalAt, IsUnsaved};
 
 use crate::status::status_of_disk;
 use disk_objects::DiskObjects;
@@ -31,6 +31,7 @@ pub(crate) fn open_saved<H: Host>(disk: &mut DiskObjects<'_, H>, saved: &str) ->
     ensures later { H.faults disk.old.host.now Role.Saved ≤ H.faults disk.new.host.now Role.Saved }
     ensures rest { disk.new.rest ≡ disk.old.rest }
     ensures same_host { disk.new.host.ghost_name ≡ disk.old.host.ghost_name }
+    ensures which { IfErr result IsUnsaved }
     ensures refused { IfErr result (IsRefusalAt H.tells (meanings H.Host disk.old.host.now) (meanings H.Host disk.new.host.now) Saving) }
 {
     match disk.attach(Role::Saved, saved) {

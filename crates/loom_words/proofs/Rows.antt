@@ -6,7 +6,7 @@ use Rattle.std.proofs.lemmas.Bool.Decides.{nat_tests}
 use Rattle.std.specs.Str.{bytes_eq}
 use Rattle.loom_words.proofs.Numbers.{number-decimal, number-least, number-most, decimal-number, decimal-value}
 use Rattle.loom_gen.specs.declared.generator.TheConstants.{LAST_NUMBER}
-use Rattle.loom_words.specs.Words.{ArePaths, Check, IsMake, IsRow, MakeRow, Paths, Row, ToAssemble, ToList, ToMake, ToRun, Verb, anything, bad_from, bad_in, bad_word, begins_with, error_of, texts_of, is_asm, is_from, is_list, is_make, is_none_at, is_number, is_run, make_of, make_row, path_checks, paths_of, row_asked, row_of, run_row, verb_of}
+use Rattle.loom_words.specs.Words.{ArePaths, Check, IsMake, IsRow, IsTrace, MakeRow, Paths, Row, ToAssemble, ToList, ToMake, ToRun, ToTrace, Verb, anything, bad_from, bad_in, bad_word, begins_with, error_of, texts_of, is_asm, is_from, is_list, is_make, is_none_at, is_number, is_run, make_of, make_row, path_checks, paths_of, row_asked, row_of, run_row, trace_checks, trace_row, trace_row_of, is_trace, verb_of}
 use Rattle.loom_words.specs.declared.words.TheConstants.{LEAST_CORE, MOST_CORE, LEAST_ENTRIES, MOST_ENTRIES, LEAST_ROOM, MOST_ROOM, MOST_STEPS}
 
 -- the checks of a row by the files that it names, and those behind them
@@ -322,19 +322,136 @@ paths-from_words check command words is_command right =
     in let named : a ≡ command = is_command a first
     in subst (λ ws. ArePaths command ws (paths_of ws)) (sym four) record { words_are = ap (λ (x : List ℕ). x ∷ b ∷ c ∷ d ∷ []) named; apart = (from_source, flip d c from_target) }))))
 
+-- ---- the words of a trace
+
+abbrev pub trace_steps : List Check
+trace_steps = is_from 0 MOST_STEPS ∷ []
+
+abbrev pub trace_room : List Check
+trace_room = is_from LEAST_ROOM MOST_ROOM ∷ trace_steps
+
+abbrev pub trace_entries : List Check
+trace_entries = is_from LEAST_ENTRIES MOST_ENTRIES ∷ trace_room
+
+abbrev pub trace_numbers : List Check
+trace_numbers = is_from LEAST_CORE MOST_CORE ∷ trace_entries
+
+trace-files : (command image events work text : List ℕ) (others : List (List ℕ)) → (work ≢ image) × (work ≢ events) × (work ≢ text) → (text ≢ image) × (text ≢ events)
+    → bad_from 2 trace_checks (command ∷ image ∷ events ∷ work ∷ text ∷ others) (image ∷ events ∷ work ∷ text ∷ others) ≡ bad_from 6 trace_numbers (command ∷ image ∷ events ∷ work ∷ text ∷ others) others
+trace-files command image events work text others apart other =
+    rw (unlike work image apart.0, unlike work events apart.1, unlike text image other.0, unlike text events other.1, unlike text work (flip work text apart.2)) refl
+
+-- behind the files of a trace only a number may be bad
+pub right-trace : (command image events work text : List ℕ) (words others : List (List ℕ)) → words ≡ image ∷ events ∷ work ∷ text ∷ others → (work ≢ image) × (work ≢ events) × (work ≢ text) → (text ≢ image) × (text ≢ events)
+    → bad_from 2 trace_checks (command ∷ words) words ≡ bad_from 6 trace_numbers (command ∷ words) others
+right-trace command image events work text words others is apart other = subst (λ ws. bad_from 2 trace_checks (command ∷ ws) ws ≡ bad_from 6 trace_numbers (command ∷ ws) others) (sym is) (trace-files command image events work text others apart other)
+
+pub trace-core : (n : ℕ) (all words others : List (List ℕ)) → (LEAST_CORE ≤ n) × (n ≤ MOST_CORE) → words ≡ decimal n ∷ others → bad_from 6 trace_numbers all words ≡ bad_from 7 trace_entries all others
+trace-core n all words others within is = right-number 6 LEAST_CORE MOST_CORE n trace_entries all words others (omega arith) within.0 within.1 is
+
+pub trace-entries : (n : ℕ) (all words others : List (List ℕ)) → (LEAST_ENTRIES ≤ n) × (n ≤ MOST_ENTRIES) → words ≡ decimal n ∷ others → bad_from 7 trace_entries all words ≡ bad_from 8 trace_room all others
+trace-entries n all words others within is = right-number 7 LEAST_ENTRIES MOST_ENTRIES n trace_room all words others (omega arith) within.0 within.1 is
+
+pub trace-room : (n : ℕ) (all words others : List (List ℕ)) → (LEAST_ROOM ≤ n) × (n ≤ MOST_ROOM) → words ≡ decimal n ∷ others → bad_from 8 trace_room all words ≡ bad_from 9 trace_steps all others
+trace-room n all words others within is = right-number 8 LEAST_ROOM MOST_ROOM n trace_steps all words others (omega arith) within.0 within.1 is
+
+pub trace-steps : (n : ℕ) (all words others : List (List ℕ)) → n ≤ MOST_STEPS → words ≡ decimal n ∷ others → bad_from 9 trace_steps all words ≡ bad_from 10 [] all others
+trace-steps n all words others within is = right-number 9 0 MOST_STEPS n [] all words others (omega arith) (omega arith) within is
+
+pub extra-trace : {Z : Type 0} (all : List (List ℕ)) (words : List (String Z)) → 0 < length words → bad_from 10 [] all (texts_of words) ≡ Some 10
+extra-trace all [] some = absurd (omega arith)
+extra-trace all (word ∷ words) some = refl
+
+-- and of a trace none is bad
+behind-trace : (words others : List (List ℕ)) (row : Row) → IsTrace words row → words ≡ codes "trace" ∷ others → bad_from 2 trace_checks words others ≡ None
+behind-trace words others row is first =
+    let w8 : List (List ℕ) = decimal row.steps ∷ []
+    in let w7 : List (List ℕ) = decimal row.room ∷ w8
+    in let w6 : List (List ℕ) = decimal row.entries ∷ w7
+    in let w5 : List (List ℕ) = decimal row.core ∷ w6
+    in let all : others ≡ row.image ∷ row.events ∷ row.work ∷ row.saved ∷ w5 = cons-tail (codes "trace") (codes "trace") others (row.image ∷ row.events ∷ row.work ∷ row.saved ∷ w5) (sym first ∙ is.words_are)
+    in subst (λ ws. bad_from 2 trace_checks ws others ≡ None) (sym first) (
+    right-trace (codes "trace") row.image row.events row.work row.saved others w5 all is.work_apart is.saved_apart
+    ∙ trace-core row.core (codes "trace" ∷ others) w5 w6 is.core refl
+    ∙ trace-entries row.entries (codes "trace" ∷ others) w6 w7 is.entries refl
+    ∙ trace-room row.room (codes "trace" ∷ others) w7 w8 is.room refl
+    ∙ trace-steps row.steps (codes "trace" ∷ others) w8 [] is.steps refl)
+  where
+    cons-tail : (x y : List ℕ) (xs ys : List (List ℕ)) → x ∷ xs ≡ y ∷ ys → xs ≡ ys
+    cons-tail x y xs ys e = cc
+
+pub trace-to_words : (others : List (List ℕ)) (row : Row) → IsTrace (codes "trace" ∷ others) row → bad_from 2 trace_checks (codes "trace" ∷ others) others ≡ None
+trace-to_words others row is = behind-trace (codes "trace" ∷ others) others row is refl
+
+work-trace : (a b c d e : List ℕ) (others : List (List ℕ)) → is_none_at (1 ∷ 2 ∷ []) (a ∷ b ∷ c ∷ d ∷ e ∷ others) d ≡ true → (d ≢ b) × (d ≢ c)
+work-trace a b c d e others h =
+    let first = none-more (bytes_eq d b) (if bytes_eq d c then false else true) h
+    in (differs d b first.0, differs d c (none-one (bytes_eq d c) first.1))
+
+text-trace : (a b c d e : List ℕ) (others : List (List ℕ)) → is_none_at (1 ∷ 2 ∷ 3 ∷ []) (a ∷ b ∷ c ∷ d ∷ e ∷ others) e ≡ true → (e ≢ b) × (e ≢ c) × (e ≢ d)
+text-trace a b c d e others h =
+    let first = none-more (bytes_eq e b) (if bytes_eq e c then false else if bytes_eq e d then false else true) h
+    in let second = none-more (bytes_eq e c) (if bytes_eq e d then false else true) first.1
+    in (differs e b first.0, differs e c second.0, differs e d (none-one (bytes_eq e d) second.1))
+
+nine-trace : (a b c d e f g h i : List ℕ)
+    → bytes_eq a (codes "trace") ≡ true
+    → is_none_at (1 ∷ 2 ∷ []) (a ∷ b ∷ c ∷ d ∷ e ∷ f ∷ g ∷ h ∷ i ∷ []) d ≡ true
+    → is_none_at (1 ∷ 2 ∷ 3 ∷ []) (a ∷ b ∷ c ∷ d ∷ e ∷ f ∷ g ∷ h ∷ i ∷ []) e ≡ true
+    → is_number LEAST_CORE MOST_CORE f ≡ true
+    → is_number LEAST_ENTRIES MOST_ENTRIES g ≡ true
+    → is_number LEAST_ROOM MOST_ROOM h ≡ true
+    → is_number 0 MOST_STEPS i ≡ true
+    → IsTrace (a ∷ b ∷ c ∷ d ∷ e ∷ f ∷ g ∷ h ∷ i ∷ []) (trace_row_of (a ∷ b ∷ c ∷ d ∷ e ∷ f ∷ g ∷ h ∷ i ∷ []))
+nine-trace a b c d e f g h i command work text core entries room steps =
+    let named : a ≡ codes "trace" = grind (arith, nat_tests, bytes_eq-Decides)
+    in let first = work-trace a b c d e (f ∷ g ∷ h ∷ i ∷ []) work
+    in let second = text-trace a b c d e (f ∷ g ∷ h ∷ i ∷ []) text
+    in record {
+      words_are = rw (named, number-decimal LEAST_CORE MOST_CORE f (omega arith) core, number-decimal LEAST_ENTRIES MOST_ENTRIES g (omega arith) entries, number-decimal LEAST_ROOM MOST_ROOM h (omega arith) room, number-decimal 0 MOST_STEPS i (omega arith) steps) refl;
+      undrawn = refl;
+      core = (number-least LEAST_CORE MOST_CORE f core, number-most LEAST_CORE MOST_CORE f core);
+      entries = (number-least LEAST_ENTRIES MOST_ENTRIES g entries, number-most LEAST_ENTRIES MOST_ENTRIES g entries);
+      room = (number-least LEAST_ROOM MOST_ROOM h room, number-most LEAST_ROOM MOST_ROOM h room);
+      steps = number-most 0 MOST_STEPS i steps;
+      work_apart = (first.0, first.1, flip e d second.2);
+      saved_apart = (second.0, second.1);
+    }
+
+trace-from_words : (words : List (List ℕ)) → bad_in trace_row words ≡ None → IsTrace words (trace_row_of words)
+trace-from_words words right =
+    take-word 1 is_trace trace_checks words words right (λ a w1 is1 command h1.
+    take-word 2 anything (anything ∷ is_none_at (1 ∷ 2 ∷ []) ∷ is_none_at (1 ∷ 2 ∷ 3 ∷ []) ∷ trace_numbers) words w1 h1 (λ b w2 is2 _ h2.
+    take-word 3 anything (is_none_at (1 ∷ 2 ∷ []) ∷ is_none_at (1 ∷ 2 ∷ 3 ∷ []) ∷ trace_numbers) words w2 h2 (λ c w3 is3 _ h3.
+    take-word 4 (is_none_at (1 ∷ 2 ∷ [])) (is_none_at (1 ∷ 2 ∷ 3 ∷ []) ∷ trace_numbers) words w3 h3 (λ d w4 is4 work h4.
+    take-word 5 (is_none_at (1 ∷ 2 ∷ 3 ∷ [])) trace_numbers words w4 h4 (λ e w5 is5 text h5.
+    take-word 6 (is_from LEAST_CORE MOST_CORE) trace_entries words w5 h5 (λ f w6 is6 core h6.
+    take-word 7 (is_from LEAST_ENTRIES MOST_ENTRIES) trace_room words w6 h6 (λ g w7 is7 entries h7.
+    take-word 8 (is_from LEAST_ROOM MOST_ROOM) trace_steps words w7 h7 (λ h w8 is8 room h8.
+    take-word 9 (is_from 0 MOST_STEPS) [] words w8 h8 (λ i w9 is9 steps h9.
+    let nine : words ≡ a ∷ b ∷ c ∷ d ∷ e ∷ f ∷ g ∷ h ∷ i ∷ [] =
+    is1 ∙ ap (λ ws. a ∷ ws) (is2 ∙ ap (λ ws. b ∷ ws) (is3 ∙ ap (λ ws. c ∷ ws) (is4 ∙ ap (λ ws. d ∷ ws) (is5 ∙ ap (λ ws. e ∷ ws) (is6 ∙ ap (λ ws. f ∷ ws) (is7 ∙ ap (λ ws. g ∷ ws) (is8 ∙ ap (λ ws. h ∷ ws) (is9 ∙ ap (λ ws. i ∷ ws) (take-end 10 words w9 h9)))))))))
+    in subst (λ ws. IsTrace ws (trace_row_of ws)) (sym nine) (nine-trace a b c d e f g h i command (subst (λ ws. is_none_at (1 ∷ 2 ∷ []) ws d ≡ true) nine work) (subst (λ ws. is_none_at (1 ∷ 2 ∷ 3 ∷ []) ws e ≡ true) nine text) core entries room steps))))))))))
+
+-- words that are a trace state its numbers
+pub trace-of_texts : (words : List (List ℕ)) (row : Row) → IsTrace words row → row ≡ trace_row_of words
+trace-of_texts words row is =
+    subst (λ ws. row ≡ trace_row_of ws) (sym is.words_are) (rw (decimal-value row.core (omega (arith, is.core.1)), decimal-value row.entries (omega (arith, is.entries.1)), decimal-value row.room (omega (arith, is.room.1)), decimal-value row.steps (omega (arith, is.steps)), sym is.undrawn) refl)
+
 -- ---- the words of each
 
 is-word : (text word : List ℕ) → bytes_eq word text ≡ true → word ≡ text
 is-word text word e = grind (arith, nat_tests, bytes_eq-Decides)
 
 abbrev IsOne : List (List ℕ) → Type 0
-IsOne words = IsRow words (row_of words) ⊎ (IsMake words (make_of words) ⊎ (ArePaths (codes "list") words (paths_of words) ⊎ ArePaths (codes "asm") words (paths_of words)))
+IsOne words = IsRow words (row_of words) ⊎ (IsMake words (make_of words) ⊎ (ArePaths (codes "list") words (paths_of words) ⊎ (ArePaths (codes "asm") words (paths_of words) ⊎ IsTrace words (trace_row_of words))))
 
 right-from : (words : List (List ℕ)) (verb : Verb) → bad_in (row_asked verb) words ≡ None → IsOne words
 right-from words ToRun right = inl (row-from_words words right)
 right-from words ToMake right = inr (inl (make-from_words words right))
 right-from words ToList right = inr (inr (inl (paths-from_words is_list (codes "list") words (is-word (codes "list")) right)))
-right-from words ToAssemble right = inr (inr (inr (paths-from_words is_asm (codes "asm") words (is-word (codes "asm")) right)))
+right-from words ToAssemble right = inr (inr (inr (inl (paths-from_words is_asm (codes "asm") words (is-word (codes "asm")) right))))
+right-from words ToTrace right = inr (inr (inr (inr (trace-from_words words right))))
 
 pub asked-row : (words : List (List ℕ)) (row : Row) → IsRow words row → verb_of words ≡ ToRun
 asked-row words row is = ap verb_of is.words_are
@@ -347,6 +464,9 @@ asked-list words row is = ap verb_of is.words_are
 
 pub asked-asm : (words : List (List ℕ)) (row : Paths) → ArePaths (codes "asm") words row → verb_of words ≡ ToAssemble
 asked-asm words row is = ap verb_of is.words_are
+
+pub asked-trace : (words : List (List ℕ)) (row : Row) → IsTrace words row → verb_of words ≡ ToTrace
+asked-trace words row is = ap verb_of is.words_are
 
 pub paths-of_texts : (command : List ℕ) (words : List (List ℕ)) (row : Paths) → ArePaths command words row → row ≡ paths_of words
 paths-of_texts command words row is = subst (λ ws. row ≡ paths_of ws) (sym is.words_are) refl
@@ -361,8 +481,11 @@ bad-list words others is = ap (λ verb. bad_in (row_asked verb) words) (ap verb_
 pub bad-asm : (words others : List (List ℕ)) → words ≡ codes "asm" ∷ others → bad_word words ≡ bad_from 2 path_checks words others
 bad-asm words others is = ap (λ verb. bad_in (row_asked verb) words) (ap verb_of is) ∙ right-word 1 is_asm path_checks words (codes "asm") words others is refl
 
-pub asks-run : (words : List (List ℕ)) → begins_with (codes "make") words ≡ false → begins_with (codes "list") words ≡ false → begins_with (codes "asm") words ≡ false → verb_of words ≡ ToRun
-asks-run words make list asm = rw (make, list, asm) refl
+pub bad-trace : (words others : List (List ℕ)) → words ≡ codes "trace" ∷ others → bad_word words ≡ bad_from 2 trace_checks words others
+bad-trace words others is = ap (λ verb. bad_in (row_asked verb) words) (ap verb_of is) ∙ right-word 1 is_trace trace_checks words (codes "trace") words others is refl
+
+pub asks-run : (words : List (List ℕ)) → begins_with (codes "make") words ≡ false → begins_with (codes "list") words ≡ false → begins_with (codes "asm") words ≡ false → begins_with (codes "trace") words ≡ false → verb_of words ≡ ToRun
+asks-run words make list asm trace = rw (make, list, asm, trace) refl
 
 pub bad-run : (words : List (List ℕ)) → verb_of words ≡ ToRun → bad_word words ≡ bad_in run_row words
 bad-run words asks = ap (λ verb. bad_in (row_asked verb) words) asks
@@ -371,7 +494,11 @@ right-to : (words : List (List ℕ)) → IsOne words → bad_word words ≡ None
 right-to words (inl is) = ap (λ verb. bad_in (row_asked verb) words) (asked-row words (row_of words) is) ∙ row-to_words words (row_of words) is
 right-to words (inr (inl is)) = ap (λ verb. bad_in (row_asked verb) words) (asked-make words (make_of words) is) ∙ make-to_words words (make_of words) is
 right-to words (inr (inr (inl is))) = ap (λ verb. bad_in (row_asked verb) words) (asked-list words (paths_of words) is) ∙ paths-to_words is_list (codes "list") words (paths_of words) refl is
-right-to words (inr (inr (inr is))) = ap (λ verb. bad_in (row_asked verb) words) (asked-asm words (paths_of words) is) ∙ paths-to_words is_asm (codes "asm") words (paths_of words) refl is
+right-to words (inr (inr (inr (inl is)))) = ap (λ verb. bad_in (row_asked verb) words) (asked-asm words (paths_of words) is) ∙ paths-to_words is_asm (codes "asm") words (paths_of words) refl is
+right-to words (inr (inr (inr (inr is)))) =
+    let row = trace_row_of words in
+    let others : List (List ℕ) = row.image ∷ row.events ∷ row.work ∷ row.saved ∷ decimal row.core ∷ decimal row.entries ∷ decimal row.room ∷ decimal row.steps ∷ [] in
+    bad-trace words others is.words_are ∙ behind-trace words others row is is.words_are
 
 pub right-same : (words : List (List ℕ)) → (bad_word words ≡ None) ↔ IsOne words
 right-same words = (right-from words (verb_of words), right-to words)

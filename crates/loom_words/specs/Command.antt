@@ -1,9 +1,9 @@
 -- A command that was read: its row, and its limits.
 use Rattle.std.specs.Prelude.{◌≡◌, ◌≤◌, ℕ, List}
 use Rattle.loom_gen.specs.declared.generator.TheConstants.{LAST_NUMBER}
-use Rattle.loom_words.specs.Words.{MakeRow, Paths, Row, ToAssemble, ToList, ToMake, ToRun, make_of, paths_of, row_of, verb_of}
+use Rattle.loom_words.specs.Words.{MakeRow, Paths, Row, ToAssemble, ToList, ToMake, ToRun, ToTrace, make_of, paths_of, row_of, trace_row_of, verb_of}
 use Rattle.loom_words.specs.declared.words.Asked.{Asked}
-use Rattle.loom_words.specs.declared.words.Asked.TheVariants.{Assemble, List as Listing, Make, Run}
+use Rattle.loom_words.specs.declared.words.Asked.TheVariants.{Assemble, List as Listing, Make, Run, Trace}
 use Rattle.loom_words.specs.declared.words.Command.{Command}
 use Rattle.loom_words.specs.declared.words.Conversion.{Conversion}
 use Rattle.loom_words.specs.declared.words.Making.{Making}
@@ -41,3 +41,4 @@ IsAsked words (Run c) = (verb_of words ≡ ToRun) × (row_for c ≡ row_of words
 IsAsked words (Make m) = (verb_of words ≡ ToMake) × (make_for m ≡ make_of words) × (m.number ≤ LAST_NUMBER)
 IsAsked words (Listing c) = (verb_of words ≡ ToList) × (paths_for c ≡ paths_of words)
 IsAsked words (Assemble c) = (verb_of words ≡ ToAssemble) × (paths_for c ≡ paths_of words)
+IsAsked words (Trace c) = (verb_of words ≡ ToTrace) × (row_for c ≡ trace_row_of words) × HasLimits c

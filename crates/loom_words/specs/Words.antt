@@ -1,7 +1,8 @@
 -- The words of a command. Those of a run are `run`, the files of the image and of the events, the work file, the files of the saved image and
 -- of the picture, the words and the entries of the core, for how many objects there is room, and the number of bytecodes. Those of a making
 -- are `make`, the number of an image, and the file that it is written to. Those of a listing are `list`, and of an assembling `asm`: the file
--- that is read, the work file, and the file that is written.
+-- that is read, the work file, and the file that is written. Those of a trace are `trace`, the files of the image and of the events, the work
+-- file, the file of the lines, and the numbers of a run.
 use Rattle.std.specs.Prelude.{◌≡◌, ◌≢◌, ℕ, ◌+◌, ◌≤◌, decimal, Bool, true, false, List, [], ◌∷◌, map, codes, Option, Some, None, Result, Ok, Err, if◌then◌else◌, ◌&&◌, nat_lt, nat_le, slice_index_or, string_bytes, String}
 use Rattle.std.specs.Char.{is_ascii_digit}
 use Rattle.std.specs.Str.{bytes_eq, all_ascii_digits}
@@ -44,6 +45,9 @@ is_list earlier word = bytes_eq word (codes "list")
 abbrev pub is_asm : Check
 is_asm earlier word = bytes_eq word (codes "asm")
 
+abbrev pub is_trace : Check
+is_trace earlier word = bytes_eq word (codes "trace")
+
 -- the word is none of those at these positions, counted from 0
 abbrev pub is_none_at : List ℕ → Check
 is_none_at [] earlier word = true
@@ -84,6 +88,22 @@ list_row = is_list ∷ path_checks
 abbrev pub asm_row : List Check
 asm_row = is_asm ∷ path_checks
 
+-- `trace IMAGE EVENTS WORK TEXT CORE ENTRIES ROOM STEPS`. The work file is none of the other files, and the lines go to none that is read.
+abbrev pub trace_checks : List Check
+trace_checks =
+    anything
+    ∷ anything
+    ∷ is_none_at (1 ∷ 2 ∷ [])
+    ∷ is_none_at (1 ∷ 2 ∷ 3 ∷ [])
+    ∷ is_from LEAST_CORE MOST_CORE
+    ∷ is_from LEAST_ENTRIES MOST_ENTRIES
+    ∷ is_from LEAST_ROOM MOST_ROOM
+    ∷ is_from 0 MOST_STEPS
+    ∷ []
+
+abbrev pub trace_row : List Check
+trace_row = is_trace ∷ trace_checks
+
 -- the position, counted from this one on, of the first bad, missing or extra word; none where the words are right
 abbrev pub bad_from : ℕ → List Check → List (List ℕ) → List (List ℕ) → Option ℕ
 bad_from at [] all [] = None
@@ -101,6 +121,7 @@ pub data Verb : Type 0 where
   ToMake : Verb
   ToList : Verb
   ToAssemble : Verb
+  ToTrace : Verb
 
 -- the first word is this one
 abbrev pub begins_with : List ℕ → List (List ℕ) → Bool
@@ -109,13 +130,14 @@ begins_with text (word ∷ words) = bytes_eq word text
 
 -- The first word decides which row the others are compared with: that of a run, unless it is the word of another command.
 abbrev pub verb_of : List (List ℕ) → Verb
-verb_of words = if begins_with (codes "make") words then ToMake else (if begins_with (codes "list") words then ToList else (if begins_with (codes "asm") words then ToAssemble else ToRun))
+verb_of words = if begins_with (codes "make") words then ToMake else (if begins_with (codes "list") words then ToList else (if begins_with (codes "asm") words then ToAssemble else (if begins_with (codes "trace") words then ToTrace else ToRun)))
 
 abbrev pub row_asked : Verb → List Check
 row_asked ToRun = run_row
 row_asked ToMake = make_row
 row_asked ToList = list_row
 row_asked ToAssemble = asm_row
+row_asked ToTrace = trace_row
 
 abbrev pub bad_word : List (List ℕ) → Option ℕ
 bad_word words = bad_in (row_asked (verb_of words)) words
@@ -152,6 +174,20 @@ row_of words = record {
   steps = number_at words 9;
 }
 
+-- a trace has no picture, and its lines go to the file `saved`
+abbrev pub trace_row_of : List (List ℕ) → Row
+trace_row_of words = record {
+  image = word_at words 1;
+  events = word_at words 2;
+  work = word_at words 3;
+  saved = word_at words 4;
+  display = [];
+  core = number_at words 5;
+  entries = number_at words 6;
+  room = number_at words 7;
+  steps = number_at words 8;
+}
+
 -- the number of an image, and the file that it is written to
 pub record MakeRow : Type 0 where
   pub number : ℕ
@@ -179,6 +215,17 @@ pub record IsRow (words : List (List ℕ)) (row : Row) : Type 0 where
   pub steps : row.steps ≤ MOST_STEPS
   pub work_apart : (row.work ≢ row.image) × (row.work ≢ row.events) × (row.work ≢ row.saved) × (row.work ≢ row.display)
   pub display_apart : (row.display ≢ row.image) × (row.display ≢ row.events) × (row.display ≢ row.saved)
+
+-- these are the words of a trace
+pub record IsTrace (words : List (List ℕ)) (row : Row) : Type 0 where
+  pub words_are : words ≡ codes "trace" ∷ row.image ∷ row.events ∷ row.work ∷ row.saved ∷ decimal row.core ∷ decimal row.entries ∷ decimal row.room ∷ decimal row.steps ∷ []
+  pub undrawn : row.display ≡ []
+  pub core : (LEAST_CORE ≤ row.core) × (row.core ≤ MOST_CORE)
+  pub entries : (LEAST_ENTRIES ≤ row.entries) × (row.entries ≤ MOST_ENTRIES)
+  pub room : (LEAST_ROOM ≤ row.room) × (row.room ≤ MOST_ROOM)
+  pub steps : row.steps ≤ MOST_STEPS
+  pub work_apart : (row.work ≢ row.image) × (row.work ≢ row.events) × (row.work ≢ row.saved)
+  pub saved_apart : (row.saved ≢ row.image) × (row.saved ≢ row.events)
 
 -- these are the words of a making
 pub record IsMake (words : List (List ℕ)) (row : MakeRow) : Type 0 where

@@ -9,6 +9,7 @@
 //!         Ok(Asked::Make(making)) => ..,                          // make NUMBER FILE
 //!         Ok(Asked::List(conversion)) => ..,                      // list IMAGE WORK TEXT
 //!         Ok(Asked::Assemble(conversion)) => ..,                  // asm TEXT WORK IMAGE
+//!         Ok(Asked::Trace(command)) => ..,                        // trace IMAGE EVENTS WORK TEXT CORE ENTRIES ROOM STEPS
 //!         Err(word) => say(&Status::Usage { word }.line()),       // "usage: word 3\n"
 //!     }
 //!

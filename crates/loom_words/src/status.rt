@@ -14,9 +14,9 @@ pub type Line = ArrayString<160>;
 /// How a command ended.
 #[derive(Clone, Copy, Debug, PartialEq, Eq)]
 pub enum Status {
-    /// So many bytecodes were run, and the saved image is written.
+    /// So many bytecodes were run, and all that the command writes is written.
     Done { ran: u32 },
-    /// The machine ended itself in the last of so many bytecodes, and the saved image is written.
+    /// The machine ended itself in the last of so many bytecodes, and all that the command writes is written.
     Quit { ran: u32 },
     /// An image of so many objects is written.
     Made { objects: u32 },

@@ -2,7 +2,7 @@
 ghost use Rattle.std.specs.Prelude.{◌≡◌, ◌≢◌, codes, ◌↔◌, ◌≤◌, ◌∷◌, List, ℕ, IsTrue, decimal, IfOk, IfErr, IfSome, IsNone, Some, false, []};
 ghost use Rattle.loom_gen.specs.declared.generator.TheConstants.{LAST_NUMBER};
 ghost use Rattle.loom_words.specs.Command.{HasLimits, IsAsked, row_for};
-ghost use Rattle.loom_words.specs.Words.{Check, anything, bad_from, bad_in, bad_word, begins_with, error_of, is_from, is_number, path_checks, row_of, run_row, texts_of};
+ghost use Rattle.loom_words.specs.Words.{Check, anything, bad_from, bad_in, bad_word, begins_with, error_of, is_from, is_number, path_checks, row_of, run_row, texts_of, trace_checks, IsTrace};
 
 use itoa::Buffer;
 use loom_gen::LAST_NUMBER;
@@ -24,7 +24,8 @@ pub const MOST_ROOM: u32 = 1_048_576;
 pub const MOST_STEPS: u32 = 2_147_483_647;
 
 /// A run: the files of the image and of the events, the work file, the files for the saved image and for the picture, the words and the
-/// entries of the core, for how many objects there is room, and how many bytecodes.
+/// entries of the core, for how many objects there is room, and how many bytecodes. Or a trace: its lines go to `saved`, and it has no picture,
+/// so `display` is empty.
 #[derive(Clone, Copy, Debug)]
 pub struct Command<'a> {
     pub image: &'a str,
@@ -62,6 +63,8 @@ pub enum Asked<'a> {
     List(Conversion<'a>),
     /// A text becomes an image.
     Assemble(Conversion<'a>),
+    /// A run of which each bytecode has a line.
+    Trace(Command<'a>),
 }
 
 // The number from the least to the most that a word states, in decimal digits with no sign and no leading zero.
@@ -245,8 +248,74 @@ fn conversion_of(words: &[String]) -> Result<Conversion<'_>, u32>
     })
 }
 
-/// What the words after the program's name ask for: a making, a listing or an assembling where the first is `make`, `list` or `asm`, else a
-/// run. The error is the position, from 1, of the first bad, missing or extra word.
+// The files of a trace.
+#[derive(Clone, Copy, Debug)]
+struct TraceFiles<'a> {
+    image: &'a str,
+    events: &'a str,
+    work: &'a str,
+    text: &'a str,
+}
+
+// The files that the words behind `trace` state, `IMAGE EVENTS WORK TEXT`, and the words behind them. The error is the position of the first bad
+// or missing word.
+fn trace_files_of(words: &[String]) -> Result<(TraceFiles<'_>, &[String]), u32>
+    ensures bad { IfErr result (λ at. bad_from 2 trace_checks (codes "trace" ∷ texts_of words.now) (texts_of words.now) ≡ Some at) }
+    ensures first { IfOk result (λ r. texts_of words.now ≡ r.0.image.now ∷ r.0.events.now ∷ r.0.work.now ∷ r.0.text.now ∷ texts_of r.1.now) }
+    ensures work_apart { IfOk result (λ r. (r.0.work.now ≢ r.0.image.now) × (r.0.work.now ≢ r.0.events.now) × (r.0.work.now ≢ r.0.text.now)) }
+    ensures text_apart { IfOk result (λ r. (r.0.text.now ≢ r.0.image.now) × (r.0.text.now ≢ r.0.events.now)) }
+{
+    let (image, words) = next_word(words, 2)?;
+    let (events, words) = next_word(words, 3)?;
+    let (work, words) = next_word(words, 4)?;
+    if work == image || work == events {
+        return Err(4);
+    }
+    let (text, words) = next_word(words, 5)?;
+    if text == image || text == events || text == work {
+        return Err(5);
+    }
+    Ok((
+        TraceFiles {
+            image,
+            events,
+            work,
+            text,
+        },
+        words,
+    ))
+}
+
+// The trace that the words behind `trace` state: `IMAGE EVENTS WORK TEXT CORE ENTRIES ROOM STEPS`. The error is the position of the first bad,
+// missing or extra word.
+fn tracing_of(words: &[String]) -> Result<Command<'_>, u32>
+    ensures bad { error_of result ≡ bad_from 2 trace_checks (codes "trace" ∷ texts_of words.now) (texts_of words.now) }
+    ensures row { IfOk result (λ c. IsTrace (codes "trace" ∷ texts_of words.now) (row_for c)) }
+    ensures limits { IfOk result HasLimits }
+{
+    let (files, words) = trace_files_of(words)?;
+    let (core, words) = next_number(words, 6, LEAST_CORE, MOST_CORE)?;
+    let (entries, words) = next_number(words, 7, LEAST_ENTRIES, MOST_ENTRIES)?;
+    let (room, words) = next_number(words, 8, LEAST_ROOM, MOST_ROOM)?;
+    let (steps, words) = next_number(words, 9, 0, MOST_STEPS)?;
+    if !words.is_empty() {
+        return Err(10);
+    }
+    Ok(Command {
+        image: files.image,
+        events: files.events,
+        work: files.work,
+        saved: files.text,
+        display: "",
+        core,
+        entries: entries as u16,
+        room,
+        steps,
+    })
+}
+
+/// What the words after the program's name ask for: a making, a listing, an assembling or a trace where the first is `make`, `list`, `asm` or
+/// `trace`, else a run. The error is the position, from 1, of the first bad, missing or extra word.
 pub fn asked_of(words: &[String]) -> Result<Asked<'_>, u32>
     ensures bad { error_of result ≡ bad_word (texts_of words.now) }
     ensures asked { IfOk result (IsAsked (texts_of words.now)) }
@@ -259,6 +328,9 @@ pub fn asked_of(words: &[String]) -> Result<Asked<'_>, u32>
     }
     if let Some(others) = behind(words, "asm") {
         return Ok(Asked::Assemble(conversion_of(others)?));
+    }
+    if let Some(others) = behind(words, "trace") {
+        return Ok(Asked::Trace(tracing_of(others)?));
     }
     Ok(Asked::Run(command_of(words)?))
 }

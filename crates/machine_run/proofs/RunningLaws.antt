@@ -460,11 +460,11 @@ faults_exit {A} old new e r is h =
 -- ---- whole runs
 
 -- the beginning was made
-begun : (state : State) (h : Heap) (a mid : Told) (cpu between : Cpu) → IsTrue a.tells → Begins h a → Serves a cpu mid between (begin state) (Ok tt) → IsGo tt (Stands mid between) (begin state (rested h a))
+pub begun : (state : State) (h : Heap) (a mid : Told) (cpu between : Cpu) → IsTrue a.tells → Begins h a → Serves a cpu mid between (begin state) (Ok tt) → IsGo tt (Stands mid between) (begin state (rested h a))
 begun state h a mid cpu between told b s = subst (IsGo tt (Stands mid between)) (begins_same state h a cpu) (s.model told (fresh_machine h a cpu) (fresh_stands h a cpu b))
 
 -- the law of a whole run, by what its beginning came to
-whole : (P : Course → Type 0) (events : List Line) (steps : ℕ) (state : State) (h : Heap) (a : Told) → P (course_from events steps (rested h a) (begin state (rested h a))) → P (course_with_earlier a.transcript (course events steps state h))
+pub whole : (P : Course → Type 0) (events : List Line) (steps : ℕ) (state : State) (h : Heap) (a : Told) → P (course_from events steps (rested h a) (begin state (rested h a))) → P (course_with_earlier a.transcript (course events steps state h))
 whole P events steps state h a x = subst P (course_begun a.transcript events steps state h) x
 
 pub goes_start : (events : List Line) (steps : ℕ) (state : State) (h : Heap) (a new : Told) (cpu now : Cpu) (e : Stop) → IsTrue a.tells → Begins h a → Serves {A = Unit {0}} a cpu new now (begin state) (Err e) → now.ran ≡ 0 → IsHalt e now.ran steps new (course_with_earlier a.transcript (course events steps state h))
@@ -523,7 +523,7 @@ goes_run events steps state h a mid new cpu between now e told b s fresh settled
 rows_behind : (events : List Line) (steps : ℕ) (end : Step) (m n : Machine) (log : List LogRow) (ran : ℕ) → m.cpu.ran ≡ 0 → run events steps m ≡ Ran end n → n.cpu.ran ≡ ran → (need : Need) → IsLogged need (log_of (park_and_draw n)) → IsLogged need (cond (eqb ran 0) log [] ++ rows_after events steps ran (run events ran m))
 rows_behind events steps end m n log ran fresh e count need h = logged_behind need (cond (eqb ran 0) log []) (rows_after events steps ran (run events ran m)) (subst (λ k. IsLogged need (rows_after events steps k (run events k m))) count (subst (IsLogged need) (sym (rows_at_end events steps end m n fresh e)) h))
 
-said_behind : (events : List Line) (steps : ℕ) (end : Step) (m n : Machine) (ran : ℕ) → m.cpu.ran ≡ 0 → run events steps m ≡ Ran end n → n.cpu.ran ≡ ran → said_by (run events ran m) ≡ n.transcript
+pub said_behind : (events : List Line) (steps : ℕ) (end : Step) (m n : Machine) (ran : ℕ) → m.cpu.ran ≡ 0 → run events steps m ≡ Ran end n → n.cpu.ran ≡ ran → said_by (run events ran m) ≡ n.transcript
 said_behind events steps end m n ran fresh e count = subst (λ k. said_by (run events k m) ≡ n.transcript) count (said_at_end events steps end m n fresh e)
 
 pub goes_park : (events : List Line) (end : Step) (steps : ℕ) (state : State) (h : Heap) (a mid far new : Told) (cpu between then now : Cpu) (e : Stop) → IsTrue a.tells → Begins h a → Serves a cpu mid between (begin state) (Ok tt) → between.ran ≡ 0 → ((m : Machine) → Stands mid between m → Reaches events far then end steps m) → IsTrue far.tells → Serves {A = Unit {0}} far then new now park (Err e) → now ≡ then → IsHalt e now.ran steps new (course_with_earlier a.transcript (course events steps state h))

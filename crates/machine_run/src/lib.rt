@@ -25,4 +25,5 @@ mod tracing;
 pub use blue_model::Step;
 pub use image_format::State;
 pub use running::{Finished, Halted, Reason, is_last, run, settle, whole_run};
+pub use states::begin;
 pub use tracing::{Sight, Traced, traced_cycle};

@@ -1,9 +1,10 @@
 // The state with which a run begins, and the one that it leaves.
-ghost use Rattle.std.specs.Prelude.{◌≡◌, IsTrue, OnOk};
+ghost use Rattle.std.specs.Prelude.{◌≡◌, IfErr, IsTrue, OnOk};
 ghost use Rattle.blue_model.specs.State as model;
 ghost use Rattle.contexts.specs.Serves.{Serves, HasRest};
 ghost use Rattle.contexts.specs.Calls.{StaysFit};
 ghost use Rattle.object_memory.specs.Calls.{IsFit};
+ghost use Rattle.machine_run.specs.Run.{FaultsBy};
 ghost use Rattle.machine_run.specs.States.{KeepsState, model_state, state_held, word_held};
 
 use contexts::{Cpu, Stop, start};
@@ -13,12 +14,13 @@ use long_names::Name;
 use object_memory::{ObjectMemory, Reg};
 
 /// Starts, and goes on from a state. Nothing was run then, and the vault is shut.
-pub(crate) fn begin<M: ObjectMemory>(m: &mut M, cpu: &mut Cpu, state: &State) -> Result<(), Stop>
+pub fn begin<M: ObjectMemory>(m: &mut M, cpu: &mut Cpu, state: &State) -> Result<(), Stop>
     requires fit { IsFit M.ObjectMemory m.old }
     requires state { IsTrue (M.told m.old).tells → KeepsState (M.told m.old) (model_state state.now) }
     ensures serves { Serves (M.told m.old) cpu.old (M.told m.new) cpu.new (model.begin (model_state state.now)) result }
     ensures rest { OnOk result (HasRest (M.told m.new)) }
     ensures ran { cpu.new.ran ≡ 0 }
+    ensures fault { IfErr result (FaultsBy (M.told m.old) (M.told m.new)) }
     ensures fit { StaysFit M.ObjectMemory m.old m.new result }
 {
     start(m, cpu)?;

@@ -1,6 +1,7 @@
 -- The line is that of the answer of a command.
 use Rattle.std.proofs.Common.{sym, ◌∙◌, ap, subst}
 use Rattle.loom_words.specs.Command.{IsAsked}
+use Rattle.loom_run.specs.Following.{TraceEnds}
 use Rattle.loom_run.specs.Meanings.{meanings}
 use Rattle.loom_run.specs.declared.converting.Way.TheVariants.{Listing, Assembling}
 use Rattle.loom_run.specs.Steps.{ConversionEnds, MakeEnds, RunEnds}
@@ -8,6 +9,7 @@ use Rattle.loom_words.specs.Words.{error_of, texts_of}
 use Rattle.loom_run.proofs.ConvertLaws.{promise-converted}
 use Rattle.loom_run.proofs.MakingLaws.{promise-made}
 use Rattle.loom_run.proofs.TellingLaws.{promise-told}
+use Rattle.loom_run.proofs.TracedTelling.{promise-traced}
 use Rattle.loom_run.proofs.program.loom.Goals as goal
 
 pub returns-in-Ok-Run : goal.returns-in-Ok-Run
@@ -32,6 +34,18 @@ returns-in-Ok-Make g c =
     record {
       promise = promise-made tells before mid (meanings g.H.Host c.tell-in-Ok-Make.new.host) words c.make_image-status.result c.tell-in-Ok-Make.result asked.0 (sym c.asked_of.ensures.bad ∙ ap error_of c.in-Ok-Make.is)
           (subst (λ row. MakeEnds tells before mid row c.make_image-status.result) asked.1 c.make_image-status.ensures.ends) c.tell-in-Ok-Make.ensures.others c.tell-in-Ok-Make.ensures.told;
+    }
+
+pub returns-in-Ok-Trace : goal.returns-in-Ok-Trace
+returns-in-Ok-Trace g c =
+    let tells = g.H.Host.tells in
+    let before = meanings g.H.Host c.args.host.now in
+    let mid = meanings g.H.Host c.trace_command-status.new.host in
+    let words = texts_of c.args.words.now in
+    let asked = subst (IsAsked words) c.in-Ok-Trace.field-0-is c.in-Ok-Trace.ensures.asked in
+    record {
+      promise = promise-traced tells before mid (meanings g.H.Host c.tell-in-Ok-Trace.new.host) words c.trace_command-status.result c.tell-in-Ok-Trace.result asked.0 (sym c.asked_of.ensures.bad ∙ ap error_of c.in-Ok-Trace.is)
+          (subst (λ row. TraceEnds tells before mid row c.trace_command-status.result) asked.1 c.trace_command-status.ensures.ends) c.tell-in-Ok-Trace.ensures.others c.tell-in-Ok-Trace.ensures.told;
     }
 
 pub returns-in-Ok-List : goal.returns-in-Ok-List

@@ -1,5 +1,7 @@
 use Rattle.std.proofs.Common.{refl}
-use Rattle.loom_run.proofs.TraceLaws.{line-text}
+use Rattle.loom_outside.specs.declared.outside.Role.TheVariants.{Saved}
+use Rattle.loom_memory.specs.Memory.{loom_outside}
+use Rattle.loom_run.proofs.TraceLaws.{line-text, only-part, only-puts}
 use Rattle.loom_run.proofs.tracing.put_line.Goals as goal
 
 pub returns-in-Ok-clause-line : goal.returns-in-Ok-clause-line
@@ -10,3 +12,9 @@ returns-in-Err-clause-line g c = λ saved. rw (line-text _ _ _ _ c.trace_line-le
 
 pub returns-in-Err-clause-cause : goal.returns-in-Err-clause-cause
 returns-in-Err-clause-cause g c = (c.fault_count.ensures, (rw c.in-Err.is at c.write_to.ensures.cause.rose) refl)
+
+pub returns-in-Ok-clause-only : goal.returns-in-Ok-clause-only
+returns-in-Ok-clause-only g c = λ saved. only-puts _ (loom_outside g.H.Host c.args.m.now Saved).role _ (rw c.in-Ok.is at (c.write_to.ensures.put saved))
+
+pub returns-in-Err-clause-only : goal.returns-in-Err-clause-only
+returns-in-Err-clause-only g c = λ saved. only-part _ _ _ (rw c.in-Err.is at (c.write_to.ensures.failed saved))

@@ -8,7 +8,7 @@ use Rattle.loom_memory.specs.Memory.{loom_outside, loom_told}
 use Rattle.machine_run.specs.Run.{Reaches}
 use Rattle.machine_run.proofs.RunningLaws.{last_counted, never, reaches_end, reaches_on, reaches_start}
 use Rattle.loom_run.specs.Traces.{EndsBy, HasTraced, TraceFit, TracesAs}
-use Rattle.loom_run.proofs.TraceLaws.{ends-earlier, exit-by, fit-earlier, lines-none, lines-on, traced-all, traced-on, traces-on}
+use Rattle.loom_run.proofs.TraceLaws.{ends-earlier, exit-by, fit-earlier, lines-none, lines-on, only-same, traced-all, traced-on, traces-on}
 use Rattle.loom_run.proofs.tracing.trace.Goals as goal
 
 pub loop-turn-init : goal.loop-turn-init
@@ -25,6 +25,7 @@ loop-turn-init g c = record {
   lender = refl;
   others = λ role other. refl;
   faults = omega arith;
+  only = λ saved. only-same _ _ refl;
 }
 
 pub trace_cycle-requires-clause-room : goal.trace_cycle-requires-clause-room
@@ -83,7 +84,7 @@ returns-in_err-end-clause-fit g c =
     let host = g.H.Host in
     let here = c.loop-turn.invariant in
     exit-by (λ r. TraceFit host c.args.m.now c.trace_cycle.new.m r) _ c.from_residual.result c.from_residual.ensures.1
-    (fit-earlier host c.args.m.now c.loop-turn.m c.trace_cycle.new.m _ here.others here.lender here.faults c.in_err-end.ensures.fit)
+    (fit-earlier host c.args.m.now c.loop-turn.m c.trace_cycle.new.m _ here.others here.lender here.faults here.only c.in_err-end.ensures.fit)
 
 -- ---- and one more
 
@@ -93,7 +94,7 @@ loop-turn-preserved g c =
     let here = c.loop-turn.invariant in
     let did = c.in_ok-end.ensures in
     let on = goes_on _ (sym c.is_last.ensures ∙ c.if-is_last.false) in
-    let fit = fit-earlier host c.args.m.now c.loop-turn.m c.trace_cycle.new.m _ here.others here.lender here.faults did.fit in
+    let fit = fit-earlier host c.args.m.now c.loop-turn.m c.trace_cycle.new.m _ here.others here.lender here.faults here.only did.fit in
     record {
       runs = λ work m st.
           let came = here.runs work m st in
@@ -111,6 +112,7 @@ loop-turn-preserved g c =
       lender = fit.lender;
       others = fit.others;
       faults = fit.faults;
+      only = fit.only;
     }
 
 -- ---- all of them
@@ -140,7 +142,7 @@ pub returns-clause-rest : goal.returns-clause-rest
 returns-clause-rest g c = c.loop-turn.invariant.rest
 
 pub returns-clause-fit : goal.returns-clause-fit
-returns-clause-fit g c = let here = c.loop-turn.invariant in record { sound = here.fit.sound; ready = here.fit.ready; lender = here.lender; others = here.others; faults = here.faults }
+returns-clause-fit g c = let here = c.loop-turn.invariant in record { sound = here.fit.sound; ready = here.fit.ready; lender = here.lender; others = here.others; faults = here.faults; only = here.only }
 
 -- ---- the last one
 
@@ -187,4 +189,4 @@ returns-then-is_last-clause-rest g c = c.in_ok-end.ensures.rest
 pub returns-then-is_last-clause-fit : goal.returns-then-is_last-clause-fit
 returns-then-is_last-clause-fit g c =
     let here = c.loop-turn.invariant in
-    fit-earlier g.H.Host c.args.m.now c.loop-turn.m c.trace_cycle.new.m _ here.others here.lender here.faults c.in_ok-end.ensures.fit
+    fit-earlier g.H.Host c.args.m.now c.loop-turn.m c.trace_cycle.new.m _ here.others here.lender here.faults here.only c.in_ok-end.ensures.fit

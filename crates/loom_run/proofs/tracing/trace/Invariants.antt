@@ -8,7 +8,7 @@ use Rattle.blue_model.specs.Machine.{Machine}
 use Rattle.contexts.specs.Serves.{HasRest, Stands}
 use Rattle.loom_memory.specs.Memory.{IsSound, loom_lender, loom_outside, loom_told}
 use Rattle.machine_run.specs.Run.{IsSettled, Reaches}
-use Rattle.loom_run.specs.Traces.{trace_of}
+use Rattle.loom_run.specs.Traces.{OnlyPut, trace_of}
 use Rattle.loom_run.proofs.tracing.trace.Given as goal
 
 -- The memory stands for the machine after so many cycles, all of them counted, and their lines were put.
@@ -29,4 +29,5 @@ invariant-loop-turn g l =
       lender : loom_lender l.m ≡ loom_lender l.fn.m;
       others : SameBut Saved (loom_outside host l.fn.m) (loom_outside host l.m);
       faults : (loom_outside host l.fn.m Saved).faults ≤ (loom_outside host l.m Saved).faults;
+      only : IsTrue (host.tells Saved) → OnlyPut (loom_outside host l.fn.m Saved).role (loom_outside host l.m Saved).role;
     }

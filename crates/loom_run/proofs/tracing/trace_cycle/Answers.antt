@@ -106,7 +106,7 @@ returns-in_err-put_line-clause-fit g c =
     let fit = c.in_ok-traced.ensures.fit in
     let line = c.in_err-put_line.ensures in
     exit-by (λ r. TraceFit host c.args.m.now c.put_line.new.m r) _ c.from_residual-in_err-put_line.result c.from_residual-in_err-put_line.ensures.1
-    (fit-cut host c.args.m.now c.traced_cycle.new.m c.put_line.new.m fit.outside fit.lender line.others line.faults line.lender (loom_outside host c.traced_cycle.new.m Saved).faults (loom_outside host c.put_line.new.m Saved).faults c.in_err-put_line.field-0.0 line.cause line.sound)
+    (fit-cut host c.args.m.now c.traced_cycle.new.m c.put_line.new.m fit.outside fit.lender line.others line.faults line.lender line.only (loom_outside host c.traced_cycle.new.m Saved).faults (loom_outside host c.put_line.new.m Saved).faults c.in_err-put_line.field-0.0 line.cause line.sound)
 
 -- ---- the memory couldn't settle
 
@@ -154,7 +154,7 @@ returns-in_err-settle-clause-fit g c =
     let line = c.in_ok-put_line.ensures in
     let settled = c.in_err-settle.ensures.fit in
     exit-by (λ r. TraceFit host c.args.m.now c.settle.new.m r) _ c.from_residual-in_err-settle.result c.from_residual-in_err-settle.ensures.1
-    (fit-behind host c.args.m.now c.traced_cycle.new.m c.put_line.new.m fit.outside fit.lender line.others line.faults line.lender c.settle.new.m (Err (Stop (Mem c.in_err-settle.field-0.0))) settled.outside settled.lender settled.sound tt)
+    (fit-behind host c.args.m.now c.traced_cycle.new.m c.put_line.new.m fit.outside fit.lender line.others line.faults line.lender line.only c.settle.new.m (Err (Stop (Mem c.in_err-settle.field-0.0))) settled.outside settled.lender settled.sound tt)
 
 -- ---- all three went through
 
@@ -200,4 +200,4 @@ returns-clause-fit g c =
     let fit = c.in_ok-traced.ensures.fit in
     let line = c.in_ok-put_line.ensures in
     let settled = c.in_ok-settle.ensures.fit in
-    fit-behind host c.args.m.now c.traced_cycle.new.m c.put_line.new.m fit.outside fit.lender line.others line.faults line.lender c.settle.new.m (Ok c.in_ok-traced.traced.end) settled.outside settled.lender settled.sound settled.ready
+    fit-behind host c.args.m.now c.traced_cycle.new.m c.put_line.new.m fit.outside fit.lender line.others line.faults line.lender line.only c.settle.new.m (Ok c.in_ok-traced.traced.end) settled.outside settled.lender settled.sound settled.ready

@@ -1,8 +1,8 @@
 -- The words behind the word of a command that were read are that command's.
-use Rattle.std.proofs.Common.{◌∙◌, ◌∷◌, ap, codes}
-use Rattle.loom_words.proofs.Rows.{asked-asm, asked-list, asked-make, make-of_texts, paths-of_texts}
-use Rattle.loom_words.specs.Command.{make_for, paths_for}
-use Rattle.loom_words.specs.Words.{ArePaths, IsMake, texts_of}
+use Rattle.std.proofs.Common.{◌∙◌, ◌∷◌, ap, codes, subst, sym}
+use Rattle.loom_words.proofs.Rows.{asked-asm, asked-list, asked-make, asked-trace, make-of_texts, paths-of_texts, trace-of_texts}
+use Rattle.loom_words.specs.Command.{make_for, paths_for, row_for}
+use Rattle.loom_words.specs.Words.{ArePaths, IsMake, IsTrace, texts_of}
 use Rattle.loom_words.proofs.words.asked_of.Goals as goal
 
 pub returns-in-Some-clause-asked : goal.returns-in-Some-clause-asked
@@ -28,3 +28,8 @@ returns-in-Some-behind-2-clause-asked c =
       apart = c.in_ok-conversion_of-2.ensures.apart;
     }
     in (asked-asm _ _ is, paths-of_texts (codes "asm") _ _ is)
+
+pub returns-in-Some-behind-3-clause-asked : goal.returns-in-Some-behind-3-clause-asked
+returns-in-Some-behind-3-clause-asked c =
+    let is : IsTrace (texts_of c.args.words.now) (row_for c.in_ok-tracing_of.field-0) = subst (λ ws. IsTrace ws (row_for c.in_ok-tracing_of.field-0)) (sym c.in-Some-behind-3.ensures.some) c.in_ok-tracing_of.ensures.row
+    in (asked-trace _ _ is, trace-of_texts _ _ is, c.in_ok-tracing_of.ensures.limits)

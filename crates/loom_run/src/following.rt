@@ -1,0 +1,209 @@
+// A run that is traced: each of its bytecodes has a line.
+ghost use Rattle.std.specs.Prelude.{◌≡◌, ◌∷◌, [], ℕ, IsTrue, List};
+ghost use Rattle.blue_model.specs.declared.event.Line.{Line};
+ghost use Rattle.loom_words.specs.Words.{Row};
+ghost use Rattle.image_format.specs.declared.opening.State.{State as Words};
+ghost use Rattle.loom_outside.specs.declared.outside.Role.TheVariants as role;
+ghost use Rattle.long_names.specs.Heap.{Heap};
+ghost use Rattle.disk_objects.specs.Disk.{disk_room};
+ghost use Rattle.image_reader.specs.Loaded.{heap_on};
+ghost use Rattle.image_memory.specs.Image.{HasImage};
+ghost use Rattle.loom_memory.specs.Memory.{IsSound, loom_lender, loom_outside, loom_told};
+ghost use Rattle.machine_run.specs.States.{model_state};
+ghost use Rattle.object_memory.specs.Told.{IsReady};
+ghost use Rattle.loom_words.specs.Command.{HasLimits, row_for};
+ghost use Rattle.loom_run.specs.Following as following;
+ghost use Rattle.loom_run.specs.Following.{EndsFollowed, Followed, FollowsAs, IsTraceRefusal, TraceEnds, status_along};
+ghost use Rattle.loom_run.specs.Parts.{status_by};
+ghost use Rattle.machine_run.specs.declared.running.Reason.TheVariants.{ByStop};
+ghost use Rattle.loom_run.specs.Meanings.{meanings, Meanings, LeavesBut};
+ghost use Rattle.loom_run.specs.Stages.{Reading, Listening};
+ghost use Rattle.loom_run.specs.Steps.{BeginsImage, Came, HasBounds, HasRead, IsSameFile, Uses};
+ghost use Rattle.loom_run.specs.Traces.{OnlyPut};
+
+use crate::making::end_saved;
+use crate::reading::{open_work, read_image, read_lines};
+use crate::status::status_of;
+use crate::tracing::{TraceStop, trace};
+use crate::writing::open_saved;
+use contexts::{Cpu, Stop};
+use disk_objects::{DiskObjects, DiskRest};
+use event_file::EventList;
+use image_format::State;
+use image_memory::begin_memory;
+use image_reader::Loaded;
+use loom_memory::{CoreTables, LoomMemory};
+use loom_outside::{Host, Role};
+use loom_words::{Command, Status};
+use machine_run::{Halted, Reason, Step, begin};
+use std::alloc::Global;
+
+/// The trace that a command asks for, without its last line: Work is attached, and then Image, which is read; Events, and the file of the
+/// lines. The memory is made, and the machine starts and runs. Then Saved is ended. The machine isn't parked, no image is saved, and nothing is drawn.
+pub(crate) fn trace_command<H: Host>(alloc: Global, host: &mut H, command: &Command<'_>) -> Status
+    requires limits { HasLimits command.now }
+    ensures ends { TraceEnds H.tells (meanings H.Host host.old) (meanings H.Host host.new) (row_for command.now) result }
+{
+    if let Err(status) = open_work(host, command.work) {
+        return status;
+    }
+    let mut disk = DiskObjects::begin(host, command.room);
+    let loaded = match read_image(alloc, &mut disk, command.image, command.room) {
+        Ok(loaded) => loaded,
+        Err(status) => {
+            let _host = disk.into_host();
+            return status;
+        }
+    };
+    let (host, rest) = disk.apart();
+    trace_image(alloc, host, rest, &loaded, command)
+}
+
+// Events is attached and read.
+fn trace_image<H: Host>(
+    alloc: Global,
+    host: &mut H,
+    rest: DiskRest,
+    loaded: &Loaded,
+    command: &Command<'_>,
+) -> Status
+    requires limits { HasLimits command.now }
+    requires image { HasImage H.Host host.old rest loaded.now }
+    requires room { command.now.room ≡ disk_room rest }
+    ensures ends { (before : Meanings) → Uses H.tells before (meanings H.Host host.old) (row_for command.now) Reading
+        → HasRead H.tells (meanings H.Host host.old) (row_for command.now) loaded.now.state (heap_on H.Host host.old rest loaded.now.next)
+        → TraceEnds H.tells before (meanings H.Host host.new) (row_for command.now) result }
+{
+    match read_lines(alloc, host, command) {
+        Ok(events) => trace_under(alloc, host, rest, loaded, &events, command),
+        Err(status) => status,
+    }
+}
+
+// Saved is attached, the memory is made, and the machine runs. Then Saved is ended.
+fn trace_under<H: Host>(
+    alloc: Global,
+    host: &mut H,
+    rest: DiskRest,
+    loaded: &Loaded,
+    events: &EventList,
+    command: &Command<'_>,
+) -> Status
+    requires limits { HasLimits command.now }
+    requires image { HasImage H.Host host.old rest loaded.now }
+    requires room { command.now.room ≡ disk_room rest }
+    ensures ends { (before : Meanings) → Came H.tells before (meanings H.Host host.old) (row_for command.now) Listening loaded.now.state (heap_on H.Host host.old rest loaded.now.next) events.now
+        → TraceEnds H.tells before (meanings H.Host host.new) (row_for command.now) result }
+{
+    let mut disk = DiskObjects::again(host, rest);
+    if let Err(status) = open_saved(&mut disk, command.saved) {
+        let _host = disk.into_host();
+        return status;
+    }
+    let Ok(tables) = CoreTables::new(alloc, command.core, command.entries) else {
+        let _host = disk.into_host();
+        return Status::OutOfMemory;
+    };
+    let mut memory = begin_memory(disk, loaded, tables, command.core, command.entries);
+    let status = trace_machine(&mut memory, events, &loaded.state, command);
+    let disk = memory.into_disk();
+    let host = disk.into_host();
+    end_trace(host, status)
+}
+
+// Ends Saved, to which the lines were put. It stays without an end where a line couldn't be put whole; behind a stop nothing is said of a
+// failure.
+fn end_trace<H: Host>(host: &mut H, status: Status) -> Status
+    ensures ends { (before : Meanings) → (row : Row) → (words : Words) → (heap : Heap) → (lines : List Line) → Followed H.tells before (meanings H.Host host.old) row status lines words heap
+        → TraceEnds H.tells before (meanings H.Host host.new) row result }
+{
+    if is_cut(&status) {
+        return status;
+    }
+    let ended = end_saved(host);
+    if !is_through(&status) {
+        return status;
+    }
+    match ended {
+        Ok(()) => status,
+        Err(_) => Status::WriteFault {
+            role: Role::Saved,
+            count: host.fault_count(Role::Saved),
+        },
+    }
+}
+
+// Whether a line couldn't be put whole.
+fn is_cut(status: &Status) -> bool
+    ensures { result ≡ following.is_cut status.now }
+{
+    matches!(
+        status,
+        Status::WriteFault {
+            role: Role::Saved,
+            ..
+        }
+    )
+}
+
+// Whether the machine went through.
+fn is_through(status: &Status) -> bool
+    ensures { result ≡ following.is_through status.now }
+{
+    matches!(status, Status::Done { .. } | Status::Quit { .. })
+}
+
+// Starts with the state, and runs so many bytecodes, with a line for each.
+fn trace_machine<H: Host>(
+    memory: &mut LoomMemory<'_, H>,
+    events: &EventList,
+    state: &State,
+    command: &Command<'_>,
+) -> Status
+    requires sound { IsSound H.Host memory.old }
+    requires ready { IsReady (loom_told H.Host memory.old) }
+    requires begins { IsTrue (H.tells Role.Work) → (h : Heap) × BeginsImage h state.now (loom_told H.Host memory.old) }
+    requires bounds { HasBounds (row_for command.now) (loom_told H.Host memory.old) }
+    requires steps { HasLimits command.now }
+    ensures follows { IsTrue (H.tells Role.Work) → (h : Heap) → BeginsImage h state.now (loom_told H.Host memory.old)
+        → FollowsAs (loom_told H.Host memory.old) (loom_told H.Host memory.new) (row_for command.now) result events.now (model_state state.now) h
+        (H.tells Role.Saved) (loom_outside H.Host memory.old Role.Saved).role (loom_outside H.Host memory.new Role.Saved).role }
+    ensures only { IsTrue (H.tells Role.Saved) → OnlyPut (loom_outside H.Host memory.old Role.Saved).role (loom_outside H.Host memory.new Role.Saved).role }
+    ensures file { IsTrue (H.tells Role.Work) → IsSameFile (H.roles memory.old.disk.host.now Role.Work) (H.roles memory.new.disk.host.now Role.Work) }
+    ensures lender { loom_lender memory.new ≡ loom_lender memory.old }
+    ensures others { LeavesBut (role.Transcript ∷ role.Work ∷ role.Saved ∷ []) (meanings H.Host memory.old.disk.host.now) (meanings H.Host memory.new.disk.host.now) }
+    ensures answer { IsTraceRefusal H.tells (meanings H.Host memory.old.disk.host.now) (meanings H.Host memory.new.disk.host.now) (row_for command.now) EndsFollowed result }
+{
+    let mut cpu = Cpu::at_rest();
+    if let Err(stop) = begin(memory, &mut cpu, state) {
+        return stopped(stop, cpu.ran);
+    }
+    match trace(memory, &mut cpu, events, command.steps) {
+        Ok(end) => status_of_trace(end, cpu.ran),
+        Err(TraceStop::Stop(stop)) => stopped(stop, cpu.ran),
+        Err(TraceStop::Write { count }) => Status::WriteFault {
+            role: Role::Saved,
+            count,
+        },
+    }
+}
+
+// The answer of a machine that stopped after so many bytecodes.
+fn stopped(stop: Stop, ran: u32) -> Status
+    ensures { result ≡ status_by (ByStop stop) ran }
+{
+    status_of(&Halted {
+        why: Reason::ByStop(stop),
+        ran,
+    })
+}
+
+// The answer of a trace that went through.
+fn status_of_trace(end: Step, ran: u32) -> Status
+    ensures { result ≡ status_along end ran }
+{
+    match end {
+        Step::Next => Status::Done { ran },
+        Step::Quit | Step::Keep => Status::Quit { ran },
+    }
+}
