@@ -1,8 +1,8 @@
 #!/bin/sh
 # Tries the program at its edge, on real files and streams, where no contract speaks: standard streams that are closed
 # or full, files that can't be read or written, a file that two words name in different ways, the work file among them, an image
-# that is saved over itself, disks that are full at each stage, a run that is killed while it saves, an image that is made, one that is listed
-# and a text that is assembled. Prints a line for each case.
+# that is saved over itself, disks that are full at each stage, a run that is killed while it saves, an image that is made, one that is listed,
+# a text that is assembled, and a run that is traced. Prints a line for each case.
 #
 #     tests/edge.sh [PROGRAM]
 set -u
@@ -61,6 +61,17 @@ patch unused.loom 556 '\176'
 cp "$top/crates/loom_cli/data/say.loom" "$top/crates/loom_images/data/hello.loom" . || exit 1
 cp "$top/tests/hello.pbm" . && cp say.loom unsaid.loom || exit 1
 version_2 unsaid.loom '\000\000\000\000'
+
+# An image that draws by BitBlt and quits. What is traced of it, of the base image for four bytecodes, and of the one that says `hi`; and the
+# first lines of these two.
+cp "$top/crates/loom_images/data/blit.loom" . || exit 1
+printf '1 66 2 112\n2 66 3 135\n3 66 4 163\n4 66 2 112\n' >base.trace
+printf '1 66 6 112\n2 66 7 33\n3 66 8 224\n' >say.trace
+{
+    printf '1 66 14 32\n2 66 15 209\n3 66 16 135\n4 66 17 34\n5 66 18 209\n6 66 19 135\n'
+    printf '7 66 20 35\n8 66 21 212\n9 66 22 135\n10 66 23 112\n11 66 24 213\n'
+} >blit.trace
+head -n 1 base.trace >first.trace && head -n 2 say.trace >unsaid.trace
 
 # Event files.
 : >none.events
@@ -125,8 +136,8 @@ done
 dd if=zeros of=more bs=26000 count=10 2>/dev/null && mv more zeros
 large_image 4
 
-# An image whose first bytecode reads a field of an array of 5,000 numbers, and what two bytecodes make of it; and one that states 1,025
-# objects.
+# An image whose first bytecode reads a field of an array of 5,000 numbers, and what two bytecodes make of it; one whose second does; and one
+# that states 1,025 objects.
 cp "$base" wide.loom && cp "$base" many.loom || exit 1
 patch wide.loom 11 '\033'       # 27 objects
 patch wide.loom 15 '\106'       # the next name is 70
@@ -143,6 +154,8 @@ patch wider.loom 31 '\021'      # nil stands in one place less
 patch wider.loom 587 '\013'
 patch wider.loom 607 '\001'     # where the field was pushed
 version_2 wider.loom '\000\000\000\002'
+cp wide.loom late.loom
+patch late.loom 556 '\160\000'  # push the receiver, and then its field 0
 patch many.loom 10 '\004\001'
 
 # What stands in SAVED and DISPLAY before each run: text that is no image, and longer than any file that is written here.
@@ -533,6 +546,7 @@ inner="trap '' XFSZ; ulimit -f 500;"
 try 'a limit, WORK'                     '' 'run large.loom none.events objects saved.loom display.pbm $sizes 2' 10 'work fault' saved.loom old.loom
 cp large.loom both.loom
 try 'a limit, SAVED is IMAGE'           '' 'run both.loom none.events objects both.loom display.pbm $sizes 2'   10 'work fault' both.loom large.loom
+try 'a limit, TEXT of a trace'          '' 'trace base.loom none.events objects saved.loom $sizes 99999'              11 'write fault: Saved' saved.loom old.loom
 inner='ulimit -f 500;'
 try 'a limit and its signal, SAVED is IMAGE' '' 'run both.loom none.events objects both.loom display.pbm $sizes 2' 153 '' both.loom large.loom
 inner=
@@ -547,6 +561,8 @@ if mount -t tmpfs -o size=1500k small small 2>/dev/null; then
     try 'a full disk, WORK'             '' 'run small/large.loom none.events small/objects saved.loom display.pbm $sizes 2' 10 'work fault' saved.loom old.loom
     try 'a full disk, WORK, and SAVED is IMAGE' '' 'run small/large.loom none.events small/objects small/large.loom display.pbm $sizes 2' 10 'work fault' small/large.loom large.loom
     rm -f small/objects
+    try 'a full disk, TEXT of a trace'  '' 'trace base.loom none.events objects small/old.loom $sizes 999999' 11 'write fault: Saved' small/old.loom old.loom
+    try 'a full disk, TEXT of a trace is new' '' 'trace base.loom none.events objects small/new.loom $sizes 999999' 11 'write fault: Saved' small/new.loom none
     dd if=/dev/zero of=small/filler bs=4096 2>/dev/null
     said=loom
     try 'a full disk, DISPLAY is new'   '' 'run hello.loom none.events objects saved.loom small/new.pbm $sizes 9999'       11 'write fault: Display' saved.loom drawn.loom
@@ -574,6 +590,9 @@ if $as test -x "$loom" 2>/dev/null && ! $as test -w closed; then
     try 'a closed folder, SAVED is IMAGE' '' 'run closed/image.loom none.events objects closed/image.loom display.pbm $sizes 2' 11 'write fault: Saved' closed/image.loom base.loom
     before='chmod 444 saved.loom; : >objects; chmod 666 objects'
     try 'SAVED may only be read'        '' "$good" 11 'write fault: Saved' saved.loom old.loom
+    before=': >objects; chmod 666 objects'
+    try 'a closed folder, TEXT of a trace' '' 'trace base.loom none.events objects closed/saved.loom $sizes 4' 0 'ran 4' closed/saved.loom base.trace
+    try 'a closed folder, TEXT of a trace is new' '' 'trace base.loom none.events objects closed/new.loom $sizes 4' 11 'write fault: Saved' closed/new.loom none
     before=
 else
     skip 'a closed folder' 'no other user can run the program'
@@ -597,6 +616,21 @@ if $as inject=chroot:error=EIO true 2>/dev/null; then
     as='strace -o trace -e inject=fsync:error=EIO:when=7'
     try 'DISPLAY is not synced'         '' "$good" 11 'write fault: Display' saved.loom after.loom
 
+    # A trace syncs WORK before TEXT is opened; then TEXT, and its folder. Each line is a write. Behind a stop nothing is said of a failure.
+    display=old
+    trace='trace base.loom none.events objects saved.loom $sizes 4'
+    as='strace -o trace -e inject=fsync:error=EIO:when=3'
+    try 'WORK of a trace is not synced' '' "$trace" 11 'write fault: Saved' saved.loom old.loom
+    as='strace -o trace -e inject=write:error=ENOSPC:when=3'
+    try 'a disk that is full at a line of a trace' '' "$trace" 11 'write fault: Saved' saved.loom old.loom
+    as='strace -o trace -e inject=fsync:error=EIO:when=4'
+    try 'TEXT of a trace is not synced' '' "$trace" 11 'write fault: Saved' saved.loom old.loom
+    as='strace -o trace -e inject=?rename,?renameat,?renameat2:error=EIO'
+    try 'TEXT of a trace gets no name'  '' "$trace" 11 'write fault: Saved' saved.loom old.loom
+    try 'TEXT of a trace gets no name, stuck' '' 'trace unused.loom none.events objects saved.loom $sizes 4' 5 'stuck: cause 2 after 0' saved.loom old.loom
+    as='strace -o trace -e inject=fsync:error=EIO:when=5'
+    try 'the name of TEXT of a trace is not synced' '' "$trace" 11 'write fault: Saved' saved.loom base.trace
+
     # A disk that is full at one write to WORK: at the first, which is in loading; at the first behind the opening of EVENTS, which is a
     # purge while the machine runs; and at the last before SAVED is opened, in finishing. None of them touches SAVED or DISPLAY.
     display=old
@@ -617,6 +651,10 @@ if $as inject=chroot:error=EIO true 2>/dev/null; then
         try 'a disk that is full while the machine runs' '' "$purged" 10 'work fault' saved.loom old.loom
         as="strace -o trace -e inject=pwrite64:error=ENOSPC:when=$3"
         try 'a disk that is full while the memory is wound up' '' "$purged" 10 'work fault' saved.loom old.loom
+        as=
+        "$loom" trace hello.loom none.events objects whole.trace $sizes 1000 >/dev/null 2>&1
+        as="strace -o trace -e inject=pwrite64:error=ENOSPC:when=$2"
+        try 'a disk that is full while a machine is traced' '' 'trace hello.loom purge.events objects saved.loom $sizes 9999' 10 'work fault' saved.loom whole.trace
         said=
     else
         tell 'a disk that is full at a write' "the writes of a run are '$numbers'"
@@ -752,6 +790,102 @@ try 'WORK is what is listed'            ''            'list base.loom base.loom 
 try 'WORK is what is written'           ''            'asm base.text saved.loom saved.loom' 2 'usage: word 4' saved.loom old.loom
 try 'a listing of three words'          ''            'list base.loom objects' 2 'usage: word 4' saved.loom old.loom
 try 'an assembling of five words'       ''            "$asm display.pbm" 2 'usage: word 5' saved.loom old.loom
+
+# A run is traced. TEXT is the old file or the new one, whole, and has its name before the line is written, also after a stop. There is no
+# picture.
+trace='trace base.loom none.events objects saved.loom $sizes 4'
+try 'TEXT of a trace is there'          ''            "$trace" 0 'ran 4' saved.loom base.trace
+try 'TEXT of a trace is no file yet'    ''            'trace base.loom none.events objects new.loom $sizes 4' 0 'ran 4' new.loom base.trace
+try 'no bytecode is traced'             ''            'trace base.loom none.events objects saved.loom $sizes 0' 0 'ran 0' saved.loom empty
+try 'a trace under events'              ''            'trace base.loom good.events objects saved.loom $sizes 4' 0 'ran 4' saved.loom base.trace
+try 'a trace up to the last bytecode'   ''            'trace blit.loom none.events objects saved.loom $sizes 99' 0 'quit after 11' saved.loom blit.trace
+try 'a trace in the smallest core'      ''            'trace base.loom none.events objects saved.loom 4096 512 1024 4' 0 'ran 4' saved.loom base.trace
+before='ln -sf saved.loom link.loom'
+try 'TEXT of a trace is a symbolic link' ''           'trace base.loom none.events objects link.loom $sizes 4' 0 'ran 4' saved.loom base.trace
+before='rm -f link.loom; echo left >saved.loom.part'
+try 'TEXT.part was left by a trace that was killed' '' "$trace" 0 'ran 4' saved.loom base.trace
+before='mkdir saved.loom.part'
+try 'TEXT.part of a trace is a directory' ''          "$trace" 11 'write fault: Saved' saved.loom old.loom
+rmdir saved.loom.part
+before=
+"$loom" trace base.loom none.events objects /dev/stdout $sizes 4 2>/dev/null | cmp -s - base.trace
+tell 'TEXT of a trace is a pipe' "${?#0}"
+
+# A stop leaves the lines of the bytecodes that were run.
+try 'a trace that is stuck at once'     ''            'trace unused.loom none.events objects saved.loom $sizes 4' 5 'stuck: cause 2 after 0' saved.loom empty
+try 'a trace that is stuck at once, TEXT is no file yet' '' 'trace unused.loom none.events objects new.loom $sizes 4' 5 'stuck: cause 2 after 0' new.loom empty
+try 'a trace for which the core has no room' ''       'trace late.loom none.events objects saved.loom 4096 512 1024 4' 6 'core full after 1: object 68, 5033 words, 73 entries' saved.loom first.trace
+said=hi
+try 'a line is said in a trace'         ''            'trace say.loom none.events objects saved.loom $sizes 3' 0 'ran 3' saved.loom say.trace
+try 'a line is said in a trace before a stop' ''      'trace say.loom none.events objects saved.loom $sizes 4' 5 'stuck: cause 1 after 3' saved.loom say.trace
+try 'a trace that stops, stderr closed' '2>&-'        'trace say.loom none.events objects saved.loom $sizes 4' 5 '' saved.loom say.trace
+try 'a trace, stderr closed'            '2>&-'        'trace say.loom none.events objects saved.loom $sizes 3' 11 '' saved.loom say.trace
+said=
+for streams in '1>&-' '1>/dev/full'; do
+    try "$streams, a line is said in a trace" "$streams" 'trace say.loom none.events objects saved.loom $sizes 3' 11 'write fault: Transcript' saved.loom unsaid.trace
+    try "$streams, nothing is said in a trace" "$streams" "$trace" 0 'ran 4' saved.loom base.trace
+done
+cp old.loom saved.loom
+"$loom" trace base.loom none.events objects saved.loom $sizes 2147483647 </dev/null >out 2>notes &
+run=$!
+turns=0
+until [ -s saved.loom.part ] || [ "$turns" -gt 1000000 ]; do
+    turns=$((turns + 1))
+done
+kill -9 "$run" 2>/dev/null
+wait "$run" 2>/dev/null
+cmp -s saved.loom old.loom && [ -s saved.loom.part ]
+tell 'a trace that is killed leaves TEXT as it was' "${?#0}"
+rm -f saved.loom.part
+
+# TEXT isn't touched where the trace ends before it is attached, and is as it was where it can't be written.
+try 'a trace of a bad image'            ''            'trace old.loom none.events objects saved.loom $sizes 4' 3 'image: rule 1 at 0' saved.loom old.loom
+try 'a trace of no image'               ''            'trace none.loom none.events objects saved.loom $sizes 4' 9 'read fault: Image' saved.loom old.loom
+try 'a trace of more objects than ROOM' ''            'trace many.loom none.events objects saved.loom 4096 512 1024 4' 8 'work full: 1025 objects, room 1024' saved.loom old.loom
+try 'a trace under bad events'          ''            'trace base.loom cut.events objects saved.loom $sizes 4' 4 'events: line 1' saved.loom old.loom
+try 'a trace under bad events, TEXT is no file yet' '' 'trace base.loom cut.events objects new.loom $sizes 4' 4 'events: line 1' new.loom none
+try 'a trace under no events'           ''            'trace base.loom no.events objects saved.loom $sizes 4' 9 'read fault: Events' saved.loom old.loom
+try 'WORK of a trace is a directory'    ''            'trace base.loom none.events directory saved.loom $sizes 4' 10 'work fault' saved.loom old.loom
+try 'TEXT of a trace is full'           ''            'trace say.loom none.events objects /dev/full $sizes 3' 11 'write fault: Saved' saved.loom old.loom
+try 'TEXT of a trace is a directory'    ''            'trace base.loom none.events objects directory $sizes 4' 11 'write fault: Saved' saved.loom old.loom
+try 'TEXT of a trace in no directory'   ''            'trace base.loom none.events objects none/new.text $sizes 4' 11 'write fault: Saved' none none
+try 'TEXT of a trace is for reading only' ''          'trace base.loom none.events objects /proc/version $sizes 4' 11 'write fault: Saved' /proc/version version
+try 'TEXT of a trace is standard output' ''           'trace say.loom none.events objects out $sizes 3' 11 'write fault: Saved' saved.loom old.loom
+try 'TEXT of a trace is standard error' ''            'trace base.loom none.events objects notes $sizes 4' 11 'write fault: Saved' saved.loom old.loom
+
+# WORK is none of the others, by whatever path. TEXT may lead to IMAGE or EVENTS by another path, as SAVED may, and takes its place.
+for file in base.loom kept.events saved.loom; do
+    before='cp good.events kept.events'
+    case $file in
+        base.loom) role=IMAGE; wanted=$base ;;
+        kept.events) role=EVENTS; wanted=good.events ;;
+        saved.loom) role=TEXT; wanted=old.loom ;;
+    esac
+    try "WORK of a trace is $role, by another path" '' "trace base.loom kept.events ./$file saved.loom \$sizes 4" 10 'work fault' $file "$wanted"
+    before="cp good.events kept.events; ln -sf $file alias"
+    try "WORK of a trace is $role, by a symbolic link" '' "trace base.loom kept.events alias saved.loom \$sizes 4" 10 'work fault' $file "$wanted"
+    rm -f alias
+    before="cp good.events kept.events; ln -f $file alias"
+    try "WORK of a trace is $role, by a hard link" '' "trace base.loom kept.events alias saved.loom \$sizes 4" 10 'work fault' $file "$wanted"
+    rm -f alias
+    cp "$base" base.loom
+done
+before='cp base.loom both.loom'
+try 'TEXT of a trace is IMAGE, by another path' ''    'trace both.loom none.events objects ./both.loom $sizes 4' 0 'ran 4' both.loom base.trace
+before='cp good.events both.events'
+try 'TEXT of a trace is EVENTS, by another path' ''   'trace base.loom both.events objects ./both.events $sizes 4' 0 'ran 4' both.events base.trace
+before=
+
+# Bad words of a trace: nothing is opened, and WORK isn't made.
+try 'WORK of a trace is IMAGE'          ''            'trace base.loom none.events base.loom saved.loom $sizes 4' 2 'usage: word 4' base.loom "$base"
+try 'WORK of a trace is EVENTS'         ''            'trace base.loom good.events good.events saved.loom $sizes 4' 2 'usage: word 4' saved.loom old.loom
+try 'TEXT of a trace is IMAGE'          ''            'trace base.loom none.events objects base.loom $sizes 4' 2 'usage: word 5' objects none
+try 'TEXT of a trace is EVENTS'         ''            'trace base.loom good.events objects good.events $sizes 4' 2 'usage: word 5' objects none
+try 'TEXT of a trace is WORK'           ''            'trace base.loom none.events saved.loom saved.loom $sizes 4' 2 'usage: word 5' saved.loom old.loom
+try 'a trace with the words of a run'   ''            'trace base.loom none.events objects saved.loom display.pbm $sizes 4' 2 'usage: word 6' objects none
+try 'CORE of a trace is too small'      ''            'trace base.loom none.events objects saved.loom 4095 512 1024 4' 2 'usage: word 6' objects none
+try 'a trace of eight words'            ''            'trace base.loom none.events objects saved.loom $sizes' 2 'usage: word 9' objects none
+try 'a trace of ten words'              ''            "$trace 4" 2 'usage: word 10' saved.loom old.loom
 
 
 # Words that are missing, extra or bad.
