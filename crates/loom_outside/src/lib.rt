@@ -13,6 +13,7 @@
 //! `Work.antt` for calls on Work alone. No clause says what a file of the system holds after a call of `RealHost`: `tests/edge.sh` tries it.
 #![tactic(auto)]
 
+mod bytes;
 mod calls;
 mod chunk;
 mod contents;
@@ -29,8 +30,9 @@ mod store;
 mod whole;
 mod writer;
 
+pub use bytes::{read_bytes_at, write_bytes_at};
 pub use lying::LyingHost;
 pub use memory::MemoryHost;
 pub use outside::{DiskFault, Failed, Host, Role};
-pub use real::RealHost;
+pub use real::{Expected, Identity, RealHost};
 pub use whole::{read_full, write_full};

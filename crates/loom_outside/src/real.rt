@@ -1,7 +1,8 @@
 // A host over files and the standard streams, by which nothing that was kept is lost:
 //
 // - A file is cut or replaced only where no other role has it, whatever it is called; else the attach fails. Saved alone may
-//   replace what Image or Events read. Work, which is attached first, isn't cut where another role is expected to have its file.
+//   replace what Image or Events read, unless it is told not to. Work, which is attached first, isn't cut where another role is expected
+//   to have its file. A file that isn't of the roles can be protected from all of them.
 // - What was written to a file is on the disk before the next role is attached, and Display's once each write is done; else
 //   that call fails.
 // - Saved is written beside its file, and takes its name when the next role is attached, or where a piece of no bytes ends it.
@@ -13,6 +14,7 @@ ghost use Rattle.loom_outside.specs.Real.{faults_counted, writes_counted};
 ghost use Rattle.loom_outside.specs.declared.outside.Role.{Role};
 
 mod attached;
+mod expected;
 mod identity;
 mod paths;
 mod saving;
@@ -21,6 +23,9 @@ mod transfer;
 use crate::per_role::PerRole;
 use crate::real::attached::Attached;
 use crate::{Failed, Host, Role};
+pub use expected::Expected;
+pub use identity::Identity;
+use std::alloc::AllocError;
 use std::io::Write;
 use std::os::unix::fs::FileExt;
 use std::rt::Files;
@@ -60,6 +65,23 @@ where
         ensures writes { ⟦<RealHost<R, T, N> as Host>⟧.writes self.new ≡ ⟦<RealHost<R, T, N> as Host>⟧.writes self.old }
     {
         self.files.expect(role, name);
+    }
+
+    /// From then on the attach of Saved fails where its file is that of Image or Events, by whatever name, and leaves it as it is.
+    pub fn keep_inputs(&mut self)
+        ensures faults { (r : Role) → ⟦<RealHost<R, T, N> as Host>⟧.faults self.new r ≡ ⟦<RealHost<R, T, N> as Host>⟧.faults self.old r }
+        ensures writes { ⟦<RealHost<R, T, N> as Host>⟧.writes self.new ≡ ⟦<RealHost<R, T, N> as Host>⟧.writes self.old }
+    {
+        self.files.keep_inputs();
+    }
+
+    /// From then on the attach of a role that is written fails where its file is the one that has this name at that time, and leaves it as
+    /// it is. One name is kept, the last that was told.
+    pub fn protect(&mut self, name: &str) -> Result<(), AllocError>
+        ensures faults { (r : Role) → ⟦<RealHost<R, T, N> as Host>⟧.faults self.new r ≡ ⟦<RealHost<R, T, N> as Host>⟧.faults self.old r }
+        ensures writes { ⟦<RealHost<R, T, N> as Host>⟧.writes self.new ≡ ⟦<RealHost<R, T, N> as Host>⟧.writes self.old }
+    {
+        self.files.protect(name)
     }
 }
 

@@ -5,19 +5,16 @@ ghost use Rattle.std.specs.Prelude.{◌≡◌, ◌<◌, ◌≤◌, IfSome, lengt
 ghost use Rattle.loom_outside.specs.Outside.{CanAttach, CanRead, CanWrite};
 
 use crate::Role;
-use crate::real::identity::{Identity, Opened, identity_in, identity_of, sync_in};
+use crate::real::expected::Expected;
+use crate::real::identity::{Identity, Opened, identity_in, sync_in};
 use crate::real::paths::{followed, open_folder};
 use crate::real::saving::{Names, Saving};
 use crate::real::transfer::{read_some, read_whole, write_some, write_through, write_whole};
+use std::alloc::AllocError;
 use std::fs::{File, OpenFile, OpenOptions};
 use std::io::{self, ErrorKind, Write};
 use std::os::unix::fs::FileExt;
 use std::rt::Files;
-
-// The names of the standard streams.
-const OUTPUT: &str = "/dev/stdout";
-
-const ERRORS: &str = "/dev/stderr";
 
 // The roles that are read alone, and those that are written.
 const READ: [Role; 2] = [Role::Image, Role::Events];
@@ -29,9 +26,6 @@ const WRITTEN: [Role; 5] = [
     Role::Transcript,
     Role::Notes,
 ];
-
-// How many roles may be attached behind Work: Image, Events, Saved and Display.
-const EXPECTED: usize = 4;
 
 #[derive(Drop)]
 pub struct Attached<R: Files + Alloc, T: Write, N: Write> {
@@ -45,19 +39,12 @@ pub struct Attached<R: Files + Alloc, T: Write, N: Write> {
     display: Option<Opened<R::File>>,
     transcript: T,
     notes: N,
-    // which files the standard streams are
-    output: Option<Identity>,
-    errors: Option<Identity>,
-    // which files will be attached behind Work
-    expected: [Option<Identity>; EXPECTED],
-}
-
-// Which file has this name, if there is one.
-fn named<R: Files>(rt: &R, name: &str) -> Option<Identity> {
-    match rt.metadata(name) {
-        Ok(metadata) => identity_of(&metadata),
-        Err(_) => None,
-    }
+    // which files the standard streams are, and which will be attached behind Work
+    expected: Expected,
+    // whether Saved may replace neither Image nor Events
+    keeps_inputs: bool,
+    // the name of a file that no role may cut or replace
+    protected: Option<String<R::A>>,
 }
 
 fn same_file() -> io::Error {
@@ -75,8 +62,7 @@ fn is_forbidden(error: &io::Error) -> bool {
 // What opens a file, and what attaches it.
 impl<R: Files + Alloc, T: Write, N: Write> Attached<R, T, N> {
     pub fn new(rt: R, transcript: T, notes: N) -> Attached<R, T, N> {
-        let output = named(&rt, OUTPUT);
-        let errors = named(&rt, ERRORS);
+        let expected = Expected::new(&rt);
         Attached {
             rt,
             image: None,
@@ -87,22 +73,31 @@ impl<R: Files + Alloc, T: Write, N: Write> Attached<R, T, N> {
             display: None,
             transcript,
             notes,
-            output,
-            errors,
-            expected: [None; EXPECTED],
+            expected,
+            keeps_inputs: false,
+            protected: None,
         }
     }
 
     // A role will be attached by this name.
     pub fn expect(&mut self, role: Role, name: &str) {
-        let identity = named(&self.rt, name);
         match role {
-            Role::Image => self.expected[0] = identity,
-            Role::Events => self.expected[1] = identity,
-            Role::Saved => self.expected[2] = identity,
-            Role::Display => self.expected[3] = identity,
+            Role::Image | Role::Events | Role::Saved | Role::Display => {
+                self.expected.expect(&self.rt, role, name);
+            }
             Role::Work | Role::Transcript | Role::Notes => {}
         }
+    }
+
+    // Saved may replace neither Image nor Events.
+    pub fn keep_inputs(&mut self) {
+        self.keeps_inputs = true;
+    }
+
+    // No role may cut or replace the file that has this name.
+    pub fn protect(&mut self, name: &str) -> Result<(), AllocError> {
+        self.protected = Some(String::from_str(self.rt.alloc(), name)?);
+        Ok(())
     }
 
     pub fn attach(&mut self, role: Role, name: &str) -> io::Result<()>
@@ -136,8 +131,7 @@ impl<R: Files + Alloc, T: Write, N: Write> Attached<R, T, N> {
             Role::Work => identity_in(&self.work),
             Role::Saved => self.saved,
             Role::Display => identity_in(&self.display),
-            Role::Transcript => self.output,
-            Role::Notes => self.errors,
+            Role::Transcript | Role::Notes => self.expected.of(role),
         }
     }
 
@@ -151,9 +145,27 @@ impl<R: Files + Alloc, T: Write, N: Write> Attached<R, T, N> {
         false
     }
 
-    // Fails where another role has this file.
+    // Whether it is the file that no role may cut or replace, by the name that it has now.
+    fn is_protected(&self, identity: Option<Identity>) -> bool {
+        match &self.protected {
+            Some(name) => {
+                identity.is_some() && Identity::named(&self.rt, name.as_str()) == identity
+            }
+            None => false,
+        }
+    }
+
+    // Fails where another role has this file, or none may.
     fn claim(&self, role: Role, identity: Option<Identity>) -> io::Result<()> {
-        if self.is_taken(role, identity, &READ) || self.is_taken(role, identity, &WRITTEN) {
+        if self.is_taken(role, identity, &READ) {
+            return Err(same_file());
+        }
+        self.claim_written(role, identity)
+    }
+
+    // The same, but the file may be one that is only read.
+    fn claim_written(&self, role: Role, identity: Option<Identity>) -> io::Result<()> {
+        if self.is_taken(role, identity, &WRITTEN) || self.is_protected(identity) {
             return Err(same_file());
         }
         Ok(())
@@ -167,7 +179,7 @@ impl<R: Files + Alloc, T: Write, N: Write> Attached<R, T, N> {
             .open(&self.rt, name)?;
         let opened = Opened::new(file)?;
         self.claim(Role::Work, opened.identity)?;
-        if opened.identity.is_some() && self.expected.contains(&opened.identity) {
+        if self.expected.has(opened.identity) {
             return Err(same_file());
         }
         opened.cut()?;
@@ -210,8 +222,10 @@ impl<R: Files + Alloc, T: Write, N: Write> Attached<R, T, N> {
 
     // Over a file that is there: beside it where a new one can take its name, and else in its place.
     fn save_over(&self, name: &str, old: Opened<R::File>) -> io::Result<Saving<R>> {
-        if self.is_taken(Role::Saved, old.identity, &WRITTEN) {
-            return Err(same_file());
+        if self.keeps_inputs {
+            self.claim(Role::Saved, old.identity)?;
+        } else {
+            self.claim_written(Role::Saved, old.identity)?;
         }
         let metadata = old.file.metadata()?;
         if metadata.is_file() {
@@ -240,7 +254,7 @@ impl<R: Files + Alloc, T: Write, N: Write> Attached<R, T, N> {
         if !metadata.is_file() {
             return Err(io::Error::from(ErrorKind::AlreadyExists));
         }
-        self.claim(Role::Saved, identity_of(&metadata))?;
+        self.claim(Role::Saved, Identity::of(&metadata))?;
         self.rt.remove_file(part)
     }
 }

@@ -2,23 +2,36 @@
 use std::fs::{Metadata, OpenFile};
 use std::io;
 use std::os::unix::fs::{FileTypeExt, MetadataExt};
+use std::rt::Files;
 
+/// Which file of the system a file is, by whatever name it was opened.
 #[derive(Clone, Copy, PartialEq, Eq)]
 pub struct Identity {
     device: u64,
     inode: u64,
 }
 
-// None for what keeps no bytes, as a terminal, a pipe or the null device: roles may share it, and nothing is lost by that.
-pub fn identity_of(metadata: &Metadata) -> Option<Identity> {
-    let kind = metadata.file_type();
-    if kind.is_file() || kind.is_block_device() {
-        Some(Identity {
-            device: metadata.dev(),
-            inode: metadata.ino(),
-        })
-    } else {
-        None
+impl Identity {
+    /// Of an open file. None for what keeps no bytes, as a terminal, a pipe or the null device: roles may share it, and nothing is lost by
+    /// that.
+    pub fn of(metadata: &Metadata) -> Option<Identity> {
+        let kind = metadata.file_type();
+        if kind.is_file() || kind.is_block_device() {
+            Some(Identity {
+                device: metadata.dev(),
+                inode: metadata.ino(),
+            })
+        } else {
+            None
+        }
+    }
+
+    /// Of the file that has this name now, where there is one.
+    pub fn named<R: Files>(rt: &R, name: &str) -> Option<Identity> {
+        match rt.metadata(name) {
+            Ok(metadata) => Identity::of(&metadata),
+            Err(_) => None,
+        }
     }
 }
 
@@ -31,7 +44,7 @@ pub struct Opened<F> {
 
 impl<F: OpenFile + Drop> Opened<F> {
     pub fn new(file: F) -> io::Result<Opened<F>> {
-        let identity = identity_of(&file.metadata()?);
+        let identity = Identity::of(&file.metadata()?);
         Ok(Opened { file, identity })
     }
 

@@ -1,6 +1,6 @@
 // The file of Saved while it is written. It is written beside the file that it is to be, and takes that file's name once it
 // is whole and on the disk: until then the file of that name is as before, and where anything fails it stays so.
-use crate::real::identity::{Identity, Opened, identity_of};
+use crate::real::identity::{Identity, Opened};
 use crate::real::paths::{followed, open_folder};
 use std::fs::{Metadata, OpenFile, OpenOptions, Permissions};
 use std::io::{self, ErrorKind};
@@ -81,7 +81,7 @@ impl<R: Files + Alloc> Names<R> {
 // Whether it is this file that has the path, and no link.
 fn is_at<R: Files>(rt: &R, path: &str, identity: Option<Identity>) -> bool {
     match rt.symlink_metadata(path) {
-        Ok(metadata) => identity.is_some() && identity_of(&metadata) == identity,
+        Ok(metadata) => identity.is_some() && Identity::of(&metadata) == identity,
         Err(_) => false,
     }
 }
