@@ -8,7 +8,7 @@ use Rattle.image_format.specs.declared.opening.ImageHead.{ImageHead}
 use Rattle.image_format.specs.Heads.{head_at}
 use Rattle.image_format.specs.Reading.{halt}
 use Rattle.image_format.specs.Rules as rules
-use Rattle.image_format.specs.Rules.{Image, break, image_at, records_at, end_at, first_break, whole_break}
+use Rattle.image_format.specs.Rules.{Image, break, image_at, records_at, first_break, whole_break}
 use Rattle.image_reader.specs.declared.fault.LoadFault.{LoadFault}
 use Rattle.image_reader.specs.declared.fault.LoadFault.TheVariants.{Bad, Read, Disk, Memory}
 use Rattle.image_reader.specs.Frames.{IsHalted, IsLoading, IsPartFault}

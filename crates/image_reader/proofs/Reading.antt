@@ -48,7 +48,7 @@ records_end last next bytes recs = ap (λ (l : List Rec). let y : Result (List R
 
 -- ---- the list
 
-named-more : (recs : List Rec) (r : Rec) → names_of (recs ++ r ∷ []) ≡ names_of recs ++ r.name ∷ []
+pub named-more : (recs : List Rec) (r : Rec) → names_of (recs ++ r ∷ []) ≡ names_of recs ++ r.name ∷ []
 named-more recs r = map-append (λ (x : Rec). x.name) recs (r ∷ [])
 
 pub listed_none : (next : ℕ) → AreListed [] 0 next
@@ -61,7 +61,7 @@ listed_none next = record {
   own = All-nil (λ (r : Rec). rec_in [] r.name ≡ Some r);
 }
 
-listed_more : (recs : List Rec) (last next : ℕ) (r : Rec) → AreListed recs last next → IsRecord r → last < r.name → r.name < next → AreListed (recs ++ r ∷ []) r.name next
+pub listed_more : (recs : List Rec) (last next : ℕ) (r : Rec) → AreListed recs last next → IsRecord r → last < r.name → r.name < next → AreListed (recs ++ r ∷ []) r.name next
 listed_more recs last next r l is above below =
     let none = l.none r.name above in
     record {

@@ -1,12 +1,9 @@
 -- Lines that are read one after the other, and their objects, each put to the disk.
-use Rattle.std.proofs.Common.{◌≡◌, ℕ, ◌+◌, ◌<◌, ◌≤◌, ◌⊎◌, Bool, IsTrue, List, [], ◌∷◌, ◌++◌, length, take, drop, Option, Some, None, Result, Ok, Err, refl, sym, ap, ap₂, subst, ◌∙◌, inl, inr, append_assoc, length-append, arith}
-use Rattle.std.specs.Prelude.{All}
+use Rattle.std.proofs.Common.{◌≡◌, ℕ, ◌+◌, ◌<◌, ◌≤◌, ◌⊎◌, Bool, IsTrue, List, [], ◌∷◌, ◌++◌, length, take, drop, Some, Result, Ok, Err, refl, sym, ap, ap₂, subst, ◌∙◌, inl, inr, append_assoc, length-append, arith}
 use Rattle.std.specs.FinMap as map
 use Rattle.std.proofs.lemmas.Bool.{le-leb, lt-leb}
-use Rattle.std.proofs.lemmas.List.{append-nil, length-map, map-append}
-use Rattle.std.proofs.lemmas.List.Elements.{All-nil, All-push, All-weaker}
-use Rattle.std.proofs.lemmas.List.Quantifiers.{all_pairs_push}
-use Rattle.long_names.specs.Objects.{IsRecord}
+use Rattle.std.proofs.lemmas.List.{append-nil, length-map}
+use Rattle.std.proofs.lemmas.List.Elements.{All-nil, All-push}
 use Rattle.long_names.specs.declared.object.Rec.{Rec}
 use Rattle.loom_outside.specs.declared.outside.Host.{Ghosts}
 use Rattle.loom_outside.specs.declared.outside.Role.TheVariants.{Image, Work}
@@ -17,16 +14,15 @@ use Rattle.disk_objects.specs.Disk.{IsDisk, Objects, disk_held, object_of}
 use Rattle.disk_objects.specs.Function.{PutsObject}
 use Rattle.image_format.specs.declared.fault.Break.{Break}
 use Rattle.image_format.specs.declared.head.TheConstants.{FEWEST_OBJECTS}
-use Rattle.image_format.specs.Rules.{Image as WholeImage, break, rec_in}
+use Rattle.image_format.specs.Rules.{Image as WholeImage, break}
 use Rattle.image_reader.specs.Frames.{IsLoading, ReadsImage}
 use Rattle.image_reader.specs.Inside.{AreListed}
-use Rattle.image_reader.specs.Loaded.{IsStored, names_of}
-use Rattle.image_reader.specs.Names.{IsRising}
+use Rattle.image_reader.specs.Loaded.{IsStored}
 use Rattle.image_reader.specs.Window.{Ahead, unused}
 use Rattle.image_reader.specs.declared.fault.LoadFault.TheVariants as load
 use Rattle.image_reader.proofs.Frames.{fault_later}
-use Rattle.image_reader.proofs.Reading.{listed_none}
-use Rattle.image_reader.proofs.Stored.{rec_apart, rec_here, still_stored, stored_more}
+use Rattle.image_reader.proofs.Reading.{listed_more, listed_none, named-more}
+use Rattle.image_reader.proofs.Stored.{still_stored, stored_more}
 use Rattle.image_reader.proofs.Takes.{same_left}
 use Rattle.text_lines.specs.Breaks.{◌>>=◌, first_break_of, head_at, image_of, keeping, lines_at, object_at, objects_at, text_break}
 use Rattle.text_lines.specs.Grammar.{Head}
@@ -135,30 +131,6 @@ takes_line host old mid new rest between after w f v buffer number last next nam
           ];
     }
 
--- ---- the list
-
-named-more : (recs : List Rec) (r : Rec) → names_of (recs ++ r ∷ []) ≡ names_of recs ++ r.name ∷ []
-named-more recs r = map-append (λ (x : Rec). x.name) recs (r ∷ [])
-
-listed_more : (recs : List Rec) (last next : ℕ) (r : Rec) → AreListed recs last next → IsRecord r → last < r.name → r.name < next → AreListed (recs ++ r ∷ []) r.name next
-listed_more recs last next r l is above below =
-    let none = l.none r.name above in
-    record {
-      records = All-push IsRecord recs r l.records is;
-      below = All-push (λ (x : Rec). x.name < next) recs r l.below below;
-      rising = subst IsRising (sym (named-more recs r)) (all_pairs_push (λ (x y : ℕ). x < y) (names_of recs) r.name l.rising (λ k d low. omega (arith, l.highest k d low, above)));
-      highest = subst (λ (ns : List ℕ). All (λ (n : ℕ). n ≤ r.name) ns) (sym (named-more recs r))
-          (All-push (λ (n : ℕ). n ≤ r.name) (names_of recs) r.name (All-weaker (λ (n : ℕ). n ≤ last) (λ (n : ℕ). n ≤ r.name) (λ n le. omega (arith, le, above)) (names_of recs) l.highest) (omega arith));
-      none = λ q over. rec_apart recs r q (λ e. omega (arith, over, e)) ∙ l.none q (omega (arith, above, over));
-      own = All-push (λ (x : Rec). rec_in (recs ++ r ∷ []) x.name ≡ Some x) recs r
-          (All-weaker (λ (x : Rec). rec_in recs x.name ≡ Some x) (λ (x : Rec). rec_in (recs ++ r ∷ []) x.name ≡ Some x) (λ x own. stays x own) recs l.own)
-          (rec_here recs r none);
-    }
-  where
-    stays : (x : Rec) → rec_in recs x.name ≡ Some x → rec_in (recs ++ r ∷ []) x.name ≡ Some x
-    stays x own = rec_apart recs r x.name (λ (e : x.name ≡ r.name).
-        let clash : ◌≡◌ {A = Option Rec} None (Some x) = sym (l.none r.name above) ∙ ap (rec_in recs) (sym e) ∙ own in let no : ⊥ = cc in no) ∙ own
-
 -- ---- the loop
 
 after_none : (x : Result (List Rec) Break) → x ≡ after_records [] x
@@ -235,6 +207,7 @@ is_done host old mid new rest after w v number last next names so_far at_end = r
       ∙ ap (after_records so_far.recs) (no_objects number last next)
       ∙ ap (λ (l : List Rec). let y : Result (List Rec) Break = Ok l in y) (append-nil so_far.recs);
   end = at_end.end;
+  held = let h = so_far.held in let same : disk_held after ≡ disk_held rest = ap (λ (d : DiskRest). disk_held d) at_end.rest_is in omega (arith, h, same);
   stored = λ told. still_stored host mid new rest after so_far.recs at_end.work at_end.rest_is (so_far.stored told);
 }
 
@@ -355,4 +328,5 @@ module _ {H : Type 0} (host : Ghosts H) (old mid : H) (w v : Ahead) (head : Head
         state = h.state;
         read = λ told. is_whole (head_read head) o.recs (objects_at 2 0 head.next (lines_of (unused v (host.roles mid Image)))) (lines_at (lines_of (host.roles old Image).left)) (text_goes h told) (o.read told) (omega (arith, len, enough));
         end = o.end;
+        held = o.held;
       }

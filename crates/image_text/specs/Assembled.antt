@@ -1,15 +1,26 @@
 -- What assembling a text does with a host and its disk, and why it broke off. What listing does is `Puts` of image_writer.
-use Rattle.std.specs.Prelude.{◌≡◌, ◌⊎◌, ℕ, List, Err, IsTrue, Some}
+use Rattle.std.specs.Prelude.{◌≡◌, ◌≤◌, ◌⊎◌, ℕ, List, Ok, Err, IsTrue, Some}
 use Rattle.loom_outside.specs.declared.outside.Host.{Ghosts}
 use Rattle.loom_outside.specs.declared.outside.Role.TheVariants.{Image, Work}
 use Rattle.image_format.specs.declared.fault.Break.{Break}
-use Rattle.image_format.specs.Rules.{break}
+use Rattle.image_format.specs.declared.opening.State.{State}
+use Rattle.image_format.specs.Rules.{Image as WholeImage, break}
 use Rattle.image_reader.specs.Frames.{IsDiskFault, IsPartFault}
 use Rattle.image_reader.specs.Loaded.{is_of_whole}
 use Rattle.image_reader.specs.declared.fault.LoadFault.TheVariants as load
 use Rattle.text_lines.specs.Breaks.{text_at, text_break}
 use Rattle.image_text.specs.declared.fault.TextFault.{TextFault}
 use Rattle.image_text.specs.declared.fault.TextFault.TheVariants.{Bad, Read, Disk, Memory}
+
+-- ---- what was read
+
+-- The text is read to its end as an image that has this next name and this state, and at least so many objects.
+pub record IsReadAs (text : List ℕ) (objects next : ℕ) (state : State) : Type 0 where
+  pub image : WholeImage
+  pub read : text_at text ≡ Ok image
+  pub objects_fit : objects ≤ image.head.opening.objects
+  pub next_is : next ≡ image.head.opening.next
+  pub state_is : state ≡ image.head.state
 
 -- ---- why none was assembled
 

@@ -4,6 +4,7 @@ use Rattle.long_names.specs.declared.object.Rec.{Rec}
 use Rattle.loom_outside.specs.declared.outside.Host.{Ghosts}
 use Rattle.loom_outside.specs.declared.outside.Role.TheVariants.{Image}
 use Rattle.disk_objects.specs.declared.rest.DiskRest.{DiskRest}
+use Rattle.disk_objects.specs.Disk.{disk_held}
 use Rattle.image_format.specs.declared.fault.Break.{Break}
 use Rattle.image_format.specs.declared.head.TheConstants.{FEWEST_OBJECTS, MOST_OBJECTS}
 use Rattle.image_format.specs.Heads.{is_next}
@@ -26,6 +27,7 @@ pub record ReadsText {H : Type 0} (host : Ghosts H) (old new : H) (rest : DiskRe
   pub state : keeps_state head ≡ true
   pub read : IsTrue (host.tells Image) → text_at (host.roles old Image).left ≡ Ok (image_of head recs)
   pub end : IsTrue (host.tells Image) → (host.roles new Image).left ≡ []
+  pub held : disk_held rest ≤ length names
 
 -- why it wasn't read: Bad has the line and the rule that break first, of a host that tells Image
 abbrev pub IsUnread : {H : Type 0} → Ghosts H → H → TextFault → Type 0

@@ -148,6 +148,7 @@ pub record ReadsObjects {H : Type 0} (host : Ghosts H) (old new : H) (after : Di
   pub uncounted : All (λ (r : Rec). r.count ≡ 0) recs
   pub read : IsTrue (host.tells Image) → objects_at 2 0 next (lines_of (unused w (host.roles old Image))) ≡ Ok recs
   pub end : IsTrue (host.tells Image) → (host.roles new Image).left ≡ []
+  pub held : disk_held after ≤ length names
   pub stored : IsTrue (host.tells Work) → IsStored host new after recs
 
 -- the lines up to this number were read and their objects put, and these are their names

@@ -8,7 +8,7 @@ ghost use Rattle.image_format.specs.Heads.{is_next};
 ghost use Rattle.image_format.specs.Rules.{IsState};
 ghost use Rattle.image_reader.specs.Frames.{IsLoading};
 ghost use Rattle.image_reader.specs.Loaded.{IsLoadedHeap, heap_on};
-ghost use Rattle.image_text.specs.Assembled.{IsTextFault};
+ghost use Rattle.image_text.specs.Assembled.{IsReadAs, IsTextFault};
 ghost use Rattle.image_text.specs.Judged.{HasFits};
 ghost use Rattle.image_text.specs.Lines.{head_read};
 ghost use Rattle.text_lines.specs.Texts.{IsTextOf};
@@ -40,8 +40,9 @@ fn loaded(objects: u32, head: Head) -> Loaded
 /// line, a record, and the names with a count each.
 ///
 /// Its condition is that Image is attached and the disk is as `begin` made it with room for the most objects that an image has. After Ok
-/// the text was that of the disk's heap and this state, the disk's counts are exact, none is pending, and Image was read to its end. Bad
-/// comes exactly where the text is that of no heap and state: `text_break` says for which line and rule.
+/// the text was that of the disk's heap and this state, the disk's counts are exact, none is pending, and Image was read to its end. Over
+/// a host that doesn't tell Work, Ok says that the text is read as an image with this next name, this state and at least so many objects.
+/// Bad comes exactly where the text is that of no heap and state: `text_break` says for which line and rule.
 pub fn assemble<H: Host>(
     alloc: Global,
     disk: &mut DiskObjects<'_, H>,
@@ -52,6 +53,7 @@ pub fn assemble<H: Host>(
     requires empty { IsTrue (H.tells Role.Work) → IsDisk disk.old.rest (work_of H.Host disk.old.host.now) map.empty [] }
     requires none { disk_held disk.old.rest ≡ 0 }
     ensures text { IsTrue (H.tells Role.Image) → IsTrue (H.tells Role.Work) → IfOk result (λ x. IsTextOf (H.roles disk.old.host.now Role.Image).left (heap_on H.Host disk.new.host.now disk.new.rest x.next) x.state) }
+    ensures stated { IsTrue (H.tells Role.Image) → IfOk result (λ x. IsReadAs (H.roles disk.old.host.now Role.Image).left x.objects x.next x.state) }
     ensures heap { IsTrue (H.tells Role.Work) → IfOk result (λ x. IsLoadedHeap H.Host disk.new.host.now disk.new.rest x.next) }
     ensures state { IsTrue (H.tells Role.Work) → IfOk result (λ x. IsState (heap_on H.Host disk.new.host.now disk.new.rest x.next) x.state) }
     ensures idle { IsTrue (H.tells Role.Work) → OnOk result ((objects : Objects) × IsDisk disk.new.rest (work_of H.Host disk.new.host.now) objects []) }

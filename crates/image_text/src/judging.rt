@@ -145,7 +145,7 @@ fn judge_words<H: Host>(
     judge_held(tally)
 }
 
-/// A count as the change of none. Counts are far below 2 ^ 63.
+/// The change that takes a name's count from 0 to this one. It is exact below 2 ^ 63, and every count of an image is far below that.
 fn change_of(count: u64) -> i64
     ensures { count < 2 ^ 63 → result ≡ pos count }
 {

@@ -90,20 +90,27 @@ pub record AreNames (h : Heap) (ks : List ℕ) : Type 0 where
   pub rises : Rises 0 ks
   pub are : (n : ℕ) → any n ks ≡ is_some (h.at n)
 
--- the text of a name that is there or not
-one_text : (h : Heap) (n : ℕ) (o : Option Object) (b : Bool) → h.at n ≡ o → b ≡ is_some o → name_text h n ≡ flat_map (name_text h) (one b n)
-one_text h n None true e is = let clash : ◌≡◌ {A = Bool} true false = is in absurd (cc)
-one_text h n None false e is = ap (λ (o : Option Object). option_map_or (λ (o : Object). record_text (rec_of h n o)) o []) e
-one_text h n (Some o) true e is = sym (append-nil (name_text h n))
-one_text h n (Some o) false e is = let clash : ◌≡◌ {A = Bool} false true = is in absurd (cc)
+-- A text for each name, which is empty where no object is, and the texts of all names below a number, one behind the other.
+pub record AreTexts (h : Heap) (text below : ℕ → List ℕ) : Type 0 where
+  pub none : (n : ℕ) → h.at n ≡ None → text n ≡ []
+  pub start : below 0 ≡ []
+  pub more : (n : ℕ) → below (suc n) ≡ below n ++ text n
 
-texts : (h : Heap) (ks : List ℕ) → AreNames h ks → (n : ℕ) → records_below h n ≡ flat_map (name_text h) (front n ks)
-texts h ks names zero = ap (flat_map (name_text h)) (sym (front_none ks))
-texts h ks names (suc n) =
-    ap (λ (s : List ℕ). s ++ name_text h n) (texts h ks names n)
-    ∙ ap (λ (s : List ℕ). flat_map (name_text h) (front n ks) ++ s) (one_text h n (h.at n) (any n ks) refl (names.are n))
-    ∙ sym (flat_map-append (name_text h) (front n ks) (one (any n ks) n))
-    ∙ ap (flat_map (name_text h)) (sym (front_more n 0 ks names.rises))
+-- the text of a name that is there or not
+one_text : (text : ℕ → List ℕ) (n : ℕ) (o : Option Object) (b : Bool) → (o ≡ None → text n ≡ []) → b ≡ is_some o → text n ≡ flat_map text (one b n)
+one_text text n None true none is = let clash : ◌≡◌ {A = Bool} true false = is in absurd (cc)
+one_text text n None false none is = none refl
+one_text text n (Some o) true none is = sym (append-nil (text n))
+one_text text n (Some o) false none is = let clash : ◌≡◌ {A = Bool} false true = is in absurd (cc)
+
+texts : (h : Heap) (ks : List ℕ) (text below : ℕ → List ℕ) → AreNames h ks → AreTexts h text below → (n : ℕ) → below n ≡ flat_map text (front n ks)
+texts h ks text below names are zero = are.start ∙ ap (flat_map text) (sym (front_none ks))
+texts h ks text below names are (suc n) =
+    are.more n
+    ∙ ap (λ (s : List ℕ). s ++ text n) (texts h ks text below names are n)
+    ∙ ap (λ (s : List ℕ). flat_map text (front n ks) ++ s) (one_text text n (h.at n) (any n ks) (are.none n) (names.are n))
+    ∙ sym (flat_map-append text (front n ks) (one (any n ks) n))
+    ∙ ap (flat_map text) (sym (front_more n 0 ks names.rises))
 
 counts : (h : Heap) (ks : List ℕ) → AreNames h ks → (n : ℕ) → objects_below h n ≡ length (front n ks)
 counts h ks names zero = ap (λ (xs : List ℕ). length xs) (sym (front_none ks))
@@ -123,9 +130,17 @@ below_next h ks names bounded k is = elim (cases_lt k h.next) [
   | inr le ↦ (let clash : ◌≡◌ {A = Bool} true false = sym is ∙ names.are k ∙ ap is_some (bounded.bounded k le) in absurd (cc))
 ]
 
+-- the texts of all names are those of the names that are there
+pub texts_of : (h : Heap) (ks : List ℕ) (text below : ℕ → List ℕ) → AreNames h ks → IsBounded h → AreTexts h text below → below h.next ≡ flat_map text ks
+texts_of h ks text below names bounded are = texts h ks text below names are h.next ∙ ap (flat_map text) (front_all h.next ks (below_next h ks names bounded))
+
 -- the records of a heap are those of its names
 pub texts_are : (h : Heap) (ks : List ℕ) → AreNames h ks → IsBounded h → records_below h h.next ≡ flat_map (name_text h) ks
-texts_are h ks names bounded = texts h ks names h.next ∙ ap (flat_map (name_text h)) (front_all h.next ks (below_next h ks names bounded))
+texts_are h ks names bounded = texts_of h ks (name_text h) (records_below h) names bounded (record {
+  none = λ n e. ap (λ (o : Option Object). option_map_or (λ (o : Object). record_text (rec_of h n o)) o []) e;
+  start = refl;
+  more = λ n. refl;
+})
 
 -- and there are as many
 pub counts_are : (h : Heap) (ks : List ℕ) → AreNames h ks → IsBounded h → object_count h ≡ length ks

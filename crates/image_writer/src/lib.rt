@@ -11,7 +11,7 @@
 //! ```
 //!
 //! Its condition is that the disk's counts are those of its heap. Read `specs/Saved.antt`. Whoever spells a disk's objects otherwise has the
-//! names (`names_of`) and the bytes that are gathered for Saved (`Gathered`, `put`, `flush`).
+//! names (`names_of`), what is kept of the state (`kept_state`), and the bytes that are gathered for Saved (`Gathered`, `put`, `flush`).
 #![tactic(auto)]
 
 mod fault;
@@ -21,5 +21,5 @@ mod saving;
 
 pub use fault::SaveFault;
 pub use gathered::Gathered;
-pub use pieces::{flush, put};
+pub use pieces::{flush, kept_state, put};
 pub use saving::{names_of, save};

@@ -8,7 +8,7 @@ ghost use Rattle.disk_objects.specs.Disk.{with_count};
 ghost use Rattle.disk_objects.specs.Function.{disk_of};
 ghost use Rattle.loom_outside.specs.Work.{IsWorkRead};
 ghost use Rattle.image_writer.specs.Inside.{Gathers, IsHeapOf};
-ghost use Rattle.image_writer.specs.Puts.{IsSaveFault, Puts, name_text};
+ghost use Rattle.image_writer.specs.Puts.{IsDiskFault, Puts, name_text};
 ghost use Rattle.image_writer.specs.Saved as saved;
 ghost use Rattle.image_writer.specs.declared.fault.SaveFault.TheVariants as fault;
 ghost use Rattle.loom_outside.specs.declared.outside.DiskFault.TheVariants as disk_fault;
@@ -123,11 +123,11 @@ pub(crate) fn put_record<H: Host>(
 }
 
 /// A word of the state, 0 where the disk doesn't hold the name.
-fn kept_word<H: Host>(disk: &mut DiskObjects<'_, H>, word: u32) -> Result<u32, SaveFault>
+fn kept_word<H: Host>(disk: &mut DiskObjects<'_, H>, word: u32) -> Result<u32, DiskFault>
     requires stands { HoldsObjects H.Host disk.old.host.now disk.old.rest }
     ensures word { IsTrue (H.tells Role.Work) → IfOk result (λ kept. kept ≡ saved.kept_word (disk_of H.Host disk.old.host.now disk.old.rest) word) }
     ensures read { IsWorkRead H.Host disk.old.host.now disk.new.host.now }
-    ensures fault { IfErr result (IsSaveFault H.Host disk.old.host.now disk.new.host.now) }
+    ensures fault { IfErr result (IsDiskFault H.Host disk.old.host.now disk.new.host.now) }
     ensures rest { disk.new.rest ≡ disk.old.rest }
     ensures same_host { disk.new.host.ghost_name ≡ disk.old.host.ghost_name }
 {
@@ -140,15 +140,12 @@ fn kept_word<H: Host>(disk: &mut DiskObjects<'_, H>, word: u32) -> Result<u32, S
     }
 }
 
-/// What is kept of the state.
-pub(crate) fn kept_state<H: Host>(
-    disk: &mut DiskObjects<'_, H>,
-    state: &State,
-) -> Result<State, SaveFault>
+/// What is kept of the state: a name that the disk doesn't hold is left out, and the tick with its timer.
+pub fn kept_state<H: Host>(disk: &mut DiskObjects<'_, H>, state: &State) -> Result<State, DiskFault>
     requires stands { HoldsObjects H.Host disk.old.host.now disk.old.rest }
     ensures state { IsTrue (H.tells Role.Work) → IfOk result (λ kept. kept ≡ saved.kept_state (disk_of H.Host disk.old.host.now disk.old.rest) state.now) }
     ensures read { IsWorkRead H.Host disk.old.host.now disk.new.host.now }
-    ensures fault { IfErr result (IsSaveFault H.Host disk.old.host.now disk.new.host.now) }
+    ensures fault { IfErr result (IsDiskFault H.Host disk.old.host.now disk.new.host.now) }
     ensures rest { disk.new.rest ≡ disk.old.rest }
     ensures same_host { disk.new.host.ghost_name ≡ disk.old.host.ghost_name }
 {

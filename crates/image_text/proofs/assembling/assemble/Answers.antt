@@ -1,8 +1,10 @@
-use Rattle.std.proofs.Common.{ap, ◌∙◌}
+use Rattle.std.proofs.Common.{ap, ◌∙◌, arith}
 use Rattle.loom_outside.specs.declared.outside.Role.TheVariants.{Image}
 use Rattle.loom_outside.specs.Outside.{RoleState}
 use Rattle.image_format.specs.Heads.{is_next}
 use Rattle.image_reader.proofs.Frames.{leaves, loading_then}
+use Rattle.image_reader.proofs.JudgeLaws.{many-of}
+use Rattle.text_lines.specs.Breaks.{image_of}
 use Rattle.image_text.specs.Assembled.{IsTextFault}
 use Rattle.image_text.specs.Lines.{head_read}
 use Rattle.image_text.proofs.AssembleLaws.{assembled_heap, assembled_state, assembled_text, judged_fault, read_fault, stated_read}
@@ -34,6 +36,18 @@ returns-clause-text g c = λ image told.
     let x = c.in_ok-head.ensures.reads in
     let ok = c.in_ok-judge_text.ensures.ok x.recs told x.are x.uncounted in
     assembled_text g.H.Host c.judge_text.new.disk.host.now c.judge_text.new.disk.rest (head_read c.in_ok-head.head) x.recs ok.1 ok.0 (g.H.Host.roles c.args.disk.now.host.now Image).left c.loaded.result.next c.loaded.result.state c.loaded.ensures.next c.loaded.ensures.state (x.read image)
+
+pub returns-clause-stated : goal.returns-clause-stated
+returns-clause-stated g c = λ image.
+    let x = c.in_ok-head.ensures.reads in
+    let many = many-of c.in_ok-head.names x.recs x.are.names_are in
+    record {
+      image = image_of (head_read c.in_ok-head.head) x.recs;
+      read = x.read image;
+      objects_fit = omega (arith, many, x.held, c.judge_text.ensures.held, c.len.ensures.value, c.loaded.ensures.objects);
+      next_is = c.loaded.ensures.next;
+      state_is = c.loaded.ensures.state;
+    }
 
 pub returns-clause-heap : goal.returns-clause-heap
 returns-clause-heap g c = λ told.

@@ -8,6 +8,7 @@ use Rattle.disk_objects.specs.declared.rest.DiskRest.{DiskRest}
 use Rattle.disk_objects.specs.Disk.{disk_held}
 use Rattle.image_format.specs.Heads.{opening_text, state_text}
 use Rattle.image_writer.specs.Inside.{opening_of}
+use Rattle.image_writer.specs.declared.fault.SaveFault.TheVariants.{Disk}
 use Rattle.image_writer.specs.Puts.{name_text}
 use Rattle.image_writer.specs.Saved.{disk_heap, kept_state, saved_text}
 use Rattle.image_writer.proofs.DiskFacts.{still_holds, same_disk, same_heap}
@@ -20,9 +21,9 @@ kept_state-requires g c = record { stands = still_holds g.H.Host c.args.disk.now
 
 pub returns-in_err-kept-clause-saved : goal.returns-in_err-kept-clause-saved
 returns-in_err-kept-clause-saved g c =
-    exit_read g.H.Host c.args.disk.now.host.now c.kept_state.new.disk.host.now (saved_text (disk_heap g.H.Host c.args.disk.now.host.now c.args.disk.now.rest c.args.next) c.args.state.now) c.in_err-kept.field-0.0 c.from_residual-in_err-kept.result
+    exit_read g.H.Host c.args.disk.now.host.now c.kept_state.new.disk.host.now (saved_text (disk_heap g.H.Host c.args.disk.now.host.now c.args.disk.now.rest c.args.next) c.args.state.now) (Disk c.in_err-kept.field-0.0) c.from_residual-in_err-kept.result
     (read_then g.H.Host c.args.disk.now.host.now c.names_of.new.disk.host.now c.kept_state.new.disk.host.now c.names_of.ensures.read c.kept_state.ensures.read)
-    (fault_after g.H.Host c.args.disk.now.host.now c.names_of.new.disk.host.now c.kept_state.new.disk.host.now c.in_err-kept.field-0.0 c.names_of.ensures.read c.in_err-kept.ensures.fault)
+    (fault_after g.H.Host c.args.disk.now.host.now c.names_of.new.disk.host.now c.kept_state.new.disk.host.now (Disk c.in_err-kept.field-0.0) c.names_of.ensures.read c.in_err-kept.ensures.fault)
     c.from_residual-in_err-kept.ensures.1
 
 pub put_image-requires : goal.put_image-requires
