@@ -10,6 +10,8 @@
 //!     finished.end == Step::Quit                                                // or Next, where all were run
 //!     finished.state                                                            // what a next run goes on from
 //!
+//! Whoever puts a run together of its parts has `begin`, `run`, `draw` and `state_of`, and `park` of contexts.
+//!
 //! `traced_cycle` does one cycle of a run that is traced: it also tells the active context, the instruction pointer and the byte there, as the
 //! machine came to its bytecode (`specs/Sights.antt`).
 //!
@@ -24,6 +26,6 @@ mod tracing;
 
 pub use blue_model::Step;
 pub use image_format::State;
-pub use running::{Finished, Halted, Reason, is_last, run, settle, whole_run};
-pub use states::begin;
+pub use running::{Finished, Halted, Reason, draw, is_last, run, settle, whole_run};
+pub use states::{begin, state_of};
 pub use tracing::{Sight, Traced, traced_cycle};

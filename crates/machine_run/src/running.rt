@@ -209,7 +209,7 @@ fn go_through<M: ObjectMemory>(
 }
 
 /// Draws the display of a machine that is parked.
-fn draw<M: ObjectMemory>(alloc: Global, m: &mut M, cpu: &Cpu) -> Result<Octets, Reason>
+pub fn draw<M: ObjectMemory>(alloc: Global, m: &mut M, cpu: &Cpu) -> Result<Octets, Reason>
     requires fit { IsFit M.ObjectMemory m.old }
     ensures draws { DrawsAs (M.told m.old) cpu.now (M.told m.new) result }
     ensures fit { DrawsFit M.ObjectMemory m.old m.new result }

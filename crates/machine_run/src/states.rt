@@ -44,8 +44,8 @@ pub(crate) fn word_in<M: ObjectMemory>(m: &M, r: Reg, in_use: bool) -> u32
     }
 }
 
-/// The state that a machine is left with.
-pub(crate) fn state_of<M: ObjectMemory>(m: &M, cpu: &Cpu) -> State
+/// The state that a machine is left with, as it stands: a name whose object nothing holds any more is still there.
+pub fn state_of<M: ObjectMemory>(m: &M, cpu: &Cpu) -> State
     requires { M.sound m.now }
     ensures { model_state result ≡ state_held (M.told m.now).regs cpu.now }
 {
