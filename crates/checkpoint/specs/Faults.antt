@@ -1,0 +1,43 @@
+-- Why a call over a vault was refused.
+use Rattle.std.specs.Prelude.{◌≡◌, ℕ, Bool, IsTrue, List, Some}
+use Rattle.long_names.specs.Counting.{Rose}
+use Rattle.loom_outside.specs.declared.outside.Host.{Ghosts}
+use Rattle.disk_objects.specs.declared.names.NamesFault.{NamesFault}
+use Rattle.disk_objects.specs.declared.names.NamesFault.TheVariants as names
+use Rattle.image_writer.specs.Puts.{IsDiskFault}
+use Rattle.checkpoint.specs.Layout.{bad_place}
+use Rattle.checkpoint.specs.declared.fault.VaultFault.{VaultFault}
+use Rattle.checkpoint.specs.declared.fault.VaultFault.TheVariants as fault
+
+-- no refusal but that a call on the vault failed: this is the count of its faults, which rose
+abbrev pub IsFailed : ℕ → ℕ → VaultFault → Type 0
+IsFailed before now (fault.Failed count) = (count ≡ now) × Rose before now
+IsFailed before now (fault.Bad place) = ⊥
+IsFailed before now (fault.Disk fault) = ⊥
+IsFailed before now fault.Memory = ⊥
+
+-- that, or the first gate that is bad among these bytes, where they are told
+abbrev pub IsRecoverFault : Bool → List ℕ → ℕ → ℕ → VaultFault → Type 0
+IsRecoverFault tells bytes before now (fault.Failed count) = (count ≡ now) × Rose before now
+IsRecoverFault tells bytes before now (fault.Bad place) = IsTrue tells → bad_place bytes ≡ Some place
+IsRecoverFault tells bytes before now (fault.Disk fault) = ⊥
+IsRecoverFault tells bytes before now fault.Memory = ⊥
+
+-- that a call on the vault failed, or want of memory
+abbrev pub IsReadFault : ℕ → ℕ → VaultFault → Type 0
+IsReadFault before now (fault.Failed count) = (count ≡ now) × Rose before now
+IsReadFault before now (fault.Bad place) = ⊥
+IsReadFault before now (fault.Disk fault) = ⊥
+IsReadFault before now fault.Memory = Unit {0}
+
+-- that a call on the vault failed, a fault of the disk, or want of memory
+abbrev pub IsKeepFault : {H : Type 0} → Ghosts H → H → H → ℕ → ℕ → VaultFault → Type 0
+IsKeepFault host old new before now (fault.Failed count) = (count ≡ now) × Rose before now
+IsKeepFault host old new before now (fault.Bad place) = ⊥
+IsKeepFault host old new before now (fault.Disk f) = IsDiskFault host old new f
+IsKeepFault host old new before now fault.Memory = Unit {0}
+
+-- why the names of a disk aren't told, as a fault of keeping
+abbrev pub fault_of_names : NamesFault → VaultFault
+fault_of_names (names.Disk f) = fault.Disk f
+fault_of_names names.Memory = fault.Memory

@@ -1,0 +1,14 @@
+pub mod Area
+pub mod Faults
+pub mod History
+pub mod ImageHost
+pub mod Inside
+pub mod Journal
+pub mod Keeping
+pub mod Layout
+pub mod Memory
+pub mod Noted
+pub mod Real
+pub mod Sparing
+pub mod Torn
+pub mod Vault

@@ -1,0 +1,131 @@
+// The contents of a vault in memory, with all calls since it began.
+ghost use Rattle.std.specs.Prelude.{◌≡◌, []};
+ghost use Rattle.checkpoint.specs.Noted.{began_of, calls_from, spans};
+ghost use Rattle.checkpoint.specs.Vault.{contents_after, unsynced_after};
+
+use crate::losing::lose;
+use crate::noted::{Noted, Range};
+use loom_outside::{read_bytes_at, write_bytes_at};
+use std::alloc::{AllocError, Global};
+
+#[derive(Drop)]
+pub struct Journal {
+    alloc: Global,
+    // the contents that it began with, where a call is noted
+    began: Vec<u8>,
+    noted: Vec<Noted>,
+    // the contents now
+    bytes: Vec<u8>,
+    // the ranges that were written since the last sync or fresh opening
+    unsynced: Vec<Range>,
+    ghost held: { bytes.items ≡ contents_after (began_of bytes.items began.items noted.items) (calls_from began.items noted.items) },
+    ghost ranges: { unsynced_after [] (calls_from began.items noted.items) ≡ spans unsynced.items },
+}
+
+#[tactic(auto, unfolding(crate::specs::Journal::state_in))]
+impl Journal {
+    ghost use Rattle.std.specs.Prelude.{◌+◌, ◌<◌, ◌∷◌, true, false, length, vec_len, vec_capacity, OnOk, OnErr};
+    ghost use Rattle.loom_outside.specs.Bytes.{overwritten, window};
+    ghost use Rattle.checkpoint.specs.Journal.{state_in};
+    ghost use Rattle.checkpoint.specs.Torn.{but_first, torn};
+    ghost use Rattle.checkpoint.specs.Vault.{Opened, Synced, Written, at_start, behind, contents_of, unsynced_of};
+
+    pub fn new(alloc: Global) -> Journal
+        ensures { state_in result ≡ at_start }
+    {
+        Journal {
+            alloc,
+            began: Vec::new(alloc),
+            noted: Vec::new(alloc),
+            bytes: Vec::new(alloc),
+            unsynced: Vec::new(alloc),
+        }
+    }
+
+    // Makes room for one call more, and keeps the contents that it began with where none is noted.
+    fn make_room(&mut self) -> Result<(), AllocError>
+        ensures bytes { self.new.bytes.items ≡ self.old.bytes.items }
+        ensures noted { self.new.noted.items ≡ self.old.noted.items }
+        ensures unsynced { self.new.unsynced.items ≡ self.old.unsynced.items }
+        ensures state { state_in self.new ≡ state_in self.old }
+        ensures began { OnOk result (began_of self.new.bytes.items self.new.began.items self.new.noted.items ≡ self.new.began.items) }
+        ensures room { OnOk result (vec_len self.new.noted < vec_capacity self.new.noted) }
+        ensures range_room { OnOk result (vec_len self.new.unsynced < vec_capacity self.new.unsynced) }
+    {
+        if self.noted.is_empty() {
+            self.began.clear();
+            self.began.extend_from_slice(&self.bytes)?;
+        }
+        self.noted.reserve(1)?;
+        self.unsynced.reserve(1)
+    }
+
+    // A fresh opening.
+    pub fn open(&mut self) -> Result<(), AllocError>
+        ensures ok { OnOk result (state_in self.new ≡ behind (state_in self.old) (Opened true [] ∷ [])) }
+        ensures err { OnErr result (state_in self.new ≡ state_in self.old) }
+    {
+        self.make_room()?;
+        self.noted.push_reserved(Noted::Opened);
+        self.bytes.clear();
+        self.unsynced.clear();
+        Ok(())
+    }
+
+    pub fn write(&mut self, place: u64, piece: &[u8]) -> Result<(), AllocError>
+        ensures ok { OnOk result (state_in self.new ≡ behind (state_in self.old) (Written true place (length piece.now) (overwritten (contents_of (state_in self.old)) place piece.now) ∷ [])) }
+        ensures err { OnErr result (state_in self.new ≡ state_in self.old) }
+    {
+        self.make_room()?;
+        let bytes = Vec::from_slice(self.alloc, piece)?;
+        write_bytes_at(&mut self.bytes, place, piece)?;
+        self.noted.push_reserved(Noted::Written { place, bytes });
+        self.unsynced.push_reserved(Range {
+            place,
+            len: piece.len(),
+        });
+        Ok(())
+    }
+
+    // A write of so many bytes that fails. The contents reach to its end then, so that a stop may leave any bytes there.
+    pub fn fail(&mut self, place: u64, len: usize) -> Result<(), AllocError>
+        ensures ok { OnOk result (state_in self.new ≡ behind (state_in self.old) (Written false place len (overwritten (contents_of (state_in self.old)) (place + len) []) ∷ [])) }
+        ensures err { OnErr result (state_in self.new ≡ state_in self.old) }
+    {
+        let Some(end) = place.checked_add(len as u64) else {
+            return Err(AllocError);
+        };
+        self.make_room()?;
+        write_bytes_at(&mut self.bytes, end, &[])?;
+        let range = Range { place, len };
+        self.noted.push_reserved(Noted::Failed(range));
+        self.unsynced.push_reserved(range);
+        Ok(())
+    }
+
+    pub fn sync(&mut self) -> Result<(), AllocError>
+        ensures ok { OnOk result (state_in self.new ≡ behind (state_in self.old) (Synced true (contents_of (state_in self.old)) ∷ [])) }
+        ensures err { OnErr result (state_in self.new ≡ state_in self.old) }
+    {
+        self.make_room()?;
+        self.noted.push_reserved(Noted::Synced);
+        self.unsynced.clear();
+        Ok(())
+    }
+
+    pub fn read(&self, place: u64, buf: &mut [u8])
+        ensures { buf.new ≡ window (contents_of (state_in self.now)) place (length buf.old) }
+    {
+        read_bytes_at(&self.bytes, place, buf);
+    }
+
+    // The first ranges of those that were written since the last sync stand, and the others hold this byte. Then it begins anew.
+    pub fn stop(&mut self, kept: u64, fill: u8)
+        ensures { state_in self.new ≡ record (state_in self.old) { began = torn (but_first kept (unsynced_of (state_in self.old))) fill (contents_of (state_in self.old)); calls = [] } }
+    {
+        let first = (kept as usize).min(self.unsynced.len());
+        lose(&mut self.bytes, &self.unsynced[first..], fill);
+        self.noted.clear();
+        self.unsynced.clear();
+    }
+}
