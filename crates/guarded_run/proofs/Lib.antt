@@ -1,0 +1,5 @@
+pub mod CourseLaws
+pub mod EarlierLaws
+pub mod HaltLaws
+pub mod LegLaws
+pub mod WholeLaws
