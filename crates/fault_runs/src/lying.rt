@@ -97,6 +97,9 @@ fn is_possible(bounds: &Bounds, status: Status) -> bool {
         | Status::Listed { .. }
         | Status::Assembled { .. }
         | Status::TextBad { .. }
+        | Status::VaultFault { .. }
+        | Status::NoCheckpoint
+        | Status::VaultBad { .. }
         | Status::Usage { .. }
         | Status::EventsBad { .. }
         | Status::ReadFault { .. }

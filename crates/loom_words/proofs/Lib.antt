@@ -1,3 +1,4 @@
+pub mod KeptRows
 pub mod Lines
 pub mod Numbers
 pub mod Rows

@@ -1,4 +1,5 @@
 pub mod Command
+pub mod Kept
 pub mod Status
 pub mod Trace
 pub mod Words

@@ -3,7 +3,7 @@ use Rattle.std.specs.Prelude.{ℕ, List, ◌++◌, codes, decimal, Option, Some,
 use Rattle.loom_outside.specs.declared.outside.Role.{Role}
 use Rattle.loom_outside.specs.declared.outside.Role.TheVariants.{Image, Events, Work, Saved, Display, Transcript, Notes}
 use Rattle.loom_words.specs.declared.status.Status.{Status}
-use Rattle.loom_words.specs.declared.status.Status.TheVariants.{Done, Quit, Made, Listed, Assembled, Usage, ImageBad, EventsBad, TextBad, Stuck, CoreFull, NamesSpent, WorkFull, ReadFault, WorkFault, WriteFault, OutOfMemory, Damaged}
+use Rattle.loom_words.specs.declared.status.Status.TheVariants.{Done, Quit, Made, Listed, Assembled, Usage, ImageBad, EventsBad, TextBad, Stuck, CoreFull, NamesSpent, WorkFull, ReadFault, WorkFault, WriteFault, OutOfMemory, Damaged, VaultFault, NoCheckpoint, VaultBad}
 
 -- what a role is called
 abbrev pub role_text : Role → List ℕ
@@ -36,6 +36,9 @@ text_of_status (WorkFault count) = codes "work fault"
 text_of_status (WriteFault role count) = codes "write fault: " ++ role_text role
 text_of_status OutOfMemory = codes "out of memory"
 text_of_status (Damaged place name) = codes "work damaged at " ++ decimal place ++ codes ": object " ++ decimal name
+text_of_status (VaultFault count) = codes "vault fault"
+text_of_status NoCheckpoint = codes "no checkpoint"
+text_of_status (VaultBad place) = codes "vault bad at " ++ decimal place
 
 -- the last line on Notes
 abbrev pub line_of : Status → List ℕ
@@ -60,6 +63,9 @@ code_of (WorkFault count) = 10
 code_of (WriteFault role count) = 11
 code_of OutOfMemory = 12
 code_of (Damaged place name) = 13
+code_of (VaultFault count) = 15
+code_of NoCheckpoint = 16
+code_of (VaultBad place) = 17
 code_of (TextBad line rule) = 18
 
 -- the word that a status finds fault with

@@ -3,7 +3,7 @@
 -- are `make`, the number of an image, and the file that it is written to. Those of a listing are `list`, and of an assembling `asm`: the file
 -- that is read, the work file, and the file that is written. Those of a trace are `trace`, the files of the image and of the events, the work
 -- file, the file of the lines, and the numbers of a run.
-use Rattle.std.specs.Prelude.{◌≡◌, ◌≢◌, ℕ, ◌+◌, ◌≤◌, decimal, Bool, true, false, List, [], ◌∷◌, map, codes, Option, Some, None, Result, Ok, Err, if◌then◌else◌, ◌&&◌, nat_lt, nat_le, slice_index_or, string_bytes, String}
+use Rattle.std.specs.Prelude.{◌≡◌, ◌≢◌, ℕ, ◌+◌, ◌≤◌, decimal, Bool, true, false, List, [], ◌∷◌, ◌++◌, map, codes, Option, Some, None, Result, Ok, Err, if◌then◌else◌, ◌&&◌, nat_lt, nat_le, slice_index_or, string_bytes, String}
 use Rattle.std.specs.Char.{is_ascii_digit}
 use Rattle.std.specs.Str.{bytes_eq, all_ascii_digits}
 use Rattle.std.specs.Str.Parse.{digits_value}
@@ -56,21 +56,21 @@ is_none_at (i ∷ is) earlier word = if bytes_eq word (slice_index_or earlier i 
 abbrev pub is_from : ℕ → ℕ → Check
 is_from least most earlier word = is_number least most word
 
--- `run IMAGE EVENTS WORK SAVED DISPLAY CORE ENTRIES ROOM STEPS`. The work file is none of the other files, and the picture goes to none that
+-- `IMAGE EVENTS WORK SAVED DISPLAY`, behind the word of the command. The work file is none of the other files, and the picture goes to none that
 -- comes before it; the saved image may go to the file of the image.
+abbrev pub file_checks : List Check
+file_checks = anything ∷ anything ∷ is_none_at (1 ∷ 2 ∷ []) ∷ is_none_at (3 ∷ []) ∷ is_none_at (1 ∷ 2 ∷ 3 ∷ 4 ∷ []) ∷ []
+
+-- `CORE ENTRIES ROOM STEPS`
+abbrev pub number_checks : List Check
+number_checks = is_from LEAST_CORE MOST_CORE ∷ is_from LEAST_ENTRIES MOST_ENTRIES ∷ is_from LEAST_ROOM MOST_ROOM ∷ is_from 0 MOST_STEPS ∷ []
+
+-- `run IMAGE EVENTS WORK SAVED DISPLAY CORE ENTRIES ROOM STEPS`
+abbrev pub run_checks : List Check
+run_checks = file_checks ++ number_checks
+
 abbrev pub run_row : List Check
-run_row =
-    is_run
-    ∷ anything
-    ∷ anything
-    ∷ is_none_at (1 ∷ 2 ∷ [])
-    ∷ is_none_at (3 ∷ [])
-    ∷ is_none_at (1 ∷ 2 ∷ 3 ∷ 4 ∷ [])
-    ∷ is_from LEAST_CORE MOST_CORE
-    ∷ is_from LEAST_ENTRIES MOST_ENTRIES
-    ∷ is_from LEAST_ROOM MOST_ROOM
-    ∷ is_from 0 MOST_STEPS
-    ∷ []
+run_row = is_run ∷ run_checks
 
 -- `make NUMBER FILE`
 abbrev pub make_row : List Check
@@ -90,16 +90,7 @@ asm_row = is_asm ∷ path_checks
 
 -- `trace IMAGE EVENTS WORK TEXT CORE ENTRIES ROOM STEPS`. The work file is none of the other files, and the lines go to none that is read.
 abbrev pub trace_checks : List Check
-trace_checks =
-    anything
-    ∷ anything
-    ∷ is_none_at (1 ∷ 2 ∷ [])
-    ∷ is_none_at (1 ∷ 2 ∷ 3 ∷ [])
-    ∷ is_from LEAST_CORE MOST_CORE
-    ∷ is_from LEAST_ENTRIES MOST_ENTRIES
-    ∷ is_from LEAST_ROOM MOST_ROOM
-    ∷ is_from 0 MOST_STEPS
-    ∷ []
+trace_checks = anything ∷ anything ∷ is_none_at (1 ∷ 2 ∷ []) ∷ is_none_at (1 ∷ 2 ∷ 3 ∷ []) ∷ number_checks
 
 abbrev pub trace_row : List Check
 trace_row = is_trace ∷ trace_checks

@@ -13,15 +13,21 @@
 //!         Err(word) => say(&Status::Usage { word }.line()),       // "usage: word 3\n"
 //!     }
 //!
+//! `kept_of` reads the words of the two commands with a vault, `guard IMAGE EVENTS WORK SAVED DISPLAY CORE ENTRIES ROOM STEPS VAULT` and
+//! `resume VAULT EVENTS WORK SAVED DISPLAY CORE ENTRIES ROOM STEPS`: `IsKept` of `specs/Kept.antt`, with its rows and the law
+//! `right_kept_words`. It answers None of all other words.
+//!
 //! `Status` says how a command ended, with its line and the exit status (`specs/Status.antt`). Nothing here takes memory, and nothing knows
 //! a host or a machine.
 #![tactic(auto)]
 
+mod kept;
 pub mod laws;
 mod status;
 mod trace;
 mod words;
 
+pub use kept::{Guarded, Kept, kept_of};
 pub use status::{Line, Status};
 pub use trace::trace_line;
 pub use words::{

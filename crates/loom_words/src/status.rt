@@ -51,6 +51,12 @@ pub enum Status {
     OutOfMemory,
     /// What stands at a place of the work file isn't what was put there; it was met on the way to this object.
     Damaged { place: u64, name: u32 },
+    /// A call on the vault failed; `count` is its fault count since then.
+    VaultFault { count: u64 },
+    /// No gate of the vault is open.
+    NoCheckpoint,
+    /// The gate at this place of the vault is open, and what stands in it is no checkpoint's.
+    VaultBad { place: u64 },
 }
 
 impl Status {
@@ -76,6 +82,9 @@ impl Status {
             Status::WriteFault { .. } => 11,
             Status::OutOfMemory => 12,
             Status::Damaged { .. } => 13,
+            Status::VaultFault { .. } => 15,
+            Status::NoCheckpoint => 16,
+            Status::VaultBad { .. } => 17,
             Status::TextBad { .. } => 18,
         }
     }
@@ -122,6 +131,9 @@ impl Status {
             Status::Damaged { place, name } => {
                 twice_numbered("work damaged at ", place, ": object ", name as u64)
             }
+            Status::VaultFault { .. } => begun("vault fault"),
+            Status::NoCheckpoint => begun("no checkpoint"),
+            Status::VaultBad { place } => numbered("vault bad at ", place),
         }
     }
 }

@@ -1,8 +1,8 @@
 // The words of a command.
-ghost use Rattle.std.specs.Prelude.{◌≡◌, ◌≢◌, codes, ◌↔◌, ◌≤◌, ◌∷◌, List, ℕ, IsTrue, decimal, IfOk, IfErr, IfSome, IsNone, Some, false, []};
+ghost use Rattle.std.specs.Prelude.{◌≡◌, ◌≢◌, codes, ◌↔◌, ◌≤◌, ◌∷◌, ◌++◌, List, ℕ, IsTrue, decimal, IfOk, IfErr, IfSome, IsNone, Some, false, []};
 ghost use Rattle.loom_gen.specs.declared.generator.TheConstants.{LAST_NUMBER};
 ghost use Rattle.loom_words.specs.Command.{HasLimits, IsAsked, row_for};
-ghost use Rattle.loom_words.specs.Words.{Check, anything, bad_from, bad_in, bad_word, begins_with, error_of, is_from, is_number, path_checks, row_of, run_row, texts_of, trace_checks, IsTrace};
+ghost use Rattle.loom_words.specs.Words.{Check, anything, bad_from, bad_in, bad_word, begins_with, error_of, file_checks, is_from, is_number, number_checks, path_checks, row_of, run_row, texts_of, trace_checks, IsTrace};
 
 use itoa::Buffer;
 use loom_gen::LAST_NUMBER;
@@ -91,7 +91,7 @@ fn is_decimal(word: &str, number: u32) -> bool
 }
 
 // The first of some words, and the others. The error is this position.
-fn next_word(words: &[String], position: u32) -> Result<(&str, &[String]), u32>
+pub(crate) fn next_word(words: &[String], position: u32) -> Result<(&str, &[String]), u32>
     ensures missing { IfErr result (λ at. (at ≡ position) × (texts_of words.now ≡ [])) }
     ensures first { IfOk result (λ r. texts_of words.now ≡ r.0.now ∷ texts_of r.1.now) }
 {
@@ -119,27 +119,59 @@ fn next_number(
     }
 }
 
-// The files of a run.
+// The numbers of a run.
 #[derive(Clone, Copy, Debug)]
-struct Files<'a> {
-    image: &'a str,
-    events: &'a str,
-    work: &'a str,
-    saved: &'a str,
-    display: &'a str,
+pub(crate) struct Numbers {
+    pub(crate) core: u32,
+    pub(crate) entries: u16,
+    pub(crate) room: u32,
+    pub(crate) steps: u32,
 }
 
-// The words `run IMAGE EVENTS WORK SAVED DISPLAY`, and those behind them. The error is the position of the first bad or missing word.
-fn files_of(words: &[String]) -> Result<(Files<'_>, &[String]), u32>
-    ensures bad { IfErr result (λ at. bad_in run_row (texts_of words.now) ≡ Some at) }
-    ensures first { IfOk result (λ r. texts_of words.now ≡ codes "run" ∷ r.0.image.now ∷ r.0.events.now ∷ r.0.work.now ∷ r.0.saved.now ∷ r.0.display.now ∷ texts_of r.1.now) }
+// The numbers that some words state, `CORE ENTRIES ROOM STEPS`, the first of them at this position, and the words behind them. The error is the
+// position of the first bad or missing word.
+pub(crate) fn numbers_of(words: &[String], position: u32) -> Result<(Numbers, &[String]), u32>
+    requires { position ≤ 7 }
+    ensures bad { (checks : List Check) (all : List (List ℕ)) → IfErr result (λ at. bad_from position (number_checks ++ checks) all (texts_of words.now) ≡ Some at) }
+    ensures first { IfOk result (λ r. texts_of words.now ≡ decimal r.0.core ∷ decimal r.0.entries ∷ decimal r.0.room ∷ decimal r.0.steps ∷ texts_of r.1.now) }
+    ensures core { IfOk result (λ r. (LEAST_CORE ≤ r.0.core) × (r.0.core ≤ MOST_CORE)) }
+    ensures entries { IfOk result (λ r. (LEAST_ENTRIES ≤ r.0.entries) × (r.0.entries ≤ MOST_ENTRIES)) }
+    ensures room { IfOk result (λ r. (LEAST_ROOM ≤ r.0.room) × (r.0.room ≤ MOST_ROOM)) }
+    ensures steps { IfOk result (λ r. r.0.steps ≤ MOST_STEPS) }
+{
+    let (core, words) = next_number(words, position, LEAST_CORE, MOST_CORE)?;
+    let (entries, words) = next_number(words, position + 1, LEAST_ENTRIES, MOST_ENTRIES)?;
+    let (room, words) = next_number(words, position + 2, LEAST_ROOM, MOST_ROOM)?;
+    let (steps, words) = next_number(words, position + 3, 0, MOST_STEPS)?;
+    Ok((
+        Numbers {
+            core,
+            entries: entries as u16,
+            room,
+            steps,
+        },
+        words,
+    ))
+}
+
+// The files of a run.
+#[derive(Clone, Copy, Debug)]
+pub(crate) struct Files<'a> {
+    pub(crate) image: &'a str,
+    pub(crate) events: &'a str,
+    pub(crate) work: &'a str,
+    pub(crate) saved: &'a str,
+    pub(crate) display: &'a str,
+}
+
+// The files that the words behind the word of a command state, `IMAGE EVENTS WORK SAVED DISPLAY`, and the words behind them. WORK is none of the
+// other files, and DISPLAY none of those before it. The error is the position of the first bad or missing word.
+pub(crate) fn files_of(words: &[String]) -> Result<(Files<'_>, &[String]), u32>
+    ensures bad { (command : List ℕ) (checks : List Check) → IfErr result (λ at. bad_from 2 (file_checks ++ checks) (command ∷ texts_of words.now) (texts_of words.now) ≡ Some at) }
+    ensures first { IfOk result (λ r. texts_of words.now ≡ r.0.image.now ∷ r.0.events.now ∷ r.0.work.now ∷ r.0.saved.now ∷ r.0.display.now ∷ texts_of r.1.now) }
     ensures work_apart { IfOk result (λ r. (r.0.work.now ≢ r.0.image.now) × (r.0.work.now ≢ r.0.events.now) × (r.0.work.now ≢ r.0.saved.now) × (r.0.work.now ≢ r.0.display.now)) }
     ensures display_apart { IfOk result (λ r. (r.0.display.now ≢ r.0.image.now) × (r.0.display.now ≢ r.0.events.now) × (r.0.display.now ≢ r.0.saved.now)) }
 {
-    let (command, words) = next_word(words, 1)?;
-    if command != "run" {
-        return Err(1);
-    }
     let (image, words) = next_word(words, 2)?;
     let (events, words) = next_word(words, 3)?;
     let (work, words) = next_word(words, 4)?;
@@ -166,18 +198,29 @@ fn files_of(words: &[String]) -> Result<(Files<'_>, &[String]), u32>
     ))
 }
 
-// The run that words state: `run IMAGE EVENTS WORK SAVED DISPLAY CORE ENTRIES ROOM STEPS`. WORK is none of the other files, and DISPLAY none of
-// those before it. The error is the position, from 1, of the first bad, missing or extra word.
+// The words behind the word of a command, where that is the first.
+pub(crate) fn behind<'a>(words: &'a [String], command: &str) -> Option<&'a [String]>
+    ensures some { IfSome result (λ others. texts_of words.now ≡ command.now ∷ texts_of others.now) }
+    ensures none { IsNone result → begins_with command.now (texts_of words.now) ≡ false }
+{
+    match words.split_first() {
+        Some((word, others)) if word.as_str() == command => Some(others),
+        _ => None,
+    }
+}
+
+// The run that words state: `run IMAGE EVENTS WORK SAVED DISPLAY CORE ENTRIES ROOM STEPS`. The error is the position, from 1, of the first bad,
+// missing or extra word.
 fn command_of(words: &[String]) -> Result<Command<'_>, u32>
     ensures bad { error_of result ≡ bad_in run_row (texts_of words.now) }
     ensures row { IfOk result (λ c. row_for c ≡ row_of (texts_of words.now)) }
     ensures limits { IfOk result HasLimits }
 {
+    let Some(words) = behind(words, "run") else {
+        return Err(1);
+    };
     let (files, words) = files_of(words)?;
-    let (core, words) = next_number(words, 7, LEAST_CORE, MOST_CORE)?;
-    let (entries, words) = next_number(words, 8, LEAST_ENTRIES, MOST_ENTRIES)?;
-    let (room, words) = next_number(words, 9, LEAST_ROOM, MOST_ROOM)?;
-    let (steps, words) = next_number(words, 10, 0, MOST_STEPS)?;
+    let (numbers, words) = numbers_of(words, 7)?;
     if !words.is_empty() {
         return Err(11);
     }
@@ -187,22 +230,11 @@ fn command_of(words: &[String]) -> Result<Command<'_>, u32>
         work: files.work,
         saved: files.saved,
         display: files.display,
-        core,
-        entries: entries as u16,
-        room,
-        steps,
+        core: numbers.core,
+        entries: numbers.entries,
+        room: numbers.room,
+        steps: numbers.steps,
     })
-}
-
-// The words behind the word of a command, where that is the first.
-fn behind<'a>(words: &'a [String], command: &str) -> Option<&'a [String]>
-    ensures some { IfSome result (λ others. texts_of words.now ≡ command.now ∷ texts_of others.now) }
-    ensures none { IsNone result → begins_with command.now (texts_of words.now) ≡ false }
-{
-    match words.split_first() {
-        Some((word, others)) if word.as_str() == command => Some(others),
-        _ => None,
-    }
 }
 
 // The making that the words behind `make` state: `NUMBER FILE`. The error is the position of the first bad, missing or extra word.
@@ -294,10 +326,7 @@ fn tracing_of(words: &[String]) -> Result<Command<'_>, u32>
     ensures limits { IfOk result HasLimits }
 {
     let (files, words) = trace_files_of(words)?;
-    let (core, words) = next_number(words, 6, LEAST_CORE, MOST_CORE)?;
-    let (entries, words) = next_number(words, 7, LEAST_ENTRIES, MOST_ENTRIES)?;
-    let (room, words) = next_number(words, 8, LEAST_ROOM, MOST_ROOM)?;
-    let (steps, words) = next_number(words, 9, 0, MOST_STEPS)?;
+    let (numbers, words) = numbers_of(words, 6)?;
     if !words.is_empty() {
         return Err(10);
     }
@@ -307,10 +336,10 @@ fn tracing_of(words: &[String]) -> Result<Command<'_>, u32>
         work: files.work,
         saved: files.text,
         display: "",
-        core,
-        entries: entries as u16,
-        room,
-        steps,
+        core: numbers.core,
+        entries: numbers.entries,
+        room: numbers.room,
+        steps: numbers.steps,
     })
 }
 

@@ -1,7 +1,7 @@
 -- A word behind the files of a conversion is the first that isn't right.
-use Rattle.std.proofs.Common.{rules, ◌≡◌, ◌≢◌, ◌∙◌, ◌<◌, ◌∷◌, List, ℕ, length, sym, ap, arith}
+use Rattle.std.proofs.Common.{rules, ◌≢◌, ◌∙◌, ◌<◌, ◌∷◌, List, ℕ, length, sym, ap, arith}
 use Rattle.std.proofs.lemmas.Bool.Decides.{nat_tests}
-use Rattle.loom_words.proofs.Rows.{extra-path, right-paths}
+use Rattle.loom_words.proofs.Rows.{extra-word, right-paths}
 use Rattle.loom_words.specs.Words.{texts_of}
 use Rattle.loom_words.proofs.words.conversion_of.Goals as goal
 
@@ -14,4 +14,4 @@ returns-then-not-is_empty-clause-bad c = λ command.
     in let from_target : work ≢ target = search rules
     in let some : 0 < length c.in_ok-target.words.now = grind (arith, nat_tests)
     in let is = c.in_ok-source.ensures.first ∙ ap (λ (ws : List (List ℕ)). source ∷ ws) (c.in_ok-work.ensures.first ∙ ap (λ (ws : List (List ℕ)). work ∷ ws) c.in_ok-target.ensures.first)
-    in sym (right-paths command source work target (texts_of c.args.words.now) (texts_of c.in_ok-target.words.now) is from_source from_target ∙ extra-path (command ∷ texts_of c.args.words.now) c.in_ok-target.words.now some)
+    in sym (right-paths command source work target (texts_of c.args.words.now) (texts_of c.in_ok-target.words.now) is from_source from_target ∙ extra-word 5 (command ∷ texts_of c.args.words.now) c.in_ok-target.words.now some)
