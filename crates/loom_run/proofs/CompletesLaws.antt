@@ -65,9 +65,42 @@ module _ (tells : Role → Bool) (before now : Meanings) (row : Row) (image : Is
   never-text Drawing line rule h = h
   never-text Telling line rule h = h
 
+  never-vault : (stage : Stage) (count : ℕ) → Ends stage (answer.VaultFault count) → ⊥
+  never-vault Opening count h = h
+  never-vault Reading count h = h
+  never-vault Listening count h = h
+  never-vault Making count h = h
+  never-vault Running count h = h
+  never-vault Finishing count h = h
+  never-vault Saving count h = h
+  never-vault Drawing count h = h
+  never-vault Telling count h = h
+
+  never-point : (stage : Stage) → Ends stage answer.NoCheckpoint → ⊥
+  never-point Opening h = h
+  never-point Reading h = h
+  never-point Listening h = h
+  never-point Making h = h
+  never-point Running h = h
+  never-point Finishing h = h
+  never-point Saving h = h
+  never-point Drawing h = h
+  never-point Telling h = h
+
+  never-gate : (stage : Stage) (place : ℕ) → Ends stage (answer.VaultBad place) → ⊥
+  never-gate Opening place h = h
+  never-gate Reading place h = h
+  never-gate Listening place h = h
+  never-gate Making place h = h
+  never-gate Running place h = h
+  never-gate Finishing place h = h
+  never-gate Saving place h = h
+  never-gate Drawing place h = h
+  never-gate Telling place h = h
+
   never-bad : (stage : Stage) (rule place : ℕ) → EndsAt tells before now row stage (answer.ImageBad rule place) → ⊥
   never-bad Opening rule place at = at.answer
-  never-bad Reading rule place at = none-some (first_break (bytes_of (now.roles Image))) (break rule place) (unbroken row.room _ can.right_image) (at.judges_image image refl (λ whole. inl work)).1
+  never-bad Reading rule place at = none-some (first_break (bytes_of (now.roles Image))) (break rule place) (unbroken row.room _ can.right_image) (at.reads.judges_image image refl (λ whole. inl work)).1
   never-bad Listening rule place at = at.answer
   never-bad Making rule place at = at.answer
   never-bad Running rule place at = at.answer
@@ -79,7 +112,7 @@ module _ (tells : Role → Bool) (before now : Meanings) (row : Row) (image : Is
   never-line : (stage : Stage) (line : ℕ) → EndsAt tells before now row stage (answer.EventsBad line) → ⊥
   never-line Opening line at = at.answer
   never-line Reading line at = at.answer
-  never-line Listening line at = none-bad can.right_events.0 line can.right_events.1.0 (subst (IsBadAt line) can.right_events.1.1 (at.judges_events events refl))
+  never-line Listening line at = none-bad can.right_events.0 line can.right_events.1.0 (subst (IsBadAt line) can.right_events.1.1 (at.reads.judges_events events refl))
   never-line Making line at = at.answer
   never-line Running line at = at.answer
   never-line Finishing line at = at.answer
@@ -103,7 +136,7 @@ module _ (tells : Role → Bool) (before now : Meanings) (row : Row) (image : Is
 
   never-full : (stage : Stage) (live room : ℕ) → EndsAt tells before now row stage (answer.WorkFull live room) → ⊥
   never-full Opening live room at = at.answer
-  never-full Reading live room at = none-some (full_of row.room (bytes_of (now.roles Image))) live (roomy row.room _ can.right_image) (at.judges_image image refl).2
+  never-full Reading live room at = none-some (full_of row.room (bytes_of (now.roles Image))) live (roomy row.room _ can.right_image) (at.reads.judges_image image refl).2
   never-full Listening live room at = at.answer
   never-full Making live room at = at.answer
   never-full Running live room at =
@@ -131,11 +164,14 @@ module _ (tells : Role → Bool) (before now : Meanings) (row : Row) (image : Is
   completes stage (answer.CoreFull ran need) at = never-core stage ran need at
   completes stage (answer.NamesSpent ran) at = tt
   completes stage (answer.WorkFull live room) at = never-full stage live room at
-  completes stage (answer.ReadFault role count) at = can.still role at.cause.1
-  completes stage (answer.WorkFault count) at = can.still Work at.cause.1
-  completes stage (answer.WriteFault role count) at = can.still role at.cause.1
+  completes stage (answer.ReadFault role count) at = can.still role at.answered.cause.1
+  completes stage (answer.WorkFault count) at = can.still Work at.answered.cause.1
+  completes stage (answer.WriteFault role count) at = can.still role at.answered.cause.1
   completes stage answer.OutOfMemory at = tt
-  completes stage (answer.Damaged place name) at = at.whole work tt
+  completes stage (answer.Damaged place name) at = at.answered.whole work tt
+  completes stage (answer.VaultFault count) at = never-vault stage count at.answer
+  completes stage answer.NoCheckpoint at = never-point stage at.answer
+  completes stage (answer.VaultBad place) at = never-gate stage place at.answer
 
 pub completes_from : (tells : Role → Bool) (before now : Meanings) (words : List (List ℕ)) (result : Status) → IsTrue (tells Image) → IsTrue (tells Events) → IsTrue (tells Work) → verb_of words ≡ ToRun → bad_word words ≡ None → Promise tells before now words result
     → CanEnd (bytes_of (now.roles Image)) (bytes_of (now.roles Events)) (row_of words) before.faults now.faults → IsOwnEnd result

@@ -448,6 +448,9 @@ no-line (answer.WriteFault Transcript count) stays now Begun before of noted = n
 no-line (answer.WriteFault Notes count) stays now Begun before of noted = absurd (of refl)
 no-line answer.OutOfMemory stays now Begun before of noted = noted
 no-line (answer.Damaged place name) stays now Begun before of noted = noted
+no-line (answer.VaultFault count) stays now Begun before of noted = noted
+no-line answer.NoCheckpoint stays now Begun before of noted = noted
+no-line (answer.VaultBad place) stays now Begun before of noted = noted
 
 usage-none : (status : Status) → IsOfConversion status → usage_of status ≡ None
 usage-none (answer.Usage word) of = absurd of

@@ -1,6 +1,7 @@
 -- A run ends at a stage: what its steps said, put together.
 -- `ends-with` is the one law of ends; each exit hands in what it knows of the image, the events and the machine, of which a stage before has nothing.
-use Rattle.std.proofs.Common.{◌≡◌, ◌≢◌, ℕ, ◌≤◌, Bool, List, IsTrue, inr, refl, sym, subst, arith}
+use Rattle.std.proofs.Common.{◌≡◌, ℕ, ◌≤◌, Bool, List, IsTrue, inr, refl, sym, subst, arith}
+use Rattle.std.specs.Prelude.{IsFalse}
 use Rattle.long_names.specs.Counting.{Rose}
 use Rattle.long_names.specs.Heap.{Heap}
 use Rattle.image_format.specs.declared.opening.State.{State as Words}
@@ -10,13 +11,14 @@ use Rattle.loom_outside.specs.declared.outside.Role.TheVariants.{Image, Events, 
 use Rattle.blue_model.specs.declared.event.Line.{Line}
 use Rattle.blue_model.specs.Logs.{course}
 use Rattle.machine_run.specs.States.{model_state}
-use Rattle.loom_run.specs.Ends.{AreEvents, IsCaused, IsRightImage, JudgesEvents, JudgesImage, RunOf, RunsTo, WasRead, bytes_of}
+use Rattle.loom_run.specs.Ends.{AreEvents, IsCaused, ReadsAt, RunOf, RunsTo, WasRead, bytes_of}
 use Rattle.loom_run.specs.Meanings.{Meanings, IsLeft}
-use Rattle.loom_run.specs.Stages.{Stage, Opening, Reading, Listening, Making, Running, passes, reaches}
-use Rattle.loom_run.specs.Steps.{Came, HasHeard, HasRead, IsRead, IsRefusal, RunEnds, Uses}
+use Rattle.loom_run.specs.Stages.{Stage, Opening, Reading, Listening, Making, Running, Telling, passes, reaches}
+use Rattle.loom_run.specs.Steps.{Came, HasHeard, HasRead, IsRead, IsRefusal, LateEnds, ReadEnds, RunEnds, Uses}
 use Rattle.loom_words.specs.Words.{Row}
 use Rattle.loom_words.specs.declared.status.Status.{Status}
 use Rattle.loom_words.specs.declared.status.Status.TheVariants as answer
+use Rattle.loom_run.proofs.JudgedLaws.{reads-later}
 use Rattle.loom_run.proofs.UsesLaws.{never}
 
 -- ---- causes
@@ -43,39 +45,46 @@ cause-since (answer.WorkFault count) before mid now later h = (h.0, rose-since (
 cause-since (answer.WriteFault role count) before mid now later h = (h.0, rose-since (before role) (mid role) (now role) (later role) h.1)
 cause-since answer.OutOfMemory before mid now later h = tt
 cause-since (answer.Damaged place name) before mid now later h = tt
+cause-since (answer.VaultFault count) before mid now later h = tt
+cause-since answer.NoCheckpoint before mid now later h = tt
+cause-since (answer.VaultBad place) before mid now later h = tt
+
+pub refused-since : (tells : Role → Bool) (before mid now : Meanings) (row : Row) (stage : Stage) (status : Status) → ((role : Role) → before.faults role ≤ mid.faults role) → IsRefusal tells mid now row stage status → IsRefusal tells before now row stage status
+refused-since tells before mid now row stage status since refused = record {
+  answer = refused.answer;
+  of_run = refused.of_run;
+  ran = refused.ran;
+  cause = cause-since status before.faults mid.faults now.faults since refused.cause;
+  whole = refused.whole;
+  limits = refused.limits;
+}
+
+-- over a host that tells fewer roles
+pub refused-of : (tells fewer : Role → Bool) → ((role : Role) → IsTrue (fewer role) → IsTrue (tells role)) → (before now : Meanings) (row : Row) (stage : Stage) (status : Status) → IsRefusal tells before now row stage status → IsRefusal fewer before now row stage status
+refused-of tells fewer sub before now row stage status refused = record { answer = refused.answer; of_run = refused.of_run; ran = refused.ran; cause = refused.cause; whole = λ work. refused.whole (sub Work work); limits = refused.limits }
+
+-- ---- the stages before the memory is made
+
+pub early-stage : (P : Stage → Type 0) (stage : Stage) → IsTrue (passes stage Making) → P Opening → P Reading → P Listening → P stage
+early-stage P Opening early opening reading listening = opening
+early-stage P Reading early opening reading listening = reading
+early-stage P Listening early opening reading listening = listening
+early-stage P _ early opening reading listening = never early
 
 module _ (tells : Role → Bool) (before : Meanings) (row : Row) where
   -- ---- the one law
 
-  -- what an end at a stage says of what was read, and of the machine
-  pub record Judged (now : Meanings) (stage : Stage) (status : Status) : Type 0 where
-    pub judges_image : IsTrue (tells Image) → stage ≡ Reading → JudgesImage (tells Work) status row.room (bytes_of (now.roles Image))
-    pub right_image : IsTrue (tells Image) → IsTrue (tells Work) → IsTrue (passes Reading stage) → IsRightImage row.room (bytes_of (now.roles Image))
-    pub judges_events : IsTrue (tells Events) → stage ≡ Listening → JudgesEvents status (bytes_of (now.roles Events))
-    pub right_events : IsTrue (tells Events) → IsTrue (passes Listening stage) → (lines : List Line) × AreEvents (bytes_of (now.roles Events)) lines
-    pub whole_image : IsTrue (tells Image) → IsTrue (passes Reading stage) → WasRead row.image (now.roles Image)
-    pub whole_events : IsTrue (tells Events) → IsTrue (passes Listening stage) → WasRead row.events (now.roles Events)
-    pub run : IsTrue (tells Image) → IsTrue (tells Events) → IsTrue (tells Work) → IsTrue (reaches Running stage) → RunOf (bytes_of (now.roles Image)) (bytes_of (now.roles Events)) row.steps (RunsTo tells before now row stage status)
-
-  pub ends-with : (mid now : Meanings) (stage : Stage) (status : Status) → ((role : Role) → before.faults role ≤ mid.faults role) → Uses tells before now row stage → IsLeft Notes before now → IsRefusal tells mid now row stage status → Judged now stage status → RunEnds tells before now row status
-  ends-with mid now stage status since uses untold refused judged = record {
+  pub ends-with : (mid now : Meanings) (stage : Stage) (status : Status) → ((role : Role) → before.faults role ≤ mid.faults role) → Uses tells before now row stage → IsLeft Notes before now → IsRefusal tells mid now row stage status → ReadsAt tells now row stage status
+      → (IsTrue (tells Image) → IsTrue (tells Events) → IsTrue (tells Work) → IsTrue (reaches Running stage) → RunOf (bytes_of (now.roles Image)) (bytes_of (now.roles Events)) row.steps (RunsTo tells before now row stage status)) → RunEnds tells before now row status
+  ends-with mid now stage status since uses untold refused reads run = record {
     stage = stage;
     at = record {
       answer = refused.answer;
-      ran = refused.ran;
-      cause = cause-since status before.faults mid.faults now.faults since refused.cause;
-      whole = refused.whole;
-      limits = refused.limits;
+      answered = record { ran = refused.ran; cause = cause-since status before.faults mid.faults now.faults since refused.cause; whole = refused.whole; limits = refused.limits };
       attached = uses.attached;
       unused = λ role none. inr (uses.unused role none);
-      judges_image = judged.judges_image;
-      right_image = judged.right_image;
-      judges_events = judged.judges_events;
-      right_events = judged.right_events;
-      whole_image = judged.whole_image;
-      whole_events = judged.whole_events;
-      named_work = uses.named;
-      run = judged.run;
+      reads = reads;
+      run = run;
     };
     of_run = refused.of_run;
     untold = untold;
@@ -84,58 +93,16 @@ module _ (tells : Role → Bool) (before : Meanings) (row : Row) where
 
   -- ---- before the machine
 
-  -- where Work couldn't be attached
-  pub ends-opening : (now : Meanings) (status : Status) → Uses tells before now row Opening → IsRefusal tells before now row Opening status → RunEnds tells before now row status
-  ends-opening now status uses refused = ends-with before now Opening status (λ role. omega arith) uses (uses.unused Notes refl) refused record {
-    judges_image = λ image at. absurd (cc);
-    right_image = λ image work came. never came;
-    judges_events = λ events at. absurd (cc);
-    right_events = λ events came. never came;
-    whole_image = λ image came. never came;
-    whole_events = λ events came. never came;
-    run = λ image events work came. never came;
-  }
-
-  -- where no image was read
-  pub ends-reading : (mid now : Meanings) (status : Status) → ((role : Role) → before.faults role ≤ mid.faults role) → Uses tells before now row Reading → IsRefusal tells mid now row Reading status
-      → (IsTrue (tells Image) → JudgesImage (tells Work) status row.room (bytes_of (now.roles Image))) → RunEnds tells before now row status
-  ends-reading mid now status since uses refused judges = ends-with mid now Reading status since uses (uses.unused Notes refl) refused record {
-    judges_image = λ image at. judges image;
-    right_image = λ image work came. never came;
-    judges_events = λ events at. absurd (cc);
-    right_events = λ events came. never came;
-    whole_image = λ image came. never came;
-    whole_events = λ events came. never came;
-    run = λ image events work came. never came;
-  }
-
-  right : (bytes : List ℕ) (state : Words) (heap : Heap) → IsRead bytes row.room state heap → IsRightImage row.room bytes
-  right bytes state heap r = record { head = r.head; heap = heap; image = r.image; roomy = r.roomy }
-
-  -- where no events were read
-  pub ends-listening : (mid now : Meanings) (status : Status) (state : Words) (heap : Heap) → ((role : Role) → before.faults role ≤ mid.faults role) → Uses tells before now row Listening → IsRefusal tells mid now row Listening status
-      → HasRead tells now row state heap → (IsTrue (tells Events) → JudgesEvents status (bytes_of (now.roles Events))) → RunEnds tells before now row status
-  ends-listening mid now status state heap since uses refused read judges = ends-with mid now Listening status since uses (uses.unused Notes refl) refused record {
-    judges_image = λ image at. absurd (cc);
-    right_image = λ image work came. right (bytes_of (now.roles Image)) state heap ((read image).1 work);
-    judges_events = λ events at. judges events;
-    right_events = λ events came. never came;
-    whole_image = λ image came. (read image).0;
-    whole_events = λ events came. never came;
-    run = λ image events work came. never came;
-  }
+  -- where something couldn't be read
+  pub ends-early : (now : Meanings) (status : Status) → ReadEnds tells before now row status → RunEnds tells before now row status
+  ends-early now status end = ends-with before now end.stage status (λ role. omega arith) end.uses
+      (end.uses.unused Notes (early-stage (λ stage. IsFalse (reaches Telling stage)) end.stage end.early refl refl refl)) end.refusal end.reads
+      (λ image events work came. absurd (early-stage (λ stage. IsTrue (reaches Running stage) → ⊥) end.stage end.early (λ no. never no) (λ no. never no) (λ no. never no) came))
 
   -- where no memory was made
   pub ends-making : (now : Meanings) (state : Words) (heap : Heap) (lines : List Line) → Came tells before now row Making state heap lines → RunEnds tells before now row answer.OutOfMemory
-  ends-making now state heap lines came = ends-with now now Making answer.OutOfMemory came.uses.later came.uses (came.uses.unused Notes refl) record { answer = tt; of_run = tt; ran = tt; cause = tt; whole = λ work damaged. damaged; limits = tt } record {
-    judges_image = λ image at. absurd (cc);
-    right_image = λ image work past. right (bytes_of (now.roles Image)) state heap ((came.read image).1 work);
-    judges_events = λ events at. absurd (cc);
-    right_events = λ events past. (lines, (came.heard events).1);
-    whole_image = λ image past. (came.read image).0;
-    whole_events = λ events past. (came.heard events).0;
-    run = λ image events work past. never past;
-  }
+  ends-making now state heap lines came = ends-with now now Making answer.OutOfMemory came.uses.later came.uses (came.uses.unused Notes refl) record { answer = tt; of_run = tt; ran = tt; cause = tt; whole = λ work damaged. damaged; limits = tt }
+      (reads-later tells row now Making answer.OutOfMemory state heap lines (λ e. cc) (λ e. cc) came.uses.named came.read came.heard) (λ image events work past. never past)
 
   -- ---- from the machine on
 
@@ -152,17 +119,11 @@ module _ (tells : Role → Bool) (before : Meanings) (row : Row) where
   }
 
   -- where an end comes at the machine's run or later
-  pub ends-later : (mid now : Meanings) (stage : Stage) (status : Status) (state : Words) (heap : Heap) (lines : List Line) → ((role : Role) → before.faults role ≤ mid.faults role) → Came tells before now row stage state heap lines → stage ≢ Reading → stage ≢ Listening → IsLeft Notes before now
-      → IsRefusal tells mid now row stage status → (IsTrue (tells Work) → RunsTo tells before now row stage status (course lines row.steps (model_state state) heap)) → RunEnds tells before now row status
-  ends-later mid now stage status state heap lines since came unread unheard untold refused run = ends-with mid now stage status since came.uses untold refused record {
-    judges_image = λ image at. absurd (unread at);
-    right_image = λ image work past. right (bytes_of (now.roles Image)) state heap ((came.read image).1 work);
-    judges_events = λ events at. absurd (unheard at);
-    right_events = λ events past. (lines, (came.heard events).1);
-    whole_image = λ image past. (came.read image).0;
-    whole_events = λ events past. (came.heard events).0;
-    run = λ image events work past. run-of now stage status (bytes_of (now.roles Image)) (bytes_of (now.roles Events)) state heap lines ((came.read image).1 work) (came.heard events).1 (run work);
-  }
+  pub ends-late : (now : Meanings) (status : Status) (state : Words) (heap : Heap) (lines : List Line) → HasRead tells now row state heap → HasHeard tells now row lines
+      → LateEnds tells before now row status (course lines row.steps (model_state state) heap) → RunEnds tells before now row status
+  ends-late now status state heap lines read heard end = ends-with before now end.stage status (λ role. omega arith) end.uses end.untold end.refusal
+      (reads-later tells row now end.stage status state heap lines (λ e. never (subst (λ stage. IsTrue (reaches Running stage)) e end.late)) (λ e. never (subst (λ stage. IsTrue (reaches Running stage)) e end.late)) end.uses.named read heard)
+      (λ image events work past. run-of now end.stage status (bytes_of (now.roles Image)) (bytes_of (now.roles Events)) state heap lines ((read image).1 work) (heard events).1 (end.runs work))
 
   -- ---- what was read stays so
 

@@ -6,6 +6,7 @@ pub mod FollowLaws
 pub mod FollowSteps
 pub mod Frames
 pub mod HeadlineLaws
+pub mod JudgedLaws
 pub mod Lines
 pub mod MachineLaws
 pub mod MakingLaws

@@ -10,7 +10,7 @@ use Rattle.long_names.specs.Counting.{Rose}
 use Rattle.loom_run.specs.Parts.{IsTold, unsaid}
 use Rattle.loom_run.specs.Steps.{IsOfRun}
 use Rattle.loom_words.specs.declared.status.Status.{Status}
-use Rattle.loom_words.specs.declared.status.Status.TheVariants.{Done, Quit, Made, Listed, Assembled, Usage, ImageBad, EventsBad, TextBad, Stuck, CoreFull, NamesSpent, WorkFull, ReadFault, WorkFault, WriteFault, OutOfMemory, Damaged}
+use Rattle.loom_words.specs.declared.status.Status.TheVariants.{Done, Quit, Made, Listed, Assembled, Usage, ImageBad, EventsBad, TextBad, Stuck, CoreFull, NamesSpent, WorkFull, ReadFault, WorkFault, WriteFault, OutOfMemory, Damaged, VaultFault, NoCheckpoint, VaultBad}
 
 -- a whole line, and a cut one
 noted-whole : (line : List ℕ) (before now : Meanings) → now.roles Notes ≡ puts line (before.roles Notes) → Noted line before now
@@ -59,6 +59,9 @@ noted-told (WriteFault Transcript count) result steps before now of_run run told
 noted-told (WriteFault Notes count) result steps before now of_run run told p = absurd (of_run refl)
 noted-told (Damaged place name) result steps before now of_run run told p = let own = noted-own _ _ _ _ refl told p in rw own.0 own.1
 noted-told OutOfMemory result steps before now of_run run told p = let own = noted-own _ _ _ _ refl told p in rw own.0 own.1
+noted-told (VaultFault count) result steps before now of_run run told p = let own = noted-own _ _ _ _ refl told p in rw own.0 own.1
+noted-told NoCheckpoint result steps before now of_run run told p = let own = noted-own _ _ _ _ refl told p in rw own.0 own.1
+noted-told (VaultBad place) result steps before now of_run run told p = let own = noted-own _ _ _ _ refl told p in rw own.0 own.1
 
 -- what a run promises of Notes, where it answered this status before its line
 pub noted-run : {told : Bool} (status result : Status) (steps : ℕ) (before mid now : Meanings) → IsOfRun status → HasRun status steps → IsLeft Notes before mid → IsTold told status result mid now → IsTrue told → NotedBy result (HasBegun steps) before now

@@ -49,6 +49,9 @@ ended number (answer.WriteFault Transcript count) h of = absurd h
 ended number (answer.WriteFault Notes count) h of = absurd (of refl)
 ended number answer.OutOfMemory h of = inr (inr refl)
 ended number (answer.Damaged place name) h of = absurd h
+ended number (answer.VaultFault count) h of = absurd h
+ended number answer.NoCheckpoint h of = absurd h
+ended number (answer.VaultBad place) h of = absurd h
 
 -- ---- the last line
 

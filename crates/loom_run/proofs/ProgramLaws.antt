@@ -1,7 +1,7 @@
 -- What the parts of a run hand on to one another.
 -- Each part takes what came before it as a premise (`Uses`, `Came`, `CameThrough`), and says how the run ends from there. The laws here are its exits;
 -- `UsesLaws`, `EndsLaws` and `WrittenLaws` have the steps.
-use Rattle.std.proofs.Common.{◌≡◌, ℕ, Bool, true, false, List, Some, IsTrue, refl, sym, ◌∙◌, ap, subst}
+use Rattle.std.proofs.Common.{◌≡◌, ℕ, Bool, true, false, List, Some, IsTrue, refl, sym, ◌∙◌, ap, subst, arith}
 use Rattle.long_names.specs.Heap.{Heap}
 use Rattle.long_names.specs.Kept.{kept, no_roots}
 use Rattle.image_format.specs.declared.opening.State.{State as Words}
@@ -20,29 +20,36 @@ use Rattle.machine_run.specs.States.{model_state}
 use Rattle.machine_run.specs.declared.running.Finished.{Finished}
 use Rattle.loom_run.specs.Ends.{AttachedOnce, GoesThrough, JudgesEvents, JudgesImage, WrittenBy, bytes_of}
 use Rattle.loom_run.specs.Meanings.{Meanings, LeavesBut, meanings}
-use Rattle.loom_run.specs.Stages.{Opening, Reading, Listening, Making, Running, Finishing, Saving, Drawing, Telling, roles_at}
-use Rattle.loom_run.specs.Steps.{Came, CameThrough, HasHeard, HasRead, IsRefusal, IsSameFile, RunEnds, Uses}
+use Rattle.loom_run.specs.Stages.{Opening, Reading, Listening, Making, Running, Finishing, Saving, Drawing, Telling, roles_at, written_roles}
+use Rattle.loom_run.specs.Steps.{Came, CameThrough, HasHeard, HasRead, IsRefusal, IsSameFile, LateEnds, ReadEnds, RunEnds, Uses}
 use Rattle.loom_words.specs.Words.{Row}
 use Rattle.loom_words.specs.declared.status.Status.{Status}
 use Rattle.loom_words.specs.declared.status.Status.TheVariants.{OutOfMemory}
-use Rattle.loom_run.proofs.EndsLaws.{came-on, ends-listening, ends-making, ends-opening, ends-reading, read-left}
+use Rattle.loom_run.proofs.EndsLaws.{came-on, ends-late, ends-making, heard-left, read-left, refused-since}
 use Rattle.loom_run.proofs.Frames.{leaves-all}
+use Rattle.loom_run.proofs.JudgedLaws.{reads-listening, reads-opening, reads-reading}
 use Rattle.loom_run.proofs.UsesLaws.{left-then, uses-drawing, uses-finishing, uses-listening, uses-making, uses-opening, uses-reading, uses-running, uses-saving, uses-telling}
-use Rattle.loom_run.proofs.WrittenLaws.{ends-drawing, ends-saving, ends-telling}
+use Rattle.loom_run.proofs.WrittenLaws.{late-drawing, late-saving, late-telling}
 
 module _ (tells : Role → Bool) (before : Meanings) (row : Row) where
   -- ---- Work and Image
 
-  pub opening-refused : (now : Meanings) (status : Status) → (IsTrue (tells Work) → AttachedOnce row.work (before.roles Work) (now.roles Work)) → LeavesBut (roles_at Opening) before now → IsRefusal tells before now row Opening status → RunEnds tells before now row status
-  opening-refused now status attached others refused = ends-opening tells before row now status (uses-opening tells row before now attached others) refused
+  pub opening-refused : (now : Meanings) (status : Status) → (IsTrue (tells Work) → AttachedOnce row.work (before.roles Work) (now.roles Work)) → LeavesBut (roles_at Opening) before now → IsRefusal tells before now row Opening status → ReadEnds tells before now row status
+  opening-refused now status attached others refused = record { stage = Opening; early = refl; uses = uses-opening tells row before now attached others; refusal = refused; reads = reads-opening tells row now status }
 
   module _ (mid now : Meanings) (opened : (IsTrue (tells Work) → AttachedOnce row.work (before.roles Work) (mid.roles Work))) (named : IsTrue (tells Work) → (mid.roles Work).name ≡ Some row.work) (first : LeavesBut (roles_at Opening) before mid)
       (attached : IsTrue (tells Image) → AttachedOnce row.image (mid.roles Image) (now.roles Image)) (file : IsTrue (tells Work) → IsSameFile (mid.roles Work) (now.roles Work)) (others : LeavesBut (roles_at Reading) mid now) where
     pub used-reading : Uses tells before now row Reading
     used-reading = uses-reading tells row before mid now (uses-opening tells row before mid opened first) named attached file others
 
-    pub reading-refused : (status : Status) → IsRefusal tells mid now row Reading status → (IsTrue (tells Image) → JudgesImage (tells Work) status row.room (bytes_of (now.roles Image))) → RunEnds tells before now row status
-    reading-refused status refused judges = ends-reading tells before row mid now status first.later used-reading refused judges
+    pub reading-refused : (status : Status) → IsRefusal tells mid now row Reading status → (IsTrue (tells Image) → JudgesImage (tells Work) status row.room (bytes_of (now.roles Image))) → ReadEnds tells before now row status
+    reading-refused status refused judges = record {
+      stage = Reading;
+      early = refl;
+      uses = used-reading;
+      refusal = refused-since tells before mid now row Reading status first.later refused;
+      reads = reads-reading tells row now status used-reading.named judges;
+    }
 
   -- ---- Events
 
@@ -56,8 +63,14 @@ module _ (tells : Role → Bool) (before : Meanings) (row : Row) where
     pub came-listening : (lines : List Line) → HasHeard tells now row lines → Came tells before now row Listening state heap lines
     came-listening lines heard = record { uses = used-listening; read = read-listening; heard = heard }
 
-    pub listening-refused : (status : Status) → IsRefusal tells mid now row Listening status → (IsTrue (tells Events) → JudgesEvents status (bytes_of (now.roles Events))) → RunEnds tells before now row status
-    listening-refused status refused judges = ends-listening tells before row mid now status state heap used.later used-listening refused read-listening judges
+    pub listening-refused : (status : Status) → IsRefusal tells mid now row Listening status → (IsTrue (tells Events) → JudgesEvents status (bytes_of (now.roles Events))) → ReadEnds tells before now row status
+    listening-refused status refused judges = record {
+      stage = Listening;
+      early = refl;
+      uses = used-listening;
+      refusal = refused-since tells before mid now row Listening status used.later refused;
+      reads = reads-listening tells row now status state heap used-listening.named read-listening judges;
+    }
 
   -- ---- the memory
 
@@ -81,39 +94,50 @@ module _ (tells : Role → Bool) (before : Meanings) (row : Row) where
 
   -- ---- what is written
 
-  module _ (mid : Meanings) (state : Words) (heap : Heap) (lines : List Line) (finished : Finished) (remains : Heap) (came : Came tells before mid row Finishing state heap lines)
-      (through : IsTrue (tells Work) → CameThrough tells before mid row finished remains (course lines row.steps (model_state state) heap))
+  module _ (mid : Meanings) (c : Course) (finished : Finished) (remains : Heap) (used : Uses tells before mid row Finishing) (through : IsTrue (tells Work) → CameThrough tells before mid row finished remains c)
       (far : Meanings) (attached : IsTrue (tells Saved) → AttachedOnce row.saved (mid.roles Saved) (far.roles Saved)) (file : far.roles Work ≡ mid.roles Work) (others : LeavesBut (roles_at Saving) mid far) where
-    came-saving : Came tells before far row Saving state heap lines
-    came-saving = came-on tells before row mid far Finishing Saving state heap lines came (uses-saving tells row before mid far came.uses attached (λ told. file ∙ sym (ap (λ (s : RoleState). record (mid.roles Work) { contents = s.contents }) file)) others)
-        (others.others Image (λ e. cc, (λ e. cc, tt))).state (others.others Events (λ e. cc, (λ e. cc, tt))).state
+    used-saving : Uses tells before far row Saving
+    used-saving = uses-saving tells row before mid far used attached (λ told. file ∙ sym (ap (λ (s : RoleState). record (mid.roles Work) { contents = s.contents }) file)) others
 
     silent : far.roles Transcript ≡ mid.roles Transcript
     silent = (others.others Transcript (λ e. cc, (λ e. cc, tt))).state
 
-    pub saving-refused : (status : Status) → IsRefusal tells mid far row Saving status → (IsTrue (tells Saved) → IsTrue (tells Work) → WrittenBy false row.saved (saved_text (kept remains no_roots) finished.state) (mid.roles Saved) (far.roles Saved)) → RunEnds tells before far row status
-    saving-refused status refused put = ends-saving tells before row state heap lines mid finished remains came through far status came-saving refused silent put
+    pub saving-refused : (status : Status) → IsRefusal tells mid far row Saving status → (IsTrue (tells Saved) → IsTrue (tells Work) → WrittenBy false row.saved (saved_text (kept remains no_roots) finished.state) (mid.roles Saved) (far.roles Saved)) → LateEnds tells before far row status c
+    saving-refused status refused put = late-saving tells before row c mid finished remains used through far status used-saving refused silent put
 
     module _ (put : IsTrue (tells Saved) → IsTrue (tells Work) → WrittenBy true row.saved (saved_text (kept remains no_roots) finished.state) (mid.roles Saved) (far.roles Saved))
         (now : Meanings) (shown : IsTrue (tells Display) → AttachedOnce row.display (far.roles Display) (now.roles Display)) (drawing : LeavesBut (roles_at Drawing) far now) where
       used-drawing : Uses tells before now row Drawing
-      used-drawing = uses-drawing tells row before far now came-saving.uses shown drawing
-
-      came-drawing : Came tells before now row Drawing state heap lines
-      came-drawing = came-on tells before row far now Saving Drawing state heap lines came-saving used-drawing (drawing.others Image (λ e. cc, tt)).state (drawing.others Events (λ e. cc, tt)).state
+      used-drawing = uses-drawing tells row before far now used-saving shown drawing
 
       undrawn : far.roles Display ≡ mid.roles Display
       undrawn = (others.others Display (λ e. cc, (λ e. cc, tt))).state
 
-      pub drawing-refused : (status : Status) → IsRefusal tells far now row Drawing status → (IsTrue (tells Display) → WrittenBy false row.display finished.picture (far.roles Display) (now.roles Display)) → RunEnds tells before now row status
-      drawing-refused status refused drawn = ends-drawing tells before row state heap lines mid finished remains came through far silent put undrawn now status came-drawing came-saving.uses.later refused
+      pub drawing-refused : (status : Status) → IsRefusal tells far now row Drawing status → (IsTrue (tells Display) → WrittenBy false row.display finished.picture (far.roles Display) (now.roles Display)) → LateEnds tells before now row status c
+      drawing-refused status refused drawn = late-drawing tells before row c mid finished remains used through far silent put undrawn now status used-drawing used-saving.later refused
           (drawing.others Transcript (λ e. cc, tt)).state (drawing.others Saved (λ e. cc, tt)).state drawn
 
-      pub run-finished : (status : Status) → IsRefusal tells now now row Telling status → ((c : Course) → IsParkedBy finished.end finished.ran c.ending → GoesThrough status c) → (IsTrue (tells Display) → WrittenBy true row.display finished.picture (far.roles Display) (now.roles Display)) → RunEnds tells before now row status
-      run-finished status answered goes drawn = ends-telling tells before row state heap lines mid finished remains came through far silent put undrawn now status
-          (came-on tells before row now now Drawing Telling state heap lines came-drawing (uses-telling tells row before now used-drawing) refl refl)
-          (left-then Notes before far now (came-saving.uses.unused Notes refl) (drawing.others Notes (λ e. cc, tt))) answered goes
+      pub run-finished : (status : Status) → IsRefusal tells now now row Telling status → ((c : Course) → IsParkedBy finished.end finished.ran c.ending → GoesThrough status c) → (IsTrue (tells Display) → WrittenBy true row.display finished.picture (far.roles Display) (now.roles Display)) → LateEnds tells before now row status c
+      run-finished status answered goes drawn = late-telling tells before row c mid finished remains used through far silent put undrawn now status (uses-telling tells row before now used-drawing)
+          (left-then Notes before far now (used-saving.unused Notes refl) (drawing.others Notes (λ e. cc, tt))) answered goes
           (drawing.others Transcript (λ e. cc, tt)).state (drawing.others Saved (λ e. cc, tt)).state drawn
+
+  -- ---- and of a run, over the course that its image and its events have
+
+  pub run-written : (mid now : Meanings) (status : Status) (state : Words) (heap : Heap) (lines : List Line) → Came tells before mid row Finishing state heap lines → LeavesBut written_roles mid now
+      → LateEnds tells before now row status (course lines row.steps (model_state state) heap) → RunEnds tells before now row status
+  run-written mid now status state heap lines came others end = ends-late tells before row now status state heap lines
+      (read-left tells before row mid now state heap (others.others Image (λ e. cc, (λ e. cc, (λ e. cc, tt)))).state came.read) (heard-left tells before row mid now lines (others.others Events (λ e. cc, (λ e. cc, (λ e. cc, tt)))).state came.heard) end
+
+pub leaves-saving : (a b : Meanings) → LeavesBut (roles_at Saving) a b → LeavesBut written_roles a b
+leaves-saving a b p = record { others = λ role none. p.others role (none.0, (none.1.1.0, tt)); writes = λ none. absurd (none.1.1.0 refl); later = p.later }
+
+pub leaves-drawing : (a b c : Meanings) → LeavesBut (roles_at Saving) a b → LeavesBut (roles_at Drawing) b c → LeavesBut written_roles a c
+leaves-drawing a b c p q = record {
+  others = λ role none. left-then role a b c (p.others role (none.0, (none.1.1.0, tt))) (q.others role (none.1.0, tt));
+  writes = λ none. absurd (none.1.1.0 refl);
+  later = λ role. let first = p.later role in let then = q.later role in omega (arith, first, then);
+}
 
 -- ---- the heap on the disk
 

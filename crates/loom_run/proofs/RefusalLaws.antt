@@ -9,11 +9,11 @@ use Rattle.loom_run.specs.declared.converting.Way.TheVariants.{Listing, Assembli
 use Rattle.loom_run.specs.Makes.{Makes}
 use Rattle.loom_run.specs.Meanings.{Meanings, IsLeft, LeavesBut}
 use Rattle.loom_run.specs.Promise.{EndsAt, Promise}
-use Rattle.loom_run.specs.Refusals.{CameTo, LeavesFiles, LeavesTraced, role_of}
+use Rattle.loom_run.specs.Refusals.{CameTo, CameToTraced, LeavesFiles, LeavesTraced, role_of, traced_role_of}
 use Rattle.loom_run.specs.Stages.{Stage, Opening, Reading, Listening, Making, Running, Finishing, Saving, Drawing, Telling, Ends, reaches, stage_of}
-use Rattle.loom_run.specs.Traced.{EndsTrace, TracesAt, is_untraced}
+use Rattle.loom_run.specs.Traced.{EndsTrace, TracesAt, is_untraced, traced_stage}
 use Rattle.loom_words.specs.Status.{usage_of}
-use Rattle.loom_words.specs.Words.{MakeRow, Paths, Row, ToAssemble, ToList, ToMake, ToRun, ToTrace, Verb, bad_word, make_of, row_of, verb_of}
+use Rattle.loom_words.specs.Words.{MakeRow, Paths, Row, ToAssemble, ToList, ToMake, ToRun, ToTrace, Verb, bad_word, make_of, row_of, trace_row_of, verb_of}
 use Rattle.loom_words.specs.declared.status.Status.{Status}
 use Rattle.loom_words.specs.declared.status.Status.TheVariants as answer
 use Rattle.loom_run.proofs.UsesLaws.{never}
@@ -64,6 +64,46 @@ pub came_from : (tells : Role → Bool) (before now : Meanings) (words : List (L
 came_from tells before now words result p asks none =
     let e = p.ends asks (sym p.usage ∙ none) in
     λ told. e.1.attached (role_of result) told (reached e.0 result e.1.answer)
+
+traced-reached : (stage : Stage) (status : Status) → EndsTrace stage status → IsTrue (reaches (traced_stage (traced_role_of status)) stage)
+traced-reached Opening (answer.WorkFault count) h = refl
+traced-reached Opening _ h = absurd h
+traced-reached Reading (answer.ImageBad rule place) h = refl
+traced-reached Reading (answer.ReadFault Image count) h = refl
+traced-reached Reading (answer.WorkFull live room) h = refl
+traced-reached Reading (answer.WorkFault count) h = refl
+traced-reached Reading (answer.Damaged place name) h = refl
+traced-reached Reading answer.OutOfMemory h = refl
+traced-reached Reading _ h = absurd h
+traced-reached Listening (answer.EventsBad line) h = refl
+traced-reached Listening (answer.ReadFault Events count) h = refl
+traced-reached Listening answer.OutOfMemory h = refl
+traced-reached Listening _ h = absurd h
+traced-reached Making (answer.WriteFault Saved count) h = refl
+traced-reached Making answer.OutOfMemory h = refl
+traced-reached Making _ h = absurd h
+traced-reached Running (answer.Stuck cause ran) h = refl
+traced-reached Running (answer.CoreFull ran need) h = refl
+traced-reached Running (answer.NamesSpent ran) h = refl
+traced-reached Running (answer.WorkFull live room) h = refl
+traced-reached Running (answer.WorkFault count) h = refl
+traced-reached Running (answer.WriteFault Transcript count) h = refl
+traced-reached Running (answer.WriteFault Saved count) h = refl
+traced-reached Running (answer.Damaged place name) h = refl
+traced-reached Running _ h = absurd h
+traced-reached Telling (answer.Done ran) h = refl
+traced-reached Telling (answer.Quit ran) h = refl
+traced-reached Telling (answer.WriteFault Notes count) h = refl
+traced-reached Telling _ h = absurd h
+traced-reached Finishing status h = absurd h
+traced-reached Saving status h = absurd h
+traced-reached Drawing status h = absurd h
+
+pub traced_came_from : (tells : Role → Bool) (before now : Meanings) (words : List (List ℕ)) (result : Status) → Promise tells before now words result → verb_of words ≡ ToTrace → usage_of result ≡ None
+    → CameToTraced tells before now (trace_row_of words) (traced_role_of result)
+traced_came_from tells before now words result p asks none =
+    let e = p.traces asks (sym p.usage ∙ none) in
+    λ told. e.1.attached (traced_role_of result) told (traced-reached e.0 result e.1.answer)
 
 -- ---- what was not reached is left
 

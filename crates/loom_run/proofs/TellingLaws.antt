@@ -5,13 +5,12 @@ use Rattle.long_names.specs.Counting.{Rose}
 use Rattle.loom_outside.specs.Outside.{PutPrefix, RoleState}
 use Rattle.loom_outside.specs.declared.outside.Role.{Role}
 use Rattle.loom_outside.specs.declared.outside.Role.TheVariants.{Image, Events, Work, Saved, Display, Transcript, Notes}
-use Rattle.blue_model.specs.declared.event.Line.{Line}
 use Rattle.blue_model.specs.declared.step.Step.{Step}
 use Rattle.blue_model.specs.declared.step.Step.TheVariants.{Next, Quit}
 use Rattle.blue_model.specs.Cycle.{Ending, Parked, Stuck}
 use Rattle.blue_model.specs.Endings.{IsParked, IsParkedBy, OnDrawn, OnParked}
 use Rattle.blue_model.specs.Logs.{Course}
-use Rattle.loom_run.specs.Ends.{AreEvents, AttachedOnce, BeginsEnd, GoesThrough, IsCaused, IsRightImage, JudgesEvents, JudgesImage, NotedBy, RunOf, RunsTo, SaysStopped, WasRead, WrittenBy, bytes_of, image_of, word_for}
+use Rattle.loom_run.specs.Ends.{AttachedOnce, BeginsEnd, GoesThrough, IsAnswered, IsCaused, NotedBy, RunOf, RunsTo, SaysStopped, WrittenBy, bytes_of, image_of, word_for}
 use Rattle.loom_run.specs.Makes.{HasBegunFor}
 use Rattle.loom_run.specs.Meanings.{Meanings, IsLeft, LeavesBut}
 use Rattle.loom_run.specs.Parts.{IsTold, unsaid}
@@ -24,6 +23,7 @@ use Rattle.loom_words.specs.declared.status.Status.{Status}
 use Rattle.loom_words.specs.declared.status.Status.TheVariants as answer
 use Rattle.loom_run.proofs.ConvertLaws.{asks-other, converts-not, right-some}
 use Rattle.loom_run.proofs.HeadlineLaws.{assembled-never, done-last, listed-never, made-never, quit-last}
+use Rattle.loom_run.proofs.JudgedLaws.{reads-left, reads-telling}
 use Rattle.loom_run.proofs.Lines.{noted-own, noted-run}
 use Rattle.loom_run.proofs.UsesLaws.{left-then}
 use Rattle.loom_run.proofs.WrittenLaws.{cuts-none}
@@ -56,15 +56,21 @@ module _ (mid now : Meanings) (leaves : LeavesBut (Notes ∷ []) mid now) where
   cause-now (answer.WriteFault role count) before of_run h = subst (λ n. (count ≡ n) × Rose (before role) n) (sym (left role of_run).faults) h
   cause-now answer.OutOfMemory before of_run h = tt
   cause-now (answer.Damaged place name) before of_run h = tt
+  cause-now (answer.VaultFault count) before of_run h = tt
+  cause-now answer.NoCheckpoint before of_run h = tt
+  cause-now (answer.VaultBad place) before of_run h = tt
+
+  pub answered-now : {tells : Role → Bool} {before : Meanings} {row : Row} {status : Status} → IsOfRun status → IsAnswered tells before mid row status → IsAnswered tells before now row status
+  answered-now {tells} {before} {row} {status} of_run a = record { ran = a.ran; cause = cause-now status before.faults of_run a.cause; whole = a.whole; limits = a.limits }
 
   pub once : (text : List ℕ) (before : RoleState) (role : Role) → role ≢ Notes → AttachedOnce text before (mid.roles role) → AttachedOnce text before (now.roles role)
   once text before role other x = subst (AttachedOnce text before) (sym (same role other)) x
 
-  unless : (before : Meanings) (role : Role) → role ≢ Notes → (role ≡ Notes) ⊎ IsLeft role before mid → (role ≡ Notes) ⊎ IsLeft role before now
+  pub unless : (before : Meanings) (role : Role) → role ≢ Notes → (role ≡ Notes) ⊎ IsLeft role before mid → (role ≡ Notes) ⊎ IsLeft role before now
   unless before role other (inl e) = inl e
   unless before role other (inr l) = inr (left-then role before mid now l (left role other))
 
-  runs-now : {tells : Role → Bool} {before : Meanings} {row : Row} {stage : Stage} {status : Status} → IsOfRun status → (c : Course) → RunsTo tells before mid row stage status c → RunsTo tells before now row stage status c
+  pub runs-now : {tells : Role → Bool} {before : Meanings} {row : Row} {stage : Stage} {status : Status} → IsOfRun status → (c : Course) → RunsTo tells before mid row stage status c → RunsTo tells before now row stage status c
   runs-now {tells} {before} {row} {stage} {status} of_run c r = record {
     stops = r.stops;
     goes = r.goes;
@@ -83,19 +89,10 @@ module _ (mid now : Meanings) (leaves : LeavesBut (Notes ∷ []) mid now) where
   at-now : {tells : Role → Bool} {before : Meanings} {row : Row} {stage : Stage} {status : Status} → IsOfRun status → EndsAt tells before mid row stage status → EndsAt tells before now row stage status
   at-now {tells} {before} {row} {stage} {status} of_run at = record {
     answer = at.answer;
-    ran = at.ran;
-    cause = cause-now status before.faults of_run at.cause;
-    whole = at.whole;
-    limits = at.limits;
+    answered = answered-now of_run at.answered;
     attached = attached;
     unused = unused;
-    judges_image = λ image here. subst (λ (s : RoleState). JudgesImage (tells Work) status row.room (bytes_of s)) (sym (same Image (λ e. cc))) (at.judges_image image here);
-    right_image = λ image work past. subst (λ (s : RoleState). IsRightImage row.room (bytes_of s)) (sym (same Image (λ e. cc))) (at.right_image image work past);
-    judges_events = λ events here. subst (λ (s : RoleState). JudgesEvents status (bytes_of s)) (sym (same Events (λ e. cc))) (at.judges_events events here);
-    right_events = λ events past. subst (λ (s : RoleState). (lines : List Line) × AreEvents (bytes_of s) lines) (sym (same Events (λ e. cc))) (at.right_events events past);
-    whole_image = λ image past. subst (WasRead row.image) (sym (same Image (λ e. cc))) (at.whole_image image past);
-    whole_events = λ events past. subst (WasRead row.events) (sym (same Events (λ e. cc))) (at.whole_events events past);
-    named_work = λ work past. ap (λ (s : RoleState). s.name) (same Work (λ e. cc)) ∙ at.named_work work past;
+    reads = reads-left tells row mid now stage status (same Image (λ e. cc)) (same Events (λ e. cc)) (same Work (λ e. cc)) at.reads;
     run = λ image events work past.
         subst (λ (s : RoleState). RunOf (bytes_of s) (bytes_of (now.roles Events)) row.steps (RunsTo tells before now row stage status)) (sym (same Image (λ e. cc)))
         (subst (λ (s : RoleState). RunOf (bytes_of (mid.roles Image)) (bytes_of s) row.steps (RunsTo tells before now row stage status)) (sym (same Events (λ e. cc)))
@@ -122,16 +119,19 @@ module _ (mid now : Meanings) (leaves : LeavesBut (Notes ∷ []) mid now) where
 
 -- ---- a last line that couldn't be put
 
+pub answered-cut : (tells : Role → Bool) (before now : Meanings) (row : Row) → Rose (before.faults Notes) (now.faults Notes) → IsAnswered tells before now row (answer.WriteFault Notes (now.faults Notes))
+answered-cut tells before now row rose = record { ran = tt; cause = (refl, rose); whole = λ work damaged. damaged; limits = tt }
+
 module _ (tells : Role → Bool) (before now : Meanings) (row : Row) (rose : Rose (before.faults Notes) (now.faults Notes)) where
-  parked : (end : Step) (ran : ℕ) (e : Ending) → IsParkedBy end ran e → IsParked e
+  pub parked : (end : Step) (ran : ℕ) (e : Ending) → IsParkedBy end ran e → IsParked e
   parked end ran (Parked last m drawn) h = tt
   parked end ran (Stuck why count said) h = h
 
   -- the line of the run's own end was begun
-  abbrev Begins : Status → Type 0
+  abbrev pub Begins : Status → Type 0
   Begins status = (c : Course) → GoesThrough status c → IsTrue (tells Notes) → BeginsEnd c (before.roles Notes) (now.roles Notes)
 
-  cut-run : {status : Status} (c : Course) → (GoesThrough status c → IsParked c.ending) → Begins status → RunsTo tells before now row Telling status c → RunsTo tells before now row Telling (answer.WriteFault Notes (now.faults Notes)) c
+  pub cut-run : {status : Status} (c : Course) → (GoesThrough status c → IsParked c.ending) → Begins status → RunsTo tells before now row Telling status c → RunsTo tells before now row Telling (answer.WriteFault Notes (now.faults Notes)) c
   cut-run c goes begins r = record {
     stops = λ at. absurd (cc);
     goes = λ past. goes (r.goes past);
@@ -145,21 +145,12 @@ module _ (tells : Role → Bool) (before now : Meanings) (row : Row) (rose : Ros
   }
 
   cut-end : {status : Status} → ((c : Course) → GoesThrough status c → IsParked c.ending) → Begins status → EndsAt tells before now row Telling status → EndsAt tells before now row Telling (answer.WriteFault Notes (now.faults Notes))
-  cut-end goes begins at = record {
+  cut-end {status} goes begins at = record {
     answer = tt;
-    ran = tt;
-    cause = (refl, rose);
-    whole = λ work damaged. damaged;
-    limits = tt;
+    answered = answered-cut tells before now row rose;
     attached = at.attached;
     unused = at.unused;
-    judges_image = λ image here. absurd (cc);
-    right_image = at.right_image;
-    judges_events = λ events here. absurd (cc);
-    right_events = at.right_events;
-    whole_image = at.whole_image;
-    whole_events = at.whole_events;
-    named_work = at.named_work;
+    reads = reads-telling tells row now status (answer.WriteFault Notes (now.faults Notes)) at.reads;
     run = λ image events work past.
         let r = at.run image events work past in
         record { head = r.head; heap = r.heap; is = r.is; lines = r.lines; list = r.list; run = cut-run _ (goes _) begins r.run };
@@ -187,6 +178,9 @@ module _ (tells : Role → Bool) (before now : Meanings) (row : Row) (rose : Ros
   unsaid-end stage (answer.WriteFault role count) put at = (stage, at)
   unsaid-end stage answer.OutOfMemory put at = (stage, at)
   unsaid-end stage (answer.Damaged place name) put at = (stage, at)
+  unsaid-end stage (answer.VaultFault count) put at = (stage, at)
+  unsaid-end stage answer.NoCheckpoint put at = (stage, at)
+  unsaid-end stage (answer.VaultBad place) put at = (stage, at)
 
 -- ---- the promise
 
@@ -209,6 +203,9 @@ usage-none (answer.WorkFault count) h = refl
 usage-none (answer.WriteFault role count) h = refl
 usage-none answer.OutOfMemory h = refl
 usage-none (answer.Damaged place name) h = refl
+usage-none (answer.VaultFault count) h = refl
+usage-none answer.NoCheckpoint h = refl
+usage-none (answer.VaultBad place) h = refl
 
 pub usage-unsaid : (status : Status) (count : ℕ) → IsOfRun status → usage_of (unsaid status count) ≡ None
 usage-unsaid (answer.Done ran) count h = refl
@@ -229,6 +226,9 @@ usage-unsaid (answer.WorkFault faults) count h = refl
 usage-unsaid (answer.WriteFault role faults) count h = refl
 usage-unsaid answer.OutOfMemory count h = refl
 usage-unsaid (answer.Damaged place name) count h = refl
+usage-unsaid (answer.VaultFault faults) count h = refl
+usage-unsaid answer.NoCheckpoint count h = refl
+usage-unsaid (answer.VaultBad place) count h = refl
 
 module _ (tells : Role → Bool) (before mid now : Meanings) (words : List (List ℕ)) (status result : Status) (asks : verb_of words ≡ ToRun) (right : bad_word words ≡ None) (run : RunEnds tells before mid (row_of words) status) (leaves : LeavesBut (Notes ∷ []) mid now) where
   ends : IsTold (tells Notes) status result mid now → (stage : Stage) × EndsAt tells before now (row_of words) stage result
@@ -249,7 +249,7 @@ module _ (tells : Role → Bool) (before mid now : Meanings) (words : List (List
     makes = λ make. asks-other words ToRun ToMake asks (λ e. cc) make;
     converts = λ way asked. converts-not way words ToRun asks (λ e. cc) (λ e. cc) asked;
     traces = λ trace. asks-other words ToRun ToTrace asks (λ e. cc) trace;
-    noted = λ tells. subst (λ (verb : Verb). NotedBy result (HasBegunFor verb words) before now) (sym asks) (noted-run status result (row_of words).steps before mid now run.of_run run.at.ran run.untold told tells);
+    noted = λ tells. subst (λ (verb : Verb). NotedBy result (HasBegunFor verb words) before now) (sym asks) (noted-run status result (row_of words).steps before mid now run.of_run run.at.answered.ran run.untold told tells);
     later = λ role. let first = run.later role in let then = leaves.later role in omega (arith, first, then);
   }
 

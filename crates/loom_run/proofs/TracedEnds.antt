@@ -9,13 +9,14 @@ use Rattle.loom_outside.specs.declared.outside.Role.TheVariants.{Image, Events, 
 use Rattle.blue_model.specs.declared.event.Line.{Line}
 use Rattle.blue_model.specs.Machine.{Outcome}
 use Rattle.machine_run.specs.States.{model_state}
-use Rattle.loom_run.specs.Ends.{AreEvents, AttachedOnce, IsCaused, IsImageOf, IsRightImage, JudgesEvents, JudgesImage, WasRead, WasRefused, WasWritten, bytes_of}
+use Rattle.loom_run.specs.Ends.{AreEvents, AttachedOnce, IsCaused, IsImageOf, ReadsAt, WasRefused, WasWritten, bytes_of}
 use Rattle.loom_run.specs.Following.{EndsFollowed, Followed, IsTraceRefusal, TraceEnds, UsesTrace, WrittenSo, is_cut, is_through}
 use Rattle.loom_run.specs.Meanings.{LeavesBut, Meanings, IsLeft}
-use Rattle.loom_run.specs.Stages.{Stage, Opening, Reading, Listening, Making, Running, Saving, Telling, Ends, EndsTelling, passes, reaches, roles_at}
-use Rattle.loom_run.specs.Steps.{Came, HasHeard, HasRead, IsRead, IsRefusal, IsOfRun, IsRefusalAt, IsUnsaved, Uses}
+use Rattle.loom_run.specs.Stages.{Stage, Opening, Reading, Listening, Making, Running, Saving, Telling, Ends, EndsTelling, reaches, roles_at}
+use Rattle.loom_run.specs.Steps.{Came, HasHeard, HasRead, IsRefusal, IsOfRun, IsRefusalAt, IsUnsaved, ReadEnds, Uses}
 use Rattle.loom_run.specs.Traced.{AreWhole, CutsTraced, EndsFollowing, EndsTrace, HasLines, IsUnmade, TraceOf, TracesTo, SaysTraced, started}
-use Rattle.loom_run.proofs.EndsLaws.{cause-since}
+use Rattle.loom_run.proofs.EndsLaws.{cause-since, early-stage, heard-left, read-left}
+use Rattle.loom_run.proofs.JudgedLaws.{reads-later}
 use Rattle.loom_run.proofs.TracedUses.{traced-listening, traced-making, traced-opening, traced-reading, traced-ended, traced-telling}
 use Rattle.loom_run.specs.Parts.{IsFinished}
 use Rattle.loom_run.proofs.Frames.{is-role}
@@ -31,38 +32,19 @@ as-run : {tells : Role → Bool} {before now : Meanings} (row : Row) (stage : St
 as-run row stage status r = record { answer = r.answer; of_run = r.of_run; ran = r.ran; cause = r.cause; whole = r.whole; limits = r.limits }
 
 module _ (tells : Role → Bool) (before : Meanings) (row : Row) where
-  -- what an end at a stage says of what was read, of Saved and of the machine
-  pub record JudgedTrace (now : Meanings) (stage : Stage) (status : Status) : Type 0 where
-    pub judges_image : IsTrue (tells Image) → stage ≡ Reading → JudgesImage (tells Work) status row.room (bytes_of (now.roles Image))
-    pub right_image : IsTrue (tells Image) → IsTrue (tells Work) → IsTrue (passes Reading stage) → IsRightImage row.room (bytes_of (now.roles Image))
-    pub judges_events : IsTrue (tells Events) → stage ≡ Listening → JudgesEvents status (bytes_of (now.roles Events))
-    pub right_events : IsTrue (tells Events) → IsTrue (passes Listening stage) → (lines : List Line) × AreEvents (bytes_of (now.roles Events)) lines
-    pub whole_image : IsTrue (tells Image) → IsTrue (passes Reading stage) → WasRead row.image (now.roles Image)
-    pub whole_events : IsTrue (tells Events) → IsTrue (passes Listening stage) → WasRead row.events (now.roles Events)
-    pub unmade : IsTrue (tells Saved) → stage ≡ Making → IsUnmade status row.saved (before.roles Saved) (now.roles Saved)
-    pub trace : IsTrue (tells Image) → IsTrue (tells Events) → IsTrue (tells Work) → IsTrue (reaches Running stage)
-        → TraceOf (bytes_of (now.roles Image)) (bytes_of (now.roles Events)) (TracesTo tells before now row stage status)
-
-  pub trace-ends-with : (mid now : Meanings) (stage : Stage) (status : Status) → ((role : Role) → before.faults role ≤ mid.faults role) → UsesTrace tells before now row stage → IsTraceRefusal tells mid now row (EndsTrace stage) status → JudgedTrace now stage status → TraceEnds tells before now row status
-  trace-ends-with mid now stage status since uses refused judged = record {
+  pub trace-ends-with : (mid now : Meanings) (stage : Stage) (status : Status) → ((role : Role) → before.faults role ≤ mid.faults role) → UsesTrace tells before now row stage → IsTraceRefusal tells mid now row (EndsTrace stage) status → ReadsAt tells now row stage status
+      → (IsTrue (tells Saved) → stage ≡ Making → IsUnmade status row.saved (before.roles Saved) (now.roles Saved))
+      → (IsTrue (tells Image) → IsTrue (tells Events) → IsTrue (tells Work) → IsTrue (reaches Running stage) → TraceOf (bytes_of (now.roles Image)) (bytes_of (now.roles Events)) (TracesTo tells before now row stage status)) → TraceEnds tells before now row status
+  trace-ends-with mid now stage status since uses refused reads unmade trace = record {
     stage = stage;
     at = record {
       answer = refused.answer;
-      ran = refused.ran;
-      cause = cause-since status before.faults mid.faults now.faults since refused.cause;
-      whole = refused.whole;
-      limits = refused.limits;
+      answered = record { ran = refused.ran; cause = cause-since status before.faults mid.faults now.faults since refused.cause; whole = refused.whole; limits = refused.limits };
       attached = uses.attached;
       unused = uses.unused;
-      judges_image = judged.judges_image;
-      right_image = judged.right_image;
-      judges_events = judged.judges_events;
-      right_events = judged.right_events;
-      whole_image = judged.whole_image;
-      whole_events = judged.whole_events;
-      named_work = uses.named;
-      unmade = judged.unmade;
-      trace = judged.trace;
+      reads = reads;
+      unmade = unmade;
+      trace = trace;
     };
     of_run = refused.of_run;
     untold = uses.untold;
@@ -71,49 +53,14 @@ module _ (tells : Role → Bool) (before : Meanings) (row : Row) where
 
   -- ---- as far as a run
 
-  -- where Work couldn't be attached
-  pub trace-opening : (now : Meanings) (status : Status) → Uses tells before now row Opening → IsRefusal tells before now row Opening status → TraceEnds tells before now row status
-  trace-opening now status uses refused = trace-ends-with before now Opening status (λ role. omega arith) (traced-opening tells row before now uses) (as-run row Opening status refused) record {
-    judges_image = λ image at. absurd (cc);
-    right_image = λ image work came. never came;
-    judges_events = λ events at. absurd (cc);
-    right_events = λ events came. never came;
-    whole_image = λ image came. never came;
-    whole_events = λ events came. never came;
-    unmade = λ saved at. absurd (cc);
-    trace = λ image events work came. never came;
-  }
-
-  -- where no image was read
-  pub trace-reading : (mid now : Meanings) (status : Status) → ((role : Role) → before.faults role ≤ mid.faults role) → Uses tells before now row Reading → IsRefusal tells mid now row Reading status
-      → (IsTrue (tells Image) → JudgesImage (tells Work) status row.room (bytes_of (now.roles Image))) → TraceEnds tells before now row status
-  trace-reading mid now status since uses refused judges = trace-ends-with mid now Reading status since (traced-reading tells row before now uses) (as-run row Reading status refused) record {
-    judges_image = λ image at. judges image;
-    right_image = λ image work came. never came;
-    judges_events = λ events at. absurd (cc);
-    right_events = λ events came. never came;
-    whole_image = λ image came. never came;
-    whole_events = λ events came. never came;
-    unmade = λ saved at. absurd (cc);
-    trace = λ image events work came. never came;
-  }
-
-  right : (bytes : List ℕ) (state : Words) (heap : Heap) → IsRead bytes row.room state heap → IsRightImage row.room bytes
-  right bytes state heap r = record { head = r.head; heap = heap; image = r.image; roomy = r.roomy }
-
-  -- where no events were read
-  pub trace-listening : (mid now : Meanings) (status : Status) (state : Words) (heap : Heap) → ((role : Role) → before.faults role ≤ mid.faults role) → Uses tells before now row Listening → IsRefusal tells mid now row Listening status
-      → HasRead tells now row state heap → (IsTrue (tells Events) → JudgesEvents status (bytes_of (now.roles Events))) → TraceEnds tells before now row status
-  trace-listening mid now status state heap since uses refused read judges = trace-ends-with mid now Listening status since (traced-listening tells row before now uses) (as-run row Listening status refused) record {
-    judges_image = λ image at. absurd (cc);
-    right_image = λ image work came. right (bytes_of (now.roles Image)) state heap ((read image).1 work);
-    judges_events = λ events at. judges events;
-    right_events = λ events came. never came;
-    whole_image = λ image came. (read image).0;
-    whole_events = λ events came. never came;
-    unmade = λ saved at. absurd (cc);
-    trace = λ image events work came. never came;
-  }
+  -- where something couldn't be read
+  pub trace-early : (now : Meanings) (status : Status) → ReadEnds tells before now row status → TraceEnds tells before now row status
+  trace-early now status end = trace-ends-with before now end.stage status (λ role. omega arith)
+      (early-stage (λ stage. Uses tells before now row stage → UsesTrace tells before now row stage) end.stage end.early (traced-opening tells row before now) (traced-reading tells row before now) (traced-listening tells row before now) end.uses)
+      (early-stage (λ stage. IsRefusal tells before now row stage status → IsTraceRefusal tells before now row (EndsTrace stage) status) end.stage end.early (as-run row Opening status) (as-run row Reading status) (as-run row Listening status) end.refusal)
+      end.reads
+      (λ saved at. absurd (early-stage (λ stage. stage ≢ Making) end.stage end.early (λ e. cc) (λ e. cc) (λ e. cc) at))
+      (λ image events work came. absurd (early-stage (λ stage. IsTrue (reaches Running stage) → ⊥) end.stage end.early (λ no. never no) (λ no. never no) (λ no. never no) came))
 
   -- ---- Saved
 
@@ -131,32 +78,26 @@ module _ (tells : Role → Bool) (before : Meanings) (row : Row) where
     used-making = traced-making tells row before mid now (traced-listening tells row before mid came.uses) own file others
 
     pub read-making : HasRead tells now row state heap
-    read-making = λ image. subst (λ (s : RoleState). WasRead row.image s × (IsTrue (tells Work) → IsRead (bytes_of s) row.room state heap)) (sym (others.others Image (λ e. cc, (λ e. cc, tt))).state) (came.read image)
+    read-making = read-left tells before row mid now state heap (others.others Image (λ e. cc, (λ e. cc, tt))).state came.read
 
     pub heard-making : HasHeard tells now row lines
-    heard-making = λ events. subst (λ (s : RoleState). WasRead row.events s × AreEvents (bytes_of s) lines) (sym (others.others Events (λ e. cc, (λ e. cc, tt))).state) (came.heard events)
+    heard-making = heard-left tells before row mid now lines (others.others Events (λ e. cc, (λ e. cc, tt))).state came.heard
 
-    made-none : (status : Status) → (IsTrue (tells Saved) → IsUnmade status row.saved (before.roles Saved) (now.roles Saved)) → JudgedTrace now Making status
-    made-none status unmade = record {
-      judges_image = λ image at. absurd (cc);
-      right_image = λ image work past. right (bytes_of (now.roles Image)) state heap ((read-making image).1 work);
-      judges_events = λ events at. absurd (cc);
-      right_events = λ events past. (lines, (heard-making events).1);
-      whole_image = λ image past. (read-making image).0;
-      whole_events = λ events past. (heard-making events).0;
-      unmade = λ saved at. unmade saved;
-      trace = λ image events work past. never past;
-    }
+    -- where the memory isn't made
+    ends-making : (from : Meanings) (status : Status) → ((role : Role) → before.faults role ≤ from.faults role) → IsTraceRefusal tells from now row (EndsTrace Making) status
+        → (IsTrue (tells Saved) → IsUnmade status row.saved (before.roles Saved) (now.roles Saved)) → TraceEnds tells before now row status
+    ends-making from status since refused unmade = trace-ends-with from now Making status since used-making refused
+        (reads-later tells row now Making status state heap lines (λ e. cc) (λ e. cc) used-making.named read-making heard-making) (λ saved at. unmade saved) (λ image events work past. never past)
 
     -- it couldn't be attached
     pub trace-unsaved : (status : Status) → IsUnsaved status → IsRefusalAt tells mid now Saving status → (IsTrue (tells Saved) → WasRefused row.saved (mid.roles Saved) (now.roles Saved)) → TraceEnds tells before now row status
-    trace-unsaved status is refused put = trace-ends-with mid now Making status came.uses.later used-making (unsaved status is refused)
-        (made-none status (λ saved. unmade-by status (before.roles Saved) (mid.roles Saved) (now.roles Saved) is (came.uses.unused Saved refl).state (put saved)))
+    trace-unsaved status is refused put = ends-making mid status came.uses.later (unsaved status is refused)
+        (λ saved. unmade-by status (before.roles Saved) (mid.roles Saved) (now.roles Saved) is (came.uses.unused Saved refl).state (put saved))
 
     -- there was no memory for the tables
     pub trace-unmade : (IsTrue (tells Saved) → WasWritten row.saved [] (mid.roles Saved) (now.roles Saved)) → TraceEnds tells before now row answer.OutOfMemory
-    trace-unmade put = trace-ends-with now now Making answer.OutOfMemory used-making.later used-making record { answer = tt; of_run = tt; ran = tt; cause = tt; whole = λ work damaged. damaged; limits = tt }
-        (made-none answer.OutOfMemory (λ saved. subst (λ (s : RoleState). WasWritten row.saved [] s (now.roles Saved)) (came.uses.unused Saved refl).state (put saved)))
+    trace-unmade put = ends-making now answer.OutOfMemory used-making.later record { answer = tt; of_run = tt; ran = tt; cause = tt; whole = λ work damaged. damaged; limits = tt }
+        (λ saved. subst (λ (s : RoleState). WasWritten row.saved [] s (now.roles Saved)) (came.uses.unused Saved refl).state (put saved))
 
 -- ---- the machine ran, and Saved is ended
 
@@ -305,6 +246,9 @@ traced-uncut (answer.WriteFault Display count) events steps completed o old new 
 traced-uncut (answer.WriteFault Transcript count) events steps completed o old new of_run = tt
 traced-uncut (answer.Damaged place name) events steps completed o old new of_run = tt
 traced-uncut answer.OutOfMemory events steps completed o old new of_run = tt
+traced-uncut (answer.VaultFault count) events steps completed o old new of_run = tt
+traced-uncut answer.NoCheckpoint events steps completed o old new of_run = tt
+traced-uncut (answer.VaultBad place) events steps completed o old new of_run = tt
 
 module _ (tells : Role → Bool) (before : Meanings) (row : Row) (mid : Meanings) (status : Status) (events : List Line) (words : Words) (heap : Heap) (f : Followed tells before mid row status events words heap) where
   run-of : (now : Meanings) (stage : Stage) (last : Status) → now.roles Image ≡ mid.roles Image → now.roles Events ≡ mid.roles Events → (IsTrue (tells Work) → TracesTo tells before now row stage last events (model_state words) heap)
@@ -320,17 +264,12 @@ module _ (tells : Role → Bool) (before : Meanings) (row : Row) (mid : Meanings
         trace = subst (λ (s : Words). TracesTo tells before now row stage last events (model_state s) heap) (sym read.state_is) (to work);
       }
 
-  judged-later : (now : Meanings) (stage : Stage) (last : Status) → stage ≢ Reading → stage ≢ Listening → stage ≢ Making → now.roles Image ≡ mid.roles Image → now.roles Events ≡ mid.roles Events → (IsTrue (tells Work) → TracesTo tells before now row stage last events (model_state words) heap) → JudgedTrace tells before row now stage last
-  judged-later now stage last unread unheard unmade image_same events_same to = record {
-    judges_image = λ image at. absurd (unread at);
-    right_image = λ image work past. subst (λ (s : RoleState). IsRightImage row.room (bytes_of s)) (sym image_same) (let r = (f.read image).1 work in record { head = r.head; heap = heap; image = r.image; roomy = r.roomy });
-    judges_events = λ listened at. absurd (unheard at);
-    right_events = λ listened past. (events, subst (λ (s : RoleState). AreEvents (bytes_of s) events) (sym events_same) (f.heard listened).1);
-    whole_image = λ image past. subst (WasRead row.image) (sym image_same) (f.read image).0;
-    whole_events = λ listened past. subst (WasRead row.events) (sym events_same) (f.heard listened).0;
-    unmade = λ saved at. absurd (unmade at);
-    trace = λ image listened work past. run-of now stage last image_same events_same to image listened work;
-  }
+  trace-later : (from now : Meanings) (stage : Stage) (last : Status) → stage ≢ Reading → stage ≢ Listening → stage ≢ Making → now.roles Image ≡ mid.roles Image → now.roles Events ≡ mid.roles Events
+      → ((role : Role) → before.faults role ≤ from.faults role) → UsesTrace tells before now row stage → IsTraceRefusal tells from now row (EndsTrace stage) last
+      → (IsTrue (tells Work) → TracesTo tells before now row stage last events (model_state words) heap) → TraceEnds tells before now row last
+  trace-later from now stage last unread unheard unmade image_same events_same since uses refused to = trace-ends-with tells before row from now stage last since uses refused
+      (reads-later tells row now stage last words heap events unread unheard uses.named (read-left tells before row mid now words heap image_same f.read) (heard-left tells before row mid now events events_same f.heard))
+      (λ saved at. absurd (unmade at)) (λ image listened work past. run-of now stage last image_same events_same to image listened work)
 
   -- what an end of Saved leaves
   module _ (now : Meanings) (roles : SameBut Saved mid.roles now.roles) (faults : SameBut Saved mid.faults now.faults) (later : mid.faults Saved ≤ now.faults Saved) where
@@ -371,9 +310,9 @@ module _ (tells : Role → Bool) (before : Meanings) (row : Row) (mid : Meanings
 
     -- behind a stop
     pub trace-stopped : now.writes ≡ mid.writes → IsStop status → (IsTrue (tells Saved) → SavedIs) → TraceEnds tells before now row status
-    trace-stopped writes is saved = trace-ends-with tells before row before now Running status (λ role. omega arith) (uses-now writes saved)
+    trace-stopped writes is saved = trace-later before now Running status (λ e. cc) (λ e. cc) (λ e. cc) (roles Image (λ e. cc)) (roles Events (λ e. cc)) (λ role. omega arith) (uses-now writes saved)
         record { answer = stop-follows status is; of_run = f.refusal.of_run; ran = f.refusal.ran; cause = stop-cause status before.faults mid.faults now.faults is faults f.refusal.cause; whole = f.refusal.whole; limits = f.refusal.limits }
-        (judged-later now Running status (λ e. cc) (λ e. cc) (λ e. cc) (roles Image (λ e. cc)) (roles Events (λ e. cc)) (λ work.
+        (λ work.
         let x = f.follows work in
         record {
           completed = x.completed;
@@ -386,13 +325,13 @@ module _ (tells : Role → Bool) (before : Meanings) (row : Row) (mid : Meanings
           lines = λ told. stop-lines status (before.faults Saved) (now.faults Saved) row.saved _ (before.roles Saved) (mid.roles Saved) (now.roles Saved) is (x.lines told) (ended-since (saved told));
           whole = whole-now x.completed x.whole saved;
           cuts = λ told. traced-uncut status events row.steps x.completed _ _ _ f.refusal.of_run;
-        }))
+        })
 
     -- it went through, and Saved is ended
     pub trace-through : now.writes ≡ mid.writes → IsThrough status → (IsTrue (tells Saved) → now.roles Saved ≡ ends (mid.roles Saved)) → TraceEnds tells before now row status
-    trace-through writes is ended = trace-ends-with tells before row before now Telling status (λ role. omega arith) (traced-telling tells row before now (uses-now writes (λ told. inl (ended told))))
+    trace-through writes is ended = trace-later before now Telling status (λ e. cc) (λ e. cc) (λ e. cc) (roles Image (λ e. cc)) (roles Events (λ e. cc)) (λ role. omega arith) (traced-telling tells row before now (uses-now writes (λ told. inl (ended told))))
         record { answer = through-ends status is; of_run = f.refusal.of_run; ran = f.refusal.ran; cause = through-cause status before.faults now.faults is; whole = f.refusal.whole; limits = f.refusal.limits }
-        (judged-later now Telling status (λ e. cc) (λ e. cc) (λ e. cc) (roles Image (λ e. cc)) (roles Events (λ e. cc)) (λ work.
+        (λ work.
         let x = f.follows work in
         record {
           completed = x.completed;
@@ -405,13 +344,13 @@ module _ (tells : Role → Bool) (before : Meanings) (row : Row) (mid : Meanings
           lines = λ told. through-lines status (before.faults Saved) (now.faults Saved) row.saved _ (before.roles Saved) (mid.roles Saved) (now.roles Saved) is (x.lines told) (ended told);
           whole = whole-now x.completed x.whole (λ told. inl (ended told));
           cuts = λ told. traced-uncut status events row.steps x.completed _ _ _ f.refusal.of_run;
-        }))
+        })
 
     -- or couldn't be
     pub trace-unended : (count : ℕ) → now.writes ≡ mid.writes → IsThrough status → (count ≡ now.faults Saved) × Rose (mid.faults Saved) (now.faults Saved) → (IsTrue (tells Saved) → now.roles Saved ≡ mid.roles Saved) → TraceEnds tells before now row (answer.WriteFault Saved count)
-    trace-unended count writes is rose same = trace-ends-with tells before row mid now Running (answer.WriteFault Saved count) f.uses.later (uses-now writes (λ told. inr (same told, rose.1)))
+    trace-unended count writes is rose same = trace-later mid now Running (answer.WriteFault Saved count) (λ e. cc) (λ e. cc) (λ e. cc) (roles Image (λ e. cc)) (roles Events (λ e. cc)) f.uses.later (uses-now writes (λ told. inr (same told, rose.1)))
         record { answer = tt; of_run = λ e. cc; ran = tt; cause = rose; whole = λ work damaged. damaged; limits = tt }
-        (judged-later now Running (answer.WriteFault Saved count) (λ e. cc) (λ e. cc) (λ e. cc) (roles Image (λ e. cc)) (roles Events (λ e. cc)) (λ work.
+        (λ work.
         let x = f.follows work in
         record {
           completed = x.completed;
@@ -424,13 +363,13 @@ module _ (tells : Role → Bool) (before : Meanings) (row : Row) (mid : Meanings
           lines = λ told. begun-whole row.saved _ (before.roles Saved) (mid.roles Saved) (now.roles Saved) (through-written status row.saved _ (before.roles Saved) (mid.roles Saved) is (x.lines told)) (same told);
           whole = whole-now x.completed x.whole (λ told. inr (same told, rose.1));
           cuts = λ told. tt;
-        }))
+        })
 
   -- where a line couldn't be put Saved stays without an end
   pub trace-cut : IsCut status → TraceEnds tells before mid row status
-  trace-cut is = trace-ends-with tells before row before mid Running status (λ role. omega arith) f.uses
+  trace-cut is = trace-later before mid Running status (λ e. cc) (λ e. cc) (λ e. cc) refl refl (λ role. omega arith) f.uses
       record { answer = cut-follows status is; of_run = f.refusal.of_run; ran = f.refusal.ran; cause = f.refusal.cause; whole = f.refusal.whole; limits = f.refusal.limits }
-      (judged-later mid Running status (λ e. cc) (λ e. cc) (λ e. cc) refl refl (λ work.
+      (λ work.
       let x = f.follows work in
       record {
         completed = x.completed;
@@ -443,4 +382,4 @@ module _ (tells : Role → Bool) (before : Meanings) (row : Row) (mid : Meanings
         lines = λ told. cut-lines status (before.faults Saved) (mid.faults Saved) row.saved _ (before.roles Saved) (mid.roles Saved) is (x.lines told);
         whole = x.whole;
         cuts = λ told. traced-uncut status events row.steps x.completed _ _ _ f.refusal.of_run;
-      }))
+      })

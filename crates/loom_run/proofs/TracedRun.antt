@@ -56,6 +56,9 @@ written-so (answer.WriteFault Transcript count) text lines a b c opened puts = w
 written-so (answer.WriteFault Notes count) text lines a b c opened puts = written-from text lines a b c opened puts
 written-so answer.OutOfMemory text lines a b c opened puts = written-from text lines a b c opened puts
 written-so (answer.Damaged place name) text lines a b c opened puts = written-from text lines a b c opened puts
+written-so (answer.VaultFault count) text lines a b c opened puts = written-from text lines a b c opened puts
+written-so answer.NoCheckpoint text lines a b c opened puts = written-from text lines a b c opened puts
+written-so (answer.VaultBad place) text lines a b c opened puts = written-from text lines a b c opened puts
 
 -- Saved was attached over a host that has an image.
 module _ {H : Type 0} (host : Ghosts H) (old mid : H) (rest after : DiskRest) (x : Loaded) (image : HasImage host old rest x) (still : after ≡ rest)

@@ -11,7 +11,7 @@ use Rattle.blue_model.specs.declared.step.Step.TheVariants.{Next, Quit}
 use Rattle.blue_model.specs.Logs.{Course, course}
 use Rattle.blue_model.specs.Machine.{Outcome}
 use Rattle.blue_model.specs.State.{State}
-use Rattle.loom_run.specs.Ends.{AreEvents, AttachedOnce, IsRightImage, JudgesEvents, JudgesImage, NotedBy, WasRead, bytes_of}
+use Rattle.loom_run.specs.Ends.{AttachedOnce, NotedBy, bytes_of}
 use Rattle.loom_run.specs.Following.{TraceEnds}
 use Rattle.loom_run.specs.Makes.{HasBegunFor}
 use Rattle.loom_run.specs.Meanings.{Meanings, IsLeft, LeavesBut}
@@ -25,9 +25,10 @@ use Rattle.loom_words.specs.Words.{Row, ToMake, ToRun, ToTrace, Verb, bad_word, 
 use Rattle.loom_words.specs.declared.status.Status.{Status}
 use Rattle.loom_words.specs.declared.status.Status.TheVariants as answer
 use Rattle.loom_run.proofs.ConvertLaws.{asks-other, converts-not, right-some}
+use Rattle.loom_run.proofs.JudgedLaws.{reads-left, reads-telling}
 use Rattle.loom_run.proofs.Lines.{noted-run}
 use Rattle.loom_run.proofs.ShowsLaws.{at-telling, done-traced, quit-traced}
-use Rattle.loom_run.proofs.TellingLaws.{cause-now, left, once, same, usage-none, usage-unsaid}
+use Rattle.loom_run.proofs.TellingLaws.{answered-cut, answered-now, left, once, same, usage-none, usage-unsaid}
 use Rattle.loom_run.proofs.TracedEnds.{traced-uncut}
 use Rattle.loom_run.proofs.UsesLaws.{left-then, never}
 
@@ -59,19 +60,10 @@ module _ (mid now : Meanings) (leaves : LeavesBut (Notes ∷ []) mid now) where
   traced-now : {tells : Role → Bool} {before : Meanings} {row : Row} {stage : Stage} {status : Status} → IsOfRun status → TracesAt tells before mid row stage status → TracesAt tells before now row stage status
   traced-now {tells} {before} {row} {stage} {status} of_run at = record {
     answer = at.answer;
-    ran = at.ran;
-    cause = cause-now mid now leaves status before.faults of_run at.cause;
-    whole = at.whole;
-    limits = at.limits;
+    answered = answered-now mid now leaves of_run at.answered;
     attached = attached;
     unused = unused;
-    judges_image = λ image here. subst (λ (s : RoleState). JudgesImage (tells Work) status row.room (bytes_of s)) (sym (stays Image (λ e. cc))) (at.judges_image image here);
-    right_image = λ image work past. subst (λ (s : RoleState). IsRightImage row.room (bytes_of s)) (sym (stays Image (λ e. cc))) (at.right_image image work past);
-    judges_events = λ events here. subst (λ (s : RoleState). JudgesEvents status (bytes_of s)) (sym (stays Events (λ e. cc))) (at.judges_events events here);
-    right_events = λ events past. subst (λ (s : RoleState). (lines : List Line) × AreEvents (bytes_of s) lines) (sym (stays Events (λ e. cc))) (at.right_events events past);
-    whole_image = λ image past. subst (WasRead row.image) (sym (stays Image (λ e. cc))) (at.whole_image image past);
-    whole_events = λ events past. subst (WasRead row.events) (sym (stays Events (λ e. cc))) (at.whole_events events past);
-    named_work = λ work past. ap (λ (s : RoleState). s.name) (stays Work (λ e. cc)) ∙ at.named_work work past;
+    reads = reads-left tells row mid now stage status (stays Image (λ e. cc)) (stays Events (λ e. cc)) (stays Work (λ e. cc)) at.reads;
     unmade = λ saved here. subst (IsUnmade status row.saved (before.roles Saved)) (sym (stays Saved (λ e. cc))) (at.unmade saved here);
     trace = λ image events work past.
         subst (λ (s : RoleState). TraceOf (bytes_of s) (bytes_of (now.roles Events)) (TracesTo tells before now row stage status)) (sym (stays Image (λ e. cc)))
@@ -143,19 +135,10 @@ module _ (tells : Role → Bool) (before now : Meanings) (row : Row) (rose : Ros
   cut-at : (status : Status) → IsFinished status → (IsTrue (tells Notes) → PutPrefix (line_of status) (before.roles Notes) (now.roles Notes)) → TracesAt tells before now row Telling status → TracesAt tells before now row Telling unput
   cut-at status finished line at = record {
     answer = tt;
-    ran = tt;
-    cause = (refl, rose);
-    whole = λ work damaged. damaged;
-    limits = tt;
+    answered = answered-cut tells before now row rose;
     attached = at.attached;
     unused = at.unused;
-    judges_image = λ image here. absurd (cc);
-    right_image = at.right_image;
-    judges_events = λ events here. absurd (cc);
-    right_events = at.right_events;
-    whole_image = at.whole_image;
-    whole_events = at.whole_events;
-    named_work = at.named_work;
+    reads = reads-telling tells row now status unput at.reads;
     unmade = λ saved here. absurd (cc);
     trace = λ image events work past. trace-with (bytes_of (now.roles Image)) (bytes_of (now.roles Events)) (cut-to status finished line) (at.trace image events work past);
   }
@@ -189,6 +172,6 @@ module _ (tells : Role → Bool) (before mid now : Meanings) (words : List (List
     makes = λ make. asks-other words ToTrace ToMake asks (λ e. cc) make;
     converts = λ way asked. converts-not way words ToTrace asks (λ e. cc) (λ e. cc) asked;
     traces = λ trace none. traces told;
-    noted = λ tell. subst (λ (verb : Verb). NotedBy result (HasBegunFor verb words) before now) (sym asks) (noted-run status result (trace_row_of words).steps before mid now ends.of_run ends.at.ran ends.untold told tell);
+    noted = λ tell. subst (λ (verb : Verb). NotedBy result (HasBegunFor verb words) before now) (sym asks) (noted-run status result (trace_row_of words).steps before mid now ends.of_run ends.at.answered.ran ends.untold told tell);
     later = λ role. let first = ends.later role in let then = leaves.later role in omega (arith, first, then);
   }

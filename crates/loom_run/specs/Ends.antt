@@ -25,7 +25,7 @@ use Rattle.contexts.specs.Serves.{IsLogged}
 use Rattle.machine_run.specs.States.{model_state}
 use Rattle.event_file.specs.Text.{AreRight, events_text, IsBadAt}
 use Rattle.loom_run.specs.Meanings.{Meanings}
-use Rattle.loom_run.specs.Stages.{Stage, Running, Saving, Drawing, Telling, passes, reaches}
+use Rattle.loom_run.specs.Stages.{Stage, Opening, Reading, Listening, Running, Saving, Drawing, Telling, passes, reaches}
 use Rattle.loom_words.specs.Status.{line_of}
 use Rattle.loom_words.specs.Words.{Row}
 use Rattle.loom_words.specs.declared.status.Status.{Status}
@@ -228,6 +228,32 @@ pub record RunsTo (tells : Role → Bool) (before now : Meanings) (row : Row) (s
   pub cuts : IsTrue (tells Notes) → stage ≡ Telling → CutsLine status c (before.roles Notes) (now.roles Notes)
   -- And that image is one: a next run may read it, as `a_run_goes_on_from_what_was_saved` says.
   pub image : IsTrue (reaches Saving stage) → OnParked c.ending (λ m. IsImageOf (image_of m) (head_of m) (kept m.heap no_roots))
+
+-- ---- what is said alike of a run and of a trace
+
+-- The words of a row gave this answer.
+pub record IsAnswered (tells : Role → Bool) (before now : Meanings) (row : Row) (result : Status) : Type 0 where
+  -- Done says that as many bytecodes were run as the words ask for, and the others that no more were.
+  pub ran : HasRun result row.steps
+  -- A fault is answered only where it rose in this run, and with its count. Over a host that tells Work nothing is damaged.
+  pub cause : IsCaused result before.faults now.faults
+  pub whole : IsTrue (tells Work) → IsDamaged result → ⊥
+  -- The numbers of an answer for want of room are past a limit that the words state.
+  pub limits : IsPastLimits row result
+
+-- What an end at this stage, with this answer, says of Work, Image and Events.
+pub record ReadsAt (tells : Role → Bool) (now : Meanings) (row : Row) (stage : Stage) (result : Status) : Type 0 where
+  -- The bytes of Image are refused exactly with the first rule that they break and its place, or where they state more objects than there is
+  -- room for; those of Events exactly at their first bad line. All later answers come only where both are right.
+  pub judges_image : IsTrue (tells Image) → stage ≡ Reading → JudgesImage (tells Work) result row.room (bytes_of (now.roles Image))
+  pub right_image : IsTrue (tells Image) → IsTrue (tells Work) → IsTrue (passes Reading stage) → IsRightImage row.room (bytes_of (now.roles Image))
+  pub judges_events : IsTrue (tells Events) → stage ≡ Listening → JudgesEvents result (bytes_of (now.roles Events))
+  pub right_events : IsTrue (tells Events) → IsTrue (passes Listening stage) → (lines : List Line) × AreEvents (bytes_of (now.roles Events)) lines
+  -- Each of the two was read to its end by then. An attach that went through leaves the role its word, that of Work too; Saved and Display have
+  -- theirs by `WasWritten`.
+  pub whole_image : IsTrue (tells Image) → IsTrue (passes Reading stage) → WasRead row.image (now.roles Image)
+  pub whole_events : IsTrue (tells Events) → IsTrue (passes Listening stage) → WasRead row.events (now.roles Events)
+  pub named_work : IsTrue (tells Work) → IsTrue (passes Opening stage) → (now.roles Work).name ≡ Some row.work
 
 -- ---- Notes
 

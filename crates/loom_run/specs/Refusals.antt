@@ -4,9 +4,10 @@ use Rattle.loom_outside.specs.declared.outside.Role.{Role}
 use Rattle.loom_outside.specs.declared.outside.Role.TheVariants.{Image, Events, Work, Saved, Display, Transcript, Notes}
 use Rattle.loom_run.specs.Ends.{AttachedOnce, word_for}
 use Rattle.loom_run.specs.Meanings.{Meanings, IsLeft}
+use Rattle.loom_run.specs.Traced.{traced_word}
 use Rattle.loom_words.specs.Words.{Row}
 use Rattle.loom_words.specs.declared.status.Status.{Status}
-use Rattle.loom_words.specs.declared.status.Status.TheVariants.{Done, Quit, Made, Listed, Assembled, Usage, ImageBad, EventsBad, TextBad, Stuck, CoreFull, NamesSpent, WorkFull, ReadFault, WorkFault, WriteFault, OutOfMemory, Damaged}
+use Rattle.loom_words.specs.declared.status.Status.TheVariants.{Done, Quit, Made, Listed, Assembled, Usage, ImageBad, EventsBad, TextBad, Stuck, CoreFull, NamesSpent, WorkFull, ReadFault, WorkFault, WriteFault, OutOfMemory, Damaged, VaultFault, NoCheckpoint, VaultBad}
 
 -- ---- no answer comes at once
 
@@ -32,10 +33,26 @@ role_of (WriteFault Transcript count) = Events
 role_of (WriteFault role count) = Display
 role_of OutOfMemory = Image
 role_of (Damaged place name) = Image
+role_of (VaultFault count) = Notes
+role_of NoCheckpoint = Notes
+role_of (VaultBad place) = Notes
 
 -- it was attached, by its word
 abbrev pub CameTo : (Role → Bool) → Meanings → Meanings → Row → Role → Type 0
 CameTo tells before now row role = IsTrue (tells role) → IfSome (word_for row role) (λ text. AttachedOnce text (before.roles role) (now.roles role))
+
+-- the same of a trace, which attaches Saved before its machine starts
+abbrev pub traced_role_of : Status → Role
+traced_role_of (Done ran) = Saved
+traced_role_of (Quit ran) = Saved
+traced_role_of (Stuck cause ran) = Saved
+traced_role_of (CoreFull ran need) = Saved
+traced_role_of (NamesSpent ran) = Saved
+traced_role_of (WriteFault role count) = Saved
+traced_role_of status = role_of status
+
+abbrev pub CameToTraced : (Role → Bool) → Meanings → Meanings → Row → Role → Type 0
+CameToTraced tells before now row role = IsTrue (tells role) → IfSome (traced_word row role) (λ text. AttachedOnce text (before.roles role) (now.roles role))
 
 -- ---- what a refusal leaves
 

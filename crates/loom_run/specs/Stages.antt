@@ -66,6 +66,10 @@ roles_at Saving = Saved ∷ Work ∷ []
 roles_at Drawing = Display ∷ []
 roles_at Telling = Notes ∷ []
 
+-- those with which something is done where a run that went through is written
+abbrev pub written_roles : List Role
+written_roles = Saved ∷ Display ∷ Work ∷ []
+
 -- ---- the answers of a stage
 
 abbrev pub EndsReading : Status → Type 0

@@ -23,13 +23,13 @@ use Rattle.blue_model.specs.Logs.{Course}
 use Rattle.blue_model.specs.Endings.{OnParked, OnDrawn, IsParkedBy, said_in}
 use Rattle.machine_run.specs.States.{model_state, state_held}
 use Rattle.machine_run.specs.declared.running.Finished.{Finished}
-use Rattle.loom_run.specs.Ends.{AreEvents, AttachedOnce, HasRun, IsCaused, IsDamaged, IsImageOf, IsPastLimits, SaysStopped, Stops, WasRead, WasWritten, bytes_of, head_of, image_of, word_for}
+use Rattle.loom_run.specs.Ends.{AreEvents, AttachedOnce, HasRun, IsCaused, IsDamaged, IsImageOf, IsPastLimits, ReadsAt, RunsTo, SaysStopped, Stops, WasRead, WasWritten, bytes_of, head_of, image_of, word_for}
 use Rattle.loom_run.specs.Converts.{ConvertsAt, IsAboveRoom, Reads, bytes_by, is_unused, path_for}
 use Rattle.loom_run.specs.Makes.{Makes}
 use Rattle.loom_run.specs.Meanings.{Meanings, IsLeft, LeavesBut}
 use Rattle.loom_run.specs.Promise.{EndsAt}
 use Rattle.loom_run.specs.declared.converting.Way.{Way}
-use Rattle.loom_run.specs.Stages.{Stage, Opening, Reading, Saving, Ends, passes, reaches, roles_at, stage_of}
+use Rattle.loom_run.specs.Stages.{Stage, Opening, Reading, Making, Running, Saving, Ends, passes, reaches, roles_at, stage_of}
 use Rattle.loom_words.specs.Words.{MakeRow, Paths, Row}
 use Rattle.loom_words.specs.declared.status.Status.{Status}
 use Rattle.loom_words.specs.declared.status.Status.TheVariants.{Made, Listed, Assembled, Usage, ReadFault, WriteFault}
@@ -109,6 +109,14 @@ pub record Came (tells : Role → Bool) (before now : Meanings) (row : Row) (sta
   pub read : HasRead tells now row state heap
   pub heard : HasHeard tells now row lines
 
+-- It ended at one of the stages before the memory is made, through which a run and a trace go alike.
+pub record ReadEnds (tells : Role → Bool) (before now : Meanings) (row : Row) (result : Status) : Type 0 where
+  pub stage : Stage
+  pub early : IsTrue (passes stage Making)
+  pub uses : Uses tells before now row stage
+  pub refusal : IsRefusal tells before now row stage result
+  pub reads : ReadsAt tells now row stage result
+
 -- ---- the machine
 
 -- A memory begins with the heap of an image, whose state this is.
@@ -151,6 +159,15 @@ RunsAs old new row (Ok finished) c = WentThrough old new row finished c
 RunsAs old new row (Err status) c = WasStopped old new row status c
 
 -- ---- the end of a run, before its last line
+
+-- It ended at the machine's run or later, by what came of that over this course, and nothing was put to Notes.
+pub record LateEnds (tells : Role → Bool) (before now : Meanings) (row : Row) (result : Status) (c : Course) : Type 0 where
+  pub stage : Stage
+  pub late : IsTrue (reaches Running stage)
+  pub uses : Uses tells before now row stage
+  pub refusal : IsRefusal tells before now row stage result
+  pub untold : IsLeft Notes before now
+  pub runs : IsTrue (tells Work) → RunsTo tells before now row stage result c
 
 -- It ended at one of its stages, and nothing was put to Notes.
 pub record RunEnds (tells : Role → Bool) (before now : Meanings) (row : Row) (result : Status) : Type 0 where

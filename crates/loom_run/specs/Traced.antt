@@ -21,7 +21,7 @@ use Rattle.loom_words.specs.Status.{line_of}
 use Rattle.loom_words.specs.Words.{Row}
 use Rattle.loom_words.specs.declared.status.Status.{Status}
 use Rattle.loom_words.specs.declared.status.Status.TheVariants.{Done, Quit, Stuck, CoreFull, NamesSpent, WorkFull, WorkFault, WriteFault, OutOfMemory, Damaged}
-use Rattle.loom_run.specs.Ends.{AreEvents, AttachedOnce, HasRun, IsCaused, IsDamaged, IsImageOf, IsPastLimits, IsRightImage, JudgesEvents, JudgesImage, MadeBy, Stops, WasBegun, WasRead, WasRefused, WasWritten, bytes_of}
+use Rattle.loom_run.specs.Ends.{AreEvents, AttachedOnce, IsAnswered, IsImageOf, MadeBy, ReadsAt, Stops, WasBegun, WasRefused, WasWritten, bytes_of}
 use Rattle.loom_run.specs.Meanings.{Meanings, IsLeft}
 use Rattle.loom_run.specs.Stages.{Stage, Opening, Reading, Listening, Making, Running, Finishing, Saving, Drawing, Telling, EndsListening, EndsOpening, EndsReading, EndsTelling, passes, reaches}
 use Rattle.loom_run.specs.Traces.{trace_of}
@@ -191,19 +191,10 @@ IsUnmade _ text old new = WasWritten text [] old new
 -- A trace of right words ended at this stage, with this answer. What it says is what `EndsAt` says of a run, as far as a trace comes.
 pub record TracesAt (tells : Role → Bool) (before now : Meanings) (row : Row) (stage : Stage) (result : Status) : Type 0 where
   pub answer : EndsTrace stage result
-  pub ran : HasRun result row.steps
-  pub cause : IsCaused result before.faults now.faults
-  pub whole : IsTrue (tells Work) → IsDamaged result → ⊥
-  pub limits : IsPastLimits row result
+  pub answered : IsAnswered tells before now row result
   pub attached : (role : Role) → IsTrue (tells role) → IsTrue (reaches (traced_stage role) stage) → IfSome (traced_word row role) (λ text. AttachedOnce text (before.roles role) (now.roles role))
   pub unused : (role : Role) → IsTrue (is_untraced role stage) → IsLeft role before now
-  pub judges_image : IsTrue (tells Image) → stage ≡ Reading → JudgesImage (tells Work) result row.room (bytes_of (now.roles Image))
-  pub right_image : IsTrue (tells Image) → IsTrue (tells Work) → IsTrue (passes Reading stage) → IsRightImage row.room (bytes_of (now.roles Image))
-  pub judges_events : IsTrue (tells Events) → stage ≡ Listening → JudgesEvents result (bytes_of (now.roles Events))
-  pub right_events : IsTrue (tells Events) → IsTrue (passes Listening stage) → (lines : List Line) × AreEvents (bytes_of (now.roles Events)) lines
-  pub whole_image : IsTrue (tells Image) → IsTrue (passes Reading stage) → WasRead row.image (now.roles Image)
-  pub whole_events : IsTrue (tells Events) → IsTrue (passes Listening stage) → WasRead row.events (now.roles Events)
-  pub named_work : IsTrue (tells Work) → IsTrue (passes Opening stage) → (now.roles Work).name ≡ Some row.work
+  pub reads : ReadsAt tells now row stage result
   -- Where it ended before the memory was made, Saved has no line.
   pub unmade : IsTrue (tells Saved) → stage ≡ Making → IsUnmade result row.saved (before.roles Saved) (now.roles Saved)
   -- And then what comes of the machine is the model's, and so are the bytes of Transcript and Saved: `TracesTo` says how.

@@ -17,12 +17,12 @@ ghost use Rattle.loom_run.specs.Following.{EndsFollowed, Followed, FollowsAs, Is
 ghost use Rattle.loom_run.specs.Parts.{status_by};
 ghost use Rattle.machine_run.specs.declared.running.Reason.TheVariants.{ByStop};
 ghost use Rattle.loom_run.specs.Meanings.{meanings, Meanings, LeavesBut};
-ghost use Rattle.loom_run.specs.Stages.{Reading, Listening};
-ghost use Rattle.loom_run.specs.Steps.{BeginsImage, Came, HasBounds, HasRead, IsSameFile, Uses};
+ghost use Rattle.loom_run.specs.Stages.{Listening};
+ghost use Rattle.loom_run.specs.Steps.{BeginsImage, Came, HasBounds, IsSameFile};
 ghost use Rattle.loom_run.specs.Traces.{OnlyPut};
 
 use crate::making::end_saved;
-use crate::reading::{open_work, read_image, read_lines};
+use crate::reading::read_all;
 use crate::status::status_of;
 use crate::tracing::{TraceStop, trace};
 use crate::writing::open_saved;
@@ -38,44 +38,14 @@ use loom_words::{Command, Status};
 use machine_run::{Halted, Reason, Step, begin};
 use std::alloc::Global;
 
-/// The trace that a command asks for, without its last line: Work is attached, and then Image, which is read; Events, and the file of the
-/// lines. The memory is made, and the machine starts and runs. Then Saved is ended. The machine isn't parked, no image is saved, and nothing is drawn.
+/// The trace that a command asks for, without its last line: Work, Image and Events are read, as in a run; then Saved is attached, for the lines.
+/// The memory is made, and the machine starts and runs. Then Saved is ended. The machine isn't parked, no image is saved, and nothing is drawn.
 pub(crate) fn trace_command<H: Host>(alloc: Global, host: &mut H, command: &Command<'_>) -> Status
     requires limits { HasLimits command.now }
     ensures ends { TraceEnds H.tells (meanings H.Host host.old) (meanings H.Host host.new) (row_for command.now) result }
 {
-    if let Err(status) = open_work(host, command.work) {
-        return status;
-    }
-    let mut disk = DiskObjects::begin(host, command.room);
-    let loaded = match read_image(alloc, &mut disk, command.image, command.room) {
-        Ok(loaded) => loaded,
-        Err(status) => {
-            let _host = disk.into_host();
-            return status;
-        }
-    };
-    let (host, rest) = disk.apart();
-    trace_image(alloc, host, rest, &loaded, command)
-}
-
-// Events is attached and read.
-fn trace_image<H: Host>(
-    alloc: Global,
-    host: &mut H,
-    rest: DiskRest,
-    loaded: &Loaded,
-    command: &Command<'_>,
-) -> Status
-    requires limits { HasLimits command.now }
-    requires image { HasImage H.Host host.old rest loaded.now }
-    requires room { command.now.room ≡ disk_room rest }
-    ensures ends { (before : Meanings) → Uses H.tells before (meanings H.Host host.old) (row_for command.now) Reading
-        → HasRead H.tells (meanings H.Host host.old) (row_for command.now) loaded.now.state (heap_on H.Host host.old rest loaded.now.next)
-        → TraceEnds H.tells before (meanings H.Host host.new) (row_for command.now) result }
-{
-    match read_lines(alloc, host, command) {
-        Ok(events) => trace_under(alloc, host, rest, loaded, &events, command),
+    match read_all(alloc, host, command) {
+        Ok(read) => trace_under(alloc, host, read.rest, &read.loaded, &read.events, command),
         Err(status) => status,
     }
 }

@@ -36,7 +36,7 @@ ghost use Rattle.loom_run.specs.Ends.{IsImageOf, bytes_of, head_of, image_of};
 ghost use Rattle.loom_run.specs.Headline.{HeadlineBy, SmallBy, TellsHeadline};
 ghost use Rattle.loom_run.specs.Meanings.{Meanings};
 ghost use Rattle.loom_run.specs.Promise.{Promise};
-ghost use Rattle.loom_run.specs.Refusals.{CameTo, LeavesFiles, LeavesTraced, role_of};
+ghost use Rattle.loom_run.specs.Refusals.{CameTo, CameToTraced, LeavesFiles, LeavesTraced, role_of, traced_role_of};
 ghost use Rattle.loom_run.specs.Shows.{ShowsBy, TellsTrace};
 ghost use Rattle.loom_words.specs.Status.{usage_of};
 ghost use Rattle.loom_words.specs.Words.{ToMake, ToRun, ToTrace, bad_word, make_of, row_of, trace_row_of, verb_of};
@@ -117,6 +117,13 @@ pub fn no_cycle_wants_memory<H: Host>()
 pub fn nothing_at_once()
     ensures { (tells : Role → Bool) (before now : Meanings) (words : List (List ℕ)) (result : Status) → Promise tells before now words result → verb_of words ≡ ToRun → usage_of result ≡ None
         → CameTo tells before now (row_of words) (role_of result) }
+{}
+
+/// No answer of a trace but Usage comes at once either. Saved is attached for the lines before the machine starts: so the answers that only a machine
+/// gives, and the write faults, come behind that.
+pub fn nothing_of_a_trace_at_once()
+    ensures { (tells : Role → Bool) (before now : Meanings) (words : List (List ℕ)) (result : Status) → Promise tells before now words result → verb_of words ≡ ToTrace → usage_of result ≡ None
+        → CameToTraced tells before now (trace_row_of words) (traced_role_of result) }
 {}
 
 /// A refusal leaves Display as it was, unless it came in drawing or in the last line; and Saved too, unless it may come in saving. A trace always

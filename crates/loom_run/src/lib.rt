@@ -19,6 +19,8 @@
 //!
 //! A trace (`following`) has the stages of a run as far as the memory is made, with Saved attached before it; then `trace` of `tracing` runs over
 //! it as `run` does, and puts a line to Saved for each bytecode (`specs/Traces.antt`). What it leaves says `specs/Traced.antt`.
+//!
+//! Whoever puts a run of another kind together has the steps of this one in `steps`.
 #![tactic(auto)]
 
 mod converting;
@@ -29,6 +31,7 @@ mod making;
 mod program;
 mod reading;
 mod status;
+pub mod steps;
 mod tracing;
 mod writing;
 

@@ -54,8 +54,9 @@ pub(crate) fn run_machine<H: Host>(
     }
 }
 
-/// Gives up all registers, frees what is dead, and puts the rest to the disk. The answer is the next name.
-pub(crate) fn wind_up<H: Host>(
+/// Gives up all registers, frees what is dead, and puts the rest to the disk, after `ran` bytecodes. The answer is the next name. It is refused by a fault of
+/// the disk.
+pub fn wind_up<H: Host>(
     memory: &mut LoomMemory<'_, H>,
     command: &Command<'_>,
     ran: u32,

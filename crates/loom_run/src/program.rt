@@ -1,11 +1,10 @@
 // The whole program, in the order of a run. What the steps do stands in `reading`, `machine` and `writing`, a making in `making`, a listing
 // and an assembling in `converting`, and a trace in `following`.
-ghost use Rattle.std.specs.Prelude.{◌≡◌, false, IsTrue, IfOk, IfErr, List};
-ghost use Rattle.image_format.specs.declared.opening.State.{State as Words};
+ghost use Rattle.std.specs.Prelude.{◌≡◌, Bool, false, IsTrue, IfOk, IfErr};
+ghost use Rattle.loom_outside.specs.declared.outside.Role.{Role};
 ghost use Rattle.loom_outside.specs.declared.outside.Role.TheVariants as role;
-ghost use Rattle.blue_model.specs.declared.event.Line.{Line};
 ghost use Rattle.blue_model.specs.Endings.{HasCounted};
-ghost use Rattle.blue_model.specs.Logs.{course};
+ghost use Rattle.blue_model.specs.Logs.{Course, course};
 ghost use Rattle.contexts.specs.Keeping.{is_kept};
 ghost use Rattle.long_names.specs.Heap.{Heap};
 ghost use Rattle.disk_objects.specs.Disk.{disk_room};
@@ -15,17 +14,17 @@ ghost use Rattle.loom_memory.specs.Memory.{loom_lender, loom_told, IsSound};
 ghost use Rattle.machine_run.specs.States.{model_state};
 ghost use Rattle.object_memory.specs.Told.{IsReady};
 ghost use Rattle.loom_words.specs.Command.{HasLimits, row_for};
-ghost use Rattle.loom_run.specs.Meanings.{meanings, Meanings};
+ghost use Rattle.loom_run.specs.Meanings.{meanings, LeavesBut, Meanings};
 ghost use Rattle.loom_run.specs.Promise.{Promise};
-ghost use Rattle.loom_run.specs.Stages.{Reading, Listening, Finishing};
-ghost use Rattle.loom_run.specs.Steps.{BeginsImage, Came, CameThrough, HasBounds, HasRead, RunEnds, Uses};
+ghost use Rattle.loom_run.specs.Stages.{Listening, Finishing, written_roles};
+ghost use Rattle.loom_run.specs.Steps.{BeginsImage, Came, CameThrough, HasBounds, LateEnds, RunEnds, Uses};
 ghost use Rattle.loom_words.specs.Words.{texts_of};
 
 use crate::converting::{Way, convert};
 use crate::following::trace_command;
 use crate::machine::{run_machine, wind_up};
 use crate::making::make_image;
-use crate::reading::{open_work, read_image, read_lines};
+use crate::reading::read_all;
 use crate::status::status_of_end;
 use crate::writing::{tell, write_display, write_saved};
 use disk_objects::{DiskObjects, DiskRest};
@@ -41,10 +40,10 @@ use std::alloc::Global;
 
 /// What a run that went through leaves to be written.
 #[derive(Drop)]
-pub(crate) struct Ended {
-    pub(crate) finished: Finished,
+pub struct Ended {
+    pub finished: Finished,
     /// The name that the next new object takes.
-    pub(crate) next: u32,
+    pub next: u32,
 }
 
 /// Does what the words after the program's name ask for: `run IMAGE EVENTS WORK SAVED DISPLAY CORE ENTRIES ROOM STEPS`,
@@ -92,43 +91,13 @@ pub fn loom<H: Host>(alloc: Global, host: &mut H, words: &[String]) -> Status
     }
 }
 
-// The run that a command asks for, without its last line: Work is attached, and then Image, which is read.
+// The run that a command asks for, without its last line.
 fn run_command<H: Host>(alloc: Global, host: &mut H, command: &Command<'_>) -> Status
     requires limits { HasLimits command.now }
     ensures ends { RunEnds H.tells (meanings H.Host host.old) (meanings H.Host host.new) (row_for command.now) result }
 {
-    if let Err(status) = open_work(host, command.work) {
-        return status;
-    }
-    let mut disk = DiskObjects::begin(host, command.room);
-    let loaded = match read_image(alloc, &mut disk, command.image, command.room) {
-        Ok(loaded) => loaded,
-        Err(status) => {
-            let _host = disk.into_host();
-            return status;
-        }
-    };
-    let (host, rest) = disk.apart();
-    run_image(alloc, host, rest, &loaded, command)
-}
-
-// Events is attached and read.
-fn run_image<H: Host>(
-    alloc: Global,
-    host: &mut H,
-    rest: DiskRest,
-    loaded: &Loaded,
-    command: &Command<'_>,
-) -> Status
-    requires limits { HasLimits command.now }
-    requires image { HasImage H.Host host.old rest loaded.now }
-    requires room { command.now.room ≡ disk_room rest }
-    ensures ends { (before : Meanings) → Uses H.tells before (meanings H.Host host.old) (row_for command.now) Reading
-        → HasRead H.tells (meanings H.Host host.old) (row_for command.now) loaded.now.state (heap_on H.Host host.old rest loaded.now.next)
-        → RunEnds H.tells before (meanings H.Host host.new) (row_for command.now) result }
-{
-    match read_lines(alloc, host, command) {
-        Ok(events) => run_under(alloc, host, rest, loaded, &events, command),
+    match read_all(alloc, host, command) {
+        Ok(read) => run_under(alloc, host, read.rest, &read.loaded, &read.events, command),
         Err(status) => status,
     }
 }
@@ -196,8 +165,9 @@ fn run_memory<H: Host>(
     Ok(Ended { finished, next })
 }
 
-// Saved is attached and written, and then Display.
-fn write_kept<H: Host>(
+/// Attaches Saved by its word, and writes the image of what the machine left; then Display by its word, and writes the picture. The answer is that of the
+/// run, or of the first refusal. The host may tell more than is asked about: a run that reads no Image takes `tells` without it.
+pub fn write_kept<H: Host>(
     alloc: Global,
     host: &mut H,
     rest: DiskRest,
@@ -207,10 +177,11 @@ fn write_kept<H: Host>(
     requires kept { is_kept ended.now.finished.end ≡ false }
     requires counted { HasCounted ended.now.finished.end ended.now.finished.ran command.now.steps }
     requires ended { IsTrue (H.tells role.Work) → (left : Heap) × HasEnded H.Host host.old rest ended.now.next left }
-    ensures ends { (before : Meanings) (state : Words) (h left : Heap) (lines : List Line) → Came H.tells before (meanings H.Host host.old) (row_for command.now) Finishing state h lines
-        → (IsTrue (H.tells role.Work) → HasEnded H.Host host.old rest ended.now.next left
-        × CameThrough H.tells before (meanings H.Host host.old) (row_for command.now) ended.now.finished left (course lines command.now.steps (model_state state) h))
-        → RunEnds H.tells before (meanings H.Host host.new) (row_for command.now) result }
+    ensures ends { (tells : Role → Bool) → ((role : Role) → IsTrue (tells role) → IsTrue (H.tells role))
+        → (before : Meanings) (left : Heap) (c : Course) → Uses tells before (meanings H.Host host.old) (row_for command.now) Finishing
+        → (IsTrue (tells role.Work) → HasEnded H.Host host.old rest ended.now.next left × CameThrough tells before (meanings H.Host host.old) (row_for command.now) ended.now.finished left c)
+        → LateEnds tells before (meanings H.Host host.new) (row_for command.now) result c }
+    ensures others { LeavesBut written_roles (meanings H.Host host.old) (meanings H.Host host.new) }
 {
     let mut disk = DiskObjects::again(host, rest);
     let saved = write_saved(alloc, &mut disk, ended.next, &ended.finished.state, command);

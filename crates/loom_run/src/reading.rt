@@ -1,4 +1,4 @@
-// The steps that read: Work is attached, the image comes into it, and the events are read.
+// The steps that read: Work is attached, the image comes into it, and the events are read. A run and a trace begin with them.
 ghost use Rattle.std.specs.Prelude.{◌≡◌, ◌≤◌, ℕ, Bool, List, [], Some, IsTrue, IfOk, IfErr, OnOk};
 ghost use Rattle.loom_outside.specs.Outside.{SameBut};
 ghost use Rattle.std.specs.FinMap as map;
@@ -7,22 +7,53 @@ ghost use Rattle.disk_objects.specs.Disk.{IsDisk, disk_held, disk_room};
 ghost use Rattle.image_reader.specs.Loaded.{heap_on};
 ghost use Rattle.image_memory.specs.Image.{HasImage};
 ghost use Rattle.long_names.specs.Heap.{object_count};
-ghost use Rattle.loom_words.specs.Command.{row_for};
+ghost use Rattle.loom_words.specs.Command.{HasLimits, row_for};
 ghost use Rattle.loom_run.specs.Ends.{AreEvents, AttachedOnce, JudgesEvents, JudgesImage, WasRead, bytes_of};
 ghost use Rattle.loom_run.specs.Meanings.{meanings, LeavesBut};
 ghost use Rattle.loom_run.specs.Stages.{Opening, Reading, Listening, roles_at};
-ghost use Rattle.loom_run.specs.Steps.{IsRead, IsReadRefusal, IsRefusal, IsRefusalAt, IsSameFile, IsUnopened};
+ghost use Rattle.loom_run.specs.Steps.{Came, IsRead, IsReadRefusal, IsRefusal, IsRefusalAt, IsSameFile, IsUnopened, ReadEnds};
 
 use crate::status::status_of_disk;
-use disk_objects::DiskObjects;
+use disk_objects::{DiskObjects, DiskRest};
 use event_file::{EventFault, EventList, read_events};
 use image_reader::{LoadFault, Loaded, load};
 use loom_outside::{Host, Role};
 use loom_words::{Command, Status};
 use std::alloc::Global;
 
-/// Attaches Work by its word.
-pub(crate) fn open_work<H: Host>(host: &mut H, work: &str) -> Result<(), Status>
+/// What was read before a memory is made.
+#[derive(Drop)]
+pub struct Read {
+    /// The disk, taken apart; the image's objects are in Work.
+    pub rest: DiskRest,
+    pub loaded: Loaded,
+    pub events: EventList,
+}
+
+/// Attaches Work, and then Image and Events, by their words, and reads these two to their ends. The first refusal is the answer, and what comes behind it
+/// isn't attached.
+pub fn read_all<H: Host>(alloc: Global, host: &mut H, command: &Command<'_>) -> Result<Read, Status>
+    requires limits { HasLimits command.now }
+    ensures came { IfOk result (λ read. Came H.tells (meanings H.Host host.old) (meanings H.Host host.new) (row_for command.now) Listening read.loaded.state (heap_on H.Host host.new read.rest read.loaded.next) read.events) }
+    ensures image { IfOk result (λ read. HasImage H.Host host.new read.rest read.loaded) }
+    ensures room { IfOk result (λ read. command.now.room ≡ disk_room read.rest) }
+    ensures ends { IfErr result (ReadEnds H.tells (meanings H.Host host.old) (meanings H.Host host.new) (row_for command.now)) }
+{
+    open_work(host, command.work)?;
+    let mut disk = DiskObjects::begin(host, command.room);
+    let image = read_image(alloc, &mut disk, command.image, command.room);
+    let (host, rest) = disk.apart();
+    let loaded = image?;
+    let events = read_lines(alloc, host, command)?;
+    Ok(Read {
+        rest,
+        loaded,
+        events,
+    })
+}
+
+/// Attaches Work by its word. A failure is a fault of Work.
+pub fn open_work<H: Host>(host: &mut H, work: &str) -> Result<(), Status>
     ensures attached { IsTrue (H.tells Role.Work) → AttachedOnce work.now (H.roles host.old Role.Work) (H.roles host.new Role.Work) }
     ensures named { IsTrue (H.tells Role.Work) → OnOk result ((H.roles host.new Role.Work).name ≡ Some work.now) }
     ensures empty { IsTrue (H.tells Role.Work) → OnOk result (work_of H.Host host.new ≡ []) }
@@ -61,8 +92,10 @@ pub(crate) fn open_image<H: Host>(disk: &mut DiskObjects<'_, H>, image: &str) ->
     }
 }
 
-/// Attaches Image by its word, and reads it to its end, its objects going to the disk.
-pub(crate) fn read_image<H: Host>(
+/// Attaches Image by its word, and reads it to its end, its objects going to the disk, which has room for `room` of them. The answer has the next name, how
+/// many objects there are, and the state. It is refused for a rule that the bytes break, for want of room, by a fault of Image or of the disk, or for want of
+/// memory.
+pub fn read_image<H: Host>(
     alloc: Global,
     disk: &mut DiskObjects<'_, H>,
     image: &str,
@@ -96,8 +129,8 @@ pub(crate) fn read_image<H: Host>(
     }
 }
 
-/// Attaches Events by its word, and reads them to their end.
-pub(crate) fn read_lines<H: Host>(
+/// Attaches Events by its word, and reads them to their end. It is refused for a bad line, by a fault of Events, or for want of memory.
+pub fn read_lines<H: Host>(
     alloc: Global,
     host: &mut H,
     command: &Command<'_>,

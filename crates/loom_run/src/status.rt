@@ -27,8 +27,8 @@ pub(crate) fn status_of_end(finished: &Finished) -> Status
     }
 }
 
-// The answer of a run that ended before its end.
-pub(crate) fn status_of(halted: &Halted) -> Status
+/// The answer of a run that ended before its end.
+pub fn status_of(halted: &Halted) -> Status
     ensures { result ≡ status_by halted.now.why halted.now.ran }
 {
     match halted.why {
@@ -41,8 +41,8 @@ pub(crate) fn status_of(halted: &Halted) -> Status
     }
 }
 
-// The answer for a fault of the memory after so many bytecodes.
-pub(crate) fn status_of_fault(fault: MemFault, ran: u32) -> Status
+/// The answer for a fault of the memory after so many bytecodes.
+pub fn status_of_fault(fault: MemFault, ran: u32) -> Status
     ensures { result ≡ status_by_fault fault ran }
 {
     match fault {
@@ -59,8 +59,8 @@ pub(crate) fn status_of_fault(fault: MemFault, ran: u32) -> Status
     }
 }
 
-// The answer for a fault of the disk.
-pub(crate) fn status_of_disk(fault: DiskFault) -> Status
+/// The answer for a fault of the disk.
+pub fn status_of_disk(fault: DiskFault) -> Status
     ensures { result ≡ status_by_disk fault }
 {
     match fault {

@@ -69,7 +69,7 @@ fn put_line<H: Host>(m: &mut LoomMemory<'_, H>, k: u32, sight: &Sight) -> Result
     }
 }
 
-/// One cycle of the machine, its line, and the settling behind it.
+// One cycle of the machine, its line, and the settling behind it.
 fn trace_cycle<H: Host>(
     m: &mut LoomMemory<'_, H>,
     cpu: &mut Cpu,

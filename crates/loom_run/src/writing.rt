@@ -43,8 +43,9 @@ pub(crate) fn open_saved<H: Host>(disk: &mut DiskObjects<'_, H>, saved: &str) ->
     }
 }
 
-/// Attaches Saved by its word, and puts the image of what the disk has to it, with this next name and state.
-pub(crate) fn write_saved<H: Host>(
+/// Attaches Saved by its word, and puts the image of what the disk has to it, with this next name and state. It is refused by a fault of Saved or of the disk,
+/// or for want of memory.
+pub fn write_saved<H: Host>(
     alloc: Global,
     disk: &mut DiskObjects<'_, H>,
     next: u32,
@@ -72,8 +73,8 @@ pub(crate) fn write_saved<H: Host>(
     }
 }
 
-/// Attaches Display by its word, and puts a picture to it.
-pub(crate) fn write_display<H: Host>(
+/// Attaches Display by its word, and puts a picture to it, its bytes as they are. A failure is a write fault of Display.
+pub fn write_display<H: Host>(
     host: &mut H,
     picture: &[u8],
     command: &Command<'_>,
@@ -95,7 +96,7 @@ pub(crate) fn write_display<H: Host>(
 }
 
 /// Puts the last line to Notes. Only Done, Quit, Made, Listed and Assembled become another answer where that fails.
-pub(crate) fn tell<H: Host>(host: &mut H, status: Status) -> Status
+pub fn tell<H: Host>(host: &mut H, status: Status) -> Status
     ensures told { IsTold (H.tells Role.Notes) status result (meanings H.Host host.old) (meanings H.Host host.new) }
     ensures others { LeavesBut (Role.Notes ∷ []) (meanings H.Host host.old) (meanings H.Host host.new) }
 {

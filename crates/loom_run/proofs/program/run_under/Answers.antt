@@ -11,7 +11,7 @@ use Rattle.loom_words.specs.Command.{row_for}
 use Rattle.loom_run.specs.Meanings.{meanings}
 use Rattle.loom_run.specs.Stages.{Finishing}
 use Rattle.loom_run.specs.Steps.{Came, CameThrough, RunEnds}
-use Rattle.loom_run.proofs.ProgramLaws.{making-refused}
+use Rattle.loom_run.proofs.ProgramLaws.{making-refused, run-written}
 use Rattle.loom_run.proofs.RunLaws.{came-again, first-bounds, image-again, image-begins}
 use Rattle.loom_run.proofs.program.run_under.Goals as goal
 
@@ -52,13 +52,14 @@ returns-in-Ok-run g c = record {
       let back = c.apart-host.ensures.now ∙ c.into_disk-disk.ensures.now in
       let rest = c.apart-host.ensures.rest ∙ c.into_disk-disk.ensures.rest in
       let name = c.apart-host.ensures.host ∙ c.into_disk-disk.ensures.host ∙ c.run_memory-run.ensures.lender ∙ c.begin_memory-memory.ensures.lender ∙ c.again-disk.ensures.host in
+      let here = subst (λ h. Came g.H.Host.tells before (meanings g.H.Host h) row Finishing x.state heap c.args.events.now) (sym back) went.0 in
       subst (λ h. RunEnds g.H.Host.tells before (meanings g.H.Host h) row c.write_kept.result) (search (rules, sym name))
-      (c.write_kept.ensures.ends before x.state heap through.0 c.args.events.now
-      (subst (λ h. Came g.H.Host.tells before (meanings g.H.Host h) row Finishing x.state heap c.args.events.now) (sym back) went.0)
+      (run-written g.H.Host.tells before row _ (meanings g.H.Host c.write_kept.new.host) c.write_kept.result x.state heap c.args.events.now here c.write_kept.ensures.others
+      (c.write_kept.ensures.ends g.H.Host.tells (λ role told. told) before through.0 run here.uses
       (λ work. (
         subst (λ h. HasEnded g.H.Host h c.apart-host.result.1 c.in-Ok-run.ended.next through.0) (sym back) (subst (λ r. HasEnded g.H.Host end.host.now r c.in-Ok-run.ended.next through.0) (sym rest) (through.1 work)),
         subst (λ h. CameThrough g.H.Host.tells before (meanings g.H.Host h) (row_for c.args.command.now) c.in-Ok-run.ended.finished through.0 run) (sym back) (went.1 work),
-      )));
+      ))));
 }
 
 pub returns-in-Err : goal.returns-in-Err
