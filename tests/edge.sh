@@ -853,7 +853,7 @@ try 'TEXT of a trace is for reading only' ''          'trace base.loom none.even
 try 'TEXT of a trace is standard output' ''           'trace say.loom none.events objects out $sizes 3' 11 'write fault: Saved' saved.loom old.loom
 try 'TEXT of a trace is standard error' ''            'trace base.loom none.events objects notes $sizes 4' 11 'write fault: Saved' saved.loom old.loom
 
-# WORK is none of the others, by whatever path. TEXT may lead to IMAGE or EVENTS by another path, as SAVED may, and takes its place.
+# WORK is none of the others, by whatever path, and TEXT is neither IMAGE nor EVENTS.
 for file in base.loom kept.events saved.loom; do
     before='cp good.events kept.events'
     case $file in
@@ -871,9 +871,16 @@ for file in base.loom kept.events saved.loom; do
     cp "$base" base.loom
 done
 before='cp base.loom both.loom'
-try 'TEXT of a trace is IMAGE, by another path' ''    'trace both.loom none.events objects ./both.loom $sizes 4' 0 'ran 4' both.loom base.trace
-before='cp good.events both.events'
-try 'TEXT of a trace is EVENTS, by another path' ''   'trace base.loom both.events objects ./both.events $sizes 4' 0 'ran 4' both.events base.trace
+try 'TEXT of a trace is IMAGE, by another path' ''    'trace both.loom none.events objects ./both.loom $sizes 4' 11 'write fault: Saved' both.loom base.loom
+before='cp base.loom both.loom; ln -sf both.loom alias'
+try 'TEXT of a trace is IMAGE, by a symbolic link' '' 'trace both.loom none.events objects alias $sizes 4' 11 'write fault: Saved' both.loom base.loom
+before='rm -f alias; cp base.loom both.loom; ln both.loom alias'
+try 'TEXT of a trace is IMAGE, by a hard link' ''     'trace both.loom none.events objects alias $sizes 4' 11 'write fault: Saved' both.loom base.loom
+before='rm -f alias; cp good.events both.events'
+try 'TEXT of a trace is EVENTS, by another path' ''   'trace base.loom both.events objects ./both.events $sizes 4' 11 'write fault: Saved' both.events good.events
+before='cp good.events both.events; ln -sf both.events alias'
+try 'TEXT of a trace is EVENTS, by a symbolic link' '' 'trace base.loom both.events objects alias $sizes 4' 11 'write fault: Saved' both.events good.events
+rm -f alias
 before=
 
 # Bad words of a trace: nothing is opened, and WORK isn't made.

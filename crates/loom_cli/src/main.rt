@@ -102,11 +102,17 @@ fn files_of(words: &[String]) -> &'static [(Role, usize)] {
     }
 }
 
-// Tells the host which files a command will have, so that the work file, which is made first, takes the place of none of them.
+// Tells the host which files a command will have, so that the work file, which is made first, takes the place of none of them, and that the
+// lines of a trace replace nothing that it reads.
 fn expect_files<T: Write, N: Write>(host: &mut RealHost<HostRuntime, T, N>, words: &[String]) {
     for &(role, place) in files_of(words) {
         if let Some(word) = words.get(place) {
             host.expect(role, word.as_str());
+        }
+    }
+    if let Some(word) = words.first() {
+        if word.as_str() == "trace" {
+            host.keep_inputs();
         }
     }
 }
