@@ -128,8 +128,8 @@ const CONVERSIONS: [Conversion; 22] = [
     ("asm b w c", Notes, 0, UNREAD, "read fault: Image\n", false),
 ];
 
-/// The text that is listed of an image.
-pub(crate) fn text_of(alloc: Global, image: &[u8]) -> Result<Vec<u8>, Fail> {
+// The text that is listed of an image.
+fn text_of(alloc: Global, image: &[u8]) -> Result<Vec<u8>, Fail> {
     let mut host = MemoryHost::new(alloc, CHUNK)?;
     host.add_file("a", image)?;
     let _status = ask(alloc, &mut host, "list a w c")?;

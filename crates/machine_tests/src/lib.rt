@@ -2,10 +2,10 @@
 //!
 //! The cases run each bytecode and each primitive with each of its conditions, over the memory of two levels and a host in memory that
 //! never fails. Here stands the rest, over public calls: what a memory with bounds refuses, with the exact need; two objects that
-//! change places; rows of its cache; starts that go on from a state; whole runs in the smallest core; the words of a command; the lines of a
-//! trace; hosts that fail at any call; objects for which there is no room; and that the program runs over the memory of two levels. `steps`
+//! change places; rows of its cache; starts that go on from a state; whole runs in the smallest core; the words of a command;
+//! hosts that fail at any call; objects for which there is no room; and that the program runs over the memory of two levels. `steps`
 //! has calls of a memory as data, `memories` tables of them, `cached` lookups, `states` starts, `runs` whole runs over a memory with bounds,
-//! `words`, `programs`, `makings`, `conversions` and `traces` commands.
+//! `words`, `programs`, `makings` and `conversions` commands.
 //! The crate has no function of its own.
 #![tactic(auto)]
 
@@ -25,7 +25,5 @@ mod runs;
 mod states;
 #[cfg(test)]
 mod steps;
-#[cfg(test)]
-mod traces;
 #[cfg(test)]
 mod words;

@@ -7,8 +7,8 @@ use loom_outside::Role::{self, Display, Events, Image, Notes, Saved, Transcript,
 use loom_run::Status;
 use object_memory::Need;
 use sample_images::{
-    BLIT_NEXT, Builder, HELLO_NEXT, Header, METHOD, NEXT, NIL, SCHEDULER, add_method, add_pointers,
-    add_words, base, blit, hello, name, object,
+    Builder, HELLO_NEXT, Header, METHOD, NEXT, NIL, SCHEDULER, add_method, add_pointers, add_words,
+    base, hello, name, object,
 };
 use std::alloc::{AllocError, Global};
 use std::test::Fail;
@@ -67,7 +67,7 @@ fn an_image_is_saved_over_itself(rt: HostRuntime) -> Result<(), Fail> {
 
 /// An image that is run.
 #[derive(Clone, Copy)]
-pub(crate) enum Sample {
+enum Sample {
     Base,
     /// The base image without its last byte.
     Cut,
@@ -84,8 +84,6 @@ pub(crate) enum Sample {
     /// The image that says a word. Then it stores into one bitmap, into another, and into the first again, says the word and quits. The
     /// smallest core has room for one of the two.
     TwoBitmaps,
-    /// The image that draws by `copyBits`.
-    Blit,
 }
 
 /// So many words of a body are one too many for the smallest core, since an object takes four more.
@@ -207,12 +205,11 @@ fn objects_of(alloc: Global, sample: Sample) -> Result<(Builder, u32), AllocErro
         Sample::Chain => Ok((chain(alloc, LINKS)?, NEXT + 2 * u32::from(LINKS))),
         Sample::Crowded => Ok((crowded(alloc)?, NEXT + 2 * u32::from(FEW_LINKS))),
         Sample::TwoBitmaps => Ok((two_bitmaps(alloc)?, HELLO_NEXT + 2)),
-        Sample::Blit => Ok((blit(alloc)?, BLIT_NEXT)),
     }
 }
 
-/// The bytes of an image, whole.
-pub(crate) fn octets_of(alloc: Global, sample: Sample) -> Result<Octets, Fail> {
+// The bytes of an image, whole.
+fn octets_of(alloc: Global, sample: Sample) -> Result<Octets, Fail> {
     let (objects, next) = objects_of(alloc, sample)?;
     Ok(objects.finish(alloc, next)?)
 }

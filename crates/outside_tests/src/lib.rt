@@ -1,11 +1,12 @@
-//! Tests of what stands below any memory: names and values, the hosts, records as bytes, the builder of images, and the lines of a
-//! trace.
+//! Tests of what stands below any memory: names and values, the hosts, records as bytes, the builder of images, the lines of a trace, the
+//! words of the commands with a vault, and vaults.
 //!
-//! They are over public calls, and keep what no case of `loom_cases` runs: a call at values that are worked out by hand, a host over
-//! real files, and that a call which takes memory succeeds where there is enough. Hosts that fail are those of `work_tests` and
+//! They are over public calls, and keep what no case of `loom_cases` runs: a call at values that are worked out by hand, a host or a
+//! vault over real files, and that a call which takes memory succeeds where there is enough. Hosts that fail are those of `work_tests` and
 //! `machine_tests`. A test is a table of rows with named fields, and one loop over them. There is one file for each crate: `names` for
 //! `long_names`, `hosts` for `loom_outside`, `records` for `image_format`, `builders` for `image_builder`, `generated` for `loom_gen`,
-//! `windows` for `work_windows`, `traces` for `loom_words`. The crate has no function of its own.
+//! `windows` for `work_windows`, `traces` and `words` for `loom_words`, `vaults` for `checkpoint` but for `keep`, which has its tests in
+//! `work_tests`. The crate has no function of its own.
 #![tactic(auto)]
 
 #[cfg(test)]
@@ -21,4 +22,8 @@ mod records;
 #[cfg(test)]
 mod traces;
 #[cfg(test)]
+mod vaults;
+#[cfg(test)]
 mod windows;
+#[cfg(test)]
+mod words;

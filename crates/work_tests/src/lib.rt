@@ -4,9 +4,12 @@
 //! Work that fail and over bytes that no disk wrote, and Work shows what it holds, byte by byte. What holds over a host that tells Work
 //! is proved. There is one file for each crate: `directories` for `work_directory`, `spaces` for `work_space`, `objects` for
 //! `disk_objects`, `images` for `image_reader`. `ways` loads images and saves them again, with a memory of two levels between or none, and
-//! has the refusals of `image_writer`. The crate has no function of its own.
+//! has the refusals of `image_writer`; `checkpoints` keeps what is on a disk in a vault, and stops it behind each call (`keep` of
+//! `checkpoint`). The crate has no function of its own.
 #![tactic(auto)]
 
+#[cfg(test)]
+mod checkpoints;
 #[cfg(test)]
 mod directories;
 #[cfg(test)]
