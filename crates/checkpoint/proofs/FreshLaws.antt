@@ -25,12 +25,14 @@ none-blank s blank bytes may = found-blank bytes (λ i first second. sure-left s
 -- calls that leave it so
 pub record Goes (old new : VaultState) : Type 0 where
   pub extends : Extends old new
+  pub same : (i : ℕ) → IsElse i → get_or (contents_of new) i 0 ≡ get_or (contents_of old) i 0
   pub blank : IsBlank old → IsBlank new
   pub none : IsBlank old → Throughout old new HasNone
 
 pub goes-then : (a b c : VaultState) → Goes a b → Goes b c → Goes a c
 goes-then a b c g h = record {
   extends = extends-then a b c g.extends h.extends;
+  same = λ i away. h.same i away ∙ g.same i away;
   blank = λ blank. h.blank (g.blank blank);
   none = λ blank. throughout-then a b c HasNone h.extends (g.none blank) (h.none (g.blank blank));
 }
@@ -38,6 +40,7 @@ goes-then a b c g h = record {
 pub goes-written : {T E : Type 0} (r : Result T E) (place : ℕ) (old new : VaultState) → (place ≡ 0) ⊎ (place ≡ GATE_GAP) → IsWritten place (0 ∷ []) r old new → Goes old new
 goes-written {T = T} {E = E} r place old new at w = record {
   extends = extends-written {T = T} {E = E} r place (0 ∷ []) old new w;
+  same = λ i away. outside-written {T = T} {E = E} r place (0 ∷ []) old new w i (out place at i away);
   blank = λ blank. sure-written {T = T} {E = E} r place (0 ∷ []) old new IsElse (λ i. 0) w (out place at) blank;
   none = λ blank. throughout-written {T = T} {E = E} r place (0 ∷ []) old new HasNone w (none-blank old blank)
       (none-blank new (sure-written {T = T} {E = E} r place (0 ∷ []) old new IsElse (λ i. 0) w (out place at) blank));
@@ -49,6 +52,7 @@ goes-written {T = T} {E = E} r place old new at w = record {
 pub goes-synced : {T E : Type 0} (r : Result T E) (old new : VaultState) → IsSynced r old new → Goes old new
 goes-synced {T = T} {E = E} r old new s = record {
   extends = extends-synced {T = T} {E = E} r old new s;
+  same = λ i away. ap (λ (l : List ℕ). get_or l i 0) (contents-synced {T = T} {E = E} r old new s);
   blank = λ blank. sure-synced {T = T} {E = E} r old new IsElse (λ i. 0) s blank;
   none = λ blank. throughout-synced {T = T} {E = E} r old new HasNone s (none-blank old blank) (none-blank new (sure-synced {T = T} {E = E} r old new IsElse (λ i. 0) s blank));
 }
@@ -67,14 +71,23 @@ zero-written (Err e) place old new w ok = absurd (false≢true ok)
 not_open : (byte : ℕ) → byte ≡ 0 → byte ≢ 1
 not_open byte zero one = omega arith
 
-pub none-written : {T E R S : Type 0} (p q : Result T E) (r : Result R S) (a b c d : VaultState) → IsWritten 0 (0 ∷ []) p a b → is_ok p ≡ true → IsWritten GATE_GAP (0 ∷ []) q b c → is_ok q ≡ true → IsSynced r c d
-    → found (contents_of d) ≡ None
-none-written {T = T} {E = E} {R = R} {S = S} p q r a b c d first one second two sync =
-    let same = contents-synced {T = R} {E = S} r c d sync in
-    let at_second : get_or (contents_of c) GATE_GAP 0 ≡ 0 = zero-written {T = T} {E = E} q GATE_GAP b c second two in
-    let at_first : get_or (contents_of c) 0 0 ≡ 0 =
-    outside-written {T = T} {E = E} q GATE_GAP (0 ∷ []) b c second 0 (inl (omega arith)) ∙ zero-written {T = T} {E = E} p 0 a b first one in
-    ap found same ∙ found-closed (contents_of c) (closed-byte (gate_in (contents_of c) 0) (not_open _ at_first)) (closed-byte (gate_in (contents_of c) 1) (not_open _ at_second))
+-- The calls of `fresh`, where both writes answered Ok.
+module _ {T E R S : Type 0} (p q : Result T E) (r : Result R S) (a b c d : VaultState) (first : IsWritten 0 (0 ∷ []) p a b) (one : is_ok p ≡ true)
+    (second : IsWritten GATE_GAP (0 ∷ []) q b c) (two : is_ok q ≡ true) (sync : IsSynced r c d) where
+  same-synced : contents_of d ≡ contents_of c
+  same-synced = contents-synced {T = R} {E = S} r c d sync
+
+  pub second-zero : get_or (contents_of d) GATE_GAP 0 ≡ 0
+  second-zero = ap (λ (l : List ℕ). get_or l GATE_GAP 0) same-synced ∙ zero-written {T = T} {E = E} q GATE_GAP b c second two
+
+  pub first-zero : get_or (contents_of d) 0 0 ≡ 0
+  first-zero =
+      ap (λ (l : List ℕ). get_or l 0 0) same-synced ∙ outside-written {T = T} {E = E} q GATE_GAP (0 ∷ []) b c second 0 (inl (omega arith))
+      ∙ zero-written {T = T} {E = E} p 0 a b first one
+
+  pub none-written : found (contents_of d) ≡ None
+  none-written =
+      found-closed (contents_of d) (closed-byte (gate_in (contents_of d) 0) (not_open _ first-zero)) (closed-byte (gate_in (contents_of d) 1) (not_open _ second-zero))
 
 pub on_ok : {T E P : Type 0} (r : Result T E) → P → OnOk r P
 on_ok (Ok x) p = p

@@ -1,6 +1,6 @@
 -- What a stop may leave, call by call. What holds of all bytes that a stop may leave before a call and behind it holds throughout it, and calls
 -- are put together by `throughout-then`.
-use Rattle.std.proofs.Common.{◌≡◌, ◌⊎◌, inl, inr, ⊎_elim, ℕ, ◌+◌, ◌<◌, ◌≤◌, List, [], ◌∷◌, ◌++◌, length, true, Result, Ok, Err, OnOk, refl, sym, ap, ◌∙◌, subst, append_assoc, arith}
+use Rattle.std.proofs.Common.{◌≡◌, inl, inr, ⊎_elim, ℕ, ◌<◌, ◌≤◌, List, [], ◌∷◌, ◌++◌, length, true, Result, Ok, Err, OnOk, refl, sym, ap, ◌∙◌, subst, append_assoc, arith}
 use Rattle.std.proofs.lemmas.List.{append-nil, length_push, take_all, take-append-le}
 use Rattle.std.proofs.lemmas.Bool.{cases_lt, false≢true}
 use Rattle.checkpoint.specs.Vault.{Call, Span, VaultState, Extends, IsEmpty, IsOpened, IsSynced, IsWritten, MayLeave, Opened, Throughout, behind, contents_after, contents_of, left_by, moment, unsynced_after, unsynced_by, unsynced_of}

@@ -1,11 +1,11 @@
 -- Calls that leave some places of a vault alone, one after the other.
-use Rattle.std.proofs.Common.{◌≡◌, ◌⊎◌, inl, inr, ℕ, ◌+◌, ◌-◌, ◌*◌, ◌<◌, ◌≤◌, List, length, get_or, Result, refl, sym, ap, ◌∙◌, subst, ⊎_elim, arith}
+use Rattle.std.proofs.Common.{◌≡◌, ◌⊎◌, inl, inr, ℕ, ◌+◌, ◌-◌, ◌*◌, ◌<◌, ◌≤◌, List, length, get_or, Result, sym, ◌∙◌, subst, ⊎_elim, arith}
 use Rattle.std.proofs.lemmas.Bool.{cases_lt}
 use Rattle.checkpoint.specs.Layout.{block_place, image_place}
-use Rattle.checkpoint.specs.Sparing.{IsApart, Spares, Sure}
+use Rattle.checkpoint.specs.Sparing.{IsApart, Spares}
 use Rattle.checkpoint.specs.Vault.{VaultState, IsSynced, IsWritten}
 use Rattle.checkpoint.specs.declared.layout.TheConstants.{BLOCK}
-use Rattle.checkpoint.proofs.LayoutLaws.{place-apart, place-behind, place-in_block}
+use Rattle.checkpoint.proofs.LayoutLaws.{place-apart, place-in_block}
 use Rattle.checkpoint.proofs.MomentLaws.{extends-still, extends-synced, extends-then, extends-written, throughout-still, throughout-synced, throughout-then, throughout-written}
 use Rattle.checkpoint.proofs.SureLaws.{sure-left, sure-same, sure-synced, sure-written}
 

@@ -1,5 +1,5 @@
 -- What a vault keeps over many checkpoints.
-use Rattle.std.specs.Prelude.{◌≡◌, ℕ, ◌+◌, ◌<◌, ◌≤◌, ◌⊎◌, List, length}
+use Rattle.std.specs.Prelude.{◌≡◌, ℕ, ◌+◌, ◌<◌, ◌≤◌, ◌⊎◌, Bool, IsTrue, List, length}
 use Rattle.checkpoint.specs.Keeping.{HasNext, HasSame, serial_of}
 use Rattle.checkpoint.specs.Layout.{found}
 use Rattle.checkpoint.specs.Vault.{VaultState, Extends, MayLeave, contents_of, moment}
@@ -28,3 +28,7 @@ pub record Keeps (old new : VaultState) (last : ℕ) (IsImage : ℕ → List ℕ
 -- where nothing is said of the images
 abbrev pub AnyImage : ℕ → List ℕ → Type 0
 AnyImage serial text = Unit {0}
+
+-- the image of each serial, where the images are told
+abbrev pub IsItsImage : Bool → (ℕ → List ℕ) → ℕ → List ℕ → Type 0
+IsItsImage told image serial text = IsTrue told → text ≡ image serial

@@ -1,5 +1,5 @@
 -- A host whose Image is a slice, as its caller knows it.
-use Rattle.std.specs.Prelude.{ℕ, ◌+◌, ◌-◌, ◌^◌, Bool, true, List, [], ◌∷◌, take, drop, min, max}
+use Rattle.std.specs.Prelude.{ℕ, Bool, true, List, [], ◌∷◌, ◌++◌, length, take, drop, Option, None, Some}
 use Rattle.loom_outside.specs.Outside.{RoleState, at_start}
 use Rattle.loom_outside.specs.declared.outside.Host.{Ghosts}
 use Rattle.loom_outside.specs.declared.outside.Role.{Role}
@@ -11,15 +11,35 @@ abbrev pub with_image : {X : Type 0} → X → (Role → X) → Role → X
 with_image x others Image = x
 with_image x others role = others role
 
--- a slice of which nothing is taken yet. No byte is ever put to Image, so `put` has the name of the loan by which the host inside is held:
--- who calls through the clauses of `Host` alone knows by it that it is still the same loan
-abbrev pub unread : ℕ → List ℕ → RoleState
-unread loan image = record at_start { left = image; put = loan ∷ [] }
+-- lists one after another, each behind its length
+unfoldable pub joined : List (List ℕ) → List ℕ
+joined [] = []
+joined (list ∷ lists) = length list ∷ (list ++ joined lists)
 
--- a count, and so many failures more, up to the greatest u64
-abbrev pub counted_more : ℕ → ℕ → ℕ
-counted_more more n = max n (min (n + more) (2 ^ 64 - 1))
+-- as lists that differ where these do
+abbrev pub list_of_number : Option ℕ → List ℕ
+list_of_number None = []
+list_of_number (Some n) = n ∷ []
 
+abbrev pub list_of_list : Option (List ℕ) → List ℕ
+list_of_list None = []
+list_of_list (Some list) = 0 ∷ list
+
+-- what is told of a role, part by part
+abbrev pub lists_of : RoleState → List (List ℕ)
+lists_of s = (s.attaches ∷ []) ∷ (list_of_list s.name ∷ (s.taken ∷ (s.left ∷ (s.put ∷ (list_of_number s.ended ∷ (s.contents ∷ []))))))
+
+-- This loan, what is told of a role, and its count of faults, as one list. Where two of these are equal all three are.
+unfoldable pub carried : ℕ → RoleState → ℕ → List ℕ
+carried loan s faults = loan ∷ (faults ∷ joined (lists_of s))
+
+-- a slice of which nothing is taken yet, with this in `put`
+abbrev pub unread : List ℕ → List ℕ → RoleState
+unread put image = record at_start { left = image; put = put }
+
+-- The host inside is held by a loan, and no call is made on its Image. No byte is ever put to Image of the host over it either, so `put` has the
+-- name of that loan, with what the host inside tells of Image and the count of its faults: who calls through the clauses of `Host` alone knows
+-- by it that it is still the same loan, and that Image inside is as it was.
 module _ {H : Type 0} {host : Ghosts H} where
   -- the host inside
   unfoldable pub host_of : ImageHost H host → H
@@ -27,7 +47,8 @@ module _ {H : Type 0} {host : Ghosts H} where
 
   -- what it tells of Image: each attach of it was refused
   unfoldable pub image_of : ImageHost H host → RoleState
-  image_of h = record (unread h.host.ghost_name (drop h.at h.image.now)) { attaches = h.refused; taken = take h.at h.image.now }
+  image_of h = record (unread (carried h.host.ghost_name (host.roles h.host.now Image) (host.faults h.host.now Image)) (drop h.at h.image.now))
+      { attaches = h.refused; taken = take h.at h.image.now }
 
 -- what it means, over what the host inside means
 module _ {H : Type 0} (host : Ghosts H) where
@@ -38,7 +59,7 @@ module _ {H : Type 0} (host : Ghosts H) where
   roles_over h = with_image (image_of h) (host.roles (host_of h))
 
   abbrev pub faults_over : ImageHost H host → Role → ℕ
-  faults_over h = with_image (counted_more (image_of h).attaches (host.faults (host_of h) Image)) (host.faults (host_of h))
+  faults_over h = with_image (image_of h).attaches (host.faults (host_of h))
 
   abbrev pub writes_over : ImageHost H host → ℕ
   writes_over h = host.writes (host_of h)

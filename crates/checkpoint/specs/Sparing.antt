@@ -1,5 +1,5 @@
 -- Calls that leave some places of a vault alone, whatever comes of them.
-use Rattle.std.specs.Prelude.{◌≡◌, ℕ, ◌+◌, ◌*◌, ◌-◌, ◌≤◌, ◌<◌, ◌⊎◌, List, true, slice_index}
+use Rattle.std.specs.Prelude.{◌≡◌, ℕ, ◌+◌, ◌*◌, ◌-◌, ◌≤◌, ◌<◌, ◌⊎◌, true, slice_index}
 use Rattle.checkpoint.specs.Layout.{image_place}
 use Rattle.checkpoint.specs.Vault.{VaultState, Extends, Throughout, contents_of, is_synced, unsynced_of}
 use Rattle.checkpoint.specs.declared.layout.TheConstants.{GATE_BYTES, GATE_GAP}

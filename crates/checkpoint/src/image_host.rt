@@ -6,7 +6,8 @@ use loom_outside::{Failed, Host, Role};
 /// A host over another, with a slice as its Image: so an image in memory is read as an image file is. A read of Image takes the slice's next
 /// bytes, and never fails. Every other role is the other host's, call by call.
 ///
-/// Image is there from the start, and nobody attaches it: an attach of Image fails, counts that, and leaves what is read as it was.
+/// Image is there from the start, and nobody attaches it: an attach of Image fails, counts that, and leaves what is read as it was. These are
+/// all of Image's faults. No call is made on Image of the host inside.
 #[derive(Drop)]
 pub struct ImageHost<'a, H: Host> {
     host: &'a mut H,
@@ -20,17 +21,17 @@ pub struct ImageHost<'a, H: Host> {
 
 #[tactic(auto, unfolding(crate::specs::ImageHost::host_of, crate::specs::ImageHost::image_of))]
 impl<'a, H: Host> ImageHost<'a, H> {
-    ghost use Rattle.std.specs.Prelude.{◌≡◌, ◌≢◌, ◌∷◌, [], ℕ, min};
-    ghost use Rattle.loom_outside.specs.Outside.{Took};
+    ghost use Rattle.std.specs.Prelude.{◌≡◌, ◌≢◌, ℕ, min};
+    ghost use Rattle.loom_outside.specs.Outside.{RoleState, Took};
     ghost use Rattle.loom_outside.specs.declared.outside.Role.{Role};
-    ghost use Rattle.checkpoint.specs.ImageHost.{faults_over, host_of, image_of, roles_over, unread};
+    ghost use Rattle.checkpoint.specs.ImageHost.{faults_over, host_of, image_of, carried, roles_over, unread};
 
     /// This host with a slice as its Image.
     pub fn new(host: &'a mut H, image: &'a [u8]) -> ImageHost<'a, H>
         ensures host { host_of result ≡ host.old }
-        ensures image { image_of result ≡ unread host.entry.ghost_name image.now }
+        ensures image { image_of result ≡ unread (carried host.entry.ghost_name (H.roles host.old Role.Image) (H.faults host.old Role.Image)) image.now }
         ensures roles { (r : Role) → r ≢ Role.Image → roles_over H.Host result r ≡ H.roles host.old r }
-        ensures faults { (r : Role) → faults_over H.Host result r ≡ H.faults host.old r }
+        ensures faults { (r : Role) → r ≢ Role.Image → faults_over H.Host result r ≡ H.faults host.old r }
     {
         ImageHost {
             host,
@@ -40,12 +41,16 @@ impl<'a, H: Host> ImageHost<'a, H> {
         }
     }
 
-    /// Hands the host back. Unless Image was attached, its counts of faults are those that were told.
+    /// Hands the host back. Its Image is as it was.
     pub fn into_host(self) -> &'a mut H
-        ensures same_host { (loan : ℕ) → (image_of self.entry).put ≡ loan ∷ [] → result.ghost_name ≡ loan }
         ensures now { result.now ≡ host_of self.entry }
         ensures roles { (r : Role) → r ≢ Role.Image → H.roles result.now r ≡ roles_over H.Host self.entry r }
-        ensures faults { (image_of self.entry).attaches ≡ 0 → (r : Role) → H.faults result.now r ≡ faults_over H.Host self.entry r }
+        ensures faults { (r : Role) → r ≢ Role.Image → H.faults result.now r ≡ faults_over H.Host self.entry r }
+
+        // Whatever was called in between, `put` of Image is what it was at `new`.
+        ensures same_host { (loan : ℕ) (s : RoleState) (count : ℕ) → (image_of self.entry).put ≡ carried loan s count → result.ghost_name ≡ loan }
+        ensures image_left { (loan : ℕ) (s : RoleState) (count : ℕ) → (image_of self.entry).put ≡ carried loan s count → H.roles result.now Role.Image ≡ s }
+        ensures image_faults { (loan : ℕ) (s : RoleState) (count : ℕ) → (image_of self.entry).put ≡ carried loan s count → H.faults result.now Role.Image ≡ count }
     {
         self.host
     }
@@ -122,10 +127,9 @@ impl<'a, H: Host> Host for ImageHost<'a, H> {
     }
 
     fn fault_count(&self, role: Role) -> u64 {
-        let count = self.host.fault_count(role);
         if role != Role::Image {
-            return count;
+            return self.host.fault_count(role);
         }
-        count.saturating_add(self.refused)
+        self.refused
     }
 }

@@ -1,9 +1,11 @@
 //! Laws of what stands in a vault, and of what a stop may leave of it. No code calls these functions: what each of them ensures is the law.
-ghost use Rattle.std.specs.Prelude.{◌≡◌, ◌≢◌, ◌+◌, ◌*◌, ◌≤◌, ◌<◌, ℕ, List, None, [], true, false, Result, OnOk, length, slice_index};
+ghost use Rattle.std.specs.Prelude.{◌≡◌, ◌≢◌, ◌+◌, ◌*◌, ◌≤◌, ◌<◌, ℕ, Bool, List, Option, None, Some, [], true, false, IsTrue, Result, OnOk, length, slice_index};
 ghost use Rattle.loom_outside.specs.declared.outside.Failed.{Failed};
-ghost use Rattle.checkpoint.specs.History.{AnyImage, Keeps, serial_in};
+ghost use Rattle.checkpoint.specs.History.{AnyImage, IsItsImage, Keeps, serial_in};
+ghost use Rattle.checkpoint.specs.Keeping.{HasEither, IsLast, serial_of};
 ghost use Rattle.checkpoint.specs.Layout.{area_in, bad_place, found, image_place, is_bad, is_open, point_of};
-ghost use Rattle.checkpoint.specs.Vault.{IsEmpty, IsOpened, MayLeave, VaultState, contents_of, moment, unsynced_of};
+ghost use Rattle.checkpoint.specs.Vault.{Extends, IsEmpty, IsOpened, MayLeave, Throughout, VaultState, contents_of, moment, unsynced_of};
+ghost use Rattle.checkpoint.specs.declared.point.Point.{Point};
 ghost use Rattle.checkpoint.specs.declared.layout.Gate.{Gate};
 ghost use Rattle.checkpoint.specs.declared.layout.TheConstants.{AREAS_AT, GATE_BYTES, GATE_GAP};
 
@@ -34,6 +36,21 @@ pub fn images_lie_apart()
 pub fn synced_bytes_outlive()
     ensures synced { (s : VaultState) (bytes : List ℕ) → unsynced_of s ≡ [] → MayLeave s bytes → (i : ℕ) → slice_index bytes i ≡ slice_index (contents_of s) i }
     ensures fresh { (text : List ℕ) (result : Result (Unit {0}) Failed) (old new : VaultState) → IsOpened true text result old new → OnOk result (IsEmpty new) }
+{}
+
+/// A vault goes on with what it kept as each call of `keep` says: where its checkpoint is the last one, that counts as answered; a call that
+/// answered its point keeps that one on, and one that was refused keeps the last one. The images are those of the calls, where they are told.
+pub fn each_keep_goes_on_with_what_was_kept()
+    ensures begins { (told : Bool) (image : ℕ → List ℕ) (s : VaultState) (last : Option Point) → IsLast s last
+        → Keeps s s (serial_of last) (IsItsImage told image) }
+    ensures answered { (told : Bool) (image : ℕ → List ℕ) (old mid new : VaultState) (last : Option Point) (point : Point)
+        → Keeps old mid (serial_of last) (IsItsImage told image) → IsLast mid last → Extends mid new
+        → Throughout mid new (HasEither (contents_of mid) (serial_of last + 1) (IsItsImage told image (serial_of last + 1)))
+        → IsLast new (Some point) → point.serial ≡ serial_of last + 1 → Keeps old new point.serial (IsItsImage told image) }
+    ensures refused { (told : Bool) (image : ℕ → List ℕ) (old mid new : VaultState) (last : Option Point)
+        → Keeps old mid (serial_of last) (IsItsImage told image) → IsLast mid last → Extends mid new
+        → Throughout mid new (HasEither (contents_of mid) (serial_of last + 1) (IsItsImage told image (serial_of last + 1)))
+        → Keeps old new (serial_of last) (IsItsImage told image) }
 {}
 
 /// No stop leaves an earlier checkpoint than the one that was answered last by then. A stop may leave the checkpoint before that which an earlier

@@ -1,8 +1,9 @@
 // A vault with no checkpoint.
-ghost use Rattle.std.specs.Prelude.{◌≡◌, ◌≤◌, None, [], IsTrue, OnOk, IfErr};
+ghost use Rattle.std.specs.Prelude.{◌≡◌, ◌≢◌, ◌≤◌, ℕ, None, [], IsTrue, OnOk, IfErr, slice_index};
 ghost use Rattle.checkpoint.specs.Faults.{IsFailed};
 ghost use Rattle.checkpoint.specs.Layout.{found};
 ghost use Rattle.checkpoint.specs.Vault.{Extends, IsEmpty, Throughout, contents_of, unsynced_of};
+ghost use Rattle.checkpoint.specs.declared.layout.TheConstants.{GATE_GAP};
 
 use crate::calls::{sync, write};
 use crate::fault::VaultFault;
@@ -13,6 +14,10 @@ use crate::vault::Vault;
 /// nothing unsynced, as a fresh opening leaves it, there is none at any moment of this.
 pub fn fresh<V: Vault>(vault: &mut V) -> Result<(), VaultFault>
     ensures extends { IsTrue V.tells → Extends (V.state vault.old) (V.state vault.new) }
+    ensures first { IsTrue V.tells → OnOk result (slice_index (contents_of (V.state vault.new)) 0 ≡ 0) }
+    ensures second { IsTrue V.tells → OnOk result (slice_index (contents_of (V.state vault.new)) GATE_GAP ≡ 0) }
+    ensures others { IsTrue V.tells → (i : ℕ) → i ≢ 0 → i ≢ GATE_GAP →
+        slice_index (contents_of (V.state vault.new)) i ≡ slice_index (contents_of (V.state vault.old)) i }
     ensures none { IsTrue V.tells → OnOk result (found (contents_of (V.state vault.new)) ≡ None) }
     ensures synced { IsTrue V.tells → OnOk result (unsynced_of (V.state vault.new) ≡ []) }
     ensures stops { IsTrue V.tells → IsEmpty (V.state vault.old) → Throughout (V.state vault.old) (V.state vault.new) (λ bytes. found bytes ≡ None) }
