@@ -19,7 +19,7 @@ use Rattle.blue_model.proofs.EndingLaws.{stopping_of}
 use Rattle.blue_model.proofs.GuardLaws.{on_adds, goes_next, goes_quit, goes_keep}
 use Rattle.contexts.specs.Serves.{IsLogged}
 use Rattle.machine_run.proofs.CourseLaws.{logged_behind, logged_before}
-use Rattle.guarded_run.specs.Course.{begun, said_at, rows_at, lives_at, ending_at}
+use Rattle.guarded_run.specs.Course.{begun, said_at, serial_at, rows_at, lives_at, ending_at}
 
 -- ---- tests of numbers
 
@@ -196,6 +196,12 @@ pub ends_leg : (events : List Line) (steps : ℕ) (g : Guarded) (serial : ℕ) (
 ends_leg events steps g serial rows m Next n few all parts e = ap (λ i. ending_at (guarded_on events i g)) (sym (all refl)) ∙ ap ending_at e
 ends_leg events steps g serial rows m Quit n few all parts e = ap ending_at (on_from events n.cpu.ran steps g few ∙ ap (guarded_on events (steps - n.cpu.ran)) e ∙ quit_stays events (steps - n.cpu.ran) n serial [])
 ends_leg events steps g serial rows m Keep n few all parts e = absurd (parts refl)
+
+-- under the serial that the leg had
+pub serial_leg : (events : List Line) (steps : ℕ) (g : Guarded) (serial : ℕ) (rows : List LogRow) (m : Machine) (end : Step) (n : Machine) → n.cpu.ran ≤ steps → (end ≡ Next → n.cpu.ran ≡ steps) → (end ≡ Keep → ⊥) → guarded_on events n.cpu.ran g ≡ after_leg serial rows m end n → serial_at (guarded_on events steps g) ≡ serial
+serial_leg events steps g serial rows m Next n few all parts e = ap (λ i. serial_at (guarded_on events i g)) (sym (all refl)) ∙ ap serial_at e
+serial_leg events steps g serial rows m Quit n few all parts e = ap serial_at (on_from events n.cpu.ran steps g few ∙ ap (guarded_on events (steps - n.cpu.ran)) e ∙ quit_stays events (steps - n.cpu.ran) n serial [])
+serial_leg events steps g serial rows m Keep n few all parts e = absurd (parts refl)
 
 -- ---- the bytecode that did 97
 

@@ -42,9 +42,9 @@ use Rattle.machine_run.specs.Run.{Awaits, Begins, HasSaid, IsFullIn, IsHalt, IsW
 use Rattle.machine_run.proofs.CourseLaws.{logged_behind}
 use Rattle.machine_run.proofs.RoomLaws.{unmade}
 use Rattle.machine_run.proofs.RunningLaws.{never, rested, fresh_machine, fresh_stands, begins_same, begun as began, start_settled}
-use Rattle.guarded_run.specs.Course.{begun, said_at, rows_at, lives_at, ending_at, course_on}
+use Rattle.guarded_run.specs.Course.{begun, said_at, serial_at, rows_at, lives_at, ending_at, course_on}
 use Rattle.guarded_run.specs.Legs.{GoesOnFrom, HasWhole, IsAt, IsToKeep, Leaves, Starts, guarded_first, numbers_before}
-use Rattle.guarded_run.proofs.CourseLaws.{on_none, on_next, rows_going, lives_going, cycle_stuck, said_kept, rows_kept, kept_stuck, said_begun, rows_begun, begun_stuck, after_leg, said_leg, leg_at, rows_at_end, ends_leg, leg_keeps}
+use Rattle.guarded_run.proofs.CourseLaws.{on_none, on_next, rows_going, lives_going, cycle_stuck, said_kept, rows_kept, kept_stuck, said_begun, rows_begun, begun_stuck, after_leg, said_leg, leg_at, rows_at_end, ends_leg, serial_leg, leg_keeps}
 use Rattle.guarded_run.proofs.EarlierLaws.{begin_after}
 use Rattle.guarded_run.proofs.HaltLaws.{said_before, IsFullAt, halts}
 use Rattle.guarded_run.proofs.WholeLaws.{whole_on, whole_run}
@@ -249,6 +249,11 @@ leg_leaves events steps g serial old far new cpu then now end a x tells p same c
           unmade = subst (λ (o : Outcome (List ℕ)). made_in (log_of o) ≡ []) drawn (none_made park_and_draw x.machine none-park_and_draw);
         }
 
+    under : (end : Step) → guarded_on events now.ran g ≡ after_leg serial a.rows a.machine end x.machine → HasCounted end now.ran steps → (end ≡ Next → now.ran ≡ steps) → (end ≡ Keep → ⊥) → serial_at (guarded_on events steps g) ≡ serial
+    under end is counted all parts =
+        let few : x.machine.cpu.ran ≤ steps = (let low = few_counted end now.ran steps counted in let same = count in omega arith) in
+        serial_leg events steps g serial a.rows a.machine end x.machine few (λ e. count ∙ all e) parts (ap (λ i. guarded_on events i g) count ∙ is)
+
     keeps : run events (steps - cpu.ran) a.machine ≡ Ran Keep x.machine → guarded_on events now.ran g ≡ kept_after serial x.machine (loaded x.machine) → (v : Unit {0}) (n : Machine) (rows : List LogRow) → park x.machine ≡ Go v n rows → Stands new now n → IsToKeep events g serial new now n
     keeps ran is v n rows f stands =
         let k = leg_keeps events (steps - cpu.ran) g serial a.rows a.machine x.machine (at_start events g serial old cpu a) ran in
@@ -269,8 +274,8 @@ leg_leaves events steps g serial old far new cpu then now end a x tells p same c
         }
 
     go : (end : Step) → run events (steps - cpu.ran) a.machine ≡ Ran end x.machine → guarded_on events now.ran g ≡ after_leg serial a.rows a.machine end x.machine → HasCounted end now.ran steps → (o : Outcome (Unit {0})) → park x.machine ≡ o → IsGo tt (Stands new now) o → Leaves events steps g serial new now (Ok end)
-    go Next ran is counted (Go v n rows) f gone = awaits Next is counted (λ _. counted) (λ no. absurd (cc)) v n rows f gone.1
-    go Quit ran is counted (Go v n rows) f gone = awaits Quit is counted (λ no. absurd (cc)) (λ no. absurd (cc)) v n rows f gone.1
+    go Next ran is counted (Go v n rows) f gone = (awaits Next is counted (λ _. counted) (λ no. absurd (cc)) v n rows f gone.1, under Next is counted (λ _. counted) (λ no. absurd (cc)))
+    go Quit ran is counted (Go v n rows) f gone = (awaits Quit is counted (λ no. absurd (cc)) (λ no. absurd (cc)) v n rows f gone.1, under Quit is counted (λ no. absurd (cc)) (λ no. absurd (cc)))
     go Keep ran is counted (Go v n rows) f gone = (n, keeps ran is v n rows f gone.1)
     go end ran is counted (Halt c rows) f gone = absurd gone
     go end ran is counted (Spent rows) f gone = absurd gone
@@ -317,12 +322,12 @@ start_at events serial state h a mid cpu between told b ready rest s fresh = go 
 -- ---- a start on what was kept
 
 -- what parking leaves as it was
-record StaysSame (m p : Machine) : Type 0 where
-  numbers : p.cpu ≡ m.cpu
-  transcript : p.transcript ≡ m.transcript
-  largest : p.largest ≡ m.largest
+pub record StaysSame (m p : Machine) : Type 0 where
+  pub numbers : p.cpu ≡ m.cpu
+  pub transcript : p.transcript ≡ m.transcript
+  pub largest : p.largest ≡ m.largest
 
-parked_same : (m p : Machine) (rows : List LogRow) → park m ≡ Go tt p rows → StaysSame m p
+pub parked_same : (m p : Machine) (rows : List LogRow) → park m ≡ Go tt p rows → StaysSame m p
 parked_same m p rows e = go m.cpu.waiting refl
   where
     has : HasParked m p

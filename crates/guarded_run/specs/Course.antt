@@ -23,6 +23,11 @@ abbrev pub said_at : Guarded → List ℕ
 said_at (Going end m serial rows) = m.transcript
 said_at (Broken stage m serial why log) = m.transcript
 
+-- the serial of what was kept last by then
+abbrev pub serial_at : Guarded → ℕ
+serial_at (Going end m serial rows) = serial
+serial_at (Broken stage m serial why log) = serial
+
 -- the rows of bytecode k + 1 of at most so many, where the run came to this in k bytecodes: those of its cycle, behind those of a loading before it,
 -- or after the last bytecode those of park and the picture; and where a loading behind bytecode k broke, its rows
 abbrev pub rows_at : List Line → ℕ → ℕ → Guarded → List LogRow

@@ -20,7 +20,7 @@ use Rattle.blue_model.specs.Loaded.{loaded}
 use Rattle.contexts.specs.declared.stop.Stop.{Stop}
 use Rattle.contexts.specs.Serves.{Stands}
 use Rattle.machine_run.specs.Run.{Awaits, Begins, IsHalt, IsSettled}
-use Rattle.guarded_run.specs.Course.{begun, course_on}
+use Rattle.guarded_run.specs.Course.{begun, course_on, serial_at}
 
 -- The guarded run before its first bytecode, over a heap and a state, behind what had been said before.
 abbrev pub guarded_first : ℕ → List ℕ → State → Heap → Guarded
@@ -59,11 +59,11 @@ pub record IsToKeep (events : List Line) (g : Guarded) (serial : ℕ) (t : Told)
   pub stands : Stands t cpu parked
   pub whole : HasWhole g → IsWholeMachine machine
 
--- What a leg came to: the run's end is a machine whose picture is still to be drawn; or one is to be kept; or it stopped as the guarded
--- run does.
+-- What a leg came to: the run's end is a machine whose picture is still to be drawn, and what was kept last has this serial; or one is to be
+-- kept; or it stopped as the guarded run does.
 abbrev pub Leaves : List Line → ℕ → Guarded → ℕ → Told → Cpu → Result Step Stop → Type 0
-Leaves events steps g serial new now (Ok Next) = Awaits new now Next (course_on events steps g)
-Leaves events steps g serial new now (Ok Quit) = Awaits new now Quit (course_on events steps g)
+Leaves events steps g serial new now (Ok Next) = Awaits new now Next (course_on events steps g) × (serial_at (guarded_on events steps g) ≡ serial)
+Leaves events steps g serial new now (Ok Quit) = Awaits new now Quit (course_on events steps g) × (serial_at (guarded_on events steps g) ≡ serial)
 Leaves events steps g serial new now (Ok Keep) = (parked : Machine) × IsToKeep events g serial new now parked
 Leaves events steps g serial new now (Err stop) = IsHalt stop now.ran steps new (course_on events steps g)
 
