@@ -77,7 +77,7 @@ pub bounded : (row : Row) (o : Option Bounds) → AreBounds row o → NoBounds o
 bounded row None has none = has
 bounded row (Some b) has none = none
 
-small-row : (row : Row) (P : ℕ → Type 0) (o : Option Bounds) → AreBounds row o → IfBounds o (λ b. P b.core) → P row.core
+pub small-row : (row : Row) (P : ℕ → Type 0) (o : Option Bounds) → AreBounds row o → IfBounds o (λ b. P b.core) → P row.core
 small-row row P None has small = absurd has
 small-row row P (Some b) has small = subst P has.0 small
 

@@ -37,6 +37,19 @@ use Rattle.loom_run.specs.Ends.{IsImageOf, head_of, image_of, words_of}
 use Rattle.loom_run.specs.Steps.{BeginsImage}
 use Rattle.loom_run.proofs.SavedLaws.{images-left}
 
+-- ---- what is saved
+
+-- what is saved of a parked machine is its image
+pub text-of : (left : Heap) (held : Words) (m : Machine) → kept left no_roots ≡ kept m.heap no_roots → HasLongNames (kept left no_roots) → model_state held ≡ state_held m.regs m.cpu → saved_text (kept left no_roots) held ≡ image_of m
+text-of left held m same long state =
+    subst (λ (k : Heap). HasLongNames k → saved_text k held ≡ image_of m) (sym same) (λ names.
+    let words : state_left (kept m.heap no_roots) (model_state held) ≡ state_of m = ap (state_left (kept m.heap no_roots)) state ∙ left_held (kept m.heap no_roots) m names in
+    ap (λ (x : model.State). text_under (record { opening = record { version = 2; objects = object_count (kept m.heap no_roots); next = (kept m.heap no_roots).next }; state = words_of x }) (kept m.heap no_roots)) words) long
+
+pub saves-of : (e : Ending) (left : Heap) (held : Words) → OnParked e (λ m. kept left no_roots ≡ kept m.heap no_roots) → HasLongNames (kept left no_roots) → OnParked e (λ m. model_state held ≡ state_held m.regs m.cpu) → OnParked e (λ m. saved_text (kept left no_roots) held ≡ image_of m)
+saves-of (Parked end m drawn) left held same long state = text-of left held m same long state
+saves-of (Stuck why ran said) left held same long state = same
+
 -- ---- the beginning
 
 module _ (h : Heap) (s : Words) (t : Told) (begins : BeginsImage h s t) where
@@ -82,16 +95,6 @@ module _ (h : Heap) (s : Words) (t : Told) (begins : BeginsImage h s t) where
   -- ---- the end
 
   -- what is saved is the model's image
-  text-of : (left : Heap) (held : Words) (m : Machine) → kept left no_roots ≡ kept m.heap no_roots → HasLongNames (kept left no_roots) → model_state held ≡ state_held m.regs m.cpu → saved_text (kept left no_roots) held ≡ image_of m
-  text-of left held m same long state =
-      subst (λ (k : Heap). HasLongNames k → saved_text k held ≡ image_of m) (sym same) (λ names.
-      let words : state_left (kept m.heap no_roots) (model_state held) ≡ state_of m = ap (state_left (kept m.heap no_roots)) state ∙ left_held (kept m.heap no_roots) m names in
-      ap (λ (x : model.State). text_under (record { opening = record { version = 2; objects = object_count (kept m.heap no_roots); next = (kept m.heap no_roots).next }; state = words_of x }) (kept m.heap no_roots)) words) long
-
-  saves-of : (e : Ending) (left : Heap) (held : Words) → OnParked e (λ m. kept left no_roots ≡ kept m.heap no_roots) → HasLongNames (kept left no_roots) → OnParked e (λ m. model_state held ≡ state_held m.regs m.cpu) → OnParked e (λ m. saved_text (kept left no_roots) held ≡ image_of m)
-  saves-of (Parked end m drawn) left held same long state = text-of left held m same long state
-  saves-of (Stuck why ran said) left held same long state = same
-
   pub saves-run : (events : List Line) (steps : ℕ) (new : Told) (held : Words) → IsReady t → IsTrue t.tells → IsReady new → IsTrue new.tells → HasLongNames (kept new.heap no_roots) → OnParked (ending events steps (model_state s) h) (λ m. IsThinner m.heap new.heap) → OnParked (ending events steps (model_state s) h) (λ m. model_state held ≡ state_held m.regs m.cpu)
       → OnParked (ending events steps (model_state s) h) (λ m. saved_text (kept new.heap no_roots) held ≡ image_of m)
   saves-run events steps new held ready told now still long thinner state =

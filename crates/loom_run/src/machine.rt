@@ -1,11 +1,12 @@
 // The machine over the memory of two levels: it runs, and then the memory is wound up.
-ghost use Rattle.std.specs.Prelude.{◌≡◌, ◌<◌, ◌^◌, ◌≤◌, false, IsTrue, IfOk, IfErr, OnOk};
+ghost use Rattle.std.specs.Prelude.{◌≡◌, ◌<◌, ◌^◌, ◌≤◌, ◌%◌, false, IsTrue, IfOk, IfErr, OnOk};
 ghost use Rattle.long_names.specs.Heap.{Heap};
 ghost use Rattle.long_names.specs.Kept.{kept, no_roots};
 ghost use Rattle.image_format.specs.Valid.{IsImageHeap};
 ghost use Rattle.blue_model.specs.Logs.{course};
 ghost use Rattle.blue_model.specs.Endings.{HasCounted};
 ghost use Rattle.contexts.specs.Keeping.{is_kept};
+ghost use Rattle.object_memory.specs.Contract.{SameBounds};
 ghost use Rattle.object_memory.specs.Told.{IsReady};
 ghost use Rattle.loom_memory.specs.Memory.{loom_told, loom_lender, IsSound};
 ghost use Rattle.machine_run.specs.States.{model_state};
@@ -54,8 +55,8 @@ pub(crate) fn run_machine<H: Host>(
     }
 }
 
-/// Gives up all registers, frees what is dead, and puts the rest to the disk, after `ran` bytecodes. The answer is the next name. It is refused by a fault of
-/// the disk.
+/// Gives up all registers, frees what is dead, and puts the rest to the disk, after `ran` bytecodes. The answer is the next name, and the disk's room stays. It
+/// is refused by a fault of the disk.
 pub fn wind_up<H: Host>(
     memory: &mut LoomMemory<'_, H>,
     command: &Command<'_>,
@@ -65,6 +66,8 @@ pub fn wind_up<H: Host>(
     requires few { ran ≤ command.now.steps }
     ensures ended { IsTrue (H.tells Role.Work) → IfOk result (λ next. HasEnded H.Host memory.new.disk.host.now memory.new.disk.rest next (loom_told H.Host memory.old).heap) }
     ensures image { IsTrue (H.tells Role.Work) → OnOk result (IsImageHeap (kept (loom_told H.Host memory.old).heap no_roots)) }
+    ensures even { IfOk result (λ next. next % 2 ≡ 0) }
+    ensures limits { SameBounds (loom_told H.Host memory.old).bounds (loom_told H.Host memory.new).bounds }
     ensures silent { (loom_told H.Host memory.new).transcript ≡ (loom_told H.Host memory.old).transcript }
     ensures file { IsTrue (H.tells Role.Work) → IsSameFile (H.roles memory.old.disk.host.now Role.Work) (H.roles memory.new.disk.host.now Role.Work) }
     ensures lender { loom_lender memory.new ≡ loom_lender memory.old }

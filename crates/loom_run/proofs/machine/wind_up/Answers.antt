@@ -1,4 +1,5 @@
-use Rattle.std.proofs.Common.{sym, subst, arith}
+use Rattle.std.specs.Prelude.{◌%◌}
+use Rattle.std.proofs.Common.{◌≡◌, ℕ, sym, subst, arith}
 use Rattle.image_memory.proofs.EndLaws.{ended-is}
 use Rattle.image_memory.proofs.KeptLaws.{image-kept}
 use Rattle.loom_words.specs.Command.{row_for}
@@ -19,6 +20,9 @@ returns-in-Ok-clause-image g c = λ work.
     let n = c.wind_up.new.self in
     let ended = ended-is g.H.Host m n.disk.host.now n.disk.rest c.in-Ok.next work c.requires.sound (c.in-Ok.ensures.kept work) c.in-Ok.ensures.next in
     image-kept g.H.Host m n.disk.host.now n.disk.rest c.in-Ok.next work c.requires.sound ended (omega arith)
+
+pub returns-in-Ok-clause-even : goal.returns-in-Ok-clause-even
+returns-in-Ok-clause-even g c = subst (λ (n : ℕ). n % 2 ≡ 0) (sym c.in-Ok.ensures.next) c.requires.sound.over.based.even
 
 pub returns-in-Ok-clause-file : goal.returns-in-Ok-clause-file
 returns-in-Ok-clause-file g c = file-left g.H.Host c.args.memory.now c.wind_up.new.self c.wind_up.ensures.outside
