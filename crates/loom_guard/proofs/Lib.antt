@@ -1,0 +1,14 @@
+pub mod CompletesKept
+pub mod GuardedLaws
+pub mod HeadlineLaws
+pub mod KeepingLaws
+pub mod KeptLaws
+pub mod LastLine
+pub mod LegLaws
+pub mod ReadingLaws
+pub mod ResumingLaws
+pub mod StatusLaws
+pub mod StretchLaws
+pub mod TurnLaws
+pub mod VaultLaws
+pub mod WayLaws

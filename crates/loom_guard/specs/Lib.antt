@@ -1,0 +1,9 @@
+pub mod Checkpoints
+pub mod Completes
+pub mod Headline
+pub mod Legs
+pub mod Promise
+pub mod Steps
+pub mod Turns
+pub mod Vaults
+pub mod Ways

@@ -1,0 +1,24 @@
+//! The program with checkpoints: a run keeps the machine in a vault each time that primitive 97 is done, and another goes on from what was kept.
+//!
+//! `loom_kept` does what `loom` of loom_run does, and two commands more, over any host and any vault. Its one clause is the record `KeptPromise`: read
+//! `specs/Promise.antt` first. What it says of the vault is the theorem on stops: from when the checkpoint was found that a run begins with, a stop at any moment
+//! leaves the checkpoint that was answered last, or the one that was under way, whole, and no other.
+//!
+//!     let status = loom_kept(alloc, host, vault, &words);   // guard IMAGE EVENTS WORK SAVED DISPLAY CORE ENTRIES ROOM STEPS VAULT,
+//!     ExitCode::from(status.code())                         // resume VAULT EVENTS WORK SAVED DISPLAY CORE ENTRIES ROOM STEPS, or words of `loom`
+//!
+//! A guarded run has the stages of a run, with the vault opened before the first of them (`vaults`). The image of a resumed run is read from the vault
+//! (`resuming`). From there both are one (`program`): the machine runs leg by leg (`legs`, `memories`, `keeping`, `guarded`), each over a memory of its own, and the
+//! steps that write are those of loom_run. When a run comes to the model's own end say the laws in `laws`. Nothing is said of Work after a stop.
+#![tactic(auto)]
+
+mod guarded;
+mod keeping;
+pub mod laws;
+mod legs;
+mod memories;
+mod program;
+mod resuming;
+mod vaults;
+
+pub use program::loom_kept;
