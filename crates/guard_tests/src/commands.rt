@@ -1,0 +1,105 @@
+// Commands over a host and a vault, both in memory, and what stands in the vault then.
+use checkpoint::{MemoryVault, Vault, read_image, recover};
+use long_names::Octets;
+use loom_guard::loom_kept;
+use loom_outside::{Failed, Host, MemoryHost};
+use loom_words::Status;
+use std::alloc::{AllocError, Global};
+use std::test::Fail;
+
+/// How many bytes a call on a role moves at most.
+const CHUNK: usize = 100;
+
+/// Runs these words.
+pub(crate) fn ask<H: Host>(
+    alloc: Global,
+    host: &mut H,
+    vault: &mut MemoryVault,
+    line: &str,
+) -> Result<Status, AllocError> {
+    let mut words = Vec::new(alloc);
+    for word in line.split_whitespace() {
+        words.push(String::from_str(alloc, word)?)?;
+    }
+    Ok(loom_kept(alloc, host, vault, &words))
+}
+
+/// Runs so many bytecodes of the image `i`, in the smallest core and with the least room, and keeps checkpoints.
+pub(crate) fn guard<H: Host>(
+    alloc: Global,
+    host: &mut H,
+    vault: &mut MemoryVault,
+    steps: u32,
+) -> Result<Status, AllocError> {
+    let line = format!(in alloc; "guard i e w s d 4096 512 1024 {steps} v")?;
+    ask(alloc, host, vault, &line)
+}
+
+/// Runs so many bytecodes from the vault's last checkpoint on.
+pub(crate) fn resume<H: Host>(
+    alloc: Global,
+    host: &mut H,
+    vault: &mut MemoryVault,
+    steps: u32,
+) -> Result<Status, AllocError> {
+    let line = format!(in alloc; "resume v e w s d 4096 512 1024 {steps}")?;
+    ask(alloc, host, vault, &line)
+}
+
+/// A host that has events as the file `e`.
+pub(crate) fn host_with(alloc: Global, events: &str) -> Result<MemoryHost, AllocError> {
+    let mut host = MemoryHost::new(alloc, CHUNK)?;
+    host.add_file("e", events.as_bytes())?;
+    Ok(host)
+}
+
+// ---- vaults
+
+/// Where the gate of a serial stands, and the first block of its image.
+pub(crate) fn gate_place(serial: u64) -> u64 {
+    if serial % 2 == 0 { 0 } else { 512 }
+}
+
+pub(crate) fn image_place(serial: u64) -> u64 {
+    if serial % 2 == 0 { 4_096 } else { 69_632 }
+}
+
+/// Where a gate stands, its byte, its serial, and its length.
+pub(crate) type Gate = (u64, u8, u64, u64);
+
+pub(crate) fn put_gate(
+    vault: &mut MemoryVault,
+    (place, byte, serial, len): Gate,
+) -> Result<(), Failed> {
+    vault.write_at(place, &[byte])?;
+    vault.write_at(place.saturating_add(8), &serial.to_be_bytes())?;
+    vault.write_at(place.saturating_add(16), &len.to_be_bytes())
+}
+
+/// The bytes of a block, of which each second one is the image's.
+const BLOCK: usize = 65_536;
+
+/// A vault that has this image as its only checkpoint, of this serial.
+pub(crate) fn vault_of(alloc: Global, serial: u64, image: &[u8]) -> Result<MemoryVault, Fail> {
+    let mut vault = MemoryVault::new(alloc)?;
+    let len = image.len() as u64;
+    let mut place = image_place(serial);
+    for block in image.chunks(BLOCK) {
+        vault.write_at(place, block)?;
+        place = place.saturating_add(2 * BLOCK as u64);
+    }
+    put_gate(&mut vault, (gate_place(serial), 1, serial, len))?;
+    vault.sync()?;
+    Ok(vault)
+}
+
+/// The serial and the image of the checkpoint that a vault has, if there is one.
+pub(crate) fn find(alloc: Global, vault: &mut MemoryVault) -> Result<Option<(u64, Octets)>, Fail> {
+    match recover(vault)? {
+        Some(point) => {
+            let image = read_image(alloc, vault, point)?;
+            Ok(Some((point.serial, image)))
+        }
+        None => Ok(None),
+    }
+}

@@ -1,0 +1,219 @@
+// What a resumed run answers to the gates of a vault, and to the bytes of an image in it.
+use crate::commands::{
+    Gate, gate_place, guard, host_with, image_place, put_gate, resume, vault_of,
+};
+use crate::images::{Sample, image_of};
+use crate::states::{After, image_after};
+use checkpoint::{MemoryVault, Vault};
+use loom_outside::Role::{Display, Events, Image, Saved, Transcript, Work};
+use loom_outside::{Host, MemoryHost};
+use loom_words::Status;
+use std::alloc::Global;
+use std::test::Fail;
+
+/// Below this is each serial, and above that no length.
+const SERIAL_END: u64 = 1 << 62;
+
+const MOST: u64 = 1 << 42;
+
+/// Gates, and the place of the first that is bad.
+const BAD: [(&[Gate], u64); 13] = [
+    (&[(0, 1, SERIAL_END, 36)], 0),
+    (&[(0, 1, u64::MAX - 1, 36)], 0),
+    (&[(512, 1, SERIAL_END + 1, 36)], 512),
+    (&[(512, 1, u64::MAX, 36)], 512),
+    (&[(0, 1, 1, 36)], 0),
+    (&[(512, 1, 2, 36)], 512),
+    (&[(0, 1, 2, 35)], 0),
+    (&[(512, 1, 1, 0)], 512),
+    (&[(0, 1, 2, MOST + 1)], 0),
+    (&[(512, 1, 1, u64::MAX)], 512),
+    (&[(0, 1, 2, 36), (512, 1, 2, 36)], 512),
+    (&[(0, 1, 3, 36), (512, 1, 3, 36)], 0),
+    (&[(0, 1, 3, 36), (512, 1, 4, 36)], 0),
+];
+
+/// Gates that are all closed.
+const CLOSED: [&[Gate]; 5] = [
+    &[],
+    &[(0, 0, 2, 36), (512, 0, 1, 36)],
+    &[(0, 0, 7, 3), (512, 255, u64::MAX, u64::MAX)],
+    &[(0, 1, 0, 0), (512, 2, 1, 36)],
+    &[(512, 1, 0, 36)],
+];
+
+/// What is done to the image of a checkpoint.
+#[derive(Clone, Copy)]
+enum Damage {
+    /// Bytes are written over it from an offset on.
+    Bytes(u64, &'static [u8]),
+    /// The gate says another length.
+    Length(u64),
+}
+
+use crate::gates::Damage::{Bytes, Length};
+
+/// The rule that the image breaks then, and its place.
+const DAMAGES: [(Damage, u8, u64); 12] = [
+    (Bytes(0, &[0]), 1, 0),
+    (Bytes(4, &[0, 0, 0, 3]), 2, 4),
+    (Bytes(15, &[77]), 3, 12),
+    (Bytes(15, &[60]), 4, 496),
+    (Bytes(23, &[78]), 13, 20),
+    (Bytes(35, &[1]), 13, 32),
+    (Bytes(39, &[3]), 4, 36),
+    (Bytes(43, &[0]), 6, 40),
+    (Bytes(49, &[9]), 11, 2),
+    (Length(835), 9, 835),
+    (Length(837), 9, 836),
+    (Length(36), 9, 36),
+];
+
+fn vault_with(alloc: Global, gates: &[Gate]) -> Result<MemoryVault, Fail> {
+    let mut vault = MemoryVault::new(alloc)?;
+    for gate in gates {
+        put_gate(&mut vault, *gate)?;
+    }
+    Ok(vault)
+}
+
+// A host of which each first call fails but those on Notes, or those on Notes and Work.
+fn host_for(alloc: Global, works: bool) -> Result<MemoryHost, Fail> {
+    let mut host = host_with(alloc, "")?;
+    for role in [Image, Events, Saved, Display, Transcript] {
+        host.fail(role, 1)?;
+    }
+    if !works {
+        host.fail(Work, 1)?;
+    }
+    Ok(host)
+}
+
+// Whether a resumed run answers so, with this line, and calls no role of which the first call fails.
+fn is_answered(
+    alloc: Global,
+    vault: &mut MemoryVault,
+    works: bool,
+    wanted: Status,
+    notes: &str,
+) -> Result<bool, Fail> {
+    let mut host = host_for(alloc, works)?;
+    let status = resume(alloc, &mut host, vault, 1)?;
+    let mut faults = 0u64;
+    for role in [Image, Events, Work, Saved, Display, Transcript] {
+        faults = faults.saturating_add(host.fault_count(role));
+    }
+    Ok(status == wanted && host.notes() == notes.as_bytes() && faults == 0)
+}
+
+#[test]
+fn a_bad_gate_is_told(rt: HostRuntime) -> Result<(), Fail> {
+    for (i, (gates, place)) in BAD.into_iter().enumerate() {
+        let mut vault = vault_with(rt.alloc(), gates)?;
+        let notes = if place == 0 {
+            "vault bad at 0\n"
+        } else {
+            "vault bad at 512\n"
+        };
+        let bad = Status::VaultBad { place };
+        assert_eq!(rt;
+            (i, is_answered(rt.alloc(), &mut vault, false, bad, notes)?),
+            (i, true)
+        );
+    }
+    Ok(())
+}
+
+#[test]
+fn closed_gates_are_no_checkpoint(rt: HostRuntime) -> Result<(), Fail> {
+    for (i, gates) in CLOSED.into_iter().enumerate() {
+        let mut vault = vault_with(rt.alloc(), gates)?;
+        let (none, notes) = (Status::NoCheckpoint, "no checkpoint\n");
+        assert_eq!(rt;
+            (i, is_answered(rt.alloc(), &mut vault, false, none, notes)?),
+            (i, true)
+        );
+    }
+    Ok(())
+}
+
+// The first gate is read by the third call and the second by the fourth, so that of the first is told before the other is read.
+#[test]
+fn a_gate_is_judged_when_it_is_read(rt: HostRuntime) -> Result<(), Fail> {
+    let rows = [
+        (0u64, 2u64, Status::VaultFault { count: 1 }, "vault fault\n"),
+        (0, 3, Status::VaultBad { place: 0 }, "vault bad at 0\n"),
+        (512, 3, Status::VaultFault { count: 1 }, "vault fault\n"),
+        (
+            512,
+            4,
+            Status::VaultBad { place: 512 },
+            "vault bad at 512\n",
+        ),
+    ];
+    for (place, calls, wanted, notes) in rows {
+        let mut vault = vault_with(rt.alloc(), &[(place, 1, SERIAL_END, 36)])?;
+        vault.fuse(calls);
+        assert!(rt; is_answered(rt.alloc(), &mut vault, false, wanted, notes)?);
+    }
+    Ok(())
+}
+
+// ---- images
+
+fn damaged(alloc: Global, damage: Damage) -> Result<MemoryVault, Fail> {
+    let mut vault = vault_of(alloc, 1, &image_after(alloc, Sample::Snaps, After::Snaps2)?)?;
+    match damage {
+        Bytes(offset, bytes) => {
+            vault.write_at(image_place(1).saturating_add(offset), bytes)?;
+        }
+        Length(len) => put_gate(&mut vault, (gate_place(1), 1, 1, len))?,
+    }
+    Ok(vault)
+}
+
+// The image is judged before Events is attached, and Image never is.
+#[test]
+fn a_damaged_image_is_told(rt: HostRuntime) -> Result<(), Fail> {
+    for (i, (damage, rule, place)) in DAMAGES.into_iter().enumerate() {
+        let mut vault = damaged(rt.alloc(), damage)?;
+        let bad = Status::ImageBad { rule, place };
+        let notes = format!(in rt.alloc(); "image: rule {rule} at {place}\n")?;
+        assert_eq!(rt;
+            (i, is_answered(rt.alloc(), &mut vault, true, bad, &notes)?),
+            (i, true)
+        );
+    }
+    Ok(())
+}
+
+// So is one that isn't there.
+#[test]
+fn no_image_is_told(rt: HostRuntime) -> Result<(), Fail> {
+    let mut vault = vault_with(rt.alloc(), &[(512, 1, 1, 36)])?;
+    let (bad, notes) = (
+        Status::ImageBad { rule: 1, place: 0 },
+        "image: rule 1 at 0\n",
+    );
+    assert!(rt; is_answered(rt.alloc(), &mut vault, true, bad, notes)?);
+    Ok(())
+}
+
+// A guarded run opens a vault that is new, whatever it was.
+#[test]
+fn a_guarded_run_judges_no_gate(rt: HostRuntime) -> Result<(), Fail> {
+    for (gates, _) in BAD {
+        let mut vault = vault_with(rt.alloc(), gates)?;
+        let mut host = host_with(rt.alloc(), "")?;
+        host.add_file("i", &image_of(rt.alloc(), Sample::Snaps)?)?;
+        assert_eq!(rt;
+            guard(rt.alloc(), &mut host, &mut vault, 6)?,
+            Status::Done { ran: 6 }
+        );
+        assert_eq!(rt;
+            resume(rt.alloc(), &mut host, &mut vault, 1)?,
+            Status::Done { ran: 1 }
+        );
+    }
+    Ok(())
+}
