@@ -2,7 +2,7 @@
 # Tries the program at its edge, on real files and streams, where no contract speaks: standard streams that are closed
 # or full, files that can't be read or written, a file that two words name in different ways, the work file among them, an image
 # that is saved over itself, disks that are full at each stage, a run that is killed while it saves, an image that is made, one that is listed,
-# a text that is assembled, and a run that is traced. Prints a line for each case.
+# a text that is assembled, a run that is traced, one that keeps checkpoints, and one that goes on from them. Prints a line for each case.
 #
 #     tests/edge.sh [PROGRAM]
 set -u
@@ -158,6 +158,40 @@ cp wide.loom late.loom
 patch late.loom 556 '\160\000'  # push the receiver, and then its field 0
 patch many.loom 10 '\004\001'
 
+# snap FILE CLOCK IP SP TOP: makes an image whose second and fifth bytecode have its machine kept (primitive 97), and which has no seventh,
+# at this clock, with these fields 1 and 2 of its context, and with this value in the first of its stack. Then what is kept at bytecode 2
+# and at 5, and what a run saves after 3 and 6.
+snap() {
+    {
+        echo "loom 78 $2 0 0 0 0"
+        sed "1d; s/^16 .*/16 16 pointers 2 68 0i/; s/^64 .*/64 34 method 2i 72 76 code 21 d0 87 21 d0 87/
+            s/^66 .*/66 22 pointers 2 $3i $4i 64 2 2 $5 2 2 2 2 2 2 2 2 2 2 2/" "$top/crates/loom_images/data/base.text"
+        printf '68 16 pointers 1i 70 72\n70 16 pointers 74\n72 14 bytes 73 6e 61 70\n74 34 method -4094i 97i 2 code 78\n76 16 pointers\n'
+    } >snap.text
+    "$loom" asm snap.text objects "$1" 2>/dev/null
+}
+snap snap.loom 0 7 0 2
+snap kept1.loom 2 9 1 76
+snap snap3.loom 3 10 0 76
+snap kept2.loom 5 12 1 76
+snap snap6.loom 6 13 0 76
+cp snap.loom snap.same
+
+# keep VAULT SERIAL IMAGE: puts a checkpoint into a vault, with its gate.
+keep() {
+    place=$(($2 % 2))
+    size=$(($(wc -c <"$3")))
+    patch "$1" $((512 * place)) '\001'
+    patch "$1" $((512 * place + 8)) "\\000\\000\\000\\000\\000\\000\\000$(byte "$2")"
+    patch "$1" $((512 * place + 16)) "\\000\\000\\000\\000\\000\\000$(byte $((size / 256)))$(byte $((size % 256)))"
+    dd if="$3" of="$1" bs=512 seek=$((8 + 128 * place)) conv=notrunc 2>/dev/null
+}
+
+# Vaults: with both gates closed, with the first checkpoint, and with both.
+head -c 513 /dev/zero >none.vault
+cp none.vault one.vault && keep one.vault 1 kept1.loom
+cp one.vault two.vault && keep two.vault 2 kept2.loom
+
 # What stands in SAVED and DISPLAY before each run: text that is no image, and longer than any file that is written here.
 yes 'this is not an image' | head -n 100 >old.loom
 mkdir directory
@@ -218,6 +252,12 @@ tell() {
         failed=$((failed + 1))
         echo "FAILED  $1: ${2#; }"
     fi
+}
+
+# holds NAME FILE WANTED: what the run that was just tried left in one more file.
+holds() {
+    cmp -s "$2" "$3"
+    tell "$1" "${?#0}"
 }
 
 # skip NAME WHY: says that cases can't be tried here.
@@ -321,6 +361,17 @@ else
     most=11
     display=empty
     try 'eleven descriptors'                ''            "$good" 0  'ran 2' saved.loom after.loom
+    display=old
+    before='cp two.vault vault'
+    guard='guard snap.loom none.events objects saved.loom display.pbm $sizes 3 vault'
+    most=6
+    try 'six descriptors, a guarded run'    ''            "$guard" 15 'vault fault' vault two.vault
+    most=7
+    try 'seven descriptors, a guarded run'  ''            "$guard" 10 'work fault' vault none.vault
+    display=empty
+    most=12
+    try 'twelve descriptors, a guarded run' ''            "$guard" 0 'ran 3' vault one.vault
+    before=
     most=
 fi
 
@@ -547,6 +598,10 @@ try 'a limit, WORK'                     '' 'run large.loom none.events objects s
 cp large.loom both.loom
 try 'a limit, SAVED is IMAGE'           '' 'run both.loom none.events objects both.loom display.pbm $sizes 2'   10 'work fault' both.loom large.loom
 try 'a limit, TEXT of a trace'          '' 'trace base.loom none.events objects saved.loom $sizes 99999'              11 'write fault: Saved' saved.loom old.loom
+inner="trap '' XFSZ; ulimit -f 120;"
+try 'a limit, VAULT'                    '' 'guard snap.loom none.events objects saved.loom display.pbm $sizes 3 vault' 15 'vault fault' saved.loom old.loom
+inner=
+try 'a limit left no checkpoint'        '' 'resume vault none.events objects saved.loom display.pbm $sizes 1'  16 'no checkpoint' saved.loom old.loom
 inner='ulimit -f 500;'
 try 'a limit and its signal, SAVED is IMAGE' '' 'run both.loom none.events objects both.loom display.pbm $sizes 2' 153 '' both.loom large.loom
 inner=
@@ -568,6 +623,16 @@ if mount -t tmpfs -o size=1500k small small 2>/dev/null; then
     try 'a full disk, DISPLAY is new'   '' 'run hello.loom none.events objects saved.loom small/new.pbm $sizes 9999'       11 'write fault: Display' saved.loom drawn.loom
     said=
     try 'a full disk, a large image'     '' 'make 0 small/old.loom' 11 'write fault: Saved' small/old.loom old.loom
+
+    # A disk that has no room for a vault; and one that has room for the gates and the first checkpoint, and not for the second, which lies
+    # in a block of its own.
+    guard='guard snap.loom none.events objects saved.loom display.pbm $sizes 6 small/vault'
+    try 'a full disk, VAULT is new'      '' "$guard" 15 'vault fault' small/vault empty
+    dd if=/dev/null of=small/filler bs=4096 seek=$(($(wc -c <small/filler) / 4096 - 2)) 2>/dev/null
+    try 'a full disk at the second checkpoint' '' "$guard" 15 'vault fault' saved.loom old.loom
+    display=empty
+    try 'a full disk left the first one' '' 'resume small/vault none.events objects saved.loom display.pbm $sizes 1' 0 'ran 1' saved.loom snap3.loom
+    display=old
     umount small
 else
     skip 'a full disk' 'no file system can be mounted'
@@ -593,6 +658,21 @@ if $as test -x "$loom" 2>/dev/null && ! $as test -w closed; then
     before=': >objects; chmod 666 objects'
     try 'a closed folder, TEXT of a trace' '' 'trace base.loom none.events objects closed/saved.loom $sizes 4' 0 'ran 4' closed/saved.loom base.trace
     try 'a closed folder, TEXT of a trace is new' '' 'trace base.loom none.events objects closed/new.loom $sizes 4' 11 'write fault: Saved' closed/new.loom none
+    guard='guard snap.loom none.events objects saved.loom display.pbm $sizes 3'
+    resume='none.events objects saved.loom display.pbm $sizes 1'
+    before='chmod 666 saved.loom display.pbm; : >objects; chmod 666 objects'
+    try 'a closed folder, VAULT is new' '' "$guard closed/vault" 15 'vault fault' closed/vault none
+    before="$before; cp two.vault closed/vault; chmod 666 closed/vault"
+    display=empty
+    try 'a closed folder, VAULT'        '' "$guard closed/vault" 0 'ran 3' closed/vault one.vault
+    try 'a closed folder, a run goes on' '' "resume closed/vault $resume" 0 'ran 1' saved.loom snap6.loom
+    display=old
+    for mode in 444 222 000; do
+        before="cp two.vault vault; chmod $mode vault; : >objects; chmod 666 objects"
+        try "VAULT has the mode $mode"  '' "$guard vault" 15 'vault fault' vault two.vault
+        try "VAULT has the mode $mode, where a run goes on" '' "resume vault $resume" 15 'vault fault' vault two.vault
+        rm -f vault
+    done
     before=
 else
     skip 'a closed folder' 'no other user can run the program'
@@ -630,6 +710,46 @@ if $as inject=chroot:error=EIO true 2>/dev/null; then
     try 'TEXT of a trace gets no name, stuck' '' 'trace unused.loom none.events objects saved.loom $sizes 4' 5 'stuck: cause 2 after 0' saved.loom old.loom
     as='strace -o trace -e inject=fsync:error=EIO:when=5'
     try 'the name of TEXT of a trace is not synced' '' "$trace" 11 'write fault: Saved' saved.loom base.trace
+
+    # A vault that is made is synced with its folder. Its syncs are those of the gates that are closed, and three for each checkpoint: before
+    # the image, behind it, and behind the gate that is opened. The one before is found until the next one's gate is open.
+    display=old
+    guard='guard snap.loom none.events objects saved.loom display.pbm $sizes 6 vault'
+    resume='resume vault none.events objects saved.loom display.pbm $sizes 0'
+    rm -f vault
+    as='strace -o trace -e inject=fsync:error=EIO:when=1'
+    try 'the name of VAULT is not synced' '' "$guard" 15 'vault fault' saved.loom old.loom
+    as='strace -o trace -e inject=fsync:error=EIO:when=1'
+    before='cp two.vault vault'
+    try 'VAULT is not synced when it is cut' '' "$guard" 15 'vault fault' vault empty
+    as='strace -o trace -e inject=pwrite64:error=EIO:when=1'
+    try 'a gate of VAULT is not written' '' "$guard" 15 'vault fault' vault empty
+    before='rm -f vault'
+    for sync in 1 2 3 4 5 6 7; do
+        as="strace -o trace -e inject=fdatasync:error=EIO:when=$sync"
+        try "sync $sync of VAULT fails"  '' "$guard" 15 'vault fault' saved.loom old.loom
+        as=
+        before='cp vault kept.vault'
+        case $sync in
+            1 | 2 | 3) try "sync $sync of VAULT left no checkpoint" '' "$resume" 16 'no checkpoint' saved.loom old.loom ;;
+            4 | 5 | 6)
+                display=empty
+                try "sync $sync of VAULT left the first checkpoint" '' "$resume" 0 'ran 0' saved.loom kept1.loom
+                ;;
+            7)
+                display=empty
+                try "sync $sync of VAULT left the second checkpoint" '' "$resume" 0 'ran 0' saved.loom kept2.loom
+                ;;
+        esac
+        display=old
+        holds "a run that went on from there left VAULT as it was, sync $sync" vault kept.vault
+        before='rm -f vault'
+    done
+    before='cp two.vault vault'
+    as='strace -o trace -e inject=fdatasync:error=EIO:when=1'
+    try 'VAULT is not synced, where a run goes on' '' "$resume" 15 'vault fault' vault two.vault
+    before=
+    as=
 
     # A disk that is full at one write to WORK: at the first, which is in loading; at the first behind the opening of EVENTS, which is a
     # purge while the machine runs; and at the last before SAVED is opened, in finishing. None of them touches SAVED or DISPLAY.
@@ -894,6 +1014,192 @@ try 'CORE of a trace is too small'      ''            'trace base.loom none.even
 try 'a trace of eight words'            ''            'trace base.loom none.events objects saved.loom $sizes' 2 'usage: word 9' objects none
 try 'a trace of ten words'              ''            "$trace 4" 2 'usage: word 10' saved.loom old.loom
 
+# A run that keeps its machine in a vault, and runs that go on from there. SAVED is what a run of as many bytecodes leaves, and the vault has
+# the checkpoints and no other byte.
+guard='guard snap.loom none.events objects saved.loom display.pbm $sizes 3 vault'
+resume='resume vault none.events objects saved.loom display.pbm $sizes 1'
+display=empty
+rm -f vault
+try 'a guarded run'                     ''            "$guard" 0 'ran 3' saved.loom snap3.loom
+holds 'its vault has the checkpoint'                  vault one.vault
+before='cp large.loom vault'
+try 'VAULT is a longer file'            ''            "$guard" 0 'ran 3' vault one.vault
+before='cp two.vault vault'
+try 'VAULT has checkpoints of an earlier run' ''      "$guard" 0 'ran 3' vault one.vault
+before=': >new.vault; ln -sf new.vault vault'
+try 'VAULT is a symbolic link'          ''            "$guard" 0 'ran 3' new.vault one.vault
+rm -f vault new.vault
+before=
+try 'a guarded run of six bytecodes'    ''            'guard snap.loom none.events objects saved.loom display.pbm $sizes 6 vault' 0 'ran 6' saved.loom snap6.loom
+holds 'its vault has two checkpoints'                 vault two.vault
+try 'a guarded run of no bytecode'      ''            'guard snap.loom none.events objects saved.loom display.pbm $sizes 0 vault' 0 'ran 0' saved.loom snap.loom
+holds 'its vault has no checkpoint'                   vault none.vault
+display=old
+try 'no checkpoint to go on from'       ''            "$resume" 16 'no checkpoint' saved.loom old.loom
+holds 'such a vault is as it was'                     vault none.vault
+display=empty
+before='cp two.vault vault'
+try 'a guarded run that comes to no checkpoint' ''    'guard snap.loom none.events objects saved.loom display.pbm $sizes 1 vault' 0 'ran 1' vault none.vault
+before=
+display=old
+try 'a guarded run that is stuck'       ''            'guard snap.loom none.events objects saved.loom display.pbm $sizes 7 vault' 5 'stuck: cause 1 after 6' saved.loom old.loom
+holds 'its vault has the checkpoints'                 vault two.vault
+display=hello.pbm
+said=loom
+try 'a guarded run that quits'          ''            'guard hello.loom none.events objects saved.loom display.pbm $sizes 9999 vault' 0 'quit after 2056' saved.loom drawn.loom
+said=hi
+display=empty
+try 'a line is said in a guarded run'   ''            'guard say.loom none.events objects saved.loom display.pbm $sizes 3 vault' 0 'ran 3' saved.loom said.loom
+said=
+cp snap.loom both.loom
+try 'SAVED of a guarded run is IMAGE'   ''            'guard both.loom none.events objects both.loom display.pbm $sizes 3 vault' 0 'ran 3' both.loom snap3.loom
+try 'a guarded run, stderr closed'      '2>&-'        "$guard" 11 '' saved.loom snap3.loom
+holds 'its vault has the checkpoint too'              vault one.vault
+try 'a guarded run, all three closed'   '0<&- 1>&- 2>&-' "$guard" 11 '' saved.loom snap3.loom
+holds 'its vault has it too'                          vault one.vault
+
+# What goes on counts its bytecodes from there, and keeps the next checkpoint in the other area.
+before='cp one.vault vault'
+try 'a run goes on'                     ''            "$resume" 0 'ran 1' saved.loom snap3.loom
+holds 'where it keeps nothing, its vault is as it was' vault one.vault
+try 'a run goes on for no bytecode'     ''            'resume vault none.events objects saved.loom display.pbm $sizes 0' 0 'ran 0' saved.loom kept1.loom
+try 'a run goes on to the next checkpoint' ''         'resume vault none.events objects saved.loom display.pbm $sizes 4' 0 'ran 4' saved.loom snap6.loom
+holds 'its vault has both'                            vault two.vault
+try 'a run goes on, stderr closed'      '2>&-'        "$resume" 11 '' saved.loom snap3.loom
+before='cp one.vault new.vault; ln -sf new.vault vault'
+try 'a run goes on from a symbolic link' ''           'resume vault none.events objects saved.loom display.pbm $sizes 4' 0 'ran 4' new.vault two.vault
+rm -f vault new.vault
+before='cp two.vault vault'
+try 'a run goes on from the later checkpoint' ''      "$resume" 0 'ran 1' saved.loom snap6.loom
+display=old
+try 'a run goes on, and is stuck'       ''            'resume vault none.events objects saved.loom display.pbm $sizes 2' 5 'stuck: cause 1 after 1' saved.loom old.loom
+display=empty
+
+# A gate is closed unless its byte is 1 and its serial isn't 0. The next checkpoint is written there all the same.
+for bytes in '0 \\002' '0 \\377' '15 \\000'; do
+    before="cp two.vault vault; patch vault $bytes"
+    try "a run goes on, where the later gate has $bytes" '' "$resume" 0 'ran 1' saved.loom snap3.loom
+    try "and to the next checkpoint, where it has $bytes" '' 'resume vault none.events objects saved.loom display.pbm $sizes 4' 0 'ran 4' vault two.vault
+done
+display=old
+before='cp one.vault vault; patch vault 512 \\000'
+try 'both gates are closed'             ''            "$resume" 16 'no checkpoint' saved.loom old.loom
+before=': >vault'
+try 'a run goes on from an empty vault' ''            "$resume" 16 'no checkpoint' saved.loom old.loom
+before='cp old.loom vault'
+try 'a run goes on from a text'         ''            "$resume" 16 'no checkpoint' vault old.loom
+
+# An open gate that no vault of the program has: a serial that is even in the gate of odd ones, or odd in the other, or 2 to the 62; a length of
+# 35, or of 2 to the 42 and 1.
+for bytes in '527 \\002' '520 \\100' '534 \\000\\043' '530 \\004\\000\\000\\000\\000\\001'; do
+    before="cp two.vault vault; patch vault $bytes; cp vault bad.vault"
+    try "a vault with $bytes"           ''            "$resume" 17 'vault bad at 512' saved.loom old.loom
+    holds "it is as it was, with $bytes"              vault bad.vault
+done
+before='cp two.vault vault; patch vault 15 \\001'
+try 'the first gate is bad'             ''            "$resume" 17 'vault bad at 0' saved.loom old.loom
+before='cp two.vault vault; patch vault 15 \\001; patch vault 527 \\002'
+try 'both gates are bad'                ''            "$resume" 17 'vault bad at 0' saved.loom old.loom
+before='cp one.vault vault; patch vault 69632 X'
+try 'the image in the vault is none'    ''            "$resume" 3 'image: rule 1 at 0' saved.loom old.loom
+
+# The vault comes before anything else: where that is refused, nothing was done. Behind it a guarded run has a vault that is new, whatever
+# comes of it, and one that goes on leaves the checkpoint that it began with, or a later one.
+before='cp two.vault vault'
+try 'IMAGE of a guarded run is no file' ''            'guard none.loom none.events objects saved.loom display.pbm $sizes 3 vault' 9 'read fault: Image' vault none.vault
+try 'IMAGE of a guarded run is no image' ''           'guard old.loom none.events objects saved.loom display.pbm $sizes 3 vault' 3 'image: rule 1 at 0' vault none.vault
+try 'EVENTS of a guarded run are wrong' ''            'guard snap.loom cut.events objects saved.loom display.pbm $sizes 3 vault' 4 'events: line 1' vault none.vault
+try 'WORK of a guarded run is a directory' ''         'guard snap.loom none.events directory saved.loom display.pbm $sizes 3 vault' 10 'work fault' vault none.vault
+try 'SAVED of a guarded run is full'    ''            'guard snap.loom none.events objects /dev/full display.pbm $sizes 3 vault' 11 'write fault: Saved' vault one.vault
+try 'DISPLAY of a guarded run is a directory' ''      'guard snap.loom none.events objects saved.loom directory $sizes 3 vault' 11 'write fault: Display' saved.loom snap3.loom
+holds 'its vault has the checkpoint all the same'     vault one.vault
+before='cp one.vault vault'
+try 'EVENTS are none, where a run goes on' ''         'resume vault no.events objects saved.loom display.pbm $sizes 4' 9 'read fault: Events' vault one.vault
+try 'EVENTS are wrong, where a run goes on' ''        'resume vault cut.events objects saved.loom display.pbm $sizes 4' 4 'events: line 1' vault one.vault
+try 'WORK is a directory, where a run goes on' ''     'resume vault none.events directory saved.loom display.pbm $sizes 4' 10 'work fault' vault one.vault
+try 'SAVED is full, where a run goes on' ''           'resume vault none.events objects /dev/full display.pbm $sizes 4' 11 'write fault: Saved' vault two.vault
+before='cp none.vault vault'
+try 'no checkpoint, no EVENTS and no WORK' ''         'resume vault no.events none/objects saved.loom display.pbm $sizes 4' 16 'no checkpoint' saved.loom old.loom
+before='cp old.loom objects'
+try 'VAULT is a directory, and IMAGE no file' ''      'guard none.loom none.events objects saved.loom display.pbm $sizes 3 directory' 15 'vault fault' objects old.loom
+before=
+
+# A file that can't be a vault.
+rm -f vault
+try 'there is no vault to go on from'   ''            "$resume" 15 'vault fault' vault none
+for file in directory none/vault /dev/null /dev/full /proc/version out notes; do
+    try "VAULT is $file"                ''            "guard snap.loom none.events objects saved.loom display.pbm \$sizes 3 $file" 15 'vault fault' saved.loom old.loom
+    try "VAULT is $file, where a run goes on" ''      "resume $file none.events objects saved.loom display.pbm \$sizes 1" 15 'vault fault' saved.loom old.loom
+done
+before='rm -f new.vault; ln -sf new.vault alias'
+try 'VAULT is a link to no file'        ''            'guard snap.loom none.events objects saved.loom display.pbm $sizes 3 alias' 15 'vault fault' new.vault none
+rm -f alias
+
+# VAULT is another file of the run, by whatever path. It is opened before them, and none of them is cut.
+for file in snap.loom kept.events objects saved.loom display.pbm; do
+    before='cp good.events kept.events; cp two.vault objects'
+    wanted=old.loom
+    case $file in
+        snap.loom) role=IMAGE; wanted=snap.same ;;
+        kept.events) role=EVENTS; wanted=good.events ;;
+        objects) role=WORK; wanted=two.vault ;;
+        saved.loom) role=SAVED ;;
+        display.pbm) role=DISPLAY ;;
+    esac
+    words='guard snap.loom kept.events objects saved.loom display.pbm $sizes 3'
+    try "VAULT is $role, by another path"             '' "$words ./$file"            15 'vault fault' $file "$wanted"
+    try "VAULT is $role, by a longer path"            '' "$words directory/../$file" 15 'vault fault' $file "$wanted"
+    try "VAULT is $role, by its whole path"           '' "$words \"\$work/$file\""   15 'vault fault' $file "$wanted"
+    before="cp good.events kept.events; cp two.vault objects; ln -sf directory/../$file alias"
+    try "VAULT is $role, by a symbolic link"          '' "$words alias"              15 'vault fault' $file "$wanted"
+    rm -f alias
+    before="cp good.events kept.events; cp two.vault objects; ln -f $file alias"
+    try "VAULT is $role, by a hard link"              '' "$words alias"              15 'vault fault' $file "$wanted"
+    if [ $role != IMAGE ]; then
+        words='kept.events objects saved.loom display.pbm $sizes 1'
+        try "VAULT is $role, by a hard link, where a run goes on" '' "resume alias $words" 15 'vault fault' $file "$wanted"
+        try "VAULT is $role, by another path, where a run goes on" '' "resume ./$file $words" 15 'vault fault' $file "$wanted"
+    fi
+    rm -f alias
+    cp snap.same snap.loom
+done
+
+# A file that isn't there yet: the run makes its vault, and no role takes it.
+words='guard snap.loom none.events'
+before='rm -f new.vault'
+try 'WORK is VAULT, by another path'    ''            "$words ./new.vault saved.loom display.pbm \$sizes 3 new.vault" 10 'work fault' new.vault none.vault
+try 'SAVED is VAULT, by another path'   ''            "$words objects ./new.vault display.pbm \$sizes 3 new.vault" 11 'write fault: Saved' new.vault one.vault
+try 'DISPLAY is VAULT, by another path' ''            "$words objects saved.loom ./new.vault \$sizes 3 new.vault" 11 'write fault: Display' new.vault one.vault
+before='rm -f new.vault; ln -sf directory/../new.vault alias'
+try 'WORK is VAULT, by a symbolic link' ''            "$words alias saved.loom display.pbm \$sizes 3 new.vault" 10 'work fault' new.vault none.vault
+try 'SAVED is VAULT, by a symbolic link' ''           "$words objects alias display.pbm \$sizes 3 new.vault" 11 'write fault: Saved' new.vault one.vault
+try 'DISPLAY is VAULT, by a symbolic link' ''         "$words objects saved.loom alias \$sizes 3 new.vault" 11 'write fault: Display' new.vault one.vault
+rm -f alias
+before='rm -f saved.loom.part'
+killed=yes
+try 'VAULT is SAVED.part'               ''            "$words objects saved.loom display.pbm \$sizes 3 saved.loom.part" 11 'write fault: Saved' saved.loom.part one.vault
+rm -f saved.loom.part
+killed=
+
+# Bad words of these commands: nothing is opened, and the vault is as it was.
+before='cp one.vault vault'
+try 'a guarded run of ten words'        ''            'guard snap.loom none.events objects saved.loom display.pbm $sizes 3' 2 'usage: word 11' vault one.vault
+try 'a guarded run of twelve words'     ''            "$guard vault" 2 'usage: word 12' vault one.vault
+try 'a guarded run with a bad STEPS'    ''            'guard snap.loom none.events objects saved.loom display.pbm $sizes 03 vault' 2 'usage: word 10' vault one.vault
+try 'SAVED of a guarded run is WORK'    ''            'guard snap.loom none.events objects objects display.pbm $sizes 3 vault' 2 'usage: word 5' vault one.vault
+try 'VAULT is IMAGE'                    ''            'guard vault none.events objects saved.loom display.pbm $sizes 3 vault' 2 'usage: word 11' vault one.vault
+try 'VAULT is EVENTS'                   ''            'guard snap.loom vault objects saved.loom display.pbm $sizes 3 vault' 2 'usage: word 11' vault one.vault
+try 'VAULT is WORK'                     ''            'guard snap.loom none.events vault saved.loom display.pbm $sizes 3 vault' 2 'usage: word 11' vault one.vault
+try 'VAULT is SAVED'                    ''            'guard snap.loom none.events objects vault display.pbm $sizes 3 vault' 2 'usage: word 11' vault one.vault
+try 'VAULT is DISPLAY'                  ''            'guard snap.loom none.events objects saved.loom vault $sizes 3 vault' 2 'usage: word 11' vault one.vault
+try 'nine words, where a run goes on'   ''            'resume vault none.events objects saved.loom display.pbm $sizes' 2 'usage: word 10' vault one.vault
+try 'eleven words, where a run goes on' ''            "$resume 1" 2 'usage: word 11' vault one.vault
+try 'CORE is too small, where a run goes on' ''       'resume vault none.events objects saved.loom display.pbm 4095 512 1024 1' 2 'usage: word 7' vault one.vault
+try 'EVENTS is VAULT, where a run goes on' ''         'resume vault vault objects saved.loom display.pbm $sizes 1' 2 'usage: word 3' vault one.vault
+try 'WORK is VAULT, where a run goes on' ''           'resume vault none.events vault saved.loom display.pbm $sizes 1' 2 'usage: word 4' vault one.vault
+try 'SAVED is VAULT, where a run goes on' ''          'resume vault none.events objects vault display.pbm $sizes 1' 2 'usage: word 5' vault one.vault
+try 'DISPLAY is VAULT, where a run goes on' ''        'resume vault none.events objects saved.loom vault $sizes 1' 2 'usage: word 6' vault one.vault
+before=
 
 # Words that are missing, extra or bad.
 display=old
