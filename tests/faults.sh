@@ -1,7 +1,8 @@
 #!/bin/sh
 # Tries the program on a disk that fails, over real files: a run that is killed at a hundred moments, from its start to its end; a disk that
 # is full from one write to WORK on, for writes spread over the run; reads of WORK that fail once or now and then, that are interrupted and
-# that come short; and, where gcc makes a library, a run over files and cases of `crates/fault_runs` with each allocation refused in turn.
+# that come short; and, where gcc makes a library, a run and a guarded run over files, with what goes on from its vault, and cases of
+# `crates/fault_runs`, with each allocation refused in turn.
 # Prints a line for each case. Not in the gate; what `tests/edge.sh` tries isn't tried here again. Takes some minutes, and each part is
 # bounded in time.
 #
@@ -407,12 +408,49 @@ growths_of_files() {
     tell "a run over files, each of $count allocations refused: $refused ended with 12" "${wrong:+; wrong$wrong}"
 }
 
+# A guarded run over real files with each allocation refused in turn: it ends well, by want of memory or by a fault, and what goes on from its
+# vault finds the checkpoint that it said last or the next one, and none only where it said none. The counting image says its first number
+# behind its first checkpoint, and is kept each 125 bytecodes.
+growths_of_checkpoints() {
+    "$loom" asm "$top/docs/counter.text" objects counter 2>/dev/null || { tell 'the counting image' '; it is not assembled'; return; }
+    words="counter none objects guarded drawn 4096 512 1024 1000 vault"
+    env LD_PRELOAD="$work/refused.so" REFUSED_COUNT=allocations "$loom" guard $words >/dev/null 2>&1 </dev/null
+    count=$(cat allocations)
+    wrong=
+    refused=0
+    for nth in $(seq 1 "$count"); do
+        rm -f vault guarded drawn went_on
+        env LD_PRELOAD="$work/refused.so" REFUSED="$nth" timeout 60 "$loom" guard $words >now_said 2>told </dev/null
+        code=$?
+        case $code in
+            0 | 9 | 10 | 11 | 15) ;;
+            12) refused=$((refused + 1)) ;;
+            *) wrong="$wrong $nth" ;;
+        esac
+        said=$(wc -l <now_said)
+        "$loom" resume vault none objects went_on drawn 4096 512 1024 0 >/dev/null 2>told </dev/null
+        case $? in
+            0)
+                clock=$(dd if=went_on bs=1 skip=16 count=4 2>/dev/null | od -An -tu1 | awk '{ print (($1 * 256 + $2) * 256 + $3) * 256 + $4 }')
+                was=$(((clock + 117) / 125))
+                [ "$clock" -eq $((125 * was - 117)) ] && { [ "$was" -eq "$said" ] || [ "$was" -eq $((said + 1)) ]; } || wrong="$wrong $nth"
+                ;;
+            16) [ "$said" -eq 0 ] || wrong="$wrong $nth" ;;
+            15) [ "$said" -eq 0 ] && [ ! -e vault ] || wrong="$wrong $nth" ;;
+            *) wrong="$wrong $nth" ;;
+        esac
+    done
+    [ "$refused" -gt 0 ] || wrong="$wrong (none ended with 12)"
+    tell "a guarded run over files, each of $count allocations refused: $refused ended with 12" "${wrong:+; wrong$wrong}"
+}
+
 try_growths() {
     if ! refusing || ! LD_PRELOAD="$work/refused.so" true 2>/dev/null; then
         skip 'allocations that are refused' 'no compiler makes a library'
         return
     fi
     growths_of_files
+    growths_of_checkpoints
     if [ ! -x "$fault_runs" ]; then
         skip 'allocations that are refused' "there is no program $fault_runs; rt ci builds it"
         return
