@@ -87,7 +87,7 @@ pub record KeptAt (way : Way) (tells : Role → Bool) (told : Bool) (before now 
   pub run : IsTrue (is_told way tells told) → IsTrue (tells Events) → IsTrue (tells Work) → IsTrue (reaches Running stage)
       → GuardedOf (image_by way now start point) (bytes_of (now.roles Events)) row.steps (serial_of point) (GuardComes tells told before now new row stage result)
   -- The theorem on stops. From when that checkpoint was found, a stop at any moment leaves the checkpoint that was answered last, or the one that was under
-  -- way, whole, and no other; the serial of the one that was answered last never falls. Each is the image of the model's guarded run at a bytecode that did 97.
+  -- way, whole, and no other; the serial of the one that was answered last never falls. Each that this run kept is the model's guarded run's, at a bytecode that did 97.
   pub stops : IsTrue told → (last : ℕ) × Keeps start new.state last (λ serial kept.
       IsTrue (is_told way tells told) → IsTrue (tells Events) → IsTrue (tells Work) → IsCheckpointOf (image_by way now start point) (bytes_of (now.roles Events)) row.steps (serial_of point) serial kept)
 

@@ -83,8 +83,8 @@ pub record IsUnopened (old new : VaultState) : Type 0 where
   pub began : new.began ≡ old.began
   pub calls : (new.calls ≡ old.calls) ⊎ ((left : List ℕ) × (new.calls ≡ old.calls ++ Opened false left ∷ []))
 
--- What a run that is refused leaves of it. A resumed one leaves what the vault held, and what a stop could leave of it. Where a guarded one has opened it afresh, nothing of what was
--- there is left, and no stop since then leaves a checkpoint.
+-- What a run that is refused leaves of it. A resumed one leaves what the vault held, and what a stop could leave of it. Where a guarded one has opened it
+-- afresh, nothing of what was there is left, and no stop since then leaves a checkpoint.
 abbrev pub LeavesVault : Way → VaultState → VaultState → Type 0
 LeavesVault Guarding old new = IsNew old new ⊎ IsUnopened old new
 LeavesVault Resuming old new = IsKept old new

@@ -9,7 +9,7 @@
 //!
 //! A guarded run has the stages of a run, with the vault opened before the first of them (`vaults`). The image of a resumed run is read from the vault
 //! (`resuming`). From there both are one (`program`): the machine runs leg by leg (`legs`, `memories`, `keeping`, `guarded`), each over a memory of its own, and the
-//! steps that write are those of loom_run. When a run comes to the model's own end say the laws in `laws`. Nothing is said of Work after a stop.
+//! steps that write are those of loom_run. What it comes to in eight lines (`specs/Headline.antt`), and when to the model's own end, say the laws in `laws`. Nothing is said of Work after a stop.
 #![tactic(auto)]
 
 mod guarded;
