@@ -2,8 +2,8 @@
 use Rattle.std.proofs.Common.{◌≡◌, inl, ℕ, ◌+◌, ◌*◌, ◌/◌, ◌%◌, ◌<◌, ◌≤◌, ◌++◌, List, [], length, length-append, length-take, take, drop, take-append-drop, Result, Ok, Err, OnOk, sym, ap, ap₂, ◌∙◌, append_assoc, arith}
 use Rattle.std.proofs.lemmas.List.{append-nil, nil_from_length, take_all, take_at}
 use Rattle.std.proofs.lemmas.Nat.{div-add-mod', mod_below}
-use Rattle.loom_outside.specs.Bytes.{overwritten, window}
-use Rattle.loom_outside.proofs.Windows.{byte_after_outside, get_or-overwritten, window-overwritten_same}
+use Rattle.loom_host.specs.Bytes.{overwritten, window}
+use Rattle.loom_host.proofs.Windows.{byte_after_outside, get_or-overwritten, window-overwritten_same}
 use Rattle.checkpoint.specs.Layout.{area_in, block_place, image_place}
 use Rattle.checkpoint.specs.declared.layout.TheConstants.{BLOCK}
 use Rattle.checkpoint.proofs.LayoutLaws.{area_in-more, area_in-same}

@@ -1,7 +1,7 @@
 -- A vault where nothing stands but maybe at the bytes of the gates: no stop leaves a checkpoint.
 use Rattle.std.proofs.Common.{◌≡◌, ◌≢◌, ◌⊎◌, inl, inr, ℕ, ◌+◌, ◌-◌, ◌<◌, ◌≤◌, List, [], ◌∷◌, get_or, None, true, Result, Ok, Err, is_ok, OnOk, ap, ◌∙◌, arith}
 use Rattle.std.proofs.lemmas.Bool.{false≢true}
-use Rattle.loom_outside.proofs.Windows.{get_or-overwritten, byte_after_inside}
+use Rattle.loom_host.proofs.Windows.{get_or-overwritten, byte_after_inside}
 use Rattle.checkpoint.specs.Layout.{found, gate_in}
 use Rattle.checkpoint.specs.Vault.{VaultState, Extends, IsEmpty, IsSynced, IsWritten, MayLeave, Throughout, contents_of}
 use Rattle.checkpoint.specs.declared.layout.TheConstants.{GATE_GAP}

@@ -3,8 +3,8 @@ use Rattle.std.proofs.Common.{◌≡◌, ◌≢◌, ◌==◌, ◌⊎◌, Bool, t
 use Rattle.std.proofs.lemmas.Bool.Decides.{nat_tests}
 use Rattle.byteorder.specs.Endian.{big_bytes, big_number}
 use Rattle.byteorder.specs.Numbers.{big_number-reads_back}
-use Rattle.loom_outside.specs.Bytes.{overwritten, window}
-use Rattle.loom_outside.proofs.Windows.{get_or-overwritten, get_or-window, byte_after_inside, window-overwritten_same}
+use Rattle.loom_host.specs.Bytes.{overwritten, window}
+use Rattle.loom_host.proofs.Windows.{get_or-overwritten, get_or-window, byte_after_inside, window-overwritten_same}
 use Rattle.checkpoint.specs.Inside.{HasHead, head_of}
 use Rattle.checkpoint.specs.Layout.{area_in, image_place, number_at}
 use Rattle.checkpoint.specs.Sparing.{IsApart, IsButByte, Spares}

@@ -1,7 +1,7 @@
 -- A slice that is read from, and what is carried of the host inside.
 use Rattle.std.proofs.Common.{◌≡◌, ℕ, ◌+◌, ◌-◌, ◌≤◌, List, [], ◌∷◌, ◌++◌, Option, None, Some, length, take, drop, refl, ap, ◌∙◌, arith}
 use Rattle.std.proofs.lemmas.Grind.{elements, common_steps}
-use Rattle.loom_outside.specs.Outside.{RoleState, Took}
+use Rattle.loom_host.specs.Outside.{RoleState, Took}
 use Rattle.checkpoint.specs.ImageHost.{carried, joined, list_of_list, list_of_number, lists_of, unread}
 
 abbrev pub with_both : List ℕ → ℕ → List ℕ → List ℕ → RoleState

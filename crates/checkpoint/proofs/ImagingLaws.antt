@@ -10,9 +10,9 @@ use Rattle.object_record.proofs.Records.{longest-raw}
 use Rattle.disk_objects.specs.Disk.{with_count}
 use Rattle.image_writer.proofs.PutsLaws.{more_text}
 use Rattle.image_writer.proofs.RecordTexts.{long_text, recounted}
-use Rattle.loom_outside.specs.Work.{IsWorkRead}
-use Rattle.loom_outside.specs.declared.outside.DiskFault.TheVariants as disk
-use Rattle.loom_outside.specs.declared.outside.Host.{Ghosts}
+use Rattle.loom_host.specs.Work.{IsWorkRead}
+use Rattle.loom_host.specs.declared.outside.DiskFault.TheVariants as disk
+use Rattle.loom_host.specs.declared.outside.Host.{Ghosts}
 use Rattle.checkpoint.specs.Area.{IsBegun, text_of}
 use Rattle.checkpoint.specs.Faults.{IsFailed, IsKeepFault}
 use Rattle.checkpoint.specs.Layout.{area_in}

@@ -6,10 +6,10 @@ use Rattle.std.proofs.lemmas.List.{length-map}
 use Rattle.long_names.specs.Counting.{Rose}
 use Rattle.long_names.specs.Heap.{Has}
 use Rattle.long_names.specs.declared.object.Object.{Object}
-use Rattle.loom_outside.specs.Work.{IsWorkRead, work_of}
-use Rattle.loom_outside.specs.declared.outside.DiskFault.TheVariants as disk
-use Rattle.loom_outside.specs.declared.outside.Host.{Ghosts}
-use Rattle.loom_outside.specs.declared.outside.Role.TheVariants.{Work}
+use Rattle.loom_host.specs.Work.{IsWorkRead, work_of}
+use Rattle.loom_host.specs.declared.outside.DiskFault.TheVariants as disk
+use Rattle.loom_host.specs.declared.outside.Host.{Ghosts}
+use Rattle.loom_host.specs.declared.outside.Role.TheVariants.{Work}
 use Rattle.work_directory.specs.Directory.{held_of}
 use Rattle.work_directory.specs.declared.limits.TheConstants.{MOST_NAMES}
 use Rattle.disk_objects.specs.Calls.{HoldsObjects, IsNamesFault}

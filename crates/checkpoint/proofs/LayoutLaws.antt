@@ -6,8 +6,8 @@ use Rattle.std.proofs.lemmas.Nat.{div-add-mod', div-mul-add, mod-mul-add, mod_be
 use Rattle.std.proofs.lemmas.Bool.Decides.{nat_tests}
 use Rattle.std.specs.List.{range_with_len}
 use Rattle.byteorder.specs.Endian.{big_from, big_number}
-use Rattle.loom_outside.specs.Bytes.{window}
-use Rattle.loom_outside.proofs.Windows.{below_or_past, get_or-window, length-window, window-window}
+use Rattle.loom_host.specs.Bytes.{window}
+use Rattle.loom_host.proofs.Windows.{below_or_past, get_or-window, length-window, window-window}
 use Rattle.checkpoint.specs.declared.layout.TheConstants.{AREAS_AT, BLOCK, GATE_BYTES, GATE_GAP, LENGTH_AT, SERIAL_AT}
 use Rattle.checkpoint.specs.declared.layout.Gate.{Gate}
 use Rattle.checkpoint.specs.declared.point.Point.{Point}

@@ -1,10 +1,10 @@
 -- What the calls of a vault in memory did, by what its journal says.
 use Rattle.std.proofs.Common.{◌≡◌, ◌⊎◌, inl, inr, ℕ, ◌+◌, ◌<◌, ◌≤◌, false, List, [], ◌∷◌, length, Option, Result, Ok, Err, OnOk, OnErr, IsErr, ap, ◌∙◌, subst, arith}
 use Rattle.std.proofs.lemmas.Bool.{false≢true}
-use Rattle.loom_outside.specs.Bytes.{overwritten}
-use Rattle.loom_outside.proofs.Windows.{get_or-overwritten, byte_after_outside}
-use Rattle.loom_outside.specs.Outside.{HasCause}
-use Rattle.loom_outside.specs.declared.outside.Failed.{Failed}
+use Rattle.loom_host.specs.Bytes.{overwritten}
+use Rattle.loom_host.proofs.Windows.{get_or-overwritten, byte_after_outside}
+use Rattle.loom_host.specs.Outside.{HasCause}
+use Rattle.loom_host.specs.declared.outside.Failed.{Failed}
 use Rattle.checkpoint.specs.Memory.{opened_as}
 use Rattle.checkpoint.specs.Vault.{VaultState, Written, IsSameOutside, IsWritten, behind, contents_of}
 

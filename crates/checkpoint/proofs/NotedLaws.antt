@@ -2,7 +2,7 @@
 use Rattle.std.proofs.Common.{◌≡◌, ℕ, zero, suc, inl, inr, ◌+◌, ◌-◌, ◌<◌, min, Bool, true, not, cond, List, [], ◌∷◌, ◌++◌, length, map, get_or, take, drop, reverse, None, refl, sym, ap, ◌∙◌, arith}
 use Rattle.std.proofs.lemmas.Bool.{and_parts, and_from}
 use Rattle.std.proofs.lemmas.List.{get_or_past, length-drop, length-map, length-reverse, map-append, reverse-append, take-append-drop, take_at, take_more, take_rest}
-use Rattle.loom_outside.specs.Bytes.{overwritten}
+use Rattle.loom_host.specs.Bytes.{overwritten}
 use Rattle.checkpoint.specs.Noted.{began_of, call_by, calls_from, run_of, spans}
 use Rattle.checkpoint.specs.Torn.{but_first, torn}
 use Rattle.checkpoint.specs.Vault.{Call, Written, Span, VaultState, MayLeave, behind, contents_after, contents_of, is_in, is_synced, left_by, unsynced_after, unsynced_by, unsynced_of}
@@ -10,7 +10,7 @@ use Rattle.checkpoint.specs.declared.noted.Noted.{Noted}
 use Rattle.checkpoint.specs.declared.noted.Range.{Range}
 use Rattle.checkpoint.proofs.Losses.{get_or-torn, length-torn, torn-more}
 use Rattle.checkpoint.proofs.MomentLaws.{contents-push, unsynced-push}
-use Rattle.loom_outside.proofs.Windows.{below_or_past}
+use Rattle.loom_host.proofs.Windows.{below_or_past}
 
 abbrev pub state_with : List ℕ → List ℕ → List Noted → VaultState
 state_with bytes began noted = record { openings = 0; name = None; began = began_of bytes began noted; calls = calls_from began noted }

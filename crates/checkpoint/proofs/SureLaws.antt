@@ -2,8 +2,8 @@
 use Rattle.std.proofs.Common.{◌≡◌, ◌⊎◌, inl, inr, ⊎_elim, ℕ, ◌+◌, ◌<◌, ◌≤◌, ◌&&◌, Bool, true, not, List, [], ◌∷◌, length, get_or, Result, Ok, Err, OnOk, OnErr, refl, sym, ap, ◌∙◌, subst, arith}
 use Rattle.std.proofs.lemmas.Bool.{false≢true}
 use Rattle.std.proofs.lemmas.Bool.Decides.{nat_tests}
-use Rattle.loom_outside.specs.Bytes.{overwritten}
-use Rattle.loom_outside.proofs.Windows.{get_or-overwritten, byte_after_outside}
+use Rattle.loom_host.specs.Bytes.{overwritten}
+use Rattle.loom_host.proofs.Windows.{get_or-overwritten, byte_after_outside}
 use Rattle.checkpoint.specs.Sparing.{Sure}
 use Rattle.checkpoint.specs.Vault.{Span, VaultState, Run, DoesNothing, IsEmpty, IsSynced, IsWritten, MayLeave, Writes, contents_of, is_in, is_synced, unsynced_of}
 use Rattle.checkpoint.proofs.MomentLaws.{contents-behind, unsynced-behind}

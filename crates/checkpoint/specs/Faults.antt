@@ -1,7 +1,7 @@
 -- Why a call over a vault was refused.
 use Rattle.std.specs.Prelude.{◌≡◌, ℕ, Bool, IsTrue, List, Some}
 use Rattle.long_names.specs.Counting.{Rose}
-use Rattle.loom_outside.specs.declared.outside.Host.{Ghosts}
+use Rattle.loom_host.specs.declared.outside.Host.{Ghosts}
 use Rattle.disk_objects.specs.declared.names.NamesFault.{NamesFault}
 use Rattle.disk_objects.specs.declared.names.NamesFault.TheVariants as names
 use Rattle.image_writer.specs.Puts.{IsDiskFault}

@@ -1,9 +1,9 @@
 -- A host whose Image is a slice, as its caller knows it.
 use Rattle.std.specs.Prelude.{ℕ, Bool, true, List, [], ◌∷◌, ◌++◌, length, take, drop, Option, None, Some}
-use Rattle.loom_outside.specs.Outside.{RoleState, at_start}
-use Rattle.loom_outside.specs.declared.outside.Host.{Ghosts}
-use Rattle.loom_outside.specs.declared.outside.Role.{Role}
-use Rattle.loom_outside.specs.declared.outside.Role.TheVariants.{Image}
+use Rattle.loom_host.specs.Outside.{RoleState, at_start}
+use Rattle.loom_host.specs.declared.outside.Host.{Ghosts}
+use Rattle.loom_host.specs.declared.outside.Role.{Role}
+use Rattle.loom_host.specs.declared.outside.Role.TheVariants.{Image}
 use Rattle.checkpoint.specs.declared.image_host.ImageHost.{ImageHost}
 
 -- this for Image, and what there is for each other role

@@ -4,8 +4,8 @@ use Rattle.std.specs.List.{flat_map}
 use Rattle.byteorder.specs.Endian.{big_bytes}
 use Rattle.long_names.specs.Counting.{Rose}
 use Rattle.long_names.specs.Heap.{Heap, Has}
-use Rattle.loom_outside.specs.declared.outside.Host.{Ghosts}
-use Rattle.loom_outside.specs.declared.outside.Role.TheVariants.{Work}
+use Rattle.loom_host.specs.declared.outside.Host.{Ghosts}
+use Rattle.loom_host.specs.declared.outside.Role.TheVariants.{Work}
 use Rattle.image_format.specs.Heads.{opening_text, state_text}
 use Rattle.image_format.specs.declared.opening.State.{State}
 use Rattle.disk_objects.specs.declared.rest.DiskRest.{DiskRest}

@@ -2,7 +2,7 @@
 use Rattle.std.specs.Prelude.{ℕ, ◌+◌, ◌*◌, ◌/◌, ◌%◌, ◌&&◌, ◌||◌, ◌==◌, Bool, not, List, Option, Some, None, map, slice_index, nat_le, nat_lt, if◌then◌else◌, ◌<◌, ◌≤◌}
 use Rattle.std.specs.List.{range_with_len}
 use Rattle.byteorder.specs.Endian.{big_number}
-use Rattle.loom_outside.specs.Bytes.{window}
+use Rattle.loom_host.specs.Bytes.{window}
 use Rattle.checkpoint.specs.declared.layout.TheConstants.{AREAS_AT, BLOCK, GATE_GAP, LENGTH_AT, LEAST_LENGTH, MOST_LENGTH, SERIAL_AT, SERIAL_END}
 use Rattle.checkpoint.specs.declared.layout.Gate.{Gate}
 use Rattle.checkpoint.specs.declared.point.Point.{Point}

@@ -8,7 +8,6 @@ pub mod Keeping
 pub mod Layout
 pub mod Memory
 pub mod Noted
-pub mod Real
 pub mod Sparing
 pub mod Torn
 pub mod Vault

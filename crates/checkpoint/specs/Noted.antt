@@ -1,6 +1,6 @@
 -- What is told of calls that were noted.
 use Rattle.std.specs.Prelude.{ℕ, ◌+◌, true, false, List, [], ◌∷◌, length, map, reverse}
-use Rattle.loom_outside.specs.Bytes.{overwritten}
+use Rattle.loom_host.specs.Bytes.{overwritten}
 use Rattle.checkpoint.specs.Vault.{Call, Opened, Written, Synced, Span, Run, left_by}
 use Rattle.checkpoint.specs.declared.noted.Noted.{Noted}
 use Rattle.checkpoint.specs.declared.noted.Noted.TheVariants as noted

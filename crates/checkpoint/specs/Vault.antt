@@ -1,7 +1,7 @@
 -- What a vault tells of itself, and what a stop may leave of it.
 use Rattle.std.specs.Prelude.{◌≡◌, ℕ, ◌+◌, ◌≤◌, ◌<◌, ◌&&◌, Bool, true, false, not, List, [], ◌∷◌, ◌++◌, ◌⊎◌, Option, None, Some, IfSome, Result, IsErr, OnOk, OnErr, is_ok, length, take, slice_index, nat_le, nat_lt, if◌then◌else◌}
 use Rattle.long_names.specs.Counting.{counted}
-use Rattle.loom_outside.specs.Bytes.{overwritten}
+use Rattle.loom_host.specs.Bytes.{overwritten}
 
 -- A call behind which a stop may leave other bytes than before it: whether it answered Ok, and the contents that it left.
 pub data Call : Type 0 where

@@ -1,6 +1,6 @@
 // Calls on a vault, each refused with its count of faults.
 ghost use Rattle.std.specs.Prelude.{◌≡◌, ◌≤◌, length, IsTrue, OnOk, IfErr};
-ghost use Rattle.loom_outside.specs.Bytes.{window};
+ghost use Rattle.loom_host.specs.Bytes.{window};
 ghost use Rattle.checkpoint.specs.Faults.{IsFailed};
 ghost use Rattle.checkpoint.specs.Vault.{IsSynced, IsWritten, contents_of};
 

@@ -4,7 +4,7 @@ ghost use Rattle.checkpoint.specs.Faults.{fault_of_names};
 ghost use Rattle.checkpoint.specs.declared.fault.VaultFault.TheVariants as fault;
 
 use disk_objects::NamesFault;
-use loom_outside::DiskFault;
+use loom_host::DiskFault;
 use std::alloc::AllocError;
 
 /// Why a checkpoint was not kept, or was not found or read.

@@ -1,7 +1,7 @@
 // A host whose Image is a slice, over another host.
 ghost use Rattle.std.specs.Prelude.{◌≤◌, length};
 
-use loom_outside::{Failed, Host, Role};
+use loom_host::{Failed, Host, Role};
 
 /// A host over another, with a slice as its Image: so an image in memory is read as an image file is. A read of Image takes the slice's next
 /// bytes, and never fails. Every other role is the other host's, call by call.
@@ -22,8 +22,8 @@ pub struct ImageHost<'a, H: Host> {
 #[tactic(auto, unfolding(crate::specs::ImageHost::host_of, crate::specs::ImageHost::image_of))]
 impl<'a, H: Host> ImageHost<'a, H> {
     ghost use Rattle.std.specs.Prelude.{◌≡◌, ◌≢◌, ℕ, min};
-    ghost use Rattle.loom_outside.specs.Outside.{RoleState, Took};
-    ghost use Rattle.loom_outside.specs.declared.outside.Role.{Role};
+    ghost use Rattle.loom_host.specs.Outside.{RoleState, Took};
+    ghost use Rattle.loom_host.specs.declared.outside.Role.{Role};
     ghost use Rattle.checkpoint.specs.ImageHost.{faults_over, host_of, image_of, carried, roles_over, unread};
 
     /// This host with a slice as its Image.
@@ -71,8 +71,8 @@ impl<'a, H: Host> ImageHost<'a, H> {
 #[tactic(auto, unfolding(crate::specs::ImageHost::host_of, crate::specs::ImageHost::image_of))]
 impl<'a, H: Host> Host for ImageHost<'a, H> {
     ghost use Rattle.std.specs.Prelude.{◌≡◌, ◌<◌, IfOk, OnErr, IsOk, IsTrue};
-    ghost use Rattle.loom_outside.specs.Outside.{CanRead, HasCause, SameBut, Took, TookSome};
-    ghost use Rattle.loom_outside.specs.declared.outside.Role.{Role};
+    ghost use Rattle.loom_host.specs.Outside.{CanRead, HasCause, SameBut, Took, TookSome};
+    ghost use Rattle.loom_host.specs.declared.outside.Role.{Role};
     ghost use Rattle.checkpoint.specs.ImageHost.{faults_over, roles_over, tells_over, writes_over};
 
     ghost tells = { tells_over H.Host };

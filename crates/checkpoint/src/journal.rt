@@ -5,7 +5,7 @@ ghost use Rattle.checkpoint.specs.Vault.{contents_after, unsynced_after};
 
 use crate::losing::lose;
 use crate::noted::{Noted, Range};
-use loom_outside::{read_bytes_at, write_bytes_at};
+use loom_host::{read_bytes_at, write_bytes_at};
 use std::alloc::{AllocError, Global};
 
 #[derive(Drop)]
@@ -25,7 +25,7 @@ pub struct Journal {
 #[tactic(auto, unfolding(crate::specs::Journal::state_in))]
 impl Journal {
     ghost use Rattle.std.specs.Prelude.{◌+◌, ◌<◌, ◌∷◌, true, false, length, vec_len, vec_capacity, OnOk, OnErr};
-    ghost use Rattle.loom_outside.specs.Bytes.{overwritten, window};
+    ghost use Rattle.loom_host.specs.Bytes.{overwritten, window};
     ghost use Rattle.checkpoint.specs.Journal.{state_in};
     ghost use Rattle.checkpoint.specs.Torn.{but_first, torn};
     ghost use Rattle.checkpoint.specs.Vault.{Opened, Synced, Written, at_start, behind, contents_of, unsynced_of};

@@ -1,6 +1,6 @@
 //! Laws of what stands in a vault, and of what a stop may leave of it. No code calls these functions: what each of them ensures is the law.
 ghost use Rattle.std.specs.Prelude.{◌≡◌, ◌≢◌, ◌+◌, ◌*◌, ◌≤◌, ◌<◌, ℕ, Bool, List, Option, None, Some, [], true, false, IsTrue, Result, OnOk, length, slice_index};
-ghost use Rattle.loom_outside.specs.declared.outside.Failed.{Failed};
+ghost use Rattle.loom_host.specs.declared.outside.Failed.{Failed};
 ghost use Rattle.checkpoint.specs.History.{AnyImage, IsItsImage, Keeps, serial_in};
 ghost use Rattle.checkpoint.specs.Keeping.{HasEither, IsLast, serial_of};
 ghost use Rattle.checkpoint.specs.Layout.{area_in, bad_place, found, image_place, is_bad, is_open, point_of};

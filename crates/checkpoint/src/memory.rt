@@ -1,15 +1,15 @@
 // A vault in memory, for tests. It tells all, and fails and stops where it is told to.
 ghost use Rattle.std.specs.Prelude.{◌≡◌, ◌-◌, true, false, None, Some, length, IsTrue, IsOk, IsErr, OnOk, IfOk};
 ghost use Rattle.std.specs.Option.{option_map};
-ghost use Rattle.loom_outside.specs.Bytes.{window};
-ghost use Rattle.loom_outside.specs.Outside.{HasCause};
+ghost use Rattle.loom_host.specs.Bytes.{window};
+ghost use Rattle.loom_host.specs.Outside.{HasCause};
 ghost use Rattle.long_names.specs.Counting.{counted};
 ghost use Rattle.checkpoint.specs.Memory.{OneCall, faults_of, fuse_of, state_of, stopped};
 ghost use Rattle.checkpoint.specs.Vault.{IsOpened, IsSynced, IsWritten, MayLeave, MayOpen, at_start, contents_of};
 
 use crate::journal::Journal;
 use crate::vault::Vault;
-use loom_outside::Failed;
+use loom_host::Failed;
 use std::alloc::{AllocError, Global};
 
 /// A vault in memory, which tells all. Its calls fail where its fuse is out, and else only for want of memory; a write that the fuse fails

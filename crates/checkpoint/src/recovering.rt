@@ -1,6 +1,6 @@
 // The checkpoint that a vault has.
 ghost use Rattle.std.specs.Prelude.{◌≡◌, ◌≤◌, ◌<◌, ◌++◌, false, None, [], length, vec_len, IsTrue, IfOk, OnOk, IfErr, IfSome};
-ghost use Rattle.loom_outside.specs.Bytes.{window};
+ghost use Rattle.loom_host.specs.Bytes.{window};
 ghost use Rattle.checkpoint.specs.Faults.{IsReadFault, IsRecoverFault};
 ghost use Rattle.checkpoint.specs.Inside.{IsGateFault};
 ghost use Rattle.checkpoint.specs.Layout.{IsPoint, bad_place, found, gate_in, image_in, is_bad, later_of, point_of};

@@ -1,10 +1,10 @@
 // What keeps checkpoints.
 ghost use Rattle.std.specs.Prelude.{◌≡◌, Bool, ℕ, IsTrue, OnOk, length};
-ghost use Rattle.loom_outside.specs.Bytes.{window};
-ghost use Rattle.loom_outside.specs.Outside.{HasCause};
+ghost use Rattle.loom_host.specs.Bytes.{window};
+ghost use Rattle.loom_host.specs.Outside.{HasCause};
 ghost use Rattle.checkpoint.specs.Vault.{IsOpened, IsSynced, IsWritten, VaultState, contents_of};
 
-use loom_outside::Failed;
+use loom_host::Failed;
 
 /// Bytes by their places, of which those that are synced outlive a stop. It counts its failures, up to the greatest u64. It may also tell
 /// what it holds, and which of its calls a stop may undo.

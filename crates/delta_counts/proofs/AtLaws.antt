@@ -1,7 +1,7 @@
 -- Parts and a disk that stand for levels, when a count is lowered.
 use Rattle.std.proofs.Common.{◌≡◌, ℕ, ◌+ℤ◌, true, List, Option, Some, None, sym, ◌∙◌, ap, subst}
 use Rattle.std.specs.Prelude.{negsuc}
-use Rattle.loom_outside.specs.declared.outside.Host.{Ghosts}
+use Rattle.loom_host.specs.declared.outside.Host.{Ghosts}
 use Rattle.disk_objects.specs.declared.rest.DiskRest.{DiskRest}
 use Rattle.object_table.specs.declared.entry.Entry.{Entry}
 use Rattle.object_table.specs.Entries.{is_used}

@@ -1,7 +1,7 @@
 -- One dead name is freed, or none is dead without a body.
 use Rattle.std.proofs.Common.{◌≡◌, inl, ℕ, Bool, true, false, None, [], Result, Ok, Err, IfOk, sym, ◌∙◌, ap, subst, arith}
 use Rattle.long_names.specs.Heap.{Has, without, count_of}
-use Rattle.loom_outside.specs.declared.outside.Host.{Ghosts}
+use Rattle.loom_host.specs.declared.outside.Host.{Ghosts}
 use Rattle.object_table.specs.Table.{entries_of}
 use Rattle.disk_objects.specs.declared.rest.DiskRest.{DiskRest}
 use Rattle.core_segment.specs.Chunks.{Chunk}

@@ -2,8 +2,8 @@
 use Rattle.std.proofs.Common.{◌≡◌, inl, inr, ℕ, ◌*◌, ◌<◌, ◌≤◌, Bool, List, Result, Ok, Err, IfErr, sym, subst, arith}
 use Rattle.long_names.specs.Counting.{Rose}
 use Rattle.long_names.specs.declared.value.Value.{Value}
-use Rattle.loom_outside.specs.declared.outside.DiskFault.{DiskFault}
-use Rattle.loom_outside.specs.declared.outside.DiskFault.TheVariants as fault
+use Rattle.loom_host.specs.declared.outside.DiskFault.{DiskFault}
+use Rattle.loom_host.specs.declared.outside.DiskFault.TheVariants as fault
 use Rattle.work_directory.specs.declared.limits.TheConstants.{SLOT_BYTES}
 use Rattle.work_space.specs.declared.limits.TheConstants.{LAST_END}
 use Rattle.disk_objects.specs.declared.rest.DiskRest.{DiskRest}

@@ -4,11 +4,11 @@ use Rattle.std.specs.Prelude.{negsuc, option_map, unsigned_abs}
 use Rattle.std.specs.Int.{w64, FitsUnsigned}
 use Rattle.std.specs.FinMap as map
 use Rattle.std.proofs.lemmas.Int.{ints}
-use Rattle.loom_outside.specs.declared.outside.Host.{Ghosts}
+use Rattle.loom_host.specs.declared.outside.Host.{Ghosts}
 use Rattle.object_table.specs.declared.entry.Entry.{Entry}
 use Rattle.object_table.specs.Entries.{put}
 use Rattle.object_table.specs.Table.{entry_at}
-use Rattle.loom_outside.specs.Work.{work_of}
+use Rattle.loom_host.specs.Work.{work_of}
 use Rattle.disk_objects.specs.declared.rest.DiskRest.{DiskRest}
 use Rattle.disk_objects.specs.Disk.{DiskObject, Objects, IsDisk}
 use Rattle.disk_objects.specs.Calls.{CanChange, changed_by}

@@ -3,11 +3,11 @@ use Rattle.std.proofs.Common.{◌≡◌, ℕ, ◌≤◌, Bool, true, false, List
 use Rattle.std.specs.Prelude.{IsSome}
 use Rattle.std.specs.FinMap as map
 use Rattle.long_names.specs.declared.object.Object.{Object}
-use Rattle.loom_outside.specs.declared.outside.Host.{Ghosts}
+use Rattle.loom_host.specs.declared.outside.Host.{Ghosts}
 use Rattle.object_record.specs.Buffer.{raw_of}
 use Rattle.object_record.specs.Objects.{object_in}
 use Rattle.object_table.specs.Entries.{put}
-use Rattle.loom_outside.specs.Work.{work_of, IsWorkRead}
+use Rattle.loom_host.specs.Work.{work_of, IsWorkRead}
 use Rattle.disk_objects.specs.declared.rest.DiskRest.{DiskRest}
 use Rattle.disk_objects.specs.Disk.{DiskObject, IsDisk}
 use Rattle.disk_objects.specs.Calls.{IsGot, HasObject, IsIdle, TookFirst}
@@ -27,7 +27,7 @@ use Rattle.counted_core.proofs.QueueLaws.{times-here, times-other}
 use Rattle.delta_counts.specs.At.{stored_of, IsAt, IsReached, IsFreedAt, MayGo, Drains, IsDrained}
 use Rattle.counted_core.specs.Steps.{with_pending}
 use Rattle.delta_counts.proofs.StoredLaws.{object-at, remove-same}
-use Rattle.loom_outside.proofs.WorkLaws.{work-same}
+use Rattle.loom_host.proofs.WorkLaws.{work-same}
 
 -- a read changes nothing
 pub at-read : {H : Type 0} (host : Ghosts H) (chunks : ℕ → Chunk) (p : Parts2) (was now : H) (before rest : DiskRest) (t : Levels) → IsWorkRead host was now → rest ≡ before → IsAt host chunks p was before t → IsAt host chunks p now rest t

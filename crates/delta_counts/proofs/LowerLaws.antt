@@ -6,9 +6,9 @@ use Rattle.std.specs.FinMap as map
 use Rattle.std.proofs.lemmas.Int.{ints}
 use Rattle.std.proofs.lemmas.Grind.{common_steps}
 use Rattle.long_names.specs.Names.{is_known}
-use Rattle.loom_outside.specs.declared.outside.Host.{Ghosts}
+use Rattle.loom_host.specs.declared.outside.Host.{Ghosts}
 use Rattle.object_table.specs.Entries.{put}
-use Rattle.loom_outside.specs.Work.{work_of}
+use Rattle.loom_host.specs.Work.{work_of}
 use Rattle.disk_objects.specs.declared.rest.DiskRest.{DiskRest}
 use Rattle.disk_objects.specs.Disk.{DiskObject, Objects, IsDisk}
 use Rattle.disk_objects.specs.Calls.{CanChange, IsIdle, changed_by}

@@ -7,7 +7,7 @@ use Rattle.long_names.specs.declared.value.Value.{Value}
 use Rattle.long_names.specs.declared.value.Value.TheVariants.{Int, Ref}
 use Rattle.long_names.specs.Objects.{name_of, fields_of}
 use Rattle.long_names.specs.Words.{IsSmallInteger, IsValue, long_word, small_integer_of, value_of}
-use Rattle.loom_outside.specs.declared.outside.Host.{Ghosts}
+use Rattle.loom_host.specs.declared.outside.Host.{Ghosts}
 use Rattle.object_record.specs.Raw.{RawRecord, longs_of}
 use Rattle.object_record.specs.Objects.{value_in, int_in, object_in}
 use Rattle.object_record.proofs.ObjectLaws.{value_in-long, fields-values}

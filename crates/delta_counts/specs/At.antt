@@ -9,9 +9,9 @@ use Rattle.long_names.specs.declared.value.Value.{Value}
 use Rattle.long_names.specs.Names.{is_known}
 use Rattle.long_names.specs.Heap.{Has, without, count_of}
 use Rattle.long_names.specs.Thin.{IsThinner}
-use Rattle.loom_outside.specs.declared.outside.Host.{Ghosts}
-use Rattle.loom_outside.specs.declared.outside.Role.TheVariants.{Work}
-use Rattle.loom_outside.specs.Work.{work_of}
+use Rattle.loom_host.specs.declared.outside.Host.{Ghosts}
+use Rattle.loom_host.specs.declared.outside.Role.TheVariants.{Work}
+use Rattle.loom_host.specs.Work.{work_of}
 use Rattle.object_record.specs.Objects.{object_in}
 use Rattle.disk_objects.specs.declared.rest.DiskRest.{DiskRest}
 use Rattle.disk_objects.specs.Disk.{DiskObject, Objects, IsDisk}

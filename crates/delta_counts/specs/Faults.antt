@@ -3,8 +3,8 @@ use Rattle.std.specs.Prelude.{◌≡◌, ◌⊎◌, ℕ, ◌<◌, List, Bool, Is
 use Rattle.long_names.specs.Counting.{Rose}
 use Rattle.long_names.specs.Words.{IsValue}
 use Rattle.long_names.specs.declared.value.Value.{Value}
-use Rattle.loom_outside.specs.declared.outside.DiskFault.{DiskFault}
-use Rattle.loom_outside.specs.declared.outside.DiskFault.TheVariants as fault
+use Rattle.loom_host.specs.declared.outside.DiskFault.{DiskFault}
+use Rattle.loom_host.specs.declared.outside.DiskFault.TheVariants as fault
 use Rattle.disk_objects.specs.declared.rest.DiskRest.{DiskRest}
 use Rattle.disk_objects.specs.Places.{IsReadPlace, IsSlotPlace}
 use Rattle.counted_core.specs.Counted.{words}

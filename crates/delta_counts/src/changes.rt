@@ -1,10 +1,10 @@
 // The change of a count in an entry, and one word less.
 ghost use Rattle.std.specs.Prelude.{◌≡◌, ◌+ℤ◌, ℕ, true, IsTrue, OnOk, IfErr};
-ghost use Rattle.loom_outside.specs.declared.outside.Role.{Role};
+ghost use Rattle.loom_host.specs.declared.outside.Role.{Role};
 ghost use Rattle.object_table.specs.Entries.{is_used};
 ghost use Rattle.object_table.specs.Table.{entry_at};
 ghost use Rattle.core_segment.specs.Chunks.{Chunk};
-ghost use Rattle.loom_outside.specs.Work.{IsWorkOnly};
+ghost use Rattle.loom_host.specs.Work.{IsWorkOnly};
 ghost use Rattle.disk_objects.specs.Calls.{IsFault};
 ghost use Rattle.disk_objects.specs.Places.{IsSlotPlace};
 ghost use Rattle.disk_objects.specs.Disk.{disk_room, disk_held};
@@ -16,7 +16,7 @@ ghost use Rattle.delta_counts.specs.At.{IsAt, AtSome, CanLower};
 use crate::stored::lower_stored;
 use disk_objects::DiskObjects;
 use long_names::Name;
-use loom_outside::{DiskFault, Host, Role};
+use loom_host::{DiskFault, Host, Role};
 use object_table::Short;
 use resident_table::Parts2;
 

@@ -1,8 +1,8 @@
 // One dead name is freed.
 ghost use Rattle.std.specs.Prelude.{◌≡◌, ◌+◌, ℕ, [], IsTrue, IfOk, IfErr};
-ghost use Rattle.loom_outside.specs.declared.outside.Role.{Role};
+ghost use Rattle.loom_host.specs.declared.outside.Role.{Role};
 ghost use Rattle.core_segment.specs.Chunks.{Chunk};
-ghost use Rattle.loom_outside.specs.Work.{IsWorkOnly};
+ghost use Rattle.loom_host.specs.Work.{IsWorkOnly};
 ghost use Rattle.disk_objects.specs.Disk.{disk_room, disk_held};
 ghost use Rattle.counted_core.specs.Levels.{Levels};
 ghost use Rattle.counted_core.specs.Counted.{IsSound};
@@ -14,7 +14,7 @@ ghost use Rattle.delta_counts.specs.Giving.{IsGiving};
 use crate::freeing::drain_pending;
 use crate::giving::give_idle;
 use disk_objects::DiskObjects;
-use loom_outside::{DiskFault, Host, Role};
+use loom_host::{DiskFault, Host, Role};
 use object_record::RecordBuf;
 use resident_table::Parts2;
 

@@ -1,9 +1,9 @@
 // Dead names that wait on disk are freed, one at a time.
 ghost use Rattle.std.specs.Prelude.{◌≡◌, ◌+◌, ◌≤◌, ℕ, [], false, IsTrue, OnOk, IfOk, IfErr};
-ghost use Rattle.loom_outside.specs.declared.outside.Role.{Role};
+ghost use Rattle.loom_host.specs.declared.outside.Role.{Role};
 ghost use Rattle.object_record.specs.Buffer.{HasRecord};
 ghost use Rattle.core_segment.specs.Chunks.{Chunk};
-ghost use Rattle.loom_outside.specs.Work.{IsWorkOnly};
+ghost use Rattle.loom_host.specs.Work.{IsWorkOnly};
 ghost use Rattle.disk_objects.specs.Disk.{disk_room, disk_held};
 ghost use Rattle.counted_core.specs.Levels.{Levels};
 ghost use Rattle.counted_core.specs.Counted.{IsSound};
@@ -14,7 +14,7 @@ ghost use Rattle.delta_counts.specs.At.{IsAt, AtSome, IsSoundWith, MayGo, IsFree
 use crate::words::lower_words;
 use disk_objects::DiskObjects;
 use long_names::Name;
-use loom_outside::{DiskFault, Host, Role};
+use loom_host::{DiskFault, Host, Role};
 use object_record::RecordBuf;
 use resident_table::Parts2;
 

@@ -1,10 +1,10 @@
 // Leaves to which nothing refers: their entries are given up.
 ghost use Rattle.std.specs.Prelude.{◌≡◌, ◌≢◌, ◌<◌, ◌↔◌, ℕ, true, [], IsTrue, OnOk, IfErr};
-ghost use Rattle.loom_outside.specs.declared.outside.Role.{Role};
+ghost use Rattle.loom_host.specs.declared.outside.Role.{Role};
 ghost use Rattle.object_table.specs.Entries.{is_short, free_entry};
 ghost use Rattle.object_table.specs.Table.{entry_at, entries_of, bound_of};
 ghost use Rattle.core_segment.specs.Chunks.{Chunk};
-ghost use Rattle.loom_outside.specs.Work.{IsWorkOnly};
+ghost use Rattle.loom_host.specs.Work.{IsWorkOnly};
 ghost use Rattle.disk_objects.specs.Calls.{IsFault, IsSlotsFault};
 ghost use Rattle.disk_objects.specs.Places.{IsSlotPlace};
 ghost use Rattle.disk_objects.specs.Disk.{disk_room, disk_held};
@@ -17,7 +17,7 @@ ghost use Rattle.delta_counts.specs.Giving.{IsIdleEntry, IsGiving, NoneIdleBelow
 
 use crate::folding::fold;
 use disk_objects::DiskObjects;
-use loom_outside::{DiskFault, Host, Role};
+use loom_host::{DiskFault, Host, Role};
 use object_table::Short;
 use resident_table::Parts2;
 

@@ -1,8 +1,8 @@
 // Counts on disk.
 ghost use Rattle.std.specs.Prelude.{◌≡◌, ℕ, List, Option, ◌-◌, IsTrue, OnOk, IfErr, option_map};
-ghost use Rattle.loom_outside.specs.declared.outside.Role.{Role};
+ghost use Rattle.loom_host.specs.declared.outside.Role.{Role};
 ghost use Rattle.object_table.specs.Entries.{put};
-ghost use Rattle.loom_outside.specs.Work.{IsWorkOnly};
+ghost use Rattle.loom_host.specs.Work.{IsWorkOnly};
 ghost use Rattle.disk_objects.specs.Calls.{IsFault};
 ghost use Rattle.disk_objects.specs.Places.{IsSlotPlace};
 ghost use Rattle.disk_objects.specs.Disk.{disk_room, disk_held};
@@ -13,7 +13,7 @@ ghost use Rattle.delta_counts.specs.At.{IsStoredAt};
 
 use disk_objects::DiskObjects;
 use long_names::Name;
-use loom_outside::{DiskFault, Host, Role};
+use loom_host::{DiskFault, Host, Role};
 
 // One less of the count of a name on disk, which has no entry. Where it falls to 0 and the name isn't known, it is pending then.
 pub(crate) fn lower_stored<H: Host>(

@@ -2,8 +2,8 @@
 ghost use Rattle.std.specs.Prelude.{◌≡◌, ◌≤◌, ℕ, List, [], ◌∷◌, map, IsTrue, OnOk, IfErr};
 ghost use Rattle.long_names.specs.Words.{IsValue};
 ghost use Rattle.long_names.specs.declared.value.Value.{Value as Meaning};
-ghost use Rattle.loom_outside.specs.declared.outside.Role.{Role};
-ghost use Rattle.loom_outside.specs.Work.{IsWorkOnly};
+ghost use Rattle.loom_host.specs.declared.outside.Role.{Role};
+ghost use Rattle.loom_host.specs.Work.{IsWorkOnly};
 ghost use Rattle.object_record.specs.Raw.{longs_of};
 ghost use Rattle.object_record.specs.Buffer.{HasRecord, raw_of};
 ghost use Rattle.object_record.specs.Objects.{value_in, object_in};
@@ -20,7 +20,7 @@ ghost use Rattle.delta_counts.specs.Faults.{AreValues, IsWordsFault};
 use crate::changes::lower;
 use disk_objects::DiskObjects;
 use long_names::{Name, Value, value_of};
-use loom_outside::{DiskFault, Host, Role};
+use loom_host::{DiskFault, Host, Role};
 use object_record::RecordBuf;
 use resident_table::Parts2;
 

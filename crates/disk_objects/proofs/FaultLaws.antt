@@ -2,11 +2,11 @@
 use Rattle.std.proofs.Common.{◌≡◌, ℕ, ◌*◌, ◌<◌, ◌≤◌, inl, inr, cond, Bool, true, false, Option, Some, None, Ok, Err, IfOk, IfErr, IsTrue, refl, sym, ap, subst, arith}
 use Rattle.std.specs.Prelude.{nat_le}
 use Rattle.std.proofs.lemmas.Bool.Decides.{nat_tests}
-use Rattle.loom_outside.specs.declared.outside.DiskFault.{DiskFault}
-use Rattle.loom_outside.specs.declared.outside.DiskFault.TheVariants.{Work, Full, Damaged}
-use Rattle.loom_outside.specs.declared.outside.Host.{Ghosts}
-use Rattle.loom_outside.specs.declared.outside.Role.TheVariants.{Work as OfWork}
-use Rattle.loom_outside.specs.Work.{IsWorkFault}
+use Rattle.loom_host.specs.declared.outside.DiskFault.{DiskFault}
+use Rattle.loom_host.specs.declared.outside.DiskFault.TheVariants.{Work, Full, Damaged}
+use Rattle.loom_host.specs.declared.outside.Host.{Ghosts}
+use Rattle.loom_host.specs.declared.outside.Role.TheVariants.{Work as OfWork}
+use Rattle.loom_host.specs.Work.{IsWorkFault}
 use Rattle.object_record.specs.Raw.{RawRecord}
 use Rattle.work_directory.specs.Directory.{end_of, slots_of, found_entry, IsOfName}
 use Rattle.work_directory.specs.Table.{Entry, entry_of}

@@ -6,9 +6,9 @@ use Rattle.std.specs.FinMap.{get-empty}
 use Rattle.std.specs.Ordering.{nat_cmp}
 use Rattle.long_names.specs.declared.limits.TheConstants.{LONGEST_RECORD}
 use Rattle.long_names.specs.Names.{IsLongName}
-use Rattle.loom_outside.specs.Bytes.{window}
-use Rattle.loom_outside.specs.declared.outside.DiskFault.{DiskFault}
-use Rattle.loom_outside.specs.declared.outside.DiskFault.TheVariants.{Work, Full, Damaged}
+use Rattle.loom_host.specs.Bytes.{window}
+use Rattle.loom_host.specs.declared.outside.DiskFault.{DiskFault}
+use Rattle.loom_host.specs.declared.outside.DiskFault.TheVariants.{Work, Full, Damaged}
 use Rattle.object_record.specs.Raw.{RawRecord, IsRawRecord}
 use Rattle.object_record.proofs.Calls.{length-text}
 use Rattle.object_record.proofs.Records.{longest-raw}
@@ -20,7 +20,7 @@ use Rattle.work_space.specs.Space.{IsSpace, from_of, end_of as space_end, first_
 use Rattle.work_space.proofs.BlockLaws.{put-at, some-inside}
 use Rattle.work_space.proofs.CountLaws.{end-most}
 use Rattle.work_space.proofs.FreeLaws.{out-within, linked-front, linked-none, times-at, times-there, times-more}
-use Rattle.loom_outside.specs.Work.{IsWorkFault}
+use Rattle.loom_host.specs.Work.{IsWorkFault}
 use Rattle.disk_objects.specs.declared.rest.DiskRest.{DiskRest}
 use Rattle.object_record.specs.Buffer.{HasRecord, raw_of}
 use Rattle.disk_objects.specs.Calls.{IsFault, IsGot}

@@ -10,9 +10,9 @@ use Rattle.work_directory.specs.declared.directory.Directory.{Directory}
 use Rattle.work_directory.specs.declared.directory.Found.{Found}
 use Rattle.work_directory.specs.declared.directory.Found.TheVariants as found
 use Rattle.work_directory.proofs.EntryLaws.{search-kept}
-use Rattle.loom_outside.specs.Work.{IsWorkRead}
-use Rattle.loom_outside.specs.declared.outside.Host.{Ghosts}
-use Rattle.loom_outside.proofs.WorkLaws.{work-same}
+use Rattle.loom_host.specs.Work.{IsWorkRead}
+use Rattle.loom_host.specs.declared.outside.Host.{Ghosts}
+use Rattle.loom_host.proofs.WorkLaws.{work-same}
 use Rattle.work_space.specs.Space.{from_of}
 use Rattle.work_space.specs.declared.space.Space.{Space}
 use Rattle.work_space.proofs.BlockLaws.{some-inside}

@@ -9,22 +9,22 @@ use Rattle.long_names.specs.declared.object.Kind.{Kind}
 use Rattle.long_names.specs.declared.object.Kind.TheVariants as kind
 use Rattle.byteorder.specs.Endian.{big_number, big_bytes}
 use Rattle.byteorder.specs.Numbers.{big_number-reads_back}
-use Rattle.loom_outside.specs.Bytes.{window}
-use Rattle.loom_outside.proofs.Windows.{length-window, window-taken}
+use Rattle.loom_host.specs.Bytes.{window}
+use Rattle.loom_host.proofs.Windows.{length-window, window-taken}
 use Rattle.object_record.specs.Raw.{RawBody, RawPointers, RawWords, RawBytes, RawMethod, RawRecord, IsRawRecord, raw_kind, raw_len, raw_literals, raw_size, raw_end, raw_text, with_name}
 use Rattle.object_record.specs.Buffer.{long_at, word_at, kind_numbered, raw_of, HasRecord}
 use Rattle.object_record.specs.Inside.{size_stated}
 use Rattle.object_record.proofs.Numbers.{AreBytes, AreBytes-take, AreBytes-drop, wide32, wide64}
 use Rattle.object_record.proofs.Calls.{length-text}
 use Rattle.object_record.proofs.Records.{longest-raw}
-use Rattle.loom_outside.specs.Work.{IsWorkFault}
+use Rattle.loom_host.specs.Work.{IsWorkFault}
 use Rattle.std.specs.Result.{IsErrAnd}
 use Rattle.object_record.proofs.Texts.{begun, kind-said, size-said, literals-said}
 use Rattle.work_space.specs.Blocks.{link_at}
 use Rattle.long_names.specs.Names.{IsLongName}
 use Rattle.disk_objects.specs.Disk.{IsLaid, link_to, names_text, tail_text, record_size, with_count}
-use Rattle.loom_outside.specs.declared.outside.DiskFault.{DiskFault}
-use Rattle.loom_outside.specs.declared.outside.DiskFault.TheVariants.{Work, Full, Damaged}
+use Rattle.loom_host.specs.declared.outside.DiskFault.{DiskFault}
+use Rattle.loom_host.specs.declared.outside.DiskFault.TheVariants.{Work, Full, Damaged}
 use Rattle.disk_objects.specs.declared.record.Head.{Head}
 use Rattle.disk_objects.specs.Inside.{Touches, Writes, linked, IsHead, IsHeadFault, IsLinkFault, IsRecordFault, size_stated_in}
 

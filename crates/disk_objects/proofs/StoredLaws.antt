@@ -10,7 +10,7 @@ use Rattle.std.specs.FinMap.{find, nat_cmp-IsAntisymmetric}
 use Rattle.std.specs.Prelude.{IsSome}
 use Rattle.std.proofs.lemmas.List.{length-map}
 use Rattle.std.proofs.lemmas.Bool.Decides.{nat_tests}
-use Rattle.loom_outside.specs.Bytes.{window}
+use Rattle.loom_host.specs.Bytes.{window}
 use Rattle.work_directory.specs.Table.{Entry, Entries}
 use Rattle.work_space.specs.Blocks.{block_size, put, times, AreLinked}
 use Rattle.work_space.proofs.BlockLaws.{put-at, put-there, some-inside}

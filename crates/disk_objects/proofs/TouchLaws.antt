@@ -3,7 +3,7 @@
 use Rattle.std.proofs.Common.{◌≡◌, ◌≢◌, ℕ, ◌+◌, ◌^◌, ◌<◌, ◌≤◌, inl, inr, ⊎_elim, List, length, get_or, Option, Some, sym, ap, subst, ◌∙◌, arith}
 use Rattle.std.proofs.lemmas.Bool.{cases_eq}
 use Rattle.byteorder.specs.Endian.{big_number}
-use Rattle.loom_outside.specs.Bytes.{window}
+use Rattle.loom_host.specs.Bytes.{window}
 use Rattle.object_record.specs.Raw.{RawRecord}
 use Rattle.work_directory.specs.Directory.{end_of, entries_of, IsIn}
 use Rattle.work_directory.specs.Work.{SameFrom, SameBefore}

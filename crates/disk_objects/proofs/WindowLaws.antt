@@ -1,7 +1,7 @@
 -- Windows within windows, and contents of Work of which only some bytes changed.
 use Rattle.std.proofs.Common.{◌≡◌, ℕ, ◌+◌, ◌≤◌, List, length, take, drop, get_or, sym, ap, ◌∙◌, arith}
-use Rattle.loom_outside.specs.Bytes.{window, overwritten}
-use Rattle.loom_outside.proofs.Windows.{get_or-window, length-overwritten, window-overwritten_apart, window-overwritten_same, window-taken}
+use Rattle.loom_host.specs.Bytes.{window, overwritten}
+use Rattle.loom_host.proofs.Windows.{get_or-window, length-overwritten, window-overwritten_apart, window-overwritten_same, window-taken}
 use Rattle.disk_objects.specs.Inside.{Touches}
 
 -- a shorter window

@@ -2,15 +2,15 @@
 use Rattle.std.specs.Prelude.{◌≡◌, ◌⊎◌, ℕ, ℤ, pos, ◌+ℤ◌, unsigned_abs, List, [], ◌∷◌, Bool, true, false, IsTrue, IsSome, Option, None, Some}
 use Rattle.std.specs.Int.{w64, FitsUnsigned}
 use Rattle.std.specs.FinMap as map
-use Rattle.loom_outside.specs.declared.outside.DiskFault.{DiskFault}
-use Rattle.loom_outside.specs.declared.outside.DiskFault.TheVariants as fault
-use Rattle.loom_outside.specs.declared.outside.Host.{Ghosts}
-use Rattle.loom_outside.specs.declared.outside.Role.TheVariants.{Work}
+use Rattle.loom_host.specs.declared.outside.DiskFault.{DiskFault}
+use Rattle.loom_host.specs.declared.outside.DiskFault.TheVariants as fault
+use Rattle.loom_host.specs.declared.outside.Host.{Ghosts}
+use Rattle.loom_host.specs.declared.outside.Role.TheVariants.{Work}
 use Rattle.long_names.specs.Counting.{Rose}
 use Rattle.object_record.specs.Buffer.{HasRecord, raw_of}
 use Rattle.object_record.specs.Raw.{RawRecord, with_name}
 use Rattle.disk_objects.specs.Places.{IsSlotPlace, IsPutDamage}
-use Rattle.loom_outside.specs.Work.{work_of, IsWorkRead}
+use Rattle.loom_host.specs.Work.{work_of, IsWorkRead}
 use Rattle.work_space.specs.Blocks.{times}
 use Rattle.disk_objects.specs.declared.names.NamesFault.{NamesFault}
 use Rattle.disk_objects.specs.declared.names.NamesFault.TheVariants.{Disk, Memory}

@@ -3,7 +3,7 @@ use Rattle.std.specs.Prelude.{◌≡◌, ℕ, ◌+◌, ◌<◌, ◌≤◌, List,
 use Rattle.std.specs.Ordering.{nat_cmp}
 use Rattle.std.specs.FinMap as map
 use Rattle.long_names.specs.Record.{two_bytes, four_bytes, kind_number, padding}
-use Rattle.loom_outside.specs.Bytes.{window}
+use Rattle.loom_host.specs.Bytes.{window}
 use Rattle.object_record.specs.declared.offsets.TheConstants.{COUNT_AT, KIND_AT}
 use Rattle.object_record.specs.Raw.{RawRecord, IsRawRecord, raw_kind, raw_len, raw_contents, raw_end}
 use Rattle.work_directory.specs.Directory.{room_of, held_of, end_of, entries_of, IsIn}

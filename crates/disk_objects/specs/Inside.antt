@@ -5,9 +5,9 @@ use Rattle.byteorder.specs.Endian.{big_bytes}
 use Rattle.long_names.specs.Counting.{Rose}
 use Rattle.long_names.specs.Names.{IsLongName}
 use Rattle.long_names.specs.Record.{padding}
-use Rattle.loom_outside.specs.Bytes.{window}
-use Rattle.loom_outside.specs.declared.outside.DiskFault.{DiskFault}
-use Rattle.loom_outside.specs.declared.outside.DiskFault.TheVariants as fault
+use Rattle.loom_host.specs.Bytes.{window}
+use Rattle.loom_host.specs.declared.outside.DiskFault.{DiskFault}
+use Rattle.loom_host.specs.declared.outside.DiskFault.TheVariants as fault
 use Rattle.long_names.specs.declared.limits.TheConstants.{LONGEST_RECORD}
 use Rattle.object_record.specs.declared.offsets.TheConstants.{CONTENTS_AT, COUNT_AT, KIND_AT, LITERALS_AT}
 use Rattle.work_directory.specs.declared.limits.TheConstants.{SLOT_BYTES}
@@ -23,7 +23,7 @@ use Rattle.disk_objects.specs.declared.rest.Held.{Held}
 use Rattle.disk_objects.specs.declared.rest.HeldSlot.{HeldSlot}
 use Rattle.disk_objects.specs.declared.rest.FoundObject.{FoundObject}
 use Rattle.disk_objects.specs.declared.rest.FoundObject.TheVariants as found_object
-use Rattle.loom_outside.specs.declared.outside.Host.{Ghosts}
+use Rattle.loom_host.specs.declared.outside.Host.{Ghosts}
 use Rattle.work_directory.specs.declared.directory.Found.{Found}
 use Rattle.work_directory.specs.declared.directory.Found.TheVariants as found
 use Rattle.disk_objects.specs.Places.{IsBlockPlace, IsPutDamage}

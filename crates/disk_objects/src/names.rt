@@ -3,12 +3,12 @@ ghost use Rattle.std.specs.Prelude.{◌≡◌, ◌==◌, ◌||◌, ℕ, List, Is
 ghost use Rattle.std.specs.BTreeSet.{IsOrdered, contains};
 ghost use Rattle.std.specs.FinMap as map;
 ghost use Rattle.std.specs.Ordering.{nat_cmp};
-ghost use Rattle.loom_outside.specs.declared.outside.Role.{Role};
-ghost use Rattle.loom_outside.specs.Work.{IsWorkRead, work_of};
+ghost use Rattle.loom_host.specs.declared.outside.Role.{Role};
+ghost use Rattle.loom_host.specs.Work.{IsWorkRead, work_of};
 
 use crate::rest::DiskRest;
 use long_names::{Name, NameList};
-use loom_outside::{DiskFault, Host};
+use loom_host::{DiskFault, Host};
 use std::alloc::{AllocError, Global};
 use std::collections::BTreeSet;
 use work_directory::Piece;

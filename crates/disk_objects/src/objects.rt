@@ -1,15 +1,15 @@
 // A disk: what stands in Work of a host stands for a map of objects and a list of pending names.
 ghost use Rattle.std.specs.Prelude.{◌≡◌, ◌≢◌, ◌<◌, ◌≤◌, ℕ, List, [], ◌∷◌, length, min, Option, None, Some, IsSome, is_some, IsOk, IsTrue, true, IfOk, IfErr, IsErr, OnOk, OnErr, option_map, ◌⊎◌, ◌+◌};
 ghost use Rattle.std.specs.FinMap as map;
-ghost use Rattle.loom_outside.specs.declared.outside.Role.{Role};
-ghost use Rattle.loom_outside.specs.Outside.{Attached, CanAttach, CanRead, CanWrite, HasCause, IsFresh, PutPrefix, SameBut, Took, TookSome, puts};
+ghost use Rattle.loom_host.specs.declared.outside.Role.{Role};
+ghost use Rattle.loom_host.specs.Outside.{Attached, CanAttach, CanRead, CanWrite, HasCause, IsFresh, PutPrefix, SameBut, Took, TookSome, puts};
 ghost use Rattle.object_record.specs.Buffer.{HasRecord, raw_of};
-ghost use Rattle.loom_outside.specs.Work.{IsWorkOnly, IsWorkRead, work_of};
+ghost use Rattle.loom_host.specs.Work.{IsWorkOnly, IsWorkRead, work_of};
 
 use crate::names::NamesFault;
 use crate::rest::DiskRest;
 use long_names::{Name, NameList};
-use loom_outside::{DiskFault, Failed, Host, Role, read_full, write_full};
+use loom_host::{DiskFault, Failed, Host, Role, read_full, write_full};
 use object_record::RecordBuf;
 use std::alloc::Global;
 use work_directory::MOST_NAMES;

@@ -2,12 +2,12 @@
 ghost use Rattle.std.specs.Prelude.{◌≡◌, ◌≢◌, ◌<◌, ◌≤◌, ◌^◌, ◌+◌, ◌++◌, ℕ, List, length, take, drop, slice_index, IsTrue, IfOk, IfErr, OnOk, MatchResult, Option};
 ghost use Rattle.byteorder.specs.Endian.{big_number};
 ghost use Rattle.long_names.specs.Names.{IsLongName};
-ghost use Rattle.loom_outside.specs.Bytes.{window};
-ghost use Rattle.loom_outside.specs.declared.outside.DiskFault.TheVariants.{Damaged};
+ghost use Rattle.loom_host.specs.Bytes.{window};
+ghost use Rattle.loom_host.specs.declared.outside.DiskFault.TheVariants.{Damaged};
 ghost use Rattle.object_record.specs.Buffer.{HasRecord, long_at, raw_of, word_at};
 ghost use Rattle.object_record.specs.Inside.{end_stated};
 ghost use Rattle.object_record.specs.Raw.{IsRawRecord, RawRecord, with_name};
-ghost use Rattle.loom_outside.specs.Work.{IsWorkOnly, IsWorkRead, work_of, IsWorkFault};
+ghost use Rattle.loom_host.specs.Work.{IsWorkOnly, IsWorkRead, work_of, IsWorkFault};
 ghost use Rattle.work_space.specs.Blocks.{AreFew, link_at};
 ghost use Rattle.work_space.specs.Space.{IsSpace, from_of};
 ghost use Rattle.disk_objects.specs.Disk.{IsSizeClass, IsLaid, link_to, record_size, with_count};
@@ -15,7 +15,7 @@ ghost use Rattle.disk_objects.specs.Inside.{IsHead, IsHeadFault, IsLinkFault, Is
 
 use byteorder::{BigEndian, ByteOrder};
 use long_names::{LONGEST_RECORD, Name};
-use loom_outside::{DiskFault, Host, Role};
+use loom_host::{DiskFault, Host, Role};
 use object_record::{CONTENTS_AT, COUNT_AT, KIND_AT, LITERALS_AT, RecordBuf, SIZE_AT};
 use work_space::{LAST_END, Space, size_class_of};
 

@@ -3,20 +3,20 @@ ghost use Rattle.std.specs.Prelude.{◌≡◌, ◌<◌, ◌≤◌, ◌+ℤ◌, �
 ghost use Rattle.std.specs.FinMap as map;
 ghost use Rattle.std.specs.Int.{FitsUnsigned, w64};
 ghost use Rattle.std.specs.Option.{SomeIff};
-ghost use Rattle.loom_outside.specs.declared.outside.Role.{Role};
+ghost use Rattle.loom_host.specs.declared.outside.Role.{Role};
 ghost use Rattle.object_record.specs.Buffer.{HasRecord, raw_of};
 ghost use Rattle.disk_objects.specs.Disk.{link_to};
 ghost use Rattle.disk_objects.specs.Inside.{check_place, held_slot};
 ghost use Rattle.work_directory.specs.Directory.{EndsAt, StandsAt, found_entry, Holds, HoldsDirectory, IsChanged, entries_of, slots_of};
 ghost use Rattle.work_directory.specs.Table.{Entry, entry_of};
-ghost use Rattle.loom_outside.specs.Work.{IsWorkOnly, IsWorkRead, work_of};
+ghost use Rattle.loom_host.specs.Work.{IsWorkOnly, IsWorkRead, work_of};
 
 use crate::record::{
     Head, read_head, read_link, read_record, rename_record, size_class_for, store, write_link,
     write_record,
 };
 use long_names::Name;
-use loom_outside::{DiskFault, Host};
+use loom_host::{DiskFault, Host};
 use object_record::RecordBuf;
 use work_directory::{Directory, Found, MOST_NAMES, SLOT_BYTES, Slot, damaged};
 use work_space::{LAST_END, Space};

@@ -3,7 +3,7 @@ use Rattle.std.proofs.Common.{◌≡◌, ℕ, ◌≤◌, ◌+◌, ◌*◌, ◌%�
 use Rattle.std.proofs.Math.Seq.{take-add}
 use Rattle.std.proofs.lemmas.List.{append-nil, drop-drop}
 use Rattle.std.proofs.lemmas.List.Elements.{All-head, All-tail}
-use Rattle.loom_outside.specs.Outside.{RoleState, Took, TookSome, takes}
+use Rattle.loom_host.specs.Outside.{RoleState, Took, TookSome, takes}
 use Rattle.blue_model.specs.declared.event.Line.{Line}
 use Rattle.event_file.specs.Text.{IsLine, line_body, line_text, events_text}
 use Rattle.event_file.specs.Inside.{IsLonger, most_text}

@@ -4,7 +4,7 @@ use Rattle.std.proofs.lemmas.Bool.Decides.{nat_tests}
 use Rattle.std.proofs.lemmas.List.{append-nil}
 use Rattle.std.proofs.lemmas.List.Elements.{All-head, All-tail}
 use Rattle.std.specs.List.{position_or_len}
-use Rattle.loom_outside.specs.Outside.{RoleState, TookSome}
+use Rattle.loom_host.specs.Outside.{RoleState, TookSome}
 use Rattle.blue_model.specs.declared.event.Line.{Line}
 use Rattle.event_file.specs.Text.{AreRight, EndsThere, IsBadAt, line_body, line_text, events_text}
 use Rattle.event_file.specs.Reading.{StopsInPiece, begun_text, unseen}

@@ -1,9 +1,9 @@
 -- What reading an event file does with its host, and how far it reads.
 use Rattle.std.specs.Prelude.{◌≡◌, ◌≢◌, ℕ, ◌<◌, ◌≤◌, ◌+◌, ◌%◌, ◌==◌, List, [], ◌++◌, length, min, All, if◌then◌else◌}
 use Rattle.std.specs.List.{position_or_len}
-use Rattle.loom_outside.specs.Outside.{RoleState, SameBut, TookSome}
-use Rattle.loom_outside.specs.declared.outside.Host.{Ghosts}
-use Rattle.loom_outside.specs.declared.outside.Role.TheVariants.{Events}
+use Rattle.loom_host.specs.Outside.{RoleState, SameBut, TookSome}
+use Rattle.loom_host.specs.declared.outside.Host.{Ghosts}
+use Rattle.loom_host.specs.declared.outside.Role.TheVariants.{Events}
 use Rattle.blue_model.specs.declared.event.Line.{Line}
 use Rattle.event_file.specs.Text.{AreRight, events_text}
 use Rattle.event_file.specs.declared.limits.TheConstants.{MOST_LINES, LONGEST, PIECE}

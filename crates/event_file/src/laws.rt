@@ -1,6 +1,6 @@
 //! What follows from the grammar: a text is read in one way, and no further than its first bad line.
 ghost use Rattle.std.specs.Prelude.{◌≡◌, ◌+◌, ◌*◌, ◌/◌, ℕ, List, length};
-ghost use Rattle.loom_outside.specs.Outside.{RoleState, TookSome};
+ghost use Rattle.loom_host.specs.Outside.{RoleState, TookSome};
 ghost use Rattle.blue_model.specs.declared.event.Line.{Line};
 ghost use Rattle.event_file.specs.Reading.{StopsInPiece, unseen};
 ghost use Rattle.event_file.specs.Text.{AreRight, IsBadAt, events_text};

@@ -1,7 +1,7 @@
 // Reading an event file: in one pass, line by line, in pieces of one size.
 ghost use Rattle.std.specs.Prelude.{◌≡◌, ◌≢◌, ◌↔◌, ◌+◌, ◌≤◌, ◌++◌, ℕ, List, [], ◌∷◌, IsTrue, IfOk, OnOk, Err, length, true, false};
 ghost use Rattle.long_names.specs.Counting.{Rose};
-ghost use Rattle.loom_outside.specs.Outside.{TookSome};
+ghost use Rattle.loom_host.specs.Outside.{TookSome};
 ghost use Rattle.event_file.specs.Text.{AreRight, IsBadAt, IsLine, events_text};
 ghost use Rattle.event_file.specs.Reading.{IsBegun, IsEventsOnly, StopsInPiece, begun_text};
 ghost use Rattle.event_file.specs.Inside.{IsLonger};
@@ -11,7 +11,7 @@ use crate::limits::{LONGEST, MOST_LINES, PIECE};
 use crate::line::decode_line;
 use crate::{EventFault, EventList, Line};
 use arrayvec::ArrayVec;
-use loom_outside::{Host, Role, read_full};
+use loom_host::{Host, Role, read_full};
 use std::alloc::Global;
 use std::marker::Model;
 

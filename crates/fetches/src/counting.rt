@@ -1,6 +1,6 @@
 // A host over another, which counts how often Work is read and written.
 ghost use Rattle.std.specs.Prelude.{false};
-ghost use Rattle.loom_outside.specs.Outside.{at_start};
+ghost use Rattle.loom_host.specs.Outside.{at_start};
 
 use loom_outside::{Failed, Host, MemoryHost, Role};
 

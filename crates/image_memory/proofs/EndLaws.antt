@@ -3,9 +3,9 @@ use Rattle.std.proofs.Common.{◌≡◌, ℕ, Bool, true, false, List, [], Optio
 use Rattle.long_names.specs.Heap.{Heap, Has, IsBounded, count_of}
 use Rattle.long_names.specs.Kept.{kept, no_roots}
 use Rattle.long_names.proofs.KeptLaws.{bounded-part, heap-same, kept-part}
-use Rattle.loom_outside.specs.declared.outside.Host.{Ghosts}
-use Rattle.loom_outside.specs.declared.outside.Role.TheVariants.{Work}
-use Rattle.loom_outside.specs.Work.{work_of}
+use Rattle.loom_host.specs.declared.outside.Host.{Ghosts}
+use Rattle.loom_host.specs.declared.outside.Role.TheVariants.{Work}
+use Rattle.loom_host.specs.Work.{work_of}
 use Rattle.disk_objects.specs.declared.rest.DiskRest.{DiskRest}
 use Rattle.disk_objects.specs.Calls.{HoldsObjects}
 use Rattle.disk_objects.specs.Function.{disk_of, counts_of}

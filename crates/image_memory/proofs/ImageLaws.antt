@@ -13,10 +13,10 @@ use Rattle.long_names.specs.Words.{IsValue}
 use Rattle.long_names.specs.Heap.{Heap, Has, IsBounded, object_count, count_of}
 use Rattle.long_names.specs.Kept.{kept}
 use Rattle.long_names.proofs.CountLaws.{kept-rooted}
-use Rattle.loom_outside.specs.declared.outside.Host.{Ghosts}
-use Rattle.loom_outside.specs.declared.outside.Role.TheVariants.{Image, Work, Transcript}
-use Rattle.loom_outside.specs.Outside.{RoleState}
-use Rattle.loom_outside.specs.Work.{work_of}
+use Rattle.loom_host.specs.declared.outside.Host.{Ghosts}
+use Rattle.loom_host.specs.declared.outside.Role.TheVariants.{Image, Work, Transcript}
+use Rattle.loom_host.specs.Outside.{RoleState}
+use Rattle.loom_host.specs.Work.{work_of}
 use Rattle.image_format.specs.declared.opening.State.{State}
 use Rattle.image_format.specs.Heads.{is_tick}
 use Rattle.image_format.specs.Rules as rules

@@ -16,9 +16,9 @@ use Rattle.long_names.specs.Heap.{Heap, Has, object_count, objects_below, count_
 use Rattle.long_names.specs.Kept.{is_left, kept, no_roots}
 use Rattle.long_names.proofs.KeptLaws.{IsPart, bounded-part, kept-closed, kept-fixed, kept-known, kept-part, left-counted}
 use Rattle.long_names.proofs.ThinLemmas.{has}
-use Rattle.loom_outside.specs.declared.outside.Host.{Ghosts}
-use Rattle.loom_outside.specs.declared.outside.Role.TheVariants.{Work}
-use Rattle.loom_outside.specs.Work.{work_of}
+use Rattle.loom_host.specs.declared.outside.Host.{Ghosts}
+use Rattle.loom_host.specs.declared.outside.Role.TheVariants.{Work}
+use Rattle.loom_host.specs.Work.{work_of}
 use Rattle.image_format.specs.declared.head.TheConstants.{FEWEST_OBJECTS, LOWEST_NEXT, MOST_OBJECTS}
 use Rattle.image_format.specs.Valid.{IsImageHeap}
 use Rattle.image_format.proofs.Values.{value_back}

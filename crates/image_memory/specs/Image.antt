@@ -3,9 +3,9 @@ use Rattle.std.specs.Prelude.{◌≡◌, ℕ, ◌%◌, pos, Bool, false, List, [
 use Rattle.long_names.specs.declared.value.Value.TheVariants.{Int}
 use Rattle.long_names.specs.Heap.{Heap, IsBounded, object_count}
 use Rattle.long_names.specs.Kept.{kept}
-use Rattle.loom_outside.specs.declared.outside.Host.{Ghosts}
-use Rattle.loom_outside.specs.declared.outside.Role.TheVariants.{Work}
-use Rattle.loom_outside.specs.Work.{work_of}
+use Rattle.loom_host.specs.declared.outside.Host.{Ghosts}
+use Rattle.loom_host.specs.declared.outside.Role.TheVariants.{Work}
+use Rattle.loom_host.specs.Work.{work_of}
 use Rattle.image_format.specs.declared.opening.State.{State}
 use Rattle.image_format.specs.declared.opening.ImageHead.{ImageHead}
 use Rattle.image_format.specs.Rules.{IsHeadOf, IsStateWord, text_under}

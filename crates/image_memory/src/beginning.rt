@@ -1,6 +1,6 @@
 // A memory begins over an image.
 ghost use Rattle.std.specs.Prelude.{◌≡◌, ℕ, IsTrue, false};
-ghost use Rattle.loom_outside.specs.declared.outside.Role.TheVariants.{Work, Transcript};
+ghost use Rattle.loom_host.specs.declared.outside.Role.TheVariants.{Work, Transcript};
 ghost use Rattle.disk_objects.specs.Disk.{disk_held, disk_room};
 ghost use Rattle.image_reader.specs.Loaded.{heap_on};
 ghost use Rattle.object_memory.specs.Told.{IsReady};
@@ -11,8 +11,8 @@ ghost use Rattle.image_memory.specs.Image.{BeginsWith, HasImage};
 
 use disk_objects::DiskObjects;
 use image_reader::Loaded;
+use loom_host::Host;
 use loom_memory::{CoreTables, LoomMemory};
-use loom_outside::Host;
 
 /// A memory over the image that was loaded to a disk, of tables that were made for a core of so many words and entries. It takes no
 /// memory. What was said before is what is told of the transcript.

@@ -2,7 +2,7 @@
 ghost use Rattle.std.specs.Prelude.{◌≡◌, ◌<◌, ◌^◌, ℕ, Bool, IsTrue, All};
 ghost use Rattle.long_names.specs.Heap.{Heap};
 ghost use Rattle.long_names.specs.Kept.{kept, no_roots};
-ghost use Rattle.loom_outside.specs.declared.outside.Role.TheVariants.{Image, Work};
+ghost use Rattle.loom_host.specs.declared.outside.Role.TheVariants.{Image, Work};
 ghost use Rattle.image_format.specs.Rules as rules;
 ghost use Rattle.image_format.specs.Valid.{IsImageHeap};
 ghost use Rattle.disk_objects.specs.declared.rest.DiskRest.{DiskRest};
@@ -16,7 +16,7 @@ ghost use Rattle.loom_memory.specs.declared.memory.LoomMemory.{LoomMemory as Mem
 ghost use Rattle.loom_memory.specs.Memory.{loom_told, IsSound};
 ghost use Rattle.image_memory.specs.Image.{HasEnded, HasImage, IsTextOf};
 
-use loom_outside::Host;
+use loom_host::Host;
 
 /// A disk to which an image was loaded has the image.
 pub fn a_loaded_image_is_on_the_disk<H: Host>()

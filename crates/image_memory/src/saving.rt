@@ -2,7 +2,7 @@
 ghost use Rattle.std.specs.Prelude.{◌≡◌, IsTrue};
 ghost use Rattle.long_names.specs.Heap.{Heap};
 ghost use Rattle.long_names.specs.Kept.{kept, no_roots};
-ghost use Rattle.loom_outside.specs.declared.outside.Role.TheVariants.{Work};
+ghost use Rattle.loom_host.specs.declared.outside.Role.TheVariants.{Work};
 ghost use Rattle.image_writer.specs.Puts.{Puts};
 ghost use Rattle.image_writer.specs.Saved.{saved_text};
 ghost use Rattle.image_memory.specs.Image.{HasEnded};
@@ -10,7 +10,7 @@ ghost use Rattle.image_memory.specs.Image.{HasEnded};
 use disk_objects::DiskObjects;
 use image_format::State;
 use image_writer::{SaveFault, save};
-use loom_outside::Host;
+use loom_host::Host;
 use std::alloc::Global;
 
 /// Puts the image of the objects that are kept with no roots to Saved, which is attached: of version 2, with their exact counts, the next name,

@@ -1,13 +1,13 @@
 -- Parts of loading, one after the other.
 use Rattle.std.proofs.Common.{◌≡◌, ℕ, ◌<◌, ◌≤◌, List, Result, Ok, Err, IsErrAnd, refl, sym, ap, subst, ◌∙◌, arith}
 use Rattle.long_names.specs.Counting.{Rose}
-use Rattle.loom_outside.specs.declared.outside.DiskFault.{DiskFault}
-use Rattle.loom_outside.specs.declared.outside.DiskFault.TheVariants as disk
-use Rattle.loom_outside.specs.declared.outside.Host.{Ghosts}
-use Rattle.loom_outside.specs.declared.outside.Role.TheVariants.{Image, Work}
+use Rattle.loom_host.specs.declared.outside.DiskFault.{DiskFault}
+use Rattle.loom_host.specs.declared.outside.DiskFault.TheVariants as disk
+use Rattle.loom_host.specs.declared.outside.Host.{Ghosts}
+use Rattle.loom_host.specs.declared.outside.Role.TheVariants.{Image, Work}
 use Rattle.std.specs.Prelude.{IfErr}
-use Rattle.loom_outside.specs.Outside.{RoleState, holds}
-use Rattle.loom_outside.specs.Work.{IsWorkOnly, IsWorkRead}
+use Rattle.loom_host.specs.Outside.{RoleState, holds}
+use Rattle.loom_host.specs.Work.{IsWorkOnly, IsWorkRead}
 use Rattle.disk_objects.specs.declared.rest.DiskRest.{DiskRest}
 use Rattle.disk_objects.specs.Calls.{IsPutFault}
 use Rattle.disk_objects.specs.Disk.{disk_held, disk_room}

@@ -18,7 +18,7 @@ use Rattle.image_format.proofs.Openings.{head_takes}
 use Rattle.image_format.proofs.Windows.{Extends}
 use Rattle.image_reader.specs.declared.fault.LoadFault.{LoadFault}
 use Rattle.image_reader.specs.declared.fault.LoadFault.TheVariants.{Bad, Read, Disk, Memory}
-use Rattle.loom_outside.specs.declared.outside.DiskFault.TheVariants as disk
+use Rattle.loom_host.specs.declared.outside.DiskFault.TheVariants as disk
 use Rattle.image_reader.specs.Inside.{IsHeadFault, head_len}
 use Rattle.image_reader.specs.Loaded.{full_of, too_many}
 use Rattle.image_reader.proofs.Next.{bind_extends, tested_extends, number_extends}

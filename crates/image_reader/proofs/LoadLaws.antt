@@ -20,9 +20,9 @@ use Rattle.image_reader.proofs.Heads.{full_above, full_same, head_more}
 use Rattle.image_reader.proofs.Stored.{still_stored}
 use Rattle.disk_objects.specs.declared.rest.DiskRest.{DiskRest}
 use Rattle.image_reader.specs.Loaded.{IsBroken, IsLoadFault, full_of}
-use Rattle.loom_outside.specs.declared.outside.DiskFault.TheVariants as disk
-use Rattle.loom_outside.specs.declared.outside.Host.{Ghosts}
-use Rattle.loom_outside.specs.declared.outside.Role.TheVariants as Role
+use Rattle.loom_host.specs.declared.outside.DiskFault.TheVariants as disk
+use Rattle.loom_host.specs.declared.outside.Host.{Ghosts}
+use Rattle.loom_host.specs.declared.outside.Role.TheVariants as Role
 
 -- ---- an image, part by part
 

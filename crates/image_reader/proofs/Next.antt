@@ -6,7 +6,7 @@ use Rattle.std.proofs.lemmas.List.{append-nil, take-append-le, drop-append-le}
 use Rattle.long_names.specs.Objects.{IsRecord}
 use Rattle.long_names.specs.Record.{record_text}
 use Rattle.long_names.specs.declared.object.Rec.{Rec}
-use Rattle.loom_outside.specs.declared.outside.Host.{Ghosts}
+use Rattle.loom_host.specs.declared.outside.Host.{Ghosts}
 use Rattle.image_format.specs.declared.fault.Break.{Break}
 use Rattle.image_format.specs.declared.fault.Halt.{Halt}
 use Rattle.image_format.specs.declared.fault.RecFault.{RecFault}

@@ -12,10 +12,10 @@ use Rattle.long_names.specs.Objects.{IsRecord}
 use Rattle.long_names.specs.Record.{record_text}
 use Rattle.long_names.specs.declared.object.Object.{Object}
 use Rattle.long_names.specs.declared.object.Rec.{Rec}
-use Rattle.loom_outside.specs.declared.outside.Host.{Ghosts}
-use Rattle.loom_outside.specs.declared.outside.Role.TheVariants.{Work}
-use Rattle.loom_outside.specs.Outside.{RoleState}
-use Rattle.loom_outside.specs.Work.{work_of}
+use Rattle.loom_host.specs.declared.outside.Host.{Ghosts}
+use Rattle.loom_host.specs.declared.outside.Role.TheVariants.{Work}
+use Rattle.loom_host.specs.Outside.{RoleState}
+use Rattle.loom_host.specs.Work.{work_of}
 use Rattle.object_record.specs.Buffer.{HasRecord, raw_of}
 use Rattle.object_record.specs.Objects as raw_objects
 use Rattle.object_record.specs.Raw.{RawRecord, raw_record}

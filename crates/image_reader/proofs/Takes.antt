@@ -4,10 +4,10 @@ use Rattle.std.specs.FinMap as map
 use Rattle.long_names.specs.Objects.{IsRecord}
 use Rattle.long_names.specs.declared.limits.TheConstants.{LONGEST_RECORD}
 use Rattle.long_names.specs.declared.object.Rec.{Rec}
-use Rattle.loom_outside.specs.declared.outside.Host.{Ghosts}
-use Rattle.loom_outside.specs.declared.outside.Role.TheVariants.{Image, Work}
-use Rattle.loom_outside.specs.Outside.{RoleState}
-use Rattle.loom_outside.specs.Work.{IsWorkOnly, work_of}
+use Rattle.loom_host.specs.declared.outside.Host.{Ghosts}
+use Rattle.loom_host.specs.declared.outside.Role.TheVariants.{Image, Work}
+use Rattle.loom_host.specs.Outside.{RoleState}
+use Rattle.loom_host.specs.Work.{IsWorkOnly, work_of}
 use Rattle.object_record.specs.Raw.{RawRecord, raw_record}
 use Rattle.disk_objects.specs.declared.rest.DiskRest.{DiskRest}
 use Rattle.disk_objects.specs.Disk.{IsDisk, Objects, disk_held, object_of}

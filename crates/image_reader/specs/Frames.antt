@@ -1,12 +1,12 @@
 -- What loading does with a host, and why it broke off.
 use Rattle.std.specs.Prelude.{◌≡◌, ◌≢◌, ℕ, ◌+◌, ◌≤◌, IsTrue, Result, Err, List}
 use Rattle.long_names.specs.Counting.{Rose}
-use Rattle.loom_outside.specs.declared.outside.DiskFault.{DiskFault}
-use Rattle.loom_outside.specs.declared.outside.DiskFault.TheVariants as disk
-use Rattle.loom_outside.specs.declared.outside.Host.{Ghosts}
-use Rattle.loom_outside.specs.declared.outside.Role.{Role}
-use Rattle.loom_outside.specs.declared.outside.Role.TheVariants.{Image, Work}
-use Rattle.loom_outside.specs.Outside.{SameBut, holds}
+use Rattle.loom_host.specs.declared.outside.DiskFault.{DiskFault}
+use Rattle.loom_host.specs.declared.outside.DiskFault.TheVariants as disk
+use Rattle.loom_host.specs.declared.outside.Host.{Ghosts}
+use Rattle.loom_host.specs.declared.outside.Role.{Role}
+use Rattle.loom_host.specs.declared.outside.Role.TheVariants.{Image, Work}
+use Rattle.loom_host.specs.Outside.{SameBut, holds}
 use Rattle.image_format.specs.declared.fault.Halt.{Halt}
 use Rattle.image_reader.specs.declared.fault.LoadFault.{LoadFault}
 use Rattle.image_reader.specs.declared.fault.LoadFault.TheVariants.{Bad, Read, Disk, Memory}

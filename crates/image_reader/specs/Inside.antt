@@ -4,9 +4,9 @@ use Rattle.long_names.specs.Counting.{Rose}
 use Rattle.long_names.specs.Objects.{IsRecord}
 use Rattle.long_names.specs.declared.limits.TheConstants.{LONGEST_RECORD}
 use Rattle.long_names.specs.declared.object.Rec.{Rec}
-use Rattle.loom_outside.specs.declared.outside.DiskFault.TheVariants as disk
-use Rattle.loom_outside.specs.declared.outside.Host.{Ghosts}
-use Rattle.loom_outside.specs.declared.outside.Role.TheVariants.{Image, Work}
+use Rattle.loom_host.specs.declared.outside.DiskFault.TheVariants as disk
+use Rattle.loom_host.specs.declared.outside.Host.{Ghosts}
+use Rattle.loom_host.specs.declared.outside.Role.TheVariants.{Image, Work}
 use Rattle.image_format.specs.declared.fault.Halt.{Halt}
 use Rattle.image_format.specs.declared.fault.RecFault.{RecFault}
 use Rattle.image_format.specs.declared.fault.RecFault.TheVariants as rec_fault

@@ -2,8 +2,8 @@
 use Rattle.std.specs.Prelude.{◌≡◌, ℕ, ◌&&◌, ◌||◌, ◌==◌, nat_lt, ◌≤◌, Bool, false, IsTrue, List, [], ◌∷◌, length, take, drop, Ok, Option, Some, None, is_some, option_map, if◌then◌else◌}
 use Rattle.long_names.specs.Names.{is_known, known_names}
 use Rattle.long_names.specs.declared.object.Rec.{Rec}
-use Rattle.loom_outside.specs.declared.outside.Host.{Ghosts}
-use Rattle.loom_outside.specs.declared.outside.Role.TheVariants.{Image, Work}
+use Rattle.loom_host.specs.declared.outside.Host.{Ghosts}
+use Rattle.loom_host.specs.declared.outside.Role.TheVariants.{Image, Work}
 use Rattle.disk_objects.specs.declared.rest.DiskRest.{DiskRest}
 use Rattle.image_format.specs.declared.fault.Break.{Break}
 use Rattle.image_format.specs.declared.head.TheConstants.{MOST_OBJECTS}

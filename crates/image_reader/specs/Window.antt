@@ -1,6 +1,6 @@
 -- The bytes of Image as they come.
 use Rattle.std.specs.Prelude.{◌≡◌, ◌<◌, ◌^◌, All, ◌+◌, ◌++◌, List, [], ℕ, Bool, IsTrue, length}
-use Rattle.loom_outside.specs.Outside.{RoleState}
+use Rattle.loom_host.specs.Outside.{RoleState}
 
 -- bytes that were read and not yet used, whether the file's end was met behind them, and how many bytes of the file stand before them
 pub record Ahead : Type 0 where

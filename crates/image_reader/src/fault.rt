@@ -4,7 +4,7 @@ ghost use Rattle.image_reader.specs.Inside as inside;
 ghost use Rattle.image_reader.specs.declared.fault.LoadFault.TheVariants as fault;
 
 use image_format::{Break, RecFault};
-use loom_outside::DiskFault;
+use loom_host::DiskFault;
 use std::alloc::AllocError;
 
 /// Why an image was not loaded.

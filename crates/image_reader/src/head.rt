@@ -11,7 +11,7 @@ use crate::window::Window;
 use image_format::{
     HEAD_LEN, ImageHead, Opening, STATE_LEN, STATE_VERSION, read_head, read_opening,
 };
-use loom_outside::DiskFault;
+use loom_host::DiskFault;
 
 /// How many bytes the head of this version has.
 fn head_len(opening: &Opening) -> usize

@@ -2,7 +2,7 @@
 ghost use Rattle.std.specs.Prelude.{◌≡◌, ◌<◌, ◌^◌, ℕ, [], IsTrue, OnOk, IfOk, IfErr, length};
 ghost use Rattle.std.specs.FinMap as map;
 ghost use Rattle.disk_objects.specs.Disk.{IsDisk, disk_held, disk_room};
-ghost use Rattle.loom_outside.specs.Work.{work_of};
+ghost use Rattle.loom_host.specs.Work.{work_of};
 ghost use Rattle.image_format.specs.Rules as rules;
 ghost use Rattle.image_reader.specs.Frames.{IsLoading};
 ghost use Rattle.image_reader.specs.Judged.{IsReadFault, ReadsRecords};
@@ -17,7 +17,7 @@ use crate::window::Window;
 use disk_objects::DiskObjects;
 use image_format::{ImageHead, State};
 use long_names::NameList;
-use loom_outside::{Host, Role};
+use loom_host::{Host, Role};
 use std::alloc::Global;
 
 /// What an image states that was loaded: how many objects it has, the next name, and the machine's state.

@@ -21,7 +21,7 @@ use crate::window::Window;
 use disk_objects::DiskObjects;
 use image_format::{Opening, decode_rec};
 use long_names::{Name, NameList, Rec};
-use loom_outside::{Host, Role};
+use loom_host::{Host, Role};
 use object_record::RecordBuf;
 use std::alloc::Global;
 

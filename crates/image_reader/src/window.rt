@@ -7,7 +7,7 @@ ghost use Rattle.image_reader.specs.Window.{Ahead, EndsTruly, unused};
 use crate::fault::LoadFault;
 use disk_objects::DiskObjects;
 use long_names::LONGEST_RECORD;
-use loom_outside::{Host, Role};
+use loom_host::{Host, Role};
 use std::alloc::{AllocError, Global};
 use std::marker::Model;
 

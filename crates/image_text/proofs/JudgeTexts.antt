@@ -12,10 +12,10 @@ use Rattle.long_names.specs.Names.{known_names}
 use Rattle.long_names.specs.Objects.{IsRecord}
 use Rattle.long_names.specs.declared.object.Object.{Object}
 use Rattle.long_names.specs.declared.object.Rec.{Rec}
-use Rattle.loom_outside.specs.declared.outside.DiskFault.{DiskFault}
-use Rattle.loom_outside.specs.declared.outside.Host.{Ghosts}
-use Rattle.loom_outside.specs.declared.outside.Role.TheVariants.{Work}
-use Rattle.loom_outside.specs.Work.{IsWorkRead, work_of}
+use Rattle.loom_host.specs.declared.outside.DiskFault.{DiskFault}
+use Rattle.loom_host.specs.declared.outside.Host.{Ghosts}
+use Rattle.loom_host.specs.declared.outside.Role.TheVariants.{Work}
+use Rattle.loom_host.specs.Work.{IsWorkRead, work_of}
 use Rattle.disk_objects.specs.declared.rest.DiskRest.{DiskRest}
 use Rattle.disk_objects.specs.Calls.{CanChange, changed_by}
 use Rattle.disk_objects.specs.Disk.{DiskObject, IsDisk, Objects}

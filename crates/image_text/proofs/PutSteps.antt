@@ -1,6 +1,6 @@
 -- Parts that are put one after the other.
 use Rattle.std.proofs.Common.{◌≡◌, ℕ, List, ◌++◌, Result, Ok, Err, IsErrAnd, ap, ◌∙◌}
-use Rattle.loom_outside.specs.declared.outside.Host.{Ghosts}
+use Rattle.loom_host.specs.declared.outside.Host.{Ghosts}
 use Rattle.image_writer.specs.declared.fault.SaveFault.{SaveFault}
 use Rattle.image_writer.specs.Inside.{Gathers}
 use Rattle.image_writer.proofs.GatherLaws.{then_gathers, stop_gathers, gathers_of}

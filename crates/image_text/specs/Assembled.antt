@@ -1,7 +1,7 @@
 -- What assembling a text does with a host and its disk, and why it broke off. What listing does is `Puts` of image_writer.
 use Rattle.std.specs.Prelude.{◌≡◌, ◌≤◌, ◌⊎◌, ℕ, List, Ok, Err, IsTrue, Some}
-use Rattle.loom_outside.specs.declared.outside.Host.{Ghosts}
-use Rattle.loom_outside.specs.declared.outside.Role.TheVariants.{Image, Work}
+use Rattle.loom_host.specs.declared.outside.Host.{Ghosts}
+use Rattle.loom_host.specs.declared.outside.Role.TheVariants.{Image, Work}
 use Rattle.image_format.specs.declared.fault.Break.{Break}
 use Rattle.image_format.specs.declared.opening.State.{State}
 use Rattle.image_format.specs.Rules.{Image as WholeImage, break}

@@ -1,8 +1,8 @@
 -- What reading a text and judging what it states speak of.
 use Rattle.std.specs.Prelude.{◌≡◌, ◌≤◌, ℕ, true, All, IsTrue, List, [], Option, Some, Ok, length, option_map}
 use Rattle.long_names.specs.declared.object.Rec.{Rec}
-use Rattle.loom_outside.specs.declared.outside.Host.{Ghosts}
-use Rattle.loom_outside.specs.declared.outside.Role.TheVariants.{Image}
+use Rattle.loom_host.specs.declared.outside.Host.{Ghosts}
+use Rattle.loom_host.specs.declared.outside.Role.TheVariants.{Image}
 use Rattle.disk_objects.specs.declared.rest.DiskRest.{DiskRest}
 use Rattle.disk_objects.specs.Disk.{disk_held}
 use Rattle.image_format.specs.declared.fault.Break.{Break}

@@ -3,8 +3,8 @@ use Rattle.std.specs.Prelude.{◌≡◌, ◌<◌, ◌≤◌, ℕ, ◌+◌, ◌*�
 use Rattle.long_names.specs.Counting.{Rose}
 use Rattle.long_names.specs.Objects.{IsRecord}
 use Rattle.long_names.specs.declared.object.Rec.{Rec}
-use Rattle.loom_outside.specs.declared.outside.Host.{Ghosts}
-use Rattle.loom_outside.specs.declared.outside.Role.TheVariants.{Image, Work}
+use Rattle.loom_host.specs.declared.outside.Host.{Ghosts}
+use Rattle.loom_host.specs.declared.outside.Role.TheVariants.{Image, Work}
 use Rattle.object_record.specs.Buffer.{HasRecord, raw_of}
 use Rattle.object_record.specs.Raw.{raw_record}
 use Rattle.disk_objects.specs.declared.rest.DiskRest.{DiskRest}

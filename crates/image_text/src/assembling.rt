@@ -2,7 +2,7 @@
 ghost use Rattle.std.specs.Prelude.{◌≡◌, [], true, IsTrue, OnOk, IfOk, IfErr};
 ghost use Rattle.std.specs.FinMap as map;
 ghost use Rattle.disk_objects.specs.Disk.{IsDisk, Objects, disk_held, disk_room};
-ghost use Rattle.loom_outside.specs.Work.{work_of};
+ghost use Rattle.loom_host.specs.Work.{work_of};
 ghost use Rattle.image_format.specs.declared.head.TheConstants.{MOST_OBJECTS};
 ghost use Rattle.image_format.specs.Heads.{is_next};
 ghost use Rattle.image_format.specs.Rules.{IsState};
@@ -18,7 +18,7 @@ use crate::judging::judge_text;
 use crate::reading::read_text;
 use disk_objects::DiskObjects;
 use image_reader::Loaded;
-use loom_outside::{Host, Role};
+use loom_host::{Host, Role};
 use std::alloc::Global;
 use text_lines::Head;
 

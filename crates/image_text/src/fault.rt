@@ -2,7 +2,7 @@
 ghost use Rattle.std.specs.Prelude.{◌≡◌};
 ghost use Rattle.image_text.specs.declared.fault.TextFault.TheVariants as fault;
 
-use loom_outside::DiskFault;
+use loom_host::DiskFault;
 use std::alloc::AllocError;
 
 /// Why a text was not assembled.

@@ -2,7 +2,7 @@
 ghost use Rattle.std.specs.Prelude.{◌≡◌, ◌≤◌, ◌<◌, ◌^◌, ◌||◌, nat_lt, ℕ, pos, None, Some, List, All, IsSome, IsTrue, OnOk, IfErr, length, option_map};
 ghost use Rattle.long_names.specs.Names.{is_known};
 ghost use Rattle.long_names.specs.declared.object.Rec.{Rec as Spelled};
-ghost use Rattle.loom_outside.specs.Work.{IsWorkOnly, IsWorkRead};
+ghost use Rattle.loom_host.specs.Work.{IsWorkOnly, IsWorkRead};
 ghost use Rattle.disk_objects.specs.Calls.{HoldsObjects};
 ghost use Rattle.disk_objects.specs.Disk.{disk_held, disk_room};
 ghost use Rattle.disk_objects.specs.Function.{counts_of, disk_of};
@@ -26,7 +26,7 @@ use disk_objects::DiskObjects;
 use image_format::State;
 use image_reader::{LoadFault, Tally, first_unclosed, judge_names};
 use long_names::{Name, NameList};
-use loom_outside::{DiskFault, Host, Role};
+use loom_host::{DiskFault, Host, Role};
 use object_record::RecordBuf;
 use std::alloc::Global;
 use text_lines::Head;

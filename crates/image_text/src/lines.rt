@@ -10,7 +10,7 @@ ghost use Rattle.image_text.specs.Lines.{Comes, IsWithin, is_newline};
 use crate::fault::TextFault;
 use disk_objects::DiskObjects;
 use image_reader::{LoadFault, Window};
-use loom_outside::{Host, Role};
+use loom_host::{Host, Role};
 use text_lines::LONGEST_LINE;
 
 /// What comes next of a text.

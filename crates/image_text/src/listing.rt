@@ -3,8 +3,8 @@ ghost use Rattle.std.specs.Prelude.{◌≡◌, ◌-◌, ◌^◌, ◌++◌, IsTru
 ghost use Rattle.std.specs.List.{flat_map};
 ghost use Rattle.long_names.specs.Heap.{Heap, Has, IsBounded};
 ghost use Rattle.long_names.specs.declared.object.Kind.TheVariants.{Method};
-ghost use Rattle.loom_outside.specs.declared.outside.DiskFault.TheVariants as disk_fault;
-ghost use Rattle.loom_outside.specs.declared.outside.Role.{Role};
+ghost use Rattle.loom_host.specs.declared.outside.DiskFault.TheVariants as disk_fault;
+ghost use Rattle.loom_host.specs.declared.outside.Role.{Role};
 ghost use Rattle.object_record.specs.Buffer.{HasRecord, raw_of};
 ghost use Rattle.object_record.specs.Objects.{object_in};
 ghost use Rattle.object_record.specs.Raw.{raw_kind};
@@ -22,7 +22,7 @@ use disk_objects::DiskObjects;
 use image_format::State;
 use image_writer::{Gathered, SaveFault, flush, names_of, put};
 use long_names::{Kind, Name, NameList};
-use loom_outside::{DiskFault, Host, Role};
+use loom_host::{DiskFault, Host, Role};
 use object_record::RecordBuf;
 use std::alloc::Global;
 

@@ -6,10 +6,10 @@ use Rattle.std.proofs.lemmas.Bool.{eqb-true}
 use Rattle.long_names.specs.Names.{IsName}
 use Rattle.long_names.specs.Heap.{Heap, Has, count_of}
 use Rattle.long_names.specs.declared.object.Object.{Object}
-use Rattle.loom_outside.specs.declared.outside.Host.{Ghosts}
-use Rattle.loom_outside.specs.declared.outside.Role.TheVariants.{Work}
-use Rattle.loom_outside.specs.Outside.{RoleState}
-use Rattle.loom_outside.specs.Work.{work_of}
+use Rattle.loom_host.specs.declared.outside.Host.{Ghosts}
+use Rattle.loom_host.specs.declared.outside.Role.TheVariants.{Work}
+use Rattle.loom_host.specs.Outside.{RoleState}
+use Rattle.loom_host.specs.Work.{work_of}
 use Rattle.work_directory.specs.Directory.{entries_of}
 use Rattle.work_directory.specs.Table.{Entry}
 use Rattle.disk_objects.specs.declared.rest.DiskRest.{DiskRest}

@@ -2,11 +2,11 @@
 use Rattle.std.proofs.Common.{◌≡◌, List, ℕ, [], ◌++◌, Result, Ok, Err, IsErrAnd, IsTrue, refl, sym, ap, subst, ◌∙◌, append_assoc}
 use Rattle.std.specs.Prelude.{OnOk}
 use Rattle.std.proofs.lemmas.List.{append-nil}
-use Rattle.loom_outside.specs.declared.outside.Host.{Ghosts}
-use Rattle.loom_outside.specs.declared.outside.DiskFault.{DiskFault}
-use Rattle.loom_outside.specs.declared.outside.DiskFault.TheVariants as disk
-use Rattle.loom_outside.specs.declared.outside.Role.TheVariants.{Work}
-use Rattle.loom_outside.specs.Work.{IsWorkRead}
+use Rattle.loom_host.specs.declared.outside.Host.{Ghosts}
+use Rattle.loom_host.specs.declared.outside.DiskFault.{DiskFault}
+use Rattle.loom_host.specs.declared.outside.DiskFault.TheVariants as disk
+use Rattle.loom_host.specs.declared.outside.Role.TheVariants.{Work}
+use Rattle.loom_host.specs.Work.{IsWorkRead}
 use Rattle.disk_objects.specs.Calls.{IsFault}
 use Rattle.image_writer.specs.declared.fault.SaveFault.{SaveFault}
 use Rattle.image_writer.specs.declared.fault.SaveFault.TheVariants.{Disk}

@@ -7,11 +7,11 @@ use Rattle.std.proofs.lemmas.List.Elements.{All-get_or}
 use Rattle.std.proofs.lemmas.Option.{get_or_from_slice_get, slice_get_within}
 use Rattle.std.proofs.lemmas.Grind.{flat_map-append}
 use Rattle.long_names.specs.Counting.{Rose}
-use Rattle.loom_outside.specs.declared.outside.Host.{Ghosts}
-use Rattle.loom_outside.specs.declared.outside.Role.TheVariants.{Saved, Work}
-use Rattle.loom_outside.specs.declared.outside.DiskFault.TheVariants as disk
-use Rattle.loom_outside.specs.Outside.{RoleState, PutPrefix, puts}
-use Rattle.loom_outside.specs.Work.{IsWorkRead}
+use Rattle.loom_host.specs.declared.outside.Host.{Ghosts}
+use Rattle.loom_host.specs.declared.outside.Role.TheVariants.{Saved, Work}
+use Rattle.loom_host.specs.declared.outside.DiskFault.TheVariants as disk
+use Rattle.loom_host.specs.Outside.{RoleState, PutPrefix, puts}
+use Rattle.loom_host.specs.Work.{IsWorkRead}
 use Rattle.image_format.proofs.Writing.{push_taken}
 use Rattle.image_writer.specs.declared.fault.SaveFault.{SaveFault}
 use Rattle.image_writer.specs.declared.fault.SaveFault.TheVariants.{Write, Disk, Memory}

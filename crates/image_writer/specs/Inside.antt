@@ -1,8 +1,8 @@
 -- What saving and its parts speak of.
 use Rattle.std.specs.Prelude.{◌≡◌, ℕ, List, ◌++◌, Some, IsTrue, Result, OnOk}
 use Rattle.long_names.specs.Heap.{Heap, Has, count_of}
-use Rattle.loom_outside.specs.declared.outside.Host.{Ghosts}
-use Rattle.loom_outside.specs.declared.outside.Role.TheVariants.{Work}
+use Rattle.loom_host.specs.declared.outside.Host.{Ghosts}
+use Rattle.loom_host.specs.declared.outside.Role.TheVariants.{Work}
 use Rattle.image_format.specs.declared.opening.TheConstants.{STATE_VERSION}
 use Rattle.image_format.specs.declared.opening.Opening.{Opening}
 use Rattle.disk_objects.specs.declared.rest.DiskRest.{DiskRest}

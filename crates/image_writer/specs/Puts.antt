@@ -5,12 +5,12 @@ use Rattle.long_names.specs.Counting.{Rose}
 use Rattle.long_names.specs.Heap.{Heap, rec_of}
 use Rattle.long_names.specs.Record.{record_text}
 use Rattle.long_names.specs.declared.object.Object.{Object}
-use Rattle.loom_outside.specs.declared.outside.DiskFault.{DiskFault}
-use Rattle.loom_outside.specs.declared.outside.DiskFault.TheVariants as disk
-use Rattle.loom_outside.specs.declared.outside.Host.{Ghosts}
-use Rattle.loom_outside.specs.declared.outside.Role.{Role}
-use Rattle.loom_outside.specs.declared.outside.Role.TheVariants.{Saved, Work}
-use Rattle.loom_outside.specs.Outside.{PutPrefix, SameBut, puts}
+use Rattle.loom_host.specs.declared.outside.DiskFault.{DiskFault}
+use Rattle.loom_host.specs.declared.outside.DiskFault.TheVariants as disk
+use Rattle.loom_host.specs.declared.outside.Host.{Ghosts}
+use Rattle.loom_host.specs.declared.outside.Role.{Role}
+use Rattle.loom_host.specs.declared.outside.Role.TheVariants.{Saved, Work}
+use Rattle.loom_host.specs.Outside.{PutPrefix, SameBut, puts}
 use Rattle.image_writer.specs.declared.fault.SaveFault.{SaveFault}
 use Rattle.image_writer.specs.declared.fault.SaveFault.TheVariants.{Write, Disk, Memory}
 

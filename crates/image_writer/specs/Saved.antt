@@ -2,7 +2,7 @@
 use Rattle.std.specs.Prelude.{◌≡◌, ℕ, List, Option, Some, is_some, if◌then◌else◌}
 use Rattle.long_names.specs.Heap.{Heap, Has, IsBounded, object_count, count_of}
 use Rattle.long_names.specs.declared.object.Object.{Object}
-use Rattle.loom_outside.specs.declared.outside.Host.{Ghosts}
+use Rattle.loom_host.specs.declared.outside.Host.{Ghosts}
 use Rattle.image_format.specs.declared.opening.TheConstants.{STATE_VERSION}
 use Rattle.image_format.specs.declared.opening.State.{State}
 use Rattle.image_format.specs.declared.opening.ImageHead.{ImageHead}

@@ -3,7 +3,7 @@ ghost use Rattle.std.specs.Prelude.{◌≡◌};
 ghost use Rattle.image_writer.specs.declared.fault.SaveFault.TheVariants as fault;
 
 use disk_objects::NamesFault;
-use loom_outside::DiskFault;
+use loom_host::DiskFault;
 use std::alloc::AllocError;
 
 /// Why an image was not saved whole.

@@ -6,20 +6,20 @@ ghost use Rattle.object_record.specs.Raw.{raw_text};
 ghost use Rattle.disk_objects.specs.Calls.{HoldsObjects};
 ghost use Rattle.disk_objects.specs.Disk.{with_count};
 ghost use Rattle.disk_objects.specs.Function.{disk_of};
-ghost use Rattle.loom_outside.specs.Work.{IsWorkRead};
+ghost use Rattle.loom_host.specs.Work.{IsWorkRead};
 ghost use Rattle.image_writer.specs.Inside.{Gathers, IsHeapOf};
 ghost use Rattle.image_writer.specs.Puts.{IsDiskFault, Puts, name_text};
 ghost use Rattle.image_writer.specs.Saved as saved;
 ghost use Rattle.image_writer.specs.declared.fault.SaveFault.TheVariants as fault;
-ghost use Rattle.loom_outside.specs.declared.outside.DiskFault.TheVariants as disk_fault;
-ghost use Rattle.loom_outside.specs.declared.outside.Role.{Role};
+ghost use Rattle.loom_host.specs.declared.outside.DiskFault.TheVariants as disk_fault;
+ghost use Rattle.loom_host.specs.declared.outside.Role.{Role};
 
 use crate::fault::SaveFault;
 use crate::gathered::{Gathered, PIECE};
 use disk_objects::DiskObjects;
 use image_format::{State, bytes_of_u64};
 use long_names::Name;
-use loom_outside::{DiskFault, Host, Role};
+use loom_host::{DiskFault, Host, Role};
 use object_record::{COUNT_AT, KIND_AT, RecordBuf};
 
 /// Puts bytes to Saved.

@@ -3,12 +3,12 @@ ghost use Rattle.std.specs.Prelude.{◌≡◌, ◌++◌, ℕ, List, IsTrue, IfOk
 ghost use Rattle.std.specs.FinMap as map;
 ghost use Rattle.std.specs.List.{flat_map};
 ghost use Rattle.long_names.specs.Heap.{Heap, Has};
-ghost use Rattle.loom_outside.specs.declared.outside.Role.{Role};
+ghost use Rattle.loom_host.specs.declared.outside.Role.{Role};
 ghost use Rattle.disk_objects.specs.Calls.{HoldsObjects};
 ghost use Rattle.image_format.specs.Heads.{opening_text, state_text};
 ghost use Rattle.image_format.specs.declared.opening.TheConstants.{STATE_VERSION};
 ghost use Rattle.disk_objects.specs.Disk.{IsDisk, Objects, disk_held};
-ghost use Rattle.loom_outside.specs.Work.{IsWorkRead, work_of};
+ghost use Rattle.loom_host.specs.Work.{IsWorkRead, work_of};
 ghost use Rattle.image_writer.specs.Inside.{Gathers, IsHeapOf, opening_of};
 ghost use Rattle.image_writer.specs.Puts.{IsSaveFault, Puts, name_text};
 ghost use Rattle.image_writer.specs.Saved.{IsExact, disk_heap, saved_text};
@@ -19,7 +19,7 @@ use crate::pieces::{flush, kept_state, put, put_record};
 use disk_objects::{DiskObjects, NamesFault};
 use image_format::{Opening, STATE_VERSION, State};
 use long_names::NameList;
-use loom_outside::{Host, Role};
+use loom_host::{Host, Role};
 use object_record::RecordBuf;
 use std::alloc::Global;
 

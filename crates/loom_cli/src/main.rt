@@ -22,10 +22,11 @@ ghost use Rattle.loom_guard.specs.Vaults.{vault_meanings};
 ghost use Rattle.loom_words.specs.Status.{code_of};
 ghost use Rattle.loom_words.specs.Words.{texts_of};
 
-use checkpoint::{RealVault, Vault};
+use checkpoint::Vault;
 use loom_guard::loom_kept;
 use loom_outside::{Host, RealHost, Role};
 use loom_words::Status;
+use real_vault::RealVault;
 use std::alloc::{AllocError, Global};
 use std::env::{self, Args};
 use std::fs::File;

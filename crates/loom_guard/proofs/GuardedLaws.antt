@@ -2,9 +2,9 @@
 -- tells.
 use Rattle.std.proofs.Common.{◌≡◌, ℕ, ◌++◌, Bool, List, IsTrue, inl, inr, refl, ◌∙◌, ap, subst, arith}
 use Rattle.long_names.specs.Heap.{Heap}
-use Rattle.loom_outside.specs.Outside.{RoleState}
-use Rattle.loom_outside.specs.declared.outside.Role.{Role}
-use Rattle.loom_outside.specs.declared.outside.Role.TheVariants.{Work, Transcript, Notes}
+use Rattle.loom_host.specs.Outside.{RoleState}
+use Rattle.loom_host.specs.declared.outside.Role.{Role}
+use Rattle.loom_host.specs.declared.outside.Role.TheVariants.{Work, Transcript, Notes}
 use Rattle.blue_model.specs.declared.event.Line.{Line}
 use Rattle.blue_model.specs.Endings.{said_in}
 use Rattle.blue_model.specs.Guarded.{Guarded, guarded_on}

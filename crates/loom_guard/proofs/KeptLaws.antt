@@ -3,8 +3,8 @@ use Rattle.std.proofs.Common.{◌≡◌, ℕ, ◌≤◌, Bool, List, [], Option,
 use Rattle.std.specs.Prelude.{IfSome, IsFalse}
 use Rattle.long_names.specs.Heap.{Heap}
 use Rattle.image_format.specs.declared.opening.State.{State as Words}
-use Rattle.loom_outside.specs.declared.outside.Role.{Role}
-use Rattle.loom_outside.specs.declared.outside.Role.TheVariants.{Image, Events, Work, Notes}
+use Rattle.loom_host.specs.declared.outside.Role.{Role}
+use Rattle.loom_host.specs.declared.outside.Role.TheVariants.{Image, Events, Work, Notes}
 use Rattle.blue_model.specs.declared.event.Line.{Line}
 use Rattle.machine_run.specs.States.{model_state}
 use Rattle.checkpoint.specs.Keeping.{serial_of}

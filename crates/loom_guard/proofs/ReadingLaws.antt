@@ -2,8 +2,8 @@
 use Rattle.std.proofs.Common.{◌≡◌, ℕ, Bool, List, Some, IsTrue, refl, subst}
 use Rattle.long_names.specs.Heap.{Heap}
 use Rattle.image_format.specs.declared.opening.State.{State as Words}
-use Rattle.loom_outside.specs.declared.outside.Role.{Role}
-use Rattle.loom_outside.specs.declared.outside.Role.TheVariants.{Image, Events, Work}
+use Rattle.loom_host.specs.declared.outside.Role.{Role}
+use Rattle.loom_host.specs.declared.outside.Role.TheVariants.{Image, Events, Work}
 use Rattle.loom_run.specs.Ends.{AttachedOnce, JudgesEvents, JudgesImage, bytes_of}
 use Rattle.loom_run.specs.Meanings.{IsLeft, LeavesBut, Meanings}
 use Rattle.loom_run.specs.Stages.{Opening, Reading, Listening, Ends, roles_at}

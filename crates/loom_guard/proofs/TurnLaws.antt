@@ -7,11 +7,11 @@ use Rattle.long_names.specs.declared.value.Value.TheVariants.{Int, Ref}
 use Rattle.long_names.specs.Heap.{Heap, Has, IsBounded}
 use Rattle.long_names.specs.Kept.{kept, no_roots}
 use Rattle.long_names.specs.Thin.{IsWhole}
-use Rattle.loom_outside.specs.Outside.{RoleState}
-use Rattle.loom_outside.specs.declared.outside.Host.{Ghosts}
-use Rattle.loom_outside.specs.declared.outside.Role.{Role}
-use Rattle.loom_outside.specs.declared.outside.Role.TheVariants.{Work, Transcript}
-use Rattle.loom_outside.specs.Work.{IsWorkRead}
+use Rattle.loom_host.specs.Outside.{RoleState}
+use Rattle.loom_host.specs.declared.outside.Host.{Ghosts}
+use Rattle.loom_host.specs.declared.outside.Role.{Role}
+use Rattle.loom_host.specs.declared.outside.Role.TheVariants.{Work, Transcript}
+use Rattle.loom_host.specs.Work.{IsWorkRead}
 use Rattle.disk_objects.specs.declared.rest.DiskRest.{DiskRest}
 use Rattle.image_format.specs.declared.opening.State.{State as Words}
 use Rattle.image_format.specs.Rules.{IsStateWord}

@@ -1,7 +1,7 @@
 -- What a host tells of the roles that a command has.
 use Rattle.std.proofs.Common.{◌≡◌, ◌≢◌, Bool, None, Some, Option, IsTrue, inl, inr, refl, ap, List}
-use Rattle.loom_outside.specs.declared.outside.Role.{Role}
-use Rattle.loom_outside.specs.declared.outside.Role.TheVariants.{Image, Events, Work, Saved, Display, Transcript, Notes}
+use Rattle.loom_host.specs.declared.outside.Role.{Role}
+use Rattle.loom_host.specs.declared.outside.Role.TheVariants.{Image, Events, Work, Saved, Display, Transcript, Notes}
 use Rattle.blue_model.specs.Logs.{Course}
 use Rattle.checkpoint.specs.Vault.{VaultState}
 use Rattle.checkpoint.specs.declared.point.Point.{Point}

@@ -2,7 +2,7 @@
 use Rattle.std.specs.Prelude.{ℕ, List}
 use Rattle.long_names.specs.Counting.{Rose}
 use Rattle.long_names.specs.Heap.{Heap}
-use Rattle.loom_outside.specs.declared.outside.Role.{Role}
+use Rattle.loom_host.specs.declared.outside.Role.{Role}
 use Rattle.image_format.specs.declared.opening.ImageHead.{ImageHead}
 use Rattle.blue_model.specs.declared.event.Line.{Line}
 use Rattle.machine_run.specs.States.{model_state}

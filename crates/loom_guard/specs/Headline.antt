@@ -2,8 +2,8 @@
 -- hold. `the_headline_of_a_guarded_run` and `the_headline_of_a_resumed_run` of `laws` say that `KeptPromise` gives them.
 use Rattle.std.specs.Prelude.{◌≡◌, ℕ, Bool, List, [], ◌++◌, IsTrue}
 use Rattle.long_names.specs.Heap.{Heap}
-use Rattle.loom_outside.specs.declared.outside.Role.{Role}
-use Rattle.loom_outside.specs.declared.outside.Role.TheVariants.{Events, Work, Saved, Display, Transcript}
+use Rattle.loom_host.specs.declared.outside.Role.{Role}
+use Rattle.loom_host.specs.declared.outside.Role.TheVariants.{Events, Work, Saved, Display, Transcript}
 use Rattle.image_format.specs.declared.opening.ImageHead.{ImageHead}
 use Rattle.blue_model.specs.declared.event.Line.{Line}
 use Rattle.blue_model.specs.declared.step.Step.{Step}

@@ -2,8 +2,8 @@
 -- loom_run; what a vault tells and what a stop may leave of it, of checkpoint; the course of a guarded run, of guarded_run.
 use Rattle.std.specs.Prelude.{◌≡◌, ◌⊎◌, ℕ, ◌≤◌, Bool, List, [], ◌∷◌, Option, None, IfSome, IsTrue, IsFalse, IsSome}
 use Rattle.long_names.specs.Heap.{Heap}
-use Rattle.loom_outside.specs.declared.outside.Role.{Role}
-use Rattle.loom_outside.specs.declared.outside.Role.TheVariants.{Image, Events, Work, Notes}
+use Rattle.loom_host.specs.declared.outside.Role.{Role}
+use Rattle.loom_host.specs.declared.outside.Role.TheVariants.{Image, Events, Work, Notes}
 use Rattle.image_format.specs.declared.opening.ImageHead.{ImageHead}
 use Rattle.blue_model.specs.declared.event.Line.{Line}
 use Rattle.blue_model.specs.Guarded.{Guarded, guarded_on}

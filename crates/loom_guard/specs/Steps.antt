@@ -1,7 +1,7 @@
 -- What the steps of a run with checkpoints answer, before its last line.
 use Rattle.std.specs.Prelude.{◌≡◌, ◌⊎◌, ℕ, ◌≤◌, Bool, List, [], ◌∷◌, IsTrue}
-use Rattle.loom_outside.specs.declared.outside.Role.{Role}
-use Rattle.loom_outside.specs.declared.outside.Role.TheVariants.{Image, Work, Saved, Display, Transcript, Notes}
+use Rattle.loom_host.specs.declared.outside.Role.{Role}
+use Rattle.loom_host.specs.declared.outside.Role.TheVariants.{Image, Work, Saved, Display, Transcript, Notes}
 use Rattle.image_reader.specs.declared.fault.LoadFault.{LoadFault}
 use Rattle.image_reader.specs.declared.fault.LoadFault.TheVariants as load
 use Rattle.blue_model.specs.declared.event.Line.{Line}

@@ -1,9 +1,9 @@
 -- Why a guarded run ended before its end, and what a turn of it leaves: a leg, and the checkpoint behind it.
 use Rattle.std.specs.Prelude.{◌≡◌, ◌⊎◌, ℕ, ◌+◌, ◌<◌, Bool, false, List, Option, Some, Result, Ok, Err, IsTrue}
 use Rattle.long_names.specs.Heap.{Heap}
-use Rattle.loom_outside.specs.declared.outside.Host.{Ghosts}
-use Rattle.loom_outside.specs.declared.outside.Role.{Role}
-use Rattle.loom_outside.specs.declared.outside.Role.TheVariants.{Work, Transcript}
+use Rattle.loom_host.specs.declared.outside.Host.{Ghosts}
+use Rattle.loom_host.specs.declared.outside.Role.{Role}
+use Rattle.loom_host.specs.declared.outside.Role.TheVariants.{Work, Transcript}
 use Rattle.disk_objects.specs.Disk.{disk_room}
 use Rattle.image_reader.specs.Loaded.{heap_on}
 use Rattle.image_memory.specs.Image.{HasEnded, HasImage}

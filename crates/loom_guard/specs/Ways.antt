@@ -1,7 +1,7 @@
 -- The two commands that keep checkpoints: how a run begins, and what its host tells of the roles that it has.
 use Rattle.std.specs.Prelude.{ℕ, Bool, false, List, [], Option, None, Some}
-use Rattle.loom_outside.specs.declared.outside.Role.{Role}
-use Rattle.loom_outside.specs.declared.outside.Role.TheVariants.{Image}
+use Rattle.loom_host.specs.declared.outside.Role.{Role}
+use Rattle.loom_host.specs.declared.outside.Role.TheVariants.{Image}
 use Rattle.checkpoint.specs.Layout.{image_in}
 use Rattle.checkpoint.specs.Vault.{VaultState, contents_of}
 use Rattle.checkpoint.specs.declared.point.Point.{Point}

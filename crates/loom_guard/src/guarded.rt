@@ -1,7 +1,7 @@
 // A guarded run, leg by leg, with its checkpoints.
 ghost use Rattle.std.specs.Prelude.{◌≡◌, ◌≤◌, ℕ, [], IfErr, IfOk, IsTrue, OnOk, false};
 ghost use Rattle.long_names.specs.Heap.{Heap};
-ghost use Rattle.loom_outside.specs.declared.outside.Role.TheVariants as role;
+ghost use Rattle.loom_host.specs.declared.outside.Role.TheVariants as role;
 ghost use Rattle.disk_objects.specs.Disk.{disk_room};
 ghost use Rattle.image_reader.specs.Loaded.{heap_on};
 ghost use Rattle.image_memory.specs.Image.{HasEnded, HasImage};
@@ -34,7 +34,7 @@ use contexts::Cpu;
 use disk_objects::DiskRest;
 use event_file::EventList;
 use image_reader::Loaded;
-use loom_outside::Host;
+use loom_host::Host;
 use loom_run::steps::Ended;
 use loom_words::{Command, Status};
 use std::alloc::Global;

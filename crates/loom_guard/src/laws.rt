@@ -1,7 +1,7 @@
 //! What follows from the promise.
 ghost use Rattle.std.specs.Prelude.{◌≡◌, ℕ, Bool, true, List, IsTrue, None, Some};
-ghost use Rattle.loom_outside.specs.declared.outside.Role.{Role};
-ghost use Rattle.loom_outside.specs.declared.outside.Role.TheVariants.{Image, Events, Work};
+ghost use Rattle.loom_host.specs.declared.outside.Role.{Role};
+ghost use Rattle.loom_host.specs.declared.outside.Role.TheVariants.{Image, Events, Work};
 ghost use Rattle.checkpoint.specs.Layout.{bad_place, found, image_in};
 ghost use Rattle.checkpoint.specs.Vault.{contents_of};
 ghost use Rattle.checkpoint.specs.declared.point.Point.{Point};

@@ -1,7 +1,7 @@
 // One leg of a guarded run, over any memory and over that of two levels.
 ghost use Rattle.std.specs.Prelude.{◌≡◌, ℕ, ◌<◌, ◌≤◌, nat_lt, List, IfErr, IfOk, IsTrue, OnOk};
 ghost use Rattle.long_names.specs.Heap.{Heap};
-ghost use Rattle.loom_outside.specs.declared.outside.Role.TheVariants as role;
+ghost use Rattle.loom_host.specs.declared.outside.Role.TheVariants as role;
 ghost use Rattle.blue_model.specs.declared.event.Line.{Line};
 ghost use Rattle.blue_model.specs.declared.limits.TheConstants.{LAST_SERIAL as last_serial};
 ghost use Rattle.blue_model.specs.Earlier.{course_with_earlier};
@@ -29,8 +29,8 @@ use contexts::{Cpu, Stop};
 use event_file::EventList;
 use guarded_run::{continue_leg, finish_leg, run_leg, start_leg};
 use image_format::State;
+use loom_host::Host;
 use loom_memory::LoomMemory;
-use loom_outside::Host;
 use loom_run::steps::status_of;
 use loom_words::{Command, Status};
 use machine_run::{Finished, Halted, Reason, Step, state_of};

@@ -2,7 +2,7 @@
 ghost use Rattle.std.specs.Prelude.{◌≡◌, ◌<◌, ◌≤◌, ◌%◌, IfErr, IfOk, IsTrue};
 ghost use Rattle.long_names.specs.Heap.{Heap};
 ghost use Rattle.long_names.specs.Kept.{kept, no_roots};
-ghost use Rattle.loom_outside.specs.declared.outside.Role.TheVariants as role;
+ghost use Rattle.loom_host.specs.declared.outside.Role.TheVariants as role;
 ghost use Rattle.image_format.specs.Valid.{IsImageHeap};
 ghost use Rattle.disk_objects.specs.Disk.{disk_room};
 ghost use Rattle.image_reader.specs.Loaded.{heap_on};
@@ -25,8 +25,8 @@ use event_file::EventList;
 use image_format::State;
 use image_memory::begin_memory;
 use image_reader::Loaded;
+use loom_host::Host;
 use loom_memory::{CoreTables, LoomMemory};
-use loom_outside::Host;
 use loom_run::steps::wind_up;
 use loom_words::{Command, Status};
 use std::alloc::Global;

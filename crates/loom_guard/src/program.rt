@@ -1,7 +1,7 @@
 // The whole program, over a host and a vault.
 ghost use Rattle.std.specs.Prelude.{◌≡◌, ◌≤◌, [], Bool, IsTrue};
-ghost use Rattle.loom_outside.specs.declared.outside.Role.{Role};
-ghost use Rattle.loom_outside.specs.declared.outside.Role.TheVariants as role;
+ghost use Rattle.loom_host.specs.declared.outside.Role.{Role};
+ghost use Rattle.loom_host.specs.declared.outside.Role.TheVariants as role;
 ghost use Rattle.disk_objects.specs.Disk.{disk_room};
 ghost use Rattle.image_reader.specs.Loaded.{heap_on};
 ghost use Rattle.image_memory.specs.Image.{HasImage};
@@ -23,7 +23,7 @@ use crate::guarded::run_legs;
 use crate::resuming::read_kept;
 use crate::vaults::{open_fresh, open_kept};
 use checkpoint::{Point, Vault};
-use loom_outside::Host;
+use loom_host::Host;
 use loom_run::loom;
 use loom_run::steps::{Read, read_all, tell, write_kept};
 use loom_words::{Command, Guarded, Kept, Status, kept_of};

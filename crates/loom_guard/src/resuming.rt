@@ -1,7 +1,7 @@
 // The steps that read a run which goes on from a checkpoint: Work is attached, the image comes into it from bytes in memory, and the events are read.
 ghost use Rattle.std.specs.Prelude.{◌≡◌, ◌≤◌, ℕ, [], IsTrue, IfErr, IfOk};
-ghost use Rattle.loom_outside.specs.Work.{work_of};
-ghost use Rattle.loom_outside.specs.declared.outside.Role.TheVariants as role;
+ghost use Rattle.loom_host.specs.Work.{work_of};
+ghost use Rattle.loom_host.specs.declared.outside.Role.TheVariants as role;
 ghost use Rattle.disk_objects.specs.Disk.{disk_room};
 ghost use Rattle.image_format.specs.Rules as rules;
 ghost use Rattle.image_reader.specs.Frames.{IsLoading};
@@ -20,7 +20,7 @@ ghost use Rattle.loom_guard.specs.Ways.{imageless};
 use checkpoint::ImageHost;
 use disk_objects::{DiskObjects, DiskRest};
 use image_reader::{LoadFault, Loaded, load};
-use loom_outside::{Host, Role};
+use loom_host::{Host, Role};
 use loom_run::steps::{Read, open_work, read_lines, status_of_disk};
 use loom_words::{Command, Status};
 use std::alloc::Global;

@@ -20,12 +20,12 @@ use Rattle.long_names.specs.Objects.{Making, body_made, body_words}
 use Rattle.long_names.specs.State.{name_at, set_register, IsRef}
 use Rattle.long_names.specs.Need.{Fits}
 use Rattle.long_names.specs.Access.{Make}
-use Rattle.loom_outside.specs.declared.outside.DiskFault.{DiskFault}
-use Rattle.loom_outside.specs.declared.outside.DiskFault.TheVariants as fault
-use Rattle.loom_outside.specs.declared.outside.Host.{Ghosts}
-use Rattle.loom_outside.specs.declared.outside.Role.TheVariants.{Work, Transcript}
-use Rattle.loom_outside.specs.Outside.{RoleState}
-use Rattle.loom_outside.specs.Work.{work_of, IsWorkOnly}
+use Rattle.loom_host.specs.declared.outside.DiskFault.{DiskFault}
+use Rattle.loom_host.specs.declared.outside.DiskFault.TheVariants as fault
+use Rattle.loom_host.specs.declared.outside.Host.{Ghosts}
+use Rattle.loom_host.specs.declared.outside.Role.TheVariants.{Work, Transcript}
+use Rattle.loom_host.specs.Outside.{RoleState}
+use Rattle.loom_host.specs.Work.{work_of, IsWorkOnly}
 use Rattle.work_directory.specs.Directory.{room_of}
 use Rattle.object_memory.specs.declared.fault.Need.{Need}
 use Rattle.object_memory.specs.declared.fault.MemFault.{MemFault}

@@ -7,8 +7,8 @@ use Rattle.long_names.specs.declared.value.Value.TheVariants.{Int, Ref}
 use Rattle.long_names.specs.declared.object.Object.{Object}
 use Rattle.long_names.specs.Objects.{body_words}
 use Rattle.long_names.specs.Heap.{Heap, Has}
-use Rattle.loom_outside.specs.declared.outside.Host.{Ghosts}
-use Rattle.loom_outside.specs.declared.outside.Role.TheVariants.{Work}
+use Rattle.loom_host.specs.declared.outside.Host.{Ghosts}
+use Rattle.loom_host.specs.declared.outside.Role.TheVariants.{Work}
 use Rattle.core_view.specs.Counts.{outside}
 use Rattle.core_view.proofs.Steps.{outside-used}
 use Rattle.core_view.proofs.Words.{meant-short}

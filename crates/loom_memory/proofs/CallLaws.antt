@@ -11,12 +11,12 @@ use Rattle.long_names.specs.Heap.{Heap, Has}
 use Rattle.long_names.specs.State.{name_at}
 use Rattle.long_names.specs.Need.{Fits, words_at, added, is_pinned, words_of_row}
 use Rattle.long_names.specs.Access.{Access, Known, Class, KindOf, Length, Header, Field, SetField, Word, SetWord, Byte, SetByte, ReadWords, WriteWords, ReadBytes, Make, Pin, Mark, Say, Swap, target_of}
-use Rattle.loom_outside.specs.declared.outside.Host.{Ghosts}
-use Rattle.loom_outside.specs.Outside.{RoleState}
-use Rattle.loom_outside.specs.declared.outside.Role.{Role}
-use Rattle.loom_outside.specs.declared.outside.Role.TheVariants.{Work, Transcript}
-use Rattle.loom_outside.specs.declared.outside.DiskFault.{DiskFault}
-use Rattle.loom_outside.specs.declared.outside.DiskFault.TheVariants as fault
+use Rattle.loom_host.specs.declared.outside.Host.{Ghosts}
+use Rattle.loom_host.specs.Outside.{RoleState}
+use Rattle.loom_host.specs.declared.outside.Role.{Role}
+use Rattle.loom_host.specs.declared.outside.Role.TheVariants.{Work, Transcript}
+use Rattle.loom_host.specs.declared.outside.DiskFault.{DiskFault}
+use Rattle.loom_host.specs.declared.outside.DiskFault.TheVariants as fault
 use Rattle.object_memory.specs.declared.fault.MemFault.{MemFault}
 use Rattle.object_memory.specs.declared.fault.MemFault.TheVariants.{CoreFull}
 use Rattle.object_memory.specs.declared.fault.Need.{Need}
@@ -24,7 +24,7 @@ use Rattle.object_memory.specs.Told.{Told, IsReady, need_of}
 use Rattle.object_memory.specs.Contract.{Does, makes, HasCause, ForBounds, SaysRefused, need_of_access, IsNeedOf, LeavesAll}
 use Rattle.object_memory.specs.Plain.{refused}
 use Rattle.object_table.specs.Entries.{is_used, place_of}
-use Rattle.loom_outside.specs.Work.{IsWorkOnly}
+use Rattle.loom_host.specs.Work.{IsWorkOnly}
 use Rattle.disk_objects.specs.Disk.{disk_room}
 use Rattle.core_view.specs.Core.{Core}
 use Rattle.core_view.specs.Words.{pointers, int_of_short}

@@ -2,8 +2,8 @@
 use Rattle.std.proofs.Common.{◌≡◌, ℕ, ◌+◌, Bool, List, refl, sym, ◌∙◌, ap, subst, inr, Result, Ok, Err}
 use Rattle.std.specs.Result.{IfErr}
 use Rattle.long_names.specs.Objects.{body_words}
-use Rattle.loom_outside.specs.declared.outside.DiskFault.{DiskFault}
-use Rattle.loom_outside.specs.declared.outside.DiskFault.TheVariants as fault
+use Rattle.loom_host.specs.declared.outside.DiskFault.{DiskFault}
+use Rattle.loom_host.specs.declared.outside.DiskFault.TheVariants as fault
 use Rattle.object_memory.specs.declared.fault.MemFault.{MemFault}
 use Rattle.object_memory.specs.declared.fault.MemFault.TheVariants.{Damaged, CoreFull, WorkFull, WorkFault, NamesSpent, Said, Memory}
 use Rattle.object_memory.specs.declared.fault.Need.{Need}
@@ -16,7 +16,7 @@ use Rattle.purger.specs.declared.eviction.TheConstants.{NOWHERE}
 use Rattle.purger.specs.Purge.{IsReadFault, IsReadDamage, HasRoom}
 use Rattle.loom_memory.specs.declared.memory.LoomMemory.{LoomMemory}
 use Rattle.long_names.specs.State.{name_at, IsRef}
-use Rattle.loom_outside.specs.declared.outside.Host.{Ghosts}
+use Rattle.loom_host.specs.declared.outside.Host.{Ghosts}
 use Rattle.object_memory.specs.Told.{Told}
 use Rattle.loom_memory.specs.Memory.{loom_told, word_in, IsQuiet, IsRefusalOf, IsSound}
 use Rattle.loom_memory.proofs.GentleLaws.{entry-at}

@@ -2,12 +2,12 @@
 use Rattle.std.proofs.Common.{◌≡◌, ℕ, ◌≤◌, refl, sym, ◌∙◌, ap, subst, add-zero, arith, Option, None, Ok, Err}
 use Rattle.long_names.specs.Counting.{counted, Rose}
 use Rattle.long_names.proofs.ThinLemmas.{IsThinner-refl}
-use Rattle.loom_outside.specs.declared.outside.Host.{Ghosts}
-use Rattle.loom_outside.specs.Outside.{RoleState}
-use Rattle.loom_outside.specs.declared.outside.Role.TheVariants.{Transcript}
-use Rattle.loom_outside.specs.declared.outside.DiskFault.{DiskFault}
-use Rattle.loom_outside.specs.declared.outside.DiskFault.TheVariants as fault
-use Rattle.loom_outside.specs.Work.{IsWorkOnly}
+use Rattle.loom_host.specs.declared.outside.Host.{Ghosts}
+use Rattle.loom_host.specs.Outside.{RoleState}
+use Rattle.loom_host.specs.declared.outside.Role.TheVariants.{Transcript}
+use Rattle.loom_host.specs.declared.outside.DiskFault.{DiskFault}
+use Rattle.loom_host.specs.declared.outside.DiskFault.TheVariants as fault
+use Rattle.loom_host.specs.Work.{IsWorkOnly}
 use Rattle.object_memory.specs.declared.fault.MemFault.{MemFault}
 use Rattle.object_memory.specs.Told.{Told, Cache, Bounds}
 use Rattle.object_memory.specs.Contract.{Raised, LeavesCache, no_names, Called, Follows, IsLater, HasCause, Thins}

@@ -15,10 +15,10 @@ use Rattle.long_names.specs.Thin.{IsWhole}
 use Rattle.long_names.proofs.CountLaws.{counted-held}
 use Rattle.long_names.proofs.KeptLaws.{any_below-at, any_below-from, holder, holding}
 use Rattle.long_names.proofs.ThinLemmas.{holds-field}
-use Rattle.loom_outside.specs.declared.outside.Host.{Ghosts}
-use Rattle.loom_outside.specs.declared.outside.Role.TheVariants.{Work}
-use Rattle.loom_outside.specs.Outside.{RoleState}
-use Rattle.loom_outside.specs.Work.{IsWorkRead, work_of}
+use Rattle.loom_host.specs.declared.outside.Host.{Ghosts}
+use Rattle.loom_host.specs.declared.outside.Role.TheVariants.{Work}
+use Rattle.loom_host.specs.Outside.{RoleState}
+use Rattle.loom_host.specs.Work.{IsWorkRead, work_of}
 use Rattle.object_table.specs.declared.entry.Entry.{Entry}
 use Rattle.object_table.specs.declared.entry.Short.{Short}
 use Rattle.object_table.specs.Entries.{is_used, put}

@@ -6,17 +6,17 @@ use Rattle.long_names.specs.declared.value.Value.{Value}
 use Rattle.long_names.specs.Counting.{counted}
 use Rattle.long_names.specs.Access.{Access, Field, brought}
 use Rattle.long_names.specs.State.{set_register}
-use Rattle.loom_outside.specs.declared.outside.Host.{Ghosts}
-use Rattle.loom_outside.specs.declared.outside.Role.TheVariants.{Work, Transcript}
+use Rattle.loom_host.specs.declared.outside.Host.{Ghosts}
+use Rattle.loom_host.specs.declared.outside.Role.TheVariants.{Work, Transcript}
 use Rattle.object_memory.specs.declared.fault.MemFault.{MemFault}
 use Rattle.object_memory.specs.declared.fault.MemFault.TheVariants.{Damaged}
 use Rattle.object_memory.specs.Told.{Told, Bounds, IsReady}
 use Rattle.object_memory.specs.Contract.{Does, SameBounds, Raised, makes, ForBounds, HasCause, LeavesCache, no_names, work_faults}
 use Rattle.long_names.specs.Counting.{Rose}
-use Rattle.loom_outside.specs.Outside.{RoleState, holds}
-use Rattle.loom_outside.specs.declared.outside.DiskFault.{DiskFault}
-use Rattle.loom_outside.specs.declared.outside.DiskFault.TheVariants as fault
-use Rattle.loom_outside.specs.Work.{IsWorkOnly, IsWorkRead}
+use Rattle.loom_host.specs.Outside.{RoleState, holds}
+use Rattle.loom_host.specs.declared.outside.DiskFault.{DiskFault}
+use Rattle.loom_host.specs.declared.outside.DiskFault.TheVariants as fault
+use Rattle.loom_host.specs.Work.{IsWorkOnly, IsWorkRead}
 use Rattle.purger.specs.Purge.{IsReadFault}
 use Rattle.object_memory.specs.Plain.{refused}
 use Rattle.object_table.specs.Entries.{place_of, is_short, is_used}

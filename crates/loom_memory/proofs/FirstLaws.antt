@@ -7,9 +7,9 @@ use Rattle.long_names.specs.declared.object.Object.{Object}
 use Rattle.long_names.specs.Objects.{fields_of}
 use Rattle.long_names.specs.Heap.{Heap, count_of}
 use Rattle.long_names.specs.Thin.{IsWhole}
-use Rattle.loom_outside.specs.declared.outside.Host.{Ghosts}
-use Rattle.loom_outside.specs.declared.outside.Role.TheVariants.{Work}
-use Rattle.loom_outside.specs.Work.{work_of}
+use Rattle.loom_host.specs.declared.outside.Host.{Ghosts}
+use Rattle.loom_host.specs.declared.outside.Role.TheVariants.{Work}
+use Rattle.loom_host.specs.Work.{work_of}
 use Rattle.object_table.specs.Entries.{is_short, is_used, place_of, sum_below, used_by}
 use Rattle.object_table.specs.declared.entry.EntryState.{EntryState}
 use Rattle.object_table.specs.declared.entry.EntryState.TheVariants.{Free, Leaf, Resident}

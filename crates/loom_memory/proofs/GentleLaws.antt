@@ -15,9 +15,9 @@ use Rattle.long_names.specs.Need.{words_at}
 use Rattle.object_memory.specs.declared.fault.MemFault.{MemFault}
 use Rattle.object_memory.specs.Told.{Told, Bounds}
 use Rattle.object_memory.specs.Contract.{ForBounds, KeepsSound}
-use Rattle.loom_outside.specs.declared.outside.Host.{Ghosts}
-use Rattle.loom_outside.specs.declared.outside.Role.TheVariants.{Work}
-use Rattle.loom_outside.specs.Work.{IsWorkRead}
+use Rattle.loom_host.specs.declared.outside.Host.{Ghosts}
+use Rattle.loom_host.specs.declared.outside.Role.TheVariants.{Work}
+use Rattle.loom_host.specs.Work.{IsWorkRead}
 use Rattle.object_table.specs.declared.entry.Entry.{Entry}
 use Rattle.object_table.specs.Entries.{put, is_short, is_used, place_of, sum_below}
 use Rattle.core_segment.specs.Segment.{chunk_at, chunks_of, free_of, size_of}

@@ -5,8 +5,8 @@ use Rattle.std.specs.Prelude.{IfNone, IsSome, ◌⊎◌}
 use Rattle.long_names.specs.declared.value.Value.{Value}
 use Rattle.long_names.specs.declared.object.Body.{Body}
 use Rattle.long_names.specs.State.{name_at, part_at, IsRef}
-use Rattle.loom_outside.specs.declared.outside.Host.{Ghosts}
-use Rattle.loom_outside.specs.declared.outside.Role.TheVariants.{Work}
+use Rattle.loom_host.specs.declared.outside.Host.{Ghosts}
+use Rattle.loom_host.specs.declared.outside.Role.TheVariants.{Work}
 use Rattle.object_table.specs.Entries.{is_short, place_of}
 use Rattle.disk_objects.specs.Function.{disk_of}
 use Rattle.core_view.specs.Words.{meant}

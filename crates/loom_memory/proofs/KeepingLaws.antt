@@ -3,7 +3,7 @@ use Rattle.std.proofs.Common.{◌≡◌, ◌⊎◌, ℕ, Bool, false, sym, ◌�
 use Rattle.std.specs.Result.{OnOk}
 use Rattle.long_names.specs.declared.value.Value.{Value}
 use Rattle.long_names.specs.State.{name_at, IsRef}
-use Rattle.loom_outside.specs.declared.outside.Host.{Ghosts}
+use Rattle.loom_host.specs.declared.outside.Host.{Ghosts}
 use Rattle.object_memory.specs.declared.fault.MemFault.{MemFault}
 use Rattle.object_memory.specs.Told.{Told, Cache}
 use Rattle.core_view.specs.Counts.{marked_of}

@@ -14,8 +14,8 @@ use Rattle.long_names.specs.State.{name_at, class_at, set_register, IsRef}
 use Rattle.long_names.specs.Need.{Fits, words_at, words_named}
 use Rattle.long_names.specs.Access.{Access, Known, Class, KindOf, Length, Header, Field, SetField, Word, SetWord, Byte, SetByte, ReadWords, WriteWords, ReadBytes, Make, Pin, Mark, Say, Swap, Nothing, object_of}
 use Rattle.long_names.proofs.ThinLemmas.{IsThinner-refl}
-use Rattle.loom_outside.specs.declared.outside.Host.{Ghosts}
-use Rattle.loom_outside.specs.declared.outside.Role.TheVariants.{Work}
+use Rattle.loom_host.specs.declared.outside.Host.{Ghosts}
+use Rattle.loom_host.specs.declared.outside.Role.TheVariants.{Work}
 use Rattle.object_memory.specs.declared.fault.MemFault.{MemFault}
 use Rattle.object_memory.specs.declared.fault.MemFault.TheVariants.{CoreFull}
 use Rattle.object_memory.specs.declared.fault.Need.{Need}

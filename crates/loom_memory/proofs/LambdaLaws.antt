@@ -15,9 +15,9 @@ use Rattle.long_names.proofs.ThinLemmas.{holds-field}
 use Rattle.loom_memory.specs.Below.{IsBelow}
 use Rattle.long_names.specs.State.{set_register}
 use Rattle.long_names.specs.Access.{Access, Field, brought}
-use Rattle.loom_outside.specs.declared.outside.Host.{Ghosts}
-use Rattle.loom_outside.specs.declared.outside.Role.TheVariants.{Work, Transcript}
-use Rattle.loom_outside.specs.declared.outside.DiskFault.{DiskFault}
+use Rattle.loom_host.specs.declared.outside.Host.{Ghosts}
+use Rattle.loom_host.specs.declared.outside.Role.TheVariants.{Work, Transcript}
+use Rattle.loom_host.specs.declared.outside.DiskFault.{DiskFault}
 use Rattle.object_memory.specs.declared.fault.MemFault.{MemFault}
 use Rattle.object_memory.specs.declared.fault.MemFault.TheVariants.{Damaged}
 use Rattle.object_memory.specs.Told.{Told, Bounds, IsReady}
@@ -28,7 +28,7 @@ use Rattle.object_memory.specs.Plain.{refused}
 use Rattle.object_record.specs.Objects.{value_in, int_in}
 use Rattle.object_table.specs.declared.entry.Entry.{Entry}
 use Rattle.object_table.specs.Entries.{is_used, place_of}
-use Rattle.loom_outside.specs.Work.{IsWorkRead}
+use Rattle.loom_host.specs.Work.{IsWorkRead}
 use Rattle.disk_objects.specs.declared.rest.DiskRest.{DiskRest}
 use Rattle.disk_objects.specs.Disk.{disk_room}
 use Rattle.purger.specs.Purge.{IsReadFault}

@@ -11,8 +11,8 @@ use Rattle.object_memory.specs.declared.fault.MemFault.{MemFault}
 use Rattle.object_memory.specs.Told.{Told, Cache, IsReady}
 use Rattle.object_memory.specs.Contract.{Accessed, IfBounds, HasCore}
 use Rattle.method_cache.specs.Found.{found}
-use Rattle.loom_outside.specs.declared.outside.Host.{Ghosts}
-use Rattle.loom_outside.specs.declared.outside.Role.TheVariants.{Work}
+use Rattle.loom_host.specs.declared.outside.Host.{Ghosts}
+use Rattle.loom_host.specs.declared.outside.Role.TheVariants.{Work}
 use Rattle.disk_objects.specs.declared.rest.DiskRest.{DiskRest}
 use Rattle.disk_objects.specs.Function.{disk_of}
 use Rattle.core_view.specs.Core.{Core}

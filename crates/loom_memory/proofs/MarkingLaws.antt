@@ -9,8 +9,8 @@ use Rattle.long_names.specs.Heap.{Has}
 use Rattle.long_names.specs.State.{name_at, set_register}
 use Rattle.long_names.specs.Access.{Mark, Nothing}
 use Rattle.long_names.proofs.ThinLemmas.{IsThinner-refl}
-use Rattle.loom_outside.specs.declared.outside.Host.{Ghosts}
-use Rattle.loom_outside.specs.declared.outside.Role.TheVariants.{Work}
+use Rattle.loom_host.specs.declared.outside.Host.{Ghosts}
+use Rattle.loom_host.specs.declared.outside.Role.TheVariants.{Work}
 use Rattle.object_memory.specs.Told.{Told, Cache, Bounds, IsReady}
 use Rattle.object_memory.specs.Contract.{SameBounds, Raised, IfBounds, HasCore, Accessed, LeavesCache, no_names, with_mark, row_of_values, is_marked}
 use Rattle.object_table.specs.declared.entry.Entry.{Entry}

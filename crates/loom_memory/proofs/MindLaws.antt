@@ -7,7 +7,7 @@ use Rattle.long_names.specs.Counting.{counted}
 use Rattle.long_names.specs.State.{set_register}
 use Rattle.long_names.specs.declared.value.Value.TheVariants.{Ref}
 use Rattle.loom_memory.proofs.MakingLaws.{set_here}
-use Rattle.loom_outside.specs.declared.outside.Host.{Ghosts}
+use Rattle.loom_host.specs.declared.outside.Host.{Ghosts}
 use Rattle.object_table.specs.Entries.{is_used, place_of}
 use Rattle.core_view.specs.Core.{Core}
 use Rattle.core_view.specs.Counts.{marked_by}

@@ -14,9 +14,9 @@ use Rattle.long_names.specs.Heap.{Heap, Has, put_object, count_of}
 use Rattle.long_names.specs.Thin.{IsWhole}
 use Rattle.long_names.proofs.ThinLemmas.{IsWhole-put_object}
 use Rattle.long_names.proofs.CountLaws.{count-same_fields, eqb-here, eqb-other}
-use Rattle.loom_outside.specs.declared.outside.Host.{Ghosts}
-use Rattle.loom_outside.specs.declared.outside.Role.TheVariants.{Work}
-use Rattle.loom_outside.specs.Work.{work_of}
+use Rattle.loom_host.specs.declared.outside.Host.{Ghosts}
+use Rattle.loom_host.specs.declared.outside.Role.TheVariants.{Work}
+use Rattle.loom_host.specs.Work.{work_of}
 use Rattle.object_table.specs.declared.entry.Entry.{Entry}
 use Rattle.object_table.specs.Entries.{put, is_short, is_used, place_of}
 use Rattle.disk_objects.specs.declared.rest.DiskRest.{DiskRest}

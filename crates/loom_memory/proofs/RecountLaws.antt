@@ -1,6 +1,6 @@
 -- Changes of counts differ in entries, and nothing else: what is told stays, and so does what is kept.
 use Rattle.std.proofs.Common.{◌≡◌, ℕ, ℤ, Option, Some, None, List, [], refl, sym, ◌∙◌, ap, subst, arith}
-use Rattle.loom_outside.specs.declared.outside.Host.{Ghosts}
+use Rattle.loom_host.specs.declared.outside.Host.{Ghosts}
 use Rattle.object_table.specs.declared.entry.Entry.{Entry}
 use Rattle.object_table.specs.Entries.{is_used, place_of, sum_below}
 use Rattle.core_segment.specs.declared.segment.Segment.{Segment}

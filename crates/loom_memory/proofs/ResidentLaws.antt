@@ -6,7 +6,7 @@ use Rattle.std.proofs.lemmas.List.Sums.{sum_by-cons}
 use Rattle.std.specs.Prelude.{sum_by}
 use Rattle.std.specs.Option.{is_some, option_map_or}
 use Rattle.object_memory.specs.Told.{has_slot}
-use Rattle.loom_outside.specs.declared.outside.Host.{Ghosts}
+use Rattle.loom_host.specs.declared.outside.Host.{Ghosts}
 use Rattle.object_table.specs.Entries.{put, place_of, sum_below}
 use Rattle.core_segment.specs.declared.segment.TheConstants.{HEADER}
 use Rattle.core_segment.specs.Chunks.{Chunk, Placed, room_of, no_chunk, at_place, IsLaidOut}

@@ -12,11 +12,11 @@ use Rattle.object_memory.specs.declared.fault.MemFault.TheVariants.{CoreFull, Wo
 use Rattle.object_memory.specs.Told.{Told, Bounds, Cache, IsReady}
 use Rattle.object_memory.specs.Contract.{Does, SameBounds, Raised, IfBounds, ForBounds, HasCore, Accessed, LeavesCache, SaysBy, no_names, said_faults}
 use Rattle.object_memory.specs.Plain.{refused}
-use Rattle.loom_outside.specs.Outside.{RoleState, PutPrefix, SameBut}
-use Rattle.loom_outside.specs.Work.{work_of}
-use Rattle.loom_outside.specs.declared.outside.Host.{Ghosts}
-use Rattle.loom_outside.specs.declared.outside.Role.{Role}
-use Rattle.loom_outside.specs.declared.outside.Role.TheVariants.{Image, Events, Work, Saved, Display, Transcript, Notes}
+use Rattle.loom_host.specs.Outside.{RoleState, PutPrefix, SameBut}
+use Rattle.loom_host.specs.Work.{work_of}
+use Rattle.loom_host.specs.declared.outside.Host.{Ghosts}
+use Rattle.loom_host.specs.declared.outside.Role.{Role}
+use Rattle.loom_host.specs.declared.outside.Role.TheVariants.{Image, Events, Work, Saved, Display, Transcript, Notes}
 use Rattle.disk_objects.specs.declared.rest.DiskRest.{DiskRest}
 use Rattle.disk_objects.specs.Calls.{HoldsObjects}
 use Rattle.disk_objects.specs.Disk.{disk_held, disk_room}

@@ -8,8 +8,8 @@ use Rattle.long_names.specs.Heap.{Has}
 use Rattle.long_names.specs.State.{set_slot, name_at}
 use Rattle.long_names.specs.Access.{Pin, Nothing}
 use Rattle.long_names.proofs.ThinLemmas.{IsWhole-pin, IsThinner-refl}
-use Rattle.loom_outside.specs.declared.outside.Host.{Ghosts}
-use Rattle.loom_outside.specs.declared.outside.Role.TheVariants.{Work}
+use Rattle.loom_host.specs.declared.outside.Host.{Ghosts}
+use Rattle.loom_host.specs.declared.outside.Role.TheVariants.{Work}
 use Rattle.object_memory.specs.Told.{Told, Cache, Bounds, IsReady}
 use Rattle.object_memory.specs.Contract.{SameBounds, Raised, IfBounds, HasCore, Accessed, LeavesCache, no_names}
 use Rattle.object_table.specs.Entries.{is_short, is_used}

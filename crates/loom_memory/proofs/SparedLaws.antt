@@ -2,8 +2,8 @@
 use Rattle.std.proofs.Common.{◌≡◌, ℕ, ◌+◌, ◌<◌, IsTrue, Ok, Err, Result, sym, ◌∙◌, subst, ⊎_elim}
 use Rattle.std.specs.Prelude.{IfErr, OnOk}
 use Rattle.long_names.specs.Objects.{Making, body_made, body_words}
-use Rattle.loom_outside.specs.declared.outside.Host.{Ghosts}
-use Rattle.loom_outside.specs.declared.outside.Role.TheVariants.{Work}
+use Rattle.loom_host.specs.declared.outside.Host.{Ghosts}
+use Rattle.loom_host.specs.declared.outside.Role.TheVariants.{Work}
 use Rattle.object_memory.specs.declared.fault.MemFault.{MemFault}
 use Rattle.disk_objects.specs.Disk.{disk_room}
 use Rattle.leaf_lambda.specs.Parts.{core_of}

@@ -20,8 +20,8 @@ use Rattle.long_names.specs.Thin.{IsWhole, IsThinner}
 use Rattle.long_names.specs.Access.{Access, Known, Class, KindOf, Length, Header, Field, SetField, Word, SetWord, Byte, SetByte, ReadWords, WriteWords, ReadBytes, Make, Pin, Mark, Say, Swap, Nothing, CanDo, heap_after, with_body, with_swapped, target_of}
 use Rattle.long_names.proofs.AccessLaws.{whole-heap}
 use Rattle.long_names.proofs.ThinLemmas.{IsThinner-refl}
-use Rattle.loom_outside.specs.declared.outside.Host.{Ghosts}
-use Rattle.loom_outside.specs.declared.outside.Role.TheVariants.{Work}
+use Rattle.loom_host.specs.declared.outside.Host.{Ghosts}
+use Rattle.loom_host.specs.declared.outside.Role.TheVariants.{Work}
 use Rattle.object_memory.specs.declared.fault.MemFault.{MemFault}
 use Rattle.object_memory.specs.Told.{Told, Cache, Bounds, IsReady}
 use Rattle.object_memory.specs.Contract.{SameBounds, Raised, IfBounds, HasCore, Accessed, LeavesCache, touched_by, makes, stores}

@@ -15,12 +15,12 @@ use Rattle.long_names.specs.State.{IsRef, name_at}
 use Rattle.long_names.specs.declared.limits.TheConstants.{SLOTS}
 use Rattle.long_names.specs.Heap.{Has, put_object}
 use Rattle.long_names.specs.Access.{Swap, IsUnpinned, heap_after, with_swapped}
-use Rattle.loom_outside.specs.Outside.{RoleState}
-use Rattle.loom_outside.specs.Work.{work_of, IsWorkOnly}
-use Rattle.loom_outside.specs.declared.outside.DiskFault.{DiskFault}
-use Rattle.loom_outside.specs.declared.outside.DiskFault.TheVariants as fault
-use Rattle.loom_outside.specs.declared.outside.Host.{Ghosts}
-use Rattle.loom_outside.specs.declared.outside.Role.TheVariants.{Work, Transcript}
+use Rattle.loom_host.specs.Outside.{RoleState}
+use Rattle.loom_host.specs.Work.{work_of, IsWorkOnly}
+use Rattle.loom_host.specs.declared.outside.DiskFault.{DiskFault}
+use Rattle.loom_host.specs.declared.outside.DiskFault.TheVariants as fault
+use Rattle.loom_host.specs.declared.outside.Host.{Ghosts}
+use Rattle.loom_host.specs.declared.outside.Role.TheVariants.{Work, Transcript}
 use Rattle.object_memory.specs.declared.fault.MemFault.{MemFault}
 use Rattle.object_memory.specs.Told.{Told, IsReady, Bounds}
 use Rattle.object_memory.specs.Contract.{HasCore, IfBounds, touched_by}

@@ -1,8 +1,8 @@
 -- Steps by which no object leaves the core.
 use Rattle.std.specs.Prelude.{◌≡◌, ℕ, IsTrue, Some}
-use Rattle.loom_outside.specs.declared.outside.Host.{Ghosts}
-use Rattle.loom_outside.specs.declared.outside.Role.TheVariants.{Work}
-use Rattle.loom_outside.specs.Work.{IsWorkRead}
+use Rattle.loom_host.specs.declared.outside.Host.{Ghosts}
+use Rattle.loom_host.specs.declared.outside.Role.TheVariants.{Work}
+use Rattle.loom_host.specs.Work.{IsWorkRead}
 use Rattle.object_table.specs.Entries.{place_of}
 use Rattle.core_view.specs.Core.{Core}
 use Rattle.leaf_lambda.specs.Parts.{core_of}

@@ -1,8 +1,8 @@
 -- What is left to the caller of the host that a memory holds.
 use Rattle.std.specs.Prelude.{◌≡◌, ℕ}
-use Rattle.loom_outside.specs.declared.outside.Host.{Ghosts}
-use Rattle.loom_outside.specs.declared.outside.Role.{Role}
-use Rattle.loom_outside.specs.declared.outside.Role.TheVariants.{Saved, Notes, Work, Transcript}
+use Rattle.loom_host.specs.declared.outside.Host.{Ghosts}
+use Rattle.loom_host.specs.declared.outside.Role.{Role}
+use Rattle.loom_host.specs.declared.outside.Role.TheVariants.{Saved, Notes, Work, Transcript}
 use Rattle.object_memory.specs.Contract.{work_faults, said_faults}
 use Rattle.loom_memory.specs.declared.memory.LoomMemory.{LoomMemory}
 use Rattle.loom_memory.specs.Memory.{loom_told, loom_outside}

@@ -9,15 +9,15 @@ use Rattle.long_names.specs.Heap.{Heap}
 use Rattle.long_names.specs.Objects.{body_words}
 use Rattle.long_names.specs.Access.{Access, Say, Field, SetField, brought, heap_after, target_of}
 use Rattle.long_names.specs.State.{set_register}
-use Rattle.loom_outside.specs.Outside.{RoleState, at_start, holds}
-use Rattle.loom_outside.specs.declared.outside.Role.{Role}
-use Rattle.loom_outside.specs.declared.outside.Role.TheVariants.{Work, Transcript}
-use Rattle.loom_outside.specs.declared.outside.Host.{Ghosts}
+use Rattle.loom_host.specs.Outside.{RoleState, at_start, holds}
+use Rattle.loom_host.specs.declared.outside.Role.{Role}
+use Rattle.loom_host.specs.declared.outside.Role.TheVariants.{Work, Transcript}
+use Rattle.loom_host.specs.declared.outside.Host.{Ghosts}
 use Rattle.object_memory.specs.Told.{Told}
 use Rattle.object_memory.specs.declared.fault.MemFault.{MemFault}
 use Rattle.object_memory.specs.declared.fault.MemFault.TheVariants.{WorkFault, Damaged}
-use Rattle.loom_outside.specs.declared.outside.DiskFault.{DiskFault}
-use Rattle.loom_outside.specs.declared.outside.DiskFault.TheVariants as fault
+use Rattle.loom_host.specs.declared.outside.DiskFault.{DiskFault}
+use Rattle.loom_host.specs.declared.outside.DiskFault.TheVariants as fault
 use Rattle.object_record.specs.Buffer.{raw_of, HasRecord}
 use Rattle.object_record.specs.Objects.{object_in}
 use Rattle.object_table.specs.declared.entry.Entry.{Entry}

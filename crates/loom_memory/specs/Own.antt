@@ -9,9 +9,9 @@ use Rattle.long_names.specs.Heap.{Has}
 use Rattle.long_names.specs.Need.{Fits, words_at}
 use Rattle.long_names.specs.Objects.{Making, body_made, body_words}
 use Rattle.long_names.specs.Access.{Access}
-use Rattle.loom_outside.specs.declared.outside.Host.{Ghosts}
-use Rattle.loom_outside.specs.declared.outside.Role.TheVariants.{Work}
-use Rattle.loom_outside.specs.Work.{IsWorkRead}
+use Rattle.loom_host.specs.declared.outside.Host.{Ghosts}
+use Rattle.loom_host.specs.declared.outside.Role.TheVariants.{Work}
+use Rattle.loom_host.specs.Work.{IsWorkRead}
 use Rattle.object_memory.specs.declared.fault.MemFault.{MemFault}
 use Rattle.object_memory.specs.declared.fault.Need.{Need}
 use Rattle.object_memory.specs.Told.{Told, Bounds}

@@ -4,8 +4,8 @@ use Rattle.long_names.specs.declared.object.Kind.TheVariants as kind
 use Rattle.long_names.specs.Access.{Say, said_by}
 use Rattle.object_memory.specs.Told.{Told}
 use Rattle.object_memory.specs.Contract.{SameBounds, Raised, LeavesCache, no_names}
-use Rattle.loom_outside.specs.declared.outside.Host.{Ghosts}
-use Rattle.loom_outside.specs.declared.outside.Role.TheVariants.{Work}
+use Rattle.loom_host.specs.declared.outside.Host.{Ghosts}
+use Rattle.loom_host.specs.declared.outside.Role.TheVariants.{Work}
 use Rattle.object_table.specs.Entries.{place_of}
 use Rattle.core_view.specs.Core.{Core}
 use Rattle.core_view.specs.Words.{bytes_in}

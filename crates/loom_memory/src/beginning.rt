@@ -1,7 +1,7 @@
 // A memory begins, over a disk that is loaded.
 ghost use Rattle.std.specs.Prelude.{◌≡◌, ◌≤◌, ◌%◌, ℕ, IsTrue, IfOk, false};
 ghost use Rattle.long_names.specs.Heap.{Heap};
-ghost use Rattle.loom_outside.specs.declared.outside.Role.TheVariants.{Work, Transcript};
+ghost use Rattle.loom_host.specs.declared.outside.Role.TheVariants.{Work, Transcript};
 ghost use Rattle.core_segment.specs.declared.segment.TheConstants.{HEADER, MOST_WORDS};
 ghost use Rattle.object_table.specs.declared.table.TheConstants.{MOST_ENTRIES};
 ghost use Rattle.disk_objects.specs.Disk.{disk_held, disk_room};
@@ -12,7 +12,7 @@ use crate::memory::LoomMemory;
 use disk_objects::DiskObjects;
 use leaf_lambda::Parts;
 use long_names::REGISTERS;
-use loom_outside::Host;
+use loom_host::Host;
 use method_cache::Cache;
 use object_record::RecordBuf;
 use object_table::laws::entries_are_counted;

@@ -1,7 +1,7 @@
 // What a refusal of the disk is to the caller of a memory.
 ghost use Rattle.loom_memory.specs.Memory.{IsRefusalOf};
 
-use loom_outside::DiskFault;
+use loom_host::DiskFault;
 use object_memory::MemFault;
 use purger::NOWHERE;
 

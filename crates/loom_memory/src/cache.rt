@@ -10,7 +10,7 @@ use crate::ledger::Ledger;
 use crate::memory::LoomMemory;
 use leaf_lambda::Parts;
 use leaf_lambda::fields::is_name;
-use loom_outside::Host;
+use loom_host::Host;
 use object_memory::{MemFault, Reg};
 use object_table::Short;
 

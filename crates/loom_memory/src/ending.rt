@@ -7,7 +7,7 @@ use crate::bring::refusal_of;
 use crate::memory::LoomMemory;
 use disk_objects::DiskObjects;
 use long_names::REGISTERS;
-use loom_outside::{Host, Role};
+use loom_host::{Host, Role};
 use object_memory::{MemFault, Reg};
 use purger::close;
 

@@ -6,7 +6,7 @@ ghost use Rattle.object_table.specs.Table.{entries_of};
 use crate::bring::refusal_of;
 use crate::memory::LoomMemory;
 use leaf_lambda::Parts;
-use loom_outside::Host;
+use loom_host::Host;
 use object_memory::MemFault;
 use object_table::laws::entries_are_counted;
 use purger::{RoomFault, compact};

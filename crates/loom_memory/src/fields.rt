@@ -18,7 +18,7 @@ use leaf_lambda::numbers::short_int;
 use leaf_lambda::steps::{field_word, find_or_leaf, place_of_body};
 use leaf_lambda::{Parts, resolve};
 use long_names::{Value, value_of};
-use loom_outside::{Host, Role};
+use loom_host::{Host, Role};
 use object_memory::{MemFault, Reg};
 use object_table::Short;
 use purger::eviction::read_copy;

@@ -8,7 +8,7 @@ ghost use Rattle.loom_memory.specs.declared.load.TheConstants.{SPARE_ENTRIES as 
 use crate::memory::LoomMemory;
 use core_segment::Segment;
 use core_segment::laws::chunks_never_overlap;
-use loom_outside::Host;
+use loom_host::Host;
 use object_memory::{MemFault, Reg};
 use object_table::Short;
 use purger::compact;

@@ -1,11 +1,11 @@
 // The memory of two levels is an object memory: each call is the one of its name, whose promises of the core and of Work stand there.
 use crate::memory::LoomMemory;
 use long_names::{Kind, Name};
-use loom_outside::Host;
+use loom_host::Host;
 use object_memory::{MemFault, ObjectMemory, Reg};
 
 impl<'h, H: Host> ObjectMemory for LoomMemory<'h, H> {
-    ghost use Rattle.loom_outside.specs.declared.outside.Role.{Role as HostRole};
+    ghost use Rattle.loom_host.specs.declared.outside.Role.{Role as HostRole};
     ghost use Rattle.loom_memory.specs.Memory.{loom_told, loom_outside, loom_lender, IsSound, Others};
 
     ghost told = { loom_told H.Host };

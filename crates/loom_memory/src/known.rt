@@ -9,7 +9,7 @@ use crate::memory::LoomMemory;
 use leaf_lambda::fields::is_name;
 use leaf_lambda::steps::find_or_leaf;
 use long_names::{ENTRIES_OF_A_CALL, Name};
-use loom_outside::{Host, Role};
+use loom_host::{Host, Role};
 use object_memory::{MemFault, Need, Reg};
 use object_table::Short;
 use object_table::laws::entries_are_counted;

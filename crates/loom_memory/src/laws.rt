@@ -8,7 +8,7 @@ ghost use Rattle.loom_memory.specs.declared.memory.LoomMemory.{LoomMemory};
 ghost use Rattle.loom_memory.specs.Memory.{loom_told};
 ghost use Rattle.loom_memory.specs.Own.{IsAmple};
 
-use loom_outside::Host;
+use loom_host::Host;
 use object_memory::MemFault;
 
 /// An access that has all that it asks for is answered: its rows fit the core, there are room and a name for what it makes, and no call

@@ -1,9 +1,9 @@
 // The host's roles that a memory leaves to its caller.
 ghost use Rattle.std.specs.Prelude.{◌≡◌, IsTrue, OnOk, OnErr};
-ghost use Rattle.loom_outside.specs.Outside.{SameBut, PutPrefix, HasCause, puts};
+ghost use Rattle.loom_host.specs.Outside.{SameBut, PutPrefix, HasCause, puts};
 
 use crate::memory::LoomMemory;
-use loom_outside::{Failed, Host, Role};
+use loom_host::{Failed, Host, Role};
 
 impl<'h, H: Host> LoomMemory<'h, H> {
     ghost use Rattle.loom_memory.specs.Memory.{loom_told, loom_outside, IsSound};

@@ -23,7 +23,7 @@ use leaf_lambda::bodies::words_of;
 use leaf_lambda::leaving::{body_total, field_total};
 use leaf_lambda::{Parts, translate_in};
 use long_names::{ENTRIES_OF_A_CALL, Name};
-use loom_outside::{Host, Role};
+use loom_host::{Host, Role};
 use object_memory::{MemFault, Need, Reg};
 use object_table::Short;
 use object_table::laws::entries_are_counted;

@@ -18,7 +18,7 @@ use core_segment::HEADER;
 use core_segment::laws::chunks_never_overlap;
 use leaf_lambda::numbers::{int_short, short_int};
 use long_names::{Kind, LAST_NAME, MAKINGS_BEFORE_FREEING, Name, literal_count};
-use loom_outside::{Host, Role};
+use loom_host::{Host, Role};
 use object_memory::{MemFault, Reg};
 use object_table::Short;
 use object_table::laws::entries_are_counted;

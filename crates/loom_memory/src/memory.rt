@@ -5,7 +5,7 @@ ghost use Rattle.long_names.specs.State.{set_register};
 ghost use Rattle.object_table.specs.Entries.{is_short, is_used, place_of};
 ghost use Rattle.core_view.specs.Words.{meant, int_of_short};
 ghost use Rattle.core_segment.specs.Segment.{largest_of};
-ghost use Rattle.loom_outside.specs.Work.{IsWorkOnly};
+ghost use Rattle.loom_host.specs.Work.{IsWorkOnly};
 ghost use Rattle.disk_objects.specs.Disk.{disk_room};
 ghost use Rattle.leaf_lambda.specs.Parts.{core_of, spare_of};
 
@@ -14,7 +14,7 @@ use disk_objects::DiskObjects;
 use leaf_lambda::Parts;
 use leaf_lambda::fields::{drop_word, hold_word};
 use long_names::{Name, REGISTERS};
-use loom_outside::Host;
+use loom_host::Host;
 use object_memory::{MemFault, Reg};
 use object_record::RecordBuf;
 use object_table::Short;

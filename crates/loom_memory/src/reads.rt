@@ -11,7 +11,7 @@ use crate::bodies::{
 use crate::memory::LoomMemory;
 use leaf_lambda::fields::is_name;
 use long_names::Kind;
-use loom_outside::Host;
+use loom_host::Host;
 use object_memory::{MemFault, Reg};
 use object_table::Short;
 

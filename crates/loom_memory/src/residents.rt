@@ -4,7 +4,7 @@ ghost use Rattle.std.specs.Prelude.{◌≡◌, ◌≤◌};
 use crate::memory::LoomMemory;
 use core_segment::laws::chunks_never_overlap;
 use long_names::Name;
-use loom_outside::Host;
+use loom_host::Host;
 
 impl<'h, H: Host> LoomMemory<'h, H> {
     ghost use Rattle.object_memory.specs.Contract.{ForBounds};

@@ -6,7 +6,7 @@ ghost use Rattle.leaf_lambda.specs.Parts.{core_of};
 use crate::bodies::bytes_into;
 use crate::memory::LoomMemory;
 use long_names::Kind;
-use loom_outside::{Host, Role};
+use loom_host::{Host, Role};
 use object_memory::{MemFault, Reg};
 use object_table::Short;
 

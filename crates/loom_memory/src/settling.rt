@@ -14,7 +14,7 @@ use crate::bring::refusal_of;
 use crate::memory::LoomMemory;
 use leaf_lambda::{Parts, RESERVE};
 use long_names::MAKINGS_BEFORE_FREEING;
-use loom_outside::{Host, Role};
+use loom_host::{Host, Role};
 use object_memory::MemFault;
 use object_table::Short;
 use purger::room::has_room;

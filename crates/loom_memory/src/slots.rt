@@ -5,7 +5,7 @@ ghost use Rattle.loom_memory.specs.Memory.{pin_in, with_pin};
 
 use crate::memory::LoomMemory;
 use leaf_lambda::fields::{drop_word, hold_word};
-use loom_outside::Host;
+use loom_host::Host;
 use object_memory::{MemFault, Reg};
 use purger::Pinned;
 

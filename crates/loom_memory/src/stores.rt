@@ -21,7 +21,7 @@ use leaf_lambda::leaving::field_total;
 use leaf_lambda::steps::{field_word, place_of_body};
 use leaf_lambda::storing::{put_byte, put_words};
 use long_names::Kind;
-use loom_outside::{Host, Role};
+use loom_host::{Host, Role};
 use object_memory::{MemFault, Reg};
 use object_table::Short;
 use purger::NOWHERE;

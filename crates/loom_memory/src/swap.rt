@@ -4,7 +4,7 @@ ghost use Rattle.std.specs.Prelude.{◌≡◌, ◌≢◌, ℕ, None, IsTrue, OnO
 use crate::bring::refusal_of;
 use crate::memory::LoomMemory;
 use disk_objects::laws::a_disk_is_its_objects;
-use loom_outside::Host;
+use loom_host::Host;
 use object_memory::{MemFault, Reg};
 use object_table::Short;
 use purger::eviction::evict;

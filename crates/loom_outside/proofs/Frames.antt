@@ -4,12 +4,12 @@
 use Rattle.std.proofs.Common.{◌≡◌, ◌≢◌, ℕ, List, ◌∙◌, ap, sym, subst, arith, rules, Bool, true, Option, None, Result, Ok, Err, OnErr, is_err, if◌then◌else◌}
 use Rattle.std.proofs.lemmas.List.{append-nil}
 use Rattle.loom_outside.specs.Memory.{told}
-use Rattle.loom_outside.specs.Outside.{RoleState, SameBut, CanRead, CanWrite, PutPrefix, holds}
+use Rattle.loom_host.specs.Outside.{RoleState, SameBut, CanRead, CanWrite, PutPrefix, holds}
 use Rattle.loom_outside.specs.PerRole.{at_role}
 use Rattle.loom_outside.specs.Store.{held_of}
 use Rattle.loom_outside.specs.declared.calls.Calls.{Calls}
-use Rattle.loom_outside.specs.declared.outside.Role.{Role}
-use Rattle.loom_outside.specs.declared.outside.Role.TheVariants.{Work}
+use Rattle.loom_host.specs.declared.outside.Role.{Role}
+use Rattle.loom_host.specs.declared.outside.Role.TheVariants.{Work}
 use Rattle.loom_outside.specs.declared.per_role.PerRole.{PerRole}
 use Rattle.loom_outside.specs.declared.store.Store.{Store}
 

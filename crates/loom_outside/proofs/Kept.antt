@@ -8,7 +8,7 @@ use Rattle.loom_outside.specs.Files.{name_of, names, contents, bytes_at, is_name
 use Rattle.loom_outside.specs.Store.{is_place}
 use Rattle.loom_outside.specs.declared.files.File.{File}
 use Rattle.loom_outside.proofs.Places.{newest-push}
-use Rattle.loom_outside.specs.Outside.{at_start, puts}
+use Rattle.loom_host.specs.Outside.{at_start, puts}
 use Rattle.loom_outside.specs.Reading.{shown, Stands, reading, writing}
 use Rattle.loom_outside.specs.declared.reader.Reader.{Reader}
 

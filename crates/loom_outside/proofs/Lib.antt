@@ -1,8 +1,4 @@
-mod Copies
 mod Frames
 mod Kept
-mod Pieces
 mod Places
 mod Taken
-pub mod Windows
-pub mod WorkLaws

@@ -2,7 +2,7 @@
 use Rattle.std.proofs.Common.{◌≡◌, ℕ, ◌+◌, ◌-◌, ◌≤◌, List, ◌++◌, length, take, drop, Option, sym, ◌∙◌, ap, arith, length-drop, length-take}
 use Rattle.std.proofs.Math.Seq.{take-add}
 use Rattle.std.proofs.lemmas.List.{drop-drop, drop-take, take-take, take_at}
-use Rattle.loom_outside.specs.Outside.{Took, at_start}
+use Rattle.loom_host.specs.Outside.{Took, at_start}
 
 -- a part of what there is up to an end
 part : (t n end : ℕ) (bytes : List ℕ) → t ≤ end → n ≤ end - t → take n (drop t (take end bytes)) ≡ take n (drop t bytes)

@@ -1,13 +1,10 @@
-pub mod Bytes
 pub mod Files
 pub mod Lying
 pub mod Marks
 pub mod Memory
-pub mod Outside
 pub mod PerRole
 pub mod Plans
 pub mod Reading
 pub mod Real
 pub mod Rooms
 pub mod Store
-pub mod Work

@@ -1,9 +1,9 @@
 -- A host in memory whose Work lies once.
 use Rattle.std.specs.Prelude.{ℕ, ◌==◌, List, map, Bool, true, false, if◌then◌else◌, bit_xor}
 use Rattle.loom_outside.specs.Memory.{roles_of, faults_of, writes_of}
-use Rattle.loom_outside.specs.Outside.{RoleState}
-use Rattle.loom_outside.specs.declared.outside.Role.{Role}
-use Rattle.loom_outside.specs.declared.outside.Role.TheVariants.{Work}
+use Rattle.loom_host.specs.Outside.{RoleState}
+use Rattle.loom_host.specs.declared.outside.Role.{Role}
+use Rattle.loom_host.specs.declared.outside.Role.TheVariants.{Work}
 use Rattle.loom_outside.specs.declared.memory.MemoryHost.{MemoryHost}
 use Rattle.loom_outside.specs.declared.lying.LyingHost.{LyingHost}
 

@@ -1,13 +1,13 @@
 -- What a host in memory stands for. These words are not opened by themselves: who calls it goes by its clauses.
 use Rattle.std.specs.Prelude.{◌≡◌, ℕ, List, Bool, Option, None, Result, IsErr, is_err, IsTrue, if◌then◌else◌}
-use Rattle.loom_outside.specs.Outside.{RoleState, SameBut}
+use Rattle.loom_host.specs.Outside.{RoleState, SameBut}
 use Rattle.long_names.specs.Counting.{counted}
 use Rattle.loom_outside.specs.PerRole.{at_role}
 use Rattle.loom_outside.specs.Plans.{is_due, lowered}
 use Rattle.loom_outside.specs.Rooms.{Room}
 use Rattle.loom_outside.specs.Store.{held_of, file_in, shows, room_in}
-use Rattle.loom_outside.specs.declared.outside.Role.{Role}
-use Rattle.loom_outside.specs.declared.outside.Failed.{Failed}
+use Rattle.loom_host.specs.declared.outside.Role.{Role}
+use Rattle.loom_host.specs.declared.outside.Failed.{Failed}
 use Rattle.loom_outside.specs.declared.calls.Calls.{Calls}
 use Rattle.loom_outside.specs.declared.marks.Marks.{Marks}
 use Rattle.loom_outside.specs.declared.memory.MemoryHost.{MemoryHost}

@@ -1,7 +1,7 @@
 -- One value for each role.
 use Rattle.std.specs.Borrow.{Lends, MutBor, Fml, RattleType}
-use Rattle.loom_outside.specs.declared.outside.Role.{Role}
-use Rattle.loom_outside.specs.declared.outside.Role.TheVariants.{Image, Events, Work, Saved, Display, Transcript, Notes}
+use Rattle.loom_host.specs.declared.outside.Role.{Role}
+use Rattle.loom_host.specs.declared.outside.Role.TheVariants.{Image, Events, Work, Saved, Display, Transcript, Notes}
 use Rattle.loom_outside.specs.declared.per_role.PerRole.{PerRole}
 use Rattle.loom_outside.specs.contracts.per_role.PerRole.{the_row}
 

@@ -1,7 +1,7 @@
 -- Files that are read, and files that are written.
 use Rattle.std.specs.Prelude.{ℕ, ◌<◌, ◌≤◌, List, length, take, drop, slice_index_or, Option, None}
 use Rattle.loom_outside.specs.Files.{bytes_at}
-use Rattle.loom_outside.specs.Outside.{RoleState, at_start}
+use Rattle.loom_host.specs.Outside.{RoleState, at_start}
 use Rattle.loom_outside.specs.declared.reader.Reader.{Reader}
 
 -- the bytes of its file that a reader comes to: those that were there at the attach

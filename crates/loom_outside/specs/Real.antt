@@ -1,7 +1,7 @@
 -- What a host over files counts.
 use Rattle.std.specs.Prelude.{ℕ}
 use Rattle.loom_outside.specs.PerRole.{at_role}
-use Rattle.loom_outside.specs.declared.outside.Role.{Role}
+use Rattle.loom_host.specs.declared.outside.Role.{Role}
 use Rattle.loom_outside.specs.declared.real.RealHost.{RealHost}
 
 -- whatever runtime and writers it stands on

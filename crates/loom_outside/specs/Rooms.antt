@@ -1,7 +1,7 @@
 -- How much a role can take with no growth.
 use Rattle.std.specs.Prelude.{ℕ, ◌≤◌, Bool, IsTrue}
-use Rattle.loom_outside.specs.declared.outside.Role.{Role}
-use Rattle.loom_outside.specs.declared.outside.Role.TheVariants.{Image, Events, Transcript, Notes}
+use Rattle.loom_host.specs.declared.outside.Role.{Role}
+use Rattle.loom_host.specs.declared.outside.Role.TheVariants.{Image, Events, Transcript, Notes}
 
 pub record Room : Type 0 where
   -- bytes of what is put to it, or of Work

@@ -2,11 +2,11 @@
 use Rattle.std.specs.Prelude.{ℕ, List, Bool, true, false, ◌==◌, Option, None, Some, slice_index, vec_capacity}
 use Rattle.std.specs.Option.{option_map}
 use Rattle.loom_outside.specs.Files.{names, contents, rooms, bytes_at, newest}
-use Rattle.loom_outside.specs.Outside.{RoleState, at_start}
+use Rattle.loom_host.specs.Outside.{RoleState, at_start}
 use Rattle.loom_outside.specs.Reading.{reading, writing}
 use Rattle.loom_outside.specs.Rooms.{Room}
-use Rattle.loom_outside.specs.declared.outside.Role.{Role}
-use Rattle.loom_outside.specs.declared.outside.Role.TheVariants.{Image, Events, Work, Saved, Display, Transcript, Notes}
+use Rattle.loom_host.specs.declared.outside.Role.{Role}
+use Rattle.loom_host.specs.declared.outside.Role.TheVariants.{Image, Events, Work, Saved, Display, Transcript, Notes}
 use Rattle.loom_outside.specs.declared.store.Store.{Store}
 
 -- what a role holds, under the name of its file

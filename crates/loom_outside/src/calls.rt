@@ -1,6 +1,6 @@
 // The calls on each role of a host in memory.
 ghost use Rattle.std.specs.Prelude.{◌≡◌, ◌<◌, ◌++◌, ◌∷◌, [], true, false, None, Some, OnOk, OnErr};
-ghost use Rattle.loom_outside.specs.Outside.{SameBut};
+ghost use Rattle.loom_host.specs.Outside.{SameBut};
 ghost use Rattle.long_names.specs.Counting.{counted};
 ghost use Rattle.loom_outside.specs.PerRole.{at_role};
 ghost use Rattle.loom_outside.specs.Plans.{is_due, lowered};

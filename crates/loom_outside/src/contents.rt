@@ -1,8 +1,8 @@
 // What Work holds, under the name of its last attach.
 ghost use Rattle.std.specs.Prelude.{◌≡◌, ◌+◌, ◌≤◌, [], length, OnOk, OnErr, IsOk, vec_capacity};
-ghost use Rattle.loom_outside.specs.Bytes.{window, overwritten};
+ghost use Rattle.loom_host.specs.Bytes.{window, overwritten};
 
-use crate::bytes::{read_bytes_at, write_bytes_at};
+use loom_host::{read_bytes_at, write_bytes_at};
 use std::alloc::{AllocError, Global};
 
 #[derive(Drop)]

@@ -1,14 +1,14 @@
 // A host in memory whose Work isn't told: one read of it may lie.
 ghost use Rattle.std.specs.Prelude.{◌≡◌, ◌≢◌, ◌+◌, ◌-◌, ◌^◌, ◌<◌, ◌≤◌, ◌&&◌, ℕ, false, [], None, Some, List, IsTrue, IfOk, OnOk, OnErr, IsErr, IsOk, IsSome, length, take, min, if◌then◌else◌};
 ghost use Rattle.std.specs.Str.{bytes_eq};
-ghost use Rattle.loom_outside.specs.Bytes.{window, overwritten};
+ghost use Rattle.loom_host.specs.Bytes.{window, overwritten};
 ghost use Rattle.loom_outside.specs.Lying.{but_work, inner_of, until_of, mask_of, masked, read_as, roles_in, faults_in, writes_in};
 ghost use Rattle.loom_outside.specs.Marks.{marked, stored};
 ghost use Rattle.loom_outside.specs.Memory.{OneCall, chunk_of, plan_of, marks_of, file_of, shown_of, room_of, refused};
-ghost use Rattle.loom_outside.specs.Outside.{SameBut, HasCause, CanAttach, CanRead, CanWrite, makes_file, Attached, IsFresh, Took, TookSome, PutPrefix, ends, puts, holds};
+ghost use Rattle.loom_host.specs.Outside.{SameBut, HasCause, CanAttach, CanRead, CanWrite, makes_file, Attached, IsFresh, Took, TookSome, PutPrefix, ends, puts, holds};
 ghost use Rattle.long_names.specs.Counting.{counted};
 ghost use Rattle.loom_outside.specs.Plans.{is_due};
-ghost use Rattle.loom_outside.specs.declared.outside.Role.{Role};
+ghost use Rattle.loom_host.specs.declared.outside.Role.{Role};
 ghost use Rattle.loom_outside.specs.Rooms.{Widens};
 
 use crate::{Failed, Host, MemoryHost, Role};

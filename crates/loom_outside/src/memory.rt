@@ -1,13 +1,13 @@
 // A host in memory, for tests. It tells all, and fails where it is told to.
 ghost use Rattle.std.specs.Prelude.{◌≡◌, ◌≢◌, ◌+◌, ◌-◌, ◌^◌, ◌<◌, ◌≤◌, ◌++◌, ◌∷◌, ◌&&◌, ℕ, true, false, [], option_copied, None, Some, List, IsTrue, IfOk, OnOk, OnErr, IsErr, IsOk, IsSome, length, take, min, if◌then◌else◌};
 ghost use Rattle.std.specs.Str.{bytes_eq};
-ghost use Rattle.loom_outside.specs.Bytes.{window, overwritten};
+ghost use Rattle.loom_host.specs.Bytes.{window, overwritten};
 ghost use Rattle.loom_outside.specs.Marks.{marked, stored, unmarked};
 ghost use Rattle.loom_outside.specs.Memory.{OneCall, roles_of, faults_of, writes_of, chunk_of, plan_of, marks_of, file_of, shown_of, room_of, refused};
-ghost use Rattle.loom_outside.specs.Outside.{SameBut, HasCause, CanAttach, CanRead, CanWrite, makes_file, Attached, IsFresh, Took, TookSome, PutPrefix, at_start, ends, puts, holds};
+ghost use Rattle.loom_host.specs.Outside.{SameBut, HasCause, CanAttach, CanRead, CanWrite, makes_file, Attached, IsFresh, Took, TookSome, PutPrefix, at_start, ends, puts, holds};
 ghost use Rattle.long_names.specs.Counting.{counted};
 ghost use Rattle.loom_outside.specs.Plans.{is_due};
-ghost use Rattle.loom_outside.specs.declared.outside.Role.{Role};
+ghost use Rattle.loom_host.specs.declared.outside.Role.{Role};
 ghost use Rattle.loom_outside.specs.Rooms.{Widens, HasRoom};
 
 use crate::calls::Calls;

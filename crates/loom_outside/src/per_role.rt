@@ -1,7 +1,7 @@
 // One value for each role.
 ghost use Rattle.std.specs.Prelude.{◌≡◌, ◌≤◌, IsErr};
 ghost use Rattle.std.specs.Borrow.{sem};
-ghost use Rattle.loom_outside.specs.Outside.{SameBut};
+ghost use Rattle.loom_host.specs.Outside.{SameBut};
 ghost use Rattle.long_names.specs.Counting.{counted};
 ghost use Rattle.loom_outside.specs.PerRole.{at_role, lends_role};
 

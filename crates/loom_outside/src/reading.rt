@@ -2,7 +2,7 @@
 ghost use Rattle.std.specs.Prelude.{◌≡◌, ◌≤◌, [], Some, IfSome, length, min};
 ghost use Rattle.std.specs.Option.{option_map};
 ghost use Rattle.loom_outside.specs.Files.{names, contents, bytes_at, newest};
-ghost use Rattle.loom_outside.specs.Outside.{Took};
+ghost use Rattle.loom_host.specs.Outside.{Took};
 ghost use Rattle.loom_outside.specs.Reading.{Stands, reading};
 
 use crate::files::{self, File};

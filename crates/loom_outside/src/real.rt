@@ -9,9 +9,9 @@
 //   So at any moment, also after a kill or a loss of power, the file of that name is the old one or the new one, whole. Only a
 //   file that is none of the kind, as a device, or one in a folder where none can be made, is written in its place.
 ghost use Rattle.std.specs.Prelude.{◌≡◌, false};
-ghost use Rattle.loom_outside.specs.Outside.{at_start};
+ghost use Rattle.loom_host.specs.Outside.{at_start};
 ghost use Rattle.loom_outside.specs.Real.{faults_counted, writes_counted};
-ghost use Rattle.loom_outside.specs.declared.outside.Role.{Role};
+ghost use Rattle.loom_host.specs.declared.outside.Role.{Role};
 
 mod attached;
 mod expected;

@@ -33,11 +33,11 @@ pub struct Store {
 
 #[tactic(auto, unfolding(crate::specs::Store::held_of, crate::specs::Store::file_in, crate::specs::Store::shows, crate::specs::Store::room_in))]
 impl Store {
-    ghost use Rattle.loom_outside.specs.declared.outside.Role.{Role};
+    ghost use Rattle.loom_host.specs.declared.outside.Role.{Role};
     ghost use Rattle.std.specs.Prelude.{◌≡◌, ◌++◌, ℕ, List, [], true, false, None, Some, IsTrue, IsOk, IsSome, ◌&&◌, OnOk, OnErr, IfOk, option_copied, if◌then◌else◌, min};
     ghost use Rattle.std.specs.Str.{bytes_eq};
-    ghost use Rattle.loom_outside.specs.Outside.{SameBut, CanAttach, CanRead, CanWrite, makes_file, IsFresh, Took, at_start, unnamed, puts, holds};
-    ghost use Rattle.loom_outside.specs.Bytes.{window, overwritten};
+    ghost use Rattle.loom_host.specs.Outside.{SameBut, CanAttach, CanRead, CanWrite, makes_file, IsFresh, Took, at_start, unnamed, puts, holds};
+    ghost use Rattle.loom_host.specs.Bytes.{window, overwritten};
     ghost use Rattle.loom_outside.specs.Rooms.{Widens, HasRoom};
     ghost use Rattle.loom_outside.specs.Store.{held_of, file_in, shows, room_in};
 

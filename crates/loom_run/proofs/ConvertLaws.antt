@@ -6,9 +6,9 @@ use Rattle.long_names.specs.Heap.{Heap, object_count}
 use Rattle.image_format.specs.declared.opening.State.{State as Words}
 use Rattle.image_format.specs.Rules.{IsState, IsStateWord, text_under}
 use Rattle.image_writer.specs.Saved.{kept_state, kept_word}
-use Rattle.loom_outside.specs.Outside.{PutPrefix, RoleState, SameBut, ends, puts}
-use Rattle.loom_outside.specs.declared.outside.Role.{Role}
-use Rattle.loom_outside.specs.declared.outside.Role.TheVariants.{Image, Events, Work, Saved, Display, Transcript, Notes}
+use Rattle.loom_host.specs.Outside.{PutPrefix, RoleState, SameBut, ends, puts}
+use Rattle.loom_host.specs.declared.outside.Role.{Role}
+use Rattle.loom_host.specs.declared.outside.Role.TheVariants.{Image, Events, Work, Saved, Display, Transcript, Notes}
 use Rattle.loom_run.specs.Converts.{Converted, ConvertsAt, CountsObjects, CutsCount, EndsConversion, EndsSource, EndsText, HasBegunCount, IsAboveRoom, JudgesSource, JudgesText, Reads, bytes_by, done_by, head_under, is_unused, path_for, spelled_by, verb_for}
 use Rattle.loom_run.specs.declared.converting.Way.{Way}
 use Rattle.loom_run.specs.declared.converting.Way.TheVariants.{Listing, Assembling}

@@ -9,9 +9,9 @@ use Rattle.disk_objects.specs.declared.rest.DiskRest.{DiskRest}
 use Rattle.image_memory.proofs.ImageLaws.{held-number}
 use Rattle.image_reader.specs.Loaded.{IsLoadedHeap, heap_on}
 use Rattle.image_reader.proofs.Stored.{same_work}
-use Rattle.loom_outside.specs.Work.{work_of}
-use Rattle.loom_outside.specs.declared.outside.Host.{Ghosts}
-use Rattle.loom_outside.specs.declared.outside.Role.TheVariants.{Work}
+use Rattle.loom_host.specs.Work.{work_of}
+use Rattle.loom_host.specs.declared.outside.Host.{Ghosts}
+use Rattle.loom_host.specs.declared.outside.Role.TheVariants.{Work}
 use Rattle.loom_run.specs.Steps.{HasSource}
 
 -- what lies on the disk stays so where nothing is done with Work

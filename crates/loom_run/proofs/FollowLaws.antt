@@ -4,9 +4,9 @@ use Rattle.std.proofs.Math.Seq.{take-append-add}
 use Rattle.std.proofs.lemmas.List.{append-nil, append_assoc, append_cancel_left, length-append}
 use Rattle.object_memory.proofs.LaterLaws.{IsLater-trans}
 use Rattle.contexts.specs.Keeping.{is_kept}
-use Rattle.loom_outside.specs.declared.outside.Role.TheVariants.{Saved}
+use Rattle.loom_host.specs.declared.outside.Role.TheVariants.{Saved}
 use Rattle.long_names.specs.Heap.{Heap}
-use Rattle.loom_outside.specs.Outside.{PutPrefix, RoleState, puts}
+use Rattle.loom_host.specs.Outside.{PutPrefix, RoleState, puts}
 use Rattle.object_memory.specs.Contract.{IsLater}
 use Rattle.object_memory.specs.Told.{Told, IsReady}
 use Rattle.object_memory.specs.declared.fault.MemFault.TheVariants as fault

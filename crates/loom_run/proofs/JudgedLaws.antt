@@ -2,9 +2,9 @@
 use Rattle.std.proofs.Common.{◌≡◌, ◌≢◌, ℕ, Bool, List, Some, IsTrue, sym, ◌∙◌, ap, subst}
 use Rattle.long_names.specs.Heap.{Heap}
 use Rattle.image_format.specs.declared.opening.State.{State as Words}
-use Rattle.loom_outside.specs.Outside.{RoleState}
-use Rattle.loom_outside.specs.declared.outside.Role.{Role}
-use Rattle.loom_outside.specs.declared.outside.Role.TheVariants.{Image, Events, Work}
+use Rattle.loom_host.specs.Outside.{RoleState}
+use Rattle.loom_host.specs.declared.outside.Role.{Role}
+use Rattle.loom_host.specs.declared.outside.Role.TheVariants.{Image, Events, Work}
 use Rattle.blue_model.specs.declared.event.Line.{Line}
 use Rattle.loom_run.specs.Ends.{AreEvents, IsRightImage, JudgesEvents, JudgesImage, ReadsAt, WasRead, bytes_of}
 use Rattle.loom_run.specs.Meanings.{Meanings}

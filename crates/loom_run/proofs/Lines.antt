@@ -1,8 +1,8 @@
 -- What was put to Notes, by the answer.
 use Rattle.std.proofs.Common.{◌≡◌, inl, inr, ℕ, Bool, List, IsTrue, length, arith, refl, sym, ◌∙◌}
 use Rattle.std.proofs.Math.Seq.{take-length}
-use Rattle.loom_outside.specs.Outside.{PutPrefix, puts}
-use Rattle.loom_outside.specs.declared.outside.Role.TheVariants.{Image, Events, Work, Saved, Display, Transcript, Notes}
+use Rattle.loom_host.specs.Outside.{PutPrefix, puts}
+use Rattle.loom_host.specs.declared.outside.Role.TheVariants.{Image, Events, Work, Saved, Display, Transcript, Notes}
 use Rattle.loom_run.specs.Meanings.{Meanings, IsLeft}
 use Rattle.loom_words.specs.Status.{line_of}
 use Rattle.loom_run.specs.Ends.{HasBegun, HasRun, Noted, NotedBy}

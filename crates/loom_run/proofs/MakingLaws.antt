@@ -3,8 +3,8 @@ use Rattle.std.proofs.Common.{◌≡◌, ◌⊎◌, ℕ, Bool, List, [], ◌∷�
 use Rattle.long_names.specs.Counting.{Rose}
 use Rattle.long_names.specs.Heap.{object_count}
 use Rattle.loom_gen.specs.Generated.{generated}
-use Rattle.loom_outside.specs.declared.outside.Role.{Role}
-use Rattle.loom_outside.specs.declared.outside.Role.TheVariants.{Image, Events, Work, Saved, Display, Transcript, Notes}
+use Rattle.loom_host.specs.declared.outside.Role.{Role}
+use Rattle.loom_host.specs.declared.outside.Role.TheVariants.{Image, Events, Work, Saved, Display, Transcript, Notes}
 use Rattle.loom_run.specs.Ends.{NotedBy}
 use Rattle.loom_run.specs.Makes.{EndsMaking, HasBegunFor, HasBegunImage, Makes, SavesImage}
 use Rattle.loom_run.specs.Meanings.{Meanings, IsLeft, LeavesBut}

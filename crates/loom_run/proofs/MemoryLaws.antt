@@ -8,8 +8,8 @@ use Rattle.long_names.specs.Names.{IsName}
 use Rattle.long_names.specs.declared.object.Object.{Object}
 use Rattle.long_names.specs.Heap.{Heap, Has, object_count}
 use Rattle.long_names.proofs.KeptLaws.{kept-part}
-use Rattle.loom_outside.specs.declared.outside.Host.{Ghosts}
-use Rattle.loom_outside.specs.declared.outside.Role.TheVariants.{Work}
+use Rattle.loom_host.specs.declared.outside.Host.{Ghosts}
+use Rattle.loom_host.specs.declared.outside.Role.TheVariants.{Work}
 use Rattle.loom_memory.specs.declared.memory.LoomMemory.{LoomMemory}
 use Rattle.loom_memory.specs.Memory.{loom_told, IsSound}
 use Rattle.loom_memory.proofs.ExactLaws.{levels-told}

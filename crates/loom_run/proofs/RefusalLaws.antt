@@ -1,8 +1,8 @@
 -- No answer comes at once, and what a refusal leaves.
 use Rattle.std.proofs.Common.{◌≡◌, ◌≢◌, ℕ, Bool, List, [], ◌∷◌, None, Some, Option, IsTrue, inl, inr, refl, sym, ◌∙◌, subst}
 use Rattle.std.specs.Prelude.{◌⊎◌, IsFalse, IsSome}
-use Rattle.loom_outside.specs.declared.outside.Role.{Role}
-use Rattle.loom_outside.specs.declared.outside.Role.TheVariants.{Image, Events, Saved, Display, Transcript, Notes}
+use Rattle.loom_host.specs.declared.outside.Role.{Role}
+use Rattle.loom_host.specs.declared.outside.Role.TheVariants.{Image, Events, Saved, Display, Transcript, Notes}
 use Rattle.loom_run.specs.Converts.{ConvertsAt, EndsConversion, EndsSource, EndsWhole, is_unused}
 use Rattle.loom_run.specs.declared.converting.Way.{Way}
 use Rattle.loom_run.specs.declared.converting.Way.TheVariants.{Listing, Assembling}

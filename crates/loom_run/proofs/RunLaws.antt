@@ -7,9 +7,9 @@ use Rattle.long_names.specs.Heap.{Heap}
 use Rattle.long_names.specs.Kept.{kept, no_roots}
 use Rattle.image_format.specs.Valid.{IsImageHeap}
 use Rattle.image_format.specs.declared.opening.State.{State as Words}
-use Rattle.loom_outside.specs.Outside.{RoleState}
-use Rattle.loom_outside.specs.declared.outside.Host.{Ghosts}
-use Rattle.loom_outside.specs.declared.outside.Role.TheVariants.{Work, Transcript}
+use Rattle.loom_host.specs.Outside.{RoleState}
+use Rattle.loom_host.specs.declared.outside.Host.{Ghosts}
+use Rattle.loom_host.specs.declared.outside.Role.TheVariants.{Work, Transcript}
 use Rattle.disk_objects.specs.declared.rest.DiskRest.{DiskRest}
 use Rattle.image_reader.specs.declared.loading.Loaded.{Loaded}
 use Rattle.image_reader.specs.Loaded.{heap_on}

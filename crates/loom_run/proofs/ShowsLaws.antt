@@ -1,7 +1,7 @@
 -- What the promise gives of a trace that answers Done or Quit.
 use Rattle.std.proofs.Common.{◌≡◌, ℕ, ◌++◌, Bool, List, None, true, refl, subst}
-use Rattle.loom_outside.specs.declared.outside.Role.{Role}
-use Rattle.loom_outside.specs.declared.outside.Role.TheVariants.{Image, Events, Saved, Transcript}
+use Rattle.loom_host.specs.declared.outside.Role.{Role}
+use Rattle.loom_host.specs.declared.outside.Role.TheVariants.{Image, Events, Saved, Transcript}
 use Rattle.blue_model.specs.declared.step.Step.{Step}
 use Rattle.blue_model.specs.declared.step.Step.TheVariants.{Next, Quit}
 use Rattle.blue_model.specs.Logs.{said_after}

@@ -10,8 +10,8 @@ use Rattle.image_format.specs.Heads.{no_state}
 use Rattle.image_format.specs.Rules.{IsHeadOf, IsState, IsValidImage, break, first_break, text_under}
 use Rattle.image_format.proofs.ImageLaws.{same_image, unbroken_from}
 use Rattle.image_reader.specs.Loaded.{full_of}
-use Rattle.loom_outside.specs.declared.outside.Role.{Role}
-use Rattle.loom_outside.specs.declared.outside.Role.TheVariants.{Image, Notes, Saved, Work}
+use Rattle.loom_host.specs.declared.outside.Role.{Role}
+use Rattle.loom_host.specs.declared.outside.Role.TheVariants.{Image, Notes, Saved, Work}
 use Rattle.text_lines.specs.Breaks.{text_break}
 use Rattle.text_lines.specs.Spelling.{heap_text}
 use Rattle.text_lines.specs.Texts.{IsImageText, IsTextOf}

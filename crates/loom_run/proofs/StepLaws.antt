@@ -6,12 +6,12 @@ use Rattle.std.specs.Result.{IsErrAnd}
 use Rattle.std.proofs.lemmas.Result.{err_from_is_err_and}
 use Rattle.long_names.specs.Heap.{Heap}
 use Rattle.long_names.specs.Counting.{Rose}
-use Rattle.loom_outside.specs.declared.outside.DiskFault.{DiskFault}
-use Rattle.loom_outside.specs.declared.outside.DiskFault.TheVariants as disk
-use Rattle.loom_outside.specs.declared.outside.Host.{Ghosts}
-use Rattle.loom_outside.specs.declared.outside.Role.{Role}
-use Rattle.loom_outside.specs.declared.outside.Role.TheVariants.{Image, Work, Saved}
-use Rattle.loom_outside.specs.Outside.{IsFresh, PutPrefix, RoleState, SameBut, TookSome, ends, holds, puts, takes}
+use Rattle.loom_host.specs.declared.outside.DiskFault.{DiskFault}
+use Rattle.loom_host.specs.declared.outside.DiskFault.TheVariants as disk
+use Rattle.loom_host.specs.declared.outside.Host.{Ghosts}
+use Rattle.loom_host.specs.declared.outside.Role.{Role}
+use Rattle.loom_host.specs.declared.outside.Role.TheVariants.{Image, Work, Saved}
+use Rattle.loom_host.specs.Outside.{IsFresh, PutPrefix, RoleState, SameBut, TookSome, ends, holds, puts, takes}
 use Rattle.event_file.specs.Text.{IsBadAt}
 use Rattle.image_reader.specs.declared.fault.LoadFault.TheVariants as load
 use Rattle.image_reader.specs.Frames.{IsLoading}

@@ -7,10 +7,10 @@ use Rattle.std.proofs.lemmas.Result.{err_from_is_err_and}
 use Rattle.std.proofs.Math.Seq.{take-append_seam}
 use Rattle.std.proofs.lemmas.List.{append-nil, append_assoc}
 use Rattle.long_names.specs.Counting.{Rose}
-use Rattle.loom_outside.specs.Outside.{RoleState, PutPrefix, SameBut, puts}
-use Rattle.loom_outside.specs.declared.outside.Host.{Ghosts}
-use Rattle.loom_outside.specs.declared.outside.Role.{Role}
-use Rattle.loom_outside.specs.declared.outside.Role.TheVariants.{Saved, Work}
+use Rattle.loom_host.specs.Outside.{RoleState, PutPrefix, SameBut, puts}
+use Rattle.loom_host.specs.declared.outside.Host.{Ghosts}
+use Rattle.loom_host.specs.declared.outside.Role.{Role}
+use Rattle.loom_host.specs.declared.outside.Role.TheVariants.{Saved, Work}
 use Rattle.object_memory.specs.Contract.{IsLater}
 use Rattle.object_memory.specs.Told.{Told, IsReady}
 use Rattle.blue_model.specs.declared.cpu.Cpu.{Cpu}

@@ -1,7 +1,7 @@
 -- Right words of a trace, a right image, right events, room, and no fault give the model's own end.
 use Rattle.std.proofs.Common.{◌≡◌, ℕ, Bool, List, None, IsTrue, inl, refl, subst, arith}
-use Rattle.loom_outside.specs.declared.outside.Role.{Role}
-use Rattle.loom_outside.specs.declared.outside.Role.TheVariants.{Image, Events, Work, Saved, Transcript, Notes}
+use Rattle.loom_host.specs.declared.outside.Role.{Role}
+use Rattle.loom_host.specs.declared.outside.Role.TheVariants.{Image, Events, Work, Saved, Transcript, Notes}
 use Rattle.image_format.specs.Rules.{first_break, break}
 use Rattle.image_reader.specs.Loaded.{full_of}
 use Rattle.event_file.specs.Text.{IsBadAt}

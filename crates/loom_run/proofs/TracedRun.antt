@@ -1,9 +1,9 @@
 -- The machine of a trace over the memory of two levels, between what was read and the end of its lines.
 use Rattle.std.proofs.Common.{◌≡◌, ℕ, ◌≤◌, List, [], ◌∷◌, length, IsTrue, refl, sym, ◌∙◌, ap, subst, arith}
 use Rattle.long_names.specs.Heap.{Heap}
-use Rattle.loom_outside.specs.Outside.{RoleState, SameBut}
-use Rattle.loom_outside.specs.declared.outside.Host.{Ghosts}
-use Rattle.loom_outside.specs.declared.outside.Role.TheVariants.{Image, Events, Work, Saved, Display, Transcript, Notes}
+use Rattle.loom_host.specs.Outside.{RoleState, SameBut}
+use Rattle.loom_host.specs.declared.outside.Host.{Ghosts}
+use Rattle.loom_host.specs.declared.outside.Role.TheVariants.{Image, Events, Work, Saved, Display, Transcript, Notes}
 use Rattle.disk_objects.specs.declared.rest.DiskRest.{DiskRest}
 use Rattle.image_reader.specs.declared.loading.Loaded.{Loaded}
 use Rattle.image_reader.specs.Loaded.{heap_on}

@@ -3,9 +3,9 @@ use Rattle.std.proofs.Common.{◌≡◌, ◌≢◌, ℕ, Bool, List, [], ◌∷�
 use Rattle.std.specs.Prelude.{IfSome}
 use Rattle.long_names.specs.Counting.{Rose}
 use Rattle.long_names.specs.Heap.{Heap}
-use Rattle.loom_outside.specs.Outside.{PutPrefix, RoleState}
-use Rattle.loom_outside.specs.declared.outside.Role.{Role}
-use Rattle.loom_outside.specs.declared.outside.Role.TheVariants.{Image, Events, Work, Saved, Display, Transcript, Notes}
+use Rattle.loom_host.specs.Outside.{PutPrefix, RoleState}
+use Rattle.loom_host.specs.declared.outside.Role.{Role}
+use Rattle.loom_host.specs.declared.outside.Role.TheVariants.{Image, Events, Work, Saved, Display, Transcript, Notes}
 use Rattle.blue_model.specs.declared.event.Line.{Line}
 use Rattle.blue_model.specs.declared.step.Step.TheVariants.{Next, Quit}
 use Rattle.blue_model.specs.Logs.{Course, course}

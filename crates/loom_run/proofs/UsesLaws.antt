@@ -3,9 +3,9 @@
 -- through or was refused makes no difference.
 use Rattle.std.proofs.Common.{◌≡◌, ℕ, Bool, true, false, List, Some, IsTrue, refl, sym, ◌∙◌, ap, subst, arith}
 use Rattle.std.specs.Prelude.{IfSome, IsFalse}
-use Rattle.loom_outside.specs.Outside.{RoleState}
-use Rattle.loom_outside.specs.declared.outside.Role.{Role}
-use Rattle.loom_outside.specs.declared.outside.Role.TheVariants.{Image, Events, Work, Saved, Display, Transcript, Notes}
+use Rattle.loom_host.specs.Outside.{RoleState}
+use Rattle.loom_host.specs.declared.outside.Role.{Role}
+use Rattle.loom_host.specs.declared.outside.Role.TheVariants.{Image, Events, Work, Saved, Display, Transcript, Notes}
 use Rattle.loom_run.specs.Ends.{AttachedOnce, word_for}
 use Rattle.loom_run.specs.Meanings.{Meanings, IsLeft, LeavesBut}
 use Rattle.loom_run.specs.Stages.{Opening, Reading, Listening, Making, Running, Finishing, Saving, Drawing, Telling, passes, reaches, roles_at, stage_of}

@@ -3,7 +3,7 @@ use Rattle.std.specs.Prelude.{◌≡◌, ℕ, ◌≤◌, List}
 use Rattle.long_names.specs.Counting.{Rose}
 use Rattle.long_names.specs.Heap.{Heap, object_count}
 use Rattle.long_names.specs.Need.{Fits}
-use Rattle.loom_outside.specs.declared.outside.Role.{Role}
+use Rattle.loom_host.specs.declared.outside.Role.{Role}
 use Rattle.image_format.specs.declared.opening.ImageHead.{ImageHead}
 use Rattle.object_memory.specs.declared.fault.Need.{Need}
 use Rattle.blue_model.specs.declared.event.Line.{Line}

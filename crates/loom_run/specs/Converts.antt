@@ -12,9 +12,9 @@ use Rattle.image_writer.specs.Saved.{saved_text}
 use Rattle.text_lines.specs.Breaks.{text_break}
 use Rattle.text_lines.specs.Spelling.{heap_text}
 use Rattle.text_lines.specs.Texts.{IsTextOf}
-use Rattle.loom_outside.specs.Outside.{RoleState, PutPrefix}
-use Rattle.loom_outside.specs.declared.outside.Role.{Role}
-use Rattle.loom_outside.specs.declared.outside.Role.TheVariants.{Image, Events, Work, Saved, Display, Transcript, Notes}
+use Rattle.loom_host.specs.Outside.{RoleState, PutPrefix}
+use Rattle.loom_host.specs.declared.outside.Role.{Role}
+use Rattle.loom_host.specs.declared.outside.Role.TheVariants.{Image, Events, Work, Saved, Display, Transcript, Notes}
 use Rattle.loom_words.specs.Status.{line_of}
 use Rattle.loom_words.specs.Words.{Paths, ToAssemble, ToList, Verb}
 use Rattle.loom_words.specs.declared.words.TheConstants.{MOST_ROOM}

@@ -1,11 +1,11 @@
 -- What a run leaves of the roles of its host, by the stage at which it ended and its answer.
 use Rattle.std.specs.Prelude.{◌≡◌, ◌≢◌, ℕ, ◌+◌, ◌≤◌, ◌<◌, List, [], ◌++◌, take, length, Bool, true, false, ◌⊎◌, Err, None, Some, IfSome, IsTrue, Option}
-use Rattle.loom_outside.specs.Outside.{RoleState, Attached, ends, puts, PutPrefix}
+use Rattle.loom_host.specs.Outside.{RoleState, Attached, ends, puts, PutPrefix}
 use Rattle.long_names.specs.Counting.{counted, Rose}
 use Rattle.long_names.specs.Need.{Fits}
-use Rattle.loom_outside.specs.declared.outside.Failed.{Failed}
-use Rattle.loom_outside.specs.declared.outside.Role.{Role}
-use Rattle.loom_outside.specs.declared.outside.Role.TheVariants.{Image, Events, Work, Saved, Display, Transcript, Notes}
+use Rattle.loom_host.specs.declared.outside.Failed.{Failed}
+use Rattle.loom_host.specs.declared.outside.Role.{Role}
+use Rattle.loom_host.specs.declared.outside.Role.TheVariants.{Image, Events, Work, Saved, Display, Transcript, Notes}
 use Rattle.long_names.specs.Heap.{Heap, object_count}
 use Rattle.long_names.specs.Kept.{kept, no_roots}
 use Rattle.image_format.specs.declared.opening.ImageHead.{ImageHead}

@@ -3,9 +3,9 @@ use Rattle.std.specs.Prelude.{◌≡◌, ℕ, Bool, true, false, List, [], ◌�
 use Rattle.long_names.specs.Heap.{object_count}
 use Rattle.image_format.specs.Text.{image_text}
 use Rattle.loom_gen.specs.Generated.{generated}
-use Rattle.loom_outside.specs.Outside.{RoleState, PutPrefix}
-use Rattle.loom_outside.specs.declared.outside.Role.{Role}
-use Rattle.loom_outside.specs.declared.outside.Role.TheVariants.{Saved, Notes}
+use Rattle.loom_host.specs.Outside.{RoleState, PutPrefix}
+use Rattle.loom_host.specs.declared.outside.Role.{Role}
+use Rattle.loom_host.specs.declared.outside.Role.TheVariants.{Saved, Notes}
 use Rattle.loom_run.specs.Converts.{HasBegunCount}
 use Rattle.loom_run.specs.declared.converting.Way.TheVariants.{Listing, Assembling}
 use Rattle.loom_run.specs.Ends.{HasBegun, IsCaused, MadeBy}

@@ -5,10 +5,10 @@ use Rattle.blue_model.specs.Cause.{cause_number}
 use Rattle.object_memory.specs.declared.fault.MemFault.{MemFault}
 use Rattle.object_memory.specs.declared.fault.MemFault.TheVariants as fault
 use Rattle.contexts.specs.declared.stop.Stop.TheVariants as stop
-use Rattle.loom_outside.specs.Outside.{PutPrefix, puts}
-use Rattle.loom_outside.specs.declared.outside.DiskFault.{DiskFault}
-use Rattle.loom_outside.specs.declared.outside.DiskFault.TheVariants as disk
-use Rattle.loom_outside.specs.declared.outside.Role.TheVariants.{Notes, Transcript}
+use Rattle.loom_host.specs.Outside.{PutPrefix, puts}
+use Rattle.loom_host.specs.declared.outside.DiskFault.{DiskFault}
+use Rattle.loom_host.specs.declared.outside.DiskFault.TheVariants as disk
+use Rattle.loom_host.specs.declared.outside.Role.TheVariants.{Notes, Transcript}
 use Rattle.machine_run.specs.declared.running.Reason.{Reason}
 use Rattle.machine_run.specs.declared.running.Reason.TheVariants.{ByStop, NoMemory}
 use Rattle.loom_run.specs.Meanings.{Meanings}

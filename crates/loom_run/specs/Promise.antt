@@ -3,8 +3,8 @@
 -- trace), `Words` (the rows of words), `Status` (the answers and their lines) and `Meanings`. The machine's rules are those of `blue_model`,
 -- event lists those of `event_file`, images those of `image_format`.
 use Rattle.std.specs.Prelude.{◌≡◌, ◌⊎◌, ℕ, ◌≤◌, Bool, List, [], ◌∷◌, None, IfSome, IsTrue, IsFalse, IsSome}
-use Rattle.loom_outside.specs.declared.outside.Role.{Role}
-use Rattle.loom_outside.specs.declared.outside.Role.TheVariants.{Image, Events, Work, Notes}
+use Rattle.loom_host.specs.declared.outside.Role.{Role}
+use Rattle.loom_host.specs.declared.outside.Role.TheVariants.{Image, Events, Work, Notes}
 use Rattle.loom_run.specs.Ends.{AttachedOnce, IsAnswered, NotedBy, ReadsAt, RunOf, RunsTo, bytes_of, word_for}
 use Rattle.loom_run.specs.Converts.{ConvertsAt, verb_for}
 use Rattle.loom_run.specs.Makes.{HasBegunFor, Makes}

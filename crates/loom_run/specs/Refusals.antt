@@ -1,7 +1,7 @@
 -- What an answer says of the calls that came before it, and of the files that it leaves.
 use Rattle.std.specs.Prelude.{Bool, IfSome, IsTrue}
-use Rattle.loom_outside.specs.declared.outside.Role.{Role}
-use Rattle.loom_outside.specs.declared.outside.Role.TheVariants.{Image, Events, Work, Saved, Display, Transcript, Notes}
+use Rattle.loom_host.specs.declared.outside.Role.{Role}
+use Rattle.loom_host.specs.declared.outside.Role.TheVariants.{Image, Events, Work, Saved, Display, Transcript, Notes}
 use Rattle.loom_run.specs.Ends.{AttachedOnce, word_for}
 use Rattle.loom_run.specs.Meanings.{Meanings, IsLeft}
 use Rattle.loom_run.specs.Traced.{traced_word}

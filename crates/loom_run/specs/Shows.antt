@@ -2,8 +2,8 @@
 -- of it hold. `a_trace_shows_the_run` of `laws` says that `Promise` gives it.
 use Rattle.std.specs.Prelude.{◌≡◌, ℕ, List, ◌++◌, Bool, true, IsTrue}
 use Rattle.long_names.specs.Heap.{Heap}
-use Rattle.loom_outside.specs.declared.outside.Role.{Role}
-use Rattle.loom_outside.specs.declared.outside.Role.TheVariants.{Image, Events, Work, Saved, Transcript}
+use Rattle.loom_host.specs.declared.outside.Role.{Role}
+use Rattle.loom_host.specs.declared.outside.Role.TheVariants.{Image, Events, Work, Saved, Transcript}
 use Rattle.image_format.specs.declared.opening.ImageHead.{ImageHead}
 use Rattle.blue_model.specs.declared.event.Line.{Line}
 use Rattle.blue_model.specs.declared.step.Step.{Step}

@@ -1,7 +1,7 @@
 -- How far a run comes. The order of the stages is the order of the run; a run ends at one of them, with one of its answers.
 use Rattle.std.specs.Prelude.{ℕ, Bool, List, [], ◌∷◌, nat_le, nat_lt}
-use Rattle.loom_outside.specs.declared.outside.Role.{Role}
-use Rattle.loom_outside.specs.declared.outside.Role.TheVariants.{Image, Events, Work, Saved, Display, Transcript, Notes}
+use Rattle.loom_host.specs.declared.outside.Role.{Role}
+use Rattle.loom_host.specs.declared.outside.Role.TheVariants.{Image, Events, Work, Saved, Display, Transcript, Notes}
 use Rattle.loom_words.specs.declared.status.Status.{Status}
 use Rattle.loom_words.specs.declared.status.Status.TheVariants.{Done, Quit, ImageBad, EventsBad, Stuck, CoreFull, NamesSpent, WorkFull, ReadFault, WorkFault, WriteFault, OutOfMemory, Damaged}
 

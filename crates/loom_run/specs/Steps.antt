@@ -1,8 +1,8 @@
 -- What the steps of a run do, one after the other: which roles were used by then, what was read, and what came of the machine.
 use Rattle.std.specs.Prelude.{◌≡◌, ◌≢◌, ℕ, ◌≤◌, List, [], ◌++◌, Bool, Some, IfSome, IsTrue, IsFalse, Result, Ok, Err}
-use Rattle.loom_outside.specs.Outside.{RoleState, holds}
-use Rattle.loom_outside.specs.declared.outside.Role.{Role}
-use Rattle.loom_outside.specs.declared.outside.Role.TheVariants.{Image, Events, Work, Saved, Notes, Transcript}
+use Rattle.loom_host.specs.Outside.{RoleState, holds}
+use Rattle.loom_host.specs.declared.outside.Role.{Role}
+use Rattle.loom_host.specs.declared.outside.Role.TheVariants.{Image, Events, Work, Saved, Notes, Transcript}
 use Rattle.long_names.specs.Heap.{Heap, object_count}
 use Rattle.long_names.specs.Kept.{kept, no_roots}
 use Rattle.long_names.specs.Thin.{IsThinner}
@@ -13,8 +13,8 @@ use Rattle.image_writer.specs.Saved.{saved_text}
 use Rattle.image_reader.specs.Loaded.{IsLoadedHeap}
 use Rattle.disk_objects.specs.Disk.{IsDisk, Objects}
 use Rattle.disk_objects.specs.declared.rest.DiskRest.{DiskRest}
-use Rattle.loom_outside.specs.Work.{work_of}
-use Rattle.loom_outside.specs.declared.outside.Host.{Ghosts}
+use Rattle.loom_host.specs.Work.{work_of}
+use Rattle.loom_host.specs.declared.outside.Host.{Ghosts}
 use Rattle.image_memory.specs.Image.{BeginsWith, IsStateOf}
 use Rattle.object_memory.specs.Contract.{ForBounds}
 use Rattle.object_memory.specs.Told.{Told}

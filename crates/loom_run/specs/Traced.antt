@@ -4,9 +4,9 @@ use Rattle.std.specs.Prelude.{◌≡◌, ◌≢◌, ◌⊎◌, ℕ, ◌+◌, ◌
 use Rattle.long_names.specs.Counting.{Rose}
 use Rattle.long_names.specs.Heap.{Heap}
 use Rattle.image_format.specs.declared.opening.ImageHead.{ImageHead}
-use Rattle.loom_outside.specs.Outside.{PutPrefix, RoleState, ends}
-use Rattle.loom_outside.specs.declared.outside.Role.{Role}
-use Rattle.loom_outside.specs.declared.outside.Role.TheVariants.{Image, Events, Work, Saved, Display, Transcript, Notes}
+use Rattle.loom_host.specs.Outside.{PutPrefix, RoleState, ends}
+use Rattle.loom_host.specs.declared.outside.Role.{Role}
+use Rattle.loom_host.specs.declared.outside.Role.TheVariants.{Image, Events, Work, Saved, Display, Transcript, Notes}
 use Rattle.blue_model.specs.declared.event.Line.{Line}
 use Rattle.blue_model.specs.declared.step.Step.{Step}
 use Rattle.blue_model.specs.declared.step.Step.TheVariants as step

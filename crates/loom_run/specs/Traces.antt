@@ -1,9 +1,9 @@
 -- The trace of a run: a line for each of its bytecodes.
 use Rattle.std.specs.Prelude.{zero, suc, ◌≡◌, ℕ, ◌+◌, ◌≤◌, List, [], ◌++◌, Result, Ok, Err, OnOk, IsTrue}
 use Rattle.long_names.specs.Counting.{Rose}
-use Rattle.loom_outside.specs.Outside.{RoleState, PutPrefix, SameBut, puts}
-use Rattle.loom_outside.specs.declared.outside.Host.{Ghosts}
-use Rattle.loom_outside.specs.declared.outside.Role.TheVariants.{Saved}
+use Rattle.loom_host.specs.Outside.{RoleState, PutPrefix, SameBut, puts}
+use Rattle.loom_host.specs.declared.outside.Host.{Ghosts}
+use Rattle.loom_host.specs.declared.outside.Role.TheVariants.{Saved}
 use Rattle.object_memory.specs.Told.{Told, IsReady}
 use Rattle.blue_model.specs.declared.cpu.Cpu.{Cpu}
 use Rattle.blue_model.specs.declared.event.Line.{Line}

@@ -6,7 +6,7 @@ ghost use Rattle.image_format.specs.declared.head.TheConstants.{MOST_OBJECTS};
 ghost use Rattle.image_reader.specs.Loaded.{heap_on};
 ghost use Rattle.image_writer.specs.Puts.{Puts};
 ghost use Rattle.long_names.specs.Heap.{object_count};
-ghost use Rattle.loom_outside.specs.Work.{work_of};
+ghost use Rattle.loom_host.specs.Work.{work_of};
 ghost use Rattle.loom_words.specs.Command.{paths_for};
 ghost use Rattle.loom_run.specs.Converts.{EndsSource, JudgesSource, Reads, done_by, spelled_by};
 ghost use Rattle.loom_run.specs.Ends.{AttachedOnce, WasRead, WrittenBy, bytes_of};
@@ -22,7 +22,7 @@ use disk_objects::DiskObjects;
 use image_reader::Loaded;
 use image_text::{TextFault, assemble, list};
 use image_writer::{SaveFault, save};
-use loom_outside::{Host, Role};
+use loom_host::{Host, Role};
 use loom_words::{Conversion, MOST_ROOM, Status};
 use std::alloc::Global;
 

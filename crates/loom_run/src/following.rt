@@ -3,7 +3,7 @@ ghost use Rattle.std.specs.Prelude.{◌≡◌, ◌∷◌, [], ℕ, IsTrue, List}
 ghost use Rattle.blue_model.specs.declared.event.Line.{Line};
 ghost use Rattle.loom_words.specs.Words.{Row};
 ghost use Rattle.image_format.specs.declared.opening.State.{State as Words};
-ghost use Rattle.loom_outside.specs.declared.outside.Role.TheVariants as role;
+ghost use Rattle.loom_host.specs.declared.outside.Role.TheVariants as role;
 ghost use Rattle.long_names.specs.Heap.{Heap};
 ghost use Rattle.disk_objects.specs.Disk.{disk_room};
 ghost use Rattle.image_reader.specs.Loaded.{heap_on};
@@ -32,8 +32,8 @@ use event_file::EventList;
 use image_format::State;
 use image_memory::begin_memory;
 use image_reader::Loaded;
+use loom_host::{Host, Role};
 use loom_memory::{CoreTables, LoomMemory};
-use loom_outside::{Host, Role};
 use loom_words::{Command, Status};
 use machine_run::{Halted, Reason, Step, begin};
 use std::alloc::Global;

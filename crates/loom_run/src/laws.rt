@@ -22,8 +22,8 @@ ghost use Rattle.machine_run.specs.States.{model_state};
 ghost use Rattle.machine_run.specs.declared.running.Reason.TheVariants.{ByStop};
 ghost use Rattle.object_memory.specs.declared.fault.MemFault.TheVariants.{Memory};
 ghost use Rattle.loom_run.specs.Base.{base_bytes, text_of_ending};
-ghost use Rattle.loom_outside.specs.declared.outside.Role.{Role};
-ghost use Rattle.loom_outside.specs.declared.outside.Role.TheVariants.{Image, Events, Work};
+ghost use Rattle.loom_host.specs.declared.outside.Role.{Role};
+ghost use Rattle.loom_host.specs.declared.outside.Role.TheVariants.{Image, Events, Work};
 ghost use Rattle.loom_words.specs.declared.status.Status.{Status};
 ghost use Rattle.loom_run.specs.Completes.{CanEnd, IsConverted, IsMadeOf, IsOwnEnd, IsSource};
 ghost use Rattle.loom_run.specs.Converts.{bytes_by, head_under, verb_for};
@@ -41,7 +41,7 @@ ghost use Rattle.loom_run.specs.Shows.{ShowsBy, TellsTrace};
 ghost use Rattle.loom_words.specs.Status.{usage_of};
 ghost use Rattle.loom_words.specs.Words.{ToMake, ToRun, ToTrace, bad_word, make_of, row_of, trace_row_of, verb_of};
 
-use loom_outside::Host;
+use loom_host::Host;
 
 /// The base image as bytes, before two bytecodes and after them: its context's instruction pointer is field 1, 3 and then 5.
 pub fn base_text()

@@ -19,8 +19,8 @@ ghost use Rattle.loom_run.specs.Steps.{BeginsImage, HasBounds, IsRefusal, IsSame
 use crate::status::{status_of, status_of_fault};
 use event_file::EventList;
 use image_format::State;
+use loom_host::{Host, Role};
 use loom_memory::LoomMemory;
-use loom_outside::{Host, Role};
 use loom_words::{Command, Status};
 use machine_run::{Finished, whole_run};
 use std::alloc::Global;

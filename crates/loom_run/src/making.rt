@@ -3,13 +3,13 @@ ghost use Rattle.std.specs.Prelude.{◌≡◌, ◌≤◌, [], ◌∷◌, is_ok, 
 ghost use Rattle.long_names.specs.Counting.{Rose};
 ghost use Rattle.loom_gen.specs.declared.generator.TheConstants.{LAST_NUMBER};
 ghost use Rattle.loom_words.specs.Command.{make_for};
-ghost use Rattle.loom_outside.specs.Outside.{HasCause, SameBut, ends};
+ghost use Rattle.loom_host.specs.Outside.{HasCause, SameBut, ends};
 ghost use Rattle.loom_run.specs.Ends.{MadeBy};
 ghost use Rattle.loom_run.specs.Meanings.{meanings, LeavesBut};
 ghost use Rattle.loom_run.specs.Steps.{MakeEnds};
 
 use loom_gen::{make, object_count};
-use loom_outside::{Failed, Host, Role, write_full};
+use loom_host::{Failed, Host, Role, write_full};
 use loom_words::{Making, Status};
 use std::alloc::Global;
 

@@ -1,8 +1,8 @@
 // The whole program, in the order of a run. What the steps do stands in `reading`, `machine` and `writing`, a making in `making`, a listing
 // and an assembling in `converting`, and a trace in `following`.
 ghost use Rattle.std.specs.Prelude.{◌≡◌, Bool, false, IsTrue, IfOk, IfErr};
-ghost use Rattle.loom_outside.specs.declared.outside.Role.{Role};
-ghost use Rattle.loom_outside.specs.declared.outside.Role.TheVariants as role;
+ghost use Rattle.loom_host.specs.declared.outside.Role.{Role};
+ghost use Rattle.loom_host.specs.declared.outside.Role.TheVariants as role;
 ghost use Rattle.blue_model.specs.Endings.{HasCounted};
 ghost use Rattle.blue_model.specs.Logs.{Course, course};
 ghost use Rattle.contexts.specs.Keeping.{is_kept};
@@ -32,8 +32,8 @@ use event_file::EventList;
 use image_format::State;
 use image_memory::begin_memory;
 use image_reader::Loaded;
+use loom_host::Host;
 use loom_memory::{CoreTables, LoomMemory};
-use loom_outside::Host;
 use loom_words::{Asked, Command, Status, asked_of};
 use machine_run::Finished;
 use std::alloc::Global;

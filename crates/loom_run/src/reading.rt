@@ -1,8 +1,8 @@
 // The steps that read: Work is attached, the image comes into it, and the events are read. A run and a trace begin with them.
 ghost use Rattle.std.specs.Prelude.{◌≡◌, ◌≤◌, ℕ, Bool, List, [], Some, IsTrue, IfOk, IfErr, OnOk};
-ghost use Rattle.loom_outside.specs.Outside.{SameBut};
+ghost use Rattle.loom_host.specs.Outside.{SameBut};
 ghost use Rattle.std.specs.FinMap as map;
-ghost use Rattle.loom_outside.specs.Work.{work_of};
+ghost use Rattle.loom_host.specs.Work.{work_of};
 ghost use Rattle.disk_objects.specs.Disk.{IsDisk, disk_held, disk_room};
 ghost use Rattle.image_reader.specs.Loaded.{heap_on};
 ghost use Rattle.image_memory.specs.Image.{HasImage};
@@ -17,7 +17,7 @@ use crate::status::status_of_disk;
 use disk_objects::{DiskObjects, DiskRest};
 use event_file::{EventFault, EventList, read_events};
 use image_reader::{LoadFault, Loaded, load};
-use loom_outside::{Host, Role};
+use loom_host::{Host, Role};
 use loom_words::{Command, Status};
 use std::alloc::Global;
 

@@ -8,7 +8,7 @@ ghost use Rattle.loom_run.specs.Parts.{IsFinished, status_by, status_by_disk, st
 
 use blue_model::Step;
 use contexts::Stop;
-use loom_outside::{DiskFault, Role};
+use loom_host::{DiskFault, Role};
 use loom_words::Status;
 use machine_run::{Finished, Halted, Reason};
 use object_memory::MemFault;

@@ -1,6 +1,6 @@
 // A run over the memory of two levels, with a line on Saved for each of its bytecodes.
 ghost use Rattle.std.specs.Prelude.{◌≡◌, ◌+◌, ◌<◌, ◌≤◌, ◌^◌, IfErr, IfOk, IsTrue, OnOk};
-ghost use Rattle.loom_outside.specs.Outside.{SameBut};
+ghost use Rattle.loom_host.specs.Outside.{SameBut};
 ghost use Rattle.object_memory.specs.Contract.{IsLater};
 ghost use Rattle.object_memory.specs.Fit.{MayCall};
 ghost use Rattle.blue_model.specs.Endings.{HasCounted};
@@ -16,8 +16,8 @@ ghost use Rattle.loom_run.specs.declared.tracing.TraceStop.TheVariants as varian
 
 use contexts::{Cpu, Stop};
 use event_file::EventList;
+use loom_host::{Host, Role};
 use loom_memory::LoomMemory;
-use loom_outside::{Host, Role};
 use loom_words::trace_line;
 use machine_run::{Sight, Step, is_last, settle, traced_cycle};
 use object_memory::MemFault;

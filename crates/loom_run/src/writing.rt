@@ -1,6 +1,6 @@
 // The steps that write: the saved image, the picture, and the last line.
 ghost use Rattle.std.specs.Prelude.{◌≡◌, ◌≤◌, [], ◌∷◌, is_ok, IsTrue, IfErr, OnOk, OnErr};
-ghost use Rattle.loom_outside.specs.Outside.{SameBut};
+ghost use Rattle.loom_host.specs.Outside.{SameBut};
 ghost use Rattle.long_names.specs.Heap.{Heap};
 ghost use Rattle.long_names.specs.Kept.{kept, no_roots};
 ghost use Rattle.image_writer.specs.Saved.{saved_text};
@@ -17,7 +17,7 @@ use disk_objects::DiskObjects;
 use image_format::State;
 use image_memory::save_kept;
 use image_writer::SaveFault;
-use loom_outside::{Host, Role, write_full};
+use loom_host::{Host, Role, write_full};
 use loom_words::{Command, Status};
 use std::alloc::Global;
 

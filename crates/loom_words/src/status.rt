@@ -5,7 +5,7 @@ ghost use Rattle.loom_words.specs.Status.{role_text, text_of_status, line_of, co
 
 use arrayvec::ArrayString;
 use itoa::Buffer;
-use loom_outside::Role;
+use loom_host::Role;
 use object_memory::Need;
 
 /// The last line on Notes, with its newline. It takes no memory.

@@ -1,5 +1,5 @@
 // Vaults: which checkpoint the gates tell, images by their blocks, the stops of `fresh` and of a vault in memory, and a vault over a file.
-use checkpoint::{MemoryVault, RealVault, Vault, VaultFault, fresh, read_image, recover};
+use checkpoint::{MemoryVault, Vault, VaultFault, fresh, read_image, recover};
 use loom_outside::{Failed, Role};
 use std::alloc::{AllocError, Global};
 use std::fs;

@@ -14,10 +14,10 @@ use Rattle.long_names.specs.declared.object.Object.{Object}
 use Rattle.long_names.specs.declared.value.Value.{Value}
 use Rattle.long_names.specs.Objects.{fields_of}
 use Rattle.long_names.proofs.CountLaws.{eqb-here, thinner-without}
-use Rattle.loom_outside.specs.declared.outside.DiskFault.{DiskFault}
-use Rattle.loom_outside.specs.declared.outside.DiskFault.TheVariants as fault
-use Rattle.loom_outside.specs.declared.outside.Host.{Ghosts}
-use Rattle.loom_outside.specs.Work.{work_of}
+use Rattle.loom_host.specs.declared.outside.DiskFault.{DiskFault}
+use Rattle.loom_host.specs.declared.outside.DiskFault.TheVariants as fault
+use Rattle.loom_host.specs.declared.outside.Host.{Ghosts}
+use Rattle.loom_host.specs.Work.{work_of}
 use Rattle.object_record.specs.Raw.{RawRecord, longs_of}
 use Rattle.object_record.specs.Objects.{object_in, value_in}
 use Rattle.object_record.proofs.ObjectLaws.{fields-values}

@@ -6,10 +6,10 @@ use Rattle.std.specs.FinMap as map
 use Rattle.std.specs.Prelude.{option_map}
 use Rattle.long_names.specs.declared.object.Object.{Object}
 use Rattle.long_names.specs.Heap.{Heap, object_count}
-use Rattle.loom_outside.specs.declared.outside.Host.{Ghosts}
-use Rattle.loom_outside.specs.declared.outside.Role.TheVariants.{Work}
-use Rattle.loom_outside.specs.Work.{work_of, IsWorkRead}
-use Rattle.loom_outside.proofs.WorkLaws.{work-same}
+use Rattle.loom_host.specs.declared.outside.Host.{Ghosts}
+use Rattle.loom_host.specs.declared.outside.Role.TheVariants.{Work}
+use Rattle.loom_host.specs.Work.{work_of, IsWorkRead}
+use Rattle.loom_host.proofs.WorkLaws.{work-same}
 use Rattle.object_record.specs.Raw.{RawRecord}
 use Rattle.object_record.specs.Objects.{object_in}
 use Rattle.object_table.specs.Entries.{put, is_used, place_of}

@@ -6,9 +6,9 @@ use Rattle.long_names.specs.Heap.{Heap, Has, object_count, count_of}
 use Rattle.long_names.specs.Thin.{IsThinner}
 use Rattle.long_names.proofs.CountLaws.{sum_below, one_if_there, object_count-sum}
 use Rattle.long_names.proofs.ThinLemmas.{IsThinner-refl, IsThinner-trans}
-use Rattle.loom_outside.specs.declared.outside.Host.{Ghosts}
-use Rattle.loom_outside.specs.declared.outside.Role.TheVariants.{Work}
-use Rattle.loom_outside.specs.Work.{work_of, IsWorkRead}
+use Rattle.loom_host.specs.declared.outside.Host.{Ghosts}
+use Rattle.loom_host.specs.declared.outside.Role.TheVariants.{Work}
+use Rattle.loom_host.specs.Work.{work_of, IsWorkRead}
 use Rattle.object_table.specs.Entries.{place_of}
 use Rattle.object_table.specs.Table.{entries_of}
 use Rattle.disk_objects.specs.declared.rest.DiskRest.{DiskRest}

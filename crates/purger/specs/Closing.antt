@@ -2,7 +2,7 @@
 use Rattle.std.specs.Prelude.{ℕ, [], Option}
 use Rattle.long_names.specs.Heap.{Heap}
 use Rattle.long_names.specs.Kept.{kept, no_roots}
-use Rattle.loom_outside.specs.declared.outside.Host.{Ghosts}
+use Rattle.loom_host.specs.declared.outside.Host.{Ghosts}
 use Rattle.disk_objects.specs.declared.rest.DiskRest.{DiskRest}
 use Rattle.leaf_lambda.specs.declared.parts.Parts.{Parts}
 use Rattle.counted_core.specs.Levels.{Stored, Levels, heap_of}

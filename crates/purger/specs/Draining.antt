@@ -2,8 +2,8 @@
 use Rattle.std.specs.Prelude.{◌≡◌, ℕ, ◌<◌, ◌≤◌, Bool, true, false, List, [], Option, None, Some, IsTrue, IsSome}
 use Rattle.long_names.specs.Heap.{Heap, Has}
 use Rattle.long_names.specs.Thin.{IsThinner}
-use Rattle.loom_outside.specs.declared.outside.Host.{Ghosts}
-use Rattle.loom_outside.specs.declared.outside.Role.TheVariants.{Work}
+use Rattle.loom_host.specs.declared.outside.Host.{Ghosts}
+use Rattle.loom_host.specs.declared.outside.Role.TheVariants.{Work}
 use Rattle.work_space.specs.Blocks.{times}
 use Rattle.object_table.specs.Entries.{put, place_of}
 use Rattle.disk_objects.specs.declared.rest.DiskRest.{DiskRest}

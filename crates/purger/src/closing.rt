@@ -1,6 +1,6 @@
 // Everything leaves a core from which nothing is named any more.
 ghost use Rattle.std.specs.Prelude.{◌≡◌, ◌+◌, ◌≤◌, ℕ, None, IsTrue, IfErr, OnOk};
-ghost use Rattle.loom_outside.specs.Work.{IsWorkOnly};
+ghost use Rattle.loom_host.specs.Work.{IsWorkOnly};
 ghost use Rattle.disk_objects.specs.Disk.{disk_held, disk_room};
 ghost use Rattle.core_view.specs.Counts.{outside};
 ghost use Rattle.core_view.specs.Kept.{IsTight};
@@ -15,7 +15,7 @@ use crate::draining::drain;
 use crate::room::{Pinned, RoomFault, make_room};
 use disk_objects::DiskObjects;
 use leaf_lambda::Parts;
-use loom_outside::{DiskFault, Host, Role};
+use loom_host::{DiskFault, Host, Role};
 use object_record::RecordBuf;
 use object_table::laws::entries_are_counted;
 

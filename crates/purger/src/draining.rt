@@ -1,6 +1,6 @@
 // Dead objects go: names that have no body are freed on disk, and an object with a body is freed without being written.
 ghost use Rattle.std.specs.Prelude.{[], ◌≡◌, ◌+◌, ◌+ℤ◌, ◌≤◌, ◌<◌, ◌↔◌, ℕ, pos, List, Option, None, Some, true, false, IsTrue, IfSome, IfOk, IfErr, OnOk, length};
-ghost use Rattle.loom_outside.specs.Work.{IsWorkOnly, IsWorkRead};
+ghost use Rattle.loom_host.specs.Work.{IsWorkOnly, IsWorkRead};
 ghost use Rattle.object_record.specs.Raw.{longs_of};
 ghost use Rattle.object_record.specs.Buffer.{raw_of, HasRecord};
 ghost use Rattle.object_table.specs.Entries.{is_short, is_used, place_of, put};
@@ -28,7 +28,7 @@ use leaf_lambda::leaving::{drop_body, set_written};
 use leaf_lambda::steps::{free_leaf, place_of_body};
 use leaf_lambda::{Parts, merge_out};
 use long_names::{Name, value_of};
-use loom_outside::{DiskFault, Host, Role};
+use loom_host::{DiskFault, Host, Role};
 use object_record::RecordBuf;
 use object_table::Short;
 

@@ -1,6 +1,6 @@
 // One object is written back and leaves the core.
 ghost use Rattle.std.specs.Prelude.{◌≡◌, ◌≢◌, ◌+◌, ◌≤◌, ◌<◌, ℕ, pos, List, Option, Some, None, true, false, IsTrue, IfOk, IfErr, OnOk, is_some, if◌then◌else◌};
-ghost use Rattle.loom_outside.specs.Work.{IsWorkOnly, IsWorkRead};
+ghost use Rattle.loom_host.specs.Work.{IsWorkOnly, IsWorkRead};
 ghost use Rattle.object_record.specs.Buffer.{raw_of, HasRecord};
 ghost use Rattle.object_record.specs.Objects.{object_in};
 ghost use Rattle.object_table.specs.Entries.{put, is_used, place_of};
@@ -35,7 +35,7 @@ use leaf_lambda::parts::is_copy;
 use leaf_lambda::steps::place_of_body;
 use leaf_lambda::{Parts, merge_out};
 use long_names::Name;
-use loom_outside::{DiskFault, Host, Role};
+use loom_host::{DiskFault, Host, Role};
 use object_record::RecordBuf;
 use object_table::Short;
 

@@ -1,6 +1,6 @@
 // Room is made: objects leave the core until there is enough.
 ghost use Rattle.std.specs.Prelude.{◌≡◌, ◌⊎◌, ◌+◌, ◌≤◌, ◌<◌, ℕ, Some, None, Ok, true, false, IsTrue, IsOk, IfOk, IfErr, OnOk};
-ghost use Rattle.loom_outside.specs.Work.{IsWorkOnly};
+ghost use Rattle.loom_host.specs.Work.{IsWorkOnly};
 ghost use Rattle.object_table.specs.Entries.{is_short, is_used, place_of};
 ghost use Rattle.object_table.specs.Table.{bound_of, entries_of};
 ghost use Rattle.core_segment.specs.Segment.{free_of, largest_of, size_of};
@@ -21,7 +21,7 @@ use delta_counts::give_idle;
 use disk_objects::DiskObjects;
 use leaf_lambda::Parts;
 use leaf_lambda::moving::compact_one;
-use loom_outside::{DiskFault, Host, Role};
+use loom_host::{DiskFault, Host, Role};
 use object_record::RecordBuf;
 use object_table::Short;
 

@@ -1,10 +1,10 @@
 -- Why calls failed, from why the calls inside them did.
 use Rattle.std.proofs.Common.{◌≡◌, ℕ, ◌-◌, ◌*◌, ◌<◌, ◌≤◌, Option, Some, None, IsTrue, IsSome, IfErr, refl, sym, subst, arith}
-use Rattle.loom_outside.proofs.WorkLaws.{failed-later}
-use Rattle.loom_outside.specs.declared.outside.Host.{Ghosts}
-use Rattle.loom_outside.specs.declared.outside.Role.TheVariants.{Work as OfWork}
-use Rattle.loom_outside.specs.declared.outside.DiskFault.{DiskFault}
-use Rattle.loom_outside.specs.declared.outside.DiskFault.TheVariants.{Work, Full, Damaged}
+use Rattle.loom_host.proofs.WorkLaws.{failed-later}
+use Rattle.loom_host.specs.declared.outside.Host.{Ghosts}
+use Rattle.loom_host.specs.declared.outside.Role.TheVariants.{Work as OfWork}
+use Rattle.loom_host.specs.declared.outside.DiskFault.{DiskFault}
+use Rattle.loom_host.specs.declared.outside.DiskFault.TheVariants.{Work, Full, Damaged}
 use Rattle.probing.proofs.TableLaws.{home-below, turned-below}
 use Rattle.probing.specs.Table.{home_of}
 use Rattle.work_directory.specs.declared.directory.Found.{Found}
@@ -12,7 +12,7 @@ use Rattle.work_directory.specs.declared.limits.TheConstants.{SLOT_BYTES}
 use Rattle.work_directory.specs.Inside.{IsLookCause, IsWriteCause, last_slot, search_end}
 use Rattle.work_directory.specs.Slots.{bytes_of, IsSpelled}
 use Rattle.work_directory.specs.Work.{IsDamaged, IsCause, IsSlotCause}
-use Rattle.loom_outside.specs.Work.{work_of}
+use Rattle.loom_host.specs.Work.{work_of}
 
 -- the slot that a search reads last is one of them
 pub last-within : (n name : ℕ) → 0 < n → last_slot n name < n

@@ -11,7 +11,7 @@ use Rattle.work_directory.specs.declared.slot.Slot.{Slot}
 use Rattle.work_directory.specs.declared.directory.Directory.{Directory}
 use Rattle.work_directory.specs.declared.directory.Found.{Found}
 use Rattle.work_directory.specs.declared.directory.Found.TheVariants.{Held, Vacant}
-use Rattle.loom_outside.specs.declared.outside.DiskFault.{DiskFault}
+use Rattle.loom_host.specs.declared.outside.DiskFault.{DiskFault}
 use Rattle.work_directory.specs.Directory.{room_of, held_of, slots_of, entries_of, found_entry, AnswersSearch, IsIn, IsOfName, IsChanged}
 use Rattle.work_directory.specs.Inside.{Writes, Closes}
 use Rattle.work_directory.specs.Slots.{slot_at, bytes_of, IsSpelled, AreSpelled}

@@ -1,8 +1,8 @@
 -- Contents of Work that are the same up to a place, or from one on.
 use Rattle.std.proofs.Common.{◌≡◌, ℕ, ◌+◌, ◌<◌, ◌≤◌, List, get_or, refl, sym, ◌∙◌, arith, inl}
 use Rattle.std.proofs.lemmas.List.{ext_get_or}
-use Rattle.loom_outside.specs.Bytes.{window, overwritten}
-use Rattle.loom_outside.proofs.Windows.{length-window, get_or-window, get_or-overwritten, byte_after_outside}
+use Rattle.loom_host.specs.Bytes.{window, overwritten}
+use Rattle.loom_host.proofs.Windows.{length-window, get_or-window, get_or-overwritten, byte_after_outside}
 use Rattle.work_directory.specs.Work.{SameFrom, SameBefore}
 
 pub same-again : (place : ℕ) (u v w : List ℕ) → SameFrom place u v → SameFrom place v w → SameFrom place u w

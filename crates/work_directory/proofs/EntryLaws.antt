@@ -1,7 +1,7 @@
 -- The entries of a directory in the contents of Work.
 use Rattle.std.proofs.Common.{◌≡◌, ◌≢◌, ℕ, ◌*◌, ◌<◌, ◌≤◌, ◌⊎◌, List, [], Option, Some, None, refl, sym, ap, ◌∙◌, subst, arith, inl, inr}
 use Rattle.std.specs.FinMap as map
-use Rattle.loom_outside.specs.Bytes.{overwritten}
+use Rattle.loom_host.specs.Bytes.{overwritten}
 use Rattle.probing.specs.Table.{map_of, home_of, turned, IsTable}
 use Rattle.probing.proofs.MapLaws.{map_of-same, len-map_of, get-map_of, get-map_of-zero, get-map_of_held, held_at, empty_map}
 use Rattle.probing.proofs.TableLaws.{IsTable-same, equal_or_not, empty_table, home-below, turned-below}

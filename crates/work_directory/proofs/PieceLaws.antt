@@ -1,11 +1,11 @@
 -- Slots that were read at once.
 use Rattle.std.proofs.Common.{◌≡◌, ℕ, ◌+◌, ◌-◌, ◌*◌, ◌≤◌, List, take, drop, Option, IsTrue, sym, ap, ◌∙◌, subst, arith}
-use Rattle.loom_outside.specs.Bytes.{window}
-use Rattle.loom_outside.specs.declared.outside.DiskFault.{DiskFault}
-use Rattle.loom_outside.specs.declared.outside.DiskFault.TheVariants.{Work, Full, Damaged}
-use Rattle.loom_outside.specs.declared.outside.Host.{Ghosts}
-use Rattle.loom_outside.specs.declared.outside.Role.TheVariants.{Work as OfWork}
-use Rattle.loom_outside.proofs.Windows.{window-taken}
+use Rattle.loom_host.specs.Bytes.{window}
+use Rattle.loom_host.specs.declared.outside.DiskFault.{DiskFault}
+use Rattle.loom_host.specs.declared.outside.DiskFault.TheVariants.{Work, Full, Damaged}
+use Rattle.loom_host.specs.declared.outside.Host.{Ghosts}
+use Rattle.loom_host.specs.declared.outside.Role.TheVariants.{Work as OfWork}
+use Rattle.loom_host.proofs.Windows.{window-taken}
 use Rattle.work_directory.specs.declared.piece.Piece.{Piece}
 use Rattle.work_directory.specs.declared.slot.Slot.{Slot}
 use Rattle.work_directory.specs.Directory.{shown_at}

@@ -3,8 +3,8 @@ use Rattle.std.proofs.Common.{◌≡◌, ◌≢◌, ℕ, ◌+◌, ◌*◌, ◌%�
 use Rattle.std.proofs.lemmas.Bool.Decides.{nat_tests}
 use Rattle.byteorder.specs.Endian.{big_bytes, big_number}
 use Rattle.byteorder.specs.Numbers.{big_number-reads_back}
-use Rattle.loom_outside.specs.Bytes.{window, overwritten}
-use Rattle.loom_outside.proofs.Windows.{window-overwritten_same, window-overwritten_apart, length-overwritten, get_or-overwritten, byte_after_outside}
+use Rattle.loom_host.specs.Bytes.{window, overwritten}
+use Rattle.loom_host.proofs.Windows.{window-overwritten_same, window-overwritten_apart, length-overwritten, get_or-overwritten, byte_after_outside}
 use Rattle.probing.specs.Search.{Puts}
 use Rattle.probing.proofs.TableLaws.{below_or_past, equal_or_not, puts-part}
 use Rattle.work_directory.specs.declared.slot.Slot.{Slot}

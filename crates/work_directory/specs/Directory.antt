@@ -1,8 +1,8 @@
 -- What a directory in Work stands for: a map from names to entries.
 use Rattle.std.specs.Prelude.{◌≡◌, ◌≢◌, ◌<◌, ℕ, ◌*◌, List, Option, None, Some, IsSome, IsTrue}
 use Rattle.std.specs.FinMap as map
-use Rattle.loom_outside.specs.declared.outside.Host.{Ghosts}
-use Rattle.loom_outside.specs.declared.outside.Role.TheVariants.{Work}
+use Rattle.loom_host.specs.declared.outside.Host.{Ghosts}
+use Rattle.loom_host.specs.declared.outside.Role.TheVariants.{Work}
 use Rattle.probing.specs.Search.{IsVacancy}
 use Rattle.probing.specs.Table.{map_of, IsTable}
 use Rattle.work_directory.specs.declared.directory.Found.{Found}
@@ -13,7 +13,7 @@ use Rattle.work_directory.specs.declared.directory.Directory.{Directory}
 use Rattle.work_directory.specs.Slots.{slot_at, used_slot, AreSpelled}
 use Rattle.work_directory.specs.Table.{Entry, Entries, entry_of, name_at, entry_at}
 use Rattle.work_directory.specs.Work.{SameFrom}
-use Rattle.loom_outside.specs.Work.{work_of}
+use Rattle.loom_host.specs.Work.{work_of}
 
 -- how many names it has room for, and how many it holds
 unfoldable pub room_of : Directory → ℕ

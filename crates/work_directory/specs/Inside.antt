@@ -1,9 +1,9 @@
 -- What the functions inside say of written slots and of closing up.
 use Rattle.std.specs.Prelude.{◌≡◌, ℕ, ◌*◌, ◌-◌, ◌+◌, ◌<◌, ◌≤◌, take, drop, List, Option, None, Some, Result, Ok, Err, IfSome, IsTrue}
-use Rattle.loom_outside.specs.declared.outside.Host.{Ghosts}
-use Rattle.loom_outside.specs.declared.outside.Role.TheVariants.{Work as OfWork}
-use Rattle.loom_outside.specs.declared.outside.DiskFault.{DiskFault}
-use Rattle.loom_outside.specs.declared.outside.DiskFault.TheVariants.{Work, Full, Damaged}
+use Rattle.loom_host.specs.declared.outside.Host.{Ghosts}
+use Rattle.loom_host.specs.declared.outside.Role.TheVariants.{Work as OfWork}
+use Rattle.loom_host.specs.declared.outside.DiskFault.{DiskFault}
+use Rattle.loom_host.specs.declared.outside.DiskFault.TheVariants.{Work, Full, Damaged}
 use Rattle.probing.specs.Search.{Puts, IsClosedUp}
 use Rattle.probing.specs.Table.{home_of, turned}
 use Rattle.work_directory.specs.declared.directory.Found.{Found}
@@ -13,7 +13,7 @@ use Rattle.work_directory.specs.declared.limits.TheConstants.{SLOT_BYTES}
 use Rattle.work_directory.specs.Slots.{slot_at, bytes_of, IsSpelled, AreSpelled}
 use Rattle.work_directory.specs.Table.{name_at, entry_at}
 use Rattle.work_directory.specs.Work.{SameFrom}
-use Rattle.loom_outside.specs.Work.{work_of, HasFailed}
+use Rattle.loom_host.specs.Work.{work_of, HasFailed}
 
 -- w is v with this slot at one of n
 pub record Writes (v w : List ℕ) (n at : ℕ) (slot : Slot) : Type 0 where

@@ -1,7 +1,7 @@
 -- The slots of a directory, as bytes: a name of 4, four zeros, a count of 8 and a place of 8, each number highest byte first.
 use Rattle.std.specs.Prelude.{◌≡◌, ℕ, ◌*◌, ◌^◌, ◌%◌, ◌<◌, ◌==◌, List, ◌++◌, drop, replicate, Option, None, Some, if◌then◌else◌}
 use Rattle.byteorder.specs.Endian.{big_bytes, big_number}
-use Rattle.loom_outside.specs.Bytes.{window}
+use Rattle.loom_host.specs.Bytes.{window}
 use Rattle.work_directory.specs.declared.limits.TheConstants.{SLOT_BYTES}
 use Rattle.work_directory.specs.declared.slot.Slot.{Slot}
 

@@ -1,11 +1,11 @@
 -- What a call on a directory leaves of Work, and why it failed.
 use Rattle.std.specs.Prelude.{◌≡◌, ℕ, ◌*◌, ◌%◌, ◌≤◌, ◌<◌, List, length, max, slice_index, IsTrue}
-use Rattle.loom_outside.specs.Work.{HasFailed}
+use Rattle.loom_host.specs.Work.{HasFailed}
 use Rattle.work_directory.specs.declared.limits.TheConstants.{SLOT_BYTES}
-use Rattle.loom_outside.specs.declared.outside.Host.{Ghosts}
-use Rattle.loom_outside.specs.declared.outside.Role.TheVariants.{Work as OfWork}
-use Rattle.loom_outside.specs.declared.outside.DiskFault.{DiskFault}
-use Rattle.loom_outside.specs.declared.outside.DiskFault.TheVariants.{Work, Full, Damaged}
+use Rattle.loom_host.specs.declared.outside.Host.{Ghosts}
+use Rattle.loom_host.specs.declared.outside.Role.TheVariants.{Work as OfWork}
+use Rattle.loom_host.specs.declared.outside.DiskFault.{DiskFault}
+use Rattle.loom_host.specs.declared.outside.DiskFault.TheVariants.{Work, Full, Damaged}
 
 -- from a place on the bytes are the same, and the new contents end no later than the old ones or that place
 pub record SameFrom (place : ℕ) (old new : List ℕ) : Type 0 where

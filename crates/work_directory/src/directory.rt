@@ -7,7 +7,7 @@ use crate::limits::{MOST_NAMES, SLOT_BYTES};
 use crate::piece::Piece;
 use crate::slot::{Slot, clear, damaged, look, place_of, put};
 use long_names::Name;
-use loom_outside::{DiskFault, Host};
+use loom_host::{DiskFault, Host};
 use probing::{distance, home, turn};
 
 /// The directory of the work file: the counts and places of the objects on disk. It has twice as many slots of 24 bytes as it has room
@@ -49,15 +49,15 @@ fn search_end(found: Option<Found>, name: Name, slots: u32) -> Result<Found, Dis
 impl Directory {
     ghost use Rattle.std.specs.Prelude.{◌≡◌, ◌≢◌, ◌+◌, [], IsTrue, IsSome, IfSome, IfOk, IfErr, OnOk, OnErr, Err, option_map};
     ghost use Rattle.std.specs.FinMap as map;
-    ghost use Rattle.loom_outside.specs.declared.outside.DiskFault.TheVariants.{Full};
-    ghost use Rattle.loom_outside.specs.declared.outside.Role.{Role};
+    ghost use Rattle.loom_host.specs.declared.outside.DiskFault.TheVariants.{Full};
+    ghost use Rattle.loom_host.specs.declared.outside.Role.{Role};
     ghost use Rattle.work_directory.specs.Directory.{room_of, held_of, slots_of, end_of, entries_of, found_entry, shown_at, AnswersSearch, IsIn, IsOfName, HoldsDirectory, entries_in, Holds, Lacks, EndsAt, StandsAt, Becomes};
     ghost use Rattle.work_directory.specs.Inside.{Closes};
     ghost use Rattle.work_directory.specs.Pieces.{IsPieceOf};
     ghost use Rattle.work_directory.specs.Slots.{slot_at};
     ghost use Rattle.work_directory.specs.Table.{entry_of};
     ghost use Rattle.work_directory.specs.Work.{IsCause, IsSlotCause};
-    ghost use Rattle.loom_outside.specs.Work.{work_of, IsWorkOnly, IsWorkRead};
+    ghost use Rattle.loom_host.specs.Work.{work_of, IsWorkOnly, IsWorkRead};
 
     /// An empty directory with room for so many names, over an empty file.
     pub fn new(room: u32) -> Directory

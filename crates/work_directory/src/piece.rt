@@ -4,7 +4,7 @@ ghost use Rattle.work_directory.specs.declared.piece.TheConstants.{PIECE_SLOTS};
 
 use crate::limits::SLOT_BYTES;
 use crate::slot::{Slot, failed, parse, place_of};
-use loom_outside::{DiskFault, Host};
+use loom_host::{DiskFault, Host};
 
 // How many slots are read at once.
 const PIECE_SLOTS: u32 = 170;
@@ -22,8 +22,8 @@ pub struct Piece {
 
 impl Piece {
     ghost use Rattle.std.specs.Prelude.{◌≡◌, List, ℕ, IfOk, IfErr, IsTrue, OnOk};
-    ghost use Rattle.loom_outside.specs.Work.{IsWorkFault, IsWorkRead, work_of};
-    ghost use Rattle.loom_outside.specs.declared.outside.Role.{Role};
+    ghost use Rattle.loom_host.specs.Work.{IsWorkFault, IsWorkRead, work_of};
+    ghost use Rattle.loom_host.specs.declared.outside.Role.{Role};
     ghost use Rattle.work_directory.specs.Inside.{HasSlot, IsPieceDamage, piece_bytes};
     ghost use Rattle.work_directory.specs.Pieces.{IsPieceOf};
     ghost use Rattle.work_directory.specs.Slots.{slot_in, used_slot};

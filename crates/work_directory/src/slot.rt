@@ -1,14 +1,14 @@
 // Slots, as they stand in Work. What was read is tested before it is believed.
 ghost use Rattle.std.specs.Prelude.{◌≡◌, ◌*◌, ◌<◌, ℕ, length, IfOk, IfErr, OnOk, OnErr, IsTrue};
-ghost use Rattle.loom_outside.specs.declared.outside.DiskFault.TheVariants.{Damaged};
+ghost use Rattle.loom_host.specs.declared.outside.DiskFault.TheVariants.{Damaged};
 ghost use Rattle.work_directory.specs.Inside.{Writes, IsLookCause, IsWriteCause};
 ghost use Rattle.work_directory.specs.Slots.{no_slot, spelling, slot_in, slot_at, used_slot, IsSpelled, FitsBytes};
-ghost use Rattle.loom_outside.specs.Work.{work_of, IsWorkOnly, IsWorkRead};
+ghost use Rattle.loom_host.specs.Work.{work_of, IsWorkOnly, IsWorkRead};
 
 use crate::limits::SLOT_BYTES;
 use byteorder::{BigEndian, ByteOrder};
 use long_names::Name;
-use loom_outside::{DiskFault, Host, Role};
+use loom_host::{DiskFault, Host, Role};
 
 /// What a directory has under a name.
 #[derive(Clone, Copy, Debug, PartialEq, Eq)]

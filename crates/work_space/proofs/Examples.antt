@@ -1,7 +1,7 @@
 -- Worked values.
 use Rattle.std.proofs.Common.{◌≡◌, ℕ, ◌++◌, List, [], ◌∷◌, replicate, Some, None, refl}
 use Rattle.byteorder.specs.Endian.{big_bytes}
-use Rattle.loom_outside.specs.Bytes.{window}
+use Rattle.loom_host.specs.Bytes.{window}
 use Rattle.work_space.specs.Blocks.{end_behind, laid_at, link_at, times, times_free, block_size, AreLinked}
 
 -- three blocks: the oldest of 128 bytes, then one of 32, and the newest of 64

@@ -8,8 +8,8 @@ use Rattle.std.proofs.lemmas.List.Sums.{sum_by-cons}
 use Rattle.std.proofs.lemmas.List.Elements.{All-cons}
 use Rattle.byteorder.specs.Endian.{big_number, big_bytes}
 use Rattle.byteorder.specs.Numbers.{big_number-reads_back}
-use Rattle.loom_outside.specs.Bytes.{overwritten}
-use Rattle.loom_outside.proofs.Windows.{window-overwritten_apart, window-overwritten_same, length-overwritten}
+use Rattle.loom_host.specs.Bytes.{overwritten}
+use Rattle.loom_host.proofs.Windows.{window-overwritten_apart, window-overwritten_same, length-overwritten}
 use Rattle.work_space.specs.Blocks.{block_size, put, end_behind, laid_at, times, times_free, link_at, AreApart, AreLinked, AreBlocks}
 use Rattle.work_space.proofs.BlockLaws.{put-at, put-there, none-some, size-least, end-least, laid-within, laid-apart, laid-end, laid-class}
 

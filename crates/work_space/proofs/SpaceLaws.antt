@@ -6,14 +6,14 @@ use Rattle.std.proofs.lemmas.List.{get_or_past}
 use Rattle.std.proofs.lemmas.Bool.Decides.{nat_tests}
 use Rattle.std.proofs.Math.Path.{fun_ext}
 use Rattle.std.specs.List.{Contains}
-use Rattle.loom_outside.specs.declared.outside.DiskFault.{DiskFault}
-use Rattle.loom_outside.specs.declared.outside.DiskFault.TheVariants as fault
-use Rattle.loom_outside.specs.Bytes.{window, overwritten}
-use Rattle.loom_outside.proofs.Windows.{window-overwritten_apart}
+use Rattle.loom_host.specs.declared.outside.DiskFault.{DiskFault}
+use Rattle.loom_host.specs.declared.outside.DiskFault.TheVariants as fault
+use Rattle.loom_host.specs.Bytes.{window, overwritten}
+use Rattle.loom_host.proofs.Windows.{window-overwritten_apart}
 use Rattle.work_space.specs.declared.space.Space.{Space}
 use Rattle.work_space.specs.Blocks.{block_size, put, laid_at, times, link_at, AreBlocks, AreFew}
 use Rattle.work_space.specs.Calls.{IsTakeFault, IsDamagedBy, IsFullAt}
-use Rattle.loom_outside.specs.Work.{IsWorkFault}
+use Rattle.loom_host.specs.Work.{IsWorkFault}
 use Rattle.work_space.specs.Space.{from_of, end_of, first_of, IsSpace, Takes, Gives, next_place, next_end, is_link, is_broken}
 use Rattle.work_space.proofs.BlockLaws.{none-some, size-least, size-most, end-least, laid-within, laid-apart, laid-step}
 use Rattle.work_space.proofs.CountLaws.{end-most, blocks-among}

@@ -2,7 +2,7 @@
 use Rattle.std.specs.Prelude.{◌≡◌, ℕ, ◌+◌, ◌*◌, ◌^◌, ◌<◌, ◌≤◌, ◌==◌, ◌⊎◌, List, [], ◌∷◌, length, count_by, All, Option, Some, None, if◌then◌else◌}
 use Rattle.work_space.specs.declared.limits.TheConstants.{SIZE_CLASSES, SMALLEST_BLOCK}
 use Rattle.byteorder.specs.Endian.{big_number}
-use Rattle.loom_outside.specs.Bytes.{window}
+use Rattle.loom_host.specs.Bytes.{window}
 
 -- the bytes of a block of a size class
 abbrev pub block_size : ℕ → ℕ

@@ -1,8 +1,8 @@
 -- Why a call failed.
 use Rattle.std.specs.Prelude.{◌≡◌, ◌+◌, ◌<◌, ℕ, Bool, true}
 use Rattle.long_names.specs.Counting.{Rose}
-use Rattle.loom_outside.specs.declared.outside.DiskFault.{DiskFault}
-use Rattle.loom_outside.specs.declared.outside.DiskFault.TheVariants as fault
+use Rattle.loom_host.specs.declared.outside.DiskFault.{DiskFault}
+use Rattle.loom_host.specs.declared.outside.DiskFault.TheVariants as fault
 use Rattle.work_space.specs.Blocks.{block_size}
 use Rattle.work_space.specs.declared.limits.TheConstants.{LAST_END}
 use Rattle.work_space.specs.Space.{first_of, end_of, next_place}

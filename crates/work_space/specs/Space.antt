@@ -1,6 +1,6 @@
 -- What a space stands for, and what its calls do.
 use Rattle.std.specs.Prelude.{◌≡◌, ◌≢◌, ℕ, ◌+◌, ◌-◌, ◌≤◌, ◌%◌, ◌==◌, ◌&&◌, ◌||◌, ◌⊎◌, max, nat_le, nat_lt, not, Bool, if◌then◌else◌, List, ◌∷◌, length, Contains, Option, Some, None, slice_index}
-use Rattle.loom_outside.specs.Bytes.{window}
+use Rattle.loom_host.specs.Bytes.{window}
 use Rattle.work_space.specs.declared.space.Space.{Space}
 use Rattle.work_space.specs.declared.limits.TheConstants.{LAST_END, SMALLEST_BLOCK}
 use Rattle.work_space.specs.Blocks.{block_size, put, laid_at, times, link_at, AreApart, AreBlocks}

@@ -1,6 +1,6 @@
 //! What holds of blocks whatever a caller keeps in them.
 ghost use Rattle.std.specs.Prelude.{◌≡◌, ◌≢◌, ◌+◌, ◌<◌, ◌≤◌, ◌^◌, ◌⊎◌, ℕ, List, length, Option, Some, None};
-ghost use Rattle.loom_outside.specs.Bytes.{overwritten};
+ghost use Rattle.loom_host.specs.Bytes.{overwritten};
 ghost use Rattle.work_space.specs.declared.space.Space.{Space};
 ghost use Rattle.work_space.specs.Blocks.{block_size, laid_at, times, AreApart, AreFew};
 ghost use Rattle.work_space.specs.Space.{IsSpace, from_of, end_of};

@@ -1,13 +1,13 @@
 // The links of free blocks: 8 bytes of Work, the highest first.
 ghost use Rattle.std.specs.Prelude.{◌≡◌, ◌<◌, ◌^◌, IsTrue, IfOk, IfErr, OnOk};
 ghost use Rattle.byteorder.specs.Endian.{big_bytes};
-ghost use Rattle.loom_outside.specs.Bytes.{overwritten};
-ghost use Rattle.loom_outside.specs.Outside.{holds};
+ghost use Rattle.loom_host.specs.Bytes.{overwritten};
+ghost use Rattle.loom_host.specs.Outside.{holds};
 ghost use Rattle.work_space.specs.Blocks.{link_at};
-ghost use Rattle.loom_outside.specs.Work.{IsWorkRead, IsWorkWritten, IsWorkFault, work_of};
+ghost use Rattle.loom_host.specs.Work.{IsWorkRead, IsWorkWritten, IsWorkFault, work_of};
 
 use byteorder::{BigEndian, ByteOrder};
-use loom_outside::{DiskFault, Host, Role};
+use loom_host::{DiskFault, Host, Role};
 
 /// Reads the link at a place of Work.
 #[tactic(auto, unfolding(crate::specs::Blocks::link_at))]

@@ -2,7 +2,7 @@
 use crate::limits::{LAST_END, SIZE_CLASSES, SMALLEST_BLOCK};
 use crate::link::{read_link, write_link};
 use crate::size_class::block_bytes;
-use loom_outside::{DiskFault, Host, Role};
+use loom_host::{DiskFault, Host, Role};
 
 /// The blocks of a work file, from a place on. It holds no more than where they begin and end and, for each size class, the place of the
 /// first free block. Each free block holds the place of the next one of its size class in its first 8 bytes, the highest first, and the
@@ -18,7 +18,7 @@ impl Space {
     ghost use Rattle.std.specs.Prelude.{◌≡◌, ◌+◌, ◌<◌, ◌≤◌, ◌^◌, ℕ, List, [], Option, None, Some, length, false, IsTrue, IfOk, IfErr, OnOk, OnErr, MatchResult};
     ghost use Rattle.work_space.specs.Blocks.{AreFew, block_size};
     ghost use Rattle.work_space.specs.Calls.{IsTakeFault, IsDamagedBy, IsFullAt};
-    ghost use Rattle.loom_outside.specs.Work.{IsWorkRead, IsWorkWritten, IsWorkFault, work_of};
+    ghost use Rattle.loom_host.specs.Work.{IsWorkRead, IsWorkWritten, IsWorkFault, work_of};
     ghost use Rattle.work_space.specs.Space.{IsSpace, Takes, Gives, end_of, from_of, first_of, is_broken, is_link, next_place, next_end};
 
     /// No block is laid. The first one will be laid at this place, and Work may contain anything before it.

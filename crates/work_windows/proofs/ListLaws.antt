@@ -2,8 +2,8 @@
 use Rattle.std.proofs.Common.{◌≡◌, ◌⊎◌, ◌≢◌, inl, inr, ℕ, ◌+◌, ◌-◌, ◌<◌, ◌≤◌, ◌%◌, ◌/◌, max, List, [], ◌++◌, Bool, true, false, cond, length, get_or, take, drop, set, replicate, length-append, None, refl, subst, sym, ap, ◌∙◌, arith}
 use Rattle.std.proofs.lemmas.List.{get_or_append_left, get_or-append_right, get_or-replicate, get_or-take, get_or-set_same, get_or-set_other, length-take, take_all, length-set, length-replicate}
 use Rattle.std.proofs.Math.Seq.{take-add}
-use Rattle.loom_outside.specs.Bytes.{window, overwritten}
-use Rattle.loom_outside.proofs.Windows.{below_or_past, get_or-window, window-by_bytes, length-window, length-overwritten, get_or-overwritten, byte_after_inside, byte_after_outside, overwritten-by_bytes}
+use Rattle.loom_host.specs.Bytes.{window, overwritten}
+use Rattle.loom_host.proofs.Windows.{below_or_past, get_or-window, window-by_bytes, length-window, length-overwritten, get_or-overwritten, byte_after_inside, byte_after_outside, overwritten-by_bytes}
 use Rattle.work_windows.proofs.WindowLaws.{indexes-apart, shows-apart}
 use Rattle.work_windows.specs.Windows.{Shows, AllShow}
 use Rattle.work_windows.specs.declared.window.TheConstants.{WIDTH}

@@ -2,8 +2,8 @@
 use Rattle.std.proofs.Common.{◌≡◌, ◌⊎◌, inl, inr, ℕ, ◌+◌, ◌-◌, ◌<◌, ◌≤◌, ◌%◌, ◌/◌, ◌≢◌, List, ◌++◌, length, get_or, take, drop, Option, Some, sym, ap, ◌∙◌, arith}
 use Rattle.std.specs.Option.{unwrap_or}
 use Rattle.std.proofs.lemmas.Grind.{elements, common_steps}
-use Rattle.loom_outside.specs.Bytes.{window, overwritten}
-use Rattle.loom_outside.proofs.Windows.{length-window, get_or-window, window-by_bytes, get_or-overwritten, byte_after_inside, byte_after_outside, window-overwritten_apart, window-taken}
+use Rattle.loom_host.specs.Bytes.{window, overwritten}
+use Rattle.loom_host.proofs.Windows.{length-window, get_or-window, window-by_bytes, get_or-overwritten, byte_after_inside, byte_after_outside, window-overwritten_apart, window-taken}
 use Rattle.work_windows.specs.Windows.{IsPageOf, Shows}
 use Rattle.work_windows.specs.declared.window.TheConstants.{WIDTH}
 use Rattle.work_windows.specs.declared.window.Window.{Window}

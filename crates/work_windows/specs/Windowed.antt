@@ -1,5 +1,5 @@
 -- A host with windows, as its caller knows it.
-use Rattle.loom_outside.specs.declared.outside.Host.{Ghosts}
+use Rattle.loom_host.specs.declared.outside.Host.{Ghosts}
 use Rattle.work_windows.specs.declared.windowed.Windowed.{Windowed}
 
 -- the host inside

@@ -1,7 +1,7 @@
 -- What a window over Work shows.
 use Rattle.std.specs.Prelude.{◌≡◌, ◌<◌, ◌%◌, ◌/◌, ℕ, List, length, slice_index_or}
 use Rattle.std.specs.Option.{ForSome}
-use Rattle.loom_outside.specs.Bytes.{window}
+use Rattle.loom_host.specs.Bytes.{window}
 use Rattle.work_windows.specs.declared.window.TheConstants.{WIDTH}
 use Rattle.work_windows.specs.declared.window.Window.{Window}
 use Rattle.work_windows.specs.declared.windows.TheConstants.{COUNT}

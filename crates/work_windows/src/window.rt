@@ -1,13 +1,13 @@
 // One window over Work.
 ghost use Rattle.std.specs.Prelude.{◌≡◌, ◌+◌, ◌≤◌, ◌↔◌, ℕ, List, None, Some, IsTrue, OnOk, length};
-ghost use Rattle.loom_outside.specs.Bytes.{window, overwritten};
-ghost use Rattle.loom_outside.specs.Outside.{HasCause};
-ghost use Rattle.loom_outside.specs.Work.{work_of, IsWorkRead};
-ghost use Rattle.loom_outside.specs.declared.outside.Role.{Role};
+ghost use Rattle.loom_host.specs.Bytes.{window, overwritten};
+ghost use Rattle.loom_host.specs.Outside.{HasCause};
+ghost use Rattle.loom_host.specs.Work.{work_of, IsWorkRead};
+ghost use Rattle.loom_host.specs.declared.outside.Role.{Role};
 ghost use Rattle.work_windows.specs.Windows.{IsPageOf, Shows};
 ghost use Rattle.work_windows.specs.declared.window.TheConstants.{WIDTH};
 
-use loom_outside::{Failed, Host, Role};
+use loom_host::{Failed, Host, Role};
 
 /// The bytes of a window.
 pub const WIDTH: usize = 4_096;

@@ -1,11 +1,11 @@
 // A host with windows over the Work of another host.
 ghost use Rattle.std.specs.Prelude.{IsTrue};
-ghost use Rattle.loom_outside.specs.Work.{work_of};
-ghost use Rattle.loom_outside.specs.declared.outside.Role.TheVariants.{Work};
+ghost use Rattle.loom_host.specs.Work.{work_of};
+ghost use Rattle.loom_host.specs.declared.outside.Role.TheVariants.{Work};
 ghost use Rattle.work_windows.specs.Windows.{AllShow};
 
 use crate::windows::Windows;
-use loom_outside::{Failed, Host, Role};
+use loom_host::{Failed, Host, Role};
 use std::alloc::Global;
 
 /// A host over another. A read of `LEAST` to `MOST` bytes of Work in which no edge of a window lies is answered from that window, which is

@@ -1,15 +1,15 @@
 // The windows over Work: each page of it has one place among them, which it shares with others.
 ghost use Rattle.std.specs.Prelude.{◌≡◌, ◌+◌, ◌≤◌, ◌<◌, ◌%◌, ◌/◌, ℕ, List, IsTrue, OnOk, length};
-ghost use Rattle.loom_outside.specs.Bytes.{window, overwritten};
-ghost use Rattle.loom_outside.specs.Outside.{HasCause};
-ghost use Rattle.loom_outside.specs.Work.{work_of, IsWorkRead};
-ghost use Rattle.loom_outside.specs.declared.outside.Role.{Role};
+ghost use Rattle.loom_host.specs.Bytes.{window, overwritten};
+ghost use Rattle.loom_host.specs.Outside.{HasCause};
+ghost use Rattle.loom_host.specs.Work.{work_of, IsWorkRead};
+ghost use Rattle.loom_host.specs.declared.outside.Role.{Role};
 ghost use Rattle.work_windows.specs.Windows.{AllShow};
 ghost use Rattle.work_windows.specs.declared.window.TheConstants.{WIDTH};
 ghost use Rattle.work_windows.specs.declared.windows.TheConstants.{COUNT};
 
 use crate::window::{WIDTH, Window};
-use loom_outside::{Failed, Host, Role};
+use loom_host::{Failed, Host, Role};
 use std::alloc::Global;
 
 /// How many windows there are at most.

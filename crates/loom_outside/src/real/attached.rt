@@ -2,7 +2,7 @@
 // system calls them, so that no other name of a file hides that two roles have it. Work is cut before others are attached, so it is also
 // compared with the files that they are expected to have. What was written is on the disk before another file is opened.
 ghost use Rattle.std.specs.Prelude.{◌≡◌, ◌<◌, ◌≤◌, IfSome, length};
-ghost use Rattle.loom_outside.specs.Outside.{CanAttach, CanRead, CanWrite};
+ghost use Rattle.loom_host.specs.Outside.{CanAttach, CanRead, CanWrite};
 
 use crate::Role;
 use crate::real::expected::Expected;

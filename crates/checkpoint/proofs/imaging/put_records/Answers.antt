@@ -2,7 +2,7 @@ use Rattle.std.proofs.Common.{◌++◌, ℕ, List, refl, sym, ap, ◌∙◌, ari
 use Rattle.std.proofs.lemmas.List.{append-nil}
 use Rattle.std.proofs.lemmas.Result.{err_from_is_err_and}
 use Rattle.long_names.specs.Heap.{Has}
-use Rattle.loom_outside.specs.declared.outside.Role.TheVariants.{Work}
+use Rattle.loom_host.specs.declared.outside.Role.TheVariants.{Work}
 use Rattle.image_writer.specs.Puts.{name_text}
 use Rattle.image_writer.proofs.DiskFacts.{same_heap, still_holds}
 use Rattle.image_writer.proofs.PutsLaws.{all_at, all_text, read_then}

@@ -3,8 +3,8 @@ use Rattle.std.specs.Prelude.{All}
 use Rattle.std.specs.List.{flat_map}
 use Rattle.long_names.specs.Heap.{Heap, Has}
 use Rattle.long_names.specs.declared.limits.TheConstants.{LONGEST_RECORD}
-use Rattle.loom_outside.specs.Work.{IsWorkRead}
-use Rattle.loom_outside.specs.declared.outside.Role.TheVariants.{Work}
+use Rattle.loom_host.specs.Work.{IsWorkRead}
+use Rattle.loom_host.specs.declared.outside.Role.TheVariants.{Work}
 use Rattle.image_writer.specs.Inside.{IsHeapOf}
 use Rattle.image_writer.specs.Puts.{name_text}
 use Rattle.checkpoint.specs.Area.{len_of, text_of}

@@ -2,8 +2,8 @@ use Rattle.std.proofs.Common.{◌∙◌, arith}
 use Rattle.delta_counts.proofs.PartLaws.{counting-names}
 use Rattle.delta_counts.proofs.GiveLaws.{giving-trans, giving-names}
 use Rattle.delta_counts.proofs.DrainLaws.{counting-giving, first-one, first-none, none-core, then-one, if-map}
-use Rattle.loom_outside.proofs.WorkLaws.{exits}
-use Rattle.loom_outside.specs.declared.outside.Role.TheVariants.{Work}
+use Rattle.loom_host.proofs.WorkLaws.{exits}
+use Rattle.loom_host.specs.declared.outside.Role.TheVariants.{Work}
 use Rattle.delta_counts.specs.Faults.{IsFreeFault}
 use Rattle.delta_counts.proofs.FaultLaws.{err-map, slots-free, free-again}
 use Rattle.delta_counts.proofs.draining.drain_one.Goals as goal

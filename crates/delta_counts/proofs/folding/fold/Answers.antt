@@ -1,7 +1,7 @@
 use Rattle.std.proofs.Common.{rules, ℕ, ℤ, List, Some, w64, SFits, sym, subst, ◌≡◌}
 use Rattle.std.proofs.lemmas.Int.{to_z-of_z}
 use Rattle.std.specs.FinMap as map
-use Rattle.loom_outside.specs.Work.{work_of}
+use Rattle.loom_host.specs.Work.{work_of}
 use Rattle.disk_objects.specs.Disk.{DiskObject, Objects, IsDisk}
 use Rattle.disk_objects.specs.Calls.{CanChange, changed_by}
 use Rattle.delta_counts.proofs.PartLaws.{names-short, names-within}

@@ -1,8 +1,8 @@
 use Rattle.std.proofs.Common.{refl, ◌∙◌, arith}
-use Rattle.loom_outside.proofs.WorkLaws.{work-itself, work-again, exits}
+use Rattle.loom_host.proofs.WorkLaws.{work-itself, work-again, exits}
 use Rattle.delta_counts.proofs.PartLaws.{counting-refl, counting-trans}
 use Rattle.delta_counts.proofs.FreeLaws.{thinner-first, thinner-then, drained-end}
-use Rattle.loom_outside.specs.declared.outside.Role.TheVariants.{Work}
+use Rattle.loom_host.specs.declared.outside.Role.TheVariants.{Work}
 use Rattle.delta_counts.specs.Faults.{IsFreeFault}
 use Rattle.delta_counts.proofs.FaultLaws.{free-again}
 use Rattle.delta_counts.proofs.freeing.drain_all.Goals as goal

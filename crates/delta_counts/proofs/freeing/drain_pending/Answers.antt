@@ -1,11 +1,11 @@
 use Rattle.std.proofs.Common.{◌≡◌, true, false, refl, subst, arith}
-use Rattle.loom_outside.specs.Work.{work_of}
+use Rattle.loom_host.specs.Work.{work_of}
 use Rattle.disk_objects.specs.Disk.{IsDisk}
 use Rattle.counted_core.specs.Levels.{Levels}
 use Rattle.delta_counts.specs.At.{IsFreedAt}
 use Rattle.delta_counts.proofs.FreeLaws.{took-at, none-at, took-some, took-none, first-loose, first-may, first-levels}
-use Rattle.loom_outside.proofs.WorkLaws.{exits}
-use Rattle.loom_outside.specs.declared.outside.Role.TheVariants.{Work}
+use Rattle.loom_host.proofs.WorkLaws.{exits}
+use Rattle.loom_host.specs.declared.outside.Role.TheVariants.{Work}
 use Rattle.delta_counts.specs.Faults.{IsFreeFault}
 use Rattle.delta_counts.proofs.FaultLaws.{fault-free, free-again}
 use Rattle.delta_counts.proofs.freeing.drain_pending.Goals as goal

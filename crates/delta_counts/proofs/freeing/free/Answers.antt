@@ -1,6 +1,6 @@
 use Rattle.std.proofs.Common.{ap, refl, arith, ◌∙◌}
-use Rattle.loom_outside.proofs.WorkLaws.{exits}
-use Rattle.loom_outside.specs.declared.outside.Role.TheVariants.{Work}
+use Rattle.loom_host.proofs.WorkLaws.{exits}
+use Rattle.loom_host.specs.declared.outside.Role.TheVariants.{Work}
 use Rattle.object_record.specs.Buffer.{raw_of}
 use Rattle.object_record.specs.Objects.{object_in}
 use Rattle.disk_objects.specs.Disk.{disk_room}

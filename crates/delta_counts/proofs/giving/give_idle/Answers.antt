@@ -1,8 +1,8 @@
 use Rattle.std.proofs.Common.{[], refl, ◌∙◌, arith}
-use Rattle.loom_outside.proofs.WorkLaws.{work-itself, work-again, exits}
+use Rattle.loom_host.proofs.WorkLaws.{work-itself, work-again, exits}
 use Rattle.delta_counts.proofs.WordLaws.{reached-then}
 use Rattle.delta_counts.proofs.GiveLaws.{giving-refl, giving-trans, giving-names, none-below}
-use Rattle.loom_outside.specs.declared.outside.Role.TheVariants.{Work}
+use Rattle.loom_host.specs.declared.outside.Role.TheVariants.{Work}
 use Rattle.disk_objects.specs.Calls.{IsSlotsFault}
 use Rattle.delta_counts.proofs.FaultLaws.{slots-again}
 use Rattle.delta_counts.proofs.giving.give_idle.Goals as goal

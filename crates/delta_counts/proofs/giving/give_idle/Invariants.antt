@@ -1,7 +1,7 @@
 use Rattle.std.proofs.Common.{ℕ, ◌≡◌, [], IsTrue}
-use Rattle.loom_outside.specs.declared.outside.Role.TheVariants.{Work}
+use Rattle.loom_host.specs.declared.outside.Role.TheVariants.{Work}
 use Rattle.core_segment.specs.Chunks.{Chunk}
-use Rattle.loom_outside.specs.Work.{IsWorkOnly}
+use Rattle.loom_host.specs.Work.{IsWorkOnly}
 use Rattle.disk_objects.specs.Disk.{disk_room, disk_held}
 use Rattle.counted_core.specs.Levels.{Levels}
 use Rattle.counted_core.specs.Counted.{IsSound}

@@ -4,12 +4,12 @@ use Rattle.long_names.specs.declared.value.Value.{Value}
 use Rattle.object_record.specs.Raw.{longs_of}
 use Rattle.object_record.specs.Buffer.{raw_of}
 use Rattle.object_record.specs.Objects.{value_in}
-use Rattle.loom_outside.proofs.WorkLaws.{work-itself, work-again, exits}
+use Rattle.loom_host.proofs.WorkLaws.{work-itself, work-again, exits}
 use Rattle.counted_core.specs.Counted.{IsSound}
 use Rattle.delta_counts.specs.At.{IsReached}
 use Rattle.delta_counts.proofs.PartLaws.{counting-refl, counting-trans, counting-names}
 use Rattle.delta_counts.proofs.WordLaws.{drop-next, drop-all, reached-then, reached-some, field-value, field-some}
-use Rattle.loom_outside.specs.declared.outside.Role.TheVariants.{Work}
+use Rattle.loom_host.specs.declared.outside.Role.TheVariants.{Work}
 use Rattle.delta_counts.specs.Faults.{IsWordsFault}
 use Rattle.delta_counts.proofs.FaultLaws.{words-again}
 use Rattle.delta_counts.proofs.words.lower_fields.Goals as goal

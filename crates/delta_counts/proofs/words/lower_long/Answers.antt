@@ -1,7 +1,7 @@
 use Rattle.std.proofs.Common.{inr, refl, sym, subst}
 use Rattle.std.specs.Prelude.{◌∷◌, []}
 use Rattle.long_names.specs.declared.value.Value.{Value}
-use Rattle.loom_outside.specs.declared.outside.Role.TheVariants.{Work}
+use Rattle.loom_host.specs.declared.outside.Role.TheVariants.{Work}
 use Rattle.counted_core.specs.Counted.{IsSound}
 use Rattle.delta_counts.specs.Faults.{IsWordsFault}
 use Rattle.delta_counts.proofs.FaultLaws.{err-map}

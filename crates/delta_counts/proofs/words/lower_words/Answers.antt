@@ -1,10 +1,10 @@
 use Rattle.std.proofs.Common.{map, ◌∙◌}
-use Rattle.loom_outside.proofs.WorkLaws.{work-again, exits}
+use Rattle.loom_host.proofs.WorkLaws.{work-again, exits}
 use Rattle.delta_counts.proofs.PartLaws.{counting-trans, counting-names}
 use Rattle.delta_counts.proofs.LowerLaws.{ok-map}
 use Rattle.delta_counts.proofs.WordLaws.{reached-then, class-some, fields-some}
 use Rattle.delta_counts.proofs.FaultLaws.{err-map, fault-words, words-again}
-use Rattle.loom_outside.specs.declared.outside.Role.TheVariants.{Work}
+use Rattle.loom_host.specs.declared.outside.Role.TheVariants.{Work}
 use Rattle.object_record.specs.Buffer.{raw_of}
 use Rattle.object_record.specs.Objects.{object_in, value_in}
 use Rattle.object_record.specs.Raw.{longs_of}

@@ -1,5 +1,5 @@
 use Rattle.std.proofs.Common.{ℕ, List, drop, ap, ◌++◌, ◌∙◌}
-use Rattle.loom_outside.specs.Work.{work_of}
+use Rattle.loom_host.specs.Work.{work_of}
 use Rattle.disk_objects.proofs.RecordLaws.{front-taken}
 use Rattle.disk_objects.proofs.record.fetch.Goals as goal
 

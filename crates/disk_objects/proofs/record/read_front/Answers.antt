@@ -1,6 +1,6 @@
 use Rattle.std.proofs.Common.{take, arith}
 use Rattle.std.proofs.lemmas.List.{length-take}
-use Rattle.loom_outside.specs.Work.{work_of}
+use Rattle.loom_host.specs.Work.{work_of}
 use Rattle.disk_objects.proofs.RecordLaws.{front-head, front-size, front-there, head-fault}
 use Rattle.disk_objects.proofs.record.read_front.Goals as goal
 

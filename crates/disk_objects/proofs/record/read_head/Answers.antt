@@ -1,4 +1,4 @@
-use Rattle.loom_outside.specs.Work.{work_of}
+use Rattle.loom_host.specs.Work.{work_of}
 use Rattle.disk_objects.proofs.RecordLaws.{head-read, head-fault}
 use Rattle.disk_objects.proofs.record.read_head.Goals as goal
 

@@ -1,4 +1,4 @@
-use Rattle.loom_outside.specs.Work.{work_of}
+use Rattle.loom_host.specs.Work.{work_of}
 use Rattle.disk_objects.proofs.RecordLaws.{link-read, link-fault}
 use Rattle.disk_objects.proofs.record.read_link.Goals as goal
 

@@ -1,8 +1,8 @@
 use Rattle.std.proofs.Common.{◌≡◌, ◌++◌, ℕ, List, length, drop, refl, ap, sym, subst, ◌∙◌}
-use Rattle.loom_outside.specs.Bytes.{window}
-use Rattle.loom_outside.specs.Work.{work_of, IsWorkFault}
-use Rattle.loom_outside.specs.declared.outside.Role.TheVariants.{Work}
-use Rattle.loom_outside.proofs.WorkLaws.{work-same, exits, fault-later}
+use Rattle.loom_host.specs.Bytes.{window}
+use Rattle.loom_host.specs.Work.{work_of, IsWorkFault}
+use Rattle.loom_host.specs.declared.outside.Role.TheVariants.{Work}
+use Rattle.loom_host.proofs.WorkLaws.{work-same, exits, fault-later}
 use Rattle.object_record.proofs.Numbers.{AreBytes}
 use Rattle.work_space.proofs.SpaceLaws.{true-false}
 use Rattle.disk_objects.specs.Disk.{IsLaid}

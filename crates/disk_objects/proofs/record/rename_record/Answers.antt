@@ -1,6 +1,6 @@
-use Rattle.loom_outside.specs.declared.outside.Role.TheVariants.{Work}
-use Rattle.loom_outside.specs.Work.{work_of, IsWorkFault}
-use Rattle.loom_outside.proofs.WorkLaws.{work-same, fault-later}
+use Rattle.loom_host.specs.declared.outside.Role.TheVariants.{Work}
+use Rattle.loom_host.specs.Work.{work_of, IsWorkFault}
+use Rattle.loom_host.proofs.WorkLaws.{work-same, fault-later}
 use Rattle.std.proofs.lemmas.Result.{IfErr-weaker}
 use Rattle.object_record.specs.Buffer.{raw_of}
 use Rattle.disk_objects.proofs.RecordLaws.{renamed-written}

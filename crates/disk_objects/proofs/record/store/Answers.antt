@@ -1,9 +1,9 @@
 use Rattle.std.proofs.Common.{ℕ, ap, refl, arith}
-use Rattle.loom_outside.specs.Outside.{RoleState}
-use Rattle.loom_outside.specs.declared.outside.Role.TheVariants.{Work}
+use Rattle.loom_host.specs.Outside.{RoleState}
+use Rattle.loom_host.specs.declared.outside.Role.TheVariants.{Work}
 use Rattle.object_record.specs.Buffer.{raw_of}
-use Rattle.loom_outside.specs.Work.{work_of, IsWorkFault}
-use Rattle.loom_outside.proofs.WorkLaws.{exits}
+use Rattle.loom_host.specs.Work.{work_of, IsWorkFault}
+use Rattle.loom_host.proofs.WorkLaws.{exits}
 use Rattle.disk_objects.specs.Inside.{IsStoreFault}
 use Rattle.disk_objects.proofs.FaultLaws.{store-take}
 use Rattle.disk_objects.proofs.TouchLaws.{place-low, stored-in}

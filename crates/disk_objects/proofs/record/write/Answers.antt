@@ -1,6 +1,6 @@
 use Rattle.std.proofs.Common.{ap}
-use Rattle.loom_outside.specs.Outside.{RoleState}
-use Rattle.loom_outside.specs.Work.{work_of}
+use Rattle.loom_host.specs.Outside.{RoleState}
+use Rattle.loom_host.specs.Work.{work_of}
 use Rattle.disk_objects.proofs.WindowLaws.{touches-written, here-written}
 use Rattle.disk_objects.proofs.record.write.Goals as goal
 

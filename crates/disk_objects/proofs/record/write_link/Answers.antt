@@ -1,6 +1,6 @@
 use Rattle.std.proofs.Common.{arith}
 use Rattle.std.proofs.lemmas.Result.{on_ok_weaker}
-use Rattle.loom_outside.specs.Work.{work_of}
+use Rattle.loom_host.specs.Work.{work_of}
 use Rattle.disk_objects.proofs.RecordLaws.{link-written}
 use Rattle.disk_objects.proofs.record.write_link.Goals as goal
 

@@ -1,6 +1,6 @@
 use Rattle.std.proofs.Common.{arith}
 use Rattle.object_record.specs.Buffer.{raw_of}
-use Rattle.loom_outside.specs.Work.{work_of}
+use Rattle.loom_host.specs.Work.{work_of}
 use Rattle.disk_objects.proofs.RecordLaws.{long-record, record-linked-both, record-written-both}
 use Rattle.disk_objects.proofs.record.write_record.Goals as goal
 

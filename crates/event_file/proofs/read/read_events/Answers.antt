@@ -1,5 +1,5 @@
 use Rattle.std.proofs.Common.{◌+◌, length, rules, ◌∙◌}
-use Rattle.loom_outside.specs.declared.outside.Role.TheVariants.{Events}
+use Rattle.loom_host.specs.declared.outside.Role.TheVariants.{Events}
 use Rattle.event_file.specs.Reading.{begun_text}
 use Rattle.event_file.specs.declared.limits.TheConstants.{PIECE}
 use Rattle.event_file.proofs.PieceLaws.{took-most, took-both, took-more, aligned-more, stops-then}

@@ -1,6 +1,6 @@
 use Rattle.std.proofs.Common.{◌≡◌, ◌++◌, ◌+◌, ◌-◌, ◌%◌, IsTrue, length}
-use Rattle.loom_outside.specs.declared.outside.Role.TheVariants.{Events}
-use Rattle.loom_outside.specs.Outside.{TookSome}
+use Rattle.loom_host.specs.declared.outside.Role.TheVariants.{Events}
+use Rattle.loom_host.specs.Outside.{TookSome}
 use Rattle.event_file.specs.Inside.{most_text}
 use Rattle.event_file.specs.Reading.{IsBegun, IsEventsOnly, begun_text}
 use Rattle.event_file.specs.declared.limits.TheConstants.{PIECE}

@@ -1,5 +1,5 @@
 use Rattle.std.proofs.Common.{◌+◌, ℕ, Bool, cond, drop, Option, Some, refl, sym, ap, ◌∙◌, arith}
-use Rattle.loom_outside.specs.declared.outside.Role.TheVariants.{Work}
+use Rattle.loom_host.specs.declared.outside.Role.TheVariants.{Work}
 use Rattle.image_format.specs.declared.fault.Break.{Break}
 use Rattle.image_format.specs.Rules.{break, first_failing, is_counted, words_in}
 use Rattle.image_reader.specs.Frames.{IsDiskFault}

@@ -1,7 +1,7 @@
 use Rattle.std.proofs.Common.{◌≡◌, ℕ, List, IsTrue, drop}
 use Rattle.long_names.specs.declared.object.Rec.{Rec}
-use Rattle.loom_outside.specs.declared.outside.Role.TheVariants.{Work}
-use Rattle.loom_outside.specs.Work.{IsWorkRead}
+use Rattle.loom_host.specs.declared.outside.Role.TheVariants.{Work}
+use Rattle.loom_host.specs.Work.{IsWorkRead}
 use Rattle.image_format.specs.Rules.{first_failing, is_counted, words_in}
 use Rattle.image_reader.specs.Judged.{AreRead}
 use Rattle.image_reader.specs.Tally.{IsFresh, Raises}

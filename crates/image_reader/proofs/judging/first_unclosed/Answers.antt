@@ -1,5 +1,5 @@
 use Rattle.std.proofs.Common.{slice_get, ◌≡◌, ◌+◌, ◌-◌, ◌*◌, ◌^◌, ℕ, true, false, List, refl, sym, ap, subst, ◌∙◌, arith}
-use Rattle.loom_outside.specs.declared.outside.Role.TheVariants.{Work}
+use Rattle.loom_host.specs.declared.outside.Role.TheVariants.{Work}
 use Rattle.image_format.specs.Rules.{object_of_rec}
 use Rattle.image_reader.specs.Frames.{IsDiskFault}
 use Rattle.image_reader.specs.declared.fault.LoadFault.TheVariants.{Disk}

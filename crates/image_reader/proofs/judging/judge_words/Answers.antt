@@ -1,7 +1,7 @@
 use Rattle.std.proofs.Common.{◌≡◌, ℕ, List, None, sym, subst}
 use Rattle.std.specs.Prelude.{All, IsSome}
 use Rattle.disk_objects.specs.Function.{counts_of}
-use Rattle.loom_outside.specs.declared.outside.Role.TheVariants.{Work}
+use Rattle.loom_host.specs.declared.outside.Role.TheVariants.{Work}
 use Rattle.image_format.proofs.Writing.{on_ok}
 use Rattle.image_reader.specs.Frames.{IsPartFault}
 use Rattle.image_reader.specs.Judged.{IsJudged, IsOfWhole, counts_broken, words_broken}

@@ -1,8 +1,8 @@
 use Rattle.std.proofs.Common.{◌∙◌, refl, sym, ap, subst, arith}
 use Rattle.disk_objects.specs.declared.rest.DiskRest.{DiskRest}
 use Rattle.disk_objects.specs.Disk.{disk_room}
-use Rattle.loom_outside.specs.declared.outside.Role.TheVariants.{Image, Work}
-use Rattle.loom_outside.specs.Outside.{RoleState}
+use Rattle.loom_host.specs.declared.outside.Role.TheVariants.{Image, Work}
+use Rattle.loom_host.specs.Outside.{RoleState}
 use Rattle.image_format.specs.Rules as rules
 use Rattle.image_reader.specs.Loaded.{IsLoadFault}
 use Rattle.image_reader.proofs.Frames.{fault_later, leaves, loading_then, look_loading}

@@ -1,5 +1,5 @@
 use Rattle.std.proofs.Common.{◌++◌, ℕ, List, [], sym, ap, subst, ◌∙◌, arith}
-use Rattle.loom_outside.specs.declared.outside.Role.TheVariants.{Image, Work}
+use Rattle.loom_host.specs.declared.outside.Role.TheVariants.{Image, Work}
 use Rattle.image_format.specs.Rules.{records_at}
 use Rattle.disk_objects.specs.declared.rest.DiskRest.{DiskRest}
 use Rattle.disk_objects.specs.Disk.{disk_held, disk_room}

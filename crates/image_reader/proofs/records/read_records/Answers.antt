@@ -1,5 +1,5 @@
 use Rattle.std.proofs.Common.{◌+◌, ◌<◌, ℕ, List, sym, subst, ◌∙◌, refl, arith}
-use Rattle.loom_outside.specs.declared.outside.Role.TheVariants.{Image}
+use Rattle.loom_host.specs.declared.outside.Role.TheVariants.{Image}
 use Rattle.image_format.specs.Rules.{records_at}
 use Rattle.image_reader.specs.declared.fault.LoadFault.TheVariants.{Memory}
 use Rattle.image_reader.specs.Frames.{IsHalted, IsPartFault}

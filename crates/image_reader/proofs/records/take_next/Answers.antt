@@ -1,5 +1,5 @@
 use Rattle.std.proofs.Common.{◌<◌, ◌++◌, sym, subst, arith}
-use Rattle.loom_outside.specs.declared.outside.Role.TheVariants.{Image, Work}
+use Rattle.loom_host.specs.declared.outside.Role.TheVariants.{Image, Work}
 use Rattle.object_record.specs.Buffer.{raw_of}
 use Rattle.disk_objects.specs.declared.rest.DiskRest.{DiskRest}
 use Rattle.disk_objects.specs.Disk.{disk_held, disk_room}

@@ -1,6 +1,6 @@
 use Rattle.std.proofs.Common.{ap, ◌∙◌, arith}
-use Rattle.loom_outside.specs.declared.outside.Role.TheVariants.{Image}
-use Rattle.loom_outside.specs.Outside.{RoleState}
+use Rattle.loom_host.specs.declared.outside.Role.TheVariants.{Image}
+use Rattle.loom_host.specs.Outside.{RoleState}
 use Rattle.image_format.specs.Heads.{is_next}
 use Rattle.image_reader.proofs.Frames.{leaves, loading_then}
 use Rattle.image_reader.proofs.JudgeLaws.{many-of}

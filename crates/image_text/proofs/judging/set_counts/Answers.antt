@@ -1,5 +1,5 @@
 use Rattle.std.proofs.Common.{refl, ◌∙◌, arith}
-use Rattle.loom_outside.proofs.WorkLaws.{work-again, work-itself}
+use Rattle.loom_host.proofs.WorkLaws.{work-again, work-itself}
 use Rattle.image_reader.specs.Frames.{IsDiskFault}
 use Rattle.image_reader.proofs.Frames.{leaves, work_loading}
 use Rattle.image_text.specs.Judged.{words_of}

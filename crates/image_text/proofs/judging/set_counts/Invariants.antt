@@ -1,6 +1,6 @@
 use Rattle.std.proofs.Common.{◌≡◌, take, IsTrue}
-use Rattle.loom_outside.specs.declared.outside.Role.TheVariants.{Work}
-use Rattle.loom_outside.specs.Work.{IsWorkOnly}
+use Rattle.loom_host.specs.declared.outside.Role.TheVariants.{Work}
+use Rattle.loom_host.specs.Work.{IsWorkOnly}
 use Rattle.disk_objects.specs.Disk.{disk_held, disk_room}
 use Rattle.image_text.specs.Judged.{SetsCounts, words_of}
 use Rattle.image_text.proofs.judging.set_counts.Given as goal

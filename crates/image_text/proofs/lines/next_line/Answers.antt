@@ -1,6 +1,6 @@
 use Rattle.std.proofs.Common.{◌≡◌, ◌≤◌, ℕ, true, false, List, length, sym, ap, subst, ◌∙◌, arith}
 use Rattle.std.specs.List.{position_or_len}
-use Rattle.loom_outside.specs.declared.outside.Role.TheVariants.{Image}
+use Rattle.loom_host.specs.declared.outside.Role.TheVariants.{Image}
 use Rattle.image_reader.proofs.Frames.{reads_then}
 use Rattle.image_text.specs.Lines.{Comes, is_newline, line_in}
 use Rattle.image_text.proofs.LineReads.{comes, open_by, open_is, still_far}

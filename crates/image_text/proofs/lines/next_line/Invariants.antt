@@ -1,6 +1,6 @@
 use Rattle.std.proofs.Common.{◌≡◌, ◌+◌, ◌-◌, ◌≤◌, IsTrue, length, cond}
 use Rattle.std.specs.List.{position_or_len}
-use Rattle.loom_outside.specs.declared.outside.Role.TheVariants.{Image}
+use Rattle.loom_host.specs.declared.outside.Role.TheVariants.{Image}
 use Rattle.image_reader.specs.Frames.{ReadsImage}
 use Rattle.image_reader.specs.Window.{EndsTruly, unused}
 use Rattle.text_lines.specs.declared.limits.TheConstants.{LONGEST_LINE}

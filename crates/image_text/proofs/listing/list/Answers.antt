@@ -2,7 +2,7 @@ use Rattle.std.proofs.Common.{ℕ, List, [], ◌++◌, sym, subst, ◌∙◌}
 use Rattle.std.specs.Prelude.{All}
 use Rattle.std.specs.List.{flat_map}
 use Rattle.long_names.specs.Heap.{Has}
-use Rattle.loom_outside.specs.declared.outside.Role.TheVariants.{Work}
+use Rattle.loom_host.specs.declared.outside.Role.TheVariants.{Work}
 use Rattle.image_writer.specs.Saved.{disk_heap}
 use Rattle.image_writer.proofs.DiskFacts.{still_holds, same_disk}
 use Rattle.image_writer.proofs.PutsLaws.{then_puts, read_puts, untold_puts}

@@ -2,7 +2,7 @@ use Rattle.std.proofs.Common.{◌≡◌, take, Ok, IsTrue}
 use Rattle.std.specs.Prelude.{All}
 use Rattle.std.specs.List.{flat_map}
 use Rattle.long_names.specs.Heap.{Heap, Has}
-use Rattle.loom_outside.specs.declared.outside.Role.TheVariants.{Work}
+use Rattle.loom_host.specs.declared.outside.Role.TheVariants.{Work}
 use Rattle.disk_objects.specs.Function.{disk_of}
 use Rattle.image_writer.specs.Inside.{Gathers}
 use Rattle.text_lines.specs.Spelling.{name_line}

@@ -1,7 +1,7 @@
 use Rattle.std.proofs.Common.{ℕ, List, [], ◌++◌, refl, sym, ap, ◌∙◌}
 use Rattle.std.proofs.lemmas.List.{append-nil}
 use Rattle.std.specs.List.{flat_map}
-use Rattle.loom_outside.specs.declared.outside.Role.TheVariants.{Work}
+use Rattle.loom_host.specs.declared.outside.Role.TheVariants.{Work}
 use Rattle.image_writer.proofs.DiskFacts.{still_holds, same_disk}
 use Rattle.image_writer.proofs.GatherLaws.{gathered_puts}
 use Rattle.text_lines.specs.Spelling.{head_parts, line_of, name_line}

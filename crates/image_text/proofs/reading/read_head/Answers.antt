@@ -1,4 +1,4 @@
-use Rattle.loom_outside.specs.declared.outside.Role.TheVariants.{Image}
+use Rattle.loom_host.specs.declared.outside.Role.TheVariants.{Image}
 use Rattle.image_reader.specs.Window.{unused}
 use Rattle.text_lines.specs.Breaks.{lines_at}
 use Rattle.image_text.specs.Lines.{lines_of}

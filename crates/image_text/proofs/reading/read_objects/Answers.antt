@@ -1,5 +1,5 @@
 use Rattle.std.proofs.Common.{◌+◌, ℕ, List, refl, sym, subst, ◌∙◌, arith}
-use Rattle.loom_outside.specs.declared.outside.Role.TheVariants.{Image}
+use Rattle.loom_host.specs.declared.outside.Role.TheVariants.{Image}
 use Rattle.image_reader.specs.Window.{unused}
 use Rattle.image_reader.proofs.Frames.{leaves, loading_none, loading_then}
 use Rattle.image_reader.proofs.Stored.{stored_holds}

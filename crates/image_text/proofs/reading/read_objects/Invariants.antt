@@ -1,5 +1,5 @@
 use Rattle.std.proofs.Common.{◌≡◌, ◌+◌, ◌-◌, IsTrue}
-use Rattle.loom_outside.specs.declared.outside.Role.TheVariants.{Image}
+use Rattle.loom_host.specs.declared.outside.Role.TheVariants.{Image}
 use Rattle.disk_objects.specs.Disk.{disk_room}
 use Rattle.image_format.specs.declared.head.TheConstants.{MOST_OBJECTS}
 use Rattle.image_reader.specs.Frames.{IsLoading}

@@ -1,5 +1,5 @@
 use Rattle.std.proofs.Common.{◌++◌, ℕ, List, [], ap, arith}
-use Rattle.loom_outside.specs.declared.outside.Role.TheVariants.{Image, Work}
+use Rattle.loom_host.specs.declared.outside.Role.TheVariants.{Image, Work}
 use Rattle.image_reader.proofs.Frames.{leaves, loading_then, reads_loading}
 use Rattle.image_reader.proofs.Stored.{still_stored, stored_none}
 use Rattle.image_text.specs.Assembled.{IsPartTextFault}

@@ -1,5 +1,5 @@
 use Rattle.std.proofs.Common.{subst}
-use Rattle.loom_outside.specs.declared.outside.Role.TheVariants.{Image, Work}
+use Rattle.loom_host.specs.declared.outside.Role.TheVariants.{Image, Work}
 use Rattle.object_record.specs.Buffer.{raw_of}
 use Rattle.image_reader.specs.Window.{unused}
 use Rattle.image_reader.proofs.Frames.{leaves}

@@ -1,6 +1,6 @@
 use Rattle.std.proofs.Common.{◌≡◌, ℕ, false, eqb, Option, ap, ◌∙◌, refl}
 use Rattle.std.proofs.lemmas.Bool.{ne_eqb}
-use Rattle.loom_outside.specs.declared.outside.Role.TheVariants.{Work}
+use Rattle.loom_host.specs.declared.outside.Role.TheVariants.{Work}
 use Rattle.long_names.specs.declared.object.Object.{Object}
 use Rattle.disk_objects.specs.Function.{disk_of}
 use Rattle.image_writer.specs.Saved as saved

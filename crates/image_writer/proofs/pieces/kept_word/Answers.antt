@@ -1,5 +1,5 @@
 use Rattle.std.proofs.Common.{ℕ, true, false, Option, is_some, sym, ap, ◌∙◌}
-use Rattle.loom_outside.specs.Work.{work_of}
+use Rattle.loom_host.specs.Work.{work_of}
 use Rattle.disk_objects.specs.Function.{disk_of}
 use Rattle.image_writer.proofs.DiskFacts.{not_some, counted_there, held_name, word_none, word_there}
 use Rattle.image_writer.proofs.pieces.kept_word.Goals as goal

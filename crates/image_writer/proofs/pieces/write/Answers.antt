@@ -1,5 +1,5 @@
 use Rattle.std.proofs.Common.{refl, arith}
-use Rattle.loom_outside.specs.declared.outside.Role.TheVariants.{Saved, Work}
+use Rattle.loom_host.specs.declared.outside.Role.TheVariants.{Saved, Work}
 use Rattle.image_writer.proofs.PutsLaws.{only_prefix, only_puts}
 use Rattle.image_writer.proofs.pieces.write.Goals as goal
 

@@ -2,7 +2,7 @@ use Rattle.std.proofs.Common.{◌≡◌, take, Ok, IsTrue}
 use Rattle.std.specs.Prelude.{All}
 use Rattle.std.specs.List.{flat_map}
 use Rattle.long_names.specs.Heap.{Heap, Has}
-use Rattle.loom_outside.specs.declared.outside.Role.TheVariants.{Work}
+use Rattle.loom_host.specs.declared.outside.Role.TheVariants.{Work}
 use Rattle.image_writer.specs.Inside.{Gathers, IsHeapOf}
 use Rattle.image_writer.specs.Puts.{name_text}
 use Rattle.image_writer.proofs.saving.put_records.Given as goal

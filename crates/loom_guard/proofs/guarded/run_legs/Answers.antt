@@ -1,5 +1,5 @@
 use Rattle.std.proofs.Common.{[], Ok, refl, sym, ◌∙◌, ap, subst, arith}
-use Rattle.loom_outside.specs.declared.outside.Role.TheVariants.{Work, Transcript}
+use Rattle.loom_host.specs.declared.outside.Role.TheVariants.{Work, Transcript}
 use Rattle.image_reader.specs.Loaded.{heap_on}
 use Rattle.blue_model.specs.declared.cpu.Cpu.{Cpu}
 use Rattle.machine_run.specs.States.{model_state}

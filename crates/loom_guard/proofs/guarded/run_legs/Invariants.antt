@@ -1,5 +1,5 @@
 use Rattle.std.proofs.Common.{◌≡◌, ◌-◌, ◌≤◌, IsTrue}
-use Rattle.loom_outside.specs.declared.outside.Role.TheVariants.{Work, Transcript}
+use Rattle.loom_host.specs.declared.outside.Role.TheVariants.{Work, Transcript}
 use Rattle.disk_objects.specs.Disk.{disk_room}
 use Rattle.image_reader.specs.Loaded.{heap_on}
 use Rattle.image_memory.specs.Image.{HasImage}

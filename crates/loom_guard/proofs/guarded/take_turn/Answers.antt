@@ -1,6 +1,6 @@
 use Rattle.std.proofs.Common.{◌≡◌, ℕ, ◌<◌, IsTrue, sym, ◌∙◌, ap, subst, arith}
 use Rattle.long_names.specs.Heap.{Heap}
-use Rattle.loom_outside.specs.declared.outside.Role.TheVariants.{Work, Transcript}
+use Rattle.loom_host.specs.declared.outside.Role.TheVariants.{Work, Transcript}
 use Rattle.image_reader.specs.Loaded.{heap_on}
 use Rattle.image_writer.specs.Saved.{disk_heap, saved_text}
 use Rattle.image_memory.proofs.EndLaws.{ended-heap}

@@ -1,4 +1,4 @@
-use Rattle.loom_outside.specs.declared.outside.Role.TheVariants.{Work}
+use Rattle.loom_host.specs.declared.outside.Role.TheVariants.{Work}
 use Rattle.image_writer.proofs.DiskFacts.{still_holds}
 use Rattle.loom_guard.proofs.keeping.keep_disk.Goals as goal
 

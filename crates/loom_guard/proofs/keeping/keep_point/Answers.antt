@@ -5,7 +5,7 @@ use Rattle.image_memory.proofs.EndLaws.{ended-exact, ended-holds}
 use Rattle.image_reader.specs.Loaded.{heap_on}
 use Rattle.long_names.specs.Kept.{kept, no_roots}
 use Rattle.checkpoint.specs.Keeping.{serial_of}
-use Rattle.loom_outside.specs.Work.{IsWorkRead}
+use Rattle.loom_host.specs.Work.{IsWorkRead}
 use Rattle.machine_run.specs.States.{model_state, state_left}
 use Rattle.loom_run.specs.Meanings.{meanings}
 use Rattle.loom_guard.specs.Turns.{IsKeepRefusal}

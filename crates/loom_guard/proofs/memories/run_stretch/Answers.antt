@@ -1,6 +1,6 @@
 -- A memory begins over the disk that is joined again, and at the end it is taken apart: each of these leaves the host as it was.
 use Rattle.std.proofs.Common.{◌≡◌, rules, sym, ◌∙◌, subst}
-use Rattle.loom_outside.specs.declared.outside.Role.TheVariants.{Work, Transcript}
+use Rattle.loom_host.specs.declared.outside.Role.TheVariants.{Work, Transcript}
 use Rattle.disk_objects.specs.declared.rest.DiskRest.{DiskRest}
 use Rattle.image_reader.specs.Loaded.{heap_on}
 use Rattle.image_memory.specs.Image.{HasEnded}

@@ -1,5 +1,5 @@
 use Rattle.std.proofs.Common.{inl, refl}
-use Rattle.loom_outside.specs.declared.outside.Role.TheVariants.{Work, Transcript}
+use Rattle.loom_host.specs.declared.outside.Role.TheVariants.{Work, Transcript}
 use Rattle.loom_memory.specs.Memory.{loom_told}
 use Rattle.loom_words.specs.Command.{row_for}
 use Rattle.loom_run.specs.Meanings.{meanings}

@@ -1,6 +1,6 @@
 -- The vault is new, and nothing is kept in it yet.
 use Rattle.std.proofs.Common.{None, refl}
-use Rattle.loom_outside.specs.declared.outside.Role.TheVariants.{Image, Events}
+use Rattle.loom_host.specs.declared.outside.Role.TheVariants.{Image, Events}
 use Rattle.loom_words.specs.Command.{row_for}
 use Rattle.loom_run.specs.Meanings.{meanings}
 use Rattle.loom_run.proofs.EndsLaws.{heard-left, read-left}

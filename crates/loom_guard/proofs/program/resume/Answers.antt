@@ -1,6 +1,6 @@
 -- The vault holds what it held, and its checkpoint's image is what was read.
 use Rattle.std.proofs.Common.{ℕ, List, Some, IsTrue, sym, ap, subst, ◌∙◌}
-use Rattle.loom_outside.specs.declared.outside.Role.TheVariants.{Image, Events, Work}
+use Rattle.loom_host.specs.declared.outside.Role.TheVariants.{Image, Events, Work}
 use Rattle.checkpoint.specs.Layout.{image_in}
 use Rattle.image_reader.specs.Loaded.{heap_on}
 use Rattle.loom_words.specs.Command.{row_for}

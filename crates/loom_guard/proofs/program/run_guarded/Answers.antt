@@ -1,5 +1,5 @@
 use Rattle.std.proofs.Common.{[]}
-use Rattle.loom_outside.specs.declared.outside.Role.TheVariants.{Work}
+use Rattle.loom_host.specs.declared.outside.Role.TheVariants.{Work}
 use Rattle.image_reader.specs.Loaded.{heap_on}
 use Rattle.machine_run.specs.States.{model_state}
 use Rattle.checkpoint.specs.Keeping.{serial_of}

@@ -1,7 +1,7 @@
 -- The image is loaded over a host that stands over the host, and that is given up at the end, and leaves the host as it left it.
 use Rattle.std.proofs.Common.{◌≡◌, refl, rules, subst, sym, ◌∙◌, ap}
-use Rattle.loom_outside.specs.Outside.{RoleState}
-use Rattle.loom_outside.specs.declared.outside.Role.TheVariants.{Image, Work}
+use Rattle.loom_host.specs.Outside.{RoleState}
+use Rattle.loom_host.specs.declared.outside.Role.TheVariants.{Image, Work}
 use Rattle.image_reader.specs.Loaded.{heap_on}
 use Rattle.image_memory.specs.Image.{HasImage}
 use Rattle.loom_words.specs.Command.{row_for}

@@ -1,6 +1,6 @@
 -- Work is attached, the image is loaded, and the events are read: the host is the same from one to the next.
 use Rattle.std.proofs.Common.{refl, subst, sym}
-use Rattle.loom_outside.specs.declared.outside.Role.TheVariants.{Image, Work}
+use Rattle.loom_host.specs.declared.outside.Role.TheVariants.{Image, Work}
 use Rattle.image_reader.specs.Loaded.{heap_on}
 use Rattle.image_memory.proofs.ImageLaws.{image-stays}
 use Rattle.long_names.specs.Heap.{Heap}

@@ -2,7 +2,7 @@
 use Rattle.std.proofs.Common.{List, ℕ, sym, subst}
 use Rattle.image_reader.specs.Loaded.{heap_on}
 use Rattle.text_lines.specs.Texts.{IsTextOf}
-use Rattle.loom_outside.specs.declared.outside.Role.TheVariants.{Image, Work}
+use Rattle.loom_host.specs.declared.outside.Role.TheVariants.{Image, Work}
 use Rattle.loom_run.specs.Ends.{bytes_of}
 use Rattle.loom_run.proofs.ConvertLaws.{refused-text, unopened-judges}
 use Rattle.loom_run.proofs.ConvertSteps.{held-counts}

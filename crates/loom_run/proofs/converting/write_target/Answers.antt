@@ -1,7 +1,7 @@
 -- Attached and then put: a step of the host, and one of the disk.
 use Rattle.loom_run.proofs.ConvertLaws.{refused-saving}
 use Rattle.loom_run.proofs.ConvertSteps.{source-stays}
-use Rattle.loom_outside.specs.declared.outside.Role.TheVariants.{Work}
+use Rattle.loom_host.specs.declared.outside.Role.TheVariants.{Work}
 use Rattle.loom_run.proofs.converting.write_target.Goals as goal
 
 pub returns-in-Err-clause-refused : goal.returns-in-Err-clause-refused

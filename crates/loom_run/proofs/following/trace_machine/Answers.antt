@@ -1,5 +1,5 @@
 use Rattle.std.proofs.Common.{◌≡◌, ◌+◌, Ok, Err, sym, subst, arith}
-use Rattle.loom_outside.specs.declared.outside.Role.TheVariants.{Saved}
+use Rattle.loom_host.specs.declared.outside.Role.TheVariants.{Saved}
 use Rattle.blue_model.specs.Endings.{HasCounted}
 use Rattle.machine_run.specs.Run.{FaultsBy}
 use Rattle.machine_run.specs.States.{model_state}

@@ -1,6 +1,6 @@
 -- The image was put whole, and then it was ended, or not.
 use Rattle.std.proofs.Common.{[], inr}
-use Rattle.loom_outside.specs.declared.outside.Role.TheVariants.{Saved}
+use Rattle.loom_host.specs.declared.outside.Role.TheVariants.{Saved}
 use Rattle.loom_run.specs.Ends.{WasWritten}
 use Rattle.loom_run.proofs.StepLaws.{begun-from, made-by, not-made, written-from}
 use Rattle.loom_run.proofs.making.write_image.Goals as goal

@@ -1,7 +1,7 @@
 -- The disk begins again over the host as it is, and hands it back as it left it.
 use Rattle.std.proofs.Common.{◌≡◌, rules, sym, subst}
-use Rattle.loom_outside.specs.declared.outside.Host.{Ghosts}
-use Rattle.loom_outside.specs.declared.outside.Role.TheVariants.{Saved, Display, Work}
+use Rattle.loom_host.specs.declared.outside.Host.{Ghosts}
+use Rattle.loom_host.specs.declared.outside.Role.TheVariants.{Saved, Display, Work}
 use Rattle.loom_words.specs.Command.{row_for}
 use Rattle.loom_run.specs.Meanings.{Meanings, LeavesBut, meanings}
 use Rattle.loom_run.specs.Stages.{Saving, Drawing, written_roles}

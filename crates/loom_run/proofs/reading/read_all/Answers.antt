@@ -1,6 +1,6 @@
 -- A disk begins over the host as it is, and is taken apart: each of these leaves the host as it was.
 use Rattle.std.proofs.Common.{◌≡◌, IfErr, refl, rules, sym, subst}
-use Rattle.loom_outside.specs.declared.outside.Role.TheVariants.{Work}
+use Rattle.loom_host.specs.declared.outside.Role.TheVariants.{Work}
 use Rattle.image_reader.specs.Loaded.{heap_on}
 use Rattle.image_memory.specs.Image.{HasImage}
 use Rattle.image_memory.proofs.ImageLaws.{image-stays}

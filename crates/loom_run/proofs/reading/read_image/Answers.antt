@@ -5,7 +5,7 @@ use Rattle.loom_run.specs.Ends.{JudgesImage, bytes_of}
 use Rattle.loom_run.specs.Meanings.{meanings}
 use Rattle.loom_run.specs.Stages.{Reading}
 use Rattle.loom_run.specs.Steps.{IsReadRefusal, IsRefusal}
-use Rattle.loom_outside.specs.declared.outside.Role.TheVariants.{Image, Work}
+use Rattle.loom_host.specs.declared.outside.Role.TheVariants.{Image, Work}
 use Rattle.loom_run.proofs.ReadLaws.{image-counts, image-read}
 use Rattle.loom_run.proofs.StepLaws.{bad-reading, file-reading, judged-disk, leaves-reading, refused-disk, refused-read, refuses}
 use Rattle.loom_run.proofs.reading.read_image.Goals as goal

@@ -1,5 +1,5 @@
 use Rattle.std.proofs.Common.{refl}
-use Rattle.loom_outside.specs.declared.outside.Role.TheVariants.{Saved}
+use Rattle.loom_host.specs.declared.outside.Role.TheVariants.{Saved}
 use Rattle.loom_memory.specs.Memory.{loom_outside}
 use Rattle.loom_run.proofs.TraceLaws.{line-text, only-part, only-puts}
 use Rattle.loom_run.proofs.tracing.put_line.Goals as goal

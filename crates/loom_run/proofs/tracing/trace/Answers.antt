@@ -3,7 +3,7 @@ use Rattle.std.specs.Prelude.{IfErr}
 use Rattle.object_memory.proofs.LaterLaws.{IsLater-refl, IsLater-trans}
 use Rattle.blue_model.specs.declared.step.Step.TheVariants.{Next}
 use Rattle.blue_model.proofs.EndingLaws.{goes_on}
-use Rattle.loom_outside.specs.declared.outside.Role.TheVariants.{Saved}
+use Rattle.loom_host.specs.declared.outside.Role.TheVariants.{Saved}
 use Rattle.loom_memory.specs.Memory.{loom_outside, loom_told}
 use Rattle.machine_run.specs.Run.{Reaches}
 use Rattle.machine_run.proofs.RunningLaws.{last_counted, never, reaches_end, reaches_on, reaches_start}

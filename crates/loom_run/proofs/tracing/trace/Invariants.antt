@@ -1,6 +1,6 @@
 use Rattle.std.proofs.Common.{◌≡◌, ◌+◌, ◌<◌, ◌≤◌, IsTrue}
-use Rattle.loom_outside.specs.Outside.{SameBut, puts}
-use Rattle.loom_outside.specs.declared.outside.Role.TheVariants.{Saved, Work}
+use Rattle.loom_host.specs.Outside.{SameBut, puts}
+use Rattle.loom_host.specs.declared.outside.Role.TheVariants.{Saved, Work}
 use Rattle.object_memory.specs.Contract.{IsLater}
 use Rattle.object_memory.specs.Fit.{MayCall}
 use Rattle.blue_model.specs.declared.step.Step.TheVariants.{Next}

@@ -6,8 +6,8 @@ use Rattle.object_memory.specs.Told.{Told, IsReady}
 use Rattle.blue_model.specs.declared.step.Step.{Step}
 use Rattle.contexts.specs.Serves.{HasRest}
 use Rattle.contexts.specs.declared.stop.Stop.TheVariants.{Mem}
-use Rattle.loom_outside.specs.Outside.{RoleState, puts}
-use Rattle.loom_outside.specs.declared.outside.Role.TheVariants.{Saved}
+use Rattle.loom_host.specs.Outside.{RoleState, puts}
+use Rattle.loom_host.specs.declared.outside.Role.TheVariants.{Saved}
 use Rattle.loom_memory.specs.Memory.{loom_outside, loom_told}
 use Rattle.loom_words.specs.Trace.{trace_text}
 use Rattle.machine_run.specs.Run.{Reaches}

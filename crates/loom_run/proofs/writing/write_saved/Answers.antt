@@ -6,8 +6,8 @@ use Rattle.long_names.specs.Kept.{kept, no_roots}
 use Rattle.image_writer.specs.Saved.{saved_text}
 use Rattle.image_memory.proofs.EndLaws.{ended-stays}
 use Rattle.image_memory.specs.Image.{HasEnded}
-use Rattle.loom_outside.specs.declared.outside.Role.TheVariants.{Saved, Work}
-use Rattle.loom_outside.specs.Outside.{RoleState}
+use Rattle.loom_host.specs.declared.outside.Role.TheVariants.{Saved, Work}
+use Rattle.loom_host.specs.Outside.{RoleState}
 use Rattle.loom_words.specs.Command.{row_for}
 use Rattle.loom_run.specs.Ends.{AttachedOnce}
 use Rattle.loom_run.specs.Meanings.{meanings}

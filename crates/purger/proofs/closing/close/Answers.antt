@@ -1,5 +1,5 @@
 use Rattle.std.proofs.Common.{◌+◌, ◌∙◌, arith}
-use Rattle.loom_outside.proofs.WorkLaws.{exits}
+use Rattle.loom_host.proofs.WorkLaws.{exits}
 use Rattle.leaf_lambda.specs.Parts.{core_of}
 use Rattle.purger.specs.Counts.{KeepsSound}
 use Rattle.purger.specs.Purge.{IsPurgeFault, IsShort}

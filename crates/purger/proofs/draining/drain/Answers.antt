@@ -1,6 +1,6 @@
 use Rattle.std.proofs.Common.{refl, ◌∙◌, arith}
-use Rattle.loom_outside.specs.declared.outside.Role.TheVariants.{Work}
-use Rattle.loom_outside.proofs.WorkLaws.{exits, work-itself, work-again}
+use Rattle.loom_host.specs.declared.outside.Role.TheVariants.{Work}
+use Rattle.loom_host.proofs.WorkLaws.{exits, work-itself, work-again}
 use Rattle.purger.specs.Purge.{IsReadFault}
 use Rattle.purger.proofs.ThinLaws.{all-drained, bare-thins, leaves-refl, leaves-trans, thinned-first, thinned-has, thinned-number, thinned-trans}
 use Rattle.purger.proofs.DrainLaws.{read-later}

@@ -1,5 +1,5 @@
 use Rattle.std.proofs.Common.{arith}
-use Rattle.loom_outside.specs.declared.outside.Role.TheVariants.{Work}
+use Rattle.loom_host.specs.declared.outside.Role.TheVariants.{Work}
 use Rattle.disk_objects.specs.Places.{IsReadPlace}
 use Rattle.delta_counts.proofs.LowerLaws.{ok-map}
 use Rattle.purger.proofs.RoomLaws.{work-refl}

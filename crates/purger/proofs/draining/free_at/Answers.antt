@@ -1,6 +1,6 @@
 use Rattle.std.proofs.Common.{refl, ◌∙◌, arith}
-use Rattle.loom_outside.proofs.WorkLaws.{exits, work-again}
-use Rattle.loom_outside.specs.declared.outside.Role.TheVariants.{Work}
+use Rattle.loom_host.proofs.WorkLaws.{exits, work-again}
+use Rattle.loom_host.specs.declared.outside.Role.TheVariants.{Work}
 use Rattle.core_segment.specs.Segment.{chunk_at}
 use Rattle.leaf_lambda.specs.declared.parts.Parts.{Parts}
 use Rattle.delta_counts.proofs.LowerLaws.{ok-map}

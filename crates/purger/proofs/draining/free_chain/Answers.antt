@@ -1,6 +1,6 @@
 use Rattle.std.proofs.Common.{◌∙◌, arith}
-use Rattle.loom_outside.proofs.WorkLaws.{exits, work-again}
-use Rattle.loom_outside.specs.declared.outside.Role.TheVariants.{Work}
+use Rattle.loom_host.proofs.WorkLaws.{exits, work-again}
+use Rattle.loom_host.specs.declared.outside.Role.TheVariants.{Work}
 use Rattle.delta_counts.proofs.LowerLaws.{ok-map, ok-of}
 use Rattle.purger.specs.Purge.{IsReadFault}
 use Rattle.purger.proofs.ThinLaws.{leaves-trans, thinned-has, thinned-trans}

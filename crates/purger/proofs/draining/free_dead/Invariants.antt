@@ -1,6 +1,6 @@
 use Rattle.std.proofs.Common.{◌≡◌, ◌+◌, ◌*◌, IsTrue}
-use Rattle.loom_outside.specs.declared.outside.Role.TheVariants.{Work}
-use Rattle.loom_outside.specs.Work.{IsWorkOnly}
+use Rattle.loom_host.specs.declared.outside.Role.TheVariants.{Work}
+use Rattle.loom_host.specs.Work.{IsWorkOnly}
 use Rattle.object_table.specs.Table.{entries_of}
 use Rattle.core_segment.specs.Segment.{free_of}
 use Rattle.disk_objects.specs.Disk.{disk_room}

@@ -1,6 +1,6 @@
 use Rattle.std.proofs.Common.{◌≡◌, ℕ, true, false, ◌∙◌, refl, ap, subst, arith}
-use Rattle.loom_outside.proofs.WorkLaws.{exits, work-again, work-read}
-use Rattle.loom_outside.specs.declared.outside.Role.TheVariants.{Work}
+use Rattle.loom_host.proofs.WorkLaws.{exits, work-again, work-read}
+use Rattle.loom_host.specs.declared.outside.Role.TheVariants.{Work}
 use Rattle.object_table.specs.declared.entry.Entry.{Entry}
 use Rattle.object_table.specs.Entries.{place_of}
 use Rattle.disk_objects.specs.Disk.{disk_held, disk_room}

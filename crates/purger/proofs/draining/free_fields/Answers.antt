@@ -1,6 +1,6 @@
 use Rattle.std.proofs.Common.{ℕ, List, length, refl, sym, ◌∙◌, ap, subst, arith}
-use Rattle.loom_outside.proofs.WorkLaws.{exits, work-again, work-itself}
-use Rattle.loom_outside.specs.declared.outside.Role.TheVariants.{Work}
+use Rattle.loom_host.proofs.WorkLaws.{exits, work-again, work-itself}
+use Rattle.loom_host.specs.declared.outside.Role.TheVariants.{Work}
 use Rattle.object_record.specs.Raw.{longs_of}
 use Rattle.object_record.specs.Buffer.{raw_of, HasRecord}
 use Rattle.purger.specs.Purge.{IsReadFault}

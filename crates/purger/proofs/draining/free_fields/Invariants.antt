@@ -1,6 +1,6 @@
 use Rattle.std.proofs.Common.{◌≡◌, ◌≤◌, ◌+◌, ◌-◌, ◌*◌, ◌^◌, IsTrue, length}
-use Rattle.loom_outside.specs.declared.outside.Role.TheVariants.{Work}
-use Rattle.loom_outside.specs.Work.{IsWorkOnly}
+use Rattle.loom_host.specs.declared.outside.Role.TheVariants.{Work}
+use Rattle.loom_host.specs.Work.{IsWorkOnly}
 use Rattle.object_record.specs.Raw.{longs_of}
 use Rattle.object_record.specs.Buffer.{raw_of, HasRecord}
 use Rattle.core_segment.specs.Segment.{free_of, size_of}

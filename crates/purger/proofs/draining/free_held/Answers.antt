@@ -1,5 +1,5 @@
 use Rattle.std.proofs.Common.{◌≡◌, true, false, arith}
-use Rattle.loom_outside.proofs.WorkLaws.{work-itself}
+use Rattle.loom_host.proofs.WorkLaws.{work-itself}
 use Rattle.leaf_lambda.specs.Parts.{core_of}
 use Rattle.purger.proofs.ThinLaws.{leaves-refl, thinned-first}
 use Rattle.purger.proofs.draining.free_held.Goals as goal

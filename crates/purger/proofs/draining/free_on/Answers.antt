@@ -1,6 +1,6 @@
 use Rattle.std.proofs.Common.{refl, ◌∙◌, arith}
-use Rattle.loom_outside.proofs.WorkLaws.{exits, work-again, work-itself}
-use Rattle.loom_outside.specs.declared.outside.Role.TheVariants.{Work}
+use Rattle.loom_host.proofs.WorkLaws.{exits, work-again, work-itself}
+use Rattle.loom_host.specs.declared.outside.Role.TheVariants.{Work}
 use Rattle.purger.specs.Purge.{IsReadFault}
 use Rattle.purger.proofs.ThinLaws.{leaves-refl, leaves-trans, thinned-first, thinned-has, thinned-trans}
 use Rattle.purger.proofs.DrainLaws.{read-later}

@@ -1,5 +1,5 @@
 use Rattle.std.proofs.Common.{refl}
-use Rattle.loom_outside.specs.declared.outside.Role.TheVariants.{Work}
+use Rattle.loom_host.specs.declared.outside.Role.TheVariants.{Work}
 use Rattle.core_segment.specs.Segment.{chunk_at}
 use Rattle.leaf_lambda.specs.declared.parts.Parts.{Parts}
 use Rattle.delta_counts.proofs.DrainLaws.{counting-giving}

@@ -1,6 +1,6 @@
 use Rattle.std.specs.FinMap as map
-use Rattle.loom_outside.proofs.WorkLaws.{exits}
-use Rattle.loom_outside.specs.declared.outside.Role.TheVariants.{Work}
+use Rattle.loom_host.proofs.WorkLaws.{exits}
+use Rattle.loom_host.specs.declared.outside.Role.TheVariants.{Work}
 use Rattle.disk_objects.specs.Places.{IsSlotPlace}
 use Rattle.purger.specs.Purge.{IsReadFault}
 use Rattle.purger.proofs.SoundLaws.{none-count, some-count}

@@ -1,5 +1,5 @@
 use Rattle.std.proofs.Common.{Bool, refl, ◌∙◌, ap, subst, arith}
-use Rattle.loom_outside.proofs.WorkLaws.{work-again, exits}
+use Rattle.loom_host.proofs.WorkLaws.{work-again, exits}
 use Rattle.object_table.specs.declared.entry.Entry.{Entry}
 use Rattle.object_table.specs.Entries.{is_used, place_of}
 use Rattle.core_segment.specs.Segment.{free_of, size_of}

@@ -1,4 +1,4 @@
-use Rattle.loom_outside.specs.declared.outside.Role.TheVariants.{Work}
+use Rattle.loom_host.specs.declared.outside.Role.TheVariants.{Work}
 use Rattle.disk_objects.specs.Places.{IsReadPlace}
 use Rattle.purger.proofs.EvictLaws.{read-same, read-stands, get-fault-if, get-damage-if}
 use Rattle.purger.proofs.eviction.fetch.Goals as goal

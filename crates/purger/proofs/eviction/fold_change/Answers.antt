@@ -2,8 +2,8 @@ use Rattle.std.proofs.Common.{ℕ, rules, refl, sym, ◌∙◌, ap}
 use Rattle.std.specs.Int.{w64}
 use Rattle.std.proofs.lemmas.Int.{to_z-of_z}
 use mir.Val.{SFits, to_z}
-use Rattle.loom_outside.proofs.WorkLaws.{exits}
-use Rattle.loom_outside.specs.declared.outside.Role.TheVariants.{Work}
+use Rattle.loom_host.proofs.WorkLaws.{exits}
+use Rattle.loom_host.specs.declared.outside.Role.TheVariants.{Work}
 use Rattle.object_table.specs.declared.entry.Entry.{Entry}
 use Rattle.disk_objects.specs.Places.{IsSlotPlace}
 use Rattle.leaf_lambda.specs.declared.parts.Parts.{Parts}

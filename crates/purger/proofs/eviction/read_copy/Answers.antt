@@ -1,7 +1,7 @@
-use Rattle.loom_outside.specs.declared.outside.Role.TheVariants.{Work}
+use Rattle.loom_host.specs.declared.outside.Role.TheVariants.{Work}
 use Rattle.std.proofs.Common.{◌≡◌, refl, inr, ap, sym, subst, ◌∙◌, true, false, Bool, IsTrue}
-use Rattle.loom_outside.proofs.WorkLaws.{exits}
-use Rattle.loom_outside.specs.declared.outside.DiskFault.{DiskFault}
+use Rattle.loom_host.proofs.WorkLaws.{exits}
+use Rattle.loom_host.specs.declared.outside.DiskFault.{DiskFault}
 use Rattle.object_table.specs.declared.entry.Entry.{Entry}
 use Rattle.disk_objects.specs.Function.{disk_of}
 use Rattle.core_view.proofs.Core.{placed-used}

@@ -1,5 +1,5 @@
 use Rattle.std.proofs.Common.{rules, ◌≡◌, ap, sym, subst, ◌∙◌, cond, is_some, true, false, Option}
-use Rattle.loom_outside.proofs.WorkLaws.{exits, work-again, work-read}
+use Rattle.loom_host.proofs.WorkLaws.{exits, work-again, work-read}
 use Rattle.object_record.specs.Buffer.{raw_of}
 use Rattle.object_record.specs.Objects.{object_in}
 use Rattle.long_names.specs.declared.object.Object.{Object}

@@ -1,6 +1,6 @@
 use Rattle.std.proofs.Common.{ℕ, ◌≡◌, ◌<◌, ◌+◌, ◌*◌, ◌⊎◌, true, Some, IsTrue}
-use Rattle.loom_outside.specs.declared.outside.Role.TheVariants.{Work}
-use Rattle.loom_outside.specs.Work.{IsWorkOnly}
+use Rattle.loom_host.specs.declared.outside.Role.TheVariants.{Work}
+use Rattle.loom_host.specs.Work.{IsWorkOnly}
 use Rattle.object_table.specs.Entries.{place_of}
 use Rattle.object_table.specs.Table.{entries_of}
 use Rattle.core_segment.specs.Segment.{size_of}

@@ -1,5 +1,5 @@
 use Rattle.std.proofs.Common.{◌∙◌, ap}
-use Rattle.loom_outside.proofs.WorkLaws.{exits}
+use Rattle.loom_host.proofs.WorkLaws.{exits}
 use Rattle.core_segment.specs.Segment.{size_of}
 use Rattle.core_view.proofs.Purge.{Purged-trans}
 use Rattle.leaf_lambda.specs.Parts.{core_of}

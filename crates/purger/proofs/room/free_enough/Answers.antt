@@ -1,4 +1,4 @@
-use Rattle.loom_outside.proofs.WorkLaws.{exits}
+use Rattle.loom_host.proofs.WorkLaws.{exits}
 use Rattle.core_view.proofs.Purge.{Purged-refl}
 use Rattle.leaf_lambda.specs.Parts.{core_of}
 use Rattle.purger.specs.Purge.{IsPurgeFault}

@@ -1,5 +1,5 @@
 use Rattle.std.proofs.Common.{refl, ◌∙◌, arith}
-use Rattle.loom_outside.proofs.WorkLaws.{exits}
+use Rattle.loom_host.proofs.WorkLaws.{exits}
 use Rattle.core_view.proofs.Purge.{Purged-refl, Purged-trans}
 use Rattle.leaf_lambda.specs.Parts.{core_of}
 use Rattle.purger.specs.Purge.{IsPurgeFault}

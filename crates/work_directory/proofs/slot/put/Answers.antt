@@ -3,7 +3,7 @@ use Rattle.std.proofs.lemmas.Result.{on_ok_weaker}
 use Rattle.work_directory.specs.declared.slot.Slot.{Slot}
 use Rattle.work_directory.specs.Inside.{Writes}
 use Rattle.work_directory.specs.Slots.{slot_in}
-use Rattle.loom_outside.specs.Work.{work_of}
+use Rattle.loom_host.specs.Work.{work_of}
 use Rattle.work_directory.proofs.SlotLaws.{slot_in-spelling}
 use Rattle.work_directory.proofs.slot.put.Goals as goal
 

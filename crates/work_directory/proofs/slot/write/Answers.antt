@@ -1,8 +1,8 @@
 use Rattle.std.proofs.Common.{ap, arith}
-use Rattle.loom_outside.specs.Outside.{RoleState}
-use Rattle.loom_outside.specs.declared.outside.Role.TheVariants.{Work}
-use Rattle.loom_outside.specs.Work.{work_of}
-use Rattle.loom_outside.proofs.WorkLaws.{holds-its}
+use Rattle.loom_host.specs.Outside.{RoleState}
+use Rattle.loom_host.specs.declared.outside.Role.TheVariants.{Work}
+use Rattle.loom_host.specs.Work.{work_of}
+use Rattle.loom_host.proofs.WorkLaws.{holds-its}
 use Rattle.work_directory.proofs.SlotLaws.{writes}
 use Rattle.work_directory.proofs.slot.write.Goals as goal
 

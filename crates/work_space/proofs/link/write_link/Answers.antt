@@ -1,5 +1,5 @@
 use Rattle.std.proofs.Common.{ap, arith}
-use Rattle.loom_outside.specs.Work.{work_of}
+use Rattle.loom_host.specs.Work.{work_of}
 use Rattle.work_space.proofs.FreeLaws.{link-written}
 use Rattle.work_space.proofs.link.write_link.Goals as goal
 

@@ -1,5 +1,5 @@
 use Rattle.std.proofs.Common.{ℕ, ◌+◌, false, List, [], ap, ◌∙◌}
-use Rattle.loom_outside.specs.Bytes.{overwritten}
+use Rattle.loom_host.specs.Bytes.{overwritten}
 use Rattle.checkpoint.specs.Journal.{state_in}
 use Rattle.checkpoint.specs.Vault.{Written}
 use Rattle.checkpoint.proofs.NotedLaws.{contents-told, held-more, ranges-more, spans-push, state-more}

@@ -1,5 +1,5 @@
 use Rattle.std.proofs.Common.{ℕ, List, ◌∷◌, length, sym, ap, ◌∙◌}
-use Rattle.loom_outside.specs.Bytes.{overwritten}
+use Rattle.loom_host.specs.Bytes.{overwritten}
 use Rattle.checkpoint.specs.Journal.{state_in}
 use Rattle.checkpoint.specs.Noted.{spans}
 use Rattle.checkpoint.specs.Vault.{Run}

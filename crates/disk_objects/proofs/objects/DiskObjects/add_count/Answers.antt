@@ -2,7 +2,7 @@ use Rattle.std.proofs.Common.{◌≡◌, ℤ, sym, subst, IfOk}
 use Rattle.std.specs.FinMap as map
 use Rattle.std.specs.Int.{w64}
 use Rattle.std.proofs.lemmas.Int.{to_z-of_z}
-use Rattle.loom_outside.specs.Work.{work_of}
+use Rattle.loom_host.specs.Work.{work_of}
 use Rattle.disk_objects.specs.Calls.{HoldsSuch, CanChange, changed_by}
 use Rattle.disk_objects.specs.Disk.{IsDisk}
 use Rattle.disk_objects.proofs.FunctionLaws.{changed-if}

@@ -1,5 +1,5 @@
 use Rattle.std.proofs.Common.{sym, ◌∙◌}
-use Rattle.loom_outside.specs.Work.{work_of}
+use Rattle.loom_host.specs.Work.{work_of}
 use Rattle.disk_objects.proofs.KeyLaws.{disk-len}
 use Rattle.disk_objects.proofs.objects.DiskObjects.len.Goals as goal
 

@@ -1,5 +1,5 @@
 use Rattle.std.proofs.Common.{refl}
-use Rattle.loom_outside.proofs.WorkLaws.{work-same}
+use Rattle.loom_host.proofs.WorkLaws.{work-same}
 use Rattle.disk_objects.proofs.FunctionLaws.{same-disk}
 use Rattle.disk_objects.proofs.objects.DiskObjects.names.Goals as goal
 

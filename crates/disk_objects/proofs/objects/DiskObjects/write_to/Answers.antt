@@ -1,6 +1,6 @@
 use Rattle.std.proofs.Common.{ap, refl, subst, sym}
-use Rattle.loom_outside.specs.Outside.{CanWrite, RoleState}
-use Rattle.loom_outside.specs.declared.outside.Role.TheVariants.{Work}
+use Rattle.loom_host.specs.Outside.{CanWrite, RoleState}
+use Rattle.loom_host.specs.declared.outside.Role.TheVariants.{Work}
 use Rattle.disk_objects.proofs.FunctionLaws.{same-disk}
 use Rattle.disk_objects.proofs.objects.DiskObjects.write_to.Goals as goal
 

@@ -1,12 +1,12 @@
 use Rattle.std.proofs.Common.{ℕ, List, sym, subst}
 use Rattle.std.proofs.lemmas.Result.{on_ok_weaker}
-use Rattle.loom_outside.specs.declared.outside.Role.TheVariants.{Work}
+use Rattle.loom_host.specs.declared.outside.Role.TheVariants.{Work}
 use Rattle.object_record.specs.Buffer.{raw_of}
 use Rattle.work_directory.specs.Directory.{EndsAt}
 use Rattle.work_directory.specs.declared.directory.Found.TheVariants.{Vacant}
-use Rattle.loom_outside.specs.Work.{work_of}
+use Rattle.loom_host.specs.Work.{work_of}
 use Rattle.disk_objects.specs.Inside.{IsStepFault}
-use Rattle.loom_outside.proofs.WorkLaws.{exits}
+use Rattle.loom_host.proofs.WorkLaws.{exits}
 use Rattle.disk_objects.proofs.FoundLaws.{disk-few, disk-from}
 use Rattle.disk_objects.proofs.DiskLaws.{changed-named}
 use Rattle.disk_objects.proofs.FaultLaws.{store-sound}

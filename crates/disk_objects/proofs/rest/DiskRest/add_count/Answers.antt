@@ -3,13 +3,13 @@ use Rattle.std.specs.Prelude.{IsSome}
 use Rattle.std.specs.Int.{w64}
 use Rattle.std.proofs.lemmas.Int.{to_z-of_z}
 use Rattle.work_directory.specs.Directory.{room_of}
-use Rattle.loom_outside.specs.Work.{work_of}
+use Rattle.loom_host.specs.Work.{work_of}
 use Rattle.work_directory.specs.Slots.{slot_at}
 use Rattle.work_directory.specs.Table.{entry_of}
 use Rattle.work_space.proofs.BlockLaws.{some-inside}
 use Rattle.disk_objects.specs.Calls.{changed_by}
 use Rattle.disk_objects.specs.Disk.{DiskObject}
-use Rattle.loom_outside.proofs.WorkLaws.{work-same}
+use Rattle.loom_host.proofs.WorkLaws.{work-same}
 use Rattle.disk_objects.proofs.DiskLaws.{disk-recounted, changed-from}
 use Rattle.disk_objects.proofs.FoundLaws.{stored-there}
 use Rattle.disk_objects.proofs.rest.DiskRest.add_count.Goals as goal

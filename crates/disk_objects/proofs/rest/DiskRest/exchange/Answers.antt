@@ -1,7 +1,7 @@
 use Rattle.std.proofs.Common.{sym, subst}
 use Rattle.std.specs.Prelude.{IsSome}
 use Rattle.std.specs.FinMap as map
-use Rattle.loom_outside.specs.Work.{work_of}
+use Rattle.loom_host.specs.Work.{work_of}
 use Rattle.work_directory.specs.Directory.{entries_of}
 use Rattle.work_directory.specs.Table.{Entries}
 use Rattle.disk_objects.proofs.SwapLaws.{still-held}

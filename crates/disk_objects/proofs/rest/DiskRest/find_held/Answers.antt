@@ -1,7 +1,7 @@
 use Rattle.std.proofs.Common.{ℕ, List, Result, IfOk, IfErr, sym, subst, ◌∙◌}
-use Rattle.loom_outside.specs.declared.outside.DiskFault.{DiskFault}
-use Rattle.loom_outside.specs.declared.outside.Role.TheVariants.{Work}
-use Rattle.loom_outside.specs.Work.{work_of}
+use Rattle.loom_host.specs.declared.outside.DiskFault.{DiskFault}
+use Rattle.loom_host.specs.declared.outside.Role.TheVariants.{Work}
+use Rattle.loom_host.specs.Work.{work_of}
 use Rattle.work_directory.specs.Directory.{EndsAt}
 use Rattle.work_directory.specs.declared.directory.Found.TheVariants.{Held}
 use Rattle.disk_objects.specs.declared.rest.HeldSlot.{HeldSlot}

@@ -1,8 +1,8 @@
 use Rattle.std.proofs.Common.{◌≡◌, ℕ, List, sym, subst, ap, ◌∙◌, arith}
 use Rattle.work_directory.specs.Directory.{IsIn, slots_of, shown_at}
 use Rattle.work_directory.specs.Pieces.{IsPieceOf}
-use Rattle.loom_outside.specs.Work.{work_of}
-use Rattle.loom_outside.proofs.WorkLaws.{work-same}
+use Rattle.loom_host.specs.Work.{work_of}
+use Rattle.loom_host.proofs.WorkLaws.{work-same}
 use Rattle.disk_objects.proofs.NamesLaws.{seen, disk-seen}
 use Rattle.disk_objects.proofs.rest.DiskRest.gather.Goals as goal
 

@@ -1,10 +1,10 @@
 use Rattle.std.proofs.Common.{◌≡◌, ℕ, IsTrue}
 use Rattle.std.specs.BTreeSet.{IsOrdered, contains}
 use Rattle.std.specs.Ordering.{nat_cmp}
-use Rattle.loom_outside.specs.declared.outside.Role.TheVariants.{Work}
+use Rattle.loom_host.specs.declared.outside.Role.TheVariants.{Work}
 use Rattle.work_directory.specs.Directory.{shown_at}
 use Rattle.work_directory.specs.Pieces.{IsPieceOf}
-use Rattle.loom_outside.specs.Work.{IsWorkRead, work_of}
+use Rattle.loom_host.specs.Work.{IsWorkRead, work_of}
 use Rattle.disk_objects.proofs.NamesLaws.{seen}
 use Rattle.disk_objects.proofs.rest.DiskRest.gather.Given as goal
 

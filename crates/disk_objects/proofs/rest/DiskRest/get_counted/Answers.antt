@@ -1,11 +1,11 @@
 use Rattle.std.proofs.Common.{inr, ℕ, List, sym, subst}
-use Rattle.loom_outside.specs.declared.outside.Role.TheVariants.{Work}
-use Rattle.loom_outside.specs.Work.{work_of}
+use Rattle.loom_host.specs.declared.outside.Role.TheVariants.{Work}
+use Rattle.loom_host.specs.Work.{work_of}
 use Rattle.work_directory.specs.Table.{entry_of}
 use Rattle.disk_objects.specs.Calls.{IsFault}
 use Rattle.disk_objects.specs.Disk.{IsLaid}
 use Rattle.disk_objects.specs.Places.{IsReadPlace}
-use Rattle.loom_outside.proofs.WorkLaws.{work-same, exits}
+use Rattle.loom_host.proofs.WorkLaws.{work-same, exits}
 use Rattle.disk_objects.proofs.FoundLaws.{record-sound, stored-there, got-there}
 use Rattle.disk_objects.proofs.rest.DiskRest.get_counted.Goals as goal
 

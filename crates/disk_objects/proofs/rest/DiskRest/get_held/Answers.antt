@@ -1,12 +1,12 @@
 use Rattle.std.proofs.Common.{inr, ℕ, List, Option, sym, subst, ap}
 use Rattle.std.specs.Option.{option_map}
 use Rattle.work_directory.specs.Table.{Entry, entry_of}
-use Rattle.loom_outside.specs.declared.outside.Role.TheVariants.{Work}
-use Rattle.loom_outside.specs.Work.{work_of}
+use Rattle.loom_host.specs.declared.outside.Role.TheVariants.{Work}
+use Rattle.loom_host.specs.Work.{work_of}
 use Rattle.disk_objects.specs.Calls.{IsFault}
 use Rattle.disk_objects.specs.Disk.{IsLaid}
 use Rattle.disk_objects.specs.Places.{IsReadPlace}
-use Rattle.loom_outside.proofs.WorkLaws.{work-same, exits}
+use Rattle.loom_host.proofs.WorkLaws.{work-same, exits}
 use Rattle.disk_objects.proofs.FoundLaws.{record-sound, stored-there, got-there}
 use Rattle.disk_objects.proofs.rest.DiskRest.get_held.Goals as goal
 

@@ -1,13 +1,13 @@
 use Rattle.std.proofs.Common.{inr, ◌≤◌, ℕ, List, sym, subst}
-use Rattle.loom_outside.specs.Bytes.{window}
-use Rattle.loom_outside.specs.declared.outside.Role.TheVariants.{Work}
-use Rattle.loom_outside.specs.Work.{work_of}
+use Rattle.loom_host.specs.Bytes.{window}
+use Rattle.loom_host.specs.declared.outside.Role.TheVariants.{Work}
+use Rattle.loom_host.specs.Work.{work_of}
 use Rattle.work_directory.specs.Table.{entry_of}
 use Rattle.disk_objects.specs.Calls.{IsFault}
 use Rattle.long_names.specs.declared.limits.TheConstants.{LONGEST_RECORD}
 use Rattle.disk_objects.specs.Places.{IsReadPlace}
 use Rattle.disk_objects.specs.Inside.{size_stated_in}
-use Rattle.loom_outside.proofs.WorkLaws.{work-same, exits}
+use Rattle.loom_host.proofs.WorkLaws.{work-same, exits}
 use Rattle.disk_objects.proofs.FoundLaws.{head-sound, size-low}
 use Rattle.disk_objects.proofs.rest.DiskRest.look.Goals as goal
 

@@ -2,7 +2,7 @@ use Rattle.std.proofs.Common.{ℕ, List, sym, subst}
 use Rattle.work_directory.specs.Directory.{EndsAt, StandsAt}
 use Rattle.work_directory.specs.declared.directory.Found.TheVariants.{Vacant}
 use Rattle.disk_objects.specs.Disk.{IsDisk}
-use Rattle.loom_outside.proofs.WorkLaws.{work-same}
+use Rattle.loom_host.proofs.WorkLaws.{work-same}
 use Rattle.disk_objects.proofs.PutLaws.{ends-read, stands-read}
 use Rattle.disk_objects.proofs.rest.DiskRest.put.Goals as goal
 

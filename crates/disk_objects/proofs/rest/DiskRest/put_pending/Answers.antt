@@ -1,8 +1,8 @@
 use Rattle.std.proofs.Common.{◌+◌, ℕ, List, subst}
-use Rattle.loom_outside.specs.Work.{work_of}
+use Rattle.loom_host.specs.Work.{work_of}
 use Rattle.work_directory.specs.Table.{entry_of}
 use Rattle.disk_objects.specs.Inside.{Touches}
-use Rattle.loom_outside.proofs.WorkLaws.{work-same}
+use Rattle.loom_host.proofs.WorkLaws.{work-same}
 use Rattle.disk_objects.proofs.FoundLaws.{disk-pended}
 use Rattle.disk_objects.proofs.rest.DiskRest.put_pending.Goals as goal
 

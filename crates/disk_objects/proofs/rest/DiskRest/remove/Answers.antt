@@ -1,7 +1,7 @@
 use Rattle.std.proofs.Common.{ℕ, List, Some, ap, ◌∙◌}
 use Rattle.std.proofs.lemmas.Result.{on_ok_weaker}
-use Rattle.loom_outside.specs.Work.{work_of}
-use Rattle.loom_outside.proofs.WorkLaws.{work-same}
+use Rattle.loom_host.specs.Work.{work_of}
+use Rattle.loom_host.proofs.WorkLaws.{work-same}
 use Rattle.disk_objects.proofs.DiskLaws.{open-given, disk-removed, removed-from}
 use Rattle.disk_objects.proofs.PutLaws.{held-class}
 use Rattle.disk_objects.proofs.rest.DiskRest.remove.Goals as goal

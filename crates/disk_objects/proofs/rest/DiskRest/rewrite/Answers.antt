@@ -3,7 +3,7 @@ use Rattle.std.proofs.lemmas.Result.{on_ok_weaker}
 use Rattle.object_record.specs.Buffer.{raw_of}
 use Rattle.work_directory.specs.Directory.{room_of, EndsAt}
 use Rattle.work_directory.specs.declared.directory.Found.TheVariants.{Held}
-use Rattle.loom_outside.specs.Work.{work_of}
+use Rattle.loom_host.specs.Work.{work_of}
 use Rattle.disk_objects.proofs.DiskLaws.{changed-named}
 use Rattle.disk_objects.proofs.PutLaws.{put-rewritten, rewritten-ends, rewritten-in}
 use Rattle.disk_objects.proofs.rest.DiskRest.rewrite.Goals as goal

@@ -2,9 +2,9 @@ use Rattle.std.proofs.Common.{◌≡◌, ◌≢◌, inl, inr, ℕ, List, Option,
 use Rattle.std.specs.Prelude.{IsSome}
 use Rattle.std.specs.FinMap as map
 use Rattle.std.proofs.lemmas.Result.{on_ok_weaker}
-use Rattle.loom_outside.specs.declared.outside.Role.TheVariants.{Work}
-use Rattle.loom_outside.specs.Work.{work_of}
-use Rattle.loom_outside.proofs.WorkLaws.{work-same, exits}
+use Rattle.loom_host.specs.declared.outside.Role.TheVariants.{Work}
+use Rattle.loom_host.specs.Work.{work_of}
+use Rattle.loom_host.proofs.WorkLaws.{work-same, exits}
 use Rattle.object_record.specs.Raw.{with_name}
 use Rattle.work_directory.specs.Table.{Entry, Entries}
 use Rattle.work_directory.specs.declared.directory.Found.TheVariants.{Held}

@@ -1,8 +1,8 @@
 use Rattle.std.proofs.Common.{◌≡◌, ◌⊎◌, ◌+◌, inr, ℕ, List, sym, subst, ap, ◌∙◌, refl}
 use Rattle.long_names.specs.Names.{IsLongName}
-use Rattle.loom_outside.specs.declared.outside.Role.TheVariants.{Work}
-use Rattle.loom_outside.specs.Work.{work_of}
-use Rattle.loom_outside.proofs.WorkLaws.{work-same, exits}
+use Rattle.loom_host.specs.declared.outside.Role.TheVariants.{Work}
+use Rattle.loom_host.specs.Work.{work_of}
+use Rattle.loom_host.proofs.WorkLaws.{work-same, exits}
 use Rattle.work_directory.specs.Table.{entry_of}
 use Rattle.work_space.specs.Blocks.{link_at}
 use Rattle.disk_objects.specs.Calls.{IsFault}

@@ -1,6 +1,6 @@
 use Rattle.std.proofs.Common.{◌≡◌, ℕ, ◌+◌, ◌++◌, length, take, subst, ap, ◌∙◌, Err, arith, length-append, length-take, refl}
 use Rattle.std.proofs.lemmas.Bool.Decides.{nat_tests}
-use Rattle.loom_outside.specs.declared.outside.Role.TheVariants.{Events}
+use Rattle.loom_host.specs.declared.outside.Role.TheVariants.{Events}
 use Rattle.event_file.specs.Text.{IsBadAt}
 use Rattle.event_file.specs.Reading.{begun_text, IsBegun}
 use Rattle.event_file.proofs.PieceLaws.{begun-length, piece-text}

@@ -1,5 +1,5 @@
 use Rattle.std.proofs.Common.{◌≡◌, ◌+◌, ◌-◌, IsTrue, length, cond}
-use Rattle.loom_outside.specs.declared.outside.Role.TheVariants.{Image}
+use Rattle.loom_host.specs.declared.outside.Role.TheVariants.{Image}
 use Rattle.image_reader.specs.Frames.{ReadsImage}
 use Rattle.image_reader.specs.Window.{EndsTruly, unused}
 use Rattle.image_reader.proofs.window.Window.fill.Given as goal

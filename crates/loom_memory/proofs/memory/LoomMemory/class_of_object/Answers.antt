@@ -3,7 +3,7 @@ use Rattle.long_names.specs.declared.value.Value.{Value}
 use Rattle.long_names.specs.declared.value.Value.TheVariants.{Ref}
 use Rattle.long_names.specs.State.{set_register, class_at, IsRef}
 use Rattle.long_names.specs.Access.{Class, Nothing}
-use Rattle.loom_outside.specs.declared.outside.Role.TheVariants.{Work}
+use Rattle.loom_host.specs.declared.outside.Role.TheVariants.{Work}
 use Rattle.object_memory.specs.Told.{Told, IsReady}
 use Rattle.object_table.specs.declared.entry.Entry.{Entry}
 use Rattle.object_table.specs.Entries.{is_short}

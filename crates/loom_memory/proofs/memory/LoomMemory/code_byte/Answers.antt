@@ -1,7 +1,7 @@
 use Rattle.std.proofs.Common.{◌≡◌, ℕ, Option, Some, None, IsTrue, sym, ◌∙◌, inr}
 use Rattle.std.specs.Prelude.{IfSome, IsSome, OnSome}
 use Rattle.long_names.specs.State.{part_at}
-use Rattle.loom_outside.specs.declared.outside.Host.{Ghosts}
+use Rattle.loom_host.specs.declared.outside.Host.{Ghosts}
 use Rattle.object_memory.specs.Shape.{code_at}
 use Rattle.object_table.specs.Entries.{place_of}
 use Rattle.leaf_lambda.specs.Parts.{core_of}

@@ -2,8 +2,8 @@ use Rattle.std.specs.List.{slice_index_or}
 use Rattle.std.proofs.Common.{◌≡◌, ℕ, ◌<◌, true, None, is_some, IsTrue, refl, ◌∙◌, ap}
 use Rattle.long_names.specs.State.{IsRef}
 use Rattle.long_names.specs.Access.{Swap}
-use Rattle.loom_outside.specs.declared.outside.Host.{Ghosts}
-use Rattle.loom_outside.specs.declared.outside.Role.TheVariants.{Work}
+use Rattle.loom_host.specs.declared.outside.Host.{Ghosts}
+use Rattle.loom_host.specs.declared.outside.Role.TheVariants.{Work}
 use Rattle.object_memory.specs.Told.{IsReady}
 use Rattle.object_table.specs.declared.entry.Entry.{Entry}
 use Rattle.object_table.specs.Entries.{place_of}

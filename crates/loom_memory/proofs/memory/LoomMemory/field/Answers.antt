@@ -1,7 +1,7 @@
 use Rattle.std.proofs.Common.{◌≡◌, [], Some, Ok, IsTrue, refl, sym, ap}
 use Rattle.long_names.specs.Access.{Field, brought}
 use Rattle.long_names.specs.State.{name_at}
-use Rattle.loom_outside.specs.declared.outside.Role.TheVariants.{Work}
+use Rattle.loom_host.specs.declared.outside.Role.TheVariants.{Work}
 use Rattle.object_memory.specs.Told.{Told}
 use Rattle.core_view.specs.Words.{meant}
 use Rattle.disk_objects.specs.Function.{disk_of}

@@ -2,7 +2,7 @@ use Rattle.std.proofs.Common.{◌≡◌, ℕ, Option, Some, [], refl, sym, ◌�
 use Rattle.std.specs.Option.{is_some}
 use Rattle.object_table.specs.declared.entry.Entry.{Entry}
 use Rattle.object_table.specs.Entries.{place_of}
-use Rattle.loom_outside.specs.declared.outside.Role.TheVariants.{Work}
+use Rattle.loom_host.specs.declared.outside.Role.TheVariants.{Work}
 use Rattle.core_segment.specs.Segment.{chunk_at, chunks_of, free_of, size_of}
 use Rattle.core_view.specs.Words.{meant}
 use Rattle.disk_objects.specs.Function.{disk_of}

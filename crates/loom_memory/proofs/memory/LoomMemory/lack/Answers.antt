@@ -1,5 +1,5 @@
 use Rattle.std.proofs.Common.{◌≡◌, ◌+◌, None, sym, ◌∙◌, ap, subst}
-use Rattle.loom_outside.specs.declared.outside.Role.TheVariants.{Work}
+use Rattle.loom_host.specs.declared.outside.Role.TheVariants.{Work}
 use Rattle.object_table.specs.Entries.{sum_below, used_by}
 use Rattle.object_table.specs.Table.{entry_at, entries_of, bound_of, free_of}
 use Rattle.disk_objects.specs.Function.{disk_of}

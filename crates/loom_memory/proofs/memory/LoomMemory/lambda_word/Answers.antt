@@ -1,5 +1,5 @@
 use Rattle.std.proofs.Common.{[], Some, sym, ◌∙◌, ap, subst, IsTrue}
-use Rattle.loom_outside.specs.declared.outside.Role.TheVariants.{Work}
+use Rattle.loom_host.specs.declared.outside.Role.TheVariants.{Work}
 use Rattle.object_memory.specs.Told.{Told}
 use Rattle.object_record.specs.Objects.{value_in}
 use Rattle.object_table.specs.declared.entry.Entry.{Entry}

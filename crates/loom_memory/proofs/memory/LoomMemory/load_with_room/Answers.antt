@@ -6,7 +6,7 @@ use Rattle.loom_memory.proofs.RegLaws.{word-is}
 use Rattle.loom_memory.proofs.AccessLaws.{quiet-ready, quiet-trans}
 use Rattle.loom_memory.proofs.CallLaws.{refused-at}
 use Rattle.loom_memory.proofs.BringLaws.{named-then}
-use Rattle.loom_outside.specs.declared.outside.Role.TheVariants.{Work}
+use Rattle.loom_host.specs.declared.outside.Role.TheVariants.{Work}
 use Rattle.core_segment.specs.Segment.{chunk_at, chunks_of, free_of, size_of}
 use Rattle.core_view.specs.Words.{meant}
 use Rattle.disk_objects.specs.Function.{disk_of}

@@ -1,6 +1,6 @@
 use Rattle.std.proofs.Common.{◌≡◌, sym, ◌∙◌, ap, subst}
 use Rattle.object_table.specs.declared.entry.Entry.{Entry}
-use Rattle.loom_outside.specs.declared.outside.Role.TheVariants.{Work}
+use Rattle.loom_host.specs.declared.outside.Role.TheVariants.{Work}
 use Rattle.leaf_lambda.specs.Parts.{core_of}
 use Rattle.disk_objects.specs.Function.{disk_of}
 use Rattle.loom_memory.specs.Memory.{loom_told}

@@ -2,7 +2,7 @@ use Rattle.std.proofs.Common.{refl, ◌∙◌, ap, arith, IsTrue}
 use Rattle.object_record.specs.Buffer.{raw_of}
 use Rattle.object_record.specs.Objects.{object_in}
 use Rattle.core_view.specs.Held.{Disk, held}
-use Rattle.loom_outside.specs.declared.outside.Role.TheVariants.{Work}
+use Rattle.loom_host.specs.declared.outside.Role.TheVariants.{Work}
 use Rattle.loom_memory.proofs.BelowLaws.{own-below}
 use Rattle.leaf_lambda.specs.Parts.{core_of}
 use Rattle.leaf_lambda.proofs.RecordLaws.{unresolved-words}

@@ -10,7 +10,7 @@ use Rattle.loom_memory.proofs.MakingLaws.{made-last, made-now, thinned-ready}
 use Rattle.loom_memory.specs.Own.{IsAskedLast}
 use Rattle.loom_memory.proofs.SparedLaws.{spared-making, sure-making}
 use Rattle.long_names.specs.declared.value.Value.TheVariants.{Ref}
-use Rattle.loom_outside.specs.declared.outside.Role.TheVariants.{Work}
+use Rattle.loom_host.specs.declared.outside.Role.TheVariants.{Work}
 use Rattle.loom_memory.proofs.MindLaws.{minds-told}
 use Rattle.loom_memory.proofs.memory.LoomMemory.make_named.Goals as goal
 

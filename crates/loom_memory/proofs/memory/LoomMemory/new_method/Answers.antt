@@ -7,7 +7,7 @@ use Rattle.long_names.specs.Words.{IsSmallInteger}
 use Rattle.core_view.specs.Words.{int_of_short}
 use Rattle.long_names.specs.Access.{Make, Nothing, heap_after}
 use Rattle.long_names.specs.Objects.{OfMethod}
-use Rattle.loom_outside.specs.declared.outside.Role.TheVariants.{Work}
+use Rattle.loom_host.specs.declared.outside.Role.TheVariants.{Work}
 use Rattle.object_memory.specs.Contract.{Accessed, IfBounds}
 use Rattle.loom_memory.specs.Memory.{loom_told}
 use Rattle.loom_memory.specs.Gentle.{IsSpared}

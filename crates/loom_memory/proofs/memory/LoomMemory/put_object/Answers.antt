@@ -5,7 +5,7 @@ use Rattle.leaf_lambda.specs.Parts.{core_of}
 use Rattle.loom_memory.specs.Memory.{loom_told, loom_outside, others_of}
 use Rattle.loom_memory.proofs.AddLaws.{added-made, damaged-making, entry-means, told-next}
 use Rattle.loom_memory.proofs.MadeLaws.{put-resident}
-use Rattle.loom_outside.specs.declared.outside.Role.TheVariants.{Work}
+use Rattle.loom_host.specs.declared.outside.Role.TheVariants.{Work}
 use Rattle.object_memory.specs.declared.fault.MemFault.{MemFault}
 use Rattle.loom_memory.specs.Makings.{IsLost}
 use Rattle.loom_memory.proofs.GentleLaws.{rest-trans}

@@ -1,6 +1,6 @@
 use Rattle.std.proofs.Common.{◌≡◌, List, ℕ, [], sym, ◌∙◌, ap}
 use Rattle.long_names.specs.Access.{SetField}
-use Rattle.loom_outside.specs.declared.outside.Role.TheVariants.{Work}
+use Rattle.loom_host.specs.declared.outside.Role.TheVariants.{Work}
 use Rattle.core_view.specs.Words.{meant}
 use Rattle.core_view.proofs.Core.{placed-used}
 use Rattle.disk_objects.specs.Function.{disk_of}

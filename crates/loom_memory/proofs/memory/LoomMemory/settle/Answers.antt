@@ -1,5 +1,5 @@
 use Rattle.std.proofs.Common.{◌≡◌, None, Ok, refl, sym, ap, subst, inl, arith, true}
-use Rattle.loom_outside.specs.declared.outside.Role.TheVariants.{Work}
+use Rattle.loom_host.specs.declared.outside.Role.TheVariants.{Work}
 use Rattle.disk_objects.specs.Disk.{disk_room}
 use Rattle.leaf_lambda.specs.declared.parts.Parts.{Parts}
 use Rattle.leaf_lambda.specs.Parts.{core_of, spare_of}

@@ -6,7 +6,7 @@ use Rattle.loom_memory.specs.Residents.{fetched}
 use Rattle.loom_memory.specs.Memory.{loom_told, loom_outside, others_of}
 use Rattle.loom_memory.proofs.AddLaws.{room-most}
 use Rattle.loom_memory.proofs.SettleLaws.{bodies-anew, bodies-same, settled-some}
-use Rattle.loom_outside.specs.declared.outside.Role.TheVariants.{Work}
+use Rattle.loom_host.specs.declared.outside.Role.TheVariants.{Work}
 use Rattle.loom_memory.proofs.MindLaws.{minds-anew, minds-refl}
 use Rattle.loom_memory.proofs.memory.LoomMemory.settle_disk.Goals as goal
 

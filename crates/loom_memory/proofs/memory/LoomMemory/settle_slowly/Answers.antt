@@ -1,5 +1,5 @@
 use Rattle.std.proofs.Common.{IsTrue, ◌∙◌}
-use Rattle.loom_outside.specs.declared.outside.Role.TheVariants.{Work}
+use Rattle.loom_host.specs.declared.outside.Role.TheVariants.{Work}
 use Rattle.loom_memory.specs.Memory.{loom_told}
 use Rattle.loom_memory.proofs.SettleLaws.{rested-whole, settle-fetches, settle-last, settle-now, settle-stays, settled-ready}
 use Rattle.loom_memory.proofs.MindLaws.{minds-told}

@@ -2,7 +2,7 @@ use Rattle.std.proofs.Common.{◌≡◌, [], ◌∷◌, IsTrue, refl, sym, ◌�
 use Rattle.long_names.specs.declared.object.Kind.{Kind}
 use Rattle.long_names.specs.Access.{SetByte}
 use Rattle.long_names.specs.Objects.{with_bytes}
-use Rattle.loom_outside.specs.declared.outside.Role.TheVariants.{Work}
+use Rattle.loom_host.specs.declared.outside.Role.TheVariants.{Work}
 use Rattle.object_table.specs.declared.entry.Entry.{Entry}
 use Rattle.object_table.specs.Entries.{place_of}
 use Rattle.core_view.specs.Words.{meant}

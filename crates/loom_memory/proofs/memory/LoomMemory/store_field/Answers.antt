@@ -1,6 +1,6 @@
 use Rattle.std.proofs.Common.{◌≡◌, ◌≤◌, ℕ, List, [], Some, refl, sym, ◌∙◌, ap, subst, arith, length, IsTrue}
 use Rattle.long_names.specs.Access.{Field, SetField, brought}
-use Rattle.loom_outside.specs.declared.outside.Role.TheVariants.{Work}
+use Rattle.loom_host.specs.declared.outside.Role.TheVariants.{Work}
 use Rattle.object_memory.specs.Told.{Told}
 use Rattle.core_view.specs.Words.{meant, pointers}
 use Rattle.core_view.proofs.Core.{placed-used}

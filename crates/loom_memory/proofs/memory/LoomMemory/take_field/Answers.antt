@@ -1,6 +1,6 @@
 use Rattle.std.proofs.Common.{◌≡◌, ◌≤◌, [], Some, refl, sym, ap, arith, length, IsTrue}
 use Rattle.long_names.specs.Access.{Field, brought}
-use Rattle.loom_outside.specs.declared.outside.Role.TheVariants.{Work}
+use Rattle.loom_host.specs.declared.outside.Role.TheVariants.{Work}
 use Rattle.core_view.specs.Words.{meant, pointers}
 use Rattle.core_view.proofs.Core.{placed-used}
 use Rattle.leaf_lambda.specs.Parts.{core_of}

@@ -1,11 +1,11 @@
 use Rattle.std.proofs.Common.{◌≡◌, refl, sym, ap, subst}
 use Rattle.std.specs.Result.{OnOk, OnErr}
-use Rattle.loom_outside.specs.Outside.{RoleState, PutPrefix, HasCause, puts}
+use Rattle.loom_host.specs.Outside.{RoleState, PutPrefix, HasCause, puts}
 use Rattle.loom_memory.specs.Memory.{loom_told, loom_outside, Others, others_of}
 use Rattle.loom_memory.proofs.ExactLaws.{exact-work}
 use Rattle.loom_memory.proofs.SayLaws.{put-sound}
 use Rattle.loom_memory.proofs.LentLaws.{lent-write, lent-others, lent-told, others-lent}
-use Rattle.loom_outside.specs.declared.outside.Role.TheVariants.{Work}
+use Rattle.loom_host.specs.declared.outside.Role.TheVariants.{Work}
 use Rattle.loom_memory.specs.Residents.{is_resident, words_resident, fetched}
 use Rattle.loom_memory.proofs.memory.LoomMemory.write_to.Goals as goal
 

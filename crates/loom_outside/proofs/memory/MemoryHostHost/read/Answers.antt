@@ -1,5 +1,5 @@
 use Rattle.std.proofs.Common.{refl}
-use Rattle.loom_outside.specs.declared.outside.Role.TheVariants.{Work}
+use Rattle.loom_host.specs.declared.outside.Role.TheVariants.{Work}
 use Rattle.loom_outside.specs.Memory.{roles_of}
 use Rattle.loom_outside.proofs.Frames.{work_not_read, told-other}
 use Rattle.loom_outside.proofs.memory.MemoryHostHost.read.Goals as goal

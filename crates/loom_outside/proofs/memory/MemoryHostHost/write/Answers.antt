@@ -1,5 +1,5 @@
 use Rattle.std.proofs.Common.{refl, sym, ◌∙◌}
-use Rattle.loom_outside.specs.declared.outside.Role.TheVariants.{Work}
+use Rattle.loom_host.specs.declared.outside.Role.TheVariants.{Work}
 use Rattle.loom_outside.specs.PerRole.{at_role}
 use Rattle.loom_outside.specs.Memory.{roles_of}
 use Rattle.loom_outside.proofs.Frames.{work_not_written, told-other, told-same, at_is_err, always_on_err, PutPrefix-none}

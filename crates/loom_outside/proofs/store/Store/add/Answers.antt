@@ -3,7 +3,7 @@ use Rattle.loom_outside.specs.Files.{names}
 use Rattle.loom_outside.specs.Store.{file_in, shows}
 use Rattle.loom_outside.proofs.Kept.{file-push, shows-push, never}
 use Rattle.std.specs.Str.{bytes_eq}
-use Rattle.loom_outside.specs.declared.outside.Role.TheVariants.{Image, Events, Work, Saved, Display, Transcript, Notes}
+use Rattle.loom_host.specs.declared.outside.Role.TheVariants.{Image, Events, Work, Saved, Display, Transcript, Notes}
 use Rattle.loom_outside.proofs.store.Store.add.Goals as goal
 
 pub returns-clause-ok : goal.returns-clause-ok

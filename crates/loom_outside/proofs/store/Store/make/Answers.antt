@@ -1,6 +1,6 @@
 use Rattle.std.proofs.Common.{[], Some, sym}
 use Rattle.std.specs.Str.{bytes_eq}
-use Rattle.loom_outside.specs.declared.outside.Role.TheVariants.{Image, Events, Work, Saved, Display, Transcript, Notes}
+use Rattle.loom_host.specs.declared.outside.Role.TheVariants.{Image, Events, Work, Saved, Display, Transcript, Notes}
 use Rattle.loom_outside.specs.Store.{file_in, shows}
 use Rattle.loom_outside.proofs.Kept.{file-push, shows-own, shows-push, never}
 use Rattle.loom_outside.proofs.store.Store.make.Goals as goal

@@ -5,10 +5,10 @@ use Rattle.work_directory.specs.declared.directory.Found.TheVariants.{Vacant}
 use Rattle.work_directory.specs.Directory.{slots_of, end_of, entries_of, AnswersSearch, IsIn, IsChanged}
 use Rattle.work_directory.specs.Table.{entry_of}
 use Rattle.work_directory.specs.Work.{IsCause}
-use Rattle.loom_outside.specs.Work.{work_of}
+use Rattle.loom_host.specs.Work.{work_of}
 use Rattle.work_directory.proofs.CauseLaws.{damaged-cause, cause-later}
 use Rattle.work_directory.proofs.ChangeLaws.{found-held, some-absent}
-use Rattle.loom_outside.proofs.WorkLaws.{work-same}
+use Rattle.loom_host.proofs.WorkLaws.{work-same}
 use Rattle.work_directory.proofs.directory.Directory.add.Goals as goal
 
 -- the name isn't held, so the search meets no slot of it

@@ -1,6 +1,6 @@
 use Rattle.std.proofs.Common.{refl}
 use Rattle.work_directory.specs.Directory.{room_of, held_of, slots_of}
-use Rattle.loom_outside.specs.Work.{work_of}
+use Rattle.loom_host.specs.Work.{work_of}
 use Rattle.work_directory.proofs.ChangeLaws.{added}
 use Rattle.work_directory.proofs.directory.Directory.add_at.Goals as goal
 

@@ -7,9 +7,9 @@ use Rattle.work_directory.specs.Inside.{Closes}
 use Rattle.work_directory.specs.Slots.{AreSpelled}
 use Rattle.work_directory.specs.Table.{name_at}
 use Rattle.work_directory.specs.Work.{IsCause}
-use Rattle.loom_outside.specs.Work.{work_of}
+use Rattle.loom_host.specs.Work.{work_of}
 use Rattle.work_directory.proofs.CauseLaws.{look-cause, damaged-cause}
-use Rattle.loom_outside.proofs.WorkLaws.{exits, work-itself, work-again, work-read, work-same}
+use Rattle.loom_host.proofs.WorkLaws.{exits, work-itself, work-again, work-read, work-same}
 use Rattle.work_directory.proofs.ChangeLaws.{some-empty, spelled-at}
 use Rattle.work_directory.proofs.UnderWay.{IsUnderWay, start, left, moved, ends}
 use Rattle.work_directory.proofs.directory.Directory.close_up.Goals as goal

@@ -1,7 +1,7 @@
 use Rattle.std.proofs.Common.{◌≤◌, ◌<◌, IsTrue}
-use Rattle.loom_outside.specs.declared.outside.Role.TheVariants.{Work}
+use Rattle.loom_host.specs.declared.outside.Role.TheVariants.{Work}
 use Rattle.work_directory.specs.Directory.{held_of}
-use Rattle.loom_outside.specs.Work.{work_of, IsWorkOnly}
+use Rattle.loom_host.specs.Work.{work_of, IsWorkOnly}
 use Rattle.work_directory.proofs.UnderWay.{IsUnderWay}
 use Rattle.work_directory.proofs.directory.Directory.close_up.Given as goal
 

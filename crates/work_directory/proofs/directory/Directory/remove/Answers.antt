@@ -3,9 +3,9 @@ use Rattle.work_directory.specs.declared.slot.Slot.{Slot}
 use Rattle.work_directory.specs.Directory.{room_of, held_of, slots_of, end_of, IsIn}
 use Rattle.work_directory.specs.Slots.{slot_at}
 use Rattle.work_directory.specs.Work.{IsCause}
-use Rattle.loom_outside.specs.Work.{work_of}
+use Rattle.loom_host.specs.Work.{work_of}
 use Rattle.work_directory.proofs.CauseLaws.{damaged-cause, cause-later}
-use Rattle.loom_outside.proofs.WorkLaws.{exits, work-same}
+use Rattle.loom_host.proofs.WorkLaws.{exits, work-same}
 use Rattle.work_directory.proofs.ChangeLaws.{found-vacant, none-there, closed_up, some-held}
 use Rattle.work_directory.proofs.directory.Directory.remove.Goals as goal
 

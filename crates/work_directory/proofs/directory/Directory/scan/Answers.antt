@@ -4,9 +4,9 @@ use Rattle.probing.proofs.TableLaws.{not_all_passed}
 use Rattle.work_directory.specs.Directory.{slots_of, end_of, IsIn}
 use Rattle.work_directory.specs.Table.{name_at}
 use Rattle.work_directory.specs.Work.{IsCause}
-use Rattle.loom_outside.specs.Work.{work_of}
+use Rattle.loom_host.specs.Work.{work_of}
 use Rattle.work_directory.proofs.CauseLaws.{look-cause}
-use Rattle.loom_outside.proofs.WorkLaws.{exits, work-same}
+use Rattle.loom_host.proofs.WorkLaws.{exits, work-same}
 use Rattle.work_directory.proofs.ChangeLaws.{some-empty, one-spelled}
 use Rattle.work_directory.proofs.directory.Directory.scan.Goals as goal
 

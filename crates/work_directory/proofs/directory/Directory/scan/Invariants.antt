@@ -1,9 +1,9 @@
 use Rattle.std.proofs.Common.{IsTrue}
-use Rattle.loom_outside.specs.declared.outside.Role.TheVariants.{Work}
+use Rattle.loom_host.specs.declared.outside.Role.TheVariants.{Work}
 use Rattle.probing.specs.Search.{IsPassed}
 use Rattle.work_directory.specs.Directory.{slots_of}
 use Rattle.work_directory.specs.Table.{name_at}
-use Rattle.loom_outside.specs.Work.{work_of, IsWorkRead}
+use Rattle.loom_host.specs.Work.{work_of, IsWorkRead}
 use Rattle.work_directory.proofs.directory.Directory.scan.Given as goal
 
 abbrev pub invariant-loop-step : goal.invariant-loop-step

@@ -1,6 +1,6 @@
-use Rattle.loom_outside.specs.declared.outside.Role.TheVariants.{Work}
+use Rattle.loom_host.specs.declared.outside.Role.TheVariants.{Work}
 use Rattle.work_directory.proofs.ChangeLaws.{found-entry}
-use Rattle.loom_outside.specs.Work.{work_of}
+use Rattle.loom_host.specs.Work.{work_of}
 use Rattle.work_directory.proofs.directory.Directory.seek.Goals as goal
 
 pub returns-clause-found : goal.returns-clause-found

@@ -4,10 +4,10 @@ use Rattle.work_directory.specs.declared.slot.Slot.{Slot}
 use Rattle.work_directory.specs.Directory.{slots_of, end_of}
 use Rattle.work_directory.specs.Inside.{IsWriteCause}
 use Rattle.work_directory.specs.Work.{IsCause}
-use Rattle.loom_outside.specs.Work.{work_of}
+use Rattle.loom_host.specs.Work.{work_of}
 use Rattle.work_directory.proofs.CauseLaws.{damaged-cause, write-cause}
 use Rattle.work_directory.proofs.ChangeLaws.{found-vacant, none-there, replaced}
-use Rattle.loom_outside.proofs.WorkLaws.{work-same}
+use Rattle.loom_host.proofs.WorkLaws.{work-same}
 use Rattle.work_directory.proofs.directory.Directory.set.Goals as goal
 
 pub returns-in-Held-clause-set : goal.returns-in-Held-clause-set

@@ -2,7 +2,7 @@ use Rattle.std.proofs.lemmas.Result.{IfErr-weaker}
 use Rattle.work_directory.specs.Directory.{shown_at}
 use Rattle.work_directory.specs.Inside.{IsLookCause}
 use Rattle.work_directory.specs.Work.{IsSlotCause}
-use Rattle.loom_outside.specs.Work.{work_of}
+use Rattle.loom_host.specs.Work.{work_of}
 use Rattle.std.proofs.Common.{None}
 use Rattle.work_directory.proofs.CauseLaws.{slot-cause}
 use Rattle.work_directory.proofs.ChangeLaws.{one-spelled}

@@ -1,7 +1,7 @@
 use Rattle.std.proofs.Common.{◌≡◌, ℕ, List, Option, IsTrue}
 use Rattle.std.proofs.lemmas.Result.{IfErr-weaker, IfOk-weaker}
-use Rattle.loom_outside.specs.Work.{work_of}
-use Rattle.loom_outside.specs.declared.outside.Role.TheVariants.{Work}
+use Rattle.loom_host.specs.Work.{work_of}
+use Rattle.loom_host.specs.declared.outside.Role.TheVariants.{Work}
 use Rattle.work_directory.specs.Directory.{shown_at}
 use Rattle.work_directory.specs.declared.slot.Slot.{Slot}
 use Rattle.work_directory.specs.Inside.{IsPieceDamage, piece_bytes}

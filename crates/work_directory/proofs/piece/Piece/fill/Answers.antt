@@ -1,5 +1,5 @@
 use Rattle.std.proofs.Common.{◌≡◌, length, refl, rules}
-use Rattle.loom_outside.specs.Work.{work_of}
+use Rattle.loom_host.specs.Work.{work_of}
 use Rattle.work_directory.proofs.PieceLaws.{empty-piece, filled-piece}
 use Rattle.work_directory.proofs.piece.Piece.fill.Goals as goal
 

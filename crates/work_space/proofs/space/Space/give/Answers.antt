@@ -1,7 +1,7 @@
 use Rattle.std.proofs.Common.{◌<◌, length, refl, ap, arith}
 use Rattle.std.proofs.lemmas.List.{get_or-set_same, get_or-set_other}
 use Rattle.byteorder.specs.Endian.{big_bytes}
-use Rattle.loom_outside.specs.Work.{work_of}
+use Rattle.loom_host.specs.Work.{work_of}
 use Rattle.work_space.specs.Space.{from_of, end_of, first_of}
 use Rattle.work_space.proofs.SpaceLaws.{give-gives}
 use Rattle.work_space.proofs.space.Space.give.Goals as goal

@@ -1,8 +1,8 @@
 use Rattle.std.proofs.Common.{◌+◌, ◌<◌, false, true, slice_index, length, refl, sym, ◌∙◌, ap}
 use Rattle.std.proofs.lemmas.List.{get_or-set_same, get_or-set_other}
-use Rattle.loom_outside.specs.declared.outside.Role.TheVariants.{Work}
+use Rattle.loom_host.specs.declared.outside.Role.TheVariants.{Work}
 use Rattle.work_space.specs.Blocks.{block_size}
-use Rattle.loom_outside.specs.Work.{work_of}
+use Rattle.loom_host.specs.Work.{work_of}
 use Rattle.work_space.specs.Space.{from_of, end_of, first_of, is_link}
 use Rattle.work_space.proofs.SpaceLaws.{pick-old, lay-taken, lay-place, lay-fault, lay-told, lay-sound, broken, true-false, some-within, link-right, reuse-taken}
 use Rattle.work_space.proofs.space.Space.take.Goals as goal

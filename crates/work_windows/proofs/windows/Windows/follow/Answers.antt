@@ -1,5 +1,5 @@
 use Rattle.std.proofs.Common.{◌+◌, take, refl, arith}
-use Rattle.loom_outside.specs.Bytes.{overwritten}
+use Rattle.loom_host.specs.Bytes.{overwritten}
 use Rattle.work_windows.proofs.ListLaws.{nothing-shows, next-show, whole-show}
 use Rattle.work_windows.proofs.windows.Windows.follow.Goals as goal
 

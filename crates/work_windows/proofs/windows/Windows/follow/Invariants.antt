@@ -1,5 +1,5 @@
 use Rattle.std.proofs.Common.{ℕ, ◌≤◌, ◌-◌, List, length, take}
-use Rattle.loom_outside.specs.Bytes.{overwritten}
+use Rattle.loom_host.specs.Bytes.{overwritten}
 use Rattle.work_windows.specs.Windows.{AllShow}
 use Rattle.work_windows.proofs.windows.Windows.follow.Given as goal
 

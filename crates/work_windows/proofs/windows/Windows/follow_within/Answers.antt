@@ -1,5 +1,5 @@
 use Rattle.std.proofs.Common.{◌+◌, ◌-◌, ◌%◌, ◌≡◌, subst, arith}
-use Rattle.loom_outside.specs.Bytes.{overwritten}
+use Rattle.loom_host.specs.Bytes.{overwritten}
 use Rattle.work_windows.proofs.WindowLaws.{page-of}
 use Rattle.work_windows.proofs.ListLaws.{at-shows, followed-show, unfollowed-show}
 use Rattle.work_windows.specs.Windows.{Shows}

@@ -1,7 +1,7 @@
 use Rattle.std.proofs.Common.{◌≡◌, ◌+◌, ◌-◌, ◌%◌, length, subst, arith}
 use Rattle.std.specs.Prelude.{OnOk}
-use Rattle.loom_outside.specs.Bytes.{window}
-use Rattle.loom_outside.specs.Work.{work_of}
+use Rattle.loom_host.specs.Bytes.{window}
+use Rattle.loom_host.specs.Work.{work_of}
 use Rattle.work_windows.proofs.WindowLaws.{page-of}
 use Rattle.work_windows.proofs.ListLaws.{at-shows, set-show}
 use Rattle.work_windows.proofs.windows.Windows.read_at.Goals as goal

@@ -1,8 +1,0 @@
--- What a vault over a file counts.
-use Rattle.std.specs.Prelude.{ℕ}
-use Rattle.checkpoint.specs.declared.real.RealVault.{RealVault}
-
--- whatever runtime it stands on
-module _ {R F D : Type 0} where
-  abbrev pub faults_counted : RealVault R F D → ℕ
-  faults_counted v = v.faults

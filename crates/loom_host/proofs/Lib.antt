@@ -1,0 +1,4 @@
+mod Copies
+mod Pieces
+pub mod Windows
+pub mod WorkLaws
