@@ -2,7 +2,7 @@
 use Rattle.std.proofs.Common.{map, drop, ◌≡◌, ℕ, ◌+◌, ◌-◌, ◌*◌, ◌/◌, ◌%◌, ◌<◌, ◌≤◌, min, List, ◌++◌, get_or, take, replicate, length, refl, sym, ap, ◌∙◌, arith, ⊎_elim, cond, Bool, true, false, ◌&&◌, Option}
 use Rattle.std.proofs.lemmas.Bool.{cases_lt}
 use Rattle.std.proofs.Math.Nat.{mul-le-mul_left}
-use Rattle.std.proofs.lemmas.List.{get_or-append_right, get_or_append_left, get_or-take, get_or-drop, get_or_past, length-take-le, get_or-replicate, length-append, length-take, length-drop}
+use Rattle.std.proofs.lemmas.List.{get_or-append_right, get_or_append_left, get_or-take, get_or-drop, get_or_past, length-take-le, get_or-replicate, length-replicate, length-append, length-take, length-drop}
 use Rattle.std.proofs.lemmas.List.FromFn.{fill_by_all, get_or-map-range_with_len, length-map-range_with_len}
 use Rattle.std.specs.List.{range_with_len}
 use Rattle.long_names.specs.Objects.{put_run}
@@ -27,11 +27,20 @@ put_mid-inside a k i xs ys h l =
     ∙ ap (λ n. get_or (ys ++ post_of a k xs) n 0) e
     ∙ get_or_append_left ys (post_of a k xs) 0 i l
 
--- a buffer of ones
-pub bit-all_ones : (count n : ℕ) → n < 16 * count → bit (replicate count 65535) n ≡ 1
-bit-all_ones count n h =
+-- ones from the first word of a buffer on
+pub bit-ones_first : (out : List ℕ) (k count n : ℕ) → n < 16 * count → bit (put_mid 0 k out (replicate count 65535)) n ≡ 1
+bit-ones_first out k count n h =
+    let len : length {A = ℕ} (replicate count 65535) ≡ count = length-replicate {A = ℕ} count 65535 in
     let q : n / 16 < count = omega arith in
-    bit-at (replicate count 65535) n ∙ ap (λ w. left_bit w (n % 16)) (get_or-replicate count (n / 16) 65535 0 q) ∙ left_bit-ones (n % 16)
+    let l : n / 16 < length {A = ℕ} (replicate count 65535) = omega (arith, len, q) in
+    let from : 0 ≤ length out = omega arith in
+    let e : n / 16 ≡ 0 + n / 16 = omega arith in
+    bit-at (put_mid 0 k out (replicate count 65535)) n
+    ∙ ap (λ w. left_bit w (n % 16))
+    (ap (λ i. get_or (put_mid 0 k out (replicate count 65535)) i 0) e
+    ∙ put_mid-inside 0 k (n / 16) out (replicate count 65535) from l
+    ∙ get_or-replicate count (n / 16) 65535 0 q)
+    ∙ left_bit-ones (n % 16)
 
 -- a row of the source in its buffer, from the second word on
 pub buffer-bit : (out run words : List ℕ) (k rows left right source_left x : ℕ)

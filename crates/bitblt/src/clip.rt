@@ -11,6 +11,7 @@ pub struct Range {
 }
 
 /// The places in both ranges.
+#[inline(always)]
 fn meet(a: Range, b: Range) -> Range
     ensures covers { (x : ℕ) → covers result x ≡ (covers a x && covers b x) }
     ensures low_a { a.low ≤ℤ result.low }
@@ -24,6 +25,7 @@ fn meet(a: Range, b: Range) -> Range
 }
 
 /// So many places from one on.
+#[inline(always)]
 fn places_from(at: i16, extent: i16) -> Range
     ensures { (x : ℕ) → covers result x ≡ spans at extent (pos x) }
 {
@@ -42,6 +44,7 @@ pub struct Span {
 }
 
 /// The places of a form.
+#[inline(always)]
 fn form_places(form: u16) -> Range
     ensures covers { (x : ℕ) → covers result x ≡ spans (pos 0) (pos form) (pos x) }
     ensures low { result.low ≡ pos 0 }
@@ -67,6 +70,7 @@ fn source_places(at: i16, source_at: i16, n: u16) -> Range
 }
 
 /// The places in the rectangle, the clip rectangle and the form.
+#[inline(always)]
 fn in_form(at: i16, extent: i16, clip_at: i16, clip_extent: i16, form: u16) -> Range
     ensures covers { (x : ℕ) → covers result x ≡ (spans at extent (pos x) && (spans clip_at clip_extent (pos x) && spans (pos 0) (pos form) (pos x))) }
     ensures low { pos 0 ≤ℤ result.low }
@@ -79,6 +83,7 @@ fn in_form(at: i16, extent: i16, clip_at: i16, clip_extent: i16, form: u16) -> R
 }
 
 /// The range as a span, where it has a place: its places are from 0 on, and from the one with the source's first place on.
+#[inline(always)]
 fn span_of(r: Range, start: i32) -> Option<Span>
     requires low { pos 0 ≤ℤ r.low }
     requires start { start ≤ℤ r.low }

@@ -10,6 +10,11 @@
 //! is read whole before it is written, so a blit makes three accesses a row, and two where there is no source.
 //!
 //! The scratch registers from 10 to 15 are used, and those of `contexts`. Nothing is drawn here: the picture of a form is of `devices`.
+//!
+//! - Proved: Over any object memory BitBlt serves the model's rule pixel by pixel, also where source and destination share bits; one that
+//!   fails has changed nothing.
+//! - Tested: Rules, widths, overlaps and each condition broken, as cases (`docs/CASES.md`).
+//! - Not said: What stands in the destination after a refusal of the memory: any of the rows may be done.
 #![tactic(auto)]
 
 mod asked;

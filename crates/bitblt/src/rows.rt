@@ -7,7 +7,6 @@ ghost use Rattle.blue_model.specs.Forms.{bit};
 ghost use Rattle.blue_model.specs.BitBlt.{put_words};
 ghost use Rattle.contexts.specs.Serves.{Serves, StaysSound};
 ghost use Rattle.forms.specs.declared.form.TheConstants.{HALFTONE_WORDS};
-ghost use Rattle.bitblt.specs.declared.rows.TheConstants.{BUFFER_WORDS, RUN_WORDS};
 ghost use Rattle.bitblt.specs.Transfers.{Fits, source_pixel, skip_of, run_length, row_words, words_after};
 ghost use Rattle.bitblt.specs.Transfers as transfers;
 ghost use Rattle.bitblt.specs.Blits.{dest_words, source_words, HasRooms, look_at_source, blit_words, IsWritten};
@@ -26,7 +25,13 @@ const BUFFER_WORDS: usize = 1027;
 /// The most words of a row of the destination.
 const RUN_WORDS: usize = 1024;
 
-/// Reads the source's words for a row, from the second place on. Without a source all bits are 1.
+/// The words of a short row of the destination, and of the buffer for its source.
+const SHORT_RUN_WORDS: usize = 16;
+
+const SHORT_BUFFER_WORDS: usize = 19;
+
+/// Reads the source's words for a row, from the second place on. Without a source all bits are 1 that the row asks for.
+#[inline(always)]
 fn read_source<M: ObjectMemory>(
     m: &mut M,
     t: &Transfer,
@@ -38,7 +43,7 @@ fn read_source<M: ObjectMemory>(
     requires rooms { HasRooms t.now (M.told m.old) }
     requires row { t.now.top ≤ y }
     requires below { y < t.now.bottom }
-    requires room { length out.old ≡ BUFFER_WORDS }
+    requires room { run_length t.now + 3 ≤ length out.old }
     ensures serves { (cpu : Numbers) → Serves (M.told m.old) cpu (M.told m.new) cpu (look_at_source t.now.has_source ((M.told m.old).regs 14)) result }
     ensures looks { OnOk result (Looks [] (M.told m.old) (M.told m.new)) }
     ensures pixels { OnOk result (IsTrue (M.told m.old).tells → (x : ℕ) → t.now.left ≤ x → x < t.now.right → bit out.new (skip_of t.now + (x - 16 * (t.now.left / 16))) ≡ source_pixel t.now (source_words t.now.has_source (M.told m.old)) x y) }
@@ -50,7 +55,8 @@ fn read_source<M: ObjectMemory>(
         let at = t.source_stride * (y - t.top + t.source_top) + first;
         m.read_words(Reg::R14, at as u32, &mut out[1..1 + count])?;
     } else {
-        out.fill(0xFFFF);
+        let count = (t.right - 1) / 16 - t.left / 16 + 1;
+        out[..count + 2].fill(0xFFFF);
     }
     Ok(())
 }
@@ -70,7 +76,7 @@ fn blend_run<M: ObjectMemory>(
     requires row { t.now.top ≤ y }
     requires below { y < t.now.bottom }
     requires halftone { length halftone.now ≡ HALFTONE_WORDS }
-    requires room { length source.now ≡ BUFFER_WORDS }
+    requires room { run_length t.now + 3 ≤ length source.now }
     requires run { length run.old ≡ run_length t.now }
     requires pixels { IsTrue (M.told m.old).tells → (x : ℕ) → t.now.left ≤ x → x < t.now.right → bit source.now (skip_of t.now + (x - 16 * (t.now.left / 16))) ≡ source_pixel t.now (source_words t.now.has_source (M.told m.old)) x y }
     ensures serves { (cpu : Numbers) → Serves (M.told m.old) cpu (M.told m.new) cpu (put_words ((M.told m.old).regs 13) (row_words t.now (source_words t.now.has_source (M.told m.old)) halftone.now (dest_words (M.told m.old)) y)) result }
@@ -95,6 +101,7 @@ fn blend_run<M: ObjectMemory>(
 }
 
 /// Changes a row. The buffers are for the words of the row that it reads and of the one that it writes.
+#[inline(always)]
 fn blend_one<M: ObjectMemory>(
     m: &mut M,
     t: &Transfer,
@@ -109,8 +116,8 @@ fn blend_one<M: ObjectMemory>(
     requires row { t.now.top ≤ y }
     requires below { y < t.now.bottom }
     requires halftone { length halftone.now ≡ HALFTONE_WORDS }
-    requires room { length source.old ≡ BUFFER_WORDS }
-    requires run { length run.old ≡ RUN_WORDS }
+    requires room { run_length t.now + 3 ≤ length source.old }
+    requires run { run_length t.now ≤ length run.old }
     ensures serves { (cpu : Numbers) → Serves (M.told m.old) cpu (M.told m.new) cpu (blit_words t.now.has_source ((M.told m.old).regs 14) ((M.told m.old).regs 13) (row_words t.now (source_words t.now.has_source (M.told m.old)) halftone.now (dest_words (M.told m.old)) y)) result }
     ensures written { OnOk result (IsWritten t.now (M.told m.old) (M.told m.new) (row_words t.now (source_words t.now.has_source (M.told m.old)) halftone.now (dest_words (M.told m.old)) y)) }
     ensures fit { StaysFit M.ObjectMemory m.old m.new result }
@@ -121,6 +128,7 @@ fn blend_one<M: ObjectMemory>(
 }
 
 /// Whether the words that the row reads begin before those that it writes.
+#[inline(always)]
 fn reads_before(t: &Transfer, y: usize) -> bool
     requires fits { Fits t.now }
     requires row { t.now.top ≤ y }
@@ -137,7 +145,40 @@ fn reads_before(t: &Transfer, y: usize) -> bool
 
 /// Changes all rows. Source, destination and halftone are those before the call, also where the source is the destination's object
 /// in any place and of any width: the rows that read words before those they write go first, from the last one up, and then the
-/// others, from the first one down. So no row reads a word that was written.
+/// others, from the first one down. So no row reads a word that was written. The buffers are for the words of a row that it reads and
+/// of the one that it writes.
+fn blend_within<M: ObjectMemory>(
+    m: &mut M,
+    t: &Transfer,
+    halftone: &[u16],
+    source: &mut [u16],
+    run: &mut [u16],
+) -> Result<(), Stop>
+    requires fit { IsFit M.ObjectMemory m.old }
+    requires fits { Fits t.now }
+    requires rooms { HasRooms t.now (M.told m.old) }
+    requires halftone { length halftone.now ≡ HALFTONE_WORDS }
+    requires room { run_length t.now + 3 ≤ length source.old }
+    requires run { run_length t.now ≤ length run.old }
+    ensures serves { (cpu : Numbers) → Serves (M.told m.old) cpu (M.told m.new) cpu (blit_words t.now.has_source ((M.told m.old).regs 14) ((M.told m.old).regs 13) (words_after t.now (source_words t.now.has_source (M.told m.old)) halftone.now (dest_words (M.told m.old)))) result }
+    ensures regs { OnOk result ((M.told m.new).regs ≡ (M.told m.old).regs) }
+    ensures fit { StaysFit M.ObjectMemory m.old m.new result }
+{
+    for i in 0..t.bottom - t.top {
+        let y = t.bottom - 1 - i;
+        if reads_before(t, y) {
+            blend_one(m, t, halftone, y, source, run)?;
+        }
+    }
+    for y in t.top..t.bottom {
+        if !reads_before(t, y) {
+            blend_one(m, t, halftone, y, source, run)?;
+        }
+    }
+    Ok(())
+}
+
+/// Changes all rows, as `blend_within` does, in buffers that are short where the rows are.
 pub(crate) fn blend_rows<M: ObjectMemory>(
     m: &mut M,
     t: &Transfer,
@@ -151,18 +192,14 @@ pub(crate) fn blend_rows<M: ObjectMemory>(
     ensures regs { OnOk result ((M.told m.new).regs ≡ (M.told m.old).regs) }
     ensures fit { StaysFit M.ObjectMemory m.old m.new result }
 {
-    let mut source = [0; BUFFER_WORDS];
-    let mut run = [0; RUN_WORDS];
-    for i in 0..t.bottom - t.top {
-        let y = t.bottom - 1 - i;
-        if reads_before(t, y) {
-            blend_one(m, t, halftone, y, &mut source, &mut run)?;
-        }
+    let count = (t.right - 1) / 16 - t.left / 16 + 1;
+    if count <= SHORT_RUN_WORDS {
+        let mut source = [0; SHORT_BUFFER_WORDS];
+        let mut run = [0; SHORT_RUN_WORDS];
+        blend_within(m, t, halftone, &mut source, &mut run)
+    } else {
+        let mut source = [0; BUFFER_WORDS];
+        let mut run = [0; RUN_WORDS];
+        blend_within(m, t, halftone, &mut source, &mut run)
     }
-    for y in t.top..t.bottom {
-        if !reads_before(t, y) {
-            blend_one(m, t, halftone, y, &mut source, &mut run)?;
-        }
-    }
-    Ok(())
 }

@@ -1,11 +1,13 @@
-use Rattle.std.proofs.Common.{rules, ◌≡◌, ℕ, ◌+◌, ◌-◌, ◌*◌, ◌/◌, ◌<◌, ◌≤◌, List, Some, None, length, replicate, refl, ap, sym, ◌∙◌, arith, cond}
+use Rattle.std.proofs.Common.{rules, ◌≡◌, ℕ, ◌+◌, ◌-◌, ◌*◌, ◌/◌, ◌<◌, ◌≤◌, List, Some, None, length, replicate, take, refl, ap, sym, ◌∙◌, arith, cond}
 use Rattle.blue_model.specs.Forms.{bit}
+use borrow.Rule.Slice.PartMut.{put_mid}
+use Rattle.std.proofs.lemmas.List.{length-take-le}
 use Rattle.long_names.specs.Access.{ReadWords}
 use Rattle.object_memory.proofs.LooksLaws.{Looks-access}
 use Rattle.contexts.proofs.ServesLaws.{exits}
 use Rattle.bitblt.specs.Transfers.{source_pixel, skip_of}
 use Rattle.bitblt.specs.Blits.{words_at}
-use Rattle.bitblt.proofs.Runs.{buffer-bit, bit-all_ones}
+use Rattle.bitblt.proofs.Runs.{buffer-bit, bit-ones_first}
 use Rattle.bitblt.proofs.RunReads.{source_refused, source_read, source_none, run_read}
 use Rattle.bitblt.proofs.rows.read_source.Goals as goal
 
@@ -39,9 +41,11 @@ returns-else-t-clause-pixels g c told x hl hr =
     let t = c.args.t.now in
     let m = g.M.ObjectMemory.told c.args.m.now in
     let n = skip_of t + (x - 16 * (t.left / 16)) in
-    let all : c.fill.new.self ≡ replicate (length c.args.out.now) 65535 = c.fill.ensures.after (λ y e. search rules) in
-    let room : length c.args.out.now ≡ 1027 = c.requires.room in
-    let short : n < 16 * length c.args.out.now = omega (arith, room, c.requires.fits.wide, c.requires.fits.narrow) in
-    ap (λ (ws : List ℕ). bit ws n) all
-    ∙ bit-all_ones (length c.args.out.now) n short
+    let count = (t.right - 1) / 16 - t.left / 16 + 1 + 2 in
+    let room : count ≤ length c.args.out.now = omega (arith, c.requires.room) in
+    let filled : c.fill.new.self ≡ replicate (length (take count c.args.out.now)) 65535 = c.fill.ensures.after (λ y e. search rules) in
+    let all : c.fill.new.self ≡ replicate count 65535 = filled ∙ ap (λ k. replicate k 65535) (length-take-le count c.args.out.now room) in
+    let short : n < 16 * count = omega (arith, c.requires.fits.columns) in
+    ap (λ (ws : List ℕ). bit (put_mid 0 count c.args.out.now ws) n) all
+    ∙ bit-ones_first c.args.out.now count count n short
     ∙ sym (ap (λ b. source_pixel t (cond b (Some (words_at m.heap (m.regs 14))) None) x c.args.y) c.if-t.false)

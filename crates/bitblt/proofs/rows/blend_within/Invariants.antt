@@ -1,7 +1,7 @@
 use Rattle.std.proofs.Common.{◌≡◌}
 use Rattle.bitblt.specs.Transfers.{done_up, done_down}
 use Rattle.bitblt.specs.Blits.{IsPartly}
-use Rattle.bitblt.proofs.rows.blend_rows.Given as goal
+use Rattle.bitblt.proofs.rows.blend_within.Given as goal
 
 -- The rows that were visited from the last one up and read words before those that they write.
 abbrev pub invariant-loop-i : goal.invariant-loop-i

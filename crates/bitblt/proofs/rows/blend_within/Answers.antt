@@ -3,8 +3,8 @@ use Rattle.contexts.proofs.ServesLaws.{exits}
 use Rattle.bitblt.specs.Transfers.{reads_before, done_up, done_down}
 use Rattle.bitblt.proofs.Order.{up-order, up-fresh, up-set, up-others, up-skip, up-none, down-none, down-order, down-fresh, down-set, down-others, down-skip, down-all}
 use Rattle.bitblt.proofs.RowSteps.{partly_start, partly_same, partly_row, partly_stop, partly_end}
-use Rattle.bitblt.proofs.rows.blend_rows.Goals as goal
-use Rattle.bitblt.proofs.rows.blend_rows.Goals.{then-reads_before+in_ok-blend_one, else-reads_before, then-not-reads_before+in_ok-blend_one-2, else-not-reads_before}
+use Rattle.bitblt.proofs.rows.blend_within.Goals as goal
+use Rattle.bitblt.proofs.rows.blend_within.Goals.{then-reads_before+in_ok-blend_one, else-reads_before, then-not-reads_before+in_ok-blend_one-2, else-not-reads_before}
 
 pub loop-i-init : goal.loop-i-init
 loop-i-init g c = record {
