@@ -1,2 +1,7 @@
+mod CoverLaws
+mod HostLaws
+mod KeptLaws
 mod ListLaws
+mod OverLaws
+mod RowLaws
 mod WindowLaws

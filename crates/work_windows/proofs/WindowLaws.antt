@@ -1,13 +1,18 @@
 -- What a window shows, and what a write leaves of it.
-use Rattle.std.proofs.Common.{◌≡◌, ◌⊎◌, inl, inr, ℕ, ◌+◌, ◌-◌, ◌<◌, ◌≤◌, ◌%◌, ◌/◌, ◌≢◌, List, ◌++◌, length, get_or, take, drop, Option, Some, sym, ap, ◌∙◌, arith}
+use Rattle.std.proofs.Common.{◌≡◌, ◌⊎◌, inl, inr, ℕ, ◌+◌, ◌-◌, ◌<◌, ◌≤◌, ◌%◌, ◌/◌, ◌^◌, ◌≢◌, List, ◌++◌, length, get_or, take, drop, Option, Some, sym, ap, ◌∙◌, arith}
 use Rattle.std.specs.Option.{unwrap_or}
 use Rattle.std.proofs.lemmas.Grind.{elements, common_steps}
 use Rattle.loom_host.specs.Bytes.{window, overwritten}
-use Rattle.loom_host.proofs.Windows.{length-window, get_or-window, window-by_bytes, get_or-overwritten, byte_after_inside, byte_after_outside, window-overwritten_apart, window-taken}
+use Rattle.loom_host.proofs.Windows.{below_or_past, length-window, get_or-window, window-by_bytes, get_or-overwritten, byte_after_inside, byte_after_outside, window-overwritten_apart, window-taken}
 use Rattle.work_windows.specs.Windows.{IsPageOf, Shows}
 use Rattle.work_windows.specs.declared.window.TheConstants.{WIDTH}
 use Rattle.work_windows.specs.declared.window.Window.{Window}
-use Rattle.work_windows.specs.declared.windows.TheConstants.{COUNT}
+
+pub same_or_not : (k i : ℕ) → (k ≡ i) ⊎ (k ≢ i)
+same_or_not k i = elim (below_or_past k i) [
+  | inl below ↦ inr (λ e. omega (arith, e, below))
+  | inr past ↦ elim (below_or_past i k) [ inl above ↦ inr (λ e. omega (arith, e, above)) | inr least ↦ inl (omega arith) ]
+]
 
 -- one place is enough
 pub one-place : (p : Option ℕ) (x y : ℕ) → p ≡ Some x → p ≡ Some y → x ≡ y
@@ -18,16 +23,21 @@ pub pages-apart : (own place from n : ℕ) → own % WIDTH ≡ 0 → place % WID
 pages-apart own place from n page written fits other = grind arith
 
 -- and so does one that another window shows
-pub indexes-apart : (own place n i : ℕ) → IsPageOf i own → place % WIDTH + n ≤ WIDTH → i ≢ place / WIDTH % COUNT → (own + WIDTH ≤ place) ⊎ (place + n ≤ own)
-indexes-apart own place n i page fits other = grind arith
+pub indexes-apart : (count : ℕ) (own place n i : ℕ) → IsPageOf count i own → place % WIDTH + n ≤ WIDTH → i ≢ place / WIDTH % count → (own + WIDTH ≤ place) ⊎ (place + n ≤ own)
+indexes-apart count own place n i page fits other = elim (same_or_not (own / WIDTH) (place / WIDTH)) [
+  | inl e ↦ absurd (other (sym page.1 ∙ ap (λ m. m % count) e))
+  | inr apart ↦ elsewhere own place n page.0 fits apart
+] where
+  elsewhere : (a p m : ℕ) → a % WIDTH ≡ 0 → p % WIDTH + m ≤ WIDTH → a / WIDTH ≢ p / WIDTH → (a + WIDTH ≤ p) ⊎ (p + m ≤ a)
+  elsewhere a p m begins within away = grind arith
 
 -- the page of a place
-pub page-of : (place i : ℕ) → i ≡ place / WIDTH % COUNT → IsPageOf i (place - place % WIDTH)
-page-of place i is = (omega arith, omega (arith, is))
+pub page-of : (count : ℕ) (place i : ℕ) → i ≡ place / WIDTH % count → place < 2 ^ 64 → IsPageOf count i (place - place % WIDTH)
+page-of count place i is low = (omega arith, ap (λ m. m % count) (let e : (place - place % WIDTH) / WIDTH ≡ place / WIDTH = omega arith in e) ∙ sym is, omega (arith, low))
 
 -- what is written apart from a page leaves it as it is
-pub shows-apart : (work : List ℕ) (i : ℕ) (w : Window) (place : ℕ) (piece : List ℕ) → ((own : ℕ) → w.place ≡ Some own → (own + WIDTH ≤ place) ⊎ (place + length piece ≤ own)) → Shows work i w → Shows (overwritten work place piece) i w
-shows-apart work i w place piece apart shows = λ own at. ((shows own at).0, (shows own at).1 ∙ sym (window-overwritten_apart work place piece own WIDTH (apart own at)))
+pub shows-apart : (count : ℕ) (work : List ℕ) (i : ℕ) (w : Window) (place : ℕ) (piece : List ℕ) → ((own : ℕ) → w.place ≡ Some own → (own + WIDTH ≤ place) ⊎ (place + length piece ≤ own)) → Shows count work i w → Shows count (overwritten work place piece) i w
+shows-apart count work i w place piece apart shows = λ own at. ((shows own at).0, (shows own at).1 ∙ sym (window-overwritten_apart work place piece own WIDTH (apart own at)))
 
 inside_or_out : (at b k : ℕ) → ((at ≤ k) × (k < at + b)) ⊎ ((k < at) ⊎ (at + b ≤ k))
 inside_or_out at b k = grind arith

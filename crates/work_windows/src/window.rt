@@ -1,10 +1,10 @@
 // One window over Work.
-ghost use Rattle.std.specs.Prelude.{◌≡◌, ◌+◌, ◌≤◌, ◌↔◌, ℕ, List, None, Some, IsTrue, OnOk, length};
+ghost use Rattle.std.specs.Prelude.{◌≡◌, ◌+◌, ◌≤◌, ◌↔◌, ℕ, List, None, Some, IsTrue, OnOk, OnErr, length};
 ghost use Rattle.loom_host.specs.Bytes.{window, overwritten};
 ghost use Rattle.loom_host.specs.Outside.{HasCause};
-ghost use Rattle.loom_host.specs.Work.{work_of, IsWorkRead};
+ghost use Rattle.loom_host.specs.Work.{work_of, IsWorkRead, IsWorkOnly};
 ghost use Rattle.loom_host.specs.declared.outside.Role.{Role};
-ghost use Rattle.work_windows.specs.Windows.{IsPageOf, Shows};
+ghost use Rattle.work_windows.specs.Windows.{IsPageOf, Shows, saved};
 ghost use Rattle.work_windows.specs.declared.window.TheConstants.{WIDTH};
 
 use loom_host::{Failed, Host, Role};
@@ -15,10 +15,10 @@ pub const WIDTH: usize = 4_096;
 /// A page of Work, as it was read and written since.
 #[derive(Clone, Copy)]
 pub(crate) struct Window {
-    // Its first byte, None where none was read.
+    // Its first byte, None where it shows nothing.
     pub place: Option<u64>,
     pub bytes: [u8; WIDTH],
-    // The page that was asked for last where it didn't show it.
+    // The page that was asked for last where it showed another.
     pub asked: Option<u64>,
 }
 
@@ -34,8 +34,8 @@ impl Window {
         }
     }
 
-    // Whether it begins at this place.
-    fn is_at(&self, place: u64) -> bool
+    /// Whether it begins at this place.
+    pub fn is_at(&self, place: u64) -> bool
         ensures { IsTrue result ↔ (self.now.place ≡ Some place) }
     {
         match self.place {
@@ -44,12 +44,13 @@ impl Window {
         }
     }
 
-    /// Whether the page from a place on is one to be shown: it is shown, or was asked for last. It is the one that was asked for last then.
+    /// Whether the page from a place on is one to be shown: it is shown, or nothing is, or it was asked for last. If another is shown, it is
+    /// the one that was asked for last then.
     pub fn is_wanted(&mut self, place: u64) -> bool
         ensures place { self.new.place ≡ self.old.place }
         ensures bytes { self.new.bytes ≡ self.old.bytes }
     {
-        if self.is_at(place) {
+        if self.place.is_none() || self.is_at(place) {
             return true;
         }
         let again = self.asked == Some(place);
@@ -57,45 +58,51 @@ impl Window {
         again
     }
 
-    // Reads the page from a place on, unless it has that.
-    fn show<H: Host>(&mut self, host: &mut H, place: u64) -> Result<(), Failed>
+    /// Reads the page from a place on.
+    pub fn fetch<H: Host>(&mut self, host: &mut H, place: u64) -> Result<(), Failed>
         ensures place { OnOk result (self.new.place ≡ Some place) }
-        ensures shows { (i : ℕ) → IsPageOf i place → IsTrue (H.tells Role.Work) → Shows (work_of H.Host host.old) i self.old → Shows (work_of H.Host host.old) i self.new }
+        ensures none { OnErr result (self.new.place ≡ None) }
+        ensures bytes { IsTrue (H.tells Role.Work) → OnOk result (self.new.bytes ≡ window (work_of H.Host host.old) place WIDTH) }
         ensures read { IsWorkRead H.Host host.old host.new }
         ensures cause { HasCause (H.faults host.old Role.Work) (H.faults host.new Role.Work) result }
     {
-        if self.is_at(place) {
-            return Ok(());
-        }
         self.place = None;
         host.read_at(place, &mut self.bytes)?;
         self.place = Some(place);
         Ok(())
     }
 
-    /// Reads the bytes from so many behind a place on, and first the page from this place on, unless it has that.
-    pub fn read_at<H: Host>(
-        &mut self,
-        host: &mut H,
-        place: u64,
-        from: usize,
-        buf: &mut [u8],
-    ) -> Result<(), Failed>
-        requires { from + length buf.old ≤ WIDTH }
-        ensures bytes { (i : ℕ) → IsPageOf i place → IsTrue (H.tells Role.Work) → Shows (work_of H.Host host.old) i self.old → OnOk result (buf.new ≡ window (work_of H.Host host.old) (place + from) (length buf.old)) }
-        ensures shows { (i : ℕ) → IsPageOf i place → IsTrue (H.tells Role.Work) → Shows (work_of H.Host host.old) i self.old → Shows (work_of H.Host host.old) i self.new }
-        ensures read { IsWorkRead H.Host host.old host.new }
+    /// Shows what another window shows.
+    pub fn take(&mut self, other: &Window)
+        ensures place { self.new.place ≡ other.now.place }
+        ensures bytes { self.new.bytes ≡ other.now.bytes }
+    {
+        self.place = other.place;
+        self.bytes = other.bytes;
+    }
+
+    /// Writes its bytes up to a place, if it shows any, and is a window of nothing then.
+    pub fn save<H: Host>(&mut self, host: &mut H, limit: u64) -> Result<(), Failed>
+        ensures place { OnOk result (self.new.place ≡ None) }
+        ensures work { IsTrue (H.tells Role.Work) → OnOk result (work_of H.Host host.new ≡ saved (work_of H.Host host.old) limit self.old) }
+        ensures host { IsWorkOnly H.Host host.old host.new }
         ensures cause { HasCause (H.faults host.old Role.Work) (H.faults host.new Role.Work) result }
     {
-        self.show(host, place)?;
-        buf.copy_from_slice(&self.bytes[from..from + buf.len()]);
+        if let Some(place) = self.place
+            && place < limit
+        {
+            let n = (limit - place).min(WIDTH as u64) as usize;
+            host.write_at(place, &self.bytes[..n])?;
+        }
+        self.place = None;
         Ok(())
     }
 
     /// Takes over what was written so many bytes behind a place, if it is the page from this place on that it shows.
     pub fn follow(&mut self, place: u64, from: usize, piece: &[u8])
         requires { from + length piece.now ≤ WIDTH }
-        ensures { (work : List ℕ) (i j : ℕ) → IsPageOf i place → Shows work j self.old → Shows (overwritten work (place + from) piece.now) j self.new }
+        ensures shows { (count : ℕ) (work : List ℕ) (i j : ℕ) → IsPageOf count i place → Shows count work j self.old → Shows count (overwritten work (place + from) piece.now) j self.new }
+        ensures place { self.new.place ≡ self.old.place }
     {
         if self.is_at(place) {
             self.bytes[from..from + piece.len()].copy_from_slice(piece);

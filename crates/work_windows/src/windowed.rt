@@ -2,34 +2,45 @@
 ghost use Rattle.std.specs.Prelude.{IsTrue};
 ghost use Rattle.loom_host.specs.Work.{work_of};
 ghost use Rattle.loom_host.specs.declared.outside.Role.TheVariants.{Work};
-ghost use Rattle.work_windows.specs.Windows.{AllShow};
+ghost use Rattle.work_windows.specs.Rows.{Stands};
+ghost use Rattle.work_windows.specs.Windows.{overlaid};
 
 use crate::windows::Windows;
 use loom_host::{Failed, Host, Role};
 use std::alloc::Global;
 
-/// A host over another. A read of `LEAST` to `MOST` bytes of Work in which no edge of a window lies is answered from that window, which is
-/// read first unless it was before; every other call goes on as it is. It holds `COUNT` windows of `WIDTH` bytes, or none where memory for
-/// them is refused.
+/// A host over another. A piece of at most `MOST` bytes of Work is read and written page by page in windows of `WIDTH` bytes; over an edge
+/// it is two pieces. There are two rows of them: `WRITTEN` for pages that are written, which the host inside gets when their window makes place
+/// for a write to another page, and `READ` for pages that are only read. A page gets a window where its place there shows nothing, or where it was
+/// asked for last, too; else the piece goes on to the host inside. A longer piece always does, and what is kept back is put over what is
+/// read. Where memory for the windows is refused there are none.
+///
+/// Nothing is written to the host inside but by `write_at`, so what was written last may never get there: Work is for the run alone.
 #[derive(Drop)]
 pub struct Windowed<H: Host + Drop> {
     inner: H,
     windows: Windows,
-    ghost current: { IsTrue (H.tells Work) → AllShow (work_of H.Host inner) windows.items.items },
+    // the calls of `write_at`, up to the greatest u64
+    writes: u64,
+    ghost current: { IsTrue (H.tells Work) → Stands (work_of H.Host inner) windows (overlaid (work_of H.Host inner) windows.written.items.items windows.limit) },
 }
 
-#[tactic(auto, unfolding(crate::specs::Windowed::inside))]
+#[tactic(auto, unfolding(crate::specs::Windowed::inside, crate::specs::Windowed::written))]
 impl<H: Host + Drop> Windowed<H> {
     ghost use Rattle.std.specs.Prelude.{◌≡◌};
-    ghost use Rattle.work_windows.specs.Windowed.{inside};
+    ghost use Rattle.loom_host.specs.declared.outside.Role.{Role};
+    ghost use Rattle.work_windows.specs.Windowed.{inside, roles_over, written};
 
     /// A host over this one, with windows of nothing.
     pub fn new(alloc: Global, inner: H) -> Windowed<H>
-        ensures { inside result ≡ inner }
+        ensures inside { inside result ≡ inner }
+        ensures roles { (r : Role) → roles_over H.Host result r ≡ H.roles inner r }
+        ensures writes { written result ≡ 0 }
     {
         Windowed {
             inner,
             windows: Windows::new(alloc),
+            writes: 0,
         }
     }
 
@@ -41,20 +52,20 @@ impl<H: Host + Drop> Windowed<H> {
     }
 }
 
-#[tactic(auto, unfolding(crate::specs::Windowed::inside))]
+#[tactic(auto, unfolding(crate::specs::Windowed::inside, crate::specs::Windowed::written))]
 impl<H: Host + Drop> Host for Windowed<H> {
-    ghost use Rattle.work_windows.specs.Windowed.{inside};
+    ghost use Rattle.work_windows.specs.Windowed.{inside, roles_over, written};
 
     ghost tells = { H.tells };
 
-    ghost roles = { λ w. H.roles (inside w) };
+    ghost roles = { roles_over H.Host };
 
     ghost faults = { λ w. H.faults (inside w) };
 
-    ghost writes = { λ w. H.writes (inside w) };
+    ghost writes = { written };
 
     fn attach(&mut self, role: Role, name: &str) -> Result<(), Failed> {
-        self.windows.forget();
+        self.windows.attached(role);
         self.inner.attach(role, name)
     }
 
@@ -71,11 +82,9 @@ impl<H: Host + Drop> Host for Windowed<H> {
     }
 
     fn write_at(&mut self, place: u64, buf: &[u8]) -> Result<(), Failed> {
-        match self.inner.write_at(place, buf) {
-            Ok(()) => {
-                self.windows.follow(place, buf);
-                Ok(())
-            }
+        self.writes = self.writes.saturating_add(1);
+        match self.windows.write_at(&mut self.inner, place, buf) {
+            Ok(()) => Ok(()),
             Err(failed) => {
                 self.windows.forget();
                 Err(failed)

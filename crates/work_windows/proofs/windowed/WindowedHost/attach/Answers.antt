@@ -1,0 +1,40 @@
+use Rattle.std.proofs.Common.{inl, inr, sym, ap, subst, ◌∙◌}
+use Rattle.loom_host.specs.Outside.{RoleState, IsFresh, holds}
+use Rattle.loom_host.specs.Work.{work_of}
+use Rattle.loom_host.specs.declared.outside.Role.TheVariants.{Work}
+use Rattle.work_windows.proofs.OverLaws.{over-is}
+use Rattle.work_windows.proofs.HostLaws.{work-or, fresh-over, on-ok, same-told, told-same}
+use Rattle.work_windows.proofs.RowLaws.{stands-current}
+use Rattle.work_windows.specs.Windowed.{inside, contents_over}
+use Rattle.work_windows.specs.Rows.{Stands}
+use Rattle.work_windows.specs.Windows.{overlaid}
+use Rattle.work_windows.specs.declared.windows.Windows.{Windows}
+use Rattle.work_windows.proofs.windowed.WindowedHost.attach.Goals as goal
+
+pub invariant_of-self : goal.invariant_of-self
+invariant_of-self g c = record {
+  current = λ told. elim (work-or c.args.role) [
+    | inl here ↦ stands-current _ _ _ (c.attached.ensures.anew here (work_of g.H.Host c.attach.new.self))
+    | inr other ↦ rw (c.attached.ensures.same other) (subst (λ (s : RoleState). Stands s.contents c.args.self.now.windows (overlaid s.contents c.args.self.now.windows.written.items.items c.args.self.now.windows.limit)) (sym (c.attach.ensures.others Work (λ e. other (sym e)))) (c.args.self.now.current told))
+  ];
+}
+
+pub returns-clause-fresh : goal.returns-clause-fresh
+unfolding inside contents_over
+returns-clause-fresh g c = λ told.
+    let now = c.attached.new.self in
+    let f = g.H.Host.roles c.attach.new.self in
+    on-ok {P = IsFresh (f c.args.role)} c.attach.result (fresh-over f now.written.items.items now.limit c.args.role (λ here. sym (over-is _ _ _ _ (c.attached.ensures.anew here (work_of g.H.Host c.attach.new.self)).over))) (c.attach.ensures.fresh told)
+
+pub returns-clause-others : goal.returns-clause-others
+unfolding inside contents_over
+returns-clause-others g c = λ r other.
+    let now = c.attached.new.self in
+    let w = c.args.self.now in
+    let f = g.H.Host.roles c.attach.new.self in
+    let h = g.H.Host.roles w.inner in
+    told-same f h now.written.items.items w.windows.written.items.items now.limit w.windows.limit r
+    (λ work.
+    ap (λ (v : Windows). holds (overlaid (f Work).contents v.written.items.items v.limit) (f Work)) (c.attached.ensures.same (λ e. other (work ∙ sym e)))
+    ∙ same-told (f Work) (h Work) w.windows.written.items.items w.windows.limit (c.attach.ensures.others Work (λ e. other (work ∙ e))))
+    (λ away. c.attach.ensures.others r other)
