@@ -10,6 +10,11 @@
 //!
 //! Read `specs/Outside.antt` first, then `Bytes.antt` for what Work holds and `Work.antt` for calls on Work alone. The hosts themselves stand
 //! in `loom_outside`.
+//!
+//! - Proved: `read_full` and `write_full` do the whole piece or say what was done. The trait `Host` says of each call what it takes, puts
+//!   and leaves, and that it fails only where its role's count of faults rose.
+//! - Tested: Each call on a host in memory and on real files (`outside_tests`).
+//! - Not said: What a file of the system holds.
 #![tactic(auto)]
 
 mod bytes;

@@ -51,8 +51,9 @@ pub trait Host {
     ghost writes: { Self → ℕ };
 
     /// Opens the file of this name for a role: Image and Events to be read from its start, Work, Saved
-    /// and Display as a new and empty file. Where it failed, the role is read and written on where it
-    /// was; of what Work holds nothing is known.
+    /// and Display as a new and empty file. It ends no role: what was put to another one and isn't ended
+    /// stays so, and a failure is one of the role that was to be attached. Where it failed, the role is
+    /// read and written on where it was; of what Work holds nothing is known.
     fn attach(&mut self, role: Role, name: &str) -> Result<(), Failed>
         requires { CanAttach role }
         ensures attached { IsTrue (tells role) → Attached name.now result (roles self.old role) (roles self.new role) }
@@ -81,7 +82,8 @@ pub trait Host {
     /// Puts the first bytes of a piece to a role that is written, as many as it likes, and at least one
     /// of a piece that isn't empty. Where it failed, some of the first bytes may have been put. A piece of
     /// no bytes puts none, and ends the role: what was put since its attach is whole, and a host may take
-    /// it for that, as `RealHost` does Saved. Where that failed, the role is as it was.
+    /// it for that. `RealHost` gives Saved its name at that call and at no other, and what wasn't ended
+    /// never has it. Where that failed, the role is as it was.
     fn write(&mut self, role: Role, buf: &[u8]) -> Result<usize, Failed>
         requires { CanWrite role }
         ensures bound { IfOk result (λ n. n ≤ length buf.now) }

@@ -1,4 +1,5 @@
 mod Frames
 mod Kept
 mod Places
+mod PreciousLaws
 mod Taken

@@ -4,6 +4,7 @@ pub mod Marks
 pub mod Memory
 pub mod PerRole
 pub mod Plans
+pub mod Precious
 pub mod Reading
 pub mod Real
 pub mod Rooms

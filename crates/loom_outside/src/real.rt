@@ -3,11 +3,14 @@
 // - A file is cut or replaced only where no other role has it, whatever it is called; else the attach fails. Saved alone may
 //   replace what Image or Events read, unless it is told not to. Work, which is attached first, isn't cut where another role is expected
 //   to have its file. A file that isn't of the roles can be protected from all of them.
-// - What was written to a file is on the disk before the next role is attached, and Display's once each write is done; else
-//   that call fails.
-// - Saved is written beside its file, and takes its name when the next role is attached, or where a piece of no bytes ends it.
-//   So at any moment, also after a kill or a loss of power, the file of that name is the old one or the new one, whole. Only a
-//   file that is none of the kind, as a device, or one in a folder where none can be made, is written in its place.
+// - Work takes a regular file alone, and none that begins as an image, an image's text or a picture. An old one is removed and made anew
+//   where it has one name and its folder allows that, and cut otherwise.
+// - Saved is written beside its file, and takes its name where a piece of no bytes ends it, and never without: what was written is on the
+//   disk then, and so is the name, or that call fails. So at any moment, also after a kill or a loss of power, the file of that name is the
+//   old one or the new one, whole. Only a file that is none of the kind, as a device, or one in a folder where none can be made, is written
+//   in its place. One that isn't ended when Saved is attached again is given up.
+// - What was written to Display is on the disk once each write is done, or that write fails. Work is never synced: nothing of it is wanted
+//   after a stop. So each failure is one of the role that was called.
 ghost use Rattle.std.specs.Prelude.{◌≡◌, false};
 ghost use Rattle.loom_host.specs.Outside.{at_start};
 ghost use Rattle.loom_outside.specs.Real.{faults_counted, writes_counted};
@@ -16,9 +19,11 @@ ghost use Rattle.loom_host.specs.declared.outside.Role.{Role};
 mod attached;
 mod expected;
 mod identity;
+mod modes;
 mod paths;
 mod saving;
-mod transfer;
+mod scratch;
+pub(crate) mod transfer;
 
 use crate::per_role::PerRole;
 use crate::real::attached::Attached;
@@ -34,7 +39,7 @@ use std::rt::Files;
 /// each failure, a call on a role that isn't attached among them. It keeps no bytes back: each call goes
 /// on to the file or the writer. A read or a write that a signal interrupts is made again, and
 /// has failed only where that happened 1,000 times in a row. The opening of a file is made again by std.
-/// Saved is attached until another role is, or a piece of no bytes is put to it: then it has its name, and takes no more.
+/// Saved is attached until a piece of no bytes is put to it: then it has its name, and takes no more.
 #[derive(Drop)]
 pub struct RealHost<R: Files + Alloc, T: Write, N: Write> {
     files: Attached<R, T, N>,

@@ -1,15 +1,16 @@
 // The files of the roles. Before a file is cut or replaced it is compared with the files of the other roles, by what the
 // system calls them, so that no other name of a file hides that two roles have it. Work is cut before others are attached, so it is also
-// compared with the files that they are expected to have. What was written is on the disk before another file is opened.
+// compared with the files that they are expected to have, and what it begins with is looked at.
 ghost use Rattle.std.specs.Prelude.{◌≡◌, ◌<◌, ◌≤◌, IfSome, length};
 ghost use Rattle.loom_host.specs.Outside.{CanAttach, CanRead, CanWrite};
 
-use crate::Role;
 use crate::real::expected::Expected;
-use crate::real::identity::{Identity, Opened, identity_in, sync_in};
+use crate::real::identity::{Identity, Opened, identity_in};
 use crate::real::paths::{followed, open_folder};
 use crate::real::saving::{Names, Saving};
+use crate::real::scratch::{emptied, new_scratch};
 use crate::real::transfer::{read_some, read_whole, write_some, write_through, write_whole};
+use crate::{Precious, Role};
 use std::alloc::AllocError;
 use std::fs::{File, OpenFile, OpenOptions};
 use std::io::{self, ErrorKind, Write};
@@ -60,7 +61,10 @@ fn is_forbidden(error: &io::Error) -> bool {
 }
 
 // What opens a file, and what attaches it.
-impl<R: Files + Alloc, T: Write, N: Write> Attached<R, T, N> {
+impl<R: Files + Alloc, T: Write, N: Write> Attached<R, T, N>
+where
+    R::File: FileExt,
+{
     pub fn new(rt: R, transcript: T, notes: N) -> Attached<R, T, N> {
         let expected = Expected::new(&rt);
         Attached {
@@ -103,25 +107,24 @@ impl<R: Files + Alloc, T: Write, N: Write> Attached<R, T, N> {
     pub fn attach(&mut self, role: Role, name: &str) -> io::Result<()>
         requires { CanAttach role }
     {
-        self.settle()?;
         match role {
             Role::Image => self.image = Some(Opened::new(File::open(&self.rt, name)?)?),
             Role::Events => self.events = Some(Opened::new(File::open(&self.rt, name)?)?),
             Role::Work => self.work = Some(self.open_work(name)?),
-            Role::Saved => self.saving = Some(self.open_saved(name)?),
+            Role::Saved => self.attach_saved(name)?,
             Role::Display => self.display = Some(self.open_display(name)?),
             Role::Transcript | Role::Notes => unreachable!(),
         }
         Ok(())
     }
 
-    // What was written is on the disk, and Saved has its name.
-    fn settle(&mut self) -> io::Result<()> {
+    // One that was attached before and not ended is given up first.
+    fn attach_saved(&mut self, name: &str) -> io::Result<()> {
         if let Some(saving) = self.saving.take() {
-            self.saved = saving.finish(&self.rt)?;
+            saving.discard(&self.rt);
         }
-        sync_in(&self.work)?;
-        sync_in(&self.display)
+        self.saving = Some(self.open_saved(name)?);
+        Ok(())
     }
 
     fn identity(&self, role: Role) -> Option<Identity> {
@@ -135,10 +138,18 @@ impl<R: Files + Alloc, T: Write, N: Write> Attached<R, T, N> {
         }
     }
 
+    // Whether this role has this file. While Saved isn't ended, it has the file that is written and the one that has its name.
+    fn has(&self, role: Role, identity: Option<Identity>) -> bool {
+        match &self.saving {
+            Some(saving) if role == Role::Saved && saving.has(&self.rt, identity) => true,
+            _ => self.identity(role) == identity,
+        }
+    }
+
     // Whether one of these roles has this file, other than this role itself.
     fn is_taken(&self, role: Role, identity: Option<Identity>, others: &[Role]) -> bool {
         for other in others {
-            if *other != role && identity.is_some() && self.identity(*other) == identity {
+            if *other != role && identity.is_some() && self.has(*other, identity) {
                 return true;
             }
         }
@@ -172,18 +183,32 @@ impl<R: Files + Alloc, T: Write, N: Write> Attached<R, T, N> {
     }
 
     fn open_work(&self, name: &str) -> io::Result<Opened<R::File>> {
-        let file = OpenOptions::new()
+        match OpenOptions::new()
             .read(true)
             .write(true)
-            .create(true)
-            .open(&self.rt, name)?;
-        let opened = Opened::new(file)?;
-        self.claim(Role::Work, opened.identity)?;
-        if self.expected.has(opened.identity) {
+            .open(&self.rt, name)
+        {
+            Ok(old) => self.work_over(name, Opened::new(old)?),
+            Err(error) if error.kind() == ErrorKind::NotFound => {
+                let path = followed(&self.rt, name)?;
+                new_scratch(&self.rt, path.as_path(), None)
+            }
+            Err(error) => Err(error),
+        }
+    }
+
+    // In the place of a file that is there, if that is a regular one, no other role has or will have it, and it begins with nothing that
+    // people keep.
+    fn work_over(&self, name: &str, old: Opened<R::File>) -> io::Result<Opened<R::File>> {
+        self.claim(Role::Work, old.identity)?;
+        if self.expected.has(old.identity) {
             return Err(same_file());
         }
-        opened.cut()?;
-        Ok(opened)
+        let metadata = old.file.metadata()?;
+        if !metadata.is_file() || Precious::in_file(&old.file)?.is_some() {
+            return Err(io::Error::from(ErrorKind::InvalidInput));
+        }
+        emptied(&self.rt, name, old, &metadata)
     }
 
     fn open_display(&self, name: &str) -> io::Result<Opened<R::File>> {

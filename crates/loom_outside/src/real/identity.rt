@@ -35,6 +35,14 @@ impl Identity {
     }
 }
 
+// Whether it is this file that has the path, and no link.
+pub fn is_at<R: Files>(rt: &R, path: &str, identity: Option<Identity>) -> bool {
+    match rt.symlink_metadata(path) {
+        Ok(metadata) => identity.is_some() && Identity::of(&metadata) == identity,
+        Err(_) => false,
+    }
+}
+
 // An open file.
 #[derive(Drop)]
 pub struct Opened<F> {
@@ -70,12 +78,5 @@ pub fn identity_in<F>(opened: &Option<Opened<F>>) -> Option<Identity> {
     match opened {
         Some(opened) => opened.identity,
         None => None,
-    }
-}
-
-pub fn sync_in<F: OpenFile + Drop>(opened: &Option<Opened<F>>) -> io::Result<()> {
-    match opened {
-        Some(opened) => opened.sync(),
-        None => Ok(()),
     }
 }

@@ -1,21 +1,16 @@
 // The file of Saved while it is written. It is written beside the file that it is to be, and takes that file's name once it
 // is whole and on the disk: until then the file of that name is as before, and where anything fails it stays so.
-use crate::real::identity::{Identity, Opened};
+use crate::real::identity::{Identity, Opened, is_at};
+use crate::real::modes::{new_mode, permit};
 use crate::real::paths::{followed, open_folder};
-use std::fs::{Metadata, OpenFile, OpenOptions, Permissions};
+use std::fs::{Metadata, OpenFile, OpenOptions};
 use std::io::{self, ErrorKind};
-use std::os::unix::fs::{MetadataExt, OpenOptionsExt};
+use std::os::unix::fs::OpenOptionsExt;
 use std::path::PathBuf;
 use std::rt::Files;
 
 // What the name of a file ends with while it is written.
 const PART: &str = ".part";
-
-// What a new file may be used for, but for what the process forbids.
-const NEW_MODE: u32 = 0o666;
-
-// The bits of a mode that say what a file may be used for.
-const MODE_BITS: u32 = 0o777;
 
 // The path that a file is written under, and the path that it is to have.
 #[derive(Drop)]
@@ -47,14 +42,10 @@ impl<R: Files + Alloc> Names<R> {
 
     // A new file to be written, with the mode of the old one where there is one.
     pub fn create(&self, rt: &R, old: Option<&Metadata>) -> io::Result<R::File> {
-        let mode = match old {
-            Some(old) => old.mode() & MODE_BITS,
-            None => NEW_MODE,
-        };
         OpenOptions::new()
             .write(true)
             .create_new(true)
-            .mode(mode)
+            .mode(new_mode(old))
             .open(rt, self.part())
     }
 
@@ -75,14 +66,6 @@ impl<R: Files + Alloc> Names<R> {
         if is_at(rt, self.part(), identity) {
             let _ = rt.remove_file(self.part());
         }
-    }
-}
-
-// Whether it is this file that has the path, and no link.
-fn is_at<R: Files>(rt: &R, path: &str, identity: Option<Identity>) -> bool {
-    match rt.symlink_metadata(path) {
-        Ok(metadata) => identity.is_some() && Identity::of(&metadata) == identity,
-        Err(_) => false,
     }
 }
 
@@ -114,7 +97,7 @@ impl<R: Files + Alloc> Saving<R> {
             names: Some(names),
         };
         if let Some(old) = old {
-            if let Err(error) = saving.permit(old.permissions()) {
+            if let Err(error) = permit(&saving.opened.file, &old) {
                 saving.discard(rt);
                 return Err(error);
             }
@@ -122,11 +105,12 @@ impl<R: Files + Alloc> Saving<R> {
         Ok(saving)
     }
 
-    fn permit(&self, wanted: Permissions) -> io::Result<()> {
-        if self.opened.file.metadata()?.permissions() == wanted {
-            return Ok(());
+    // Whether this is the file that is written, or the one that has the name of Saved now.
+    pub fn has(&self, rt: &R, identity: Option<Identity>) -> bool {
+        match &self.names {
+            Some(names) if names.leads_to(rt, identity) => true,
+            _ => self.opened.identity == identity,
         }
-        self.opened.file.set_permissions(wanted)
     }
 
     // What was written is on the disk, under the name of Saved. Says which file that is.

@@ -91,6 +91,21 @@ fn write_some_at<F: FileExt>(file: &F, place: u64, buf: &[u8]) -> Option<usize>
     None
 }
 
+// Bytes from the start on to the front of the buffer, as many as there are and it holds. Says how many, or None where that failed.
+pub fn read_front<F: FileExt>(file: &F, buf: &mut [u8]) -> Option<usize>
+    ensures { IfSome result (λ n. n ≤ length buf.old) }
+{
+    let mut done = 0;
+    while done < buf.len() {
+        match read_some_at(file, done as u64, &mut buf[done..]) {
+            Some(0) => return Some(done),
+            Some(n) => done += n,
+            None => return None,
+        }
+    }
+    Some(done)
+}
+
 // The whole piece from a place on, with zeros past the end; false where that failed.
 pub fn read_whole<F: FileExt>(file: &F, place: u64, buf: &mut [u8]) -> bool {
     let mut done = 0;
