@@ -1,7 +1,7 @@
 -- What `recover` finds, and what a stop within it may leave.
-use Rattle.std.proofs.Common.{◌≡◌, ℕ, ◌≤◌, Bool, true, false, cond, IsTrue, List, Option, None, Some, Result, refl, sym, ap, ◌∙◌, subst, arith}
+use Rattle.std.proofs.Common.{◌≡◌, ℕ, ◌≤◌, Bool, true, false, cond, IsTrue, List, [], Option, None, Some, Result, refl, sym, ap, ◌∙◌, subst, arith}
 use Rattle.long_names.specs.Counting.{Rose}
-use Rattle.checkpoint.specs.Faults.{IsRecoverFault}
+use Rattle.checkpoint.specs.Faults.{IsRecoverFault, IsSureBad}
 use Rattle.checkpoint.specs.Inside.{IsGateFault}
 use Rattle.checkpoint.specs.Layout.{bad_place, found, gate_in, is_bad, later_of, point_of}
 use Rattle.checkpoint.specs.Vault.{VaultState, IsSynced, MayLeave, Throughout, contents_of, is_synced, unsynced_of}
@@ -52,3 +52,10 @@ second-fault tells w v u before mid now (fault.Bad place) later same also good i
     ∙ ap (λ (b : Bool). cond b (Some GATE_GAP) None) (ap (λ (l : List ℕ). is_bad 1 (gate_in l 1)) (sym (also told)) ∙ is.1 told) ∙ ap Some (sym is.0)
 second-fault tells w v u before mid now (fault.Disk f) later same also good is = is
 second-fault tells w v u before mid now fault.Memory later same also good is = is
+
+-- whatever the fault is, where all is synced
+pub sure-bad : (s : VaultState) → unsynced_of s ≡ [] → (f : VaultFault) → IsSureBad s f
+sure-bad s sure (fault.Failed count) = _
+sure-bad s sure (fault.Bad place) = sure
+sure-bad s sure (fault.Disk f) = _
+sure-bad s sure fault.Memory = _

@@ -1,11 +1,12 @@
 -- Why a call over a vault was refused.
-use Rattle.std.specs.Prelude.{◌≡◌, ℕ, Bool, IsTrue, List, Some}
+use Rattle.std.specs.Prelude.{◌≡◌, ℕ, Bool, IsTrue, List, [], Some}
 use Rattle.long_names.specs.Counting.{Rose}
 use Rattle.loom_host.specs.declared.outside.Host.{Ghosts}
 use Rattle.disk_objects.specs.declared.names.NamesFault.{NamesFault}
 use Rattle.disk_objects.specs.declared.names.NamesFault.TheVariants as names
 use Rattle.image_writer.specs.Puts.{IsDiskFault}
 use Rattle.checkpoint.specs.Layout.{bad_place}
+use Rattle.checkpoint.specs.Vault.{VaultState, unsynced_of}
 use Rattle.checkpoint.specs.declared.fault.VaultFault.{VaultFault}
 use Rattle.checkpoint.specs.declared.fault.VaultFault.TheVariants as fault
 
@@ -22,6 +23,13 @@ IsRecoverFault tells bytes before now (fault.Failed count) = (count ≡ now) × 
 IsRecoverFault tells bytes before now (fault.Bad place) = IsTrue tells → bad_place bytes ≡ Some place
 IsRecoverFault tells bytes before now (fault.Disk fault) = ⊥
 IsRecoverFault tells bytes before now fault.Memory = ⊥
+
+-- where a gate is bad, all that was written is synced
+abbrev pub IsSureBad : VaultState → VaultFault → Type 0
+IsSureBad s (fault.Failed count) = Unit {0}
+IsSureBad s (fault.Bad place) = unsynced_of s ≡ []
+IsSureBad s (fault.Disk fault) = Unit {0}
+IsSureBad s fault.Memory = Unit {0}
 
 -- that a call on the vault failed, or want of memory
 abbrev pub IsReadFault : ℕ → ℕ → VaultFault → Type 0

@@ -1,9 +1,10 @@
 // The checkpoint that a vault has.
 ghost use Rattle.std.specs.Prelude.{◌≡◌, ◌≤◌, ◌<◌, ◌++◌, false, None, [], length, vec_len, IsTrue, IfOk, OnOk, IfErr, IfSome};
 ghost use Rattle.loom_host.specs.Bytes.{window};
-ghost use Rattle.checkpoint.specs.Faults.{IsReadFault, IsRecoverFault};
+ghost use Rattle.checkpoint.specs.Faults.{IsReadFault, IsRecoverFault, IsSureBad};
 ghost use Rattle.checkpoint.specs.Inside.{IsGateFault};
 ghost use Rattle.checkpoint.specs.Layout.{IsPoint, bad_place, found, gate_in, image_in, is_bad, later_of, point_of};
+ghost use Rattle.checkpoint.specs.declared.layout.TheConstants.{MOST_LENGTH};
 ghost use Rattle.checkpoint.specs.Vault.{Extends, MayLeave, Throughout, contents_of, unsynced_of};
 
 use crate::calls::{read, sync};
@@ -53,6 +54,7 @@ pub fn recover<V: Vault>(vault: &mut V) -> Result<Option<Point>, VaultFault>
     ensures whole { IsTrue V.tells → OnOk result (bad_place (contents_of (V.state vault.old)) ≡ None) }
     ensures point { IfOk result (λ last. IfSome last IsPoint) }
     ensures synced { IsTrue V.tells → OnOk result (unsynced_of (V.state vault.new) ≡ []) }
+    ensures bad_synced { IsTrue V.tells → IfErr result (IsSureBad (V.state vault.new)) }
     ensures contents { IsTrue V.tells → contents_of (V.state vault.new) ≡ contents_of (V.state vault.old) }
     ensures extends { IsTrue V.tells → Extends (V.state vault.old) (V.state vault.new) }
     ensures stops { IsTrue V.tells → Throughout (V.state vault.old) (V.state vault.new) (MayLeave (V.state vault.old)) }
@@ -72,6 +74,16 @@ fn buffer(alloc: Global, size: usize) -> Result<Vec<u8>, AllocError>
     vec![in alloc; 0; size]
 }
 
+// The empty list, with room for so many bytes.
+fn room_for(alloc: Global, size: u64) -> Result<Octets, AllocError>
+    requires { size ≤ MOST_LENGTH }
+    ensures { IfOk result (λ list. list ≡ []) }
+{
+    let mut list = Octets::filled(alloc, 0, size as usize)?;
+    list.truncate(0);
+    Ok(list)
+}
+
 // Reads what stands at a place behind what was read of the image, as much as the buffer holds.
 fn read_behind<V: Vault>(
     vault: &mut V,
@@ -89,8 +101,8 @@ fn read_behind<V: Vault>(
     Ok(())
 }
 
-/// The image of a point that `recover` just gave, whole. It reads block by block, and takes memory as it goes: a length that is only claimed
-/// is not believed. It answers no Bad and no Disk.
+/// The image of a point that `recover` just gave, whole; or as many of its first bytes as a point of this serial with a smaller length says. It
+/// takes room for all before it reads the first block: a length that memory can't hold is want of memory at once. It answers no Bad and no Disk.
 pub fn read_image<V: Vault>(
     alloc: Global,
     vault: &mut V,
@@ -103,7 +115,7 @@ pub fn read_image<V: Vault>(
     ensures fault { IfErr result (IsReadFault (V.faults vault.old) (V.faults vault.new)) }
 {
     let parity = point.serial % 2;
-    let mut image = Octets::new(alloc);
+    let mut image = room_for(alloc, point.len)?;
     let mut block = buffer(alloc, BLOCK)?;
     let blocks = (point.len + BLOCK as u64 - 1) / BLOCK as u64;
     for b in 0..blocks {

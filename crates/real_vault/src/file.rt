@@ -4,6 +4,7 @@ ghost use Rattle.long_names.specs.Counting.{counted};
 ghost use Rattle.real_vault.specs.Real.{faults_counted};
 ghost use Rattle.checkpoint.specs.Vault.{at_start};
 
+use crate::gates::{FRONT, has_gates};
 use checkpoint::Vault;
 use loom_host::{Failed, Role};
 use loom_outside::{Expected, Identity};
@@ -127,10 +128,27 @@ fn open<R: Files>(rt: &R, expected: &Expected, name: &str) -> io::Result<R::File
     Ok(file)
 }
 
-// The same, made or cut. It is empty on the disk.
-fn open_fresh<R: Files>(rt: &R, expected: &Expected, name: &str) -> io::Result<R::File> {
+// Refuses a file that no vault can be: what stands in it stays.
+fn expect_gates<F: FileExt>(file: &F) -> io::Result<()> {
+    let mut front = [0; FRONT];
+    read_whole(file, 0, &mut front)?;
+    if has_gates(&front) {
+        Ok(())
+    } else {
+        Err(io::Error::from(ErrorKind::InvalidData))
+    }
+}
+
+// The same, made or cut. It is empty on the disk. One that is no vault is left as it is.
+fn open_fresh<R: Files>(rt: &R, expected: &Expected, name: &str) -> io::Result<R::File>
+where
+    R::File: FileExt,
+{
     let file = match open(rt, expected, name) {
-        Ok(file) => file,
+        Ok(file) => {
+            expect_gates(&file)?;
+            file
+        }
         Err(error) if error.kind() == ErrorKind::NotFound => create(rt, name)?,
         Err(error) => return Err(error),
     };

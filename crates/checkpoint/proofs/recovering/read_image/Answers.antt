@@ -6,7 +6,7 @@ use Rattle.checkpoint.proofs.recovering.read_image.Goals as goal
 pub loop-b-init : goal.loop-b-init
 loop-b-init g c = record {
   sized = search rules;
-  image = λ told. c.new-image.ensures ∙ sym (area_in-start _ _ _);
+  image = λ told. c.in_ok-image.ensures ∙ sym (area_in-start _ _ _);
   still = search rules;
   later = search rules;
 }

@@ -1,6 +1,6 @@
 use Rattle.std.proofs.Common.{refl, ◌∙◌, arith}
 use Rattle.std.proofs.lemmas.Result.{err_from_is_err_and}
-use Rattle.checkpoint.proofs.RecoverLaws.{contents-still, first-fault, found-by, none-bad, second-fault, synced-leaves}
+use Rattle.checkpoint.proofs.RecoverLaws.{contents-still, first-fault, found-by, none-bad, second-fault, sure-bad, synced-leaves}
 use Rattle.checkpoint.proofs.SureLaws.{unsynced-synced}
 use Rattle.checkpoint.proofs.recovering.recover.Goals as goal
 
@@ -20,6 +20,16 @@ pub returns-in_err-first-clause-fault : goal.returns-in_err-first-clause-fault
 returns-in_err-first-clause-fault g c =
     let p = err_from_is_err_and c.from_residual-in_err-first.result c.from_residual-in_err-first.ensures.1 in
     rw (p.1, p.2) (first-fault _ _ _ _ _ _ _ c.in_ok-sync.ensures.later (λ told. contents-still _ _ _ _ (c.in_ok-sync.ensures.synced told) refl) c.in_err-first.ensures.fault)
+
+pub returns-in_err-first-clause-bad_synced : goal.returns-in_err-first-clause-bad_synced
+returns-in_err-first-clause-bad_synced g c told =
+    let p = err_from_is_err_and c.from_residual-in_err-first.result c.from_residual-in_err-first.ensures.1 in
+    rw (p.1, p.2) (sure-bad (g.V.Vault.state c.read_point.new.vault) (rw c.in_err-first.ensures.still (unsynced-synced _ _ _ (c.in_ok-sync.ensures.synced told))) _)
+
+pub returns-in_err-second-clause-bad_synced : goal.returns-in_err-second-clause-bad_synced
+returns-in_err-second-clause-bad_synced g c told =
+    let p = err_from_is_err_and c.from_residual-in_err-second.result c.from_residual-in_err-second.ensures.1 in
+    rw (p.1, p.2) (sure-bad (g.V.Vault.state c.read_point-2.new.vault) (rw (c.in_err-second.ensures.still, c.in_ok-first.ensures.still) (unsynced-synced _ _ _ (c.in_ok-sync.ensures.synced told))) _)
 
 pub returns-in_err-second-clause-contents : goal.returns-in_err-second-clause-contents
 returns-in_err-second-clause-contents g c told =
