@@ -70,7 +70,7 @@ guard-of_parts words w2 image events work saved display w7 core entries room ste
 }
 
 -- words of which none is bad are a guarded run
-guard-from_words : (words : List (List ℕ)) → bad_in guard_row words ≡ None → IsGuard words (guard_row_of words) (vault_of words)
+pub guard-from_words : (words : List (List ℕ)) → bad_in guard_row words ≡ None → IsGuard words (guard_row_of words) (vault_of words)
 guard-from_words words right =
     take-word 1 is_guard guard_checks words words right (λ a w1 is1 command h1.
     let name : a ≡ codes "guard" = is-word (codes "guard") a command
@@ -192,7 +192,7 @@ resume-of_parts words w2 vault events work saved display w7 core entries room st
 }
 
 -- words of which none is bad are a resumed run
-resume-from_words : (words : List (List ℕ)) → bad_in resume_row words ≡ None → IsResume words (resume_row_of words) (vault_of words)
+pub resume-from_words : (words : List (List ℕ)) → bad_in resume_row words ≡ None → IsResume words (resume_row_of words) (vault_of words)
 resume-from_words words right =
     take-word 1 is_resume resume_checks words words right (λ a w1 is1 command h1.
     let name : a ≡ codes "resume" = is-word (codes "resume") a command

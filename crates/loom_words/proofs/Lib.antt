@@ -1,3 +1,5 @@
+pub mod FileLaws
+pub mod FileRows
 pub mod KeptRows
 pub mod Lines
 pub mod Numbers

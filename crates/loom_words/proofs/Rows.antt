@@ -246,7 +246,7 @@ pub right-run : (words others : List (List ℕ)) → words ≡ codes "run" ∷ o
 right-run words others is = subst (λ ws. bad_in run_row ws ≡ bad_from 2 run_checks (codes "run" ∷ others) others) (sym is) refl
 
 -- words of which none is bad are a row
-row-from_words : (words : List (List ℕ)) → bad_in run_row words ≡ None → IsRow words (row_of words)
+pub row-from_words : (words : List (List ℕ)) → bad_in run_row words ≡ None → IsRow words (row_of words)
 row-from_words words right =
     take-word 1 is_run run_checks words words right (λ a w1 is1 command h1.
     take-files number_checks a w1 (subst (λ ws. bad_from 2 run_checks ws w1 ≡ None) is1 h1) (λ image events work saved display w6 files h6.
@@ -320,7 +320,7 @@ three-make a b c make number =
     let command : a ≡ codes "make" = grind (arith, nat_tests, bytes_eq-Decides)
     in record { words_are = rw (command, number-decimal 0 LAST_NUMBER b (omega arith) number) refl; number = number-most 0 LAST_NUMBER b number }
 
-make-from_words : (words : List (List ℕ)) → bad_in make_row words ≡ None → IsMake words (make_of words)
+pub make-from_words : (words : List (List ℕ)) → bad_in make_row words ≡ None → IsMake words (make_of words)
 make-from_words words right =
     take-word 1 is_make make_checks words words right (λ a w1 is1 make h1.
     take-word 2 (is_from 0 LAST_NUMBER) made_checks words w1 h1 (λ b w2 is2 number h2.
@@ -356,7 +356,7 @@ source-apart a b c d others h = differs c b (none-one (bytes_eq c b) h)
 target-apart : (a b c d : List ℕ) (others : List (List ℕ)) → is_none_at (2 ∷ []) (a ∷ b ∷ c ∷ d ∷ others) d ≡ true → d ≢ c
 target-apart a b c d others h = differs d c (none-one (bytes_eq d c) h)
 
-paths-from_words : (check : Check) (command : List ℕ) (words : List (List ℕ)) → ((word : List ℕ) → check words word ≡ true → word ≡ command) → bad_in (check ∷ path_checks) words ≡ None → ArePaths command words (paths_of words)
+pub paths-from_words : (check : Check) (command : List ℕ) (words : List (List ℕ)) → ((word : List ℕ) → check words word ≡ true → word ≡ command) → bad_in (check ∷ path_checks) words ≡ None → ArePaths command words (paths_of words)
 paths-from_words check command words is_command right =
     take-word 1 check path_checks words words right (λ a w1 is1 first h1.
     take-word 2 anything source_checks words w1 h1 (λ b w2 is2 _ h2.
@@ -438,7 +438,7 @@ trace-of_parts words w2 image events work text w6 core entries room steps is fil
   saved_apart = files.text_apart;
 }
 
-trace-from_words : (words : List (List ℕ)) → bad_in trace_row words ≡ None → IsTrace words (trace_row_of words)
+pub trace-from_words : (words : List (List ℕ)) → bad_in trace_row words ≡ None → IsTrace words (trace_row_of words)
 trace-from_words words right =
     take-word 1 is_trace trace_checks words words right (λ a w1 is1 command h1.
     take-trace a w1 (subst (λ ws. bad_from 2 trace_checks ws w1 ≡ None) is1 h1) (λ image events work text w5 files h5.

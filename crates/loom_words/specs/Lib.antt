@@ -1,4 +1,7 @@
 pub mod Command
+pub mod Files
+pub mod FilesFor
+pub mod FilesRead
 pub mod Kept
 pub mod Status
 pub mod Trace

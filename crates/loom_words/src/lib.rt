@@ -17,16 +17,27 @@
 //! `resume VAULT EVENTS WORK SAVED DISPLAY CORE ENTRIES ROOM STEPS`: `IsKept` of `specs/Kept.antt`, with its rows and the law
 //! `right_kept_words`. It answers None of all other words.
 //!
+//! `keep_apart` tells a host and a vault, before a file is opened, which files the words of a command name, so that none takes a file that another
+//! keeps: by the table of `specs/Files.antt`, which the code of `files.rt` has, and whose laws tie it to what is read of the words.
+//!
 //! `Status` says how a command ended, with its line and the exit status (`specs/Status.antt`). Nothing here takes memory, and nothing knows
 //! a host or a machine.
+//!
+//! - Proved: The words of each command are read within their limits, or refused exactly at the first bad, missing or extra one. Each status
+//!   has its line and exit code. Which files the words of each command name, and what is told of them, is one table; right words name no file
+//!   twice where it may not be.
+//! - Tested: Each word bad, missing or extra (`machine_tests`, `guard_tests`); lines of traces (`outside_tests`).
+//! - Not said: Nothing that we know of.
 #![tactic(auto)]
 
+mod files;
 mod kept;
 pub mod laws;
 mod status;
 mod trace;
 mod words;
 
+pub use files::{KeepsApart, Listener, keep_apart};
 pub use kept::{Guarded, Kept, kept_of};
 pub use status::{Line, Status};
 pub use trace::trace_line;
