@@ -1,5 +1,6 @@
 -- What the promise gives of a run that answers Done or Quit.
-use Rattle.std.proofs.Common.{◌≡◌, ℕ, ◌≤◌, ◌++◌, Bool, List, None, true, IsTrue, refl, ◌∙◌, ap, subst}
+use Rattle.std.proofs.Common.{◌≡◌, ℕ, ◌≤◌, ◌++◌, Bool, List, None, Some, length, true, IsTrue, refl, ◌∙◌, ap, subst}
+use Rattle.loom_host.specs.Outside.{RoleState}
 use Rattle.loom_host.specs.declared.outside.Role.{Role}
 use Rattle.loom_host.specs.declared.outside.Role.TheVariants.{Image, Events, Work, Saved, Display, Transcript}
 use Rattle.blue_model.specs.declared.step.Step.{Step}
@@ -12,7 +13,7 @@ use Rattle.blue_model.specs.declared.event.Line.{Line}
 use Rattle.blue_model.proofs.LargestLaws.{whole_within, within_more}
 use Rattle.long_names.specs.Heap.{Heap}
 use Rattle.machine_run.specs.States.{model_state}
-use Rattle.loom_run.specs.Ends.{RunOf, RunsTo, WrittenBy, bytes_of, image_of}
+use Rattle.loom_run.specs.Ends.{IsWhole, MadeBy, RunOf, RunsTo, WrittenBy, bytes_of, image_of}
 use Rattle.loom_run.specs.Headline.{HasHeadline, HasSmall, HeadlineBy, SmallBy, TellsHeadline}
 use Rattle.loom_run.specs.Meanings.{Meanings}
 use Rattle.loom_run.specs.Promise.{EndsAt, Promise}
@@ -78,10 +79,17 @@ assembled-never Saving objects h = absurd h
 assembled-never Drawing objects h = absurd h
 assembled-never Telling objects h = absurd h
 
+-- what was made of a role is whole
+pub made-whole : (text bytes : List ℕ) (a b : RoleState) → MadeBy true text bytes a b → IsWhole bytes b
+made-whole text bytes a b made = record {
+  put = ap (λ (s : RoleState). s.put) made.2 ∙ made.1.put;
+  ended = ap (λ (s : RoleState). s.ended) made.2 ∙ ap (λ (t : List ℕ). Some (length t)) made.1.put;
+}
+
 -- a run that was parked, and what was written of it
 module _ (tells : Role → Bool) (before now : Meanings) (row : Row) (status : Status) (told : TellsHeadline tells) (ran : ℕ) (end : Step) where
   parked : (r : RunOf (bytes_of (now.roles Image)) (bytes_of (now.roles Events)) row.steps (RunsTo tells before now row Telling status)) (e : Ending) → ending r.lines row.steps (model_state r.head.state) r.heap ≡ e → IsParkedBy end ran e → (now.roles Transcript).put ≡ (before.roles Transcript).put ++ said_in e
-      → OnParked e (λ m. WrittenBy true row.saved (image_of m) (before.roles Saved) (now.roles Saved)) → OnDrawn e (λ picture. WrittenBy true row.display picture (before.roles Display) (now.roles Display)) → HasHeadline before now row.steps end ran
+      → OnParked e (λ m. MadeBy true row.saved (image_of m) (before.roles Saved) (now.roles Saved)) → OnDrawn e (λ picture. WrittenBy true row.display picture (before.roles Display) (now.roles Display)) → HasHeadline before now row.steps end ran
   parked r (Stuck why count said) same by says saves draws = absurd by
   parked r (Parked last machine picture) same by says saves draws = (
     r.head,
@@ -95,7 +103,7 @@ module _ (tells : Role → Bool) (before now : Meanings) (row : Row) (status : S
       ending = same ∙ ap (λ (s : Step). Parked s machine picture) by.0;
       count = by.1;
       transcript = says;
-      saved = saves.put;
+      saved = made-whole row.saved (image_of machine) (before.roles Saved) (now.roles Saved) saves;
       display = draws.put;
     },
   )

@@ -18,7 +18,7 @@ use Rattle.blue_model.specs.Endings.{IsParkedBy}
 use Rattle.blue_model.specs.Logs.{Course, course}
 use Rattle.machine_run.specs.States.{model_state}
 use Rattle.machine_run.specs.declared.running.Finished.{Finished}
-use Rattle.loom_run.specs.Ends.{AttachedOnce, GoesThrough, JudgesEvents, JudgesImage, WrittenBy, bytes_of}
+use Rattle.loom_run.specs.Ends.{AttachedOnce, GoesThrough, JudgesEvents, JudgesImage, MadeBy, WrittenBy, bytes_of}
 use Rattle.loom_run.specs.Meanings.{Meanings, LeavesBut, meanings}
 use Rattle.loom_run.specs.Stages.{Opening, Reading, Listening, Making, Running, Finishing, Saving, Drawing, Telling, roles_at, written_roles}
 use Rattle.loom_run.specs.Steps.{Came, CameThrough, HasHeard, HasRead, IsRefusal, IsSameFile, LateEnds, ReadEnds, RunEnds, Uses}
@@ -102,10 +102,10 @@ module _ (tells : Role → Bool) (before : Meanings) (row : Row) where
     silent : far.roles Transcript ≡ mid.roles Transcript
     silent = (others.others Transcript (λ e. cc, (λ e. cc, tt))).state
 
-    pub saving-refused : (status : Status) → IsRefusal tells mid far row Saving status → (IsTrue (tells Saved) → IsTrue (tells Work) → WrittenBy false row.saved (saved_text (kept remains no_roots) finished.state) (mid.roles Saved) (far.roles Saved)) → LateEnds tells before far row status c
+    pub saving-refused : (status : Status) → IsRefusal tells mid far row Saving status → (IsTrue (tells Saved) → IsTrue (tells Work) → MadeBy false row.saved (saved_text (kept remains no_roots) finished.state) (mid.roles Saved) (far.roles Saved)) → LateEnds tells before far row status c
     saving-refused status refused put = late-saving tells before row c mid finished remains used through far status used-saving refused silent put
 
-    module _ (put : IsTrue (tells Saved) → IsTrue (tells Work) → WrittenBy true row.saved (saved_text (kept remains no_roots) finished.state) (mid.roles Saved) (far.roles Saved))
+    module _ (put : IsTrue (tells Saved) → IsTrue (tells Work) → MadeBy true row.saved (saved_text (kept remains no_roots) finished.state) (mid.roles Saved) (far.roles Saved))
         (now : Meanings) (shown : IsTrue (tells Display) → AttachedOnce row.display (far.roles Display) (now.roles Display)) (drawing : LeavesBut (roles_at Drawing) far now) where
       used-drawing : Uses tells before now row Drawing
       used-drawing = uses-drawing tells row before far now used-saving shown drawing

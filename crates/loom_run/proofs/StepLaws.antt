@@ -17,7 +17,7 @@ use Rattle.image_reader.specs.declared.fault.LoadFault.TheVariants as load
 use Rattle.image_reader.specs.Frames.{IsLoading}
 use Rattle.image_reader.specs.Loaded.{IsLoadFault, full_of}
 use Rattle.image_writer.specs.Puts as writer
-use Rattle.loom_run.specs.Ends.{JudgesImage, MadeBy, WasBegun, WasRefused, WasWritten, WrittenBy, bytes_of}
+use Rattle.loom_run.specs.Ends.{AttachedOnce, JudgesImage, MadeBy, WasBegun, WasRefused, WasWritten, WrittenBy, bytes_of}
 use Rattle.loom_run.specs.Meanings.{LeavesBut, meanings}
 use Rattle.loom_run.specs.Parts.{status_by_disk}
 use Rattle.loom_run.specs.Stages.{Reading, Saving, roles_at}
@@ -26,7 +26,7 @@ use Rattle.loom_words.specs.Words.{Row}
 use Rattle.loom_words.specs.declared.status.Status.{Status}
 use Rattle.loom_words.specs.declared.status.Status.TheVariants as answer
 use Rattle.loom_run.proofs.Frames.{is-role}
-use Rattle.loom_run.proofs.UsesLaws.{never}
+use Rattle.loom_run.proofs.UsesLaws.{left-then, never}
 
 rose-from : (a b c : ℕ) → b ≡ a → Rose b c → Rose a c
 rose-from a b c same rose = subst (λ n. Rose n c) same rose
@@ -98,6 +98,24 @@ module _ {H : Type 0} (host : Ghosts H) (old mid new : H) (states : SameBut Save
   pub refused-put : (row : Row) (count : ℕ) → (count ≡ host.faults new Saved) × Rose (host.faults mid Saved) (host.faults new Saved) → IsRefusal host.tells (meanings host old) (meanings host new) row Saving (answer.WriteFault Saved count)
   refused-put row count h = record { answer = tt; of_run = λ e. cc; ran = tt; cause = (h.0, (let rose = h.1 in omega (arith, later, rose))); whole = λ work damaged. damaged; limits = tt }
 
+-- ---- and then it is ended, or that fails
+
+module _ {H : Type 0} (host : Ghosts H) (old mid new : H) (leaves : LeavesBut (roles_at Saving) (meanings host old) (meanings host mid)) (states : SameBut Saved (host.roles mid) (host.roles new)) (faults : SameBut Saved (host.faults mid) (host.faults new)) where
+  pub leaves-ended : host.faults mid Saved ≤ host.faults new Saved → LeavesBut (roles_at Saving) (meanings host old) (meanings host new)
+  leaves-ended later = record {
+    others = λ r none. left-then r (meanings host old) (meanings host mid) (meanings host new) (leaves.others r none) record { state = states r none.0; faults = faults r none.0 };
+    writes = λ none. absurd (none.1.0 refl);
+    later = λ r. elim (is-role r Saved) [
+      | inl e ↦ rw e (let first = leaves.later Saved in omega (arith, first, later))
+      | inr away ↦ (let first = leaves.later r in let same = faults r away in omega (arith, first, same))
+    ];
+  }
+
+-- an end leaves how often a role was attached, and its name
+pub attached-ended : {T E : Type 0} (text : List ℕ) (a b c : RoleState) (r : Result T E) → AttachedOnce text a b → OnOk r (c ≡ ends b) → OnErr r (c ≡ b) → AttachedOnce text a c
+attached-ended text a b c (Ok x) once ended still = subst (AttachedOnce text a) (sym ended) record { attaches = once.attaches; name = once.name }
+attached-ended text a b c (Err e) once ended still = subst (AttachedOnce text a) (sym still) once
+
 -- ---- a line that is bad
 
 -- all bytes of a role are those that were left when some were taken of it first
@@ -141,6 +159,11 @@ not-written text bytes a b r e is refused = let q = err_from_is_err_and r is in 
 pub refuses : {T : Type 0} (P : Status → Type 0) (r : Result T Status) (e : Status) → IsErrAnd r (λ y. y ≡ e) → P e → IfErr r P
 refuses P (Ok x) e is h = tt
 refuses P (Err y) e is h = subst P (sym is) h
+
+-- what is so of each refusal is so of this one
+pub fails-then : {T : Type 0} (r : Result T Status) (P Q : Status → Type 0) → ((e : Status) → P e → Q e) → IfErr r P → IfErr r Q
+fails-then (Ok x) P Q each h = tt
+fails-then (Err e) P Q each h = each e h
 
 -- of a heap that is known where something is told
 pub some-heap : (told : Bool) (P : Heap → Type 0) → (IsTrue told → (h : Heap) × P h) → (h : Heap) × (IsTrue told → P h)

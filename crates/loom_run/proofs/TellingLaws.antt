@@ -10,7 +10,7 @@ use Rattle.blue_model.specs.declared.step.Step.TheVariants.{Next, Quit}
 use Rattle.blue_model.specs.Cycle.{Ending, Parked, Stuck}
 use Rattle.blue_model.specs.Endings.{IsParked, IsParkedBy, OnDrawn, OnParked}
 use Rattle.blue_model.specs.Logs.{Course}
-use Rattle.loom_run.specs.Ends.{AttachedOnce, BeginsEnd, GoesThrough, IsAnswered, IsCaused, NotedBy, RunOf, RunsTo, SaysStopped, WrittenBy, bytes_of, image_of, word_for}
+use Rattle.loom_run.specs.Ends.{AttachedOnce, BeginsEnd, GoesThrough, IsAnswered, IsCaused, MadeBy, NotedBy, RunOf, RunsTo, SaysStopped, WrittenBy, bytes_of, image_of, word_for}
 use Rattle.loom_run.specs.Makes.{HasBegunFor}
 use Rattle.loom_run.specs.Meanings.{Meanings, IsLeft, LeavesBut}
 use Rattle.loom_run.specs.Parts.{IsTold, unsaid}
@@ -77,7 +77,7 @@ module _ (mid now : Meanings) (leaves : LeavesBut (Notes ∷ []) mid now) where
     fits = r.fits;
     says = λ told at. subst (λ (s : RoleState). SaysStopped status row c (before.roles Transcript).put s.put) (sym (same Transcript (λ e. cc))) (r.says told at);
     said = λ told past. ap (λ (s : RoleState). s.put) (same Transcript (λ e. cc)) ∙ r.said told past;
-    saves = λ told past. subst (λ s. OnParked c.ending (λ m. WrittenBy (passes Saving stage) row.saved (image_of m) (before.roles Saved) s)) (sym (same Saved (λ e. cc))) (r.saves told past);
+    saves = λ told past. subst (λ s. OnParked c.ending (λ m. MadeBy (passes Saving stage) row.saved (image_of m) (before.roles Saved) s)) (sym (same Saved (λ e. cc))) (r.saves told past);
     draws = λ told past. subst (λ s. OnDrawn c.ending (λ picture. WrittenBy (passes Drawing stage) row.display picture (before.roles Display) s)) (sym (same Display (λ e. cc))) (r.draws told past);
     cuts = λ told at. cuts-none status c (before.roles Notes) (now.roles Notes) of_run;
     image = r.image;

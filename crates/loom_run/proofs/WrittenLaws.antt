@@ -14,7 +14,7 @@ use Rattle.blue_model.specs.Endings.{IsParked, IsParkedBy, OnDrawn, OnParked, sa
 use Rattle.blue_model.specs.Logs.{Course, course}
 use Rattle.machine_run.specs.States.{model_state}
 use Rattle.machine_run.specs.declared.running.Finished.{Finished}
-use Rattle.loom_run.specs.Ends.{CutsLine, GoesThrough, HasRun, RunsTo, SaysStopped, Stops, WrittenBy, image_of}
+use Rattle.loom_run.specs.Ends.{CutsLine, GoesThrough, HasRun, MadeBy, RunsTo, SaysStopped, Stops, WrittenBy, image_of}
 use Rattle.loom_run.specs.Meanings.{Meanings, IsLeft}
 use Rattle.loom_run.specs.Parts.{IsFinished}
 use Rattle.loom_run.specs.Stages.{Stage, Running, Finishing, Saving, Drawing, Telling, Ends, reaches}
@@ -86,16 +86,16 @@ cuts-none answer.NoCheckpoint c old new of_run = tt
 cuts-none (answer.VaultBad place) c old new of_run = tt
 
 -- what is written of a parked machine
-written-of : (e : Ending) (b : Bool) (text bytes : List ℕ) (a mid now : RoleState) → OnParked e (λ m. bytes ≡ image_of m) → mid ≡ a → WrittenBy b text bytes mid now → OnParked e (λ m. WrittenBy b text (image_of m) a now)
-written-of (Parked end m drawn) b text bytes a mid now same from w = subst (λ t. WrittenBy b text t a now) same (subst (λ s. WrittenBy b text bytes s now) from w)
+written-of : (e : Ending) (b : Bool) (text bytes : List ℕ) (a mid now : RoleState) → OnParked e (λ m. bytes ≡ image_of m) → mid ≡ a → MadeBy b text bytes mid now → OnParked e (λ m. MadeBy b text (image_of m) a now)
+written-of (Parked end m drawn) b text bytes a mid now same from w = subst (λ t. MadeBy b text t a now) same (subst (λ s. MadeBy b text bytes s now) from w)
 written-of (Stuck why count said) b text bytes a mid now same from w = same
 
 drawn-of : (e : Ending) (b : Bool) (text bytes : List ℕ) (a mid now : RoleState) → OnDrawn e (λ picture. bytes ≡ picture) → mid ≡ a → WrittenBy b text bytes mid now → OnDrawn e (λ picture. WrittenBy b text picture a now)
 drawn-of (Parked end m drawn) b text bytes a mid now same from w = subst (λ t. WrittenBy b text t a now) same (subst (λ s. WrittenBy b text bytes s now) from w)
 drawn-of (Stuck why count said) b text bytes a mid now same from w = same
 
-on-parked-left : (e : Ending) (b : Bool) (text : List ℕ) (a mid now : RoleState) → now ≡ mid → OnParked e (λ m. WrittenBy b text (image_of m) a mid) → OnParked e (λ m. WrittenBy b text (image_of m) a now)
-on-parked-left (Parked end m drawn) b text a mid now same w = subst (λ s. WrittenBy b text (image_of m) a s) (sym same) w
+on-parked-left : (e : Ending) (b : Bool) (text : List ℕ) (a mid now : RoleState) → now ≡ mid → OnParked e (λ m. MadeBy b text (image_of m) a mid) → OnParked e (λ m. MadeBy b text (image_of m) a now)
+on-parked-left (Parked end m drawn) b text a mid now same w = subst (λ s. MadeBy b text (image_of m) a s) (sym same) w
 on-parked-left (Stuck why count said) b text a mid now same w = w
 
 -- From the machine's run on a run ends by what came of its machine: over any course.
@@ -146,7 +146,7 @@ module _ (tells : Role → Bool) (before : Meanings) (row : Row) (c : Course) wh
 
   module _ (mid : Meanings) (finished : Finished) (remains : Heap) (used : Uses tells before mid row Finishing) (through : IsTrue (tells Work) → CameThrough tells before mid row finished remains c) where
     pub late-saving : (now : Meanings) (status : Status) → Uses tells before now row Saving → IsRefusal tells mid now row Saving status → now.roles Transcript ≡ mid.roles Transcript
-        → (IsTrue (tells Saved) → IsTrue (tells Work) → WrittenBy false row.saved (saved_text (kept remains no_roots) finished.state) (mid.roles Saved) (now.roles Saved)) → LateEnds tells before now row status c
+        → (IsTrue (tells Saved) → IsTrue (tells Work) → MadeBy false row.saved (saved_text (kept remains no_roots) finished.state) (mid.roles Saved) (now.roles Saved)) → LateEnds tells before now row status c
     late-saving now status uses refused silent put = late-end mid now Saving status refl used.later uses (uses.unused Notes refl) refused (λ work. record {
       stops = λ at. absurd (cc);
       goes = λ past. goes-refused status c (λ ran e. subst (λ s. Ends Saving s) e refused.answer) (λ ran e. subst (λ s. Ends Saving s) e refused.answer) (parked-of finished.end finished.ran c.ending (through work).parked);
@@ -159,8 +159,8 @@ module _ (tells : Role → Bool) (before : Meanings) (row : Row) (c : Course) wh
       image = λ past. (through work).image;
     })
 
-    module _ (far : Meanings) (silent : far.roles Transcript ≡ mid.roles Transcript) (put : IsTrue (tells Saved) → IsTrue (tells Work) → WrittenBy true row.saved (saved_text (kept remains no_roots) finished.state) (mid.roles Saved) (far.roles Saved)) (undrawn : far.roles Display ≡ mid.roles Display) where
-      saved-far : IsTrue (tells Saved) → IsTrue (tells Work) → OnParked c.ending (λ m. WrittenBy true row.saved (image_of m) (before.roles Saved) (far.roles Saved))
+    module _ (far : Meanings) (silent : far.roles Transcript ≡ mid.roles Transcript) (put : IsTrue (tells Saved) → IsTrue (tells Work) → MadeBy true row.saved (saved_text (kept remains no_roots) finished.state) (mid.roles Saved) (far.roles Saved)) (undrawn : far.roles Display ≡ mid.roles Display) where
+      saved-far : IsTrue (tells Saved) → IsTrue (tells Work) → OnParked c.ending (λ m. MadeBy true row.saved (image_of m) (before.roles Saved) (far.roles Saved))
       saved-far told work = written-of c.ending true row.saved _ (before.roles Saved) (mid.roles Saved) (far.roles Saved) (through work).saves (used.unused Saved refl).state (put told work)
 
       pub late-drawing : (now : Meanings) (status : Status) → Uses tells before now row Drawing → ((role : Role) → before.faults role ≤ far.faults role) → IsRefusal tells far now row Drawing status

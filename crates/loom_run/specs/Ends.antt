@@ -185,10 +185,16 @@ WrittenBy true text bytes old new = WasWritten text bytes old new
 WrittenBy false text bytes old new = WasRefused text old new ⊎ WasBegun text bytes old new
 
 -- The role was attached once, by this name; then these bytes were put to it, and behind all of them a piece of no bytes, which ends it. Or
--- that failed: it is as a refused attach leaves it, or has a prefix of them and isn't ended.
+-- that failed: it is as a refused attach leaves it, or has a prefix of them and isn't ended. So a role that wasn't ended before is ended
+-- exactly where all of that went through.
 abbrev pub MadeBy : Bool → List ℕ → List ℕ → RoleState → RoleState → Type 0
 MadeBy true text bytes old new = (put : RoleState) × WasWritten text bytes old put × (new ≡ ends put)
 MadeBy false text bytes old new = WrittenBy false text bytes old new
+
+-- These bytes were put to the role since it was attached, and a piece of no bytes behind all of them ended it.
+pub record IsWhole (bytes : List ℕ) (s : RoleState) : Type 0 where
+  pub put : s.put ≡ bytes
+  pub ended : s.ended ≡ Some (length bytes)
 
 -- a state of the model in the words of an image
 abbrev pub words_of : State → Words
@@ -221,8 +227,9 @@ pub record RunsTo (tells : Role → Bool) (before now : Meanings) (row : Row) (s
   -- The bytes put to Transcript are what the machine said until then.
   pub says : IsTrue (tells Transcript) → stage ≡ Running → SaysStopped status row c (before.roles Transcript).put (now.roles Transcript).put
   pub said : IsTrue (tells Transcript) → IsTrue (passes Running stage) → (now.roles Transcript).put ≡ (before.roles Transcript).put ++ said_in c.ending
-  -- Saved has the image of what is kept of the parked machine's heap, and Display its picture, or a prefix where writing it failed.
-  pub saves : IsTrue (tells Saved) → IsTrue (reaches Saving stage) → OnParked c.ending (λ m. WrittenBy (passes Saving stage) row.saved (image_of m) (before.roles Saved) (now.roles Saved))
+  -- Saved has the image of what is kept of the parked machine's heap, and is ended behind it; or a prefix, and no end, where writing or ending it
+  -- failed. Display has its picture, or a prefix where writing it failed; nothing ends it.
+  pub saves : IsTrue (tells Saved) → IsTrue (reaches Saving stage) → OnParked c.ending (λ m. MadeBy (passes Saving stage) row.saved (image_of m) (before.roles Saved) (now.roles Saved))
   pub draws : IsTrue (tells Display) → IsTrue (reaches Drawing stage) → OnDrawn c.ending (λ picture. WrittenBy (passes Drawing stage) row.display picture (before.roles Display) (now.roles Display))
   -- The last line, where it couldn't be written, is that of this end.
   pub cuts : IsTrue (tells Notes) → stage ≡ Telling → CutsLine status c (before.roles Notes) (now.roles Notes)

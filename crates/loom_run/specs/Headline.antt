@@ -12,7 +12,7 @@ use Rattle.blue_model.specs.Machine.{Machine}
 use Rattle.blue_model.specs.Cycle.{Parked, ending}
 use Rattle.blue_model.specs.Logs.{AreWithin}
 use Rattle.machine_run.specs.States.{model_state}
-use Rattle.loom_run.specs.Ends.{AreEvents, IsImageOf, RunOf, bytes_of, image_of}
+use Rattle.loom_run.specs.Ends.{AreEvents, IsImageOf, IsWhole, RunOf, bytes_of, image_of}
 use Rattle.loom_run.specs.Meanings.{Meanings}
 use Rattle.loom_words.specs.Words.{Row}
 use Rattle.loom_words.specs.declared.status.Status.{Status}
@@ -31,8 +31,8 @@ pub record Headline (before now : Meanings) (steps : ℕ) (end : Step) (ran : �
   pub count : machine.cpu.ran ≡ ran
   -- Transcript has what it said, behind what stood there before.
   pub transcript : (now.roles Transcript).put ≡ (before.roles Transcript).put ++ machine.transcript
-  -- Saved holds the image of what is kept of its heap, with exact counts, and of its state.
-  pub saved : (now.roles Saved).put ≡ image_of machine
+  -- Saved holds the image of what is kept of its heap, with exact counts, and of its state, and is ended.
+  pub saved : IsWhole (image_of machine) (now.roles Saved)
   -- Display holds the picture.
   pub display : (now.roles Display).put ≡ picture
 

@@ -21,6 +21,12 @@
 //! it as `run` does, and puts a line to Saved for each bytecode (`specs/Traces.antt`). What it leaves says `specs/Traced.antt`.
 //!
 //! Whoever puts a run of another kind together has the steps of this one in `steps`.
+//!
+//! - Proved: The record `Promise` is the one clause of `loom`, over every host; its laws give the headline, and that a run without faults
+//!   comes to its end (`docs/PROMISE.md`).
+//! - Tested: Words, faults, refusals, listings and traces (`machine_tests`, `trace_tests`), the cases, and real files (`tests/all.sh`).
+//! - Not said: Time; that out of memory has a cause; that the first call that fails ends a command; when the first tables of a trace are
+//!   made. Over a host that doesn't tell Work: what was read and written.
 #![tactic(auto)]
 
 mod converting;

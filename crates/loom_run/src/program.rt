@@ -52,13 +52,13 @@ pub struct Ended {
 ///
 /// A run: Work is attached; then Image, which is read to its end, its objects going to Work; then Events. The memory is
 /// made. The machine starts, runs STEPS bytecodes, or fewer where one ends it, and parks; what it says goes to Transcript as it is said.
-/// What nothing holds is freed. Saved is attached, and the image is written to it; then Display, and the picture. The first refusal ends the
-/// run: what comes later isn't attached, and only the line is still written.
+/// What nothing holds is freed. Saved is attached, the image is written to it, and it is ended; then Display is attached, and the picture written to it. The
+/// first refusal ends the run: what comes later isn't attached, and only the line is still written.
 ///
-/// A making: the image of the number is made; Saved is attached, and the image is written to it.
+/// A making: the image of the number is made; Saved is attached, the image is written to it, and it is ended.
 ///
 /// A listing or an assembling: Work is attached; then Image, which is read to its end, as an image or as a text, its objects going to Work;
-/// then Saved, and the text or the image is written to it.
+/// then Saved, the text or the image is written to it, and it is ended.
 ///
 /// A trace: Work is attached; then Image, which is read as in a run; then Events; then Saved, for the lines. The memory is made. The machine
 /// starts, and runs STEPS bytecodes, or fewer where one ends it; behind each its line is put to Saved, and what it says goes to Transcript as it
@@ -165,8 +165,8 @@ fn run_memory<H: Host>(
     Ok(Ended { finished, next })
 }
 
-/// Attaches Saved by its word, and writes the image of what the machine left; then Display by its word, and writes the picture. The answer is that of the
-/// run, or of the first refusal. The host may tell more than is asked about: a run that reads no Image takes `tells` without it.
+/// Attaches Saved by its word, writes the image of what the machine left, and ends it; then attaches Display by its word, and writes the picture. The answer
+/// is that of the run, or of the first refusal. The host may tell more than is asked about: a run that reads no Image takes `tells` without it.
 pub fn write_kept<H: Host>(
     alloc: Global,
     host: &mut H,
@@ -183,10 +183,8 @@ pub fn write_kept<H: Host>(
         → LateEnds tells before (meanings H.Host host.new) (row_for command.now) result c }
     ensures others { LeavesBut written_roles (meanings H.Host host.old) (meanings H.Host host.new) }
 {
-    let mut disk = DiskObjects::again(host, rest);
-    let saved = write_saved(alloc, &mut disk, ended.next, &ended.finished.state, command);
-    let host = disk.into_host();
-    if let Err(status) = saved {
+    let state = &ended.finished.state;
+    if let Err(status) = write_saved(alloc, host, rest, ended.next, state, command) {
         return status;
     }
     match write_display(host, ended.finished.picture.bytes(), command) {

@@ -1,19 +1,20 @@
 // The steps that write: the saved image, the picture, and the last line.
 ghost use Rattle.std.specs.Prelude.{◌≡◌, ◌≤◌, [], ◌∷◌, is_ok, IsTrue, IfErr, OnOk, OnErr};
-ghost use Rattle.loom_host.specs.Outside.{SameBut};
+ghost use Rattle.loom_host.specs.Outside.{SameBut, ends};
 ghost use Rattle.long_names.specs.Heap.{Heap};
 ghost use Rattle.long_names.specs.Kept.{kept, no_roots};
 ghost use Rattle.image_writer.specs.Saved.{saved_text};
 ghost use Rattle.image_memory.specs.Image.{HasEnded};
 ghost use Rattle.loom_words.specs.Command.{row_for};
-ghost use Rattle.loom_run.specs.Ends.{AttachedOnce, WasRefused, WasWritten, WrittenBy};
+ghost use Rattle.loom_run.specs.Ends.{AttachedOnce, MadeBy, WasRefused, WasWritten, WrittenBy};
 ghost use Rattle.loom_run.specs.Meanings.{meanings, LeavesBut};
 ghost use Rattle.loom_run.specs.Parts.{IsTold, unsaid};
 ghost use Rattle.loom_run.specs.Stages.{Saving, Drawing, roles_at};
 ghost use Rattle.loom_run.specs.Steps.{IsRefusal, IsRefusalAt, IsUnsaved};
 
+use crate::making::end_saved;
 use crate::status::status_of_disk;
-use disk_objects::DiskObjects;
+use disk_objects::{DiskObjects, DiskRest};
 use image_format::State;
 use image_memory::save_kept;
 use image_writer::SaveFault;
@@ -43,9 +44,53 @@ pub(crate) fn open_saved<H: Host>(disk: &mut DiskObjects<'_, H>, saved: &str) ->
     }
 }
 
-/// Attaches Saved by its word, and puts the image of what the disk has to it, with this next name and state. It is refused by a fault of Saved or of the disk,
-/// or for want of memory.
+/// Attaches Saved by its word, puts the image of what the disk has to it, with this next name and state, and ends it. It is refused by a fault of Saved or of the
+/// disk, or for want of memory; Saved is ended where it isn't refused, and nowhere else.
 pub fn write_saved<H: Host>(
+    alloc: Global,
+    host: &mut H,
+    rest: DiskRest,
+    next: u32,
+    state: &State,
+    command: &Command<'_>,
+) -> Result<(), Status>
+    requires ended { IsTrue (H.tells Role.Work) → (h : Heap) × HasEnded H.Host host.old rest next h }
+    ensures attached { IsTrue (H.tells Role.Saved) → AttachedOnce command.now.saved.now (H.roles host.old Role.Saved) (H.roles host.new Role.Saved) }
+    ensures put { IsTrue (H.tells Role.Saved) → IsTrue (H.tells Role.Work) → (h : Heap) → HasEnded H.Host host.old rest next h
+        → MadeBy (is_ok result) command.now.saved.now (saved_text (kept h no_roots) state.now) (H.roles host.old Role.Saved) (H.roles host.new Role.Saved) }
+    ensures file { H.roles host.new Role.Work ≡ H.roles host.old Role.Work }
+    ensures others { LeavesBut (roles_at Saving) (meanings H.Host host.old) (meanings H.Host host.new) }
+    ensures refused { IfErr result (IsRefusal H.tells (meanings H.Host host.old) (meanings H.Host host.new) (row_for command.now) Saving) }
+{
+    let mut disk = DiskObjects::again(host, rest);
+    let put = put_saved(alloc, &mut disk, next, state, command);
+    let host = disk.into_host();
+    match put {
+        Ok(()) => end_image(host),
+        Err(status) => Err(status),
+    }
+}
+
+// Ends Saved, to which the whole image was put. A failure is a write fault of Saved.
+fn end_image<H: Host>(host: &mut H) -> Result<(), Status>
+    ensures ended { IsTrue (H.tells Role.Saved) → OnOk result (H.roles host.new Role.Saved ≡ ends (H.roles host.old Role.Saved)) }
+    ensures still { IsTrue (H.tells Role.Saved) → OnErr result (H.roles host.new Role.Saved ≡ H.roles host.old Role.Saved) }
+    ensures others { SameBut Role.Saved (H.roles host.old) (H.roles host.new) }
+    ensures other_faults { SameBut Role.Saved (H.faults host.old) (H.faults host.new) }
+    ensures later { H.faults host.old Role.Saved ≤ H.faults host.new Role.Saved }
+    ensures refused { IfErr result (IsRefusalAt H.tells (meanings H.Host host.old) (meanings H.Host host.new) Saving) }
+{
+    match end_saved(host) {
+        Ok(()) => Ok(()),
+        Err(_) => Err(Status::WriteFault {
+            role: Role::Saved,
+            count: host.fault_count(Role::Saved),
+        }),
+    }
+}
+
+// Attaches Saved by its word, and puts the image of what the disk has to it, with this next name and state.
+fn put_saved<H: Host>(
     alloc: Global,
     disk: &mut DiskObjects<'_, H>,
     next: u32,
