@@ -16,10 +16,10 @@ use Rattle.loom_words.specs.Kept.{ToGuard, ToResume, bad_kept, guard_row_of, kep
 use Rattle.loom_words.specs.Words.{Row}
 use Rattle.loom_words.specs.declared.status.Status.{Status}
 use Rattle.loom_words.specs.declared.status.Status.TheVariants as answer
-use Rattle.loom_run.specs.Ends.{RunsTo, WrittenBy, bytes_of, image_of}
+use Rattle.loom_run.specs.Ends.{MadeBy, RunsTo, WrittenBy, bytes_of, image_of}
 use Rattle.loom_run.specs.Meanings.{Meanings}
 use Rattle.loom_run.specs.Stages.{Stage, Running, Telling}
-use Rattle.loom_run.proofs.HeadlineLaws.{done-last, quit-last}
+use Rattle.loom_run.proofs.HeadlineLaws.{done-last, made-whole, quit-last}
 use Rattle.loom_guard.specs.Headline.{GuardedHeadlineBy, HasGuardedHeadline, TellsGuarded}
 use Rattle.loom_guard.specs.Promise.{GuardComes, GuardedOf, KeptAt, KeptPromise}
 use Rattle.loom_guard.specs.Vaults.{IsVaultRefusal, VaultMeanings}
@@ -32,7 +32,7 @@ module _ (tells : Role → Bool) (told : Bool) (before now : Meanings) (new : Va
   Ran stage = GuardedOf image (bytes_of (now.roles Events)) row.steps first (GuardComes tells told before now new row stage status)
 
   parked : (r : Ran Telling) (e : Ending) → (guarded_course r.lines row.steps first (model_state r.head.state) r.heap).ending ≡ e → IsParkedBy end ran e → (now.roles Transcript).put ≡ (before.roles Transcript).put ++ said_in e
-      → OnParked e (λ m. WrittenBy true row.saved (image_of m) (before.roles Saved) (now.roles Saved)) → OnDrawn e (λ picture. WrittenBy true row.display picture (before.roles Display) (now.roles Display))
+      → OnParked e (λ m. MadeBy true row.saved (image_of m) (before.roles Saved) (now.roles Saved)) → OnDrawn e (λ picture. WrittenBy true row.display picture (before.roles Display) (now.roles Display))
       → HasGuardedHeadline image first told before now new.state row.steps end ran
   parked r (Stuck why count said) same by says saves draws = absurd by
   parked r (Parked last machine picture) same by says saves draws = (
@@ -47,7 +47,7 @@ module _ (tells : Role → Bool) (told : Bool) (before now : Meanings) (new : Va
       ending = same ∙ ap (λ (s : Step). Parked s machine picture) by.0;
       count = by.1;
       transcript = says;
-      saved = saves.put;
+      saved = made-whole row.saved (image_of machine) (before.roles Saved) (now.roles Saved) saves;
       display = draws.put;
       kept = λ is. r.run.1 is refl;
     },

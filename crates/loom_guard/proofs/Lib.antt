@@ -9,6 +9,7 @@ pub mod ReadingLaws
 pub mod ResumingLaws
 pub mod StatusLaws
 pub mod StretchLaws
+pub mod TellingLaws
 pub mod TurnLaws
 pub mod VaultLaws
 pub mod WayLaws

@@ -17,7 +17,7 @@ use Rattle.guarded_run.specs.Course.{guarded_course, serial_at}
 use Rattle.guarded_run.specs.Legs.{guarded_first}
 use Rattle.loom_words.specs.declared.status.Status.{Status}
 use Rattle.loom_words.specs.declared.status.Status.TheVariants.{Done, Quit}
-use Rattle.loom_run.specs.Ends.{AreEvents, IsImageOf, bytes_of, image_of}
+use Rattle.loom_run.specs.Ends.{AreEvents, IsImageOf, IsWhole, bytes_of, image_of}
 use Rattle.loom_run.specs.Meanings.{Meanings}
 use Rattle.loom_guard.specs.Vaults.{HasLast}
 
@@ -35,8 +35,8 @@ pub record GuardedHeadline (image : List ℕ) (first : ℕ) (told : Bool) (befor
   pub count : machine.cpu.ran ≡ ran
   -- Transcript has what it said, behind what stood there before.
   pub transcript : (now.roles Transcript).put ≡ (before.roles Transcript).put ++ machine.transcript
-  -- Saved holds the image of what is kept of its heap, with exact counts, and of its state.
-  pub saved : (now.roles Saved).put ≡ image_of machine
+  -- Saved holds the image of what is kept of its heap, with exact counts, and of its state, and is ended.
+  pub saved : IsWhole (image_of machine) (now.roles Saved)
   -- Display holds the picture.
   pub display : (now.roles Display).put ≡ picture
   -- The vault, where it tells what it holds, has the last checkpoint that this run kept, or the one that it began with, and a stop leaves it.

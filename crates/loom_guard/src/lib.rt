@@ -10,6 +10,12 @@
 //! A guarded run has the stages of a run, with the vault opened before the first of them (`vaults`). The image of a resumed run is read from the vault
 //! (`resuming`). From there both are one (`program`): the machine runs leg by leg (`legs`, `memories`, `keeping`, `guarded`), each over a memory of its own, and the
 //! steps that write are those of loom_run. What it comes to in eight lines (`specs/Headline.antt`), and when to the model's own end, say the laws in `laws`. Nothing is said of Work after a stop.
+//!
+//! - Proved: The record `KeptPromise` is the one clause of `loom_kept`, over every host and vault: a stop at any moment leaves the
+//!   checkpoint that was answered last, or the next one (`docs/PROMISE.md`).
+//! - Tested: Stops at each call on the vault, gates, refusals (`guard_tests`); kills and faults on real files (`tests/all.sh`).
+//! - Not said: That a checkpoint is kept before the machine goes on; of a run that stops early, that its checkpoint is the last one; that a
+//!   fresh vault's gates are written; and that a failed keep isn't answered as out of memory.
 #![tactic(auto)]
 
 mod guarded;

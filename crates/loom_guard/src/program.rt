@@ -36,7 +36,8 @@ use std::alloc::Global;
 /// A guarded run: the vault is opened, new, and its gates are closed. Then it is a run, in which each time that primitive 97 is done the machine is kept in the
 /// vault, under the next serial, and goes on as what was loaded of it.
 ///
-/// A resumed run: the vault is opened, and its last checkpoint is found and read. Then it is a guarded run of this image, which has no Image to attach.
+/// A resumed run: the vault is opened, and its last checkpoint is found and read, no more of it than tells what the whole is, whatever length its gate
+/// states. Then it is a guarded run of this image, which has no Image to attach.
 pub fn loom_kept<H: Host, V: Vault>(
     alloc: Global,
     host: &mut H,
@@ -88,7 +89,7 @@ fn resume<H: Host, V: Vault>(
     requires limits { HasLimits guarded.now.command }
     ensures ends { KeptRunEnds Resuming H.tells V.tells (meanings H.Host host.old) (meanings H.Host host.new) (vault_meanings V.Vault vault.old) (vault_meanings V.Vault vault.new) (row_for guarded.now.command) guarded.now.vault.now result }
 {
-    match open_kept(alloc, vault, guarded.vault) {
+    match open_kept(alloc, vault, guarded.vault, guarded.command.room) {
         Ok((point, image)) => {
             match read_kept(alloc, host, image.bytes(), &guarded.command) {
                 Ok(read) => run_guarded(alloc, host, read, vault, Some(point), &guarded.command),
