@@ -2,15 +2,20 @@
 //!
 //! `answer` says that the process ends with the code of a status which `loom_kept` promises for the words after the program's name
 //! (`promised`), or with 12 and the host and the vault as they were where memory for them is refused (`refused`). Before anything else the
-//! standard streams that are closed are filled with the null device, so that no file of the run becomes one. The host is told which files
-//! the run will have, so that its work file becomes none of them, and which is the vault, so that no role takes that; and the vault is told
-//! which files the roles will have, so that it takes none of those. Over the host of the files stands one with windows over the work file.
+//! standard streams that are closed are filled with the null device, so that no file of the run becomes one. Then `told_words` tells the host and
+//! the vault of the files of the command, exactly as the table in `specs/Files.antt` of `loom_words` has it (`tellings`), so that none takes a
+//! file that another keeps. Over the host of the files stands one with windows over the work file.
 //!
 //! There is no other code here: read `specs/Promise.antt` of `loom_guard`, and for the commands without a vault that of `loom_run`. What
 //! files and streams do isn't promised; `tests/edge.sh` tries the program on them, and `tests/kills.sh` stops runs that keep checkpoints.
+//!
+//! - Proved: The process ends with the code of a status that `loom_kept` promises for its words, or with 12, and host and vault as they
+//!   were, where memory for the words is refused.
+//! - Tested: The program on real files and streams (`tests/edge.sh`), and its stored run by both compilers.
+//! - Not said: What files and streams do.
 #![tactic(auto)]
 
-ghost use Rattle.std.specs.Prelude.{◌≡◌, ◌≢◌, [], IfErr, IfOk, IsErr, IsOkAnd, drop};
+ghost use Rattle.std.specs.Prelude.{◌≡◌, ◌≢◌, ◌++◌, [], IfErr, IfOk, IsErr, IsOkAnd, IsTrue, drop, false};
 ghost use Rattle.std.specs.IoError.{error_kind};
 ghost use Rattle.std.specs.Process.{exit_status};
 ghost use Rattle.std.specs.Vec.Iter.{into_iter_items};
@@ -19,13 +24,14 @@ ghost use Rattle.loom_words.specs.declared.status.Status.{Status};
 ghost use Rattle.loom_run.specs.Meanings.{meanings};
 ghost use Rattle.loom_guard.specs.Promise.{KeptPromise};
 ghost use Rattle.loom_guard.specs.Vaults.{vault_meanings};
+ghost use Rattle.loom_words.specs.Files.{tellings};
 ghost use Rattle.loom_words.specs.Status.{code_of};
 ghost use Rattle.loom_words.specs.Words.{texts_of};
 
 use checkpoint::Vault;
 use loom_guard::loom_kept;
 use loom_outside::{Host, RealHost, Role};
-use loom_words::Status;
+use loom_words::{KeepsApart, Listener, Status, keep_apart};
 use real_vault::RealVault;
 use std::alloc::{AllocError, Global};
 use std::env::{self, Args};
@@ -82,106 +88,45 @@ fn answer<H: Host, V: Vault>(
     ExitCode::from(status.code())
 }
 
-// The files of a run beside the work file, with their places among the words. A guarded run has the same.
-const RUN_FILES: [(Role, usize); 4] = [
-    (Role::Image, 1),
-    (Role::Events, 2),
-    (Role::Saved, 4),
-    (Role::Display, 5),
-];
-
-// Those of a trace, which has no picture. Its lines are what it saves.
-const TRACE_FILES: [(Role, usize); 3] = [(Role::Image, 1), (Role::Events, 2), (Role::Saved, 4)];
-
-// Those of a resumed run, whose image is in its vault.
-const RESUME_FILES: [(Role, usize); 3] = [(Role::Events, 2), (Role::Saved, 4), (Role::Display, 5)];
-
-// And those of a listing or an assembling.
-const CONVERSION_FILES: [(Role, usize); 2] = [(Role::Image, 1), (Role::Saved, 3)];
-
-// The place of the work file among the words of a command that has a vault, and of the vault among those of a guarded run and of a resumed
-// one.
-const WORK_PLACE: usize = 3;
-
-const GUARD_VAULT: usize = 10;
-
-const RESUME_VAULT: usize = 1;
-
-// The files that a command has beside the work file. One that has no work file has none.
-fn files_of(words: &[String]) -> &'static [(Role, usize)] {
-    let Some(word) = words.first() else {
-        return &[];
-    };
-    let word = word.as_str();
-    if word == "run" || word == "guard" {
-        &RUN_FILES
-    } else if word == "resume" {
-        &RESUME_FILES
-    } else if word == "trace" {
-        &TRACE_FILES
-    } else if word == "list" || word == "asm" {
-        &CONVERSION_FILES
-    } else {
-        &[]
-    }
+// The host and the vault, before any file is opened. They tell nothing of what they were told.
+#[derive(Drop)]
+struct Outside<T: Write, N: Write> {
+    host: RealHost<HostRuntime, T, N>,
+    vault: RealVault<HostRuntime>,
 }
 
-// Tells the host which files a command will have, so that the work file, which is made first, takes the place of none of them, and that the
-// lines of a trace replace nothing that it reads.
-fn expect_files<T: Write, N: Write>(host: &mut RealHost<HostRuntime, T, N>, words: &[String]) {
-    for &(role, place) in files_of(words) {
-        if let Some(word) = words.get(place) {
-            host.expect(role, word.as_str());
+impl<T: Write, N: Write> KeepsApart for Outside<T, N> {
+    ghost tells = { false };
+
+    ghost told = { λ _. [] };
+
+    fn expect(&mut self, listener: Listener, role: Role, name: &str) {
+        match listener {
+            Listener::Host => self.host.expect(role, name),
+            Listener::Vault => self.vault.expect(role, name),
         }
     }
-    if let Some(word) = words.first() {
-        if word.as_str() == "trace" {
-            host.keep_inputs();
-        }
+
+    fn keep_inputs(&mut self) {
+        self.host.keep_inputs();
+    }
+
+    fn protect(&mut self, name: &str) -> Result<(), AllocError> {
+        self.host.protect(name)
     }
 }
 
-// The name of the vault, where a command has one.
-fn vault_in(words: &[String]) -> Option<&String> {
-    let word = words.first()?.as_str();
-    if word == "guard" {
-        words.get(GUARD_VAULT)
-    } else if word == "resume" {
-        words.get(RESUME_VAULT)
-    } else {
-        None
-    }
-}
-
-// Tells the host of the vault's file, and the vault of the files that the roles will have, so that neither takes what the other has.
-fn keep_apart<T: Write, N: Write>(
-    host: &mut RealHost<HostRuntime, T, N>,
-    vault: &mut RealVault<HostRuntime>,
-    words: &[String],
-) -> Result<(), AllocError> {
-    let Some(name) = vault_in(words) else {
-        return Ok(());
-    };
-    for &(role, place) in files_of(words) {
-        if let Some(word) = words.get(place) {
-            vault.expect(role, word.as_str());
-        }
-    }
-    if let Some(word) = words.get(WORK_PLACE) {
-        vault.expect(Role::Work, word.as_str());
-    }
-    host.protect(name.as_str())
-}
-
-// The words, of whose files the host and the vault were told.
-fn told_words<T: Write, N: Write>(
-    rt: HostRuntime,
-    host: &mut RealHost<HostRuntime, T, N>,
-    vault: &mut RealVault<HostRuntime>,
-) -> Result<Vec<String>, AllocError> {
-    let words = words_of(rt.alloc(), env::args(&rt))?;
-    expect_files(host, &words);
-    keep_apart(host, vault, &words)?;
+// The words after the program's name, of whose files the host and the vault were told.
+fn told_words<K: KeepsApart>(
+    alloc: Global,
+    outside: &mut K,
+    args: io::Result<Args>,
+) -> Result<Vec<String>, AllocError>
+    ensures words { IfOk args (λ args. IfOk result (λ words. words.items ≡ drop 1 (into_iter_items args))) }
+    ensures told { IsTrue K.tells → IfOk result (λ words. K.told outside.new ≡ K.told outside.old ++ tellings (texts_of words.items)) }
+{
+    let words = words_of(alloc, args)?;
+    keep_apart(outside, &words)?;
     Ok(words)
 }
 
@@ -189,9 +134,12 @@ fn main(rt: HostRuntime) -> ExitCode {
     let Ok(_streams) = fill_streams(&rt) else {
         return ExitCode::FAILURE;
     };
-    let mut host = RealHost::new(rt, rt.stdout(), rt.stderr());
-    let mut vault = RealVault::new(rt);
-    let words = told_words(rt, &mut host, &mut vault);
+    let mut outside = Outside {
+        host: RealHost::new(rt, rt.stdout(), rt.stderr()),
+        vault: RealVault::new(rt),
+    };
+    let words = told_words(rt.alloc(), &mut outside, env::args(&rt));
+    let Outside { host, mut vault } = outside;
     let mut host = Windowed::new(rt.alloc(), host);
     answer(rt.alloc(), &mut host, &mut vault, words)
 }
