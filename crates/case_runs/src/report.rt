@@ -1,7 +1,7 @@
 // The report of a file of cases.
 ghost use Rattle.std.specs.Prelude.{◌<◌};
 
-use crate::answer::{describe, difference};
+use crate::answer::{Answer, describe, difference};
 use crate::case::{Case, case_of};
 use crate::purges::with_purges;
 use crate::run::{Way, answer_to};
@@ -152,7 +152,12 @@ fn compare_purged(alloc: Global, case: &Case<'_>) -> Result<()> {
 fn compare(alloc: Global, case: &Case<'_>, way: Way<'_>) -> Result<()>
     requires { 0 < way.chunk }
 {
-    let mut got = answer_to(alloc, case, way)?;
+    judge_answer(alloc, case, answer_to(alloc, case, way)?)
+}
+
+/// Refuses an answer that isn't the one which a case wants, and says in which part.
+pub fn judge_answer(alloc: Global, case: &Case<'_>, answer: Answer) -> Result<()> {
+    let mut got = answer;
     if case.may_note(&got.notes) {
         got.notes = case.want.notes.as_slice().to_vec(alloc)?;
     }

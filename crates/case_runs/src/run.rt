@@ -8,12 +8,14 @@ use loom_outside::MemoryHost;
 use loom_run::loom;
 use std::alloc::{AllocError, Global};
 
-// The names of a case's files.
-const IMAGE: &str = "image";
+/// The name of a case's image.
+pub const IMAGE: &str = "image";
 
-const EVENTS: &str = "events";
+/// The name of its events.
+pub const EVENTS: &str = "events";
 
-const WORK: &str = "work";
+/// The name of its work file.
+pub const WORK: &str = "work";
 
 /// The name of the file that a run saves.
 pub const SAVED: &str = "saved";
