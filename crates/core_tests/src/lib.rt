@@ -5,6 +5,10 @@
 //! each once at values that are worked out by hand. Each crate has its files: `entries` for `object_table`, `residents` for
 //! `resident_table`, `segments` and `patterns` for `core_segment`, `objects` for `leaf_lambda`, `caches` for `method_cache`. The crate has
 //! no function of its own.
+//!
+//! - Proved: Nothing: tests over public calls.
+//! - Tested: Entries, the index of names, the segment, objects that come and go, rows of the method cache.
+//! - Not said: Nothing else.
 #![tactic(auto)]
 
 #[cfg(test)]

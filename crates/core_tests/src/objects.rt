@@ -1,8 +1,9 @@
 // An object of three fields is brought into a core of which two entries are free above the reserve: its class takes one of them and the
 // first field the other, so that the others are lambdas. It is written back as it was, then with a number in the place of one lambda, and
-// the other is resolved.
-ghost use Rattle.std.specs.Prelude.{◌≡◌, ℕ, IfOk, IfSome, Some, true};
-ghost use Rattle.object_record.specs.Buffer.{HasRecord};
+// the other is resolved. Then one of 300 fields, with 200 entries free: 72 leaves are made and 228 lambdas stand.
+ghost use Rattle.std.specs.Prelude.{◌≡◌, ℕ, List, IfOk, IfSome, OnOk, Some, length, true};
+ghost use Rattle.object_record.specs.Buffer.{HasRecord, raw_of};
+ghost use Rattle.object_record.specs.Raw.{RawPointers};
 ghost use Rattle.object_table.specs.Entries.{is_used, place_of};
 ghost use Rattle.core_segment.specs.Segment.{largest_of};
 ghost use Rattle.core_view.specs.Counts.{IsLight};
@@ -116,5 +117,86 @@ fn an_object_comes_and_goes(rt: HostRuntime) -> Result<(), Fail> {
     assert!(rt; buf.field_count() == 3);
     assert_eq!(rt; buf.long_field(2), u32::from(THREE));
     assert_eq!(rt; lambda(&mut p, s, &mut buf, 1), Some(1_002));
+    Ok(())
+}
+
+/// Gives each field of a record of 300 pointers a name of its own, from 10,000 on.
+fn name_fields(buf: &mut RecordBuf)
+    requires record { HasRecord buf.old }
+    requires pointers { (longs : List ℕ) × ((raw_of buf.old).body ≡ RawPointers longs) × (length longs ≡ 300) }
+    ensures record { HasRecord buf.new }
+    ensures pointers { (longs : List ℕ) × ((raw_of buf.new).body ≡ RawPointers longs) × (length longs ≡ 300) }
+    ensures class { (raw_of buf.new).class ≡ (raw_of buf.old).class }
+{
+    for i in 0..300u32 {
+        buf.set_long_field(i, 10_000 + 2 * i);
+    }
+}
+
+/// Makes leaves until 200 entries are free.
+fn leave_two_hundred(p: &mut Parts) -> Result<(), Fail>
+    requires parts { IsParts p.old }
+    requires light { IsLight (core_of p.old) }
+    ensures parts { OnOk result (IsParts p.new) }
+    ensures light { OnOk result (IsLight (core_of p.new)) }
+    ensures room { largest_of p.new.segment ≡ largest_of p.old.segment }
+{
+    let used = p.names.table.free().saturating_sub(200);
+    for k in 0..u32::from(used) {
+        let name = Name::new(20_000 + 2 * k).ok_or("a name is even and above 0")?;
+        known(p, name)?;
+    }
+    Ok(())
+}
+
+/// How many fields of an object are lambdas.
+fn lambdas(p: &Parts, s: Short) -> u32
+    requires parts { IsParts p.now }
+    requires body { (at : ℕ) × (place_of ((core_of p.now).entries s.0).state ≡ Some at) }
+{
+    let mut count = 0u32;
+    for i in 0..300 {
+        if let Some(at) = body_with(p, s, i) {
+            if field_word(p, s, at, i) == 0 {
+                count = count.saturating_add(1);
+            }
+        }
+    }
+    count
+}
+
+/// Whether two records differ in nothing but the long word of field `i`.
+fn is_stored_over(new: &[u8], old: &[u8], i: usize) -> bool {
+    let at = 20usize.saturating_add(i.saturating_mul(4));
+    if new.len() != old.len() || at.saturating_add(4) > old.len() {
+        return false;
+    }
+    new[..at] == old[..at] && new[at + 4..] == old[at + 4..]
+}
+
+#[test]
+fn three_hundred_pointers_come_and_go(rt: HostRuntime) -> Result<(), Fail> {
+    let mut p = Parts::new(rt.alloc(), 512, 512)?;
+    let mut buf = RecordBuf::new(rt.alloc())?;
+    buf.blank(Name::TRUE, Name::ARRAY, Kind::Pointers, 300, 0);
+    name_fields(&mut buf);
+    let record = buf.bytes().to_vec(rt.alloc())?;
+    known(&mut p, Name::ARRAY)?;
+    known(&mut p, Name::TRUE)?;
+    leave_two_hundred(&mut p)?;
+    let s = known(&mut p, Name::TRUE)?;
+    assert!(rt; is_leaf(&p, s));
+    assert_eq!(rt; p.names.table.free(), 200);
+    translate_in(&mut p, s, &mut buf);
+    assert_eq!(rt; p.names.table.free(), RESERVE);
+    assert_eq!(rt; lambdas(&p, s), 228);
+    assert!(rt; merge(&mut p, s, &mut buf));
+    assert_eq!(rt; buf.bytes(), record.as_slice());
+    store(&mut p, s, 299);
+    assert!(rt; merge(&mut p, s, &mut buf));
+    assert!(rt; buf.field_count() == 300);
+    assert_eq!(rt; buf.long_field(299), u32::from(THREE));
+    assert!(rt; is_stored_over(buf.bytes(), record.as_slice(), 299));
+    assert_eq!(rt; lambda(&mut p, s, &mut buf, 298), Some(10_596));
     Ok(())
 }

@@ -20,6 +20,17 @@ const MOST_HALVINGS: u32 = 16;
 /// How many bytes a call moves at most, so that each byte of a stream is a call.
 const CHUNK: usize = 1;
 
+/// When a call comes that fails, as far as what is left then goes by that.
+#[derive(Clone, Copy, Debug, PartialEq, Eq)]
+enum Point {
+    /// Of Work, once Saved was to be attached.
+    Saving,
+    /// Of Saved, the last one, which ends it. Before it come one to attach it and one for each byte.
+    Ending,
+    /// Any other.
+    Other,
+}
+
 /// A way to run a case on its own sizes, a byte in a call.
 pub fn own_way<'a>(case: &'a Case<'a>) -> Way<'a>
     ensures { 0 < result.chunk }
@@ -46,11 +57,24 @@ pub fn count_calls(alloc: Global, case: &Case<'_>, role: Role) -> Result<u64> {
             }
             return Ok(nth.saturating_sub(1));
         }
-        if let Some(wrong) = wrong_part(case, role, nth >= saving, status, &host) {
+        let point = match role {
+            Work if nth >= saving => Point::Saving,
+            Saved if nth == last_on_saved(case) => Point::Ending,
+            _ => Point::Other,
+        };
+        if let Some(wrong) = wrong_part(case, role, point, status, &host) {
             bail!("{role:?}: call {nth}: {wrong}");
         }
     }
     bail!("{role:?}: too many calls")
+}
+
+// The number of the call by which a run of a case ends Saved.
+fn last_on_saved(case: &Case<'_>) -> u64 {
+    match &case.want.saved {
+        Some(saved) => (saved.len() as u64).saturating_add(2),
+        None => MOST_CALLS,
+    }
 }
 
 // A run of which these calls fail.
@@ -91,6 +115,23 @@ pub fn is_whole(case: &Case<'_>, status: Status, host: &MemoryHost) -> bool {
         && host.transcript() == want.transcript.as_slice()
         && host.file(SAVED) == want.saved.as_deref()
         && host.file(DISPLAY) == want.display.as_deref()
+        && host.ended(Saved) == end_of(case)
+}
+
+// How many bytes of Saved were put when it was ended, in a run that came behind it.
+fn end_of(case: &Case<'_>) -> Option<usize> {
+    match &case.want.saved {
+        Some(saved) => Some(saved.len()),
+        None => None,
+    }
+}
+
+// Saved is ended where it was put whole and no call on it failed, and nowhere else.
+fn is_end_right(case: &Case<'_>, role: Role, host: &MemoryHost) -> bool {
+    match role {
+        Display | Notes => host.ended(Saved) == end_of(case),
+        _ => host.ended(Saved).is_none(),
+    }
 }
 
 // The answer of a run of which one call on a role failed.
@@ -144,28 +185,29 @@ fn is_only_fault(role: Role, host: &MemoryHost) -> bool {
 }
 
 // How much there is of Transcript, Saved and Display where a call on a role failed.
-fn parts_left(role: Role, saving: bool) -> (Left, Left, Left) {
+fn parts_left(role: Role, point: Point) -> (Left, Left, Left) {
     match role {
         Image | Events => (Left::Nothing, Left::Nothing, Left::Nothing),
-        Work if saving => (Left::Whole, Left::Begun, Left::Nothing),
+        Work if point == Point::Saving => (Left::Whole, Left::Begun, Left::Nothing),
         Work => (Left::Begun, Left::Nothing, Left::Nothing),
         Transcript => (Left::Cut, Left::Nothing, Left::Nothing),
+        Saved if point == Point::Ending => (Left::Whole, Left::Whole, Left::Nothing),
         Saved => (Left::Whole, Left::Cut, Left::Nothing),
         Display => (Left::Whole, Left::Whole, Left::Cut),
         Notes => (Left::Whole, Left::Whole, Left::Whole),
     }
 }
 
-// What is wrong of a run of which a call on a role failed, on Work maybe in saving.
+// What is wrong of a run of which a call on a role failed.
 fn wrong_part(
     case: &Case<'_>,
     role: Role,
-    saving: bool,
+    point: Point,
     status: Status,
     host: &MemoryHost,
 ) -> Option<&'static str> {
     let want = &case.want;
-    let (transcript, saved, display) = parts_left(role, saving);
+    let (transcript, saved, display) = parts_left(role, point);
     if !is_answer(case, role, status) {
         Some("another answer")
     } else if !is_only_fault(role, host) {
@@ -176,8 +218,10 @@ fn wrong_part(
         Some("another transcript")
     } else if !is_file_left(host.file(SAVED), want.saved.as_deref(), saved) {
         Some("another saved image")
-    } else if saving && host.file(SAVED).is_none() {
+    } else if point == Point::Saving && host.file(SAVED).is_none() {
         Some("no saved image")
+    } else if !is_end_right(case, role, host) {
+        Some("another end of the saved image")
     } else if !is_file_left(host.file(DISPLAY), want.display.as_deref(), display) {
         Some("another picture")
     } else {

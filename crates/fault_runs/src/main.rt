@@ -11,6 +11,11 @@
 //! each failure leaves (`failing`). The last three are for `tests/faults.sh`, which refuses each allocation in turn: they end with 0 and say
 //! `whole`, with 12 where memory was refused and what was left is right, with 1 where memory was refused outside of the run, and say
 //! anything else with 0 where it came out wrong.
+//!
+//! - Proved: That it is safe.
+//! - Tested: It is a test: four cases with each call on each role failing in turn, and with each read of Work lying in turn
+//!   (`docs/CASES.md`).
+//! - Not said: Nothing else.
 #![tactic(auto)]
 
 mod building;

@@ -8,6 +8,10 @@
 //! access touched, one after another: its name, and the words that it takes in a core where it was made there, 0 else. From these lines
 //! `tests/evictions.sh` reckons what other rules of eviction would fetch. The numbers belong to how the memory is written today, and no clause
 //! says them: nothing is proved of this program but that it is safe.
+//!
+//! - Proved: That it is safe.
+//! - Tested: A short run is in the gate. `tests/measure.sh` makes the large ones.
+//! - Not said: Its numbers, which belong to how the memory is written today.
 #![tactic(auto)]
 
 mod counting;

@@ -1,9 +1,9 @@
 // Runs over hosts that fail or lie in the middle: what the vault has then.
-use crate::commands::{find, guard, host_with};
+use crate::commands::{find, guard, host_with, resume, vault_of};
 use crate::images::{Sample, image_of};
 use crate::states::{After, image_after};
 use checkpoint::MemoryVault;
-use loom_outside::Role::{Transcript, Work};
+use loom_outside::Role::{Saved, Transcript, Work};
 use loom_outside::{Host, LyingHost, MemoryHost};
 use loom_words::Status;
 use std::alloc::Global;
@@ -101,6 +101,65 @@ fn calls_on_transcript_may_fail(rt: HostRuntime) -> Result<(), Fail> {
         );
         assert_eq!(rt; host.transcript(), said);
         assert_eq!(rt; whole_serial(rt.alloc(), &mut vault, Sample::Says)?, serial);
+    }
+    Ok(())
+}
+
+/// A run that keeps checkpoints, or one that goes on from the first of them.
+#[derive(Clone, Copy)]
+enum Start {
+    Image,
+    Checkpoint,
+}
+
+/// More calls on Saved than one of them makes.
+const MOST_CALLS: u64 = 1_000;
+
+const UNSAVED: Status = Status::WriteFault {
+    role: Saved,
+    count: 1,
+};
+
+// What is answered where the nth call on Saved fails, and what it leaves. Both runs come to the same bytecode.
+fn without(alloc: Global, start: Start, nth: u64) -> Result<(Status, MemoryHost), Fail> {
+    let mut host = host_of(alloc, Sample::Snaps)?;
+    host.fail(Saved, nth)?;
+    let status = match start {
+        Start::Image => {
+            let mut vault = MemoryVault::new(alloc)?;
+            guard(alloc, &mut host, &mut vault, 6)?
+        }
+        Start::Checkpoint => {
+            let kept = image_after(alloc, Sample::Snaps, After::Snaps2)?;
+            let mut vault = vault_of(alloc, 1, &kept)?;
+            resume(alloc, &mut host, &mut vault, 4)?
+        }
+    };
+    Ok((status, host))
+}
+
+// Of the calls on Saved the first of which the run doesn't tell that it failed: that it didn't end Saved, and drew nothing.
+fn first_untold(alloc: Global, start: Start) -> Result<u64, Fail> {
+    for nth in 1..MOST_CALLS {
+        let (status, host) = without(alloc, start, nth)?;
+        if status != UNSAVED || host.ended(Saved).is_some() || host.file("d").is_some() {
+            return Ok(nth);
+        }
+    }
+    Err("some call is the last".into())
+}
+
+// The last call on Saved ends it, behind the whole image.
+#[test]
+fn the_last_call_on_saved_ends_it(rt: HostRuntime) -> Result<(), Fail> {
+    let want = image_after(rt.alloc(), Sample::Snaps, After::Snaps6)?;
+    for start in [Start::Image, Start::Checkpoint] {
+        let nth = first_untold(rt.alloc(), start)?;
+        let (_, cut) = without(rt.alloc(), start, nth.saturating_sub(1))?;
+        assert_eq!(rt; cut.file("s"), Some(want.as_slice()));
+        let (_, host) = without(rt.alloc(), start, nth)?;
+        assert_eq!(rt; host.fault_count(Saved), 0);
+        assert_eq!(rt; host.ended(Saved), Some(want.len()));
     }
     Ok(())
 }

@@ -187,7 +187,137 @@ fn a_damaged_image_is_told(rt: HostRuntime) -> Result<(), Fail> {
     Ok(())
 }
 
-// So is one that isn't there.
+/// Bytes that are written over the image from an offset on, where the gate says the greatest length; how many calls on the vault the run makes then, and its answer.
+struct Claim {
+    offset: u64,
+    bytes: &'static [u8],
+    calls: u64,
+    status: Status,
+    notes: &'static str,
+}
+
+// Four calls come before the image's first 36 bytes are read, and none follows where these are refused.
+const HEADS: [Claim; 8] = [
+    Claim {
+        offset: 0,
+        bytes: &[0],
+        calls: 5,
+        status: Status::ImageBad { rule: 1, place: 0 },
+        notes: "image: rule 1 at 0\n",
+    },
+    Claim {
+        offset: 4,
+        bytes: &[0, 0, 0, 3],
+        calls: 5,
+        status: Status::ImageBad { rule: 2, place: 4 },
+        notes: "image: rule 2 at 4\n",
+    },
+    Claim {
+        offset: 8,
+        bytes: &[0, 0, 0, 21],
+        calls: 5,
+        status: Status::ImageBad { rule: 3, place: 8 },
+        notes: "image: rule 3 at 8\n",
+    },
+    Claim {
+        offset: 8,
+        bytes: &[255, 255, 255, 255],
+        calls: 5,
+        status: Status::ImageBad { rule: 3, place: 8 },
+        notes: "image: rule 3 at 8\n",
+    },
+    Claim {
+        offset: 15,
+        bytes: &[77],
+        calls: 5,
+        status: Status::ImageBad { rule: 3, place: 12 },
+        notes: "image: rule 3 at 12\n",
+    },
+    Claim {
+        offset: 23,
+        bytes: &[78],
+        calls: 5,
+        status: Status::ImageBad {
+            rule: 13,
+            place: 20,
+        },
+        notes: "image: rule 13 at 20\n",
+    },
+    Claim {
+        offset: 8,
+        bytes: &[0, 0, 4, 1],
+        calls: 5,
+        status: Status::WorkFull {
+            live: 1_025,
+            room: 1_024,
+        },
+        notes: "work full: 1025 objects, room 1024\n",
+    },
+    // there is no room, and a rule behind the first 16 bytes breaks
+    Claim {
+        offset: 8,
+        bytes: &[0, 16, 0, 0, 0, 0, 0, 78, 0, 0, 0, 0, 0, 0, 0, 1],
+        calls: 5,
+        status: Status::WorkFull {
+            live: 1_048_576,
+            room: 1_024,
+        },
+        notes: "work full: 1048576 objects, room 1024\n",
+    },
+];
+
+// The image has 31 objects and 836 bytes, so no byte of it stands behind 31 times the longest record. Of what is read up to there and just behind it, each block of
+// 65,536 bytes takes a call.
+const LONG: [Claim; 2] = [
+    Claim {
+        offset: 0,
+        bytes: b"LOOM",
+        calls: 5 + 125,
+        status: Status::ImageBad {
+            rule: 9,
+            place: 836,
+        },
+        notes: "image: rule 9 at 836\n",
+    },
+    // one object more is stated than there is
+    Claim {
+        offset: 11,
+        bytes: &[32],
+        calls: 5 + 129,
+        status: Status::ImageBad {
+            rule: 4,
+            place: 836,
+        },
+        notes: "image: rule 4 at 836\n",
+    },
+];
+
+// Whether the run answers so, by so many calls on the vault.
+fn is_judged(alloc: Global, row: &Claim) -> Result<bool, Fail> {
+    let mut vault = damaged(alloc, Length(MOST))?;
+    vault.write_at(image_place(1).saturating_add(row.offset), row.bytes)?;
+    vault.fuse(row.calls);
+    is_answered(alloc, &mut vault, true, row.status, row.notes)
+}
+
+// A length that can't be so is not believed: the answer is the one that the whole would get, and no more is read than that takes.
+#[test]
+fn a_head_is_judged_alone(rt: HostRuntime) -> Result<(), Fail> {
+    for (i, row) in HEADS.iter().enumerate() {
+        assert_eq!(rt; (i, is_judged(rt.alloc(), row)?), (i, true));
+    }
+    Ok(())
+}
+
+#[test]
+fn a_length_is_not_believed(rt: HostRuntime) -> Result<(), Fail> {
+    for (i, row) in LONG.iter().enumerate() {
+        assert_eq!(rt; (i, is_judged(rt.alloc(), row)?), (i, true));
+    }
+    Ok(())
+}
+
+// An image that isn't there is told.
 #[test]
 fn no_image_is_told(rt: HostRuntime) -> Result<(), Fail> {
     let mut vault = vault_with(rt.alloc(), &[(512, 1, 1, 36)])?;

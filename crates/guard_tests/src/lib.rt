@@ -5,6 +5,11 @@
 //! the middle; `words` bad words, and the other commands. `images` has the images that are run, as tables of objects, `states` how what is kept or saved differs
 //! from them, `commands` how a command is run. What is wanted is what the reference machine leaves, where each checkpoint is a start on what it kept. The crate
 //! has no function of its own.
+//!
+//! - Proved: Nothing: tests over public calls.
+//! - Tested: Guarded and resumed runs, stopped at each call on the vault, with what the reference machine leaves; gates, words and
+//!   refusals.
+//! - Not said: Nothing else.
 #![tactic(auto)]
 
 #[cfg(test)]

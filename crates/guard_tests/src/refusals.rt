@@ -217,7 +217,7 @@ const REFUSALS: &[Refusal] = &[
     },
     Refusal {
         before: Kept,
-        fuses: &[0, 1, 2, 3, 4],
+        fuses: &[0, 1, 2, 3, 4, 5],
         command: RESUME,
         failing: ALL,
         called: None,

@@ -5,6 +5,7 @@ use crate::runs::Begins::{Image, Kept, Own};
 use crate::states::{After, image_after};
 use checkpoint::{MemoryVault, Vault};
 use loom_outside::MemoryHost;
+use loom_outside::Role::Saved;
 use loom_words::Status;
 use std::alloc::Global;
 use std::test::Fail;
@@ -493,14 +494,20 @@ fn is_kept(alloc: Global, vault: &mut MemoryVault, row: &Run) -> Result<bool, Fa
     Ok(find(alloc, vault)?.is_none())
 }
 
-// Whether the files that a run writes are as they are to be.
+// Whether the files that a run writes are as they are to be, and Saved is ended where it has the image.
 fn is_written(alloc: Global, host: &MemoryHost, row: &Run) -> Result<bool, Fail> {
     match &row.saved {
         Some(with) => {
             let want = image_after(alloc, row.sample, *with)?;
-            Ok(host.file("s") == Some(want.as_slice()) && host.file("d") == Some(row.picture))
+            Ok(
+                host.file("s") == Some(want.as_slice())
+                    && host.ended(Saved) == Some(want.len())
+                    && host.file("d") == Some(row.picture),
+            )
         }
-        None => Ok(host.file("s").is_none() && host.file("d").is_none()),
+        None => Ok(
+            host.file("s").is_none() && host.ended(Saved).is_none() && host.file("d").is_none(),
+        ),
     }
 }
 

@@ -23,8 +23,8 @@ struct Stopped {
     kept: &'static [After],
 }
 
-// A guarded run opens the vault by one call and closes its gates by three. A resumed one opens it, syncs, and reads both gates and each block of the image: one,
-// or two of the wide image. A checkpoint reads its gate's byte and writes 0 where that is 1, syncs, writes the image's blocks, and serial and length, syncs, writes
+// A guarded run opens the vault by one call and closes its gates by three. A resumed one opens it, syncs, and reads both gates, the image's first 36 bytes
+// and each block of it: one, or two of the wide image. A checkpoint reads its gate's byte and writes 0 where that is 1, syncs, writes the image's blocks, and serial and length, syncs, writes
 // the byte, and syncs.
 const STOPPED: &[Stopped] = &[
     Stopped {
@@ -42,9 +42,9 @@ const STOPPED: &[Stopped] = &[
         before: Some(3),
         steps: 4,
         status: Status::Done { ran: 4 },
-        opening: 5,
+        opening: 6,
         made: 1,
-        ends: &[12],
+        ends: &[13],
         kept: &[After::Snaps2, After::Snaps5],
     },
     Stopped {
@@ -62,9 +62,9 @@ const STOPPED: &[Stopped] = &[
         before: Some(12),
         steps: 5,
         status: Status::Done { ran: 5 },
-        opening: 5,
+        opening: 6,
         made: 2,
-        ends: &[13],
+        ends: &[14],
         kept: &[After::Drops6, After::Drops12, After::Drops16],
     },
     Stopped {
@@ -82,9 +82,9 @@ const STOPPED: &[Stopped] = &[
         before: Some(3),
         steps: 4,
         status: Status::Done { ran: 4 },
-        opening: 6,
+        opening: 7,
         made: 1,
-        ends: &[14],
+        ends: &[15],
         kept: &[After::Snaps2, After::Snaps5],
     },
 ];
@@ -283,10 +283,10 @@ fn comes_to_its_end(alloc: Global, calls: u64, stop: (u64, u8)) -> Result<bool, 
     Ok(false)
 }
 
-// Each run comes at least to its first checkpoint: a resumed one makes twelve calls up to its end, and thirteen where the gate was open.
+// Each run comes at least to its first checkpoint: a resumed one makes thirteen calls up to its end, and fourteen where the gate was open.
 #[test]
 fn runs_that_are_stopped_come_to_their_end(rt: HostRuntime) -> Result<(), Fail> {
-    for calls in 13..=20 {
+    for calls in 14..=21 {
         for stop in STOPS {
             assert!(rt; comes_to_its_end(rt.alloc(), calls, stop)?);
         }

@@ -5,6 +5,11 @@
 //! image or no text. So a file that no table makes, or a table that makes another file, is seen.
 //!
 //! The files lie where the program runs, or in the folder that its first word names.
+//!
+//! - Proved: `difference` is the first place where two texts differ.
+//! - Tested: It is a test: each image of the repository, from its table, is its file, and its text is the one that the reference machine
+//!   wrote.
+//! - Not said: Nothing else.
 #![tactic(auto)]
 
 mod compare;

@@ -1,9 +1,11 @@
-// Images that are made: the command, hosts that fail at each of its calls, and runs on a large one in a small core and in a large one.
+// Images that are made: the command, hosts that fail at each of its calls, and runs on a large one in a small core and in a large one, one of
+// them of a million bytecodes.
 use crate::words::ask;
 use loom_gen::make;
 use loom_outside::MemoryHost;
 use loom_outside::Role::{self, Notes, Saved};
 use loom_run::Status;
+use md5::{Digest, Md5};
 use std::alloc::Global;
 use std::test::Fail;
 
@@ -151,6 +153,49 @@ fn evicts(rt: HostRuntime) -> Result<(), Fail> {
     let image = make(rt.alloc(), 19)?;
     for (i, row) in PAGINGS.iter().enumerate() {
         assert_eq!(rt; (i, pages(rt.alloc(), image.bytes(), row)?), (i, true));
+    }
+    Ok(())
+}
+
+// The image of 19 as long as 26,341 rounds take, in a small core and in a large one.
+const LONG: [&str; 2] = [
+    "run g.loom none work saved display 65536 4096 65536 999961",
+    "run g.loom none work saved display 16777216 4096 65536 999961",
+];
+
+/// The MD5 of what is said, of the saved image and of the picture, by the reference machine.
+const DIGESTS: [u128; 3] = [
+    0xab49_d037_c0de_82f5_557c_005f_d73d_503d,
+    0x6e4f_a1e4_549c_0741_a185_d059_54d8_5da2,
+    0x772d_da46_2887_1465_0c2f_300d_6fdf_ab2f,
+];
+
+fn digest_of(bytes: &[u8]) -> u128 {
+    u128::from_be_bytes(Md5::digest(bytes))
+}
+
+// Whether the long run leaves what the reference machine does.
+fn ends_as_known(alloc: Global, image: &[u8], words: &str) -> Result<bool, Fail> {
+    let mut host = MemoryHost::new(alloc, CHUNK)?;
+    host.add_file("g.loom", image)?;
+    host.add_file("none", b"")?;
+    let status = ask(alloc, &mut host, words)?;
+    let saved = host.file("saved").ok_or("the image is saved")?;
+    let display = host.file("display").ok_or("the picture is drawn")?;
+    let digests = [
+        digest_of(host.transcript()),
+        digest_of(saved),
+        digest_of(display),
+    ];
+    Ok(status == Status::Done { ran: 999_961 } && digests == DIGESTS)
+}
+
+#[test]
+fn a_million_bytecodes_end_as_known(rt: HostRuntime) -> Result<(), Fail> {
+    let image = make(rt.alloc(), 19)?;
+    for words in &LONG {
+        let is_known = ends_as_known(rt.alloc(), image.bytes(), *words)?;
+        assert_eq!(rt; (*words, is_known), (*words, true));
     }
     Ok(())
 }

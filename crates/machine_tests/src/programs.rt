@@ -67,7 +67,7 @@ fn an_image_is_saved_over_itself(rt: HostRuntime) -> Result<(), Fail> {
 
 /// An image that is run.
 #[derive(Clone, Copy)]
-enum Sample {
+pub(crate) enum Sample {
     Base,
     /// The base image without its last byte.
     Cut,
@@ -235,7 +235,7 @@ fn wanted(alloc: Global, sample: Sample, image: &[u8]) -> Result<Option<Vec<u8>>
 
 /// What stands in a file: there is none, or at most so many bytes, or so many. Or there may be one.
 #[derive(Clone, Copy)]
-enum Left {
+pub(crate) enum Left {
     Nothing,
     Most(usize),
     All(usize),
@@ -245,25 +245,25 @@ enum Left {
 /// An image, a command, which call on which role fails (the 0th never comes), the answer, its line, what was said, and what stands in the
 /// files of the saved image and of the picture. What is saved of the base image and of the chain begins as the whole does.
 #[derive(Clone, Copy)]
-struct Run {
-    sample: Sample,
-    words: &'static str,
-    role: Role,
-    nth: u64,
-    status: Status,
-    notes: &'static str,
-    said: &'static str,
-    saved: Left,
-    display: Left,
+pub(crate) struct Run {
+    pub(crate) sample: Sample,
+    pub(crate) words: &'static str,
+    pub(crate) role: Role,
+    pub(crate) nth: u64,
+    pub(crate) status: Status,
+    pub(crate) notes: &'static str,
+    pub(crate) said: &'static str,
+    pub(crate) saved: Left,
+    pub(crate) display: Left,
 }
 
-const SHORT: &str = "run image events work saved display 4096 512 1024 2";
+pub(crate) const SHORT: &str = "run image events work saved display 4096 512 1024 2";
 
 const LONG: &str = "run image events work saved display 4096 512 1024 10000";
 
 /// How many bytes are saved of the base image, and of the one that draws, and how many its picture has; and how many are saved of the chain
 /// and of the crowded image.
-const LENGTH: usize = 672;
+pub(crate) const LENGTH: usize = 672;
 
 const HELLO_LENGTH: usize = 3_124;
 
@@ -678,10 +678,27 @@ fn is_written(host: &MemoryHost, row: &Run) -> bool {
         && host.transcript() == row.said.as_bytes()
         && is_left(host.file("saved"), row.saved)
         && is_left(host.file("display"), row.display)
+        && host.ended(Saved) == end_of(row)
+}
+
+// Whether a call on Saved failed.
+fn is_unsaved(status: Status) -> bool {
+    match status {
+        Status::WriteFault { role, .. } => role == Saved,
+        _ => false,
+    }
+}
+
+// How many bytes of Saved were put when it was ended: all, where no call on it failed.
+fn end_of(row: &Run) -> Option<usize> {
+    match row.saved {
+        Left::All(length) if !is_unsaved(row.status) => Some(length),
+        _ => None,
+    }
 }
 
 // Makes a run, and says whether it comes out as its row says.
-fn is_right(alloc: Global, row: &Run) -> Result<bool, Fail> {
+pub(crate) fn is_right(alloc: Global, row: &Run) -> Result<bool, Fail> {
     let octets = octets_of(alloc, row.sample)?;
     let image = octets
         .bytes()
@@ -703,51 +720,6 @@ fn runs_end_as_they_should(rt: HostRuntime) -> Result<(), Fail> {
     for (i, row) in RUNS.iter().enumerate() {
         assert_eq!(rt; (i, is_right(rt.alloc(), row)?), (i, true));
     }
-    Ok(())
-}
-
-/// A run of the base image of which a call on Work fails.
-const FAILING: Run = Run {
-    sample: Sample::Base,
-    words: SHORT,
-    role: Work,
-    nth: 0,
-    status: Status::WorkFault { count: 1 },
-    notes: "work fault\n",
-    said: "",
-    saved: Left::Any,
-    display: Left::Nothing,
-};
-
-/// The same, where none fails.
-const WHOLE: Run = Run {
-    sample: Sample::Base,
-    words: SHORT,
-    role: Work,
-    nth: 0,
-    status: Status::Done { ran: 2 },
-    notes: "ran 2\n",
-    said: "",
-    saved: Left::All(LENGTH),
-    display: Left::All(0),
-};
-
-// Of the calls on Work the first, and then one of 25: the first of which the run doesn't tell that it failed, counted from 1.
-fn first_untold(alloc: Global) -> Result<u64, Fail> {
-    for turn in 0..1_000u64 {
-        let nth = 1 + 25 * turn;
-        if !is_right(alloc, &Run { nth, ..FAILING })? {
-            return Ok(nth);
-        }
-    }
-    Err("some call is the last".into())
-}
-
-// A call on Work may fail at each stage of a run; and the first that isn't told was never made.
-#[test]
-fn calls_on_work_may_fail(rt: HostRuntime) -> Result<(), Fail> {
-    let nth = first_untold(rt.alloc())?;
-    assert!(rt; is_right(rt.alloc(), &Run { nth, ..WHOLE })?);
     Ok(())
 }
 

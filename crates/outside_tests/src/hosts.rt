@@ -111,7 +111,7 @@ fn first_wrong<H: Host>(host: &mut H, steps: &[Step]) -> Result<Option<usize>, F
 }
 
 // What holds over files as over memory.
-const STEPS: [Step; 33] = [
+const STEPS: [Step; 42] = [
     Step::Misses(Role::Image, "none"),
     Step::Faults(Role::Image, 1),
     Step::Attach(Role::Saved, "s"),
@@ -126,9 +126,18 @@ const STEPS: [Step; 33] = [
     Step::End(Role::Image, b""),
     Step::Attach(Role::Saved, "t"),
     Step::Put(Role::Saved, b"x"),
+    Step::PutNone(Role::Saved),
+    Step::Attach(Role::Saved, "u"),
+    Step::Put(Role::Saved, b"never ended"),
     Step::Attach(Role::Display, "d"),
     Step::Put(Role::Display, b"picture"),
     Step::PutNone(Role::Display),
+    Step::Attach(Role::Saved, "v"),
+    Step::Put(Role::Saved, b"ended"),
+    Step::PutNone(Role::Saved),
+    Step::Misses(Role::Image, "u.part"),
+    Step::Faults(Role::Image, 2),
+    Step::Attach(Role::Saved, "u"),
     Step::Attach(Role::Events, "s"),
     Step::End(Role::Events, b"abcdef"),
     Step::Attach(Role::Events, "d"),
@@ -152,7 +161,7 @@ const FIRST: [Step; 2] = [Step::Fails(Role::Work), Step::Fails(Role::Saved)];
 
 // Once a write of Notes is interrupted 1,000 times.
 const LAST: [Step; 7] = [
-    Step::Faults(Role::Image, 1),
+    Step::Faults(Role::Image, 2),
     Step::Faults(Role::Events, 1),
     Step::Faults(Role::Work, 1),
     Step::Faults(Role::Saved, 1),
@@ -167,7 +176,7 @@ struct Text {
     text: &'static str,
 }
 
-const TEXTS: [Text; 5] = [
+const TEXTS: [Text; 7] = [
     Text {
         name: "s",
         text: "abcdef",
@@ -175,6 +184,14 @@ const TEXTS: [Text; 5] = [
     Text {
         name: "t",
         text: "x",
+    },
+    Text {
+        name: "u",
+        text: LAID,
+    },
+    Text {
+        name: "v",
+        text: "ended",
     },
     Text {
         name: "d",
@@ -211,10 +228,12 @@ impl Write for Interrupted {
     }
 }
 
-// Each file has a text before.
+// What stands in each file before, longer than what is put into it.
+const LAID: &str = "longer than what is put into it";
+
 fn lay(rt: &HostRuntime) -> io::Result<()> {
     for row in &TEXTS {
-        fs::write(rt, row.name, "longer than what is put into it")?;
+        fs::write(rt, row.name, LAID)?;
     }
     Ok(())
 }

@@ -7,6 +7,10 @@
 //! `long_names`, `hosts` for `loom_outside`, `records` for `image_format`, `builders` for `image_builder`, `generated` for `loom_gen`,
 //! `windows` for `work_windows`, `traces` and `words` for `loom_words`, `vaults` for `checkpoint` but for `keep`, which has its tests in
 //! `work_tests`. The crate has no function of its own.
+//!
+//! - Proved: Nothing: tests over public calls.
+//! - Tested: Values, hosts in memory and over real files, records, windows, vaults, the rules that a builder breaks.
+//! - Not said: Nothing else.
 #![tactic(auto)]
 
 #[cfg(test)]

@@ -1,6 +1,7 @@
 // Vaults: which checkpoint the gates tell, images by their blocks, the stops of `fresh` and of a vault in memory, and a vault over a file.
 use checkpoint::{MemoryVault, Vault, VaultFault, fresh, read_image, recover};
 use loom_outside::{Failed, Role};
+use real_vault::RealVault;
 use std::alloc::{AllocError, Global};
 use std::fs;
 use std::test::Fail;
@@ -298,6 +299,25 @@ fn images_by_their_blocks(rt: HostRuntime) -> Result<(), Fail> {
     Ok(())
 }
 
+// A length that no memory holds is want of memory before the image is read: no call on the vault would pass any more.
+#[test]
+fn a_length_that_no_memory_holds(rt: HostRuntime) -> Result<(), Fail> {
+    let mut vault = with_gates(rt.alloc(), Gate(1, 2, 1 << 42), EMPTY)?;
+    lay(&mut vault, false, &pattern(rt.alloc(), 100, 0)?)?;
+    let Some(point) = recover(&mut vault)? else {
+        return Err("there is a checkpoint".into());
+    };
+    vault.fuse(0);
+    assert!(rt;
+        matches!(
+            read_image(rt.alloc(), &mut vault, point),
+            Err(VaultFault::Memory)
+        )
+    );
+    assert_eq!(rt; vault.fault_count(), 0);
+    Ok(())
+}
+
 // ---- stops
 
 /// How many of the ranges that weren't synced are kept, and the byte of the others.
@@ -559,6 +579,176 @@ fn a_vault_over_a_file(rt: HostRuntime) -> Result<(), Fail> {
     vault.expect(Role::Saved, "./v");
     assert_eq!(rt; first_not(&mut vault, &TAKEN), None);
     assert_eq!(rt; fs::read_to_string(&rt, NAME)?.as_str(), "front\0\0\0\0end");
+    fs::remove_file(&rt, NAME)?;
+    Ok(())
+}
+
+// ---- files that are no vault
+
+/// A file of this many bytes, with these first and these from a place on, and zeros else; and whether it is opened afresh.
+struct File {
+    len: usize,
+    first: &'static [u8],
+    place: usize,
+    then: &'static [u8],
+    opens: bool,
+}
+
+// The gates' bytes stand at 0 and at 512, and are 0 or 1 in a vault. An image, an image's text and a picture begin with a letter.
+const FILES: [File; 16] = [
+    File {
+        len: 0,
+        first: b"",
+        place: 0,
+        then: b"",
+        opens: true,
+    },
+    File {
+        len: 1,
+        first: b"\x01",
+        place: 0,
+        then: b"",
+        opens: true,
+    },
+    File {
+        len: 512,
+        first: b"\0\xff",
+        place: 511,
+        then: b"\xff",
+        opens: true,
+    },
+    File {
+        len: 513,
+        first: b"\x01\xff",
+        place: 512,
+        then: b"\x01",
+        opens: true,
+    },
+    File {
+        len: 4_096,
+        first: b"",
+        place: 511,
+        then: b"\x02\x01\x02",
+        opens: true,
+    },
+    File {
+        len: 652,
+        first: b"LOOM\0\0\0\x01\0\0\0\x1a\0\0\0\x44",
+        place: 512,
+        then: b"\0",
+        opens: false,
+    },
+    File {
+        len: 672,
+        first: b"LOOM\0\0\0\x02\0\0\0\x1a\0\0\0\x44",
+        place: 512,
+        then: b"\x01",
+        opens: false,
+    },
+    File {
+        len: 28,
+        first: b"loom 68 0 0 0 0 0\n2 16 words",
+        place: 27,
+        then: b"\n",
+        opens: false,
+    },
+    File {
+        len: 13,
+        first: b"P4\n16 2\n\xf0\xf0\x0f\x0f",
+        place: 0,
+        then: b"",
+        opens: false,
+    },
+    File {
+        len: 1,
+        first: b"\x02",
+        place: 0,
+        then: b"",
+        opens: false,
+    },
+    File {
+        len: 1,
+        first: b"\xff",
+        place: 0,
+        then: b"",
+        opens: false,
+    },
+    File {
+        len: 513,
+        first: b"\x01",
+        place: 512,
+        then: b"\x02",
+        opens: false,
+    },
+    File {
+        len: 9_000,
+        first: b"",
+        place: 512,
+        then: b"\x80",
+        opens: false,
+    },
+    File {
+        len: 9_000,
+        first: b"#!/bin/sh\n",
+        place: 512,
+        then: b"\x01",
+        opens: false,
+    },
+    File {
+        len: 600,
+        first: b"\n",
+        place: 512,
+        then: b"\0",
+        opens: false,
+    },
+    File {
+        len: 600,
+        first: b"\x01",
+        place: 512,
+        then: b"\0\xff",
+        opens: true,
+    },
+];
+
+fn bytes_of(alloc: Global, row: &File) -> Result<Vec<u8>, Fail> {
+    let mut bytes = vec![in alloc; 0; row.len]?;
+    for (at, piece) in [(0, row.first), (row.place, row.then)] {
+        for (i, byte) in piece.iter().enumerate() {
+            let Some(place) = bytes.get_mut(i.saturating_add(at)) else {
+                return Err("a file has its bytes".into());
+            };
+            *place = *byte;
+        }
+    }
+    Ok(bytes)
+}
+
+// Whether a fresh opening empties the file, or fails, once, and leaves it.
+fn opens_so(
+    rt: &HostRuntime,
+    vault: &mut RealVault<HostRuntime>,
+    row: &File,
+) -> Result<bool, Fail> {
+    let bytes = bytes_of(rt.alloc(), row)?;
+    fs::write(rt, NAME, &bytes)?;
+    let before = vault.fault_count();
+    let opened = vault.open_named(NAME, true).is_ok();
+    let left = fs::read(rt, NAME)?;
+    let failed = vault.fault_count() != before;
+    let stays = left.as_slice() == bytes.as_slice();
+    Ok(if row.opens {
+        opened && !failed && left.is_empty()
+    } else {
+        !opened && failed && stays
+    })
+}
+
+#[test]
+fn a_file_that_is_no_vault_is_kept(rt: HostRuntime) -> Result<(), Fail> {
+    let mut vault = RealVault::new(rt.clone()?);
+    for (i, row) in FILES.iter().enumerate() {
+        assert_eq!(rt; (i, opens_so(&rt, &mut vault, row)?), (i, true));
+    }
     fs::remove_file(&rt, NAME)?;
     Ok(())
 }

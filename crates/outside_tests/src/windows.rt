@@ -1,4 +1,4 @@
-// Reads of Work by windows, beside the same steps over the host without them.
+// Reads and writes of Work by windows, beside the same steps over the host without them. Pages 0 and 1,088 have one window in each row.
 use loom_outside::{Host, MemoryHost, Role};
 use std::alloc::{AllocError, Global};
 use std::test::Fail;
@@ -83,17 +83,17 @@ const STEPS: [Step; 55] = [
     Step::Read(12_288, 512),
     Step::Read(12_988, 24),
     // pages that take turns in one window, and writes to the one that isn't in it
-    Step::Write(4_194_308, b"far"),
-    Step::Read(4_194_308, 64),
+    Step::Write(4_456_452, b"far"),
+    Step::Read(4_456_452, 64),
     Step::Write(5, b"near"),
-    Step::Read(4_194_308, 64),
+    Step::Read(4_456_452, 64),
     Step::Read(4, 64),
-    Step::Write(4_194_310, b"off"),
+    Step::Write(4_456_454, b"off"),
     Step::Read(4, 64),
-    Step::Read(4_194_308, 64),
-    Step::Write(4_194_302, b"both"),
-    Step::Read(4_194_304, 24),
-    Step::Read(4_194_280, 24),
+    Step::Read(4_456_452, 64),
+    Step::Write(4_456_446, b"both"),
+    Step::Read(4_456_448, 24),
+    Step::Read(4_456_424, 24),
     Step::Read(0, 24),
     // the shortest and the longest by a window, and those that aren't
     Step::Read(0, 23),
@@ -105,9 +105,9 @@ const STEPS: [Step; 55] = [
     Step::Read(3_584, 512),
     Step::Read(3_900, 600),
     // past the end
-    Step::Read(4_198_500, 64),
-    Step::Write(4_198_501, b"e"),
-    Step::Read(4_198_500, 64),
+    Step::Read(4_460_644, 64),
+    Step::Write(4_460_645, b"e"),
+    Step::Read(4_460_644, 64),
     Step::Read(u64::MAX, 64),
     Step::Read(u64::MAX - 63, 64),
     Step::Write(u64::MAX, b"over"),
@@ -116,7 +116,7 @@ const STEPS: [Step; 55] = [
     Step::Read(0, 100),
 ];
 
-// Each of the first five calls on Work fails in turn.
+// Writes and reads of one page, and of one that is only read.
 const FAILING: [Step; 8] = [
     Step::Attach,
     Step::Write(0, b"abc"),
@@ -128,7 +128,7 @@ const FAILING: [Step; 8] = [
     Step::Read(8_000, 64),
 ];
 
-// And these with a write over an edge, both sides of which were read.
+// These with a write over an edge, both sides of which were read.
 const FAILING_OVER: [Step; 7] = [
     Step::Attach,
     Step::Write(4_090, b"abcdefghijkl"),
@@ -139,10 +139,35 @@ const FAILING_OVER: [Step; 7] = [
     Step::Read(4_090, 24),
 ];
 
+// Pages 0 and 1,088 are written in turn, and both are read between.
+const TURNS: [Step; 14] = [
+    Step::Attach,
+    Step::Write(8, b"one"),
+    Step::Write(16, b"two"),
+    Step::Write(24, b"three"),
+    Step::Read(0, 64),
+    // beside what is kept back
+    Step::Read(4_456_448, 64),
+    Step::Write(4_456_454, b"four"),
+    Step::Read(0, 64),
+    Step::Write(4_456_464, b"five"),
+    Step::Write(4_456_474, b"six"),
+    Step::Read(4_456_448, 64),
+    Step::Read(0, 600),
+    Step::Write(30, b"seven"),
+    Step::Read(0, 64),
+];
+
 fn memory(alloc: Global, nth: u64) -> Result<MemoryHost, AllocError> {
     let mut host = MemoryHost::new(alloc, 100)?;
     host.fail(Role::Work, nth)?;
     Ok(host)
+}
+
+// How many calls of `write_at` came to the host inside and went through.
+fn written(host: &mut Windowed<MemoryHost>) -> Result<u64, Fail> {
+    host.write(Role::Transcript, b".")?;
+    Ok(host.inner().work_writes().1)
 }
 
 #[test]
@@ -150,44 +175,177 @@ fn windows_show_what_is_there(rt: HostRuntime) -> Result<(), Fail> {
     let mut plain = MemoryHost::new(rt.alloc(), 100)?;
     let mut windowed = Windowed::new(rt.alloc(), MemoryHost::new(rt.alloc(), 100)?);
     assert_eq!(rt; first_apart(&mut plain, &mut windowed, &STEPS), None);
-    assert_eq!(rt; windowed.inner().work_writes(), plain.work_writes());
+    Ok(())
+}
+
+// How a step went over two hosts.
+#[derive(Clone, Copy, PartialEq, Eq)]
+enum Course {
+    // the same, and it read the same
+    Alike,
+    // it failed over the second alone, whose count of faults rose
+    Failed,
+    Apart,
+}
+
+fn compared<A: Host, B: Host>(one: &mut A, other: &mut B, step: Step) -> Course {
+    let mut left = [9; MOST];
+    let mut right = [9; MOST];
+    let faults = other.fault_count(Role::Work);
+    let fine = went(one, step, &mut left);
+    let also = went(other, step, &mut right);
+    let rose = faults < other.fault_count(Role::Work);
+    if fine == also && left == right && !rose {
+        Course::Alike
+    } else if fine && !also && rose {
+        Course::Failed
+    } else {
+        Course::Apart
+    }
+}
+
+// Whether all steps go alike, up to the first that fails over the second host.
+fn alike_until_failed<A: Host, B: Host>(one: &mut A, other: &mut B, steps: &[Step]) -> bool {
+    for step in steps {
+        match compared(one, other, *step) {
+            Course::Alike => {}
+            Course::Failed => return true,
+            Course::Apart => return false,
+        }
+    }
+    true
+}
+
+// The same over hosts that fail at the first call on Work, at the second, and so on.
+fn alike_for_each(alloc: Global, steps: &[Step]) -> Result<bool, AllocError> {
+    let mut alike = true;
+    for nth in 1..=10 {
+        let mut plain = MemoryHost::new(alloc, 100)?;
+        let mut windowed = Windowed::new(alloc, memory(alloc, nth)?);
+        alike = alike && alike_until_failed(&mut plain, &mut windowed, steps);
+    }
+    Ok(alike)
+}
+
+#[test]
+fn windows_up_to_a_failure(rt: HostRuntime) -> Result<(), Fail> {
+    assert!(rt; alike_for_each(rt.alloc(), &FAILING)?);
+    assert!(rt; alike_for_each(rt.alloc(), &FAILING_OVER)?);
+    assert!(rt; alike_for_each(rt.alloc(), &TURNS)?);
+    assert!(rt; alike_for_each(rt.alloc(), &BESIDE)?);
     Ok(())
 }
 
 #[test]
-fn windows_after_a_failure(rt: HostRuntime) -> Result<(), Fail> {
-    for nth in 1..=5 {
-        let mut plain = memory(rt.alloc(), nth)?;
-        let mut windowed = Windowed::new(rt.alloc(), memory(rt.alloc(), nth)?);
-        assert_eq!(rt; first_apart(&mut plain, &mut windowed, &FAILING), None);
-        assert_eq!(rt; windowed.fault_count(Role::Work), 1);
-        let mut plain = memory(rt.alloc(), nth)?;
-        let mut windowed = Windowed::new(rt.alloc(), memory(rt.alloc(), nth)?);
-        assert_eq!(rt; first_apart(&mut plain, &mut windowed, &FAILING_OVER), None);
-        assert_eq!(rt; windowed.fault_count(Role::Work), 1);
-    }
+fn windows_take_turns(rt: HostRuntime) -> Result<(), Fail> {
+    let mut plain = MemoryHost::new(rt.alloc(), 100)?;
+    let mut windowed = Windowed::new(rt.alloc(), MemoryHost::new(rt.alloc(), 100)?);
+    assert_eq!(rt; first_apart(&mut plain, &mut windowed, &TURNS), None);
+    // the first to page 1,088, page 0 as it makes place, and the last, which is the first to page 0 again
+    assert_eq!(rt; written(&mut windowed)?, 3);
     Ok(())
 }
 
-const AGAIN: [Step; 9] = [
+// A thousand writes of a slot and of a link each, and of 20 bytes over the edges of their pages: none goes through.
+#[test]
+fn windows_keep_writes_back(rt: HostRuntime) -> Result<(), Fail> {
+    let mut windowed = Windowed::new(rt.alloc(), MemoryHost::new(rt.alloc(), 100)?);
+    windowed.attach(Role::Work, "w")?;
+    for i in 0..1_000 {
+        windowed.write_at(32 * i, b"a slot of 24 bytes here.")?;
+        windowed.write_at(32 * i + 24, b"a link..")?;
+        windowed.write_at(4_096 * (i % 8) + 4_086, b"piece over an edge..")?;
+    }
+    assert_eq!(rt; written(&mut windowed)?, 0);
+    let mut buf = [0; 32];
+    windowed.read_at(32 * 999, &mut buf)?;
+    assert_eq!(rt; &buf[..], b"a slot of 24 bytes here.a link..".as_slice());
+    Ok(())
+}
+
+// An attach of another role, and reads and writes there, leave what is kept back; an attach of Work forgets it.
+#[test]
+fn windows_beside_other_roles(rt: HostRuntime) -> Result<(), Fail> {
+    let mut windowed = Windowed::new(rt.alloc(), MemoryHost::new(rt.alloc(), 100)?);
+    let mut buf = [0; 24];
+    windowed.attach(Role::Work, "w")?;
+    windowed.write_at(0, b"first")?;
+    windowed.write_at(5, b"second")?;
+    windowed.attach(Role::Saved, "s")?;
+    windowed.write(Role::Saved, b"bytes")?;
+    windowed.read_at(0, &mut buf)?;
+    assert_eq!(rt; &buf[..12], b"firstsecond\0".as_slice());
+    windowed.attach(Role::Work, "w")?;
+    windowed.read_at(0, &mut buf)?;
+    assert_eq!(rt; buf, [0; 24]);
+    assert_eq!(rt; written(&mut windowed)?, 0);
+    assert_eq!(rt; windowed.fault_count(Role::Work), 0);
+    Ok(())
+}
+
+const AGAIN: [Step; 12] = [
     Step::Attach,
     Step::Read(0, 64),
     Step::Read(4_096, 24),
     Step::Write(4_090, b"abcdefghijkl"),
-    Step::Glance(4_194_304, 24),
+    Step::Glance(4_456_448, 24),
     Step::Read(4_072, 24),
     Step::Read(4_096, 99),
     Step::Read(4_000, 96),
     Step::Read(0, 64),
+    Step::Read(4_080, 32),
+    Step::Write(4_095, b"AB"),
+    Step::Read(4_095, 8),
 ];
 
-// The eighth call on Work would fail, and there is none: what lies in a window isn't asked for again, nor what was written to one, and a
-// glance at a page that has no other place takes none away.
+// The fifth call on Work would fail, and there is none: what lies in a window isn't asked for again, nor what was written to one, a page that
+// was read is written where it lies, and a glance at a page that has no other place takes none away.
 #[test]
 fn a_window_is_read_once(rt: HostRuntime) -> Result<(), Fail> {
     let mut plain = MemoryHost::new(rt.alloc(), 100)?;
-    let mut windowed = Windowed::new(rt.alloc(), memory(rt.alloc(), 8)?);
+    let mut windowed = Windowed::new(rt.alloc(), memory(rt.alloc(), 5)?);
     assert_eq!(rt; first_apart(&mut plain, &mut windowed, &AGAIN), None);
     assert_eq!(rt; windowed.fault_count(Role::Work), 0);
+    Ok(())
+}
+
+const BESIDE: [Step; 9] = [
+    Step::Attach,
+    Step::Write(8, b"one"),
+    Step::Read(4_456_448, 24),
+    Step::Read(4_456_472, 8),
+    Step::Read(4_458_448, 256),
+    Step::Read(0, 64),
+    Step::Write(20, b"two"),
+    Step::Read(4_456_448, 24),
+    Step::Read(0, 64),
+];
+
+// The fourth would fail, and there is none: a page is read beside one that is kept back, which has its place.
+#[test]
+fn a_read_has_its_own_window(rt: HostRuntime) -> Result<(), Fail> {
+    let mut plain = MemoryHost::new(rt.alloc(), 100)?;
+    let mut windowed = Windowed::new(rt.alloc(), memory(rt.alloc(), 4)?);
+    assert_eq!(rt; first_apart(&mut plain, &mut windowed, &BESIDE), None);
+    assert_eq!(rt; windowed.fault_count(Role::Work), 0);
+    Ok(())
+}
+
+// A read that fails leaves what is kept back; a write that fails makes all windows forget, so that what is inside is read.
+#[test]
+fn windows_after_a_failure(rt: HostRuntime) -> Result<(), Fail> {
+    let mut windowed = Windowed::new(rt.alloc(), memory(rt.alloc(), 3)?);
+    let mut buf = [0; 8];
+    windowed.attach(Role::Work, "w")?;
+    windowed.write_at(0, b"kept")?;
+    assert!(rt; windowed.read_at(4_456_448, &mut buf).is_err());
+    windowed.read_at(0, &mut buf)?;
+    assert_eq!(rt; &buf[..], b"kept\0\0\0\0".as_slice());
+    let mut windowed = Windowed::new(rt.alloc(), memory(rt.alloc(), 3)?);
+    windowed.attach(Role::Work, "w")?;
+    windowed.write_at(0, b"lost")?;
+    assert!(rt; windowed.write_at(4_456_448, b"x").is_err());
+    windowed.read_at(0, &mut buf)?;
+    assert_eq!(rt; buf, [0; 8]);
     Ok(())
 }

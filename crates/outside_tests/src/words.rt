@@ -1,6 +1,9 @@
-// The words of the commands with a vault: each that is bad, missing or extra, which files may be equal, and what right ones state. And the answers
-// that come of a vault.
-use loom_words::{Guarded, Kept, Status, kept_of};
+// The words of the commands with a vault: each that is bad, missing or extra, which files may be equal, and what right ones state. The answers that
+// come of a vault. And what a host and a vault are told of the files of each command.
+ghost use Rattle.std.specs.Prelude.{[], false};
+
+use loom_outside::Role;
+use loom_words::{Guarded, KeepsApart, Kept, Listener, Status, keep_apart, kept_of};
 use std::alloc::{AllocError, Global};
 use std::test::Fail;
 
@@ -339,4 +342,200 @@ fn is_said(row: &Answer) -> bool {
 #[test]
 fn answers_of_a_vault(rt: HostRuntime) {
     assert_eq!(rt; ANSWERS.iter().position(|row| !is_said(row)), None);
+}
+
+/// What is told of a file.
+#[derive(Clone, Copy, Debug, PartialEq, Eq)]
+enum Telling<'a> {
+    Host(Role, &'a str),
+    Vault(Role, &'a str),
+    KeepsInputs,
+    Protects(&'a str),
+}
+
+/// A command, and what is told of its files, in order.
+struct Told {
+    command: &'static str,
+    told: &'static [Telling<'static>],
+}
+
+const TOLD: [Told; 17] = [
+    Told {
+        command: "run i e w s d 4096 512 1024 1",
+        told: &[
+            Telling::Host(Role::Image, "i"),
+            Telling::Host(Role::Events, "e"),
+            Telling::Host(Role::Saved, "s"),
+            Telling::Host(Role::Display, "d"),
+        ],
+    },
+    Told {
+        command: "guard i e w s d 4096 512 1024 1 v",
+        told: &[
+            Telling::Host(Role::Image, "i"),
+            Telling::Host(Role::Events, "e"),
+            Telling::Host(Role::Saved, "s"),
+            Telling::Host(Role::Display, "d"),
+            Telling::Vault(Role::Work, "w"),
+            Telling::Vault(Role::Image, "i"),
+            Telling::Vault(Role::Events, "e"),
+            Telling::Vault(Role::Saved, "s"),
+            Telling::Vault(Role::Display, "d"),
+            Telling::Protects("v"),
+        ],
+    },
+    Told {
+        command: "resume v e w s d 4096 512 1024 1",
+        told: &[
+            Telling::Host(Role::Events, "e"),
+            Telling::Host(Role::Saved, "s"),
+            Telling::Host(Role::Display, "d"),
+            Telling::Vault(Role::Work, "w"),
+            Telling::Vault(Role::Events, "e"),
+            Telling::Vault(Role::Saved, "s"),
+            Telling::Vault(Role::Display, "d"),
+            Telling::Protects("v"),
+        ],
+    },
+    Told {
+        command: "trace i e w t 4096 512 1024 1",
+        told: &[
+            Telling::Host(Role::Image, "i"),
+            Telling::Host(Role::Events, "e"),
+            Telling::Host(Role::Saved, "t"),
+            Telling::KeepsInputs,
+        ],
+    },
+    Told {
+        command: "list i w t",
+        told: &[
+            Telling::Host(Role::Image, "i"),
+            Telling::Host(Role::Saved, "t"),
+        ],
+    },
+    Told {
+        command: "asm t w i",
+        told: &[
+            Telling::Host(Role::Image, "t"),
+            Telling::Host(Role::Saved, "i"),
+        ],
+    },
+    // a making has no work file
+    Told {
+        command: "make 19 f",
+        told: &[],
+    },
+    // words that are wrong, of which nothing is opened
+    Told {
+        command: "list i w t x",
+        told: &[
+            Telling::Host(Role::Image, "i"),
+            Telling::Host(Role::Saved, "t"),
+        ],
+    },
+    Told {
+        command: "run i",
+        told: &[Telling::Host(Role::Image, "i")],
+    },
+    Told {
+        command: "guard i e w s d 4096 512 1024 1",
+        told: &[
+            Telling::Host(Role::Image, "i"),
+            Telling::Host(Role::Events, "e"),
+            Telling::Host(Role::Saved, "s"),
+            Telling::Host(Role::Display, "d"),
+        ],
+    },
+    Told {
+        command: "resume v",
+        told: &[Telling::Protects("v")],
+    },
+    Told {
+        command: "resume v e w",
+        told: &[
+            Telling::Host(Role::Events, "e"),
+            Telling::Vault(Role::Work, "w"),
+            Telling::Vault(Role::Events, "e"),
+            Telling::Protects("v"),
+        ],
+    },
+    Told {
+        command: "trace",
+        told: &[Telling::KeepsInputs],
+    },
+    Told {
+        command: "Run i e w s d 4096 512 1024 1",
+        told: &[],
+    },
+    Told {
+        command: "guards i e w s d 4096 512 1024 1 v",
+        told: &[],
+    },
+    Told {
+        command: "make",
+        told: &[],
+    },
+    Told {
+        command: "",
+        told: &[],
+    },
+];
+
+/// Those who wait for what they are to be told.
+#[derive(Drop)]
+struct Awaiting {
+    told: &'static [Telling<'static>],
+    heard: usize,
+    surprised: bool,
+}
+
+impl Awaiting {
+    fn hear(&mut self, heard: Telling<'_>) {
+        match self.told.get(self.heard) {
+            Some(next) if *next == heard => self.heard = self.heard.saturating_add(1),
+            _ => self.surprised = true,
+        }
+    }
+}
+
+impl KeepsApart for Awaiting {
+    ghost tells = { false };
+
+    ghost told = { λ _. [] };
+
+    fn expect(&mut self, listener: Listener, role: Role, name: &str) {
+        match listener {
+            Listener::Host => self.hear(Telling::Host(role, name)),
+            Listener::Vault => self.hear(Telling::Vault(role, name)),
+        }
+    }
+
+    fn keep_inputs(&mut self) {
+        self.hear(Telling::KeepsInputs);
+    }
+
+    fn protect(&mut self, name: &str) -> Result<(), AllocError> {
+        self.hear(Telling::Protects(name));
+        Ok(())
+    }
+}
+
+// Whether this is told of a command, and no more.
+fn is_told(alloc: Global, row: &Told) -> Result<bool, AllocError> {
+    let words = words_of(alloc, row.command)?;
+    let mut awaiting = Awaiting {
+        told: row.told,
+        heard: 0,
+        surprised: false,
+    };
+    keep_apart(&mut awaiting, &words)?;
+    Ok(awaiting.heard == row.told.len() && !awaiting.surprised)
+}
+
+#[test]
+fn files_of_each_command(rt: HostRuntime) -> Result<(), Fail> {
+    for row in &TOLD {
+        assert!(rt; is_told(rt.alloc(), row)?);
+    }
+    Ok(())
 }

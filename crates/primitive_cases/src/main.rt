@@ -2,6 +2,11 @@
 //!
 //! The files lie where the program runs, or in the folder that its first word names. With a second word each case is run on the largest core
 //! too, and else each eighth.
+//!
+//! - Proved: That it is safe.
+//! - Tested: It is a test: cases of each primitive, with the answers of a reference machine that was written apart from the program
+//!   (`docs/CASES.md`).
+//! - Not said: Nothing else.
 #![tactic(auto)]
 
 use case_runs::{Largest, report_all};

@@ -6,6 +6,11 @@
 //! `disk_objects`, `images` for `image_reader`. `ways` loads images and saves them again, with a memory of two levels between or none, and
 //! has the refusals of `image_writer`; `checkpoints` keeps what is on a disk in a vault, and stops it behind each call (`keep` of
 //! `checkpoint`). The crate has no function of its own.
+//!
+//! - Proved: Nothing: tests over public calls.
+//! - Tested: Directories, blocks and objects of the work file byte by byte, images on their way in and out, failures, damage, and
+//!   checkpoints.
+//! - Not said: Nothing else.
 #![tactic(auto)]
 
 #[cfg(test)]
