@@ -8,6 +8,7 @@ ghost use Rattle.bit_rows.specs.Rows.{row_bit};
 use crate::word::{blend, source_word};
 
 /// Where an edge of a row falls in one of its words: from 0 for one before the word to 16 for one behind it.
+#[inline(always)]
 fn edge_in_word(edge: usize, word: usize) -> u8
     requires { 16 * word < 2 ^ 64 }
     ensures { result ≡ min (edge - 16 * word) 16 }
@@ -23,6 +24,7 @@ fn edge_in_word(edge: usize, word: usize) -> u8
 }
 
 /// The new word at `i` of a row.
+#[inline(always)]
 fn row_word(
     row: &[u16],
     i: usize,

@@ -6,6 +6,7 @@ ghost use Rattle.blue_model.specs.BitBlt.{rule_bit};
 ghost use Rattle.bit_rows.specs.Rows.{within};
 
 /// What a rule makes of a source word and a destination word, bit by bit.
+#[inline(always)]
 pub fn combine(rule: u8, s: u16, d: u16) -> u16
     requires { rule < COMBINATION_RULES }
     ensures { (j : ℕ) → j < 16 → left_bit result j ≡ rule_bit rule (left_bit s j) (left_bit d j) }
@@ -31,6 +32,7 @@ pub fn combine(rule: u8, s: u16, d: u16) -> u16
 }
 
 /// The bits of `new` where the mask has ones, and those of `old` elsewhere.
+#[inline(always)]
 pub fn merge(old: u16, new: u16, mask: u16) -> u16
     ensures { (j : ℕ) → j < 16 → left_bit result j ≡ (if nat_lt 0 (left_bit mask j) then left_bit new j else left_bit old j) }
 {
@@ -38,6 +40,7 @@ pub fn merge(old: u16, new: u16, mask: u16) -> u16
 }
 
 /// The 16 bits from bit `skew` on of two words side by side.
+#[inline(always)]
 pub fn source_word(first: u16, second: u16, skew: u8) -> u16
     requires { skew < 16 }
     ensures { (j : ℕ) → j < 16 → left_bit result j ≡ bit (first ∷ second ∷ []) (skew + j) }
@@ -47,6 +50,7 @@ pub fn source_word(first: u16, second: u16, skew: u8) -> u16
 }
 
 /// The word with ones from one bit up to another.
+#[inline(always)]
 pub fn mask(low: u8, high: u8) -> u16
     requires ordered { low ≤ high }
     requires fits { high ≤ 16 }
@@ -56,6 +60,7 @@ pub fn mask(low: u8, high: u8) -> u16
 }
 
 /// The rule from one bit up to another, and the old bits elsewhere.
+#[inline(always)]
 pub fn blend(rule: u8, s: u16, d: u16, low: u8, high: u8) -> u16
     requires rule { rule < COMBINATION_RULES }
     requires ordered { low ≤ high }

@@ -108,7 +108,7 @@ put_tick v tick = do
   store_byte v 2 (tick / 65536 % 256)
   store_byte v 3 (tick / 16777216 % 256)
 
--- primitiveTimeWordsInto: the clock before this bytecode
+-- primitiveTickWordsInto: the clock before this bytecode
 unfoldable pub tick_words : Rule Answer
 tick_words = do
   bytes ← stack 0
@@ -138,7 +138,7 @@ signal_at_tick = do
 
 -- ---- checkpoints
 
--- The machine is to be kept as it is, where a checkpoint may be made (this profile's own)
+-- The machine is to be kept as it is, where a checkpoint may be made (primitiveSnapshot; what it is kept in is this profile's own)
 unfoldable pub keep_machine : Rule Answer
 keep_machine = do
   stack 0

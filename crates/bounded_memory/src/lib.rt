@@ -10,6 +10,10 @@
 //!
 //! Read `specs/Bounded.antt` first: what it tells (`bounded_told`), what it keeps (`IsSound`) and why it refuses; `specs/Row.antt` has the
 //! row. It has no core: which objects stand in one isn't decided here.
+//!
+//! - Proved: The same trait is met with bounds: each access that doesn't fit is refused with its exact need.
+//! - Tested: Each cause of a refusal with its numbers (`machine_tests`).
+//! - Not said: It is a test double, and says nothing of a real core.
 #![tactic(auto)]
 
 mod bounded;

@@ -32,6 +32,7 @@ use long_names::{MACHINE_REGISTERS, Name, REGISTERS};
 use object_memory::{ObjectMemory, Reg};
 
 /// Whether a byte says a push, a store, a pop or an unconditional jump, or is unused.
+#[inline(always)]
 fn is_plain(byte: u8) -> bool
     ensures { result ≡ steps.is_plain byte }
 {
@@ -181,6 +182,7 @@ fn bytecode<M: ObjectMemory>(
 }
 
 /// No message is left in its registers, and no value in a scratch register.
+#[inline(always)]
 fn rest<M: ObjectMemory>(m: &mut M)
     requires fit { IsFit M.ObjectMemory m.old }
     ensures serves { (cpu : Numbers) → Serves (M.told m.old) cpu (M.told m.new) cpu (machine.clear cycle.is_message) (Ok tt) }

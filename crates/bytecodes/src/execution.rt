@@ -39,6 +39,7 @@ fn answer_field<M: ObjectMemory>(m: &mut M, cpu: &mut Cpu, i: u32) -> Result<(),
 }
 
 /// The index of the primitive that a header extension names; 0 is none.
+#[inline(always)]
 fn primitive(extension: i16) -> u8
     requires { IsSmallInteger extension }
     ensures { result ≡ primitive_of extension }
@@ -47,6 +48,7 @@ fn primitive(extension: i16) -> u8
 }
 
 /// Whether nothing is tried: primitive 0 is none, and a perform isn't tried of a method that a perform found.
+#[inline(always)]
 fn is_none(index: u8, performed: bool) -> bool
     ensures { result ≡ ((index == 0) || (performed && primitives.is_perform index)) }
 {

@@ -77,6 +77,7 @@ pub(crate) fn short_jump<M: ObjectMemory>(
 }
 
 /// Jumps by 256 times i - 4, and the next byte.
+#[inline(always)]
 pub(crate) fn long_jump<M: ObjectMemory>(m: &mut M, cpu: &mut Cpu, i: u32) -> Result<(), Stop>
     requires fit { IsFit M.ObjectMemory m.old }
     requires number { i < 8 }

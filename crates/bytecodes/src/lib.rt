@@ -9,6 +9,11 @@
 //!     while step(m, &mut cpu, &events)? == Step::Next {
 //!         m.settle()?;
 //!     }
+//!
+//! - Proved: Over any object memory `step` fetches a byte and does what the model's table says for it; what it says on the transcript comes
+//!   last.
+//! - Tested: Each bytecode with each of its causes, as cases (`loom_cases`).
+//! - Not said: Nothing that we know of.
 #![tactic(auto)]
 
 mod dispatch;

@@ -41,6 +41,7 @@ fn send_from<M: ObjectMemory>(
 }
 
 /// Sends the selector in R10 with n arguments (sendSelector:argumentCount:).
+#[inline(always)]
 pub(crate) fn send<M: ObjectMemory>(
     m: &mut M,
     cpu: &mut Cpu,
@@ -77,6 +78,7 @@ pub(crate) fn send_super<M: ObjectMemory>(
 }
 
 /// A number of arguments, where it is one.
+#[inline(always)]
 fn argument_count(number: i16) -> Option<u8>
     ensures { result ≡ model.argument_count number }
 {
@@ -263,6 +265,7 @@ pub(crate) fn tried_for<M: ObjectMemory>(
 const ARITHMETIC: [u8; 16] = [1, 2, 3, 4, 5, 6, 7, 8, 9, 10, 11, 18, 17, 12, 14, 15];
 
 /// The primitive of an arithmetic special selector.
+#[inline(always)]
 fn arithmetic_primitive(s: u32) -> u8
     requires { s < 16 }
     ensures { result ≡ slice_index_or bytecodes.arithmetic_primitives s 0 }

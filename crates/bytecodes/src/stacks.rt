@@ -44,6 +44,7 @@ pub(crate) fn push_known<M: ObjectMemory>(m: &mut M, cpu: &mut Cpu, name: Name) 
 }
 
 /// Pushes the number i - 1.
+#[inline(always)]
 pub(crate) fn push_number<M: ObjectMemory>(m: &mut M, cpu: &mut Cpu, i: u8) -> Result<(), Stop>
     requires fit { IsFit M.ObjectMemory m.old }
     ensures serves { Serves (M.told m.old) cpu.old (M.told m.new) cpu.new (model.push_number i) result }

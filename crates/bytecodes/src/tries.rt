@@ -15,6 +15,7 @@ use event_file::EventList;
 use object_memory::ObjectMemory;
 
 /// Whether the primitive is one of blocks, performs, the cache and the end of the run.
+#[inline(always)]
 fn is_control(index: u8) -> bool
     ensures { result ≡ model.is_control index }
 {
@@ -22,6 +23,7 @@ fn is_control(index: u8) -> bool
 }
 
 /// Whether the primitive is one of processes and semaphores.
+#[inline(always)]
 fn is_process(index: u8) -> bool
     ensures { result ≡ model.is_process index }
 {
@@ -29,6 +31,7 @@ fn is_process(index: u8) -> bool
 }
 
 /// Whether the primitive is BitBlt's.
+#[inline(always)]
 fn is_blit(index: u8) -> bool
     ensures { result ≡ model.is_blit index }
 {
@@ -36,6 +39,7 @@ fn is_blit(index: u8) -> bool
 }
 
 /// Whether the primitive is one of input, the clock, the display and the transcript.
+#[inline(always)]
 fn is_device(index: u8) -> bool
     ensures { result ≡ model.is_device index }
 {
@@ -43,6 +47,7 @@ fn is_device(index: u8) -> bool
 }
 
 /// Whether the primitive is one of arithmetic on large integers.
+#[inline(always)]
 fn is_large(index: u8) -> bool
     ensures { result ≡ model.is_large index }
 {
@@ -57,6 +62,7 @@ pub(crate) fn is_perform(index: u8) -> bool
 }
 
 /// Whether a primitive failed.
+#[inline(always)]
 pub(crate) fn has_failed(answer: Answer) -> bool
     ensures { result ≡ model.has_failed answer }
 {
@@ -67,6 +73,7 @@ pub(crate) fn has_failed(answer: Answer) -> bool
 }
 
 /// Whether a method that a primitive found is to be executed.
+#[inline(always)]
 pub(crate) fn is_execute(answer: Answer) -> bool
     ensures { result ≡ sends.is_execute answer }
 {
@@ -77,6 +84,7 @@ pub(crate) fn is_execute(answer: Answer) -> bool
 }
 
 /// How a bytecode ends whose primitive ended so.
+#[inline(always)]
 pub(crate) fn step_of(answer: Answer) -> Step
     ensures { result ≡ model.step_of answer }
 {

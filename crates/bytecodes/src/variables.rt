@@ -43,6 +43,7 @@ impl Variable {
 }
 
 /// The field of a temporary, in a context with so many fields.
+#[inline(always)]
 fn temporary_place(i: u32, len: u32) -> Option<u32>
     requires { i < 64 }
     ensures place { result ≡ model.temporary_place i len }
@@ -85,6 +86,7 @@ pub(crate) fn temporary<M: ObjectMemory>(m: &mut M, to: Reg, i: u32) -> Result<(
 }
 
 /// Loads a literal.
+#[inline(always)]
 pub(crate) fn literal_constant<M: ObjectMemory>(m: &mut M, to: Reg, i: u32) -> Result<(), Stop>
     requires fit { IsFit M.ObjectMemory m.old }
     requires scratch { MACHINE_REGISTERS ≤ to }

@@ -1,4 +1,4 @@
--- When a primitive or a bytecode may answer that the machine is to be kept (this profile's own).
+-- When a primitive or a bytecode may answer that the machine is to be kept (primitiveSnapshot; what it is kept in is this profile's own).
 use Rattle.std.specs.Prelude.{◌≡◌, Bool, true, false, Result, IfOk, IsTrue}
 use Rattle.blue_model.specs.declared.answer.Answer.{Answer}
 use Rattle.blue_model.specs.declared.answer.Answer.TheVariants.{Done, Failed, Execute, Quit, Keep}

@@ -17,6 +17,7 @@ use object_memory::{ObjectMemory, Reg, shape};
 /// The byte of a number of the method that a register names, whose length is that of its code; the method comes in for it. Stuck with
 /// Pointer where the method has none, or there is no number.
 #[cold]
+#[inline(never)]
 fn load_byte<M: ObjectMemory>(m: &mut M, method: Reg, place: Option<u32>) -> Result<u8, Stop>
     requires fit { IsFit M.ObjectMemory m.old }
     ensures serves { (cpu : Numbers) (ip : ℤ) → place ≡ code_place ip → Serves (M.told m.old) cpu (M.told m.new) cpu (model.byte_of ip ((M.told m.old).regs method)) result }
@@ -37,7 +38,7 @@ fn load_byte<M: ObjectMemory>(m: &mut M, method: Reg, place: Option<u32>) -> Res
 
 /// The byte of a number of the method that a register names, which comes in for it unless it is at hand. Stuck with Pointer where the
 /// method has none, or there is no number.
-#[inline]
+#[inline(always)]
 fn byte_of<M: ObjectMemory>(m: &mut M, method: Reg, place: Option<u32>) -> Result<u8, Stop>
     requires fit { IsFit M.ObjectMemory m.old }
     ensures serves { (cpu : Numbers) (ip : ℤ) → place ≡ code_place ip → Serves (M.told m.old) cpu (M.told m.new) cpu (model.byte_of ip ((M.told m.old).regs method)) result }
@@ -54,7 +55,7 @@ fn byte_of<M: ObjectMemory>(m: &mut M, method: Reg, place: Option<u32>) -> Resul
 }
 
 /// The byte at the instruction pointer, which goes on by 1 (fetchByte, chapter 28). Stuck with Pointer where it is none of the method's.
-#[inline]
+#[inline(always)]
 pub fn fetch<M: ObjectMemory>(m: &mut M, cpu: &mut Cpu) -> Result<u8, Stop>
     requires fit { IsFit M.ObjectMemory m.old }
     ensures serves { Serves (M.told m.old) cpu.old (M.told m.new) cpu.new model.fetch result }
@@ -69,6 +70,7 @@ pub fn fetch<M: ObjectMemory>(m: &mut M, cpu: &mut Cpu) -> Result<u8, Stop>
 
 /// Jumps over so many bytes, counted from the byte after the instruction (jump:, chapter 28). Stuck with Pointer where no byte of the
 /// method is there.
+#[inline(always)]
 pub fn jump<M: ObjectMemory>(m: &mut M, cpu: &mut Cpu, distance: i32) -> Result<(), Stop>
     requires fit { IsFit M.ObjectMemory m.old }
     ensures serves { Serves (M.told m.old) cpu.old (M.told m.new) cpu.new (model.jump distance) result }

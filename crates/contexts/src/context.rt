@@ -154,6 +154,7 @@ pub fn back<M: ObjectMemory>(m: &mut M, cpu: &mut Cpu, context: Reg) -> Result<(
 }
 
 /// Loads the scheduler: the value of its association (schedulerPointer, chapter 29).
+#[inline(always)]
 pub fn scheduler<M: ObjectMemory>(m: &mut M, to: Reg) -> Result<(), Stop>
     requires fit { IsFit M.ObjectMemory m.old }
     requires scratch { MACHINE_REGISTERS ≤ to }
@@ -167,6 +168,7 @@ pub fn scheduler<M: ObjectMemory>(m: &mut M, to: Reg) -> Result<(), Stop>
 }
 
 /// Loads the process that the scheduler says is active.
+#[inline(always)]
 pub fn active_process<M: ObjectMemory>(m: &mut M, to: Reg) -> Result<(), Stop>
     requires fit { IsFit M.ObjectMemory m.old }
     requires scratch { MACHINE_REGISTERS ≤ to }

@@ -1,4 +1,9 @@
 //! Contexts over any object memory: their registers, stacks and code, how they are entered and left, and what rules look for in objects.
+//!
+//! - Proved: Over any object memory each call serves its rule of the model: the same answer and next machine, or the rule's cause, or a
+//!   refusal with a need of the rule's log.
+//! - Tested: By the cases (`docs/CASES.md`).
+//! - Not said: Over a memory that tells no heap, only safety and the causes that name no row.
 #![tactic(auto)]
 
 mod answers;

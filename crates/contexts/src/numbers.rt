@@ -14,6 +14,7 @@ use blue_model::limits::{FULL_STACK, LAST_BYTE};
 use long_names::SMALL_INTEGERS;
 
 /// The field above the top of the stack, of a context with so many fields, if it is one of the stack.
+#[inline(always)]
 pub(crate) fn place_above(cpu: &Cpu, len: u32) -> Option<u32>
     ensures place { result ≡ stack_place (cpu.now.sp +ℤ pos 1) len }
     ensures within { IfSome result (λ place. place < len) }
@@ -27,6 +28,7 @@ pub(crate) fn place_above(cpu: &Cpu, len: u32) -> Option<u32>
 }
 
 /// The field so much below the top of the stack, of a context with so many fields, if it is one of the stack.
+#[inline(always)]
 pub(crate) fn place_at(cpu: &Cpu, depth: u32, len: u32) -> Option<u32>
     ensures place { result ≡ stack_place (cpu.now.sp -ℤ pos depth) len }
     ensures within { IfSome result (λ place. place < len) }
@@ -43,6 +45,7 @@ pub(crate) fn place_at(cpu: &Cpu, depth: u32, len: u32) -> Option<u32>
 }
 
 /// One value more is on the stack.
+#[inline(always)]
 pub(crate) fn raise(cpu: &mut Cpu)
     requires { cpu.old.sp <ℤ pos FULL_STACK }
     ensures { cpu.new ≡ record cpu.old { sp = cpu.old.sp +ℤ pos 1 } }
@@ -51,6 +54,7 @@ pub(crate) fn raise(cpu: &mut Cpu)
 }
 
 /// So many values fewer are on the stack, if it has them.
+#[inline(always)]
 pub(crate) fn lower(cpu: &mut Cpu, count: u32) -> bool
     ensures lowered { MatchBool result (lowered cpu.old.sp count ≡ Some cpu.new.sp) (lowered cpu.old.sp count ≡ None) }
     ensures rest { cpu.new ≡ record cpu.old { sp = cpu.new.sp } }
@@ -64,6 +68,7 @@ pub(crate) fn lower(cpu: &mut Cpu, count: u32) -> bool
 }
 
 /// The number of the byte at the instruction pointer, if it may be one of code.
+#[inline(always)]
 pub(crate) fn place_here(cpu: &Cpu) -> Option<u32>
     ensures { result ≡ code_place cpu.now.ip }
 {
@@ -75,6 +80,7 @@ pub(crate) fn place_here(cpu: &Cpu) -> Option<u32>
 }
 
 /// The number of the byte so far from the instruction pointer, if it may be one of code.
+#[inline(always)]
 pub(crate) fn place_from(cpu: &Cpu, distance: &i32) -> Option<u32>
     ensures place { result ≡ code_place (cpu.now.ip +ℤ distance.now) }
 {
@@ -101,6 +107,7 @@ pub(crate) fn index_of(place: Option<u32>, literals: u32, len: u32) -> Option<u3
 }
 
 /// The instruction pointer goes on by one byte.
+#[inline(always)]
 pub(crate) fn advance(cpu: &mut Cpu)
     requires { cpu.old.ip ≤ℤ pos LAST_BYTE }
     ensures { cpu.new ≡ record cpu.old { ip = cpu.old.ip +ℤ pos 1 } }
@@ -109,6 +116,7 @@ pub(crate) fn advance(cpu: &mut Cpu)
 }
 
 /// The instruction pointer goes to the byte of this number.
+#[inline(always)]
 pub(crate) fn go_to(cpu: &mut Cpu, place: u32)
     requires { place ≤ LAST_BYTE }
     ensures { cpu.new ≡ record cpu.old { ip = pos place } }
@@ -117,6 +125,7 @@ pub(crate) fn go_to(cpu: &mut Cpu, place: u32)
 }
 
 /// The pointers become those that a context states in its fields 1 and 2, if the second is a number of values.
+#[inline(always)]
 pub(crate) fn take_stated(cpu: &mut Cpu, ip: &i16, depth: &i16) -> bool
     ensures depth { MatchBool result (stack_pointer depth.now ≡ Some cpu.new.sp) (stack_pointer depth.now ≡ None) }
     ensures numbers { MatchBool result (cpu.new ≡ record cpu.old { ip = ip.now -ℤ pos 1; sp = cpu.new.sp }) (cpu.new ≡ cpu.old) }
@@ -130,6 +139,7 @@ pub(crate) fn take_stated(cpu: &mut Cpu, ip: &i16, depth: &i16) -> bool
 }
 
 /// The instruction pointer as a context states it, if it can be stated.
+#[inline(always)]
 pub(crate) fn stated_ip(cpu: &Cpu) -> Option<i16>
     ensures value { result ≡ stated (cpu.now.ip +ℤ pos 1) }
     ensures range { IfSome result IsSmallInteger }
@@ -142,6 +152,7 @@ pub(crate) fn stated_ip(cpu: &Cpu) -> Option<i16>
 }
 
 /// The stack pointer as a context states it, if it can be stated.
+#[inline(always)]
 pub(crate) fn stated_depth(cpu: &Cpu) -> Option<i16>
     ensures value { result ≡ stated (cpu.now.sp -ℤ pos EMPTY_STACK) }
     ensures range { IfSome result IsSmallInteger }

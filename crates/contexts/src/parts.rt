@@ -27,7 +27,7 @@ use object_memory::{MemFault, ObjectMemory, Reg, shape};
 
 /// How many fields the object of pointers has that a register names, which comes in unless it is at hand. None where the register names
 /// no such object.
-#[inline]
+#[inline(always)]
 fn fields_of<M: ObjectMemory>(m: &mut M, of: Reg) -> Result<Option<u32>, MemFault>
     requires fit { IsFit M.ObjectMemory m.old }
     ensures looks { OnOk result (Looks [] (M.told m.old) (M.told m.new)) }
@@ -43,6 +43,7 @@ fn fields_of<M: ObjectMemory>(m: &mut M, of: Reg) -> Result<Option<u32>, MemFaul
 }
 
 /// How many fields the object of pointers has that a register names. It has at least so many.
+#[inline(always)]
 pub fn size<M: ObjectMemory>(m: &mut M, of: Reg, least: u32) -> Result<u32, Stop>
     requires fit { IsFit M.ObjectMemory m.old }
     ensures serves { (cpu : Numbers) → Serves (M.told m.old) cpu (M.told m.new) cpu (part Shape (size least) ((M.told m.old).regs of)) result }
@@ -62,6 +63,7 @@ pub fn size<M: ObjectMemory>(m: &mut M, of: Reg, least: u32) -> Result<u32, Stop
 }
 
 /// Loads field i of the object of pointers that a register names. It has at least so many fields.
+#[inline(always)]
 pub fn field<M: ObjectMemory>(m: &mut M, to: Reg, of: Reg, least: u32, i: u32) -> Result<(), Stop>
     requires fit { IsFit M.ObjectMemory m.old }
     requires scratch { MACHINE_REGISTERS ≤ to }
@@ -80,6 +82,7 @@ pub fn field<M: ObjectMemory>(m: &mut M, to: Reg, of: Reg, least: u32, i: u32) -
 }
 
 /// Loads field i of an object of pointers that was asked for its length: it has at least so many fields, and this one.
+#[inline(always)]
 pub(crate) fn field_within<M: ObjectMemory>(
     m: &mut M,
     to: Reg,
@@ -100,6 +103,7 @@ pub(crate) fn field_within<M: ObjectMemory>(
 
 /// The number in field i of the object of pointers that a register names. It has at least so many fields. The field is loaded into a
 /// scratch register.
+#[inline(always)]
 pub fn number<M: ObjectMemory>(m: &mut M, to: Reg, of: Reg, least: u32, i: u32) -> Result<i16, Stop>
     requires fit { IsFit M.ObjectMemory m.old }
     requires scratch { MACHINE_REGISTERS ≤ to }
@@ -117,6 +121,7 @@ pub fn number<M: ObjectMemory>(m: &mut M, to: Reg, of: Reg, least: u32, i: u32) 
 
 /// The number in field i of an object of pointers that was asked for its length: it has at least so many fields, and this one. The field
 /// is loaded into a scratch register.
+#[inline(always)]
 pub(crate) fn number_within<M: ObjectMemory>(
     m: &mut M,
     to: Reg,
@@ -140,6 +145,7 @@ pub(crate) fn number_within<M: ObjectMemory>(
 }
 
 /// Loads literal i of the method that a register names.
+#[inline(always)]
 pub fn literal<M: ObjectMemory>(m: &mut M, to: Reg, of: Reg, i: u32) -> Result<(), Stop>
     requires fit { IsFit M.ObjectMemory m.old }
     requires scratch { MACHINE_REGISTERS ≤ to }
@@ -155,6 +161,7 @@ pub fn literal<M: ObjectMemory>(m: &mut M, to: Reg, of: Reg, i: u32) -> Result<(
 }
 
 /// Whether a register names a method: it is stuck where it doesn't.
+#[inline(always)]
 pub fn need_method<M: ObjectMemory>(m: &mut M, of: Reg) -> Result<(), Stop>
     requires fit { IsFit M.ObjectMemory m.old }
     ensures serves { (cpu : Numbers) → Serves (M.told m.old) cpu (M.told m.new) cpu (need_method ((M.told m.old).regs of)) result }
@@ -168,6 +175,7 @@ pub fn need_method<M: ObjectMemory>(m: &mut M, of: Reg) -> Result<(), Stop>
 }
 
 /// The header of the method that a register names.
+#[inline(always)]
 pub fn header<M: ObjectMemory>(m: &mut M, of: Reg) -> Result<i16, Stop>
     requires fit { IsFit M.ObjectMemory m.old }
     ensures serves { (cpu : Numbers) → Serves (M.told m.old) cpu (M.told m.new) cpu (part Shape heading ((M.told m.old).regs of)) result }
@@ -183,6 +191,7 @@ pub fn header<M: ObjectMemory>(m: &mut M, of: Reg) -> Result<i16, Stop>
 }
 
 /// Loads the class of what a register holds (fetchClassOf:, chapter 30).
+#[inline(always)]
 pub fn class_of<M: ObjectMemory>(m: &mut M, to: Reg, of: Reg) -> Result<(), Stop>
     requires fit { IsFit M.ObjectMemory m.old }
     requires scratch { MACHINE_REGISTERS ≤ to }
@@ -231,6 +240,7 @@ pub fn literal_before_last<M: ObjectMemory>(m: &mut M, to: Reg, of: Reg) -> Resu
 }
 
 /// The header extension of the method that a register names: the number that is its literal before the last.
+#[inline(always)]
 pub fn extension<M: ObjectMemory>(m: &mut M, to: Reg, of: Reg) -> Result<i16, Stop>
     requires fit { IsFit M.ObjectMemory m.old }
     requires scratch { MACHINE_REGISTERS ≤ to }
@@ -261,6 +271,7 @@ pub fn home<M: ObjectMemory>(m: &mut M, to: Reg, context: Reg) -> Result<(), Sto
 }
 
 /// The same of a context that was asked for its length, and has the fields of one.
+#[inline(always)]
 pub(crate) fn home_within<M: ObjectMemory>(m: &mut M, to: Reg, context: Reg) -> Result<(), Stop>
     requires fit { IsFit M.ObjectMemory m.old }
     requires scratch { MACHINE_REGISTERS ≤ to }
@@ -280,6 +291,7 @@ pub(crate) fn home_within<M: ObjectMemory>(m: &mut M, to: Reg, context: Reg) -> 
 }
 
 /// Loads the name of a known object.
+#[inline(always)]
 pub fn known<M: ObjectMemory>(m: &mut M, to: Reg, name: Name) -> Result<(), Stop>
     requires fit { IsFit M.ObjectMemory m.old }
     requires scratch { MACHINE_REGISTERS ≤ to }
@@ -294,6 +306,7 @@ pub fn known<M: ObjectMemory>(m: &mut M, to: Reg, name: Name) -> Result<(), Stop
 }
 
 /// Stores into field i of the object of pointers that a register names.
+#[inline(always)]
 pub fn store_field<M: ObjectMemory>(m: &mut M, of: Reg, i: u32, from: Reg) -> Result<(), Stop>
     requires fit { IsFit M.ObjectMemory m.old }
     ensures serves { (cpu : Numbers) → Serves (M.told m.old) cpu (M.told m.new) cpu (store_field ((M.told m.old).regs of) i ((M.told m.old).regs from)) result }
@@ -308,6 +321,7 @@ pub fn store_field<M: ObjectMemory>(m: &mut M, of: Reg, i: u32, from: Reg) -> Re
 }
 
 /// Stores into field i of an object of pointers that was asked for its length, and has the field.
+#[inline(always)]
 pub(crate) fn store_within<M: ObjectMemory>(
     m: &mut M,
     of: Reg,
@@ -326,6 +340,7 @@ pub(crate) fn store_within<M: ObjectMemory>(
 }
 
 /// Stores into field i of an object of pointers that was asked for its length, and has so many fields.
+#[inline(always)]
 pub(crate) fn store_below<M: ObjectMemory>(
     m: &mut M,
     of: Reg,

@@ -33,6 +33,7 @@ pub fn peek_size<M: ObjectMemory>(m: &mut M, of: Reg, least: u32) -> Result<Opti
 }
 
 /// Loads field i of the object of pointers that a register names, where it has the field and at least so many.
+#[inline(always)]
 pub fn peek_field<M: ObjectMemory>(
     m: &mut M,
     to: Reg,
@@ -58,6 +59,7 @@ pub fn peek_field<M: ObjectMemory>(
 
 /// The number in field i of the object of pointers that a register names, where it has at least so many fields, and a number there.
 /// The field is loaded into a scratch register.
+#[inline(always)]
 pub fn peek_number<M: ObjectMemory>(
     m: &mut M,
     to: Reg,

@@ -18,6 +18,7 @@ use blue_model::{Cause, Cpu};
 use object_memory::{ObjectMemory, Reg, shape};
 
 /// The registers from one number up to another, without it, hold 0.
+#[inline(always)]
 pub fn clear<M: ObjectMemory>(m: &mut M, from: u8, to: u8)
     requires fit { IsFit M.ObjectMemory m.old }
     requires few { to ≤ REGISTERS }
@@ -31,6 +32,7 @@ pub fn clear<M: ObjectMemory>(m: &mut M, from: u8, to: u8)
 }
 
 /// The message that is sent has so many arguments.
+#[inline(always)]
 pub fn set_arguments(cpu: &mut Cpu, n: u8)
     ensures serves { (t : Told) → IsReady t → Serves t cpu.old t cpu.new (messages.set_arguments n) (Ok tt) }
     ensures numbers { cpu.new ≡ record cpu.old { args = n } }
@@ -39,6 +41,7 @@ pub fn set_arguments(cpu: &mut Cpu, n: u8)
 }
 
 /// No object is pinned any more.
+#[inline(always)]
 pub(crate) fn unpin_all<M: ObjectMemory>(m: &mut M)
     requires fit { IsFit M.ObjectMemory m.old }
     ensures serves { (cpu : Numbers) → Serves (M.told m.old) cpu (M.told m.new) cpu model.unpin_all (Ok tt) }
@@ -51,6 +54,7 @@ pub(crate) fn unpin_all<M: ObjectMemory>(m: &mut M)
 }
 
 /// Pins the object that a register names.
+#[inline(always)]
 pub(crate) fn pin<M: ObjectMemory>(m: &mut M, slot: u8, of: Reg) -> Result<(), Stop>
     requires fit { IsFit M.ObjectMemory m.old }
     requires slot { slot < 3 }
@@ -66,6 +70,7 @@ pub(crate) fn pin<M: ObjectMemory>(m: &mut M, slot: u8, of: Reg) -> Result<(), S
 }
 
 /// The four registers of the active context hold it, its home, its method and its receiver, which stand in scratch registers.
+#[inline(always)]
 pub(crate) fn put_context<M: ObjectMemory>(m: &mut M, context: Reg)
     requires fit { IsFit M.ObjectMemory m.old }
     ensures serves { (cpu : Numbers) → Serves (M.told m.old) cpu (M.told m.new) cpu (contexts.put_context ((M.told m.old).regs context) ((M.told m.old).regs 21) ((M.told m.old).regs 22) ((M.told m.old).regs 23)) (Ok tt) }

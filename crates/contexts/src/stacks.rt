@@ -17,6 +17,7 @@ use object_memory::{ObjectMemory, Reg};
 
 /// Pushes the value of a register (push:, chapter 28). Stuck with Stack where the field above the top is none of the context's, or the
 /// stack is full.
+#[inline(always)]
 pub fn push<M: ObjectMemory>(m: &mut M, cpu: &mut Cpu, from: Reg) -> Result<(), Stop>
     requires fit { IsFit M.ObjectMemory m.old }
     ensures serves { Serves (M.told m.old) cpu.old (M.told m.new) cpu.new (model.push ((M.told m.old).regs from)) result }
@@ -34,6 +35,7 @@ pub fn push<M: ObjectMemory>(m: &mut M, cpu: &mut Cpu, from: Reg) -> Result<(), 
 
 /// Loads the value so much below the top of the stack into a scratch register (stackValue:, chapter 28). The top is at depth 0. Stuck
 /// with Stack where that field is none of the stack.
+#[inline(always)]
 pub fn stack<M: ObjectMemory>(m: &mut M, cpu: &Cpu, to: Reg, depth: u32) -> Result<(), Stop>
     requires fit { IsFit M.ObjectMemory m.old }
     requires scratch { MACHINE_REGISTERS ≤ to }
@@ -65,6 +67,7 @@ pub fn put_stack<M: ObjectMemory>(m: &mut M, cpu: &Cpu, depth: u32, from: Reg) -
 }
 
 /// Pops so many values (pop:, chapter 28). It writes nothing. Stuck with Stack where the stack has fewer.
+#[inline(always)]
 pub fn pop(cpu: &mut Cpu, n: u32) -> Result<(), Stop>
     ensures serves { (t : Told) → IsReady t → Serves t cpu.old t cpu.new (model.pop n) result }
 {
@@ -75,6 +78,7 @@ pub fn pop(cpu: &mut Cpu, n: u32) -> Result<(), Stop>
 }
 
 /// Pops the top into a scratch register (popStack, chapter 28).
+#[inline(always)]
 pub fn pop_top<M: ObjectMemory>(m: &mut M, cpu: &mut Cpu, to: Reg) -> Result<(), Stop>
     requires fit { IsFit M.ObjectMemory m.old }
     requires scratch { MACHINE_REGISTERS ≤ to }

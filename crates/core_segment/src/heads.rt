@@ -17,6 +17,7 @@ pub(crate) const FEWEST: u32 = 4;
 pub(crate) const SHORT: u32 = 64;
 
 // A number in two words.
+#[inline(always)]
 fn pair_at(region: &Words, i: u32) -> u32
     requires { i + 1 < length region.now.cells.items }
     ensures { result ≡ pair_in region.now.cells.items i }
@@ -24,6 +25,7 @@ fn pair_at(region: &Words, i: u32) -> u32
     u32::from(region.get(i)) + RADIX * u32::from(region.get(i + 1))
 }
 
+#[inline(always)]
 fn put_pair(region: &mut Words, i: u32, n: u32)
     requires { i + 1 < length region.old.cells.items }
     ensures { IsPaired region.old.cells.items region.new.cells.items i n }
@@ -33,6 +35,7 @@ fn put_pair(region: &mut Words, i: u32, n: u32)
 }
 
 // The owner of the chunk that begins at a place, and 0 of a free one.
+#[inline(always)]
 pub(crate) fn owner_at(region: &Words, place: u32) -> u16
     requires { HasHead region.now.cells.items place }
     ensures { result ≡ owner_in region.now.cells.items place }
@@ -44,6 +47,7 @@ pub(crate) fn owner_at(region: &Words, place: u32) -> u16
 }
 
 // The size of the chunk that begins at a place.
+#[inline(always)]
 pub(crate) fn size_at(region: &Words, place: u32) -> u32
     requires { HasHead region.now.cells.items place }
     ensures { result ≡ size_in region.now.cells.items place }
@@ -60,6 +64,7 @@ pub(crate) fn size_at(region: &Words, place: u32) -> u32
 }
 
 // Where the chunk behind a free one in its list begins, and one more; 0 behind the last.
+#[inline(always)]
 pub(crate) fn link_at(region: &Words, place: u32) -> u32
     requires { place + 3 < length region.now.cells.items }
     ensures { result ≡ link_in region.now.cells.items place }
@@ -67,6 +72,7 @@ pub(crate) fn link_at(region: &Words, place: u32) -> u32
     pair_at(region, place + 2)
 }
 
+#[inline(always)]
 pub(crate) fn put_link(region: &mut Words, place: u32, link: u32)
     requires { place + 3 < length region.old.cells.items }
     ensures { IsPaired region.old.cells.items region.new.cells.items (place + 2) link }
@@ -75,6 +81,7 @@ pub(crate) fn put_link(region: &mut Words, place: u32, link: u32)
 }
 
 // Writes the first words of a used chunk.
+#[inline(always)]
 pub(crate) fn open(region: &mut Words, place: u32, owner: u16, size: u32)
     requires within { place + 3 < length region.old.cells.items }
     requires owner { 0 < owner }
@@ -86,6 +93,7 @@ pub(crate) fn open(region: &mut Words, place: u32, owner: u16, size: u32)
 }
 
 // Writes the first words of a free chunk.
+#[inline(always)]
 pub(crate) fn close(region: &mut Words, place: u32, size: u32, link: u32)
     requires within { place + size ≤ length region.old.cells.items }
     requires some { 0 < size }

@@ -18,6 +18,11 @@
 //!
 //! Read `specs/Chunks.antt` first, then `specs/Segment.antt`. `laws` says that chunks never overlap. An owner is a number to the segment,
 //! and what a word means it doesn't know.
+//!
+//! - Proved: A segment is a region of words with chunks that never overlap. Each call changes one chunk, `take` answers None exactly where
+//!   no free chunk is large enough, and a whole compaction leaves one free chunk. The raw memory is safe.
+//! - Tested: Small and full segments, and ten thousand turns of a pattern (`core_tests`).
+//! - Not said: What calls cost; that most take constant time is read in the code.
 #![tactic(auto)]
 
 mod heads;

@@ -10,6 +10,7 @@ use crate::words::Words;
 const LISTS: usize = SHORT as usize + 2;
 
 // Which list a free chunk of a size stands in. Those of the sizes below 4 stay empty.
+#[inline(always)]
 pub(crate) fn class_of(size: u32) -> u32
     ensures { result ≡ class_in size }
 {
@@ -45,6 +46,7 @@ impl Lists {
     }
 
     // The first link of a list.
+    #[inline(always)]
     pub(crate) fn first(&self, class: u32) -> u32
         requires { class ≤ SHORT + 1 }
         ensures { result ≡ first_in self.now.firsts class }
@@ -53,6 +55,7 @@ impl Lists {
     }
 
     // Makes the words from a place on a free chunk, the first of its list.
+    #[inline(always)]
     pub(crate) fn push(&mut self, region: &mut Words, place: u32, size: u32)
         requires within { place + size ≤ length region.old.cells.items }
         requires some { 0 < size }
@@ -78,6 +81,7 @@ impl Lists {
     }
 
     // The least class, from one on, whose list has a chunk; one past the last where none has.
+    #[inline(always)]
     pub(crate) fn class_from(&self, from: u32) -> u32
         requires { from ≤ SHORT + 1 }
         ensures least { (c : ℕ) → from ≤ c → c < result → first_in self.now.firsts c ≡ 0 }
@@ -95,6 +99,7 @@ impl Lists {
     }
 
     // The first chunk of the first list that has one, from the list of this size on.
+    #[inline(always)]
     fn find_short(&self, words: u32) -> Option<Spot>
         requires { words ≤ SHORT }
         ensures some { IfSome result (λ s. (words ≤ s.class) × (s.class ≤ SHORT + 1) × (s.before ≡ 0) × (first_in self.now.firsts s.class ≡ s.place + 1)) }
@@ -137,6 +142,7 @@ impl Lists {
     }
 
     // A free chunk of at least so many words. None where no free chunk has so many.
+    #[inline(always)]
     pub(crate) fn find(&self, region: &Words, words: u32) -> Option<Spot>
         requires whole { IsWhole region.now.cells.items self.now.firsts }
         requires some { FEWEST ≤ words }
@@ -152,6 +158,7 @@ impl Lists {
     }
 
     // Takes a chunk out of its list.
+    #[inline(always)]
     pub(crate) fn cut(&mut self, region: &mut Words, spot: Spot)
         requires whole { IsWhole region.old.cells.items self.old.firsts }
         requires spot { IsSpot region.old.cells.items self.old.firsts spot.class spot.before spot.place }
@@ -166,6 +173,7 @@ impl Lists {
     }
 
     // Makes the first words of a free chunk that is in no list a used one, and the rest, where there is some, a free one.
+    #[inline(always)]
     pub(crate) fn carve(&mut self, region: &mut Words, place: u32, owner: u16, words: u32)
         requires head { HasHead region.old.cells.items place }
         requires within { place + size_in region.old.cells.items place ≤ length region.old.cells.items }

@@ -86,6 +86,7 @@ pub(crate) fn free<A: Allocator>(alloc: &A, base: Base, size: usize, cells: Cell
 }
 
 impl Cells {
+    #[inline(always)]
     pub(crate) fn get(&self, base: Base, i: usize) -> &u16
         requires { (base.ptr ≡ self.now.at) × (i < length self.now.items) × IsSize (length self.now.items) }
         ensures { result.now ≡ slice_index_or self.now.items i 0 }
@@ -93,6 +94,7 @@ impl Cells {
         unsafe { &*base.ptr.add(i) }
     }
 
+    #[inline(always)]
     pub(crate) fn put(&mut self, base: Base, i: usize, w: u16)
         requires { (base.ptr ≡ self.old.at) × (i < length self.old.items) × IsSize (length self.old.items) }
         ensures { (self.new.at ≡ self.old.at) × (self.new.items ≡ slice_set self.old.items i w) }

@@ -70,6 +70,7 @@ impl Segment {
     }
 
     /// How many words are in no used chunk.
+    #[inline(always)]
     pub fn free_words(&self) -> u32
         ensures { result ≡ free_of self.now }
     {
@@ -86,6 +87,7 @@ impl Segment {
     }
 
     // A free chunk of at least so many words. None exactly where no free chunk has so many.
+    #[inline(always)]
     fn find(&self, words: u32) -> Option<Spot>
         requires { FEWEST ≤ words }
         ensures some { IfSome result (λ s. IsSpot self.now.region.cells.items self.now.lists.firsts s.class s.before s.place) }
@@ -113,6 +115,7 @@ impl Segment {
     }
 
     /// Whether so many words are free together, so that `take` gives them.
+    #[inline(always)]
     pub fn has_room(&self, words: u32) -> bool
         requires { 1 ≤ words }
         ensures { IsTrue result ↔ (words ≤ largest_of self.now) }
@@ -122,6 +125,7 @@ impl Segment {
     }
 
     /// A word of a chunk. The first of its user's words has the index 0.
+    #[inline(always)]
     pub fn word(&self, at: Addr, i: u32) -> u16
         requires { i < length (chunk_at self.now at.place).words }
         ensures { slice_get (chunk_at self.now at.place).words i ≡ Some result }
@@ -130,6 +134,7 @@ impl Segment {
     }
 
     /// Changes a word of a chunk.
+    #[inline(always)]
     pub fn set_word(&mut self, at: Addr, i: u32, w: u16)
         requires { i < length (chunk_at self.old at.place).words }
         ensures chunks { chunk_at self.new ≡ with_word (chunk_at self.old) at.place i w }
@@ -159,6 +164,7 @@ impl Segment {
     }
 
     /// Frees a chunk. No free chunk gets smaller by it, and the words of this one are free together.
+    #[inline(always)]
     pub fn give(&mut self, at: Addr)
         requires { 0 < (chunk_at self.old at.place).owner }
         ensures chunks { chunk_at self.new ≡ with_chunk (chunk_at self.old) at.place no_chunk }

@@ -53,6 +53,7 @@ impl Words {
         }
     }
 
+    #[inline(always)]
     pub(crate) fn get(&self, i: u32) -> u16
         requires { i < length self.now.cells.items }
         ensures { result ≡ word_at self.now.cells.items i }
@@ -60,6 +61,7 @@ impl Words {
         *self.cells.get(self.base, i as usize)
     }
 
+    #[inline(always)]
     pub(crate) fn put(&mut self, i: u32, w: u16)
         requires { i < length self.old.cells.items }
         ensures { self.new.cells.items ≡ slice_set self.old.cells.items i w }

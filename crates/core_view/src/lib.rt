@@ -12,6 +12,11 @@
 //! what a call holds. Read `specs/Core.antt`, `Words.antt` and `Held.antt` first, then `Counts.antt`, `Kept.antt` and `Steps.antt`. How
 //! much of a core is in use, and what goes while room is made, stand in `Room.antt` and `Purge.antt`. The crate has no code: its laws
 //! stand on the functions of `laws`, which do nothing, and in `proofs/`. What makes the steps is `leaf_lambda`.
+//!
+//! - Proved: As laws: what a core and a disk hold together is one heap, and what each step of a core does to it. Where nothing but pinned
+//!   objects has a body, no more room is in use than they need.
+//! - Tested: By the crates that make the steps.
+//! - Not said: Nothing that we know of.
 #![tactic(auto)]
 
 pub mod laws;

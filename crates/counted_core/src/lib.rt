@@ -12,6 +12,11 @@
 //! Read `specs/Levels.antt` first, then `Counted.antt`, where an object's states are drawn, `Dead.antt` and `Steps.antt`. What names an
 //! object from outside is `outside` of its entry, so no list of registers and slots is kept here. The crate has no code: its laws stand on the
 //! functions of `laws`, which do nothing, and in `proofs/`. What makes the steps is `delta_counts` and the crates above it.
+//!
+//! - Proved: As laws: what exact counts mean for a core with a disk, and that each step keeps them. Where no object is dead, the heap is
+//!   just what is kept. Freeing takes no ring.
+//! - Tested: By the crates that make the steps.
+//! - Not said: Nothing that we know of.
 #![tactic(auto)]
 
 pub mod laws;

@@ -21,6 +21,7 @@ use object_table::Short;
 use resident_table::Parts2;
 
 // Another number for the change of an entry's count.
+#[inline(always)]
 pub(crate) fn set_change(p: &mut Parts2, s: Short, change: i64)
     requires names { IsNames p.old }
     requires used { is_used (entry_at p.old.table s.0).state ≡ true }
@@ -33,6 +34,7 @@ pub(crate) fn set_change(p: &mut Parts2, s: Short, change: i64)
 }
 
 /// A number more for the change of an entry's count, unless it would be no number of 64 bits.
+#[inline(always)]
 pub fn add_change(p: &mut Parts2, s: Short, by: i64)
     requires names { IsNames p.old }
     requires used { is_used (entry_at p.old.table s.0).state ≡ true }
@@ -51,6 +53,7 @@ pub fn add_change(p: &mut Parts2, s: Short, by: i64)
 }
 
 /// One word less is this name: in its entry, or where it has none on disk.
+#[inline(always)]
 pub fn lower<H: Host>(
     p: &mut Parts2,
     disk: &mut DiskObjects<'_, H>,

@@ -22,6 +22,7 @@ use object_table::Short;
 use resident_table::Parts2;
 
 // Whether an entry is a leaf to which nothing refers.
+#[inline(always)]
 fn is_idle(p: &Parts2, s: Short) -> bool
     requires short { is_short s.0 ≡ true }
     requires within { s.0 < bound_of p.now.table }
@@ -73,6 +74,7 @@ pub fn give_up<H: Host>(
 }
 
 /// Gives up the entry, if it is that of an idle leaf.
+#[inline(always)]
 pub fn give_idle_at<H: Host>(
     p: &mut Parts2,
     disk: &mut DiskObjects<'_, H>,

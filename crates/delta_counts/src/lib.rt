@@ -13,6 +13,11 @@
 //! that parts and a disk stand for such levels, and each call says what it makes of them where the host tells Work. Read `specs/At.antt` first,
 //! then `Parts.antt` and `Giving.antt`. Bodies are never touched: the layer above frees the dead objects that have one, whose words `lower_words`
 //! lowers from the record that it makes of them.
+//!
+//! - Proved: Each call keeps counts exact where the host tells Work. `drain_one` frees one name that nothing holds, and answers false
+//!   exactly where there is none without a body. Over every host each call ends.
+//! - Tested: Objects that die in each state (`memory_tests`).
+//! - Not said: What is freed first.
 #![tactic(auto)]
 
 mod changes;

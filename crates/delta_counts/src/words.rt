@@ -25,6 +25,7 @@ use object_record::RecordBuf;
 use resident_table::Parts2;
 
 // One word less is this value, if it is a name.
+#[inline(always)]
 fn lower_value<H: Host>(
     p: &mut Parts2,
     disk: &mut DiskObjects<'_, H>,
@@ -108,6 +109,7 @@ fn lower_fields<H: Host>(
 }
 
 // One word less for the class of the record.
+#[inline(always)]
 fn lower_class<H: Host>(
     p: &mut Parts2,
     disk: &mut DiskObjects<'_, H>,
@@ -131,6 +133,7 @@ fn lower_class<H: Host>(
 
 /// One word less for the class and for each name among the fields of the record. Damage in a field is told with this place and the
 /// record's name.
+#[inline(always)]
 pub fn lower_words<H: Host>(
     p: &mut Parts2,
     disk: &mut DiskObjects<'_, H>,

@@ -49,6 +49,8 @@ fn take_event<M: ObjectMemory>(m: &mut M, cpu: &mut Cpu, event: Event) -> Result
 }
 
 /// Takes a line.
+#[cold]
+#[inline(never)]
 fn take_line<M: ObjectMemory>(m: &mut M, cpu: &mut Cpu, line: Line) -> Result<(), Stop>
     requires fit { IsFit M.ObjectMemory m.old }
     ensures serves { Serves (M.told m.old) cpu.old (M.told m.new) cpu.new (model.take_line line) result }
@@ -59,6 +61,7 @@ fn take_line<M: ObjectMemory>(m: &mut M, cpu: &mut Cpu, line: Line) -> Result<()
 }
 
 /// Whether the line at a place is there, and comes at this count.
+#[inline(always)]
 fn is_due(events: &EventList, place: usize, count: u32) -> bool
     ensures due { result ≡ due_at events.now place count }
     ensures there { IsTrue result → place < length events.now }
@@ -68,6 +71,7 @@ fn is_due(events: &EventList, place: usize, count: u32) -> bool
 }
 
 /// Takes the lines that come at the number of bytecodes that were run.
+#[inline(always)]
 fn events_due<M: ObjectMemory>(m: &mut M, cpu: &mut Cpu, events: &EventList) -> Result<(), Stop>
     requires fit { IsFit M.ObjectMemory m.old }
     ensures serves { Serves (M.told m.old) cpu.old (M.told m.new) cpu.new (model.events_due events.now) result }
@@ -83,6 +87,8 @@ fn events_due<M: ObjectMemory>(m: &mut M, cpu: &mut Cpu, events: &EventList) -> 
 }
 
 /// The timer signals its semaphore, and is cleared.
+#[cold]
+#[inline(never)]
 fn fire<M: ObjectMemory>(m: &mut M, cpu: &mut Cpu) -> Result<(), Stop>
     requires fit { IsFit M.ObjectMemory m.old }
     ensures serves { Serves (M.told m.old) cpu.old (M.told m.new) cpu.new model.fire result }
@@ -95,12 +101,14 @@ fn fire<M: ObjectMemory>(m: &mut M, cpu: &mut Cpu) -> Result<(), Stop>
 }
 
 /// Whether the timer's tick has come.
+#[inline(always)]
 fn is_reached(timer: Option<u32>, now: u32) -> bool
     ensures { result ≡ model.is_reached timer now }
 {
     timer.is_some_and(|tick| tick <= now)
 }
 
+#[inline(always)]
 fn check_timer<M: ObjectMemory>(m: &mut M, cpu: &mut Cpu) -> Result<(), Stop>
     requires fit { IsFit M.ObjectMemory m.old }
     ensures serves { Serves (M.told m.old) cpu.old (M.told m.new) cpu.new model.check_timer result }
@@ -115,6 +123,7 @@ fn check_timer<M: ObjectMemory>(m: &mut M, cpu: &mut Cpu) -> Result<(), Stop>
 /// Does what is due before a bytecode: the lines that come at this count, in order, and then the timer. A line's word joins the queue
 /// and signals the input semaphore; at Purge and Compact the memory puts out what it can, or closes its gaps, which changes nothing of
 /// the machine. In constant time where nothing is due.
+#[inline(always)]
 pub fn due<M: ObjectMemory>(m: &mut M, cpu: &mut Cpu, events: &EventList) -> Result<(), Stop>
     requires fit { IsFit M.ObjectMemory m.old }
     ensures serves { Serves (M.told m.old) cpu.old (M.told m.new) cpu.new (model.due events.now) result }

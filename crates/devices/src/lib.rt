@@ -12,6 +12,11 @@
 //!
 //! Read `Devices` and `Forms` of `blue_model` first, then `specs/Pictures`. The scratch registers from 10 to 19 are used, and those of
 //! `contexts` and `process_sched`. It reads no file and writes none.
+//!
+//! - Proved: Over any object memory input, clock, timer, display, transcript and checkpoint serve the model's rules, and the picture is the
+//!   one that is defined over the pixels of its form.
+//! - Tested: Each condition broken, as cases (`docs/CASES.md`).
+//! - Not said: That a purge line purges and a compact line compacts; this is read in the code.
 #![tactic(auto)]
 
 mod display;

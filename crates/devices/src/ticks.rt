@@ -19,6 +19,7 @@ use long_names::Kind;
 use object_memory::{ObjectMemory, Reg, shape};
 
 /// The clock: how many bytecodes were run, by earlier runs of the machine and by this one. It stands still at the greatest number.
+#[inline(always)]
 pub fn clock(cpu: &Cpu) -> u32
     ensures { result ≡ model.clock cpu.now }
 {
@@ -71,7 +72,7 @@ fn put_tick<M: ObjectMemory>(m: &mut M, of: Reg, tick: u32) -> Result<(), Stop>
     store_byte(m, of, 3, (tick / 16_777_216 % 256) as u8)
 }
 
-/// Stores the clock before this bytecode into the argument (primitiveTimeWordsInto).
+/// Stores the clock before this bytecode into the argument (primitiveTickWordsInto).
 pub(crate) fn tick_words<M: ObjectMemory>(m: &mut M, cpu: &mut Cpu) -> Result<Answer, Stop>
     requires fit { IsFit M.ObjectMemory m.old }
     ensures serves { Serves (M.told m.old) cpu.old (M.told m.new) cpu.new model.tick_words result }

@@ -17,6 +17,11 @@
 //! (`PutsObject` and the like). A host that doesn't tell Work is tested, and answered by Damaged with the place of the slot or the record
 //! that was read; how many names are held is known over any host. Read `specs/Disk.antt` first, then `specs/Function.antt` and
 //! `specs/Calls.antt`.
+//!
+//! - Proved: Over a host that tells Work it is a finite map from names to records with counts, beside a list of pending names, and each
+//!   call says what becomes of both. Over every host draining ends.
+//! - Tested: Objects filled and emptied, damage, calls that fail, the last object without room (`work_tests`).
+//! - Not said: That a name's slot is looked for once; this is read in the code.
 #![tactic(auto)]
 
 pub mod laws;

@@ -75,6 +75,7 @@ impl<'h, H: Host> DiskObjects<'h, H> {
     }
 
     /// For how many objects there is room, as it was given at the beginning.
+    #[inline(always)]
     pub fn room(&self) -> u32
         ensures { result ≡ disk_room self.now.rest }
     {
@@ -93,6 +94,7 @@ impl<'h, H: Host> DiskObjects<'h, H> {
 
     /// Puts the record of a name into the buffer: false exactly where the name isn't held. The record's count is any number. After
     /// false or a fault the buffer may hold anything.
+    #[inline(always)]
     pub fn get(&mut self, name: Name, buf: &mut RecordBuf) -> Result<bool, DiskFault>
         requires stands { HoldsObjects H.Host self.old.host.now self.old.rest }
         ensures got { IsTrue (H.tells Role.Work) → (objects : Objects) (pending : List ℕ) →
@@ -131,6 +133,7 @@ impl<'h, H: Host> DiskObjects<'h, H> {
 
     /// Puts the record of a name that is held into the buffer, and answers the record's place in Work. After a fault the buffer may hold
     /// anything.
+    #[inline(always)]
     pub fn get_held(&mut self, name: Name, buf: &mut RecordBuf) -> Result<u64, DiskFault>
         requires stands { HoldsSuch H.Host self.old.host.now self.old.rest (IsHeldName name) }
         ensures got { IsTrue (H.tells Role.Work) → (objects : Objects) (pending : List ℕ) →
@@ -148,6 +151,7 @@ impl<'h, H: Host> DiskObjects<'h, H> {
 
     /// Puts the buffer's record with a count, in place of what its name has. Full exactly where the name isn't held and as many are as
     /// there is room for; nothing changes then.
+    #[inline(always)]
     pub fn put(&mut self, buf: &RecordBuf, count: u64) -> Result<(), DiskFault>
         requires record { HasRecord buf.now }
         requires stands { HoldsObjects H.Host self.old.host.now self.old.rest }
@@ -169,6 +173,7 @@ impl<'h, H: Host> DiskObjects<'h, H> {
     }
 
     /// The count of a name: None exactly where it isn't held.
+    #[inline(always)]
     pub fn count(&mut self, name: Name) -> Result<Option<u64>, DiskFault>
         requires stands { HoldsObjects H.Host self.old.host.now self.old.rest }
         ensures count { IsTrue (H.tells Role.Work) → (objects : Objects) (pending : List ℕ) →
@@ -185,6 +190,7 @@ impl<'h, H: Host> DiskObjects<'h, H> {
     }
 
     /// Changes the count of a name that is held, and answers it. The new count has to be from 0 to the greatest u64.
+    #[inline(always)]
     pub fn add_count(&mut self, name: Name, change: i64) -> Result<u64, DiskFault>
         requires stands { HoldsSuch H.Host self.old.host.now self.old.rest (CanChange name change) }
         ensures counted { IsTrue (H.tells Role.Work) → (objects : Objects) (pending : List ℕ) →
@@ -202,6 +208,7 @@ impl<'h, H: Host> DiskObjects<'h, H> {
     }
 
     /// Removes a name that is held and not pending.
+    #[inline(always)]
     pub fn remove(&mut self, name: Name) -> Result<(), DiskFault>
         requires stands { HoldsSuch H.Host self.old.host.now self.old.rest (IsIdle name) }
         ensures removed { IsTrue (H.tells Role.Work) → (objects : Objects) (pending : List ℕ) →
@@ -236,6 +243,7 @@ impl<'h, H: Host> DiskObjects<'h, H> {
     }
 
     /// Makes a name that is held and not pending the first pending one.
+    #[inline(always)]
     pub fn put_pending(&mut self, name: Name) -> Result<(), DiskFault>
         requires stands { HoldsSuch H.Host self.old.host.now self.old.rest (IsIdle name) }
         ensures put { IsTrue (H.tells Role.Work) → (objects : Objects) (pending : List ℕ) →
@@ -252,6 +260,7 @@ impl<'h, H: Host> DiskObjects<'h, H> {
     }
 
     /// Takes the first pending name, which stays held: None exactly where none is pending.
+    #[inline(always)]
     pub fn take_pending(&mut self) -> Result<Option<Name>, DiskFault>
         requires stands { HoldsObjects H.Host self.old.host.now self.old.rest }
         ensures took { IsTrue (H.tells Role.Work) → (objects : Objects) (pending : List ℕ) →

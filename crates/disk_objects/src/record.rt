@@ -40,6 +40,7 @@ pub(crate) fn failed<H: Host>(host: &H) -> DiskFault
     }
 }
 
+#[inline(always)]
 fn word_at(bytes: &[u8], at: usize) -> u16
     requires { at + 2 ≤ length bytes.now }
     ensures { result ≡ word_at bytes.now at }
@@ -55,6 +56,7 @@ fn long_at(bytes: &[u8], at: usize) -> u32
 }
 
 // How many bytes a record has before its zeros, by its first bytes.
+#[inline(always)]
 fn end_of(bytes: &[u8]) -> u64
     requires { length bytes.now ≡ LITERALS_AT }
     ensures end { result ≡ end_stated bytes.now }
@@ -70,6 +72,7 @@ fn end_of(bytes: &[u8]) -> u64
 }
 
 // How many bytes a record has, by its first bytes.
+#[inline(always)]
 fn size_of(bytes: &[u8]) -> u64
     requires { length bytes.now ≡ LITERALS_AT }
     ensures { result ≡ size_stated_in bytes.now }
@@ -79,6 +82,7 @@ fn size_of(bytes: &[u8]) -> u64
 }
 
 // What the first bytes of the record at a place say. Damage is told about a name.
+#[inline(always)]
 fn parse(bytes: &[u8], place: u64, name: Name) -> Result<Head, DiskFault>
     requires { length bytes.now ≡ LITERALS_AT }
     ensures link { IfOk result (λ head. head.link ≡ big_number 8 (take 8 (drop COUNT_AT bytes.now))) }
@@ -152,6 +156,7 @@ fn read_front<H: Host>(
 }
 
 // Puts so many bytes at a place to the front of a piece, of which the first were read.
+#[inline(always)]
 fn fetch<H: Host>(
     host: &mut H,
     place: u64,
@@ -202,6 +207,7 @@ pub(crate) fn read_record<H: Host>(
 }
 
 // The name that a link is to, None for 0. Damage is told about a name.
+#[inline(always)]
 fn parse_link(link: u64, place: u64, name: Name) -> Result<Option<Name>, DiskFault>
     ensures link { IfOk result (λ next. link ≡ link_to next) }
     ensures fault { IfErr result (λ fault. (fault ≡ Damaged place name) × (link ≢ 0) × (IsLongName link → ⊥)) }
@@ -251,6 +257,7 @@ pub(crate) fn write_link<H: Host>(host: &mut H, place: u64, link: u64) -> Result
     write(host, place + COUNT_AT as u64, &bytes)
 }
 
+#[inline(always)]
 fn write<H: Host>(host: &mut H, place: u64, bytes: &[u8]) -> Result<(), DiskFault>
     ensures here { IsTrue (H.tells Role.Work) → OnOk result (window (work_of H.Host host.new) place (length bytes.now) ≡ bytes.now) }
     ensures touches { IsTrue (H.tells Role.Work) → OnOk result (Touches (work_of H.Host host.old) (work_of H.Host host.new) place (length bytes.now)) }
@@ -264,6 +271,7 @@ fn write<H: Host>(host: &mut H, place: u64, bytes: &[u8]) -> Result<(), DiskFaul
 }
 
 // Puts the bytes of a record to the front of a piece, and this link where they have their count.
+#[inline(always)]
 fn link_front(front: &mut [u8], bytes: &[u8], link: u64)
     requires size { KIND_AT ≤ length bytes.now }
     requires room { length bytes.now ≤ length front.old }
@@ -331,6 +339,7 @@ pub(crate) fn rename_record<H: Host>(
 }
 
 // The size class of the block that the buffer's record wants.
+#[inline(always)]
 pub(crate) fn size_class_for(buf: &RecordBuf) -> u8
     requires { HasRecord buf.now }
     ensures { IsSizeClass result (record_size (raw_of buf.now)) }

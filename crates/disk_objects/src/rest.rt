@@ -85,6 +85,7 @@ fn held_slot(found: Found, name: Name) -> Result<HeldSlot, DiskFault>
 }
 
 // A count after a change, where there is one.
+#[inline(always)]
 fn changed(count: u64, change: i64) -> Option<u64>
     ensures { SomeIff result (FitsUnsigned w64 (pos count +ℤ change)) (unsigned_abs (pos count +ℤ change)) }
 {
@@ -92,6 +93,7 @@ fn changed(count: u64, change: i64) -> Option<u64>
 }
 
 // The count of slot `at` after a change. Where there is none, damage is told of the slot.
+#[inline(always)]
 fn recount(count: u64, change: i64, at: u32, name: Name) -> Result<u64, DiskFault>
     ensures count { IfOk result (λ n. n ≡ unsigned_abs (pos count +ℤ change)) }
     ensures fault { IfErr result (λ fault. (fault ≡ DiskFault.Damaged (SLOT_BYTES * at) name) × (FitsUnsigned w64 (pos count +ℤ change) → ⊥)) }
@@ -103,6 +105,7 @@ fn recount(count: u64, change: i64, at: u32, name: Name) -> Result<u64, DiskFaul
 }
 
 // The number that links to a name, 0 for none.
+#[inline(always)]
 fn number_of(name: &Option<Name>) -> u64
     ensures { result ≡ link_to name.now }
 {
@@ -143,6 +146,7 @@ impl DiskRest {
     }
 
     // For how many names there is room.
+    #[inline(always)]
     pub(crate) fn room(&self) -> u32
         ensures { result ≡ disk_room self.now }
     {

@@ -12,6 +12,11 @@
 //!
 //! Read `specs/Text` first, which has the grammar. Lines and events are those of `blue_model`, which also says what comes of them.
 //! It takes no line, and knows no machine.
+//!
+//! - Proved: `read_events` answers the list of lines that the bytes are, or the number of the first bad line, and reads no piece behind the
+//!   one that shows it.
+//! - Tested: Good and bad files are cases; a file without end (`tests/edge.sh`).
+//! - Not said: That out of memory has a cause.
 #![tactic(auto)]
 
 mod fault;

@@ -65,6 +65,7 @@ impl EventList {
     }
 
     /// The number of lines.
+    #[inline(always)]
     pub fn len(&self) -> usize
         ensures value { result ≡ length self.now }
         ensures few { result ≤ MOST_LINES }

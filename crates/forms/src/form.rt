@@ -28,6 +28,7 @@ pub struct Extent {
 }
 
 /// A number of columns or rows, which is 1 or more.
+#[inline(always)]
 fn positive(z: i16) -> Option<u16>
     ensures { result ≡ model.positive z }
 {
@@ -58,6 +59,7 @@ fn read_extent<M: ObjectMemory>(m: &mut M) -> Result<Option<Extent>, Stop>
 }
 
 /// So many words are a row of a form of this width.
+#[inline(always)]
 pub fn row_words(width: u16) -> u32
     ensures { result ≡ model.row_words width }
 {

@@ -9,6 +9,10 @@
 //!     };                                         // else its bits are in R13, and have row_words(extent.width) words a row
 //!
 //! It reads what it needs and changes nothing but two scratch registers.
+//!
+//! - Proved: Over any object memory `read_form` finds a form exactly where the model's rule does.
+//! - Tested: As cases (`docs/CASES.md`).
+//! - Not said: Nothing that we know of.
 #![tactic(auto)]
 
 mod form;

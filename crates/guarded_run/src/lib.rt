@@ -13,6 +13,10 @@
 //! The clauses say where the model's guarded run (`Guarded` of blue_model) is then, and that a stop is the one that it comes to: read
 //! `specs/Course.antt` first, the course of a guarded run, then `specs/Legs.antt`. That a memory keeps what the model's machine keeps is a
 //! law (`laws`). Over a memory that doesn't tell its heap nothing is said but of counts and faults.
+//!
+//! - Proved: Over any object memories a run that keeps checkpoints goes, leg by leg, as the model's guarded run.
+//! - Tested: By `guard_tests`, over the whole program.
+//! - Not said: Who makes the memories and keeps what is to be kept; that is `loom_guard`.
 #![tactic(auto)]
 
 pub mod laws;

@@ -15,6 +15,11 @@
 //! Read `specs/Text.antt` and `Valid.antt` first; a record's text is `Record.antt` of long_names. How bytes are read, and which rule
 //! they break first, is `Reading.antt`, `Heads.antt` and `Rules.antt`: `first_break` is None exactly for the text of a heap, a version
 //! and a state (`laws`). Whole images are read and written by the crates above, piece by piece.
+//!
+//! - Proved: Decoding answers the record that the bytes begin with, or the first rule that breaks and its place; encoding appends that one
+//!   text. Laws: valid bytes are the text of exactly one heap, version and state.
+//! - Tested: One example of each rule is computed in `proofs/Base.antt`; images with each rule broken are cases.
+//! - Not said: That no memory is taken for a size that the bytes don't fill; this is read in the code.
 #![tactic(auto)]
 
 mod big_endian;

@@ -16,6 +16,11 @@
 //!
 //! That each of these promises gives what the next call asks are the laws of `laws`. Read `specs/Image.antt`. What runs between is not known
 //! here.
+//!
+//! - Proved: A memory that begins over a loaded image stands for its heap. What it leaves at its end is the heap of an image, and is saved
+//!   as one, with the state.
+//! - Tested: Images that are loaded, used and saved again (`work_tests`, `memory_tests`).
+//! - Not said: That out of memory has a cause.
 #![tactic(auto)]
 
 mod beginning;

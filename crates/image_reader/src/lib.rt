@@ -13,6 +13,11 @@
 //! Its condition is that the disk is empty and has this room. Read `specs/Loaded.antt`. Whoever reads images that are spelled otherwise has
 //! the bytes of Image as they come (`Window`), the words that hold each name (`Tally`, `first_unclosed`), and the rules on the known
 //! objects and on the state (`judge_names`).
+//!
+//! - Proved: `load` reads an image record by record to an empty disk, or answers the first rule that breaks, with its place. After Ok the
+//!   disk has the image's heap, and each count is exact.
+//! - Tested: Each rule once with its place, lengths, room, states, reads that fail (`work_tests`).
+//! - Not said: Where a Damaged points, and how much memory it takes: one record, a window, and 12 bytes for each name, as the code reads.
 #![tactic(auto)]
 
 mod fault;

@@ -20,6 +20,12 @@
 //! ```
 //!
 //! Read `specs/Spelling.antt` and `specs/Breaks.antt` of text_lines, and then `specs/Assembled.antt`.
+//!
+//! - Proved: `list` puts the text of the disk's heap and state to Saved. `assemble` reads a text to an empty disk with exact counts, or
+//!   answers the first line that breaks, and its rule.
+//! - Tested: 99 changes of one text, each with its line and rule, files that are no texts, the longest line (`text_tests`); a million
+//!   objects in 256 MB (`tests/large.sh`).
+//! - Not said: How much memory assembling takes: one line, one record, and 12 bytes for each name, as the code reads.
 #![tactic(auto)]
 
 mod assembling;

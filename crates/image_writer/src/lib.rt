@@ -12,6 +12,10 @@
 //!
 //! Its condition is that the disk's counts are those of its heap. Read `specs/Saved.antt`. Whoever spells a disk's objects otherwise has the
 //! names (`names_of`), what is kept of the state (`kept_state`), and the bytes that are gathered for Saved (`Gathered`, `put`, `flush`).
+//!
+//! - Proved: `save` puts the image of the disk's heap, with its counts and a state, to Saved; after a refusal it put a first part of that.
+//! - Tested: States with names that aren't there, and each refusal with what was put (`work_tests`).
+//! - Not said: Which place a Damaged names.
 #![tactic(auto)]
 
 mod fault;

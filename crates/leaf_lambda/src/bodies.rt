@@ -61,6 +61,7 @@ fn method_word(buf: &RecordBuf, k: u32) -> u16
 }
 
 // A word of the body that a record has, with lambdas for its fields.
+#[inline(always)]
 fn body_word(buf: &RecordBuf, k: u32) -> u16
     requires record { HasRecord buf.now }
     requires within { k < length (unresolved (raw_of buf.now).body) }
@@ -75,6 +76,7 @@ fn body_word(buf: &RecordBuf, k: u32) -> u16
 }
 
 /// How many words the body of a record has.
+#[inline(always)]
 pub fn words_of(buf: &RecordBuf) -> u32
     requires { HasRecord buf.now }
     ensures words { result ≡ length (unresolved (raw_of buf.now).body) }

@@ -19,6 +19,7 @@ use long_names::Value;
 use object_table::Short;
 
 /// Whether a word names an entry.
+#[inline(always)]
 pub fn is_name(w: u16) -> bool
     ensures { result ≡ is_short w }
 {
@@ -26,6 +27,7 @@ pub fn is_name(w: u16) -> bool
 }
 
 /// One more reference from outside to what a word names, if it names an entry.
+#[inline(always)]
 pub fn hold_word(p: &mut Parts, w: u16)
     requires parts { IsParts p.old }
     requires used { is_short w ≡ true → is_used ((core_of p.old).entries w).state ≡ true }
@@ -42,6 +44,7 @@ pub fn hold_word(p: &mut Parts, w: u16)
 }
 
 /// One reference from outside less to what a word names, if it names an entry.
+#[inline(always)]
 pub fn drop_word(p: &mut Parts, w: u16)
     requires parts { IsParts p.old }
     requires held { is_short w ≡ true → 1 ≤ outside (core_of p.old) w }
@@ -56,6 +59,7 @@ pub fn drop_word(p: &mut Parts, w: u16)
 }
 
 // What a word means that is no lambda is a value.
+#[inline(always)]
 pub(crate) fn words_mean_values(p: &Parts, w: u16)
     requires parts { IsParts p.now }
     requires used { is_short w ≡ true → is_used ((core_of p.now).entries w).state ≡ true }
@@ -69,6 +73,7 @@ pub(crate) fn words_mean_values(p: &Parts, w: u16)
 
 /// Stores a word that is no lambda into field `i` of a body. A short name must be held from outside, and stays so. The object is marked
 /// as changed. The count of what the field held before is the caller's to lower.
+#[inline(always)]
 pub fn put_field(p: &mut Parts, s: Short, at: Addr, i: u32, w: u16)
     requires parts { IsParts p.old }
     requires light { IsLight (core_of p.old) }

@@ -21,6 +21,7 @@ use long_names::Kind;
 use object_table::{EntryState, Short};
 
 /// Notes that the object of a body was written as its record, as `merge_out` makes it.
+#[inline(always)]
 pub fn set_written(p: &mut Parts, s: Short)
     requires parts { IsParts p.old }
     requires body { (at : ℕ) × (place_of ((core_of p.old).entries s.0).state ≡ Some at) }
@@ -40,6 +41,7 @@ pub fn set_written(p: &mut Parts, s: Short)
 }
 
 // Puts a lambda in the place of a field's word, and lets the word go.
+#[inline(always)]
 fn unresolve_field(p: &mut Parts, s: Short, at: Addr, i: u32)
     requires parts { IsParts p.old }
     requires there { (w : ℕ) × IsAt (core_of p.old) s.0 at.place i w }
@@ -61,6 +63,7 @@ fn unresolve_field(p: &mut Parts, s: Short, at: Addr, i: u32)
 }
 
 // Puts lambdas in the places of all fields' words.
+#[inline(always)]
 fn unresolve_fields(p: &mut Parts, s: Short, at: Addr, count: u32)
     requires parts { IsParts p.old }
     requires place { place_of ((core_of p.old).entries s.0).state ≡ Some at.place }
@@ -82,6 +85,7 @@ fn unresolve_fields(p: &mut Parts, s: Short, at: Addr, count: u32)
 }
 
 // Takes the body from an entry. What its class and fields name is held from outside then.
+#[inline(always)]
 fn close_body(p: &mut Parts, s: Short, at: Addr)
     requires parts { IsParts p.old }
     requires place { place_of ((core_of p.old).entries s.0).state ≡ Some at.place }
@@ -96,6 +100,7 @@ fn close_body(p: &mut Parts, s: Short, at: Addr)
 }
 
 // Frees a chunk of the segment.
+#[inline(always)]
 fn free_chunk(g: &mut Segment, at: Addr)
     requires { 0 < (chunk_at g.old at.place).owner }
     ensures chunks { chunk_at g.new ≡ with_chunk (chunk_at g.old) at.place no_chunk }
@@ -107,6 +112,7 @@ fn free_chunk(g: &mut Segment, at: Addr)
 }
 
 // Frees a chunk where no body lies.
+#[inline(always)]
 fn give_chunk(p: &mut Parts, at: Addr)
     requires parts { IsParts p.old }
     requires loose { IsLoose (core_of p.old) at.place }
@@ -124,6 +130,7 @@ fn give_chunk(p: &mut Parts, at: Addr)
 }
 
 /// How many fields a body has: its values, or the literals of a method.
+#[inline(always)]
 pub fn field_total(p: &Parts, s: Short, at: Addr) -> u32
     requires parts { IsParts p.now }
     requires place { place_of ((core_of p.now).entries s.0).state ≡ Some at.place }
@@ -156,6 +163,7 @@ pub fn body_total(p: &Parts, s: Short, at: Addr) -> u32
 
 /// Evicts an object that is just as its record: its body goes, and what its class and fields named has a reference less for each. Its
 /// entry is a leaf then, and entries to which nothing refers stay leaves.
+#[inline(always)]
 pub fn drop_body(p: &mut Parts, s: Short)
     requires parts { IsParts p.old }
     requires body { (at : ℕ) × (place_of ((core_of p.old).entries s.0).state ≡ Some at) }

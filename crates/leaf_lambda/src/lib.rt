@@ -14,6 +14,11 @@
 //! Read `specs/Parts.antt` first, where an object's states are drawn, then `Records.antt` and `Making.antt`. `turn` follows one fault, one
 //! store and one eviction by these promises alone. The crate reads and writes no disk, changes no count of an object, and frees no entry
 //! by itself: those are its callers' to do.
+//!
+//! - Proved: What is held stays, over every disk that has the record, when an object comes in, a lambda is resolved, a body moves or an
+//!   unchanged object goes. A store changes one object.
+//! - Tested: An object that comes and goes (`core_tests`).
+//! - Not said: The largest free chunk after an object came in or was made; a caller asks for it.
 #![tactic(auto)]
 
 pub mod bodies;

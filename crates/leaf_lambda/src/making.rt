@@ -26,6 +26,7 @@ use long_names::{Kind, Name};
 use object_table::{EntryState, Short};
 
 /// So many more references from outside, at once.
+#[inline(always)]
 pub fn grip_many(p: &mut Parts, s: Short, n: u32)
     requires parts { IsParts p.old }
     requires used { is_used ((core_of p.old).entries s.0).state ≡ true }
@@ -41,6 +42,7 @@ pub fn grip_many(p: &mut Parts, s: Short, n: u32)
 }
 
 /// So many more references from outside to what a word names, if it names an entry.
+#[inline(always)]
 pub fn hold_many(p: &mut Parts, w: u16, n: u32)
     requires parts { IsParts p.old }
     requires used { is_short w ≡ true → is_used ((core_of p.old).entries w).state ≡ true }
@@ -56,6 +58,7 @@ pub fn hold_many(p: &mut Parts, w: u16, n: u32)
 }
 
 // How many fields a new object has.
+#[inline(always)]
 fn count_new(kind: Kind, len: u32, header: u16) -> u32
     ensures { result ≡ fields_new kind len header }
 {
@@ -68,6 +71,7 @@ fn count_new(kind: Kind, len: u32, header: u16) -> u32
 }
 
 // How many words its body has.
+#[inline(always)]
 fn size_new(kind: Kind, len: u32, header: u16) -> u32
     requires { len ≤ most_len kind }
     ensures { result ≡ words_for kind len (literal_count (int_of_short header)) }
@@ -81,6 +85,7 @@ fn size_new(kind: Kind, len: u32, header: u16) -> u32
 }
 
 // A word of its body.
+#[inline(always)]
 fn word_new(kind: Kind, len: u32, header: u16, filler: u16, k: u32) -> u16
     requires within { k < length (words_new kind len header filler) }
     ensures { slice_get (words_new kind len header filler) k ≡ Some result }
@@ -102,6 +107,7 @@ fn word_new(kind: Kind, len: u32, header: u16, filler: u16, k: u32) -> u16
 }
 
 // Fills a chunk with the words of a new body.
+#[inline(always)]
 fn fill_new(g: &mut Segment, at: Addr, kind: Kind, len: u32, header: u16, filler: u16, words: u32)
     requires long { length (chunk_at g.old at.place).words ≡ words }
     requires words { words ≡ length (words_new kind len header filler) }
@@ -116,6 +122,7 @@ fn fill_new(g: &mut Segment, at: Addr, kind: Kind, len: u32, header: u16, filler
 }
 
 // Gives a chunk to an owner, with the words of a new body.
+#[inline(always)]
 fn take_filled_new(
     g: &mut Segment,
     words: u32,
@@ -146,6 +153,7 @@ fn take_filled_new(
 }
 
 /// A chunk of an entry's own, with the words of a new body.
+#[inline(always)]
 pub fn take_new(p: &mut Parts, s: Short, kind: Kind, len: u32, header: u16, filler: u16) -> Addr
     requires parts { IsParts p.old }
     requires used { is_used ((core_of p.old).entries s.0).state ≡ true }
@@ -167,6 +175,7 @@ pub fn take_new(p: &mut Parts, s: Short, kind: Kind, len: u32, header: u16, fill
 
 /// Opens a leaf as a new object: from here on it has a body in a chunk of its own, of a class and with fields that were held from
 /// outside, and no record.
+#[inline(always)]
 pub fn open_new(p: &mut Parts, s: Short, at: Addr, class: Short, kind: Kind, len: u32)
     requires parts { IsParts p.old }
     requires opening { IsOpening (core_of p.old) s.0 at.place (made ((core_of p.old).entries s.0) at.place class.0 kind len) }

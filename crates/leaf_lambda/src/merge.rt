@@ -24,6 +24,7 @@ use object_record::RecordBuf;
 use object_table::Short;
 
 // The long word of the number of a short word.
+#[inline(always)]
 fn number_long(w: u16) -> u32
     ensures odd { result % 2 ≡ 1 }
     ensures number { int_in result ≡ int_of_short w }
@@ -33,6 +34,7 @@ fn number_long(w: u16) -> u32
 }
 
 // The long word of a short word that is no lambda.
+#[inline(always)]
 fn word_long(p: &Parts, w: u16) -> u32
     requires parts { IsParts p.now }
     requires some { w ≢ 0 }
@@ -48,6 +50,7 @@ fn word_long(p: &Parts, w: u16) -> u32
 }
 
 // Merges one field: the word's long word, or what the old copy has where it is a lambda.
+#[inline(always)]
 fn merge_field(p: &Parts, s: Short, at: Addr, buf: &mut RecordBuf, i: u32)
     requires parts { IsParts p.now }
     requires there { (w : ℕ) × IsAt (core_of p.now) s.0 at.place i w }
@@ -69,6 +72,7 @@ fn merge_field(p: &Parts, s: Short, at: Addr, buf: &mut RecordBuf, i: u32)
 }
 
 // Merges all fields.
+#[inline(always)]
 fn merge_fields(p: &Parts, s: Short, at: Addr, buf: &mut RecordBuf, count: u32)
     requires parts { IsParts p.now }
     requires place { place_of ((core_of p.now).entries s.0).state ≡ Some at.place }
@@ -161,6 +165,7 @@ fn merge_into(p: &Parts, s: Short, at: Addr, buf: &mut RecordBuf)
 }
 
 // How many literals the header word of a method says.
+#[inline(always)]
 pub(crate) fn literals_by(header: u16) -> u32
     ensures { result ≡ count_literals (int_of_short header) }
 {
@@ -168,6 +173,7 @@ pub(crate) fn literals_by(header: u16) -> u32
 }
 
 /// How many literals an object of a kind has: what the header of a method says.
+#[inline(always)]
 pub fn literals_of(p: &Parts, at: Addr, kind: Kind) -> u32
     requires { kind ≡ sort.Method → 0 < length ((core_of p.now).chunks at.place).words }
     ensures { result ≡ literals_for kind (header_in ((core_of p.now).chunks at.place).words) }
@@ -179,6 +185,7 @@ pub fn literals_of(p: &Parts, at: Addr, kind: Kind) -> u32
 }
 
 // Makes an empty record like an object that has none yet.
+#[inline(always)]
 fn blank_copy(p: &Parts, s: Short, at: Addr, buf: &mut RecordBuf)
     requires parts { IsParts p.now }
     requires place { place_of ((core_of p.now).entries s.0).state ≡ Some at.place }
@@ -192,6 +199,7 @@ fn blank_copy(p: &Parts, s: Short, at: Addr, buf: &mut RecordBuf)
 }
 
 // A record like an object: the one that there is, or an empty one.
+#[inline(always)]
 fn ready_copy(p: &Parts, s: Short, at: Addr, buf: &mut RecordBuf)
     requires parts { IsParts p.now }
     requires place { place_of ((core_of p.now).entries s.0).state ≡ Some at.place }
@@ -209,6 +217,7 @@ fn ready_copy(p: &Parts, s: Short, at: Addr, buf: &mut RecordBuf)
 
 /// Makes the record of an object with a body. Unless the object is fresh, the buffer has its old record, and each lambda is what that
 /// has in its field. The count of the record stays, or is 0.
+#[inline(always)]
 pub fn merge_out(p: &mut Parts, s: Short, buf: &mut RecordBuf)
     requires parts { IsParts p.old }
     requires copy { (at : ℕ) × (place_of ((core_of p.old).entries s.0).state ≡ Some at)

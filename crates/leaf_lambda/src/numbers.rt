@@ -6,6 +6,7 @@ ghost use Rattle.core_view.specs.Words.{int_of_short};
 use long_names::SMALL_INTEGERS;
 
 /// The short word of a SmallInteger.
+#[inline(always)]
 pub fn short_int(number: i16) -> u16
     ensures odd { result % 2 ≡ 1 }
     ensures value { IsSmallInteger number → int_of_short result ≡ number }
@@ -18,6 +19,7 @@ pub fn short_int(number: i16) -> u16
 }
 
 /// The number of an odd short word.
+#[inline(always)]
 pub fn int_short(word: u16) -> i16
     ensures { result ≡ int_of_short word }
 {

@@ -63,6 +63,7 @@ pub fn is_leaf(p: &Parts, s: Short) -> bool
 }
 
 // The number of a kind in a record.
+#[inline(always)]
 fn number_of(kind: Kind) -> u16
     ensures { result ≡ kind_number kind }
 {

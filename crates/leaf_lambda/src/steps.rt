@@ -16,6 +16,7 @@ use long_names::{Kind, Name};
 use object_table::Short;
 
 /// One more reference from outside.
+#[inline(always)]
 pub fn grip(p: &mut Parts, s: Short)
     requires parts { IsParts p.old }
     requires used { is_used ((core_of p.old).entries s.0).state ≡ true }
@@ -32,6 +33,7 @@ pub fn grip(p: &mut Parts, s: Short)
 }
 
 /// One reference from outside less. A leaf to which nothing refers then stays in use.
+#[inline(always)]
 pub fn let_go(p: &mut Parts, s: Short)
     requires parts { IsParts p.old }
     requires held { 1 ≤ outside (core_of p.old) s.0 }
@@ -47,6 +49,7 @@ pub fn let_go(p: &mut Parts, s: Short)
 }
 
 /// A leaf for a name that has no entry. None exactly where all entries are in use.
+#[inline(always)]
 pub fn leaf(p: &mut Parts, name: Name) -> Option<Short>
     requires parts { IsParts p.old }
     requires absent { (core_of p.old).find name ≡ None }
@@ -68,6 +71,7 @@ pub fn leaf(p: &mut Parts, name: Name) -> Option<Short>
 }
 
 /// The entry of a name: the one that it has, or a new leaf while more than so many entries are free.
+#[inline(always)]
 pub fn find_or_leaf(p: &mut Parts, name: Name, spare: u16) -> Option<Short>
     requires parts { IsParts p.old }
     ensures parts { IsParts p.new }
@@ -112,6 +116,7 @@ pub fn free_leaf(p: &mut Parts, s: Short)
 }
 
 /// Where field `i` stands among the words of a body.
+#[inline(always)]
 pub fn spot_of(kind: Kind, i: u32) -> u32
     requires { i < 2 ^ 31 }
     ensures { result ≡ spot kind i }
@@ -123,6 +128,7 @@ pub fn spot_of(kind: Kind, i: u32) -> u32
 }
 
 /// The word of field `i` of a body.
+#[inline(always)]
 pub fn field_word(p: &Parts, s: Short, at: Addr, i: u32) -> u16
     requires parts { IsParts p.now }
     requires there { (old : ℕ) × IsAt (core_of p.now) s.0 at.place i old }
@@ -133,6 +139,7 @@ pub fn field_word(p: &Parts, s: Short, at: Addr, i: u32) -> u16
 }
 
 /// Writes a word for field `i` of a body. A short name must be held from outside, and belongs to the body then.
+#[inline(always)]
 pub fn store_word(p: &mut Parts, s: Short, at: Addr, i: u32, w: u16)
     requires parts { IsParts p.old }
     requires there { (old : ℕ) × IsAt (core_of p.old) s.0 at.place i old }
@@ -147,6 +154,7 @@ pub fn store_word(p: &mut Parts, s: Short, at: Addr, i: u32, w: u16)
 }
 
 /// Marks an object with a body as changed.
+#[inline(always)]
 pub fn mark_changed(p: &mut Parts, s: Short)
     requires parts { IsParts p.old }
     requires used { is_used ((core_of p.old).entries s.0).state ≡ true }
@@ -163,6 +171,7 @@ pub fn mark_changed(p: &mut Parts, s: Short)
 }
 
 /// Where the body of an object lies.
+#[inline(always)]
 pub fn place_of_body(p: &Parts, s: Short) -> Addr
     requires parts { IsParts p.now }
     requires there { (at : ℕ) × (place_of ((core_of p.now).entries s.0).state ≡ Some at) }

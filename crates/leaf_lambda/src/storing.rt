@@ -21,6 +21,7 @@ use long_names::Kind;
 use object_table::Short;
 
 // Writes a run of words into a chunk.
+#[inline(always)]
 fn write_run(g: &mut Segment, at: Addr, i: u32, run: &[u16])
     requires within { i + length run.now ≤ length (chunk_at g.old at.place).words }
     requires small { length (chunk_at g.old at.place).words < 2 ^ 17 }
@@ -34,6 +35,7 @@ fn write_run(g: &mut Segment, at: Addr, i: u32, run: &[u16])
 }
 
 /// Writes a run of words into a body of words, from word `i` on. The object is marked as changed.
+#[inline(always)]
 pub fn put_words(p: &mut Parts, s: Short, at: Addr, i: u32, run: &[u16])
     requires parts { IsParts p.old }
     requires place { place_of ((core_of p.old).entries s.0).state ≡ Some at.place }

@@ -32,6 +32,7 @@ use object_table::Short;
 pub const RESERVE: u16 = 128;
 
 // The short name of a name, held from outside. None where it has no entry and none is to spare.
+#[inline(always)]
 fn short_for_name(p: &mut Parts, name: Name) -> Option<Short>
     requires parts { IsParts p.old }
     requires light { IsLight (core_of p.old) }
@@ -53,6 +54,7 @@ fn short_for_name(p: &mut Parts, name: Name) -> Option<Short>
 }
 
 // The word for a short name; for none, a lambda.
+#[inline(always)]
 fn word_for(short: Option<Short>) -> u16
     ensures { result ≡ word_or_lambda short }
 {
@@ -63,6 +65,7 @@ fn word_for(short: Option<Short>) -> u16
 }
 
 // The word of a value, held from outside where it is a short name.
+#[inline(always)]
 fn short_for_value(p: &mut Parts, v: &Value) -> u16
     requires parts { IsParts p.old }
     requires light { IsLight (core_of p.old) }
@@ -88,6 +91,7 @@ fn short_for_value(p: &mut Parts, v: &Value) -> u16
 }
 
 // The same of a long word.
+#[inline(always)]
 fn short_for(p: &mut Parts, long: u32) -> u16
     requires parts { IsParts p.old }
     requires light { IsLight (core_of p.old) }
@@ -106,6 +110,7 @@ fn short_for(p: &mut Parts, long: u32) -> u16
 }
 
 // Puts the short word of its long word in the place of a lambda, where there can be one. Answers the word.
+#[inline(always)]
 fn resolve_field(p: &mut Parts, s: Short, at: Addr, i: u32, long: u32) -> u16
     requires parts { IsParts p.old }
     requires there { IsAt (core_of p.old) s.0 at.place i 0 }

@@ -9,6 +9,11 @@
 //! Most of the crate is `specs/`: read `Names`, `Words` and `Objects` first, then `Heap` and `Kept` (what reference counting keeps),
 //! `State` and `Access` (what a memory is asked), `Need` (what a core has to hold for it) and `Thin` (what may be freed early).
 //! `laws` has what follows from these definitions. It holds no heap and reads no file.
+//!
+//! - Proved: Values and their words are inverse, names are the even numbers but 0, and the parts of an object are got and stored as
+//!   equations. Laws: what is kept is kept again, and freeing loses no ring of objects.
+//! - Tested: Lists that grow, and values at their ends (`outside_tests`).
+//! - Not said: Nothing that we know of.
 #![tactic(auto)]
 
 pub mod laws;

@@ -98,6 +98,7 @@ impl Name {
 
 impl Name {
     /// None exactly for 0 and odd words.
+    #[inline(always)]
     pub fn new(word: u32) -> Option<Name>
         ensures name { IsSome result ↔ IsName word }
         ensures value { IfSome result (λ name. name ≡ word) }
@@ -109,6 +110,7 @@ impl Name {
     }
 
     /// The long word of the name.
+    #[inline(always)]
     pub fn get(self) -> u32
         ensures value { result ≡ self }
         ensures name { IsName self }
@@ -117,6 +119,7 @@ impl Name {
     }
 
     /// Its number among all names: half the long word.
+    #[inline(always)]
     pub fn index(self) -> u32
         ensures { result ≡ self / 2 }
     {
@@ -131,6 +134,7 @@ impl Name {
     }
 
     /// Whether it is the name of an object that every image has.
+    #[inline(always)]
     pub fn is_known(self) -> bool
         ensures { result ≡ is_known self }
     {

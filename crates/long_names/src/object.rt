@@ -210,6 +210,7 @@ impl Body {
 }
 
 /// How many literals a method's header states: its lowest six bits (chapter 27, compiled methods).
+#[inline(always)]
 pub fn literal_count(header: i16) -> usize
     ensures { result ≡ words.literal_count header }
 {

@@ -17,6 +17,7 @@ impl Value {
     ghost use Rattle.long_names.specs.Objects.{name_of, int_of};
 
     /// The name that it is, if it is one.
+    #[inline(always)]
     pub fn name(&self) -> Option<Name>
         ensures { result ≡ name_of self.now }
     {
@@ -27,6 +28,7 @@ impl Value {
     }
 
     /// The number that it is, if it is one.
+    #[inline(always)]
     pub fn number(&self) -> Option<i16>
         ensures { result ≡ int_of self.now }
     {
@@ -44,6 +46,7 @@ impl From<Name> for Value {
 
     ghost from_gives = { λ name v. (v ≡ Ref name) × IsValue v };
 
+    #[inline(always)]
     fn from(name: Name) -> Value {
         let _word = name.get();
         Value::Ref(name)
@@ -51,6 +54,7 @@ impl From<Name> for Value {
 }
 
 /// The long word of a value: of a SmallInteger twice the number and 1, in two's complement (chapter 30).
+#[inline(always)]
 pub fn long_word(v: Value) -> u32
     requires { IsValue v }
     ensures word { result ≡ words.long_word v }
@@ -69,6 +73,7 @@ pub fn long_word(v: Value) -> u32
 }
 
 /// The value of a long word. None exactly for 0 and for a SmallInteger out of range.
+#[inline(always)]
 pub fn value_of(word: u32) -> Option<Value>
     ensures value { result ≡ words.value_of word }
     ensures word { IfSome result (λ v. IsValue v × (words.long_word v ≡ word)) }

@@ -10,6 +10,10 @@
 //!
 //! Read `specs/Generated.antt` first, then `Table.antt` and `Messages.antt`: each object as a function of its name. The code has a
 //! table of its own (`src/table.rt`), which stands for the same objects. What the processes do when the image is run is said nowhere.
+//!
+//! - Proved: `make` gives the image of the heap that `specs/Generated.antt` defines for a number from 0 to 19, object by object.
+//! - Tested: The first image's length and ends. All twenty were compared once with those of the reference machine, byte for byte.
+//! - Not said: What the three processes do when such an image is run.
 #![tactic(auto)]
 
 mod generator;

@@ -8,6 +8,7 @@ use crate::load::either;
 use object_record::RecordBuf;
 
 // Whether a long word is no name at the next one or above.
+#[inline(always)]
 pub(crate) fn is_below(long: u32, next: u32) -> bool
     ensures { IsTrue result ↔ IsBelow next (value_in long) }
 {

@@ -21,6 +21,7 @@ use long_names::Kind;
 use object_table::Short;
 
 // Whether so many from a place on are among this many.
+#[inline(always)]
 fn reaches(len: u32, i: u32, count: usize) -> bool
     ensures { MatchBool result (i + count ≤ len) (len < i + count) }
 {
@@ -31,6 +32,7 @@ fn reaches(len: u32, i: u32, count: usize) -> bool
 }
 
 // Copies a run of the words of a chunk, from word i on.
+#[inline(always)]
 fn copy_words(g: &Segment, at: Addr, i: u32, out: &mut [u16])
     requires within { i + length out.old ≤ length (chunk_at g.now at.place).words }
     requires small { i + length out.old < 2 ^ 16 }
@@ -43,6 +45,7 @@ fn copy_words(g: &Segment, at: Addr, i: u32, out: &mut [u16])
 }
 
 // Byte i of the words of a chunk from one on.
+#[inline(always)]
 fn byte_from(g: &Segment, at: Addr, first: u32, i: u32) -> u8
     requires within { first + i / 2 < length (chunk_at g.now at.place).words }
     requires small { first < 2 ^ 16 }
@@ -104,7 +107,7 @@ pub(crate) fn word_at(p: &Parts, s: Short, i: u32) -> Option<u16>
 }
 
 // How many values a body of pointers has. None where it is of another kind, or there is no body.
-#[inline]
+#[inline(always)]
 pub(crate) fn field_count_at(p: &Parts, s: Short) -> Option<u32>
     requires parts { IsParts p.now }
     requires used { is_used ((core_of p.now).entries s.0).state ≡ true }
@@ -123,6 +126,7 @@ pub(crate) fn field_count_at(p: &Parts, s: Short) -> Option<u32>
 }
 
 // The header of a method. None where it is none.
+#[inline(always)]
 pub(crate) fn header_at(p: &Parts, s: Short) -> Option<i16>
     requires parts { IsParts p.now }
     requires there { (at : ℕ) × (place_of ((core_of p.now).entries s.0).state ≡ Some at) }
@@ -157,6 +161,7 @@ pub(crate) fn byte_at(p: &Parts, s: Short, i: u32) -> Option<u8>
 }
 
 // The place of a method's first byte of code, by its header word: behind the header and the literals, of two bytes each.
+#[inline(always)]
 fn code_first(header: u16) -> u32
     ensures { result ≡ 2 * (literal_count (int_of_short header) + 1) }
 {
@@ -164,6 +169,7 @@ fn code_first(header: u16) -> u32
 }
 
 // The byte at a place among those of a chunk's words, which are a method with so many bytes of code. None where it isn't one of these.
+#[inline(always)]
 fn code_byte(g: &Segment, at: Addr, len: u32, place: u32) -> Option<u8>
     requires long { length (chunk_at g.now at.place).words ≡ words_for kind.Method len (literal_count (header_in (chunk_at g.now at.place).words)) }
     ensures { result ≡ code_from (chunk_at g.now at.place).words len place }
@@ -179,6 +185,7 @@ fn code_byte(g: &Segment, at: Addr, len: u32, place: u32) -> Option<u8>
 }
 
 // The byte of a method's code at a place that counts from its header on. None where there is none, or no body.
+#[inline(always)]
 pub(crate) fn code_byte_at(p: &Parts, s: Short, place: u32) -> Option<u8>
     requires parts { IsParts p.now }
     requires used { is_used ((core_of p.now).entries s.0).state ≡ true }
@@ -196,6 +203,7 @@ pub(crate) fn code_byte_at(p: &Parts, s: Short, place: u32) -> Option<u8>
 }
 
 // Copies a run of a body's words from word i on. False where they aren't all there.
+#[inline(always)]
 pub(crate) fn words_into(p: &Parts, s: Short, i: u32, out: &mut [u16]) -> bool
     requires parts { IsParts p.now }
     requires there { (at : ℕ) × (place_of ((core_of p.now).entries s.0).state ≡ Some at) }

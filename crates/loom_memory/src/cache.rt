@@ -15,6 +15,7 @@ use object_memory::{MemFault, Reg};
 use object_table::Short;
 
 // Whether a word names an entry that is marked.
+#[inline(always)]
 fn names_marked(p: &Parts, w: u16) -> bool
     requires { IsParts p.now }
     ensures { result ≡ has_mark (core_of p.now) w }
@@ -130,6 +131,7 @@ impl<'h, H: Host> LoomMemory<'h, H> {
     }
 
     /// Whether a row of the pair is cached. Its method is then in the register.
+    #[inline(always)]
     pub fn cache_find(&mut self, to: Reg, class: Reg, selector: Reg) -> bool
         requires { IsSound H.Host self.old }
         ensures found { MatchBool result (IsFound (loom_told H.Host self.old) (loom_told H.Host self.new) to class selector) (IsUnknown (loom_told H.Host self.old) (loom_told H.Host self.new) class selector) }

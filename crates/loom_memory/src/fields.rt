@@ -24,6 +24,7 @@ use object_table::Short;
 use purger::eviction::read_copy;
 
 // The word of field i of a body. None where there is none, and where the field is left on the disk.
+#[inline(always)]
 pub(crate) fn word_in_body(p: &Parts, s: Short, i: u32) -> Option<u16>
     requires parts { IsParts p.now }
     requires there { (at : ℕ) × (place_of ((core_of p.now).entries s.0).state ≡ Some at) }
@@ -216,6 +217,8 @@ impl<'h, H: Host> LoomMemory<'h, H> {
     }
 
     // The same for an object that isn't in the core, or a field that is left on the disk.
+    #[cold]
+    #[inline(never)]
     fn field_on_disk(&mut self, to: Reg, of: Reg, i: u32) -> Result<(), MemFault>
         requires fit { MayCall (IsSound H.Host) (loom_told H.Host) self.old }
         requires may { MayDo (loom_told H.Host self.old) (Field to of i) }
@@ -231,6 +234,7 @@ impl<'h, H: Host> LoomMemory<'h, H> {
     }
 
     /// Value or literal i.
+    #[inline(always)]
     pub fn field(&mut self, to: Reg, of: Reg, i: u32) -> Result<(), MemFault>
         requires fit { MayCall (IsSound H.Host) (loom_told H.Host) self.old }
         requires may { MayDo (loom_told H.Host self.old) (Field to of i) }

@@ -14,6 +14,7 @@ use object_table::Short;
 use purger::compact;
 
 // Whether so many words are free together.
+#[inline(always)]
 fn is_together(g: &Segment, words: u32) -> bool
     ensures together { IsTrue result → words ≤ largest_of g.now }
     ensures none { words ≡ 0 → IsTrue result }
@@ -39,6 +40,7 @@ impl<'h, H: Host> LoomMemory<'h, H> {
     ghost use Rattle.loom_memory.specs.Memory.{loom_told, loom_outside, word_in, IsSound, IsQuiet, IsCalm, IsSilent};
 
     // Moves bodies together where so many words are free, but not as one chunk.
+    #[inline(always)]
     pub(crate) fn gather(&mut self, words: u32)
         requires sound { IsSound H.Host self.old }
         requires room { HasRoom self.old.parts words SPARE }
@@ -64,6 +66,7 @@ impl<'h, H: Host> LoomMemory<'h, H> {
     }
 
     // The entry of the object of a register, where it is in the core.
+    #[inline(always)]
     pub(crate) fn here(&self, of: Reg) -> Option<Short>
         requires sound { IsSound H.Host self.now }
         requires name { IsRef ((loom_told H.Host self.now).regs of) }
@@ -85,6 +88,7 @@ impl<'h, H: Host> LoomMemory<'h, H> {
     }
 
     // The object of a register is in the core, or is brought there from its record, in which each name is below the next one.
+    #[inline(always)]
     pub(crate) fn load(&mut self, of: Reg) -> Result<Short, MemFault>
         requires sound { IsSound H.Host self.old }
         requires ready { IsReady (loom_told H.Host self.old) }

@@ -32,6 +32,7 @@ impl<'h, H: Host> LoomMemory<'h, H> {
     ghost use Rattle.loom_memory.specs.Known.{IsEntryOf, IsNameable, IsSpent, IsNeedBeside, IsRefusedOf, IsNaming};
 
     // The entry of a name that may get one, which it gets where one is free.
+    #[inline(always)]
     fn entry_for(&mut self, name: Name) -> Option<Short>
         requires sound { IsSound H.Host self.old }
         requires named { IsTrue (H.tells Role.Work) → IsNameable (loom_told H.Host self.old).heap name }
@@ -94,6 +95,8 @@ impl<'h, H: Host> LoomMemory<'h, H> {
     }
 
     // The entry of a name whose object is held, once room was made, or a refusal.
+    #[cold]
+    #[inline(never)]
     fn free_entry(&mut self, name: Name) -> Result<Short, MemFault>
         requires sound { IsSound H.Host self.old }
         requires ready { IsReady (loom_told H.Host self.old) }
@@ -116,6 +119,7 @@ impl<'h, H: Host> LoomMemory<'h, H> {
     }
 
     // The entry of a name whose object is held, or a refusal.
+    #[inline(always)]
     fn entry_of(&mut self, name: Name) -> Result<Short, MemFault>
         requires sound { IsSound H.Host self.old }
         requires ready { IsReady (loom_told H.Host self.old) }
@@ -137,6 +141,7 @@ impl<'h, H: Host> LoomMemory<'h, H> {
     }
 
     // A name whose object is held comes into a register.
+    #[inline(always)]
     fn put_name(&mut self, to: Reg, name: Name) -> Result<(), MemFault>
         requires sound { IsSound H.Host self.old }
         requires ready { IsReady (loom_told H.Host self.old) }
@@ -160,6 +165,7 @@ impl<'h, H: Host> LoomMemory<'h, H> {
     }
 
     /// The register holds the name of an object that is known, or that a word of the heap holds.
+    #[inline(always)]
     pub fn known(&mut self, to: Reg, name: Name) -> Result<(), MemFault>
         requires fit { MayCall (IsSound H.Host) (loom_told H.Host) self.old }
         requires may { MayDo (loom_told H.Host self.old) (Known to name) }

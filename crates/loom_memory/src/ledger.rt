@@ -34,6 +34,7 @@ impl Ledger {
     }
 
     /// Counts an object that was made, under the next name.
+    #[inline(always)]
     pub fn count_making(&mut self)
         requires held { self.old.held + 1 < 2 ^ 32 }
         requires made { self.old.made + 1 < 2 ^ 32 }

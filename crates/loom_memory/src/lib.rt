@@ -20,6 +20,12 @@
 //! Read `specs/Memory.antt` first: `told_of`, what is told of a core over a disk, and `IsSound`: what the core keeps over every host
 //! (`IsKept`), what it keeps with a disk (`IsOver`), and that counts are exact (`IsExact`), which is said of the levels of `counted_core` that core
 //! and disk stand for. `specs/Cache.antt` has the rows of the method cache. Objects leave by `purger`.
+//!
+//! - Proved: `LoomMemory` meets every clause of `ObjectMemory`, over every host: each access is answered or refused with its row's exact
+//!   need, counts are exact between calls, and no call is refused as out of memory. `docs/CORE.md` says when no object leaves the core.
+//! - Tested: All calls beside one map, in five cores from the smallest up, each failing call on Work and each lying read (`memory_tests`).
+//! - Not said: What leaves in a making that frees; why marks went in a refused call. Over a host that doesn't tell Work: why they went in a
+//!   making or a settling, and where Damaged points after an eviction, a freeing, a making or a swap.
 #![tactic(auto)]
 
 pub mod beginning;

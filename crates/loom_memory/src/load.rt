@@ -91,6 +91,7 @@ pub(crate) fn leaves_of_word(p: &Parts, w: u16) -> u32
     leaves_of(p, Short(w))
 }
 
+#[inline(always)]
 pub(crate) fn either(x: bool, y: bool) -> bool
     ensures { result ≡ x || y }
 {

@@ -29,6 +29,7 @@ use long_names::{Kind, Name, literal_count};
 use object_table::Short;
 
 // How many nils a new object holds.
+#[inline(always)]
 fn nils_of(kind: Kind, len: u32, header: u16) -> u32
     requires len { len ≤ most_len kind }
     ensures count { result ≡ fields_new kind len header }
@@ -43,6 +44,7 @@ fn nils_of(kind: Kind, len: u32, header: u16) -> u32
 }
 
 // A leaf for a name that has no entry, where one is free.
+#[inline(always)]
 fn new_leaf(p: &mut Parts, name: Name) -> Short
     requires parts { IsParts p.old }
     requires absent { (core_of p.old).find name ≡ None }
@@ -60,6 +62,7 @@ fn new_leaf(p: &mut Parts, name: Name) -> Short
 }
 
 // The entry of nil, which gets one where it has none.
+#[inline(always)]
 fn entry_of_nil(p: &mut Parts) -> Short
     requires parts { IsParts p.old }
     requires spare { 1 ≤ spare_of p.old }
@@ -77,6 +80,7 @@ fn entry_of_nil(p: &mut Parts) -> Short
 }
 
 // The count of an entry's name rises.
+#[inline(always)]
 fn raise(p: &mut Parts, s: Short, n: u32)
     requires parts { IsParts p.old }
     requires used { is_used ((core_of p.old).entries s.0).state ≡ true }
@@ -93,6 +97,7 @@ fn raise(p: &mut Parts, s: Short, n: u32)
 }
 
 // The class and the nils of a new object are counted, and nil has an entry.
+#[inline(always)]
 fn count_ahead(p: &mut Parts, class: Short, n: u32) -> Short
     requires parts { IsParts p.old }
     requires class { is_used ((core_of p.old).entries class.0).state ≡ true }
@@ -113,6 +118,7 @@ fn count_ahead(p: &mut Parts, class: Short, n: u32) -> Short
 }
 
 // A new object gets its entry and its body. None where its name has an entry.
+#[inline(always)]
 fn put_new(
     p: &mut Parts,
     name: Name,
@@ -149,6 +155,7 @@ fn put_new(
 }
 
 // A new object of so many values, words or bytes, under a name that has no entry. None where it has one, or is nil's.
+#[inline(always)]
 pub(crate) fn make_object(
     p: &mut Parts,
     name: Name,

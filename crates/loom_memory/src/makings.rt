@@ -25,6 +25,7 @@ use object_table::laws::entries_are_counted;
 use purger::{NOWHERE, RoomFault};
 
 // How many words a new object takes in the core.
+#[inline(always)]
 fn words_new(kind: Kind, len: u32, header: u16) -> u32
     requires len { len ≤ most_len kind }
     ensures words { result ≡ words_for kind len (literal_count (int_of_short header)) + HEADER }
@@ -113,6 +114,7 @@ impl<'h, H: Host> LoomMemory<'h, H> {
 
     // A new object of the class in a register comes into the core, which has room for it. None where the next name has an entry, as it may
     // over a host that doesn't tell Work.
+    #[inline(always)]
     fn add_object(
         &mut self,
         name: Name,
@@ -462,6 +464,7 @@ impl<'h, H: Host> LoomMemory<'h, H> {
     }
 
     /// A new object of so many nils, at the next name (instantiateClass:withPointers:).
+    #[inline(always)]
     pub fn new_pointers(&mut self, to: Reg, class: Reg, n: u32) -> Result<(), MemFault>
         requires fit { MayCall (IsSound H.Host) (loom_told H.Host) self.old }
         requires may { MayDo (loom_told H.Host self.old) (Make to class (OfPointers n)) }

@@ -40,6 +40,7 @@ impl<'h, H: Host> LoomMemory<'h, H> {
     ghost use Rattle.loom_memory.specs.Gentle.{IsSteady};
 
     // Puts a word that is no lambda into a register.
+    #[inline(always)]
     pub(crate) fn put_word(&mut self, to: Reg, w: u16)
         requires sound { IsSound H.Host self.old }
         requires used { is_short w ≡ true → is_used ((core_of self.old.parts).entries w).state ≡ true }
@@ -105,6 +106,8 @@ impl<'h, H: Host> LoomMemory<'h, H> {
     }
 
     // Counts a refusal.
+    #[cold]
+    #[inline(never)]
     pub(crate) fn refuse(&mut self, f: MemFault) -> MemFault
         ensures result { result ≡ f }
         ensures told { loom_told H.Host self.new ≡ refused (loom_told H.Host self.old) f }

@@ -30,6 +30,8 @@ impl<'h, H: Host> LoomMemory<'h, H> {
     ghost use Rattle.loom_memory.specs.Damage.{IsDamaged};
 
     // Refuses: the object of an entry hasn't what an access asks for. Where the heap is told that can't be.
+    #[cold]
+    #[inline(never)]
     pub(crate) fn amiss(&mut self, s: Short) -> MemFault
         requires sound { IsSound H.Host self.old }
         requires used { is_used ((core_of self.old.parts).entries s.0).state ≡ true }
@@ -65,6 +67,7 @@ impl<'h, H: Host> LoomMemory<'h, H> {
     }
 
     /// The kind of the object.
+    #[inline(always)]
     pub fn kind(&mut self, of: Reg) -> Result<Kind, MemFault>
         requires fit { MayCall (IsSound H.Host) (loom_told H.Host) self.old }
         requires may { MayDo (loom_told H.Host self.old) (KindOf of) }
@@ -80,6 +83,7 @@ impl<'h, H: Host> LoomMemory<'h, H> {
     }
 
     /// How many values, words or bytes it has, or code bytes of a method (fetchWordLengthOf:, fetchByteLengthOf:).
+    #[inline(always)]
     pub fn len(&mut self, of: Reg) -> Result<u32, MemFault>
         requires fit { MayCall (IsSound H.Host) (loom_told H.Host) self.old }
         requires may { MayDo (loom_told H.Host self.old) (Length of) }
@@ -96,7 +100,7 @@ impl<'h, H: Host> LoomMemory<'h, H> {
     }
 
     /// How many values an object of pointers has, where it is in the core. None else, and where it is of another kind.
-    #[inline]
+    #[inline(always)]
     pub fn field_count(&self, of: Reg) -> Option<u32>
         requires { IsSound H.Host self.now }
         ensures fields { IfSome result (λ n. IsPartAt (loom_told H.Host self.now) of field_count (Some n)) }
@@ -111,6 +115,7 @@ impl<'h, H: Host> LoomMemory<'h, H> {
     }
 
     /// A method's header. The method has as many literals as it says.
+    #[inline(always)]
     pub fn header(&mut self, of: Reg) -> Result<i16, MemFault>
         requires fit { MayCall (IsSound H.Host) (loom_told H.Host) self.old }
         requires may { MayDo (loom_told H.Host self.old) (Header of) }
@@ -168,6 +173,7 @@ impl<'h, H: Host> LoomMemory<'h, H> {
 
     /// The byte of a method at a place that counts in bytes from its header on, as an instruction pointer does, where the method is in the
     /// core. None else, and where no byte of its code is there.
+    #[inline(always)]
     pub fn code_byte(&self, of: Reg, place: u32) -> Option<u8>
         requires { IsSound H.Host self.now }
         ensures byte { IfSome result (λ byte. IsTrue (loom_told H.Host self.now).tells → part_at (loom_told H.Host self.now).heap ((loom_told H.Host self.now).regs of) (code_at place) ≡ Some byte) }
@@ -181,6 +187,7 @@ impl<'h, H: Host> LoomMemory<'h, H> {
     }
 
     /// A run of words from a place on. An empty run needs the place to be at most the length.
+    #[inline(always)]
     pub fn read_words(&mut self, of: Reg, at: u32, out: &mut [u16]) -> Result<(), MemFault>
         requires fit { MayCall (IsSound H.Host) (loom_told H.Host) self.old }
         requires may { MayDo (loom_told H.Host self.old) (ReadWords of at (length out.old)) }

@@ -22,7 +22,7 @@ impl<'h, H: Host> LoomMemory<'h, H> {
     ghost use Rattle.loom_memory.specs.Gentle.{IsSteady};
 
     // The word of a register: a number, or the short word of an entry.
-    #[inline]
+    #[inline(always)]
     pub(crate) fn word_of(&self, r: Reg) -> u16
         requires { IsSound H.Host self.now }
         ensures word { result ≡ word_in self.now.regs r }
@@ -33,6 +33,7 @@ impl<'h, H: Host> LoomMemory<'h, H> {
     }
 
     // The value of a register.
+    #[inline(always)]
     fn value(&self, r: Reg) -> Value
         requires { IsSound H.Host self.now }
         ensures value { result ≡ (loom_told H.Host self.now).regs r }
@@ -46,6 +47,7 @@ impl<'h, H: Host> LoomMemory<'h, H> {
     }
 
     /// The register holds this number, from -16384 to 16383 (integerObjectOf:).
+    #[inline(always)]
     pub fn int(&mut self, to: Reg, v: i16)
         requires sound { IsSound H.Host self.old }
         requires range { IsSmallInteger v }
@@ -61,6 +63,7 @@ impl<'h, H: Host> LoomMemory<'h, H> {
     }
 
     /// The register is copied.
+    #[inline(always)]
     pub fn copy(&mut self, to: Reg, from: Reg)
         requires { IsSound H.Host self.old }
         ensures told { loom_told H.Host self.new ≡ record (loom_told H.Host self.old) { regs = set_register (loom_told H.Host self.old).regs to ((loom_told H.Host self.old).regs from) } }
@@ -72,6 +75,7 @@ impl<'h, H: Host> LoomMemory<'h, H> {
     }
 
     /// Whether the register holds this name.
+    #[inline(always)]
     pub fn is(&self, r: Reg, name: Name) -> bool
         requires { IsSound H.Host self.now }
         ensures { result ≡ is_ref name ((loom_told H.Host self.now).regs r) }
@@ -80,6 +84,7 @@ impl<'h, H: Host> LoomMemory<'h, H> {
     }
 
     /// Whether two registers hold equal values.
+    #[inline(always)]
     pub fn same(&self, a: Reg, b: Reg) -> bool
         requires { IsSound H.Host self.now }
         ensures { IsTrue result ↔ ((loom_told H.Host self.now).regs a ≡ (loom_told H.Host self.now).regs b) }
@@ -88,6 +93,7 @@ impl<'h, H: Host> LoomMemory<'h, H> {
     }
 
     /// The number in the register (isIntegerObject:, integerValueOf:). None exactly where it holds a name.
+    #[inline(always)]
     pub fn as_int(&self, r: Reg) -> Option<i16>
         requires { IsSound H.Host self.now }
         ensures number { result ≡ int_of ((loom_told H.Host self.now).regs r) }

@@ -21,6 +21,7 @@ use purger::room::has_room;
 use purger::{RoomFault, drain};
 
 // 1 where the object of an entry has a body and no record.
+#[inline(always)]
 fn fresh_at(p: &Parts, s: Short) -> u32
     requires parts { IsParts p.now }
     requires short { is_short s.0 ≡ true }
@@ -114,7 +115,7 @@ impl<'h, H: Host> LoomMemory<'h, H> {
     }
 
     // No making is counted, and so many objects were there, if that is known.
-    #[inline]
+    #[inline(always)]
     fn count_anew(&mut self, base: Option<u32>)
         requires sound { IsSound H.Host self.old }
         requires numbers { IsNumbered base 0 self.old.ledger.held self.old.ledger.next (disk_room self.old.disk.rest) }
@@ -193,7 +194,7 @@ impl<'h, H: Host> LoomMemory<'h, H> {
     }
 
     // Whether settling has nothing to do: there is room for eight more, and entries enough are free.
-    #[inline]
+    #[inline(always)]
     fn is_settled(&self) -> bool
         requires { IsSound H.Host self.now }
         ensures yes { result ≡ true → (self.now.ledger.held + MAKINGS ≤ disk_room self.now.disk.rest) × (SETTLED ≤ spare_of self.now.parts) }
@@ -205,6 +206,7 @@ impl<'h, H: Host> LoomMemory<'h, H> {
 
     // Frees dead objects where the disk is nearly full, then entries where too few are free.
     #[cold]
+    #[inline(never)]
     fn settle_slowly(&mut self) -> Result<(), MemFault>
         requires fit { MayCall (IsSound H.Host) (loom_told H.Host) self.old }
         ensures called { Called (loom_told H.Host self.old) (loom_told H.Host self.new) Settles result }
@@ -228,6 +230,7 @@ impl<'h, H: Host> LoomMemory<'h, H> {
     /// of what is held, of which nothing is dead. [`RESERVE`] entries are free then, or nothing but pinned objects has a body. No object comes
     /// in; where that many were free before, each object in the core that is still held stays there. With both, nothing is done: it is
     /// answered, and nothing changes but that makings are counted anew.
+    #[inline(always)]
     pub fn settle(&mut self) -> Result<(), MemFault>
         requires fit { MayCall (IsSound H.Host) (loom_told H.Host) self.old }
         ensures called { Called (loom_told H.Host self.old) (loom_told H.Host self.new) Settles result }

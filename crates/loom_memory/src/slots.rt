@@ -10,6 +10,7 @@ use object_memory::{MemFault, Reg};
 use purger::Pinned;
 
 // The word of a slot.
+#[inline(always)]
 fn pin_at(pins: &Pinned, slot: u8) -> u16
     requires { slot < 3 }
     ensures { result ≡ pin_in pins.now slot }
@@ -22,6 +23,7 @@ fn pin_at(pins: &Pinned, slot: u8) -> u16
 }
 
 // Another word in a slot.
+#[inline(always)]
 fn put_pin(pins: &mut Pinned, slot: u8, w: u16)
     requires { slot < 3 }
     ensures { pins.new ≡ with_pin pins.old slot w }
@@ -44,6 +46,7 @@ impl<'h, H: Host> LoomMemory<'h, H> {
     ghost use Rattle.loom_memory.specs.Own.{IsSparing};
 
     // Puts the word of an entry with a body into a slot, or 0.
+    #[inline(always)]
     fn put_slot(&mut self, slot: u8, w: u16)
         requires sound { IsSound H.Host self.old }
         requires slot { slot < 3 }
@@ -61,6 +64,7 @@ impl<'h, H: Host> LoomMemory<'h, H> {
     }
 
     /// Empties the slot.
+    #[inline(always)]
     pub fn unpin(&mut self, slot: u8)
         requires sound { IsSound H.Host self.old }
         requires slot { slot < 3 }
@@ -72,6 +76,7 @@ impl<'h, H: Host> LoomMemory<'h, H> {
     }
 
     /// The object in the register stays in the core until the slot is emptied or filled again.
+    #[inline(always)]
     pub fn pin(&mut self, slot: u8, r: Reg) -> Result<(), MemFault>
         requires fit { MayCall (IsSound H.Host) (loom_told H.Host) self.old }
         requires may { MayDo (loom_told H.Host self.old) (Pin slot r) }

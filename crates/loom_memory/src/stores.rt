@@ -28,6 +28,7 @@ use purger::NOWHERE;
 use purger::marks::unmark_for;
 
 // Whether a body of a kind and a length has so many words from a place on.
+#[inline(always)]
 fn has_words(kind: Kind, len: u32, at: u32, count: usize) -> bool
     ensures yes { result ≡ true → (kind ≡ sort.Words) × (at + count ≤ len) }
     ensures no { result ≡ false → kind ≡ sort.Words → len < at + count }
@@ -51,6 +52,7 @@ fn has_byte(kind: Kind, len: u32, i: u32) -> bool
 }
 
 // A word more is the name of what this word names, if it names an entry.
+#[inline(always)]
 fn raise_word(p: &mut Parts, w: u16)
     requires parts { IsParts p.old }
     requires used { is_short w ≡ true → is_used ((core_of p.old).entries w).state ≡ true }
@@ -67,6 +69,7 @@ fn raise_word(p: &mut Parts, w: u16)
 }
 
 // A word less is.
+#[inline(always)]
 fn lower_word(p: &mut Parts, w: u16)
     requires parts { IsParts p.old }
     requires used { is_short w ≡ true → is_used ((core_of p.old).entries w).state ≡ true }
@@ -96,6 +99,7 @@ impl<'h, H: Host> LoomMemory<'h, H> {
     ghost use Rattle.loom_memory.specs.Own.{HasPlace, HasSpace, IsAtHand, IsSearchedChange, IsSparingChange, IsUnmarked, KeepsCache, MindsCache};
 
     // Before an object is stored into: all marks go where it is marked.
+    #[inline(always)]
     fn unmark(&mut self, s: Short)
         requires sound { IsSound H.Host self.old }
         requires used { is_used ((core_of self.old.parts).entries s.0).state ≡ true }
@@ -116,6 +120,7 @@ impl<'h, H: Host> LoomMemory<'h, H> {
     }
 
     // Brings the object of a register into the core, to be stored into: it isn't marked then.
+    #[inline(always)]
     fn open(&mut self, of: Reg) -> Result<Short, MemFault>
         requires sound { IsSound H.Host self.old }
         requires ready { IsReady (loom_told H.Host self.old) }
@@ -174,6 +179,7 @@ impl<'h, H: Host> LoomMemory<'h, H> {
 
     // Stores the value of a register into field i of an object in the core, in place of what a word means. Each of the two names that there may
     // be is counted once more, or once less.
+    #[inline(always)]
     fn exchange_field(&mut self, of: Reg, s: Short, at: Addr, i: u32, from: Reg, old: u16)
         requires sound { IsSound H.Host self.old }
         requires word { s.0 ≡ word_in self.old.regs of }
@@ -237,6 +243,7 @@ impl<'h, H: Host> LoomMemory<'h, H> {
     }
 
     // Stores into field i of an object in the core that has this word there. Where the register has it too, nothing changes but marks.
+    #[inline(always)]
     fn replace_field(&mut self, of: Reg, s: Short, i: u32, from: Reg, w: u16)
         requires sound { IsSound H.Host self.old }
         requires word { s.0 ≡ word_in self.old.regs of }
@@ -258,6 +265,8 @@ impl<'h, H: Host> LoomMemory<'h, H> {
     }
 
     // Stores into a field of an object that isn't in the core, or that is left on the disk.
+    #[cold]
+    #[inline(never)]
     fn set_field_on_disk(&mut self, of: Reg, i: u32, from: Reg) -> Result<(), MemFault>
         requires fit { MayCall (IsSound H.Host) (loom_told H.Host) self.old }
         requires may { MayDo (loom_told H.Host self.old) (SetField of i from) }
@@ -275,6 +284,7 @@ impl<'h, H: Host> LoomMemory<'h, H> {
     }
 
     /// Stores value or literal i.
+    #[inline(always)]
     pub fn set_field(&mut self, of: Reg, i: u32, from: Reg) -> Result<(), MemFault>
         requires fit { MayCall (IsSound H.Host) (loom_told H.Host) self.old }
         requires may { MayDo (loom_told H.Host self.old) (SetField of i from) }
@@ -299,6 +309,7 @@ impl<'h, H: Host> LoomMemory<'h, H> {
     }
 
     // Stores a run of words into an object in the core, from word at on.
+    #[inline(always)]
     fn store_words(&mut self, of: Reg, s: Short, at: u32, run: &[u16]) -> Result<(), MemFault>
         requires sound { IsSound H.Host self.old }
         requires ready { IsReady (loom_told H.Host self.old) }
@@ -348,6 +359,7 @@ impl<'h, H: Host> LoomMemory<'h, H> {
     }
 
     /// Stores a run of words from a place on, also an empty one.
+    #[inline(always)]
     pub fn write_words(&mut self, of: Reg, at: u32, from: &[u16]) -> Result<(), MemFault>
         requires fit { MayCall (IsSound H.Host) (loom_told H.Host) self.old }
         requires may { MayDo (loom_told H.Host self.old) (WriteWords of at from.now) }

@@ -17,6 +17,11 @@
 //!
 //! It reads no image and writes nothing: what a memory is made of and what becomes of it is its caller's. Over a memory that doesn't tell
 //! its heap nothing is said but of counts and faults.
+//!
+//! - Proved: Over any object memory a run of so many bytecodes goes and stops as the model's, cycle by cycle, with its events, timer and
+//!   switches; a stop for lack of room has the need of a row of that cycle.
+//! - Tested: Whole runs in the smallest core in which they go through (`machine_tests`), and the cases.
+//! - Not said: Time, the memory of the process, and that out of memory in drawing the picture has a cause.
 #![tactic(auto)]
 
 pub mod laws;

@@ -30,6 +30,7 @@ use process_sched::switch;
 use std::alloc::Global;
 
 /// A process switch, where one waits (checkProcessSwitch, chapter 28).
+#[inline(always)]
 pub(crate) fn check_switch<M: ObjectMemory>(m: &mut M, cpu: &mut Cpu) -> Result<(), Stop>
     requires fit { IsFit M.ObjectMemory m.old }
     ensures serves { Serves (M.told m.old) cpu.old (M.told m.new) cpu.new processes.check_switch result }
@@ -42,6 +43,7 @@ pub(crate) fn check_switch<M: ObjectMemory>(m: &mut M, cpu: &mut Cpu) -> Result<
 }
 
 /// The lines that are due, the timer, a process switch where one waits, and one bytecode.
+#[inline(always)]
 fn turn<M: ObjectMemory>(m: &mut M, cpu: &mut Cpu, events: &EventList) -> Result<Step, Stop>
     requires fit { IsFit M.ObjectMemory m.old }
     ensures serves { Speaks step.Next (M.told m.old) cpu.old (M.told m.new) cpu.new (model.turn events.now) result }
@@ -55,6 +57,7 @@ fn turn<M: ObjectMemory>(m: &mut M, cpu: &mut Cpu, events: &EventList) -> Result
 }
 
 /// One cycle of the machine. Its bytecode is counted unless it stopped.
+#[inline(always)]
 fn cycle<M: ObjectMemory>(m: &mut M, cpu: &mut Cpu, events: &EventList) -> Result<Step, Stop>
     requires fit { IsFit M.ObjectMemory m.old }
     requires room { cpu.old.ran + 1 < 2 ^ 32 }
@@ -80,6 +83,7 @@ fn cycle<M: ObjectMemory>(m: &mut M, cpu: &mut Cpu, events: &EventList) -> Resul
 
 /// The end of a bytecode: what nothing holds any more may go, and no making is counted then.
 #[tactic(auto, using(crate::proofs::RunningLaws::settled_by))]
+#[inline(always)]
 pub fn settle<M: ObjectMemory>(m: &mut M) -> Result<(), MemFault>
     requires fit { IsFit M.ObjectMemory m.old }
     ensures called { Called (M.told m.old) (M.told m.new) Settles result }
@@ -90,6 +94,7 @@ pub fn settle<M: ObjectMemory>(m: &mut M) -> Result<(), MemFault>
 }
 
 /// One cycle of the machine, and the settling behind it.
+#[inline(always)]
 fn settled_cycle<M: ObjectMemory>(
     m: &mut M,
     cpu: &mut Cpu,
@@ -115,6 +120,7 @@ fn settled_cycle<M: ObjectMemory>(
 }
 
 /// Whether no bytecode follows: the machine ended, or is to be kept.
+#[inline(always)]
 pub fn is_last(step: Step) -> bool
     ensures { result ≡ endings.is_last step }
 {

@@ -19,6 +19,7 @@ pub struct Cache {
 }
 
 /// The row of a pair.
+#[inline(always)]
 fn row_number(class: u16, selector: u16) -> usize
     ensures { result ≡ place_of class selector }
 {
@@ -37,6 +38,7 @@ impl Cache {
     }
 
     /// The method of a pair. None where none was put, or its row was taken by another pair.
+    #[inline(always)]
     pub fn find(&self, class: u16, selector: u16) -> Option<u16>
         ensures { result ≡ found self.now class selector }
     {

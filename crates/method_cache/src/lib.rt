@@ -12,6 +12,11 @@
 //!
 //! Read `specs/Found.antt` first. `laws` says that a method that is found is the last one that was put for its pair. Classes, selectors
 //! and methods are numbers here: which of them are still right is for the caller to know, who clears the cache when one isn't.
+//!
+//! - Proved: After a `put` its pair is found with its method, at most one other pair is lost, and nothing is found after `clear`. A method
+//!   that is found was the last one put for its pair.
+//! - Tested: Pairs of one row and of others (`core_tests`).
+//! - Not said: Which pair goes when two share a row.
 #![tactic(auto)]
 
 mod cache;

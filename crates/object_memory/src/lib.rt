@@ -14,6 +14,11 @@
 //! ```
 //!
 //! `caller.rt` has it whole. The trait doesn't say which objects stand in a core, nor when one is freed that nothing holds.
+//!
+//! - Proved: `PlainMemory`, one map, meets the trait `ObjectMemory`, which says of each call what it asks, answers, changes and leaves, and
+//!   why it may be refused. A caller that is generic is proved from these clauses alone.
+//! - Tested: All calls of the trait on two memories side by side (`memory_tests`).
+//! - Not said: Which objects are in a core, and when dead ones are freed; that is left to each memory.
 #![tactic(auto)]
 
 pub mod caller;

@@ -103,6 +103,7 @@ impl Reg {
     }
 
     /// Its number, as an index.
+    #[inline(always)]
     pub fn index(self) -> usize
         ensures same { result ≡ self }
         ensures within { result < REGISTERS }

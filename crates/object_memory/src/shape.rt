@@ -13,6 +13,7 @@ use crate::reg::Reg;
 use long_names::{Kind, literal_count};
 
 /// Whether the register holds a name.
+#[inline(always)]
 pub fn is_name<M: ObjectMemory>(m: &M, r: Reg) -> bool
     requires { M.sound m.now }
     ensures { IsTrue result ↔ IsRef ((M.told m.now).regs r) }
@@ -21,6 +22,7 @@ pub fn is_name<M: ObjectMemory>(m: &M, r: Reg) -> bool
 }
 
 /// Whether the kind is this one.
+#[inline(always)]
 fn is_kind(kind: Option<Kind>, wanted: Kind) -> bool
     ensures { IsTrue result ↔ (kind ≡ Some wanted) }
 {
@@ -35,6 +37,7 @@ fn fits(at: u32, count: usize, len: u32) -> bool
 }
 
 /// The kind of the object. None exactly for a number.
+#[inline(always)]
 pub fn kind_of<M: ObjectMemory>(m: &mut M, of: Reg) -> Result<Option<Kind>, MemFault>
     requires fit { IsFit M.ObjectMemory m.old }
     ensures read { ReadsObject (M.told m.old) (M.told m.new) of result }
@@ -50,6 +53,7 @@ pub fn kind_of<M: ObjectMemory>(m: &mut M, of: Reg) -> Result<Option<Kind>, MemF
 }
 
 /// The kind and the length of the object. None exactly for a number.
+#[inline(always)]
 pub fn shape<M: ObjectMemory>(m: &mut M, of: Reg) -> Result<Option<(Kind, u32)>, MemFault>
     requires fit { IsFit M.ObjectMemory m.old }
     ensures read { ReadsObject (M.told m.old) (M.told m.new) of result }
@@ -66,6 +70,7 @@ pub fn shape<M: ObjectMemory>(m: &mut M, of: Reg) -> Result<Option<(Kind, u32)>,
 }
 
 /// The number of fields by kind and length.
+#[inline(always)]
 fn fields_by(kind: Kind, len: u32) -> Option<u32>
     ensures { result ≡ fields_by kind len }
 {
@@ -96,6 +101,7 @@ fn bytes_by(kind: Kind, len: u32) -> Option<u32>
 }
 
 /// How many values an object of pointers has. None where the register names no such object.
+#[inline(always)]
 pub fn fields<M: ObjectMemory>(m: &mut M, of: Reg) -> Result<Option<u32>, MemFault>
     requires fit { IsFit M.ObjectMemory m.old }
     ensures read { ReadsObject (M.told m.old) (M.told m.new) of result }
@@ -138,6 +144,7 @@ pub fn bytes<M: ObjectMemory>(m: &mut M, of: Reg) -> Result<Option<u32>, MemFaul
 }
 
 /// How many literals a method has. None where the register names no method.
+#[inline(always)]
 pub fn literals<M: ObjectMemory>(m: &mut M, of: Reg) -> Result<Option<u32>, MemFault>
     requires fit { IsFit M.ObjectMemory m.old }
     ensures read { ReadsObject (M.told m.old) (M.told m.new) of result }
@@ -154,6 +161,7 @@ pub fn literals<M: ObjectMemory>(m: &mut M, of: Reg) -> Result<Option<u32>, MemF
 }
 
 /// Whether the register names an object of pointers that has a field i.
+#[inline(always)]
 pub fn has_field<M: ObjectMemory>(m: &mut M, of: Reg, i: u32) -> Result<bool, MemFault>
     requires fit { IsFit M.ObjectMemory m.old }
     ensures read { ReadsObject (M.told m.old) (M.told m.new) of result }
@@ -167,6 +175,7 @@ pub fn has_field<M: ObjectMemory>(m: &mut M, of: Reg, i: u32) -> Result<bool, Me
 }
 
 /// Whether the register names a method that has a literal i.
+#[inline(always)]
 pub fn has_literal<M: ObjectMemory>(m: &mut M, of: Reg, i: u32) -> Result<bool, MemFault>
     requires fit { IsFit M.ObjectMemory m.old }
     ensures read { ReadsObject (M.told m.old) (M.told m.new) of result }

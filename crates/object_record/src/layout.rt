@@ -21,6 +21,7 @@ use std::alloc::{AllocError, Global};
 /// The number of the kind of methods, the highest.
 pub(crate) const LAST_KIND: u16 = 3;
 
+#[inline(always)]
 pub(crate) fn long_at(bytes: &[u8], at: usize) -> u32
     requires { at + 4 ≤ length bytes.now }
     ensures { result ≡ long_at bytes.now at }
@@ -28,6 +29,7 @@ pub(crate) fn long_at(bytes: &[u8], at: usize) -> u32
     u32::from_be_bytes([bytes[at], bytes[at + 1], bytes[at + 2], bytes[at + 3]])
 }
 
+#[inline(always)]
 pub(crate) fn word_at(bytes: &[u8], at: usize) -> u16
     requires { at + 2 ≤ length bytes.now }
     ensures { result ≡ word_at bytes.now at }
@@ -43,6 +45,7 @@ pub(crate) fn zeros(alloc: Global, count: usize) -> Result<Vec<u8>, AllocError>
 }
 
 /// Puts bytes in the place of those from a place on.
+#[inline(always)]
 pub(crate) fn put(bytes: &mut Vec<u8>, at: usize, piece: &[u8])
     requires { at + length piece.now ≤ length bytes.old.items }
     ensures bytes { bytes.new.items ≡ put_run bytes.old.items at piece.now }
@@ -51,6 +54,7 @@ pub(crate) fn put(bytes: &mut Vec<u8>, at: usize, piece: &[u8])
     bytes[at..at + piece.len()].copy_from_slice(piece);
 }
 
+#[inline(always)]
 pub(crate) fn kind_of(bytes: &[u8]) -> Kind
     requires { length bytes.now ≡ LONGEST_RECORD }
     ensures { result ≡ kind_numbered (word_at bytes.now KIND_AT) }
@@ -63,6 +67,7 @@ pub(crate) fn kind_of(bytes: &[u8]) -> Kind
     }
 }
 
+#[inline(always)]
 pub(crate) fn size_of(bytes: &[u8]) -> usize
     requires { length bytes.now ≡ LONGEST_RECORD }
     ensures size { result ≡ word_at bytes.now SIZE_AT }
@@ -81,6 +86,7 @@ pub(crate) fn literals_of(bytes: &[u8]) -> usize
 }
 
 /// Where the first field stands: the first long word, or a method's first literal.
+#[inline(always)]
 pub(crate) fn longs_place(bytes: &[u8]) -> usize
     requires { length bytes.now ≡ LONGEST_RECORD }
     ensures { result ≡ longs_place (kind_numbered (word_at bytes.now KIND_AT)) }
@@ -104,6 +110,7 @@ pub(crate) fn bytes_place(bytes: &[u8]) -> usize
 }
 
 /// How many bytes there are before the zeros at the end.
+#[inline(always)]
 pub(crate) fn end_of(bytes: &[u8]) -> usize
     requires { length bytes.now ≡ LONGEST_RECORD }
     ensures end { result ≡ CONTENTS_AT + size_stated (kind_numbered (word_at bytes.now KIND_AT)) (word_at bytes.now SIZE_AT) (long_at bytes.now CONTENTS_AT) }
@@ -120,12 +127,14 @@ pub(crate) fn end_of(bytes: &[u8]) -> usize
 }
 
 /// How many zeros make a length a multiple of four.
+#[inline(always)]
 pub(crate) fn padding_of(len: usize) -> usize
     ensures { result ≡ padding len }
 {
     (4 - len % 4) % 4
 }
 
+#[inline(always)]
 fn has_names(bytes: &[u8]) -> bool
     requires { length bytes.now ≡ LONGEST_RECORD }
     ensures { IsTrue result ↔ (IsName (long_at bytes.now NAME_AT) × IsName (long_at bytes.now CLASS_AT)) }
@@ -144,6 +153,7 @@ fn states(header: u32, literals: usize) -> bool
 }
 
 /// Whether an object of the kind may have the size and the literals.
+#[inline(always)]
 fn has_size(bytes: &[u8]) -> bool
     requires { length bytes.now ≡ LONGEST_RECORD }
     ensures { IsTrue result ↔ HasStated (kind_numbered (word_at bytes.now KIND_AT)) (word_at bytes.now SIZE_AT) (long_at bytes.now CONTENTS_AT) (long_at bytes.now HEADER_AT) }
@@ -157,6 +167,7 @@ fn has_size(bytes: &[u8]) -> bool
     }
 }
 
+#[inline(always)]
 fn are_zeros(bytes: &[u8]) -> bool
     ensures { result ≡ list_all (λ b. b == 0) bytes.now }
 {
@@ -164,6 +175,7 @@ fn are_zeros(bytes: &[u8]) -> bool
 }
 
 /// Whether zeros stand up to a multiple of four.
+#[inline(always)]
 fn has_zeros(bytes: &[u8]) -> bool
     requires room { length bytes.now ≡ LONGEST_RECORD }
     requires size { HasStated (kind_numbered (word_at bytes.now KIND_AT)) (word_at bytes.now SIZE_AT) (long_at bytes.now CONTENTS_AT) (long_at bytes.now HEADER_AT) }
@@ -175,6 +187,7 @@ fn has_zeros(bytes: &[u8]) -> bool
 }
 
 /// Whether names, kind, size and literals are such as a record may have.
+#[inline(always)]
 fn is_sized(bytes: &[u8]) -> bool
     requires { length bytes.now ≡ LONGEST_RECORD }
     ensures { IsTrue result ↔ IsSized bytes.now }
@@ -183,6 +196,7 @@ fn is_sized(bytes: &[u8]) -> bool
 }
 
 /// Whether the bytes begin with a record.
+#[inline(always)]
 pub(crate) fn is_laid(bytes: &[u8]) -> bool
     requires { length bytes.now ≡ LONGEST_RECORD }
     ensures { IsTrue result ↔ HasRecord bytes.now }
@@ -190,6 +204,7 @@ pub(crate) fn is_laid(bytes: &[u8]) -> bool
     is_sized(bytes) && has_zeros(bytes)
 }
 
+#[inline(always)]
 fn number_of(kind: Kind) -> u16
     ensures { result ≡ kind_number kind }
 {
@@ -221,6 +236,7 @@ fn write_header(bytes: &mut Vec<u8>, literals: u32)
 }
 
 /// Puts zeros from a place up to an end.
+#[inline(always)]
 fn clear(bytes: &mut Vec<u8>, at: usize, end: usize)
     requires ordered { at ≤ end }
     requires within { end ≤ length bytes.old.items }
@@ -231,6 +247,7 @@ fn clear(bytes: &mut Vec<u8>, at: usize, end: usize)
 }
 
 /// The size of the contents of a kind without literals.
+#[inline(always)]
 fn plain_size(kind: Kind, len: u16) -> usize
     requires { IsPlain kind }
     ensures size { result ≡ size_stated kind len 0 }
@@ -244,6 +261,7 @@ fn plain_size(kind: Kind, len: u16) -> usize
 }
 
 /// Makes the record of an object without literals, of zeros.
+#[inline(always)]
 pub(crate) fn blank_plain(bytes: &mut Vec<u8>, name: Name, class: Name, kind: Kind, len: u16)
     requires room { length bytes.old.items ≡ LONGEST_RECORD }
     requires plain { IsPlain kind }

@@ -11,6 +11,11 @@
 //!
 //! Read `specs/Raw.antt` first (raw records and their texts), then `Buffer.antt` (the raw record that bytes begin with). `laws` ties raw
 //! records to the records of an image. The crate holds no count: `blank` writes 0 where a record has its count, and nothing reads it.
+//!
+//! - Proved: Each getter answers a part of the record that the buffer begins with, each setter is one equation of it. The record of an
+//!   object in an image is such a record, and a text has one.
+//! - Tested: Records of each kind (`outside_tests`).
+//! - Not said: Nothing that we know of.
 #![tactic(auto)]
 
 pub mod laws;

@@ -45,6 +45,7 @@ impl RecordBuf {
     }
 
     /// Lends all its bytes, to be filled.
+    #[inline(always)]
     pub fn space(&mut self) -> &mut [u8]
         ensures* lends { sem 𝓛 (LendsBytes self.entry result) }
         ensures bytes { result.now ≡ self.old }
@@ -62,6 +63,7 @@ impl RecordBuf {
     }
 
     /// The name of the record's object.
+    #[inline(always)]
     pub fn name(&self) -> Name
         requires { HasRecord self.now }
         ensures { result ≡ (raw_of self.now).name }
@@ -69,6 +71,7 @@ impl RecordBuf {
         Name::new(long_at(&self.bytes, NAME_AT)).unwrap()
     }
 
+    #[inline(always)]
     pub fn class(&self) -> Name
         requires { HasRecord self.now }
         ensures { result ≡ (raw_of self.now).class }
@@ -76,6 +79,7 @@ impl RecordBuf {
         Name::new(long_at(&self.bytes, CLASS_AT)).unwrap()
     }
 
+    #[inline(always)]
     pub fn kind(&self) -> Kind
         requires { HasRecord self.now }
         ensures { result ≡ raw_kind (raw_of self.now).body }
@@ -84,6 +88,7 @@ impl RecordBuf {
     }
 
     /// How many values, words, bytes, or code bytes of a method.
+    #[inline(always)]
     pub fn len(&self) -> u32
         requires { HasRecord self.now }
         ensures { result ≡ raw_len (raw_of self.now).body }
@@ -103,6 +108,7 @@ impl RecordBuf {
     }
 
     /// How many fields: the values of pointers, or a method's literals; 0 for words and bytes.
+    #[inline(always)]
     pub fn field_count(&self) -> u32
         requires { HasRecord self.now }
         ensures { result ≡ length (longs_of (raw_of self.now).body) }
@@ -124,6 +130,7 @@ impl RecordBuf {
     }
 
     /// The long word of value `i`, or of a method's literal `i`.
+    #[inline(always)]
     pub fn long_field(&self, i: u32) -> u32
         requires record { HasRecord self.now }
         requires field { i < length (longs_of (raw_of self.now).body) }
@@ -159,6 +166,7 @@ impl RecordBuf {
     }
 
     /// Sets the long word of value `i`, or of a method's literal `i`. It may be any long word.
+    #[inline(always)]
     pub fn set_long_field(&mut self, i: u32, word: u32)
         requires record { HasRecord self.old }
         requires field { i < length (longs_of (raw_of self.old).body) }
@@ -205,6 +213,7 @@ impl RecordBuf {
     }
 
     /// The record's bytes, and none of what follows it.
+    #[inline(always)]
     pub fn bytes(&self) -> &[u8]
         requires { HasRecord self.now }
         ensures { result.now ≡ raw_text (raw_of self.now) }
@@ -215,6 +224,7 @@ impl RecordBuf {
 
     /// Makes the record of an object of zeros: long words, words or bytes that are 0, or a method whose header states its literals and
     /// nothing else. The sizes have to be such as an object of the kind may have; `literals` is 0 but for a method.
+    #[inline(always)]
     pub fn blank(&mut self, name: Name, class: Name, kind: Kind, len: u32, literals: u32)
         requires { CanBlank kind len literals }
         ensures record { HasRecord self.new }
@@ -227,6 +237,7 @@ impl RecordBuf {
     }
 
     /// Whether the bytes begin with a record of this name. Its fields are not judged: they may be any long words.
+    #[inline(always)]
     pub fn is_record(&self, name: Name) -> bool
         ensures { IsTrue result ↔ (HasRecord self.now × ((raw_of self.now).name ≡ name)) }
     {

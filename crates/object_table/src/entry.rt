@@ -11,6 +11,7 @@ impl Short {
     ghost use Rattle.object_table.specs.Entries.{is_short};
 
     // Its place in a table.
+    #[inline(always)]
     pub(crate) fn index(self) -> usize
         requires { is_short self.0 ≡ true }
         ensures { result ≡ self.0 / 2 - 1 }
@@ -47,6 +48,7 @@ impl Entry {
     ghost use Rattle.object_table.specs.Entries.{is_free, is_used, place_of, free_entry, leaf_entry};
 
     /// Stands for nothing.
+    #[inline(always)]
     pub fn none() -> Entry
         ensures { result ≡ free_entry }
     {
@@ -63,6 +65,7 @@ impl Entry {
     }
 
     /// Stands for the object of this name, and nothing refers to it.
+    #[inline(always)]
     pub fn leaf(name: Name) -> Entry
         ensures { result ≡ leaf_entry name }
     {
@@ -79,6 +82,7 @@ impl Entry {
     }
 
     /// Whether it stands for nothing.
+    #[inline(always)]
     pub fn is_free(&self) -> bool
         ensures { result ≡ is_free self.now }
     {
@@ -90,6 +94,7 @@ impl Entry {
     }
 
     /// Whether it stands for an object.
+    #[inline(always)]
     pub fn is_used(&self) -> bool
         ensures { result ≡ is_used self.now.state }
     {
@@ -97,6 +102,7 @@ impl Entry {
     }
 
     /// The place of its body, if it is in the segment.
+    #[inline(always)]
     pub fn place(&self) -> Option<u32>
         ensures { result ≡ place_of self.now.state }
     {

@@ -109,6 +109,7 @@ impl EntryFlags {
     ghost use Rattle.object_table.specs.Flags.{no_flags};
 
     /// None of them.
+    #[inline(always)]
     pub fn none() -> EntryFlags
         ensures { result ≡ no_flags }
     {

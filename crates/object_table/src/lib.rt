@@ -13,6 +13,11 @@
 //!
 //! Read `specs/Entries.antt` first, then `specs/Table.antt`. `laws` says that each entry is free or in use, by numbers. The table
 //! doesn't know which short name a name has, nor where a body lies, and it counts no references by itself.
+//!
+//! - Proved: `Table` has an entry under each short name; each call changes one entry and says how many are free, and `take` answers None
+//!   exactly where none is.
+//! - Tested: A table filled, an entry used and given back, flags as bits (`core_tests`).
+//! - Not said: That each call takes constant time; this is read in the code.
 #![tactic(auto)]
 
 mod entry;

@@ -54,6 +54,7 @@ impl Table {
     }
 
     /// How many entries it was made with.
+    #[inline(always)]
     pub fn entries(&self) -> u16
         ensures entries { result ≡ entries_of self.now }
         ensures small { result ≤ MOST_ENTRIES }
@@ -62,6 +63,7 @@ impl Table {
     }
 
     /// How many entries are free.
+    #[inline(always)]
     pub fn free(&self) -> u16
         ensures free { result ≡ free_of self.now }
         ensures most { result ≤ entries_of self.now }
@@ -70,6 +72,7 @@ impl Table {
     }
 
     /// The entry of a short name, which may be free.
+    #[inline(always)]
     pub fn entry(&self, s: Short) -> Entry
         requires short { is_short s.0 ≡ true }
         requires within { s.0 < bound_of self.now }
@@ -79,6 +82,7 @@ impl Table {
     }
 
     /// Changes an entry that is in use.
+    #[inline(always)]
     pub fn set(&mut self, s: Short, e: Entry)
         requires short { is_short s.0 ≡ true }
         requires within { s.0 < bound_of self.old }
@@ -93,6 +97,7 @@ impl Table {
     }
 
     /// Makes a free entry a leaf of this name. None exactly where all are in use.
+    #[inline(always)]
     pub fn take(&mut self, name: Name) -> Option<Short>
         ensures short { IfSome result (λ s. (is_short s.0 ≡ true) × (s.0 < bound_of self.old)) }
         ensures was_free { IfSome result (λ s. is_free (entry_at self.old s.0) ≡ true) }
@@ -111,6 +116,7 @@ impl Table {
     }
 
     /// Frees an entry that is in use.
+    #[inline(always)]
     pub fn give(&mut self, s: Short)
         requires short { is_short s.0 ≡ true }
         requires within { s.0 < bound_of self.old }
@@ -125,6 +131,7 @@ impl Table {
     }
 
     /// One more reference to an entry.
+    #[inline(always)]
     pub fn add_ref(&mut self, s: Short)
         requires short { is_short s.0 ≡ true }
         requires within { s.0 < bound_of self.old }
@@ -140,6 +147,7 @@ impl Table {
     }
 
     /// One reference less.
+    #[inline(always)]
     pub fn drop_ref(&mut self, s: Short)
         requires short { is_short s.0 ≡ true }
         requires within { s.0 < bound_of self.old }

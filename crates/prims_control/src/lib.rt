@@ -11,6 +11,11 @@
 //!     }
 //!
 //! Read `Control.antt` of `blue_model` first. The scratch registers from 10 on are used. What is executed isn't executed here.
+//!
+//! - Proved: Over any object memory the primitives on blocks and performs, the flush of the cache and the end of the run serve the model's
+//!   rules; one that fails has changed nothing.
+//! - Tested: As cases (`docs/CASES.md`).
+//! - Not said: Nothing that we know of.
 #![tactic(auto)]
 
 mod blocks;

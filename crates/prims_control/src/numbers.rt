@@ -38,6 +38,7 @@ pub(crate) fn natural(number: i16) -> Option<u32>
 }
 
 /// Whether it is the number of so many.
+#[inline(always)]
 pub(crate) fn states(n: u32, count: Option<i16>) -> bool
     requires { IfSome count IsSmallInteger }
     ensures states { result ≡ model.states n count }

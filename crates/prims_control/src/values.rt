@@ -55,6 +55,7 @@ fn pointer_for<M: ObjectMemory>(m: &mut M, n: u32) -> Result<Option<i16>, Stop>
 }
 
 /// The same of a block. None where there is no block in R10.
+#[inline(always)]
 fn block_start<M: ObjectMemory>(m: &mut M, n: u32) -> Result<Option<i16>, Stop>
     requires fit { IsFit M.ObjectMemory m.old }
     requires few { n ≤ MOST_FIELDS }
@@ -72,6 +73,7 @@ fn block_start<M: ObjectMemory>(m: &mut M, n: u32) -> Result<Option<i16>, Stop>
 }
 
 /// Enters the block in R10 as new, with n values on its stack. The active context becomes its caller.
+#[inline(always)]
 fn enter_block<M: ObjectMemory>(m: &mut M, cpu: &mut Cpu, n: u32, ip: i16) -> Result<Answer, Stop>
     requires fit { IsFit M.ObjectMemory m.old }
     requires few { n < SMALL_INTEGERS }

@@ -13,6 +13,7 @@ use long_names::SMALL_INTEGERS;
 const SMALL_BITS: u32 = 15;
 
 /// The number, where it is a SmallInteger.
+#[inline(always)]
 pub(crate) fn small(z: i32) -> Option<i16>
     ensures small { result ≡ stated z }
     ensures range { IfSome result IsSmallInteger }
@@ -24,6 +25,7 @@ pub(crate) fn small(z: i32) -> Option<i16>
     }
 }
 
+#[inline(always)]
 pub(crate) fn sum(a: i16, b: i16) -> Option<i16>
     requires receiver { IsSmallInteger a }
     requires argument { IsSmallInteger b }

@@ -30,6 +30,7 @@ pub enum Arithmetic {
 
 impl Arithmetic {
     /// The result, where there is one and it is a SmallInteger.
+    #[inline(always)]
     pub(crate) fn result(self, a: i16, b: i16) -> Option<i16>
         requires receiver { IsSmallInteger a }
         requires argument { IsSmallInteger b }
@@ -95,6 +96,7 @@ pub enum Operation {
 impl Operation {
     /// The operation of the primitive of this index, if it is one of 1 to 18.
     #[tactic(auto, unfolding(blue_model::specs::Machine::pick, blue_model::specs::Arithmetic::integer_primitives))]
+    #[inline(always)]
     pub(crate) fn numbered(index: u8) -> Option<Operation>
         ensures { rule_at index result ≡ primitive_in integer_primitives index }
     {

@@ -22,6 +22,7 @@ use object_memory::{ObjectMemory, Reg};
 
 /// Where element i of the object that a register names stands, behind its fixed fields, where it has it
 /// (checkIndexableBoundsOf:in:).
+#[inline(always)]
 pub(crate) fn element_of<M: ObjectMemory>(
     m: &mut M,
     array: Reg,
@@ -82,6 +83,7 @@ fn byte_object<M: ObjectMemory>(m: &mut M, array: Reg, i: u32) -> Result<(), Sto
 }
 
 /// Loads what stands there (subscript:with:): a value, or a number.
+#[inline(always)]
 pub(crate) fn element_at<M: ObjectMemory>(m: &mut M, array: Reg, spot: Spot) -> Result<(), Stop>
     requires fit { IsFit M.ObjectMemory m.old }
     ensures serves { (cpu : Numbers) → Serves (M.told m.old) cpu (M.told m.new) cpu (model.element_at ((M.told m.old).regs array) spot) (with_value result ((M.told m.new).regs 12)) }

@@ -30,6 +30,7 @@ pub(crate) struct Extent {
 
 impl Extent {
     /// How many elements there are, what stands before a method's code among them.
+    #[inline(always)]
     fn length(&self) -> u32
         requires start { self.now.start ≤ 2 * (MOST_LITERALS + 1) }
         requires len { self.now.len ≤ MOST_FIELDS }
@@ -54,6 +55,7 @@ impl Extent {
     }
 
     /// Where element e stands, e from 1 on.
+    #[inline(always)]
     fn spot(&self, e: u32) -> Option<Spot>
         requires start { self.now.start ≤ 2 * (MOST_LITERALS + 1) }
         requires len { self.now.len ≤ MOST_FIELDS }
@@ -84,6 +86,7 @@ impl Extent {
 }
 
 /// How many bytes a method's header and literals take; none where there are no literals.
+#[inline(always)]
 fn code_start(literals: Option<u32>) -> u32
     requires { IfSome literals (λ n. n ≤ MOST_LITERALS) }
     ensures start { result ≡ extents.start_by literals }
@@ -96,6 +99,7 @@ fn code_start(literals: Option<u32>) -> u32
 }
 
 /// The elements of the object that a register names. None where it holds a number.
+#[inline(always)]
 fn extent_of<M: ObjectMemory>(m: &mut M, of: Reg) -> Result<Option<Extent>, Stop>
     requires fit { IsFit M.ObjectMemory m.old }
     ensures serves { (cpu : Numbers) → Serves (M.told m.old) cpu (M.told m.new) cpu (peek extents.extent_of ((M.told m.old).regs of)) result }

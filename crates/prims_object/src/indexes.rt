@@ -90,6 +90,7 @@ pub(crate) fn index_argument<M: ObjectMemory>(m: &mut M, of: Reg) -> Result<Opti
 }
 
 /// A number that isn't negative.
+#[inline(always)]
 pub(crate) fn natural(number: i32) -> Option<u32>
     ensures { result ≡ model.natural number }
 {
@@ -97,6 +98,7 @@ pub(crate) fn natural(number: i32) -> Option<u32>
 }
 
 /// A number from 1 on.
+#[inline(always)]
 pub(crate) fn positive(number: i32) -> Option<u32>
     ensures number { result ≡ numbers.positive number }
     ensures few { IfSome result (λ n. n < 2 ^ 31) }

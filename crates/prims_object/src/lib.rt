@@ -7,6 +7,11 @@
 //!     let ended = prims_object::run(m, cpu, 60)?;      // Answer::Done, or Answer::Failed: then the method is activated
 //!
 //! The scratch registers from 10 to 19 are used. `specs/Leads.antt` has what a call says that begins a rule.
+//!
+//! - Proved: Over any object memory the primitives on objects, arrays and streams serve the model's table, `become:` among them; one that
+//!   fails has changed nothing.
+//! - Tested: Each primitive with each condition broken, as cases (`primitive_cases`).
+//! - Not said: Nothing that we know of.
 #![tactic(auto)]
 
 mod arrays;

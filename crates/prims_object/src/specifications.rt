@@ -20,6 +20,7 @@ use long_names::SMALL_INTEGERS;
 use object_memory::{ObjectMemory, Reg, shape};
 
 /// The fifteen bits of a SmallInteger.
+#[inline(always)]
 fn bits(specification: i16) -> u32
     requires { IsSmallInteger specification }
     ensures { result ≡ unsigned_of specification }
@@ -52,6 +53,7 @@ pub(crate) fn is_indexable(specification: i16) -> bool
 }
 
 /// How many fixed fields instances have.
+#[inline(always)]
 pub(crate) fn fixed_fields(specification: i16) -> u32
     requires { IsSmallInteger specification }
     ensures fixed { result ≡ model.fixed_fields specification }
@@ -78,6 +80,7 @@ pub(crate) fn specification_of<M: ObjectMemory>(m: &mut M, class: Reg) -> Result
 
 /// How many fixed fields the object has that a register names (fixedFieldsOf:). None where it holds a number, or where the class says
 /// nothing. R19 is used.
+#[inline(always)]
 pub(crate) fn fixed_of<M: ObjectMemory>(m: &mut M, of: Reg) -> Result<Option<u32>, Stop>
     requires fit { IsFit M.ObjectMemory m.old }
     ensures serves { (cpu : Numbers) → Serves (M.told m.old) cpu (M.told m.new) cpu (model.fixed_of ((M.told m.old).regs of)) result }

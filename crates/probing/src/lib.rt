@@ -13,6 +13,11 @@
 //!
 //! Read `specs/Table.antt` first, then `specs/Search.antt`; `proofs/` has the laws of searches, of the map that slots stand for, and of
 //! closing up. A slot is a name and a value of any type to the laws: how slots are kept, they don't say.
+//!
+//! - Proved: What slots with linear probing stand for, and that adding, setting and removal by closing up change one name of it, for any
+//!   value beside a name.
+//! - Tested: By the two crates that keep slots (`work_tests`, `core_tests`).
+//! - Not said: How many steps a search takes.
 #![tactic(auto)]
 
 ghost use Rattle.std.specs.Prelude.{◌≡◌, ◌<◌, ◌^◌};
@@ -23,6 +28,7 @@ const SPREADER: u32 = 0x9e37_79b9;
 
 /// The slot where the search for a name begins.
 #[tactic(auto, unfolding(crate::specs::Spread::spread, crate::specs::Table::home_of))]
+#[inline(always)]
 pub fn home(name: u32, slots: u32) -> u32
     requires some { 0 < slots }
     ensures place { result ≡ home_of name slots }
@@ -34,6 +40,7 @@ pub fn home(name: u32, slots: u32) -> u32
 
 /// The slot so many steps on from a slot, around the end.
 #[tactic(auto, unfolding(crate::specs::Table::turned))]
+#[inline(always)]
 pub fn turn(home: u32, step: u32, slots: u32) -> u32
     requires few { slots < 2 ^ 31 }
     requires home_within { home < slots }

@@ -12,6 +12,11 @@
 //!
 //! Read `Processes.antt` of `blue_model` first; `Queues.antt` there reads process lists as lists, and laws say that they are queues. The
 //! scratch registers from 10 to 17 are used, and those of `contexts`. When a switch is made is its caller's to say.
+//!
+//! - Proved: Over any object memory the primitives on processes and semaphores, signals and the switch serve the model's rules; one that
+//!   fails has changed nothing.
+//! - Tested: Three processes that signal each other, saved after each bytecode, as a case.
+//! - Not said: Nothing that we know of.
 #![tactic(auto)]
 
 mod lists;

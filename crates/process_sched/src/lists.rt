@@ -89,6 +89,7 @@ fn shorten<M: ObjectMemory>(m: &mut M) -> Result<(), Stop>
 }
 
 /// The list is without its first process, which is in R17; the last is in R13.
+#[inline(always)]
 fn unlink<M: ObjectMemory>(m: &mut M) -> Result<(), Stop>
     requires fit { IsFit M.ObjectMemory m.old }
     ensures serves { (cpu : Numbers) → Serves (M.told m.old) cpu (M.told m.new) cpu (pick (is_same ((M.told m.old).regs 17) ((M.told m.old).regs 13)) (model.empty_list ((M.told m.old).regs 11)) (model.shorten ((M.told m.old).regs 11) ((M.told m.old).regs 17))) result }

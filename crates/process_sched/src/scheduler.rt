@@ -18,6 +18,7 @@ use long_names::Name;
 use object_memory::{ObjectMemory, Reg};
 
 /// Loads the Array of the scheduler's lists into R15.
+#[inline(always)]
 fn process_lists<M: ObjectMemory>(m: &mut M) -> Result<(), Stop>
     requires fit { IsFit M.ObjectMemory m.old }
     ensures serves { (cpu : Numbers) → Serves (M.told m.old) cpu (M.told m.new) cpu model.process_lists (with_value result ((M.told m.new).regs 15)) }
@@ -30,6 +31,7 @@ fn process_lists<M: ObjectMemory>(m: &mut M) -> Result<(), Stop>
 }
 
 /// The index of the list of a priority, where there are so many lists.
+#[inline(always)]
 fn list_index(priority: i16, count: u32) -> Option<u32>
     requires range { IsSmallInteger priority }
     ensures index { result ≡ model.list_index priority count }
@@ -43,6 +45,7 @@ fn list_index(priority: i16, count: u32) -> Option<u32>
 }
 
 /// The process in R10 becomes the last on the list of its priority (sleep:). Stuck with Shape where its priority has no list.
+#[inline(always)]
 pub(crate) fn sleep<M: ObjectMemory>(m: &mut M) -> Result<(), Stop>
     requires fit { IsFit M.ObjectMemory m.old }
     ensures serves { (cpu : Numbers) → Serves (M.told m.old) cpu (M.told m.new) cpu (model.sleep ((M.told m.old).regs 10)) result }

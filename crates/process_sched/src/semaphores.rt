@@ -69,6 +69,7 @@ fn sleep_at<M: ObjectMemory>(m: &mut M, cpu: &mut Cpu) -> Result<(), Stop>
 }
 
 /// Whether there are signals that nobody waited for.
+#[inline(always)]
 fn has_signal(excess: i16) -> bool
     ensures { result ≡ lt_z (pos 0) excess }
 {

@@ -35,6 +35,7 @@ pub(crate) fn current_process<M: ObjectMemory>(m: &mut M, cpu: &Cpu) -> Result<(
 }
 
 /// The process in R17 is the new one, and a switch waits (transferTo:).
+#[inline(always)]
 fn transfer<M: ObjectMemory>(m: &mut M, cpu: &mut Cpu)
     requires fit { IsFit M.ObjectMemory m.old }
     ensures serves { Serves (M.told m.old) cpu.old (M.told m.new) cpu.new (model.transfer ((M.told m.old).regs 17)) (Ok tt) }
@@ -46,6 +47,7 @@ fn transfer<M: ObjectMemory>(m: &mut M, cpu: &mut Cpu)
 
 /// The process in R17 goes on where its priority is higher than the current one's, which then sleeps; otherwise it sleeps itself
 /// (resume:).
+#[inline(always)]
 pub(crate) fn resume<M: ObjectMemory>(m: &mut M, cpu: &mut Cpu) -> Result<(), Stop>
     requires fit { IsFit M.ObjectMemory m.old }
     ensures serves { Serves (M.told m.old) cpu.old (M.told m.new) cpu.new (model.resume ((M.told m.old).regs 17)) result }
@@ -64,6 +66,7 @@ pub(crate) fn resume<M: ObjectMemory>(m: &mut M, cpu: &mut Cpu) -> Result<(), St
 }
 
 /// The current process stops, and the one that wakes goes on (suspendActive).
+#[inline(always)]
 pub(crate) fn suspend_active<M: ObjectMemory>(m: &mut M, cpu: &mut Cpu) -> Result<(), Stop>
     requires fit { IsFit M.ObjectMemory m.old }
     ensures serves { Serves (M.told m.old) cpu.old (M.told m.new) cpu.new model.suspend_active result }

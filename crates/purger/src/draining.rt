@@ -182,6 +182,7 @@ fn free_dead_at<H: Host>(
 }
 
 // The entry of what a long word names, if it names an object that has one.
+#[inline(always)]
 fn entry_of(p: &Parts, long: u32) -> Option<Short>
     requires parts { IsParts p.now }
     ensures used { IfSome result (λ s. is_used ((core_of p.now).entries s.0).state ≡ true) }
@@ -262,6 +263,7 @@ enum Next {
 
 impl Next {
     // The field that is looked at while so many of all are left behind it.
+    #[inline(always)]
     fn field(&self, left: u32, all: u32) -> u32
         requires { left < all }
         ensures { result < all }

@@ -53,6 +53,7 @@ pub fn damaged(name: Name) -> DiskFault
 }
 
 /// The record of a name: false exactly where it has none.
+#[inline(always)]
 pub fn fetch<H: Host>(
     disk: &mut DiskObjects<'_, H>,
     name: Name,
@@ -176,6 +177,7 @@ fn write_back<H: Host>(
 }
 
 // Whether an object is just as its record.
+#[inline(always)]
 fn is_clean(p: &Parts, s: Short) -> bool
     requires parts { IsParts p.now }
     requires used { is_used ((core_of p.now).entries s.0).state ≡ true }

@@ -10,6 +10,7 @@ use leaf_lambda::steps::{field_word, place_of_body};
 use object_table::Short;
 
 // Whether a word names a leaf to which nothing else refers.
+#[inline(always)]
 fn is_last(p: &Parts, w: u16) -> bool
     requires parts { IsParts p.now }
     requires used { is_short w ≡ true → is_used ((core_of p.now).entries w).state ≡ true }

@@ -22,6 +22,11 @@
 //!
 //! Read `specs/Purge.antt`, then `Counts.antt`, `Marks.antt`, `Draining.antt` and `Closing.antt`. What moves one body is leaf_lambda's, and what
 //! joins its calls with counts stands in `laws`.
+//!
+//! - Proved: Making room keeps what is held, pinned bodies and exact counts, and evicts nothing where there was room; `Short` means that
+//!   only pinned objects are left. `drain` frees just what is dead, and `close` leaves the disk with what is kept.
+//! - Tested: Chains, rings, and objects that die in each state (`memory_tests`).
+//! - Not said: Which objects go, what calls cost, that no record is written only to be removed again, and where most Damaged answers point.
 #![tactic(auto)]
 
 pub mod closing;

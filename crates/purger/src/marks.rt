@@ -34,6 +34,8 @@ fn unmark_one(p: &mut Parts, s: Short)
 }
 
 /// Takes all marks away.
+#[cold]
+#[inline(never)]
 pub fn unmark_all(p: &mut Parts)
     requires parts { IsParts p.old }
     ensures parts { IsParts p.new }
@@ -50,6 +52,7 @@ pub fn unmark_all(p: &mut Parts)
 }
 
 /// Takes all marks away where this object is marked.
+#[inline(always)]
 pub fn unmark_for(p: &mut Parts, s: Short)
     requires parts { IsParts p.old }
     requires used { is_used ((core_of p.old).entries s.0).state ≡ true }

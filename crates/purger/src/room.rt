@@ -45,6 +45,7 @@ pub struct Pinned {
 
 impl Pinned {
     /// Whether an entry is one of them.
+    #[inline(always)]
     pub fn has(&self, s: Short) -> bool
         ensures { result ≡ is_among self.now.a self.now.b self.now.d s.0 }
     {
@@ -95,6 +96,7 @@ fn free_idle<H: Host>(p: &mut Parts, disk: &mut DiskObjects<'_, H>) -> Result<()
 }
 
 /// Whether so many words and entries are free.
+#[inline(always)]
 pub fn has_room(p: &Parts, words: u32, entries: u16) -> bool
     ensures has { IsTrue result → HasRoom p.now words entries }
     ensures lacks { result ≡ false → HasRoom p.now words entries → ⊥ }
@@ -106,6 +108,7 @@ pub fn has_room(p: &Parts, words: u32, entries: u16) -> bool
 }
 
 // Whether so many words are free, and so many entries where so many more are.
+#[inline(always)]
 fn would_have_room(p: &Parts, words: u32, entries: u16, more: u32) -> bool {
     if p.segment.free_words() < words {
         return false;
@@ -114,6 +117,7 @@ fn would_have_room(p: &Parts, words: u32, entries: u16, more: u32) -> bool {
 }
 
 // Whether there is no room, but there would be without the idle leaves, of which so many are reckoned.
+#[inline(always)]
 fn is_worth_a_sweep(p: &Parts, words: u32, entries: u16, idle: u32) -> bool {
     if has_room(p, words, entries) {
         return false;
@@ -153,6 +157,7 @@ fn free_enough<H: Host>(
 }
 
 // Whether so many words are free together.
+#[inline(always)]
 fn is_together(p: &Parts, words: u32) -> bool
     ensures { IsTrue result → words ≤ largest_of p.now.segment }
 {
@@ -163,6 +168,7 @@ fn is_together(p: &Parts, words: u32) -> bool
 }
 
 // Moves bodies together where so many words are free, but not as one chunk.
+#[inline(always)]
 fn gather(p: &mut Parts, words: u32)
     requires parts { IsParts p.old }
     requires tight { IsTight (core_of p.old) }
@@ -186,6 +192,7 @@ fn gather(p: &mut Parts, words: u32)
 }
 
 // Whether an object may leave: it has a body, and isn't pinned.
+#[inline(always)]
 fn may_leave(p: &Parts, s: Short, pinned: &Pinned) -> bool
     requires parts { IsParts p.now }
     requires short { is_short s.0 ≡ true }
@@ -201,6 +208,7 @@ fn may_leave(p: &Parts, s: Short, pinned: &Pinned) -> bool
 }
 
 // Evicts an object that isn't pinned, while there is room on the disk for all that have no record.
+#[inline(always)]
 fn leave<H: Host>(
     p: &mut Parts,
     disk: &mut DiskObjects<'_, H>,
@@ -311,6 +319,7 @@ fn evict_more<H: Host>(
 }
 
 // Whether an object goes where the hand passes: it may leave, and isn't marked.
+#[inline(always)]
 fn may_go(p: &Parts, s: Short, pinned: &Pinned) -> bool
     requires parts { IsParts p.now }
     requires short { is_short s.0 ≡ true }
@@ -362,6 +371,7 @@ fn pass<H: Host>(
 }
 
 // The entry at which the hand is. The hand moves on, and behind the last entry to the first.
+#[inline(always)]
 fn next_entry(p: &Parts, hand: &mut u16) -> Short
     requires some { 0 < entries_of p.now.names.table }
     ensures short { is_short result.0 ≡ true }
@@ -377,6 +387,7 @@ fn next_entry(p: &Parts, hand: &mut u16) -> Short
 }
 
 // Whether a round ends: there is room, and the hand went over no entry, or over so many.
+#[inline(always)]
 fn has_turned(p: &Parts, words: u32, entries: u16, passed: u16, part: u16) -> bool {
     if passed > 0 && passed < part {
         return false;

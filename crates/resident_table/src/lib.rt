@@ -13,6 +13,10 @@
 //!
 //! Read `specs/Resident.antt` first; `probing` has how names are found. The table doesn't know what a short name means: that an
 //! entry and its name belong together is for the layers above `Parts2` to keep.
+//!
+//! - Proved: `Resident` is a map from long names to short ones with room for all entries; each change is one equation of whole maps.
+//! - Tested: A map filled and emptied (`core_tests`).
+//! - Not said: How many steps a search takes.
 #![tactic(auto)]
 
 mod probe;

@@ -43,6 +43,7 @@ impl Resident {
     }
 
     // Where the search for a name ends: at its slot, or at an empty one.
+    #[inline(always)]
     fn seek(&self, name: u32) -> usize
         requires { 0 < name }
         ensures within { result < length self.now.slots.items }
@@ -61,6 +62,7 @@ impl Resident {
     }
 
     /// The short name of a name. None exactly where there is none.
+    #[inline(always)]
     pub fn find(&self, name: Name) -> Option<Short>
         ensures { option_map (λ (s : Short). s.0) result ≡ short_of self.now name }
     {
@@ -73,6 +75,7 @@ impl Resident {
     }
 
     /// Adds a name that has no short name yet.
+    #[inline(always)]
     pub fn insert(&mut self, name: Name, s: Short)
         requires absent { short_of self.old name ≡ None }
         requires room { held_of self.old < room_of self.old }
@@ -87,6 +90,7 @@ impl Resident {
     }
 
     /// Takes a name away that has a short name.
+    #[inline(always)]
     pub fn remove(&mut self, name: Name)
         requires there { IsSome (short_of self.old name) }
         ensures find { short_of self.new ≡ put (short_of self.old) name None }

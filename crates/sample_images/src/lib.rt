@@ -14,6 +14,11 @@
 //! An object that nothing holds is no part of an image, so each that is added has to be held, and its class has to be there: `memory`
 //! answers the first rule of images that is broken. What a method's header says stands in `specs/Header.antt`. There is one file of
 //! code for each image. No clause says which objects they have: `loom_images` compares their images with the files.
+//!
+//! - Proved: `memory` is the plain memory of what a builder has, ready for a first call, or the first rule that the objects break. Each
+//!   call of the notation adds the object that it says.
+//! - Tested: Which objects the images have (`loom_images` compares them with their files).
+//! - Not said: That out of memory has a cause.
 #![tactic(auto)]
 
 mod base_image;

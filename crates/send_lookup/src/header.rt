@@ -9,6 +9,7 @@ use blue_model::limits::{FLAG_UNIT, LARGE_CONTEXT_BIT, TEMPORARIES_UNIT};
 use long_names::{SMALL_INTEGERS, literal_count};
 
 /// The fifteen bits of a SmallInteger.
+#[inline(always)]
 pub fn bits(number: i16) -> u32
     requires { IsSmallInteger number }
     ensures { result ≡ unsigned_of number }
@@ -18,6 +19,7 @@ pub fn bits(number: i16) -> u32
 
 /// How a method is executed: 0 to 4 say so many arguments and no primitive; 5 answers self, 6 a field of the receiver; 7 has a header
 /// extension.
+#[inline(always)]
 pub fn flag(header: i16) -> u32
     requires { IsSmallInteger header }
     ensures flag { result ≡ model.flag_of header }
@@ -27,6 +29,7 @@ pub fn flag(header: i16) -> u32
 }
 
 /// How many temporaries a method has, arguments among them; of a method that answers a field, the field's number.
+#[inline(always)]
 pub fn temporaries(header: i16) -> u32
     requires { IsSmallInteger header }
     ensures temporaries { result ≡ model.temporaries_of header }
@@ -36,6 +39,7 @@ pub fn temporaries(header: i16) -> u32
 }
 
 /// How many fields a method's context has.
+#[inline(always)]
 pub(crate) fn context_size(header: i16) -> u32
     requires { IsSmallInteger header }
     ensures size { result ≡ model.context_size header }
@@ -49,6 +53,7 @@ pub(crate) fn context_size(header: i16) -> u32
 }
 
 /// The instruction pointer that a method's context states at first.
+#[inline(always)]
 pub(crate) fn first_pointer(header: i16) -> i16
     requires { IsSmallInteger header }
     ensures pointer { result ≡ model.first_pointer header }

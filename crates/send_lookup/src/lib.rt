@@ -13,6 +13,11 @@
 //!
 //! Read `specs/Found.antt` first, what a lookup leaves and what it answers for a cached pair, and `specs/Path.antt`, what it marks, after
 //! `Serves.antt` of `contexts`. The scratch registers from 15 on are used. No primitive is tried here.
+//!
+//! - Proved: Over any object memory lookup and activation serve the model's rules, with the method cache or without it, and the cache stays
+//!   sound. Where the cache has a row of the pair, nothing else is looked up.
+//! - Tested: That a lookup which wasn't cached puts its row (`machine_tests`); sends are cases.
+//! - Not said: That a row is kept, since a memory may keep none.
 #![tactic(auto)]
 
 mod activation;

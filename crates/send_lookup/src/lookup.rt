@@ -65,6 +65,7 @@ fn look_up_whole<M: ObjectMemory>(m: &mut M, selector: Reg, class: Reg) -> Resul
 }
 
 /// Whether the cache has the pair of a class and a selector in two registers. Where it has, the method is in a third.
+#[inline(always)]
 fn ask_cache<M: ObjectMemory>(m: &mut M, to: Reg, class: Reg, selector: Reg) -> bool
     requires fit { IsFit M.ObjectMemory m.old }
     ensures found { MatchBool result (IsFound (M.told m.old) (M.told m.new) to class selector) (IsUnknown (M.told m.old) (M.told m.new) class selector) }
@@ -93,6 +94,7 @@ pub fn look_up<M: ObjectMemory>(m: &mut M, selector: Reg, class: Reg) -> Result<
 /// chapter 28): the cached one, where the cache has the pair, and then no access is made. False exactly where the chain's end was met. A
 /// class or dictionary that isn't one, a selector that is a number and a method that isn't one are stuck with Shape, and a chain of more
 /// than 1,024 classes with Chain. The scratch registers from 19 on are used.
+#[inline(always)]
 pub fn find<M: ObjectMemory>(m: &mut M, class: Reg) -> Result<bool, Stop>
     requires fit { IsFit M.ObjectMemory m.old }
     ensures serves { (cpu : Numbers) → Serves (M.told m.old) cpu (M.told m.new) cpu (model.find ((M.told m.old).regs class)) result }

@@ -73,6 +73,7 @@ impl Directory {
 
     /// How many names are held.
     #[tactic(auto, unfolding(crate::specs::Directory::room_of, crate::specs::Directory::held_of))]
+    #[inline(always)]
     pub fn len(&self) -> u32
         ensures value { result ≡ held_of self.now }
         ensures most { result ≤ room_of self.now }
@@ -82,6 +83,7 @@ impl Directory {
 
     /// How many names it has room for.
     #[tactic(auto, unfolding(crate::specs::Directory::room_of))]
+    #[inline(always)]
     pub fn room(&self) -> u32
         ensures value { result ≡ room_of self.now }
         ensures some { 0 < result }
@@ -92,6 +94,7 @@ impl Directory {
 
     /// How many slots it has: twice its room.
     #[tactic(auto, unfolding(crate::specs::Directory::room_of))]
+    #[inline(always)]
     pub fn slots(&self) -> u32
         ensures value { result ≡ slots_of self.now }
         ensures some { 1 < result }
@@ -144,6 +147,7 @@ impl Directory {
     }
 
     /// Where the search for a name ends: at an empty slot exactly where the name isn't held.
+    #[inline(always)]
     pub fn seek<H: Host>(&self, host: &mut H, name: Name) -> Result<Found, DiskFault>
         requires stands { HoldsDirectory H.Host host.old self.now }
         ensures found { IfOk result (λ found. IsTrue (H.tells Role.Work) → found_entry found ≡ map.get (entries_in H.Host host.old self.now) name) }
@@ -260,6 +264,7 @@ impl Directory {
     }
 
     /// Sets the count and the place of a name at the slot where the search for it ended, so that nothing is read.
+    #[inline(always)]
     pub fn set_at<H: Host>(&mut self, host: &mut H, at: u32, slot: Slot) -> Result<(), DiskFault>
         requires stands { HoldsDirectory H.Host host.old self.old }
         requires there { StandsAt H.Host host.old self.old slot.name at }

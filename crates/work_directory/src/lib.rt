@@ -12,6 +12,11 @@
 //!
 //! Read `specs/Directory.antt` first, then `specs/Work.antt` for why a call fails; `specs/Slots.antt` has the bytes, and `probing` how a
 //! name is found. The crate doesn't know what stands at a place: that is for the layers above.
+//!
+//! - Proved: Over a host that tells Work it is a map from names to counts and places, and each call is one equation of whole maps. Over
+//!   every host it says when it is full, and that it touches Work alone.
+//! - Tested: Directories that are filled and emptied, damaged slots, and calls that fail (`work_tests`).
+//! - Not said: Over a host that lies, which bytes were wrong.
 #![tactic(auto)]
 
 mod directory;

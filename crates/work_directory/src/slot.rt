@@ -21,6 +21,7 @@ pub struct Slot {
 }
 
 // The byte of Work where slot `at` begins.
+#[inline(always)]
 pub(crate) fn place_of(at: u32) -> u64
     ensures { result ≡ SLOT_BYTES * at }
 {
@@ -28,6 +29,8 @@ pub(crate) fn place_of(at: u32) -> u64
 }
 
 /// The fault that what stands at slot `at` can't be so. It is told about a name.
+#[cold]
+#[inline(never)]
 pub fn damaged(at: u32, name: Name) -> DiskFault
     ensures { result ≡ Damaged (SLOT_BYTES * at) name }
 {
@@ -37,6 +40,7 @@ pub fn damaged(at: u32, name: Name) -> DiskFault
     }
 }
 
+#[inline(always)]
 fn spell(slot: &Slot) -> [u8; SLOT_BYTES]
     ensures bytes { result ≡ spelling slot.now }
     ensures fits { FitsBytes slot.now }
@@ -72,6 +76,8 @@ pub(crate) fn parse(bytes: &[u8]) -> Result<Option<Slot>, u32>
 }
 
 // The fault of a call on Work that has just failed.
+#[cold]
+#[inline(never)]
 pub(crate) fn failed<H: Host>(host: &H) -> DiskFault
     ensures { result ≡ DiskFault.Work (H.faults host.now Role.Work) }
 {
@@ -117,6 +123,7 @@ pub(crate) fn put<H: Host>(host: &mut H, at: u32, slot: &Slot) -> Result<(), Dis
 }
 
 // Empties slot `at`.
+#[inline(always)]
 pub(crate) fn clear<H: Host>(host: &mut H, at: u32) -> Result<(), DiskFault>
     ensures writes { OnOk result (IsTrue (H.tells Role.Work) → (n : ℕ) → at < n → Writes (work_of H.Host host.old) (work_of H.Host host.new) n at no_slot) }
     ensures work { IsWorkOnly H.Host host.old host.new }
@@ -125,6 +132,7 @@ pub(crate) fn clear<H: Host>(host: &mut H, at: u32) -> Result<(), DiskFault>
     write(host, at, &[0; SLOT_BYTES])
 }
 
+#[inline(always)]
 fn write<H: Host>(host: &mut H, at: u32, bytes: &[u8]) -> Result<(), DiskFault>
     requires size { length bytes.now ≡ SLOT_BYTES }
     requires spelled { IsSpelled bytes.now }

@@ -13,6 +13,11 @@
 //! Which blocks are out is for the caller to know. What holds of them, `IsSpace`, speaks of a space, of what Work contains, and of the
 //! blocks, so each call says what it makes of it where the host tells Work: the clauses `takes` and `gives`. The laws say what a caller
 //! may write. Read `specs/Blocks.antt` first, then `specs/Space.antt`, then `specs/Calls.antt`. The crate doesn't know what is in a block.
+//!
+//! - Proved: Over a host that tells Work, `take` answers a block that shares no byte with any that is out, a free one first, and `give`
+//!   loses none and changes no other byte.
+//! - Tested: The bounds of each size class, and damaged links (`work_tests`).
+//! - Not said: How much of the file is free at any time.
 #![tactic(auto)]
 
 pub mod laws;

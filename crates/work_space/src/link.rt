@@ -11,6 +11,7 @@ use loom_host::{DiskFault, Host, Role};
 
 /// Reads the link at a place of Work.
 #[tactic(auto, unfolding(crate::specs::Blocks::link_at))]
+#[inline(always)]
 pub(crate) fn read_link<H: Host>(host: &mut H, place: u64) -> Result<u64, DiskFault>
     ensures link { IsTrue (H.tells Role.Work) → IfOk result (λ link. link ≡ link_at (work_of H.Host host.old) place) }
     ensures fault { IfErr result (IsWorkFault (H.faults host.old Role.Work) (H.faults host.new Role.Work)) }
@@ -26,6 +27,7 @@ pub(crate) fn read_link<H: Host>(host: &mut H, place: u64) -> Result<u64, DiskFa
 }
 
 /// Writes a link to a place of Work.
+#[inline(always)]
 pub(crate) fn write_link<H: Host>(host: &mut H, place: u64, link: u64) -> Result<(), DiskFault>
     ensures link { IsTrue (H.tells Role.Work) → OnOk result (link_at (work_of H.Host host.new) place ≡ link) }
     ensures written { IsTrue (H.tells Role.Work) →

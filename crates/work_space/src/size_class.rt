@@ -5,6 +5,7 @@ ghost use Rattle.work_space.specs.Blocks.{block_size};
 use crate::limits::{SIZE_CLASSES, SMALLEST_BLOCK};
 
 /// The bytes of a block of a size class.
+#[inline(always)]
 pub fn block_bytes(c: u8) -> u64
     requires { c < SIZE_CLASSES }
     ensures size { result ≡ block_size c }

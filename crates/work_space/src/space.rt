@@ -111,6 +111,7 @@ impl Space {
     }
 
     /// Whether this may be the link of a free block: the place of a block, or 0.
+    #[inline(always)]
     fn is_link(&self, link: u64) -> bool
         ensures { result ≡ is_link self.now link }
     {
