@@ -277,7 +277,7 @@ try_reads() {
         nth=$((1 + turn * (count - 1) / 39))
         try "read $nth of WORK fails" env LD_PRELOAD="$work/reads.so" FAULTS="at $nth 5"
     done
-    for each in 1 2 10 1000; do
+    for each in 1 2 10 "$count"; do
         try "each read of $each of WORK fails" env LD_PRELOAD="$work/reads.so" FAULTS="every $each 5"
     done
     for each in 2 3 100; do
@@ -412,7 +412,7 @@ growths_of_files() {
 # vault finds the checkpoint that it said last or the next one, and none only where it said none. The counting image says its first number
 # behind its first checkpoint, and is kept each 125 bytecodes.
 growths_of_checkpoints() {
-    "$loom" asm "$top/docs/counter.text" objects counter 2>/dev/null || { tell 'the counting image' '; it is not assembled'; return; }
+    "$loom" asm "$top/examples/counter.text" objects counter 2>/dev/null || { tell 'the counting image' '; it is not assembled'; return; }
     words="counter none objects guarded drawn 4096 512 1024 1000 vault"
     env LD_PRELOAD="$work/refused.so" REFUSED_COUNT=allocations "$loom" guard $words >/dev/null 2>&1 </dev/null
     count=$(cat allocations)

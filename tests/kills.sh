@@ -4,12 +4,13 @@
 #
 #     tests/kills.sh [PROGRAM]
 #
-# docs/counter.text is an image that counts: it adds 1 to a number, has the machine kept (primitive 97), says the number on a line, and does so
+# examples/counter.text is an image that counts: it adds 1 to a number, has the machine kept (primitive 97), says the number on a line, and does so
 # again. So a vault whose run said N last has checkpoint N, or N + 1, which was under way; and none only where nothing was said. The whole
 # image of a checkpoint follows from its number, and SAVED of a run that goes on for no bytecode has to be that image. At every second
 # moment the image has a megabyte more, which lies in 15 blocks of the vault, so that most kills fall into the writing of an image.
 #
-# These are stops between two calls of the process alone: what it wrote stays with the system. A loss of power isn't tried.
+# These are stops between two calls of the process alone: what it wrote stays with the system. What a loss of power may leave is tried by the
+# crate loss_tests, on a record of what runs do to their files.
 set -u
 top=$(cd "$(dirname "$0")/.." && pwd) || exit 1
 loom=${1:-$top/crates/loom_cli/out/loom_cli}
@@ -35,7 +36,7 @@ steps=2147483647
 round=125
 
 # The images: the text as it is, and with 16 objects of 60,000 bytes each, which its array 88 holds.
-cp "$top/docs/counter.text" light.text || exit 1
+cp "$top/examples/counter.text" light.text || exit 1
 {
     sed '1s/^loom 90 /loom 122 /; /^88 /d' light.text
     echo "88 16 pointers $(seq -s ' ' 90 2 120)"
