@@ -1,3 +1,4 @@
 pub mod ClosingLaws
+pub mod HomeLaws
 pub mod MapLaws
 pub mod TableLaws

@@ -64,14 +64,14 @@ module _ {A : Type 0} where
         let q : (f n == name) ≡ false = grind (arith, nat_tests) in
         rw (p, q) rest
 
-  pub looked_up_held : (f : ℕ → ℕ) (x : ℕ → A) (n count name at : ℕ) → IsTable f n count → name ≢ 0 → at < n → f at ≡ name
+  pub looked_up_held : {homes : ℕ → ℕ → ℕ} (f : ℕ → ℕ) (x : ℕ → A) (n count name at : ℕ) → IsTable homes f n count → name ≢ 0 → at < n → f at ≡ name
       → looked_up f x n name ≡ Some (x at)
   looked_up_held f x n count name at t some l is =
       looked_up_some f x n name at l is (λ j m same. t.distinct j at m l (λ nought. some (sym same ∙ nought)) (same ∙ sym is))
 
-  pub looked_up_vacant : (f : ℕ → ℕ) (x : ℕ → A) (n count name at : ℕ) → IsTable f n count → name ≢ 0 → IsVacancy f n name at
+  pub looked_up_vacant : {homes : ℕ → ℕ → ℕ} → ((name n : ℕ) → 0 < n → homes name n < n) → (f : ℕ → ℕ) (x : ℕ → A) (n count name at : ℕ) → IsTable homes f n count → name ≢ 0 → IsVacancy homes f n name at
       → looked_up f x n name ≡ None
-  looked_up_vacant f x n count name at t some v = looked_up_none f x n name (absent f n count name at t some v)
+  looked_up_vacant below f x n count name at t some v = looked_up_none f x n name (absent below f n count name at t some v)
 
   -- where a value is found
   pub held_at : (f : ℕ → ℕ) (x : ℕ → A) (n name : ℕ) (value : A) → looked_up f x n name ≡ Some value
@@ -114,13 +114,13 @@ module _ {A : Type 0} where
     none zero = refl
     none (suc m) = by_empty m (f m == 0) refl (none m)
 
-  pub get-map_of_held : (f : ℕ → ℕ) (x : ℕ → A) (n count name at : ℕ) → IsTable f n count → name ≢ 0 → at < n → f at ≡ name
+  pub get-map_of_held : {homes : ℕ → ℕ → ℕ} (f : ℕ → ℕ) (x : ℕ → A) (n count name at : ℕ) → IsTable homes f n count → name ≢ 0 → at < n → f at ≡ name
       → map.get (map_of f x n) name ≡ Some (x at)
   get-map_of_held f x n count name at t some l is = get-map_of f x n name some ∙ looked_up_held f x n count name at t some l is
 
-  pub get-map_of_vacant : (f : ℕ → ℕ) (x : ℕ → A) (n count name at : ℕ) → IsTable f n count → name ≢ 0 → IsVacancy f n name at
+  pub get-map_of_vacant : {homes : ℕ → ℕ → ℕ} → ((name n : ℕ) → 0 < n → homes name n < n) → (f : ℕ → ℕ) (x : ℕ → A) (n count name at : ℕ) → IsTable homes f n count → name ≢ 0 → IsVacancy homes f n name at
       → map.get (map_of f x n) name ≡ None
-  get-map_of_vacant f x n count name at t some v = get-map_of f x n name some ∙ looked_up_vacant f x n count name at t some v
+  get-map_of_vacant below f x n count name at t some v = get-map_of f x n name some ∙ looked_up_vacant below f x n count name at t some v
 
   -- the map is a matter of the first n slots
   pub map_of-same : (f g : ℕ → ℕ) (x y : ℕ → A) (n : ℕ) → ((j : ℕ) → j < n → g j ≡ f j) → ((j : ℕ) → j < n → y j ≡ x j)
@@ -140,7 +140,7 @@ module _ {A : Type 0} where
 
   -- ---- a name and a value that are put, where no name or the same stood
 
-  module _ (f g : ℕ → ℕ) (x y : ℕ → A) (n count at key : ℕ) (value : A) (t : IsTable g n count) (some : key ≢ 0) (within : at < n)
+  module _ {homes : ℕ → ℕ → ℕ} (f g : ℕ → ℕ) (x y : ℕ → A) (n count at key : ℕ) (value : A) (t : IsTable homes g n count) (some : key ≢ 0) (within : at < n)
       (stood : (f at ≡ 0) ⊎ (f at ≡ key)) (p : Puts f g n at key) (q : Puts x y n at value) where
     pub put_looked_up : (name : ℕ) → name ≢ 0 → looked_up g y n name ≡ cond (name == key) (Some value) (looked_up f x n name)
     put_looked_up name named = by_name (equal_or_not name key) where

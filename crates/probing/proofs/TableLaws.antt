@@ -1,22 +1,12 @@
 -- Laws of tables and of searches in them.
-use Rattle.std.proofs.Common.{◌≡◌, ◌≢◌, ℕ, zero, suc, ◌+◌, ◌-◌, ◌^◌, ◌<◌, ◌≤◌, ◌⊎◌, ◌==◌, Bool, true, false, cond, refl, sym, ap, ◌∙◌, arith, inl, inr, below_more}
-use Rattle.std.proofs.Math.Nat.{eq-or-lt_of_le, div-lt_iff_lt-mul, mul_comm, mul-lt-mul_of_pos_right}
+use Rattle.std.proofs.Common.{◌≡◌, ◌≢◌, ℕ, zero, suc, ◌+◌, ◌-◌, ◌<◌, ◌≤◌, ◌⊎◌, ◌==◌, Bool, true, false, cond, refl, sym, ap, ◌∙◌, arith, inl, inr, below_more}
+use Rattle.std.proofs.Math.Nat.{eq-or-lt_of_le}
 use Rattle.std.proofs.lemmas.Bool.Decides.{nat_tests}
-use Rattle.probing.specs.Spread.{spread}
-use Rattle.probing.specs.Table.{IsTable, used, turned, home_of}
+use Rattle.probing.specs.Table.{IsTable, used, turned}
 use Rattle.probing.specs.Search.{IsVacancy, IsPassed, Puts}
 
 pub below_or_past : (k m : ℕ) → (k < m) ⊎ (m ≤ k)
 below_or_past k m = grind arith
-
-spread-below : (name : ℕ) → spread name < 2 ^ 32
-unfolding spread
-spread-below name = omega arith
-
--- a home is a slot
-pub home-below : (name n : ℕ) → 0 < n → home_of name n < n
-unfolding home_of
-home-below name n some = (div-lt_iff_lt-mul (omega arith)).1 (rw (mul_comm n (2 ^ 32)) (mul-lt-mul_of_pos_right (spread-below name) some))
 
 -- a turn stays below n
 pub turned-below : (home d n : ℕ) → home < n → d < n → turned home d n < n
@@ -55,43 +45,6 @@ empty_slot f (suc n) h = by_name (f n == 0) refl (λ l. empty_slot f n l) where
       let count = used-suc f n false e in
       let r = rest (omega arith) in (r.0, omega arith, r.2)
 
-pub passed_none : (f : ℕ → ℕ) (n name : ℕ) → IsPassed f n name 0
-passed_none f n name = record { used = λ e l. absurd (omega arith); others = λ e l. absurd (omega arith) }
-
-pub passed_more : (f : ℕ → ℕ) (n name k : ℕ) → IsPassed f n name k → f (turned (home_of name n) k n) ≢ 0
-    → f (turned (home_of name n) k n) ≢ name → IsPassed f n name (k + 1)
-passed_more f n name k p u o = record {
-  used = below_more (λ e. f (turned (home_of name n) e n) ≢ 0) k p.used u;
-  others = below_more (λ e. f (turned (home_of name n) e n) ≢ name) k p.others o;
-}
-
--- a search through a table with room meets an empty slot
-pub not_all_passed : (f : ℕ → ℕ) (n name : ℕ) → used f n < n → IsPassed f n name n → ⊥
-not_all_passed f n name room p =
-    let r = empty_slot f n room in
-    let home = home-below name n (omega arith) in
-    let d = turned-reaches (home_of name n) r.0 n home r.1 in
-    p.used d.0 d.1 (ap f d.2 ∙ r.2)
-
--- a name whose search meets an empty slot isn't there
-pub absent : (f : ℕ → ℕ) (n count name at : ℕ) → IsTable f n count → name ≢ 0 → IsVacancy f n name at → (i : ℕ) → i < n
-    → f i ≢ name
-absent f n count name at t some v i l is = elim (below_or_past d.0 v.steps) [
-  | inl low ↦ v.passed.others d.0 low (ap f d.2 ∙ is)
-  | inr high ↦ by_equal (eq-or-lt_of_le high)
-] where
-  home : home_of name n < n
-  home = home-below name n (omega arith)
-
-  d : (d : ℕ) × (d < n) × (turned (home_of name n) d n ≡ i)
-  d = turned-reaches (home_of name n) i n home l
-
-  by_equal : (v.steps ≡ d.0) ⊎ (v.steps < d.0) → ⊥
-  by_equal (inl same) = some (sym is ∙ ap f (sym d.2 ∙ ap (λ k. turned (home_of name n) k n) (sym same) ∙ v.place_is)
-      ∙ v.empty)
-  by_equal (inr after) = t.reached name d.0 v.steps some d.1 (ap f d.2 ∙ is) after
-      (ap f v.place_is ∙ v.empty)
-
 pub not_named : (a b : ℕ) → (a == b) ≡ false → a ≢ b
 not_named a b e = grind (arith, nat_tests)
 
@@ -124,82 +77,122 @@ module _ (f g : ℕ → ℕ) (at key : ℕ) (some : key ≢ 0) (empty : f at ≡
             let c = rest (omega arith) in
             omega (arith, a, b, c)
 
-module _ (f g : ℕ → ℕ) (n count at key : ℕ) (t : IsTable f n count) (some : key ≢ 0) (within : at < n)
-    (v : IsVacancy f n key at) (p : Puts f g n at key) where
-  put_distinct : (i j : ℕ) → i < n → j < n → g i ≢ 0 → g i ≡ g j → i ≡ j
-  put_distinct i j l m named same = by_place (equal_or_not i at) (equal_or_not j at) where
-    by_place : (i ≡ at) ⊎ (i ≢ at) → (j ≡ at) ⊎ (j ≢ at) → i ≡ j
-    by_place (inl a) (inl b) = a ∙ sym b
-    by_place (inl a) (inr b) = absurd
-        (absent f n count key at t some v j m (sym (p.others j m b) ∙ sym same ∙ ap g a
-        ∙ p.here))
-    by_place (inr a) (inl b) = absurd
-        (absent f n count key at t some v i l (sym (p.others i l a) ∙ same ∙ ap g b
-        ∙ p.here))
-    by_place (inr a) (inr b) = t.distinct i j l m (λ nought. named (p.others i l a ∙ nought))
-        (sym (p.others i l a) ∙ same ∙ p.others j m b)
-
-  put_reached : (name d e : ℕ) → name ≢ 0 → d < n → g (turned (home_of name n) d n) ≡ name → e < d
-      → g (turned (home_of name n) e n) ≢ 0
-  put_reached name d e named l is before = by_place (equal_or_not (turned (home_of name n) d n) at)
-      (equal_or_not (turned (home_of name n) e n) at) where
-        home : home_of name n < n
-        home = home-below name n (omega arith)
-
-        below_d : turned (home_of name n) d n < n
-        below_d = turned-below (home_of name n) d n home l
-
-        below_e : turned (home_of name n) e n < n
-        below_e = turned-below (home_of name n) e n home (omega arith)
-
-        by_place : (turned (home_of name n) d n ≡ at) ⊎ (turned (home_of name n) d n ≢ at) → (turned (home_of name n) e n ≡ at) ⊎
-            (turned (home_of name n) e n ≢ at) → g (turned (home_of name n) e n) ≢ 0
-        by_place a (inl b) = λ nought. some (sym p.here ∙ ap g (sym b) ∙ nought)
-        by_place (inr a) (inr b) = λ nought. t.reached name d e named l (sym (p.others _ below_d a) ∙ is) before
-            (sym (p.others _ below_e b) ∙ nought)
-        by_place (inl a) (inr b) = λ nought.
-            let same : name ≡ key = sym is ∙ ap g a ∙ p.here in
-            let steps : d ≡ v.steps = turned-apart (home_of name n) d v.steps n home l v.within
-            (a ∙ sym v.place_is ∙ ap (λ m. turned (home_of m n) v.steps n) (sym same)) in
-            v.passed.used e (omega arith) (ap (λ m. f (turned (home_of m n) e n)) (sym same) ∙ (sym (p.others _ below_e b)) ∙ nought)
-
-  -- the table with one more slot used
-  pub put_table : IsTable g n (count + 1)
-  put_table = record {
-    count_is = used-more f g at key some v.empty n within p ∙ ap (λ k. k + 1) t.count_is;
-    distinct = put_distinct;
-    reached = put_reached;
-  }
-
--- ---- a slot that is set anew
-
--- a table is a matter of its first n slots
-pub IsTable-same : (f g : ℕ → ℕ) (n count : ℕ) → ((j : ℕ) → j < n → g j ≡ f j) → IsTable f n count → IsTable g n count
-IsTable-same f g n count same t = record {
-  count_is = used-same f g n same ∙ t.count_is;
-  distinct = λ i j l m some e. t.distinct i j l m (λ nought. some (same i l ∙ nought)) (sym (same i l) ∙ e ∙ same j m);
-  reached = λ name d e some l is before.
-      let home = home-below name n (omega arith) in
-      let x = turned-below (home_of name n) d n home l in
-      let y = turned-below (home_of name n) e n home (omega arith) in
-      λ nought. t.reached name d e some l (sym (same _ x) ∙ is) before (sym (same _ y) ∙ nought);
-}
-
--- the name that stood there
-pub set_table : (f g : ℕ → ℕ) (n count at key : ℕ) → IsTable f n count → f at ≡ key → Puts f g n at key → IsTable g n count
-set_table f g n count at key t was p = IsTable-same f g n count (λ j l. by_place j l (equal_or_not j at)) t where
-  by_place : (j : ℕ) → j < n → (j ≡ at) ⊎ (j ≢ at) → g j ≡ f j
-  by_place j l (inl is) = ap g is ∙ p.here ∙ sym was ∙ ap f (sym is)
-  by_place j l (inr away) = p.others j l away
-
 -- what is put there, seen by a part of it
 pub puts-part : {A B : Type 0} (part : A → B) (f g : ℕ → A) (n at : ℕ) (put : A) → Puts f g n at put
     → Puts (λ i. part (f i)) (λ i. part (g i)) n at (part put)
 puts-part part f g n at put p = record { here = ap part p.here; others = λ i l away. ap part (p.others i l away) }
 
+-- ---- tables, whatever the homes of names are
+
+module _ {homes : ℕ → ℕ → ℕ} (home-below : (name n : ℕ) → 0 < n → homes name n < n) where
+  pub passed_none : (f : ℕ → ℕ) (n name : ℕ) → IsPassed homes f n name 0
+  passed_none f n name = record { used = λ e l. absurd (omega arith); others = λ e l. absurd (omega arith) }
+
+  pub passed_more : (f : ℕ → ℕ) (n name k : ℕ) → IsPassed homes f n name k → f (turned (homes name n) k n) ≢ 0
+      → f (turned (homes name n) k n) ≢ name → IsPassed homes f n name (k + 1)
+  passed_more f n name k p u o = record {
+    used = below_more (λ e. f (turned (homes name n) e n) ≢ 0) k p.used u;
+    others = below_more (λ e. f (turned (homes name n) e n) ≢ name) k p.others o;
+  }
+
+  -- a search through a table with room meets an empty slot
+  pub not_all_passed : (f : ℕ → ℕ) (n name : ℕ) → used f n < n → IsPassed homes f n name n → ⊥
+  not_all_passed f n name room p =
+      let r = empty_slot f n room in
+      let home = home-below name n (omega arith) in
+      let d = turned-reaches (homes name n) r.0 n home r.1 in
+      p.used d.0 d.1 (ap f d.2 ∙ r.2)
+
+  -- a name whose search meets an empty slot isn't there
+  pub absent : (f : ℕ → ℕ) (n count name at : ℕ) → IsTable homes f n count → name ≢ 0 → IsVacancy homes f n name at → (i : ℕ) → i < n
+      → f i ≢ name
+  absent f n count name at t some v i l is = elim (below_or_past d.0 v.steps) [
+    | inl low ↦ v.passed.others d.0 low (ap f d.2 ∙ is)
+    | inr high ↦ by_equal (eq-or-lt_of_le high)
+  ] where
+    home : homes name n < n
+    home = home-below name n (omega arith)
+
+    d : (d : ℕ) × (d < n) × (turned (homes name n) d n ≡ i)
+    d = turned-reaches (homes name n) i n home l
+
+    by_equal : (v.steps ≡ d.0) ⊎ (v.steps < d.0) → ⊥
+    by_equal (inl same) = some (sym is ∙ ap f (sym d.2 ∙ ap (λ k. turned (homes name n) k n) (sym same) ∙ v.place_is)
+        ∙ v.empty)
+    by_equal (inr after) = t.reached name d.0 v.steps some d.1 (ap f d.2 ∙ is) after
+        (ap f v.place_is ∙ v.empty)
+
+  module _ (f g : ℕ → ℕ) (n count at key : ℕ) (t : IsTable homes f n count) (some : key ≢ 0) (within : at < n)
+      (v : IsVacancy homes f n key at) (p : Puts f g n at key) where
+    put_distinct : (i j : ℕ) → i < n → j < n → g i ≢ 0 → g i ≡ g j → i ≡ j
+    put_distinct i j l m named same = by_place (equal_or_not i at) (equal_or_not j at) where
+      by_place : (i ≡ at) ⊎ (i ≢ at) → (j ≡ at) ⊎ (j ≢ at) → i ≡ j
+      by_place (inl a) (inl b) = a ∙ sym b
+      by_place (inl a) (inr b) = absurd
+          (absent f n count key at t some v j m (sym (p.others j m b) ∙ sym same ∙ ap g a
+          ∙ p.here))
+      by_place (inr a) (inl b) = absurd
+          (absent f n count key at t some v i l (sym (p.others i l a) ∙ same ∙ ap g b
+          ∙ p.here))
+      by_place (inr a) (inr b) = t.distinct i j l m (λ nought. named (p.others i l a ∙ nought))
+          (sym (p.others i l a) ∙ same ∙ p.others j m b)
+
+    put_reached : (name d e : ℕ) → name ≢ 0 → d < n → g (turned (homes name n) d n) ≡ name → e < d
+        → g (turned (homes name n) e n) ≢ 0
+    put_reached name d e named l is before = by_place (equal_or_not (turned (homes name n) d n) at)
+        (equal_or_not (turned (homes name n) e n) at) where
+          home : homes name n < n
+          home = home-below name n (omega arith)
+
+          below_d : turned (homes name n) d n < n
+          below_d = turned-below (homes name n) d n home l
+
+          below_e : turned (homes name n) e n < n
+          below_e = turned-below (homes name n) e n home (omega arith)
+
+          by_place : (turned (homes name n) d n ≡ at) ⊎ (turned (homes name n) d n ≢ at) → (turned (homes name n) e n ≡ at) ⊎
+              (turned (homes name n) e n ≢ at) → g (turned (homes name n) e n) ≢ 0
+          by_place a (inl b) = λ nought. some (sym p.here ∙ ap g (sym b) ∙ nought)
+          by_place (inr a) (inr b) = λ nought. t.reached name d e named l (sym (p.others _ below_d a) ∙ is) before
+              (sym (p.others _ below_e b) ∙ nought)
+          by_place (inl a) (inr b) = λ nought.
+              let same : name ≡ key = sym is ∙ ap g a ∙ p.here in
+              let steps : d ≡ v.steps = turned-apart (homes name n) d v.steps n home l v.within
+              (a ∙ sym v.place_is ∙ ap (λ m. turned (homes m n) v.steps n) (sym same)) in
+              v.passed.used e (omega arith) (ap (λ m. f (turned (homes m n) e n)) (sym same) ∙ (sym (p.others _ below_e b)) ∙ nought)
+
+    -- the table with one more slot used
+    pub put_table : IsTable homes g n (count + 1)
+    put_table = record {
+      count_is = used-more f g at key some v.empty n within p ∙ ap (λ k. k + 1) t.count_is;
+      distinct = put_distinct;
+      reached = put_reached;
+    }
+
+  -- ---- a slot that is set anew
+
+  -- a table is a matter of its first n slots
+  pub IsTable-same : (f g : ℕ → ℕ) (n count : ℕ) → ((j : ℕ) → j < n → g j ≡ f j) → IsTable homes f n count → IsTable homes g n count
+  IsTable-same f g n count same t = record {
+    count_is = used-same f g n same ∙ t.count_is;
+    distinct = λ i j l m some e. t.distinct i j l m (λ nought. some (same i l ∙ nought)) (sym (same i l) ∙ e ∙ same j m);
+    reached = λ name d e some l is before.
+        let home = home-below name n (omega arith) in
+        let x = turned-below (homes name n) d n home l in
+        let y = turned-below (homes name n) e n home (omega arith) in
+        λ nought. t.reached name d e some l (sym (same _ x) ∙ is) before (sym (same _ y) ∙ nought);
+  }
+
+  -- the name that stood there
+  pub set_table : (f g : ℕ → ℕ) (n count at key : ℕ) → IsTable homes f n count → f at ≡ key → Puts f g n at key → IsTable homes g n count
+  set_table f g n count at key t was p = IsTable-same f g n count (λ j l. by_place j l (equal_or_not j at)) t where
+    by_place : (j : ℕ) → j < n → (j ≡ at) ⊎ (j ≢ at) → g j ≡ f j
+    by_place j l (inl is) = ap g is ∙ p.here ∙ sym was ∙ ap f (sym is)
+    by_place j l (inr away) = p.others j l away
+
 -- ---- no slot is used
 
-pub empty_table : (f : ℕ → ℕ) (n : ℕ) → ((i : ℕ) → f i ≡ 0) → IsTable f n 0
+pub empty_table : {homes : ℕ → ℕ → ℕ} (f : ℕ → ℕ) (n : ℕ) → ((i : ℕ) → f i ≡ 0) → IsTable homes f n 0
 empty_table f n empty = record {
   count_is = none n;
   distinct = λ i j l m named same. absurd (named (empty i));

@@ -1,3 +1,3 @@
+pub mod Homes
 pub mod Search
-pub mod Spread
 pub mod Table

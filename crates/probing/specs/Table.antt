@@ -1,17 +1,12 @@
 -- A table of slots with linear probing, as the function from a slot to the name in it. An empty slot has the name 0.
-use Rattle.std.specs.Prelude.{◌≡◌, ◌≢◌, ℕ, zero, suc, ◌+◌, ◌-◌, ◌*◌, ◌/◌, ◌^◌, ◌<◌, ◌==◌, nat_lt, nat_le, if◌then◌else◌, List, [], ◌∷◌, Option, Some, None}
+use Rattle.std.specs.Prelude.{◌≡◌, ◌≢◌, ℕ, zero, suc, ◌+◌, ◌-◌, ◌<◌, ◌==◌, nat_lt, nat_le, if◌then◌else◌, List, [], ◌∷◌, Option, Some, None}
 use Rattle.std.specs.Ordering.{nat_cmp}
 use Rattle.std.specs.FinMap as map
-use Rattle.probing.specs.Spread.{spread}
 
 -- how many of the first n slots are used
 unfoldable pub used : (ℕ → ℕ) → ℕ → ℕ
 used names zero = 0
 used names (suc n) = used names n + (if names n == 0 then 0 else 1)
-
--- where the search for a name begins: as far among n slots as its key is among the numbers of 32 bits
-unfoldable pub home_of : ℕ → ℕ → ℕ
-home_of name n = spread name * n / 2 ^ 32
 
 -- d slots on from home, around the end
 unfoldable pub turned : ℕ → ℕ → ℕ → ℕ
@@ -21,12 +16,13 @@ turned home d n = if nat_lt (home + d) n then home + d else home + d - n
 unfoldable pub apart : ℕ → ℕ → ℕ → ℕ
 apart a b n = if nat_le a b then b - a else b + n - a
 
--- n slots of which this many are used, each name at most once, with no empty slot between its home and it
-pub record IsTable (names : ℕ → ℕ) (n count : ℕ) : Type 0 where
+-- n slots of which this many are used, each name at most once, with no empty slot between its home and it. The home of a name among n
+-- slots is the table's own choice
+pub record IsTable (homes : ℕ → ℕ → ℕ) (names : ℕ → ℕ) (n count : ℕ) : Type 0 where
   pub count_is : used names n ≡ count
   pub distinct : (i j : ℕ) → i < n → j < n → names i ≢ 0 → names i ≡ names j → i ≡ j
-  pub reached : (name d e : ℕ) → name ≢ 0 → d < n → names (turned (home_of name n) d n) ≡ name → e < d
-      → names (turned (home_of name n) e n) ≢ 0
+  pub reached : (name d e : ℕ) → name ≢ 0 → d < n → names (turned (homes name n) d n) ≡ name → e < d
+      → names (turned (homes name n) e n) ≢ 0
 
 -- ---- what a table stands for, with a value in each slot
 

@@ -5,8 +5,9 @@ use Rattle.loom_host.specs.declared.outside.Host.{Ghosts}
 use Rattle.loom_host.specs.declared.outside.Role.TheVariants.{Work as OfWork}
 use Rattle.loom_host.specs.declared.outside.DiskFault.{DiskFault}
 use Rattle.loom_host.specs.declared.outside.DiskFault.TheVariants.{Work, Full, Damaged}
-use Rattle.probing.proofs.TableLaws.{home-below, turned-below}
-use Rattle.probing.specs.Table.{home_of}
+use Rattle.probing.proofs.HomeLaws.{paged_home_of-below}
+use Rattle.probing.proofs.TableLaws.{turned-below}
+use Rattle.probing.specs.Homes.{paged_home_of}
 use Rattle.work_directory.specs.declared.directory.Found.{Found}
 use Rattle.work_directory.specs.declared.limits.TheConstants.{SLOT_BYTES}
 use Rattle.work_directory.specs.Inside.{IsLookCause, IsWriteCause, last_slot, search_end}
@@ -16,7 +17,7 @@ use Rattle.loom_host.specs.Work.{work_of}
 
 -- the slot that a search reads last is one of them
 pub last-within : (n name : ℕ) → 0 < n → last_slot n name < n
-last-within n name some = turned-below (home_of name n) (n - 1) n (home-below name n some) (omega arith)
+last-within n name some = turned-below (paged_home_of name n) (n - 1) n (paged_home_of-below name n some) (omega arith)
 
 module _ {H : Type 0} (host : Ghosts H) where
   -- damage at a slot, over a host that doesn't tell Work

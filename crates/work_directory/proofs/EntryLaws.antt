@@ -1,30 +1,34 @@
 -- The entries of a directory in the contents of Work.
-use Rattle.std.proofs.Common.{◌≡◌, ◌≢◌, ℕ, ◌*◌, ◌<◌, ◌≤◌, ◌⊎◌, List, [], Option, Some, None, refl, sym, ap, ◌∙◌, subst, arith, inl, inr}
+use Rattle.std.proofs.Common.{◌≡◌, ◌≢◌, ℕ, ◌*◌, ◌/◌, ◌<◌, ◌≤◌, ◌⊎◌, Bool, true, false, List, [], Option, Some, None, refl, sym, ap, ◌∙◌, subst, arith, inl, inr}
 use Rattle.std.specs.FinMap as map
 use Rattle.loom_host.specs.Bytes.{overwritten}
-use Rattle.probing.specs.Table.{map_of, home_of, turned, IsTable}
+use Rattle.probing.specs.Homes.{paged_home_of}
+use Rattle.probing.specs.Table.{map_of, turned, IsTable}
 use Rattle.probing.proofs.MapLaws.{map_of-same, len-map_of, get-map_of, get-map_of-zero, get-map_of_held, held_at, empty_map}
-use Rattle.probing.proofs.TableLaws.{IsTable-same, equal_or_not, empty_table, home-below, turned-below}
+use Rattle.probing.proofs.HomeLaws.{paged_home_of-below}
+use Rattle.probing.proofs.TableLaws.{IsTable-same, equal_or_not, empty_table, turned-below}
 use Rattle.work_directory.specs.declared.slot.Slot.{Slot}
 use Rattle.work_directory.specs.declared.directory.Directory.{Directory}
 use Rattle.work_directory.specs.declared.directory.Found.{Found}
 use Rattle.work_directory.specs.declared.directory.Found.TheVariants.{Held, Vacant}
-use Rattle.work_directory.specs.Directory.{held_of, slots_of, end_of, entries_of, shown_at, AnswersSearch, IsIn, IsOfName}
+use Rattle.work_directory.specs.Directory.{held_of, slots_of, was_written, end_of, entries_of, shown_at, AnswersSearch, IsIn, IsOfName}
 use Rattle.work_directory.specs.Slots.{slot_at, slot_in, used_slot, bytes_of, IsSpelled, AreSpelled}
 use Rattle.work_directory.specs.Table.{Entry, entry_of, name_at, entry_at}
 use Rattle.work_directory.specs.Work.{SameBefore}
 use Rattle.work_directory.proofs.ContentsLaws.{window-same_before, before-written}
-use Rattle.work_directory.proofs.SlotLaws.{used_slot-some, used_slot-named, slot_at-none, spelled-none}
+use Rattle.work_directory.proofs.SlotLaws.{used_slot-some, used_slot-named, used_slot-zero, slot_at-none, spelled-none}
 
 pub entries_are : (d : Directory) (w : List ℕ) → entries_of d w ≡ map_of (name_at w) (entry_at w) (slots_of d)
 unfolding entries_of
 entries_are d w = refl
 
 -- a table in spelled slots is a directory
-pub in-table : (d : Directory) (w : List ℕ) → AreSpelled w (slots_of d) → IsTable (name_at w) (slots_of d) (held_of d) → IsIn d w
-in-table d w spelled t = record {
+pub in-table : (d : Directory) (w : List ℕ) → AreSpelled w (slots_of d) → IsTable paged_home_of (name_at w) (slots_of d) (held_of d)
+    → ((i : ℕ) → i < slots_of d → was_written d (i / 170) ≡ false → name_at w i ≡ 0) → IsIn d w
+in-table d w spelled t unwritten = record {
   spelled = spelled;
   table = t;
+  unwritten = unwritten;
   held = ap map.len (entries_are d w) ∙ len-map_of (name_at w) (entry_at w) (slots_of d) t.distinct ∙ t.count_is;
 }
 
@@ -48,7 +52,8 @@ entries-kept d v w same = entries_are d w ∙ map_of-same (name_at v) (name_at w
 pub in-kept : (d : Directory) (v w : List ℕ) → SameBefore (end_of d) v w → IsIn d v → IsIn d w
 in-kept d v w same is =
     in-table d w (spelled-same d v w same is.spelled)
-    (IsTable-same (name_at v) (name_at w) (slots_of d) (held_of d) (λ j l. ap (λ (s : Slot). s.name) (slot-same d v w same j l)) is.table)
+    (IsTable-same paged_home_of-below (name_at v) (name_at w) (slots_of d) (held_of d) (λ j l. ap (λ (s : Slot). s.name) (slot-same d v w same j l)) is.table)
+    (λ i l none. ap (λ (s : Slot). s.name) (slot-same d v w same i l) ∙ is.unwritten i l none)
 
 -- and where a search ends
 pub search-kept : (d : Directory) (v w : List ℕ) (name : ℕ) (found : Found) → SameBefore (end_of d) v w → IsOfName (slots_of d) name found
@@ -57,8 +62,8 @@ search-kept d v w name (Held at slot) same of is = slot-same d v w same at of.0 
 search-kept d v w name (Vacant at) same of is =
     let n : ℕ = slots_of d in
     let names : (j : ℕ) → j < n → name_at w j ≡ name_at v j = λ j l. ap (λ (s : Slot). s.name) (slot-same d v w same j l) in
-    let home : home_of name n < n = home-below name n (let l = of.0 in omega (arith, l)) in
-    let below : (e : ℕ) → e < is.steps → turned (home_of name n) e n < n = λ e l. turned-below (home_of name n) e n home (let s = is.within in omega (arith, s, l)) in
+    let home : paged_home_of name n < n = paged_home_of-below name n (let l = of.0 in omega (arith, l)) in
+    let below : (e : ℕ) → e < is.steps → turned (paged_home_of name n) e n < n = λ e l. turned-below (paged_home_of name n) e n home (let s = is.within in omega (arith, s, l)) in
     record {
       steps = is.steps;
       within = is.within;
@@ -111,11 +116,24 @@ entry-once d w i j s t is l m a b same =
     let y = used_slot-some (slot_at w j) t (sym b ∙ shown_is w j) in
     is.table.distinct i j l m x.1 (sym (ap (λ (u : Slot). u.name) x.0) ∙ same ∙ ap (λ (u : Slot). u.name) y.0)
 
+-- a slot of a block that was never written shows nothing
+pub unwritten-shown : (d : Directory) (w : List ℕ) (i block : ℕ) → IsIn d w → i < slots_of d → i / 170 ≡ block → was_written d block ≡ false
+    → shown_at w i ≡ None
+unwritten-shown d w i block is l in_block none =
+    shown_is w i ∙ used_slot-zero (slot_at w i) (is.unwritten i l (ap (was_written d) in_block ∙ none))
+
+-- and what shows something was written
+pub shown-written : (d : Directory) (w : List ℕ) (i : ℕ) → IsIn d w → i < slots_of d → name_at w i ≢ 0 → was_written d (i / 170) ≡ true
+shown-written d w i is l some = by_mark (was_written d (i / 170)) refl where
+  by_mark : (b : Bool) → was_written d (i / 170) ≡ b → was_written d (i / 170) ≡ true
+  by_mark true e = e
+  by_mark false e = absurd (some (is.unwritten i l e))
+
 -- ---- over an empty file
 
 pub in-none : (d : Directory) → held_of d ≡ 0 → IsIn d []
-in-none d nought = in-table d [] (spelled-none (slots_of d)) (subst (λ (k : ℕ). IsTable (name_at []) (slots_of d) k) (sym nought)
-    (empty_table (name_at []) (slots_of d) slot_at-none))
+in-none d nought = in-table d [] (spelled-none (slots_of d)) (subst (λ (k : ℕ). IsTable paged_home_of (name_at []) (slots_of d) k) (sym nought)
+    (empty_table (name_at []) (slots_of d) slot_at-none)) (λ i l none. slot_at-none i)
 
 pub entries-none : (d : Directory) → entries_of d [] ≡ map.empty
 entries-none d = entries_are d [] ∙ empty_map (name_at []) (entry_at []) (slots_of d) slot_at-none

@@ -2,8 +2,10 @@
 -- Bytes of a directory come in by `Writes`, one record for one written slot. Removal is carried by `IsUnderWay`, with one law
 -- each for its start, a slot that stays, one that moves, and its end.
 use Rattle.std.proofs.Common.{◌≡◌, ◌≢◌, ℕ, ◌+◌, ◌*◌, ◌<◌, ◌≤◌, List, Some, None, refl, sym, ap, ◌∙◌, subst}
+use Rattle.probing.proofs.HomeLaws.{paged_home_of-below}
 use Rattle.probing.specs.Search.{Puts}
-use Rattle.probing.specs.Table.{IsTable, turned, apart, home_of}
+use Rattle.probing.specs.Homes.{paged_home_of}
+use Rattle.probing.specs.Table.{IsTable, turned, apart}
 use Rattle.probing.proofs.ClosingLaws.{IsClosing, closing_start, step_left, step_moved, step_end}
 use Rattle.work_directory.specs.declared.slot.Slot.{Slot}
 use Rattle.work_directory.specs.Slots.{no_slot, slot_at, used_slot, AreSpelled}
@@ -15,14 +17,14 @@ use Rattle.work_directory.proofs.SlotLaws.{used_slot-none, used_slot-some, puts-
 
 -- v is what Work held first, and w what it holds now
 pub record IsUnderWay (v w : List ℕ) (n count at hole gap step : ℕ) : Type 0 where
-  pub closing : IsClosing (name_at v) (name_at w) (entry_at v) (entry_at w) n count at hole gap step
+  pub closing : IsClosing paged_home_of (name_at v) (name_at w) (entry_at v) (entry_at w) n count at hole gap step
   pub spelled : AreSpelled w n
   pub behind : SameFrom (24 * n) v w
 
-pub start : (v : List ℕ) (n count at : ℕ) → AreSpelled v n → IsTable (name_at v) n count → at < n → (slot_at v at).name ≢ 0
+pub start : (v : List ℕ) (n count at : ℕ) → AreSpelled v n → IsTable paged_home_of (name_at v) n count → at < n → (slot_at v at).name ≢ 0
     → IsUnderWay v v n count at at 1 1
 start v n count at spelled t within some = record {
-  closing = closing_start (name_at v) (entry_at v) n count at t within some;
+  closing = closing_start paged_home_of-below (name_at v) (entry_at v) n count at t within some;
   spelled = spelled;
   behind = same-itself (24 * n) v;
 }
@@ -33,7 +35,7 @@ module _ (v u w : List ℕ) (n count at hole gap step place : ℕ) (way : IsUnde
   way_now : IsUnderWay v w n count at hole gap step
   way_now = subst (λ (x : List ℕ). IsUnderWay v x n count at hole gap step) (sym still) way
 
-  module _ (slot : Slot) (home d : ℕ) (read : Some slot ≡ used_slot (slot_at u place)) (begins : home ≡ home_of slot.name n)
+  module _ (slot : Slot) (home d : ℕ) (read : Some slot ≡ used_slot (slot_at u place)) (begins : home ≡ paged_home_of slot.name n)
       (far : d ≡ apart home place n) where
     slot_is : slot ≡ slot_at w place
     slot_is = (used_slot-some (slot_at u place) slot read).0 ∙ ap (λ (x : List ℕ). slot_at x place) (sym still)
@@ -45,12 +47,12 @@ module _ (v u w : List ℕ) (n count at hole gap step place : ℕ) (way : IsUnde
     named nought = (used_slot-some (slot_at u place) slot read).1
         (ap (λ (s : Slot). s.name) (sym (used_slot-some (slot_at u place) slot read).0) ∙ nought)
 
-    far_is : d ≡ apart (home_of slot.name n) place n
+    far_is : d ≡ apart (paged_home_of slot.name n) place n
     far_is = far ∙ ap (λ (k : ℕ). apart k place n) begins
 
     pub left : d < gap → IsUnderWay v w n count at hole (gap + 1) (step + 1)
     left near = record {
-      closing = step_left (name_at v) (name_at w) (entry_at v) (entry_at w) n count at hole gap step place d slot.name way_now.closing
+      closing = step_left paged_home_of-below (name_at v) (name_at w) (entry_at v) (entry_at w) n count at hole gap step place d slot.name way_now.closing
           first within low high room here name_is named far_is near;
       spelled = way_now.spelled;
       behind = way_now.behind;
@@ -58,7 +60,7 @@ module _ (v u w : List ℕ) (n count at hole gap step place : ℕ) (way : IsUnde
 
     pub moved : (x : List ℕ) → gap ≤ d → Writes w x n hole slot → IsUnderWay v x n count at place 1 (step + 1)
     moved x away wrote = record {
-      closing = step_moved (name_at v) (name_at w) (entry_at v) (entry_at w) n count at hole gap step place d slot.name way_now.closing
+      closing = step_moved paged_home_of-below (name_at v) (name_at w) (entry_at v) (entry_at w) n count at hole gap step place d slot.name way_now.closing
           first within low high room here name_is (name_at x) (entry_at x) named far_is away
           (puts-name w x n hole slot wrote.puts)
           (subst (λ e. Puts (entry_at w) (entry_at x) n hole e) (ap entry_of slot_is) (puts-entry w x n hole slot wrote.puts));
@@ -68,7 +70,7 @@ module _ (v u w : List ℕ) (n count at hole gap step place : ℕ) (way : IsUnde
 
   pub ends : (x : List ℕ) → None ≡ used_slot (slot_at u place) → Writes w x n hole no_slot → Closes v x n count at
   ends x read wrote = record {
-    closed = step_end (name_at v) (name_at w) (entry_at v) (entry_at w) n count at hole gap step place 0 (name_at w place) way_now.closing
+    closed = step_end paged_home_of-below (name_at v) (name_at w) (entry_at v) (entry_at w) n count at hole gap step place 0 (name_at w place) way_now.closing
         first within low high room here refl (name_at x) (entry_at x) (entry_of no_slot)
         (ap (λ (y : List ℕ). name_at y place) still ∙ used_slot-none (slot_at u place) read)
         (puts-name w x n hole no_slot wrote.puts) (puts-entry w x n hole no_slot wrote.puts);

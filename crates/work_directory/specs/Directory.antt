@@ -1,8 +1,10 @@
 -- What a directory in Work stands for: a map from names to entries.
-use Rattle.std.specs.Prelude.{◌≡◌, ◌≢◌, ◌<◌, ℕ, ◌*◌, List, Option, None, Some, IsSome, IsTrue}
+use Rattle.std.specs.Prelude.{◌≡◌, ◌≢◌, ◌<◌, ℕ, ◌+◌, ◌*◌, ◌/◌, min, Bool, false, List, Option, None, Some, IsSome, IsTrue}
 use Rattle.std.specs.FinMap as map
 use Rattle.loom_host.specs.declared.outside.Host.{Ghosts}
 use Rattle.loom_host.specs.declared.outside.Role.TheVariants.{Work}
+use Rattle.probing.specs.declared.TheConstants.{BLOCK_SLOTS}
+use Rattle.probing.specs.Homes.{paged_home_of}
 use Rattle.probing.specs.Search.{IsVacancy}
 use Rattle.probing.specs.Table.{map_of, IsTable}
 use Rattle.work_directory.specs.declared.directory.Found.{Found}
@@ -10,6 +12,7 @@ use Rattle.work_directory.specs.declared.directory.Found.TheVariants.{Held, Vaca
 use Rattle.work_directory.specs.declared.limits.TheConstants.{SLOT_BYTES}
 use Rattle.work_directory.specs.declared.slot.Slot.{Slot}
 use Rattle.work_directory.specs.declared.directory.Directory.{Directory}
+use Rattle.work_directory.specs.Marks.{has_mark}
 use Rattle.work_directory.specs.Slots.{slot_at, used_slot, AreSpelled}
 use Rattle.work_directory.specs.Table.{Entry, Entries, entry_of, name_at, entry_at}
 use Rattle.work_directory.specs.Work.{SameFrom}
@@ -25,6 +28,18 @@ held_of d = d.held
 -- how many slots it has
 abbrev pub slots_of : Directory → ℕ
 slots_of d = 2 * room_of d
+
+-- how many blocks of slots it has, the last with what is left
+abbrev pub blocks_of : Directory → ℕ
+blocks_of d = slots_of d / BLOCK_SLOTS + 1
+
+-- where a block begins, which is where the one before ends
+abbrev pub first_slot : Directory → ℕ → ℕ
+first_slot d block = min (BLOCK_SLOTS * block) (slots_of d)
+
+-- a slot of this block was ever written
+unfoldable pub was_written : Directory → ℕ → Bool
+was_written d block = has_mark d.written block
 
 -- the place behind its last slot
 abbrev pub end_of : Directory → ℕ
@@ -53,7 +68,7 @@ IsOfName n name (Vacant at) = (at < n) × (name ≢ 0)
 -- it ended at the slot that it tells, or at the empty slot that it met first
 abbrev pub AnswersSearch : List ℕ → ℕ → ℕ → Found → Type 0
 AnswersSearch work n name (Held at slot) = slot_at work at ≡ slot
-AnswersSearch work n name (Vacant at) = IsVacancy (name_at work) n name at
+AnswersSearch work n name (Vacant at) = IsVacancy paged_home_of (name_at work) n name at
 
 -- ---- a directory in Work
 
@@ -62,7 +77,9 @@ pub record IsIn (d : Directory) (work : List ℕ) : Type 0 where
   -- each slot is spelled as one
   pub spelled : AreSpelled work (slots_of d)
   -- a search finds what there is, and so many slots are used as the directory counts
-  pub table : IsTable (name_at work) (slots_of d) (held_of d)
+  pub table : IsTable paged_home_of (name_at work) (slots_of d) (held_of d)
+  -- a slot of a block that was never written is empty
+  pub unwritten : (i : ℕ) → i < slots_of d → was_written d (i / BLOCK_SLOTS) ≡ false → name_at work i ≡ 0
   -- it has as many entries
   pub held : map.len (entries_of d work) ≡ held_of d
 

@@ -5,7 +5,8 @@ use Rattle.loom_host.specs.declared.outside.Role.TheVariants.{Work as OfWork}
 use Rattle.loom_host.specs.declared.outside.DiskFault.{DiskFault}
 use Rattle.loom_host.specs.declared.outside.DiskFault.TheVariants.{Work, Full, Damaged}
 use Rattle.probing.specs.Search.{Puts, IsClosedUp}
-use Rattle.probing.specs.Table.{home_of, turned}
+use Rattle.probing.specs.Homes.{paged_home_of}
+use Rattle.probing.specs.Table.{turned}
 use Rattle.work_directory.specs.declared.directory.Found.{Found}
 use Rattle.work_directory.specs.declared.piece.Piece.{Piece}
 use Rattle.work_directory.specs.declared.slot.Slot.{Slot}
@@ -23,7 +24,7 @@ pub record Writes (v w : List ℕ) (n at : ℕ) (slot : Slot) : Type 0 where
 
 -- w is v with that slot taken out and closed up
 pub record Closes (v w : List ℕ) (n count at : ℕ) : Type 0 where
-  pub closed : IsClosedUp (name_at v) (name_at w) (entry_at v) (entry_at w) n count at
+  pub closed : IsClosedUp paged_home_of (name_at v) (name_at w) (entry_at v) (entry_at w) n count at
   pub spelled : AreSpelled w n
   pub behind : SameFrom (SLOT_BYTES * n) v w
 
@@ -42,7 +43,7 @@ IsWriteCause host old new (Damaged place about) = ⊥
 
 -- the slot that a search for a name among n slots reads last: the one before its home, around the end
 abbrev pub last_slot : ℕ → ℕ → ℕ
-last_slot n name = turned (home_of name n) (n - 1) n
+last_slot n name = turned (paged_home_of name n) (n - 1) n
 
 -- where a search through all n slots ended; where it met no empty slot, damage is told of the one that it read last
 abbrev pub search_end : Option Found → ℕ → ℕ → Result Found DiskFault

@@ -4,15 +4,17 @@ ghost use Rattle.work_directory.specs.Inside.{search_end};
 ghost use Rattle.work_directory.specs.declared.limits.TheConstants.{MOST_NAMES};
 
 use crate::limits::{MOST_NAMES, SLOT_BYTES};
+use crate::marks::Marks;
 use crate::piece::Piece;
 use crate::slot::{Slot, clear, damaged, look, place_of, put};
 use long_names::Name;
 use loom_host::{DiskFault, Host};
-use probing::{distance, home, turn};
+use probing::{BLOCK_SLOTS, distance, paged_home, turn};
 
 /// The directory of the work file: the counts and places of the objects on disk. It has twice as many slots of 24 bytes as it has room
 /// for names, from the first byte of Work on. A name is looked for from its home on, slot by slot and around the end, up to an empty
-/// slot; where one is removed, those behind it that a search would miss move up.
+/// slot; where one is removed, those behind it that a search would miss move up. Names that were made one after another have their
+/// homes in one block of slots, and of each block it is known whether it was ever written.
 ///
 /// Each call answers Work where a call of the host failed. It answers Damaged where a slot that it read is none, where it met no empty
 /// slot, or where a name isn't there that is to be, or is there that isn't to be; a host that tells Work shows none of these. After
@@ -21,6 +23,8 @@ use probing::{distance, home, turn};
 pub struct Directory {
     room: u32,
     held: u32,
+    // A slot of a block without a mark was never written, so it is empty.
+    written: Marks,
     ghost some: { 0 < room },
     ghost most: { room ≤ MOST_NAMES },
     ghost fits: { held ≤ room },
@@ -42,16 +46,17 @@ fn search_end(found: Option<Found>, name: Name, slots: u32) -> Result<Found, Dis
 {
     match found {
         Some(found) => Ok(found),
-        None => Err(damaged(turn(home(name.get(), slots), slots - 1, slots), name)),
+        None => Err(damaged(turn(paged_home(name.get(), slots), slots - 1, slots), name)),
     }
 }
 
 impl Directory {
-    ghost use Rattle.std.specs.Prelude.{◌≡◌, ◌≢◌, ◌+◌, [], IsTrue, IsSome, IfSome, IfOk, IfErr, OnOk, OnErr, Err, option_map};
+    ghost use Rattle.std.specs.Prelude.{◌≡◌, ◌≢◌, ◌≤◌, ◌+◌, ◌/◌, ℕ, List, None, false, [], IsTrue, IsSome, IfSome, IfOk, IfErr, OnOk, OnErr, Err, option_map};
     ghost use Rattle.std.specs.FinMap as map;
     ghost use Rattle.loom_host.specs.declared.outside.DiskFault.TheVariants.{Full};
     ghost use Rattle.loom_host.specs.declared.outside.Role.{Role};
-    ghost use Rattle.work_directory.specs.Directory.{room_of, held_of, slots_of, end_of, entries_of, found_entry, shown_at, AnswersSearch, IsIn, IsOfName, HoldsDirectory, entries_in, Holds, Lacks, EndsAt, StandsAt, Becomes};
+    ghost use Rattle.work_directory.specs.Directory.{room_of, held_of, slots_of, blocks_of, first_slot, was_written, end_of, entries_of, found_entry, shown_at, AnswersSearch, IsIn, IsOfName, HoldsDirectory, entries_in, Holds, Lacks, EndsAt, StandsAt, Becomes};
+    ghost use Rattle.probing.specs.declared.TheConstants.{BLOCK_SLOTS};
     ghost use Rattle.work_directory.specs.Inside.{Closes};
     ghost use Rattle.work_directory.specs.Pieces.{IsPieceOf};
     ghost use Rattle.work_directory.specs.Slots.{slot_at};
@@ -68,7 +73,11 @@ impl Directory {
         ensures stands { IsIn result [] }
         ensures none { entries_of result [] ≡ map.empty }
     {
-        Directory { room, held: 0 }
+        Directory {
+            room,
+            held: 0,
+            written: Marks::new(),
+        }
     }
 
     /// How many names are held.
@@ -121,7 +130,7 @@ impl Directory {
         ensures cause { IfErr result (IsCause H.Host host.old host.new (end_of self.now) name) }
     {
         let slots = self.slots();
-        let home = home(name.get(), slots);
+        let home = paged_home(name.get(), slots);
         for step in 0..slots {
             let at = turn(home, step, slots);
             let Some(slot) = look(host, at, Some(name))? else {
@@ -173,6 +182,34 @@ impl Directory {
         }
     }
 
+    /// How many blocks its slots are, one after another. The last has what is left, which may be none.
+    #[inline(always)]
+    pub fn blocks(&self) -> u32
+        ensures value { result ≡ blocks_of self.now }
+        ensures most { result < 2 ^ 24 }
+    {
+        self.slots() / BLOCK_SLOTS + 1
+    }
+
+    /// Where the slots of a block begin, which is where those of the block before end.
+    #[inline(always)]
+    pub fn first_slot(&self, block: u32) -> u32
+        requires within { block ≤ blocks_of self.now }
+        ensures value { result ≡ first_slot self.now block }
+    {
+        (BLOCK_SLOTS * block).min(self.slots())
+    }
+
+    /// Whether a slot of a block was ever written. No other block has a slot that isn't empty.
+    #[tactic(auto, unfolding(crate::specs::Directory::was_written))]
+    pub fn is_written(&self, block: u32) -> bool
+        requires within { block < blocks_of self.now }
+        ensures value { result ≡ was_written self.now block }
+        ensures empty { result ≡ false → (work : List ℕ) (i : ℕ) → IsIn self.now work → i < slots_of self.now → i / BLOCK_SLOTS ≡ block → shown_at work i ≡ None }
+    {
+        self.written.has(block)
+    }
+
     /// What stands in slot `i`, None where it is empty. Damage is told about the word in place of its name.
     pub fn slot<H: Host>(&self, host: &mut H, i: u32) -> Result<Option<Slot>, DiskFault>
         requires within { i < slots_of self.now }
@@ -185,7 +222,8 @@ impl Directory {
     }
 
     /// The same by a piece: where it doesn't have the slot, it is read with those behind it. So a look at each slot in turn takes one
-    /// read for many. The piece is as Work was when it was read, so nothing may have been written since.
+    /// read for many, and none for a block that was never written. The piece is as Work was when it was read, so nothing may have been
+    /// written since.
     pub fn slot_by<H: Host>(
         &self,
         host: &mut H,
@@ -198,8 +236,12 @@ impl Directory {
         ensures shown { IfOk result (λ slot. IsTrue (H.tells Role.Work) → slot ≡ shown_at (work_of H.Host host.old) i) }
         ensures piece { IsTrue (H.tells Role.Work) → IsPieceOf (work_of H.Host host.old) piece.new }
         ensures read { IsWorkRead H.Host host.old host.new }
+        ensures unread { was_written self.now (i / BLOCK_SLOTS) ≡ false → host.new ≡ host.old }
         ensures cause { IfErr result (IsSlotCause H.Host host.old host.new i) }
     {
+        if !self.is_written(i / BLOCK_SLOTS) {
+            return Ok(None);
+        }
         piece.turn_to(host, i)?;
         piece.slot(i)
     }
@@ -244,6 +286,7 @@ impl Directory {
     {
         put(host, at, &slot)?;
         self.held += 1;
+        self.written.set(at / BLOCK_SLOTS);
         Ok(())
     }
 
@@ -317,7 +360,7 @@ impl Directory {
             let Some(slot) = look(host, place, Some(name))? else {
                 return clear(host, hole);
             };
-            let home = home(slot.name.get(), slots);
+            let home = paged_home(slot.name.get(), slots);
             if distance(home, place, slots) < gap {
                 gap += 1;
             } else {

@@ -1,15 +1,14 @@
 // Slots that were read at once.
 ghost use Rattle.std.specs.Prelude.{◌≤◌};
-ghost use Rattle.work_directory.specs.declared.piece.TheConstants.{PIECE_SLOTS};
+ghost use Rattle.probing.specs.declared.TheConstants.{BLOCK_SLOTS};
 
 use crate::limits::SLOT_BYTES;
 use crate::slot::{Slot, failed, parse, place_of};
 use loom_host::{DiskFault, Host};
+use probing::BLOCK_SLOTS;
 
-// How many slots are read at once.
-const PIECE_SLOTS: u32 = 170;
-
-const PIECE_BYTES: usize = SLOT_BYTES * PIECE_SLOTS as usize;
+// So many slots are read at once as a block has.
+const PIECE_BYTES: usize = SLOT_BYTES * BLOCK_SLOTS as usize;
 
 /// Slots of a directory, one after another, that one read of Work brought. A new one has none.
 #[derive(Drop)]
@@ -17,7 +16,7 @@ pub struct Piece {
     first: u32,
     count: u32,
     bytes: [u8; PIECE_BYTES],
-    ghost most: { count ≤ PIECE_SLOTS },
+    ghost most: { count ≤ BLOCK_SLOTS },
 }
 
 impl Piece {
@@ -57,7 +56,7 @@ impl Piece {
         match host.read_at(place_of(i), &mut self.bytes) {
             Ok(()) => {
                 self.first = i;
-                self.count = PIECE_SLOTS;
+                self.count = BLOCK_SLOTS;
                 Ok(())
             }
             Err(_) => Err(failed(host)),

@@ -1,7 +1,7 @@
 use Rattle.std.proofs.Common.{ℕ, ◌≡◌, ◌<◌, sym, ap, ◌∙◌, subst, arith}
 use Rattle.std.proofs.lemmas.Result.{on_ok_weaker}
 use Rattle.probing.proofs.ClosingLaws.{not_all_met}
-use Rattle.probing.specs.Table.{home_of}
+use Rattle.probing.specs.Homes.{paged_home_of}
 use Rattle.work_directory.specs.Directory.{held_of, slots_of, end_of}
 use Rattle.work_directory.specs.Inside.{Closes}
 use Rattle.work_directory.specs.Slots.{AreSpelled}
@@ -40,7 +40,7 @@ loop-step-preserved g c =
     let read = work-again h c.args.host.now l.host c.look.new.host l.invariant.work
     (work-read h l.host c.look.new.host c.in_ok-slot.ensures.read) in
     let still = work-same h l.host c.look.new.host c.in_ok-slot.ensures.read in
-    let begins = c.home-home.ensures.place ∙ ap (λ (k : ℕ). home_of k n) c.get.ensures.value in
+    let begins = c.paged_home-home.ensures.place ∙ ap (λ (k : ℕ). paged_home_of k n) c.get.ensures.value in
     elim c.if-distance-gap.branch [
       | then-distance-gap w ↦ rw (w.host-is, w.hole-is, w.gap-is) (record {
         low = omega arith;
@@ -50,7 +50,7 @@ loop-step-preserved g c =
         way = λ told. left (work_of h c.args.host.now) (work_of h l.host) (work_of h c.look.new.host) n (held_of c.args.self.now)
             c.args.at l.hole l.gap l._step c.turn-place.result (l.invariant.way told) still first
             l.invariant.within l.invariant.low l.invariant.high c.loop-step-test.true c.turn-place.ensures.place c.in-Some.slot
-            c.home-home.result c.distance.result (sym c.in-Some.is ∙ c.in_ok-slot.ensures.slot told)
+            c.paged_home-home.result c.distance.result (sym c.in-Some.is ∙ c.in_ok-slot.ensures.slot told)
             begins c.distance.ensures w.if-distance-gap.true;
       })
       | else-distance-gap+in_ok-put w ↦ rw (w.host-is, w.hole-is, w.gap-is) (record {
@@ -61,7 +61,7 @@ loop-step-preserved g c =
         way = λ told. moved (work_of h c.args.host.now) (work_of h l.host) (work_of h c.look.new.host) n (held_of c.args.self.now)
             c.args.at l.hole l.gap l._step c.turn-place.result (l.invariant.way told) still first
             l.invariant.within l.invariant.low l.invariant.high c.loop-step-test.true c.turn-place.ensures.place c.in-Some.slot
-            c.home-home.result c.distance.result (sym c.in-Some.is ∙ c.in_ok-slot.ensures.slot told)
+            c.paged_home-home.result c.distance.result (sym c.in-Some.is ∙ c.in_ok-slot.ensures.slot told)
             begins c.distance.ensures (work_of h w.put.new.host) w.if-distance-gap.false
             (w.in_ok-put.ensures.writes told n l.invariant.within);
       })

@@ -1,6 +1,6 @@
 use Rattle.std.proofs.Common.{ℕ, List, refl, sym, ap, ◌∙◌, subst}
 use Rattle.work_directory.specs.declared.slot.Slot.{Slot}
-use Rattle.work_directory.specs.Directory.{room_of, held_of, slots_of, end_of, IsIn}
+use Rattle.work_directory.specs.Directory.{room_of, held_of, was_written, slots_of, end_of, IsIn}
 use Rattle.work_directory.specs.Slots.{slot_at}
 use Rattle.work_directory.specs.Work.{IsCause}
 use Rattle.loom_host.specs.Work.{work_of}
@@ -59,12 +59,12 @@ returns-in_err-close_up-clause-cause g c =
     c.in_ok-at.ensures.read.later c.in_err-close_up.ensures.cause)
 
 pub returns-clause-removed : goal.returns-clause-removed
-unfolding room_of held_of
+unfolding room_of held_of was_written
 returns-clause-removed g c = λ told.
     let h = g.H.Host in
     let d = c.args.self.now in
     let of = rw c.in-Held.is at c.in_ok-at.ensures.name in
     let here = rw c.in-Held.is at (c.in_ok-at.ensures.found told) in
     closed_up d _ (work_of h c.args.host.now) (work_of h c.search.new.host) (work_of h c.close_up.new.host) c.in-Held.at c.args.name
-    (work-same h c.args.host.now c.search.new.host c.in_ok-at.ensures.read) refl refl (ap (λ (s : Slot). s.name) here ∙ of.1)
+    (work-same h c.args.host.now c.search.new.host c.in_ok-at.ensures.read) refl refl (λ block. refl) (c.requires.stands told) (ap (λ (s : Slot). s.name) here ∙ of.1)
     (c.in_ok-close_up.ensures.closed told)

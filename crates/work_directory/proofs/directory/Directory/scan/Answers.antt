@@ -1,4 +1,6 @@
 use Rattle.std.proofs.Common.{◌<◌, ◌≡◌, ℕ, sym, subst, arith}
+use Rattle.probing.specs.Homes.{paged_home_of}
+use Rattle.probing.proofs.HomeLaws.{paged_home_of-below}
 use Rattle.probing.specs.Search.{IsPassed}
 use Rattle.probing.proofs.TableLaws.{not_all_passed}
 use Rattle.work_directory.specs.Directory.{slots_of, end_of, IsIn}
@@ -30,5 +32,5 @@ returns-clause-some g c = λ told.
     let d = c.args.self.now in
     let all : c.loop-step.step ≡ slots_of d = let n = c.slots-slots.ensures.value in let low = c.loop-step-test.false in let high = c.loop-step.auto.step-end in
     omega (arith, n, low, high) in
-    absurd (not_all_passed (name_at w) (slots_of d) c.args.name (some-empty d w (c.requires.stands told))
-    (subst (λ (k : ℕ). IsPassed (name_at w) (slots_of d) c.args.name k) all (c.loop-step.invariant.passed told)))
+    absurd (not_all_passed paged_home_of-below (name_at w) (slots_of d) c.args.name (some-empty d w (c.requires.stands told))
+    (subst (λ (k : ℕ). IsPassed paged_home_of (name_at w) (slots_of d) c.args.name k) all (c.loop-step.invariant.passed told)))

@@ -19,7 +19,7 @@ returns-in-Held-clause-set g c =
     let here = rw c.in-Held.is at (c.in_ok-at.ensures.found told) in
     replaced d d (work_of h c.args.host.now) (work_of h c.search.new.host) (work_of h c.put.new.host) c.in-Held.at c.args.slot
     (work-same h c.args.host.now c.search.new.host c.in_ok-at.ensures.read) (c.requires.stands told) refl of.2 of.0
-    (wrote told (slots_of d) of.0) refl
+    (wrote told (slots_of d) of.0) refl (λ block. refl)
     (ap (λ (s : Slot). s.name) here ∙ of.1)) c.put.ensures.writes
 
 pub returns-in-Held-clause-cause : goal.returns-in-Held-clause-cause

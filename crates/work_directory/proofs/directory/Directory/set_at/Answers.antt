@@ -14,5 +14,5 @@ returns-clause-set g c =
     let of = c.requires.there.1.0 in
     on_ok_weaker c.put.result (λ wrote told.
     replaced d d v v (work_of h c.put.new.host) c.args.at c.args.slot refl (c.requires.stands told) refl of.2 of.0
-    (wrote told (slots_of d) of.0) refl
+    (wrote told (slots_of d) of.0) refl (λ block. refl)
     (ap (λ (s : Slot). s.name) (c.requires.there.1.1 told) ∙ of.1)) c.put.ensures.writes
