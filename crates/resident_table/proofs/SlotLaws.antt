@@ -1,5 +1,7 @@
 -- Slots in a list, and the map that they stand for.
 use Rattle.std.proofs.Common.{◌≡◌, ◌≢◌, ℕ, ◌+◌, ◌<◌, ◌≤◌, ◌==◌, false, cond, List, length, get_or, replicate, Option, Some, None, refl, ap, sym, ◌∙◌, subst, arith, inl, ⊎_elim}
+use Rattle.probing.specs.Homes.{home_of}
+use Rattle.probing.proofs.HomeLaws.{home_of-below}
 use Rattle.std.proofs.lemmas.Bool.Decides.{nat_tests}
 use Rattle.std.proofs.lemmas.Bool.{cases_lt}
 use Rattle.std.proofs.lemmas.List.{get_or_default, get_or-set_same, get_or-set_other, get_or-replicate, get_or_past}
@@ -61,13 +63,13 @@ same-shorts old slots n s named none same = fun_ext go
         (equal_or_not q 0)
 
 -- a slot is filled
-pub short-put : (slots : List Slot) (count at : ℕ) (slot : Slot) → IsTable (name_at slots) (length slots) count → slot.name ≢ 0 → at < length slots
-    → IsVacancy (name_at slots) (length slots) slot.name at → short_in (slice_set slots at slot) ≡ put (short_in slots) slot.name (Some slot.short)
+pub short-put : (slots : List Slot) (count at : ℕ) (slot : Slot) → IsTable home_of (name_at slots) (length slots) count → slot.name ≢ 0 → at < length slots
+    → IsVacancy home_of (name_at slots) (length slots) slot.name at → short_in (slice_set slots at slot) ≡ put (short_in slots) slot.name (Some slot.short)
 short-put slots count at slot t named low v =
     let new = slice_set slots at slot in
     let names = puts-name slots (length slots) at slot low in
     let shorts = puts-short slots (length slots) at slot low in
-    let table = put_table (name_at slots) (name_at new) (length slots) count at slot.name t named low v names in
+    let table = put_table home_of-below (name_at slots) (name_at new) (length slots) count at slot.name t named low v names in
     same-shorts (short_in slots) new slot.name (Some slot.short) named refl
     (λ q h. ap (λ (m : ℕ). looked_up (name_at new) (short_at new) m q) (length-set slots at slot)
     ∙ put_looked_up (name_at slots) (name_at new) (short_at slots) (short_at new) (length slots) (count + 1) at slot.name slot.short table named low
@@ -75,7 +77,7 @@ short-put slots count at slot t named low v =
     ∙ ap (λ (o : Option ℕ). cond (q == slot.name) (Some slot.short) o) (sym (short-is slots q h)))
 
 -- a slot is taken out
-pub short-closed : (slots now : List Slot) (count at name : ℕ) → IsClosedUp (name_at slots) (name_at now) (short_at slots) (short_at now) (length slots) count at → length now ≡ length slots
+pub short-closed : (slots now : List Slot) (count at name : ℕ) → IsClosedUp home_of (name_at slots) (name_at now) (short_at slots) (short_at now) (length slots) count at → length now ≡ length slots
     → name_at slots at ≡ name → name ≢ 0 → short_in now ≡ put (short_in slots) name None
 short-closed slots now count at name closed size is named = same-shorts (short_in slots) now name None named refl
     (λ q h. ap (λ (m : ℕ). looked_up (name_at now) (short_at now) m q) size ∙ closed.removed q h
@@ -85,40 +87,40 @@ short-closed slots now count at name closed size is named = same-shorts (short_i
 -- ---- where a search ended
 
 -- at an empty slot, so the name has no short name
-pub ends-empty : (slots : List Slot) (count name at : ℕ) → IsTable (name_at slots) (length slots) count → name ≢ 0 → Ends (name_at slots) (length slots) name at
+pub ends-empty : (slots : List Slot) (count name at : ℕ) → IsTable home_of (name_at slots) (length slots) count → name ≢ 0 → Ends (name_at slots) (length slots) name at
     → name_at slots at ≡ 0 → short_in slots name ≡ None
 ends-empty slots count name at t named ends empty = short-is slots name named ∙ ⊎_elim
     (λ (e : name_at slots at ≡ name). absurd (named (sym e ∙ empty)))
-    (λ (v : IsVacancy (name_at slots) (length slots) name at). looked_up_vacant (name_at slots) (short_at slots) (length slots) count name at t named v)
+    (λ (v : IsVacancy home_of (name_at slots) (length slots) name at). looked_up_vacant home_of-below (name_at slots) (short_at slots) (length slots) count name at t named v)
     ends
 
 -- at a slot that isn't empty, so it is the name's
-pub ends-held : (slots : List Slot) (count name at : ℕ) → IsTable (name_at slots) (length slots) count → name ≢ 0 → at < length slots
+pub ends-held : (slots : List Slot) (count name at : ℕ) → IsTable home_of (name_at slots) (length slots) count → name ≢ 0 → at < length slots
     → Ends (name_at slots) (length slots) name at → name_at slots at ≢ 0 → short_in slots name ≡ Some (short_at slots at)
 ends-held slots count name at t named low ends full = short-is slots name named ∙ ⊎_elim
     (λ (e : name_at slots at ≡ name). looked_up_held (name_at slots) (short_at slots) (length slots) count name at t named low e)
-    (λ (v : IsVacancy (name_at slots) (length slots) name at). absurd (full v.empty))
+    (λ (v : IsVacancy home_of (name_at slots) (length slots) name at). absurd (full v.empty))
     ends
 
 -- the name has none, so at an empty slot
-pub ends-vacant : (slots : List Slot) (count name at : ℕ) → IsTable (name_at slots) (length slots) count → name ≢ 0 → at < length slots
-    → Ends (name_at slots) (length slots) name at → short_in slots name ≡ None → IsVacancy (name_at slots) (length slots) name at
+pub ends-vacant : (slots : List Slot) (count name at : ℕ) → IsTable home_of (name_at slots) (length slots) count → name ≢ 0 → at < length slots
+    → Ends (name_at slots) (length slots) name at → short_in slots name ≡ None → IsVacancy home_of (name_at slots) (length slots) name at
 ends-vacant slots count name at t named low ends none = ⊎_elim
     (λ (e : name_at slots at ≡ name). absurd (some-none
     (sym (looked_up_held (name_at slots) (short_at slots) (length slots) count name at t named low e) ∙ sym (short-is slots name named) ∙ none)))
-    (λ (v : IsVacancy (name_at slots) (length slots) name at). v)
+    (λ (v : IsVacancy home_of (name_at slots) (length slots) name at). v)
     ends
   where
     some-none : {s : ℕ} → Some s ≡ None → ⊥
     some-none e = cc e
 
 -- the name has one, so at its slot
-pub ends-there : (slots : List Slot) (count name at : ℕ) → IsTable (name_at slots) (length slots) count → name ≢ 0
+pub ends-there : (slots : List Slot) (count name at : ℕ) → IsTable home_of (name_at slots) (length slots) count → name ≢ 0
     → Ends (name_at slots) (length slots) name at → IsSome (short_in slots name) → name_at slots at ≡ name
 ends-there slots count name at t named ends some = ⊎_elim
     (λ (e : name_at slots at ≡ name). e)
-    (λ (v : IsVacancy (name_at slots) (length slots) name at).
-    absurd (none-some (subst (λ (o : Option ℕ). IsSome o) (short-is slots name named ∙ looked_up_vacant (name_at slots) (short_at slots) (length slots) count name at t named v) some)))
+    (λ (v : IsVacancy home_of (name_at slots) (length slots) name at).
+    absurd (none-some (subst (λ (o : Option ℕ). IsSome o) (short-is slots name named ∙ looked_up_vacant home_of-below (name_at slots) (short_at slots) (length slots) count name at t named v) some)))
     ends
   where
     none-some : IsSome {T = ℕ} None → ⊥

@@ -1,5 +1,6 @@
 -- The slots of a resident table, as a table with linear probing. A slot of the name 0 is empty.
 use Rattle.std.specs.Prelude.{◌≡◌, ℕ, ◌⊎◌, List, slice_index_or}
+use Rattle.probing.specs.Homes.{home_of}
 use Rattle.probing.specs.Search.{IsVacancy}
 use Rattle.resident_table.specs.declared.probe.Slot.{Slot}
 
@@ -20,4 +21,4 @@ short_at slots i = (slot_at slots i).short
 
 -- what the search for a name ends at: a slot of it, or an empty one
 abbrev pub Ends : (ℕ → ℕ) → ℕ → ℕ → ℕ → Type 0
-Ends names n name at = (names at ≡ name) ⊎ IsVacancy names n name at
+Ends names n name at = (names at ≡ name) ⊎ IsVacancy home_of names n name at

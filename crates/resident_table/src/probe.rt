@@ -1,5 +1,6 @@
 // Linear probing over a list of slots.
 ghost use Rattle.std.specs.Prelude.{◌≡◌, ◌≢◌, ◌<◌, ◌^◌, length};
+ghost use Rattle.probing.specs.Homes.{home_of};
 ghost use Rattle.probing.specs.Search.{IsClosedUp};
 ghost use Rattle.probing.specs.Table.{used, IsTable};
 ghost use Rattle.resident_table.specs.Inside.{name_at, short_at};
@@ -22,9 +23,9 @@ pub(crate) fn close_up(slots: &mut Vec<Slot>, at: usize)
     requires few { length slots.old.items < 2 ^ 31 }
     requires within { at < length slots.old.items }
     requires named { name_at slots.old.items at ≢ 0 }
-    requires table { IsTable (name_at slots.old.items) (length slots.old.items) (used (name_at slots.old.items) (length slots.old.items)) }
+    requires table { IsTable home_of (name_at slots.old.items) (length slots.old.items) (used (name_at slots.old.items) (length slots.old.items)) }
     requires room { used (name_at slots.old.items) (length slots.old.items) < length slots.old.items }
-    ensures closed { IsClosedUp (name_at slots.old.items) (name_at slots.new.items) (short_at slots.old.items) (short_at slots.new.items)
+    ensures closed { IsClosedUp home_of (name_at slots.old.items) (name_at slots.new.items) (short_at slots.old.items) (short_at slots.new.items)
         (length slots.old.items) (used (name_at slots.old.items) (length slots.old.items)) at }
     ensures size { length slots.new.items ≡ length slots.old.items }
 {

@@ -1,5 +1,6 @@
 // The resident table: names and their short names in slots, found by linear probing from a name's home.
 ghost use Rattle.std.specs.Prelude.{◌≡◌, ◌+◌, ◌*◌, ◌≤◌, length};
+ghost use Rattle.probing.specs.Homes.{home_of};
 ghost use Rattle.probing.specs.Table.{IsTable};
 ghost use Rattle.resident_table.specs.Inside.{name_at};
 
@@ -19,7 +20,7 @@ pub struct Resident {
     ghost size: { length slots.items ≡ 2 * room + 2 },
     ghost small: { length slots.items ≤ 131072 },
     ghost few: { held ≤ room },
-    ghost table: { IsTable (name_at slots.items) (length slots.items) held },
+    ghost table: { IsTable home_of (name_at slots.items) (length slots.items) held },
 }
 
 impl Resident {

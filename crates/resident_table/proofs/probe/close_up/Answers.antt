@@ -1,4 +1,6 @@
 use Rattle.std.proofs.Common.{ℕ, ◌≡◌, ◌<◌, length, sym, ap, ◌∙◌, subst, arith}
+use Rattle.probing.specs.Homes.{home_of}
+use Rattle.probing.proofs.HomeLaws.{home_of-below}
 use Rattle.std.proofs.Math.ListN.{length-set}
 use Rattle.std.specs.List.{slice_set}
 use Rattle.probing.specs.Search.{Puts, IsClosedUp}
@@ -21,8 +23,8 @@ loop-step-init c =
       high = omega arith;
       within = omega arith;
       same = size;
-      closing = closing_start f x c.len-size.result (used f c.len-size.result) c.args.at
-          (subst (λ (n : ℕ). IsTable f n (used f n)) size c.requires.table) (omega arith) c.requires.named;
+      closing = closing_start home_of-below f x c.len-size.result (used f c.len-size.result) c.args.at
+          (subst (λ (n : ℕ). IsTable home_of f n (used f n)) size c.requires.table) (omega arith) c.requires.named;
     }
 
 pub loop-step-preserved : goal.loop-step-preserved
@@ -48,7 +50,7 @@ loop-step-preserved c =
         high = omega arith;
         within = omega arith;
         same = inv.same;
-        closing = step_left f g x y n (used f n) c.args.at l.hole l.gap l._step place c.distance.result read_slot.name inv.closing at within low
+        closing = step_left home_of-below f g x y n (used f n) c.args.at l.hole l.gap l._step place c.distance.result read_slot.name inv.closing at within low
             high c.loop-step-test.true c.turn-place.ensures.place name c.if-slot-eq0.false far w.if-distance-gap.true;
       })
       | else-distance-gap w ↦ rw (w.hole-is, w.gap-is, w.slots-is) (record {
@@ -56,7 +58,7 @@ loop-step-preserved c =
         high = omega arith;
         within = omega arith;
         same = length-set l.slots.items l.hole read_slot ∙ inv.same;
-        closing = step_moved f g x y n (used f n) c.args.at l.hole l.gap l._step place c.distance.result read_slot.name inv.closing at within low
+        closing = step_moved home_of-below f g x y n (used f n) c.args.at l.hole l.gap l._step place c.distance.result read_slot.name inv.closing at within low
             high c.loop-step-test.true c.turn-place.ensures.place name _ _ c.if-slot-eq0.false far w.if-distance-gap.false
             (puts-name l.slots.items n l.hole read_slot (omega arith))
             (subst (λ (s : ℕ). Puts y (short_at (slice_set l.slots.items l.hole read_slot)) n l.hole s) (ap (λ (s : Slot). s.short) slot)
@@ -79,8 +81,8 @@ returns-then-slot-eq0-clause-closed c =
     let at : c.args.at < n = let b = c.requires.within in omega arith in
     let next = c.turn-place.ensures.within in
     let slot : read_slot ≡ slot_at l.slots.items place = read l.slots.items place read_slot (omega arith) c.index-slot.ensures in
-    subst (λ (m : ℕ). IsClosedUp f (name_at left) x (short_at left) m (used f m) c.args.at) (sym size)
-    (step_end f (name_at l.slots.items) x (short_at l.slots.items) n (used f n) c.args.at l.hole l.gap l._step place 0 read_slot.name inv.closing
+    subst (λ (m : ℕ). IsClosedUp home_of f (name_at left) x (short_at left) m (used f m) c.args.at) (sym size)
+    (step_end home_of-below f (name_at l.slots.items) x (short_at l.slots.items) n (used f n) c.args.at l.hole l.gap l._step place 0 read_slot.name inv.closing
     at within low high c.loop-step-test.true c.turn-place.ensures.place (ap (λ (s : Slot). s.name) slot) (name_at left) (short_at left) 0
     c.if-slot-eq0.true (puts-name l.slots.items n l.hole no_slot (omega arith)) (puts-short l.slots.items n l.hole no_slot (omega arith)))
 

@@ -1,4 +1,5 @@
 use Rattle.std.proofs.Common.{◌≡◌, ◌≤◌, ◌<◌, length}
+use Rattle.probing.specs.Homes.{home_of}
 use Rattle.probing.specs.Table.{used}
 use Rattle.probing.proofs.ClosingLaws.{IsClosing}
 use Rattle.resident_table.specs.Inside.{name_at, short_at}
@@ -12,5 +13,5 @@ invariant-loop-step l =
       high : l.gap ≤ l._step;
       within : l.hole < l.size;
       same : length l.slots.items ≡ l.size;
-      closing : IsClosing f (name_at l.slots.items) (short_at l.fn.slots.items) (short_at l.slots.items) l.size (used f l.size) l.fn.at l.hole l.gap l._step;
+      closing : IsClosing home_of f (name_at l.slots.items) (short_at l.fn.slots.items) (short_at l.slots.items) l.size (used f l.size) l.fn.at l.hole l.gap l._step;
     }

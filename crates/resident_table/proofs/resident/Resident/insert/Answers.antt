@@ -1,4 +1,6 @@
 use Rattle.std.proofs.Common.{ℕ, ◌≢◌, ◌+◌, length, Some, refl, subst, sym, ap, ◌∙◌, arith}
+use Rattle.probing.specs.Homes.{home_of}
+use Rattle.probing.proofs.HomeLaws.{home_of-below}
 use Rattle.std.proofs.Math.ListN.{length-set}
 use Rattle.std.specs.List.{slice_set}
 use Rattle.object_table.specs.Entries.{put}
@@ -28,8 +30,8 @@ invariant_of-self c =
       size = size ∙ r.size;
       small = let small = r.small in omega arith;
       few = let room = c.requires.room in omega arith;
-      table = subst (λ (n : ℕ). IsTable (name_at (slice_set slots c.seek-at.result slot)) n (r.held + 1)) (sym size)
-          (put_table (name_at slots) (name_at (slice_set slots c.seek-at.result slot)) (length slots) r.held c.seek-at.result name r.table named
+      table = subst (λ (n : ℕ). IsTable home_of (name_at (slice_set slots c.seek-at.result slot)) n (r.held + 1)) (sym size)
+          (put_table home_of-below (name_at slots) (name_at (slice_set slots c.seek-at.result slot)) (length slots) r.held c.seek-at.result name r.table named
           c.seek-at.ensures.within v (puts-name slots (length slots) c.seek-at.result slot c.seek-at.ensures.within));
     }
 

@@ -1,6 +1,8 @@
 use Rattle.std.proofs.Common.{ℕ, ◌≡◌, ◌<◌, length, sym, ap, ◌∙◌, subst, arith, inl, inr, ⊎_elim}
+use Rattle.probing.proofs.HomeLaws.{home_of-below}
 use Rattle.probing.specs.Search.{IsPassed}
-use Rattle.probing.specs.Table.{used, turned, home_of}
+use Rattle.probing.specs.Homes.{home_of}
+use Rattle.probing.specs.Table.{used, turned}
 use Rattle.probing.proofs.TableLaws.{passed_none, passed_more, not_all_passed}
 use Rattle.resident_table.specs.declared.probe.Slot.{Slot}
 use Rattle.resident_table.specs.Inside.{slot_at, name_at, Ends}
@@ -8,7 +10,7 @@ use Rattle.resident_table.proofs.SlotLaws.{read}
 use Rattle.resident_table.proofs.resident.Resident.seek.Goals as goal
 
 pub loop-step-init : goal.loop-step-init
-loop-step-init c = record { passed = passed_none _ _ _ }
+loop-step-init c = record { passed = passed_none home_of-below _ _ _ }
 
 pub loop-step-preserved : goal.loop-step-preserved
 loop-step-preserved c =
@@ -21,7 +23,7 @@ loop-step-preserved c =
     ap (λ (s : Slot). s.name) slot ∙ ap (name_at r.slots.items) (c.turn-at.ensures.place
     ∙ ap (λ (h : ℕ). turned h c.loop-step.step n) c.home-home.ensures.place) in
     record {
-      passed = passed_more (name_at r.slots.items) n c.args.name c.loop-step.step c.loop-step.invariant.passed
+      passed = passed_more home_of-below (name_at r.slots.items) n c.args.name c.loop-step.step c.loop-step.invariant.passed
           (λ e. c.if-slot-eq0.false (here ∙ e)) (λ e. c.if-slot-name.false (here ∙ e));
     }
 
@@ -51,5 +53,5 @@ unreachable-requires c =
     let size : length r.slots.items ≡ n = let a = r.slots.ok.0 in omega (arith, c.len-slots.ensures) in
     let all : c.loop-step.step ≡ n = omega arith in
     let count = r.table.count_is in let few = r.few in let room = r.size in
-    not_all_passed (name_at r.slots.items) n c.args.name (subst (λ (m : ℕ). used (name_at r.slots.items) m < m) size (omega arith))
-    (subst (λ (k : ℕ). IsPassed (name_at r.slots.items) n c.args.name k) all c.loop-step.invariant.passed)
+    not_all_passed home_of-below (name_at r.slots.items) n c.args.name (subst (λ (m : ℕ). used (name_at r.slots.items) m < m) size (omega arith))
+    (subst (λ (k : ℕ). IsPassed home_of (name_at r.slots.items) n c.args.name k) all c.loop-step.invariant.passed)
