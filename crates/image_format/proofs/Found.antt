@@ -7,7 +7,9 @@ use Rattle.image_format.specs.declared.fault.NoRecord.TheVariants.{Halted, Memor
 use Rattle.long_names.specs.Objects.{IsRecord}
 use Rattle.long_names.specs.Record.{record_text}
 use Rattle.image_format.specs.Reading.{record_at}
-use Rattle.image_format.specs.Inside.{Decodes, IsNear, refusal}
+use Rattle.image_format.specs.declared.reading.RecMeasure.{RecMeasure}
+use Rattle.image_format.specs.Inside.{Decodes, Measures, IsNear, refusal}
+use Rattle.image_format.specs.Measured.{IsMeasure}
 use Rattle.image_format.specs.Faults.{IsBad, IsPlaced, told}
 use Rattle.image_format.proofs.Numbers.{AreBytes, never_ok}
 use Rattle.image_format.proofs.Records.{pair_is, record_takes, record_again}
@@ -33,6 +35,12 @@ found bytes x fits d =
       is = t.1;
     }
 
+-- and of one that wasn't kept
+pub measured : (bytes : List ℕ) (m : RecMeasure) → AreBytes bytes → Measures (Ok m) bytes → IsMeasure bytes m
+measured bytes m fits d =
+    let f = found bytes (d.0, m.len) fits (d.1, d.2, d.3) in
+    record { rec = d.0; is = f.is; text = f.text; len = f.len; within = f.within; longest = f.longest; name = d.4; count = d.5 }
+
 pub only_that : (bytes : List ℕ) (x : Rec × ℕ) (r : Rec) (rest : List ℕ) → Decodes (Ok x) bytes → IsRecord r → bytes ≡ record_text r ++ rest → x.0 ≡ r
 only_that bytes x r rest d is e = (pair_is x.0 r d.0 rest (sym d.1 ∙ ap record_at e ∙ record_again r rest is)).0
 
@@ -42,9 +50,9 @@ never_halted bytes (Halted h) r rest d bad is e = never_ok h (r, rest) (sym d �
 never_halted bytes Memory r rest d bad is e = bad
 
 -- the refusal says where
-pub placed : (bytes : List ℕ) (f : NoRecord) → Decodes (Err f) bytes → IsPlaced {A = Rec × ℕ} (Err (refusal (length bytes) f)) bytes
-placed bytes (Halted h) d = ap (told (length bytes)) d
-placed bytes Memory d = tt
+pub placed : (A : Type 0) (bytes : List ℕ) (f : NoRecord) → Decodes (Err f) bytes → IsPlaced {A = A} (Err (refusal (length bytes) f)) bytes
+placed A bytes (Halted h) d = ap (told (length bytes)) d
+placed A bytes Memory d = tt
 
 -- and it isn't far from the start
 pub near_halt : (bytes : List ℕ) (f : NoRecord) → AreBytes bytes → Decodes (Err f) bytes → IsNear (length bytes) f

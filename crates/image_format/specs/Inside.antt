@@ -7,6 +7,7 @@ use Rattle.image_format.specs.declared.fault.NoRecord.{NoRecord}
 use Rattle.image_format.specs.declared.fault.NoRecord.TheVariants.{Halted, Memory}
 use Rattle.image_format.specs.declared.fault.RecFault.{RecFault}
 use Rattle.image_format.specs.declared.fault.RecFault.TheVariants as rec_fault
+use Rattle.image_format.specs.declared.reading.RecMeasure.{RecMeasure}
 use Rattle.image_format.specs.Reading.{record_at}
 
 -- ---- writing
@@ -34,10 +35,20 @@ abbrev pub Gives : {X : Type 0} → Result X NoRecord → List ℕ → Result (X
 Gives (Ok x) unread read = read ≡ Ok (x, unread)
 Gives (Err e) unread read = Fails e read
 
+-- what was read isn't kept
+abbrev pub Passes : {X : Type 0} → Result (Unit {0}) Halt → List ℕ → Result (X × List ℕ) Halt → Type 0
+Passes {X = X} (Ok u) unread read = (x : X) × (read ≡ Ok (x, unread))
+Passes (Err h) unread read = read ≡ Err h
+
 -- a record that was read has this length, and what is no record is refused
 abbrev pub Decodes : Result (Rec × ℕ) NoRecord → List ℕ → Type 0
 Decodes (Ok x) bytes = (rest : List ℕ) × (record_at bytes ≡ Ok (x.0, rest)) × (x.1 + length rest ≡ length bytes)
 Decodes (Err e) bytes = Fails e (record_at bytes)
+
+-- the same of one that wasn't kept
+abbrev pub Measures : Result RecMeasure Halt → List ℕ → Type 0
+Measures (Ok m) bytes = (r : Rec) × (rest : List ℕ) × (record_at bytes ≡ Ok (r, rest)) × (m.len + length rest ≡ length bytes) × (m.name ≡ r.name) × (m.count ≡ r.count)
+Measures (Err h) bytes = record_at bytes ≡ Err h
 
 -- reading a record breaks off no later than behind the longest
 abbrev pub IsNear : ℕ → NoRecord → Type 0

@@ -5,3 +5,4 @@ pub mod Heads
 pub mod Faults
 pub mod Rules
 pub mod Inside
+pub mod Measured

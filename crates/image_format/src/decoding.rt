@@ -6,9 +6,10 @@ ghost use Rattle.long_names.specs.Objects.{IsRecord};
 ghost use Rattle.long_names.specs.Record.{record_text};
 ghost use Rattle.long_names.specs.declared.limits.TheConstants.{LONGEST_RECORD};
 ghost use Rattle.image_format.specs.Faults.{IsBad, IsPlaced};
+ghost use Rattle.image_format.specs.Measured.{IsMeasure};
 
 use crate::fault::{NoRecord, RecFault};
-use crate::reading::record_of;
+use crate::reading::{RecMeasure, measure_of, record_of};
 use long_names::Rec;
 use std::alloc::Global;
 
@@ -47,5 +48,17 @@ pub fn decode_rec(alloc: Global, bytes: &[u8]) -> Result<(Rec, usize), RecFault>
     match record_of(alloc, bytes) {
         Ok(read) => Ok(read),
         Err(fault) => Err(refused(bytes.len(), fault)),
+    }
+}
+
+/// What the first record of the bytes states, and its length in bytes. It is judged as `decode_rec` judges it, but nothing is kept of it, so
+/// it takes no memory.
+pub fn measure_rec(bytes: &[u8]) -> Result<RecMeasure, RecFault>
+    ensures measure { IfOk result (IsMeasure bytes.now) }
+    ensures place { IsPlaced result bytes.now }
+{
+    match measure_of(bytes) {
+        Ok(measure) => Ok(measure),
+        Err(halt) => Err(refused(bytes.len(), NoRecord::Halted(halt))),
     }
 }

@@ -2,7 +2,7 @@
 //! breaks.
 //!
 //! `decode_rec` answers the record that the bytes begin with, and refuses exactly where they begin with none, with the first rule that
-//! breaks and its place; `encode_rec` appends a record's one text, or nothing, and `encode_object` that of an object where it stands.
+//! breaks and its place; `measure_rec` judges it the same and keeps nothing of it. `encode_rec` appends a record's one text, or nothing, and `encode_object` that of an object where it stands.
 //! What was written is read again, whatever follows it:
 //!
 //!     encode_rec(&rec, &mut out)?;
@@ -32,7 +32,7 @@ mod opening;
 mod reading;
 
 pub use big_endian::{bytes_of_u16, bytes_of_u32, bytes_of_u64};
-pub use decoding::decode_rec;
+pub use decoding::{decode_rec, measure_rec};
 pub use encoding::{encode_object, encode_rec};
 pub use fault::{Break, RecFault};
 pub use head::{FEWEST_OBJECTS, HEAD_LEN, Head, LOWEST_NEXT, MOST_OBJECTS, VERSION, decode_head};
@@ -40,3 +40,4 @@ pub use opening::{
     ImageHead, LOOM, Opening, STATE_LEN, STATE_VERSION, State, is_next, is_state_word, is_tick,
     read_head, read_opening,
 };
+pub use reading::RecMeasure;

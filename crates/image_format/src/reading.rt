@@ -10,7 +10,7 @@ ghost use Rattle.long_names.specs.Words as words;
 ghost use Rattle.long_names.specs.Record.{padding};
 ghost use Rattle.image_format.specs.Reading.{halt, number_at, name_at, kind_at, size_at, value_at, values_at, words_at, octets_at, header_in, header_at, method_at, body_at, zeros_at};
 ghost use Rattle.image_format.specs.Reading as reading;
-ghost use Rattle.image_format.specs.Inside.{Gives, Reads, Shows, Decodes, IsNear};
+ghost use Rattle.image_format.specs.Inside.{Gives, Reads, Shows, Passes, Decodes, Measures, IsNear};
 
 use crate::fault::{Halt, NoRecord};
 use long_names::{
@@ -51,13 +51,21 @@ fn header_of(word: u32, count: u32) -> Option<i16>
     }
 }
 
+/// What a record states of itself, and how many bytes it has.
+#[derive(Clone, Copy, Debug, PartialEq, Eq)]
+pub struct RecMeasure {
+    pub name: Name,
+    pub count: u64,
+    pub len: usize,
+}
+
 /// Bytes that are read from the left.
 #[derive(Drop)]
 pub(crate) struct Unread<'a> {
     pub(crate) rest: &'a [u8],
 }
 
-// Each call takes what stands first, or says which rule it breaks.
+// Each call takes what stands first, or says which rule it breaks; one that skips keeps nothing of it.
 impl<'a> Unread<'a> {
     /// A rule that the field breaks with which these bytes begin.
     pub(crate) fn halt(&self, rule: u8) -> Halt
@@ -229,6 +237,53 @@ impl<'a> Unread<'a> {
         }
     }
 
+    fn skip_values(&mut self, count: usize) -> Result<(), Halt>
+        ensures { Passes result self.new.rest.now (values_at count self.old.rest.now) }
+    {
+        for _ in 0..count {
+            self.take_value()?;
+        }
+        Ok(())
+    }
+
+    fn skip_words(&mut self, count: usize) -> Result<(), Halt>
+        ensures { Passes result self.new.rest.now (words_at count self.old.rest.now) }
+    {
+        for _ in 0..count {
+            self.take_u16()?;
+        }
+        Ok(())
+    }
+
+    fn skip_octets(&mut self, count: usize) -> Result<(), Halt>
+        ensures { Passes result self.new.rest.now (octets_at count self.old.rest.now) }
+    {
+        self.take(count)?;
+        Ok(())
+    }
+
+    #[tactic(auto, unfolding(crate::specs::Reading::method_at))]
+    fn skip_method(&mut self, size: usize) -> Result<(), Halt>
+        ensures { Passes result self.new.rest.now (method_at size self.old.rest.now) }
+    {
+        let count = self.take_u32()?;
+        self.take_header(count)?;
+        self.skip_values(count as usize)?;
+        self.skip_octets(size)
+    }
+
+    #[tactic(auto, unfolding(crate::specs::Reading::body_at))]
+    fn skip_body(&mut self, kind: Kind, size: usize) -> Result<(), Halt>
+        ensures { Passes result self.new.rest.now (body_at kind size self.old.rest.now) }
+    {
+        match kind {
+            Kind::Pointers => self.skip_values(size),
+            Kind::Words => self.skip_words(size),
+            Kind::Bytes => self.skip_octets(size),
+            Kind::Method => self.skip_method(size),
+        }
+    }
+
     #[tactic(auto, unfolding(crate::specs::Reading::zeros_at))]
     fn take_zeros(&mut self, count: usize) -> Result<(), Halt>
         ensures { Reads result self.new.rest.now (zeros_at count self.old.rest.now) }
@@ -260,4 +315,22 @@ pub(crate) fn record_of(alloc: Global, bytes: &[u8]) -> Result<(Rec, usize), NoR
         body,
     };
     Ok((rec, bytes.len() - unread.rest.len()))
+}
+
+/// What the first record states, of which nothing is kept.
+#[tactic(auto, unfolding(crate::specs::Reading::record_at))]
+pub(crate) fn measure_of(bytes: &[u8]) -> Result<RecMeasure, Halt>
+    ensures { Measures result bytes.now }
+{
+    let mut unread = Unread { rest: bytes };
+    let name = unread.take_name(4)?;
+    unread.take_name(6)?;
+    let count = unread.take_u64()?;
+    let kind = unread.take_kind()?;
+    let size = unread.take_size(kind)?;
+    unread.skip_body(kind, size as usize)?;
+    let read = bytes.len() - unread.rest.len();
+    unread.take_zeros(padding_of(read))?;
+    let len = bytes.len() - unread.rest.len();
+    Ok(RecMeasure { name, count, len })
 }

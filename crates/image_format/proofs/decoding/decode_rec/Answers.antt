@@ -38,4 +38,4 @@ pub returns-in-Err-clause-bad : goal.returns-in-Err-clause-bad
 returns-in-Err-clause-bad c = λ bad r rest is e. never_halted c.args.bytes.now c.in-Err.fault r rest (rw c.in-Err.is at c.record_of.ensures) (subst (λ (f : RecFault). IsBad {A = Rec × ℕ} (Err f)) c.refused.ensures bad) is e
 
 pub returns-in-Err-clause-place : goal.returns-in-Err-clause-place
-returns-in-Err-clause-place c = subst (λ (f : RecFault). IsPlaced {A = Rec × ℕ} (Err f) c.args.bytes.now) (sym c.refused.ensures) (placed c.args.bytes.now c.in-Err.fault (rw c.in-Err.is at c.record_of.ensures))
+returns-in-Err-clause-place c = subst (λ (f : RecFault). IsPlaced {A = Rec × ℕ} (Err f) c.args.bytes.now) (sym c.refused.ensures) (placed (Rec × ℕ) c.args.bytes.now c.in-Err.fault (rw c.in-Err.is at c.record_of.ensures))
