@@ -1,5 +1,6 @@
--- What the functions inside say of records in Work.
-use Rattle.std.specs.Prelude.{◌≡◌, ◌≢◌, ◌⊎◌, ℕ, ◌+◌, ◌%◌, ◌<◌, ◌≤◌, List, length, ◌++◌, take, drop, max, Bool, IsTrue, Option, None, Some, Result, Ok, Err, nat_le, if◌then◌else◌, ◌*◌}
+-- What the functions inside say of records in Work, and of names.
+use Rattle.std.specs.Prelude.{◌≡◌, ◌≢◌, ◌⊎◌, ℕ, ◌+◌, ◌%◌, ◌<◌, ◌≤◌, List, length, ◌++◌, take, drop, max, Bool, IsTrue, Option, None, Some, Result, Ok, Err, nat_le, if◌then◌else◌, ◌*◌, ◌==◌}
+use Rattle.std.specs.List.{list_any}
 use Rattle.std.specs.FinMap as map
 use Rattle.byteorder.specs.Endian.{big_bytes}
 use Rattle.long_names.specs.Counting.{Rose}
@@ -153,3 +154,9 @@ pub record IsOpen (rest : DiskRest) (work : List ℕ) (objects : Objects) (pendi
   pub owned : (p c : ℕ) → out p ≡ Some c → p ≢ spare → IsOwned (entries_of rest.directory work) p
   pub spare_out : out spare ≡ Some class
   pub spare_free : IsOwned (entries_of rest.directory work) spare → ⊥
+
+-- ---- names
+
+-- one of these is the name
+abbrev pub is_noted : List ℕ → ℕ → Bool
+is_noted names q = list_any (λ n. n == q) names

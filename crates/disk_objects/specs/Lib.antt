@@ -1,5 +1,6 @@
 pub mod Disk
 pub mod Calls
 pub mod Inside
+pub mod Names
 pub mod Places
 pub mod Function
