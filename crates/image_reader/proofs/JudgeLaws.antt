@@ -1,5 +1,5 @@
 -- The rules of the whole image, by the names and the counts of a tally.
-use Rattle.std.proofs.Common.{zero, suc, ◌≡◌, ℕ, ◌+◌, ◌≤◌, Bool, true, false, cond, eqb, ◌||◌, List, [], ◌∷◌, length, map, take, drop, Option, Some, None, is_some, option_map, IsTrue, refl, sym, ap, ap₂, subst, ◌∙◌, arith}
+use Rattle.std.proofs.Common.{zero, suc, ◌≡◌, ℕ, ◌+◌, ◌≤◌, Bool, true, false, cond, eqb, ◌||◌, List, [], ◌∷◌, length, map, take, drop, Option, Some, None, is_some, option_map, IsTrue, get_or, refl, sym, ap, ap₂, subst, ◌∙◌, arith}
 use Rattle.std.specs.Prelude.{All, IsSome}
 use Rattle.std.specs.List.{slice_get}
 use Rattle.std.proofs.lemmas.List.{take_all, length-map}
@@ -24,7 +24,7 @@ use Rattle.image_format.proofs.Whole.{held_there, there_has}
 use Rattle.image_format.proofs.Writing.{push_taken}
 use Rattle.image_reader.specs.declared.tally.Tally.{Tally}
 use Rattle.image_reader.specs.Inside.{AreListed}
-use Rattle.image_reader.specs.Judged.{AreRead, IsClosing, IsJudged, Unclosed, broken_in, counts_broken, fields_broken, names_missed, words_broken, is_exact, lost_in, lost_word, missing_among, names_broken}
+use Rattle.image_reader.specs.Judged.{AreRead, AreStated, IsClosing, IsJudged, Unclosed, broken_in, counts_broken, fields_broken, names_missed, words_broken, is_exact, lost_in, lost_word, missing_among, names_broken}
 use Rattle.image_reader.specs.Loaded.{IsStored, stated_in}
 use Rattle.image_reader.specs.Names.{is_among}
 use Rattle.image_reader.specs.Tally.{Counts, IsCountable, IsFresh, Raises, counted}
@@ -143,11 +143,6 @@ object-at host now rest recs last next i name x listed s =
     let own = all-at (λ (r : Rec). rec_in recs r.name ≡ Some r) recs i x.rec x.at listed.own in
     ap (λ (f : ℕ → Option Object). f name) s.at ∙ ap (object_in recs) (sym x.named) ∙ ap (option_map object_of_rec) own
 
-pub stated-at : {H : Type 0} (host : Ghosts H) (now : H) (rest : DiskRest) (recs : List Rec) (last next i name : ℕ) (x : IsRecAt recs i name) → AreListed recs last next → IsStored host now rest recs → counts_of host now rest name ≡ Some x.rec.count
-stated-at host now rest recs last next i name x listed s =
-    let own = all-at (λ (r : Rec). rec_in recs r.name ≡ Some r) recs i x.rec x.at listed.own in
-    ap (λ (f : ℕ → Option ℕ). f name) s.counts ∙ ap (stated_in recs) (sym x.named) ∙ ap (option_map (λ (r : Rec). r.count)) own
-
 -- what was counted of a name that is there
 counted-is : (recs : List Rec) (old now : Tally) (n : ℕ) → IsFresh (map (λ (r : Rec). r.name) recs) old → Raises (words_in recs) old now → is_some (object_in recs n) ≡ true → counted now n ≡ Some (words_in recs n)
 counted-is recs old now n fresh raised there =
@@ -201,11 +196,10 @@ are_of host now rest names held recs next same are = subst (λ (ns : List ℕ). 
 pub are_stored : {H : Type 0} (host : Ghosts H) (now : H) (rest : DiskRest) (names : List ℕ) (recs : List Rec) (next : ℕ) → AreRead host now rest names recs next → HoldsObjects host now rest
 are_stored host now rest names recs next are = stored_holds host now rest recs are.stored
 
--- the record of the name at a place, its object and its count
+-- the record of the name at a place, and its object
 pub record IsNamed {H : Type 0} (host : Ghosts H) (now : H) (rest : DiskRest) (recs : List Rec) (i name : ℕ) : Type 0 where
   pub found : IsRecAt recs i name
   pub object : disk_of host now rest name ≡ Some (object_of_rec found.rec)
-  pub count : counts_of host now rest name ≡ Some found.rec.count
 
 pub named-at : {H : Type 0} (host : Ghosts H) (now : H) (rest : DiskRest) (names : List ℕ) (recs : List Rec) (next i name : ℕ) → IsTrue (host.tells Work) → AreRead host now rest names recs next → slice_get names i ≡ Some name → IsNamed host now rest recs i name
 named-at host now rest names recs next i name told are at =
@@ -213,7 +207,6 @@ named-at host now rest names recs next i name told are at =
     record {
       found = x;
       object = object-at host now rest recs are.last next i name x are.listed (are.stored told);
-      count = stated-at host now rest recs are.last next i name x are.listed (are.stored told);
     }
 
 pub fresh-of : (names : List ℕ) (recs : List Rec) (t : Tally) → names ≡ map (λ (r : Rec). r.name) recs → IsFresh names t → IsFresh (map (λ (r : Rec). r.name) recs) t
@@ -222,7 +215,40 @@ fresh-of names recs t same fresh = subst (λ (ns : List ℕ). IsFresh ns t) same
 pub many-of : (names : List ℕ) (recs : List Rec) → names ≡ map (λ (r : Rec). r.name) recs → length recs ≡ length names
 many-of names recs same = sym (ap length same ∙ length-map recs (λ (r : Rec). r.name))
 
--- a name at each place is held, and so is its count
+pub beside-of : (names stated : List ℕ) (recs : List Rec) → names ≡ map (λ (r : Rec). r.name) recs → stated ≡ map (λ (r : Rec). r.count) recs → length stated ≡ length names
+beside-of names stated recs same counts = ap length counts ∙ length-map recs (λ (r : Rec). r.count) ∙ sym (ap length same ∙ length-map recs (λ (r : Rec). r.name))
+
+-- the count beside a record
+pub stated-is : (recs : List Rec) (i : ℕ) (r : Rec) → slice_get recs i ≡ Some r → get_or (map (λ (x : Rec). x.count) recs) i 0 ≡ r.count
+stated-is [] i r e = absurd (let clash : ◌≡◌ {A = Option Rec} None (Some r) = e in let no : ⊥ = cc in no)
+stated-is (x ∷ xs) zero r e = let same : x ≡ r = cc in ap (λ (y : Rec). y.count) same
+stated-is (x ∷ xs) (suc i) r e = stated-is xs i r e
+
+-- whether the count beside the name at a place is exact
+pub record IsTested (recs : List Rec) (i name : ℕ) (exact : Bool) : Type 0 where
+  pub found : IsRecAt recs i name
+  pub test : exact ≡ is_counted (words_in recs) found.rec
+
+pub tested : (names stated : List ℕ) (recs : List Rec) (next i name : ℕ) (old now : Tally) → slice_get names i ≡ Some name → AreStated names stated recs next → IsFresh names old → Raises (words_in recs) old now → IsTested recs i name (is_exact (counted now name) name (get_or stated i 0))
+tested names stated recs next i name old now at are fresh raised =
+    let x = rec-at recs i name (subst (λ (ns : List ℕ). slice_get ns i ≡ Some name) are.names_are at) in
+    record {
+      found = x;
+      test = exact-is recs old now are.last next i name (get_or stated i 0) x are.listed (fresh-of names recs old are.names_are fresh) raised (ap (λ (cs : List ℕ). get_or cs i 0) are.stated_are ∙ stated-is recs i x.rec x.at);
+    }
+
+pub miscounted-next : (recs : List Rec) (i name : ℕ) (exact : Bool) (x : IsTested recs i name exact) → exact ≡ true → first_failing 11 (is_counted (words_in recs)) (drop i recs) ≡ first_failing 11 (is_counted (words_in recs)) (drop (i + 1) recs)
+miscounted-next recs i name exact x is =
+    failing-at 11 (is_counted (words_in recs)) recs i x.found.rec x.found.at
+    ∙ ap (λ (b : Bool). cond b (first_failing 11 (is_counted (words_in recs)) (drop (i + 1) recs)) (Some (break 11 x.found.rec.name))) (sym x.test ∙ is)
+
+pub miscounted-here : (recs : List Rec) (i name : ℕ) (exact : Bool) (x : IsTested recs i name exact) → exact ≡ false → first_failing 11 (is_counted (words_in recs)) (drop i recs) ≡ Some (break 11 name)
+miscounted-here recs i name exact x is =
+    failing-at 11 (is_counted (words_in recs)) recs i x.found.rec x.found.at
+    ∙ ap (λ (b : Bool). cond b (first_failing 11 (is_counted (words_in recs)) (drop (i + 1) recs)) (Some (break 11 x.found.rec.name))) (sym x.test ∙ is)
+    ∙ ap (λ (n : ℕ). let o : Option Break = Some (break 11 n) in o) x.found.named
+
+-- a name at each place is held
 pub held-some : {A : Type 0} (o : Option A) (x : A) → o ≡ Some x → IsSome o
 held-some (Some y) x e = refl
 held-some {A} None x e = let clash : ◌≡◌ {A = Option A} None (Some x) = e in absurd (cc)
@@ -273,9 +299,6 @@ judged-rest recs s (Read count) none h = tt
 judged-rest recs s (Disk d) none h = tt
 judged-rest recs s Memory none h = tt
 
-pub same-some : (a b : ℕ) → ◌≡◌ {A = Option ℕ} (Some a) (Some b) → a ≡ b
-same-some a b e = cc
-
 -- ---- each name is held
 
 pub held-all : (P : ℕ → Type 0) (recs : List Rec) → All (λ (r : Rec). P r.name) recs → All P (map (λ (r : Rec). r.name) recs)
@@ -288,10 +311,3 @@ names-held host now rest names recs next are told =
     (held-all (λ (n : ℕ). IsSome (disk_of host now rest n)) recs
     (All-weaker (λ (r : Rec). rec_in recs r.name ≡ Some r) (λ (r : Rec). IsSome (disk_of host now rest r.name))
     (λ r own. held-some (disk_of host now rest r.name) (object_of_rec r) (ap (λ (f : ℕ → Option Object). f r.name) (are.stored told).at ∙ ap (option_map object_of_rec) own)) recs are.listed.own))
-
-pub names-counted : {H : Type 0} (host : Ghosts H) (now : H) (rest : DiskRest) (names : List ℕ) (recs : List Rec) (next : ℕ) → AreRead host now rest names recs next → IsTrue (host.tells Work) → All (λ (n : ℕ). IsSome (counts_of host now rest n)) names
-names-counted host now rest names recs next are told =
-    subst (λ (ns : List ℕ). All (λ (n : ℕ). IsSome (counts_of host now rest n)) ns) (sym are.names_are)
-    (held-all (λ (n : ℕ). IsSome (counts_of host now rest n)) recs
-    (All-weaker (λ (r : Rec). rec_in recs r.name ≡ Some r) (λ (r : Rec). IsSome (counts_of host now rest r.name))
-    (λ r own. held-some (counts_of host now rest r.name) r.count (ap (λ (f : ℕ → Option ℕ). f r.name) (are.stored told).counts ∙ ap (option_map (λ (x : Rec). x.count)) own)) recs are.listed.own))

@@ -135,7 +135,7 @@ judged_load host old new room x Memory read roomy judged of part = tt
 
 -- ---- all parts together
 
-module _ {H : Type 0} (host : Ghosts H) (old s1 s2 s3 : H) (w1 w2 w3 w4 : Ahead) (room : ℕ) (head : ImageHead) (names : List ℕ) (between rest : DiskRest)
+module _ {H : Type 0} (host : Ghosts H) (old s1 s2 s3 : H) (w1 w2 w3 w4 : Ahead) (room : ℕ) (head : ImageHead) (names stated : List ℕ) (between rest : DiskRest)
     (begun : IsTrue (host.tells Role.Image) → unused w1 (host.roles s1 Role.Image) ≡ (host.roles old Role.Image).left)
     (enough : w1.ended ≡ false → 262164 ≤ length w1.bytes)
     (ends : IsTrue (host.tells Role.Image) → EndsTruly w1 (host.roles s1 Role.Image))
@@ -155,12 +155,13 @@ module _ {H : Type 0} (host : Ghosts H) (old s1 s2 s3 : H) (w1 w2 w3 w4 : Ahead)
       let c = ap length (begun told) in
       omega (arith, a, b, c, end)
 
-  module _ (takes : TakesRecords host s1 s2 between w2 w3 head.opening.objects head.opening.next names)
+  module _ (takes : TakesRecords host s1 s2 between w2 w3 head.opening.objects head.opening.next names stated)
       (filled : IsTrue (host.tells Role.Image) → unused w4 (host.roles s3 Role.Image) ≡ unused w3 (host.roles s2 Role.Image)) where
     pub reads_records : All (λ (b : ℕ). b < 2 ^ 8) w1.bytes → head.opening.objects ≤ room → head.opening.objects ≤ 1048576 → host.roles s3 Role.Work ≡ host.roles s2 Role.Work → rest ≡ between → (w4.ended ≡ false → 262164 ≤ length w4.bytes) → (IsTrue (host.tells Role.Image) → EndsTruly w4 (host.roles s3 Role.Image)) → w4.bytes ≡ []
-        → ReadsRecords host old s3 room rest head names
+        → ReadsRecords host old s3 room rest head names stated
     reads_records range low few work same enough4 ends4 none = record {
       recs = takes.recs;
+      stated_are = takes.stated_are;
       are = record { last = takes.last; names_are = takes.names_are; listed = takes.listed; stored = λ told. still_stored host s2 s3 between rest takes.recs work same (takes.stored told) };
       few = omega (arith, few, takes.many);
       many = takes.many;

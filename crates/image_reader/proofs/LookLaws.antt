@@ -29,10 +29,6 @@ look_fault host old new P name (disk.Work count) f = f
 look_fault host old new P name (disk.Full held room) f = absurd f
 look_fault host old new P name (disk.Damaged place about) f = f.0
 
-pub never_none : {A : Type 0} (o : Option A) → None ≡ o → IsSome o → ⊥
-never_none None e there = let clash : ◌≡◌ {A = Bool} false true = there in cc
-never_none {A} (Some x) e there = let clash : ◌≡◌ {A = Option A} None (Some x) = e in cc
-
 pub read_none : {H : Type 0} (host : Ghosts H) (now : H) → IsWorkRead host now now
 read_none host now = record { roles = λ r. refl; other_faults = λ r other. refl; later = omega arith; writes = refl }
 

@@ -17,7 +17,7 @@ use Rattle.image_reader.specs.declared.fault.LoadFault.{LoadFault}
 use Rattle.image_reader.specs.declared.fault.LoadFault.TheVariants.{Bad, Read, Disk, Memory}
 use Rattle.image_reader.specs.Frames.{IsHalted}
 use Rattle.image_reader.specs.Inside.{AreListed, IsReading, TakesRecord, TakesRecords, with_front}
-use Rattle.image_reader.specs.Loaded.{IsStored, names_of}
+use Rattle.image_reader.specs.Loaded.{IsStored, names_of, stated_by}
 use Rattle.image_reader.specs.Names.{IsRising}
 use Rattle.image_reader.specs.Window.{Ahead, unused, file_end}
 use Rattle.image_reader.proofs.Stored.{rec_apart, rec_here}
@@ -51,6 +51,9 @@ records_end last next bytes recs = ap (λ (l : List Rec). let y : Result (List R
 pub named-more : (recs : List Rec) (r : Rec) → names_of (recs ++ r ∷ []) ≡ names_of recs ++ r.name ∷ []
 named-more recs r = map-append (λ (x : Rec). x.name) recs (r ∷ [])
 
+stated-more : (recs : List Rec) (r : Rec) → stated_by (recs ++ r ∷ []) ≡ stated_by recs ++ r.count ∷ []
+stated-more recs r = map-append (λ (x : Rec). x.count) recs (r ∷ [])
+
 pub listed_none : (next : ℕ) → AreListed [] 0 next
 listed_none next = record {
   records = All-nil IsRecord;
@@ -82,10 +85,11 @@ listed_more recs last next r l is above below =
 
 -- ---- the loop
 
-pub begins : {H : Type 0} (host : Ghosts H) (now : H) (rest : DiskRest) (w : Ahead) (count next : ℕ) → w.place ≤ 36 → disk_held rest ≡ 0 → (IsTrue (host.tells Work) → IsStored host now rest []) → IsReading host now now rest w w count 0 0 next []
+pub begins : {H : Type 0} (host : Ghosts H) (now : H) (rest : DiskRest) (w : Ahead) (count next : ℕ) → w.place ≤ 36 → disk_held rest ≡ 0 → (IsTrue (host.tells Work) → IsStored host now rest []) → IsReading host now now rest w w count 0 0 next [] []
 begins host now rest w count next place none empty = record {
   recs = [];
   names_are = refl;
+  stated_are = refl;
   many = refl;
   listed = listed_none next;
   read = λ told.
@@ -98,9 +102,10 @@ begins host now rest w count next place none empty = record {
   stored = empty;
 }
 
-pub goes_on : {H : Type 0} (host : Ghosts H) (old mid new : H) (rest after : DiskRest) (w v u : Ahead) (count i last next name : ℕ) (names : List ℕ) → i < count
-    → IsReading host old mid rest w v count i last next names → TakesRecord host mid new rest after v u last next name → IsReading host old new after w u count (i + 1) name next (names ++ name ∷ [])
-goes_on host old mid new rest after w v u count i last next name names turn so_far one =
+pub goes_on : {H : Type 0} (host : Ghosts H) (old mid new : H) (rest after : DiskRest) (w v u : Ahead) (count i last next name number : ℕ) (names stated : List ℕ) → i < count
+    → IsReading host old mid rest w v count i last next names stated → TakesRecord host mid new rest after v u last next name number
+    → IsReading host old new after w u count (i + 1) name next (names ++ name ∷ []) (stated ++ number ∷ [])
+goes_on host old mid new rest after w v u count i last next name number names stated turn so_far one =
     let r = one.rec in
     let recs = so_far.recs in
     let left : count - i ≡ suc (count - (i + 1)) = omega (arith, turn) in
@@ -109,6 +114,9 @@ goes_on host old mid new rest after w v u count i last next name names turn so_f
       names_are =
           ap₂ (λ (l : List ℕ) (n : ℕ). l ++ n ∷ []) so_far.names_are one.named
           ∙ sym (named-more recs r);
+      stated_are =
+          ap₂ (λ (l : List ℕ) (n : ℕ). l ++ n ∷ []) so_far.stated_are one.stated
+          ∙ sym (stated-more recs r);
       many = omega (arith, so_far.many, length-append names (name ∷ []));
       listed = subst (λ (n : ℕ). AreListed (recs ++ r ∷ []) n next) (sym one.named) (listed_more recs last next r so_far.listed one.is one.above one.below);
       read = λ told.
@@ -124,11 +132,11 @@ goes_on host old mid new rest after w v u count i last next name names turn so_f
     }
 
 -- a record that breaks a rule
-pub stops : {H : Type 0} (host : Ghosts H) (old mid : H) (rest : DiskRest) (w v : Ahead) (count i last next : ℕ) (names : List ℕ) (f : LoadFault) → i < count → IsTrue (host.tells Image)
-    → IsReading host old mid rest w v count i last next names
+pub stops : {H : Type 0} (host : Ghosts H) (old mid : H) (rest : DiskRest) (w v : Ahead) (count i last next : ℕ) (names stated : List ℕ) (f : LoadFault) → i < count → IsTrue (host.tells Image)
+    → IsReading host old mid rest w v count i last next names stated
     → IsHalted (file_end v (host.roles mid Image).left) (next_record_at last next (unused v (host.roles mid Image))) f
     → IsHalted (file_end w (host.roles old Image).left) (records_at count 0 next (unused w (host.roles old Image))) f
-stops host old mid rest w v count i last next names (Bad rule place) turn told so_far h =
+stops host old mid rest w v count i last next names stated (Bad rule place) turn told so_far h =
     let left : count - i ≡ suc (count - (i + 1)) = omega (arith, turn) in (
       h.0,
       so_far.read told
@@ -137,18 +145,19 @@ stops host old mid rest w v count i last next names (Bad rule place) turn told s
       h.2,
       h.3 ∙ so_far.end told,
     )
-stops host old mid rest w v count i last next names (Read c) turn told so_far h = tt
-stops host old mid rest w v count i last next names (Disk d) turn told so_far h = tt
-stops host old mid rest w v count i last next names Memory turn told so_far h = tt
+stops host old mid rest w v count i last next names stated (Read c) turn told so_far h = tt
+stops host old mid rest w v count i last next names stated (Disk d) turn told so_far h = tt
+stops host old mid rest w v count i last next names stated Memory turn told so_far h = tt
 
-pub is_done : {H : Type 0} (host : Ghosts H) (old new : H) (rest : DiskRest) (w v : Ahead) (count i last next : ℕ) (names : List ℕ) → count ≤ i → i ≤ count → IsReading host old new rest w v count i last next names
-    → TakesRecords host old new rest w v count next names
-is_done host old new rest w v count i last next names le most so_far =
+pub is_done : {H : Type 0} (host : Ghosts H) (old new : H) (rest : DiskRest) (w v : Ahead) (count i last next : ℕ) (names stated : List ℕ) → count ≤ i → i ≤ count → IsReading host old new rest w v count i last next names stated
+    → TakesRecords host old new rest w v count next names stated
+is_done host old new rest w v count i last next names stated le most so_far =
     let none : count - i ≡ 0 = omega (arith, le) in
     record {
       recs = so_far.recs;
       last = last;
       names_are = so_far.names_are;
+      stated_are = so_far.stated_are;
       many = omega (arith, so_far.many, le, most);
       listed = so_far.listed;
       read = λ told.

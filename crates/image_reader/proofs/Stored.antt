@@ -143,11 +143,3 @@ all_at P xs i x all e = subst P (get_or_from_slice_get xs i x x e) (All-get_or P
 pub still_held : {H : Type 0} (host : Ghosts H) (old new : H) (rest after : DiskRest) (names : List ℕ) (i name : ℕ) → host.roles new Work ≡ host.roles old Work → after ≡ rest → slice_get names i ≡ Some name → All (λ (n : ℕ). IsSome (disk_of host old rest n)) names → IsSome (disk_of host new after name)
 still_held host old new rest after names i name work same at all =
     subst (λ (f : ℕ → Option Object). IsSome (f name)) (sym (ap₂ (λ (r : DiskRest) (v : List ℕ). objects_at r v) same (same_work host old new work))) (all_at (λ (n : ℕ). IsSome (disk_of host old rest n)) names i name all at)
-
-pub still_counted : {H : Type 0} (host : Ghosts H) (old new : H) (rest after : DiskRest) (names : List ℕ) (i name : ℕ) → host.roles new Work ≡ host.roles old Work → after ≡ rest → slice_get names i ≡ Some name → All (λ (n : ℕ). IsSome (counts_of host old rest n)) names → IsSome (counts_of host new after name)
-still_counted host old new rest after names i name work same at all =
-    subst (λ (f : ℕ → Option ℕ). IsSome (f name)) (sym (ap₂ (λ (r : DiskRest) (v : List ℕ). counts_at r v) same (same_work host old new work))) (all_at (λ (n : ℕ). IsSome (counts_of host old rest n)) names i name all at)
-
-pub all_counted : {H : Type 0} (host : Ghosts H) (old new : H) (rest after : DiskRest) (names : List ℕ) → host.roles new Work ≡ host.roles old Work → after ≡ rest → All (λ (n : ℕ). IsSome (counts_of host old rest n)) names → All (λ (n : ℕ). IsSome (counts_of host new after n)) names
-all_counted host old new rest after names work same all =
-    subst (λ (f : ℕ → Option ℕ). All (λ (n : ℕ). IsSome (f n)) names) (sym (ap₂ (λ (r : DiskRest) (v : List ℕ). counts_at r v) same (same_work host old new work))) all

@@ -8,14 +8,15 @@ use Rattle.loom_host.specs.declared.outside.Host.{Ghosts}
 use Rattle.loom_host.specs.declared.outside.Role.TheVariants.{Image, Work}
 use Rattle.loom_host.specs.Outside.{RoleState}
 use Rattle.loom_host.specs.Work.{IsWorkOnly, work_of}
-use Rattle.object_record.specs.Raw.{RawRecord, raw_record}
+use Rattle.object_record.specs.Buffer.{raw_of}
 use Rattle.disk_objects.specs.declared.rest.DiskRest.{DiskRest}
 use Rattle.disk_objects.specs.Disk.{IsDisk, Objects, disk_held, object_of}
 use Rattle.disk_objects.specs.Function.{PutsObject}
 use Rattle.image_format.specs.declared.fault.Halt.{Halt}
 use Rattle.image_format.specs.Rules.{next_record_at}
 use Rattle.image_reader.specs.Frames.{ReadsImage}
-use Rattle.image_reader.specs.Inside.{TakesRecord}
+use Rattle.image_format.specs.declared.reading.RecMeasure.{RecMeasure}
+use Rattle.image_reader.specs.Inside.{IsTaken, TakesRecord}
 use Rattle.image_reader.specs.Window.{AreBytes, Ahead, EndsTruly, unused, file_end}
 use Rattle.image_reader.proofs.ByteLaws.{bytes-before}
 use Rattle.image_reader.proofs.Next.{next_more}
@@ -37,36 +38,42 @@ end_same f v w left after before same end place rest =
     let d = ap length same in
     omega (arith, a, b, c, d, end, place)
 
-pub takes_record : {H : Type 0} (host : Ghosts H) (old mid new : H) (rest between after : DiskRest) (w f v : Ahead) (last next : ℕ) (r : Rec) (raw : RawRecord)
+pub takes_record : {H : Type 0} (host : Ghosts H) (old mid new : H) (rest between after : DiskRest) (w f v : Ahead) (last next : ℕ) (buf : List ℕ) (m : RecMeasure)
     → ReadsImage host old mid → between ≡ rest
     → (IsTrue (host.tells Image) → unused f (host.roles mid Image) ≡ unused w (host.roles old Image)) → f.place ≡ w.place → AreBytes f.bytes
-    → IsRecord r × (last < r.name) × (r.name < next) → next_record_at last next f.bytes ≡ Ok (r, v.bytes)
-    → v.place + length v.bytes ≡ f.place + length f.bytes → v.place ≤ f.place + LONGEST_RECORD → raw ≡ raw_record r
+    → IsTaken last next f.bytes v.bytes buf m
+    → v.place + length v.bytes ≡ f.place + length f.bytes → v.place ≤ f.place + LONGEST_RECORD
     → IsWorkOnly host mid new
-    → (IsTrue (host.tells Work) → PutsObject host mid new between after raw r.count)
-    → (IsTrue (host.tells Work) → (objects : Objects) (pending : List ℕ) → IsDisk between (work_of host mid) objects pending → IsDisk after (work_of host new) (map.insert objects raw.name (object_of raw r.count)) pending)
+    → (IsTrue (host.tells Work) → PutsObject host mid new between after (raw_of buf) m.count)
+    → (IsTrue (host.tells Work) → (objects : Objects) (pending : List ℕ) → IsDisk between (work_of host mid) objects pending → IsDisk after (work_of host new) (map.insert objects (raw_of buf).name (object_of (raw_of buf) m.count)) pending)
     → (disk_held after ≡ disk_held between) ⊎ (disk_held after ≡ disk_held between + 1)
-    → TakesRecord host old new rest after w v last next r.name
-takes_record host old mid new rest between after w f v last next r raw reads same unread place range is read end near raw_is work puts disk held = record {
-  rec = r;
-  is = is.0;
-  named = refl;
-  above = is.1;
-  below = is.2;
-  read = λ told.
-      ap (next_record_at last next) (sym (unread told))
-      ∙ next_more last next f.bytes (host.roles mid Image).left (r, v.bytes) read
-      ∙ ap (λ (l : List ℕ). let x : Result (Rec × List ℕ) Halt = Ok (r, v.bytes ++ l) in x) (sym (same_left host mid new work));
-  end = λ told. end_same f v w (host.roles mid Image).left (host.roles new Image).left (host.roles old Image).left (same_left host mid new work) end place (unread told);
-  bytes = λ told behind. bytes-before f.bytes v.bytes (host.roles mid Image).left (unused w (host.roles old Image)) (unread told) range (subst (λ (l : List ℕ). AreBytes (v.bytes ++ l)) (same_left host mid new work) behind);
-  near = omega (arith, near, place);
-  stored = λ told recs none s.
-      let t = still_stored host old mid rest between recs (reads.others Work (λ e. cc)) same s in
-      stored_more host mid new between after recs r raw t is.0 raw_is none (puts told) (disk told t.objects [] t.is);
-  held =
-      let h : disk_held between ≡ disk_held rest = ap (λ (d : DiskRest). disk_held d) same in
-      elim held [
-        | inl e ↦ omega (arith, e, h)
-        | inr e ↦ omega (arith, e, h)
-      ];
-}
+    → TakesRecord host old new rest after w v last next m.name m.count
+takes_record host old mid new rest between after w f v last next buf m reads same unread place range taken end near work puts disk held =
+    let r = taken.rec in
+    let raw = raw_of buf in
+    record {
+      rec = r;
+      is = taken.is.0;
+      named = taken.named;
+      stated = taken.stated;
+      above = taken.is.1;
+      below = taken.is.2;
+      read = λ told.
+          ap (next_record_at last next) (sym (unread told))
+          ∙ next_more last next f.bytes (host.roles mid Image).left (r, v.bytes) taken.read
+          ∙ ap (λ (l : List ℕ). let x : Result (Rec × List ℕ) Halt = Ok (r, v.bytes ++ l) in x) (sym (same_left host mid new work));
+      end = λ told. end_same f v w (host.roles mid Image).left (host.roles new Image).left (host.roles old Image).left (same_left host mid new work) end place (unread told);
+      bytes = λ told behind. bytes-before f.bytes v.bytes (host.roles mid Image).left (unused w (host.roles old Image)) (unread told) range (subst (λ (l : List ℕ). AreBytes (v.bytes ++ l)) (same_left host mid new work) behind);
+      near = omega (arith, near, place);
+      stored = λ told recs none s.
+          let t = still_stored host old mid rest between recs (reads.others Work (λ e. cc)) same s in
+          let put : PutsObject host mid new between after raw r.count = subst (λ (c : ℕ). PutsObject host mid new between after raw c) taken.stated (puts told) in
+          let on_disk : IsDisk after (work_of host new) (map.insert t.objects raw.name (object_of raw r.count)) [] = subst (λ (c : ℕ). IsDisk after (work_of host new) (map.insert t.objects raw.name (object_of raw c)) []) taken.stated (disk told t.objects [] t.is) in
+          stored_more host mid new between after recs r raw t taken.is.0 taken.buffer.1 none put on_disk;
+      held =
+          let h : disk_held between ≡ disk_held rest = ap (λ (d : DiskRest). disk_held d) same in
+          elim held [
+            | inl e ↦ omega (arith, e, h)
+            | inr e ↦ omega (arith, e, h)
+          ];
+    }

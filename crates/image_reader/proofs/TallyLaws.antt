@@ -1,13 +1,13 @@
 -- Counting the words of objects.
 -- `Raises by old new` says that `by` words more hold each name that is there, for a word, a list and an object alike, and adds up
 -- (`raises-then`), so each loop carries it.
-use Rattle.std.specs.Prelude.{◌↔◌}
+use Rattle.std.specs.Prelude.{◌↔◌, ◌&&◌, ◌==◌, nat_lt}
 use Rattle.std.proofs.Common.{zero, suc, ◌≡◌, ◌≢◌, ℕ, ℤ, ◌+◌, ◌-◌, ◌<◌, ◌≤◌, ◌%◌, ◌^◌, Bool, true, false, cond, eqb, ◌||◌, ◌*◌, get_or, List, [], ◌∷◌, ◌++◌, length, map, take, drop, Option, Some, None, is_some, refl, sym, ◌∙◌, ap, ap₂, subst, arith, ⊎_elim}
 use Rattle.std.proofs.lemmas.Grind.{common_steps}
 use Rattle.std.proofs.lemmas.Bool.{cases_lt, eq-eqb, eqb-true, ne_eqb}
 use Rattle.std.proofs.lemmas.List.Sums.{count_by-le-length, count_by_more_no, count_by_more_yes}
 use Rattle.std.proofs.lemmas.List.{length-map}
-use Rattle.std.proofs.lemmas.Option.{get_or_from_slice_get, slice_get_within}
+use Rattle.std.proofs.lemmas.Option.{get_or_from_slice_get, slice_get_read, slice_get_within}
 use Rattle.std.specs.List.{count_by, list_any, slice_get, slice_set}
 use Rattle.std.specs.Option.{option_map}
 use Rattle.long_names.specs.declared.value.Value.{Value}
@@ -19,7 +19,8 @@ use Rattle.long_names.specs.Words.{literal_count, value_of}
 use Rattle.object_record.specs.Objects.{body_of, int_in, object_in, value_in}
 use Rattle.object_record.specs.Raw.{HasRawSize, RawBody, RawBytes, RawMethod, RawPointers, RawRecord, RawWords, longs_of, stated_by}
 use Rattle.object_record.proofs.ObjectLaws.{fields-values}
-use Rattle.image_reader.specs.Judged.{missing_among}
+use Rattle.long_names.specs.Names.{is_known}
+use Rattle.image_reader.specs.Judged.{is_exact, missing_among}
 use Rattle.image_reader.specs.declared.tally.Tally.{Tally}
 use Rattle.image_reader.specs.Names.{IsRising, is_among, number_beside}
 use Rattle.image_reader.specs.Tally.{counted, IsFresh, Raises, HasRoom, IsCountable}
@@ -342,3 +343,29 @@ long-there long t result even is = (
 
 pub long-more : (long : ℕ) (a b : Tally) → (long % 2 ≡ 1 → ⊥) → Raises (λ q. cond (eqb long q) 1 0) a b → Raises (λ q. cond (is_ref q (value_in long)) 1 0) a b
 long-more long a b even x = record { more = λ q. x.more q ∙ ap (λ (y : Bool). option_map (λ c. c + cond y 1 0) (counted a q)) (sym (name-long long even q)) }
+
+-- ---- rule 11
+
+-- the count beside the name at a place
+pub counted-at : (t : Tally) (i name count : ℕ) → slice_get t.names i ≡ Some name → count ≡ get_or t.counts.items i count → counted t name ≡ Some count
+unfolding counted
+counted-at t i name count there value =
+    let low : i < length t.counts.items = omega (arith, slice_get_within t.names i name there, t.beside) in
+    beside-here t.names t.counts.items i name count t.rising there (slice_get_read t.counts.items (length t.counts.items) i count refl low value)
+
+pub exact-of : (o : Option ℕ) (c name stated : ℕ) (same known held : Bool) → o ≡ Some c → (stated == c) ≡ same → is_known name ≡ known → nat_lt 0 stated ≡ held → is_exact o name stated ≡ (same && (known || held))
+exact-of o c name stated same known held e f g h =
+    ap (λ (p : Option ℕ). is_exact p name stated) e
+    ∙ ap (λ (b : Bool). b && (is_known name || nat_lt 0 stated)) f
+    ∙ ap₂ (λ (a b : Bool). same && (a || b)) g h
+
+pub or-held : (known : Bool) → (known || true) ≡ true
+or-held true = refl
+or-held false = refl
+
+pub or-not-held : (known : Bool) → (known || false) ≡ known
+or-not-held true = refl
+or-not-held false = refl
+
+pub same-name : (o : Option ℕ) (a b : ℕ) → o ≡ Some a → o ≡ Some b → a ≡ b
+same-name o a b e f = let same : ◌≡◌ {A = Option ℕ} (Some a) (Some b) = sym e ∙ f in cc

@@ -1,9 +1,13 @@
 -- What loading and its parts speak of.
-use Rattle.std.specs.Prelude.{◌≡◌, ℕ, ◌+◌, ◌-◌, ◌*◌, ◌<◌, ◌≤◌, ◌^◌, ◌&&◌, ◌==◌, nat_lt, not, if◌then◌else◌, Bool, false, IsTrue, List, [], ◌∷◌, ◌++◌, All, Option, None, Some, Result, Ok, Err, length}
+use Rattle.std.specs.Prelude.{◌≡◌, ℕ, ◌+◌, ◌-◌, ◌*◌, ◌<◌, ◌≤◌, ◌^◌, ◌&&◌, ◌==◌, nat_lt, not, if◌then◌else◌, Bool, false, IsTrue, List, [], ◌∷◌, ◌++◌, All, Option, None, Some, Result, Ok, Err, length, take, drop}
 use Rattle.long_names.specs.Counting.{Rose}
 use Rattle.long_names.specs.Objects.{IsRecord}
 use Rattle.long_names.specs.declared.limits.TheConstants.{LONGEST_RECORD}
 use Rattle.long_names.specs.declared.object.Rec.{Rec}
+use Rattle.long_names.specs.Record.{record_text}
+use Rattle.object_record.specs.Buffer.{HasRecord, raw_of}
+use Rattle.object_record.specs.Raw.{raw_record}
+use Rattle.image_format.specs.declared.reading.RecMeasure.{RecMeasure}
 use Rattle.loom_host.specs.declared.outside.DiskFault.TheVariants as disk
 use Rattle.loom_host.specs.declared.outside.Host.{Ghosts}
 use Rattle.loom_host.specs.declared.outside.Role.TheVariants.{Image, Work}
@@ -23,7 +27,7 @@ use Rattle.image_reader.specs.declared.fault.LoadFault.TheVariants.{Bad, Read, D
 use Rattle.image_reader.specs.Window.{AreBytes, Ahead, unused, file_end}
 use Rattle.image_reader.specs.Frames.{IsHalted}
 use Rattle.image_reader.specs.Names.{IsRising}
-use Rattle.image_reader.specs.Loaded.{IsStored, full_of, names_of}
+use Rattle.image_reader.specs.Loaded.{IsStored, full_of, names_of, stated_by}
 
 -- ---- faults
 
@@ -79,11 +83,32 @@ abbrev pub is_out_of_order : ℕ → ℕ → Option ℕ → Bool
 is_out_of_order last next (Some n) = not (nat_lt last n && nat_lt n next)
 is_out_of_order last next None = false
 
--- the next record was read and put to the disk with the count that it states; this is its name
-pub record TakesRecord {H : Type 0} (host : Ghosts H) (old new : H) (rest after : DiskRest) (w v : Ahead) (last next name : ℕ) : Type 0 where
+-- the bytes begin with the next record, and this is what it states
+pub record IsNext (last next : ℕ) (bytes : List ℕ) (m : RecMeasure) : Type 0 where
+  pub rec : Rec
+  pub is : IsRecord rec × (last < rec.name) × (rec.name < next)
+  pub read : next_record_at last next bytes ≡ Ok (rec, drop m.len bytes)
+  pub text : take m.len bytes ≡ record_text rec
+  pub within : m.len ≤ length bytes
+  pub longest : m.len ≤ LONGEST_RECORD
+  pub named : m.name ≡ rec.name
+  pub stated : m.count ≡ rec.count
+
+-- it was taken from the bytes, and stands in the buffer
+pub record IsTaken (last next : ℕ) (old new buf : List ℕ) (m : RecMeasure) : Type 0 where
+  pub rec : Rec
+  pub is : IsRecord rec × (last < rec.name) × (rec.name < next)
+  pub read : next_record_at last next old ≡ Ok (rec, new)
+  pub buffer : HasRecord buf × (raw_of buf ≡ raw_record rec)
+  pub named : m.name ≡ rec.name
+  pub stated : m.count ≡ rec.count
+
+-- the next record was read and put to the disk with the count that it states; this is its name, and this the count
+pub record TakesRecord {H : Type 0} (host : Ghosts H) (old new : H) (rest after : DiskRest) (w v : Ahead) (last next name count : ℕ) : Type 0 where
   pub rec : Rec
   pub is : IsRecord rec
   pub named : name ≡ rec.name
+  pub stated : count ≡ rec.count
   pub above : last < rec.name
   pub below : rec.name < next
   pub read : IsTrue (host.tells Image) → next_record_at last next (unused w (host.roles old Image)) ≡ Ok (rec, unused v (host.roles new Image))
@@ -104,11 +129,12 @@ pub record AreListed (recs : List Rec) (last next : ℕ) : Type 0 where
   pub none : (q : ℕ) → last < q → rec_in recs q ≡ None
   pub own : All (λ (r : Rec). rec_in recs r.name ≡ Some r) recs
 
--- so many records were read and put to the disk with the counts that they state; these are their names
-pub record TakesRecords {H : Type 0} (host : Ghosts H) (old new : H) (after : DiskRest) (w v : Ahead) (count next : ℕ) (names : List ℕ) : Type 0 where
+-- so many records were read and put to the disk with the counts that they state; these are their names, and these the counts
+pub record TakesRecords {H : Type 0} (host : Ghosts H) (old new : H) (after : DiskRest) (w v : Ahead) (count next : ℕ) (names stated : List ℕ) : Type 0 where
   pub recs : List Rec
   pub last : ℕ
   pub names_are : names ≡ names_of recs
+  pub stated_are : stated ≡ stated_by recs
   pub many : length names ≡ count
   pub listed : AreListed recs last next
   pub read : IsTrue (host.tells Image) → records_at count 0 next (unused w (host.roles old Image)) ≡ Ok (recs, unused v (host.roles new Image))
@@ -121,10 +147,11 @@ abbrev pub with_front : List Rec → Result (List Rec × List ℕ) Halt → Resu
 with_front recs (Ok x) = Ok (recs ++ x.0, x.1)
 with_front recs (Err h) = Err h
 
--- the first i of so many records were read and put, and these are their names
-pub record IsReading {H : Type 0} (host : Ghosts H) (old new : H) (after : DiskRest) (w v : Ahead) (count i last next : ℕ) (names : List ℕ) : Type 0 where
+-- the first i of so many records were read and put, and these are their names and the counts that they state
+pub record IsReading {H : Type 0} (host : Ghosts H) (old new : H) (after : DiskRest) (w v : Ahead) (count i last next : ℕ) (names stated : List ℕ) : Type 0 where
   pub recs : List Rec
   pub names_are : names ≡ names_of recs
+  pub stated_are : stated ≡ stated_by recs
   pub many : length names ≡ i
   pub listed : AreListed recs last next
   pub read : IsTrue (host.tells Image) → records_at count 0 next (unused w (host.roles old Image)) ≡ with_front recs (records_at (count - i) last next (unused v (host.roles new Image)))

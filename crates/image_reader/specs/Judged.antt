@@ -13,7 +13,7 @@ use Rattle.image_format.specs.Rules.{◌or◌, break, first_failing, first_missi
 use Rattle.image_reader.specs.declared.fault.LoadFault.{LoadFault}
 use Rattle.image_reader.specs.declared.fault.LoadFault.TheVariants.{Bad, Read, Disk, Memory}
 use Rattle.image_reader.specs.Inside.{AreListed, IsSeen}
-use Rattle.image_reader.specs.Loaded.{IsBroken, IsLoadFault, IsStored, full_of, is_of_whole, names_of}
+use Rattle.image_reader.specs.Loaded.{IsBroken, IsLoadFault, IsStored, full_of, is_of_whole, names_of, stated_by}
 use Rattle.image_reader.specs.Tally.{Raises}
 use Rattle.image_reader.specs.declared.tally.Tally.{Tally}
 use Rattle.image_reader.specs.Window.{AreBytes}
@@ -64,6 +64,13 @@ pub record AreRead {H : Type 0} (host : Ghosts H) (now : H) (rest : DiskRest) (n
   pub listed : AreListed recs last next
   pub stored : IsTrue (host.tells Work) → IsStored host now rest recs
 
+-- these are the names of the records, and beside them the counts that they state
+pub record AreStated (names stated : List ℕ) (recs : List Rec) (next : ℕ) : Type 0 where
+  pub last : ℕ
+  pub names_are : names ≡ names_of recs
+  pub stated_are : stated ≡ stated_by recs
+  pub listed : AreListed recs last next
+
 -- Bad is what they break first
 abbrev pub IsJudged : Option Break → LoadFault → Type 0
 IsJudged b (Bad rule place) = b ≡ Some (break rule place)
@@ -83,10 +90,11 @@ IsOfWhole (Read count) = Unit {0}
 IsOfWhole (Disk f) = Unit {0}
 IsOfWhole Memory = Unit {0}
 
--- The head and the records of Image were read, to its end, and the records put to the disk; these are their names.
-pub record ReadsRecords {H : Type 0} (host : Ghosts H) (old new : H) (room : ℕ) (rest : DiskRest) (head : ImageHead) (names : List ℕ) : Type 0 where
+-- The head and the records of Image were read, to its end, and the records put to the disk; these are their names and the counts that they state.
+pub record ReadsRecords {H : Type 0} (host : Ghosts H) (old new : H) (room : ℕ) (rest : DiskRest) (head : ImageHead) (names stated : List ℕ) : Type 0 where
   pub recs : List Rec
   pub are : AreRead host new rest names recs head.opening.next
+  pub stated_are : stated ≡ stated_by recs
   pub few : length names ≤ MOST_OBJECTS
   pub many : length names ≡ head.opening.objects
   pub seen : IsSeen head

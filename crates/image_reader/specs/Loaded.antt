@@ -40,6 +40,10 @@ full_of room bytes = too_many room (opening_at bytes)
 abbrev pub names_of : List Rec → List ℕ
 names_of recs = map (λ (r : Rec). r.name) recs
 
+-- the counts that records state
+abbrev pub stated_by : List Rec → List ℕ
+stated_by recs = map (λ (r : Rec). r.count) recs
+
 -- the count that the record of a name states
 abbrev pub stated_in : List Rec → ℕ → Option ℕ
 stated_in recs n = option_map (λ (r : Rec). r.count) (rec_in recs n)

@@ -4,13 +4,14 @@ ghost use Rattle.long_names.specs.declared.limits.TheConstants.{MOST_FIELDS};
 ghost use Rattle.long_names.specs.declared.object.Object.{Object};
 ghost use Rattle.long_names.specs.declared.object.Rec.{Rec as Spelled};
 ghost use Rattle.disk_objects.specs.Calls.{HoldsObjects};
-ghost use Rattle.disk_objects.specs.Function.{counts_of, disk_of};
+ghost use Rattle.disk_objects.specs.Function.{disk_of};
 ghost use Rattle.loom_host.specs.Work.{IsWorkRead};
 ghost use Rattle.loom_host.specs.declared.outside.DiskFault.TheVariants as disk_fault;
 ghost use Rattle.image_format.specs.Rules.{break, first_failing, is_counted, words_in};
 ghost use Rattle.image_reader.specs.Frames.{IsDiskFault, IsPartFault};
 ghost use Rattle.image_reader.specs.Inside.{IsRuleFault};
-ghost use Rattle.image_reader.specs.Judged.{AreRead, IsJudged, IsOfWhole, Unclosed, broken_in, counts_broken, fields_broken, lost_in, missing_among, names_missed, words_broken};
+ghost use Rattle.image_reader.specs.Judged.{AreRead, AreStated, IsJudged, IsOfWhole, Unclosed, broken_in, counts_broken, fields_broken, lost_in, missing_among, names_missed, words_broken};
+ghost use Rattle.image_reader.specs.Loaded.{stated_by};
 ghost use Rattle.image_reader.specs.Names.{IsRising};
 ghost use Rattle.image_reader.specs.Tally.{Counts, IsFresh, Raises, HasRoom, counted};
 ghost use Rattle.long_names.specs.Names.{known_names};
@@ -18,10 +19,11 @@ ghost use Rattle.image_reader.specs.declared.fault.LoadFault.TheVariants as faul
 ghost use Rattle.image_reader.specs.declared.tally.Tally.{Tally as Counted};
 
 use crate::fault::LoadFault;
+use crate::records::Listed;
 use crate::tally::Tally;
 use disk_objects::DiskObjects;
 use image_format::State;
-use long_names::{Name, NameList};
+use long_names::Name;
 use loom_host::{DiskFault, Host, Role};
 use object_record::RecordBuf;
 use std::alloc::Global;
@@ -96,44 +98,19 @@ pub fn first_unclosed<H: Host>(
     Ok(None)
 }
 
-/// The count that a name's record stated.
-fn stated<H: Host>(disk: &mut DiskObjects<'_, H>, name: Name) -> Result<u64, DiskFault>
-    requires stands { HoldsObjects H.Host disk.old.host.now disk.old.rest }
-    requires held { IsTrue (H.tells Role.Work) → IsSome (counts_of H.Host disk.old.host.now disk.old.rest name) }
-    ensures count { IsTrue (H.tells Role.Work) → IfOk result (λ count. counts_of H.Host disk.old.host.now disk.old.rest name ≡ Some count) }
-    ensures read { IsWorkRead H.Host disk.old.host.now disk.new.host.now }
-    ensures rest { disk.new.rest ≡ disk.old.rest }
-    ensures same_host { disk.new.host.ghost_name ≡ disk.old.host.ghost_name }
-    ensures fault { IfErr result (IsDiskFault H.Host disk.old.host.now disk.new.host.now) }
-{
-    match disk.count(name)? {
-        Some(count) => Ok(count),
-        None => Err(lost(name)),
-    }
-}
-
 /// The first name whose stated count isn't exact, or that is held by nothing and isn't known.
-fn first_miscounted<H: Host>(
-    disk: &mut DiskObjects<'_, H>,
-    tally: &Tally,
-) -> Result<Option<Name>, DiskFault>
-    requires stands { HoldsObjects H.Host disk.old.host.now disk.old.rest }
-    requires held { IsTrue (H.tells Role.Work) → All (λ name. IsSome (counts_of H.Host disk.old.host.now disk.old.rest name)) tally.now.names }
-    ensures miscounted { (recs : List Spelled) (next : ℕ) (old : Counted) → IsTrue (H.tells Role.Work) → AreRead H.Host disk.old.host.now disk.old.rest tally.now.names recs next → IsFresh tally.now.names old → Raises (words_in recs) old tally.now →
-        IfOk result (λ name. option_map (break 11) name ≡ first_failing 11 (is_counted (words_in recs)) recs) }
-    ensures read { IsWorkRead H.Host disk.old.host.now disk.new.host.now }
-    ensures rest { disk.new.rest ≡ disk.old.rest }
-    ensures same_host { disk.new.host.ghost_name ≡ disk.old.host.ghost_name }
-    ensures fault { IfErr result (IsDiskFault H.Host disk.old.host.now disk.new.host.now) }
+fn first_miscounted(tally: &Tally, stated: &[u64]) -> Option<Name>
+    requires beside { length stated.now ≡ length tally.now.names }
+    ensures miscounted { (recs : List Spelled) (next : ℕ) (old : Counted) → AreStated tally.now.names stated.now recs next → IsFresh tally.now.names old → Raises (words_in recs) old tally.now →
+        option_map (break 11) result ≡ first_failing 11 (is_counted (words_in recs)) recs }
 {
     for i in 0..tally.len() {
         let name = tally.name(i);
-        let count = stated(disk, name)?;
-        if !tally.is_exact(name, count) {
-            return Ok(Some(name));
+        if !tally.is_exact(i, stated[i]) {
+            return Some(name);
         }
     }
-    Ok(None)
+    None
 }
 
 /// Judges rule 10 over all objects, and counts their words.
@@ -162,20 +139,16 @@ fn judge_fields<H: Host>(
 }
 
 /// Judges rule 11 over all objects.
-fn judge_counts<H: Host>(disk: &mut DiskObjects<'_, H>, tally: &Tally) -> Result<(), LoadFault>
-    requires stands { HoldsObjects H.Host disk.old.host.now disk.old.rest }
-    requires held { IsTrue (H.tells Role.Work) → All (λ name. IsSome (counts_of H.Host disk.old.host.now disk.old.rest name)) tally.now.names }
-    ensures ok { (recs : List Spelled) (next : ℕ) (old : Counted) → IsTrue (H.tells Role.Work) → AreRead H.Host disk.old.host.now disk.old.rest tally.now.names recs next → IsFresh tally.now.names old → Raises (words_in recs) old tally.now →
+fn judge_counts(tally: &Tally, stated: &[u64]) -> Result<(), LoadFault>
+    requires beside { length stated.now ≡ length tally.now.names }
+    ensures ok { (recs : List Spelled) (next : ℕ) (old : Counted) → AreStated tally.now.names stated.now recs next → IsFresh tally.now.names old → Raises (words_in recs) old tally.now →
         OnOk result (counts_broken recs ≡ None) }
-    ensures bad { (recs : List Spelled) (next : ℕ) (old : Counted) → IsTrue (H.tells Role.Work) → AreRead H.Host disk.old.host.now disk.old.rest tally.now.names recs next → IsFresh tally.now.names old → Raises (words_in recs) old tally.now →
+    ensures bad { (recs : List Spelled) (next : ℕ) (old : Counted) → AreStated tally.now.names stated.now recs next → IsFresh tally.now.names old → Raises (words_in recs) old tally.now →
         IfErr result (IsJudged (counts_broken recs)) }
-    ensures read { IsWorkRead H.Host disk.old.host.now disk.new.host.now }
-    ensures rest { disk.new.rest ≡ disk.old.rest }
-    ensures same_host { disk.new.host.ghost_name ≡ disk.old.host.ghost_name }
     ensures rule { IfErr result IsOfWhole }
-    ensures fault { IfErr result (IsPartFault H.Host disk.old.host.now disk.new.host.now) }
+    ensures fault { IfErr result IsRuleFault }
 {
-    match first_miscounted(disk, tally)? {
+    match first_miscounted(tally, stated) {
         Some(name) => Err(bad(11, name.get())),
         None => Ok(()),
     }
@@ -222,15 +195,16 @@ pub fn judge_names(tally: &Tally, state: &State) -> Result<(), LoadFault>
 fn judge_words<H: Host>(
     disk: &mut DiskObjects<'_, H>,
     tally: &mut Tally,
+    stated: &[u64],
     buf: &mut RecordBuf,
 ) -> Result<(), LoadFault>
     requires stands { HoldsObjects H.Host disk.old.host.now disk.old.rest }
     requires held { IsTrue (H.tells Role.Work) → All (λ name. IsSome (disk_of H.Host disk.old.host.now disk.old.rest name)) tally.old.names }
-    requires counts { IsTrue (H.tells Role.Work) → All (λ name. IsSome (counts_of H.Host disk.old.host.now disk.old.rest name)) tally.old.names }
     requires fresh { IsFresh tally.old.names tally.old }
     requires few { length tally.old.names < 2 ^ 32 }
-    ensures ok { (recs : List Spelled) (next : ℕ) → IsTrue (H.tells Role.Work) → AreRead H.Host disk.old.host.now disk.old.rest tally.old.names recs next → OnOk result ((words_broken recs ≡ None) × Raises (words_in recs) tally.old tally.new) }
-    ensures bad { (recs : List Spelled) (next : ℕ) → IsTrue (H.tells Role.Work) → AreRead H.Host disk.old.host.now disk.old.rest tally.old.names recs next → IfErr result (IsJudged (words_broken recs)) }
+    requires beside { length stated.now ≡ length tally.old.names }
+    ensures ok { (recs : List Spelled) (next : ℕ) → IsTrue (H.tells Role.Work) → AreRead H.Host disk.old.host.now disk.old.rest tally.old.names recs next → stated.now ≡ stated_by recs → OnOk result ((words_broken recs ≡ None) × Raises (words_in recs) tally.old tally.new) }
+    ensures bad { (recs : List Spelled) (next : ℕ) → IsTrue (H.tells Role.Work) → AreRead H.Host disk.old.host.now disk.old.rest tally.old.names recs next → stated.now ≡ stated_by recs → IfErr result (IsJudged (words_broken recs)) }
     ensures read { IsWorkRead H.Host disk.old.host.now disk.new.host.now }
     ensures rest { disk.new.rest ≡ disk.old.rest }
     ensures same_host { disk.new.host.ghost_name ≡ disk.old.host.ghost_name }
@@ -238,7 +212,7 @@ fn judge_words<H: Host>(
     ensures fault { IfErr result (IsPartFault H.Host disk.old.host.now disk.new.host.now) }
 {
     judge_fields(disk, tally, buf)?;
-    judge_counts(disk, tally)
+    judge_counts(tally, stated)
 }
 
 /// Judges what is told of a whole image: rule 10 over all objects, then 11, then 12 and 14. The disk holds the records, and stays as it
@@ -246,14 +220,15 @@ fn judge_words<H: Host>(
 pub(crate) fn judge<H: Host>(
     alloc: Global,
     disk: &mut DiskObjects<'_, H>,
-    names: NameList,
+    listed: Listed,
     state: &State,
 ) -> Result<(), LoadFault>
-    requires rising { IsRising names }
-    requires few { length names < 2 ^ 32 }
-    requires read { (recs : List Spelled) × (next : ℕ) × AreRead H.Host disk.old.host.now disk.old.rest names recs next }
-    ensures ok { (recs : List Spelled) (next : ℕ) → IsTrue (H.tells Role.Work) → AreRead H.Host disk.old.host.now disk.old.rest names recs next → OnOk result (broken_in recs state.now ≡ None) }
-    ensures bad { (recs : List Spelled) (next : ℕ) → IsTrue (H.tells Role.Work) → AreRead H.Host disk.old.host.now disk.old.rest names recs next → IfErr result (IsJudged (broken_in recs state.now)) }
+    requires rising { IsRising listed.names }
+    requires few { length listed.names < 2 ^ 32 }
+    requires beside { length listed.stated.items ≡ length listed.names }
+    requires read { (recs : List Spelled) × (next : ℕ) × AreRead H.Host disk.old.host.now disk.old.rest listed.names recs next }
+    ensures ok { (recs : List Spelled) (next : ℕ) → IsTrue (H.tells Role.Work) → AreRead H.Host disk.old.host.now disk.old.rest listed.names recs next → listed.stated.items ≡ stated_by recs → OnOk result (broken_in recs state.now ≡ None) }
+    ensures bad { (recs : List Spelled) (next : ℕ) → IsTrue (H.tells Role.Work) → AreRead H.Host disk.old.host.now disk.old.rest listed.names recs next → listed.stated.items ≡ stated_by recs → IfErr result (IsJudged (broken_in recs state.now)) }
     ensures read { IsWorkRead H.Host disk.old.host.now disk.new.host.now }
     ensures rest { disk.new.rest ≡ disk.old.rest }
     ensures same_host { disk.new.host.ghost_name ≡ disk.old.host.ghost_name }
@@ -261,7 +236,8 @@ pub(crate) fn judge<H: Host>(
     ensures fault { IfErr result (IsPartFault H.Host disk.old.host.now disk.new.host.now) }
 {
     let mut buf = RecordBuf::new(alloc)?;
+    let Listed { names, stated } = listed;
     let mut tally = Tally::new(alloc, names)?;
-    judge_words(disk, &mut tally, &mut buf)?;
+    judge_words(disk, &mut tally, &stated, &mut buf)?;
     judge_names(&tally, state)
 }

@@ -12,11 +12,10 @@ ghost use Rattle.image_reader.specs.declared.fault.LoadFault.TheVariants as faul
 use crate::fault::LoadFault;
 use crate::head::take_head;
 use crate::judging::judge;
-use crate::records::read_records;
+use crate::records::{Listed, read_records};
 use crate::window::Window;
 use disk_objects::DiskObjects;
 use image_format::{ImageHead, State};
-use long_names::NameList;
 use loom_host::{Host, Role};
 use std::alloc::Global;
 
@@ -42,16 +41,16 @@ fn judge_end(window: &Window) -> Result<(), LoadFault>
     })
 }
 
-/// Reads the head and the records, and puts these to the disk. The names are the answer, beside the head.
+/// Reads the head and the records, and puts these to the disk. The names and the counts that are stated are the answer, beside the head.
 fn read_image<H: Host>(
     alloc: Global,
     disk: &mut DiskObjects<'_, H>,
     room: u32,
-) -> Result<(ImageHead, NameList), LoadFault>
+) -> Result<(ImageHead, Listed), LoadFault>
     requires room { room ≡ disk_room disk.old.rest }
     requires empty { IsTrue (H.tells Role.Work) → IsDisk disk.old.rest (work_of H.Host disk.old.host.now) map.empty [] }
     requires none { disk_held disk.old.rest ≡ 0 }
-    ensures reads { IfOk result (λ x. ReadsRecords H.Host disk.old.host.now disk.new.host.now room disk.new.rest x.0 x.1) }
+    ensures reads { IfOk result (λ x. ReadsRecords H.Host disk.old.host.now disk.new.host.now room disk.new.rest x.0 x.1.names x.1.stated.items) }
     ensures loading { IsLoading H.Host disk.old.host.now disk.new.host.now }
     ensures kept { disk_room disk.new.rest ≡ disk_room disk.old.rest }
     ensures same_host { disk.new.host.ghost_name ≡ disk.old.host.ghost_name }
@@ -60,14 +59,14 @@ fn read_image<H: Host>(
     let mut window = Window::new(alloc);
     window.fill(disk)?;
     let head = take_head(&mut window, room)?;
-    let names = read_records(alloc, disk, &mut window, &head.opening)?;
+    let listed = read_records(alloc, disk, &mut window, &head.opening)?;
     window.fill(disk)?;
     judge_end(&window)?;
-    Ok((head, names))
+    Ok((head, listed))
 }
 
 /// Loads Image to the disk, record by record, and says which rule breaks first, and where, if one does. It takes memory for one record, a
-/// window, and the names with a count each.
+/// window, and the names, each with the count that is stated and the one that is found.
 ///
 /// Its condition is that Image is attached and the disk is as `begin` made it with this room. After Ok the disk holds the image's objects
 /// with their counts, which are exact, and none is pending; Image was read to its end.
@@ -87,8 +86,8 @@ pub fn load<H: Host>(
     ensures same_host { disk.new.host.ghost_name ≡ disk.old.host.ghost_name }
     ensures fault { IfErr result (IsLoadFault H.Host disk.old.host.now disk.new.host.now room) }
 {
-    let (head, names) = read_image(alloc, disk, room)?;
-    judge(alloc, disk, names, &head.state)?;
+    let (head, listed) = read_image(alloc, disk, room)?;
+    judge(alloc, disk, listed, &head.state)?;
     Ok(Loaded {
         objects: head.opening.objects,
         next: head.opening.next,

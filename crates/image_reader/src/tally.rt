@@ -8,6 +8,9 @@ use long_names::{Name, NameList};
 use object_record::RecordBuf;
 use std::alloc::{AllocError, Global};
 
+/// How often a word's place is guessed before it is found by halving.
+const GUESSES: u32 = 4;
+
 /// The names of an image's objects, and beside each the number of words that were counted.
 #[derive(Drop)]
 pub struct Tally {
@@ -18,7 +21,7 @@ pub struct Tally {
 }
 
 impl Tally {
-    ghost use Rattle.std.specs.Prelude.{◌≡◌, ◌+◌, ◌<◌, ◌==◌, ◌↔◌, ℕ, IfOk, IfSome, IfNone, IsTrue, None, Some, is_some, true, count_by, length, map, slice_get, if◌then◌else◌};
+    ghost use Rattle.std.specs.Prelude.{◌≡◌, ◌+◌, ◌<◌, ◌≤◌, ◌==◌, ◌↔◌, ℕ, IfOk, IfSome, IfNone, IsTrue, None, Some, is_some, true, count_by, length, map, slice_get, if◌then◌else◌};
     ghost use Rattle.std.specs.List.{list_any};
     ghost use Rattle.long_names.specs.Names.{known_names};
     ghost use Rattle.long_names.specs.declared.limits.TheConstants.{MOST_FIELDS};
@@ -54,15 +57,53 @@ impl Tally {
         *self.names.item(i)
     }
 
-    /// The place of a word among the names, by halving. None where no object has the name that it is.
+    /// Where a word may stand among the names from one place up to another, as if they rose evenly. Names that were given one after the
+    /// other do.
+    fn guess(&self, low: usize, high: usize, word: u32) -> usize
+        requires some { low < high }
+        requires within { high ≤ length self.now.names }
+        ensures from { low ≤ result }
+        ensures to { result < high }
+    {
+        let last = high - 1;
+        let lowest = self.name(low).get();
+        let highest = self.name(last).get();
+        if word <= lowest {
+            return low;
+        }
+        if highest <= word {
+            return last;
+        }
+        let span = (last - low) as u64;
+        let share = u64::from(word - lowest).saturating_mul(span) / u64::from(highest - lowest);
+        low + share.min(span) as usize
+    }
+
+    /// The place to look at next: some by a guess, and then by halving.
+    fn turn(&self, low: usize, high: usize, word: u32, round: u32) -> usize
+        requires some { low < high }
+        requires within { high ≤ length self.now.names }
+        ensures from { low ≤ result }
+        ensures to { result < high }
+    {
+        if round < GUESSES {
+            self.guess(low, high, word)
+        } else {
+            low + (high - low) / 2
+        }
+    }
+
+    /// The place of a word among the names. None where no object has the name that it is.
     fn place(&self, word: u32) -> Option<usize>
         ensures there { IfSome result (λ i. slice_get self.now.names i ≡ Some word) }
         ensures none { IfNone result (counted self.now word ≡ None) }
     {
         let mut low = 0;
         let mut high = self.names.len();
+        let mut round: u32 = 0;
         while low < high {
-            let middle = low + (high - low) / 2;
+            let middle = self.turn(low, high, word, round);
+            round = round.saturating_add(1);
             let name = self.name(middle).get();
             if name == word {
                 return Some(middle);
@@ -145,14 +186,12 @@ impl Tally {
         self.count_fields(buf)
     }
 
-    /// Whether a name is counted just as often as is stated, and is held, or known.
-    pub fn is_exact(&self, name: Name, stated: u64) -> bool
-        ensures { result ≡ judged.is_exact (counted self.now name) name stated }
+    /// Whether the name at a place is counted just as often as is stated, and is held, or known.
+    pub fn is_exact(&self, i: usize, stated: u64) -> bool
+        requires { i < length self.now.names }
+        ensures { (name : ℕ) → slice_get self.now.names i ≡ Some name → result ≡ judged.is_exact (counted self.now name) name stated }
     {
-        match self.count(name.get()) {
-            Some(count) => stated == count && (name.is_known() || stated > 0),
-            None => false,
-        }
+        stated == self.counts[i] && (stated > 0 || self.name(i).is_known())
     }
 
     /// Whether a word is an object's name.

@@ -1,28 +1,15 @@
 use Rattle.std.proofs.Common.{ℕ, Option, Some, option_map, refl, sym, ap, subst, ◌∙◌}
 use Rattle.image_format.specs.declared.fault.Break.{Break}
 use Rattle.image_format.specs.Rules.{break}
-use Rattle.image_reader.specs.declared.fault.LoadFault.TheVariants.{Disk}
-use Rattle.image_reader.specs.Frames.{IsPartFault}
-use Rattle.image_reader.proofs.Frames.{leaves}
 use Rattle.image_reader.specs.Judged.{IsJudged, IsOfWhole, counts_broken}
 use Rattle.image_reader.proofs.judging.judge_counts.Goals as goal
 
 pub returns-in-Some-clause-bad : goal.returns-in-Some-clause-bad
-returns-in-Some-clause-bad g c = λ recs next old told are fresh raised.
-    subst (IsJudged (counts_broken recs)) (sym c.bad.ensures) (sym (c.in_ok-name.ensures.miscounted recs next old told are fresh raised) ∙ ap (λ o. option_map (break 11) o) c.in-Some.is ∙ ap (λ (n : ℕ). let b : Option Break = Some (break 11 n) in b) (sym c.get.ensures.value))
+returns-in-Some-clause-bad c = λ recs next old are fresh raised.
+    subst (IsJudged (counts_broken recs)) (sym c.bad.ensures) (sym (c.first_miscounted.ensures.miscounted recs next old are fresh raised) ∙ ap (λ o. option_map (break 11) o) c.in-Some.is ∙ ap (λ (n : ℕ). let b : Option Break = Some (break 11 n) in b) (sym c.get.ensures.value))
 
 pub returns-in-None-clause-ok : goal.returns-in-None-clause-ok
-returns-in-None-clause-ok g c = λ recs next old told are fresh raised. sym (c.in_ok-name.ensures.miscounted recs next old told are fresh raised) ∙ ap (λ o. option_map (break 11) o) c.in-None.is
-
-pub returns-in_err-name-clause-bad : goal.returns-in_err-name-clause-bad
-returns-in_err-name-clause-bad g c = λ recs next old told are fresh raised. leaves (IsJudged (counts_broken recs)) c.from_residual.result (Disk c.in_err-name.field-0.0) c.from_residual.ensures.1 tt
-
-pub returns-in_err-name-clause-fault : goal.returns-in_err-name-clause-fault
-returns-in_err-name-clause-fault g c =
-    leaves (IsPartFault g.H.Host c.args.disk.now.host.now c.first_miscounted.new.disk.host.now) c.from_residual.result (Disk c.in_err-name.field-0.0) c.from_residual.ensures.1 c.in_err-name.ensures.fault
-
-pub returns-in_err-name-clause-rule : goal.returns-in_err-name-clause-rule
-returns-in_err-name-clause-rule g c = leaves IsOfWhole c.from_residual.result (Disk c.in_err-name.field-0.0) c.from_residual.ensures.1 tt
+returns-in-None-clause-ok c = λ recs next old are fresh raised. sym (c.first_miscounted.ensures.miscounted recs next old are fresh raised) ∙ ap (λ o. option_map (break 11) o) c.in-None.is
 
 pub returns-in-Some-clause-rule : goal.returns-in-Some-clause-rule
-returns-in-Some-clause-rule g c = subst IsOfWhole (sym c.bad.ensures) refl
+returns-in-Some-clause-rule c = subst IsOfWhole (sym c.bad.ensures) refl

@@ -47,28 +47,28 @@ read_records-requires g c =
       few = c.in_ok-head.ensures.fits.1;
     }
 
-pub returns-in_err-names-clause-loading : goal.returns-in_err-names-clause-loading
-returns-in_err-names-clause-loading g c =
+pub returns-in_err-listed-clause-loading : goal.returns-in_err-listed-clause-loading
+returns-in_err-listed-clause-loading g c =
     loading_then g.H.Host c.args.disk.now.host.now c.fill.new.disk.host.now c.read_records.new.disk.host.now (reads_loading g.H.Host c.args.disk.now.host.now c.fill.new.disk.host.now c.fill.ensures.reads) c.read_records.ensures.loading
 
-pub returns-in_err-names-clause-fault : goal.returns-in_err-names-clause-fault
-returns-in_err-names-clause-fault g c =
-    let f = c.in_err-names.field-0.0 in
+pub returns-in_err-listed-clause-fault : goal.returns-in_err-listed-clause-fault
+returns-in_err-listed-clause-fault g c =
+    let f = c.in_err-listed.field-0.0 in
     let first = reads_loading g.H.Host c.args.disk.now.host.now c.fill.new.disk.host.now c.fill.ensures.reads in
     let begun = ap (λ (s : List ℕ). s ++ (g.H.Host.roles c.args.disk.now.host.now Image).left) c.new-window.ensures.bytes in
     let head = c.in_ok-head.head in
-    leaves (IsReadFault g.H.Host c.args.disk.now.host.now c.read_records.new.disk.host.now c.args.room) c.from_residual-in_err-names.result f c.from_residual-in_err-names.ensures.1
+    leaves (IsReadFault g.H.Host c.args.disk.now.host.now c.read_records.new.disk.host.now c.args.room) c.from_residual-in_err-listed.result f c.from_residual-in_err-listed.ensures.1
     (part_read g.H.Host c.args.disk.now.host.now c.read_records.new.disk.host.now c.args.room f
-    (fault_later g.H.Host c.args.disk.now.host.now c.fill.new.disk.host.now c.read_records.new.disk.host.now f first c.in_err-names.ensures.fault)
+    (fault_later g.H.Host c.args.disk.now.host.now c.fill.new.disk.host.now c.read_records.new.disk.host.now f first c.in_err-listed.ensures.fault)
     (λ rule place same told. (
-      file_roomy g.H.Host c.args.disk.now.host.now c.fill.new.disk.host.now c.fill.new.disk.host.now c.fill.new.disk.host.now c.fill.new.self c.take_head.new.window c.fill.new.self c.fill.new.self c.args.room head [] c.args.disk.now.rest c.args.disk.now.rest
+      file_roomy g.H.Host c.args.disk.now.host.now c.fill.new.disk.host.now c.fill.new.disk.host.now c.fill.new.disk.host.now c.fill.new.self c.take_head.new.window c.fill.new.self c.fill.new.self c.args.room head [] [] c.args.disk.now.rest c.args.disk.now.rest
           (λ t. c.in_ok-fill.ensures.rest t ∙ begun) c.in_ok-fill.ensures.enough c.in_ok-fill.ensures.ends c.in_ok-head.ensures.read c.in_ok-head.ensures.roomy told,
       records_broken (g.H.Host.roles c.args.disk.now.host.now Image).left (unused c.take_head.new.window (g.H.Host.roles c.fill.new.disk.host.now Image)) head (file_end c.take_head.new.window (g.H.Host.roles c.fill.new.disk.host.now Image).left) rule place
-          (file_ends g.H.Host c.args.disk.now.host.now c.fill.new.disk.host.now c.fill.new.disk.host.now c.fill.new.disk.host.now c.fill.new.self c.take_head.new.window c.fill.new.self c.fill.new.self c.args.room head [] c.args.disk.now.rest c.args.disk.now.rest
+          (file_ends g.H.Host c.args.disk.now.host.now c.fill.new.disk.host.now c.fill.new.disk.host.now c.fill.new.disk.host.now c.fill.new.self c.take_head.new.window c.fill.new.self c.fill.new.self c.args.room head [] [] c.args.disk.now.rest c.args.disk.now.rest
           (λ t. c.in_ok-fill.ensures.rest t ∙ begun) c.in_ok-fill.ensures.enough c.in_ok-fill.ensures.ends c.in_ok-head.ensures.read c.in_ok-head.ensures.roomy c.in_ok-head.ensures.end told)
-          (file_head g.H.Host c.args.disk.now.host.now c.fill.new.disk.host.now c.fill.new.disk.host.now c.fill.new.disk.host.now c.fill.new.self c.take_head.new.window c.fill.new.self c.fill.new.self c.args.room head [] c.args.disk.now.rest c.args.disk.now.rest
+          (file_head g.H.Host c.args.disk.now.host.now c.fill.new.disk.host.now c.fill.new.disk.host.now c.fill.new.disk.host.now c.fill.new.self c.take_head.new.window c.fill.new.self c.fill.new.self c.args.room head [] [] c.args.disk.now.rest c.args.disk.now.rest
           (λ t. c.in_ok-fill.ensures.rest t ∙ begun) c.in_ok-fill.ensures.enough c.in_ok-fill.ensures.ends c.in_ok-head.ensures.read c.in_ok-head.ensures.roomy told)
-          (subst (λ (e : LoadFault). IsHalted (file_end c.take_head.new.window (g.H.Host.roles c.fill.new.disk.host.now Image).left) (records_at head.opening.objects 0 head.opening.next (unused c.take_head.new.window (g.H.Host.roles c.fill.new.disk.host.now Image))) e) same (c.in_err-names.ensures.halted told)),
+          (subst (λ (e : LoadFault). IsHalted (file_end c.take_head.new.window (g.H.Host.roles c.fill.new.disk.host.now Image).left) (records_at head.opening.objects 0 head.opening.next (unused c.take_head.new.window (g.H.Host.roles c.fill.new.disk.host.now Image))) e) same (c.in_err-listed.ensures.halted told)),
     )))
 
 pub returns-in_err-fill-2-clause-loading : goal.returns-in_err-fill-2-clause-loading
@@ -88,8 +88,8 @@ returns-in_err-fill-2-clause-fault g c =
 pub returns-clause-reads : goal.returns-clause-reads
 returns-clause-reads g c =
     let begun = ap (λ (s : List ℕ). s ++ (g.H.Host.roles c.args.disk.now.host.now Image).left) c.new-window.ensures.bytes in
-    reads_records g.H.Host c.args.disk.now.host.now c.fill.new.disk.host.now c.read_records.new.disk.host.now c.fill-2.new.disk.host.now c.fill.new.self c.take_head.new.window c.read_records.new.window c.fill-2.new.self c.args.room c.in_ok-head.head c.in_ok-names.names c.read_records.new.disk.rest c.fill-2.new.disk.rest
-    (λ t. c.in_ok-fill.ensures.rest t ∙ begun) c.in_ok-fill.ensures.enough c.in_ok-fill.ensures.ends c.in_ok-head.ensures.read c.in_ok-head.ensures.roomy c.in_ok-names.ensures.takes c.in_ok-fill-2.ensures.rest
+    reads_records g.H.Host c.args.disk.now.host.now c.fill.new.disk.host.now c.read_records.new.disk.host.now c.fill-2.new.disk.host.now c.fill.new.self c.take_head.new.window c.read_records.new.window c.fill-2.new.self c.args.room c.in_ok-head.head c.in_ok-listed.listed.names c.in_ok-listed.listed.stated.items c.read_records.new.disk.rest c.fill-2.new.disk.rest
+    (λ t. c.in_ok-fill.ensures.rest t ∙ begun) c.in_ok-fill.ensures.enough c.in_ok-fill.ensures.ends c.in_ok-head.ensures.read c.in_ok-head.ensures.roomy c.in_ok-listed.ensures.takes c.in_ok-fill-2.ensures.rest
     c.take_head.ensures.range c.in_ok-head.ensures.fits.0 c.in_ok-head.ensures.fits.1 (c.fill-2.ensures.reads.others Work (λ e. cc)) c.fill-2.ensures.same_rest c.in_ok-fill-2.ensures.enough c.in_ok-fill-2.ensures.ends c.in_ok-judge_end.ensures.ok
 
 pub returns-clause-loading : goal.returns-clause-loading
@@ -107,8 +107,8 @@ returns-in_err-judge_end-clause-fault g c =
     let w = c.fill-2.new.self in
     let begun = ap (λ (s : List ℕ). s ++ (g.H.Host.roles c.args.disk.now.host.now Image).left) c.new-window.ensures.bytes in
     leaves (IsReadFault g.H.Host c.args.disk.now.host.now c.fill-2.new.disk.host.now c.args.room) c.from_residual-in_err-judge_end.result c.in_err-judge_end.field-0.0 c.from_residual-in_err-judge_end.ensures.1
-    (subst (IsReadFault g.H.Host c.args.disk.now.host.now c.fill-2.new.disk.host.now c.args.room) (sym c.in_err-judge_end.ensures.bad.0) (λ told. more_bytes g.H.Host c.args.disk.now.host.now c.fill.new.disk.host.now c.read_records.new.disk.host.now c.fill-2.new.disk.host.now c.fill.new.self c.take_head.new.window c.read_records.new.window w c.args.room c.in_ok-head.head c.in_ok-names.names c.read_records.new.disk.rest c.fill-2.new.disk.rest
-    (λ t. c.in_ok-fill.ensures.rest t ∙ begun) c.in_ok-fill.ensures.enough c.in_ok-fill.ensures.ends c.in_ok-head.ensures.read c.in_ok-head.ensures.roomy c.in_ok-names.ensures.takes c.in_ok-fill-2.ensures.rest
+    (subst (IsReadFault g.H.Host c.args.disk.now.host.now c.fill-2.new.disk.host.now c.args.room) (sym c.in_err-judge_end.ensures.bad.0) (λ told. more_bytes g.H.Host c.args.disk.now.host.now c.fill.new.disk.host.now c.read_records.new.disk.host.now c.fill-2.new.disk.host.now c.fill.new.self c.take_head.new.window c.read_records.new.window w c.args.room c.in_ok-head.head c.in_ok-listed.listed.names c.in_ok-listed.listed.stated.items c.read_records.new.disk.rest c.fill-2.new.disk.rest
+    (λ t. c.in_ok-fill.ensures.rest t ∙ begun) c.in_ok-fill.ensures.enough c.in_ok-fill.ensures.ends c.in_ok-head.ensures.read c.in_ok-head.ensures.roomy c.in_ok-listed.ensures.takes c.in_ok-fill-2.ensures.rest
     c.in_ok-head.ensures.end c.in_ok-fill-2.ensures.place c.in_err-judge_end.ensures.bad.1 told))
 
 pub returns-in_err-fill-clause-kept : goal.returns-in_err-fill-clause-kept
@@ -117,8 +117,8 @@ returns-in_err-fill-clause-kept g c = ap (λ (r : DiskRest). disk_room r) c.fill
 pub returns-in_err-head-clause-kept : goal.returns-in_err-head-clause-kept
 returns-in_err-head-clause-kept g c = ap (λ (r : DiskRest). disk_room r) c.fill.ensures.same_rest
 
-pub returns-in_err-names-clause-kept : goal.returns-in_err-names-clause-kept
-returns-in_err-names-clause-kept g c = c.read_records.ensures.room ∙ ap (λ (r : DiskRest). disk_room r) c.fill.ensures.same_rest
+pub returns-in_err-listed-clause-kept : goal.returns-in_err-listed-clause-kept
+returns-in_err-listed-clause-kept g c = c.read_records.ensures.room ∙ ap (λ (r : DiskRest). disk_room r) c.fill.ensures.same_rest
 
 pub returns-in_err-fill-2-clause-kept : goal.returns-in_err-fill-2-clause-kept
 returns-in_err-fill-2-clause-kept g c = ap (λ (r : DiskRest). disk_room r) c.fill-2.ensures.same_rest ∙ c.read_records.ensures.room ∙ ap (λ (r : DiskRest). disk_room r) c.fill.ensures.same_rest

@@ -8,7 +8,7 @@ use Rattle.image_reader.proofs.records.read_records.Given as goal
 
 abbrev pub invariant-records : goal.invariant-records
 invariant-records g l = record {
-  reading : IsReading g.H.Host l.initial.disk.host.now l.disk.host.now l.disk.rest l.initial.window l.window l.opening.objects l.counter l.last l.opening.next l.names;
+  reading : IsReading g.H.Host l.initial.disk.host.now l.disk.host.now l.disk.rest l.initial.window l.window l.opening.objects l.counter l.last l.opening.next l.listed.names l.listed.stated.items;
   ends : IsTrue (g.H.Host.tells Image) → EndsTruly l.window (g.H.Host.roles l.disk.host.now Image);
   loading : IsLoading g.H.Host l.initial.disk.host.now l.disk.host.now;
   room : disk_room l.disk.rest ≡ disk_room l.initial.disk.rest;

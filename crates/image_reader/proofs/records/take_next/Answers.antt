@@ -30,25 +30,25 @@ returns-in_err-fill-clause-fault g c =
 pub take_record-requires : goal.take_record-requires
 take_record-requires g c = record { far = omega (arith, c.requires.far, c.in_ok-fill.ensures.place) }
 
-pub returns-in_err-rec-clause-halted : goal.returns-in_err-rec-clause-halted
-returns-in_err-rec-clause-halted g c = λ told.
+pub returns-in_err-measure-clause-halted : goal.returns-in_err-measure-clause-halted
+returns-in_err-measure-clause-halted g c = λ told.
     let left = (g.H.Host.roles c.fill.new.disk.host.now Image).left in
     let f = c.fill.new.self in
-    leaves (IsHalted (file_end c.args.window.now (g.H.Host.roles c.args.disk.now.host.now Image).left) (next_record_at c.args.last c.args.next (unused c.args.window.now (g.H.Host.roles c.args.disk.now.host.now Image)))) c.from_residual-in_err-rec.result c.in_err-rec.field-0.0 c.from_residual-in_err-rec.ensures.1
-    (halted_same f.place c.args.window.now.place (f.bytes ++ left) (unused c.args.window.now (g.H.Host.roles c.args.disk.now.host.now Image)) (next_record_at c.args.last c.args.next) c.in_err-rec.field-0.0 c.in_ok-fill.ensures.place (c.in_ok-fill.ensures.rest told)
-    (halted_more c.args.last c.args.next f.place f.bytes left f.ended c.in_err-rec.field-0.0 (bytes_of_all f.bytes c.take_record.ensures.range) c.in_ok-fill.ensures.enough (c.in_ok-fill.ensures.ends told) c.in_err-rec.ensures.halted))
+    leaves (IsHalted (file_end c.args.window.now (g.H.Host.roles c.args.disk.now.host.now Image).left) (next_record_at c.args.last c.args.next (unused c.args.window.now (g.H.Host.roles c.args.disk.now.host.now Image)))) c.from_residual-in_err-measure.result c.in_err-measure.field-0.0 c.from_residual-in_err-measure.ensures.1
+    (halted_same f.place c.args.window.now.place (f.bytes ++ left) (unused c.args.window.now (g.H.Host.roles c.args.disk.now.host.now Image)) (next_record_at c.args.last c.args.next) c.in_err-measure.field-0.0 c.in_ok-fill.ensures.place (c.in_ok-fill.ensures.rest told)
+    (halted_more c.args.last c.args.next f.place f.bytes left f.ended c.in_err-measure.field-0.0 (bytes_of_all f.bytes c.take_record.ensures.range) c.in_ok-fill.ensures.enough (c.in_ok-fill.ensures.ends told) c.in_err-measure.ensures.halted))
 
-pub returns-in_err-rec-clause-loading : goal.returns-in_err-rec-clause-loading
-returns-in_err-rec-clause-loading g c = reads_loading g.H.Host c.args.disk.now.host.now c.fill.new.disk.host.now c.fill.ensures.reads
+pub returns-in_err-measure-clause-loading : goal.returns-in_err-measure-clause-loading
+returns-in_err-measure-clause-loading g c = reads_loading g.H.Host c.args.disk.now.host.now c.fill.new.disk.host.now c.fill.ensures.reads
 
-pub returns-in_err-rec-clause-fault : goal.returns-in_err-rec-clause-fault
-returns-in_err-rec-clause-fault g c =
-    leaves (IsPartFault g.H.Host c.args.disk.now.host.now c.fill.new.disk.host.now) c.from_residual-in_err-rec.result c.in_err-rec.field-0.0 c.from_residual-in_err-rec.ensures.1
-    (rule_fault g.H.Host c.args.disk.now.host.now c.fill.new.disk.host.now c.in_err-rec.field-0.0 c.in_err-rec.ensures.fault)
+pub returns-in_err-measure-clause-fault : goal.returns-in_err-measure-clause-fault
+returns-in_err-measure-clause-fault g c =
+    leaves (IsPartFault g.H.Host c.args.disk.now.host.now c.fill.new.disk.host.now) c.from_residual-in_err-measure.result c.in_err-measure.field-0.0 c.from_residual-in_err-measure.ensures.1
+    (rule_fault g.H.Host c.args.disk.now.host.now c.fill.new.disk.host.now c.in_err-measure.field-0.0 c.in_err-measure.ensures.fault)
 
 pub put-requires : goal.put-requires
 put-requires g c = record {
-  «record» = c.in_ok-rec.ensures.buffer.0;
+  «record» = c.in_ok-measure.ensures.taken.buffer.0;
   stands = still_holds g.H.Host c.args.disk.now.host.now c.fill.new.disk.host.now c.args.disk.now.rest c.fill.new.disk.rest (c.fill.ensures.reads.others Work (λ e. cc)) c.fill.ensures.same_rest c.requires.stands;
 }
 
@@ -71,8 +71,8 @@ returns-in_err-put-clause-fault g c =
 
 pub returns-clause-takes : goal.returns-clause-takes
 returns-clause-takes g c =
-    takes_record g.H.Host c.args.disk.now.host.now c.fill.new.disk.host.now c.put.new.self.host.now c.args.disk.now.rest c.fill.new.disk.rest c.put.new.self.rest c.args.window.now c.fill.new.self c.take_record.new.window c.args.last c.args.next c.in_ok-rec.rec (raw_of c.take_record.new.buf)
-    c.fill.ensures.reads c.fill.ensures.same_rest c.in_ok-fill.ensures.rest c.in_ok-fill.ensures.place c.take_record.ensures.range c.in_ok-rec.ensures.record c.in_ok-rec.ensures.read c.in_ok-rec.ensures.end c.in_ok-rec.ensures.near c.in_ok-rec.ensures.buffer.1
+    takes_record g.H.Host c.args.disk.now.host.now c.fill.new.disk.host.now c.put.new.self.host.now c.args.disk.now.rest c.fill.new.disk.rest c.put.new.self.rest c.args.window.now c.fill.new.self c.take_record.new.window c.args.last c.args.next c.take_record.new.buf c.in_ok-measure.measure
+    c.fill.ensures.reads c.fill.ensures.same_rest c.in_ok-fill.ensures.rest c.in_ok-fill.ensures.place c.take_record.ensures.range c.in_ok-measure.ensures.taken c.in_ok-measure.ensures.end c.in_ok-measure.ensures.near
     c.put.ensures.work c.in_ok-put.ensures.stored c.in_ok-put.ensures.put c.in_ok-put.ensures.held
 
 pub returns-clause-ends : goal.returns-clause-ends
