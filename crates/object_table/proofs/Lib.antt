@@ -1,3 +1,4 @@
 pub mod ShortLaws
 pub mod VacantLaws
+pub mod NoteLaws
 mod CountLaws

@@ -1,9 +1,9 @@
 -- Lists that are read by short words.
 -- A law takes the index with an equation (`i ≡ s / 2 - 1`), so that an answer passes a clause and rewrites nothing.
-use Rattle.std.proofs.Common.{◌≡◌, ◌≢◌, ℕ, ◌+◌, ◌-◌, ◌*◌, ◌/◌, ◌%◌, ◌<◌, Bool, true, false, cond, eqb, List, length, get_or, refl, sym, ◌∙◌, ap, subst, arith, ⊎_elim}
+use Rattle.std.proofs.Common.{◌≡◌, ◌≢◌, ℕ, ◌+◌, ◌-◌, ◌*◌, ◌/◌, ◌%◌, ◌<◌, ◌≤◌, Bool, true, false, cond, eqb, List, [], ◌∷◌, ◌++◌, length, get_or, refl, sym, ◌∙◌, ap, subst, arith, ⊎_elim}
 use Rattle.std.proofs.lemmas.Grind.{common_steps}
-use Rattle.std.proofs.lemmas.Bool.{cases_eq}
-use Rattle.std.proofs.lemmas.List.{get_or-set_same, get_or-set_other}
+use Rattle.std.proofs.lemmas.Bool.{cases_eq, cases_lt}
+use Rattle.std.proofs.lemmas.List.{get_or-set_same, get_or-set_other, get_or_append_left, get_or_past, get_or_push, length_push}
 use Rattle.std.proofs.Math.Path.{fun_ext}
 use Rattle.std.specs.List.{slice_set}
 use Rattle.object_table.specs.Entries.{put, is_short}
@@ -62,3 +62,42 @@ at_short-set {X} d l s i x e short low = fun_ext go
 
         other : (q s : ℕ) (a b : X) → q ≢ s → cond (eqb q s) a b ≡ b
         other q s a b h = grind (arith, common_steps)
+
+-- one more behind all others
+pub at_short-push : {X : Type 0} (d : X) (l : List X) (x : X) → at_short d (l ++ x ∷ []) ≡ put (at_short d l) (2 * (length l + 1)) x
+at_short-push {X} d l x = fun_ext go
+  where
+    here : at_short d (l ++ x ∷ []) (2 * (length l + 1)) ≡ x
+    here = at_short-index d (l ++ x ∷ []) (length l) ∙ get_or_push l x d (length l) refl
+
+    at : (i : ℕ) → i ≢ length l → get_or (l ++ x ∷ []) i d ≡ get_or l i d
+    at i away = ⊎_elim
+        (λ (low : i < length l). get_or_append_left l (x ∷ []) d i low)
+        (λ (past : length l ≤ i). get_or_past (l ++ x ∷ []) i d (let size = length_push l x in omega arith) ∙ sym (get_or_past l i d past))
+        (cases_lt i (length l))
+
+    away : (q : ℕ) → q ≢ 2 * (length l + 1) → is_short q ≡ true → q / 2 - 1 ≢ length l
+    away q h f same = let e = short-even q f in h (omega (arith, e.0, e.1))
+
+    there : (q : ℕ) → q ≢ 2 * (length l + 1) → (b : Bool) → is_short q ≡ b → at_short d (l ++ x ∷ []) q ≡ at_short d l q
+    there q h true f = at_short-is d (l ++ x ∷ []) q (q / 2 - 1) refl f ∙ at (q / 2 - 1) (away q h f) ∙ sym (at_short-is d l q (q / 2 - 1) refl f)
+    there q h false f = ap (λ b. cond b (get_or (l ++ x ∷ []) (q / 2 - 1) d) d) f ∙ sym (ap (λ b. cond b (get_or l (q / 2 - 1) d) d) f)
+
+    same : (s : ℕ) (a b : X) → cond (eqb s s) a b ≡ a
+    same s a b = grind (arith, common_steps)
+
+    other : (q s : ℕ) (a b : X) → q ≢ s → cond (eqb q s) a b ≡ b
+    other q s a b h = grind (arith, common_steps)
+
+    go : (q : ℕ) → at_short d (l ++ x ∷ []) q ≡ cond (eqb q (2 * (length l + 1))) x (at_short d l q)
+    go q = ⊎_elim
+        (λ (h : q ≡ 2 * (length l + 1)). ap (at_short d (l ++ x ∷ [])) h ∙ here ∙ sym (ap (λ (z : ℕ). cond (eqb z (2 * (length l + 1))) x (at_short d l q)) h ∙ same (2 * (length l + 1)) x (at_short d l q)))
+        (λ (h : q ≢ 2 * (length l + 1)). there q h (is_short q) refl ∙ sym (other q (2 * (length l + 1)) x (at_short d l q) h))
+        (cases_eq q (2 * (length l + 1)))
+
+-- a list without the short word
+pub at_short-past : {X : Type 0} (d : X) (l : List X) (s i : ℕ) → i ≡ s / 2 - 1 → is_short s ≡ true → length l ≤ i → at_short d l s ≡ d
+at_short-past d l s i e short past = at_short-is d l s i e short ∙ get_or_past l i d past
+
+pub at_short-none : {X : Type 0} (d : X) → at_short d [] ≡ (λ s. d)
+at_short-none {X} d = at_short-all d [] (λ k. refl)

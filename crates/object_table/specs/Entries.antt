@@ -67,3 +67,7 @@ leaf_entry n = record {
 -- with this number of short references
 abbrev pub with_refs : Entry → ℕ → Entry
 with_refs e r = record e { refs = r }
+
+-- with no mark
+abbrev pub with_no_mark : Entry → Entry
+with_no_mark e = record e { flags = record e.flags { marked = false } }

@@ -11,12 +11,12 @@ entry_at t s = if is_short s then slice_index_or t.entries.items (s / 2 - 1) fre
 
 -- how many entries it has
 unfoldable pub entries_of : Table → ℕ
-entries_of t = length t.entries.items
+entries_of t = t.size
 
 -- no short word from here on names an entry of the table
 abbrev pub bound_of : Table → ℕ
 bound_of t = 2 * entries_of t + 2
 
--- how many entries are free
+-- how many entries are free: those that were never in use, and those that are free again
 unfoldable pub free_of : Table → ℕ
-free_of t = count_by is_free t.entries.items
+free_of t = t.size - length t.entries.items + count_by is_free t.entries.items

@@ -2,7 +2,8 @@
 //!
 //! A table stands for a function from short words to entries, `entry_at`, and each call that changes it is one equation of whole
 //! functions: `set`, `add_ref` and `drop_ref` change one entry that is in use, `take` makes a free entry a leaf, and `give` frees one.
-//! How many entries are free is always known, and each call takes constant time.
+//! How many entries are free is always known, and each call takes constant time but `unmark_all`, which goes over the entries that were
+//! marked since the last time. `used_end` says behind which entry nothing was ever in use.
 //!
 //! ```text
 //! let mut table = Table::new(alloc, 512)?;
@@ -15,7 +16,7 @@
 //! doesn't know which short name a name has, nor where a body lies, and it counts no references by itself.
 //!
 //! - Proved: `Table` has an entry under each short name; each call changes one entry and says how many are free, and `take` answers None
-//!   exactly where none is.
+//!   exactly where none is. Nothing is in use behind `used_end`, and no mark is left behind `unmark_all`.
 //! - Tested: A table filled, an entry used and given back, flags as bits (`core_tests`).
 //! - Not said: That each call takes constant time; this is read in the code.
 #![tactic(auto)]

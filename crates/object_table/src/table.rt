@@ -1,7 +1,8 @@
-// The table of entries. Its free entries are known by their places, so that one is taken or given back in constant time.
-ghost use Rattle.std.specs.Prelude.{◌≤◌, length};
+// The table of entries. Those that were ever in use are its first ones, and the free ones of these are known by their places, so that one is
+// taken or given back in constant time.
+ghost use Rattle.std.specs.Prelude.{◌≡◌, ◌+◌, ◌≤◌, length, vec_capacity};
 ghost use Rattle.object_table.specs.declared.table.TheConstants.{MOST_ENTRIES};
-ghost use Rattle.object_table.specs.Inside.{IsVacant};
+ghost use Rattle.object_table.specs.Inside.{ArePlain, IsNoted, IsVacant};
 
 use crate::entry::{Entry, Short};
 use long_names::Name;
@@ -13,50 +14,77 @@ pub const MOST_ENTRIES: u16 = 32_767;
 /// Entries under the short names from 2 on. Each is free or in use.
 #[derive(Drop)]
 pub struct Table {
+    // How many entries it was made with.
+    size: u16,
+    // Those that were ever in use. All behind them are free.
     entries: Vec<Entry>,
-    // The first `free` of these are the places of the free entries.
+    // The places of those of them that are free again.
     vacant: Vec<u16>,
     free: u16,
-    ghost small: { length entries.items ≤ MOST_ENTRIES },
-    ghost known: { IsVacant entries.items vacant.items free },
+    // The places of entries that were marked since all marks were taken away, each once, and which they are.
+    noted: Vec<u16>,
+    listed: Vec<bool>,
+    ghost small: { size ≤ MOST_ENTRIES },
+    ghost within: { length entries.items ≤ size },
+    ghost known: { IsVacant entries.items vacant.items },
+    ghost counted: { free + length entries.items ≡ size + length vacant.items },
+    ghost marks: { IsNoted entries.items listed.items noted.items },
+    ghost rooms: { (size ≤ vec_capacity entries) × (size ≤ vec_capacity vacant) × (size ≤ vec_capacity noted) × (size ≤ vec_capacity listed) },
+}
+
+// Takes the marks away from the entries at these places.
+fn unmark(entries: &mut Vec<Entry>, listed: &mut Vec<bool>, noted: &mut Vec<u16>)
+    requires { IsNoted entries.old.items listed.old.items noted.old.items }
+    ensures entries { ArePlain entries.old.items entries.new.items }
+    ensures marks { IsNoted entries.new.items listed.new.items noted.new.items }
+    ensures rooms { (vec_capacity entries.new ≡ vec_capacity entries.old) × (vec_capacity noted.new ≡ vec_capacity noted.old) × (vec_capacity listed.new ≡ vec_capacity listed.old) }
+{
+    for i in 0..noted.len() {
+        let place = noted[i] as usize;
+        let mut entry = entries[place];
+        entry.flags.marked = false;
+        entries[place] = entry;
+        listed[place] = false;
+    }
+    noted.clear();
 }
 
 impl Table {
-    ghost use Rattle.std.specs.Prelude.{◌≡◌, ◌+◌, ◌*◌, ◌<◌, ◌^◌, ℕ, IfOk, IfSome, IfNone, true, ◌-◌, length, slice_index};
-    ghost use Rattle.object_table.specs.Entries.{put, is_short, is_used, is_free, free_entry, leaf_entry, with_refs};
+    ghost use Rattle.std.specs.Prelude.{◌≡◌, ◌+◌, ◌*◌, ◌<◌, ◌^◌, ℕ, IfOk, IfSome, IfNone, true, false, ◌-◌, length, slice_index_or};
+    ghost use Rattle.object_table.specs.Entries.{put, is_short, is_used, is_free, free_entry, leaf_entry, with_refs, with_no_mark};
     ghost use Rattle.object_table.specs.Table.{entry_at, entries_of, bound_of, free_of};
 
-    /// A table of so many entries, all of them free.
+    /// A table of so many entries, all of them free. What it takes isn't written before it is used.
     pub fn new(alloc: Global, entries: u16) -> Result<Table, AllocError>
         requires { entries ≤ MOST_ENTRIES }
         ensures entry { IfOk result (λ t. entry_at t ≡ (λ s. free_entry)) }
         ensures entries { IfOk result (λ t. entries_of t ≡ entries) }
         ensures free { IfOk result (λ t. free_of t ≡ entries) }
     {
-        let vacant = Table::falling(alloc, entries)?;
         Ok(Table {
-            entries: vec![in alloc; Entry::none(); entries as usize]?,
-            vacant,
+            size: entries,
+            entries: Vec::with_capacity(alloc, entries as usize)?,
+            vacant: Vec::with_capacity(alloc, entries as usize)?,
             free: entries,
+            noted: Vec::with_capacity(alloc, entries as usize)?,
+            listed: Vec::with_capacity(alloc, entries as usize)?,
         })
-    }
-
-    // The numbers below n, the greatest first.
-    fn falling(alloc: Global, n: u16) -> Result<Vec<u16>, AllocError>
-        ensures size { IfOk result (λ v. length v.items ≡ n) }
-        ensures places { IfOk result (λ v. (k : ℕ) → k < n → slice_index v.items k ≡ n - 1 - k) }
-    {
-        let mut places = Vec::with_capacity(alloc, n as usize)?;
-        for k in 0..n {
-            places.push(n - 1 - k)?;
-        }
-        Ok(places)
     }
 
     /// How many entries it was made with.
     #[inline(always)]
     pub fn entries(&self) -> u16
         ensures entries { result ≡ entries_of self.now }
+        ensures small { result ≤ MOST_ENTRIES }
+    {
+        self.size
+    }
+
+    /// How many of its first entries were ever in use. All others are free, so a sweep may end there.
+    #[inline(always)]
+    pub fn used_end(&self) -> u16
+        ensures used { (s : ℕ) → is_used (entry_at self.now s).state ≡ true → s ≤ 2 * result }
+        ensures most { result ≤ entries_of self.now }
         ensures small { result ≤ MOST_ENTRIES }
     {
         self.entries.len() as u16
@@ -78,7 +106,44 @@ impl Table {
         requires within { s.0 < bound_of self.now }
         ensures { result ≡ entry_at self.now s.0 }
     {
-        self.entries[s.index()]
+        let place = s.index();
+        if place < self.entries.len() {
+            return self.entries[place];
+        }
+        Entry::none()
+    }
+
+    // Notes the place of an entry, if it isn't noted yet.
+    #[cold]
+    #[inline(never)]
+    fn note_at(&mut self, place: usize)
+        requires { place < length self.old.entries.items }
+        ensures noted { slice_index_or self.new.listed.items place false ≡ true }
+        ensures entries { self.new.entries ≡ self.old.entries }
+        ensures size { self.new.size ≡ self.old.size }
+        ensures vacant { self.new.vacant ≡ self.old.vacant }
+        ensures free { self.new.free ≡ self.old.free }
+    {
+        if self.listed[place] {
+            return;
+        }
+        self.listed[place] = true;
+        self.noted.push_reserved(place as u16);
+    }
+
+    // The same where the entry is to be marked.
+    #[inline(always)]
+    fn note(&mut self, place: usize, marked: bool)
+        requires { place < length self.old.entries.items }
+        ensures noted { marked ≡ true → slice_index_or self.new.listed.items place false ≡ true }
+        ensures entries { self.new.entries ≡ self.old.entries }
+        ensures size { self.new.size ≡ self.old.size }
+        ensures vacant { self.new.vacant ≡ self.old.vacant }
+        ensures free { self.new.free ≡ self.old.free }
+    {
+        if marked {
+            self.note_at(place);
+        }
     }
 
     /// Changes an entry that is in use.
@@ -93,7 +158,33 @@ impl Table {
         ensures free { free_of self.new ≡ free_of self.old }
     {
         let entry = e;
-        self.entries[s.index()] = entry;
+        let place = s.index();
+        self.note(place, entry.flags.marked);
+        self.entries[place] = entry;
+    }
+
+    // Puts an entry where a free one is: at one that is free again, or behind those that were ever in use.
+    #[inline(always)]
+    fn fill(&mut self, e: Entry) -> u16
+        requires some { 0 < free_of self.old }
+        requires used { is_used e.state ≡ true }
+        requires plain { e.flags.marked ≡ false }
+        ensures within { result < entries_of self.old }
+        ensures was_free { is_free (entry_at self.old (2 * (result + 1))) ≡ true }
+        ensures entry { entry_at self.new ≡ put (entry_at self.old) (2 * (result + 1)) e }
+        ensures free { free_of self.new + 1 ≡ free_of self.old }
+        ensures entries { entries_of self.new ≡ entries_of self.old }
+    {
+        let entry = e;
+        self.free -= 1;
+        if let Some(place) = self.vacant.pop() {
+            self.entries[place as usize] = entry;
+            return place;
+        }
+        let place = self.entries.len() as u16;
+        self.entries.push_reserved(entry);
+        self.listed.push_reserved(false);
+        place
     }
 
     /// Makes a free entry a leaf of this name. None exactly where all are in use.
@@ -109,9 +200,7 @@ impl Table {
         if self.free == 0 {
             return None;
         }
-        self.free -= 1;
-        let place = self.vacant[self.free as usize];
-        self.entries[place as usize] = Entry::leaf(name);
+        let place = self.fill(Entry::leaf(name));
         Some(Short(2 * (place + 1)))
     }
 
@@ -125,9 +214,21 @@ impl Table {
         ensures entries { entries_of self.new ≡ entries_of self.old }
         ensures free { free_of self.new ≡ free_of self.old + 1 }
     {
-        self.entries[s.index()] = Entry::none();
-        self.vacant[self.free as usize] = s.index() as u16;
+        let place = s.index();
+        self.entries[place] = Entry::none();
+        self.vacant.push_reserved(place as u16);
         self.free += 1;
+    }
+
+    /// Takes all marks away, in a time that grows with the entries that were marked since the last time.
+    #[cold]
+    #[inline(never)]
+    pub fn unmark_all(&mut self)
+        ensures entry { entry_at self.new ≡ (λ s. with_no_mark (entry_at self.old s)) }
+        ensures entries { entries_of self.new ≡ entries_of self.old }
+        ensures free { free_of self.new ≡ free_of self.old }
+    {
+        unmark(&mut self.entries, &mut self.listed, &mut self.noted);
     }
 
     /// One more reference to an entry.
@@ -141,9 +242,8 @@ impl Table {
         ensures entries { entries_of self.new ≡ entries_of self.old }
         ensures free { free_of self.new ≡ free_of self.old }
     {
-        let mut entry = self.entry(s);
-        entry.refs += 1;
-        self.set(s, entry);
+        let place = s.index();
+        self.entries[place].refs += 1;
     }
 
     /// One reference less.
@@ -157,8 +257,7 @@ impl Table {
         ensures entries { entries_of self.new ≡ entries_of self.old }
         ensures free { free_of self.new ≡ free_of self.old }
     {
-        let mut entry = self.entry(s);
-        entry.refs -= 1;
-        self.set(s, entry);
+        let place = s.index();
+        self.entries[place].refs -= 1;
     }
 }

@@ -1,64 +1,82 @@
-use Rattle.std.proofs.Common.{ℕ, ◌≡◌, ◌<◌, ◌+◌, ◌*◌, ◌/◌, ◌-◌, true, List, length, sym, ◌∙◌, ap, subst, arith}
+use Rattle.std.proofs.Common.{ℕ, ◌/◌, ◌-◌, false, ◌≡◌, ◌<◌, ◌+◌, List, [], ◌∷◌, ◌++◌, length, slice_set, true, sym, ◌∙◌, ap, subst, arith, refl}
 use Rattle.std.proofs.Math.ListN.{length-set}
-use Rattle.std.specs.List.{slice_set}
+use Rattle.std.proofs.lemmas.List.{length_push}
 use Rattle.object_table.specs.declared.entry.Entry.{Entry}
 use Rattle.object_table.specs.Entries.{put, is_short, is_used, free_entry}
 use Rattle.object_table.specs.Inside.{IsVacant}
 use Rattle.object_table.specs.Table.{entry_at, entries_of, free_of}
-use Rattle.object_table.proofs.ShortLaws.{short-index, at_short, at_short-set}
-use Rattle.object_table.proofs.VacantLaws.{known-give}
+use Rattle.object_table.proofs.ShortLaws.{at_short, at_short-set}
+use Rattle.object_table.proofs.VacantLaws.{free-is, known-give, known-room, used-bound, used-within}
+use Rattle.object_table.proofs.NoteLaws.{noted-set}
 use Rattle.object_table.proofs.table.Table.give.Goals as goal
 
 pub index_mut-requires : goal.index_mut-requires
-unfolding entries_of
+unfolding entry_at
 index_mut-requires c =
-    subst (λ (z : ℕ). c.index.result < z) (sym c.args.self.now.entries.ok.0)
-    (short-index c.args.s.0 (length c.args.self.now.entries.items) c.index.result c.index.ensures c.requires.short c.requires.within)
+    subst (λ (z : ℕ). c.index-place.result < z) (sym c.args.self.now.entries.ok.0)
+    (used-within c.args.self.now.entries.items c.args.s.0 c.index-place.result c.index-place.ensures c.requires.short c.requires.used)
 
-pub index_mut-requires-2 : goal.index_mut-requires-2
-unfolding entries_of entry_at
-index_mut-requires-2 c =
+pub push_reserved-requires : goal.push_reserved-requires
+unfolding entry_at
+push_reserved-requires c =
     let t = c.args.self.now in
-    let now = known-give t.entries.items t.vacant.items t.free c.args.s.0 c.index.result t.known c.index.ensures c.requires.short c.requires.within c.requires.used in
-    let room = now.0 in
+    let room = known-room t.entries.items t.vacant.items c.args.s.0 c.index-place.result t.known c.index-place.ensures c.requires.short c.requires.used in
     let size = t.vacant.ok.0 in
-    omega arith
+    let within = t.within in
+    omega (arith, t.rooms.1)
 
-given : (entries : List Entry) (places : List ℕ) (n s i j : ℕ) (none : Entry) → IsVacant entries places n → i ≡ s / 2 - 1 → j ≡ s / 2 - 1 → is_short s ≡ true
-    → s < 2 * length entries + 2 → is_used (at_short free_entry entries s).state ≡ true → none ≡ free_entry
-    → IsVacant (slice_set entries i none) (slice_set places n j) (n + 1)
-given entries places n s i j none v at at' short low used is =
-    subst (λ (z : ℕ). IsVacant (slice_set entries i none) (slice_set places n z) (n + 1)) (at ∙ sym at')
-    (subst (λ (z : Entry). IsVacant (slice_set entries i z) (slice_set places n i) (n + 1)) (sym is)
-    (known-give entries places n s i v at short low used).1)
+none-is : (entries : List Entry) (places places' : List ℕ) (i s : ℕ) (none : Entry) → IsVacant entries places → i ≡ s / 2 - 1 → is_short s ≡ true
+    → is_used (at_short free_entry entries s).state ≡ true → none ≡ free_entry → places' ≡ places ++ i ∷ [] → IsVacant (slice_set entries i none) places'
+none-is entries places places' i s none v at short used is more =
+    subst (λ (x : Entry). IsVacant (slice_set entries i x) places') (sym is)
+    (subst (λ (l : List ℕ). IsVacant (slice_set entries i free_entry) l) (sym more) (known-give entries places s i v at short used))
+
+clash : true ≡ false → ⊥
+clash h = cc
 
 pub invariant_of-self : goal.invariant_of-self
-unfolding entries_of entry_at
+unfolding entry_at
 invariant_of-self c =
     let t = c.args.self.now in
+    let i = c.index-place.result in
+    let size = length-set t.entries.items i c.none.result in
+    let more = ap (λ (l : List ℕ). length l) c.push_reserved.ensures.items in
+    let one = length_push t.vacant.items i in
+    let low = used-within t.entries.items c.args.s.0 i c.index-place.ensures c.requires.short c.requires.used in
     record {
-      small = let size = length-set t.entries.items c.index.result c.none.result in let all = t.small in omega arith;
-      known = given t.entries.items t.vacant.items t.free c.args.s.0 c.index.result c.index-2.result c.none.result t.known c.index.ensures c.index-2.ensures
-          c.requires.short c.requires.within c.requires.used c.none.ensures;
+      small = t.small;
+      within = let within = t.within in omega arith;
+      known = none-is t.entries.items t.vacant.items c.push_reserved.new.self.items i c.args.s.0 c.none.result t.known c.index-place.ensures
+          c.requires.short c.requires.used c.none.ensures c.push_reserved.ensures.items;
+      counted = let counted = t.counted in omega arith;
+      marks = noted-set t.entries.items t.listed.items t.noted.items i c.none.result t.marks low (λ h. absurd (clash (sym h ∙ ap (λ (x : Entry). x.flags.marked) c.none.ensures)));
+      rooms = (t.rooms.0, omega (arith, t.rooms.1, c.push_reserved.ensures.capacity), t.rooms.2, t.rooms.3);
     }
 
 pub returns-clause-entry : goal.returns-clause-entry
-unfolding entries_of entry_at
+unfolding entry_at
 returns-clause-entry c =
     let t = c.args.self.now in
-    at_short-set free_entry t.entries.items c.args.s.0 c.index.result c.none.result c.index.ensures c.requires.short c.requires.within
-    ∙ ap (put (entry_at t) c.args.s.0) c.none.ensures
+    at_short-set free_entry t.entries.items c.args.s.0 c.index-place.result c.none.result c.index-place.ensures c.requires.short
+    (used-bound t.entries.items c.args.s.0 c.requires.short c.requires.used)
+    ∙ ap (put (at_short free_entry t.entries.items) c.args.s.0) c.none.ensures
 
 pub returns-clause-entries : goal.returns-clause-entries
 unfolding entries_of
-returns-clause-entries c = length-set c.args.self.now.entries.items c.index.result c.none.result
+returns-clause-entries c = refl
 
 pub returns-clause-free : goal.returns-clause-free
-unfolding free_of entries_of entry_at
+unfolding free_of entry_at
 returns-clause-free c =
     let t = c.args.self.now in
-    let now = given t.entries.items t.vacant.items t.free c.args.s.0 c.index.result c.index-2.result c.none.result t.known c.index.ensures c.index-2.ensures
-    c.requires.short c.requires.within c.requires.used c.none.ensures in
-    let a = now.counted in
-    let b = t.known.counted in
+    let i = c.index-place.result in
+    let size = length-set t.entries.items i c.none.result in
+    let more = ap (λ (l : List ℕ). length l) c.push_reserved.ensures.items in
+    let one = length_push t.vacant.items i in
+    let old = free-is t.entries.items t.vacant.items t.size t.free t.known t.within t.counted in
+    let within = t.within in
+    let counted = t.counted in
+    let new = free-is (slice_set t.entries.items i c.none.result) c.push_reserved.new.self.items t.size (t.free + 1)
+    (none-is t.entries.items t.vacant.items c.push_reserved.new.self.items i c.args.s.0 c.none.result t.known c.index-place.ensures
+    c.requires.short c.requires.used c.none.ensures c.push_reserved.ensures.items) (omega arith) (omega arith) in
     omega arith
