@@ -1,5 +1,5 @@
 -- One word is taken out of a row of words, and put back. Assumes `Logic`.
-use Rattle.std.proofs.Common.{◌≡◌, ℕ, zero, suc, ◌+◌, ◌*◌, ◌<◌, List, [], ◌∷◌, length, get_or, set, refl, sym, arith, w16}
+use Rattle.std.proofs.Common.{◌≡◌, ℕ, zero, suc, ◌+◌, ◌-◌, ◌*◌, ◌<◌, List, [], ◌∷◌, ◌++◌, length, get_or, set, refl, sym, arith, w16}
 use seplogic.Ra.Ura.{Ura}
 use base.Fraction.{full_share}
 use mir.Syntax.{ty_array, ty_int}
@@ -7,7 +7,7 @@ use mir.Val.{vint}
 use base.Logic.{ent, sep, via, snd∗}
 use base.Fml.{Lft, Fml, fat, froom}
 use types.Logic.{Logic, sem}
-use types.Kit.{‵, ◌⊛◌, ⋆, ◌$◌, ◌∵◌, !, qed, by, move, keep, use0, use1, use2, split, rewrite, fsplit, fjoin, done}
+use types.Kit.{‵, ◌⊛◌, ⋆, ◌$◌, ◌∵◌, !, qed, by, move, keep, use1, use2, split, rewrite, fsplit, fjoin, done}
 use denote.Builtin.{u16}
 use denote.Index.{row, others, takes, puts, place_is, place as nth}
 use denote.Memory.{part_at, shares, shared_of}
@@ -53,26 +53,33 @@ module _ {M : Type 1} {𝓤 : Ura M} (𝓛 : Logic 𝓤) (b : ℕ) where
       use1 𝓛 (‵ (froom (ty_array (ty_int w16) (length ws)) b (o + 2))) (words_gone ws (o + 2)) $ move ! (1 ∷ []) $
       by ! (𝓛.laws.room_cons (ty_int w16) (length ws) b o)
 
-  -- the last place of a room
-  pub last_out : (j o : ℕ) → ent 𝓤 (sem 𝓛 (froom (ty_array (ty_int w16) (suc j)) b o)) (sep 𝓤 (sem 𝓛 (froom (ty_array (ty_int w16) j) b o)) (sem 𝓛 (froom (ty_int w16) b (j * 2 + o))))
-  last_out zero o =
-      let same : o ≡ zero * 2 + o = omega arith in
-      qed 𝓛 (‵ (froom (ty_array (ty_int w16) 1) b o) ∷ []) ∵
-      use1 𝓛 (‵ (froom (ty_int w16) b o) ⊛ ‵ (froom (ty_array (ty_int w16) zero) b (o + 2))) (𝓛.laws.room_uncons (ty_int w16) zero b o) $ split ! $ keep ! (0 ∷ []) $
-      rewrite ! 0 (λ (k : ℕ). ‵ (froom (ty_int w16) b k)) same refl $
-      use0 𝓛 (‵ (froom (ty_array (ty_int w16) zero) b o)) (𝓛.laws.room_nil (ty_int w16) b o) $ done !
-  last_out (suc j) o =
-      let same : j * 2 + (o + 2) ≡ suc j * 2 + o = omega arith in
-      qed 𝓛 (‵ (froom (ty_array (ty_int w16) (suc (suc j))) b o) ∷ []) ∵
-      use1 𝓛 (‵ (froom (ty_int w16) b o) ⊛ ‵ (froom (ty_array (ty_int w16) (suc j)) b (o + 2))) (𝓛.laws.room_uncons (ty_int w16) (suc j) b o) $ split ! $ move ! (1 ∷ []) $
-      use1 𝓛 (‵ (froom (ty_array (ty_int w16) j) b (o + 2)) ⊛ ‵ (froom (ty_int w16) b (j * 2 + (o + 2)))) (last_out j (o + 2)) $ split ! $ move ! (2 ∷ 0 ∷ []) $
-      use2 𝓛 (‵ (froom (ty_array (ty_int w16) (suc j)) b o)) (𝓛.laws.room_cons (ty_int w16) j b o) $ move ! (1 ∷ []) $
-      rewrite ! 0 (λ (k : ℕ). ‵ (froom (ty_int w16) b k)) same refl $ move ! (1 ∷ []) $ done !
+  -- two rooms side by side
+  pub rooms_join : (n m o : ℕ) → ent 𝓤 (sep 𝓤 (sem 𝓛 (froom (ty_array (ty_int w16) n) b o)) (sem 𝓛 (froom (ty_array (ty_int w16) m) b (n * 2 + o)))) (sem 𝓛 (froom (ty_array (ty_int w16) (n + m)) b o))
+  rooms_join zero m o =
+      let same : zero * 2 + o ≡ o = omega arith in
+      let all : m ≡ zero + m = omega arith in
+      qed 𝓛 (‵ (froom (ty_array (ty_int w16) zero) b o) ∷ ‵ (froom (ty_array (ty_int w16) m) b (zero * 2 + o)) ∷ []) ∵
+      move ! (1 ∷ []) $ keep ! (0 ∷ []) $ rewrite ! 0 (λ (k : ℕ). ‵ (froom (ty_array (ty_int w16) m) b k)) same refl $
+      rewrite ! 0 (λ (k : ℕ). ‵ (froom (ty_array (ty_int w16) k) b o)) all refl $ done !
+  rooms_join (suc n) m o =
+      let same : suc n * 2 + o ≡ n * 2 + (o + 2) = omega arith in
+      let all : suc (n + m) ≡ suc n + m = omega arith in
+      qed 𝓛 (‵ (froom (ty_array (ty_int w16) (suc n)) b o) ∷ ‵ (froom (ty_array (ty_int w16) m) b (suc n * 2 + o)) ∷ []) ∵
+      use1 𝓛 (‵ (froom (ty_int w16) b o) ⊛ ‵ (froom (ty_array (ty_int w16) n) b (o + 2))) (𝓛.laws.room_uncons (ty_int w16) n b o) $ split ! $ move ! (2 ∷ []) $
+      rewrite ! 0 (λ (k : ℕ). ‵ (froom (ty_array (ty_int w16) m) b k)) same refl $ move ! (2 ∷ 0 ∷ []) $
+      use2 𝓛 (‵ (froom (ty_array (ty_int w16) (n + m)) b (o + 2))) (rooms_join n m (o + 2)) $ move ! (1 ∷ 0 ∷ []) $
+      use2 𝓛 (‵ (froom (ty_array (ty_int w16) (suc (n + m))) b o)) (𝓛.laws.room_cons (ty_int w16) (n + m) b o) $
+      rewrite ! 0 (λ (k : ℕ). ‵ (froom (ty_array (ty_int w16) k) b o)) all refl $ done !
 
-  -- a word is put before others
-  pub word_before : (w : ℕ) (ws : List ℕ) (j o : ℕ) → ent 𝓤 (sep 𝓤 (sem 𝓛 (fat full_share (ty_int w16) b (j * 2 + o) (vint w16 w))) (sem 𝓛 (row u16 full_share ws b (suc j * 2 + o)))) (sem 𝓛 (row u16 full_share (w ∷ ws) b (j * 2 + o)))
-  word_before w ws j o =
-      let same : suc j * 2 + o ≡ j * 2 + o + 2 = omega arith in
-      qed 𝓛 (‵ (fat full_share (ty_int w16) b (j * 2 + o) (vint w16 w)) ∷ ‵ (row u16 full_share ws b (suc j * 2 + o)) ∷ []) ∵
-      use1 𝓛 (‵ (part_at u16 full_share w b (j * 2 + o))) (uint_in 𝓛 full_share w16 w b (j * 2 + o)) $
-      move ! (1 ∷ []) $ rewrite ! 0 (λ (k : ℕ). ‵ (row u16 full_share ws b k)) same refl $ move ! (1 ∷ 0 ∷ []) $ fjoin ! $ done !
+  -- a word is put behind others
+  pub word_behind : (w : ℕ) (ws : List ℕ) (i o : ℕ) → i ≡ length ws → ent 𝓤 (sep 𝓤 (sem 𝓛 (row u16 full_share ws b o)) (sem 𝓛 (fat full_share (ty_int w16) b (i * 2 + o) (vint w16 w)))) (sem 𝓛 (row u16 full_share (ws ++ w ∷ []) b o))
+  word_behind w [] i o e =
+      let same : i * 2 + o ≡ o = omega arith in
+      qed 𝓛 (‵ (row u16 full_share [] b o) ∷ ‵ (fat full_share (ty_int w16) b (i * 2 + o) (vint w16 w)) ∷ []) ∵
+      move ! (1 ∷ []) $ rewrite ! 0 (λ (k : ℕ). ‵ (fat full_share (ty_int w16) b k (vint w16 w))) same refl $
+      use1 𝓛 (‵ (part_at u16 full_share w b o)) (uint_in 𝓛 full_share w16 w b o) $ fjoin ! $ done !
+  word_behind w (v ∷ ws) i o e =
+      let same : i * 2 + o ≡ (i - 1) * 2 + (o + 2) = omega arith in
+      qed 𝓛 (‵ (row u16 full_share (v ∷ ws) b o) ∷ ‵ (fat full_share (ty_int w16) b (i * 2 + o) (vint w16 w)) ∷ []) ∵ fsplit ! $ move ! (2 ∷ []) $
+      rewrite ! 0 (λ (k : ℕ). ‵ (fat full_share (ty_int w16) b k (vint w16 w))) same refl $ move ! (2 ∷ 0 ∷ []) $
+      use2 𝓛 (‵ (row u16 full_share (ws ++ w ∷ []) b (o + 2))) (word_behind w ws (i - 1) (o + 2) (omega arith)) $ move ! (1 ∷ 0 ∷ []) $ fjoin ! $ done !

@@ -1,6 +1,7 @@
 mod Lent
 pub mod Walks
 pub mod Cell
+pub mod ZeroLaws
 pub mod ListLaws
 pub mod LayoutLaws
 pub mod WordLaws

@@ -1,4 +1,5 @@
 pub mod Memory
+pub mod Words
 pub mod Heads
 pub mod Lists
 pub mod Chunks

@@ -1,4 +1,5 @@
 -- What a segment stands for: chunks at their places, and how much is free.
+use Rattle.core_segment.specs.Words.{words_of}
 use Rattle.std.specs.Prelude.{◌≡◌, ℕ, ◌+◌, ◌<◌, ◌≤◌, List, length, sum_by}
 use Rattle.core_segment.specs.declared.segment.TheConstants.{HEADER}
 use Rattle.core_segment.specs.declared.segment.Moved.{Moved}
@@ -8,7 +9,7 @@ use Rattle.core_segment.specs.Layout.{placed_in, tiles_of, largest_in}
 
 -- the used chunks, by rising place
 unfoldable pub chunks_of : Segment → List Placed
-chunks_of g = placed_in g.region.cells.items (tiles_of g.region.cells.items)
+chunks_of g = placed_in (words_of g.region) (tiles_of (words_of g.region))
 
 -- the used chunk that begins at a place
 unfoldable pub chunk_at : Segment → ℕ → Chunk
@@ -16,7 +17,7 @@ chunk_at g = at_place (chunks_of g)
 
 -- how many words the region has
 unfoldable pub size_of : Segment → ℕ
-size_of g = length g.region.cells.items
+size_of g = length (words_of g.region)
 
 -- how many words are in no used chunk
 unfoldable pub free_of : Segment → ℕ
@@ -24,7 +25,7 @@ free_of g = g.free
 
 -- the words of the largest free chunk
 unfoldable pub largest_of : Segment → ℕ
-largest_of g = largest_in (tiles_of g.region.cells.items)
+largest_of g = largest_in (tiles_of (words_of g.region))
 
 -- how far down the used chunks could go at most, all together
 unfoldable pub work_of : Segment → ℕ

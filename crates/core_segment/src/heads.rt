@@ -3,6 +3,7 @@
 // A used chunk begins with 0, its owner and its size, in two words. A free one of fewer than four words says its size in its first word. A
 // longer free one begins with its size, or with 0 where it has more than 64 words, and with the owner 0; then comes a link, in two words, to
 // the next chunk of its list, and where the size isn't in the first word it comes last, in two words.
+ghost use Rattle.core_segment.specs.Words.{words_of};
 ghost use Rattle.std.specs.Prelude.{◌≡◌, ◌+◌, ◌<◌, ◌≤◌, length};
 ghost use Rattle.core_segment.specs.Heads.{HasHead, IsClosed, IsOpened, IsPaired, link_in, owner_in, pair_in, size_in};
 
@@ -19,16 +20,16 @@ pub(crate) const SHORT: u32 = 64;
 // A number in two words.
 #[inline(always)]
 fn pair_at(region: &Words, i: u32) -> u32
-    requires { i + 1 < length region.now.cells.items }
-    ensures { result ≡ pair_in region.now.cells.items i }
+    requires { i + 1 < length (words_of region.now) }
+    ensures { result ≡ pair_in (words_of region.now) i }
 {
     u32::from(region.get(i)) + RADIX * u32::from(region.get(i + 1))
 }
 
 #[inline(always)]
 fn put_pair(region: &mut Words, i: u32, n: u32)
-    requires { i + 1 < length region.old.cells.items }
-    ensures { IsPaired region.old.cells.items region.new.cells.items i n }
+    requires { i + 1 < length (words_of region.old) }
+    ensures { IsPaired (words_of region.old) (words_of region.new) i n }
 {
     region.put(i, (n % RADIX) as u16);
     region.put(i + 1, (n / RADIX) as u16);
@@ -37,8 +38,8 @@ fn put_pair(region: &mut Words, i: u32, n: u32)
 // The owner of the chunk that begins at a place, and 0 of a free one.
 #[inline(always)]
 pub(crate) fn owner_at(region: &Words, place: u32) -> u16
-    requires { HasHead region.now.cells.items place }
-    ensures { result ≡ owner_in region.now.cells.items place }
+    requires { HasHead (words_of region.now) place }
+    ensures { result ≡ owner_in (words_of region.now) place }
 {
     if region.get(place) != 0 {
         return 0;
@@ -49,8 +50,8 @@ pub(crate) fn owner_at(region: &Words, place: u32) -> u16
 // The size of the chunk that begins at a place.
 #[inline(always)]
 pub(crate) fn size_at(region: &Words, place: u32) -> u32
-    requires { HasHead region.now.cells.items place }
-    ensures { result ≡ size_in region.now.cells.items place }
+    requires { HasHead (words_of region.now) place }
+    ensures { result ≡ size_in (words_of region.now) place }
 {
     let short = region.get(place);
     if short != 0 {
@@ -66,16 +67,16 @@ pub(crate) fn size_at(region: &Words, place: u32) -> u32
 // Where the chunk behind a free one in its list begins, and one more; 0 behind the last.
 #[inline(always)]
 pub(crate) fn link_at(region: &Words, place: u32) -> u32
-    requires { place + 3 < length region.now.cells.items }
-    ensures { result ≡ link_in region.now.cells.items place }
+    requires { place + 3 < length (words_of region.now) }
+    ensures { result ≡ link_in (words_of region.now) place }
 {
     pair_at(region, place + 2)
 }
 
 #[inline(always)]
 pub(crate) fn put_link(region: &mut Words, place: u32, link: u32)
-    requires { place + 3 < length region.old.cells.items }
-    ensures { IsPaired region.old.cells.items region.new.cells.items (place + 2) link }
+    requires { place + 3 < length (words_of region.old) }
+    ensures { IsPaired (words_of region.old) (words_of region.new) (place + 2) link }
 {
     put_pair(region, place + 2, link);
 }
@@ -83,9 +84,9 @@ pub(crate) fn put_link(region: &mut Words, place: u32, link: u32)
 // Writes the first words of a used chunk.
 #[inline(always)]
 pub(crate) fn open(region: &mut Words, place: u32, owner: u16, size: u32)
-    requires within { place + 3 < length region.old.cells.items }
+    requires within { place + 3 < length (words_of region.old) }
     requires owner { 0 < owner }
-    ensures { IsOpened region.old.cells.items region.new.cells.items place owner size }
+    ensures { IsOpened (words_of region.old) (words_of region.new) place owner size }
 {
     region.put(place, 0);
     region.put(place + 1, owner);
@@ -95,9 +96,9 @@ pub(crate) fn open(region: &mut Words, place: u32, owner: u16, size: u32)
 // Writes the first words of a free chunk.
 #[inline(always)]
 pub(crate) fn close(region: &mut Words, place: u32, size: u32, link: u32)
-    requires within { place + size ≤ length region.old.cells.items }
+    requires within { place + size ≤ length (words_of region.old) }
     requires some { 0 < size }
-    ensures { IsClosed region.old.cells.items region.new.cells.items place size link }
+    ensures { IsClosed (words_of region.old) (words_of region.new) place size link }
 {
     if size < FEWEST {
         region.put(place, size as u16);

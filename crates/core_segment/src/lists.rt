@@ -1,4 +1,5 @@
 // The lists of free chunks: one for each size from 4 to 64, and one for all that are longer.
+ghost use Rattle.core_segment.specs.Words.{words_of};
 ghost use Rattle.std.specs.Prelude.{◌≡◌, length};
 ghost use Rattle.core_segment.specs.declared.lists.TheConstants.{LISTS};
 ghost use Rattle.core_segment.specs.Lists.{class_in};
@@ -33,6 +34,7 @@ pub(crate) struct Lists {
 }
 
 impl Lists {
+    ghost use Rattle.core_segment.specs.Words.{words_of};
     ghost use Rattle.std.specs.Prelude.{◌≡◌, ◌+◌, ◌<◌, ◌≤◌, ℕ, IfNone, IfSome, length, replicate};
     ghost use Rattle.core_segment.specs.Heads.{HasHead, IsClosed, link_in, size_in};
     ghost use Rattle.core_segment.specs.Layout.{largest_in, tiles_of};
@@ -57,9 +59,9 @@ impl Lists {
     // Makes the words from a place on a free chunk, the first of its list.
     #[inline(always)]
     pub(crate) fn push(&mut self, region: &mut Words, place: u32, size: u32)
-        requires within { place + size ≤ length region.old.cells.items }
+        requires within { place + size ≤ length (words_of region.old) }
         requires some { 0 < size }
-        ensures closed { IsClosed region.old.cells.items region.new.cells.items place size (first_in self.old.firsts (class_in size)) }
+        ensures closed { IsClosed (words_of region.old) (words_of region.new) place size (first_in self.old.firsts (class_in size)) }
         ensures firsts { self.new.firsts ≡ with_first self.old.firsts size (place + 1) }
     {
         let class = class_of(size) as usize;
@@ -71,8 +73,8 @@ impl Lists {
 
     // Takes a chunk out of its list, of which it is the first.
     pub(crate) fn leave(&mut self, region: &Words, place: u32, size: u32)
-        requires { FEWEST ≤ size → place + 3 < length region.now.cells.items }
-        ensures { self.new.firsts ≡ with_first self.old.firsts size (link_in region.now.cells.items place) }
+        requires { FEWEST ≤ size → place + 3 < length (words_of region.now) }
+        ensures { self.new.firsts ≡ with_first self.old.firsts size (link_in (words_of region.now) place) }
     {
         if size < FEWEST {
             return;
@@ -118,11 +120,11 @@ impl Lists {
 
     // The first of the long chunks that has so many words, by a walk along their list.
     fn find_long(&self, region: &Words, words: u32) -> Option<Spot>
-        requires whole { IsWhole region.now.cells.items self.now.firsts }
+        requires whole { IsWhole (words_of region.now) self.now.firsts }
         requires long { SHORT < words }
-        ensures some { IfSome result (λ s. IsSpot region.now.cells.items self.now.firsts s.class s.before s.place) }
-        ensures enough { IfSome result (λ s. words ≤ size_in region.now.cells.items s.place) }
-        ensures none { IfNone result (largest_in (tiles_of region.now.cells.items) < words) }
+        ensures some { IfSome result (λ s. IsSpot (words_of region.now) self.now.firsts s.class s.before s.place) }
+        ensures enough { IfSome result (λ s. words ≤ size_in (words_of region.now) s.place) }
+        ensures none { IfNone result (largest_in (tiles_of (words_of region.now)) < words) }
     {
         let mut before = 0;
         let mut link = self.first(SHORT + 1);
@@ -144,11 +146,11 @@ impl Lists {
     // A free chunk of at least so many words. None where no free chunk has so many.
     #[inline(always)]
     pub(crate) fn find(&self, region: &Words, words: u32) -> Option<Spot>
-        requires whole { IsWhole region.now.cells.items self.now.firsts }
+        requires whole { IsWhole (words_of region.now) self.now.firsts }
         requires some { FEWEST ≤ words }
-        ensures some { IfSome result (λ s. IsSpot region.now.cells.items self.now.firsts s.class s.before s.place) }
-        ensures enough { IfSome result (λ s. words ≤ size_in region.now.cells.items s.place) }
-        ensures none { IfNone result (largest_in (tiles_of region.now.cells.items) < words) }
+        ensures some { IfSome result (λ s. IsSpot (words_of region.now) self.now.firsts s.class s.before s.place) }
+        ensures enough { IfSome result (λ s. words ≤ size_in (words_of region.now) s.place) }
+        ensures none { IfNone result (largest_in (tiles_of (words_of region.now)) < words) }
     {
         if words <= SHORT {
             self.find_short(words)
@@ -160,9 +162,9 @@ impl Lists {
     // Takes a chunk out of its list.
     #[inline(always)]
     pub(crate) fn cut(&mut self, region: &mut Words, spot: Spot)
-        requires whole { IsWhole region.old.cells.items self.old.firsts }
-        requires spot { IsSpot region.old.cells.items self.old.firsts spot.class spot.before spot.place }
-        ensures { IsUnlisted region.old.cells.items region.new.cells.items self.new.firsts spot.place }
+        requires whole { IsWhole (words_of region.old) self.old.firsts }
+        requires spot { IsSpot (words_of region.old) self.old.firsts spot.class spot.before spot.place }
+        ensures { IsUnlisted (words_of region.old) (words_of region.new) self.new.firsts spot.place }
     {
         let next = link_at(region, spot.place);
         if spot.before == 0 {
@@ -175,12 +177,12 @@ impl Lists {
     // Makes the first words of a free chunk that is in no list a used one, and the rest, where there is some, a free one.
     #[inline(always)]
     pub(crate) fn carve(&mut self, region: &mut Words, place: u32, owner: u16, words: u32)
-        requires head { HasHead region.old.cells.items place }
-        requires within { place + size_in region.old.cells.items place ≤ length region.old.cells.items }
+        requires head { HasHead (words_of region.old) place }
+        requires within { place + size_in (words_of region.old) place ≤ length (words_of region.old) }
         requires few { FEWEST ≤ words }
-        requires enough { words ≤ size_in region.old.cells.items place }
+        requires enough { words ≤ size_in (words_of region.old) place }
         requires owner { 0 < owner }
-        ensures { IsCarved region.old.cells.items region.new.cells.items self.old.firsts self.new.firsts place owner words (size_in region.old.cells.items place) }
+        ensures { IsCarved (words_of region.old) (words_of region.new) self.old.firsts self.new.firsts place owner words (size_in (words_of region.old) place) }
     {
         let rest = size_at(region, place) - words;
         open(region, place, owner, words);

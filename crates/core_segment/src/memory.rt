@@ -1,7 +1,7 @@
-// Raw memory for words: asked for, filled, read and written through one pointer, and given back.
-ghost use Rattle.std.specs.Prelude.{◌≡◌, ℕ, ◌<◌, List, length, replicate, slice_index_or, slice_set, Some, IfSome};
+// Raw memory for words: asked for, filled one behind the other, read and written through one pointer, and given back.
+ghost use Rattle.std.specs.Prelude.{◌≡◌, ℕ, ◌+◌, ◌<◌, List, [], ◌∷◌, ◌++◌, length, slice_index_or, slice_set, Some, IfSome};
 ghost use denote.RawPtr.{Ptr};
-ghost use Rattle.core_segment.specs.Memory.{room_of, words_at, words_lent, words_type, IsSize};
+ghost use Rattle.core_segment.specs.Memory.{words_and_room, words_lent, words_type, IsSize};
 
 use std::alloc::Allocator;
 use std::marker::{Model, PhantomData};
@@ -12,26 +12,17 @@ pub(crate) struct Base {
     ptr: *mut u16,
 }
 
-// The owner of the words. It takes no space.
+// The owner of the words that were written, and of room for more behind them, in which nothing lies yet. It takes no space.
 pub(crate) struct Cells {
     ghost at: { Ptr },
     ghost items: { List ℕ },
+    ghost spare: { ℕ },
 }
 
 impl Model for Cells {
-    ghost also_owns = { λ c. words_at c.at c.items };
+    ghost also_owns = { λ c. words_and_room c.at c.items c.spare };
 
     ghost also_shares = { λ c _ κ. words_lent c.at c.items κ };
-}
-
-// The owner of room for words in which nothing lies yet.
-pub(crate) struct Room {
-    ghost at: { Ptr },
-    ghost size: { ℕ },
-}
-
-impl Model for Room {
-    ghost also_owns = { λ r. room_of r.at r.size };
 }
 
 // The right to give so many words back to the allocator.
@@ -46,37 +37,24 @@ impl<A: Allocator> Model for Lease<A> {
     ghost also_owns = { λ l. A.dealloc_token l.alloc (words_type l.size) l.at };
 }
 
-pub(crate) fn ask<A: Allocator>(alloc: &A, size: usize) -> Option<(Base, Room, Lease<A>)>
+// Room for so many words, of which none is written.
+pub(crate) fn ask<A: Allocator>(alloc: &A, size: usize) -> Option<(Base, Cells, Lease<A>)>
     requires { IsSize size }
-    ensures { IfSome result (λ r. (r.1.at ≡ r.0.ptr) × (r.1.size ≡ size) × (r.2.at ≡ r.0.ptr) × (r.2.size ≡ size) × (r.2.alloc ≡ alloc.now)) }
+    ensures { IfSome result (λ r. (r.1.at ≡ r.0.ptr) × (r.1.items ≡ []) × (r.1.spare ≡ size) × (r.2.at ≡ r.0.ptr) × (r.2.size ≡ size) × (r.2.alloc ≡ alloc.now)) }
 {
     match alloc.allocate(size * 2, 2) {
         Ok(block) => {
             let base = Base {
                 ptr: block as *mut u16,
             };
-            Some((base, Room {}, Lease { mark: PhantomData }))
+            Some((base, Cells {}, Lease { mark: PhantomData }))
         }
         Err(_) => None,
     }
 }
 
-// Writes 0 into each word.
-pub(crate) fn clear(base: Base, size: usize, room: Room) -> Cells
-    requires { (room.at ≡ base.ptr) × (room.size ≡ size) × IsSize size }
-    ensures { (result.at ≡ base.ptr) × (result.items ≡ replicate size 0) }
-{
-    let Room {} = room;
-    let mut i = size;
-    while 0 < i {
-        unsafe { base.ptr.add(i - 1).write(0) };
-        i -= 1;
-    }
-    Cells {}
-}
-
 pub(crate) fn free<A: Allocator>(alloc: &A, base: Base, size: usize, cells: Cells, lease: Lease<A>)
-    requires { (cells.at ≡ base.ptr) × (length cells.items ≡ size) × IsSize size × (lease.at ≡ base.ptr) × (lease.size ≡ size) × (lease.alloc ≡ alloc.now) }
+    requires { (cells.at ≡ base.ptr) × (length cells.items + cells.spare ≡ size) × IsSize size × (lease.at ≡ base.ptr) × (lease.size ≡ size) × (lease.alloc ≡ alloc.now) }
 {
     let Cells {} = cells;
     let Lease { mark: _ } = lease;
@@ -97,8 +75,16 @@ impl Cells {
     #[inline(always)]
     pub(crate) fn put(&mut self, base: Base, i: usize, w: u16)
         requires { (base.ptr ≡ self.old.at) × (i < length self.old.items) × IsSize (length self.old.items) }
-        ensures { (self.new.at ≡ self.old.at) × (self.new.items ≡ slice_set self.old.items i w) }
+        ensures { (self.new.at ≡ self.old.at) × (self.new.items ≡ slice_set self.old.items i w) × (self.new.spare ≡ self.old.spare) }
     {
         unsafe { *base.ptr.add(i) = w };
+    }
+
+    // Writes 0 into the first word of the room.
+    pub(crate) fn add(&mut self, base: Base, i: usize)
+        requires { (base.ptr ≡ self.old.at) × (i ≡ length self.old.items) × (0 < self.old.spare) × IsSize (length self.old.items + self.old.spare) }
+        ensures { (self.new.at ≡ self.old.at) × (self.new.items ≡ self.old.items ++ 0 ∷ []) × (self.new.spare + 1 ≡ self.old.spare) }
+    {
+        unsafe { base.ptr.add(i).write(0) };
     }
 }

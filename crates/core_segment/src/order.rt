@@ -1,4 +1,5 @@
 // The lists made anew, each by rising place.
+ghost use Rattle.core_segment.specs.Words.{words_of};
 ghost use Rattle.std.specs.Prelude.{◌≡◌, [], length};
 ghost use Rattle.core_segment.specs.Lists.{Leads};
 ghost use Rattle.core_segment.specs.Layout.{tiles_of};
@@ -10,9 +11,9 @@ use crate::words::Words;
 
 // Links the free chunks that stand in lists, each to the one before it. Answers the link to the last one.
 pub(crate) fn thread(region: &mut Words) -> u32
-    requires { IsTiled region.old.cells.items (tiles_of region.old.cells.items) }
-    ensures relinked { IsRelinked region.old.cells.items region.new.cells.items (tiles_of region.old.cells.items) }
-    ensures threaded { Leads region.new.cells.items result (falling (tiles_of region.old.cells.items) []) }
+    requires { IsTiled (words_of region.old) (tiles_of (words_of region.old)) }
+    ensures relinked { IsRelinked (words_of region.old) (words_of region.new) (tiles_of (words_of region.old)) }
+    ensures threaded { Leads (words_of region.new) result (falling (tiles_of (words_of region.old)) []) }
 {
     let end = region.size;
     let mut link = 0;
@@ -31,10 +32,10 @@ pub(crate) fn thread(region: &mut Words) -> u32
 
 // The lists of the chunks that a link leads to, each linked to the one before it.
 pub(crate) fn rise(region: &mut Words, last: u32) -> Lists
-    requires tiled { IsTiled region.old.cells.items (tiles_of region.old.cells.items) }
-    requires threaded { Leads region.old.cells.items last (falling (tiles_of region.old.cells.items) []) }
-    ensures relinked { IsRelinked region.old.cells.items region.new.cells.items (tiles_of region.old.cells.items) }
-    ensures ordered { AreInOrder region.new.cells.items result.firsts (tiles_of region.old.cells.items) }
+    requires tiled { IsTiled (words_of region.old) (tiles_of (words_of region.old)) }
+    requires threaded { Leads (words_of region.old) last (falling (tiles_of (words_of region.old)) []) }
+    ensures relinked { IsRelinked (words_of region.old) (words_of region.new) (tiles_of (words_of region.old)) }
+    ensures ordered { AreInOrder (words_of region.new) result.firsts (tiles_of (words_of region.old)) }
 {
     let mut lists = Lists::none();
     let mut link = last;
@@ -49,8 +50,8 @@ pub(crate) fn rise(region: &mut Words, last: u32) -> Lists
 
 // The first free chunk, or the end.
 pub(crate) fn first_free(region: &Words) -> u32
-    requires { IsTiled region.now.cells.items (tiles_of region.now.cells.items) }
-    ensures { result ≡ first_free (tiles_of region.now.cells.items) (length region.now.cells.items) }
+    requires { IsTiled (words_of region.now) (tiles_of (words_of region.now)) }
+    ensures { result ≡ first_free (tiles_of (words_of region.now)) (length (words_of region.now)) }
 {
     let end = region.size;
     let mut place = 0;

@@ -1,4 +1,5 @@
 // The segment: a region of words that chunks tile. Used chunks and free ones tell where they end, and free ones stand in lists.
+ghost use Rattle.core_segment.specs.Words.{words_of};
 ghost use Rattle.std.specs.Prelude.{◌≡◌, ◌≤◌, length};
 ghost use Rattle.core_segment.specs.declared.segment.TheConstants.{MOST_WORDS};
 ghost use Rattle.core_segment.specs.Layout.{IsLaid, tiles_of};
@@ -38,12 +39,13 @@ pub struct Segment {
     free: u32,
     // How far a compaction is: no chunk is free below this place, and each list goes up. None where that isn't known.
     reached: Option<u32>,
-    ghost small: { length region.cells.items ≤ MOST_WORDS },
-    ghost whole: { IsLaid region.cells.items lists.firsts (tiles_of region.cells.items) free } by { IsLaid-prop region.cells.items lists.firsts (tiles_of region.cells.items) free },
-    ghost going: { IsGoingOn region.cells.items lists.firsts (tiles_of region.cells.items) reached } by { IsGoingOn-prop region.cells.items lists.firsts (tiles_of region.cells.items) reached },
+    ghost small: { length (words_of region) ≤ MOST_WORDS },
+    ghost whole: { IsLaid (words_of region) lists.firsts (tiles_of (words_of region)) free } by { IsLaid-prop (words_of region) lists.firsts (tiles_of (words_of region)) free },
+    ghost going: { IsGoingOn (words_of region) lists.firsts (tiles_of (words_of region)) reached } by { IsGoingOn-prop (words_of region) lists.firsts (tiles_of (words_of region)) reached },
 }
 
 impl Segment {
+    ghost use Rattle.core_segment.specs.Words.{words_of};
     ghost use Rattle.std.specs.Prelude.{◌≡◌, ◌+◌, ◌<◌, ◌≤◌, ◌↔◌, IfOk, IfSome, IfNone, IsTrue, Some, length, slice_get};
     ghost use Rattle.core_segment.specs.Chunks.{no_chunk, with_chunk, with_word};
     ghost use Rattle.core_segment.specs.Heads.{owner_in, size_in};
@@ -90,8 +92,8 @@ impl Segment {
     #[inline(always)]
     fn find(&self, words: u32) -> Option<Spot>
         requires { FEWEST ≤ words }
-        ensures some { IfSome result (λ s. IsSpot self.now.region.cells.items self.now.lists.firsts s.class s.before s.place) }
-        ensures enough { IfSome result (λ s. words ≤ size_in self.now.region.cells.items s.place) }
+        ensures some { IfSome result (λ s. IsSpot (words_of self.now.region) self.now.lists.firsts s.class s.before s.place) }
+        ensures enough { IfSome result (λ s. words ≤ size_in (words_of self.now.region) s.place) }
         ensures room { IfSome result (λ s. words ≤ largest_of self.now) }
         ensures none { IfNone result (largest_of self.now < words) }
     {
@@ -197,12 +199,12 @@ impl Segment {
     // Joins the free chunk behind the first one to it. Answers how many words are free together then.
     fn join_next(&mut self, to: u32, gap: u32) -> u32
         requires reached { self.old.reached ≡ Some to }
-        requires gap { size_in self.old.region.cells.items to ≡ gap }
+        requires gap { size_in (words_of self.old.region) to ≡ gap }
         requires many { gap < self.old.free }
-        requires free { owner_in self.old.region.cells.items (to + gap) ≡ 0 }
+        requires free { owner_in (words_of self.old.region) (to + gap) ≡ 0 }
         ensures joined { IsJoined self.old self.new }
         ensures reached { self.new.reached ≡ Some to }
-        ensures gap { size_in self.new.region.cells.items to ≡ result }
+        ensures gap { size_in (words_of self.new.region) to ≡ result }
         ensures more { gap < result }
         ensures few { result ≤ self.new.free }
     {
@@ -218,11 +220,11 @@ impl Segment {
     // Joins all free chunks that follow the first one to it. Answers how many words are free together then.
     fn join(&mut self, to: u32) -> u32
         requires reached { self.old.reached ≡ Some to }
-        requires some { to < length self.old.region.cells.items }
+        requires some { to < length (words_of self.old.region) }
         ensures joined { IsJoined self.old self.new }
         ensures reached { self.new.reached ≡ Some to }
-        ensures gap { size_in self.new.region.cells.items to ≡ result }
-        ensures used { result < self.new.free → 0 < owner_in self.new.region.cells.items (to + result) }
+        ensures gap { size_in (words_of self.new.region) to ≡ result }
+        ensures used { result < self.new.free → 0 < owner_in (words_of self.new.region) (to + result) }
         ensures few { result ≤ self.new.free }
     {
         let mut gap = size_at(&self.region, to);
@@ -238,9 +240,9 @@ impl Segment {
     // Moves the chunk behind the first free one down over it.
     fn move_down(&mut self, to: u32, gap: u32) -> Moved
         requires reached { self.old.reached ≡ Some to }
-        requires gap { size_in self.old.region.cells.items to ≡ gap }
+        requires gap { size_in (words_of self.old.region) to ≡ gap }
         requires many { gap < self.old.free }
-        requires used { 0 < owner_in self.old.region.cells.items (to + gap) }
+        requires used { 0 < owner_in (words_of self.old.region) (to + gap) }
         ensures moved { IsMove (chunk_at self.old) (chunk_at self.new) result }
         ensures many { largest_of self.old < free_of self.old }
         ensures less { work_of self.new < work_of self.old }

@@ -1,17 +1,22 @@
-// The words of a region, in raw memory that is asked for once and given back once.
-ghost use Rattle.std.specs.Prelude.{◌≡◌, ◌≤◌, length};
-ghost use Rattle.core_segment.specs.Memory.{IsSize};
+// The words of a region, in raw memory that is asked for once and given back once. A word is written first when it, or one behind it, is put:
+// so what lies behind the highest one that was put costs nothing, and is read as 0.
+ghost use Rattle.std.specs.Prelude.{◌≡◌, ◌+◌, ◌≤◌, length};
+ghost use Rattle.core_segment.specs.Memory.{IsSize, with_zeros};
 
-use crate::memory::{Base, Cells, Lease, ask, clear, free};
+use crate::memory::{Base, Cells, Lease, ask, free};
 use std::alloc::{AllocError, Global};
 
 pub(crate) struct Words {
     base: Base,
     cells: Cells,
+    // How many words were written.
+    filled: u32,
     pub(crate) size: u32,
     lease: Lease<Global>,
     alloc: Global,
-    ghost sized: { size ≡ length cells.items },
+    ghost written: { filled ≡ length cells.items },
+    ghost sized: { size ≡ length (with_zeros cells.items cells.spare) },
+    ghost roomy: { size ≡ length cells.items + cells.spare },
     ghost small: { IsSize size },
     ghost there: { cells.at ≡ base.ptr },
     ghost leased: { (lease.at ≡ base.ptr) × (lease.size ≡ size) × (lease.alloc ≡ alloc) },
@@ -22,6 +27,7 @@ impl Drop for Words {
         let Words {
             base,
             cells,
+            filled: _,
             size,
             lease,
             alloc,
@@ -33,39 +39,70 @@ impl Drop for Words {
 impl Words {
     ghost use Rattle.std.specs.Prelude.{◌≡◌, ◌+◌, ◌<◌, ◌≤◌, length, replicate, slice_set, IfOk};
     ghost use Rattle.core_segment.specs.Heads.{word_at, IsMovedDown};
+    ghost use Rattle.core_segment.specs.Words.{words_of};
 
     // So many words, each 0.
     pub(crate) fn make(alloc: Global, n: u32) -> Result<Words, AllocError>
-        ensures { IfOk result (λ w. w.cells.items ≡ replicate n 0) }
+        ensures { IfOk result (λ w. words_of w ≡ replicate n 0) }
     {
         match ask(&alloc, n as usize) {
-            Some((base, room, lease)) => {
-                let cells = clear(base, n as usize, room);
-                Ok(Words {
-                    base,
-                    cells,
-                    size: n,
-                    lease,
-                    alloc,
-                })
-            }
+            Some((base, cells, lease)) => Ok(Words {
+                base,
+                cells,
+                filled: 0,
+                size: n,
+                lease,
+                alloc,
+            }),
             None => Err(AllocError),
         }
     }
 
     #[inline(always)]
     pub(crate) fn get(&self, i: u32) -> u16
-        requires { i < length self.now.cells.items }
-        ensures { result ≡ word_at self.now.cells.items i }
+        requires { i < length (words_of self.now) }
+        ensures { result ≡ word_at (words_of self.now) i }
     {
-        *self.cells.get(self.base, i as usize)
+        if i < self.filled {
+            return *self.cells.get(self.base, i as usize);
+        }
+        0
+    }
+
+    // Writes the words up to one that weren't written.
+    #[cold]
+    #[inline(never)]
+    fn fill(&mut self, i: u32)
+        requires { i < length (words_of self.old) }
+        ensures same { words_of self.new ≡ words_of self.old }
+        ensures written { i < length self.new.cells.items }
+    {
+        while self.filled <= i {
+            let base = self.base;
+            self.cells.add(base, self.filled as usize);
+            self.filled += 1;
+        }
+    }
+
+    // Writes all words up to one, if it wasn't written.
+    #[inline(always)]
+    fn reach(&mut self, i: u32)
+        requires { i < length (words_of self.old) }
+        ensures same { words_of self.new ≡ words_of self.old }
+        ensures written { i < length self.new.cells.items }
+    {
+        if i < self.filled {
+            return;
+        }
+        self.fill(i);
     }
 
     #[inline(always)]
     pub(crate) fn put(&mut self, i: u32, w: u16)
-        requires { i < length self.old.cells.items }
-        ensures { self.new.cells.items ≡ slice_set self.old.cells.items i w }
+        requires { i < length (words_of self.old) }
+        ensures { words_of self.new ≡ slice_set (words_of self.old) i w }
     {
+        self.reach(i);
         let base = self.base;
         self.cells.put(base, i as usize, w);
     }
@@ -73,8 +110,8 @@ impl Words {
     // Moves so many words down, the first one first, since the places may overlap.
     pub(crate) fn shift(&mut self, from: u32, to: u32, n: u32)
         requires down { to ≤ from }
-        requires within { from + n ≤ length self.old.cells.items }
-        ensures { IsMovedDown self.old.cells.items self.new.cells.items from to n }
+        requires within { from + n ≤ length (words_of self.old) }
+        ensures { IsMovedDown (words_of self.old) (words_of self.new) from to n }
     {
         for k in 0..n {
             let w = self.get(from + k);

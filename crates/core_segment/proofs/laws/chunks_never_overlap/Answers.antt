@@ -1,3 +1,4 @@
+use Rattle.core_segment.specs.Words.{words_of}
 use Rattle.std.proofs.Common.{zero, suc, ◌≡◌, ◌≢◌, ℕ, ◌+◌, ◌<◌, ◌≤◌, ◌==◌, true, false, Bool, cond, List, [], ◌∷◌, length, get_or, sum_by, sym, ap, subst, arith, ⊎_elim}
 use Rattle.std.proofs.lemmas.Bool.{cases_eq}
 use Rattle.std.proofs.lemmas.Bool.Decides.{nat_tests}
@@ -76,7 +77,7 @@ apart-of region p q (t ∷ ts) spans tiles low =
 pub returns : goal.returns
 unfolding chunks_of free_of size_of
 returns c =
-    let g = c.args.segment.now in let items = g.region.cells.items in
+    let g = c.args.segment.now in let items = (words_of g.region) in
     let is = apart-of items 0 (length items) (tiles_of items) g.whole.spans g.whole.tiles (omega arith) in
     record {
       within = is.within;

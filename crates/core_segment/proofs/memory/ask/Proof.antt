@@ -1,5 +1,5 @@
 -- `ask` has room from the allocator. Assumes `Logic`.
-use Rattle.std.proofs.Common.{◌≡◌, ◌*◌, ◌^◌, ◌<◌, List, [], ◌∷◌, ◌++◌, refl, arith, lit<, w64, Some, None}
+use Rattle.std.proofs.Common.{◌≡◌, ℕ, ◌+◌, ◌*◌, ◌^◌, ◌<◌, List, [], ◌∷◌, ◌++◌, refl, arith, lit<, w64, Some, None}
 use Rattle.std.proofs.alloc.Calls.{Al, seen, Takes, at_takes, Answered, Takes-goes, Takes-gives, answers}
 use Rattle.std.proofs.alloc.Shapes.{after, head, arm_body}
 use Rattle.std.proofs.option.Made.{Some-of, none_of}
@@ -8,13 +8,13 @@ use mir.Syntax.{Ty, Fn, Args, a_type, dcons, dnil}
 use mir.Val.{Val, vint, vptr, vcons, vnil}
 use mir.MapTy.{inst_fn}
 use base.Logic.{SProp, emp, id⊢}
-use base.Fml.{Lft, Share, ftrue, flft}
+use base.Fml.{Lft, Share, ftrue, flft, froom}
 use prog.Capped.{capped_is}
 use prog.Wp.{Env, WpFn}
 use contract.BorrowLft.{◌⊑◌, ⊑_trans}
 use contract.Monad.{fact, fact_i}
 use contract.Running.{tables}
-use types.Kit.{‵, raw, ◌⊛◌, later, prop, at_ret, ◌$◌, ◌∵◌, !, qed, by, move, drop, use0, use1, use2, use3, split, join, regoal, fsplit, fjoin, await}
+use types.Kit.{‵, raw, ◌⊛◌, later, prop, at_ret, ◌$◌, ◌∵◌, !, qed, by, move, drop, use0, use1, use2, use3, split, rewrite, join, regoal, fsplit, fjoin, await}
 use types.Part.{whole, agg}
 use types.Match.{live, vrt, in_variant}
 use types.Run.{bin, stop, fld, lit, of_opd, no_more, and_then, first, switches_on, exec, returns, enter}
@@ -31,7 +31,7 @@ use denote.Triple.Table.{framed}
 use denote.Triple.Walked.{Stays, stay_dropped, walk_of, Goes-dropped}
 use Rattle.core_segment.specs.Memory.{IsSize, words_type}
 use Rattle.core_segment.specs.contracts.memory.Base as B
-use Rattle.core_segment.specs.contracts.memory.Room as Q
+use Rattle.core_segment.specs.contracts.memory.Cells as Q
 use Rattle.core_segment.specs.contracts.memory.Lease as D
 use Rattle.core_segment.specs.contracts.memory.ask.{ended, clauses}
 use Rattle.core_segment.specs.contracts.memory.ask.Key.{name as #self}
@@ -90,12 +90,13 @@ ask_spec 𝓤 𝓛 𝓜 𝓡 wired A L g d dd met md =
     exec ! C Λ En (after 3 fn.body) (at_ret En Post) $
     sets ! (of_opd ! (get ! refl)) refl (tt, (record { fits = lit< tt }, (((tt, tt), (tt, ((tt, tt), tt))), tt))) $
     returns ! (look_at ! 0 refl) $ free_all ! refl $
-    let p : Ptr = block_ptr b o in let x : (B.the_row).Denot = record { ptr = p } in let r : (Q.the_row).Denot = record { at = p; size = n } in let k : (D.the_row Z g).Denot = record { mark = record {}; alloc = h; at = p; size = n } in
+    let p : Ptr = block_ptr b o in let x : (B.the_row).Denot = record { ptr = p } in let r : (Q.the_row).Denot = record { at = p; items = []; spare = n } in let k : (D.the_row Z g).Denot = record { mark = record {}; alloc = h; at = p; size = n } in
     let v : Val = three_val (base_val p) none_val lease_val in
-    let Says : Type 0 = (p ≡ p) × (n ≡ n) × (p ≡ p) × (n ≡ n) × (h ≡ h) in
+    let Says : Type 0 = (p ≡ p) × (r.items ≡ []) × (n ≡ n) × (p ≡ p) × (n ≡ n) × (h ≡ h) in let start : o ≡ 0 * 2 + o = omega arith in
+    rewrite ! 0 (λ (k : ℕ). ‵ (froom τ b k)) start refl $ nothing ! $ fjoin ! $
     use0 𝓛 (‵ (none_own (none_val ∷ []))) (none_made 𝓛) $ fjoin ! $ move ! (1 ∷ []) $ use0 𝓛 (‵ (lease_own (lease_val ∷ []))) (lease_made 𝓛) $ fjoin ! $ move ! (1 ∷ 0 ∷ []) $ use0 𝓛 (‵ (base_own p (base_val p ∷ []))) (base_made 𝓛 p) $
     use3 𝓛 (‵ (Three.own_val (x, r, k) (v ∷ []))) (three_of 𝓛 B.the_row Q.the_row (D.the_row Z g) x r k (base_val p) none_val lease_val) $
-    use1 𝓛 (‵ (Out.own_val (Some (x, r, k)) (live 1 (vcons v vnil) ∷ []))) (Some-of 𝓛 Three (x, r, k) v) $ use0 𝓛 (raw (fact 𝓤 Says)) (fact_i 𝓤 Says (emp 𝓤) (refl, refl, refl, refl, refl)) $ nothing ! $ nothing ! $ fjoin ! $ nothing ! $ fjoin ! $ move ! (3 ∷ 0 ∷ 2 ∷ 1 ∷ []) $
+    use1 𝓛 (‵ (Out.own_val (Some (x, r, k)) (live 1 (vcons v vnil) ∷ []))) (Some-of 𝓛 Three (x, r, k) v) $ use0 𝓛 (raw (fact 𝓤 Says)) (fact_i 𝓤 Says (emp 𝓤) (refl, refl, refl, refl, refl, refl)) $ nothing ! $ nothing ! $ fjoin ! $ nothing ! $ fjoin ! $ move ! (3 ∷ 0 ∷ 2 ∷ 1 ∷ []) $
     by ! (leaves 𝓛 En₀ stays c z (live 1 (vcons v vnil)) (Some (x, r, k)) (tt, (tt, tt)) (tt, (tt, tt))))
     (λ e. join ! $ lands_as ! (e) refl (tt, (record { fits = lit< tt }, (tt, tt))) $
     first ! $ switches_on ! (get_tag ! (vrt ! refl (fld ! refl (stop !))) (whole !)) $ exec ! C Λ En (arm_body 1 (head (after 2 fn.body))) (then_runs 𝓛 C Λ En (after 3 fn.body) (at_ret En Post)) $

@@ -1,5 +1,5 @@
 -- `free` gives the allocator its block and its token. Assumes `Logic`.
-use Rattle.std.proofs.Common.{◌≡◌, ℕ, ◌*◌, ◌^◌, ◌<◌, List, [], ◌∷◌, ◌++◌, length, refl, ap, ◌∙◌, arith, lit<, w64}
+use Rattle.std.proofs.Common.{◌≡◌, ℕ, ◌+◌, ◌*◌, ◌^◌, ◌<◌, List, [], ◌∷◌, ◌++◌, length, refl, ap, ◌∙◌, arith, lit<, w64}
 use Rattle.std.proofs.alloc.Calls.{Al, seen, Goes-blank, Gives, at_gives, Gives-goes, Gives-Gives}
 use Rattle.std.proofs.alloc.Shapes.{after}
 use Rattle.std.proofs.raw_atomic.Walks.{proved_at, leaves}
@@ -13,7 +13,7 @@ use prog.Wp.{Env, WpFn}
 use contract.BorrowLft.{◌⊑◌, ⊑_trans}
 use contract.Monad.{fact}
 use contract.Running.{tables}
-use types.Kit.{‵, raw, ◌⊛◌, given, later, prop, settles, at_ret, ◌$◌, ◌∵◌, !, qed, by, move, drop, use1, use3, split, join, learn, rewrite, regoal, fsplit, fjoin, feq_i, await}
+use types.Kit.{‵, raw, ◌⊛◌, given, later, prop, settles, at_ret, ◌$◌, ◌∵◌, !, qed, by, move, drop, use1, use2, use3, split, join, learn, rewrite, regoal, fsplit, fjoin, feq_i, await}
 use types.Part.{whole, sub}
 use types.Run.{bin, stop, fld, lit, unit_lit, of_opd, no_more, and_then, first, blocks, exec, returns, enter}
 use types.ByLocal.{alloc_all, pass_all, free_all, look_at, get, get_in, sets, lands_last, env}
@@ -26,10 +26,10 @@ use denote.Triple.Entry.{alive}
 use denote.Triple.Call.{calls_at_last}
 use denote.Triple.Table.{framed}
 use denote.Triple.Walked.{Stays, stay_dropped, walk_of, Goes-dropped}
-use Rattle.core_segment.specs.Memory.{IsSize, words_type, words_at}
+use Rattle.core_segment.specs.Memory.{IsSize, words_type, words_at, words_and_room, room_past}
 use Rattle.core_segment.specs.contracts.memory.free.{ended, clauses}
 use Rattle.core_segment.specs.contracts.memory.free.Key.{name as #self}
-use Rattle.core_segment.proofs.Cell.{words_gone}
+use Rattle.core_segment.proofs.Cell.{words_gone, rooms_join}
 use Rattle.core_segment.proofs.Walks.{slot_at, then_runs, out_of_block, base_val, base_told, none_val, none_told, lease_val, lease_told}
 use Rattle.core_segment.proofs.memory.free.Statement.{statement}
 use Rattle.core_segment.proofs.memory.free.Code as compiled
@@ -58,15 +58,17 @@ free_spec 𝓤 𝓛 𝓜 𝓡 wired A L g d dd met md =
     let x = a.1.1.1.0 in
     let k = a.1.1.1.1.0 in
     let τ : Ty = words_type n in
-    let Asked : Type 0 = (x.at ≡ p) × (length x.items ≡ n) × IsSize n × (k.at ≡ p) × (k.size ≡ n) × (k.alloc ≡ h) in
+    let Asked : Type 0 = (x.at ≡ p) × (length x.items + x.spare ≡ n) × IsSize n × (k.at ≡ p) × (k.size ≡ n) × (k.alloc ≡ h) in
     qed 𝓛 ((raw (alive 𝓛 En₀.signature z.0.0 z.0.1) ⊛ ‵ (owns (types_at En₀.signature.params z.0.0) a vss)) ∷ (raw (fact 𝓤 (z.0.0.1.0 ⊑ A.lives)) ⊛ raw (fact 𝓤 Asked)) ∷ []) ∵
     move ! (1 ∷ []) $ split ! $ heard ! (z.0.0.1.0 ⊑ A.lives) (λ le. heard ! Asked (λ asked. split ! $ move ! (1 ∷ []) $
     let size : n * 2 < 2 ^ 63 = asked.2 in
     let far : n * 2 < 2 ^ 64 = omega arith in
     fsplit ! $ fsplit ! $ drop ! $ move ! (1 ∷ []) $ fsplit ! $ drop ! $ fsplit ! $ drop ! $ fsplit ! $ fsplit ! $ drop ! $
     -- [the words; the lease; the handle; the tokens]
-    rewrite ! 0 (λ (r : Ptr). ‵ (words_at r x.items)) asked.0 refl $ in_a_block ! p (λ r. words_at r x.items) (id⊢ 𝓤 (never 𝓤)) (λ b o at.
-    use1 𝓛 (‵ (froom (words_type (length x.items)) b o)) (words_gone 𝓛 b x.items o) $ rewrite ! 0 (λ (m : ℕ). ‵ (froom (words_type m) b o)) asked.1 refl $ move ! (1 ∷ []) $
+    rewrite ! 0 (λ (r : Ptr). ‵ (words_and_room r x.items x.spare)) asked.0 refl $ fsplit ! $ in_a_block ! p (λ r. words_at r x.items) (id⊢ 𝓤 (never 𝓤)) (λ b o at.
+    use1 𝓛 (‵ (froom (words_type (length x.items)) b o)) (words_gone 𝓛 b x.items o) $ move ! (1 ∷ []) $
+    rewrite ! 0 (λ (r : Ptr). ‵ (room_past r (length x.items) x.spare)) at refl $ move ! (1 ∷ 0 ∷ []) $
+    use2 𝓛 (‵ (froom (words_type (length x.items + x.spare)) b o)) (rooms_join 𝓛 b (length x.items) x.spare o) $ rewrite ! 0 (λ (m : ℕ). ‵ (froom (words_type m) b o)) asked.1 refl $ move ! (1 ∷ []) $
     fsplit ! $ fsplit ! $ drop ! $ rewrite ! 0 (λ (u : A.Denot × ℕ × Ptr). ‵ (g.dealloc_token u.0 (words_type u.1) u.2)) (λ i. (asked.5 i, asked.4 i, (asked.3 ∙ at) i)) refl $
     move ! (1 ∷ []) $ drop ! $ move ! (2 ∷ []) $ use1 𝓛 (‵ (seen Y κ handle h)) (id⊢ 𝓤 _) $ move ! (3 ∷ []) $ use1 𝓛 (‵ (flft κ q) ⊛ ‵ (flft z.0.0.1.0 z.0.1.1.0) ⊛ ‵ ftrue) (id⊢ 𝓤 _) $ split ! $ move ! (2 ∷ 0 ∷ []) $ join ! $ move ! (3 ∷ 2 ∷ []) $
     let y = at_gives Y 𝓛 𝓜.mem 𝓡.returns κ q handle h b o (n * 2) 2 τ in

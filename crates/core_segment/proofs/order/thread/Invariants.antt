@@ -1,10 +1,11 @@
+use Rattle.core_segment.specs.Words.{words_of}
 use Rattle.std.proofs.Common.{◌-◌}
 use Rattle.core_segment.specs.Layout.{tiles_of}
 use Rattle.core_segment.proofs.RelistLaws.{IsThreading}
 use Rattle.core_segment.proofs.order.thread.Given as goal
 
 abbrev pub invariant-loop-place : goal.invariant-loop-place
-invariant-loop-place l = IsThreading l.fn.region.cells.items l.region.cells.items (tiles_of l.fn.region.cells.items) l.place l.link
+invariant-loop-place l = IsThreading (words_of l.fn.region) (words_of l.region) (tiles_of (words_of l.fn.region)) l.place l.link
 
 abbrev pub decreases-loop-place : goal.decreases-loop-place
 decreases-loop-place l = l.end - l.place

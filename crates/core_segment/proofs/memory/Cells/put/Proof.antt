@@ -1,5 +1,6 @@
 -- `put` writes one of the words. Assumes `Logic`.
 use Rattle.std.proofs.Common.{◌≡◌, ℕ, ◌+◌, ◌*◌, ◌^◌, ◌<◌, List, [], ◌∷◌, ◌++◌, length, get_or, set, refl, sym, ◌∙◌, arith, w16, w64}
+use Rattle.std.proofs.Math.ListN.{length-set}
 use Rattle.std.proofs.VecSteps.Shapes.{after}
 use Rattle.std.proofs.raw_atomic.Walks.{proved_at}
 use base.Fraction.{full_share}
@@ -22,7 +23,7 @@ use denote.RawPtr.{Ptr, in_a_block}
 use denote.Signature.{plain, types_at}
 use denote.Steps.{nothing, heard, opens, closes}
 use denote.Triple.Walked.{says, Stays, stay_dropped, stay_ref, walk_of, ends_at, Goes-dropped, Goes-ref}
-use Rattle.core_segment.specs.Memory.{IsSize, words_at}
+use Rattle.core_segment.specs.Memory.{IsSize, words_at, room_past}
 use Rattle.core_segment.specs.contracts.memory.Base as B
 use Rattle.core_segment.specs.contracts.memory.Cells.{the_row as Cr}
 use Rattle.core_segment.specs.contracts.memory.Cells.put as f
@@ -52,7 +53,7 @@ put_spec 𝓤 𝓛 𝓜 𝓡 wired =
     let p : Ptr = a.1.0.ptr in
     let i : ℕ = a.1.1.0 in
     let w : ℕ = a.1.1.1.0 in
-    let new : Cr.Denot = record { at = d.at; items = set d.items i w } in
+    let new : Cr.Denot = record { at = d.at; items = set d.items i w; spare = d.spare } in
     let Asked : Type 0 = (p ≡ d.at) × (i < length d.items) × IsSize (length d.items) in
     qed 𝓛 (((‵ (flft z.0.0.0 z.0.1.0) ⊛ ‵ ftrue) ⊛ ‵ (owns (types_at f.ended.signature.params z.0.0) a vss)) ∷ raw (fact 𝓤 Asked) ∷ []) ∵
     move ! (1 ∷ []) $ heard ! Asked (λ asked. split ! $ split ! $ move ! (2 ∷ []) $ fsplit ! $ fsplit3 ! $ keep ! (1 ∷ 2 ∷ 4 ∷ []) $
@@ -65,7 +66,7 @@ put_spec 𝓤 𝓛 𝓜 𝓡 wired =
     enter ! C Λ code.function (vptr rb ro ∷ base_val p ∷ vint w64 i ∷ vint w16 w ∷ []) Post $
     alloc_all ! (λ l. pass_all ! refl ((tt, tt), (base_typed p, ((tt, record { fits = fi }), ((tt, record { fits = fw }), tt)))) $
     let En : Env 𝓤 H = env code.function.locals l in
-    opens ! tt Cr {h = d} rb ro (λ vs. move ! (1 ∷ []) $ fsplit ! $ move ! (1 ∷ []) $
+    opens ! tt Cr {h = d} rb ro (λ vs. move ! (1 ∷ []) $ fsplit ! $ move ! (1 ∷ []) $ fsplit ! $
     in_a_block ! d.at (λ q. words_at q d.items) (id⊢ 𝓤 (never 𝓤)) (λ b o e.
     take_at ! 2 $ rewrite ! 0 (λ (q : Ptr). ‵ (fat full_share (layout B.the_row) (l 2) 0 (base_val q))) (asked.0 ∙ e) refl $ give_at ! 2 $
     first ! $ blocks ! $
@@ -76,9 +77,11 @@ put_spec 𝓤 𝓛 𝓜 𝓡 wired =
     exec ! C Λ En (after 1 code.function.body) (at_ret En Post) $
     sets ! (of_opd ! (unit_lit !)) refl (tt, tt) $
     use2 𝓛 (‵ (row u16 full_share new.items b o)) (word_in 𝓛 b o d.items i w low) $
-    rewrite ! 0 (λ (q : Ptr). ‵ (words_at q new.items)) (sym e) refl $ move ! (1 ∷ 0 ∷ []) $ fjoin ! $ move ! (1 ∷ 0 ∷ []) $ closes ! tt Cr new vs rb ro $
+    rewrite ! 0 (λ (q : Ptr). ‵ (words_at q new.items)) (sym e) refl $ move ! (1 ∷ []) $
+    rewrite ! 0 (λ (k : ℕ). ‵ (room_past d.at k d.spare)) (sym (length-set d.items i w)) refl $ move ! (1 ∷ 0 ∷ []) $ fjoin ! $
+    move ! (1 ∷ 0 ∷ []) $ fjoin ! $ move ! (1 ∷ 0 ∷ []) $ closes ! tt Cr new vs rb ro $
     returns ! (look_at ! 0 refl) $ free_all ! refl $ keep ! (0 ∷ 1 ∷ 2 ∷ []) $
-    suffices ! _ (ends_at 𝓛 f.ended stayed c z vunit tt (new, (tt, (tt, (tt, tt)))) (tt, (tt, (tt, (tt, tt))))) $ says ! (refl, refl) $
+    suffices ! _ (ends_at 𝓛 f.ended stayed c z vunit tt (new, (tt, (tt, (tt, tt)))) (tt, (tt, (tt, (tt, tt))))) $ says ! (refl, refl, refl) $
     nothing ! $ move ! (3 ∷ 0 ∷ []) $ join ! $ frame ! $ feq_i ! (List Val) vss.0 (vptr rb ro ∷ []) are.0.0 $ fjoin3 ! $
     nothing ! $ nothing ! $ fjoin ! $ nothing ! $ fjoin ! $ nothing ! $ fjoin ! $ move ! (1 ∷ 0 ∷ []) $ fjoin ! $
     feq_i ! (List Val) (vunit ∷ []) (vunit ∷ []) refl $ move ! (1 ∷ 0 ∷ []) $ done !)))))

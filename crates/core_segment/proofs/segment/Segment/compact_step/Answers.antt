@@ -1,3 +1,4 @@
+use Rattle.core_segment.specs.Words.{words_of}
 use Rattle.std.proofs.Common.{◌≡◌, List, length, ◌∙◌, ap, subst, arith}
 use Rattle.std.specs.List.{sum_by}
 use Rattle.core_segment.specs.Chunks.{Placed, at_place}
@@ -12,14 +13,14 @@ pub returns-then-to-self-clause-none : goal.returns-then-to-self-clause-none
 unfolding largest_of free_of chunk_at
 returns-then-to-self-clause-none c =
     let g = c.reach-to.new.self in (
-      none-in g.region.cells.items g.lists.firsts g.free c.reach-to.result g.reached g.whole g.going c.reach-to.ensures.reached (c.if-to-self.true ∙ g.region.sized),
+      none-in (words_of g.region) g.lists.firsts g.free c.reach-to.result g.reached g.whole g.going c.reach-to.ensures.reached (c.if-to-self.true ∙ g.region.sized),
       ap at_place c.reach-to.ensures.joined.chunks,
     )
 
 pub join-gap-requires-clause-some : goal.join-gap-requires-clause-some
 join-gap-requires-clause-some c =
     let g = c.reach-to.new.self in
-    let low = within-in g.region.cells.items g.lists.firsts g.free c.reach-to.result g.reached g.whole g.going c.reach-to.ensures.reached in
+    let low = within-in (words_of g.region) g.lists.firsts g.free c.reach-to.result g.reached g.whole g.going c.reach-to.ensures.reached in
     let f = c.if-to-self.false in let size = g.region.sized in
     omega arith
 
@@ -28,11 +29,11 @@ pub returns-then-gap-self-clause-none : goal.returns-then-gap-self-clause-none
 unfolding largest_of free_of size_of chunk_at
 returns-then-gap-self-clause-none c =
     let g = c.reach-to.new.self in let h = c.join-gap.new.self in
-    let low = within-in g.region.cells.items g.lists.firsts g.free c.reach-to.result g.reached g.whole g.going c.reach-to.ensures.reached in
+    let low = within-in (words_of g.region) g.lists.firsts g.free c.reach-to.result g.reached g.whole g.going c.reach-to.ensures.reached in
     let f = c.if-to-self.false in let size = g.region.sized in
-    let same : length h.region.cells.items ≡ length g.region.cells.items = c.join-gap.ensures.joined.size in
-    let gap = gap-in h.region.cells.items h.lists.firsts h.free c.reach-to.result c.join-gap.result h.reached h.whole h.going c.join-gap.ensures.reached (omega arith) c.join-gap.ensures.gap in (
-      gap-whole h.region.cells.items h.lists.firsts (tiles_of h.region.cells.items) h.free c.reach-to.result c.join-gap.result gap c.if-gap-self.true,
+    let same : length (words_of h.region) ≡ length (words_of g.region) = c.join-gap.ensures.joined.size in
+    let gap = gap-in (words_of h.region) h.lists.firsts h.free c.reach-to.result c.join-gap.result h.reached h.whole h.going c.join-gap.ensures.reached (omega arith) c.join-gap.ensures.gap in (
+      gap-whole (words_of h.region) h.lists.firsts (tiles_of (words_of h.region)) h.free c.reach-to.result c.join-gap.result gap c.if-gap-self.true,
       ap at_place (joined-then c.args.self.now g h c.reach-to.ensures.joined c.join-gap.ensures.joined).chunks,
     )
 

@@ -1,3 +1,4 @@
+use Rattle.core_segment.specs.Words.{words_of}
 use Rattle.std.proofs.Common.{◌≡◌, ℕ, ◌+◌, List, ◌∷◌, ◌++◌, length, sym, ap, subst, ◌∙◌, arith}
 use Rattle.std.proofs.Math.Path.{fun_ext}
 use Rattle.core_segment.specs.Heads.{IsClosed}
@@ -27,13 +28,13 @@ pub size_at-size-requires : goal.size_at-size-requires
 unfolding chunk_at chunks_of
 size_at-size-requires c =
     let g = c.args.self.now in
-    (told g.region.cells.items g.lists.firsts (tiles_of g.region.cells.items) g.free c.args.at.place g.whole c.requires).head
+    (told (words_of g.region) g.lists.firsts (tiles_of (words_of g.region)) g.free c.args.at.place g.whole c.requires).head
 
 pub push-requires-clause-within : goal.push-requires-clause-within
 unfolding chunk_at chunks_of
 push-requires-clause-within c =
     let g = c.args.self.now in
-    let t = told g.region.cells.items g.lists.firsts (tiles_of g.region.cells.items) g.free c.args.at.place g.whole c.requires in
+    let t = told (words_of g.region) g.lists.firsts (tiles_of (words_of g.region)) g.free c.args.at.place g.whole c.requires in
     let a = t.low in let b = t.sized in let d = c.size_at-size.ensures in
     omega arith
 
@@ -41,7 +42,7 @@ pub push-requires-clause-some : goal.push-requires-clause-some
 unfolding chunk_at chunks_of
 push-requires-clause-some c =
     let g = c.args.self.now in
-    let t = told g.region.cells.items g.lists.firsts (tiles_of g.region.cells.items) g.free c.args.at.place g.whole c.requires in
+    let t = told (words_of g.region) g.lists.firsts (tiles_of (words_of g.region)) g.free c.args.at.place g.whole c.requires in
     let a = t.some in let b = t.sized in let d = c.size_at-size.ensures in
     omega arith
 
@@ -49,9 +50,9 @@ pub overflow_add-self : goal.overflow_add-self
 unfolding chunk_at chunks_of
 overflow_add-self c =
     let g = c.args.self.now in
-    let region' = c.push.new.region.cells.items in
-    let t = told g.region.cells.items g.lists.firsts (tiles_of g.region.cells.items) g.free c.args.at.place g.whole c.requires in
-    let s = gives g.region.cells.items region' g.lists.firsts (tiles_of g.region.cells.items) g.free c.args.at.place c.size_at-size.result g.whole t g.lists.many
+    let region' = (words_of c.push.new.region) in
+    let t = told (words_of g.region) g.lists.firsts (tiles_of (words_of g.region)) g.free c.args.at.place g.whole c.requires in
+    let s = gives (words_of g.region) region' g.lists.firsts (tiles_of (words_of g.region)) g.free c.args.at.place c.size_at-size.result g.whole t g.lists.many
     (c.size_at-size.ensures ∙ t.sized) c.push.ensures.closed in
     let few = free-within 0 (length region') (tiles_of region') s.renew.whole.spans in
     let same = c.push.ensures.closed.same_size in let small = g.small in let counted = s.renew.whole.counted in
@@ -61,9 +62,9 @@ pub invariant_of-self : goal.invariant_of-self
 unfolding chunk_at chunks_of
 invariant_of-self c =
     let g = c.args.self.now in
-    let region' = c.push.new.region.cells.items in
-    let t = told g.region.cells.items g.lists.firsts (tiles_of g.region.cells.items) g.free c.args.at.place g.whole c.requires in
-    let s = gives g.region.cells.items region' g.lists.firsts (tiles_of g.region.cells.items) g.free c.args.at.place c.size_at-size.result g.whole t g.lists.many
+    let region' = (words_of c.push.new.region) in
+    let t = told (words_of g.region) g.lists.firsts (tiles_of (words_of g.region)) g.free c.args.at.place g.whole c.requires in
+    let s = gives (words_of g.region) region' g.lists.firsts (tiles_of (words_of g.region)) g.free c.args.at.place c.size_at-size.result g.whole t g.lists.many
     (c.size_at-size.ensures ∙ t.sized) c.push.ensures.closed in
     record {
       small = let same = c.push.ensures.closed.same_size in let small = g.small in omega arith;
@@ -75,9 +76,9 @@ pub returns-clause-chunks : goal.returns-clause-chunks
 unfolding chunk_at chunks_of
 returns-clause-chunks c =
     let g = c.args.self.now in
-    let region' = c.push.new.region.cells.items in
-    let t = told g.region.cells.items g.lists.firsts (tiles_of g.region.cells.items) g.free c.args.at.place g.whole c.requires in
-    let s = gives g.region.cells.items region' g.lists.firsts (tiles_of g.region.cells.items) g.free c.args.at.place c.size_at-size.result g.whole t g.lists.many
+    let region' = (words_of c.push.new.region) in
+    let t = told (words_of g.region) g.lists.firsts (tiles_of (words_of g.region)) g.free c.args.at.place g.whole c.requires in
+    let s = gives (words_of g.region) region' g.lists.firsts (tiles_of (words_of g.region)) g.free c.args.at.place c.size_at-size.result g.whole t g.lists.many
     (c.size_at-size.ensures ∙ t.sized) c.push.ensures.closed in
     fun_ext (λ k. ap (λ (us : List Tile). chunk region' us k) s.renew.is ∙ s.chunks k)
 
@@ -85,7 +86,7 @@ pub returns-clause-free : goal.returns-clause-free
 unfolding free_of chunk_at chunks_of
 returns-clause-free c =
     let g = c.args.self.now in
-    let t = told g.region.cells.items g.lists.firsts (tiles_of g.region.cells.items) g.free c.args.at.place g.whole c.requires in
+    let t = told (words_of g.region) g.lists.firsts (tiles_of (words_of g.region)) g.free c.args.at.place g.whole c.requires in
     let a = t.words in let b = t.sized in let d = c.size_at-size.ensures in
     omega arith
 
@@ -93,9 +94,9 @@ pub returns-clause-largest : goal.returns-clause-largest
 unfolding largest_of chunk_at chunks_of
 returns-clause-largest c =
     let g = c.args.self.now in
-    let region' = c.push.new.region.cells.items in
-    let t = told g.region.cells.items g.lists.firsts (tiles_of g.region.cells.items) g.free c.args.at.place g.whole c.requires in
-    let s = gives g.region.cells.items region' g.lists.firsts (tiles_of g.region.cells.items) g.free c.args.at.place c.size_at-size.result g.whole t g.lists.many
+    let region' = (words_of c.push.new.region) in
+    let t = told (words_of g.region) g.lists.firsts (tiles_of (words_of g.region)) g.free c.args.at.place g.whole c.requires in
+    let s = gives (words_of g.region) region' g.lists.firsts (tiles_of (words_of g.region)) g.free c.args.at.place c.size_at-size.result g.whole t g.lists.many
     (c.size_at-size.ensures ∙ t.sized) c.push.ensures.closed in
     let a = s.largest in let b = ap (λ (us : List Tile). largest_in us) s.renew.is in
     omega arith
@@ -104,9 +105,9 @@ pub returns-clause-room : goal.returns-clause-room
 unfolding largest_of chunk_at chunks_of
 returns-clause-room c =
     let g = c.args.self.now in
-    let region' = c.push.new.region.cells.items in
-    let t = told g.region.cells.items g.lists.firsts (tiles_of g.region.cells.items) g.free c.args.at.place g.whole c.requires in
-    let s = gives g.region.cells.items region' g.lists.firsts (tiles_of g.region.cells.items) g.free c.args.at.place c.size_at-size.result g.whole t g.lists.many
+    let region' = (words_of c.push.new.region) in
+    let t = told (words_of g.region) g.lists.firsts (tiles_of (words_of g.region)) g.free c.args.at.place g.whole c.requires in
+    let s = gives (words_of g.region) region' g.lists.firsts (tiles_of (words_of g.region)) g.free c.args.at.place c.size_at-size.result g.whole t g.lists.many
     (c.size_at-size.ensures ∙ t.sized) c.push.ensures.closed in
     let a = s.room in let b = ap (λ (us : List Tile). largest_in us) s.renew.is in let d = t.words in let e = t.sized in let f = c.size_at-size.ensures in
     omega arith

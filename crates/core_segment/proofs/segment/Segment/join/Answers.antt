@@ -1,3 +1,4 @@
+use Rattle.core_segment.specs.Words.{words_of}
 use Rattle.std.proofs.Common.{◌≡◌, refl, sym, arith}
 use Rattle.core_segment.specs.Heads.{size_in}
 use Rattle.core_segment.specs.Segment.{free_of}
@@ -8,12 +9,12 @@ use Rattle.core_segment.proofs.segment.Segment.join.Goals as goal
 pub size_at-gap-requires : goal.size_at-gap-requires
 size_at-gap-requires c =
     let g = c.args.self.now in
-    (gap-in g.region.cells.items g.lists.firsts g.free c.args.to (size_in g.region.cells.items c.args.to) g.reached g.whole g.going c.requires.reached c.requires.some refl).head
+    (gap-in (words_of g.region) g.lists.firsts g.free c.args.to (size_in (words_of g.region) c.args.to) g.reached g.whole g.going c.requires.reached c.requires.some refl).head
 
 pub loop-gap-init : goal.loop-gap-init
 loop-gap-init c =
     let g = c.args.self.now in
-    let first = gap-in g.region.cells.items g.lists.firsts g.free c.args.to c.size_at-gap.result g.reached g.whole g.going c.requires.reached c.requires.some (sym c.size_at-gap.ensures) in
+    let first = gap-in (words_of g.region) g.lists.firsts g.free c.args.to c.size_at-gap.result g.reached g.whole g.going c.requires.reached c.requires.some (sym c.size_at-gap.ensures) in
     record {
       joined = joined-none g;
       reached = c.requires.reached;
@@ -24,13 +25,13 @@ loop-gap-init c =
 pub overflow_add-to : goal.overflow_add-to
 overflow_add-to c =
     let g = c.loop-gap.self in let i = c.loop-gap.invariant in
-    let p = pair g.region.cells.items g.lists.firsts g.free c.args.to c.loop-gap.gap g.reached g.whole g.going i.reached c.loop-gap-test.true i.gap in
+    let p = pair (words_of g.region) g.lists.firsts g.free c.args.to c.loop-gap.gap g.reached g.whole g.going i.reached c.loop-gap-test.true i.gap in
     let low = p.next.low in let small = g.small in omega arith
 
 pub owner_at-requires : goal.owner_at-requires
 owner_at-requires c =
     let g = c.loop-gap.self in let i = c.loop-gap.invariant in
-    let p = pair g.region.cells.items g.lists.firsts g.free c.args.to c.loop-gap.gap g.reached g.whole g.going i.reached c.loop-gap-test.true i.gap in
+    let p = pair (words_of g.region) g.lists.firsts g.free c.args.to c.loop-gap.gap g.reached g.whole g.going i.reached c.loop-gap-test.true i.gap in
     p.next.head
 
 pub loop-gap-smaller : goal.loop-gap-smaller

@@ -1,3 +1,4 @@
+use Rattle.core_segment.specs.Words.{words_of}
 use Rattle.std.proofs.Common.{◌≡◌, ◌-◌, ◌≤◌, Some}
 use Rattle.core_segment.specs.Segment.{IsJoined}
 use Rattle.core_segment.specs.Heads.{size_in}
@@ -7,7 +8,7 @@ abbrev pub invariant-loop-gap : goal.invariant-loop-gap
 invariant-loop-gap l = record {
   joined : IsJoined l.fn.self l.self;
   reached : l.self.reached ≡ Some l.to;
-  gap : size_in l.self.region.cells.items l.to ≡ l.gap;
+  gap : size_in (words_of l.self.region) l.to ≡ l.gap;
   few : l.gap ≤ l.self.free;
 }
 

@@ -1,3 +1,4 @@
+use Rattle.core_segment.specs.Words.{words_of}
 use Rattle.std.proofs.Common.{ℕ, ◌≡◌, ◌+◌, List, length, refl, sym, ◌∙◌, ap, subst, arith}
 use Rattle.core_segment.specs.Heads.{size_in, owner_in, link_in, IsClosed}
 use Rattle.core_segment.specs.Lists.{class_in, first_in, with_first}
@@ -28,63 +29,63 @@ joins region region' firsts f1 f2 f3 free to gap more p none many size one two c
 pub overflow_add-from : goal.overflow_add-from
 overflow_add-from c =
     let g = c.args.self.now in
-    let p = pair g.region.cells.items g.lists.firsts g.free c.args.to c.args.gap g.reached g.whole g.going c.requires.reached c.requires.many c.requires.gap in
+    let p = pair (words_of g.region) g.lists.firsts g.free c.args.to c.args.gap g.reached g.whole g.going c.requires.reached c.requires.many c.requires.gap in
     let low = p.next.low in let small = g.small in omega arith
 
 pub size_at-more-requires : goal.size_at-more-requires
 size_at-more-requires c =
     let g = c.args.self.now in
-    let p = pair g.region.cells.items g.lists.firsts g.free c.args.to c.args.gap g.reached g.whole g.going c.requires.reached c.requires.many c.requires.gap in
+    let p = pair (words_of g.region) g.lists.firsts g.free c.args.to c.args.gap g.reached g.whole g.going c.requires.reached c.requires.many c.requires.gap in
     p.next.head
 
 pub overflow_add-size : goal.overflow_add-size
 overflow_add-size c =
     let g = c.args.self.now in
-    let p = pair g.region.cells.items g.lists.firsts g.free c.args.to c.args.gap g.reached g.whole g.going c.requires.reached c.requires.many c.requires.gap in
+    let p = pair (words_of g.region) g.lists.firsts g.free c.args.to c.args.gap g.reached g.whole g.going c.requires.reached c.requires.many c.requires.gap in
     let low = p.next.low in let small = g.small in let is = c.size_at-more.ensures in let size = p.next.sized in omega arith
 
 pub leave-requires : goal.leave-requires
 leave-requires c =
     let g = c.args.self.now in
-    let p = pair g.region.cells.items g.lists.firsts g.free c.args.to c.args.gap g.reached g.whole g.going c.requires.reached c.requires.many c.requires.gap in
+    let p = pair (words_of g.region) g.lists.firsts g.free c.args.to c.args.gap g.reached g.whole g.going c.requires.reached c.requires.many c.requires.gap in
     λ some. let low = p.first.low in omega arith
 
 pub leave-requires-2 : goal.leave-requires-2
 leave-requires-2 c =
     let g = c.args.self.now in
-    let p = pair g.region.cells.items g.lists.firsts g.free c.args.to c.args.gap g.reached g.whole g.going c.requires.reached c.requires.many c.requires.gap in
+    let p = pair (words_of g.region) g.lists.firsts g.free c.args.to c.args.gap g.reached g.whole g.going c.requires.reached c.requires.many c.requires.gap in
     λ some. let low = p.next.low in let is = c.size_at-more.ensures in let size = p.next.sized in omega arith
 
 pub push-requires-clause-within : goal.push-requires-clause-within
 push-requires-clause-within c =
     let g = c.args.self.now in
-    let p = pair g.region.cells.items g.lists.firsts g.free c.args.to c.args.gap g.reached g.whole g.going c.requires.reached c.requires.many c.requires.gap in
+    let p = pair (words_of g.region) g.lists.firsts g.free c.args.to c.args.gap g.reached g.whole g.going c.requires.reached c.requires.many c.requires.gap in
     let low = p.next.low in let is = c.size_at-more.ensures in let size = p.next.sized in omega arith
 
 pub push-requires-clause-some : goal.push-requires-clause-some
 push-requires-clause-some c =
     let g = c.args.self.now in
-    let p = pair g.region.cells.items g.lists.firsts g.free c.args.to c.args.gap g.reached g.whole g.going c.requires.reached c.requires.many c.requires.gap in
+    let p = pair (words_of g.region) g.lists.firsts g.free c.args.to c.args.gap g.reached g.whole g.going c.requires.reached c.requires.many c.requires.gap in
     let some = p.first.some in omega arith
 
 pub invariant_of-self : goal.invariant_of-self
 invariant_of-self c =
     let g = c.args.self.now in
-    let p = pair g.region.cells.items g.lists.firsts g.free c.args.to c.args.gap g.reached g.whole g.going c.requires.reached c.requires.many c.requires.gap in
-    let w = joins g.region.cells.items c.push.new.region.cells.items g.lists.firsts c.leave.new.self.firsts c.leave-2.new.self.firsts c.push.new.self.firsts
+    let p = pair (words_of g.region) g.lists.firsts g.free c.args.to c.args.gap g.reached g.whole g.going c.requires.reached c.requires.many c.requires.gap in
+    let w = joins (words_of g.region) (words_of c.push.new.region) g.lists.firsts c.leave.new.self.firsts c.leave-2.new.self.firsts c.push.new.self.firsts
     g.free c.args.to c.args.gap c.size_at-more.result p c.requires.free g.lists.many c.size_at-more.ensures c.leave.ensures c.leave-2.ensures c.push.ensures.closed c.push.ensures.firsts in
     record {
       small = let same = w.same_size in let small = g.small in omega arith;
       whole = w.whole;
-      going = subst (IsGoingOn c.push.new.region.cells.items c.push.new.self.firsts (tiles_of c.push.new.region.cells.items)) (sym c.requires.reached) w.going;
+      going = subst (IsGoingOn (words_of c.push.new.region) c.push.new.self.firsts (tiles_of (words_of c.push.new.region))) (sym c.requires.reached) w.going;
     }
 
 pub returns-clause-joined : goal.returns-clause-joined
 unfolding chunks_of size_of free_of largest_of
 returns-clause-joined c =
     let g = c.args.self.now in
-    let p = pair g.region.cells.items g.lists.firsts g.free c.args.to c.args.gap g.reached g.whole g.going c.requires.reached c.requires.many c.requires.gap in
-    let w = joins g.region.cells.items c.push.new.region.cells.items g.lists.firsts c.leave.new.self.firsts c.leave-2.new.self.firsts c.push.new.self.firsts
+    let p = pair (words_of g.region) g.lists.firsts g.free c.args.to c.args.gap g.reached g.whole g.going c.requires.reached c.requires.many c.requires.gap in
+    let w = joins (words_of g.region) (words_of c.push.new.region) g.lists.firsts c.leave.new.self.firsts c.leave-2.new.self.firsts c.push.new.self.firsts
     g.free c.args.to c.args.gap c.size_at-more.result p c.requires.free g.lists.many c.size_at-more.ensures c.leave.ensures c.leave-2.ensures c.push.ensures.closed c.push.ensures.firsts in
     record { chunks = w.placed; free = refl; largest = w.largest; size = w.same_size }
 
@@ -94,13 +95,13 @@ returns-clause-gap c = c.push.ensures.closed.sized
 pub returns-clause-more : goal.returns-clause-more
 returns-clause-more c =
     let g = c.args.self.now in
-    let p = pair g.region.cells.items g.lists.firsts g.free c.args.to c.args.gap g.reached g.whole g.going c.requires.reached c.requires.many c.requires.gap in
+    let p = pair (words_of g.region) g.lists.firsts g.free c.args.to c.args.gap g.reached g.whole g.going c.requires.reached c.requires.many c.requires.gap in
     let some = p.next.some in let is = c.size_at-more.ensures in let size = p.next.sized in omega arith
 
 pub returns-clause-few : goal.returns-clause-few
 returns-clause-few c =
     let g = c.args.self.now in
-    let p = pair g.region.cells.items g.lists.firsts g.free c.args.to c.args.gap g.reached g.whole g.going c.requires.reached c.requires.many c.requires.gap in
-    let w = joins g.region.cells.items c.push.new.region.cells.items g.lists.firsts c.leave.new.self.firsts c.leave-2.new.self.firsts c.push.new.self.firsts
+    let p = pair (words_of g.region) g.lists.firsts g.free c.args.to c.args.gap g.reached g.whole g.going c.requires.reached c.requires.many c.requires.gap in
+    let w = joins (words_of g.region) (words_of c.push.new.region) g.lists.firsts c.leave.new.self.firsts c.leave-2.new.self.firsts c.push.new.self.firsts
     g.free c.args.to c.args.gap c.size_at-more.result p c.requires.free g.lists.many c.size_at-more.ensures c.leave.ensures c.leave-2.ensures c.push.ensures.closed c.push.ensures.firsts in
     w.few

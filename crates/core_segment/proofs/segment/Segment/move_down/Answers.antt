@@ -1,3 +1,4 @@
+use Rattle.core_segment.specs.Words.{words_of}
 use Rattle.std.proofs.Common.{ℕ, ◌≡◌, ◌+◌, ◌<◌, List, length, refl, sym, ◌∙◌, ap, subst, arith}
 use Rattle.std.proofs.Math.Path.{fun_ext}
 use Rattle.core_segment.specs.Heads.{size_in, owner_in, link_in, IsClosed, IsMovedDown}
@@ -28,56 +29,56 @@ moves region region' region'' firsts f1 f2 free to gap size owner p own many siz
 pub overflow_add-from : goal.overflow_add-from
 overflow_add-from c =
     let g = c.args.self.now in
-    let p = pair g.region.cells.items g.lists.firsts g.free c.args.to c.args.gap g.reached g.whole g.going c.requires.reached c.requires.many c.requires.gap in
+    let p = pair (words_of g.region) g.lists.firsts g.free c.args.to c.args.gap g.reached g.whole g.going c.requires.reached c.requires.many c.requires.gap in
     let low = p.next.low in let small = g.small in omega arith
 
 pub owner_at-owner-requires : goal.owner_at-owner-requires
 owner_at-owner-requires c =
     let g = c.args.self.now in
-    let p = pair g.region.cells.items g.lists.firsts g.free c.args.to c.args.gap g.reached g.whole g.going c.requires.reached c.requires.many c.requires.gap in
+    let p = pair (words_of g.region) g.lists.firsts g.free c.args.to c.args.gap g.reached g.whole g.going c.requires.reached c.requires.many c.requires.gap in
     p.next.head
 
 pub size_at-size-requires : goal.size_at-size-requires
 size_at-size-requires c =
     let g = c.args.self.now in
-    let p = pair g.region.cells.items g.lists.firsts g.free c.args.to c.args.gap g.reached g.whole g.going c.requires.reached c.requires.many c.requires.gap in
+    let p = pair (words_of g.region) g.lists.firsts g.free c.args.to c.args.gap g.reached g.whole g.going c.requires.reached c.requires.many c.requires.gap in
     p.next.head
 
 pub leave-requires : goal.leave-requires
 leave-requires c =
     let g = c.args.self.now in
-    let p = pair g.region.cells.items g.lists.firsts g.free c.args.to c.args.gap g.reached g.whole g.going c.requires.reached c.requires.many c.requires.gap in
+    let p = pair (words_of g.region) g.lists.firsts g.free c.args.to c.args.gap g.reached g.whole g.going c.requires.reached c.requires.many c.requires.gap in
     λ some. let low = p.first.low in omega arith
 
 pub shift-requires-clause-within : goal.shift-requires-clause-within
 shift-requires-clause-within c =
     let g = c.args.self.now in
-    let p = pair g.region.cells.items g.lists.firsts g.free c.args.to c.args.gap g.reached g.whole g.going c.requires.reached c.requires.many c.requires.gap in
+    let p = pair (words_of g.region) g.lists.firsts g.free c.args.to c.args.gap g.reached g.whole g.going c.requires.reached c.requires.many c.requires.gap in
     let low = p.next.low in let is = c.size_at-size.ensures in let size = p.next.sized in omega arith
 
 pub overflow_add-to : goal.overflow_add-to
 overflow_add-to c =
     let g = c.args.self.now in
-    let p = pair g.region.cells.items g.lists.firsts g.free c.args.to c.args.gap g.reached g.whole g.going c.requires.reached c.requires.many c.requires.gap in
+    let p = pair (words_of g.region) g.lists.firsts g.free c.args.to c.args.gap g.reached g.whole g.going c.requires.reached c.requires.many c.requires.gap in
     let low = p.next.low in let is = c.size_at-size.ensures in let size = p.next.sized in let small = g.small in omega arith
 
 pub push-requires-clause-within : goal.push-requires-clause-within
 push-requires-clause-within c =
     let g = c.args.self.now in
-    let p = pair g.region.cells.items g.lists.firsts g.free c.args.to c.args.gap g.reached g.whole g.going c.requires.reached c.requires.many c.requires.gap in
+    let p = pair (words_of g.region) g.lists.firsts g.free c.args.to c.args.gap g.reached g.whole g.going c.requires.reached c.requires.many c.requires.gap in
     let low = p.next.low in let is = c.size_at-size.ensures in let size = p.next.sized in let same = c.shift.ensures.same_size in omega arith
 
 pub push-requires-clause-some : goal.push-requires-clause-some
 push-requires-clause-some c =
     let g = c.args.self.now in
-    let p = pair g.region.cells.items g.lists.firsts g.free c.args.to c.args.gap g.reached g.whole g.going c.requires.reached c.requires.many c.requires.gap in
+    let p = pair (words_of g.region) g.lists.firsts g.free c.args.to c.args.gap g.reached g.whole g.going c.requires.reached c.requires.many c.requires.gap in
     p.first.some
 
 pub invariant_of-self : goal.invariant_of-self
 invariant_of-self c =
     let g = c.args.self.now in
-    let p = pair g.region.cells.items g.lists.firsts g.free c.args.to c.args.gap g.reached g.whole g.going c.requires.reached c.requires.many c.requires.gap in
-    let s = moves g.region.cells.items c.shift.new.self.cells.items c.push.new.region.cells.items g.lists.firsts c.leave.new.self.firsts c.push.new.self.firsts g.free c.args.to c.args.gap
+    let p = pair (words_of g.region) g.lists.firsts g.free c.args.to c.args.gap g.reached g.whole g.going c.requires.reached c.requires.many c.requires.gap in
+    let s = moves (words_of g.region) (words_of c.shift.new.self) (words_of c.push.new.region) g.lists.firsts c.leave.new.self.firsts c.push.new.self.firsts g.free c.args.to c.args.gap
     c.size_at-size.result c.owner_at-owner.result p c.requires.used g.lists.many c.size_at-size.ensures c.owner_at-owner.ensures c.leave.ensures c.shift.ensures c.push.ensures.closed c.push.ensures.firsts in
     record {
       small = let same = s.same_size in let small = g.small in omega arith;
@@ -89,8 +90,8 @@ pub returns-clause-moved : goal.returns-clause-moved
 unfolding chunk_at chunks_of
 returns-clause-moved c =
     let g = c.args.self.now in
-    let p = pair g.region.cells.items g.lists.firsts g.free c.args.to c.args.gap g.reached g.whole g.going c.requires.reached c.requires.many c.requires.gap in
-    let s = moves g.region.cells.items c.shift.new.self.cells.items c.push.new.region.cells.items g.lists.firsts c.leave.new.self.firsts c.push.new.self.firsts g.free c.args.to c.args.gap
+    let p = pair (words_of g.region) g.lists.firsts g.free c.args.to c.args.gap g.reached g.whole g.going c.requires.reached c.requires.many c.requires.gap in
+    let s = moves (words_of g.region) (words_of c.shift.new.self) (words_of c.push.new.region) g.lists.firsts c.leave.new.self.firsts c.push.new.self.firsts g.free c.args.to c.args.gap
     c.size_at-size.result c.owner_at-owner.result p c.requires.used g.lists.many c.size_at-size.ensures c.owner_at-owner.ensures c.leave.ensures c.shift.ensures c.push.ensures.closed c.push.ensures.firsts in
     record {
       from = c.args.to + c.args.gap;
@@ -105,15 +106,15 @@ pub returns-clause-many : goal.returns-clause-many
 unfolding largest_of free_of
 returns-clause-many c =
     let g = c.args.self.now in
-    let p = pair g.region.cells.items g.lists.firsts g.free c.args.to c.args.gap g.reached g.whole g.going c.requires.reached c.requires.many c.requires.gap in
-    gap-part g.region.cells.items g.lists.firsts (tiles_of g.region.cells.items) g.free c.args.to c.args.gap p.first c.requires.many
+    let p = pair (words_of g.region) g.lists.firsts g.free c.args.to c.args.gap g.reached g.whole g.going c.requires.reached c.requires.many c.requires.gap in
+    gap-part (words_of g.region) g.lists.firsts (tiles_of (words_of g.region)) g.free c.args.to c.args.gap p.first c.requires.many
 
 pub returns-clause-less : goal.returns-clause-less
 unfolding work_of chunks_of
 returns-clause-less c =
     let g = c.args.self.now in
-    let p = pair g.region.cells.items g.lists.firsts g.free c.args.to c.args.gap g.reached g.whole g.going c.requires.reached c.requires.many c.requires.gap in
-    let s = moves g.region.cells.items c.shift.new.self.cells.items c.push.new.region.cells.items g.lists.firsts c.leave.new.self.firsts c.push.new.self.firsts g.free c.args.to c.args.gap
+    let p = pair (words_of g.region) g.lists.firsts g.free c.args.to c.args.gap g.reached g.whole g.going c.requires.reached c.requires.many c.requires.gap in
+    let s = moves (words_of g.region) (words_of c.shift.new.self) (words_of c.push.new.region) g.lists.firsts c.leave.new.self.firsts c.push.new.self.firsts g.free c.args.to c.args.gap
     c.size_at-size.result c.owner_at-owner.result p c.requires.used g.lists.many c.size_at-size.ensures c.owner_at-owner.ensures c.leave.ensures c.shift.ensures c.push.ensures.closed c.push.ensures.firsts in
     s.less
 

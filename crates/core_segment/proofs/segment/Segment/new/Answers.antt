@@ -1,3 +1,4 @@
+use Rattle.core_segment.specs.Words.{words_of}
 use Rattle.std.proofs.Common.{ℕ, ◌≡◌, ◌+◌, ◌≤◌, List, ◌∷◌, [], length, replicate, ap, arith, refl, sym, subst, ◌∙◌}
 use Rattle.std.proofs.Math.ListN.{length-replicate}
 use Rattle.std.proofs.Math.Path.{fun_ext}
@@ -22,8 +23,8 @@ made-of region region' firsts firsts' words none size some closed is =
 
 pub invariant_of-result : goal.invariant_of-result
 invariant_of-result c =
-    let region = c.in_ok-region.region.cells.items in
-    let region' = c.push.new.region.cells.items in
+    let region = (words_of c.in_ok-region.region) in
+    let region' = (words_of c.push.new.region) in
     let size = sized region c.args.words c.in_ok-region.ensures in
     let m = made-of region region' c.none-lists.result.firsts c.push.new.self.firsts c.args.words c.none-lists.ensures size c.requires.some c.push.ensures.closed c.push.ensures.firsts in
     record {
@@ -35,8 +36,8 @@ invariant_of-result c =
 pub returns-clause-chunks : goal.returns-clause-chunks
 unfolding chunk_at chunks_of
 returns-clause-chunks c =
-    let region = c.in_ok-region.region.cells.items in
-    let region' = c.push.new.region.cells.items in
+    let region = (words_of c.in_ok-region.region) in
+    let region' = (words_of c.push.new.region) in
     let size = sized region c.args.words c.in_ok-region.ensures in
     let m = made-of region region' c.none-lists.result.firsts c.push.new.self.firsts c.args.words c.none-lists.ensures size c.requires.some c.push.ensures.closed c.push.ensures.firsts in
     fun_ext (λ k. ap (λ (us : List Tile). chunk region' us k) m.is
@@ -44,13 +45,13 @@ returns-clause-chunks c =
 
 pub returns-clause-size : goal.returns-clause-size
 unfolding size_of
-returns-clause-size c = c.push.ensures.closed.same_size ∙ sized c.in_ok-region.region.cells.items c.args.words c.in_ok-region.ensures
+returns-clause-size c = c.push.ensures.closed.same_size ∙ sized (words_of c.in_ok-region.region) c.args.words c.in_ok-region.ensures
 
 pub returns-clause-free : goal.returns-clause-free
 unfolding free_of largest_of
 returns-clause-free c =
-    let region = c.in_ok-region.region.cells.items in
-    let region' = c.push.new.region.cells.items in
+    let region = (words_of c.in_ok-region.region) in
+    let region' = (words_of c.push.new.region) in
     let size = sized region c.args.words c.in_ok-region.ensures in
     let m = made-of region region' c.none-lists.result.firsts c.push.new.self.firsts c.args.words c.none-lists.ensures size c.requires.some c.push.ensures.closed c.push.ensures.firsts in (
       refl,

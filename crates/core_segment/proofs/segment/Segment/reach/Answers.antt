@@ -1,3 +1,4 @@
+use Rattle.core_segment.specs.Words.{words_of}
 use Rattle.std.proofs.Common.{[], List, refl, sym, ap, subst, arith}
 use Rattle.core_segment.specs.Lists.{Tile, Leads}
 use Rattle.core_segment.specs.Layout.{tiles_of, largest_in}
@@ -7,32 +8,32 @@ use Rattle.core_segment.proofs.RelistLaws.{laid-tiled, retiled, relaid}
 use Rattle.core_segment.proofs.segment.Segment.reach.Goals as goal
 
 pub thread-last-requires : goal.thread-last-requires
-thread-last-requires c = let g = c.args.self.now in laid-tiled g.region.cells.items g.lists.firsts (tiles_of g.region.cells.items) g.free g.whole
+thread-last-requires c = let g = c.args.self.now in laid-tiled (words_of g.region) g.lists.firsts (tiles_of (words_of g.region)) g.free g.whole
 
 pub rise-self-requires-clause-tiled : goal.rise-self-requires-clause-tiled
 rise-self-requires-clause-tiled c =
     let g = c.args.self.now in
-    (retiled g.region.cells.items c.thread-last.new.region.cells.items (tiles_of g.region.cells.items)
-    (laid-tiled g.region.cells.items g.lists.firsts (tiles_of g.region.cells.items) g.free g.whole) c.thread-last.ensures.relinked).tiled
+    (retiled (words_of g.region) (words_of c.thread-last.new.region) (tiles_of (words_of g.region))
+    (laid-tiled (words_of g.region) g.lists.firsts (tiles_of (words_of g.region)) g.free g.whole) c.thread-last.ensures.relinked).tiled
 
 pub rise-self-requires-clause-threaded : goal.rise-self-requires-clause-threaded
 rise-self-requires-clause-threaded c =
     let g = c.args.self.now in
-    let again = retiled g.region.cells.items c.thread-last.new.region.cells.items (tiles_of g.region.cells.items)
-    (laid-tiled g.region.cells.items g.lists.firsts (tiles_of g.region.cells.items) g.free g.whole) c.thread-last.ensures.relinked in
-    subst (λ (ts : List Tile). Leads c.thread-last.new.region.cells.items c.thread-last.result (falling ts [])) (sym again.is) c.thread-last.ensures.threaded
+    let again = retiled (words_of g.region) (words_of c.thread-last.new.region) (tiles_of (words_of g.region))
+    (laid-tiled (words_of g.region) g.lists.firsts (tiles_of (words_of g.region)) g.free g.whole) c.thread-last.ensures.relinked in
+    subst (λ (ts : List Tile). Leads (words_of c.thread-last.new.region) c.thread-last.result (falling ts [])) (sym again.is) c.thread-last.ensures.threaded
 
 pub first_free-place-requires : goal.first_free-place-requires
 first_free-place-requires c =
-    let g = c.args.self.now in let region = c.rise-self.new.region.cells.items in
-    let s = relaid g.region.cells.items c.thread-last.new.region.cells.items region g.lists.firsts c.rise-self.result.firsts g.free g.whole
+    let g = c.args.self.now in let region = (words_of c.rise-self.new.region) in
+    let s = relaid (words_of g.region) (words_of c.thread-last.new.region) region g.lists.firsts c.rise-self.result.firsts g.free g.whole
     c.thread-last.ensures.relinked c.rise-self.ensures.relinked c.rise-self.ensures.ordered in
     laid-tiled region c.rise-self.result.firsts (tiles_of region) g.free s.whole
 
 pub invariant_of-self : goal.invariant_of-self
 invariant_of-self c =
-    let g = c.args.self.now in let region = c.rise-self.new.region.cells.items in
-    let s = relaid g.region.cells.items c.thread-last.new.region.cells.items region g.lists.firsts c.rise-self.result.firsts g.free g.whole
+    let g = c.args.self.now in let region = (words_of c.rise-self.new.region) in
+    let s = relaid (words_of g.region) (words_of c.thread-last.new.region) region g.lists.firsts c.rise-self.result.firsts g.free g.whole
     c.thread-last.ensures.relinked c.rise-self.ensures.relinked c.rise-self.ensures.ordered in
     record {
       small = let same = s.same_size in let small = g.small in omega arith;
@@ -43,8 +44,8 @@ invariant_of-self c =
 pub returns-clause-joined : goal.returns-clause-joined
 unfolding chunks_of size_of free_of largest_of
 returns-clause-joined c =
-    let g = c.args.self.now in let region = c.rise-self.new.region.cells.items in
-    let s = relaid g.region.cells.items c.thread-last.new.region.cells.items region g.lists.firsts c.rise-self.result.firsts g.free g.whole
+    let g = c.args.self.now in let region = (words_of c.rise-self.new.region) in
+    let s = relaid (words_of g.region) (words_of c.thread-last.new.region) region g.lists.firsts c.rise-self.result.firsts g.free g.whole
     c.thread-last.ensures.relinked c.rise-self.ensures.relinked c.rise-self.ensures.ordered in
     record {
       chunks = s.placed;

@@ -1,3 +1,4 @@
+use Rattle.core_segment.specs.Words.{words_of}
 use Rattle.std.proofs.Common.{ℕ, ◌+◌, ◌<◌, List, ◌∷◌, ◌++◌, length, refl, sym, ap, subst, ◌∙◌, arith}
 use Rattle.std.proofs.Math.ListN.{length-set}
 use Rattle.std.proofs.Math.Path.{fun_ext}
@@ -28,7 +29,7 @@ writes region firsts ts free p i w laid low =
 pub overflow_add-at : goal.overflow_add-at
 unfolding chunk_at chunks_of
 overflow_add-at c =
-    let g = c.args.self.now in let items = g.region.cells.items in
+    let g = c.args.self.now in let items = (words_of g.region) in
     let t = writes-to items g.lists.firsts (tiles_of items) g.free c.args.at.place c.args.i g.whole c.requires in
     let r = c.requires in let a = t.words in let b = t.low in let d = g.small in
     omega arith
@@ -36,7 +37,7 @@ overflow_add-at c =
 pub overflow_add-at-2 : goal.overflow_add-at-2
 unfolding chunk_at chunks_of
 overflow_add-at-2 c =
-    let g = c.args.self.now in let items = g.region.cells.items in
+    let g = c.args.self.now in let items = (words_of g.region) in
     let t = writes-to items g.lists.firsts (tiles_of items) g.free c.args.at.place c.args.i g.whole c.requires in
     let r = c.requires in let a = t.words in let b = t.low in let d = g.small in
     omega arith
@@ -44,7 +45,7 @@ overflow_add-at-2 c =
 pub put-requires : goal.put-requires
 unfolding chunk_at chunks_of
 put-requires c =
-    let g = c.args.self.now in let items = g.region.cells.items in
+    let g = c.args.self.now in let items = (words_of g.region) in
     let t = writes-to items g.lists.firsts (tiles_of items) g.free c.args.at.place c.args.i g.whole c.requires in
     let r = c.requires in let a = t.words in let b = t.low in
     omega arith
@@ -52,7 +53,7 @@ put-requires c =
 pub invariant_of-self : goal.invariant_of-self
 unfolding chunk_at chunks_of
 invariant_of-self c =
-    let g = c.args.self.now in let items = g.region.cells.items in
+    let g = c.args.self.now in let items = (words_of g.region) in
     let s = writes items g.lists.firsts (tiles_of items) g.free c.args.at.place c.args.i c.args.w g.whole c.requires in
     record {
       small =
@@ -69,7 +70,7 @@ invariant_of-self c =
 pub returns-clause-chunks : goal.returns-clause-chunks
 unfolding chunk_at chunks_of
 returns-clause-chunks c =
-    let g = c.args.self.now in let items = g.region.cells.items in
+    let g = c.args.self.now in let items = (words_of g.region) in
     let s = writes items g.lists.firsts (tiles_of items) g.free c.args.at.place c.args.i c.args.w g.whole c.requires in
     fun_ext (λ k. ap (λ (l : List ℕ). chunk l (tiles_of l) k) c.put.ensures
     ∙ ap (λ (us : List Tile). chunk (slice_set items (c.args.at.place + 4 + c.args.i) c.args.w) us k) s.renew.is ∙ s.chunks k)
@@ -77,7 +78,7 @@ returns-clause-chunks c =
 pub returns-clause-room : goal.returns-clause-room
 unfolding size_of free_of largest_of chunk_at chunks_of
 returns-clause-room c =
-    let g = c.args.self.now in let items = g.region.cells.items in
+    let g = c.args.self.now in let items = (words_of g.region) in
     let s = writes items g.lists.firsts (tiles_of items) g.free c.args.at.place c.args.i c.args.w g.whole c.requires in
     record {
       size = ap (λ (l : List ℕ). length l) c.put.ensures ∙ length-set items (c.args.at.place + 4 + c.args.i) c.args.w;

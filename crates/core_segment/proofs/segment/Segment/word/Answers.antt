@@ -1,3 +1,4 @@
+use Rattle.core_segment.specs.Words.{words_of}
 use Rattle.std.proofs.Common.{ℕ, ◌≡◌, ◌+◌, get_or, Some, ap, arith, sym, ◌∙◌}
 use Rattle.std.proofs.lemmas.Option.{slice_get-get_or}
 use Rattle.core_segment.specs.Chunks.{Chunk}
@@ -11,7 +12,7 @@ use Rattle.core_segment.proofs.segment.Segment.word.Goals as goal
 pub overflow_add-at : goal.overflow_add-at
 unfolding chunk_at chunks_of
 overflow_add-at c =
-    let g = c.args.self.now in let items = g.region.cells.items in
+    let g = c.args.self.now in let items = (words_of g.region) in
     let tells = told items g.lists.firsts (tiles_of items) g.free c.args.at.place g.whole (owned items (tiles_of items) c.args.at.place (let r = c.requires in omega arith)) in
     let r = c.requires in let a = tells.words in let b = tells.low in let d = g.small in
     omega arith
@@ -19,7 +20,7 @@ overflow_add-at c =
 pub overflow_add-at-2 : goal.overflow_add-at-2
 unfolding chunk_at chunks_of
 overflow_add-at-2 c =
-    let g = c.args.self.now in let items = g.region.cells.items in
+    let g = c.args.self.now in let items = (words_of g.region) in
     let tells = told items g.lists.firsts (tiles_of items) g.free c.args.at.place g.whole (owned items (tiles_of items) c.args.at.place (let r = c.requires in omega arith)) in
     let r = c.requires in let a = tells.words in let b = tells.low in let d = g.small in
     omega arith
@@ -27,7 +28,7 @@ overflow_add-at-2 c =
 pub get-requires : goal.get-requires
 unfolding chunk_at chunks_of
 get-requires c =
-    let g = c.args.self.now in let items = g.region.cells.items in
+    let g = c.args.self.now in let items = (words_of g.region) in
     let tells = told items g.lists.firsts (tiles_of items) g.free c.args.at.place g.whole (owned items (tiles_of items) c.args.at.place (let r = c.requires in omega arith)) in
     let r = c.requires in let a = tells.words in let b = tells.low in
     omega arith
@@ -35,7 +36,7 @@ get-requires c =
 pub returns : goal.returns
 unfolding chunk_at chunks_of
 returns c =
-    let g = c.args.self.now in let items = g.region.cells.items in
+    let g = c.args.self.now in let items = (words_of g.region) in
     let tells = told items g.lists.firsts (tiles_of items) g.free c.args.at.place g.whole (owned items (tiles_of items) c.args.at.place (let r = c.requires in omega arith)) in
     let t = tells.tile in
     let r = c.requires in let a = tells.words in let b = tells.low in let place = tells.place in
