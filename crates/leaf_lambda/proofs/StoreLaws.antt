@@ -1,5 +1,5 @@
 -- Stores of words: a run of words in a list, and a body whose words change where none is a reference.
-use Rattle.std.proofs.Common.{zero, suc, ◌≡◌, ◌≢◌, ℕ, ◌+◌, ◌-◌, ◌*◌, ◌/◌, ◌%◌, ◌<◌, ◌≤◌, Bool, true, false, nat_lt, List, [], ◌∷◌, ◌++◌, length, refl, sym, ◌∙◌, ap, subst, arith, ⊎_elim, Option, Some, None, count_by}
+use Rattle.std.proofs.Common.{zero, suc, ◌≡◌, ◌≢◌, ℕ, ◌+◌, ◌-◌, ◌*◌, ◌/◌, ◌%◌, ◌<◌, ◌≤◌, Bool, true, false, nat_lt, List, [], ◌∷◌, ◌++◌, length, get_or, refl, sym, ◌∙◌, ap, subst, arith, ⊎_elim, Option, Some, None, count_by}
 use Rattle.std.proofs.lemmas.Bool.{cases_eq}
 use Rattle.std.proofs.lemmas.Grind.{common_steps}
 use Rattle.std.proofs.lemmas.List.{length-append}
@@ -16,7 +16,8 @@ use Rattle.long_names.specs.declared.object.Body.TheVariants as body
 use Rattle.long_names.specs.declared.object.Object.{Object}
 use Rattle.object_table.specs.declared.entry.Entry.{Entry}
 use Rattle.object_table.specs.Entries.{put, place_of}
-use Rattle.core_segment.specs.Chunks.{Chunk}
+use Rattle.std.proofs.Math.Path.{fun_ext}
+use Rattle.core_segment.specs.Chunks.{Chunk, with_chunk, with_word}
 use Rattle.core_view.specs.Core.{Core, with_words}
 use Rattle.core_view.specs.Words.{meant, header_in, pointers, body_in, bytes_in, code_in, literals_in, int_of_short, words_for, values_by}
 use Rattle.core_view.specs.Held.{Disk, fields_there, object_at, held}
@@ -87,6 +88,48 @@ run-all old now i run room long done rest = all-same now (put_run old i run) (lo
     go : (j : ℕ) (b : Bool) → nat_lt j (i + length run) ≡ b → slice_get now j ≡ slice_get (put_run old i run) j
     go j true e = done j (grind (arith, common_steps))
     go j false e = let far : i + length run ≤ j = grind (arith, common_steps) in rest j far ∙ sym (run-after old i run j room far)
+
+-- one word more of a run is written
+pub run-chunk : (f g h : ℕ → Chunk) (p i w : ℕ) → g ≡ with_chunk f p (record { owner = (f p).owner; words = (g p).words }) → h ≡ with_word g p i w
+    → h ≡ with_chunk f p (record { owner = (f p).owner; words = (h p).words })
+run-chunk f g h p i w before now = fun_ext (λ q. ⊎_elim (λ (e : q ≡ p). here q e) (λ (e : q ≢ p). there q e) (cases_eq q p))
+  where
+    at : h p ≡ record { owner = (g p).owner; words = slice_set (g p).words i w }
+    at = ap (λ (k : ℕ → Chunk). k p) now ∙ put-here g p (record { owner = (g p).owner; words = slice_set (g p).words i w })
+
+    owner : (h p).owner ≡ (f p).owner
+    owner = ap (λ (x : Chunk). x.owner) at ∙ ap (λ (k : ℕ → Chunk). (k p).owner) before ∙ ap (λ (x : Chunk). x.owner) (put-here f p (record { owner = (f p).owner; words = (g p).words }))
+
+    same : h p ≡ with_chunk f p (record { owner = (f p).owner; words = (h p).words }) p
+    same = ap (λ (o : ℕ). record { owner = o; words = (h p).words }) owner ∙ sym (put-here f p (record { owner = (f p).owner; words = (h p).words }))
+
+    here : (q : ℕ) → q ≡ p → h q ≡ with_chunk f p (record { owner = (f p).owner; words = (h p).words }) q
+    here q e = subst (λ (z : ℕ). h z ≡ with_chunk f p (record { owner = (f p).owner; words = (h p).words }) z) (sym e) same
+
+    there : (q : ℕ) → q ≢ p → h q ≡ with_chunk f p (record { owner = (f p).owner; words = (h p).words }) q
+    there q e = ap (λ (k : ℕ → Chunk). k q) now ∙ put-there g p (record { owner = (g p).owner; words = slice_set (g p).words i w }) q e
+        ∙ ap (λ (k : ℕ → Chunk). k q) before ∙ put-there f p (record { owner = (f p).owner; words = (g p).words }) q e
+        ∙ sym (put-there f p (record { owner = (f p).owner; words = (h p).words }) q e)
+
+pub run-words : (g h : ℕ → Chunk) (p i w : ℕ) → h ≡ with_word g p i w → (h p).words ≡ slice_set (g p).words i w
+run-words g h p i w now = ap (λ (k : ℕ → Chunk). (k p).words) now ∙ ap (λ (x : Chunk). x.words) (put-here g p (record { owner = (g p).owner; words = slice_set (g p).words i w }))
+
+pub run-done : (old before now run : List ℕ) (i k w : ℕ) → i + length run ≤ length old → length before ≡ length old → k < length run → w ≡ get_or run k w → now ≡ slice_set before (i + k) w
+    → ((j : ℕ) → j < i + k → slice_get before j ≡ slice_get (put_run old i run) j) → (j : ℕ) → j < i + (k + 1) → slice_get now j ≡ slice_get (put_run old i run) j
+run-done old before now run i k w room long low is e done j near = ap (λ (l : List ℕ). slice_get l j) e ∙ ⊎_elim
+    (λ (at : j ≡ i + k). ap (λ (z : ℕ). slice_get (slice_set before (i + k) w) z) at ∙ get-set before (i + k) w (omega arith)
+    ∙ sym (ap (λ (z : ℕ). slice_get (put_run old i run) z) at ∙ run-here old i run k room low ∙ get-is run k w low is))
+    (λ (away : j ≢ i + k). get-set-other before (i + k) w j away ∙ done j (omega arith))
+    (cases_eq j (i + k))
+  where
+    get-is : (run : List ℕ) (k w : ℕ) → k < length run → w ≡ get_or run k w → slice_get run k ≡ Some w
+    get-is [] k w low is = absurd (omega arith)
+    get-is (x ∷ run) zero w low is = ap Some (sym is)
+    get-is (x ∷ run) (suc k) w low is = get-is run k w (omega arith) is
+
+pub run-rest : (old before now : List ℕ) (i k w : ℕ) → now ≡ slice_set before (i + k) w → ((j : ℕ) → i + k ≤ j → slice_get before j ≡ slice_get old j)
+    → (j : ℕ) → i + (k + 1) ≤ j → slice_get now j ≡ slice_get old j
+run-rest old before now i k w e rest j far = ap (λ (l : List ℕ). slice_get l j) e ∙ get-set-other before (i + k) w j (λ at. omega arith) ∙ rest j (omega arith)
 
 -- ---- other words in a body, none of which is a reference
 
