@@ -1,5 +1,5 @@
 -- The entry of an idle leaf is given up.
-use Rattle.std.proofs.Common.{◌≡◌, ◌≢◌, ◌⊎◌, inl, inr, ℕ, pos, ◌+ℤ◌, ◌+◌, ◌*◌, ◌-◌, ◌<◌, Bool, true, false, cond, eqb, [], ◌∷◌, Option, Some, None, is_some, refl, sym, ◌∙◌, ap, subst, arith}
+use Rattle.std.proofs.Common.{◌≡◌, ◌≢◌, ◌⊎◌, inl, inr, ℕ, pos, ◌+ℤ◌, ◌+◌, ◌*◌, ◌-◌, ◌<◌, Bool, true, false, cond, eqb, [], ◌∷◌, Option, Some, None, is_some, refl, sym, ◌∙◌, ap, subst, arith, ⊎_elim}
 use Rattle.std.specs.Prelude.{IsSome, option_map, nat_eq}
 use Rattle.std.specs.Int.{w64, FitsUnsigned}
 use Rattle.counted_core.specs.Dead.{NoneIdle, outside_by}
@@ -263,6 +263,13 @@ eq-is j k e = grind (arith, common_steps, e)
 
 eq-not : (j k : ℕ) → eqb j k ≡ false → j ≢ k
 eq-not j k e = grind (arith, common_steps, e)
+
+-- an entry in use was in use before
+pub still-used : (p q : Parts2) (s : ℕ) → IsGiving p q → is_used (entry_at q.table s).state ≡ true → is_used (entry_at p.table s).state ≡ true
+still-used p q s g used = ⊎_elim
+    (λ same. sym (ap (λ (e : Entry). is_used e.state) same) ∙ used)
+    (λ free. let both : true ≡ false = sym used ∙ free in absurd (cc))
+    (g.entries s)
 
 pub none-below : (p q : Parts2) (k : ℕ) → IsGiving p q → NoneIdleBelow k p → (IsIdleEntry (entry_at q.table (2 * (k + 1))) → ⊥) → NoneIdleBelow (k + 1) q
 none-below p q k a below here j low idle = go (eqb j k) refl

@@ -11,3 +11,4 @@ pub mod DrainLaws
 pub mod NumberLaws
 pub mod RefLaws
 pub mod SwapLaws
+pub mod ShortLaws

@@ -2,3 +2,4 @@ pub mod Parts
 pub mod At
 pub mod Giving
 pub mod Faults
+pub mod Shorts

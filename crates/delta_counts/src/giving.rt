@@ -116,7 +116,7 @@ pub fn give_idle<H: Host>(p: &mut Parts2, disk: &mut DiskObjects<'_, H>) -> Resu
     ensures same_host { disk.new.host.ghost_name ≡ disk.old.host.ghost_name }
     ensures fault { IfErr result (IsSlotsFault (H.tells Role.Work) (H.faults disk.old.host.now Role.Work) (H.faults disk.new.host.now Role.Work) disk.old.rest) }
 {
-    let count = p.table.entries();
+    let count = p.table.used_end();
     for k in 0..count {
         give_idle_at(p, disk, Short(2 * (k + 1)))?;
     }

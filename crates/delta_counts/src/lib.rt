@@ -11,8 +11,9 @@
 //!
 //! What the counts mean stands in `counted_core`: `IsSound t owed` says that they are exact but for the words that are owed. Here `IsAt` says
 //! that parts and a disk stand for such levels, and each call says what it makes of them where the host tells Work. Read `specs/At.antt` first,
-//! then `Parts.antt` and `Giving.antt`. Bodies are never touched: the layer above frees the dead objects that have one, whose words `lower_words`
-//! lowers from the record that it makes of them.
+//! then `Parts.antt` and `Giving.antt`. Bodies are never touched: the layer above frees the dead objects that have one, whose words
+//! `lower_words` lowers from the record that it makes of them, or `lower_shorts` from the short words themselves, where no lambda is
+//! among them.
 //!
 //! - Proved: Each call keeps counts exact where the host tells Work. `drain_one` frees one name that nothing holds, and answers false
 //!   exactly where there is none without a body. Over every host each call ends.
@@ -27,6 +28,7 @@ mod freeing;
 mod giving;
 pub mod laws;
 mod references;
+mod shorts;
 mod stored;
 mod words;
 
@@ -36,4 +38,5 @@ pub use folding::fold;
 pub use freeing::{drain_all, drain_pending};
 pub use giving::{give_idle, give_idle_at, give_up};
 pub use references::{hold, release};
+pub use shorts::{lower_short, lower_shorts};
 pub use words::lower_words;

@@ -1,7 +1,7 @@
-use Rattle.std.proofs.Common.{[], refl, ◌∙◌, arith}
+use Rattle.std.proofs.Common.{[], ◌+◌, ◌*◌, refl, ◌∙◌, arith}
 use Rattle.loom_host.proofs.WorkLaws.{work-itself, work-again, exits}
 use Rattle.delta_counts.proofs.WordLaws.{reached-then}
-use Rattle.delta_counts.proofs.GiveLaws.{giving-refl, giving-trans, giving-names, none-below}
+use Rattle.delta_counts.proofs.GiveLaws.{giving-refl, giving-trans, giving-names, none-below, still-used}
 use Rattle.loom_host.specs.declared.outside.Role.TheVariants.{Work}
 use Rattle.disk_objects.specs.Calls.{IsSlotsFault}
 use Rattle.delta_counts.proofs.FaultLaws.{slots-again}
@@ -43,7 +43,11 @@ loop-k-preserved g c =
     }
 
 pub returns-clause-none : goal.returns-clause-none
-returns-clause-none g c = λ j low. c.loop-k.invariant.below j (let high = c.loop-k-test.false in let e = c.entries-count.ensures.entries in omega arith)
+returns-clause-none g c = λ j low idle.
+    let used = still-used c.args.p.now c.loop-k.p (2 * (j + 1)) c.loop-k.invariant.giving idle.used in
+    let end = c.used_end-count.ensures.used (2 * (j + 1)) used in
+    let high = c.loop-k-test.false in
+    c.loop-k.invariant.below j (omega arith) idle
 
 pub returns-in_err-give_idle_at-clause-fault : goal.returns-in_err-give_idle_at-clause-fault
 returns-in_err-give_idle_at-clause-fault g c =
