@@ -130,8 +130,8 @@ none-more t i core below here s low a place dead = ⊎_elim
     (λ (f : s ≡ 2 * i + 3). absurd (let both : true ≡ false = sym (core.short s (placed-used (t.core.entries s).state a place)) ∙ odd-short s i f in cc))
     (λ (f : s ≢ 2 * i + 3). below s (omega arith) a place dead) (cases_eq s (2 * i + 3))) (cases_eq s (2 * i + 2))
 
-pub none-all : (t : Levels) (n : ℕ) → IsCore t.core → t.core.bound ≤ n → NoneDeadBelow n t → NoBodyDead t
-none-all t n core most below s a place dead = below s (let low = core.within s (placed-used (t.core.entries s).state a place) in omega arith) a place dead
+pub none-all : (t : Levels) (n : ℕ) → ((s : ℕ) → is_used (t.core.entries s).state ≡ true → s < n) → NoneDeadBelow n t → NoBodyDead t
+none-all t n most below s a place dead = below s (most s (placed-used (t.core.entries s).state a place)) a place dead
 
 pub bodies-then : (a b c : Core) → KeepsBodies a b → KeepsBodies b c → KeepsBodies a c
 bodies-then a b c f g s p at = let first = f s p at in body-then a b c s p first (g s first.at first.place)
@@ -163,6 +163,10 @@ may-drop t s p n fresh e x is at name same = subst (λ (k : ℕ). MayDrop fresh 
           some (t.stored (t.core.entries s).name) like.object like.there,
           x.counted.waiting (t.core.entries s).name ∙ ap one_if (entered-waits (t.core.find (t.core.entries s).name) s (t.stored (t.core.entries s).name) (is_known (t.core.entries s).name) (x.core.found s (placed-used (t.core.entries s).state p place))),
         )
+
+-- a fresh object has no record
+pub fresh-none : (t : Levels) (s p : ℕ) (e : Entry) → IsSound t [] → t.core.entries s ≡ e → place_of e.state ≡ Some p → e.flags.fresh ≡ true → t.stored e.name ≡ None
+fresh-none t s p e x is at fresh = subst (λ (b : Bool). MayDrop b t.stored t.pending e.name) fresh (may-drop t s p e.name e.flags.fresh e x is at refl refl)
 
 pub fresh-dropped : {H : Type 0} (host : Ghosts H) (now : H) (rest : DiskRest) (stored : ℕ → Option Stored) (pending : List ℕ) (n : ℕ) (fresh : Bool) → fresh ≡ true → MayDrop fresh stored pending n → IsStoredAt host now rest stored pending → IsStoredAt host now rest (put stored n None) pending
 fresh-dropped host now rest stored pending n true e may x = record {
@@ -288,10 +292,10 @@ levels-then host a b c x y z k l m i f g t at s =
     let then = g t first.0 s in
     (then.0, bodies-then (core_of a) (core_of b) (core_of c) first.1 then.1, none-more t i s.core first.2 then.2)
 
-pub levels-all : {H : Type 0} (host : Ghosts H) (a b : Parts) (x y : H) (k l : DiskRest) (n : ℕ) → (core_of a).bound ≤ n → KeepsLevels host a x k b y l (NoneDeadBelow n) → KeepsLevels host a x k b y l NoBodyDead
+pub levels-all : {H : Type 0} (host : Ghosts H) (a b : Parts) (x y : H) (k l : DiskRest) (n : ℕ) → ((s : ℕ) → is_used ((core_of a).entries s).state ≡ true → s < n) → KeepsLevels host a x k b y l (NoneDeadBelow n) → KeepsLevels host a x k b y l NoBodyDead
 levels-all host a b x y k l n most f t at s =
     let r = f t at s in
-    (r.0, r.1, none-all t n s.core (let same = ap (λ (c : Core). c.bound) (Rattle.purger.proofs.SoundLaws.core-at host a x k t at) in omega arith) r.2)
+    (r.0, r.1, none-all t n (subst (λ (c : Core). (s : ℕ) → is_used (c.entries s).state ≡ true → s < n) (Rattle.purger.proofs.SoundLaws.core-at host a x k t at) most) r.2)
 
 pub twice-short : (n : ℕ) → 0 < n → is_short (2 * n) ≡ true
 twice-short n some = let rest : (2 * n) % 2 ≡ 0 = omega arith in grind (arith, common_steps)

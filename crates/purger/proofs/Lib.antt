@@ -1,4 +1,5 @@
 pub mod MarkLaws
+pub mod PlainLaws
 pub mod NamingLaws
 pub mod SoundLaws
 pub mod GivingLaws
@@ -9,3 +10,6 @@ pub mod ThinLaws
 pub mod ForgetLaws
 pub mod DrainLaws
 pub mod CloseLaws
+pub mod TouchLaws
+pub mod RoundLaws
+pub mod AloneLaws

@@ -19,6 +19,7 @@ use Rattle.core_view.specs.Held.{Disk as Store}
 use Rattle.core_view.specs.Kept.{IsCore, IsBacked, KeepsOver}
 use Rattle.core_view.specs.Purge.{IsPurged, fresh_of}
 use Rattle.core_view.specs.Room.{is_among}
+use Rattle.core_view.proofs.Core.{placed-used}
 use Rattle.core_view.proofs.Purge.{fresh-least}
 use Rattle.leaf_lambda.specs.declared.parts.Parts.{Parts}
 use Rattle.leaf_lambda.specs.Parts.{core_of}
@@ -127,3 +128,11 @@ disk-once {H} host old mid new (Disk f) low x = purge-later host old mid new f l
 pub disk-later : {T H : Type 0} (host : Ghosts H) (old mid new : H) (r : Result T RoomFault) → host.faults old Work ≤ host.faults mid Work → IfErr r (λ f. OnDisk f (IsPurgeFault host mid new)) → IfErr r (λ f. OnDisk f (IsPurgeFault host old new))
 disk-later {T} {H} host old mid new (Ok v) low x = tt
 disk-later {T} {H} host old mid new (Err f) low x = disk-once host old mid new f low x
+
+-- what has a body after a purge was in use before it
+pub placed-before : (a b k : ℕ) (c d : Core) (s p : ℕ) → IsPurged a b k c d → place_of (d.entries s).state ≡ Some p → is_used (c.entries s).state ≡ true
+placed-before a b k c d s p purged at = go (place_of (c.entries s).state) refl
+  where
+    go : (o : Option ℕ) → place_of (c.entries s).state ≡ o → is_used (c.entries s).state ≡ true
+    go None e = let both : None ≡ Some p = sym (purged.leaves s e) ∙ at in absurd (cc)
+    go (Some q) e = placed-used (c.entries s).state q e

@@ -6,19 +6,21 @@ ghost use Rattle.object_record.specs.Buffer.{raw_of, HasRecord};
 ghost use Rattle.object_table.specs.Entries.{is_short, is_used, place_of, put};
 ghost use Rattle.object_table.specs.Table.{bound_of};
 ghost use Rattle.core_segment.specs.Segment.{free_of, size_of};
+ghost use Rattle.disk_objects.specs.Calls.{HoldsObjects};
 ghost use Rattle.disk_objects.specs.Disk.{disk_held, disk_room};
 ghost use Rattle.core_view.specs.Kept.{IsTight};
 ghost use Rattle.core_view.specs.Purge.{fresh_of};
 ghost use Rattle.leaf_lambda.specs.Parts.{core_of, spare_of, IsParts};
-ghost use Rattle.counted_core.specs.Levels.{Levels, Stored};
+ghost use Rattle.counted_core.specs.Levels.{Levels, Stored, count_in};
 ghost use Rattle.counted_core.specs.Counted.{IsSound};
 ghost use Rattle.counted_core.specs.Dead.{IsDead};
 ghost use Rattle.delta_counts.specs.At.{IsStoredAt};
 ghost use Rattle.purger.specs.Counts.{HasSound, StandsFor};
 ghost use Rattle.purger.specs.Draining.{DrainsBare, DrainsDead, HasDead, IsDeadBy, IsForgotten, IsThinned, KeepsLevels, LeavesRest, MayDrop, NoBodyDead, NotDeadAt, Thins};
-ghost use Rattle.purger.specs.Marks.{AreHere, IsOut};
+ghost use Rattle.purger.specs.Marks.{AreHere, IsOut, MindsMarks};
 ghost use Rattle.purger.specs.Purge.{IsReadFault};
 
+use crate::alone::{MOST_ALONE, copy_fields, free_alone};
 use crate::eviction::{NOWHERE, count_of, read_copy};
 use crate::marks::unmark_for;
 use core_segment::laws::chunks_never_overlap;
@@ -40,6 +42,27 @@ fn comes_to_none(change: i64, count: u64) -> bool
         return false;
     }
     change.unsigned_abs() == count
+}
+
+// The count on disk of the name of an entry: of a fresh object, which has no record, 0, and nothing is read.
+#[inline(always)]
+fn count_behind<H: Host>(
+    disk: &mut DiskObjects<'_, H>,
+    name: Name,
+    fresh: bool,
+) -> Result<u64, DiskFault>
+    requires stands { HoldsObjects H.Host disk.old.host.now disk.old.rest }
+    ensures count { IsTrue (H.tells Role.Work) → (stored : ℕ → Option Stored) (pending : List ℕ) →
+        IsStoredAt H.Host disk.old.host.now disk.old.rest stored pending → (fresh ≡ true → stored name ≡ None) → IfOk result (λ n. n ≡ count_in (stored name)) }
+    ensures rest { disk.new.rest ≡ disk.old.rest }
+    ensures read { IsWorkRead H.Host disk.old.host.now disk.new.host.now }
+    ensures same_host { disk.new.host.ghost_name ≡ disk.old.host.ghost_name }
+    ensures fault { IfErr result (IsReadFault (H.tells Role.Work) (H.faults disk.old.host.now Role.Work) (H.faults disk.new.host.now Role.Work)) }
+{
+    if fresh {
+        return Ok(0);
+    }
+    count_of(disk, name)
 }
 
 // Whether an object with a body is dead: nothing refers to its entry, it isn't known, and its count is 0.
@@ -67,12 +90,12 @@ fn is_dead<H: Host>(p: &Parts, disk: &mut DiskObjects<'_, H>, s: Short) -> Resul
     if e.name.is_known() {
         return Ok(false);
     }
-    let count = count_of(disk, e.name)?;
+    let count = count_behind(disk, e.name, e.flags.fresh)?;
     Ok(comes_to_none(e.change, count))
 }
 
 // Removes the record of a name that isn't pending; a fresh object has none.
-fn drop_record<H: Host>(
+pub(crate) fn drop_record<H: Host>(
     disk: &mut DiskObjects<'_, H>,
     name: Name,
     fresh: bool,
@@ -95,7 +118,7 @@ fn drop_record<H: Host>(
 }
 
 // Takes the body and the entry of an object to which nothing refers. It isn't written.
-fn forget(p: &mut Parts, s: Short)
+pub(crate) fn forget(p: &mut Parts, s: Short)
     requires parts { IsParts p.old }
     requires body { (at : ℕ) × (place_of ((core_of p.old).entries s.0).state ≡ Some at) }
     requires none { ((core_of p.old).entries s.0).refs ≡ 0 }
@@ -127,6 +150,7 @@ fn free_body<H: Host>(
     requires none { ((core_of p.old).entries s.0).refs ≡ 0 }
     requires dead { HasDead H.Host p.old disk.old.host.now disk.old.rest s.0 }
     ensures leaves { LeavesRest p.old p.new }
+    ensures minds { OnOk result (MindsMarks (core_of p.old) (core_of p.new)) }
     ensures freed { IsTrue (H.tells Role.Work) → (t : Levels) → StandsFor H.Host p.old disk.old.host.now disk.old.rest t → IsSound t [] →
         IsDead t (t.core.entries s.0).name → OnOk result (IsThinned H.Host p.old p.new disk.new.host.now disk.new.rest t) }
     ensures out { OnOk result (IsOut (core_of p.new) ((core_of p.old).entries s.0).name) }
@@ -147,7 +171,51 @@ fn free_body<H: Host>(
     lower_words(&mut p.names, disk, buf, NOWHERE)
 }
 
-// Frees the object of an entry, if it has a body and is dead. Then its record is in the buffer; else that has what it had.
+// Frees a dead object that has a body and isn't marked. Where something may go with it, its record is in the buffer then; else that has what it
+// had.
+fn free_gone<H: Host>(
+    p: &mut Parts,
+    disk: &mut DiskObjects<'_, H>,
+    buf: &mut RecordBuf,
+    s: Short,
+) -> Result<bool, DiskFault>
+    requires parts { IsParts p.old }
+    requires tight { IsTight (core_of p.old) }
+    requires marks { AreHere (core_of p.old) }
+    requires body { (at : ℕ) × (place_of ((core_of p.old).entries s.0).state ≡ Some at) }
+    requires unmarked { ((core_of p.old).entries s.0).flags.marked ≡ false }
+    requires none { ((core_of p.old).entries s.0).refs ≡ 0 }
+    requires dead { HasDead H.Host p.old disk.old.host.now disk.old.rest s.0 }
+    ensures leaves { LeavesRest p.old p.new }
+    ensures minds { OnOk result (MindsMarks (core_of p.old) (core_of p.new)) }
+    ensures freed { IsTrue (H.tells Role.Work) → (t : Levels) → StandsFor H.Host p.old disk.old.host.now disk.old.rest t → IsSound t [] →
+        IsDead t (t.core.entries s.0).name → OnOk result (IsThinned H.Host p.old p.new disk.new.host.now disk.new.rest t) }
+    ensures out { OnOk result (IsOut (core_of p.new) ((core_of p.old).entries s.0).name) }
+    ensures wider { OnOk result (free_of p.old.segment < free_of p.new.segment) }
+    ensures record { IfOk result (λ told. IsTrue told → HasRecord buf.new) }
+    ensures still { IfOk result (λ told. told ≡ false → buf.new ≡ buf.old) }
+    ensures held { OnOk result (disk_held disk.new.rest ≤ disk_held disk.old.rest) }
+    ensures limit { disk_room disk.new.rest ≡ disk_room disk.old.rest }
+    ensures work { IsWorkOnly H.Host disk.old.host.now disk.new.host.now }
+    ensures same_host { disk.new.host.ghost_name ≡ disk.old.host.ghost_name }
+    ensures fault { IfErr result (IsReadFault (H.tells Role.Work) (H.faults disk.old.host.now Role.Work) (H.faults disk.new.host.now Role.Work)) }
+{
+    let at = place_of_body(p, s);
+    let mut words = [0; MOST_ALONE];
+    match copy_fields(p, s, at, &mut words) {
+        Some(count) => {
+            free_alone(p, disk, s, &words[..count])?;
+            Ok(false)
+        }
+        None => {
+            free_body(p, disk, buf, s)?;
+            Ok(true)
+        }
+    }
+}
+
+// Frees the object of an entry, if it has a body and is dead. Where it was, and something may go with it, its record is in the buffer then; else
+// that has what it had.
 fn free_dead_at<H: Host>(
     p: &mut Parts,
     disk: &mut DiskObjects<'_, H>,
@@ -161,12 +229,13 @@ fn free_dead_at<H: Host>(
     requires within { s.0 < bound_of p.old.names.table }
     requires sound { HasSound H.Host p.old disk.old.host.now disk.old.rest }
     ensures leaves { LeavesRest p.old p.new }
+    ensures minds { OnOk result (MindsMarks (core_of p.old) (core_of p.new)) }
     ensures thins { IsTrue (H.tells Role.Work) → OnOk result (Thins H.Host p.old disk.old.host.now disk.old.rest p.new disk.new.host.now disk.new.rest) }
     ensures none { IsTrue (H.tells Role.Work) → OnOk result (free_of p.new.segment ≡ free_of p.old.segment →
         KeepsLevels H.Host p.old disk.old.host.now disk.old.rest p.new disk.new.host.now disk.new.rest (NotDeadAt s.0)) }
-    ensures wider { IfOk result (λ freed. IsTrue freed → free_of p.old.segment < free_of p.new.segment) }
-    ensures record { IfOk result (λ freed. IsTrue freed → HasRecord buf.new) }
-    ensures still { IfOk result (λ freed. freed ≡ false → buf.new ≡ buf.old) }
+    ensures wider { IfOk result (λ told. IsTrue told → free_of p.old.segment < free_of p.new.segment) }
+    ensures record { IfOk result (λ told. IsTrue told → HasRecord buf.new) }
+    ensures still { IfOk result (λ told. told ≡ false → buf.new ≡ buf.old) }
     ensures held { OnOk result (disk_held disk.new.rest ≤ disk_held disk.old.rest) }
     ensures limit { disk_room disk.new.rest ≡ disk_room disk.old.rest }
     ensures work { IsWorkOnly H.Host disk.old.host.now disk.new.host.now }
@@ -177,8 +246,7 @@ fn free_dead_at<H: Host>(
         return Ok(false);
     }
     unmark_for(p, s);
-    free_body(p, disk, buf, s)?;
-    Ok(true)
+    Ok(free_gone(p, disk, buf, s)?)
 }
 
 // The entry of what a long word names, if it names an object that has one.
@@ -210,10 +278,11 @@ fn free_at<H: Host>(
     requires within { s.0 < bound_of p.old.names.table }
     requires sound { HasSound H.Host p.old disk.old.host.now disk.old.rest }
     ensures leaves { LeavesRest p.old p.new }
+    ensures minds { OnOk result (MindsMarks (core_of p.old) (core_of p.new)) }
     ensures thins { IsTrue (H.tells Role.Work) → OnOk result (Thins H.Host p.old disk.old.host.now disk.old.rest p.new disk.new.host.now disk.new.rest) }
-    ensures wider { IfOk result (λ freed. IsTrue freed → free_of p.old.segment < free_of p.new.segment) }
-    ensures record { IfOk result (λ freed. IsTrue freed → HasRecord buf.new) }
-    ensures still { IfOk result (λ freed. freed ≡ false → buf.new ≡ buf.old) }
+    ensures wider { IfOk result (λ told. IsTrue told → free_of p.old.segment < free_of p.new.segment) }
+    ensures record { IfOk result (λ told. IsTrue told → HasRecord buf.new) }
+    ensures still { IfOk result (λ told. told ≡ false → buf.new ≡ buf.old) }
     ensures held { OnOk result (disk_held disk.new.rest ≤ disk_held disk.old.rest) }
     ensures limit { disk_room disk.new.rest ≡ disk_room disk.old.rest }
     ensures work { IsWorkOnly H.Host disk.old.host.now disk.new.host.now }
@@ -238,10 +307,11 @@ fn free_held<H: Host>(
     requires field { i < length (longs_of (raw_of buf.old).body) }
     requires sound { HasSound H.Host p.old disk.old.host.now disk.old.rest }
     ensures leaves { LeavesRest p.old p.new }
+    ensures minds { OnOk result (MindsMarks (core_of p.old) (core_of p.new)) }
     ensures thins { IsTrue (H.tells Role.Work) → OnOk result (Thins H.Host p.old disk.old.host.now disk.old.rest p.new disk.new.host.now disk.new.rest) }
-    ensures wider { IfOk result (λ freed. IsTrue freed → free_of p.old.segment < free_of p.new.segment) }
-    ensures record { IfOk result (λ freed. IsTrue freed → HasRecord buf.new) }
-    ensures still { IfOk result (λ freed. freed ≡ false → buf.new ≡ buf.old) }
+    ensures wider { IfOk result (λ told. IsTrue told → free_of p.old.segment < free_of p.new.segment) }
+    ensures record { IfOk result (λ told. IsTrue told → HasRecord buf.new) }
+    ensures still { IfOk result (λ told. told ≡ false → buf.new ≡ buf.old) }
     ensures held { OnOk result (disk_held disk.new.rest ≤ disk_held disk.old.rest) }
     ensures limit { disk_room disk.new.rest ≡ disk_room disk.old.rest }
     ensures work { IsWorkOnly H.Host disk.old.host.now disk.new.host.now }
@@ -289,6 +359,7 @@ fn free_fields<H: Host>(
     requires record { HasRecord buf.old }
     requires sound { HasSound H.Host p.old disk.old.host.now disk.old.rest }
     ensures leaves { LeavesRest p.old p.new }
+    ensures minds { OnOk result (MindsMarks (core_of p.old) (core_of p.new)) }
     ensures thins { IsTrue (H.tells Role.Work) → OnOk result (Thins H.Host p.old disk.old.host.now disk.old.rest p.new disk.new.host.now disk.new.rest) }
     ensures held { OnOk result (disk_held disk.new.rest ≤ disk_held disk.old.rest) }
     ensures limit { disk_room disk.new.rest ≡ disk_room disk.old.rest }
@@ -320,6 +391,7 @@ fn free_pending<H: Host>(
     requires marks { AreHere (core_of p.old) }
     requires sound { HasSound H.Host p.old disk.old.host.now disk.old.rest }
     ensures leaves { LeavesRest p.old p.new }
+    ensures minds { OnOk result (MindsMarks (core_of p.old) (core_of p.new)) }
     ensures thins { IsTrue (H.tells Role.Work) → OnOk result (Thins H.Host p.old disk.old.host.now disk.old.rest p.new disk.new.host.now disk.new.rest) }
     ensures held { IfOk result (λ found. IsTrue found → disk_held disk.new.rest + 1 ≡ disk_held disk.old.rest) }
     ensures record { IfOk result (λ found. IsTrue found → HasRecord buf.new) }
@@ -344,6 +416,7 @@ fn free_on<H: Host>(
     requires record { HasRecord buf.old }
     requires sound { HasSound H.Host p.old disk.old.host.now disk.old.rest }
     ensures leaves { LeavesRest p.old p.new }
+    ensures minds { OnOk result (MindsMarks (core_of p.old) (core_of p.new)) }
     ensures thins { IsTrue (H.tells Role.Work) → OnOk result (Thins H.Host p.old disk.old.host.now disk.old.rest p.new disk.new.host.now disk.new.rest) }
     ensures limit { disk_room disk.new.rest ≡ disk_room disk.old.rest }
     ensures work { IsWorkOnly H.Host disk.old.host.now disk.new.host.now }
@@ -373,6 +446,7 @@ fn free_chain<H: Host>(
     requires within { s.0 < bound_of p.old.names.table }
     requires sound { HasSound H.Host p.old disk.old.host.now disk.old.rest }
     ensures leaves { LeavesRest p.old p.new }
+    ensures minds { OnOk result (MindsMarks (core_of p.old) (core_of p.new)) }
     ensures thins { IsTrue (H.tells Role.Work) → OnOk result (Thins H.Host p.old disk.old.host.now disk.old.rest p.new disk.new.host.now disk.new.rest) }
     ensures none { IsTrue (H.tells Role.Work) → OnOk result (free_of p.new.segment ≡ free_of p.old.segment →
         KeepsLevels H.Host p.old disk.old.host.now disk.old.rest p.new disk.new.host.now disk.new.rest (NotDeadAt s.0)) }
@@ -399,6 +473,7 @@ fn free_dead<H: Host>(
     requires marks { AreHere (core_of p.old) }
     requires sound { HasSound H.Host p.old disk.old.host.now disk.old.rest }
     ensures leaves { LeavesRest p.old p.new }
+    ensures minds { OnOk result (MindsMarks (core_of p.old) (core_of p.new)) }
     ensures thins { IsTrue (H.tells Role.Work) → OnOk result (Thins H.Host p.old disk.old.host.now disk.old.rest p.new disk.new.host.now disk.new.rest) }
     ensures none { IsTrue (H.tells Role.Work) → OnOk result (free_of p.new.segment ≡ free_of p.old.segment →
         KeepsLevels H.Host p.old disk.old.host.now disk.old.rest p.new disk.new.host.now disk.new.rest NoBodyDead) }
@@ -407,7 +482,7 @@ fn free_dead<H: Host>(
     ensures same_host { disk.new.host.ghost_name ≡ disk.old.host.ghost_name }
     ensures fault { IfErr result (IsReadFault (H.tells Role.Work) (H.faults disk.old.host.now Role.Work) (H.faults disk.new.host.now Role.Work)) }
 {
-    for i in 0..p.names.table.entries() {
+    for i in 0..p.names.table.used_end() {
         free_chain(p, disk, buf, Short(2 * i + 2), &Next::First)?;
     }
     Ok(())
@@ -424,13 +499,14 @@ fn free_down<H: Host>(
     requires marks { AreHere (core_of p.old) }
     requires sound { HasSound H.Host p.old disk.old.host.now disk.old.rest }
     ensures leaves { LeavesRest p.old p.new }
+    ensures minds { OnOk result (MindsMarks (core_of p.old) (core_of p.new)) }
     ensures thins { IsTrue (H.tells Role.Work) → OnOk result (Thins H.Host p.old disk.old.host.now disk.old.rest p.new disk.new.host.now disk.new.rest) }
     ensures limit { disk_room disk.new.rest ≡ disk_room disk.old.rest }
     ensures work { IsWorkOnly H.Host disk.old.host.now disk.new.host.now }
     ensures same_host { disk.new.host.ghost_name ≡ disk.old.host.ghost_name }
     ensures fault { IfErr result (IsReadFault (H.tells Role.Work) (H.faults disk.old.host.now Role.Work) (H.faults disk.new.host.now Role.Work)) }
 {
-    let count = p.names.table.entries();
+    let count = p.names.table.used_end();
     for i in 0..count {
         free_chain(p, disk, buf, Short(2 * (count - i)), &Next::Last)?;
     }
@@ -448,6 +524,7 @@ fn drain_bare<H: Host>(
     requires marks { AreHere (core_of p.old) }
     requires sound { HasSound H.Host p.old disk.old.host.now disk.old.rest }
     ensures leaves { LeavesRest p.old p.new }
+    ensures minds { OnOk result (MindsMarks (core_of p.old) (core_of p.new)) }
     ensures segment { p.new.segment ≡ p.old.segment }
     ensures drained { IsTrue (H.tells Role.Work) → OnOk result (DrainsBare H.Host p.old disk.old.host.now disk.old.rest p.new disk.new.host.now disk.new.rest) }
     ensures limit { disk_room disk.new.rest ≡ disk_room disk.old.rest }
@@ -476,6 +553,7 @@ pub fn drain<H: Host>(
     requires marks { AreHere (core_of p.old) }
     requires sound { HasSound H.Host p.old disk.old.host.now disk.old.rest }
     ensures leaves { LeavesRest p.old p.new }
+    ensures minds { OnOk result (MindsMarks (core_of p.old) (core_of p.new)) }
     ensures drained { IsTrue (H.tells Role.Work) → OnOk result (DrainsDead H.Host p.old disk.old.host.now disk.old.rest p.new disk.new.host.now disk.new.rest) }
     ensures counted { IsTrue (H.tells Role.Work) → OnOk result (disk_held disk.new.rest + fresh_of (core_of p.new) ≤ disk_held disk.old.rest + fresh_of (core_of p.old)) }
     ensures limit { disk_room disk.new.rest ≡ disk_room disk.old.rest }

@@ -17,8 +17,9 @@
 //! core_view's `what_is_left_is_pinned` says.
 //!
 //! `drain` frees what is dead, in the core and on disk, until nothing is: the heap is thinner by it, what stays keeps its body, and no dead object
-//! is written (`DrainsDead`). It follows what dies from object to object, so a list goes in one round whatever the order of its cells. `close` lets everything leave a core from which nothing is named: the disk has just the kept objects then, with
-//! their exact counts (`HasKept`).
+//! is written (`DrainsDead`). It follows what dies from object to object, so a list goes in one round whatever the order of its cells. Of an
+//! object that dies alone no record is made: counts are lowered from its short words (`alone`). `close` lets everything leave a core from
+//! which nothing is named: the disk has just the kept objects then, with their exact counts (`HasKept`).
 //!
 //! Read `specs/Purge.antt`, then `Counts.antt`, `Marks.antt`, `Draining.antt` and `Closing.antt`. What moves one body is leaf_lambda's, and what
 //! joins its calls with counts stands in `laws`.
@@ -29,6 +30,7 @@
 //! - Not said: Which objects go, what calls cost, that no record is written only to be removed again, and where most Damaged answers point.
 #![tactic(auto)]
 
+mod alone;
 pub mod closing;
 pub mod draining;
 pub mod eviction;
@@ -36,6 +38,7 @@ mod idle;
 pub mod laws;
 pub mod marks;
 pub mod room;
+pub mod touches;
 
 pub use closing::close;
 pub use draining::drain;

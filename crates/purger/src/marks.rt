@@ -11,31 +11,7 @@ ghost use Rattle.purger.specs.Marks.{AreHere, IsUnmarking, LeavesMarks};
 use leaf_lambda::Parts;
 use object_table::Short;
 
-// Takes the mark from an entry.
-fn unmark_one(p: &mut Parts, s: Short)
-    requires parts { IsParts p.old }
-    requires short { is_short s.0 ≡ true }
-    requires within { s.0 < bound_of p.old.names.table }
-    ensures parts { IsParts p.new }
-    ensures step { IsUnmarking (core_of p.old) (core_of p.new) }
-    ensures stays { Stays (core_of p.old) (core_of p.new) }
-    ensures outside { (t : ℕ) → outside (core_of p.new) t ≡ outside (core_of p.old) t }
-    ensures here { is_used ((core_of p.new).entries s.0).state ≡ true → ((core_of p.new).entries s.0).flags.marked ≡ false }
-    ensures entries { entries_of p.new.names.table ≡ entries_of p.old.names.table }
-    ensures spare { spare_of p.new ≡ spare_of p.old }
-    ensures segment { p.new.segment ≡ p.old.segment }
-{
-    let mut e = p.names.table.entry(s);
-    if !e.is_used() {
-        return;
-    }
-    e.flags.marked = false;
-    p.names.table.set(s, e);
-}
-
 /// Takes all marks away.
-#[cold]
-#[inline(never)]
 pub fn unmark_all(p: &mut Parts)
     requires parts { IsParts p.old }
     ensures parts { IsParts p.new }
@@ -46,9 +22,7 @@ pub fn unmark_all(p: &mut Parts)
     ensures spare { spare_of p.new ≡ spare_of p.old }
     ensures segment { p.new.segment ≡ p.old.segment }
 {
-    for i in 0..p.names.table.entries() {
-        unmark_one(p, Short(2 * i + 2));
-    }
+    p.names.table.unmark_all();
 }
 
 /// Takes all marks away where this object is marked.

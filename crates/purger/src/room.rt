@@ -1,8 +1,9 @@
 // Room is made: objects leave the core until there is enough.
-ghost use Rattle.std.specs.Prelude.{◌≡◌, ◌⊎◌, ◌+◌, ◌≤◌, ◌<◌, ℕ, Some, None, Ok, true, false, IsTrue, IsOk, IfOk, IfErr, OnOk};
+ghost use Rattle.std.specs.Prelude.{◌≡◌, ◌⊎◌, ◌+◌, ◌*◌, ◌/◌, ◌≤◌, ◌<◌, ℕ, Some, None, Ok, true, false, IsTrue, IsOk, IfOk, IfErr, OnOk};
 ghost use Rattle.loom_host.specs.Work.{IsWorkOnly};
 ghost use Rattle.object_table.specs.Entries.{is_short, is_used, place_of};
 ghost use Rattle.object_table.specs.Table.{bound_of, entries_of};
+ghost use Rattle.object_table.specs.declared.table.TheConstants.{MOST_ENTRIES};
 ghost use Rattle.core_segment.specs.Segment.{free_of, largest_of, size_of};
 ghost use Rattle.disk_objects.specs.Calls.{HoldsObjects};
 ghost use Rattle.disk_objects.specs.Disk.{disk_held, disk_room};
@@ -14,9 +15,12 @@ ghost use Rattle.leaf_lambda.specs.Parts.{core_of, spare_of, IsParts};
 ghost use Rattle.purger.specs.Counts.{HasSound, KeepsCounts, KeepsSound};
 ghost use Rattle.purger.specs.Marks.{AreHere, KeepsMarks, LeavesMarks, MindsMarks};
 ghost use Rattle.purger.specs.Purge.{HasRoom, IsShort, KeepsBodies, OnShort, OnDisk, Undisturbed, IsPurgeFault};
+ghost use Rattle.purger.specs.Rounds.{KeepsAllBut, StopsInTime};
+ghost use Rattle.purger.specs.declared.room.TheConstants.{ROUND_PARTS};
 
 use crate::eviction::evict;
 use crate::idle::idle_behind;
+use crate::touches::{is_touched, untouch};
 use delta_counts::give_idle;
 use disk_objects::DiskObjects;
 use leaf_lambda::Parts;
@@ -318,7 +322,7 @@ fn evict_more<H: Host>(
     evict_one(p, disk, buf, s, words, entries, idle)
 }
 
-// Whether an object goes where the hand passes: it may leave, and isn't marked.
+// Whether an object goes where the hand passes, unless it was touched since: it may leave, and isn't marked.
 #[inline(always)]
 fn may_go(p: &Parts, s: Short, pinned: &Pinned) -> bool
     requires parts { IsParts p.now }
@@ -333,7 +337,8 @@ fn may_go(p: &Parts, s: Short, pinned: &Pinned) -> bool
     may_leave(p, s, pinned)
 }
 
-// Evicts an object at which the hand is, if it goes. Answers how many idle leaves are reckoned.
+// Evicts an object at which the hand is, if it goes; one that was touched since the hand passed isn't touched from then on. Answers how many
+// idle leaves are reckoned.
 fn pass<H: Host>(
     p: &mut Parts,
     disk: &mut DiskObjects<'_, H>,
@@ -353,6 +358,7 @@ fn pass<H: Host>(
     requires counted { IsTrue (H.tells Role.Work) → disk_held disk.old.rest + fresh_of (core_of p.old) ≤ disk_room disk.old.rest }
     ensures parts { IsParts p.new }
     ensures tight { IsTight (core_of p.new) }
+    ensures one { KeepsAllBut s.0 (core_of p.old) (core_of p.new) }
     ensures purged { IsPurged pinned.now.a pinned.now.b pinned.now.d (core_of p.old) (core_of p.new) }
     ensures sound { IsTrue (H.tells Role.Work) → OnOk result (KeepsSound H.Host p.old disk.old.host.now disk.old.rest p.new disk.new.host.now disk.new.rest) }
     ensures marks { LeavesMarks (core_of p.old) (core_of p.new) }
@@ -367,36 +373,40 @@ fn pass<H: Host>(
     if !may_go(p, s, pinned) {
         return Ok(idle);
     }
+    if is_touched(p, s) {
+        untouch(p, s);
+        return Ok(idle);
+    }
     evict_one(p, disk, buf, s, words, entries, idle)
 }
 
-// The entry at which the hand is. The hand moves on, and behind the last entry to the first.
+// The entry at which the hand is, of so many. The hand moves on, and behind the last of them to the first.
 #[inline(always)]
-fn next_entry(p: &Parts, hand: &mut u16) -> Short
-    requires some { 0 < entries_of p.now.names.table }
+fn next_entry(end: u16, hand: &mut u16) -> Short
+    requires some { 0 < end }
+    requires most { end ≤ MOST_ENTRIES }
     ensures short { is_short result.0 ≡ true }
-    ensures within { result.0 < bound_of p.now.names.table }
+    ensures within { result.0 ≤ 2 * end }
 {
-    let at = if *hand < p.names.table.entries() {
-        *hand
-    } else {
-        0
-    };
+    let at = if *hand < end { *hand } else { 0 };
     *hand = at + 1;
     Short(2 * at + 2)
 }
 
 // Whether a round ends: there is room, and the hand went over no entry, or over so many.
 #[inline(always)]
-fn has_turned(p: &Parts, words: u32, entries: u16, passed: u16, part: u16) -> bool {
+fn has_turned(p: &Parts, words: u32, entries: u16, passed: u16, part: u16) -> bool
+    ensures goes { result ≡ false → (passed < part) ⊎ (HasRoom p.now words entries → ⊥) }
+{
     if passed > 0 && passed < part {
         return false;
     }
     has_room(p, words, entries)
 }
 
-// The hand goes on over the table, at most once round it, while there is no room. Where it has to go, it goes over a part of the table at
-// least, so that the table is swept for idle leaves, and bodies are moved together, once for many objects.
+// The hand goes on over the table, at most twice round it, while there is no room: what is passed over the first time may go the second. Where
+// it has to go, it goes over a part of the table at least, so that the table is swept for idle leaves, and bodies are moved together, once
+// for many objects.
 fn go_round<H: Host>(
     p: &mut Parts,
     disk: &mut DiskObjects<'_, H>,
@@ -413,6 +423,7 @@ fn go_round<H: Host>(
     requires counted { IsTrue (H.tells Role.Work) → disk_held disk.old.rest + fresh_of (core_of p.old) ≤ disk_room disk.old.rest }
     ensures parts { IsParts p.new }
     ensures tight { IsTight (core_of p.new) }
+    ensures stops { OnOk result (StopsInTime (entries_of p.old.names.table / ROUND_PARTS) words entries p.old p.new) }
     ensures purged { IsPurged pinned.now.a pinned.now.b pinned.now.d (core_of p.old) (core_of p.new) }
     ensures sound { IsTrue (H.tells Role.Work) → OnOk result (KeepsSound H.Host p.old disk.old.host.now disk.old.rest p.new disk.new.host.now disk.new.rest) }
     ensures marks { LeavesMarks (core_of p.old) (core_of p.new) }
@@ -424,12 +435,13 @@ fn go_round<H: Host>(
     ensures same_host { disk.new.host.ghost_name ≡ disk.old.host.ghost_name }
     ensures fault { IfErr result (IsPurgeFault H.Host disk.old.host.now disk.new.host.now) }
 {
+    let end = p.names.table.used_end();
     let mut idle = 0;
-    for i in 0..p.names.table.entries() {
+    for i in 0..2 * end {
         if has_turned(p, words, entries, i, p.names.table.entries() / ROUND_PARTS) {
             return Ok(());
         }
-        let s = next_entry(p, hand);
+        let s = next_entry(end, hand);
         idle = pass(p, disk, buf, s, words, entries, pinned, idle)?;
     }
     Ok(())
@@ -506,7 +518,7 @@ fn clear_out<H: Host>(
     ensures fault { IfErr result (λ f. OnDisk f (IsPurgeFault H.Host disk.old.host.now disk.new.host.now)) }
 {
     let mut idle = 0;
-    for i in 0..p.names.table.entries() {
+    for i in 0..p.names.table.used_end() {
         match evict_more(p, disk, buf, Short(2 * i + 2), words, entries, pinned, idle) {
             Ok(reckoned) => idle = reckoned,
             Err(f) => return Err(RoomFault::Disk(f)),

@@ -4,11 +4,14 @@ use Rattle.loom_host.proofs.WorkLaws.{exits, work-itself, work-again}
 use Rattle.purger.specs.Purge.{IsReadFault}
 use Rattle.purger.proofs.ThinLaws.{all-drained, bare-thins, leaves-refl, leaves-trans, thinned-first, thinned-has, thinned-number, thinned-trans}
 use Rattle.purger.proofs.DrainLaws.{read-later}
+use Rattle.purger.proofs.MindLaws.{minds-trans, minds-refl}
+use Rattle.leaf_lambda.specs.Parts.{core_of}
 use Rattle.purger.proofs.draining.drain.Goals as goal
 
 pub loop-p-init : goal.loop-p-init
 loop-p-init g c = record {
   leaves = leaves-refl c.args.p.now c.requires.parts c.requires.tight c.requires.marks;
+  minds = minds-refl (core_of c.args.p.now);
   thins = λ told. thinned-first g.H.Host c.args.p.now c.args.disk.now.host.now c.args.disk.now.rest;
   limit = refl;
   work = work-itself g.H.Host c.args.disk.now.host.now;
@@ -78,6 +81,7 @@ loop-p-preserved g c =
     let d = c.free_down.ensures in
     record {
       leaves = leaves-trans c.args.p.now c.free_dead.new.p c.free_down.new.p (leaves-trans c.args.p.now c.drain_bare.new.p c.free_dead.new.p (leaves-trans c.args.p.now c.loop-p.p c.drain_bare.new.p i.leaves b.leaves) r.leaves) d.leaves;
+      minds = minds-trans (core_of c.args.p.now) (core_of c.free_dead.new.p) (core_of c.free_down.new.p) (minds-trans (core_of c.args.p.now) (core_of c.drain_bare.new.p) (core_of c.free_dead.new.p) (minds-trans (core_of c.args.p.now) (core_of c.loop-p.p) (core_of c.drain_bare.new.p) i.minds c.in_ok-drain_bare.ensures.minds) c.in_ok-free_dead.ensures.minds) c.in_ok-free_down.ensures.minds;
       thins = λ told. thinned-trans g.H.Host c.args.p.now c.free_dead.new.p c.free_down.new.p c.args.disk.now.host.now c.free_dead.new.disk.host.now c.free_down.new.disk.host.now c.args.disk.now.rest c.free_dead.new.disk.rest c.free_down.new.disk.rest
           (thinned-trans g.H.Host c.args.p.now c.drain_bare.new.p c.free_dead.new.p c.args.disk.now.host.now c.drain_bare.new.disk.host.now c.free_dead.new.disk.host.now c.args.disk.now.rest c.drain_bare.new.disk.rest c.free_dead.new.disk.rest
           (thinned-trans g.H.Host c.args.p.now c.loop-p.p c.drain_bare.new.p c.args.disk.now.host.now c.loop-p.disk.host.now c.drain_bare.new.disk.host.now c.args.disk.now.rest c.loop-p.disk.rest c.drain_bare.new.disk.rest (i.thins told)
@@ -127,3 +131,6 @@ returns-then-free_words-before-clause-counted g c = λ told. thinned-number g.H.
     (thinned-trans g.H.Host c.args.p.now c.drain_bare.new.p c.free_dead.new.p c.args.disk.now.host.now c.drain_bare.new.disk.host.now c.free_dead.new.disk.host.now c.args.disk.now.rest c.drain_bare.new.disk.rest c.free_dead.new.disk.rest
     (thinned-trans g.H.Host c.args.p.now c.loop-p.p c.drain_bare.new.p c.args.disk.now.host.now c.loop-p.disk.host.now c.drain_bare.new.disk.host.now c.args.disk.now.rest c.loop-p.disk.rest c.drain_bare.new.disk.rest (c.loop-p.invariant.thins told)
     (bare-thins g.H.Host c.loop-p.p c.drain_bare.new.p c.loop-p.disk.host.now c.drain_bare.new.disk.host.now c.loop-p.disk.rest c.drain_bare.new.disk.rest (c.in_ok-drain_bare.ensures.drained told))) (c.in_ok-free_dead.ensures.thins told))
+
+pub returns-then-free_words-before-clause-minds : goal.returns-then-free_words-before-clause-minds
+returns-then-free_words-before-clause-minds g c = minds-trans (core_of c.args.p.now) (core_of c.drain_bare.new.p) (core_of c.free_dead.new.p) (minds-trans (core_of c.args.p.now) (core_of c.loop-p.p) (core_of c.drain_bare.new.p) c.loop-p.invariant.minds c.in_ok-drain_bare.ensures.minds) c.in_ok-free_dead.ensures.minds

@@ -6,8 +6,10 @@ use Rattle.leaf_lambda.specs.declared.parts.Parts.{Parts}
 use Rattle.delta_counts.proofs.LowerLaws.{ok-map}
 use Rattle.purger.specs.Purge.{IsReadFault}
 use Rattle.purger.proofs.SoundLaws.{parts-names}
-use Rattle.purger.proofs.ThinLaws.{given-thins, giving-leaves, leaves-trans, thinned-has, thinned-trans}
+use Rattle.purger.proofs.ThinLaws.{given-thins, giving-leaves, leaves-trans, thinned-has, thinned-trans, giving-minds}
 use Rattle.purger.proofs.DrainLaws.{read-later-if, slots-read}
+use Rattle.purger.proofs.MindLaws.{minds-trans}
+use Rattle.leaf_lambda.specs.Parts.{core_of}
 use Rattle.purger.proofs.draining.free_at.Goals as goal
 
 pub give_idle_at-requires-clause-names : goal.give_idle_at-requires-clause-names
@@ -76,3 +78,8 @@ returns-clause-same_host g c = c.free_dead_at.ensures.same_host ∙ c.give_idle_
 
 pub returns-clause-fault : goal.returns-clause-fault
 returns-clause-fault g c = read-later-if (g.H.Host.tells Work) (g.H.Host.faults c.args.disk.now.host.now Work) (g.H.Host.faults c.give_idle_at.new.disk.host.now Work) (g.H.Host.faults c.free_dead_at.new.disk.host.now Work) c.free_dead_at.result c.give_idle_at.ensures.work.later c.free_dead_at.ensures.fault
+
+pub returns-clause-minds : goal.returns-clause-minds
+returns-clause-minds g c =
+    let q : Parts = record { segment = c.args.p.now.segment; names = c.give_idle_at.new.p } in
+    ok-map c.free_dead_at.result (λ then. minds-trans (core_of c.args.p.now) (core_of q) (core_of c.free_dead_at.new.p) (giving-minds c.args.p.now q c.requires.parts c.requires.marks refl c.give_idle_at.ensures.giving) then) c.free_dead_at.ensures.minds

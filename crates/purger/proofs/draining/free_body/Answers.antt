@@ -169,3 +169,10 @@ returns-clause-out g c =
     let q : Parts = record { segment = c.forget.new.p.segment; names = c.lower_words.new.p } in
     let gone = subst (λ (m : Parts). IsForgotten c.args.s.0 (core_of m) (core_of c.forget.new.p)) c.merge_out.ensures.same c.forget.ensures.forgotten in
     ok-of c.lower_words.result (forgotten-away c.args.p.now c.forget.new.p q c.args.s.0 c.requires.body.0 c.requires.parts c.forget.ensures.parts c.requires.body.1 gone refl (counting-giving c.forget.new.p.names c.lower_words.new.p c.lower_words.ensures.counting))
+
+pub returns-clause-minds : goal.returns-clause-minds
+returns-clause-minds g c =
+    let p = c.args.p.now in
+    let q : Parts = record { segment = c.forget.new.p.segment; names = c.lower_words.new.p } in
+    let gone = subst (λ (m : Parts). IsForgotten c.args.s.0 (core_of m) (core_of c.forget.new.p)) c.merge_out.ensures.same c.forget.ensures.forgotten in
+    ok-of c.lower_words.result (forgotten-minds p c.forget.new.p q c.args.s.0 c.requires.body.0 c.requires.parts c.forget.ensures.parts c.requires.body.1 c.requires.unmarked c.requires.marks gone refl (counting-giving c.forget.new.p.names c.lower_words.new.p c.lower_words.ensures.counting))

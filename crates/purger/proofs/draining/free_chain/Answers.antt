@@ -5,6 +5,8 @@ use Rattle.delta_counts.proofs.LowerLaws.{ok-map, ok-of}
 use Rattle.purger.specs.Purge.{IsReadFault}
 use Rattle.purger.proofs.ThinLaws.{leaves-trans, thinned-has, thinned-trans}
 use Rattle.purger.proofs.DrainLaws.{read-later-if}
+use Rattle.purger.proofs.MindLaws.{minds-trans}
+use Rattle.leaf_lambda.specs.Parts.{core_of}
 use Rattle.purger.proofs.draining.free_chain.Goals as goal
 
 pub returns-in_err-free_dead_at-clause-fault : goal.returns-in_err-free_dead_at-clause-fault
@@ -46,3 +48,6 @@ returns-clause-same_host g c = c.free_on.ensures.same_host ∙ c.free_dead_at.en
 
 pub returns-clause-fault : goal.returns-clause-fault
 returns-clause-fault g c = read-later-if (g.H.Host.tells Work) (g.H.Host.faults c.args.disk.now.host.now Work) (g.H.Host.faults c.free_dead_at.new.disk.host.now Work) (g.H.Host.faults c.free_on.new.disk.host.now Work) c.free_on.result c.free_dead_at.ensures.work.later c.free_on.ensures.fault
+
+pub returns-clause-minds : goal.returns-clause-minds
+returns-clause-minds g c = ok-map c.free_on.result (λ then. minds-trans (core_of c.args.p.now) (core_of c.free_dead_at.new.p) (core_of c.free_on.new.p) c.in_ok-free_dead_at.ensures.minds then) c.free_on.ensures.minds

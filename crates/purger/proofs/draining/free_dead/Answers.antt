@@ -6,11 +6,13 @@ use Rattle.leaf_lambda.specs.Parts.{core_of}
 use Rattle.purger.specs.Purge.{IsReadFault}
 use Rattle.purger.proofs.ThinLaws.{leaves-bound, leaves-refl, leaves-trans, thinned-first, thinned-has, thinned-trans}
 use Rattle.purger.proofs.DrainLaws.{levels-all, levels-then, none-first, read-later}
+use Rattle.purger.proofs.MindLaws.{minds-refl, minds-trans}
 use Rattle.purger.proofs.draining.free_dead.Goals as goal
 
 pub loop-i-init : goal.loop-i-init
 loop-i-init g c = record {
   leaves = leaves-refl c.args.p.now c.requires.parts c.requires.tight c.requires.marks;
+  minds = minds-refl (core_of c.args.p.now);
   thins = λ told. thinned-first g.H.Host c.args.p.now c.args.disk.now.host.now c.args.disk.now.rest;
   none = λ told same t at x. (at, λ s p there. body-stays (core_of c.args.p.now) s p there, none-first t x.core);
   entries = refl;
@@ -29,7 +31,7 @@ pub free_chain-requires-clause-marks : goal.free_chain-requires-clause-marks
 free_chain-requires-clause-marks g c = c.loop-i.invariant.leaves.here
 
 pub free_chain-requires-clause-within : goal.free_chain-requires-clause-within
-free_chain-requires-clause-within g c = let low = c.loop-i-test.true in let all = c.entries-i-end.ensures.entries in let same = c.loop-i.invariant.entries in omega arith
+free_chain-requires-clause-within g c = let low = c.loop-i-test.true in let all = c.used_end-i-end.ensures.most in let same = c.loop-i.invariant.entries in omega arith
 
 pub free_chain-requires-clause-sound : goal.free_chain-requires-clause-sound
 free_chain-requires-clause-sound g c = thinned-has g.H.Host c.args.p.now c.loop-i.p c.args.disk.now.host.now c.loop-i.disk.host.now c.args.disk.now.rest c.loop-i.disk.rest c.requires.sound c.loop-i.invariant.thins
@@ -40,6 +42,7 @@ loop-i-preserved g c =
     let r = c.free_chain.ensures in
     record {
       leaves = leaves-trans c.args.p.now c.loop-i.p c.free_chain.new.p i.leaves r.leaves;
+      minds = minds-trans (core_of c.args.p.now) (core_of c.loop-i.p) (core_of c.free_chain.new.p) i.minds c.in_ok-free_chain.ensures.minds;
       thins = λ told. thinned-trans g.H.Host c.args.p.now c.loop-i.p c.free_chain.new.p c.args.disk.now.host.now c.loop-i.disk.host.now c.free_chain.new.disk.host.now c.args.disk.now.rest c.loop-i.disk.rest c.free_chain.new.disk.rest (i.thins told) (c.in_ok-free_chain.ensures.thins told);
       none = λ told same.
           let first = i.leaves.words in
@@ -78,4 +81,7 @@ returns-clause-thins g c = c.loop-i.invariant.thins
 pub returns-clause-none : goal.returns-clause-none
 unfolding core_of
 returns-clause-none g c = λ told same. levels-all g.H.Host c.args.p.now c.loop-i.p c.args.disk.now.host.now c.loop-i.disk.host.now c.args.disk.now.rest c.loop-i.disk.rest (2 * c.loop-i.i + 2)
-    (let end = c.loop-i-test.false in let all = c.entries-i-end.ensures.entries in omega arith) (c.loop-i.invariant.none told same)
+    (λ s used. let low = c.used_end-i-end.ensures.used s used in let end = c.loop-i-test.false in omega arith) (c.loop-i.invariant.none told same)
+
+pub returns-clause-minds : goal.returns-clause-minds
+returns-clause-minds g c = c.loop-i.invariant.minds

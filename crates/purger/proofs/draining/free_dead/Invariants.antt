@@ -4,12 +4,15 @@ use Rattle.loom_host.specs.Work.{IsWorkOnly}
 use Rattle.object_table.specs.Table.{entries_of}
 use Rattle.core_segment.specs.Segment.{free_of}
 use Rattle.disk_objects.specs.Disk.{disk_room}
+use Rattle.leaf_lambda.specs.Parts.{core_of}
+use Rattle.purger.specs.Marks.{MindsMarks}
 use Rattle.purger.specs.Draining.{KeepsLevels, LeavesRest, NoneDeadBelow, Thins}
 use Rattle.purger.proofs.draining.free_dead.Given as goal
 
 abbrev pub invariant-loop-i : goal.invariant-loop-i
 invariant-loop-i g l = record {
   leaves : LeavesRest l.fn.p l.p;
+  minds : MindsMarks (core_of l.fn.p) (core_of l.p);
   thins : IsTrue (g.H.Host.tells Work) → Thins g.H.Host l.fn.p l.fn.disk.host.now l.fn.disk.rest l.p l.disk.host.now l.disk.rest;
   none : IsTrue (g.H.Host.tells Work) → free_of l.p.segment ≡ free_of l.fn.p.segment → KeepsLevels g.H.Host l.fn.p l.fn.disk.host.now l.fn.disk.rest l.p l.disk.host.now l.disk.rest (NoneDeadBelow (2 * l.i + 2));
   entries : entries_of l.p.names.table ≡ entries_of l.fn.p.names.table;

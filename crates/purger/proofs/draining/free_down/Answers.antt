@@ -4,11 +4,14 @@ use Rattle.loom_host.specs.declared.outside.Role.TheVariants.{Work}
 use Rattle.purger.specs.Purge.{IsReadFault}
 use Rattle.purger.proofs.ThinLaws.{leaves-bound, leaves-refl, leaves-trans, thinned-first, thinned-has, thinned-trans}
 use Rattle.purger.proofs.DrainLaws.{read-later, twice-short}
+use Rattle.purger.proofs.MindLaws.{minds-refl, minds-trans}
+use Rattle.leaf_lambda.specs.Parts.{core_of}
 use Rattle.purger.proofs.draining.free_down.Goals as goal
 
 pub loop-i-init : goal.loop-i-init
 loop-i-init g c = record {
   leaves = leaves-refl c.args.p.now c.requires.parts c.requires.tight c.requires.marks;
+  minds = minds-refl (core_of c.args.p.now);
   thins = λ told. thinned-first g.H.Host c.args.p.now c.args.disk.now.host.now c.args.disk.now.rest;
   entries = refl;
   limit = refl;
@@ -26,10 +29,10 @@ pub free_chain-requires-clause-marks : goal.free_chain-requires-clause-marks
 free_chain-requires-clause-marks g c = c.loop-i.invariant.leaves.here
 
 pub free_chain-requires-clause-within : goal.free_chain-requires-clause-within
-free_chain-requires-clause-within g c = let low = c.loop-i-test.true in let all = c.entries-count.ensures.entries in let same = c.loop-i.invariant.entries in omega arith
+free_chain-requires-clause-within g c = let low = c.loop-i-test.true in let all = c.used_end-count.ensures.most in let same = c.loop-i.invariant.entries in omega arith
 
 pub free_chain-requires-clause-short : goal.free_chain-requires-clause-short
-free_chain-requires-clause-short g c = twice-short (c.entries-count.result - c.loop-i.i) (let low = c.loop-i-test.true in omega arith)
+free_chain-requires-clause-short g c = twice-short (c.used_end-count.result - c.loop-i.i) (let low = c.loop-i-test.true in omega arith)
 
 pub free_chain-requires-clause-sound : goal.free_chain-requires-clause-sound
 free_chain-requires-clause-sound g c = thinned-has g.H.Host c.args.p.now c.loop-i.p c.args.disk.now.host.now c.loop-i.disk.host.now c.args.disk.now.rest c.loop-i.disk.rest c.requires.sound c.loop-i.invariant.thins
@@ -40,6 +43,7 @@ loop-i-preserved g c =
     let r = c.free_chain.ensures in
     record {
       leaves = leaves-trans c.args.p.now c.loop-i.p c.free_chain.new.p i.leaves r.leaves;
+      minds = minds-trans (core_of c.args.p.now) (core_of c.loop-i.p) (core_of c.free_chain.new.p) i.minds c.in_ok-free_chain.ensures.minds;
       thins = λ told. thinned-trans g.H.Host c.args.p.now c.loop-i.p c.free_chain.new.p c.args.disk.now.host.now c.loop-i.disk.host.now c.free_chain.new.disk.host.now c.args.disk.now.rest c.loop-i.disk.rest c.free_chain.new.disk.rest (i.thins told) (c.in_ok-free_chain.ensures.thins told);
       entries = leaves-bound c.loop-i.p c.free_chain.new.p r.leaves ∙ i.entries;
       limit = r.limit ∙ i.limit;
@@ -69,3 +73,6 @@ returns-clause-leaves g c = c.loop-i.invariant.leaves
 
 pub returns-clause-thins : goal.returns-clause-thins
 returns-clause-thins g c = c.loop-i.invariant.thins
+
+pub returns-clause-minds : goal.returns-clause-minds
+returns-clause-minds g c = c.loop-i.invariant.minds

@@ -6,11 +6,14 @@ use Rattle.object_record.specs.Buffer.{raw_of, HasRecord}
 use Rattle.purger.specs.Purge.{IsReadFault}
 use Rattle.purger.proofs.ThinLaws.{leaves-refl, leaves-trans, thinned-first, thinned-has, thinned-trans}
 use Rattle.purger.proofs.DrainLaws.{read-later}
+use Rattle.purger.proofs.MindLaws.{minds-refl, minds-trans}
+use Rattle.leaf_lambda.specs.Parts.{core_of}
 use Rattle.purger.proofs.draining.free_fields.Goals as goal
 
 pub loop-left-init : goal.loop-left-init
 loop-left-init g c = record {
   leaves = leaves-refl c.args.p.now c.requires.parts c.requires.tight c.requires.marks;
+  minds = minds-refl (core_of c.args.p.now);
   thins = λ told. thinned-first g.H.Host c.args.p.now c.args.disk.now.host.now c.args.disk.now.rest;
   record_there = c.requires.record;
   fields = let all = c.field_count-left.ensures in omega arith;
@@ -38,6 +41,7 @@ loop-left-preserved-then-branch g c =
     let r = c.free_held.ensures in
     record {
       leaves = leaves-trans c.args.p.now c.loop-left.p c.free_held.new.p i.leaves r.leaves;
+      minds = minds-trans (core_of c.args.p.now) (core_of c.loop-left.p) (core_of c.free_held.new.p) i.minds c.in_ok-free_held.ensures.minds;
       thins = λ told. thinned-trans g.H.Host c.args.p.now c.loop-left.p c.free_held.new.p c.args.disk.now.host.now c.loop-left.disk.host.now c.free_held.new.disk.host.now c.args.disk.now.rest c.loop-left.disk.rest c.free_held.new.disk.rest (i.thins told) (c.in_ok-free_held.ensures.thins told);
       record_there = c.in_ok-free_held.ensures.record c.if-branch.true;
       fields = let all = c.field_count-left-then-branch.ensures in omega arith;
@@ -54,6 +58,7 @@ loop-left-preserved g c =
     let r = c.free_held.ensures in
     record {
       leaves = leaves-trans c.args.p.now c.loop-left.p c.free_held.new.p i.leaves r.leaves;
+      minds = minds-trans (core_of c.args.p.now) (core_of c.loop-left.p) (core_of c.free_held.new.p) i.minds c.in_ok-free_held.ensures.minds;
       thins = λ told. thinned-trans g.H.Host c.args.p.now c.loop-left.p c.free_held.new.p c.args.disk.now.host.now c.loop-left.disk.host.now c.free_held.new.disk.host.now c.args.disk.now.rest c.loop-left.disk.rest c.free_held.new.disk.rest (i.thins told) (c.in_ok-free_held.ensures.thins told);
       record_there = subst (λ (b : List ℕ). HasRecord b) (sym still) i.record_there;
       fields = let few = i.fields in let same = ap (λ (b : List ℕ). length (longs_of (raw_of b).body)) still in omega arith;
@@ -85,3 +90,6 @@ returns-clause-leaves g c = c.loop-left.invariant.leaves
 
 pub returns-clause-thins : goal.returns-clause-thins
 returns-clause-thins g c = c.loop-left.invariant.thins
+
+pub returns-clause-minds : goal.returns-clause-minds
+returns-clause-minds g c = c.loop-left.invariant.minds

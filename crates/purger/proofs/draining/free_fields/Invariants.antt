@@ -5,12 +5,15 @@ use Rattle.object_record.specs.Raw.{longs_of}
 use Rattle.object_record.specs.Buffer.{raw_of, HasRecord}
 use Rattle.core_segment.specs.Segment.{free_of, size_of}
 use Rattle.disk_objects.specs.Disk.{disk_held, disk_room}
+use Rattle.leaf_lambda.specs.Parts.{core_of}
+use Rattle.purger.specs.Marks.{MindsMarks}
 use Rattle.purger.specs.Draining.{LeavesRest, Thins}
 use Rattle.purger.proofs.draining.free_fields.Given as goal
 
 abbrev pub invariant-loop-left : goal.invariant-loop-left
 invariant-loop-left g l = record {
   leaves : LeavesRest l.fn.p l.p;
+  minds : MindsMarks (core_of l.fn.p) (core_of l.p);
   thins : IsTrue (g.H.Host.tells Work) → Thins g.H.Host l.fn.p l.fn.disk.host.now l.fn.disk.rest l.p l.disk.host.now l.disk.rest;
   record_there : HasRecord l.buf;
   fields : l.left ≤ length (longs_of (raw_of l.buf).body);

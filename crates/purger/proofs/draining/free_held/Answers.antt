@@ -2,6 +2,7 @@ use Rattle.std.proofs.Common.{◌≡◌, true, false, arith}
 use Rattle.loom_host.proofs.WorkLaws.{work-itself}
 use Rattle.leaf_lambda.specs.Parts.{core_of}
 use Rattle.purger.proofs.ThinLaws.{leaves-refl, thinned-first}
+use Rattle.purger.proofs.MindLaws.{minds-refl}
 use Rattle.purger.proofs.draining.free_held.Goals as goal
 
 pub free_at-requires-clause-short : goal.free_at-requires-clause-short
@@ -28,3 +29,6 @@ returns-in-None-clause-work g c = work-itself g.H.Host c.args.disk.now.host.now
 
 pub returns-in-None-clause-held : goal.returns-in-None-clause-held
 returns-in-None-clause-held g c = omega arith
+
+pub returns-in-None-clause-minds : goal.returns-in-None-clause-minds
+returns-in-None-clause-minds g c = minds-refl (core_of c.args.p.now)

@@ -4,11 +4,14 @@ use Rattle.loom_host.specs.declared.outside.Role.TheVariants.{Work}
 use Rattle.purger.specs.Purge.{IsReadFault}
 use Rattle.purger.proofs.ThinLaws.{leaves-refl, leaves-trans, thinned-first, thinned-has, thinned-trans}
 use Rattle.purger.proofs.DrainLaws.{read-later}
+use Rattle.purger.proofs.MindLaws.{minds-trans, minds-refl}
+use Rattle.leaf_lambda.specs.Parts.{core_of}
 use Rattle.purger.proofs.draining.free_on.Goals as goal
 
 pub loop-p-init : goal.loop-p-init
 loop-p-init g c = record {
   leaves = leaves-refl c.args.p.now c.requires.parts c.requires.tight c.requires.marks;
+  minds = minds-refl (core_of c.args.p.now);
   thins = λ told. thinned-first g.H.Host c.args.p.now c.args.disk.now.host.now c.args.disk.now.rest;
   record_there = c.requires.record;
   limit = refl;
@@ -47,6 +50,7 @@ loop-p-smaller g c = let less = c.in_ok-free_fields.ensures.held in let one = c.
 pub loop-p-preserved : goal.loop-p-preserved
 loop-p-preserved g c = record {
   leaves = leaves-trans c.args.p.now c.free_fields.new.p c.free_pending.new.p (leaves-trans c.args.p.now c.loop-p.p c.free_fields.new.p c.loop-p.invariant.leaves c.free_fields.ensures.leaves) c.free_pending.ensures.leaves;
+  minds = minds-trans (core_of c.args.p.now) (core_of c.free_fields.new.p) (core_of c.free_pending.new.p) (minds-trans (core_of c.args.p.now) (core_of c.loop-p.p) (core_of c.free_fields.new.p) c.loop-p.invariant.minds c.in_ok-free_fields.ensures.minds) c.in_ok-free_pending.ensures.minds;
   thins = λ told. thinned-trans g.H.Host c.args.p.now c.free_fields.new.p c.free_pending.new.p c.args.disk.now.host.now c.free_fields.new.disk.host.now c.free_pending.new.disk.host.now c.args.disk.now.rest c.free_fields.new.disk.rest c.free_pending.new.disk.rest (thinned-trans g.H.Host c.args.p.now c.loop-p.p c.free_fields.new.p c.args.disk.now.host.now c.loop-p.disk.host.now c.free_fields.new.disk.host.now c.args.disk.now.rest c.loop-p.disk.rest c.free_fields.new.disk.rest (c.loop-p.invariant.thins told) (c.in_ok-free_fields.ensures.thins told)) (c.in_ok-free_pending.ensures.thins told);
   record_there = c.in_ok-free_pending.ensures.record c.if-not-branch.false;
   limit = c.free_pending.ensures.limit ∙ c.free_fields.ensures.limit ∙ c.loop-p.invariant.limit;
@@ -102,3 +106,6 @@ pub returns-in_err-free_pending-clause-fault : goal.returns-in_err-free_pending-
 returns-in_err-free_pending-clause-fault g c =
     exits c.from_residual-in_err-free_pending.result c.in_err-free_pending.field-0.0 (IsReadFault (g.H.Host.tells Work) (g.H.Host.faults c.args.disk.now.host.now Work) (g.H.Host.faults c.free_pending.new.disk.host.now Work)) c.from_residual-in_err-free_pending.ensures.1
     (read-later (g.H.Host.tells Work) (g.H.Host.faults c.args.disk.now.host.now Work) (g.H.Host.faults c.free_fields.new.disk.host.now Work) (g.H.Host.faults c.free_pending.new.disk.host.now Work) c.in_err-free_pending.field-0.0 (let a = c.loop-p.invariant.work.later in let b = c.free_fields.ensures.work.later in omega arith) c.in_err-free_pending.ensures.fault)
+
+pub returns-then-not-branch-clause-minds : goal.returns-then-not-branch-clause-minds
+returns-then-not-branch-clause-minds g c = minds-trans (core_of c.args.p.now) (core_of c.free_fields.new.p) (core_of c.free_pending.new.p) (minds-trans (core_of c.args.p.now) (core_of c.loop-p.p) (core_of c.free_fields.new.p) c.loop-p.invariant.minds c.in_ok-free_fields.ensures.minds) c.in_ok-free_pending.ensures.minds

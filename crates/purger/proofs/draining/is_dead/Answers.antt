@@ -6,11 +6,11 @@ use Rattle.object_table.specs.declared.entry.Entry.{Entry}
 use Rattle.leaf_lambda.specs.Parts.{core_of}
 use Rattle.purger.proofs.RoomLaws.{none-of, some-of}
 use Rattle.purger.proofs.SoundLaws.{core-at, has-objects}
-use Rattle.purger.proofs.DrainLaws.{dead-if, entry-at, not-loose, not-placed, not-unknown}
+use Rattle.purger.proofs.DrainLaws.{dead-if, entry-at, fresh-none, not-loose, not-placed, not-unknown}
 use Rattle.purger.proofs.draining.is_dead.Goals as goal
 
-pub count_of-requires : goal.count_of-requires
-count_of-requires g c = record { stands = has-objects g.H.Host c.args.p.now c.args.disk.now.host.now c.args.disk.now.rest c.requires.sound }
+pub count_behind-requires : goal.count_behind-requires
+count_behind-requires g c = record { stands = has-objects g.H.Host c.args.p.now c.args.disk.now.host.now c.args.disk.now.rest c.requires.sound }
 
 pub returns-then-not-is_some-clause-body : goal.returns-then-not-is_some-clause-body
 returns-then-not-is_some-clause-body g c = λ on. absurd (let both : false ≡ true = on in cc)
@@ -52,7 +52,8 @@ returns-clause-dead g c = λ told t at x.
     let same = to_z-of_z w64 c.entry-e.result.change fits in
     dead-if t c.args.s.0 there.0 c.in_ok-count.count c.entry-e.result c.comes_to_none.result x (entry-at c.args.p.now t c.args.s.0 c.entry-e.result (core-at g.H.Host c.args.p.now c.args.disk.now.host.now c.args.disk.now.rest t at) c.entry-e.ensures)
     (let is = c.place.ensures in let some = there.1 in cc) c.if-e-gt0.false (let off = c.if-is_known.false in let is = c.is_known.ensures in cc)
-    (c.in_ok-count.ensures.count told t.stored t.pending at.disk) (subst (λ (z : ℤ). IsTrue c.comes_to_none.result → z +ℤ pos c.in_ok-count.count ≡ pos 0) same c.comes_to_none.ensures.0)
+    (c.in_ok-count.ensures.count told t.stored t.pending at.disk (λ fresh. fresh-none t c.args.s.0 there.0 c.entry-e.result x (entry-at c.args.p.now t c.args.s.0 c.entry-e.result (core-at g.H.Host c.args.p.now c.args.disk.now.host.now c.args.disk.now.rest t at) c.entry-e.ensures)
+    (let is = c.place.ensures in let some = there.1 in cc) fresh)) (subst (λ (z : ℤ). IsTrue c.comes_to_none.result → z +ℤ pos c.in_ok-count.count ≡ pos 0) same c.comes_to_none.ensures.0)
     (subst (λ (z : ℤ). z +ℤ pos c.in_ok-count.count ≡ pos 0 → IsTrue c.comes_to_none.result) same c.comes_to_none.ensures.1)
 
 pub returns-clause-body : goal.returns-clause-body

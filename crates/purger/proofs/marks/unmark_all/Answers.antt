@@ -1,44 +1,32 @@
-use Rattle.std.proofs.Common.{refl, ◌∙◌, arith}
-use Rattle.core_view.proofs.Steps.{Stays-refl, Stays-trans}
-use Rattle.leaf_lambda.specs.Parts.{core_of}
-use Rattle.purger.proofs.MarkLaws.{Unmarking-refl, Unmarking-trans, none-marked, off-first, off-more}
+use Rattle.std.proofs.Common.{◌≡◌, ℕ, ◌+◌, ◌*◌, refl, sym, ◌∙◌, ap, subst, arith}
+use Rattle.object_table.specs.Table.{entries_of, free_of}
+use Rattle.core_view.specs.Core.{Core}
+use Rattle.core_view.specs.Counts.{marked_of, outside}
+use Rattle.core_view.specs.Kept.{IsCore, Stays}
+use Rattle.leaf_lambda.specs.Parts.{core_of, spare_of}
+use Rattle.leaf_lambda.proofs.StepLaws.{core-is}
+use Rattle.purger.specs.Marks.{IsUnmarking}
+use Rattle.purger.proofs.PlainLaws.{plain, plain-core, plain-none, plain-outside, plain-stays, plain-step}
 use Rattle.purger.proofs.marks.unmark_all.Goals as goal
 
-pub loop-i-init : goal.loop-i-init
-loop-i-init c = record {
-  parts = c.requires.parts;
-  step = Unmarking-refl (core_of c.args.p.now);
-  stays = Stays-refl (core_of c.args.p.now);
-  outside = λ t. refl;
-  off = λ s low on. off-first (core_of c.args.p.now) s c.requires.parts.core (omega arith) on;
-  entries = refl;
-  spare = refl;
-  segment = refl;
+core-then : (c : goal.After-unmark_all) → core_of (record c.args.p.now { names = record c.args.p.now.names { table = c.unmark_all.new.self } }) ≡ plain (core_of c.args.p.now)
+unfolding core_of
+core-then c = core-is _ (plain (core_of c.args.p.now)) c.unmark_all.ensures.entry refl refl (ap (λ (n : ℕ). 2 * n + 2) c.unmark_all.ensures.entries)
+
+pub returns-clause-parts : goal.returns-clause-parts
+returns-clause-parts c = record {
+  core = subst IsCore (sym (core-then c)) (plain-core (core_of c.args.p.now) c.requires.parts.core);
+  room = let room = c.requires.parts.room in let same = c.unmark_all.ensures.free in omega arith;
 }
 
-pub unmark_one-requires-clause-within : goal.unmark_one-requires-clause-within
-unmark_one-requires-clause-within c = let low = c.loop-i-test.true in let all = c.entries-i-end.ensures.entries in let same = c.loop-i.invariant.entries in omega arith
+pub returns-clause-step : goal.returns-clause-step
+returns-clause-step c = subst (λ (d : Core). IsUnmarking (core_of c.args.p.now) d) (sym (core-then c)) (plain-step (core_of c.args.p.now))
 
-pub loop-i-preserved : goal.loop-i-preserved
-loop-i-preserved c =
-    let i = c.loop-i.invariant in
-    let r = c.unmark_one.ensures in
-    record {
-      parts = r.parts;
-      step = Unmarking-trans (core_of c.args.p.now) (core_of c.loop-i.p) (core_of c.unmark_one.new.p) i.step r.step;
-      stays = Stays-trans (core_of c.args.p.now) (core_of c.loop-i.p) (core_of c.unmark_one.new.p) i.stays r.stays;
-      outside = λ t. r.outside t ∙ i.outside t;
-      off = λ s low on. off-more (core_of c.loop-i.p) (core_of c.unmark_one.new.p) c.loop-i.i s r.parts.core r.step i.off r.here low on;
-      entries = r.entries ∙ i.entries;
-      spare = r.spare ∙ i.spare;
-      segment = r.segment ∙ i.segment;
-    }
+pub returns-clause-stays : goal.returns-clause-stays
+returns-clause-stays c = subst (λ (d : Core). Stays (core_of c.args.p.now) d) (sym (core-then c)) (plain-stays (core_of c.args.p.now))
+
+pub returns-clause-outside : goal.returns-clause-outside
+returns-clause-outside c = λ t. subst (λ (d : Core). outside d t ≡ outside (core_of c.args.p.now) t) (sym (core-then c)) (plain-outside (core_of c.args.p.now) t)
 
 pub returns-clause-none : goal.returns-clause-none
-unfolding core_of
-returns-clause-none c = none-marked (core_of c.loop-i.p) c.loop-i.invariant.parts.core (λ s on.
-    let low = c.loop-i.invariant.parts.core.within s on in
-    let same = c.loop-i.invariant.entries in
-    let end = c.loop-i-test.false in
-    let all = c.entries-i-end.ensures.entries in
-    c.loop-i.invariant.off s (omega arith) on)
+returns-clause-none c = λ n. ap (λ (d : Core). marked_of d n) (core-then c) ∙ plain-none (core_of c.args.p.now) n

@@ -1,6 +1,6 @@
 use Rattle.std.proofs.Common.{inl, inr, refl, sym, subst, ◌∙◌, arith, ⊎_elim}
-use Rattle.core_view.proofs.Core.{placed-used}
 use Rattle.core_view.proofs.Purge.{Purged-refl, Purged-trans, gone-first, gone-more}
+use Rattle.purger.proofs.RoomLaws.{placed-before}
 use Rattle.leaf_lambda.specs.declared.parts.Parts.{Parts}
 use Rattle.leaf_lambda.specs.Parts.{core_of}
 use Rattle.purger.specs.Purge.{HasRoom}
@@ -28,7 +28,7 @@ loop-i-init g c = record {
 }
 
 pub evict_more-requires-clause-within : goal.evict_more-requires-clause-within
-evict_more-requires-clause-within g c = let low = c.loop-i-test.true in let all = c.entries-i-end.ensures.entries in let same = c.loop-i.invariant.entries in omega arith
+evict_more-requires-clause-within g c = let low = c.loop-i-test.true in let all = c.used_end-i-end.ensures.most in let same = c.loop-i.invariant.entries in omega arith
 
 pub evict_more-requires-clause-sound : goal.evict_more-requires-clause-sound
 evict_more-requires-clause-sound g c = has-after g.H.Host c.args.p.now c.loop-i.p c.args.disk.now.host.now c.loop-i.disk.host.now c.args.disk.now.rest c.loop-i.disk.rest c.requires.sound c.loop-i.invariant.sound
@@ -69,7 +69,10 @@ loop-i-preserved g c =
 pub last_room-requires-clause-gone : goal.last_room-requires-clause-gone
 unfolding core_of
 last_room-requires-clause-gone g c = ⊎_elim (λ has. inl has)
-    (λ gone. inr (λ s at place. gone s at (let low = c.loop-i.invariant.parts.core.within s (placed-used ((core_of c.loop-i.p).entries s).state at place) in let end = c.loop-i-test.false in let all = c.entries-i-end.ensures.entries in let same = c.loop-i.invariant.entries in omega arith) place)) c.loop-i.invariant.gone
+    (λ gone. inr (λ s at place.
+    let low = c.used_end-i-end.ensures.used s (placed-before c.args.pinned.now.a c.args.pinned.now.b c.args.pinned.now.d (core_of c.args.p.now) (core_of c.loop-i.p) s at c.loop-i.invariant.purged place) in
+    let end = c.loop-i-test.false in
+    gone s at (omega arith) place)) c.loop-i.invariant.gone
 
 pub last_room-requires-clause-sound : goal.last_room-requires-clause-sound
 last_room-requires-clause-sound g c = has-after g.H.Host c.args.p.now c.loop-i.p c.args.disk.now.host.now c.loop-i.disk.host.now c.args.disk.now.rest c.loop-i.disk.rest c.requires.sound c.loop-i.invariant.sound

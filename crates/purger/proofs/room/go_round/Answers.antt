@@ -1,4 +1,7 @@
-use Rattle.std.proofs.Common.{refl, ◌∙◌, arith}
+use Rattle.std.proofs.Common.{ℕ, ◌/◌, refl, ◌∙◌, ap, arith}
+use Rattle.object_table.specs.Table.{entries_of}
+use Rattle.purger.specs.declared.room.TheConstants.{ROUND_PARTS}
+use Rattle.purger.proofs.RoundLaws.{goes-on, round-more, round-none, round-stops}
 use Rattle.loom_host.proofs.WorkLaws.{exits}
 use Rattle.core_view.proofs.Purge.{Purged-refl, Purged-trans}
 use Rattle.leaf_lambda.specs.Parts.{core_of}
@@ -16,6 +19,7 @@ loop-i-init g c = record {
   tight = c.requires.tight;
   purged = Purged-refl c.args.pinned.now.a c.args.pinned.now.b c.args.pinned.now.d (core_of c.args.p.now);
   sound = λ told. sound-refl g.H.Host c.args.p.now c.args.disk.now.host.now c.args.disk.now.rest;
+  round = round-none (entries_of c.args.p.now.names.table / ROUND_PARTS) c.args.words c.args.entries c.args.p.now;
   marks = Marks-same (core_of c.args.p.now) (core_of c.args.p.now) (Kept-refl (core_of c.args.p.now));
   minds = minds-refl (core_of c.args.p.now);
   here = c.requires.marks;
@@ -26,8 +30,16 @@ loop-i-init g c = record {
   same_host = refl;
 }
 
-pub next_entry-s-requires : goal.next_entry-s-requires
-next_entry-s-requires g c = let low = c.loop-i-test.true in let all = c.entries-i-end.ensures.entries in let same = c.loop-i.invariant.entries in omega arith
+pub next_entry-s-requires-clause-some : goal.next_entry-s-requires-clause-some
+next_entry-s-requires-clause-some g c = let low = c.loop-i-test.true in omega arith
+
+pub next_entry-s-requires-clause-most : goal.next_entry-s-requires-clause-most
+next_entry-s-requires-clause-most g c = c.used_end-end.ensures.small
+
+pub pass-requires-clause-within : goal.pass-requires-clause-within
+pass-requires-clause-within g c =
+    let same = c.loop-i.invariant.entries in
+    omega (arith, c.next_entry-s.ensures.within, c.used_end-end.ensures.most)
 
 pub pass-requires-clause-sound : goal.pass-requires-clause-sound
 pass-requires-clause-sound g c = has-after g.H.Host c.args.p.now c.loop-i.p c.args.disk.now.host.now c.loop-i.disk.host.now c.args.disk.now.rest c.loop-i.disk.rest c.requires.sound c.loop-i.invariant.sound
@@ -59,6 +71,8 @@ loop-i-preserved g c =
       tight = e.tight;
       purged = Purged-trans c.args.pinned.now.a c.args.pinned.now.b c.args.pinned.now.d (core_of c.args.p.now) (core_of c.loop-i.p) (core_of c.pass.new.p) i.purged e.purged;
       sound = λ told. sound-trans g.H.Host c.args.p.now c.loop-i.p c.pass.new.p c.args.disk.now.host.now c.loop-i.disk.host.now c.pass.new.disk.host.now c.args.disk.now.rest c.loop-i.disk.rest c.pass.new.disk.rest (i.sound told) (r.sound told);
+      round = round-more (entries_of c.args.p.now.names.table / ROUND_PARTS) c.args.words c.args.entries c.loop-i.i c.next_entry-s.result.0 c.args.p.now c.loop-i.p c.pass.new.p i.round i.parts i.tight i.size i.minds
+          (goes-on c.loop-i.i _ _ c.loop-i.p c.args.words c.args.entries (let all = i.entries in let got = c.entries.ensures.entries in ap (λ (n : ℕ). n / ROUND_PARTS) (got ∙ all)) (c.has_turned.ensures.goes c.if-has_turned.false)) e.one;
       marks = Marks-trans (core_of c.args.p.now) (core_of c.loop-i.p) (core_of c.pass.new.p) i.marks e.marks;
       minds = minds-trans (core_of c.args.p.now) (core_of c.loop-i.p) (core_of c.pass.new.p) i.minds r.minds;
       here = e.here;
@@ -68,3 +82,9 @@ loop-i-preserved g c =
       work = work-trans g.H.Host c.args.disk.now.host.now c.loop-i.disk.host.now c.pass.new.disk.host.now i.work e.work;
       same_host = e.same_host ∙ i.same_host;
     }
+
+pub returns-then-has_turned-clause-stops : goal.returns-then-has_turned-clause-stops
+returns-then-has_turned-clause-stops g c = round-stops (entries_of c.args.p.now.names.table / ROUND_PARTS) c.args.words c.args.entries c.loop-i.i c.args.p.now c.loop-i.p c.loop-i.invariant.round
+
+pub returns-clause-stops : goal.returns-clause-stops
+returns-clause-stops g c = round-stops (entries_of c.args.p.now.names.table / ROUND_PARTS) c.args.words c.args.entries c.loop-i.i c.args.p.now c.loop-i.p c.loop-i.invariant.round

@@ -1,4 +1,4 @@
-use Rattle.std.proofs.Common.{◌≡◌, IsTrue}
+use Rattle.std.proofs.Common.{◌≡◌, ◌/◌, IsTrue}
 use Rattle.loom_host.specs.declared.outside.Role.TheVariants.{Work}
 use Rattle.loom_host.specs.Work.{IsWorkOnly}
 use Rattle.object_table.specs.Table.{entries_of}
@@ -9,6 +9,8 @@ use Rattle.core_view.specs.Purge.{IsPurged}
 use Rattle.leaf_lambda.specs.Parts.{core_of, IsParts}
 use Rattle.purger.specs.Counts.{KeepsSound}
 use Rattle.purger.specs.Marks.{AreHere, LeavesMarks, MindsMarks}
+use Rattle.purger.specs.declared.room.TheConstants.{ROUND_PARTS}
+use Rattle.purger.proofs.RoundLaws.{IsRound}
 use Rattle.purger.proofs.room.go_round.Given as goal
 
 abbrev pub invariant-loop-i : goal.invariant-loop-i
@@ -17,6 +19,7 @@ invariant-loop-i g l = record {
   tight : IsTight (core_of l.p);
   purged : IsPurged l.fn.pinned.a l.fn.pinned.b l.fn.pinned.d (core_of l.fn.p) (core_of l.p);
   sound : IsTrue (g.H.Host.tells Work) → KeepsSound g.H.Host l.fn.p l.fn.disk.host.now l.fn.disk.rest l.p l.disk.host.now l.disk.rest;
+  round : IsRound (entries_of l.fn.p.names.table / ROUND_PARTS) l.fn.words l.fn.entries l.i l.fn.p l.p;
   marks : LeavesMarks (core_of l.fn.p) (core_of l.p);
   minds : MindsMarks (core_of l.fn.p) (core_of l.p);
   here : AreHere (core_of l.p);

@@ -1,9 +1,11 @@
-use Rattle.core_view.proofs.Purge.{Purged-refl}
+use Rattle.core_view.proofs.Purge.{Purged-refl, body-stays}
 use Rattle.leaf_lambda.specs.Parts.{core_of}
 use Rattle.purger.proofs.MarkLaws.{Marks-same, Kept-refl}
 use Rattle.purger.proofs.MindLaws.{minds-refl}
-use Rattle.purger.proofs.RoomLaws.{work-refl}
+use Rattle.purger.proofs.RoomLaws.{all-pinned, work-refl}
+use Rattle.purger.proofs.RoundLaws.{kept-all, purged-all}
 use Rattle.purger.proofs.SoundLaws.{sound-refl}
+use Rattle.purger.proofs.TouchLaws.{touch-purged, touch-sound, touch-marks, touch-minds, touch-here, touch-tight, touch-fresh}
 use Rattle.purger.proofs.room.pass.Goals as goal
 
 pub returns-then-not-may_go-clause-purged : goal.returns-then-not-may_go-clause-purged
@@ -23,3 +25,18 @@ returns-clause-purged g c = c.evict_one.ensures.purged c.args.pinned.now.a c.arg
 
 pub returns-then-not-may_go-clause-minds : goal.returns-then-not-may_go-clause-minds
 returns-then-not-may_go-clause-minds g c = minds-refl (core_of c.args.p.now)
+
+pub returns-then-is_touched-clause-sound : goal.returns-then-is_touched-clause-sound
+returns-then-is_touched-clause-sound g c = λ told. touch-sound g.H.Host c.args.p.now c.untouch.new.p c.args.disk.now.host.now c.args.disk.now.rest c.untouch.ensures.parts c.untouch.ensures.stays c.untouch.ensures.step
+
+pub returns-then-is_touched-clause-here : goal.returns-then-is_touched-clause-here
+returns-then-is_touched-clause-here g c = touch-here (core_of c.args.p.now) (core_of c.untouch.new.p) c.untouch.ensures.step c.requires.marks
+
+pub returns-then-not-may_go-clause-one : goal.returns-then-not-may_go-clause-one
+returns-then-not-may_go-clause-one g c = kept-all c.args.s.0 (core_of c.args.p.now) (core_of c.args.p.now) (λ t p at. body-stays (core_of c.args.p.now) t p at)
+
+pub returns-then-is_touched-clause-one : goal.returns-then-is_touched-clause-one
+returns-then-is_touched-clause-one g c = kept-all c.args.s.0 (core_of c.args.p.now) (core_of c.untouch.new.p) (all-pinned (core_of c.args.p.now) (core_of c.untouch.new.p) (λ a b k. touch-purged a b k (core_of c.args.p.now) (core_of c.untouch.new.p) c.untouch.ensures.step c.untouch.ensures.outside))
+
+pub returns-clause-one : goal.returns-clause-one
+returns-clause-one g c = purged-all c.args.s.0 (core_of c.args.p.now) (core_of c.evict_one.new.p) c.evict_one.ensures.purged

@@ -1,0 +1,38 @@
+-- How far a round of the hand goes: over a part of the table, and on only while there is no room.
+use Rattle.std.specs.Prelude.{◌≡◌, ◌⊎◌, ℕ, ◌≤◌, List, length, Some, slice_get}
+use Rattle.object_table.specs.Entries.{place_of}
+use Rattle.core_segment.specs.Segment.{size_of}
+use Rattle.core_view.specs.Core.{Core}
+use Rattle.core_view.specs.Kept.{IsTight}
+use Rattle.core_view.specs.Purge.{IsSameBody}
+use Rattle.leaf_lambda.specs.declared.parts.Parts.{Parts}
+use Rattle.leaf_lambda.specs.Parts.{core_of, IsParts}
+use Rattle.purger.specs.Marks.{IsOut}
+use Rattle.purger.specs.Purge.{HasRoom}
+
+-- each body stays, but for that of one entry
+abbrev pub KeepsAllBut : ℕ → Core → Core → Type 0
+KeepsAllBut s old new = (t p : ℕ) → place_of (old.entries t).state ≡ Some p → (t ≡ s) ⊎ IsSameBody old new t p
+
+-- each body stays, but for those of at most so many entries
+pub record LosesFew (n : ℕ) (old new : Core) : Type 0 where
+  pub gone : List ℕ
+  pub few : length gone ≤ n
+  pub stays : (t p : ℕ) → place_of (old.entries t).state ≡ Some p → ((k : ℕ) × (slice_get gone k ≡ Some t)) ⊎ IsSameBody old new t p
+
+-- Before the last object left, so many words or entries weren't free.
+pub record LostInNeed (words entries : ℕ) (old new : Parts) : Type 0 where
+  pub before : Parts
+  -- these are parts of the same size, into which no object came
+  pub parts : IsParts before
+  pub tight : IsTight (core_of before)
+  pub size : size_of before.segment ≡ size_of old.segment
+  pub out : (n : ℕ) → IsOut (core_of old) n → IsOut (core_of before) n
+  pub wanting : HasRoom before words entries → ⊥
+  -- and at most one object left since
+  pub last : ℕ
+  pub stays : KeepsAllBut last (core_of before) (core_of new)
+
+-- At most a part of the table lost its bodies; or the last that did was needed.
+abbrev pub StopsInTime : ℕ → ℕ → ℕ → Parts → Parts → Type 0
+StopsInTime part words entries old new = LosesFew part (core_of old) (core_of new) ⊎ LostInNeed words entries old new
