@@ -1,5 +1,5 @@
 -- How many objects of a core have no record, entry by entry.
-use Rattle.std.proofs.Common.{◌≡◌, ℕ, suc, ◌+◌, ◌*◌, ◌≤◌, ◌&&◌, is_some, None, Bool, true, false, cond, refl, sym, ◌∙◌, ap, arith}
+use Rattle.std.proofs.Common.{◌≡◌, ℕ, zero, suc, ◌+◌, ◌-◌, ◌*◌, ◌≤◌, ◌<◌, ◌&&◌, is_some, None, Bool, true, false, cond, refl, sym, ◌∙◌, ap, arith}
 use Rattle.std.proofs.lemmas.Grind.{common_steps}
 use Rattle.object_table.specs.Entries.{is_short, is_used, place_of, sum_below}
 use Rattle.object_table.specs.declared.entry.EntryState.{EntryState}
@@ -42,6 +42,23 @@ fresh-next c core i =
     let none = unshort c (suc (2 * i + 2)) core odd in
     ap (λ (n : ℕ). sum_below n (λ s. fresh_by (c.entries s))) is ∙ omega (arith, none)
 
-pub fresh-all : (p : Parts) (i : ℕ) → i ≡ entries_of p.names.table → sum_below (2 * i + 2) (λ s. fresh_by ((core_of p).entries s)) ≡ fresh_of (core_of p)
+-- nothing is in use from a short word on
+fresh-past : (c : Core) (n m : ℕ) → ((s : ℕ) → is_used (c.entries s).state ≡ true → s < n) → sum_below (n + m) (λ s. fresh_by (c.entries s)) ≡ sum_below n (λ s. fresh_by (c.entries s))
+fresh-past c n zero most = ap (λ (k : ℕ). sum_below k (λ s. fresh_by (c.entries s))) (let e : n + zero ≡ n = omega arith in e)
+fresh-past c n (suc m) most =
+    let is : n + suc m ≡ suc (n + m) = omega arith in
+    let none = fresh-unplaced (c.entries (n + m)) (unplaced (c.entries (n + m)).state (go (is_used (c.entries (n + m)).state) refl)) in
+    let rest = fresh-past c n m most in
+    ap (λ (k : ℕ). sum_below k (λ s. fresh_by (c.entries s))) is ∙ omega (arith, none, rest)
+  where
+    go : (b : Bool) → is_used (c.entries (n + m)).state ≡ b → is_used (c.entries (n + m)).state ≡ false
+    go false e = e
+    go true e = absurd (let low = most (n + m) e in omega arith)
+
+pub fresh-all : (p : Parts) (i : ℕ) → i ≤ entries_of p.names.table → ((s : ℕ) → is_used ((core_of p).entries s).state ≡ true → s < 2 * i + 2)
+    → sum_below (2 * i + 2) (λ s. fresh_by ((core_of p).entries s)) ≡ fresh_of (core_of p)
 unfolding core_of fresh_of
-fresh-all p i is = ap (λ (n : ℕ). sum_below (2 * n + 2) (λ s. fresh_by ((core_of p).entries s))) is
+fresh-all p i low most =
+    let rest = entries_of p.names.table - i in
+    let is : 2 * i + 2 + 2 * rest ≡ 2 * entries_of p.names.table + 2 = omega arith in
+    sym (fresh-past (core_of p) (2 * i + 2) (2 * rest) most) ∙ ap (λ (n : ℕ). sum_below n (λ s. fresh_by ((core_of p).entries s))) is

@@ -16,6 +16,8 @@ pub mod CallLaws
 pub mod BringLaws
 pub mod ReadLaws
 pub mod StoreLaws
+pub mod TouchLaws
+pub mod OneLaws
 pub mod LastLaws
 pub mod SwapLaws
 pub mod WordLaws
@@ -42,6 +44,7 @@ pub mod MadeLaws
 pub mod MakingLaws
 pub mod RootLaws
 pub mod AddLaws
+pub mod AskLaws
 pub mod SettleLaws
 pub mod FirstLaws
 pub mod ThinLaws

@@ -49,11 +49,11 @@ fetched-then {T} (Ok x) a b d same is = is ∙ same
 fetched-then {T} (Err f) a b d same is = tt
 
 -- nothing went before an object was made
-pub made-early : {T H : Type 0} (r : Result T MemFault) (host : Ghosts H) (m u v : LoomMemory H) (to class : ℕ) (what : Making) → (m.ledger.made < 8 → u ≡ m) → OnOk r (HasMade (loom_told host u) (loom_told host v) to class what)
-    → IsTrue (host.tells Work) → IfBounds (loom_told host m).bounds (λ b. b.made < 8 → OnOk r ((loom_told host v).heap ≡ heap_after (loom_told host m).heap (loom_told host m).regs (Make to class what)))
+pub made-early : {T H : Type 0} (r : Result T MemFault) (host : Ghosts H) (m u v : LoomMemory H) (to class : ℕ) (what : Making) (words : ℕ) → words ≡ 4 + body_words (body_made what) → (m.ledger.made < 8 → HasRoom m.parts words 27 → u ≡ m) → OnOk r (HasMade (loom_told host u) (loom_told host v) to class what)
+    → IsTrue (host.tells Work) → IfBounds (loom_told host m).bounds (λ b. b.made < 8 → HasRoom m.parts (4 + body_words (body_made what)) 27 → OnOk r ((loom_told host v).heap ≡ heap_after (loom_told host m).heap (loom_told host m).regs (Make to class what)))
 unfolding loom_told
-made-early {T} {H} (Ok x) host m u v to class what same made = λ told low. subst (λ (z : LoomMemory H). (loom_told host v).heap ≡ heap_after (loom_told host z).heap (loom_told host z).regs (Make to class what)) (same low) (made.heap told)
-made-early {T} {H} (Err f) host m u v to class what same made = λ told low. tt
+made-early {T} {H} (Ok x) host m u v to class what words size same made = λ told low has. subst (λ (z : LoomMemory H). (loom_told host v).heap ≡ heap_after (loom_told host z).heap (loom_told host z).regs (Make to class what)) (same low (subst (λ (k : ℕ). HasRoom m.parts k 27) (sym size) has)) (made.heap told)
+made-early {T} {H} (Err f) host m u v to class what words size same made = λ told low has. tt
 
 -- ---- what a making left in the core
 
@@ -84,7 +84,7 @@ made-kept {H} host m u v to class what sound there core next made bodies remains
     remains-residents u v there.kept.parts.core core remains k (held-residents m u (loom_told host u).heap sound.kept.parts.core there.kept.parts.core (bodies told) k here before)
 
 pub made-sparing : {T H : Type 0} (r : Result T MemFault) (host : Ghosts H) (m u v : LoomMemory H) (to class : ℕ) (what : Making) (words : ℕ) → words ≡ 4 + body_words (body_made what) → IsSound host m → IsSound host u → KeepsSound r (IsSound host v)
-    → (m.ledger.held < disk_room m.disk.rest → u ≡ m) → (m.ledger.made < 8 → u ≡ m) → u.ledger.next ≡ m.ledger.next → ((k : ℕ) → HasRoom m.parts k 27 → HasRoom u.parts k 27) → (IsTrue (host.tells Work) → KeepsHeld (core_of m.parts) (core_of u.parts) (loom_told host u).heap)
+    → (m.ledger.held < disk_room m.disk.rest → HasRoom m.parts words 27 → u ≡ m) → (m.ledger.made < 8 → HasRoom m.parts words 27 → u ≡ m) → u.ledger.next ≡ m.ledger.next → ((k : ℕ) → HasRoom m.parts k 27 → HasRoom u.parts k 27) → (IsTrue (host.tells Work) → KeepsHeld (core_of m.parts) (core_of u.parts) (loom_told host u).heap)
     → OnOk r (HasMade (loom_told host u) (loom_told host v) to class what) → OnOk r (HasRoom u.parts words 27 → IsResting u v) → OnOk r (HasRoom u.parts words 27 → KeepsCache host u v) → OnOk r (IsSparingMaking host m v what)
 made-sparing {T} {H} (Ok x) host m u v to class what words size sound there now roomy early next room bodies made rests keeps = record {
   stays = λ space. remains-residents m v sound.kept.parts.core now.kept.parts.core (rest space).remains;
@@ -93,11 +93,13 @@ made-sparing {T} {H} (Ok x) host m u v to class what words size sound there now 
   kept = λ told has. made-kept host m u v to class what sound there now.kept.parts.core next made bodies (rests (subst (λ (k : ℕ). HasRoom u.parts k 27) (sym size) (room (4 + body_words (body_made what)) has))).remains told;
 }
   where
-    from : (P : LoomMemory H → Type 0) → (HasRoom u.parts words 27 → P u) → u ≡ m → HasRoom m.parts (4 + body_words (body_made what)) 27 → P m
-    from P go same has = subst P same (go (subst (λ (z : LoomMemory H). HasRoom z.parts words 27) (sym same) (subst (λ (k : ℕ). HasRoom m.parts k 27) (sym size) has)))
+    from : (P : LoomMemory H → Type 0) → (HasRoom u.parts words 27 → P u) → u ≡ m → HasRoom m.parts words 27 → P m
+    from P go same has = subst P same (go (subst (λ (z : LoomMemory H). HasRoom z.parts words 27) (sym same) has))
 
     each : (P : LoomMemory H → Type 0) → (HasRoom u.parts words 27 → P u) → HasSpaceFor m what → P m
-    each P go space = ⊎_elim (λ (h : m.ledger.held < disk_room m.disk.rest). from P go (roomy h) space.1) (λ (h : m.ledger.made < 8). from P go (early h) space.1) space.0
+    each P go space =
+        let has = subst (λ (k : ℕ). HasRoom m.parts k 27) (sym size) space.1 in
+        ⊎_elim (λ (h : m.ledger.held < disk_room m.disk.rest). from P go (roomy h has) has) (λ (h : m.ledger.made < 8). from P go (early h has) has) space.0
 
     rest : HasSpaceFor m what → IsResting m v
     rest space = each (λ z. IsResting z v) rests space

@@ -124,6 +124,32 @@ settled-some t u v base thin x count again =
     go None e is = tt
     go (Some b) e is = subst (λ (o : Option ℕ). CountsKept v o) (sym e) is
 
+-- dead objects went, and how many are left isn't known
+pub settled-thin : (t u v : Told) → HasThinned t u → HasBegun u v None → HasSettled t v
+settled-thin t u v thin x =
+    let heap : v.heap ≡ u.heap = ap (λ (z : Told). z.heap) x.same in
+    let cache : v.cache ≡ u.cache = ap (λ (z : Told). z.cache) x.same in
+    record {
+      same = x.same ∙ ap (λ (z : Told). record z { bounds = v.bounds }) thin.same ∙ (λ i. record t { heap = sym heap i; bounds = v.bounds; cache = sym cache i });
+      thinning = λ told. subst (λ (h : Heap). IsThinning t.heap h t.regs t.slots) (sym heap) (thin.thinning told);
+      marked = λ told n on. subst (λ (h : Heap). Has h n) (sym heap) (thin.marked told n (ap (λ (c : Cache). c.marks n) (sym cache) ∙ on));
+      cache = subst (λ (c : Cache). LeavesCache no_names None t.cache t.cache c) (sym cache) thin.cache;
+      bounds = same-trans t.bounds u.bounds v.bounds thin.bounds x.bounds;
+      settled = settled-over t.bounds u.bounds v.bounds thin.bounds x.settled;
+      base = go v.bounds x.base_is;
+    }
+  where
+    settled-over : (a b c : Option Bounds) → SameBounds a b → Settled b c → Settled a c
+    settled-over None None c x y = y
+    settled-over None (Some b) c x y = absurd x
+    settled-over (Some a) None c x y = absurd x
+    settled-over (Some a) (Some b) None x y = absurd y
+    settled-over (Some a) (Some b) (Some c) x y = y
+
+    go : (b : Option Bounds) → IfBounds b (λ b. b.base ≡ None) → IfBounds b (λ b. CountsKept v b.base)
+    go None e = tt
+    go (Some b) e = subst (λ (o : Option ℕ). CountsKept v o) (sym e) tt
+
 -- quiet steps after it
 pub settled-quiet : (t u v : Told) → HasSettled t u → IsQuiet u v → HasSettled t v
 settled-quiet t u v x quiet =
@@ -279,6 +305,14 @@ settle-stays {H} (Err f) host m u v core now more bodies same = tt
 
 -- ---- where there is nothing to do
 
+pub anew-rested : {H : Type 0} (m u v : LoomMemory H) → u ≡ m → v ≡ (record u { ledger = record u.ledger { base = None; made = 0 } }) → HasRested m v (Ok tt)
+anew-rested {H} m u v first last = record { ok = refl; same = last ∙ ap (λ (z : LoomMemory H). record z { ledger = record z.ledger { base = None; made = 0 } }) first }
+
+-- no making is counted, and as many are held, where none went
+pub rested-room : {H : Type 0} (r : Result (Unit {0}) MemFault) (m v : LoomMemory H) → OnOk r (v.ledger.base ≡ None) → (128 ≤ spare_of m.parts → HasRested m v r) → OnOk r ((v.ledger.base ≡ None) × (128 ≤ spare_of m.parts → v.ledger.held ≡ m.ledger.held))
+rested-room {H} (Ok x) m v none rests = (none, λ enough. ap (λ (z : LoomMemory H). z.ledger.held) (rests enough).same)
+rested-room {H} (Err f) m v none rests = tt
+
 pub rested-idle : {H : Type 0} (r : Result (Unit {0}) MemFault) (m v : LoomMemory H) → HasRested m v r → OnOk r (IsIdle m v)
 unfolding fetched
 rested-idle {H} (Ok x) m v is = record {
@@ -299,3 +333,7 @@ pub rested-whole : {H : Type 0} (r : Result (Unit {0}) MemFault) (host : Ghosts 
 unfolding loom_told
 rested-whole {H} (Ok x) host m u v same quiet = ap (λ (z : Told). z.heap) quiet.same ∙ ap (λ (z : LoomMemory H). heap_if (host.tells Work) (held (core_of z.parts) (disk_of host z.disk.host.now z.disk.rest)) z.ledger.next) same
 rested-whole {H} (Err f) host m u v same quiet = tt
+
+pub told-each : {T : Type 0} (P Q : Type 0) (r : Result T MemFault) → OnOk r Q → OnOk r (P → Q)
+told-each {T} P Q (Ok x) q = λ p. q
+told-each {T} P Q (Err f) q = tt

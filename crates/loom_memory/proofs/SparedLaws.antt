@@ -34,13 +34,19 @@ spared-never {T} {P} Q (Ok x) none = tt
 spared-never {T} {P} Q (Err f) none = λ p. absurd (none p)
 
 -- nothing was freed before
-pub spared-making : {T H : Type 0} (r : Result T MemFault) (host : Ghosts H) (m u v : LoomMemory H) (what : Making) (words : ℕ) → words ≡ 4 + body_words (body_made what) → (m.ledger.held < disk_room m.disk.rest → u ≡ m) → (m.ledger.made < 8 → u ≡ m)
+pub spared-making : {T H : Type 0} (r : Result T MemFault) (host : Ghosts H) (m u v : LoomMemory H) (what : Making) (words : ℕ) → words ≡ 4 + body_words (body_made what) → (m.ledger.held < disk_room m.disk.rest → HasRoom m.parts words 27 → u ≡ m) → (m.ledger.made < 8 → HasRoom m.parts words 27 → u ≡ m)
     → IfErr r (λ f. HasRoom u.parts words 27 → IsSpared host u v) → IfErr r (λ f. HasSpaceFor m what → IsSpared host m v)
 spared-making {T} {H} (Ok x) host m u v what words size roomy early last = tt
-spared-making {T} {H} (Err f) host m u v what words size roomy early last = λ space. ⊎_elim (λ (h : m.ledger.held < disk_room m.disk.rest). from (roomy h) space.1) (λ (h : m.ledger.made < 8). from (early h) space.1) space.0
+spared-making {T} {H} (Err f) host m u v what words size roomy early last = λ space.
+    let has = subst (λ (k : ℕ). HasRoom m.parts k 27) (sym size) space.1 in
+    ⊎_elim (λ (h : m.ledger.held < disk_room m.disk.rest). from (roomy h has) has) (λ (h : m.ledger.made < 8). from (early h has) has) space.0
   where
-    from : u ≡ m → HasRoom m.parts (4 + body_words (body_made what)) 27 → IsSpared host m v
-    from same has = subst (λ (z : LoomMemory H). IsSpared host z v) same (last (subst (λ (z : LoomMemory H). HasRoom z.parts words 27) (sym same) (subst (λ (k : ℕ). HasRoom m.parts k 27) (sym size) has)))
+    from : u ≡ m → HasRoom m.parts words 27 → IsSpared host m v
+    from same has = subst (λ (z : LoomMemory H). IsSpared host z v) same (last (subst (λ (z : LoomMemory H). HasRoom z.parts words 27) (sym same) has))
+
+pub ok-never : {T P : Type 0} (Q : Type 0) (r : Result T MemFault) → (P → ⊥) → OnOk r (P → Q)
+ok-never {T} {P} Q (Ok x) none = λ p. absurd (none p)
+ok-never {T} {P} Q (Err f) none = tt
 
 pub unspent-never : {T P : Type 0} (Q : Type 0) (r : Result T MemFault) → (P → ⊥) → OnOk r (P → Q)
 unspent-never {T} {P} Q (Ok x) none = λ p. absurd (none p)
@@ -56,7 +62,9 @@ pub sure-then : {T : Type 0} (P Q : Type 0) (r : Result T MemFault) → IfErr r 
 sure-then {T} P Q (Ok x) none = tt
 sure-then {T} P Q (Err f) none = λ p q. none p
 
-pub sure-making : {T H : Type 0} (r : Result T MemFault) (host : Ghosts H) (m u : LoomMemory H) (what : Making) (words : ℕ) → words ≡ 4 + body_words (body_made what) → (m.ledger.held < disk_room m.disk.rest → u ≡ m)
+pub sure-making : {T H : Type 0} (r : Result T MemFault) (host : Ghosts H) (m u : LoomMemory H) (what : Making) (words : ℕ) → words ≡ 4 + body_words (body_made what) → (m.ledger.held < disk_room m.disk.rest → HasRoom m.parts words 27 → u ≡ m)
     → IfErr r (λ f. IsTrue (host.tells Work) → HasRoom u.parts words 27 → ⊥) → IfErr r (λ f. HasAllFor host m what → ⊥)
 sure-making {T} {H} (Ok x) host m u what words size roomy last = tt
-sure-making {T} {H} (Err f) host m u what words size roomy last = λ all. last all.told (subst (λ (z : LoomMemory H). HasRoom z.parts words 27) (sym (roomy all.room)) (subst (λ (k : ℕ). HasRoom m.parts k 27) (sym size) all.space))
+sure-making {T} {H} (Err f) host m u what words size roomy last = λ all.
+    let has = subst (λ (k : ℕ). HasRoom m.parts k 27) (sym size) all.space in
+    last all.told (subst (λ (z : LoomMemory H). HasRoom z.parts words 27) (sym (roomy all.room has)) has)

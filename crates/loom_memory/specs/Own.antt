@@ -1,7 +1,7 @@
 -- What a two-level memory promises of its core and of Work, beside what it tells: `IsSparing` of each access to an object that changes
 -- nothing of it, `IsSparingChange` of a store and a mark, `IsSearched` and `IsSearchedChange` of a field that may have been left on the
--- disk, `IsSparingMaking` of a making, `IsPutAway` of a swap; why marks and rows go is `MindsCache`; and `IsAmple` says when an access is
--- answered.
+-- disk, `IsSparingMaking` of a making, `IsPutAway` of a swap; `BringsOne` bounds what comes in, whatever is answered; why marks and rows go is
+-- `MindsCache`; and `IsAmple` says when an access is answered.
 use Rattle.std.specs.Prelude.{◌≡◌, ◌≢◌, ◌⊎◌, ◌+◌, ◌≤◌, ◌<◌, ℕ, true, false, Option, None, Some, Result, IsOk, OnOk, IfErr, IsTrue}
 use Rattle.long_names.specs.declared.limits.TheConstants.{LAST_NAME, MAKINGS_BEFORE_FREEING}
 use Rattle.long_names.specs.Counting.{counted, Rose}
@@ -57,6 +57,10 @@ pub record MindsCache {H : Type 0} (host : Ghosts H) (marked : Option ℕ) (old 
   pub others : (k : ℕ) → is_resident old k ≡ false → IsTrue (is_resident new k) → about k
   -- Marks and rows are as they were, with the new mark; or none from before is left.
   pub cache : ((loom_told host new).cache ≡ with_mark (loom_told host old).cache marked) ⊎ IsSwept host marked old new about
+
+-- At most one object came in; and none, unless this is so.
+abbrev pub BringsOne : {H : Type 0} → LoomMemory H → LoomMemory H → Type 0 → Type 0
+BringsOne old new P = (fetched new ≡ fetched old) ⊎ (P × (fetched new ≡ counted (fetched old)))
 
 -- The object of a name was reached.
 pub record IsReached {H : Type 0} (host : Ghosts H) (old new : LoomMemory H) (n : ℕ) : Type 0 where

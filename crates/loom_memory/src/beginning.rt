@@ -88,6 +88,7 @@ impl<'h, H: Host> LoomMemory<'h, H> {
             regs: [1; REGISTERS],
             pinned: Pinned { a: 0, b: 0, d: 0 },
             hand: 0,
+            due: 0,
             ledger: Ledger {
                 core,
                 entries,

@@ -1,5 +1,5 @@
 // The method cache: marks, and rows that count while they are there.
-ghost use Rattle.std.specs.Prelude.{◌≡◌, ◌&&◌, ℕ, Some, true, OnOk, MatchBool, IsTrue};
+ghost use Rattle.std.specs.Prelude.{◌≡◌, ◌&&◌, ℕ, Some, true, false, OnOk, MatchBool, IsTrue};
 ghost use Rattle.object_table.specs.Entries.{place_of};
 ghost use Rattle.core_view.specs.Core.{with_entry};
 ghost use Rattle.leaf_lambda.specs.Parts.{core_of, IsParts};
@@ -73,7 +73,8 @@ fn refresh(p: &Parts, k: &mut Ledger)
 impl<'h, H: Host> LoomMemory<'h, H> {
     ghost use Rattle.loom_memory.specs.Gentle.{IsResting, IsSteady, Remains};
     ghost use Rattle.loom_memory.specs.Damage.{IsDamaged};
-    ghost use Rattle.loom_memory.specs.Own.{HasPlace, IsBrought, IsSparingChange, MindsCache};
+    ghost use Rattle.loom_memory.specs.Residents.{is_resident};
+    ghost use Rattle.loom_memory.specs.Own.{BringsOne, HasPlace, IsBrought, IsSparingChange, MindsCache};
     ghost use Rattle.long_names.specs.State.{name_at};
     ghost use Rattle.long_names.specs.Access.{Mark, Nothing};
     ghost use Rattle.object_memory.specs.Contract.{Accessed, IsFound, IsPut, IsUnknown, MayDo, is_marked, with_mark};
@@ -119,6 +120,7 @@ impl<'h, H: Host> LoomMemory<'h, H> {
             → (loom_told H.Host self.new).cache ≡ with_mark (loom_told H.Host self.old).cache (Some (name_at ((loom_told H.Host self.old).regs r)))) }
         ensures minds { OnOk result (MindsCache H.Host (Some (name_at ((loom_told H.Host self.old).regs r))) self.old self.new (IsBrought self.old self.new (name_at ((loom_told H.Host self.old).regs r)))) }
         ensures damage { IsDamaged self.old self.new (name_at ((loom_told H.Host self.old).regs r)) result }
+        ensures brings { BringsOne self.old self.new (is_resident self.old (name_at ((loom_told H.Host self.old).regs r)) ≡ false) }
         ensures fit { StaysCallable (IsSound H.Host) (loom_told H.Host) loom_lender (loom_outside H.Host) self.old self.new result }
     {
         match self.load(r) {

@@ -1,5 +1,5 @@
 // Objects leave the core, or lie together in it.
-ghost use Rattle.std.specs.Prelude.{◌≡◌, ◌<◌, ℕ, None, IsTrue, OnOk};
+ghost use Rattle.std.specs.Prelude.{◌≡◌, ◌<◌, ℕ, None, IsTrue, OnOk, IfErr};
 ghost use Rattle.core_segment.specs.Segment.{largest_of, free_of};
 ghost use Rattle.object_table.specs.Table.{entries_of};
 
@@ -19,23 +19,29 @@ fn too_many(p: &Parts) -> u16
 }
 
 impl<'h, H: Host> LoomMemory<'h, H> {
-    ghost use Rattle.std.specs.Prelude.{Ok};
-    ghost use Rattle.object_memory.specs.Told.{has_slot};
-    ghost use Rattle.object_memory.specs.Contract.{Called, Follows, IsLater, Thins};
+    ghost use Rattle.std.specs.Prelude.{Ok, Err};
+    ghost use Rattle.object_memory.specs.Told.{has_slot, IsReady};
+    ghost use Rattle.object_memory.specs.Contract.{Called, Follows, IsLater, KeepsSound, Thins};
     ghost use Rattle.object_memory.specs.Fit.{MayCall, StaysCallable};
-    ghost use Rattle.loom_memory.specs.Memory.{loom_told, loom_outside, loom_lender, IsSound};
+    ghost use Rattle.loom_memory.specs.Memory.{loom_told, loom_outside, loom_lender, IsQuiet, IsSound};
+    ghost use Rattle.loom_memory.specs.Makings.{IsLost};
     ghost use Rattle.loom_memory.specs.Residents.{is_resident, fetched};
     ghost use Rattle.loom_memory.specs.Gentle.{IsPeek, IsResting};
     ghost use Rattle.loom_memory.specs.Own.{MindsCache};
 
-    /// More entries are asked for than there are, so everything leaves that may. That there are fewer is no refusal.
-    pub fn purge_all(&mut self) -> Result<(), MemFault>
-        requires fit { MayCall (IsSound H.Host) (loom_told H.Host) self.old }
-        ensures called { Called (loom_told H.Host self.old) (loom_told H.Host self.new) Thins result }
+    // More entries are asked for than there are, so everything leaves that may. That there are fewer is no refusal.
+    fn put_out(&mut self) -> Result<(), MemFault>
+        requires sound { IsSound H.Host self.old }
+        requires ready { IsReady (loom_told H.Host self.old) }
+        ensures quiet { OnOk result (IsQuiet (loom_told H.Host self.old) (loom_told H.Host self.new)) }
         ensures pinned { OnOk result ((n : ℕ) → IsTrue (is_resident self.new n) → IsTrue (has_slot (loom_told H.Host self.new).slots n)) }
         ensures fetches { OnOk result (fetched self.new ≡ fetched self.old) }
         ensures minds { OnOk result (MindsCache H.Host None self.old self.new (λ k. ⊥)) }
-        ensures fit { StaysCallable (IsSound H.Host) (loom_told H.Host) loom_lender (loom_outside H.Host) self.old self.new result }
+        ensures sound { KeepsSound result (IsSound H.Host self.new) }
+        ensures err { IfErr result (λ f. Called {A = Unit {0}} (loom_told H.Host self.old) (loom_told H.Host self.new) Thins (Err f)) }
+        ensures fault { IfErr result IsLost }
+        ensures lender { self.new.disk.host.ghost_name ≡ self.old.disk.host.ghost_name }
+        ensures outside { loom_outside H.Host self.new ≡ loom_outside H.Host self.old }
     {
         let entries = too_many(&self.parts);
         match self.room(0, entries) {
@@ -50,6 +56,21 @@ impl<'h, H: Host> LoomMemory<'h, H> {
                     Err(self.refuse(f))
                 }
             },
+        }
+    }
+
+    /// Dead objects are freed, and all others leave but those that are pinned.
+    pub fn purge_all(&mut self) -> Result<(), MemFault>
+        requires fit { MayCall (IsSound H.Host) (loom_told H.Host) self.old }
+        ensures called { Called (loom_told H.Host self.old) (loom_told H.Host self.new) Thins result }
+        ensures pinned { OnOk result ((n : ℕ) → IsTrue (is_resident self.new n) → IsTrue (has_slot (loom_told H.Host self.new).slots n)) }
+        ensures fetches { OnOk result (fetched self.new ≡ fetched self.old) }
+        ensures minds { OnOk result (MindsCache H.Host None self.old self.new (λ k. ⊥)) }
+        ensures fit { StaysCallable (IsSound H.Host) (loom_told H.Host) loom_lender (loom_outside H.Host) self.old self.new result }
+    {
+        match self.thin() {
+            Ok(()) => self.put_out(),
+            Err(f) => Err(f),
         }
     }
 

@@ -1,5 +1,5 @@
 // Fields of objects, into a register and out of it.
-ghost use Rattle.std.specs.Prelude.{◌≡◌, ◌≢◌, ◌≤◌, ℕ, [], Some, true, IsTrue, IfSome, IfNone, OnOk, IfOk, IfErr, slice_get};
+ghost use Rattle.std.specs.Prelude.{◌≡◌, ◌≢◌, ◌⊎◌, ◌≤◌, ℕ, [], Some, true, false, IsTrue, IfSome, IfNone, OnOk, IfOk, IfErr, slice_get};
 ghost use Rattle.long_names.specs.Words.{IsValue};
 ghost use Rattle.object_record.specs.Objects.{value_in};
 ghost use Rattle.object_table.specs.Entries.{is_short, is_used, place_of};
@@ -7,7 +7,7 @@ ghost use Rattle.core_view.specs.Words.{meant};
 ghost use Rattle.core_view.specs.Held.{fields_there};
 ghost use Rattle.core_view.specs.Steps.{IsAt};
 ghost use Rattle.leaf_lambda.specs.Parts.{core_of, spare_of, IsParts};
-ghost use Rattle.loom_memory.specs.declared.load.TheConstants.{SPARE_BEHIND_CLASS};
+ghost use Rattle.loom_memory.specs.declared.load.TheConstants.{SPARE_BEHIND_CLASS, SPARE_ENTRIES as SPARE};
 
 use crate::below::is_below;
 use crate::bring::refusal_of;
@@ -44,8 +44,10 @@ pub(crate) fn word_in_body(p: &Parts, s: Short, i: u32) -> Option<u16>
 
 impl<'h, H: Host> LoomMemory<'h, H> {
     ghost use Rattle.long_names.specs.State.{name_at};
+    ghost use Rattle.purger.specs.Purge.{HasRoom};
+    ghost use Rattle.loom_memory.specs.Residents.{fetched, is_resident};
     ghost use Rattle.loom_memory.specs.Gentle.{IsPeek, IsSteady};
-    ghost use Rattle.loom_memory.specs.Own.{IsAtHand, IsSearched, IsSparing};
+    ghost use Rattle.loom_memory.specs.Own.{BringsOne, IsAtHand, IsSearched, IsSparing};
     ghost use Rattle.long_names.specs.Access.{Access, Field, CanDo, Nothing, brought};
     ghost use Rattle.long_names.specs.declared.value.Value.TheVariants.{Ref};
     ghost use Rattle.object_memory.specs.Told.{IsReady};
@@ -75,6 +77,7 @@ impl<'h, H: Host> LoomMemory<'h, H> {
         ensures damage { IfErr result (IsDamageOf self.new.disk.rest ((core_of self.old.parts).entries s.0).name) }
         ensures err { IfErr result (λ f. (a : Access) → IsSilent a → makes a ≡ 0 → IsRefused (loom_told H.Host self.old) (loom_told H.Host self.new) a f) }
         ensures peek { OnOk result (IsPeek H.Host self.old self.new) }
+        ensures brings { fetched self.new ≡ fetched self.old }
         ensures lender { self.new.disk.host.ghost_name ≡ self.old.disk.host.ghost_name }
         ensures outside { loom_outside H.Host self.new ≡ loom_outside H.Host self.old }
     {
@@ -152,6 +155,7 @@ impl<'h, H: Host> LoomMemory<'h, H> {
         ensures damage { IfErr result (IsDamageOf self.new.disk.rest ((core_of self.old.parts).entries s.0).name) }
         ensures err { IfErr result (λ f. (a : Access) → IsSilent a → makes a ≡ 0 → IsRefused (loom_told H.Host self.old) (loom_told H.Host self.new) a f) }
         ensures peek { OnOk result (IsPeek H.Host self.old self.new) }
+        ensures brings { fetched self.new ≡ fetched self.old }
         ensures lender { self.new.disk.host.ghost_name ≡ self.old.disk.host.ghost_name }
         ensures outside { loom_outside H.Host self.new ≡ loom_outside H.Host self.old }
     {
@@ -176,6 +180,7 @@ impl<'h, H: Host> LoomMemory<'h, H> {
         ensures damage { IfErr result (IsDamageOf self.new.disk.rest ((core_of self.old.parts).entries s.0).name) }
         ensures err { IfErr result (IsRefused (loom_told H.Host self.old) (loom_told H.Host self.new) (Field to of i)) }
         ensures peek { OnOk result (IsPeek H.Host self.old self.new) }
+        ensures brings { fetched self.new ≡ fetched self.old }
         ensures lender { self.new.disk.host.ghost_name ≡ self.old.disk.host.ghost_name }
         ensures outside { loom_outside H.Host self.new ≡ loom_outside H.Host self.old }
     {
@@ -201,6 +206,7 @@ impl<'h, H: Host> LoomMemory<'h, H> {
         ensures damage { IfErr result (IsDamageOf self.new.disk.rest ((core_of self.old.parts).entries s.0).name) }
         ensures err { IfErr result (IsRefused (loom_told H.Host self.old) (loom_told H.Host self.new) (Field to of i)) }
         ensures peek { OnOk result (IsPeek H.Host self.old self.new) }
+        ensures brings { fetched self.new ≡ fetched self.old }
         ensures lender { self.new.disk.host.ghost_name ≡ self.old.disk.host.ghost_name }
         ensures outside { loom_outside H.Host self.new ≡ loom_outside H.Host self.old }
     {
@@ -225,6 +231,7 @@ impl<'h, H: Host> LoomMemory<'h, H> {
         ensures access { Accessed (loom_told H.Host self.old) (loom_told H.Host self.new) (Field to of i) (λ _. Nothing) result }
         ensures searched { OnOk result (IsSearched H.Host self.old self.new (name_at ((loom_told H.Host self.old).regs of))) }
         ensures damage { IsDamaged self.old self.new (name_at ((loom_told H.Host self.old).regs of)) result }
+        ensures brings { BringsOne self.old self.new ((is_resident self.old (name_at ((loom_told H.Host self.old).regs of)) ≡ false) ⊎ (HasRoom self.old.parts 0 SPARE → ⊥)) }
         ensures fit { StaysCallable (IsSound H.Host) (loom_told H.Host) loom_lender (loom_outside H.Host) self.old self.new result }
     {
         match self.load_with_room(of) {
@@ -242,6 +249,7 @@ impl<'h, H: Host> LoomMemory<'h, H> {
         ensures own { IsAtHand self.old (name_at ((loom_told H.Host self.old).regs of)) i → IsSparing H.Host self.old self.new (name_at ((loom_told H.Host self.old).regs of)) result }
         ensures searched { OnOk result (IsSearched H.Host self.old self.new (name_at ((loom_told H.Host self.old).regs of))) }
         ensures damage { IsDamaged self.old self.new (name_at ((loom_told H.Host self.old).regs of)) result }
+        ensures brings { BringsOne self.old self.new ((is_resident self.old (name_at ((loom_told H.Host self.old).regs of)) ≡ false) ⊎ (HasRoom self.old.parts 0 SPARE → ⊥)) }
         ensures fit { StaysCallable (IsSound H.Host) (loom_told H.Host) loom_lender (loom_outside H.Host) self.old self.new result }
     {
         match self.here(of) {

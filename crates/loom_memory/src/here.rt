@@ -32,11 +32,11 @@ impl<'h, H: Host> LoomMemory<'h, H> {
     ghost use Rattle.object_memory.specs.Contract.{Does, ForBounds, HasCore, IfBounds, IsLater, KeepsSound, Refuses, makes};
     ghost use Rattle.purger.specs.Purge.{HasRoom};
     ghost use Rattle.loom_memory.specs.Calls.{IsLoaded};
-    ghost use Rattle.loom_memory.specs.Residents.{is_resident, words_resident};
+    ghost use Rattle.loom_memory.specs.Residents.{fetched, is_resident, words_resident};
     ghost use Rattle.loom_memory.specs.Gentle.{IsGentle};
     ghost use Rattle.loom_memory.specs.Below.{IsTested};
     ghost use Rattle.loom_memory.specs.Damage.{IsDamaged};
-    ghost use Rattle.loom_memory.specs.Own.{IsSparing, MindsCache};
+    ghost use Rattle.loom_memory.specs.Own.{BringsOne, IsSparing, MindsCache};
     ghost use Rattle.loom_memory.specs.Memory.{loom_told, loom_outside, word_in, IsSound, IsQuiet, IsCalm, IsSilent};
 
     // Moves bodies together where so many words are free, but not as one chunk.
@@ -56,6 +56,7 @@ impl<'h, H: Host> LoomMemory<'h, H> {
         ensures minds { MindsCache H.Host None self.old self.new (λ k. ⊥) }
         ensures idle { words ≡ 0 → self.new ≡ self.old }
         ensures buf { self.new.buf ≡ self.old.buf }
+        ensures brings { fetched self.new ≡ fetched self.old }
         ensures lender { self.new.disk.host.ghost_name ≡ self.old.disk.host.ghost_name }
         ensures outside { loom_outside H.Host self.new ≡ loom_outside H.Host self.old }
     {
@@ -103,6 +104,7 @@ impl<'h, H: Host> LoomMemory<'h, H> {
         ensures damage { IsDamaged self.old self.new (name_at ((loom_told H.Host self.old).regs of)) result }
         ensures tested { OnOk result (is_resident self.old (name_at ((loom_told H.Host self.old).regs of)) ≡ false → IsTested self.new (name_at ((loom_told H.Host self.old).regs of))) }
         ensures err { IfErr result (λ f. (a : Access) → target_of a ≡ Some of → makes a ≡ 0 → IsSilent a → IsLater (loom_told H.Host self.old) (loom_told H.Host self.new) × Refuses (loom_told H.Host self.old) (loom_told H.Host self.new) (Does a) f) }
+        ensures brings { BringsOne self.old self.new (is_resident self.old (name_at ((loom_told H.Host self.old).regs of)) ≡ false) }
         ensures lender { self.new.disk.host.ghost_name ≡ self.old.disk.host.ghost_name }
         ensures outside { loom_outside H.Host self.new ≡ loom_outside H.Host self.old }
     {

@@ -1,5 +1,5 @@
 // Names that come into registers without their objects.
-ghost use Rattle.std.specs.Prelude.{◌≡◌, ◌≤◌, ◌<◌, ◌^◌, ℕ, Some, None, Ok, IsTrue, IsSome, IfSome, IfNone, OnOk, IfOk, IfErr};
+ghost use Rattle.std.specs.Prelude.{◌≡◌, ◌≤◌, ◌<◌, ◌^◌, ℕ, Some, None, Ok, false, IsTrue, IsSome, IfSome, IfNone, OnOk, IfOk, IfErr};
 ghost use Rattle.leaf_lambda.specs.Parts.{core_of, spare_of};
 ghost use Rattle.core_view.specs.Room.{IsBare};
 ghost use Rattle.loom_memory.specs.declared.load.TheConstants.{SPARE_ENTRIES as SPARE};
@@ -27,7 +27,8 @@ impl<'h, H: Host> LoomMemory<'h, H> {
     ghost use Rattle.loom_memory.specs.Memory.{loom_told, loom_outside, loom_lender, IsSound, IsQuiet};
     ghost use Rattle.purger.specs.Purge.{HasRoom};
     ghost use Rattle.loom_memory.specs.Gentle.{IsSteady};
-    ghost use Rattle.loom_memory.specs.Own.{IsSparing, MindsCache};
+    ghost use Rattle.loom_memory.specs.Own.{BringsOne, IsSparing, MindsCache};
+    ghost use Rattle.loom_memory.specs.Residents.{fetched, is_resident};
     ghost use Rattle.loom_memory.specs.Damage.{IsDamaged};
     ghost use Rattle.loom_memory.specs.Known.{IsEntryOf, IsNameable, IsSpent, IsNeedBeside, IsRefusedOf, IsNaming};
 
@@ -43,6 +44,7 @@ impl<'h, H: Host> LoomMemory<'h, H> {
         ensures same { IfNone result ((core_of self.new.parts ≡ core_of self.old.parts) × (spare_of self.new.parts ≤ spare_of self.old.parts)) }
         ensures pins { self.new.pinned ≡ self.old.pinned }
         ensures steady { IsSteady H.Host self.old self.new }
+        ensures brings { fetched self.new ≡ fetched self.old }
         ensures lender { self.new.disk.host.ghost_name ≡ self.old.disk.host.ghost_name }
         ensures outside { loom_outside H.Host self.new ≡ loom_outside H.Host self.old }
     {
@@ -81,6 +83,7 @@ impl<'h, H: Host> LoomMemory<'h, H> {
         requires bare { IsBare self.old.pinned.a self.old.pinned.b self.old.pinned.d (core_of self.old.parts) }
         ensures sound { LeavesAll result (IsSound H.Host self.new) }
         ensures err { IsRefusedOf (loom_told H.Host self.old) (loom_told H.Host self.new) name result }
+        ensures brings { fetched self.new ≡ fetched self.old }
         ensures lender { self.new.disk.host.ghost_name ≡ self.old.disk.host.ghost_name }
         ensures outside { loom_outside H.Host self.new ≡ loom_outside H.Host self.old }
     {
@@ -106,6 +109,7 @@ impl<'h, H: Host> LoomMemory<'h, H> {
         ensures found { IfOk result (λ s. IsEntryOf (core_of self.new.parts) s.0 name) }
         ensures minds { OnOk result (MindsCache H.Host None self.old self.new (λ k. ⊥)) }
         ensures err { IfErr result (IsRefusedOf (loom_told H.Host self.old) (loom_told H.Host self.new) name) }
+        ensures brings { fetched self.new ≡ fetched self.old }
         ensures lender { self.new.disk.host.ghost_name ≡ self.old.disk.host.ghost_name }
         ensures outside { loom_outside H.Host self.new ≡ loom_outside H.Host self.old }
     {
@@ -131,6 +135,7 @@ impl<'h, H: Host> LoomMemory<'h, H> {
         ensures err { IfErr result (IsRefusedOf (loom_told H.Host self.old) (loom_told H.Host self.new) name) }
         ensures steady { OnOk result (HasRoom self.old.parts 0 SPARE → IsSteady H.Host self.old self.new) }
         ensures unspent { OnOk result ((IsSpent (core_of self.old.parts) (spare_of self.old.parts) name → ⊥) → IsSteady H.Host self.old self.new) }
+        ensures brings { fetched self.new ≡ fetched self.old }
         ensures lender { self.new.disk.host.ghost_name ≡ self.old.disk.host.ghost_name }
         ensures outside { loom_outside H.Host self.new ≡ loom_outside H.Host self.old }
     {
@@ -152,6 +157,7 @@ impl<'h, H: Host> LoomMemory<'h, H> {
         ensures err { IfErr result (IsRefusedOf (loom_told H.Host self.old) (loom_told H.Host self.new) name) }
         ensures steady { OnOk result (HasRoom self.old.parts 0 SPARE → IsSteady H.Host self.old self.new) }
         ensures unspent { OnOk result ((IsSpent (core_of self.old.parts) (spare_of self.old.parts) name → ⊥) → IsSteady H.Host self.old self.new) }
+        ensures brings { fetched self.new ≡ fetched self.old }
         ensures lender { self.new.disk.host.ghost_name ≡ self.old.disk.host.ghost_name }
         ensures outside { loom_outside H.Host self.new ≡ loom_outside H.Host self.old }
     {
@@ -174,6 +180,7 @@ impl<'h, H: Host> LoomMemory<'h, H> {
         ensures steady { OnOk result (HasRoom self.old.parts 0 SPARE → IsSteady H.Host self.old self.new) }
         ensures unspent { OnOk result ((IsSpent (core_of self.old.parts) (spare_of self.old.parts) name → ⊥) → IsSteady H.Host self.old self.new) }
         ensures minds { OnOk result (MindsCache H.Host None self.old self.new (λ k. ⊥)) }
+        ensures brings { fetched self.new ≡ fetched self.old }
         ensures fit { StaysCallable (IsSound H.Host) (loom_told H.Host) loom_lender (loom_outside H.Host) self.old self.new result }
     {
         self.put_name(to, name)
@@ -190,6 +197,7 @@ impl<'h, H: Host> LoomMemory<'h, H> {
         ensures damage { IsRef ((loom_told H.Host self.old).regs of) → IsDamaged self.old self.new (name_at ((loom_told H.Host self.old).regs of)) result }
         ensures steady { OnOk result (IsSome (int_of ((loom_told H.Host self.old).regs of)) → HasRoom self.old.parts 0 SPARE → IsSteady H.Host self.old self.new) }
         ensures minds { OnOk result (IsSome (int_of ((loom_told H.Host self.old).regs of)) → MindsCache H.Host None self.old self.new (λ k. ⊥)) }
+        ensures brings { BringsOne self.old self.new (IsRef ((loom_told H.Host self.old).regs of) × (is_resident self.old (name_at ((loom_told H.Host self.old).regs of)) ≡ false)) }
         ensures fit { StaysCallable (IsSound H.Host) (loom_told H.Host) loom_lender (loom_outside H.Host) self.old self.new result }
     {
         let w = self.word_of(of);

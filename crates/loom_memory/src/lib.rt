@@ -5,7 +5,8 @@
 //!
 //! A making (`makings`) asks for a name first, then for room on the disk, then for room in the core. Where the disk is full and eight or more
 //! were made since the last settling, dead objects are freed before it is refused (`thin`, by `purger::drain`). `settle` frees them where
-//! there is no room for eight more, so that a making before the eighth frees nothing (`specs/Numbers.antt`).
+//! there is no room for eight more, so that a making before the eighth frees nothing for the disk's sake (`specs/Numbers.antt`). Where the
+//! core is short, a making and `settle` free what is dead before anything living leaves (`free_first`), and so does `purge_all`.
 //!
 //! `load` is the step that each access begins with. An object in the core is found with nothing done (`here`); for a leaf room is made
 //! beside the pinned objects, and it is brought in from its record, which is read once: each name in it is below the next one, or the answer

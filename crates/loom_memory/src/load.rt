@@ -1,5 +1,5 @@
 // The object of a register comes into the core, or the call is refused.
-ghost use Rattle.std.specs.Prelude.{◌≡◌, ◌≢◌, ◌+◌, ◌≤◌, ◌<◌, ◌^◌, ◌||◌, if◌then◌else◌, ℕ, Some, None, true, false, IsTrue, OnOk, IfOk, IfErr, length};
+ghost use Rattle.std.specs.Prelude.{◌≡◌, ◌≢◌, ◌+◌, ◌≤◌, ◌<◌, ◌^◌, ◌||◌, ◌⊎◌, if◌then◌else◌, ℕ, Some, None, true, false, IsTrue, OnOk, OnErr, IfOk, IfErr, length};
 ghost use Rattle.long_names.specs.declared.object.Object.{Object as Item};
 ghost use Rattle.long_names.specs.Objects.{body_words};
 ghost use Rattle.object_record.specs.Buffer.{raw_of, HasRecord};
@@ -124,7 +124,7 @@ impl<'h, H: Host> LoomMemory<'h, H> {
     ghost use Rattle.loom_memory.specs.Residents.{is_resident, words_resident};
     ghost use Rattle.loom_memory.specs.Gentle.{IsGentle};
     ghost use Rattle.loom_memory.specs.Below.{IsTested};
-    ghost use Rattle.loom_memory.specs.Own.{IsBrought, MindsCache};
+    ghost use Rattle.loom_memory.specs.Own.{BringsOne, IsBrought, MindsCache};
     ghost use Rattle.loom_memory.specs.Damage.{IsDamageOf, IsDamaged};
     ghost use Rattle.loom_memory.specs.Memory.{loom_told, loom_outside, word_in, words_in_row, IsNeed, IsRead, IsSized, IsSound, IsQuiet, IsCalm, IsSilent, IsRefused, IsRefusedAt};
 
@@ -172,6 +172,7 @@ impl<'h, H: Host> LoomMemory<'h, H> {
         ensures gentle { OnOk result (IsGentle H.Host self.old self.new) }
         ensures damage { IfErr result (IsDamageOf self.new.disk.rest name) }
         ensures err { IfErr result (λ f. (a : Access) → IsSilent a → makes a ≡ 0 → IsRefused (loom_told H.Host self.old) (loom_told H.Host self.new) a f) }
+        ensures brings { fetched self.new ≡ fetched self.old }
         ensures lender { self.new.disk.host.ghost_name ≡ self.old.disk.host.ghost_name }
         ensures outside { loom_outside H.Host self.new ≡ loom_outside H.Host self.old }
     {
@@ -211,6 +212,7 @@ impl<'h, H: Host> LoomMemory<'h, H> {
         ensures gentle { OnOk result (IsGentle H.Host self.old self.new) }
         ensures damage { IfErr result (IsDamageOf self.new.disk.rest ((core_of self.old.parts).entries s.0).name) }
         ensures err { IfErr result (λ f. (a : Access) → IsSilent a → makes a ≡ 0 → IsRefused (loom_told H.Host self.old) (loom_told H.Host self.new) a f) }
+        ensures brings { fetched self.new ≡ fetched self.old }
         ensures lender { self.new.disk.host.ghost_name ≡ self.old.disk.host.ghost_name }
         ensures outside { loom_outside H.Host self.new ≡ loom_outside H.Host self.old }
     {
@@ -237,6 +239,7 @@ impl<'h, H: Host> LoomMemory<'h, H> {
         ensures buf { self.new.buf ≡ self.old.buf }
         ensures sure { IfErr result (λ f. HasRoom self.old.parts words SPARE → ⊥) }
         ensures err { IfErr result (λ f. (a : Access) → IsSilent a → makes a ≡ 0 → IsRefused (loom_told H.Host self.old) (loom_told H.Host self.new) a f) }
+        ensures brings { fetched self.new ≡ fetched self.old }
         ensures lender { self.new.disk.host.ghost_name ≡ self.old.disk.host.ghost_name }
         ensures outside { loom_outside H.Host self.new ≡ loom_outside H.Host self.old }
     {
@@ -292,6 +295,7 @@ impl<'h, H: Host> LoomMemory<'h, H> {
         ensures buf { self.new.buf ≡ self.old.buf }
         ensures sound { IsSound H.Host self.new }
         ensures err { IsRefusedAt (loom_told H.Host self.old) (loom_told H.Host self.new) ((core_of self.old.parts).entries s.0).name result }
+        ensures brings { fetched self.new ≡ fetched self.old }
         ensures lender { self.new.disk.host.ghost_name ≡ self.old.disk.host.ghost_name }
         ensures outside { loom_outside H.Host self.new ≡ loom_outside H.Host self.old }
     {
@@ -309,6 +313,7 @@ impl<'h, H: Host> LoomMemory<'h, H> {
         ensures sound { LeavesAll result (IsSound H.Host self.new) }
         ensures damage { IsDamageOf self.new.disk.rest ((core_of self.old.parts).entries s.0).name result }
         ensures err { IsRefusedAt (loom_told H.Host self.old) (loom_told H.Host self.new) ((core_of self.old.parts).entries s.0).name result }
+        ensures brings { fetched self.new ≡ fetched self.old }
         ensures lender { self.new.disk.host.ghost_name ≡ self.old.disk.host.ghost_name }
         ensures outside { loom_outside H.Host self.new ≡ loom_outside H.Host self.old }
     {
@@ -343,6 +348,7 @@ impl<'h, H: Host> LoomMemory<'h, H> {
         ensures gentle { OnOk result (HasRoom self.old.parts words SPARE → IsGentle H.Host self.old self.new) }
         ensures minds { OnOk result (MindsCache H.Host None self.old self.new (λ k. k ≡ ((core_of self.old.parts).entries s.0).name)) }
         ensures err { IfErr result (IsRefusedAt (loom_told H.Host self.old) (loom_told H.Host self.new) ((core_of self.old.parts).entries s.0).name) }
+        ensures away { OnErr result (fetched self.new ≡ fetched self.old) }
         ensures lender { self.new.disk.host.ghost_name ≡ self.old.disk.host.ghost_name }
         ensures outside { loom_outside H.Host self.new ≡ loom_outside H.Host self.old }
     {
@@ -382,6 +388,7 @@ impl<'h, H: Host> LoomMemory<'h, H> {
         ensures gentle { OnOk result (IsTrue (H.tells Role.Work) → place_of ((core_of self.old.parts).entries s.0).state ≡ None → HasRoom self.old.parts (words_at (loom_told H.Host self.old).heap ((core_of self.old.parts).entries s.0).name) SPARE → IsGentle H.Host self.old self.new) }
         ensures minds { OnOk result (MindsCache H.Host None self.old self.new (IsBrought self.old self.new ((core_of self.old.parts).entries s.0).name)) }
         ensures err { IfErr result (IsRefusedAt (loom_told H.Host self.old) (loom_told H.Host self.new) ((core_of self.old.parts).entries s.0).name) }
+        ensures brings { BringsOne self.old self.new (place_of ((core_of self.old.parts).entries s.0).state ≡ None) }
         ensures lender { self.new.disk.host.ghost_name ≡ self.old.disk.host.ghost_name }
         ensures outside { loom_outside H.Host self.new ≡ loom_outside H.Host self.old }
     {
@@ -414,6 +421,7 @@ impl<'h, H: Host> LoomMemory<'h, H> {
         ensures gentle { OnOk result (IsTrue (H.tells Role.Work) → place_of ((core_of self.old.parts).entries (word_in self.old.regs of)).state ≡ None → HasRoom self.old.parts (words_at (loom_told H.Host self.old).heap (name_at ((loom_told H.Host self.old).regs of))) SPARE → IsGentle H.Host self.old self.new) }
         ensures minds { OnOk result (MindsCache H.Host None self.old self.new (IsBrought self.old self.new (name_at ((loom_told H.Host self.old).regs of)))) }
         ensures err { IfErr result (λ f. (a : Access) → target_of a ≡ Some of → makes a ≡ 0 → IsSilent a → IsLater (loom_told H.Host self.old) (loom_told H.Host self.new) × Refuses (loom_told H.Host self.old) (loom_told H.Host self.new) (Does a) f) }
+        ensures brings { BringsOne self.old self.new ((is_resident self.old (name_at ((loom_told H.Host self.old).regs of)) ≡ false) ⊎ (HasRoom self.old.parts 0 SPARE → ⊥)) }
         ensures lender { self.new.disk.host.ghost_name ≡ self.old.disk.host.ghost_name }
         ensures outside { loom_outside H.Host self.new ≡ loom_outside H.Host self.old }
     {

@@ -261,7 +261,7 @@ impl<'h, H: Host> LoomMemory<'h, H> {
     ghost use Rattle.purger.specs.Purge.{HasRoom};
     ghost use Rattle.long_names.specs.Access.{Make, Nothing, heap_after};
     ghost use Rattle.long_names.specs.Counting.{counted};
-    ghost use Rattle.long_names.specs.Objects.{OfPointers, OfWords, OfBytes, OfMethod};
+    ghost use Rattle.long_names.specs.Objects.{OfPointers, OfWords, OfBytes, OfMethod, body_made, body_words};
     ghost use Rattle.long_names.specs.State.{name_at, IsRef};
     ghost use Rattle.object_memory.specs.Told.{IsReady};
     ghost use Rattle.object_memory.specs.Plain.{refused};
@@ -375,6 +375,33 @@ impl<'h, H: Host> LoomMemory<'h, H> {
         self.free_one()
     }
 
+    // Sees that the disk has room for one object more; and frees what is dead where the core has none for a new object of so many words.
+    fn ask(&mut self, words: u32) -> Result<(), MemFault>
+        requires sound { IsSound H.Host self.old }
+        requires ready { IsReady (loom_told H.Host self.old) }
+        ensures thinned { OnOk result (HasThinned (loom_told H.Host self.old) (loom_told H.Host self.new)) }
+        ensures sound { KeepsSound result (IsSound H.Host self.new) }
+        ensures held { OnOk result (self.new.ledger.held < disk_room self.new.disk.rest) }
+        ensures next { OnOk result (self.new.ledger.next ≡ self.old.ledger.next) }
+        ensures fetches { OnOk result (fetched self.new ≡ fetched self.old) }
+        ensures minds { OnOk result (IsTrue (H.tells Role.Work) → MindsCache H.Host None self.old self.new (λ k. ⊥)) }
+        ensures roomy { OnOk result (self.old.ledger.held < disk_room self.old.disk.rest → HasRoom self.old.parts words SPARE → self.new ≡ self.old) }
+        ensures early { OnOk result (self.old.ledger.made < MAKINGS → HasRoom self.old.parts words SPARE → self.new ≡ self.old) }
+        ensures bodies { OnOk result (IsTrue (H.tells Role.Work) → KeepsHeld (core_of self.old.parts) (core_of self.new.parts) (loom_told H.Host self.new).heap) }
+        ensures room { OnOk result ((words : ℕ) → HasRoom self.old.parts words SPARE → HasRoom self.new.parts words SPARE) }
+        ensures err { IfErr result (IsRefusedMaking (loom_told H.Host self.old) (loom_told H.Host self.new)) }
+        ensures full { IfErr result (λ f. OnCoreFull f ⊥) }
+        ensures spared { IfErr result (λ f. IsUndrained self.old → HasRoom self.old.parts words SPARE → IsSpared H.Host self.old self.new) }
+        ensures sure { IfErr result (λ f. self.old.ledger.held < disk_room self.old.disk.rest → HasRoom self.old.parts words SPARE → ⊥) }
+        ensures lender { self.new.disk.host.ghost_name ≡ self.old.disk.host.ghost_name }
+        ensures outside { loom_outside H.Host self.new ≡ loom_outside H.Host self.old }
+    {
+        match self.ask_room() {
+            Ok(()) => self.free_first(words, SPARE_ENTRIES),
+            Err(f) => Err(f),
+        }
+    }
+
     // Makes an object under a name, once there is room for it.
     fn make_named(
         &mut self,
@@ -396,6 +423,7 @@ impl<'h, H: Host> LoomMemory<'h, H> {
         ensures there { OnOk result (IsTrue (is_resident self.new (name_at ((loom_told H.Host self.new).regs to)))) }
         ensures fetches { OnOk result (fetched self.new ≡ fetched self.old) }
         ensures early { IsTrue (H.tells Role.Work) → IfBounds (loom_told H.Host self.old).bounds (λ b. b.made < MAKINGS
+            → HasRoom self.old.parts (4 + body_words (body_made (making_of kind len header))) SPARE
             → OnOk result ((loom_told H.Host self.new).heap ≡ heap_after (loom_told H.Host self.old).heap (loom_told H.Host self.old).regs (Make to class (making_of kind len header)))) }
         ensures own { OnOk result (IsSparingMaking H.Host self.old self.new (making_of kind len header)) }
         ensures minds { OnOk result (IsTrue (H.tells Role.Work) → MindsCache H.Host None self.old self.new (λ k. (loom_told H.Host self.new).regs to ≡ Ref k)) }
@@ -404,7 +432,7 @@ impl<'h, H: Host> LoomMemory<'h, H> {
         ensures sure { IfErr result (λ f. HasAllFor H.Host self.old (making_of kind len header) → ⊥) }
         ensures fit { StaysCallable (IsSound H.Host) (loom_told H.Host) loom_lender (loom_outside H.Host) self.old self.new result }
     {
-        match self.ask_room() {
+        match self.ask(words_new(kind, len, header)) {
             Ok(()) => self.make_here(name, to, class, kind, len, header),
             Err(f) => Err(f),
         }
@@ -442,6 +470,7 @@ impl<'h, H: Host> LoomMemory<'h, H> {
         ensures there { OnOk result (IsTrue (is_resident self.new (name_at ((loom_told H.Host self.new).regs to)))) }
         ensures fetches { OnOk result (fetched self.new ≡ fetched self.old) }
         ensures early { IsTrue (H.tells Role.Work) → IfBounds (loom_told H.Host self.old).bounds (λ b. b.made < MAKINGS
+            → HasRoom self.old.parts (4 + body_words (body_made (making_of kind len header))) SPARE
             → OnOk result ((loom_told H.Host self.new).heap ≡ heap_after (loom_told H.Host self.old).heap (loom_told H.Host self.old).regs (Make to class (making_of kind len header)))) }
         ensures own { OnOk result (IsSparingMaking H.Host self.old self.new (making_of kind len header)) }
         ensures minds { OnOk result (IsTrue (H.tells Role.Work) → MindsCache H.Host None self.old self.new (λ k. (loom_told H.Host self.new).regs to ≡ Ref k)) }
@@ -473,6 +502,7 @@ impl<'h, H: Host> LoomMemory<'h, H> {
         ensures there { OnOk result (IsTrue (is_resident self.new (name_at ((loom_told H.Host self.new).regs to)))) }
         ensures fetches { OnOk result (fetched self.new ≡ fetched self.old) }
         ensures early { IsTrue (H.tells Role.Work) → IfBounds (loom_told H.Host self.old).bounds (λ b. b.made < MAKINGS
+            → HasRoom self.old.parts (4 + body_words (body_made (OfPointers n))) SPARE
             → OnOk result ((loom_told H.Host self.new).heap ≡ heap_after (loom_told H.Host self.old).heap (loom_told H.Host self.old).regs (Make to class (OfPointers n)))) }
         ensures own { OnOk result (IsSparingMaking H.Host self.old self.new (OfPointers n)) }
         ensures minds { OnOk result (IsTrue (H.tells Role.Work) → MindsCache H.Host None self.old self.new (λ k. (loom_told H.Host self.new).regs to ≡ Ref k)) }
@@ -493,6 +523,7 @@ impl<'h, H: Host> LoomMemory<'h, H> {
         ensures there { OnOk result (IsTrue (is_resident self.new (name_at ((loom_told H.Host self.new).regs to)))) }
         ensures fetches { OnOk result (fetched self.new ≡ fetched self.old) }
         ensures early { IsTrue (H.tells Role.Work) → IfBounds (loom_told H.Host self.old).bounds (λ b. b.made < MAKINGS
+            → HasRoom self.old.parts (4 + body_words (body_made (OfWords n))) SPARE
             → OnOk result ((loom_told H.Host self.new).heap ≡ heap_after (loom_told H.Host self.old).heap (loom_told H.Host self.old).regs (Make to class (OfWords n)))) }
         ensures own { OnOk result (IsSparingMaking H.Host self.old self.new (OfWords n)) }
         ensures minds { OnOk result (IsTrue (H.tells Role.Work) → MindsCache H.Host None self.old self.new (λ k. (loom_told H.Host self.new).regs to ≡ Ref k)) }
@@ -513,6 +544,7 @@ impl<'h, H: Host> LoomMemory<'h, H> {
         ensures there { OnOk result (IsTrue (is_resident self.new (name_at ((loom_told H.Host self.new).regs to)))) }
         ensures fetches { OnOk result (fetched self.new ≡ fetched self.old) }
         ensures early { IsTrue (H.tells Role.Work) → IfBounds (loom_told H.Host self.old).bounds (λ b. b.made < MAKINGS
+            → HasRoom self.old.parts (4 + body_words (body_made (OfBytes n))) SPARE
             → OnOk result ((loom_told H.Host self.new).heap ≡ heap_after (loom_told H.Host self.old).heap (loom_told H.Host self.old).regs (Make to class (OfBytes n)))) }
         ensures own { OnOk result (IsSparingMaking H.Host self.old self.new (OfBytes n)) }
         ensures minds { OnOk result (IsTrue (H.tells Role.Work) → MindsCache H.Host None self.old self.new (λ k. (loom_told H.Host self.new).regs to ≡ Ref k)) }
@@ -539,6 +571,7 @@ impl<'h, H: Host> LoomMemory<'h, H> {
         ensures there { OnOk result (IsTrue (is_resident self.new (name_at ((loom_told H.Host self.new).regs to)))) }
         ensures fetches { OnOk result (fetched self.new ≡ fetched self.old) }
         ensures early { IsTrue (H.tells Role.Work) → IfBounds (loom_told H.Host self.old).bounds (λ b. b.made < MAKINGS
+            → HasRoom self.old.parts (4 + body_words (body_made (OfMethod header code))) SPARE
             → OnOk result ((loom_told H.Host self.new).heap ≡ heap_after (loom_told H.Host self.old).heap (loom_told H.Host self.old).regs (Make to class (OfMethod header code)))) }
         ensures own { OnOk result (IsSparingMaking H.Host self.old self.new (OfMethod header code)) }
         ensures minds { OnOk result (IsTrue (H.tells Role.Work) → MindsCache H.Host None self.old self.new (λ k. (loom_told H.Host self.new).regs to ≡ Ref k)) }

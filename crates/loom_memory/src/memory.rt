@@ -32,6 +32,8 @@ pub struct LoomMemory<'h, H: Host> {
     pub(crate) pinned: Pinned,
     // Where in the table what goes is looked for next.
     pub(crate) hand: u16,
+    // The next name from which on what is dead is looked for where room is short. No clause rests on it.
+    pub(crate) due: u32,
     pub(crate) ledger: Ledger,
 }
 
@@ -41,7 +43,7 @@ impl<'h, H: Host> LoomMemory<'h, H> {
 
     // Puts a word that is no lambda into a register.
     #[inline(always)]
-    pub(crate) fn put_word(&mut self, to: Reg, w: u16)
+    pub(crate) fn replace_word(&mut self, to: Reg, w: u16)
         requires sound { IsSound H.Host self.old }
         requires used { is_short w ≡ true → is_used ((core_of self.old.parts).entries w).state ≡ true }
         requires some { w ≢ 0 }
@@ -63,6 +65,7 @@ impl<'h, H: Host> LoomMemory<'h, H> {
     ghost use Rattle.purger.specs.Purge.{HasRoom, OnShort, OnDisk, Undisturbed, IsShort, IsPurgeFault};
     ghost use Rattle.loom_memory.specs.Gentle.{IsResting, IsSpared};
     ghost use Rattle.loom_memory.specs.Own.{KeepsCache, MindsCache};
+    ghost use Rattle.loom_memory.specs.Residents.{fetched};
     ghost use Rattle.long_names.specs.State.{IsRef};
     ghost use Rattle.long_names.specs.Counting.{counted};
     ghost use Rattle.long_names.specs.Access.{Access, target_of};
@@ -91,6 +94,7 @@ impl<'h, H: Host> LoomMemory<'h, H> {
         ensures buf { self.new.buf ≡ self.old.buf }
         ensures work { IsWorkOnly H.Host self.old.disk.host.now self.new.disk.host.now }
         ensures limit { disk_room self.new.disk.rest ≡ disk_room self.old.disk.rest }
+        ensures brings { fetched self.new ≡ fetched self.old }
         ensures lender { self.new.disk.host.ghost_name ≡ self.old.disk.host.ghost_name }
         ensures outside { loom_outside H.Host self.new ≡ loom_outside H.Host self.old }
     {
@@ -117,6 +121,7 @@ impl<'h, H: Host> LoomMemory<'h, H> {
         ensures spared { IsSpared H.Host self.old self.new }
         ensures buf { self.new.buf ≡ self.old.buf }
         ensures rest { self.new.disk.rest ≡ self.old.disk.rest }
+        ensures brings { fetched self.new ≡ fetched self.old }
         ensures lender { self.new.disk.host.ghost_name ≡ self.old.disk.host.ghost_name }
         ensures outside { loom_outside H.Host self.new ≡ loom_outside H.Host self.old }
     {
@@ -128,6 +133,7 @@ impl<'h, H: Host> LoomMemory<'h, H> {
     pub(crate) fn wrong(&mut self, name: Name) -> MemFault
         ensures is { result ≡ MemFault.Damaged NOWHERE name }
         ensures err { (t : Told) (a : Access) → IsQuiet t (loom_told H.Host self.old) → IsReady t → IsSilent a → makes a ≡ 0 → (IsTrue t.tells → ⊥) → IsRefused t (loom_told H.Host self.new) a result }
+        ensures brings { fetched self.new ≡ fetched self.old }
         ensures lender { self.new.disk.host.ghost_name ≡ self.old.disk.host.ghost_name }
         ensures outside { loom_outside H.Host self.new ≡ loom_outside H.Host self.old }
     {

@@ -1,6 +1,7 @@
 // Values in registers.
-ghost use Rattle.std.specs.Prelude.{◌≡◌, ◌≢◌, ◌/◌, ◌↔◌, true, IsTrue, IfSome};
+ghost use Rattle.std.specs.Prelude.{◌≡◌, ◌≢◌, ◌/◌, ◌↔◌, [], true, IsTrue, IfSome};
 ghost use Rattle.object_table.specs.Entries.{is_short, is_used};
+ghost use Rattle.core_view.specs.Words.{meant};
 ghost use Rattle.leaf_lambda.specs.Parts.{core_of};
 
 use crate::memory::LoomMemory;
@@ -10,6 +11,7 @@ use long_names::{Name, Value};
 use loom_host::Host;
 use object_memory::Reg;
 use object_table::Short;
+use purger::touches::touch;
 
 impl<'h, H: Host> LoomMemory<'h, H> {
     ghost use Rattle.long_names.specs.Objects.{is_ref, int_of};
@@ -44,6 +46,39 @@ impl<'h, H: Host> LoomMemory<'h, H> {
             return Value::from(self.parts.names.table.entry(Short(w)).name);
         }
         Value::Int(int_short(w))
+    }
+
+    // What a word names was used: it stays once more where room is made.
+    #[inline(always)]
+    fn note_use(&mut self, w: u16)
+        requires sound { IsSound H.Host self.old }
+        requires used { is_short w ≡ true → is_used ((core_of self.old.parts).entries w).state ≡ true }
+        ensures told { loom_told H.Host self.new ≡ loom_told H.Host self.old }
+        ensures sound { IsSound H.Host self.new }
+        ensures used { is_short w ≡ true → is_used ((core_of self.new.parts).entries w).state ≡ true }
+        ensures means { meant (core_of self.new.parts).entries [] 0 w ≡ meant (core_of self.old.parts).entries [] 0 w }
+        ensures disk { self.new.disk ≡ self.old.disk }
+        ensures steady { IsSteady H.Host self.old self.new }
+        ensures outside { loom_outside H.Host self.new ≡ loom_outside H.Host self.old }
+    {
+        touch(&mut self.parts, w);
+    }
+
+    // Another word in a register, and what it names was used.
+    #[inline(always)]
+    pub(crate) fn put_word(&mut self, to: Reg, w: u16)
+        requires sound { IsSound H.Host self.old }
+        requires used { is_short w ≡ true → is_used ((core_of self.old.parts).entries w).state ≡ true }
+        requires some { w ≢ 0 }
+        ensures told { loom_told H.Host self.new ≡ record (loom_told H.Host self.old) { regs = set_register (loom_told H.Host self.old).regs to (meant (core_of self.old.parts).entries [] 0 w) } }
+        ensures sound { IsSound H.Host self.new }
+        ensures disk { self.new.disk.rest ≡ self.old.disk.rest }
+        ensures steady { IsSteady H.Host self.old self.new }
+        ensures lender { self.new.disk.host.ghost_name ≡ self.old.disk.host.ghost_name }
+        ensures outside { loom_outside H.Host self.new ≡ loom_outside H.Host self.old }
+    {
+        self.note_use(w);
+        self.replace_word(to, w);
     }
 
     /// The register holds this number, from -16384 to 16383 (integerObjectOf:).

@@ -37,7 +37,8 @@ impl<'h, H: Host> LoomMemory<'h, H> {
     ghost use Rattle.long_names.specs.Counting.{Rose};
     ghost use Rattle.long_names.specs.State.{name_at};
     ghost use Rattle.loom_memory.specs.Damage.{IsDamaged, IsUndamaged};
-    ghost use Rattle.loom_memory.specs.Own.{IsHeard};
+    ghost use Rattle.loom_memory.specs.Own.{BringsOne, IsHeard};
+    ghost use Rattle.loom_memory.specs.Residents.{fetched, is_resident};
     ghost use Rattle.long_names.specs.Access.{Say, Nothing, said_by};
     ghost use Rattle.object_memory.specs.Told.{Told, IsReady};
     ghost use Rattle.object_memory.specs.Contract.{Accessed, ForBounds, MayDo, said_faults};
@@ -57,6 +58,7 @@ impl<'h, H: Host> LoomMemory<'h, H> {
         ensures parts { self.new.parts ≡ self.old.parts }
         ensures regs { self.new.regs ≡ self.old.regs }
         ensures speech { IsSpeech H.Host self.old self.new }
+        ensures brings { fetched self.new ≡ fetched self.old }
         ensures lender { self.new.disk.host.ghost_name ≡ self.old.disk.host.ghost_name }
         ensures outside { loom_outside H.Host self.new ≡ loom_outside H.Host self.old }
     {
@@ -78,6 +80,7 @@ impl<'h, H: Host> LoomMemory<'h, H> {
         ensures parts { OnOk result (self.new.parts ≡ self.old.parts) }
         ensures regs { OnOk result (self.new.regs ≡ self.old.regs) }
         ensures speech { OnOk result (IsSpeech H.Host self.old self.new) }
+        ensures brings { fetched self.new ≡ fetched self.old }
         ensures lender { self.new.disk.host.ghost_name ≡ self.old.disk.host.ghost_name }
         ensures outside { loom_outside H.Host self.new ≡ loom_outside H.Host self.old }
     {
@@ -107,6 +110,7 @@ impl<'h, H: Host> LoomMemory<'h, H> {
         ensures sound { IsSound H.Host self.new }
         ensures parts { OnOk result (self.new.parts ≡ self.old.parts) }
         ensures speech { OnOk result (IsSpeech H.Host self.old self.new) }
+        ensures brings { fetched self.new ≡ fetched self.old }
         ensures lender { self.new.disk.host.ghost_name ≡ self.old.disk.host.ghost_name }
         ensures outside { loom_outside H.Host self.new ≡ loom_outside H.Host self.old }
     {
@@ -127,6 +131,7 @@ impl<'h, H: Host> LoomMemory<'h, H> {
         ensures sound { IsSound H.Host self.new }
         ensures parts { OnOk result (self.new.parts ≡ self.old.parts) }
         ensures speech { OnOk result (IsSpeech H.Host self.old self.new) }
+        ensures brings { fetched self.new ≡ fetched self.old }
         ensures lender { self.new.disk.host.ghost_name ≡ self.old.disk.host.ghost_name }
         ensures outside { loom_outside H.Host self.new ≡ loom_outside H.Host self.old }
     {
@@ -144,6 +149,7 @@ impl<'h, H: Host> LoomMemory<'h, H> {
         ensures undamaged { IfErr result IsUndamaged }
         ensures sound { IsSound H.Host self.new }
         ensures speech { OnOk result (IsSpeech H.Host self.old self.new) }
+        ensures brings { fetched self.new ≡ fetched self.old }
         ensures lender { self.new.disk.host.ghost_name ≡ self.old.disk.host.ghost_name }
         ensures outside { loom_outside H.Host self.new ≡ loom_outside H.Host self.old }
     {
@@ -166,6 +172,7 @@ impl<'h, H: Host> LoomMemory<'h, H> {
         ensures access { Accessed (loom_told H.Host self.old) (loom_told H.Host self.new) (Say of) (λ _. Nothing) result }
         ensures own { OnOk result (IsHeard H.Host self.old self.new (name_at ((loom_told H.Host self.old).regs of))) }
         ensures damage { IsDamaged self.old self.new (name_at ((loom_told H.Host self.old).regs of)) result }
+        ensures brings { BringsOne self.old self.new (is_resident self.old (name_at ((loom_told H.Host self.old).regs of)) ≡ false) }
         ensures fit { StaysCallable (IsSound H.Host) (loom_told H.Host) loom_lender (loom_outside H.Host) self.old self.new result }
     {
         match self.load(of) {

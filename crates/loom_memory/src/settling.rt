@@ -41,7 +41,7 @@ fn count_fresh(p: &Parts) -> u32
     ensures { result ≡ fresh_of (core_of p.now) }
 {
     let mut count = 0;
-    for i in 0..p.names.table.entries() {
+    for i in 0..p.names.table.used_end() {
         count += fresh_at(p, Short(2 * i + 2));
     }
     count
@@ -60,9 +60,11 @@ impl<'h, H: Host> LoomMemory<'h, H> {
     ghost use Rattle.long_names.specs.Heap.{object_count, Has};
     ghost use Rattle.long_names.specs.Kept.{kept};
     ghost use Rattle.object_memory.specs.Told.{IsReady, is_root};
-    ghost use Rattle.object_memory.specs.Contract.{Called, KeepsSound, Settles};
+    ghost use Rattle.std.specs.Prelude.{Err};
+    ghost use Rattle.object_memory.specs.Contract.{Called, KeepsSound, Settles, Thins};
     ghost use Rattle.object_memory.specs.Fit.{MayCall, StaysCallable};
     ghost use Rattle.purger.specs.Draining.{KeepsHeld};
+    ghost use Rattle.purger.specs.Purge.{HasRoom};
     ghost use Rattle.loom_memory.specs.Memory.{loom_told, loom_outside, loom_lender, IsQuiet, IsSound};
     ghost use Rattle.loom_memory.specs.Numbers.{IsNumbered};
     ghost use Rattle.loom_memory.specs.Own.{HasRested, IsIdle, KeepsCache, MindsCache};
@@ -80,6 +82,18 @@ impl<'h, H: Host> LoomMemory<'h, H> {
         least(all, self.ledger.held)
     }
 
+    // The name from which on what is dead is looked for again where room is short: where few entries became free, as many objects are made
+    // before as a 16th part of the entries that were in use. So where the living fill the core, it isn't searched at each making.
+    fn due_after(&self, before: u16) -> u32 {
+        let table = &self.parts.names.table;
+        let used = u32::from(table.entries().saturating_sub(before));
+        let freed = u32::from(table.free().saturating_sub(before));
+        if freed >= used / 32 {
+            return self.ledger.next;
+        }
+        self.ledger.next.saturating_add(used / 8)
+    }
+
     // Frees dead objects until none is dead: what is held then is what is kept.
     pub(crate) fn thin(&mut self) -> Result<(), MemFault>
         requires sound { IsSound H.Host self.old }
@@ -89,22 +103,27 @@ impl<'h, H: Host> LoomMemory<'h, H> {
         ensures count { OnOk result (IsTrue (H.tells Role.Work) → object_count (loom_told H.Host self.new).heap ≡ self.new.ledger.held) }
         ensures again { OnOk result (IsTrue (H.tells Role.Work) → kept (loom_told H.Host self.new).heap (is_root (loom_told H.Host self.new)) ≡ (loom_told H.Host self.new).heap) }
         ensures ledger { OnOk result (self.new.ledger ≡ record self.old.ledger { held = self.new.ledger.held }) }
+        ensures less { OnOk result (self.new.ledger.held ≤ self.old.ledger.held) }
+        ensures pins { OnOk result (self.new.pinned ≡ self.old.pinned) }
         ensures limit { OnOk result (disk_room self.new.disk.rest ≡ disk_room self.old.disk.rest) }
         ensures bodies { OnOk result (IsTrue (H.tells Role.Work) → KeepsHeld (core_of self.old.parts) (core_of self.new.parts) (loom_told H.Host self.new).heap) }
         ensures entries { OnOk result (spare_of self.old.parts ≤ spare_of self.new.parts) }
         ensures words { OnOk result (free_of self.old.parts.segment ≤ free_of self.new.parts.segment) }
-        ensures minds { OnOk result (IsTrue (H.tells Role.Work) → MindsCache H.Host None self.old self.new (λ k. ⊥)) }
+        ensures minds { OnOk result (MindsCache H.Host None self.old self.new (λ k. ⊥)) }
         ensures sound { KeepsSound result (IsSound H.Host self.new) }
         ensures making { IfErr result (IsRefusedMaking (loom_told H.Host self.old) (loom_told H.Host self.new)) }
         ensures settling { IfErr result (IsRefusedCall (loom_told H.Host self.old) (loom_told H.Host self.new) Settles) }
+        ensures purging { IfErr result (λ f. Called {A = Unit {0}} (loom_told H.Host self.old) (loom_told H.Host self.new) Thins (Err f)) }
         ensures fault { IfErr result IsLost }
         ensures lender { self.new.disk.host.ghost_name ≡ self.old.disk.host.ghost_name }
         ensures outside { loom_outside H.Host self.new ≡ loom_outside H.Host self.old }
     {
+        let before = self.parts.names.table.free();
         match drain(&mut self.parts, &mut self.disk, &mut self.buf) {
             Ok(()) => {
                 let held = self.recount();
                 self.ledger.held = held;
+                self.due = self.due_after(before);
                 Ok(())
             }
             Err(f) => {
@@ -112,6 +131,37 @@ impl<'h, H: Host> LoomMemory<'h, H> {
                 Err(self.refuse(f))
             }
         }
+    }
+
+    // What is dead goes before anything living: dead objects are freed where so many words and entries aren't free, unless few were found a
+    // short while ago.
+    pub(crate) fn free_first(&mut self, words: u32, entries: u16) -> Result<(), MemFault>
+        requires sound { IsSound H.Host self.old }
+        requires ready { IsReady (loom_told H.Host self.old) }
+        ensures thinned { OnOk result (HasThinned (loom_told H.Host self.old) (loom_told H.Host self.new)) }
+        ensures roomy { OnOk result (HasRoom self.old.parts words entries → self.new ≡ self.old) }
+        ensures ledger { OnOk result (self.new.ledger ≡ record self.old.ledger { held = self.new.ledger.held }) }
+        ensures less { OnOk result (self.new.ledger.held ≤ self.old.ledger.held) }
+        ensures limit { OnOk result (disk_room self.new.disk.rest ≡ disk_room self.old.disk.rest) }
+        ensures bodies { OnOk result (IsTrue (H.tells Role.Work) → KeepsHeld (core_of self.old.parts) (core_of self.new.parts) (loom_told H.Host self.new).heap) }
+        ensures entries { OnOk result (spare_of self.old.parts ≤ spare_of self.new.parts) }
+        ensures words { OnOk result (free_of self.old.parts.segment ≤ free_of self.new.parts.segment) }
+        ensures minds { OnOk result (MindsCache H.Host None self.old self.new (λ k. ⊥)) }
+        ensures sound { KeepsSound result (IsSound H.Host self.new) }
+        ensures sure { IfErr result (λ f. HasRoom self.old.parts words entries → ⊥) }
+        ensures making { IfErr result (IsRefusedMaking (loom_told H.Host self.old) (loom_told H.Host self.new)) }
+        ensures settling { IfErr result (IsRefusedCall (loom_told H.Host self.old) (loom_told H.Host self.new) Settles) }
+        ensures fault { IfErr result IsLost }
+        ensures lender { self.new.disk.host.ghost_name ≡ self.old.disk.host.ghost_name }
+        ensures outside { loom_outside H.Host self.new ≡ loom_outside H.Host self.old }
+    {
+        if has_room(&self.parts, words, entries) {
+            return Ok(());
+        }
+        if self.ledger.next < self.due {
+            return Ok(());
+        }
+        self.thin()
     }
 
     // No making is counted, and so many objects were there, if that is known.
@@ -130,19 +180,46 @@ impl<'h, H: Host> LoomMemory<'h, H> {
         self.ledger.made = 0;
     }
 
+    // Where there is room for eight more: dead objects are freed where too few entries are free, and makings are counted anew.
+    fn settle_roomy(&mut self) -> Result<(), MemFault>
+        requires sound { IsSound H.Host self.old }
+        requires ready { IsReady (loom_told H.Host self.old) }
+        requires room { self.old.ledger.held + MAKINGS ≤ disk_room self.old.disk.rest }
+        ensures settled { OnOk result (HasSettled (loom_told H.Host self.old) (loom_told H.Host self.new)) }
+        ensures none { OnOk result (self.new.ledger.made ≡ 0) }
+        ensures base { OnOk result (self.new.ledger.base ≡ None) }
+        ensures fetches { OnOk result (fetched self.new ≡ fetched self.old) }
+        ensures bodies { OnOk result (IsTrue (H.tells Role.Work) → KeepsHeld (core_of self.old.parts) (core_of self.new.parts) (loom_told H.Host self.new).heap) }
+        ensures entries { OnOk result (spare_of self.old.parts ≤ spare_of self.new.parts) }
+        ensures minds { OnOk result (MindsCache H.Host None self.old self.new (λ k. ⊥)) }
+        ensures rests { SETTLED ≤ spare_of self.old.parts → HasRested self.old self.new result }
+        ensures sound { KeepsSound result (IsSound H.Host self.new) }
+        ensures err { IfErr result (IsRefusedCall (loom_told H.Host self.old) (loom_told H.Host self.new) Settles) }
+        ensures lender { self.new.disk.host.ghost_name ≡ self.old.disk.host.ghost_name }
+        ensures outside { loom_outside H.Host self.new ≡ loom_outside H.Host self.old }
+    {
+        match self.free_first(0, RESERVE) {
+            Ok(()) => {
+                self.count_anew(None);
+                Ok(())
+            }
+            Err(f) => Err(f),
+        }
+    }
+
     // Where there is no room for eight more, dead objects are freed, and what is held is counted.
     fn settle_disk(&mut self) -> Result<(), MemFault>
         requires sound { IsSound H.Host self.old }
         requires ready { IsReady (loom_told H.Host self.old) }
         ensures settled { OnOk result (HasSettled (loom_told H.Host self.old) (loom_told H.Host self.new)) }
         ensures none { OnOk result (self.new.ledger.made ≡ 0) }
-        ensures room { self.old.ledger.held + MAKINGS ≤ disk_room self.old.disk.rest → OnOk result ((self.new.ledger.base ≡ None) × (self.new.ledger.held ≡ self.old.ledger.held)) }
+        ensures room { self.old.ledger.held + MAKINGS ≤ disk_room self.old.disk.rest → OnOk result ((self.new.ledger.base ≡ None) × (SETTLED ≤ spare_of self.old.parts → self.new.ledger.held ≡ self.old.ledger.held)) }
         ensures full { disk_room self.old.disk.rest < self.old.ledger.held + MAKINGS → OnOk result (self.new.ledger.base ≡ Some self.new.ledger.held) }
         ensures fetches { OnOk result (fetched self.new ≡ fetched self.old) }
         ensures bodies { OnOk result (IsTrue (H.tells Role.Work) → KeepsHeld (core_of self.old.parts) (core_of self.new.parts) (loom_told H.Host self.new).heap) }
         ensures entries { OnOk result (spare_of self.old.parts ≤ spare_of self.new.parts) }
         ensures minds { OnOk result (IsTrue (H.tells Role.Work) → MindsCache H.Host None self.old self.new (λ k. ⊥)) }
-        ensures rests { self.old.ledger.held + MAKINGS ≤ disk_room self.old.disk.rest → HasRested self.old self.new result }
+        ensures rests { self.old.ledger.held + MAKINGS ≤ disk_room self.old.disk.rest → SETTLED ≤ spare_of self.old.parts → HasRested self.old self.new result }
         ensures sound { KeepsSound result (IsSound H.Host self.new) }
         ensures err { IfErr result (IsRefusedCall (loom_told H.Host self.old) (loom_told H.Host self.new) Settles) }
         ensures lender { self.new.disk.host.ghost_name ≡ self.old.disk.host.ghost_name }
@@ -150,8 +227,7 @@ impl<'h, H: Host> LoomMemory<'h, H> {
     {
         let room = self.disk.room();
         if self.ledger.held + MAKINGS_BEFORE_FREEING <= room {
-            self.count_anew(None);
-            return Ok(());
+            return self.settle_roomy();
         }
         match self.thin() {
             Ok(()) => {
@@ -211,12 +287,12 @@ impl<'h, H: Host> LoomMemory<'h, H> {
         requires fit { MayCall (IsSound H.Host) (loom_told H.Host) self.old }
         ensures called { Called (loom_told H.Host self.old) (loom_told H.Host self.new) Settles result }
         ensures none { OnOk result (self.new.ledger.made ≡ 0) }
-        ensures room { self.old.ledger.held + MAKINGS ≤ disk_room self.old.disk.rest → OnOk result ((self.new.ledger.base ≡ None) × (self.new.ledger.held ≡ self.old.ledger.held)) }
+        ensures room { self.old.ledger.held + MAKINGS ≤ disk_room self.old.disk.rest → OnOk result ((self.new.ledger.base ≡ None) × (SETTLED ≤ spare_of self.old.parts → self.new.ledger.held ≡ self.old.ledger.held)) }
         ensures full { disk_room self.old.disk.rest < self.old.ledger.held + MAKINGS → OnOk result (self.new.ledger.base ≡ Some self.new.ledger.held) }
         ensures spare { OnOk result ((SETTLED ≤ spare_of self.new.parts) ⊎ IsBare self.new.pinned.a self.new.pinned.b self.new.pinned.d (core_of self.new.parts)) }
         ensures fetches { OnOk result (fetched self.new ≡ fetched self.old) }
         ensures stays { OnOk result (SETTLED ≤ spare_of self.old.parts → IsTrue (H.tells Role.Work) → (k : ℕ) → IsTrue (is_resident self.old k) → Has (loom_told H.Host self.new).heap k → IsTrue (is_resident self.new k)) }
-        ensures whole { self.old.ledger.held + MAKINGS ≤ disk_room self.old.disk.rest → OnOk result ((loom_told H.Host self.new).heap ≡ (loom_told H.Host self.old).heap) }
+        ensures whole { self.old.ledger.held + MAKINGS ≤ disk_room self.old.disk.rest → SETTLED ≤ spare_of self.old.parts → OnOk result ((loom_told H.Host self.new).heap ≡ (loom_told H.Host self.old).heap) }
         ensures minds { OnOk result (IsTrue (H.tells Role.Work) → MindsCache H.Host None self.old self.new (λ k. ⊥)) }
         ensures fit { StaysCallable (IsSound H.Host) (loom_told H.Host) loom_lender (loom_outside H.Host) self.old self.new result }
     {
@@ -226,21 +302,21 @@ impl<'h, H: Host> LoomMemory<'h, H> {
         }
     }
 
-    /// After it no making is counted. Where there was room for eight more, nothing is freed and the count isn't known; elsewhere it is that
-    /// of what is held, of which nothing is dead. [`RESERVE`] entries are free then, or nothing but pinned objects has a body. No object comes
-    /// in; where that many were free before, each object in the core that is still held stays there. With both, nothing is done: it is
-    /// answered, and nothing changes but that makings are counted anew.
+    /// After it no making is counted. Where there was room for eight more, the count isn't known; elsewhere it is that of what is held, of
+    /// which nothing is dead. [`RESERVE`] entries are free then, or nothing but pinned objects has a body; where fewer were free, dead objects
+    /// go before others leave. No object comes in; where that many were free before, each object in the core that is still held stays there.
+    /// With both, nothing is done: it is answered, and nothing changes but that makings are counted anew.
     #[inline(always)]
     pub fn settle(&mut self) -> Result<(), MemFault>
         requires fit { MayCall (IsSound H.Host) (loom_told H.Host) self.old }
         ensures called { Called (loom_told H.Host self.old) (loom_told H.Host self.new) Settles result }
         ensures none { OnOk result (self.new.ledger.made ≡ 0) }
-        ensures room { self.old.ledger.held + MAKINGS ≤ disk_room self.old.disk.rest → OnOk result ((self.new.ledger.base ≡ None) × (self.new.ledger.held ≡ self.old.ledger.held)) }
+        ensures room { self.old.ledger.held + MAKINGS ≤ disk_room self.old.disk.rest → OnOk result ((self.new.ledger.base ≡ None) × (SETTLED ≤ spare_of self.old.parts → self.new.ledger.held ≡ self.old.ledger.held)) }
         ensures full { disk_room self.old.disk.rest < self.old.ledger.held + MAKINGS → OnOk result (self.new.ledger.base ≡ Some self.new.ledger.held) }
         ensures spare { OnOk result ((SETTLED ≤ spare_of self.new.parts) ⊎ IsBare self.new.pinned.a self.new.pinned.b self.new.pinned.d (core_of self.new.parts)) }
         ensures fetches { OnOk result (fetched self.new ≡ fetched self.old) }
         ensures stays { OnOk result (SETTLED ≤ spare_of self.old.parts → IsTrue (H.tells Role.Work) → (k : ℕ) → IsTrue (is_resident self.old k) → Has (loom_told H.Host self.new).heap k → IsTrue (is_resident self.new k)) }
-        ensures whole { self.old.ledger.held + MAKINGS ≤ disk_room self.old.disk.rest → OnOk result ((loom_told H.Host self.new).heap ≡ (loom_told H.Host self.old).heap) }
+        ensures whole { self.old.ledger.held + MAKINGS ≤ disk_room self.old.disk.rest → SETTLED ≤ spare_of self.old.parts → OnOk result ((loom_told H.Host self.new).heap ≡ (loom_told H.Host self.old).heap) }
         ensures idle { self.old.ledger.held + MAKINGS ≤ disk_room self.old.disk.rest → SETTLED ≤ spare_of self.old.parts → OnOk result (IsIdle self.old self.new) }
         ensures cached { self.old.ledger.held + MAKINGS ≤ disk_room self.old.disk.rest → SETTLED ≤ spare_of self.old.parts → OnOk result (KeepsCache H.Host self.old self.new) }
         ensures minds { OnOk result (IsTrue (H.tells Role.Work) → MindsCache H.Host None self.old self.new (λ k. ⊥)) }

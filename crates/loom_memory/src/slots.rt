@@ -1,5 +1,5 @@
 // Slots: what they name stays in the core.
-ghost use Rattle.std.specs.Prelude.{◌≡◌, ◌<◌, ℕ, None};
+ghost use Rattle.std.specs.Prelude.{◌≡◌, ◌<◌, ℕ, None, false};
 ghost use Rattle.leaf_lambda.specs.Parts.{core_of};
 ghost use Rattle.loom_memory.specs.Memory.{pin_in, with_pin};
 
@@ -43,7 +43,8 @@ impl<'h, H: Host> LoomMemory<'h, H> {
     ghost use Rattle.loom_memory.specs.Memory.{loom_told, loom_outside, loom_lender, name_if, IsPinned, IsSound};
     ghost use Rattle.loom_memory.specs.Gentle.{IsSteady};
     ghost use Rattle.loom_memory.specs.Damage.{IsDamaged};
-    ghost use Rattle.loom_memory.specs.Own.{IsSparing};
+    ghost use Rattle.loom_memory.specs.Own.{BringsOne, IsSparing};
+    ghost use Rattle.loom_memory.specs.Residents.{is_resident};
 
     // Puts the word of an entry with a body into a slot, or 0.
     #[inline(always)]
@@ -84,6 +85,7 @@ impl<'h, H: Host> LoomMemory<'h, H> {
         ensures access { Accessed (loom_told H.Host self.old) (loom_told H.Host self.new) (Pin slot r) (λ _. Nothing) result }
         ensures own { IsSparing H.Host self.old self.new (name_at ((loom_told H.Host self.old).regs r)) result }
         ensures damage { IsDamaged self.old self.new (name_at ((loom_told H.Host self.old).regs r)) result }
+        ensures brings { BringsOne self.old self.new (is_resident self.old (name_at ((loom_told H.Host self.old).regs r)) ≡ false) }
         ensures fit { StaysCallable (IsSound H.Host) (loom_told H.Host) loom_lender (loom_outside H.Host) self.old self.new result }
     {
         match self.load(r) {

@@ -8,7 +8,7 @@ ghost use Rattle.counted_core.specs.Steps.{changed_at};
 ghost use Rattle.delta_counts.specs.Parts.{IsChange};
 ghost use Rattle.loom_memory.specs.Stores.{IsRecount};
 ghost use Rattle.leaf_lambda.specs.Parts.{core_of, spare_of, IsParts};
-ghost use Rattle.loom_memory.specs.declared.load.TheConstants.{SPARE_BEHIND_CLASS};
+ghost use Rattle.loom_memory.specs.declared.load.TheConstants.{SPARE_BEHIND_CLASS, SPARE_ENTRIES as SPARE};
 ghost use Rattle.leaf_lambda.specs.Making.{HasBytes};
 
 use crate::fields::word_in_body;
@@ -95,8 +95,10 @@ impl<'h, H: Host> LoomMemory<'h, H> {
     ghost use Rattle.loom_memory.specs.Stores.{IsStored};
     ghost use Rattle.long_names.specs.State.{name_at};
     ghost use Rattle.loom_memory.specs.Damage.{IsDamageOf, IsDamaged};
+    ghost use Rattle.loom_memory.specs.Residents.{fetched, is_resident};
+    ghost use Rattle.purger.specs.Purge.{HasRoom};
     ghost use Rattle.loom_memory.specs.Gentle.{IsGlance, IsResting, Remains};
-    ghost use Rattle.loom_memory.specs.Own.{HasPlace, HasSpace, IsAtHand, IsSearchedChange, IsSparingChange, IsUnmarked, KeepsCache, MindsCache};
+    ghost use Rattle.loom_memory.specs.Own.{BringsOne, HasPlace, HasSpace, IsAtHand, IsSearchedChange, IsSparingChange, IsUnmarked, KeepsCache, MindsCache};
 
     // Before an object is stored into: all marks go where it is marked.
     #[inline(always)]
@@ -136,6 +138,7 @@ impl<'h, H: Host> LoomMemory<'h, H> {
         ensures damage { IsDamaged self.old self.new (name_at ((loom_told H.Host self.old).regs of)) result }
         ensures core { OnOk result ((a : Access) → target_of a ≡ Some of → makes a ≡ 0 → IfBounds (loom_told H.Host self.old).bounds (HasCore (loom_told H.Host self.old) a)) }
         ensures err { IfErr result (λ f. (a : Access) → target_of a ≡ Some of → makes a ≡ 0 → IsSilent a → IsRefused (loom_told H.Host self.old) (loom_told H.Host self.new) a f) }
+        ensures brings { BringsOne self.old self.new (is_resident self.old (name_at ((loom_told H.Host self.old).regs of)) ≡ false) }
         ensures lender { self.new.disk.host.ghost_name ≡ self.old.disk.host.ghost_name }
         ensures outside { loom_outside H.Host self.new ≡ loom_outside H.Host self.old }
     {
@@ -165,6 +168,7 @@ impl<'h, H: Host> LoomMemory<'h, H> {
         ensures damage { IsDamaged self.old self.new (name_at ((loom_told H.Host self.old).regs of)) result }
         ensures core { OnOk result ((a : Access) → target_of a ≡ Some of → makes a ≡ 0 → IfBounds (loom_told H.Host self.old).bounds (HasCore (loom_told H.Host self.old) a)) }
         ensures err { IfErr result (λ f. (a : Access) → target_of a ≡ Some of → makes a ≡ 0 → IsSilent a → IsRefused (loom_told H.Host self.old) (loom_told H.Host self.new) a f) }
+        ensures brings { BringsOne self.old self.new ((is_resident self.old (name_at ((loom_told H.Host self.old).regs of)) ≡ false) ⊎ (HasRoom self.old.parts 0 SPARE → ⊥)) }
         ensures lender { self.new.disk.host.ghost_name ≡ self.old.disk.host.ghost_name }
         ensures outside { loom_outside H.Host self.new ≡ loom_outside H.Host self.old }
     {
@@ -217,6 +221,7 @@ impl<'h, H: Host> LoomMemory<'h, H> {
         ensures cached { OnOk result (KeepsCache H.Host self.old self.new) }
         ensures damage { IfErr result (IsDamageOf self.new.disk.rest ((core_of self.old.parts).entries s.0).name) }
         ensures err { IfErr result (IsRefused (loom_told H.Host self.old) (loom_told H.Host self.new) (SetField of i from)) }
+        ensures brings { fetched self.new ≡ fetched self.old }
         ensures lender { self.new.disk.host.ghost_name ≡ self.old.disk.host.ghost_name }
         ensures outside { loom_outside H.Host self.new ≡ loom_outside H.Host self.old }
     {
@@ -275,6 +280,7 @@ impl<'h, H: Host> LoomMemory<'h, H> {
         ensures cached { OnOk result (HasSpace H.Host self.old (name_at ((loom_told H.Host self.old).regs of)) → IsUnmarked H.Host self.old (name_at ((loom_told H.Host self.old).regs of)) → KeepsCache H.Host self.old self.new) }
         ensures minds { OnOk result (MindsCache H.Host None self.old self.new (λ k. k ≡ name_at ((loom_told H.Host self.old).regs of))) }
         ensures damage { IsDamaged self.old self.new (name_at ((loom_told H.Host self.old).regs of)) result }
+        ensures brings { BringsOne self.old self.new ((is_resident self.old (name_at ((loom_told H.Host self.old).regs of)) ≡ false) ⊎ (HasRoom self.old.parts 0 SPARE → ⊥)) }
         ensures fit { StaysCallable (IsSound H.Host) (loom_told H.Host) loom_lender (loom_outside H.Host) self.old self.new result }
     {
         match self.open_with_room(of) {
@@ -294,6 +300,7 @@ impl<'h, H: Host> LoomMemory<'h, H> {
         ensures cached { OnOk result (IsAtHand self.old (name_at ((loom_told H.Host self.old).regs of)) i ⊎ HasSpace H.Host self.old (name_at ((loom_told H.Host self.old).regs of)) → IsUnmarked H.Host self.old (name_at ((loom_told H.Host self.old).regs of)) → KeepsCache H.Host self.old self.new) }
         ensures minds { OnOk result (MindsCache H.Host None self.old self.new (λ k. k ≡ name_at ((loom_told H.Host self.old).regs of))) }
         ensures damage { IsDamaged self.old self.new (name_at ((loom_told H.Host self.old).regs of)) result }
+        ensures brings { BringsOne self.old self.new ((is_resident self.old (name_at ((loom_told H.Host self.old).regs of)) ≡ false) ⊎ (HasRoom self.old.parts 0 SPARE → ⊥)) }
         ensures fit { StaysCallable (IsSound H.Host) (loom_told H.Host) loom_lender (loom_outside H.Host) self.old self.new result }
     {
         match self.here(of) {
@@ -325,6 +332,7 @@ impl<'h, H: Host> LoomMemory<'h, H> {
         ensures sure { IfErr result (λ f. IsTrue (H.tells Role.Work) → ⊥) }
         ensures damage { IfErr result (IsDamageOf self.new.disk.rest ((core_of self.old.parts).entries s.0).name) }
         ensures err { IfErr result (λ f. (a : Access) → IsSilent a → makes a ≡ 0 → IsRefused (loom_told H.Host self.old) (loom_told H.Host self.new) a f) }
+        ensures brings { fetched self.new ≡ fetched self.old }
         ensures lender { self.new.disk.host.ghost_name ≡ self.old.disk.host.ghost_name }
         ensures outside { loom_outside H.Host self.new ≡ loom_outside H.Host self.old }
     {
@@ -350,6 +358,7 @@ impl<'h, H: Host> LoomMemory<'h, H> {
         ensures cached { OnOk result (HasPlace H.Host self.old (name_at ((loom_told H.Host self.old).regs of)) → IsUnmarked H.Host self.old (name_at ((loom_told H.Host self.old).regs of)) → KeepsCache H.Host self.old self.new) }
         ensures minds { OnOk result (MindsCache H.Host None self.old self.new (λ k. k ≡ name_at ((loom_told H.Host self.old).regs of))) }
         ensures damage { IsDamaged self.old self.new (name_at ((loom_told H.Host self.old).regs of)) result }
+        ensures brings { BringsOne self.old self.new (is_resident self.old (name_at ((loom_told H.Host self.old).regs of)) ≡ false) }
         ensures fit { StaysCallable (IsSound H.Host) (loom_told H.Host) loom_lender (loom_outside H.Host) self.old self.new result }
     {
         match self.open(of) {
@@ -368,6 +377,7 @@ impl<'h, H: Host> LoomMemory<'h, H> {
         ensures cached { OnOk result (HasPlace H.Host self.old (name_at ((loom_told H.Host self.old).regs of)) → IsUnmarked H.Host self.old (name_at ((loom_told H.Host self.old).regs of)) → KeepsCache H.Host self.old self.new) }
         ensures minds { OnOk result (MindsCache H.Host None self.old self.new (λ k. k ≡ name_at ((loom_told H.Host self.old).regs of))) }
         ensures damage { IsDamaged self.old self.new (name_at ((loom_told H.Host self.old).regs of)) result }
+        ensures brings { BringsOne self.old self.new (is_resident self.old (name_at ((loom_told H.Host self.old).regs of)) ≡ false) }
         ensures fit { StaysCallable (IsSound H.Host) (loom_told H.Host) loom_lender (loom_outside H.Host) self.old self.new result }
     {
         match self.open(of) {
@@ -392,6 +402,7 @@ impl<'h, H: Host> LoomMemory<'h, H> {
         ensures sure { IfErr result (λ f. IsTrue (H.tells Role.Work) → ⊥) }
         ensures damage { IfErr result (IsDamageOf self.new.disk.rest ((core_of self.old.parts).entries s.0).name) }
         ensures err { IfErr result (IsRefused (loom_told H.Host self.old) (loom_told H.Host self.new) (SetByte of i b)) }
+        ensures brings { fetched self.new ≡ fetched self.old }
         ensures lender { self.new.disk.host.ghost_name ≡ self.old.disk.host.ghost_name }
         ensures outside { loom_outside H.Host self.new ≡ loom_outside H.Host self.old }
     {
@@ -417,6 +428,7 @@ impl<'h, H: Host> LoomMemory<'h, H> {
         ensures cached { OnOk result (HasPlace H.Host self.old (name_at ((loom_told H.Host self.old).regs of)) → IsUnmarked H.Host self.old (name_at ((loom_told H.Host self.old).regs of)) → KeepsCache H.Host self.old self.new) }
         ensures minds { OnOk result (MindsCache H.Host None self.old self.new (λ k. k ≡ name_at ((loom_told H.Host self.old).regs of))) }
         ensures damage { IsDamaged self.old self.new (name_at ((loom_told H.Host self.old).regs of)) result }
+        ensures brings { BringsOne self.old self.new (is_resident self.old (name_at ((loom_told H.Host self.old).regs of)) ≡ false) }
         ensures fit { StaysCallable (IsSound H.Host) (loom_told H.Host) loom_lender (loom_outside H.Host) self.old self.new result }
     {
         match self.open(of) {

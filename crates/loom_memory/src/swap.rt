@@ -35,6 +35,7 @@ impl<'h, H: Host> LoomMemory<'h, H> {
         ensures cached { OnOk result (IsUnmarked H.Host self.old (name_at ((loom_told H.Host self.old).regs of)) → KeepsCache H.Host self.old self.new) }
         ensures minds { OnOk result (MindsCache H.Host None self.old self.new (λ k. ⊥)) }
         ensures err { IfErr result (λ f. (a : Access) → IsSilent a → makes a ≡ 0 → IsRefused (loom_told H.Host self.old) (loom_told H.Host self.new) a f) }
+        ensures brings { fetched self.new ≡ fetched self.old }
         ensures lender { self.new.disk.host.ghost_name ≡ self.old.disk.host.ghost_name }
         ensures outside { loom_outside H.Host self.new ≡ loom_outside H.Host self.old }
     {
@@ -63,6 +64,7 @@ impl<'h, H: Host> LoomMemory<'h, H> {
         ensures cached { OnOk result (KeepsCache H.Host self.old self.new) }
         ensures sound { KeepsSound result (IsSound H.Host self.new) }
         ensures err { IfErr result (IsRefused (loom_told H.Host self.old) (loom_told H.Host self.new) (Swap a b)) }
+        ensures brings { fetched self.new ≡ fetched self.old }
         ensures lender { self.new.disk.host.ghost_name ≡ self.old.disk.host.ghost_name }
         ensures outside { loom_outside H.Host self.new ≡ loom_outside H.Host self.old }
     {
@@ -91,6 +93,7 @@ impl<'h, H: Host> LoomMemory<'h, H> {
         ensures cached { OnOk result (IsUnmarked H.Host self.old (name_at ((loom_told H.Host self.old).regs a)) → IsUnmarked H.Host self.old (name_at ((loom_told H.Host self.old).regs b))
             → KeepsCache H.Host self.old self.new) }
         ensures minds { OnOk result (MindsCache H.Host None self.old self.new (λ k. ⊥)) }
+        ensures brings { fetched self.new ≡ fetched self.old }
         ensures fit { StaysCallable (IsSound H.Host) (loom_told H.Host) loom_lender (loom_outside H.Host) self.old self.new result }
     {
         match self.put_away(a) {

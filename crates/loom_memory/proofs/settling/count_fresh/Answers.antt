@@ -7,7 +7,7 @@ pub loop-i-init : goal.loop-i-init
 loop-i-init c = record { sum = sym (fresh-first (core_of c.args.p.now) c.requires.core); few = omega arith; low = omega arith }
 
 pub fresh_at-count-requires-clause-within : goal.fresh_at-count-requires-clause-within
-fresh_at-count-requires-clause-within c = let low = c.loop-i-test.true in let all = c.entries-i-end.ensures.entries in omega (arith, low, all)
+fresh_at-count-requires-clause-within c = let low = c.loop-i-test.true in let all = c.used_end-i-end.ensures.most in omega (arith, low, all)
 
 pub loop-i-preserved : goal.loop-i-preserved
 loop-i-preserved c =
@@ -18,7 +18,7 @@ loop-i-preserved c =
     let sum = i.sum in
     let few = i.few in
     let test = c.loop-i-test.true in
-    let all = c.entries-i-end.ensures.entries in
+    let all = c.used_end-i-end.ensures.most in
     record { sum = omega (arith, sum, here, more); few = omega (arith, few, here, one); low = omega (arith, test, all) }
 
 pub overflow_add-count : goal.overflow_add-count
@@ -30,4 +30,5 @@ overflow_add-count c =
     omega (arith, few, here, one, low)
 
 pub returns : goal.returns
-returns c = c.loop-i.invariant.sum ∙ fresh-all c.args.p.now c.loop-i.i (let all = c.entries-i-end.ensures.entries in let end = c.loop-i-test.false in let low = c.loop-i.invariant.low in omega (arith, all, end, low))
+unfolding core_of
+returns c = c.loop-i.invariant.sum ∙ fresh-all c.args.p.now c.loop-i.i c.loop-i.invariant.low (λ s used. let end = c.loop-i-test.false in let low = c.used_end-i-end.ensures.used s used in omega arith)

@@ -16,7 +16,9 @@ use Rattle.loom_memory.proofs.BelowLaws.{tested-after}
 use Rattle.loom_memory.proofs.DamageLaws.{damage-read}
 use Rattle.loom_memory.specs.Own.{IsBrought}
 use Rattle.loom_memory.proofs.MindLaws.{minds-brought, minds-refl}
+use Rattle.loom_memory.proofs.OneLaws.{brings-leaf, brings-none}
 use Rattle.loom_memory.proofs.memory.LoomMemory.bring.Goals as goal
+use Rattle.loom_memory.proofs.memory.LoomMemory.bring.Given as given
 
 pub entry-requires-clause-within : goal.entry-requires-clause-within
 unfolding core_of
@@ -114,3 +116,16 @@ returns-in-Ok-clause-minds g c =
     let s = c.args.s.0 in
     minds-brought c.bring_leaf.result g.H.Host m u c.bring_leaf.new.self ((core_of m.parts).entries s).name ((core_of u.parts).entries s).name c.requires.sound c.in-Ok.ensures.parts c.in-Ok.ensures.gentle.cache (ap (λ (p : Parts). ((core_of p).entries s).name) c.in-Ok.ensures.parts)
     (fetched-same m u c.in-Ok.ensures.ledger) c.bring_leaf.ensures.counted c.bring_leaf.ensures.minds
+
+pub returns-then-is_some-clause-brings : goal.returns-then-is_some-clause-brings
+returns-then-is_some-clause-brings g c = brings-none c.args.self.now c.args.self.now _ refl
+
+leaf-of : (g : given.Over) (c : goal.After-bring_leaf g) → place_of ((core_of c.args.self.now.parts).entries c.args.s.0).state ≡ None
+unfolding core_of
+leaf-of g c = ap (λ (e : Entry). place_of e.state) (sym c.entry.ensures) ∙ sym c.place.ensures ∙ none-of c.place.result c.is_some.result c.is_some.ensures c.if-is_some.false
+
+pub returns-in-Ok-clause-brings : goal.returns-in-Ok-clause-brings
+returns-in-Ok-clause-brings g c = brings-leaf c.bring_leaf.result c.args.self.now c.look.new.self c.bring_leaf.new.self _ c.look.ensures.brings (leaf-of g c) c.bring_leaf.ensures.counted c.bring_leaf.ensures.away
+
+pub returns-in-Err-clause-brings : goal.returns-in-Err-clause-brings
+returns-in-Err-clause-brings g c = brings-none c.args.self.now c.look.new.self _ c.look.ensures.brings

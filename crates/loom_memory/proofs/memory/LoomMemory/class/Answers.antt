@@ -14,6 +14,7 @@ use Rattle.purger.specs.Purge.{HasRoom}
 use Rattle.loom_memory.specs.Gentle.{IsSteady}
 use Rattle.loom_memory.proofs.GentleLaws.{then-number}
 use Rattle.loom_memory.specs.Own.{MindsCache}
+use Rattle.loom_memory.proofs.OneLaws.{brings-none, brings-where}
 use Rattle.loom_memory.proofs.memory.LoomMemory.class.Goals as goal
 use Rattle.loom_memory.proofs.memory.LoomMemory.class.Given as given
 
@@ -83,3 +84,15 @@ returns-then-is_name-clause-minds g c = no-number c.class_of_object.result ((loo
 
 pub returns-clause-minds : goal.returns-clause-minds
 returns-clause-minds g c = then-number (IsSome (int_of ((loom_told g.H.Host c.args.self.now).regs c.args.of))) (MindsCache g.H.Host None c.args.self.now c.put_name.new.self (λ k. ⊥)) c.put_name.result c.put_name.ensures.minds
+
+ref-of : (g : given.Over) (c : goal.After-class_of_object g) → IsRef ((loom_told g.H.Host c.args.self.now).regs c.args.of)
+unfolding loom_told
+ref-of g c =
+    let m = c.args.self.now in
+    subst IsRef (sym (ap (meant (core_of m.parts).entries [] 0) (sym c.word_of-w.ensures.word) ∙ meant-short (core_of m.parts).entries [] 0 c.word_of-w.result (sym c.is_name.ensures ∙ c.if-is_name.true))) tt
+
+pub returns-then-is_name-clause-brings : goal.returns-then-is_name-clause-brings
+returns-then-is_name-clause-brings g c = brings-where c.args.self.now c.class_of_object.new.self _ _ (λ away. (ref-of g c, away)) c.class_of_object.ensures.brings
+
+pub returns-clause-brings : goal.returns-clause-brings
+returns-clause-brings g c = brings-none c.args.self.now c.put_name.new.self _ c.put_name.ensures.brings

@@ -20,6 +20,7 @@ use Rattle.loom_memory.proofs.MarkingLaws.{filled}
 use Rattle.loom_memory.proofs.ClassLaws.{class-there, class-access, ready-class, short-some}
 use Rattle.long_names.specs.State.{name_at}
 use Rattle.loom_memory.proofs.GentleLaws.{steady-sparing, sparing-err}
+use Rattle.loom_memory.proofs.OneLaws.{brings-then}
 use Rattle.loom_memory.proofs.memory.LoomMemory.class_of_object.Goals as goal
 use Rattle.loom_memory.proofs.memory.LoomMemory.class_of_object.Given as given
 
@@ -92,3 +93,6 @@ returns-in-Ok-clause-own g c =
 
 pub returns-in-Err-clause-own : goal.returns-in-Err-clause-own
 returns-in-Err-clause-own g c = sparing-err g.H.Host c.args.self.now c.load.new.self (name_at ((loom_told g.H.Host c.args.self.now).regs c.args.of)) c.in-Err.f c.in-Err.ensures.own
+
+pub returns-in-Ok-clause-brings : goal.returns-in-Ok-clause-brings
+returns-in-Ok-clause-brings g c = brings-then c.args.self.now c.load.new.self c.put_word.new.self _ c.load.ensures.brings c.put_word.ensures.steady.idle.fetches

@@ -13,6 +13,7 @@ use Rattle.loom_memory.proofs.ExactLaws.{exact-leaf}
 use Rattle.method_cache.specs.Found.{found}
 use Rattle.loom_memory.proofs.CacheLaws.{cache-same}
 use Rattle.loom_memory.proofs.GentleLaws.{steady-is}
+use Rattle.loom_memory.specs.Residents.{fetched}
 use Rattle.loom_memory.proofs.memory.LoomMemory.entry_for.Goals as goal
 
 pub returns-clause-told : goal.returns-clause-told
@@ -59,3 +60,7 @@ returns-clause-steady g c =
     let core = c.requires.sound.kept.parts.core in
     let now = c.find_or_leaf.ensures.parts.core in
     steady-is g.H.Host m _ step.step (cache-same (core_of m.parts) (core_of c.find_or_leaf.new.p) (found m.ledger.rows) m.ledger.mark m.ledger.begun core now (leaf-keeps (core_of m.parts) (core_of c.find_or_leaf.new.p) core now step) c.requires.sound.kept.cached) refl refl refl
+
+pub returns-clause-brings : goal.returns-clause-brings
+unfolding fetched
+returns-clause-brings g c = refl

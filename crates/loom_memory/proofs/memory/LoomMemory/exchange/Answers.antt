@@ -109,3 +109,11 @@ returns-in-Ok-clause-fetches g c = refl
 pub returns-in-Ok-clause-cached : goal.returns-in-Ok-clause-cached
 unfolding loom_told
 returns-in-Ok-clause-cached g c = refl
+
+pub returns-in-Ok-clause-brings : goal.returns-in-Ok-clause-brings
+unfolding fetched
+returns-in-Ok-clause-brings g c = refl
+
+pub returns-in-Err-clause-brings : goal.returns-in-Err-clause-brings
+unfolding fetched
+returns-in-Err-clause-brings g c = c.refuse.ensures.brings

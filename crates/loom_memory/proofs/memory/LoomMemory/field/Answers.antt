@@ -12,6 +12,7 @@ use Rattle.loom_memory.proofs.FieldLaws.{told-bounds, word-live, taken-is}
 use Rattle.loom_memory.proofs.LastLaws.{field-last, field-ready}
 use Rattle.loom_memory.proofs.LoadLaws.{field-told}
 use Rattle.loom_memory.proofs.GentleLaws.{here-sparing, steady-sparing, not-at-hand, leaf-no-hand, here-searched, peek-searched, steady-peek}
+use Rattle.loom_memory.proofs.OneLaws.{brings-none}
 use Rattle.loom_memory.proofs.memory.LoomMemory.field.Goals as goal
 use Rattle.loom_memory.proofs.memory.LoomMemory.field.Given as given
 
@@ -63,3 +64,6 @@ returns-in-Some-word_in_body-clause-searched g c =
     let v = c.put_word.new.self in
     let n = name_at ((loom_told g.H.Host m).regs c.args.of) in
     peek-searched g.H.Host m m v n (here-searched g.H.Host m n c.requires.fit.sound c.in-Some.ensures.there) (steady-peek g.H.Host m v c.put_word.ensures.steady) c.requires.fit.sound.kept.parts.core c.put_word.ensures.sound.kept.parts.core
+
+pub returns-in-Some-word_in_body-clause-brings : goal.returns-in-Some-word_in_body-clause-brings
+returns-in-Some-word_in_body-clause-brings g c = brings-none c.args.self.now c.put_word.new.self _ c.put_word.ensures.steady.idle.fetches

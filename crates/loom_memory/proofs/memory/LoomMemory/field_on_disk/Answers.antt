@@ -8,6 +8,7 @@ use Rattle.loom_memory.proofs.GentleLaws.{load-searched, then-searched}
 use Rattle.purger.specs.Purge.{HasRoom}
 use Rattle.loom_memory.specs.Damage.{words_read}
 use Rattle.loom_memory.proofs.DamageLaws.{quiet-damage}
+use Rattle.loom_memory.proofs.OneLaws.{brings-then}
 use Rattle.loom_memory.proofs.memory.LoomMemory.field_on_disk.Goals as goal
 
 pub take_field-requires-clause-ready : goal.take_field-requires-clause-ready
@@ -47,3 +48,6 @@ pub returns-in-Ok-clause-damage : goal.returns-in-Ok-clause-damage
 returns-in-Ok-clause-damage g c =
     let m = c.args.self.now in
     quiet-damage c.take_field.result g.H.Host m c.load_with_room.new.self c.args.of c.in-Ok.s.0 c.take_field.new.self.disk.rest (HasRoom m.parts (words_read c.take_field.new.self) 27) c.in-Ok.ensures.sound c.in-Ok.ensures.quiet c.requires.may.names c.in-Ok.ensures.word c.take_field.ensures.damage
+
+pub returns-in-Ok-clause-brings : goal.returns-in-Ok-clause-brings
+returns-in-Ok-clause-brings g c = brings-then c.args.self.now c.load_with_room.new.self c.take_field.new.self _ c.load_with_room.ensures.brings c.take_field.ensures.brings

@@ -46,4 +46,4 @@ returns-then-self-room-clause-room g c = λ words has.
     (omega (arith, wider, first), omega (arith, more, second))
 
 pub returns-then-self-room-clause-minds : goal.returns-then-self-room-clause-minds
-returns-then-self-room-clause-minds g c = c.in-Ok.ensures.minds
+returns-then-self-room-clause-minds g c = λ told. c.in-Ok.ensures.minds

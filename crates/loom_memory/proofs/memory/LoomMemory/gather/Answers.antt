@@ -16,6 +16,7 @@ use Rattle.loom_memory.proofs.LambdaLaws.{still-calm}
 use Rattle.loom_memory.proofs.GentleLaws.{gentle-refl, purged-remains, read-refl}
 use Rattle.purger.proofs.MindLaws.{minds-kept, purged-came}
 use Rattle.loom_memory.proofs.MindLaws.{minds-core, minds-refl}
+use Rattle.loom_memory.specs.Residents.{fetched}
 use Rattle.loom_memory.proofs.memory.LoomMemory.gather.Goals as goal
 use Rattle.loom_memory.proofs.memory.LoomMemory.gather.Goals.{After-compact}
 use Rattle.loom_memory.proofs.memory.LoomMemory.gather.Given as given
@@ -98,3 +99,7 @@ pub returns-clause-minds : goal.returns-clause-minds
 returns-clause-minds g c =
     let m = c.args.self.now in
     minds-core g.H.Host m _ c.requires.sound (returns-clause-sound g c) refl (minds-kept (core_of m.parts) (core_of c.compact.new.p) (purged-came (core_of m.parts) (core_of c.compact.new.p) c.compact.ensures.purged) c.compact.ensures.marks)
+
+pub returns-clause-brings : goal.returns-clause-brings
+unfolding fetched
+returns-clause-brings g c = refl

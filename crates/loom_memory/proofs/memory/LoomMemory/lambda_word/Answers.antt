@@ -82,3 +82,6 @@ returns-in-Some-clause-peek g c = peek-trans g.H.Host c.args.self.now c.read_lam
 
 pub returns-in-None-clause-damage : goal.returns-in-None-clause-damage
 returns-in-None-clause-damage g c = nowhere-damage c.amiss.new.self.disk.rest ((core_of c.args.self.now.parts).entries c.args.s.0).name c.amiss.result (c.amiss.ensures.is ∙ ap (Damaged NOWHERE) c.in-Ok.ensures.named)
+
+pub returns-in-Some-clause-brings : goal.returns-in-Some-clause-brings
+returns-in-Some-clause-brings g c = c.word_for.ensures.steady.idle.fetches ∙ c.read_lambda.ensures.brings

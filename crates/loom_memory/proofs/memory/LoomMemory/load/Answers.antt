@@ -1,9 +1,10 @@
-use Rattle.std.proofs.Common.{◌≡◌, true, false, sym, ◌∙◌}
+use Rattle.std.proofs.Common.{◌≡◌, true, false, refl, sym, ◌∙◌}
 use Rattle.long_names.specs.State.{name_at}
 use Rattle.loom_memory.specs.Memory.{loom_told}
 use Rattle.loom_memory.proofs.BringLaws.{quiet-same}
 use Rattle.loom_memory.proofs.GentleLaws.{here-sparing, come-sparing}
 use Rattle.loom_memory.proofs.BelowLaws.{tested-where}
+use Rattle.loom_memory.proofs.OneLaws.{brings-none, brings-where}
 use Rattle.loom_memory.proofs.memory.LoomMemory.load.Goals as goal
 
 pub returns-in-Some-clause-quiet : goal.returns-in-Some-clause-quiet
@@ -27,3 +28,9 @@ returns-in-Some-clause-tested g c = λ away. absurd (let both : true ≡ false =
 
 pub returns-in-None-clause-tested : goal.returns-in-None-clause-tested
 returns-in-None-clause-tested g c = tested-where _ _ _ c.load_with_room.result c.load_with_room.ensures.tested c.in-None.ensures.leaf
+
+pub returns-in-Some-clause-brings : goal.returns-in-Some-clause-brings
+returns-in-Some-clause-brings g c = brings-none c.args.self.now c.args.self.now _ refl
+
+pub returns-in-None-clause-brings : goal.returns-in-None-clause-brings
+returns-in-None-clause-brings g c = brings-where c.args.self.now c.load_with_room.new.self _ _ (λ any. c.in-None.ensures.away) c.load_with_room.ensures.brings

@@ -23,6 +23,8 @@ use Rattle.loom_memory.specs.Damage.{IsDamageOf, words_read}
 use Rattle.loom_memory.proofs.DamageLaws.{room-same}
 use Rattle.loom_memory.specs.Own.{IsBrought}
 use Rattle.loom_memory.proofs.MindLaws.{minds-then}
+use Rattle.purger.specs.Purge.{HasRoom}
+use Rattle.loom_memory.proofs.OneLaws.{brings-later, brings-none, brings-where, leaf-away}
 use Rattle.loom_memory.proofs.memory.LoomMemory.load_with_room.Goals as goal
 use Rattle.loom_memory.proofs.memory.LoomMemory.load_with_room.Given as given
 
@@ -173,3 +175,17 @@ returns-in-Ok-bring-clause-minds g c =
     let own = ((core_of u.parts).entries s).name in
     let name = name_at ((loom_told g.H.Host m).regs c.args.of) in
     minds-then g.H.Host m u n (λ k. ⊥) (IsBrought u n own) (IsBrought m n name) (λ k no. absurd no) (λ k is. (is.0 ∙ sym (ap name_at named.name), is.1 ∙ ap counted (fetched-same m u c.in-Ok.ensures.ledger))) c.in-Ok.ensures.minds c.in-Ok-bring.ensures.minds
+
+pub returns-in-Err-clause-brings : goal.returns-in-Err-clause-brings
+returns-in-Err-clause-brings g c = brings-none c.args.self.now c.clear.new.self _ c.clear.ensures.brings
+
+pub returns-else-enough-clause-brings : goal.returns-else-enough-clause-brings
+returns-else-enough-clause-brings g c = brings-none c.args.self.now c.want.new.self _ (c.want.ensures.brings ∙ c.clear.ensures.brings)
+
+pub returns-in-Ok-bring-clause-brings : goal.returns-in-Ok-bring-clause-brings
+returns-in-Ok-bring-clause-brings g c = brings-where c.args.self.now c.bring.new.self _ _ (leaf-away g.H.Host c.args.self.now c.args.of (slice_index_or c.args.self.now.regs c.index.result 0) (HasRoom c.args.self.now.parts 0 27 → ⊥) c.requires.sound c.requires.name (word-is c.args.self.now.regs c.index.result c.args.of c.index.ensures.same c.index.ensures.within c.requires.sound.kept.many))
+    (brings-later c.args.self.now c.clear.new.self c.bring.new.self (slice_index_or c.args.self.now.regs c.index.result 0) c.clear.ensures.brings (λ room. c.in-Ok.ensures.idle room refl) c.bring.ensures.brings)
+
+pub returns-in-Err-bring-clause-brings : goal.returns-in-Err-bring-clause-brings
+returns-in-Err-bring-clause-brings g c = brings-where c.args.self.now c.bring.new.self _ _ (leaf-away g.H.Host c.args.self.now c.args.of (slice_index_or c.args.self.now.regs c.index.result 0) (HasRoom c.args.self.now.parts 0 27 → ⊥) c.requires.sound c.requires.name (word-is c.args.self.now.regs c.index.result c.args.of c.index.ensures.same c.index.ensures.within c.requires.sound.kept.many))
+    (brings-later c.args.self.now c.clear.new.self c.bring.new.self (slice_index_or c.args.self.now.regs c.index.result 0) c.clear.ensures.brings (λ room. c.in-Ok.ensures.idle room refl) c.bring.ensures.brings)

@@ -15,6 +15,7 @@ use Rattle.loom_memory.proofs.FieldLaws.{read-only}
 use Rattle.loom_memory.proofs.LambdaLaws.{still-calm, calm-read, fault-after}
 use Rattle.loom_memory.proofs.GentleLaws.{remains-refl}
 use Rattle.loom_memory.proofs.DamageLaws.{nowhere-damage, refusal-damage}
+use Rattle.loom_memory.specs.Residents.{fetched}
 use Rattle.loom_memory.proofs.memory.LoomMemory.look_up.Goals as goal
 use Rattle.loom_memory.proofs.memory.LoomMemory.look_up.Given as given
 
@@ -128,3 +129,19 @@ pub returns-in-Err-clause-damage : goal.returns-in-Err-clause-damage
 returns-in-Err-clause-damage g c =
     let m = c.args.self.now in
     refusal-damage (g.H.Host.tells Work) (g.H.Host.faults m.disk.host.now Work) (g.H.Host.faults c.fetch.new.disk.host.now Work) m.disk.rest c.refuse.new.self.disk.rest c.args.name c.in-Err.f c.refusal_of-f.result c.refuse.result c.in-Err.ensures.fault c.in-Err.ensures.damage (c.refuse.ensures.rest ∙ c.in-Err.ensures.rest) c.refusal_of-f.ensures c.refuse.ensures.result
+
+pub returns-then-not-held-clause-brings : goal.returns-then-not-held-clause-brings
+unfolding fetched
+returns-then-not-held-clause-brings g c = c.wrong.ensures.brings
+
+pub returns-then-not-holds_below-clause-brings : goal.returns-then-not-holds_below-clause-brings
+unfolding fetched
+returns-then-not-holds_below-clause-brings g c = c.wrong-then-not-holds_below.ensures.brings
+
+pub returns-else-not-holds_below-clause-brings : goal.returns-else-not-holds_below-clause-brings
+unfolding fetched
+returns-else-not-holds_below-clause-brings g c = refl
+
+pub returns-in-Err-clause-brings : goal.returns-in-Err-clause-brings
+unfolding fetched
+returns-in-Err-clause-brings g c = c.refuse.ensures.brings

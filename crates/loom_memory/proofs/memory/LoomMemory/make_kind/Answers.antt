@@ -32,11 +32,11 @@ returns-in-None-clause-access g c = refused-is (loom_told g.H.Host c.args.self.n
 
 pub returns-then-next-ge-LAST_NAME-clause-early : goal.returns-then-next-ge-LAST_NAME-clause-early
 unfolding loom_told
-returns-then-next-ge-LAST_NAME-clause-early g c = λ told low. tt
+returns-then-next-ge-LAST_NAME-clause-early g c = λ told low has. tt
 
 pub returns-in-None-clause-early : goal.returns-in-None-clause-early
 unfolding loom_told
-returns-in-None-clause-early g c = λ told low. tt
+returns-in-None-clause-early g c = λ told low has. tt
 
 pub returns-then-next-ge-LAST_NAME-clause-full : goal.returns-then-next-ge-LAST_NAME-clause-full
 returns-then-next-ge-LAST_NAME-clause-full g c = subst (λ (f : MemFault). OnCoreFull f (IsAskedLast g.H.Host c.args.self.now c.nameless.new.self)) (sym c.nameless.ensures.same) tt

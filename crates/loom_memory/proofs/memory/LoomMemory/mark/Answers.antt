@@ -13,6 +13,7 @@ use Rattle.loom_memory.proofs.GentleLaws.{changed-sparing, refused-change}
 use Rattle.object_memory.specs.Told.{Told, Cache}
 use Rattle.object_memory.specs.Contract.{with_mark}
 use Rattle.loom_memory.proofs.MindLaws.{minds-mark}
+use Rattle.loom_memory.proofs.OneLaws.{brings-then}
 use Rattle.loom_memory.proofs.memory.LoomMemory.mark.Goals as goal
 use Rattle.loom_memory.proofs.memory.LoomMemory.mark.Given as given
 
@@ -68,3 +69,6 @@ returns-in-Ok-clause-minds g c =
     let name : s.name ≡ n = ap name_at (sym (name-of g c)) ∙ ap (λ (z : Told). name_at (z.regs c.args.r)) c.in-Ok.ensures.quiet.same in
     minds-mark g.H.Host m u c.note_mark.new.self n c.in-Ok.ensures.own.minds c.in-Ok.ensures.sound.kept.parts.core c.note_mark.ensures.sound.kept.parts.core c.note_mark.ensures.resting.remains c.note_mark.ensures.none c.note_mark.ensures.resting.idle.fetches c.in-Ok.ensures.own.reached.there
     (c.note_mark.ensures.cached ∙ ap (λ k. with_mark (loom_told g.H.Host u).cache (Some k)) name)
+
+pub returns-in-Ok-clause-brings : goal.returns-in-Ok-clause-brings
+returns-in-Ok-clause-brings g c = brings-then c.args.self.now c.load.new.self c.note_mark.new.self _ c.load.ensures.brings c.note_mark.ensures.resting.idle.fetches

@@ -1,4 +1,4 @@
-use Rattle.std.proofs.Common.{◌≡◌, ◌<◌, ℤ, IsTrue, rules, subst}
+use Rattle.std.proofs.Common.{◌≡◌, ◌+◌, ◌<◌, ℤ, IsTrue, rules, subst}
 use Rattle.std.specs.Prelude.{IfErr, OnOk}
 use Rattle.std.specs.Int.{w16}
 use Rattle.std.proofs.lemmas.Int.{to_z-of_z}
@@ -6,7 +6,8 @@ use mir.Val.{SFits}
 use Rattle.long_names.specs.Words.{IsSmallInteger}
 use Rattle.core_view.specs.Words.{int_of_short}
 use Rattle.long_names.specs.Access.{Make, Nothing, heap_after}
-use Rattle.long_names.specs.Objects.{OfMethod}
+use Rattle.long_names.specs.Objects.{OfMethod, body_made, body_words}
+use Rattle.purger.specs.Purge.{HasRoom}
 use Rattle.loom_host.specs.declared.outside.Role.TheVariants.{Work}
 use Rattle.object_memory.specs.Contract.{Accessed, IfBounds}
 use Rattle.loom_memory.specs.Memory.{loom_told}
@@ -24,7 +25,7 @@ pub returns-clause-early : goal.returns-clause-early
 returns-clause-early g c =
     let fits : SFits w16 c.args.header = search rules in
     let same = to_z-of_z w16 c.args.header fits in
-    subst (λ z. IsTrue (g.H.Host.tells Work) → IfBounds (loom_told g.H.Host c.args.self.now).bounds (λ b. b.made < 8 → OnOk c.make_kind.result ((loom_told g.H.Host c.make_kind.new.self).heap ≡ heap_after (loom_told g.H.Host c.args.self.now).heap (loom_told g.H.Host c.args.self.now).regs (Make c.args.to c.args.class (OfMethod z c.args.code))))) (subst (λ (z : ℤ). IsSmallInteger z → int_of_short c.short_int.result ≡ z) same c.short_int.ensures.value c.requires.may.ranges.0) c.make_kind.ensures.early
+    subst (λ z. IsTrue (g.H.Host.tells Work) → IfBounds (loom_told g.H.Host c.args.self.now).bounds (λ b. b.made < 8 → HasRoom c.args.self.now.parts (4 + body_words (body_made (OfMethod z c.args.code))) 27 → OnOk c.make_kind.result ((loom_told g.H.Host c.make_kind.new.self).heap ≡ heap_after (loom_told g.H.Host c.args.self.now).heap (loom_told g.H.Host c.args.self.now).regs (Make c.args.to c.args.class (OfMethod z c.args.code))))) (subst (λ (z : ℤ). IsSmallInteger z → int_of_short c.short_int.result ≡ z) same c.short_int.ensures.value c.requires.may.ranges.0) c.make_kind.ensures.early
 
 pub returns-clause-own : goal.returns-clause-own
 returns-clause-own g c =

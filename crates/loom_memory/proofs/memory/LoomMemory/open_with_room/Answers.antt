@@ -9,6 +9,7 @@ use Rattle.loom_memory.proofs.KeepingLaws.{opened-keeps}
 use Rattle.loom_memory.specs.Own.{IsBrought}
 use Rattle.loom_memory.proofs.MindLaws.{minds-then}
 use Rattle.loom_memory.proofs.GentleLaws.{entry-named}
+use Rattle.loom_memory.proofs.OneLaws.{brings-then}
 use Rattle.loom_memory.proofs.memory.LoomMemory.open_with_room.Goals as goal
 
 pub unmark-requires-clause-used : goal.unmark-requires-clause-used
@@ -49,3 +50,6 @@ returns-in-Ok-clause-minds g c =
     let s = c.in-Ok.s.0 in
     let n = name_at ((loom_told g.H.Host m).regs c.args.of) in
     minds-then g.H.Host m u c.unmark.new.self (IsBrought m u n) (λ k. k ≡ ((core_of u.parts).entries s).name) (λ k. k ≡ n) (λ k is. is.0) (λ k is. is ∙ entry-named g.H.Host m u c.args.of s c.in-Ok.ensures.sound c.in-Ok.ensures.quiet c.requires.name c.in-Ok.ensures.word) c.in-Ok.ensures.minds c.unmark.ensures.minds
+
+pub returns-in-Ok-clause-brings : goal.returns-in-Ok-clause-brings
+returns-in-Ok-clause-brings g c = brings-then c.args.self.now c.load_with_room.new.self c.unmark.new.self _ c.load_with_room.ensures.brings c.unmark.ensures.resting.idle.fetches

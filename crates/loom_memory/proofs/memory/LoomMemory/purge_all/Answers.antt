@@ -1,63 +1,25 @@
-use Rattle.std.proofs.Common.{None, refl, ap, subst, arith}
-use Rattle.purger.specs.declared.room.RoomFault.{RoomFault}
-use Rattle.purger.specs.Purge.{OnDisk, OnShort, IsPurgeFault, IsShort}
-use Rattle.leaf_lambda.specs.Parts.{core_of}
-use Rattle.loom_memory.specs.declared.ledger.Ledger.{Ledger}
-use Rattle.loom_memory.specs.Memory.{loom_told, IsSound, IsQuiet}
-use Rattle.loom_memory.proofs.AccessLaws.{quiet-ready}
-use Rattle.loom_memory.proofs.EndLaws.{thins-refused}
-use Rattle.loom_memory.proofs.KnownLaws.{bare-then}
-use Rattle.loom_memory.proofs.ResidentLaws.{only-pinned}
-use Rattle.loom_memory.proofs.GentleLaws.{fetched-same}
-use Rattle.loom_memory.specs.Own.{MindsCache}
+use Rattle.std.proofs.Common.{◌∙◌}
+use Rattle.loom_memory.specs.Memory.{loom_told}
+use Rattle.loom_memory.proofs.AskLaws.{ask-minds, first-fetches, thins-last, thins-now}
+use Rattle.loom_memory.proofs.MakingLaws.{thinned-ready}
 use Rattle.loom_memory.proofs.memory.LoomMemory.purge_all.Goals as goal
 
-pub returns-in-Disk-clause-called : goal.returns-in-Disk-clause-called
-returns-in-Disk-clause-called g c =
-    let m = c.args.self.now in
-    thins-refused g.H.Host m c.room.new.self (loom_told g.H.Host c.refuse.new.self) c.in-Disk.f c.refusal_of-f.result c.refuse.result c.in-Err.ensures.ledger c.in-Err.ensures.work c.in-Err.ensures.limit
-    (subst (λ (z : RoomFault). OnDisk z (IsPurgeFault g.H.Host m.disk.host.now c.room.new.self.disk.host.now)) c.in-Disk.is c.in-Err.ensures.fault)
-    c.refusal_of-f.ensures c.refuse.ensures.told c.refuse.ensures.result c.refuse.ensures.later
+pub put_out-requires-clause-ready : goal.put_out-requires-clause-ready
+put_out-requires-clause-ready g c = thinned-ready (loom_told g.H.Host c.args.self.now) (loom_told g.H.Host c.thin.new.self) c.in-Ok.ensures.thinned c.requires.fit.ready
+
+pub returns-in-Ok-clause-called : goal.returns-in-Ok-clause-called
+returns-in-Ok-clause-called g c = thins-last c.put_out.result (loom_told g.H.Host c.args.self.now) (loom_told g.H.Host c.thin.new.self) (loom_told g.H.Host c.put_out.new.self) c.in-Ok.ensures.thinned c.put_out.ensures.quiet c.put_out.ensures.err c.put_out.ensures.fault c.requires.fit.ready
 
 pub returns-in-Ok-clause-fit : goal.returns-in-Ok-clause-fit
 returns-in-Ok-clause-fit g c = record {
-  sound = c.in-Ok.ensures.sound;
-  ready = quiet-ready (loom_told g.H.Host c.args.self.now) (loom_told g.H.Host c.room.new.self) c.in-Ok.ensures.quiet c.requires.fit.ready;
-  lender = c.room.ensures.lender;
-  outside = c.room.ensures.outside;
+  sound = c.put_out.ensures.sound;
+  ready = thins-now c.put_out.result (loom_told g.H.Host c.args.self.now) (loom_told g.H.Host c.thin.new.self) (loom_told g.H.Host c.put_out.new.self) c.in-Ok.ensures.thinned c.put_out.ensures.quiet c.requires.fit.ready;
+  lender = c.put_out.ensures.lender ∙ c.thin.ensures.lender;
+  outside = c.put_out.ensures.outside ∙ c.thin.ensures.outside;
 }
-
-pub returns-in-Short-clause-fit : goal.returns-in-Short-clause-fit
-returns-in-Short-clause-fit g c = record {
-  sound = subst (λ (z : RoomFault). OnShort z (IsSound g.H.Host c.room.new.self)) c.in-Short.is c.in-Err.ensures.sound;
-  ready = quiet-ready (loom_told g.H.Host c.args.self.now) (loom_told g.H.Host c.room.new.self)
-      (subst (λ (z : RoomFault). OnShort z (IsQuiet (loom_told g.H.Host c.args.self.now) (loom_told g.H.Host c.room.new.self))) c.in-Short.is c.in-Err.ensures.quiet) c.requires.fit.ready;
-  lender = c.room.ensures.lender;
-  outside = c.room.ensures.outside;
-}
-
-pub returns-in-Ok-clause-pinned : goal.returns-in-Ok-clause-pinned
-returns-in-Ok-clause-pinned g c = λ n here.
-    let all = c.entries_are_counted.ensures in
-    let now = c.in-Ok.ensures.sound.kept.entries in
-    let was = c.requires.fit.sound.kept.entries in
-    let same = ap (λ (k : Ledger). k.entries) c.room.ensures.ledger in
-    let past = c.too_many-entries.ensures in
-    let asked = c.in-Ok.ensures.room.1 in
-    absurd (omega (arith, all, now, was, same, past, asked))
-
-pub returns-in-Short-clause-pinned : goal.returns-in-Short-clause-pinned
-returns-in-Short-clause-pinned g c = λ n.
-    let m = c.args.self.now in
-    let u = c.room.new.self in
-    only-pinned g.H.Host u n (subst (λ (z : RoomFault). OnShort z (IsSound g.H.Host u)) c.in-Short.is c.in-Err.ensures.sound)
-    (bare-then (core_of u.parts) (core_of u.parts) m.pinned u.pinned (subst (λ (z : RoomFault). OnShort z (IsShort u.parts m.pinned.a m.pinned.b m.pinned.d 0 c.too_many-entries.result)) c.in-Short.is c.in-Err.ensures.short).bare refl c.room.ensures.pins)
 
 pub returns-in-Ok-clause-fetches : goal.returns-in-Ok-clause-fetches
-returns-in-Ok-clause-fetches g c = fetched-same c.args.self.now c.room.new.self c.room.ensures.ledger
+returns-in-Ok-clause-fetches g c = first-fetches c.put_out.result c.args.self.now c.thin.new.self c.put_out.new.self c.in-Ok.ensures.ledger c.put_out.ensures.fetches
 
-pub returns-in-Short-clause-fetches : goal.returns-in-Short-clause-fetches
-returns-in-Short-clause-fetches g c = fetched-same c.args.self.now c.room.new.self c.room.ensures.ledger
-
-pub returns-in-Short-clause-minds : goal.returns-in-Short-clause-minds
-returns-in-Short-clause-minds g c = subst (λ (z : RoomFault). OnShort z (MindsCache g.H.Host None c.args.self.now c.room.new.self (λ k. ⊥))) c.in-Short.is c.in-Err.ensures.minds
+pub returns-in-Ok-clause-minds : goal.returns-in-Ok-clause-minds
+returns-in-Ok-clause-minds g c = ask-minds c.put_out.result g.H.Host c.args.self.now c.thin.new.self c.put_out.new.self c.in-Ok.ensures.minds c.put_out.ensures.minds

@@ -129,3 +129,11 @@ returns-in-Ok-clause-minds g c = minds-core g.H.Host c.args.self.now _ c.require
 
 pub returns-clause-minds : goal.returns-clause-minds
 returns-clause-minds g c = minds-refl g.H.Host c.args.self.now (λ k. ⊥) c.requires.sound
+
+pub returns-in-Ok-clause-brings : goal.returns-in-Ok-clause-brings
+unfolding fetched
+returns-in-Ok-clause-brings g c = refl
+
+pub returns-in-Err-clause-brings : goal.returns-in-Err-clause-brings
+unfolding fetched
+returns-in-Err-clause-brings g c = c.refuse.ensures.brings

@@ -33,3 +33,6 @@ pub returns-in-Ok-clause-minds : goal.returns-in-Ok-clause-minds
 returns-in-Ok-clause-minds g c =
     let s = c.put_word.ensures.steady in
     minds-step g.H.Host c.args.self.now c.entry_of.new.self c.put_word.new.self (λ k. ⊥) c.in-Ok.ensures.minds c.in-Ok.ensures.sound.kept.parts.core c.put_word.ensures.sound.kept.parts.core s.gentle.remains s.none s.gentle.cache
+
+pub returns-in-Ok-clause-brings : goal.returns-in-Ok-clause-brings
+returns-in-Ok-clause-brings g c = c.put_word.ensures.steady.idle.fetches ∙ c.entry_of.ensures.brings

@@ -4,6 +4,7 @@ use Rattle.loom_host.specs.declared.outside.Role.TheVariants.{Transcript}
 use Rattle.loom_memory.specs.Memory.{loom_told, loom_outside}
 use Rattle.loom_memory.proofs.ExactLaws.{exact-work}
 use Rattle.loom_memory.proofs.SayLaws.{put-told, put-sound, put-outside, put-part}
+use Rattle.loom_memory.specs.Residents.{fetched}
 use Rattle.loom_memory.proofs.memory.LoomMemory.put_run.Goals as goal
 
 pub returns-in-Ok-clause-put : goal.returns-in-Ok-clause-put
@@ -52,3 +53,11 @@ returns-in-Ok-clause-speech g c = record { parts = refl; ledger = refl; work = c
 
 pub returns-in-Err-clause-speech : goal.returns-in-Err-clause-speech
 returns-in-Err-clause-speech g c = record { parts = refl; ledger = refl; work = c.write_to.ensures.work; writes = c.write_to.ensures.writes }
+
+pub returns-in-Ok-clause-brings : goal.returns-in-Ok-clause-brings
+unfolding fetched
+returns-in-Ok-clause-brings g c = refl
+
+pub returns-in-Err-clause-brings : goal.returns-in-Err-clause-brings
+unfolding fetched
+returns-in-Err-clause-brings g c = refl

@@ -1,59 +1,14 @@
-use Rattle.std.proofs.Common.{◌≡◌, ℕ, [], Some, refl, ◌∙◌, ap, arith}
-use Rattle.std.specs.List.{slice_get, slice_index_or}
+use Rattle.std.proofs.Common.{sym, ◌∙◌, ap, ap₂}
+use Rattle.long_names.specs.declared.value.Value.{Value}
 use Rattle.long_names.specs.State.{set_register}
-use Rattle.core_view.specs.Words.{meant}
-use Rattle.core_view.proofs.Steps.{Stays-trans, RefStep-trans}
-use Rattle.leaf_lambda.specs.Parts.{core_of}
-use Rattle.loom_memory.specs.Memory.{loom_told, told_of, loom_outside}
-use Rattle.loom_memory.proofs.RegLaws.{IsSwap, register-held, swapped, told-then, old-there, kept-rooted, kept-then, over-then}
-use Rattle.method_cache.specs.Found.{found}
-use Rattle.loom_memory.proofs.CacheLaws.{cache-same}
-use Rattle.loom_memory.proofs.GentleLaws.{steady-is}
-use Rattle.loom_memory.proofs.ExactLaws.{exact-counts, swap-counts}
+use Rattle.object_memory.specs.Told.{Told}
+use Rattle.loom_memory.specs.Memory.{loom_told}
+use Rattle.loom_memory.proofs.GentleLaws.{steady-trans}
 use Rattle.loom_memory.proofs.memory.LoomMemory.put_word.Goals as goal
 use Rattle.loom_memory.proofs.memory.LoomMemory.put_word.Given as given
 
-pub drop_word-requires-clause-held : goal.drop_word-requires-clause-held
-drop_word-requires-clause-held g c = λ is.
-    let m = c.args.self.now in
-    let old = slice_index_or m.regs c.index.result 0 in
-    let out = register-held (core_of m.parts) m.regs m.pinned c.index.result old (kept-rooted m.parts m.regs m.pinned m.ledger c.requires.sound.kept) (old-there m.regs c.index.result c.index.result c.index.result refl refl c.index.ensures.within c.requires.sound.kept.many) is in
-    let more = c.hold_word.ensures.held.one_more old in
-    omega arith
-
-swap-of : (g : given.Over) (c : goal.After-drop_word g) → IsSwap (core_of c.args.self.now.parts) (core_of c.drop_word.new.p) c.args.w (slice_index_or c.args.self.now.regs c.index.result 0)
-swap-of g c = swapped (core_of c.args.self.now.parts) (core_of c.hold_word.new.p) (core_of c.drop_word.new.p) c.args.w (slice_index_or c.args.self.now.regs c.index.result 0) c.requires.sound.kept.parts.core c.drop_word.ensures.parts.core
-    (Stays-trans (core_of c.args.self.now.parts) (core_of c.hold_word.new.p) (core_of c.drop_word.new.p) c.hold_word.ensures.held.stays c.drop_word.ensures.dropped.stays)
-    (RefStep-trans (core_of c.args.self.now.parts) (core_of c.hold_word.new.p) (core_of c.drop_word.new.p) c.hold_word.ensures.held.step c.drop_word.ensures.dropped.step)
-    c.hold_word.ensures.held c.drop_word.ensures.dropped
-
-there : (g : given.Over) (c : goal.After-drop_word g) → slice_get c.args.self.now.regs c.index-2.result ≡ Some (slice_index_or c.args.self.now.regs c.index.result 0)
-there g c = old-there c.args.self.now.regs c.index.result c.index-2.result c.args.to c.index.ensures.same c.index-2.ensures.same c.index.ensures.within c.requires.sound.kept.many
-
 pub returns-clause-told : goal.returns-clause-told
-unfolding loom_told
-returns-clause-told g c =
-    let m = c.args.self.now in
-    told-then g.H.Host m.disk.host.now m.disk.rest (core_of m.parts) (core_of c.drop_word.new.p) m.regs m.pinned m.ledger c.index-2.result c.args.w (slice_index_or m.regs c.index.result 0)
-    (kept-rooted m.parts m.regs m.pinned m.ledger c.requires.sound.kept) c.drop_word.ensures.parts.core c.requires.sound.kept.cached (swap-of g c) (let many = c.requires.sound.kept.many in let low = c.index-2.ensures.within in omega arith) c.requires.used c.requires.sound.over.backed
-    ∙ ap (λ (n : ℕ). record (told_of g.H.Host m.disk.host.now m.disk.rest (core_of m.parts) m.regs m.pinned m.ledger) { regs = set_register (told_of g.H.Host m.disk.host.now m.disk.rest (core_of m.parts) m.regs m.pinned m.ledger).regs n (meant (core_of m.parts).entries [] 0 c.args.w) }) c.index-2.ensures.same
-
-pub returns-clause-sound : goal.returns-clause-sound
-returns-clause-sound g c =
-    let m = c.args.self.now in
-    record {
-      kept = kept-then m.parts c.drop_word.new.p m.regs m.pinned m.ledger c.index-2.result c.args.w (slice_index_or m.regs c.index.result 0) c.requires.sound.kept c.drop_word.ensures.parts (swap-of g c) (there g c) (let many = c.requires.sound.kept.many in let low = c.index-2.ensures.within in omega arith) c.requires.some (c.drop_word.ensures.segment ∙ c.hold_word.ensures.segment);
-      over = over-then g.H.Host m.disk.host.now m.disk.rest (core_of m.parts) (core_of c.drop_word.new.p) m.ledger (swap-of g c).stays (swap-of g c).step c.requires.sound.over;
-      exact = exact-counts g.H.Host m.parts c.drop_word.new.p m.disk.host.now m.disk.rest m.ledger.next c.requires.sound.exact c.drop_word.ensures.parts (swap-of g c).stays
-          (swap-counts (core_of m.parts) (core_of c.hold_word.new.p) (core_of c.drop_word.new.p) c.args.w (slice_index_or m.regs c.index.result 0) c.hold_word.ensures.held c.hold_word.ensures.find c.drop_word.ensures.dropped);
-    }
-
-pub returns-clause-outside : goal.returns-clause-outside
-unfolding loom_outside
-returns-clause-outside g c = refl
+returns-clause-told g c = c.replace_word.ensures.told ∙ ap₂ (λ (t : Told) (v : Value). record t { regs = set_register t.regs c.args.to v }) c.note_use.ensures.told c.note_use.ensures.means
 
 pub returns-clause-steady : goal.returns-clause-steady
-unfolding loom_told
-returns-clause-steady g c =
-    let m = c.args.self.now in
-    steady-is g.H.Host m _ (swap-of g c).step (cache-same (core_of m.parts) (core_of c.drop_word.new.p) (found m.ledger.rows) m.ledger.mark m.ledger.begun c.requires.sound.kept.parts.core c.drop_word.ensures.parts.core (swap-of g c).marks c.requires.sound.kept.cached) refl refl refl
+returns-clause-steady g c = steady-trans g.H.Host c.args.self.now c.note_use.new.self c.replace_word.new.self c.note_use.ensures.steady c.replace_word.ensures.steady

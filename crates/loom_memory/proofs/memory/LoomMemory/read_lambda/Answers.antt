@@ -35,6 +35,7 @@ use Rattle.object_memory.specs.declared.fault.MemFault.TheVariants.{Damaged}
 use Rattle.purger.specs.declared.eviction.TheConstants.{NOWHERE}
 use Rattle.loom_memory.proofs.DamageLaws.{nowhere-damage, refusal-damage}
 use Rattle.loom_memory.proofs.MindLaws.{came-remains, stored-came}
+use Rattle.loom_memory.specs.Residents.{fetched}
 use Rattle.loom_memory.proofs.memory.LoomMemory.read_lambda.Goals as goal
 use Rattle.loom_memory.proofs.memory.LoomMemory.read_lambda.Given as given
 
@@ -222,3 +223,19 @@ returns-in-Err-clause-damage g c =
 
 pub returns-else-not-is_below-clause-named : goal.returns-else-not-is_below-clause-named
 returns-else-not-is_below-clause-named g c = ap (λ (e : Entry). e.name) c.resolve.ensures.entry
+
+pub returns-then-e-clause-brings : goal.returns-then-e-clause-brings
+unfolding fetched
+returns-then-e-clause-brings g c = c.wrong.ensures.brings
+
+pub returns-then-not-is_below-clause-brings : goal.returns-then-not-is_below-clause-brings
+unfolding fetched
+returns-then-not-is_below-clause-brings g c = c.wrong-then-not-is_below.ensures.brings
+
+pub returns-else-not-is_below-clause-brings : goal.returns-else-not-is_below-clause-brings
+unfolding fetched
+returns-else-not-is_below-clause-brings g c = refl
+
+pub returns-in-Err-clause-brings : goal.returns-in-Err-clause-brings
+unfolding fetched
+returns-in-Err-clause-brings g c = c.refuse.ensures.brings

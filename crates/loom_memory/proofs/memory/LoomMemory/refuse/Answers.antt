@@ -32,3 +32,7 @@ returns-clause-spared g c =
       remains = λ told. remains-refl (core_of m.parts);
       cached = λ told. ap (λ (k : Ledger). cache_of (core_of m.parts) (found k.rows) k.mark k.begun) c.refuse.ensures.refused;
     }
+
+pub returns-clause-brings : goal.returns-clause-brings
+unfolding fetched
+returns-clause-brings g c = ap (λ (l : Ledger). l.fetches) c.refuse.ensures.refused

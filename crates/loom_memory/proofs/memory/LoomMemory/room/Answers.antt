@@ -7,6 +7,7 @@ use Rattle.loom_memory.proofs.CalmLaws.{purged-calm, calm-kept, quiet-if, sound-
 use Rattle.loom_memory.proofs.GentleLaws.{bodies-remain, rest-refl}
 use Rattle.loom_memory.proofs.MindLaws.{marks-keep}
 use Rattle.loom_memory.proofs.MindLaws.{minds-room}
+use Rattle.loom_memory.specs.Residents.{fetched}
 use Rattle.loom_memory.proofs.memory.LoomMemory.room.Goals as goal
 use Rattle.loom_memory.proofs.memory.LoomMemory.room.Given as given
 
@@ -46,3 +47,7 @@ returns-clause-cached g c = λ room. marks-keep g.H.Host c.args.self.now _ c.req
 
 pub returns-clause-minds : goal.returns-clause-minds
 returns-clause-minds g c = minds-room c.make_room.result g.H.Host c.args.self.now _ c.requires.sound (returns-clause-sound g c) refl c.make_room.ensures.minds
+
+pub returns-clause-brings : goal.returns-clause-brings
+unfolding fetched
+returns-clause-brings g c = refl

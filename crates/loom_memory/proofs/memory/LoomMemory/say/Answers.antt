@@ -16,6 +16,7 @@ use Rattle.loom_memory.proofs.TextLaws.{text-loaded, text-none, text-long, said-
 use Rattle.long_names.specs.State.{name_at}
 use Rattle.loom_memory.proofs.GentleLaws.{then-heard}
 use Rattle.loom_memory.proofs.DamageLaws.{amiss-damage, undamaged-of}
+use Rattle.loom_memory.proofs.OneLaws.{brings-then}
 use Rattle.loom_memory.proofs.memory.LoomMemory.say.Goals as goal
 use Rattle.loom_memory.proofs.memory.LoomMemory.say.Given as given
 
@@ -95,3 +96,9 @@ returns-then-has_text-clause-damage g c = undamaged-of c.say_text.result c.args.
 
 pub returns-else-has_text-clause-damage : goal.returns-else-has_text-clause-damage
 returns-else-has_text-clause-damage g c = λ room. amiss-damage g.H.Host c.args.self.now c.load.new.self c.args.of c.in-Ok.s.0 c.amiss.new.self.disk.rest c.amiss.result c.in-Ok.ensures.sound c.in-Ok.ensures.quiet c.requires.may.names c.in-Ok.ensures.word c.amiss.ensures.is
+
+pub returns-then-has_text-clause-brings : goal.returns-then-has_text-clause-brings
+returns-then-has_text-clause-brings g c = brings-then c.args.self.now c.load.new.self c.say_text.new.self _ c.load.ensures.brings c.say_text.ensures.brings
+
+pub returns-else-has_text-clause-brings : goal.returns-else-has_text-clause-brings
+returns-else-has_text-clause-brings g c = brings-then c.args.self.now c.load.new.self c.amiss.new.self _ c.load.ensures.brings c.amiss.ensures.brings

@@ -1,6 +1,7 @@
 use Rattle.std.proofs.Common.{◌≡◌, ◌-◌, ◌≤◌}
 use Rattle.object_memory.specs.Told.{Told}
 use Rattle.loom_memory.specs.Memory.{loom_told, loom_outside, IsSound}
+use Rattle.loom_memory.specs.Residents.{fetched}
 use Rattle.loom_memory.specs.Says.{IsSaid, IsSpeech}
 use Rattle.loom_memory.proofs.memory.LoomMemory.say_text.Given as goal
 
@@ -11,6 +12,7 @@ invariant-loop-i g l = record {
   said : (t : Told) → IsSaid t (loom_told g.H.Host l.fn.self) l.fn.of 0 → IsSaid t (loom_told g.H.Host l.self) l.fn.of l.i;
   sound : IsSound g.H.Host l.self;
   parts : l.self.parts ≡ l.fn.self.parts;
+  brings : fetched l.self ≡ fetched l.fn.self;
   speech : IsSpeech g.H.Host l.fn.self l.self;
   lender : l.self.disk.host.ghost_name ≡ l.fn.self.disk.host.ghost_name;
   outside : loom_outside g.H.Host l.self ≡ loom_outside g.H.Host l.fn.self;

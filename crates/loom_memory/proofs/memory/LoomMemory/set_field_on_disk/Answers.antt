@@ -11,6 +11,7 @@ use Rattle.purger.specs.Purge.{HasRoom}
 use Rattle.loom_memory.specs.Damage.{words_read}
 use Rattle.loom_memory.proofs.DamageLaws.{quiet-damage}
 use Rattle.loom_memory.proofs.MindLaws.{minds-found}
+use Rattle.loom_memory.proofs.OneLaws.{brings-then}
 use Rattle.loom_memory.proofs.memory.LoomMemory.set_field_on_disk.Goals as goal
 
 pub store_field-requires-clause-ready : goal.store_field-requires-clause-ready
@@ -51,3 +52,6 @@ pub returns-in-Ok-clause-minds : goal.returns-in-Ok-clause-minds
 returns-in-Ok-clause-minds g c =
     let n = name_at ((loom_told g.H.Host c.args.self.now).regs c.args.of) in
     minds-found c.store_field.result g.H.Host c.args.self.now c.open_with_room.new.self c.store_field.new.self (λ k. k ≡ n) c.in-Ok.ensures.minds c.in-Ok.ensures.sound.kept.parts.core c.store_field.ensures.sound c.store_field.ensures.glance c.store_field.ensures.none c.store_field.ensures.cached
+
+pub returns-in-Ok-clause-brings : goal.returns-in-Ok-clause-brings
+returns-in-Ok-clause-brings g c = brings-then c.args.self.now c.open_with_room.new.self c.store_field.new.self _ c.open_with_room.ensures.brings c.store_field.ensures.brings

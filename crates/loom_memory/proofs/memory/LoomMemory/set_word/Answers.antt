@@ -11,6 +11,7 @@ use Rattle.purger.specs.Purge.{HasRoom}
 use Rattle.loom_memory.specs.Damage.{words_read}
 use Rattle.loom_memory.proofs.DamageLaws.{quiet-damage}
 use Rattle.loom_memory.proofs.MindLaws.{minds-stored}
+use Rattle.loom_memory.proofs.OneLaws.{brings-then}
 use Rattle.loom_memory.proofs.memory.LoomMemory.set_word.Goals as goal
 
 pub store_words-requires-clause-ready : goal.store_words-requires-clause-ready
@@ -52,3 +53,6 @@ pub returns-in-Ok-clause-minds : goal.returns-in-Ok-clause-minds
 returns-in-Ok-clause-minds g c =
     let n = name_at ((loom_told g.H.Host c.args.self.now).regs c.args.of) in
     minds-stored c.store_words.result g.H.Host c.args.self.now c.open.new.self c.store_words.new.self (λ k. k ≡ n) c.in-Ok.ensures.minds c.in-Ok.ensures.sound.kept.parts.core c.store_words.ensures.sound c.store_words.ensures.resting c.store_words.ensures.none c.store_words.ensures.cached
+
+pub returns-in-Ok-clause-brings : goal.returns-in-Ok-clause-brings
+returns-in-Ok-clause-brings g c = brings-then c.args.self.now c.open.new.self c.store_words.new.self _ c.open.ensures.brings c.store_words.ensures.brings

@@ -44,7 +44,7 @@ unfolding is_resident
 returns-then-is_settled-clause-stays g c = λ enough told k here has. subst (λ (p : Parts). has_body (core_of p) ((core_of p).find k) ≡ true) (sym c.count_anew.ensures.parts) here
 
 pub returns-then-is_settled-clause-whole : goal.returns-then-is_settled-clause-whole
-returns-then-is_settled-clause-whole g c = λ room. ap (λ (z : Told). z.heap) c.count_anew.ensures.begun.same
+returns-then-is_settled-clause-whole g c = λ room enough. ap (λ (z : Told). z.heap) c.count_anew.ensures.begun.same
 
 pub returns-then-is_settled-clause-idle : goal.returns-then-is_settled-clause-idle
 returns-then-is_settled-clause-idle g c = λ room enough. rested-idle (Ok tt) c.args.self.now c.count_anew.new.self (has-rested g c)

@@ -26,7 +26,7 @@ pub returns-in-Ok-clause-stays : goal.returns-in-Ok-clause-stays
 returns-in-Ok-clause-stays g c = settle-stays c.spare_entries.result g.H.Host c.args.self.now c.settle_disk.new.self c.spare_entries.new.self c.requires.fit.sound.kept.parts.core c.in-Ok.ensures.sound.kept.parts.core c.in-Ok.ensures.entries c.in-Ok.ensures.bodies c.spare_entries.ensures.stays
 
 pub returns-in-Ok-clause-whole : goal.returns-in-Ok-clause-whole
-returns-in-Ok-clause-whole g c = λ room. rested-whole c.spare_entries.result g.H.Host c.args.self.now c.settle_disk.new.self c.spare_entries.new.self (c.in-Ok.ensures.rests room).same c.spare_entries.ensures.quiet
+returns-in-Ok-clause-whole g c = λ room enough. rested-whole c.spare_entries.result g.H.Host c.args.self.now c.settle_disk.new.self c.spare_entries.new.self (c.in-Ok.ensures.rests room enough).same c.spare_entries.ensures.quiet
 
 pub returns-in-Ok-clause-minds : goal.returns-in-Ok-clause-minds
 returns-in-Ok-clause-minds g c = minds-told c.spare_entries.result (IsTrue (g.H.Host.tells Work)) g.H.Host c.args.self.now c.settle_disk.new.self c.spare_entries.new.self (λ k. ⊥) c.in-Ok.ensures.minds c.spare_entries.ensures.minds

@@ -93,3 +93,9 @@ returns-then-i-field_total-clause-damage g c = nowhere-damage c.refuse.new.self.
 
 pub returns-in-Ok-clause-none : goal.returns-in-Ok-clause-none
 returns-in-Ok-clause-none g c = remains-trans (core_of c.exchange_field.new.self.parts) (core_of c.lambda_word.new.self.parts) (core_of c.args.self.now.parts) c.exchange_field.ensures.none c.in-Ok.ensures.peek.none
+
+pub returns-in-Ok-clause-brings : goal.returns-in-Ok-clause-brings
+returns-in-Ok-clause-brings g c = c.exchange_field.ensures.resting.idle.fetches ∙ c.lambda_word.ensures.brings
+
+pub returns-clause-brings : goal.returns-clause-brings
+returns-clause-brings g c = c.exchange_field-2.ensures.resting.idle.fetches

@@ -25,6 +25,7 @@ use Rattle.purger.specs.declared.eviction.TheConstants.{NOWHERE}
 use Rattle.object_memory.specs.declared.fault.MemFault.TheVariants.{Damaged}
 use Rattle.loom_memory.proofs.DamageLaws.{nowhere-damage}
 use Rattle.loom_memory.proofs.MindLaws.{came-remains, stored-came}
+use Rattle.loom_memory.specs.Residents.{fetched}
 use Rattle.loom_memory.proofs.memory.LoomMemory.store_words.Goals as goal
 use Rattle.loom_memory.proofs.memory.LoomMemory.store_words.Given as given
 
@@ -129,3 +130,7 @@ returns-then-fits-clause-none g c =
     let x = core_of c.args.self.now.parts in
     let y = core_of c.put_words.new.p in
     came-remains x y (stored-came x y c.args.s.0 c.put_words.ensures.within (place-same g c) (name-same g c))
+
+pub returns-then-fits-clause-brings : goal.returns-then-fits-clause-brings
+unfolding fetched
+returns-then-fits-clause-brings g c = refl

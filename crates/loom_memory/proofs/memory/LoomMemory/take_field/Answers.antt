@@ -47,3 +47,6 @@ returns-clause-taken g c = let b = told-bounds g.H.Host c.args.self.now in taken
 
 pub returns-clause-peek : goal.returns-clause-peek
 returns-clause-peek g c = steady-peek g.H.Host c.args.self.now c.put_word.new.self c.put_word.ensures.steady
+
+pub returns-clause-brings : goal.returns-clause-brings
+returns-clause-brings g c = c.put_word.ensures.steady.idle.fetches

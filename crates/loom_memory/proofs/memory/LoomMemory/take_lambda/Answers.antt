@@ -6,6 +6,7 @@ use Rattle.loom_memory.specs.Memory.{loom_told}
 use Rattle.loom_memory.proofs.FieldLaws.{told-bounds}
 use Rattle.loom_memory.proofs.LambdaLaws.{taken-quiet}
 use Rattle.loom_memory.proofs.GentleLaws.{peek-trans, steady-peek}
+use Rattle.std.proofs.Common.{◌∙◌}
 use Rattle.loom_memory.proofs.memory.LoomMemory.take_lambda.Goals as goal
 
 pub returns-in-Ok-clause-taken : goal.returns-in-Ok-clause-taken
@@ -20,3 +21,6 @@ returns-in-Err-clause-err g c = c.in-Err.ensures.err (Field c.args.to c.args.of 
 
 pub returns-in-Ok-clause-peek : goal.returns-in-Ok-clause-peek
 returns-in-Ok-clause-peek g c = peek-trans g.H.Host c.args.self.now c.lambda_word.new.self c.put_word.new.self c.in-Ok.ensures.peek (steady-peek g.H.Host c.lambda_word.new.self c.put_word.new.self c.put_word.ensures.steady)
+
+pub returns-in-Ok-clause-brings : goal.returns-in-Ok-clause-brings
+returns-in-Ok-clause-brings g c = c.put_word.ensures.steady.idle.fetches ∙ c.lambda_word.ensures.brings

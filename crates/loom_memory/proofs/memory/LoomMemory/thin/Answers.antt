@@ -5,6 +5,7 @@ use Rattle.loom_memory.proofs.CalmLaws.{work-outside}
 use Rattle.loom_memory.proofs.ThinLaws.{fault-purge, thin-again, thin-bodies, thin-count, thin-exact, thin-is-kept, thin-kept, thin-over, thin-step, thin-told}
 use Rattle.object_memory.specs.declared.fault.MemFault.{MemFault}
 use Rattle.loom_memory.specs.Makings.{IsLost}
+use Rattle.loom_memory.proofs.EndLaws.{thins-refused}
 use Rattle.loom_memory.proofs.MindLaws.{minds-left}
 use Rattle.loom_memory.proofs.memory.LoomMemory.thin.Goals as goal
 
@@ -77,7 +78,15 @@ pub returns-in-Ok-clause-words : goal.returns-in-Ok-clause-words
 returns-in-Ok-clause-words g c = c.in-Ok.ensures.leaves.words
 
 pub returns-in-Ok-clause-minds : goal.returns-in-Ok-clause-minds
-returns-in-Ok-clause-minds g c = λ told.
+returns-in-Ok-clause-minds g c =
+    minds-left g.H.Host c.args.self.now _ c.requires.sound (returns-in-Ok-clause-sound g c) refl refl refl c.in-Ok.ensures.minds
+
+pub returns-in-Ok-clause-less : goal.returns-in-Ok-clause-less
+returns-in-Ok-clause-less g c = c.recount-held.ensures.most
+
+pub returns-in-Err-clause-purging : goal.returns-in-Err-clause-purging
+returns-in-Err-clause-purging g c =
     let m = c.args.self.now in
-    let x = c.requires.sound.exact told in
-    minds-left g.H.Host m _ c.requires.sound (returns-in-Ok-clause-sound g c) refl refl refl (c.in-Ok.ensures.drained told x.0 x.1 x.2).thinned.minds
+    thins-refused g.H.Host m _ (loom_told g.H.Host c.refuse.new.self) c.in-Err.f c.refusal_of-f.result c.refuse.result refl c.in-Err.ensures.work c.in-Err.ensures.limit
+    (fault-purge g.H.Host m.disk.host.now c.drain.new.disk.host.now c.in-Err.f c.in-Err.ensures.fault)
+    c.refusal_of-f.ensures c.refuse.ensures.told c.refuse.ensures.result c.refuse.ensures.later

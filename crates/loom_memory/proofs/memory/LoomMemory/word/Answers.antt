@@ -16,6 +16,7 @@ use Rattle.loom_memory.proofs.ReadLaws.{read-answered}
 use Rattle.long_names.specs.State.{name_at}
 use Rattle.loom_memory.proofs.GentleLaws.{amiss-sparing, sparing-ok, sparing-err}
 use Rattle.loom_memory.proofs.DamageLaws.{amiss-damage}
+use Rattle.loom_memory.proofs.OneLaws.{brings-then}
 use Rattle.loom_memory.proofs.memory.LoomMemory.word.Goals as goal
 use Rattle.loom_memory.proofs.memory.LoomMemory.word.Given as given
 
@@ -74,3 +75,6 @@ returns-in-Err-clause-own g c = sparing-err g.H.Host c.args.self.now c.load.new.
 
 pub returns-in-None-clause-damage : goal.returns-in-None-clause-damage
 returns-in-None-clause-damage g c = λ room. amiss-damage g.H.Host c.args.self.now c.load.new.self c.args.of c.in-Ok.s.0 c.amiss.new.self.disk.rest c.amiss.result c.in-Ok.ensures.sound c.in-Ok.ensures.quiet c.requires.may.names c.in-Ok.ensures.word c.amiss.ensures.is
+
+pub returns-in-None-clause-brings : goal.returns-in-None-clause-brings
+returns-in-None-clause-brings g c = brings-then c.args.self.now c.load.new.self c.amiss.new.self _ c.load.ensures.brings c.amiss.ensures.brings

@@ -1,0 +1,36 @@
+use Rattle.std.proofs.Common.{refl}
+use Rattle.loom_memory.specs.Memory.{loom_told}
+use Rattle.loom_memory.proofs.BringLaws.{quiet-same}
+use Rattle.loom_memory.proofs.MakingLaws.{quiet-thinned}
+use Rattle.loom_memory.proofs.MindLaws.{minds-refl}
+use Rattle.loom_memory.proofs.SettleLaws.{bodies-same}
+use Rattle.loom_memory.proofs.SparedLaws.{err-each, ok-never}
+use Rattle.loom_memory.proofs.memory.LoomMemory.free_first.Goals as goal
+
+-- ---- nothing was freed
+
+pub returns-then-has_room-clause-thinned : goal.returns-then-has_room-clause-thinned
+returns-then-has_room-clause-thinned g c = quiet-thinned (loom_told g.H.Host c.args.self.now) (loom_told g.H.Host c.args.self.now) (quiet-same g.H.Host c.args.self.now) c.requires.ready
+
+pub returns-then-has_room-clause-bodies : goal.returns-then-has_room-clause-bodies
+returns-then-has_room-clause-bodies g c = λ told. bodies-same c.args.self.now.parts c.args.self.now.parts (loom_told g.H.Host c.args.self.now).heap refl
+
+pub returns-then-has_room-clause-minds : goal.returns-then-has_room-clause-minds
+returns-then-has_room-clause-minds g c = minds-refl g.H.Host c.args.self.now (λ k. ⊥) c.requires.sound
+
+pub returns-then-self-clause-thinned : goal.returns-then-self-clause-thinned
+returns-then-self-clause-thinned g c = quiet-thinned (loom_told g.H.Host c.args.self.now) (loom_told g.H.Host c.args.self.now) (quiet-same g.H.Host c.args.self.now) c.requires.ready
+
+pub returns-then-self-clause-bodies : goal.returns-then-self-clause-bodies
+returns-then-self-clause-bodies g c = λ told. bodies-same c.args.self.now.parts c.args.self.now.parts (loom_told g.H.Host c.args.self.now).heap refl
+
+pub returns-then-self-clause-minds : goal.returns-then-self-clause-minds
+returns-then-self-clause-minds g c = minds-refl g.H.Host c.args.self.now (λ k. ⊥) c.requires.sound
+
+-- ---- there was no room
+
+pub returns-clause-roomy : goal.returns-clause-roomy
+returns-clause-roomy g c = ok-never _ c.thin.result (λ room. c.has_room.ensures.lacks c.if-has_room.false room)
+
+pub returns-clause-sure : goal.returns-clause-sure
+returns-clause-sure g c = err-each c.thin.result (λ room. c.has_room.ensures.lacks c.if-has_room.false room)
