@@ -11,6 +11,7 @@ mod Losses
 mod MemoryLaws
 pub mod MomentLaws
 mod NotedLaws
+mod PieceLaws
 mod RecoverLaws
 pub mod SparesLaws
 pub mod SureLaws

@@ -1,12 +1,15 @@
 -- What the calls of a vault in memory did, by what its journal says.
-use Rattle.std.proofs.Common.{◌≡◌, ◌⊎◌, inl, inr, ℕ, ◌+◌, ◌<◌, ◌≤◌, false, List, [], ◌∷◌, length, Option, Result, Ok, Err, OnOk, OnErr, IsErr, ap, ◌∙◌, subst, arith}
+use Rattle.std.proofs.Common.{◌≡◌, ◌⊎◌, inl, inr, ℕ, ◌+◌, ◌-◌, ◌<◌, ◌≤◌, None, Bool, true, false, is_err, IsOk, List, [], ◌∷◌, length, Option, Result, Ok, Err, OnOk, OnErr, IsErr, sym, ap, ◌∙◌, subst, arith}
+use Rattle.std.specs.Option.{option_map}
 use Rattle.std.proofs.lemmas.Bool.{false≢true}
 use Rattle.loom_host.specs.Bytes.{overwritten}
 use Rattle.loom_host.proofs.Windows.{get_or-overwritten, byte_after_outside}
 use Rattle.loom_host.specs.Outside.{HasCause}
 use Rattle.loom_host.specs.declared.outside.Failed.{Failed}
-use Rattle.checkpoint.specs.Memory.{opened_as}
+use Rattle.checkpoint.specs.Journal.{HasRoomIn}
+use Rattle.checkpoint.specs.Memory.{opened_as, with_opening}
 use Rattle.checkpoint.specs.Vault.{VaultState, Written, IsSameOutside, IsWritten, behind, contents_of}
+use Rattle.checkpoint.specs.declared.journal.Journal.{Journal}
 
 around : (at i : ℕ) → (i < at) ⊎ (at + 0 ≤ i)
 around at i = grind arith
@@ -31,3 +34,26 @@ failed-written (Err y) (Err e) place bytes openings name before after old new er
 -- a failure that is counted
 pub fail-cause : {T : Type 0} (result : Result T Failed) (old mid new : ℕ) → mid ≡ old → HasCause mid new result → HasCause old new result
 fail-cause result old mid new same cause = subst (λ (n : ℕ). HasCause n new result) same cause
+
+-- ---- room
+
+pub fresh-room : (fresh : Bool) (calls bytes end : ℕ) (j : Journal) → fresh ≡ true → HasRoomIn (with_opening fresh calls) bytes end j → HasRoomIn (calls + 1) bytes end j
+fresh-room fresh calls bytes end j is room = subst (λ (b : Bool). HasRoomIn (with_opening b calls) bytes end j) is room
+
+-- what holds of an answer that is Ok
+pub when-ok : {A B P : Type 0} (r : Result A B) (tested : Bool) → tested ≡ is_err r → tested ≡ false → OnOk r P → P
+when-ok (Ok x) tested value passed holds = holds
+when-ok (Err e) tested value passed holds = absurd (false≢true (sym passed ∙ value))
+
+-- an answer that is Ok isn't refused
+pub no-refusal : {A B P : Type 0} (r : Result A B) (tested : Bool) → IsOk r → tested ≡ is_err r → tested ≡ true → P
+no-refusal (Ok x) tested ok value refused = absurd (false≢true (sym value ∙ refused))
+no-refusal (Err e) tested ok value refused = absurd (false≢true ok)
+
+-- a call that isn't due isn't failed
+pub not-due : {P : Type 0} (due : Bool) → due ≡ false → due ≡ true → P
+not-due due passes is = absurd (false≢true (sym passes ∙ is))
+
+-- a fuse that isn't set stays so
+pub fuse-unset : (old new : Option ℕ) → old ≡ None → new ≡ option_map (λ calls. calls - 1) old → new ≡ None
+fuse-unset old new unset next = next ∙ ap (option_map (λ calls. calls - 1)) unset

@@ -1,8 +1,8 @@
 -- What a vault in memory stands for. These words are not opened by themselves: who calls it goes by its clauses.
-use Rattle.std.specs.Prelude.{◌≡◌, ℕ, ◌-◌, List, [], Option, None, Some, Result, IsErr, is_err, if◌then◌else◌}
+use Rattle.std.specs.Prelude.{◌≡◌, ℕ, ◌+◌, ◌-◌, ◌≤◌, Bool, vec_capacity, List, [], Option, None, Some, Result, IsErr, is_err, if◌then◌else◌}
 use Rattle.std.specs.Option.{option_map}
 use Rattle.long_names.specs.Counting.{counted}
-use Rattle.checkpoint.specs.Journal.{state_in}
+use Rattle.checkpoint.specs.Journal.{HasRoomIn, state_in}
 use Rattle.checkpoint.specs.Torn.{but_first, torn}
 use Rattle.checkpoint.specs.Vault.{VaultState, contents_of, unsynced_of}
 use Rattle.checkpoint.specs.declared.memory.MemoryVault.{MemoryVault}
@@ -34,3 +34,15 @@ pub record OneCall {T E : Type 0} (old new : MemoryVault) (result : Result T E) 
   pub due : fuse_of old ≡ Some 0 → IsErr result
   pub fuse : fuse_of new ≡ option_map (λ calls. calls - 1) (fuse_of old)
   pub faults : faults_of new ≡ (if is_err result then counted (faults_of old) else faults_of old)
+
+-- room for a name of so many bytes, for so many further calls that the list may join, for so many bytes that they write, and for contents up to an end
+unfoldable pub HasRoom : ℕ → ℕ → ℕ → ℕ → MemoryVault → Type 0
+HasRoom name calls bytes end v = (name ≤ vec_capacity v.name) × HasRoomIn calls bytes end v.journal
+
+-- no less room
+abbrev pub Widens : MemoryVault → MemoryVault → Type 0
+Widens old new = (name calls bytes end : ℕ) → HasRoom name calls bytes end old → HasRoom name calls bytes end new
+
+-- with how many calls of the list an opening goes through
+abbrev pub with_opening : Bool → ℕ → ℕ
+with_opening fresh calls = if fresh then calls + 1 else calls

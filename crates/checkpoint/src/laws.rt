@@ -1,13 +1,20 @@
-//! Laws of what stands in a vault, and of what a stop may leave of it. No code calls these functions: what each of them ensures is the law.
-ghost use Rattle.std.specs.Prelude.{◌≡◌, ◌≢◌, ◌+◌, ◌*◌, ◌≤◌, ◌<◌, ℕ, Bool, List, Option, None, Some, [], true, false, IsTrue, Result, OnOk, length, slice_index};
+//! Laws of what stands in a vault, of what a stop may leave of it, and of what one in memory needs. No code calls these functions: what each of
+//! them ensures is the law.
+ghost use Rattle.std.specs.Prelude.{◌≡◌, ◌≢◌, ◌+◌, ◌*◌, ◌≤◌, ◌<◌, ℕ, Bool, List, Option, None, Some, [], true, false, IsTrue, Result, OnOk, IsOk, IfOk, length, slice_index};
 ghost use Rattle.loom_host.specs.declared.outside.Failed.{Failed};
 ghost use Rattle.checkpoint.specs.History.{AnyImage, IsItsImage, Keeps, serial_in};
 ghost use Rattle.checkpoint.specs.Keeping.{HasEither, IsLast, serial_of};
 ghost use Rattle.checkpoint.specs.Layout.{area_in, bad_place, found, image_place, is_bad, is_open, point_of};
+ghost use Rattle.checkpoint.specs.Memory.{HasRoom, fuse_of};
 ghost use Rattle.checkpoint.specs.Vault.{Extends, IsEmpty, IsOpened, MayLeave, Throughout, VaultState, contents_of, moment, unsynced_of};
 ghost use Rattle.checkpoint.specs.declared.point.Point.{Point};
 ghost use Rattle.checkpoint.specs.declared.layout.Gate.{Gate};
 ghost use Rattle.checkpoint.specs.declared.layout.TheConstants.{AREAS_AT, GATE_BYTES, GATE_GAP};
+
+use crate::memory::MemoryVault;
+use crate::vault::Vault;
+use loom_host::Failed;
+use std::alloc::AllocError;
 
 /// A gate whose byte isn't 1 is closed, whatever serial and length stand behind it, and so is one whose serial is 0. A closed gate says no
 /// point, and isn't bad.
@@ -63,3 +70,36 @@ pub fn no_stop_loses_an_answered_checkpoint()
     ensures between { (old new : VaultState) (last : ℕ) (kept : Keeps old new last AnyImage) (j k : ℕ) → length old.calls ≤ j → j ≤ k
         → kept.answered j < kept.answered k → (v w : List ℕ) → MayLeave (moment j new) v → MayLeave (moment k new) w → serial_in v ≤ serial_in w }
 {}
+
+/// Where there is room for an opening, a write and a sync, and no fuse is set, they go through.
+pub fn calls_within_room_go_through(
+    vault: &mut MemoryVault,
+    name: &str,
+    place: u64,
+    piece: &[u8],
+) -> Result<(), Failed>
+    requires room { HasRoom (length name.now) 3 (length piece.now) (place + length piece.now) vault.old }
+    requires fuse { fuse_of vault.old ≡ None }
+    ensures { IsOk result }
+{
+    vault.open_named(name, true)?;
+    vault.write_at(place, piece)?;
+    vault.sync()
+}
+
+/// Once `reserve` answered Ok there is room for what it took. It answers whether the calls went through.
+pub fn reserved_calls_go_through(
+    vault: &mut MemoryVault,
+    name: &str,
+    place: u64,
+    piece: &[u8],
+) -> Result<bool, AllocError>
+    requires { fuse_of vault.old ≡ None }
+    ensures { IfOk result (λ passed. passed ≡ true) }
+{
+    let Some(end) = place.checked_add(piece.len() as u64) else {
+        return Err(AllocError);
+    };
+    vault.reserve(name.len(), 3, piece.len(), end)?;
+    Ok(calls_within_room_go_through(vault, name, place, piece).is_ok())
+}

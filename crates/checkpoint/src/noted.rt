@@ -7,12 +7,12 @@ pub struct Range {
     pub len: usize,
 }
 
-#[derive(Drop)]
+#[derive(Clone, Copy)]
 pub enum Noted {
     // a fresh opening
     Opened,
-    // a write that went through
-    Written { place: u64, bytes: Vec<u8> },
+    // a write that went through, by where its piece stands among those of all
+    Written { place: u64, from: usize, len: usize },
     // a write that failed
     Failed(Range),
     Synced,
