@@ -1,0 +1,4 @@
+pub mod Sums
+pub mod Png
+pub mod Pictures
+pub mod Causes

@@ -1,0 +1,243 @@
+//! A picture of one bit a pixel, out of a binary PBM and back.
+
+ghost use Rattle.std.specs.Prelude.{◌≡◌, ◌+◌, ◌*◌, ◌/◌, ◌<◌, ◌≤◌, ◌^◌, length, IfOk, IfSome, OnOk};
+ghost use Rattle.st80_picture.specs.Pictures.{row_bytes, row};
+ghost use Rattle.st80_picture.specs.Pictures.{pbm as pbm_of};
+ghost use Rattle.st80_picture.specs.declared.picture.BadPicture.TheVariants as variants;
+
+use itoa::Buffer;
+use long_names::Octets;
+use std::alloc::{AllocError, Global};
+
+/// The most bytes that the rows of a picture may have.
+pub const MOST_BYTES: usize = 1_073_741_824;
+
+const MOST_SIDE: u32 = 2_147_483_647;
+
+/// Why a picture isn't there.
+#[derive(Clone, Copy, Debug, Drop, PartialEq, Eq, thiserror::Error)]
+pub enum BadPicture {
+    #[error("this isn't a picture: it doesn't begin with P4, a width and a height")]
+    Head,
+    #[error("the file is empty: the image had no form as its display")]
+    Empty,
+    #[error("a PNG has one pixel at least, and this picture has none")]
+    Flat,
+    #[error("the picture is cut: it has fewer rows than its head says")]
+    Cut,
+    #[error("the picture has bytes behind its last row")]
+    Long,
+    #[error("the picture is too large: its rows may have 1,073,741,824 bytes at most")]
+    Large,
+    #[error("there is no memory for the picture")]
+    Memory,
+}
+
+impl From<AllocError> for BadPicture {
+    ghost from_gives = { λ _ e. e ≡ variants.Memory };
+
+    fn from(_error: AllocError) -> BadPicture {
+        BadPicture::Memory
+    }
+}
+
+/// A picture. Its rows are whole bytes, the leftmost pixel in the highest bit, and 1 is black.
+#[derive(Debug, Drop)]
+pub struct Picture {
+    pub width: u32,
+    pub height: u32,
+    pub rows: Octets,
+    ghost width_fits: { width < 2 ^ 31 },
+    ghost height_fits: { height < 2 ^ 31 },
+    ghost whole: { length rows ≡ height * row_bytes width },
+    ghost small: { height * row_bytes width ≤ 1073741824 },
+}
+
+/// The bytes of a row.
+fn stride_of(width: u32) -> usize
+    requires { width < 2 ^ 31 }
+    ensures { result ≡ row_bytes width }
+{
+    (width as usize + 7) / 8
+}
+
+/// How many bytes such a picture has.
+fn extent(width: u32, height: u32) -> Option<usize>
+    requires width { width < 2 ^ 31 }
+    requires height { height < 2 ^ 31 }
+    ensures count { IfSome result (λ count. count ≡ height * row_bytes width) }
+    ensures small { IfSome result (λ count. count ≤ 1073741824) }
+{
+    let count = height as usize * stride_of(width);
+    if count <= MOST_BYTES {
+        Some(count)
+    } else {
+        None
+    }
+}
+
+impl Picture {
+    /// The bytes of a row.
+    pub fn row(&self, y: u32) -> &[u8]
+        requires { y < self.now.height }
+        ensures { result.now ≡ row self.now.rows (row_bytes self.now.width) y }
+    {
+        let stride = stride_of(self.width);
+        let start = y as usize * stride;
+        &self.rows.bytes()[start..start + stride]
+    }
+
+    /// Whether the pixel is black; one outside isn't.
+    pub fn is_black(&self, x: usize, y: usize) -> bool {
+        if self.width as usize <= x || self.height as usize <= y {
+            return false;
+        }
+        let stride = stride_of(self.width);
+        let byte = *self.rows.item(y * stride + x / 8);
+        byte >> (7 - x % 8) & 1 == 1
+    }
+}
+
+/// A number of decimal digits from a place on, and the place behind it.
+fn number_at(bytes: &[u8], from: usize) -> Option<(u32, usize)>
+    ensures small { IfSome result (λ found. found.0 < 2 ^ 31) }
+    ensures within { IfSome result (λ found. found.1 ≤ length bytes.now) }
+{
+    if bytes.len() < from {
+        return None;
+    }
+    let mut number = 0u32;
+    let mut at = from;
+    while at < bytes.len() && bytes[at].is_ascii_digit() {
+        number = number
+            .checked_mul(10)?
+            .checked_add(u32::from(bytes[at] - b'0'))?;
+        at += 1;
+    }
+    if at == from || MOST_SIDE < number {
+        return None;
+    }
+    Some((number, at))
+}
+
+/// Reads a binary PBM without comments, as `loom` writes it: `P4`, a newline, width, a space, height, a newline, and the rows.
+pub fn read(alloc: Global, bytes: &[u8]) -> Result<Picture, BadPicture> {
+    if bytes.is_empty() {
+        return Err(BadPicture::Empty);
+    }
+    let Some((width, height, start)) = head_of(bytes) else {
+        return Err(BadPicture::Head);
+    };
+    let Some(count) = extent(width, height) else {
+        return Err(BadPicture::Large);
+    };
+    let rows = &bytes[start..];
+    if rows.len() < count {
+        return Err(BadPicture::Cut);
+    }
+    if count < rows.len() {
+        return Err(BadPicture::Long);
+    }
+    let rows = Octets::from_slice(alloc, rows)?;
+    Ok(Picture {
+        width,
+        height,
+        rows,
+    })
+}
+
+/// Width and height of the head, and where the rows begin.
+fn head_of(bytes: &[u8]) -> Option<(u32, u32, usize)>
+    ensures width { IfSome result (λ found. found.0 < 2 ^ 31) }
+    ensures height { IfSome result (λ found. found.1 < 2 ^ 31) }
+    ensures within { IfSome result (λ found. found.2 ≤ length bytes.now) }
+{
+    if !bytes.starts_with(b"P4\n") {
+        return None;
+    }
+    let (width, space) = number_at(bytes, 3)?;
+    if bytes.get(space) != Some(&b' ') {
+        return None;
+    }
+    let (height, newline) = number_at(bytes, space + 1)?;
+    if bytes.get(newline) != Some(&b'\n') {
+        return None;
+    }
+    Some((width, height, newline + 1))
+}
+
+/// The picture as a binary PBM.
+pub fn pbm(alloc: Global, picture: &Picture) -> Result<Octets, AllocError>
+    ensures { IfOk result (λ file. file ≡ pbm_of picture.now.width picture.now.height picture.now.rows) }
+{
+    let mut buffer = Buffer::new();
+    let mut file = Octets::from_slice(alloc, b"P4\n")?;
+    file.extend(buffer.format(picture.width).as_bytes())?;
+    file.push(b' ')?;
+    file.extend(buffer.format(picture.height).as_bytes())?;
+    file.push(b'\n')?;
+    file.extend(picture.rows.bytes())?;
+    Ok(file)
+}
+
+/// Puts a row of a picture that is so many times as large.
+fn put_row(
+    picture: &Picture,
+    y: usize,
+    times: u32,
+    width: u32,
+    rows: &mut Octets,
+) -> Result<(), AllocError>
+    requires some { 0 < times }
+    requires width { width < 2 ^ 31 }
+    ensures { OnOk result (length rows.new ≡ length rows.old + row_bytes width) }
+{
+    for first in 0..stride_of(width) {
+        let mut byte = 0u8;
+        for bit in 0..8usize {
+            if picture.is_black((8 * first + bit) / times as usize, y) {
+                byte |= 128 >> bit;
+            }
+        }
+        rows.push(byte)?;
+    }
+    Ok(())
+}
+
+/// Width and height of such a picture, where they and its rows aren't too large.
+fn sides(picture: &Picture, times: u32) -> Option<(u32, u32)>
+    ensures times { IfSome result (λ sides. 0 < times) }
+    ensures width { IfSome result (λ sides. (sides.0 ≡ picture.now.width * times) × (sides.0 < 2 ^ 31)) }
+    ensures height { IfSome result (λ sides. (sides.1 ≡ picture.now.height * times) × (sides.1 < 2 ^ 31)) }
+    ensures small { IfSome result (λ sides. sides.1 * row_bytes sides.0 ≤ 1073741824) }
+{
+    if times == 0 {
+        return None;
+    }
+    let width = picture.width.checked_mul(times)?;
+    let height = picture.height.checked_mul(times)?;
+    if MOST_SIDE < width || MOST_SIDE < height {
+        return None;
+    }
+    extent(width, height)?;
+    Some((width, height))
+}
+
+/// The picture with each pixel as a square of so many by so many.
+pub fn scaled(alloc: Global, picture: &Picture, times: u32) -> Result<Picture, BadPicture>
+    ensures width { IfOk result (λ larger. larger.width ≡ picture.now.width * times) }
+    ensures height { IfOk result (λ larger. larger.height ≡ picture.now.height * times) }
+{
+    let Some((width, height)) = sides(picture, times) else {
+        return Err(BadPicture::Large);
+    };
+    let mut rows = Octets::new(alloc);
+    for y in 0..height {
+        put_row(picture, (y / times) as usize, times, width, &mut rows)?;
+    }
+    Ok(Picture {
+        width,
+        height,
+        rows,
+    })
+}
