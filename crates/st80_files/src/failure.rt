@@ -1,0 +1,42 @@
+// Why the program ends before `loom` would.
+use crate::codes::Code;
+use std::alloc::{AllocError, Global};
+use std::io::{self, ErrorKind};
+
+/// Why it ends: by want of memory, or with a code and what is said of it.
+#[derive(Debug, Drop)]
+pub enum Failure {
+    Memory,
+    Told { code: Code, text: String },
+}
+
+impl From<AllocError> for Failure {
+    fn from(_: AllocError) -> Failure {
+        Failure::Memory
+    }
+}
+
+/// A failure with this text.
+pub fn failed(alloc: Global, code: Code, text: &str) -> Failure {
+    match String::from_str(alloc, text) {
+        Ok(text) => Failure::Told { code, text },
+        Err(_) => Failure::Memory,
+    }
+}
+
+/// A file, what was tried with it, and the system's reason.
+pub fn file_failed(
+    alloc: Global,
+    code: Code,
+    path: &str,
+    tried: &str,
+    error: &io::Error,
+) -> Failure {
+    if error.kind() == ErrorKind::OutOfMemory {
+        return Failure::Memory;
+    }
+    match format!(in alloc; "{path} can't be {tried}: {error}") {
+        Ok(text) => Failure::Told { code, text },
+        Err(_) => Failure::Memory,
+    }
+}
