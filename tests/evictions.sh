@@ -66,21 +66,66 @@ od -An -v -tu1 -w1 "$where/image" | awk '
             }
             return came
         }
-        # What is needed again last goes.
-        function by_need(core,    i, k, used, came, is_in, worst) {
-            used = came = 0
+        # A heap: the greatest key first. A key that its name has no more is passed over when it comes to the top.
+        function push(key, name,    at) {
+            for (at = ++heaped; at > 1 && keys[int(at / 2)] < key; at = int(at / 2)) {
+                keys[at] = keys[int(at / 2)]
+                names[at] = names[int(at / 2)]
+            }
+            keys[at] = key
+            names[at] = name
+        }
+        function pop(    key, name, at, down) {
+            key = keys[heaped]
+            name = names[heaped--]
+            for (at = 1; (down = 2 * at) <= heaped; at = down) {
+                if (down < heaped && keys[down + 1] > keys[down]) down++
+                if (keys[down] <= key) break
+                keys[at] = keys[down]
+                names[at] = names[down]
+            }
+            keys[at] = key
+            names[at] = name
+        }
+        # What was touched least recently goes.
+        function by_use(core,    i, k, used, came, last) {
+            used = came = heaped = 0
+            for (i = 1; i <= touches; i++) {
+                k = touched[i]
+                if (k in last) { last[k] = i; continue }
+                came++
+                used += size[k]
+                last[k] = i
+                push(-i, k)
+                while (used > core && names[1] != k) {
+                    old = names[1]
+                    if (keys[1] == -last[old]) { used -= size[old]; delete last[old]; pop() }
+                    else { pop(); push(-last[old], old) }
+                }
+            }
+            return came
+        }
+        # What is needed again last goes. What was touched since something went is put into the heap when the next goes.
+        function by_need(core,    i, k, used, came, is_in, fresh, kept) {
+            used = came = heaped = 0
             for (i = 1; i <= touches; i++) {
                 k = touched[i]
                 if (!(k in is_in)) { came++; used += size[k] }
                 is_in[k] = again_at[i]
-                while (used > core) {
-                    worst = ""
-                    for (old in is_in)
-                        if (old != k && (worst == "" || is_in[old] > is_in[worst])) worst = old
-                    if (worst == "") break
-                    used -= size[worst]
-                    delete is_in[worst]
+                fresh[k] = 1
+                if (used <= core) continue
+                for (old in fresh) if (old in is_in) push(is_in[old], old)
+                split("", fresh)
+                kept = 0
+                while (used > core && heaped > 0) {
+                    old = names[1]
+                    if (!(old in is_in) || keys[1] != is_in[old]) { pop(); continue }
+                    pop()
+                    if (old == k) { kept = 1; continue }
+                    used -= size[old]
+                    delete is_in[old]
                 }
+                if (kept) push(is_in[k], k)
             }
             return came
         }
@@ -95,5 +140,5 @@ od -An -v -tu1 -w1 "$where/image" | awk '
             printf "%d touches of %d objects of %d words\n", touches, objects, words
             count = split(cores, core, " ")
             for (c = 1; c <= count; c++)
-                printf "%d words: %d by age, %d by age and touch, %d by need\n", core[c], by_age(core[c], 0), by_age(core[c], 1), by_need(core[c])
+                printf "%d words: %d by age, %d by age and touch, %d by use, %d by need\n", core[c], by_age(core[c], 0), by_age(core[c], 1), by_use(core[c]), by_need(core[c])
         }' "$where/sizes" ran=1 -
