@@ -10,7 +10,7 @@
 //! says them: nothing is proved of this program but that it is safe.
 //!
 //! - Proved: That it is safe.
-//! - Tested: A short run is in the gate. `tests/measure.sh` makes the large ones.
+//! - Tested: A short run is in the gate. `tests/costs.sh` makes the large ones.
 //! - Not said: Its numbers, which belong to how the memory is written today.
 #![tactic(auto)]
 
