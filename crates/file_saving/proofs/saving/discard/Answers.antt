@@ -1,0 +1,5 @@
+use Rattle.file_saving.proofs.SavingLaws.{apart-closed, leaves-closed, leaves-then}
+use Rattle.file_saving.proofs.saving.discard.Goals as goal
+
+pub returns-clause-untouched : goal.returns-clause-untouched
+returns-clause-untouched g c told e apart = leaves-then e _ _ _ (leaves-closed e _ _ _ (c.close.ensures told)) (c.remove_part.ensures.untouched told e (apart-closed e _ _ _ _ _ (c.close.ensures told) apart))
