@@ -1,5 +1,5 @@
 // Reading a record.
-ghost use Rattle.std.specs.Prelude.{◌≡◌, ◌≢◌, ℕ, ◌≤◌, ◌++◌, List, length, take, IfOk};
+ghost use Rattle.std.specs.Prelude.{◌≡◌, ◌≢◌, ℕ, ◌≤◌, ◌++◌, List, length, take, IfOk, OnErr};
 ghost use Rattle.image_format.specs.Inside.{IsNear, refusal};
 ghost use Rattle.long_names.specs.declared.object.Rec.{Rec as Spelled};
 ghost use Rattle.long_names.specs.Objects.{IsRecord};
@@ -55,6 +55,9 @@ pub fn decode_rec(alloc: Global, bytes: &[u8]) -> Result<(Rec, usize), RecFault>
 /// it takes no memory.
 pub fn measure_rec(bytes: &[u8]) -> Result<RecMeasure, RecFault>
     ensures measure { IfOk result (IsMeasure bytes.now) }
+    // A refusal is Bad, and says that the bytes begin with no record.
+    ensures bad { OnErr result (IsBad result) }
+    ensures none { OnErr result ((r : Spelled) (rest : List ℕ) → IsRecord r → bytes.now ≢ record_text r ++ rest) }
     ensures place { IsPlaced result bytes.now }
 {
     match measure_of(bytes) {

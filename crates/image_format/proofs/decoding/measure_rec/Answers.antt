@@ -2,9 +2,9 @@ use Rattle.std.proofs.Common.{Err, sym, subst, arith}
 use Rattle.image_format.specs.declared.fault.NoRecord.TheVariants.{Halted}
 use Rattle.image_format.specs.declared.fault.RecFault.{RecFault}
 use Rattle.image_format.specs.declared.reading.RecMeasure.{RecMeasure}
-use Rattle.image_format.specs.Faults.{IsPlaced}
+use Rattle.image_format.specs.Faults.{IsBad, IsPlaced}
 use Rattle.image_format.proofs.Numbers.{AreBytes}
-use Rattle.image_format.proofs.Found.{measured, placed, near_halt}
+use Rattle.image_format.proofs.Found.{measured, never_halted, placed, near_halt}
 use Rattle.image_format.proofs.decoding.measure_rec.Goals as goal
 
 pub refused-requires : goal.refused-requires
@@ -19,3 +19,9 @@ returns-in-Ok-clause-measure c =
 
 pub returns-in-Err-clause-place : goal.returns-in-Err-clause-place
 returns-in-Err-clause-place c = subst (λ (f : RecFault). IsPlaced {A = RecMeasure} (Err f) c.args.bytes.now) (sym c.refused.ensures) (placed RecMeasure c.args.bytes.now (Halted c.in-Err.halt) c.in-Err.ensures)
+
+pub returns-in-Err-clause-bad : goal.returns-in-Err-clause-bad
+returns-in-Err-clause-bad c = subst (λ (f : RecFault). IsBad {A = RecMeasure} (Err f)) (sym c.refused.ensures) tt
+
+pub returns-in-Err-clause-none : goal.returns-in-Err-clause-none
+returns-in-Err-clause-none c = λ r rest is e. never_halted c.args.bytes.now (Halted c.in-Err.halt) r rest c.in-Err.ensures tt is e
