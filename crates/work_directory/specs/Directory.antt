@@ -1,5 +1,5 @@
 -- What a directory in Work stands for: a map from names to entries.
-use Rattle.std.specs.Prelude.{◌≡◌, ◌≢◌, ◌<◌, ℕ, ◌+◌, ◌*◌, ◌/◌, min, Bool, false, List, Option, None, Some, IsSome, IsTrue}
+use Rattle.std.specs.Prelude.{◌≡◌, ◌≢◌, ◌<◌, ℕ, ◌+◌, ◌*◌, ◌/◌, ◌==◌, ◌||◌, min, Bool, false, List, Option, None, Some, IsSome, IsTrue}
 use Rattle.std.specs.FinMap as map
 use Rattle.loom_host.specs.declared.outside.Host.{Ghosts}
 use Rattle.loom_host.specs.declared.outside.Role.TheVariants.{Work}
@@ -118,3 +118,19 @@ StandsAt host now d name at = (held : Slot) × EndsAt host now d name (Held at h
 -- Work holds the directory with these entries after a call, and behind it what it held before
 abbrev pub Becomes : {H : Type 0} → Ghosts H → H → H → Directory → Entries → Type 0
 Becomes host old new d entries = IsTrue (host.tells Work) → IsChanged d entries (work_of host old) (work_of host new)
+
+-- ---- which blocks were ever written
+
+-- beside those of before it is that of this slot, and no other
+abbrev pub WritesBlockOf : ℕ → Directory → Directory → Type 0
+WritesBlockOf at old new = (block : ℕ) → was_written new block ≡ (block == at / BLOCK_SLOTS || was_written old block)
+
+-- they are those of before
+abbrev pub WritesNoBlock : Directory → Directory → Type 0
+WritesNoBlock old new = (block : ℕ) → was_written new block ≡ was_written old block
+
+-- beside those of before it is that of the empty slot where the search for a name ended, and no other
+pub record WritesWhereItEnds {H : Type 0} (host : Ghosts H) (now : H) (name : ℕ) (old new : Directory) : Type 0 where
+  pub at : ℕ
+  pub ends : EndsAt host now old name (Vacant at)
+  pub block : WritesBlockOf at old new

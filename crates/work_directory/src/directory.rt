@@ -55,7 +55,7 @@ impl Directory {
     ghost use Rattle.std.specs.FinMap as map;
     ghost use Rattle.loom_host.specs.declared.outside.DiskFault.TheVariants.{Full};
     ghost use Rattle.loom_host.specs.declared.outside.Role.{Role};
-    ghost use Rattle.work_directory.specs.Directory.{room_of, held_of, slots_of, blocks_of, first_slot, was_written, end_of, entries_of, found_entry, shown_at, AnswersSearch, IsIn, IsOfName, HoldsDirectory, entries_in, Holds, Lacks, EndsAt, StandsAt, Becomes};
+    ghost use Rattle.work_directory.specs.Directory.{room_of, held_of, slots_of, blocks_of, first_slot, was_written, end_of, entries_of, found_entry, shown_at, AnswersSearch, IsIn, IsOfName, HoldsDirectory, entries_in, Holds, Lacks, EndsAt, StandsAt, Becomes, WritesBlockOf, WritesNoBlock, WritesWhereItEnds};
     ghost use Rattle.probing.specs.declared.TheConstants.{BLOCK_SLOTS};
     ghost use Rattle.work_directory.specs.Inside.{Closes};
     ghost use Rattle.work_directory.specs.Pieces.{IsPieceOf};
@@ -72,6 +72,7 @@ impl Directory {
         ensures held { held_of result ≡ 0 }
         ensures stands { IsIn result [] }
         ensures none { entries_of result [] ≡ map.empty }
+        ensures unwritten { (block : ℕ) → was_written result block ≡ false }
     {
         Directory {
             room,
@@ -253,6 +254,7 @@ impl Directory {
         requires absent { Lacks H.Host host.old self.old slot.name }
         ensures added { OnOk result (Becomes H.Host host.old host.new self.new (map.insert (entries_in H.Host host.old self.old) slot.name (entry_of slot))) }
         ensures held { OnOk result (held_of self.new ≡ held_of self.old + 1) }
+        ensures written { OnOk result (WritesWhereItEnds H.Host host.old slot.name self.old self.new) }
         ensures still { OnErr result (self.new ≡ self.old) }
         ensures room { room_of self.new ≡ room_of self.old }
         ensures full { held_of self.old ≡ room_of self.old → (result ≡ Err (Full (held_of self.old) (room_of self.old))) × (host.new ≡ host.old) }
@@ -279,6 +281,7 @@ impl Directory {
         requires room { held_of self.old < room_of self.old }
         ensures added { OnOk result (Becomes H.Host host.old host.new self.new (map.insert (entries_in H.Host host.old self.old) slot.name (entry_of slot))) }
         ensures held { OnOk result (held_of self.new ≡ held_of self.old + 1) }
+        ensures written { OnOk result (WritesBlockOf at self.old self.new) }
         ensures still { OnErr result (self.new ≡ self.old) }
         ensures room { room_of self.new ≡ room_of self.old }
         ensures work { IsWorkOnly H.Host host.old host.new }
@@ -326,6 +329,7 @@ impl Directory {
         requires there { Holds H.Host host.old self.old name }
         ensures removed { OnOk result (Becomes H.Host host.old host.new self.new (map.remove (entries_in H.Host host.old self.old) name)) }
         ensures held { OnOk result (held_of self.new + 1 ≡ held_of self.old) }
+        ensures written { WritesNoBlock self.old self.new }
         ensures still { OnErr result (self.new ≡ self.old) }
         ensures room { room_of self.new ≡ room_of self.old }
         ensures work { IsWorkOnly H.Host host.old host.new }

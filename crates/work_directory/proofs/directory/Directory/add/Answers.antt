@@ -42,6 +42,15 @@ returns-in-Vacant-clause-added g c =
     subst (λ (v : List ℕ). IsChanged c.add_at.new.self (map.insert (entries_of d v) c.args.slot.name (entry_of c.args.slot)) v (work_of h c.add_at.new.host))
     (work-same h c.args.host.now c.search.new.host c.in_ok-at.ensures.read) (changed told)) c.add_at.ensures.added
 
+pub returns-in-Vacant-clause-written : goal.returns-in-Vacant-clause-written
+returns-in-Vacant-clause-written g c =
+    let h = g.H.Host in
+    on_ok_weaker c.add_at.result (λ block. record {
+      at = c.in-Vacant.at;
+      ends = ((rw c.in-Vacant.is at c.in_ok-at.ensures.name), λ told. rw c.in-Vacant.is at (c.in_ok-at.ensures.found told));
+      block = block;
+    }) c.add_at.ensures.written
+
 pub returns-in-Vacant-clause-cause : goal.returns-in-Vacant-clause-cause
 returns-in-Vacant-clause-cause g c = λ room.
     let h = g.H.Host in

@@ -13,3 +13,7 @@ returns-clause-added g c = λ told.
     added d _ (work_of h c.args.host.now) (work_of h c.args.host.now) (work_of h c.put.new.host) c.args.at c.args.slot
     refl (c.requires.stands told) refl of.1 of.0
     (c.in_ok-put.ensures.writes told (slots_of d) of.0) refl c.set.ensures (c.requires.vacant.1 told)
+
+pub returns-clause-written : goal.returns-clause-written
+unfolding was_written
+returns-clause-written g c = λ block. c.set.ensures block

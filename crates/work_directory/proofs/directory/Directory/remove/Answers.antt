@@ -68,3 +68,7 @@ returns-clause-removed g c = λ told.
     closed_up d _ (work_of h c.args.host.now) (work_of h c.search.new.host) (work_of h c.close_up.new.host) c.in-Held.at c.args.name
     (work-same h c.args.host.now c.search.new.host c.in_ok-at.ensures.read) refl refl (λ block. refl) (c.requires.stands told) (ap (λ (s : Slot). s.name) here ∙ of.1)
     (c.in_ok-close_up.ensures.closed told)
+
+pub returns-clause-written : goal.returns-clause-written
+unfolding was_written
+returns-clause-written g c = λ block. refl
