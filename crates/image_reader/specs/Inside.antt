@@ -42,12 +42,12 @@ IsFillFault host old new (Read count) = (count ≡ host.faults new Image) × Ros
 IsFillFault host old new (Disk f) = ⊥
 IsFillFault host old new Memory = Unit {0}
 
--- a rule broke, or there was no memory
+-- a rule broke; no memory is taken
 abbrev pub IsRuleFault : LoadFault → Type 0
 IsRuleFault (Bad rule place) = Unit {0}
 IsRuleFault (Read count) = ⊥
 IsRuleFault (Disk f) = ⊥
-IsRuleFault Memory = Unit {0}
+IsRuleFault Memory = ⊥
 
 -- ---- the head
 
