@@ -7,7 +7,7 @@ use Rattle.long_names.specs.declared.limits.TheConstants.{MOST_FIELDS}
 use Rattle.long_names.specs.declared.value.Value.{Value}
 use Rattle.text_lines.specs.Grammar.{◌>>=◌, code_of, each_of, fields_of}
 use Rattle.text_lines.specs.Inside.{code_in_front, in_front, with_code}
-use Rattle.text_parts.specs.Parts.{byte_of, is_code, that_is, value_of}
+use Rattle.text_lines.specs.Parts.{byte_of, is_code, that_is, value_of}
 
 -- ---- in front of what is read
 

@@ -1,2 +1,10 @@
+pub mod PartLaws
 pub mod EachLaws
 pub mod LineLaws
+pub mod NumberLaws
+pub mod SpellingLaws
+pub mod OneSpelling
+pub mod OneReading
+pub mod LineBack
+pub mod TextBack
+pub mod TextHeaps

@@ -17,8 +17,7 @@ use Rattle.text_lines.specs.Grammar.{◌>>=◌, Head, body_of, code_of, each_of,
 use Rattle.text_lines.specs.declared.line.Head.{Head as HeadRead}
 use Rattle.text_lines.specs.Inside.{head_as, stated_as}
 use Rattle.text_lines.proofs.EachLaws.{each_length}
-use Rattle.text_parts.specs.Inside.{is_space}
-use Rattle.text_parts.specs.Parts.{before_i, is_loom, is_small, kind_of, long_of, name_of, number_of, signed_of, small_of, that_is}
+use Rattle.text_lines.specs.Parts.{is_space, before_i, is_loom, is_small, kind_of, long_of, name_of, number_of, signed_of, small_of, that_is}
 use mir.Val.{SFits, of_z, to_z}
 
 -- ---- a line's parts

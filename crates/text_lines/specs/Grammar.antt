@@ -10,8 +10,7 @@ use Rattle.long_names.specs.declared.object.Body.TheVariants.{Pointers, Words, B
 use Rattle.long_names.specs.declared.object.Rec.{Rec}
 use Rattle.image_format.specs.declared.opening.State.{State}
 use Rattle.text_lines.specs.declared.limits.TheConstants.{LONGEST_LINE}
-use Rattle.text_parts.specs.Inside.{is_space}
-use Rattle.text_parts.specs.Parts.{is_code, is_loom, byte_of, kind_of, long_of, name_of, number_of, small_of, that_is, value_of, word_of}
+use Rattle.text_lines.specs.Parts.{is_space, is_code, is_loom, byte_of, kind_of, long_of, name_of, number_of, small_of, that_is, value_of, word_of}
 
 -- ---- one reading after another
 

@@ -1,3 +1,5 @@
+pub mod Parts
+pub mod PartSpelling
 pub mod Grammar
 pub mod Inside
 pub mod Spelling

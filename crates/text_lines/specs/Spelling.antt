@@ -9,7 +9,7 @@ use Rattle.long_names.specs.declared.object.Body.{Body}
 use Rattle.long_names.specs.declared.object.Body.TheVariants.{Pointers, Words, Bytes, Method}
 use Rattle.long_names.specs.declared.object.Object.{Object}
 use Rattle.image_format.specs.declared.opening.State.{State}
-use Rattle.text_parts.specs.Spelling.{byte_text, kind_text, value_text, word_text}
+use Rattle.text_lines.specs.PartSpelling.{byte_text, kind_text, value_text, word_text}
 
 -- ---- the parts of a line
 

@@ -2,12 +2,13 @@
 ghost use Rattle.std.specs.Prelude.{◌≡◌, ◌∷◌, List, ℕ, Some, None, IfOk, IfSome, IfNone};
 ghost use Rattle.text_lines.specs.Grammar.{body_of, code_of, each_of, method_of};
 ghost use Rattle.text_lines.specs.Inside.{with_code};
-ghost use Rattle.text_parts.specs.Inside.{parts_behind};
-ghost use Rattle.text_parts.specs.Parts as read;
+ghost use Rattle.text_lines.specs.Parts.{parts_behind};
+ghost use Rattle.text_lines.specs.Parts as read;
 
+use crate::numbers::{byte_in, small_in, value_in, word_in};
+use crate::parts::Parts;
 use long_names::{Body, Kind, MOST_FIELDS, Octets, Values, Words16};
 use std::alloc::{AllocError, Global};
-use text_parts::{Parts, byte_in, small_in, value_in, word_in};
 
 /// The values that the parts are.
 fn all_values(alloc: Global, mut parts: Parts<'_>) -> Result<Option<Values>, AllocError>

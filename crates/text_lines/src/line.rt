@@ -2,15 +2,16 @@
 ghost use Rattle.std.specs.Prelude.{◌≡◌, ◌≢◌, ◌∷◌, List, ℕ, length, Some, None, IfOk, IfSome, IfNone, option_map};
 ghost use Rattle.text_lines.specs.Grammar.{each_of, line_head, line_object, object_of};
 ghost use Rattle.text_lines.specs.Inside.{head_as, stated_as};
-ghost use Rattle.text_parts.specs.Inside.{parts_behind};
-ghost use Rattle.text_parts.specs.Parts as read;
+ghost use Rattle.text_lines.specs.Parts.{parts_behind};
+ghost use Rattle.text_lines.specs.Parts as read;
 
 use crate::contents::body_in;
 use crate::limits::LONGEST_LINE;
+use crate::numbers::{kind_in, long_in, name_in, number_in};
+use crate::parts::{Parts, first_part};
 use image_format::State;
 use long_names::{Body, Kind, Name};
 use std::alloc::{AllocError, Global};
-use text_parts::{Parts, first_part, kind_in, long_in, name_in, number_in};
 
 /// What the first line states: the next name, and the machine's state.
 #[derive(Clone, Copy, Debug)]

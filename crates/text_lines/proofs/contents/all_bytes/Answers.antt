@@ -1,8 +1,7 @@
 use Rattle.std.proofs.Common.{ℕ, List, sym, ap, ◌∙◌}
 use Rattle.text_lines.specs.Grammar.{each_of}
 use Rattle.text_lines.specs.Inside.{in_front}
-use Rattle.text_parts.specs.Inside.{parts_behind}
-use Rattle.text_parts.specs.Parts.{byte_of}
+use Rattle.text_lines.specs.Parts.{parts_behind, byte_of}
 use Rattle.text_lines.proofs.EachLaws.{front_end, front_more, front_stop}
 use Rattle.text_lines.proofs.contents.all_bytes.Goals as goal
 

@@ -2,8 +2,7 @@ use Rattle.std.proofs.Common.{List, sym, ap, ◌∙◌}
 use Rattle.long_names.specs.declared.value.Value.{Value}
 use Rattle.text_lines.specs.Grammar.{each_of}
 use Rattle.text_lines.specs.Inside.{in_front}
-use Rattle.text_parts.specs.Inside.{parts_behind}
-use Rattle.text_parts.specs.Parts.{value_of}
+use Rattle.text_lines.specs.Parts.{parts_behind, value_of}
 use Rattle.text_lines.proofs.EachLaws.{front_end, front_more, front_stop}
 use Rattle.text_lines.proofs.contents.all_values.Goals as goal
 

@@ -1,8 +1,7 @@
 use Rattle.std.proofs.Common.{◌≡◌, length}
 use Rattle.text_lines.specs.Grammar.{each_of}
 use Rattle.text_lines.specs.Inside.{in_front}
-use Rattle.text_parts.specs.Inside.{parts_behind}
-use Rattle.text_parts.specs.Parts.{word_of}
+use Rattle.text_lines.specs.Parts.{parts_behind, word_of}
 use Rattle.text_lines.proofs.contents.all_words.Given as goal
 
 abbrev pub invariant-each : goal.invariant-each

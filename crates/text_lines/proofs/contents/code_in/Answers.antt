@@ -3,8 +3,7 @@ use Rattle.std.specs.Prelude.{IfOk}
 use Rattle.long_names.specs.declared.value.Value.{Value}
 use Rattle.text_lines.specs.Grammar.{code_of}
 use Rattle.text_lines.specs.Inside.{code_in_front}
-use Rattle.text_parts.specs.Inside.{parts_behind}
-use Rattle.text_parts.specs.Parts.{is_code}
+use Rattle.text_lines.specs.Parts.{parts_behind, is_code}
 use Rattle.text_lines.proofs.EachLaws.{code_end, code_here, code_more, code_stop}
 use Rattle.text_lines.proofs.contents.code_in.Goals as goal
 

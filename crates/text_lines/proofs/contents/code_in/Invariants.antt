@@ -1,7 +1,7 @@
 use Rattle.std.proofs.Common.{◌≡◌, length}
 use Rattle.text_lines.specs.Grammar.{code_of}
 use Rattle.text_lines.specs.Inside.{code_in_front}
-use Rattle.text_parts.specs.Inside.{parts_behind}
+use Rattle.text_lines.specs.Parts.{parts_behind}
 use Rattle.text_lines.proofs.contents.code_in.Given as goal
 
 abbrev pub invariant-each : goal.invariant-each

@@ -1,8 +1,7 @@
 use Rattle.std.proofs.Common.{◌≡◌, true, false, ◌∷◌, None, rules, sym, ap, ◌∙◌}
 use Rattle.std.specs.Prelude.{option_map}
 use Rattle.text_lines.specs.Inside.{head_as}
-use Rattle.text_parts.specs.Inside.{parts_behind}
-use Rattle.text_parts.specs.Parts.{is_loom}
+use Rattle.text_lines.specs.Parts.{parts_behind, is_loom}
 use Rattle.text_lines.proofs.LineLaws.{head_gives, head_is, no_head, not_loom}
 use Rattle.text_lines.proofs.line.head_in.Goals as goal
 

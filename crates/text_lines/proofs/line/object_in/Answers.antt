@@ -1,8 +1,7 @@
 use Rattle.std.proofs.Common.{ℕ, List, ◌∷◌, ◌^◌, min, Some, None, sym, ap, ◌∙◌}
 use Rattle.std.specs.Prelude.{option_map}
 use Rattle.text_lines.specs.Inside.{stated_as}
-use Rattle.text_parts.specs.Inside.{parts_behind}
-use Rattle.text_parts.specs.Parts.{number_of}
+use Rattle.text_lines.specs.Parts.{parts_behind, number_of}
 use Rattle.text_lines.proofs.LineLaws.{no_name, no_number, object_gives, object_is}
 use Rattle.text_lines.proofs.line.object_in.Goals as goal
 

@@ -2,8 +2,7 @@ use Rattle.std.proofs.Common.{◌≡◌, ℕ, ◌≤◌, ◌<◌, List, length, 
 use Rattle.std.proofs.lemmas.List.{take_all, take_more_set}
 use Rattle.text_lines.specs.Grammar.{each_of}
 use Rattle.text_lines.specs.Inside.{in_front}
-use Rattle.text_parts.specs.Inside.{parts_behind}
-use Rattle.text_parts.specs.Parts.{long_of}
+use Rattle.text_lines.specs.Parts.{parts_behind, long_of}
 use Rattle.text_lines.proofs.EachLaws.{front_end, front_more, front_none, front_stop, not_all}
 use Rattle.text_lines.proofs.LineLaws.{if_is_none}
 use Rattle.text_lines.proofs.line.six_longs.Goals as goal

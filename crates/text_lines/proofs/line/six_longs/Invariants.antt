@@ -1,8 +1,7 @@
 use Rattle.std.proofs.Common.{◌≡◌, take, length}
 use Rattle.text_lines.specs.Grammar.{each_of}
 use Rattle.text_lines.specs.Inside.{in_front}
-use Rattle.text_parts.specs.Inside.{parts_behind}
-use Rattle.text_parts.specs.Parts.{long_of}
+use Rattle.text_lines.specs.Parts.{parts_behind, long_of}
 use Rattle.text_lines.proofs.line.six_longs.Given as goal
 
 abbrev pub invariant-loop-i : goal.invariant-loop-i

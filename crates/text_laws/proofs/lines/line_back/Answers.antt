@@ -1,8 +1,0 @@
-use Rattle.text_laws.proofs.LineBack.{head-back, object-back}
-use Rattle.text_laws.proofs.lines.line_back.Goals as goal
-
-pub returns-clause-object : goal.returns-clause-object
-returns-clause-object c = λ line r is none e. object-back line r is none e
-
-pub returns-clause-head : goal.returns-clause-head
-returns-clause-head c = λ line h next clock display input timer tick e. head-back line h (next, clock, display, input, timer, tick) e

@@ -1,6 +1,0 @@
-use Rattle.text_laws.proofs.TextBack.{text-back}
-use Rattle.text_laws.proofs.TextHeaps.{image_text_from, image_text_to}
-use Rattle.text_laws.proofs.texts.no_line_breaks.Goals as goal
-
-pub returns : goal.returns
-returns c = λ text. (image_text_from text, image_text_to text-back text)
