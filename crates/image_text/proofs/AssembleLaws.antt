@@ -16,7 +16,7 @@ use Rattle.image_reader.proofs.JudgeLaws.{many-of}
 use Rattle.text_lines.specs.Breaks.{first_break_of, image_of, text_at, text_break, with_counts}
 use Rattle.text_lines.specs.Grammar.{Head}
 use Rattle.text_lines.specs.Texts.{AreStated, IsTextOf}
-use Rattle.text_laws.proofs.TextHeaps.{heap_of, state_of, text_of, words_are}
+use Rattle.text_lines.proofs.TextHeaps.{heap_of, state_of, text_of, words_are}
 use Rattle.image_text.specs.declared.fault.TextFault.{TextFault}
 use Rattle.image_text.specs.declared.fault.TextFault.TheVariants.{Bad, Read, Disk, Memory}
 use Rattle.image_text.specs.Assembled.{IsPartTextFault, IsTextFault, IsUnreadText}

@@ -17,7 +17,7 @@ use Rattle.long_names.specs.declared.value.Value.{Value}
 use Rattle.long_names.specs.declared.value.Value.TheVariants.{Int, Ref}
 use Rattle.text_lines.specs.Breaks.{keeps_size}
 use Rattle.text_lines.specs.Grammar.{◌>>=◌, body_of, code_of, each_of, fields_of, line_object, method_of, object_of, parts_of}
-use Rattle.text_parts.specs.Parts.{before_i, byte_of, is_code, is_small, kind_of, long_of, name_of, number_of, signed_of, small_of, that_is, value_of, word_of}
+use Rattle.text_lines.specs.Parts.{before_i, byte_of, is_code, is_small, kind_of, long_of, name_of, number_of, signed_of, small_of, that_is, value_of, word_of}
 
 -- ---- what comes of a reading
 
@@ -59,7 +59,7 @@ value_is part v e = go (small_of part) refl e
     ref : option_map Ref (name_of part) ≡ Some v → IsValue v
     ref f = let m = maps Ref (name_of part) v f in subst IsValue m.2 (name_is part m.0 m.1)
 
-    go : (o : Option ℤ) → small_of part ≡ o → Rattle.text_parts.specs.Parts.◌or◌ (option_map Int o) (option_map Ref (name_of part)) ≡ Some v → IsValue v
+    go : (o : Option ℤ) → small_of part ≡ o → Rattle.text_lines.specs.Parts.◌or◌ (option_map Int o) (option_map Ref (name_of part)) ≡ Some v → IsValue v
     go None at f = ref f
     go (Some z) at f = let same : Int z ≡ v = cc in subst IsValue same (small_is part z at)
 

@@ -15,7 +15,7 @@ use Rattle.object_record.specs.Buffer.{raw_of}
 use Rattle.object_record.specs.Objects.{int_in, value_in, body_of, object_in}
 use Rattle.object_record.specs.Raw.{RawBody, RawPointers, RawWords, RawBytes, RawMethod, RawRecord, HasRawSize, longs_of, raw_bytes, raw_header, raw_kind, raw_len, raw_literals, raw_words, stated_by}
 use Rattle.disk_objects.specs.Function.{IsFetched}
-use Rattle.text_parts.specs.Spelling.{byte_text, kind_text, value_text, word_text}
+use Rattle.text_lines.specs.PartSpelling.{byte_text, kind_text, value_text, word_text}
 use Rattle.image_text.specs.Items.{head_text, item_text, spaced_contents}
 use Rattle.image_text.specs.declared.spelling.Items.TheVariants.{Values, Words, Bytes}
 use Rattle.text_lines.specs.Spelling.{contents_parts, line_of, name_line, object_parts}

@@ -1,7 +1,7 @@
 -- The items of an object as a raw record has them, and how its line spells them.
 use Rattle.std.specs.Prelude.{ℕ, List, ◌∷◌, ◌++◌, codes, decimal}
 use Rattle.std.specs.List.{flat_map}
-use Rattle.text_parts.specs.Spelling.{byte_text, kind_text, value_text, word_text}
+use Rattle.text_lines.specs.PartSpelling.{byte_text, kind_text, value_text, word_text}
 use Rattle.object_record.specs.Objects.{value_in}
 use Rattle.object_record.specs.Raw.{RawBody, RawPointers, RawWords, RawBytes, RawMethod, RawRecord, longs_of, raw_bytes, raw_kind, raw_words}
 use Rattle.image_text.specs.declared.spelling.Items.{Items}

@@ -4,8 +4,8 @@ ghost use Rattle.std.specs.Char.{digit_char};
 ghost use Rattle.arrayvec.specs.ArrayString.{array_string_len};
 ghost use Rattle.object_record.specs.Buffer.{HasRecord, raw_of};
 ghost use Rattle.object_record.specs.Objects.{value_in};
-ghost use Rattle.text_parts.specs.Spelling as spelling;
-ghost use Rattle.text_parts.specs.Spelling.{byte_text, value_text, word_text};
+ghost use Rattle.text_lines.specs.PartSpelling as spelling;
+ghost use Rattle.text_lines.specs.PartSpelling.{byte_text, value_text, word_text};
 ghost use Rattle.text_lines.specs.Spelling.{head_parts, line_of};
 ghost use Rattle.image_text.specs.Items.{head_text, item_text, items_of};
 
