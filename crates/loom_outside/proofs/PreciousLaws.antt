@@ -12,13 +12,13 @@ use Rattle.image_format.specs.declared.opening.ImageHead.{ImageHead}
 use Rattle.image_format.specs.Heads.{checked_at, head_at, opening_at}
 use Rattle.image_format.specs.Reading.{number_at, octets_at}
 use Rattle.image_format.specs.Rules.{first_break, image_at}
-use Rattle.text_parts.specs.Inside.{is_space}
+use Rattle.text_lines.specs.Parts.{is_space}
 use Rattle.text_lines.specs.Breaks.{first_break_of, lines_at, text_break}
 use Rattle.text_lines.specs.Breaks as breaks
 use Rattle.text_lines.specs.Grammar.{Head, head_of, line_head}
-use Rattle.text_laws.proofs.LineBack.{IsInner, long-part}
-use Rattle.text_laws.proofs.OneSpelling.{line_head_one}
-use Rattle.text_laws.proofs.SpellingLaws.{long-again}
+use Rattle.text_lines.proofs.LineBack.{IsInner, long-part}
+use Rattle.text_lines.proofs.OneSpelling.{line_head_one}
+use Rattle.text_lines.proofs.SpellingLaws.{long-again}
 use Rattle.loom_outside.specs.declared.precious.Precious.TheVariants.{Image, Text, Picture}
 use Rattle.loom_outside.specs.Precious.{are_two_numbers, begins_image, begins_picture, begins_text, ended, first_line, is_extent, is_newline, precious_in}
 

@@ -3,8 +3,7 @@ use Rattle.std.specs.Prelude.{ℕ, ◌==◌, ◌&&◌, Bool, false, List, [], �
 use Rattle.std.specs.List.{slice_split}
 use Rattle.image_format.specs.Heads.{head_at}
 use Rattle.text_lines.specs.Grammar.{line_head}
-use Rattle.text_parts.specs.Inside.{is_space}
-use Rattle.text_parts.specs.Parts.{long_of}
+use Rattle.text_lines.specs.Parts.{is_space, long_of}
 use Rattle.loom_outside.specs.declared.precious.Precious.{Precious}
 use Rattle.loom_outside.specs.declared.precious.Precious.TheVariants.{Image, Text, Picture}
 

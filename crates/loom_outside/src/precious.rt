@@ -9,8 +9,7 @@ use crate::real::transfer::read_front;
 use image_format::read_head;
 use std::io::{self, ErrorKind};
 use std::os::unix::fs::FileExt;
-use text_lines::head_in;
-use text_parts::{first_part, long_in};
+use text_lines::{first_part, head_in, long_in};
 
 /// How many bytes a file is known by. A head has 71 at most: the first line of a text of six numbers of ten digits.
 const FRONT: usize = 128;
