@@ -18,7 +18,7 @@ use std::rt::Files;
 const MOST_TRIES: u32 = 1_000;
 
 /// A vault over a regular file. It tells nothing, and counts each failure, a call before any opening that answered Ok among them. Where an
-/// opening failed, calls fail until one answers Ok. It keeps no bytes back: each call goes on to the file.
+/// opening or a sync failed, calls fail until an opening answers Ok. It keeps no bytes back: each call goes on to the file.
 #[derive(Drop)]
 pub struct RealVault<R: Files> {
     rt: R,
@@ -104,10 +104,16 @@ where
     }
 
     fn sync(&mut self) -> Result<(), Failed> {
-        match &self.file {
-            Some(file) if file.sync_data().is_ok() => Ok(()),
-            _ => self.fail(),
+        let synced = match &self.file {
+            Some(file) => file.sync_data().is_ok(),
+            None => false,
+        };
+        if synced {
+            return Ok(());
         }
+        // The system may have dropped what it couldn't write, and a later sync that answers Ok would say nothing of it.
+        self.file = None;
+        self.fail()
     }
 
     fn fault_count(&self) -> u64 {

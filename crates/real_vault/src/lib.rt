@@ -6,6 +6,7 @@
 //! - It cuts no file that no vault can be (`has_gates`), so no image, no image's text and no picture, which begin with a letter: there it fails,
 //!   and the file stays. One that is empty is taken.
 //! - A sync has what was written on the disk before it answers Ok.
+//! - A sync that fails is final: behind it each call of that opening fails, since the system may have dropped what it couldn't write.
 //! - A read or a write is of the whole piece. One that a signal interrupts is made again, and so is a sync.
 //!
 //! `RealVault` tells nothing, and counts each failure. No clause says what a file of the system holds.
