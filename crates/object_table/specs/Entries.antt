@@ -1,5 +1,5 @@
 -- Entries under short names, as a function.
-use Rattle.std.specs.Prelude.{ℕ, zero, suc, pos, ◌+◌, ◌%◌, ◌==◌, ◌&&◌, nat_lt, Bool, true, false, Option, Some, None, if◌then◌else◌}
+use Rattle.std.specs.Prelude.{ℕ, ℤ, zero, suc, pos, ◌+◌, ◌%◌, ◌==◌, ◌&&◌, nat_lt, Bool, true, false, Option, Some, None, if◌then◌else◌}
 use Rattle.long_names.specs.declared.object.Kind.TheVariants.{Pointers}
 use Rattle.object_table.specs.declared.entry.Entry.{Entry}
 use Rattle.object_table.specs.declared.entry.EntryState.{EntryState}
@@ -67,6 +67,18 @@ leaf_entry n = record {
 -- with this number of short references
 abbrev pub with_refs : Entry → ℕ → Entry
 with_refs e r = record e { refs = r }
+
+-- with this change of the object's count
+abbrev pub with_change_of : Entry → ℤ → Entry
+with_change_of e x = record e { change = x }
+
+-- whose object differs from its record, or not
+abbrev pub with_changed : Entry → Bool → Entry
+with_changed e b = record e { flags = record e.flags { changed = b } }
+
+-- whose object was used since it was last looked at, or not
+abbrev pub with_touched : Entry → Bool → Entry
+with_touched e b = record e { flags = record e.flags { touched = b } }
 
 -- with no mark
 abbrev pub with_no_mark : Entry → Entry

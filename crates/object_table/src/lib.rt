@@ -1,7 +1,8 @@
 //! The table of a core's entries. A short name, an even word above 0, names an entry: what a core knows of one object.
 //!
 //! A table stands for a function from short words to entries, `entry_at`, and each call that changes it is one equation of whole
-//! functions: `set`, `add_ref` and `drop_ref` change one entry that is in use, `take` makes a free entry a leaf, and `give` frees one.
+//! functions: `set` changes one entry that is in use, `add_ref`, `drop_ref`, `set_change`, `set_changed` and `set_touched` one field of it,
+//! `take` makes a free entry a leaf, and `give` frees one. `used_entry` reads an entry that is known to be in use, with no test.
 //! How many entries are free is always known, and each call takes constant time but `unmark_all`, which goes over the entries that were
 //! marked since the last time. `used_end` says behind which entry nothing was ever in use.
 //!

@@ -51,7 +51,7 @@ fn unmark(entries: &mut Vec<Entry>, listed: &mut Vec<bool>, noted: &mut Vec<u16>
 
 impl Table {
     ghost use Rattle.std.specs.Prelude.{◌≡◌, ◌+◌, ◌*◌, ◌<◌, ◌^◌, ℕ, IfOk, IfSome, IfNone, true, false, ◌-◌, length, slice_index_or};
-    ghost use Rattle.object_table.specs.Entries.{put, is_short, is_used, is_free, free_entry, leaf_entry, with_refs, with_no_mark};
+    ghost use Rattle.object_table.specs.Entries.{put, is_short, is_used, is_free, free_entry, leaf_entry, with_refs, with_change_of, with_changed, with_touched, with_no_mark};
     ghost use Rattle.object_table.specs.Table.{entry_at, entries_of, bound_of, free_of};
 
     /// A table of so many entries, all of them free. What it takes isn't written before it is used.
@@ -111,6 +111,16 @@ impl Table {
             return self.entries[place];
         }
         Entry::none()
+    }
+
+    /// The entry of a short name that is in use, as the caller knows: nothing is asked of the table for it.
+    #[inline(always)]
+    pub fn used_entry(&self, s: Short) -> Entry
+        requires { is_used (entry_at self.now s.0).state ≡ true }
+        ensures { result ≡ entry_at self.now s.0 }
+    {
+        let place = s.index();
+        self.entries[place]
     }
 
     // Notes the place of an entry, if it isn't noted yet.
@@ -259,5 +269,41 @@ impl Table {
     {
         let place = s.index();
         self.entries[place].refs -= 1;
+    }
+
+    /// Another change of the count of an entry's object.
+    #[inline(always)]
+    pub fn set_change(&mut self, s: Short, change: i64)
+        requires { is_used (entry_at self.old s.0).state ≡ true }
+        ensures entry { entry_at self.new ≡ put (entry_at self.old) s.0 (with_change_of (entry_at self.old s.0) change) }
+        ensures entries { entries_of self.new ≡ entries_of self.old }
+        ensures free { free_of self.new ≡ free_of self.old }
+    {
+        let place = s.index();
+        self.entries[place].change = change;
+    }
+
+    /// Says of an entry whether its object differs from its record.
+    #[inline(always)]
+    pub fn set_changed(&mut self, s: Short, changed: bool)
+        requires { is_used (entry_at self.old s.0).state ≡ true }
+        ensures entry { entry_at self.new ≡ put (entry_at self.old) s.0 (with_changed (entry_at self.old s.0) changed) }
+        ensures entries { entries_of self.new ≡ entries_of self.old }
+        ensures free { free_of self.new ≡ free_of self.old }
+    {
+        let place = s.index();
+        self.entries[place].flags.changed = changed;
+    }
+
+    /// Says of an entry whether its object was used since it was last looked at.
+    #[inline(always)]
+    pub fn set_touched(&mut self, s: Short, touched: bool)
+        requires { is_used (entry_at self.old s.0).state ≡ true }
+        ensures entry { entry_at self.new ≡ put (entry_at self.old) s.0 (with_touched (entry_at self.old s.0) touched) }
+        ensures entries { entries_of self.new ≡ entries_of self.old }
+        ensures free { free_of self.new ≡ free_of self.old }
+    {
+        let place = s.index();
+        self.entries[place].flags.touched = touched;
     }
 }
