@@ -21,3 +21,4 @@ pub mod CutLaws
 pub mod FindLaws
 pub mod TakingLaws
 pub mod ScrapLaws
+pub mod FilledLaws

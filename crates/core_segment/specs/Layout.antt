@@ -2,7 +2,7 @@
 use Rattle.std.specs.Prelude.{◌≡◌, ℕ, zero, suc, ◌+◌, ◌<◌, ◌≤◌, ◌==◌, max, List, [], ◌∷◌, length, if◌then◌else◌, nat_lt, slice_range, ⊤}
 use Rattle.core_segment.specs.declared.segment.TheConstants.{HEADER}
 use Rattle.core_segment.specs.declared.heads.TheConstants.{SHORT}
-use Rattle.core_segment.specs.Chunks.{Placed}
+use Rattle.core_segment.specs.Chunks.{Chunk, Placed}
 use Rattle.core_segment.specs.Heads.{word_at, size_in, owner_in}
 use Rattle.core_segment.specs.Lists.{Tile, IsListed}
 
@@ -47,6 +47,10 @@ free_in (t ∷ ts) = if t.owner == 0 then t.size + free_in ts else free_in ts
 abbrev pub largest_in : List Tile → ℕ
 largest_in [] = 0
 largest_in (t ∷ ts) = if t.owner == 0 then max t.size (largest_in ts) else largest_in ts
+
+-- each used chunk lies below a place, with all its words
+abbrev pub AreBelow : (ℕ → Chunk) → ℕ → Type 0
+AreBelow chunks n = (p : ℕ) → 0 < (chunks p).owner → p + HEADER + length (chunks p).words ≤ n
 
 -- What a segment keeps of its region: chunks tile it, the lists have those that are free, and so many words are free.
 pub record IsLaid (region firsts : List ℕ) (ts : List Tile) (free : ℕ) : Type 0 where

@@ -2,9 +2,10 @@
 use Rattle.std.specs.Prelude.{ℕ, ◌+◌, List, [], ◌∷◌}
 use Rattle.std.specs.Coded.{×_prop, Unit-prop, le_prop}
 use native.Mathlib.Nat.{ℕ_set}
+use Rattle.core_segment.specs.Chunks.{Chunk}
 use Rattle.core_segment.specs.Heads.{link_in}
 use Rattle.core_segment.specs.Lists.{Tile, Leads, IsListed}
-use Rattle.core_segment.specs.Layout.{IsTile, AreTiles, Spans, IsLaid}
+use Rattle.core_segment.specs.Layout.{IsTile, AreTiles, Spans, AreBelow, IsLaid}
 
 pub Leads-prop : (region : List ℕ) (link : ℕ) (ps : List ℕ) → IsProp (Leads region link ps)
 Leads-prop region link [] = ℕ_set _ _
@@ -31,6 +32,9 @@ AreTiles-prop region (t ∷ ts) = ×_prop (IsTile-prop region t) (AreTiles-prop 
 pub Spans-prop : (p : ℕ) (ts : List Tile) (q : ℕ) → IsProp (Spans p ts q)
 Spans-prop p [] q a b = ℕ_set _ _ a b
 Spans-prop p (t ∷ ts) q a b = λ i. (ℕ_set _ _ a.0 b.0 i, le_prop a.1 b.1 i, Spans-prop (p + t.size) ts q a.2 b.2 i)
+
+pub AreBelow-prop : (chunks : ℕ → Chunk) (n : ℕ) → IsProp (AreBelow chunks n)
+AreBelow-prop chunks n a b = λ i p own. le_prop (a p own) (b p own) i
 
 pub IsLaid-prop : (region firsts : List ℕ) (ts : List Tile) (free : ℕ) → IsProp (IsLaid region firsts ts free)
 IsLaid-prop region firsts ts free a b = λ i. record {

@@ -3,7 +3,7 @@
 // A used chunk begins with 0, its owner and its size, in two words. A free one of fewer than four words says its size in its first word. A
 // longer free one begins with its size, or with 0 where it has more than 64 words, and with the owner 0; then comes a link, in two words, to
 // the next chunk of its list, and where the size isn't in the first word it comes last, in two words.
-ghost use Rattle.core_segment.specs.Words.{words_of};
+ghost use Rattle.core_segment.specs.Words.{filled_of, words_of};
 ghost use Rattle.std.specs.Prelude.{◌≡◌, ◌+◌, ◌<◌, ◌≤◌, length};
 ghost use Rattle.core_segment.specs.Heads.{HasHead, IsClosed, IsOpened, IsPaired, link_in, owner_in, pair_in, size_in};
 
@@ -29,7 +29,8 @@ fn pair_at(region: &Words, i: u32) -> u32
 #[inline(always)]
 fn put_pair(region: &mut Words, i: u32, n: u32)
     requires { i + 1 < length (words_of region.old) }
-    ensures { IsPaired (words_of region.old) (words_of region.new) i n }
+    ensures pair { IsPaired (words_of region.old) (words_of region.new) i n }
+    ensures grown { filled_of region.old ≤ filled_of region.new }
 {
     region.put(i, (n % RADIX) as u16);
     region.put(i + 1, (n / RADIX) as u16);
@@ -76,7 +77,8 @@ pub(crate) fn link_at(region: &Words, place: u32) -> u32
 #[inline(always)]
 pub(crate) fn put_link(region: &mut Words, place: u32, link: u32)
     requires { place + 3 < length (words_of region.old) }
-    ensures { IsPaired (words_of region.old) (words_of region.new) (place + 2) link }
+    ensures link { IsPaired (words_of region.old) (words_of region.new) (place + 2) link }
+    ensures grown { filled_of region.old ≤ filled_of region.new }
 {
     put_pair(region, place + 2, link);
 }
@@ -86,7 +88,8 @@ pub(crate) fn put_link(region: &mut Words, place: u32, link: u32)
 pub(crate) fn open(region: &mut Words, place: u32, owner: u16, size: u32)
     requires within { place + 3 < length (words_of region.old) }
     requires owner { 0 < owner }
-    ensures { IsOpened (words_of region.old) (words_of region.new) place owner size }
+    ensures opened { IsOpened (words_of region.old) (words_of region.new) place owner size }
+    ensures grown { filled_of region.old ≤ filled_of region.new }
 {
     region.put(place, 0);
     region.put(place + 1, owner);
@@ -98,7 +101,8 @@ pub(crate) fn open(region: &mut Words, place: u32, owner: u16, size: u32)
 pub(crate) fn close(region: &mut Words, place: u32, size: u32, link: u32)
     requires within { place + size ≤ length (words_of region.old) }
     requires some { 0 < size }
-    ensures { IsClosed (words_of region.old) (words_of region.new) place size link }
+    ensures closed { IsClosed (words_of region.old) (words_of region.new) place size link }
+    ensures grown { filled_of region.old ≤ filled_of region.new }
 {
     if size < FEWEST {
         region.put(place, size as u16);

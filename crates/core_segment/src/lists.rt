@@ -34,7 +34,7 @@ pub(crate) struct Lists {
 }
 
 impl Lists {
-    ghost use Rattle.core_segment.specs.Words.{words_of};
+    ghost use Rattle.core_segment.specs.Words.{filled_of, words_of};
     ghost use Rattle.std.specs.Prelude.{◌≡◌, ◌+◌, ◌<◌, ◌≤◌, ℕ, IfNone, IfSome, length, replicate};
     ghost use Rattle.core_segment.specs.Heads.{HasHead, IsClosed, link_in, size_in};
     ghost use Rattle.core_segment.specs.Layout.{largest_in, tiles_of};
@@ -63,6 +63,7 @@ impl Lists {
         requires some { 0 < size }
         ensures closed { IsClosed (words_of region.old) (words_of region.new) place size (first_in self.old.firsts (class_in size)) }
         ensures firsts { self.new.firsts ≡ with_first self.old.firsts size (place + 1) }
+        ensures grown { filled_of region.old ≤ filled_of region.new }
     {
         let class = class_of(size) as usize;
         close(region, place, size, self.firsts[class]);
@@ -164,7 +165,8 @@ impl Lists {
     pub(crate) fn cut(&mut self, region: &mut Words, spot: Spot)
         requires whole { IsWhole (words_of region.old) self.old.firsts }
         requires spot { IsSpot (words_of region.old) self.old.firsts spot.class spot.before spot.place }
-        ensures { IsUnlisted (words_of region.old) (words_of region.new) self.new.firsts spot.place }
+        ensures unlisted { IsUnlisted (words_of region.old) (words_of region.new) self.new.firsts spot.place }
+        ensures grown { filled_of region.old ≤ filled_of region.new }
     {
         let next = link_at(region, spot.place);
         if spot.before == 0 {
@@ -182,7 +184,8 @@ impl Lists {
         requires few { FEWEST ≤ words }
         requires enough { words ≤ size_in (words_of region.old) place }
         requires owner { 0 < owner }
-        ensures { IsCarved (words_of region.old) (words_of region.new) self.old.firsts self.new.firsts place owner words (size_in (words_of region.old) place) }
+        ensures carved { IsCarved (words_of region.old) (words_of region.new) self.old.firsts self.new.firsts place owner words (size_in (words_of region.old) place) }
+        ensures grown { filled_of region.old ≤ filled_of region.new }
     {
         let rest = size_at(region, place) - words;
         open(region, place, owner, words);

@@ -1,6 +1,6 @@
 // The lists made anew, each by rising place.
-ghost use Rattle.core_segment.specs.Words.{words_of};
-ghost use Rattle.std.specs.Prelude.{◌≡◌, [], length};
+ghost use Rattle.core_segment.specs.Words.{filled_of, words_of};
+ghost use Rattle.std.specs.Prelude.{◌≡◌, ◌≤◌, [], length};
 ghost use Rattle.core_segment.specs.Lists.{Leads};
 ghost use Rattle.core_segment.specs.Layout.{tiles_of};
 ghost use Rattle.core_segment.specs.Order.{AreInOrder, IsRelinked, IsTiled, falling, first_free};
@@ -14,6 +14,7 @@ pub(crate) fn thread(region: &mut Words) -> u32
     requires { IsTiled (words_of region.old) (tiles_of (words_of region.old)) }
     ensures relinked { IsRelinked (words_of region.old) (words_of region.new) (tiles_of (words_of region.old)) }
     ensures threaded { Leads (words_of region.new) result (falling (tiles_of (words_of region.old)) []) }
+    ensures grown { filled_of region.old ≤ filled_of region.new }
 {
     let end = region.size;
     let mut link = 0;
@@ -36,6 +37,7 @@ pub(crate) fn rise(region: &mut Words, last: u32) -> Lists
     requires threaded { Leads (words_of region.old) last (falling (tiles_of (words_of region.old)) []) }
     ensures relinked { IsRelinked (words_of region.old) (words_of region.new) (tiles_of (words_of region.old)) }
     ensures ordered { AreInOrder (words_of region.new) result.firsts (tiles_of (words_of region.old)) }
+    ensures grown { filled_of region.old ≤ filled_of region.new }
 {
     let mut lists = Lists::none();
     let mut link = last;

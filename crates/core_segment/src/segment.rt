@@ -1,10 +1,11 @@
 // The segment: a region of words that chunks tile. Used chunks and free ones tell where they end, and free ones stand in lists.
-ghost use Rattle.core_segment.specs.Words.{words_of};
+ghost use Rattle.core_segment.specs.Words.{filled_of, words_of};
 ghost use Rattle.std.specs.Prelude.{◌≡◌, ◌≤◌, length};
 ghost use Rattle.core_segment.specs.declared.segment.TheConstants.{MOST_WORDS};
-ghost use Rattle.core_segment.specs.Layout.{IsLaid, tiles_of};
+ghost use Rattle.core_segment.specs.Chunks.{at_place};
+ghost use Rattle.core_segment.specs.Layout.{AreBelow, IsLaid, placed_in, tiles_of};
 ghost use Rattle.core_segment.specs.Order.{IsGoingOn, IsGoingOn-prop};
-ghost use Rattle.core_segment.specs.Props.{IsLaid-prop};
+ghost use Rattle.core_segment.specs.Props.{AreBelow-prop, IsLaid-prop};
 
 use crate::heads::{FEWEST, owner_at, size_at};
 use crate::lists::{Lists, Spot};
@@ -41,6 +42,7 @@ pub struct Segment {
     reached: Option<u32>,
     ghost small: { length (words_of region) ≤ MOST_WORDS },
     ghost whole: { IsLaid (words_of region) lists.firsts (tiles_of (words_of region)) free } by { IsLaid-prop (words_of region) lists.firsts (tiles_of (words_of region)) free },
+    ghost filled: { AreBelow (at_place (placed_in (words_of region) (tiles_of (words_of region)))) (filled_of region) } by { AreBelow-prop (at_place (placed_in (words_of region) (tiles_of (words_of region)))) (filled_of region) },
     ghost going: { IsGoingOn (words_of region) lists.firsts (tiles_of (words_of region)) reached } by { IsGoingOn-prop (words_of region) lists.firsts (tiles_of (words_of region)) reached },
 }
 
@@ -132,7 +134,7 @@ impl Segment {
         requires { i < length (chunk_at self.now at.place).words }
         ensures { slice_get (chunk_at self.now at.place).words i ≡ Some result }
     {
-        self.region.get(at.place + HEADER + i)
+        self.region.get_written(at.place + HEADER + i)
     }
 
     /// Changes a word of a chunk.
@@ -142,7 +144,7 @@ impl Segment {
         ensures chunks { chunk_at self.new ≡ with_word (chunk_at self.old) at.place i w }
         ensures room { SameRoom self.old self.new }
     {
-        self.region.put(at.place + HEADER + i, w);
+        self.region.put_written(at.place + HEADER + i, w);
     }
 
     /// Gives a chunk of so many words, four of them the segment's own, to an owner. None exactly where no free chunk has so many. They
@@ -160,6 +162,7 @@ impl Segment {
         let spot = self.find(words)?;
         self.lists.cut(&mut self.region, spot);
         self.lists.carve(&mut self.region, spot.place, owner, words);
+        self.region.reach(spot.place + words - 1);
         self.free -= words;
         self.reached = None;
         Some(Addr { place: spot.place })

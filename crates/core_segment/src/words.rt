@@ -39,7 +39,7 @@ impl Drop for Words {
 impl Words {
     ghost use Rattle.std.specs.Prelude.{◌≡◌, ◌+◌, ◌<◌, ◌≤◌, length, replicate, slice_set, IfOk};
     ghost use Rattle.core_segment.specs.Heads.{word_at, IsMovedDown};
-    ghost use Rattle.core_segment.specs.Words.{words_of};
+    ghost use Rattle.core_segment.specs.Words.{filled_of, words_of};
 
     // So many words, each 0.
     pub(crate) fn make(alloc: Global, n: u32) -> Result<Words, AllocError>
@@ -69,13 +69,23 @@ impl Words {
         0
     }
 
+    // One that was written, with no test.
+    #[inline(always)]
+    pub(crate) fn get_written(&self, i: u32) -> u16
+        requires { i < filled_of self.now }
+        ensures { result ≡ word_at (words_of self.now) i }
+    {
+        *self.cells.get(self.base, i as usize)
+    }
+
     // Writes the words up to one that weren't written.
     #[cold]
     #[inline(never)]
     fn fill(&mut self, i: u32)
         requires { i < length (words_of self.old) }
         ensures same { words_of self.new ≡ words_of self.old }
-        ensures written { i < length self.new.cells.items }
+        ensures written { i < filled_of self.new }
+        ensures grown { filled_of self.old ≤ filled_of self.new }
     {
         while self.filled <= i {
             let base = self.base;
@@ -86,10 +96,11 @@ impl Words {
 
     // Writes all words up to one, if it wasn't written.
     #[inline(always)]
-    fn reach(&mut self, i: u32)
+    pub(crate) fn reach(&mut self, i: u32)
         requires { i < length (words_of self.old) }
         ensures same { words_of self.new ≡ words_of self.old }
-        ensures written { i < length self.new.cells.items }
+        ensures written { i < filled_of self.new }
+        ensures grown { filled_of self.old ≤ filled_of self.new }
     {
         if i < self.filled {
             return;
@@ -100,22 +111,34 @@ impl Words {
     #[inline(always)]
     pub(crate) fn put(&mut self, i: u32, w: u16)
         requires { i < length (words_of self.old) }
-        ensures { words_of self.new ≡ slice_set (words_of self.old) i w }
+        ensures words { words_of self.new ≡ slice_set (words_of self.old) i w }
+        ensures grown { filled_of self.old ≤ filled_of self.new }
     {
         self.reach(i);
+        self.put_written(i, w);
+    }
+
+    // Changes one that was written, with no test.
+    #[inline(always)]
+    pub(crate) fn put_written(&mut self, i: u32, w: u16)
+        requires { i < filled_of self.old }
+        ensures words { words_of self.new ≡ slice_set (words_of self.old) i w }
+        ensures filled { filled_of self.new ≡ filled_of self.old }
+    {
         let base = self.base;
         self.cells.put(base, i as usize, w);
     }
 
-    // Moves so many words down, the first one first, since the places may overlap.
+    // Moves so many words down that were written, the first one first, since the places may overlap.
     pub(crate) fn shift(&mut self, from: u32, to: u32, n: u32)
         requires down { to ≤ from }
-        requires within { from + n ≤ length (words_of self.old) }
-        ensures { IsMovedDown (words_of self.old) (words_of self.new) from to n }
+        requires written { from + n ≤ filled_of self.old }
+        ensures moved { IsMovedDown (words_of self.old) (words_of self.new) from to n }
+        ensures filled { filled_of self.new ≡ filled_of self.old }
     {
         for k in 0..n {
-            let w = self.get(from + k);
-            self.put(to + k, w);
+            let w = self.get_written(from + k);
+            self.put_written(to + k, w);
         }
     }
 }

@@ -1,4 +1,5 @@
-use Rattle.core_segment.specs.Words.{words_of}
+use Rattle.core_segment.specs.Chunks.{no_chunk}
+use Rattle.core_segment.specs.Words.{filled_of, words_of}
 use Rattle.std.proofs.Common.{◌≡◌, ℕ, ◌+◌, List, ◌∷◌, ◌++◌, length, sym, ap, subst, ◌∙◌, arith}
 use Rattle.std.proofs.Math.Path.{fun_ext}
 use Rattle.core_segment.specs.Heads.{IsClosed}
@@ -9,6 +10,7 @@ use Rattle.core_segment.proofs.LayoutLaws.{free-within}
 use Rattle.core_segment.proofs.PlaceLaws.{chunk}
 use Rattle.core_segment.proofs.GiveLaws.{IsGiven, given}
 use Rattle.core_segment.proofs.ToldLaws.{IsTold, told}
+use Rattle.core_segment.proofs.FilledLaws.{below-with}
 use Rattle.core_segment.proofs.segment.Segment.give.Goals as goal
 
 -- a chunk given back, among those of a region
@@ -69,6 +71,8 @@ invariant_of-self c =
     record {
       small = let same = c.push.ensures.closed.same_size in let small = g.small in omega arith;
       whole = subst (λ (fs : List ℕ). IsLaid region' fs (tiles_of region') (g.free + c.size_at-size.result)) (sym c.push.ensures.firsts) s.renew.whole;
+      filled = below-with (chunk (words_of g.region) (tiles_of (words_of g.region))) (chunk region' (tiles_of region')) (filled_of g.region) (filled_of c.push.new.region)
+          c.args.at.place no_chunk (fun_ext (λ k. ap (λ (us : List Tile). chunk region' us k) s.renew.is ∙ s.chunks k)) g.filled c.push.ensures.grown (λ own. absurd (omega arith));
       going = tt;
     }
 

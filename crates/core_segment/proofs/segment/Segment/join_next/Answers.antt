@@ -1,11 +1,13 @@
-use Rattle.core_segment.specs.Words.{words_of}
+use Rattle.core_segment.specs.Words.{filled_of, words_of}
 use Rattle.std.proofs.Common.{ℕ, ◌≡◌, ◌+◌, List, length, refl, sym, ◌∙◌, ap, subst, arith}
 use Rattle.core_segment.specs.Heads.{size_in, owner_in, link_in, IsClosed}
 use Rattle.core_segment.specs.Lists.{class_in, first_in, with_first}
-use Rattle.core_segment.specs.Layout.{tiles_of}
+use Rattle.core_segment.specs.Layout.{placed_in, tiles_of}
 use Rattle.core_segment.specs.Order.{IsGoingOn}
 use Rattle.core_segment.specs.Segment.{chunks_of, size_of, free_of, largest_of}
 use Rattle.core_segment.proofs.GapLaws.{IsWidened, IsPair, pair, widened}
+use Rattle.core_segment.specs.Chunks.{at_place}
+use Rattle.core_segment.proofs.FilledLaws.{below-same}
 use Rattle.core_segment.proofs.segment.Segment.join_next.Goals as goal
 
 -- the second is joined to the first
@@ -77,6 +79,8 @@ invariant_of-self c =
     record {
       small = let same = w.same_size in let small = g.small in omega arith;
       whole = w.whole;
+      filled = below-same (at_place (placed_in (words_of g.region) (tiles_of (words_of g.region)))) (at_place (placed_in (words_of c.push.new.region) (tiles_of (words_of c.push.new.region))))
+          (filled_of g.region) (filled_of c.push.new.region) (ap at_place w.placed) g.filled c.push.ensures.grown;
       going = subst (IsGoingOn (words_of c.push.new.region) c.push.new.self.firsts (tiles_of (words_of c.push.new.region))) (sym c.requires.reached) w.going;
     }
 

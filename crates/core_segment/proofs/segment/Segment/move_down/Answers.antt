@@ -1,4 +1,4 @@
-use Rattle.core_segment.specs.Words.{words_of}
+use Rattle.core_segment.specs.Words.{filled_of, words_of}
 use Rattle.std.proofs.Common.{ℕ, ◌≡◌, ◌+◌, ◌<◌, List, length, refl, sym, ◌∙◌, ap, subst, arith}
 use Rattle.std.proofs.Math.Path.{fun_ext}
 use Rattle.core_segment.specs.Heads.{size_in, owner_in, link_in, IsClosed, IsMovedDown}
@@ -7,6 +7,8 @@ use Rattle.core_segment.specs.Layout.{tiles_of}
 use Rattle.core_segment.specs.Segment.{chunks_of, chunk_at, work_of, size_of, free_of, largest_of}
 use Rattle.core_segment.proofs.GapLaws.{IsPair, pair, gap-part}
 use Rattle.core_segment.proofs.MoveLaws.{IsMovedTile, moved-down}
+use Rattle.core_segment.proofs.PlaceLaws.{chunk}
+use Rattle.core_segment.proofs.FilledLaws.{below-moved, pair-below}
 use Rattle.core_segment.proofs.segment.Segment.move_down.Goals as goal
 
 -- the second is moved over the first
@@ -50,11 +52,14 @@ leave-requires c =
     let p = pair (words_of g.region) g.lists.firsts g.free c.args.to c.args.gap g.reached g.whole g.going c.requires.reached c.requires.many c.requires.gap in
     λ some. let low = p.first.low in omega arith
 
-pub shift-requires-clause-within : goal.shift-requires-clause-within
-shift-requires-clause-within c =
+pub shift-requires-clause-written : goal.shift-requires-clause-written
+shift-requires-clause-written c =
     let g = c.args.self.now in
     let p = pair (words_of g.region) g.lists.firsts g.free c.args.to c.args.gap g.reached g.whole g.going c.requires.reached c.requires.many c.requires.gap in
-    let low = p.next.low in let is = c.size_at-size.ensures in let size = p.next.sized in omega arith
+    let own = c.requires.used in
+    let owned = p.next.owned in
+    let low = pair-below (words_of g.region) g.lists.firsts (tiles_of (words_of g.region)) g.free c.args.to c.args.gap (filled_of g.region) p.first p.next (omega arith) g.filled in
+    let is = c.size_at-size.ensures in let size = p.next.sized in omega arith
 
 pub overflow_add-to : goal.overflow_add-to
 overflow_add-to c =
@@ -66,7 +71,7 @@ pub push-requires-clause-within : goal.push-requires-clause-within
 push-requires-clause-within c =
     let g = c.args.self.now in
     let p = pair (words_of g.region) g.lists.firsts g.free c.args.to c.args.gap g.reached g.whole g.going c.requires.reached c.requires.many c.requires.gap in
-    let low = p.next.low in let is = c.size_at-size.ensures in let size = p.next.sized in let same = c.shift.ensures.same_size in omega arith
+    let low = p.next.low in let is = c.size_at-size.ensures in let size = p.next.sized in let same = c.shift.ensures.moved.same_size in omega arith
 
 pub push-requires-clause-some : goal.push-requires-clause-some
 push-requires-clause-some c =
@@ -79,10 +84,13 @@ invariant_of-self c =
     let g = c.args.self.now in
     let p = pair (words_of g.region) g.lists.firsts g.free c.args.to c.args.gap g.reached g.whole g.going c.requires.reached c.requires.many c.requires.gap in
     let s = moves (words_of g.region) (words_of c.shift.new.self) (words_of c.push.new.region) g.lists.firsts c.leave.new.self.firsts c.push.new.self.firsts g.free c.args.to c.args.gap
-    c.size_at-size.result c.owner_at-owner.result p c.requires.used g.lists.many c.size_at-size.ensures c.owner_at-owner.ensures c.leave.ensures c.shift.ensures c.push.ensures.closed c.push.ensures.firsts in
+    c.size_at-size.result c.owner_at-owner.result p c.requires.used g.lists.many c.size_at-size.ensures c.owner_at-owner.ensures c.leave.ensures c.shift.ensures.moved c.push.ensures.closed c.push.ensures.firsts in
     record {
       small = let same = s.same_size in let small = g.small in omega arith;
       whole = s.whole;
+      filled = below-moved (chunk (words_of g.region) (tiles_of (words_of g.region))) (chunk (words_of c.push.new.region) (tiles_of (words_of c.push.new.region)))
+          (filled_of g.region) (filled_of c.push.new.region) (c.args.to + c.args.gap) c.args.to (fun_ext s.moved) g.filled
+          (let same = c.shift.ensures.filled in let more = c.push.ensures.grown in omega arith) (let some = p.first.some in omega arith);
       going = s.going;
     }
 
@@ -92,7 +100,7 @@ returns-clause-moved c =
     let g = c.args.self.now in
     let p = pair (words_of g.region) g.lists.firsts g.free c.args.to c.args.gap g.reached g.whole g.going c.requires.reached c.requires.many c.requires.gap in
     let s = moves (words_of g.region) (words_of c.shift.new.self) (words_of c.push.new.region) g.lists.firsts c.leave.new.self.firsts c.push.new.self.firsts g.free c.args.to c.args.gap
-    c.size_at-size.result c.owner_at-owner.result p c.requires.used g.lists.many c.size_at-size.ensures c.owner_at-owner.ensures c.leave.ensures c.shift.ensures c.push.ensures.closed c.push.ensures.firsts in
+    c.size_at-size.result c.owner_at-owner.result p c.requires.used g.lists.many c.size_at-size.ensures c.owner_at-owner.ensures c.leave.ensures c.shift.ensures.moved c.push.ensures.closed c.push.ensures.firsts in
     record {
       from = c.args.to + c.args.gap;
       down = let some = p.first.some in omega arith;
@@ -115,7 +123,7 @@ returns-clause-less c =
     let g = c.args.self.now in
     let p = pair (words_of g.region) g.lists.firsts g.free c.args.to c.args.gap g.reached g.whole g.going c.requires.reached c.requires.many c.requires.gap in
     let s = moves (words_of g.region) (words_of c.shift.new.self) (words_of c.push.new.region) g.lists.firsts c.leave.new.self.firsts c.push.new.self.firsts g.free c.args.to c.args.gap
-    c.size_at-size.result c.owner_at-owner.result p c.requires.used g.lists.many c.size_at-size.ensures c.owner_at-owner.ensures c.leave.ensures c.shift.ensures c.push.ensures.closed c.push.ensures.firsts in
+    c.size_at-size.result c.owner_at-owner.result p c.requires.used g.lists.many c.size_at-size.ensures c.owner_at-owner.ensures c.leave.ensures c.shift.ensures.moved c.push.ensures.closed c.push.ensures.firsts in
     s.less
 
 pub returns-clause-free : goal.returns-clause-free
@@ -124,4 +132,4 @@ returns-clause-free c = refl
 
 pub returns-clause-size : goal.returns-clause-size
 unfolding size_of
-returns-clause-size c = c.push.ensures.closed.same_size ∙ c.shift.ensures.same_size
+returns-clause-size c = c.push.ensures.closed.same_size ∙ c.shift.ensures.moved.same_size

@@ -1,13 +1,14 @@
-use Rattle.core_segment.specs.Words.{words_of}
+use Rattle.core_segment.specs.Words.{filled_of, words_of}
 use Rattle.std.proofs.Common.{ℕ, ◌≡◌, ◌+◌, ◌≤◌, List, ◌∷◌, [], length, replicate, ap, arith, refl, sym, subst, ◌∙◌}
 use Rattle.std.proofs.Math.ListN.{length-replicate}
 use Rattle.std.proofs.Math.Path.{fun_ext}
 use Rattle.core_segment.specs.Heads.{IsClosed}
 use Rattle.core_segment.specs.Lists.{Tile, free_tile, class_in, first_in, with_first}
-use Rattle.core_segment.specs.Layout.{largest_in}
+use Rattle.core_segment.specs.Layout.{tiles_of, largest_in}
 use Rattle.core_segment.specs.Segment.{chunks_of, chunk_at, size_of, free_of, largest_of}
 use Rattle.core_segment.proofs.PlaceLaws.{chunk}
 use Rattle.core_segment.proofs.GiveLaws.{IsRenewed, made, made-none, made-largest}
+use Rattle.core_segment.proofs.FilledLaws.{below-none}
 use Rattle.core_segment.proofs.segment.Segment.new.Goals as goal
 
 sized : (items : List ℕ) (n : ℕ) → items ≡ replicate n 0 → length items ≡ n
@@ -22,6 +23,7 @@ made-of region region' firsts firsts' words none size some closed is =
     (made region region' words size some (subst (λ (fs : List ℕ). IsClosed region region' 0 words (first_in fs (class_in words))) none closed))
 
 pub invariant_of-result : goal.invariant_of-result
+unfolding chunk_at chunks_of
 invariant_of-result c =
     let region = (words_of c.in_ok-region.region) in
     let region' = (words_of c.push.new.region) in
@@ -30,6 +32,9 @@ invariant_of-result c =
     record {
       small = let same = c.push.ensures.closed.same_size in let most = c.requires.most in omega arith;
       whole = m.whole;
+      filled = below-none (chunk region' (tiles_of region')) (filled_of c.push.new.region)
+          (fun_ext (λ k. ap (λ (us : List Tile). chunk region' us k) m.is
+          ∙ made-none region region' c.args.words size c.requires.some (subst (λ (fs : List ℕ). IsClosed region region' 0 c.args.words (first_in fs (class_in c.args.words))) c.none-lists.ensures c.push.ensures.closed) k));
       going = tt;
     }
 

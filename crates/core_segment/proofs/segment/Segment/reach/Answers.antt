@@ -1,10 +1,12 @@
-use Rattle.core_segment.specs.Words.{words_of}
+use Rattle.core_segment.specs.Words.{filled_of, words_of}
 use Rattle.std.proofs.Common.{[], List, refl, sym, ap, subst, arith}
 use Rattle.core_segment.specs.Lists.{Tile, Leads}
-use Rattle.core_segment.specs.Layout.{tiles_of, largest_in}
+use Rattle.core_segment.specs.Layout.{placed_in, tiles_of, largest_in}
 use Rattle.core_segment.specs.Order.{falling}
 use Rattle.core_segment.specs.Segment.{chunks_of, size_of, free_of, largest_of}
 use Rattle.core_segment.proofs.RelistLaws.{laid-tiled, retiled, relaid}
+use Rattle.core_segment.specs.Chunks.{at_place}
+use Rattle.core_segment.proofs.FilledLaws.{below-same}
 use Rattle.core_segment.proofs.segment.Segment.reach.Goals as goal
 
 pub thread-last-requires : goal.thread-last-requires
@@ -38,6 +40,9 @@ invariant_of-self c =
     record {
       small = let same = s.same_size in let small = g.small in omega arith;
       whole = s.whole;
+      filled = below-same (at_place (placed_in (words_of g.region) (tiles_of (words_of g.region)))) (at_place (placed_in region (tiles_of region)))
+          (filled_of g.region) (filled_of c.rise-self.new.region) (ap at_place s.placed) g.filled
+          (let a = c.thread-last.ensures.grown in let b = c.rise-self.ensures.grown in omega arith);
       going = (s.ordered, c.first_free-place.ensures);
     }
 

@@ -25,12 +25,13 @@ overflow_add-at-2 c =
     let r = c.requires in let a = tells.words in let b = tells.low in let d = g.small in
     omega arith
 
-pub get-requires : goal.get-requires
+pub get_written-requires : goal.get_written-requires
 unfolding chunk_at chunks_of
-get-requires c =
-    let g = c.args.self.now in let items = (words_of g.region) in
-    let tells = told items g.lists.firsts (tiles_of items) g.free c.args.at.place g.whole (owned items (tiles_of items) c.args.at.place (let r = c.requires in omega arith)) in
-    let r = c.requires in let a = tells.words in let b = tells.low in
+get_written-requires c =
+    let g = c.args.self.now in
+    let own = owned (words_of g.region) (tiles_of (words_of g.region)) c.args.at.place (let r = c.requires in omega arith) in
+    let low = g.filled c.args.at.place own in
+    let r = c.requires in
     omega arith
 
 pub returns : goal.returns
@@ -41,9 +42,9 @@ returns c =
     let t = tells.tile in
     let r = c.requires in let a = tells.words in let b = tells.low in let place = tells.place in
     let words = (chunk items (tiles_of items) c.args.at.place).words in
-    let read : get_or words c.args.i 0 ≡ c.get.result =
+    let read : get_or words c.args.i 0 ≡ c.get_written.result =
     ap (λ (x : Chunk). get_or x.words c.args.i 0) tells.is
     ∙ range-at items (t.place + 4) (t.place + t.size) c.args.i (omega arith)
     ∙ ap (λ (n : ℕ). get_or items n 0) (omega arith)
-    ∙ sym c.get.ensures in
+    ∙ sym c.get_written.ensures in
     slice_get-get_or words c.args.i 0 c.requires ∙ ap (λ (w : ℕ). Some w) read

@@ -31,4 +31,8 @@ loop-self-preserved c =
     let w = c.loop-self.self in
     let n = c.add.new.self in record {
       same = grown w.cells.items n.items w.cells.spare n.spare c.add.ensures.1 c.add.ensures.2 ∙ c.loop-self.invariant.same;
+      grown =
+          let size = ap (λ (l : List ℕ). length l) c.add.ensures.1 ∙ length_push w.cells.items 0 in
+          let before = c.loop-self.invariant.grown in
+          omega arith;
     }

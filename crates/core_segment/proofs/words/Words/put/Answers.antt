@@ -1,34 +1,8 @@
-use Rattle.std.proofs.Common.{◌≡◌, ◌<◌, ℕ, List, length, slice_set, sym, ◌∙◌, ap, arith}
-use Rattle.std.proofs.Math.ListN.{length-set}
-use Rattle.core_segment.specs.Memory.{with_zeros}
-use Rattle.core_segment.proofs.ZeroLaws.{zeros-set}
+use Rattle.std.proofs.Common.{ℕ, List, slice_set, ◌∙◌, ap, arith}
 use Rattle.core_segment.proofs.words.Words.put.Goals as goal
 
--- a word that was written is another one
-changed : (ws new : List ℕ) (n m i w : ℕ) → i < length ws → new ≡ slice_set ws i w → m ≡ n → with_zeros new m ≡ slice_set (with_zeros ws n) i w
-changed ws new n m i w low e f = ap (λ (l : List ℕ). with_zeros l m) e ∙ ap (λ (k : ℕ). with_zeros (slice_set ws i w) k) f ∙ zeros-set ws n i w low
+pub returns-clause-words : goal.returns-clause-words
+returns-clause-words c = c.put_written.ensures.words ∙ ap (λ (l : List ℕ). slice_set l c.args.i c.args.w) c.reach.ensures.same
 
-pub invariant_of-self : goal.invariant_of-self
-invariant_of-self c =
-    let w = c.reach.new.self in
-    let n = c.put.new.self in
-    let same = changed w.cells.items n.items w.cells.spare n.spare c.args.i c.args.w c.reach.ensures.written c.put.ensures.1 c.put.ensures.2 in
-    let size = ap (λ (l : List ℕ). length l) c.put.ensures.1 ∙ length-set w.cells.items c.args.i c.args.w in
-    let spare = c.put.ensures.2 in
-    let written = w.written in
-    let roomy = w.roomy in
-    record {
-      written = omega arith;
-      sized = w.sized ∙ sym (ap (λ (l : List ℕ). length l) same ∙ length-set (with_zeros w.cells.items w.cells.spare) c.args.i c.args.w);
-      roomy = omega arith;
-      small = w.small;
-      there = c.put.ensures.0 ∙ w.there;
-      leased = w.leased;
-    }
-
-pub returns : goal.returns
-returns c =
-    let w = c.reach.new.self in
-    let n = c.put.new.self in
-    changed w.cells.items n.items w.cells.spare n.spare c.args.i c.args.w c.reach.ensures.written c.put.ensures.1 c.put.ensures.2
-    ∙ ap (λ (l : List ℕ). slice_set l c.args.i c.args.w) c.reach.ensures.same
+pub returns-clause-grown : goal.returns-clause-grown
+returns-clause-grown c = let grown = c.reach.ensures.grown in let same = c.put_written.ensures.filled in omega arith
