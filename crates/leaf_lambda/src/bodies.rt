@@ -158,7 +158,7 @@ pub fn open_body(p: &mut Parts, s: Short, at: Addr, class: Short, kind: Kind, le
     ensures spare { spare_of p.new ≡ spare_of p.old }
     ensures segment { p.new.segment ≡ p.old.segment }
 {
-    let mut e = p.names.table.entry(s);
+    let mut e = p.names.table.used_entry(s);
     e.state = EntryState::Resident(at.place);
     e.class = class;
     e.kind = kind;

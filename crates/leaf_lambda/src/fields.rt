@@ -67,7 +67,7 @@ pub(crate) fn words_mean_values(p: &Parts, w: u16)
     ensures { IsValue (meant (core_of p.now).entries [] 0 w) }
 {
     if is_name(w) {
-        let _value = Value::from(p.names.table.entry(Short(w)).name);
+        let _value = Value::from(p.names.table.used_entry(Short(w)).name);
     }
 }
 

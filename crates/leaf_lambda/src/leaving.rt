@@ -34,7 +34,7 @@ pub fn set_written(p: &mut Parts, s: Short)
     ensures spare { spare_of p.new ≡ spare_of p.old }
     ensures segment { p.new.segment ≡ p.old.segment }
 {
-    let mut e = p.names.table.entry(s);
+    let mut e = p.names.table.used_entry(s);
     e.flags.changed = false;
     e.flags.fresh = false;
     p.names.table.set(s, e);
@@ -94,7 +94,7 @@ fn close_body(p: &mut Parts, s: Short, at: Addr)
     ensures spare { spare_of p.new ≡ spare_of p.old }
     ensures segment { p.new.segment ≡ p.old.segment }
 {
-    let mut e = p.names.table.entry(s);
+    let mut e = p.names.table.used_entry(s);
     e.state = EntryState::Leaf;
     p.names.table.set(s, e);
 }
@@ -136,7 +136,7 @@ pub fn field_total(p: &Parts, s: Short, at: Addr) -> u32
     requires place { place_of ((core_of p.now).entries s.0).state ≡ Some at.place }
     ensures { result ≡ length (pointers ((core_of p.now).entries s.0).kind ((core_of p.now).chunks at.place).words) }
 {
-    let e = p.names.table.entry(s);
+    let e = p.names.table.used_entry(s);
     match e.kind {
         Kind::Pointers => e.len,
         Kind::Method => literals_of(p, at, e.kind),
@@ -152,7 +152,7 @@ pub fn body_total(p: &Parts, s: Short, at: Addr) -> u32
     ensures words { result ≡ length ((core_of p.now).chunks at.place).words }
     ensures small { result < 2 ^ 17 }
 {
-    let e = p.names.table.entry(s);
+    let e = p.names.table.used_entry(s);
     match e.kind {
         Kind::Pointers => e.len,
         Kind::Words => e.len,
@@ -184,7 +184,7 @@ pub fn drop_body(p: &mut Parts, s: Short)
     let at = place_of_body(p, s);
     let count = field_total(p, s, at);
     unresolve_fields(p, s, at, count);
-    let class = p.names.table.entry(s).class;
+    let class = p.names.table.used_entry(s).class;
     close_body(p, s, at);
     give_chunk(p, at);
     let_go(p, class);

@@ -36,7 +36,7 @@ pub fn grip_many(p: &mut Parts, s: Short, n: u32)
     ensures spare { spare_of p.new ≡ spare_of p.old }
     ensures segment { p.new.segment ≡ p.old.segment }
 {
-    let mut e = p.names.table.entry(s);
+    let mut e = p.names.table.used_entry(s);
     e.refs += n;
     p.names.table.set(s, e);
 }
@@ -184,7 +184,7 @@ pub fn open_new(p: &mut Parts, s: Short, at: Addr, class: Short, kind: Kind, len
     ensures spare { spare_of p.new ≡ spare_of p.old }
     ensures segment { p.new.segment ≡ p.old.segment }
 {
-    let mut e = p.names.table.entry(s);
+    let mut e = p.names.table.used_entry(s);
     e.state = EntryState::Resident(at.place);
     e.class = class;
     e.kind = kind;

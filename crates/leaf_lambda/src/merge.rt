@@ -42,7 +42,7 @@ fn word_long(p: &Parts, w: u16) -> u32
     ensures { (old : List Meaning) (i : ℕ) → value_in result ≡ meant (core_of p.now).entries old i w }
 {
     if w % 2 == 0 {
-        let name = p.names.table.entry(Short(w)).name;
+        let name = p.names.table.used_entry(Short(w)).name;
         name.get()
     } else {
         number_long(w)
@@ -192,8 +192,8 @@ fn blank_copy(p: &Parts, s: Short, at: Addr, buf: &mut RecordBuf)
     ensures copy { IsCopy buf.new ((core_of p.now).entries s.0) ((core_of p.now).chunks at.place).words }
     ensures class { (raw_of buf.new).class ≡ ((core_of p.now).entries ((core_of p.now).entries s.0).class.0).name }
 {
-    let e = p.names.table.entry(s);
-    let class = p.names.table.entry(e.class).name;
+    let e = p.names.table.used_entry(s);
+    let class = p.names.table.used_entry(e.class).name;
     let literals = literals_of(p, at, e.kind);
     buf.blank(e.name, class, e.kind, e.len, literals);
 }
@@ -210,7 +210,7 @@ fn ready_copy(p: &Parts, s: Short, at: Addr, buf: &mut RecordBuf)
         → (raw_of buf.new).class ≡ ((core_of p.now).entries ((core_of p.now).entries s.0).class.0).name }
     ensures same { ((core_of p.now).entries s.0).flags.fresh ≡ false → buf.new ≡ buf.old }
 {
-    if p.names.table.entry(s).flags.fresh {
+    if p.names.table.used_entry(s).flags.fresh {
         blank_copy(p, s, at, buf);
     }
 }

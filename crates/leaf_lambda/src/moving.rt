@@ -28,7 +28,7 @@ pub fn compact_one(p: &mut Parts) -> bool
         None => false,
         Some(moved) => {
             let s = Short(moved.owner);
-            let mut e = p.names.table.entry(s);
+            let mut e = p.names.table.used_entry(s);
             e.state = EntryState::Resident(moved.to.place);
             p.names.table.set(s, e);
             true

@@ -59,7 +59,7 @@ pub fn is_leaf(p: &Parts, s: Short) -> bool
     requires used { is_used ((core_of p.now).entries s.0).state ≡ true }
     ensures { IsTrue result ↔ (place_of ((core_of p.now).entries s.0).state ≡ None) }
 {
-    p.names.table.entry(s).place().is_none()
+    p.names.table.used_entry(s).place().is_none()
 }
 
 // The number of a kind in a record.
@@ -77,7 +77,7 @@ pub fn is_copy(p: &Parts, s: Short, at: Addr, buf: &RecordBuf) -> bool
     requires record { HasRecord buf.now }
     ensures { IsTrue result ↔ IsCopy buf.now ((core_of p.now).entries s.0) ((core_of p.now).chunks at.place).words }
 {
-    let e = p.names.table.entry(s);
+    let e = p.names.table.used_entry(s);
     if buf.name() != e.name {
         return false;
     }

@@ -110,7 +110,7 @@ pub fn free_leaf(p: &mut Parts, s: Short)
     ensures spare { spare_of p.new ≡ spare_of p.old + 1 }
     ensures segment { p.new.segment ≡ p.old.segment }
 {
-    let name = p.names.table.entry(s).name;
+    let name = p.names.table.used_entry(s).name;
     p.names.resident.remove(name);
     p.names.table.give(s);
 }
@@ -134,7 +134,7 @@ pub fn field_word(p: &Parts, s: Short, at: Addr, i: u32) -> u16
     requires there { (old : ℕ) × IsAt (core_of p.now) s.0 at.place i old }
     ensures { IsAt (core_of p.now) s.0 at.place i result }
 {
-    let kind = p.names.table.entry(s).kind;
+    let kind = p.names.table.used_entry(s).kind;
     p.segment.word(at, spot_of(kind, i))
 }
 
@@ -149,7 +149,7 @@ pub fn store_word(p: &mut Parts, s: Short, at: Addr, i: u32, w: u16)
     ensures same_names { p.new.names ≡ p.old.names }
     ensures room { SameRoom p.old.segment p.new.segment }
 {
-    let kind = p.names.table.entry(s).kind;
+    let kind = p.names.table.used_entry(s).kind;
     p.segment.set_word(at, spot_of(kind, i), w);
 }
 
@@ -165,9 +165,7 @@ pub fn mark_changed(p: &mut Parts, s: Short)
     ensures spare { spare_of p.new ≡ spare_of p.old }
     ensures segment { p.new.segment ≡ p.old.segment }
 {
-    let mut e = p.names.table.entry(s);
-    e.flags.changed = true;
-    p.names.table.set(s, e);
+    p.names.table.set_changed(s, true);
 }
 
 /// Where the body of an object lies.
@@ -177,7 +175,7 @@ pub fn place_of_body(p: &Parts, s: Short) -> Addr
     requires there { (at : ℕ) × (place_of ((core_of p.now).entries s.0).state ≡ Some at) }
     ensures { place_of ((core_of p.now).entries s.0).state ≡ Some result.place }
 {
-    match p.names.table.entry(s).place() {
+    match p.names.table.used_entry(s).place() {
         Some(place) => Addr { place },
         None => unreachable!(),
     }

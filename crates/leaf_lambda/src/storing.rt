@@ -79,7 +79,7 @@ fn first_of(p: &Parts, s: Short, at: Addr) -> u32
     ensures first { result ≡ first_byte ((core_of p.now).entries s.0).kind ((core_of p.now).chunks at.place).words }
     ensures small { result < 2 ^ 16 }
 {
-    let kind = p.names.table.entry(s).kind;
+    let kind = p.names.table.used_entry(s).kind;
     match kind {
         Kind::Method => 1 + literals_of(p, at, kind),
         _ => 0,

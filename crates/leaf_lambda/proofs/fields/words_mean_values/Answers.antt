@@ -12,18 +12,15 @@ use Rattle.leaf_lambda.proofs.fields.words_mean_values.Goals as goal
 odd : (w : ℕ) → w ≢ 0 → is_short w ≡ false → w % 2 ≡ 1
 odd w some not = grind (arith, common_steps)
 
-pub entry-requires-clause-short : goal.entry-requires-clause-short
-entry-requires-clause-short c = sym c.is_name.ensures ∙ c.if-is_name.true
-
-pub entry-requires-clause-within : goal.entry-requires-clause-within
+pub used_entry-requires : goal.used_entry-requires
 unfolding core_of
-entry-requires-clause-within c = c.requires.parts.core.within c.args.w (c.requires.used (sym c.is_name.ensures ∙ c.if-is_name.true))
+used_entry-requires c = c.requires.used (sym c.is_name.ensures ∙ c.if-is_name.true)
 
 pub returns-then-is_name : goal.returns-then-is_name
 unfolding core_of
 returns-then-is_name c =
-    let name : IsValue (Ref c.entry.result.name) = subst IsValue c.from-value.ensures.0 c.from-value.ensures.1 in
-    subst IsValue (ap (λ (e : Entry). Ref e.name) c.entry.ensures ∙ sym (meant-short (core_of c.args.p.now).entries [] 0 c.args.w (sym c.is_name.ensures ∙ c.if-is_name.true))) name
+    let name : IsValue (Ref c.used_entry.result.name) = subst IsValue c.from-value.ensures.0 c.from-value.ensures.1 in
+    subst IsValue (ap (λ (e : Entry). Ref e.name) c.used_entry.ensures ∙ sym (meant-short (core_of c.args.p.now).entries [] 0 c.args.w (sym c.is_name.ensures ∙ c.if-is_name.true))) name
 
 pub returns-else-is_name : goal.returns-else-is_name
 returns-else-is_name c =

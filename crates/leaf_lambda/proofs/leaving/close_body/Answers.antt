@@ -12,13 +12,9 @@ use Rattle.leaf_lambda.specs.Parts.{core_of}
 use Rattle.leaf_lambda.proofs.StepLaws.{core-is}
 use Rattle.leaf_lambda.proofs.leaving.close_body.Goals as goal
 
-pub entry-e-requires-clause-short : goal.entry-e-requires-clause-short
+pub used_entry-e-requires : goal.used_entry-e-requires
 unfolding core_of
-entry-e-requires-clause-short c = c.requires.parts.core.short c.args.s.0 (placed-used ((core_of c.args.p.now).entries c.args.s.0).state c.args.at.place c.requires.place)
-
-pub entry-e-requires-clause-within : goal.entry-e-requires-clause-within
-unfolding core_of
-entry-e-requires-clause-within c = c.requires.parts.core.within c.args.s.0 (placed-used ((core_of c.args.p.now).entries c.args.s.0).state c.args.at.place c.requires.place)
+used_entry-e-requires c = placed-used ((core_of c.args.p.now).entries c.args.s.0).state c.args.at.place c.requires.place
 
 pub set-requires-clause-short : goal.set-requires-clause-short
 unfolding core_of
@@ -35,7 +31,7 @@ set-requires-clause-used c = (placed-used ((core_of c.args.p.now).entries c.args
 pub returns-clause-core : goal.returns-clause-core
 unfolding core_of
 returns-clause-core c = core-is _ (with_entry (core_of c.args.p.now) c.args.s.0 (closed ((core_of c.args.p.now).entries c.args.s.0)))
-    (c.set.ensures.entry ∙ ap (λ (e : Entry). put (entry_at c.args.p.now.names.table) c.args.s.0 (closed e)) c.entry-e.ensures) refl refl (ap (λ (n : ℕ). 2 * n + 2) c.set.ensures.entries)
+    (c.set.ensures.entry ∙ ap (λ (e : Entry). put (entry_at c.args.p.now.names.table) c.args.s.0 (closed e)) c.used_entry-e.ensures) refl refl (ap (λ (n : ℕ). 2 * n + 2) c.set.ensures.entries)
 
 pub returns-clause-parts : goal.returns-clause-parts
 returns-clause-parts c = record {

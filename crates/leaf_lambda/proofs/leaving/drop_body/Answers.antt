@@ -32,13 +32,9 @@ above s is = grind (arith, common_steps)
 pub field_total-count-requires-clause-place : goal.field_total-count-requires-clause-place
 field_total-count-requires-clause-place c = c.place_of_body-at.ensures
 
-pub entry-requires-clause-short : goal.entry-requires-clause-short
+pub used_entry-requires : goal.used_entry-requires
 unfolding core_of
-entry-requires-clause-short c = c.requires.parts.core.short c.args.s.0 (placed-used ((core_of c.args.p.now).entries c.args.s.0).state c.requires.body.0 c.requires.body.1)
-
-pub entry-requires-clause-within : goal.entry-requires-clause-within
-unfolding core_of
-entry-requires-clause-within c = c.unresolve_fields.ensures.parts.core.within c.args.s.0 (placed-used ((core_of c.unresolve_fields.new.p).entries c.args.s.0).state c.place_of_body-at.result.place (ap (λ (e : Entry). place_of e.state) c.unresolve_fields.ensures.entry ∙ c.place_of_body-at.ensures))
+used_entry-requires c = placed-used ((core_of c.unresolve_fields.new.p).entries c.args.s.0).state c.place_of_body-at.result.place (ap (λ (e : Entry). place_of e.state) c.unresolve_fields.ensures.entry ∙ c.place_of_body-at.ensures)
 
 pub close_body-requires-clause-place : goal.close_body-requires-clause-place
 close_body-requires-clause-place c = ap (λ (e : Entry). place_of e.state) c.unresolve_fields.ensures.entry ∙ c.place_of_body-at.ensures
@@ -57,9 +53,9 @@ pub let_go-requires-clause-held : goal.let_go-requires-clause-held
 unfolding core_of
 let_go-requires-clause-held c =
     let u = (core_of c.unresolve_fields.new.p) in
-    let k = c.entry.result.class.0 in
+    let k = c.used_entry.result.class.0 in
     let at = ap (λ (e : Entry). place_of e.state) c.unresolve_fields.ensures.entry ∙ c.place_of_body-at.ensures in
-    let class : (u.entries c.args.s.0).class.0 ≡ k = ap (λ (e : Entry). e.class.0) (sym c.entry.ensures) in
+    let class : (u.entries c.args.s.0).class.0 ≡ k = ap (λ (e : Entry). e.class.0) (sym c.used_entry.ensures) in
     let out : outside (core_of c.close_body.new.p) k ≡ outside u k + count_by (names k) ((u.entries c.args.s.0).class.0 ∷ pointers (u.entries c.args.s.0).kind (u.chunks c.place_of_body-at.result.place).words) =
     ap (λ (x : Core). outside x k) c.close_body.ensures.core ∙ closing-outside u c.args.s.0 c.place_of_body-at.result.place (closed (u.entries c.args.s.0)) k c.unresolve_fields.ensures.parts.core (record { place = at; gone = refl; still = refl; name = refl; refs = refl }) in
     let first = count-cons k (u.entries c.args.s.0).class.0 (pointers (u.entries c.args.s.0).kind (u.chunks c.place_of_body-at.result.place).words) in
@@ -68,8 +64,8 @@ let_go-requires-clause-held c =
     let same = move-outside (core_of c.close_body.new.p) (core_of c.give_chunk.new.p) k c.give_chunk.ensures.moves in
     omega arith
 
-dropped : (c : goal.After-let_go) → IsDropping c.entry.result.class.0 (core_of c.give_chunk.new.p) (core_of c.let_go.new.p)
-dropped c = let-dropped (core_of c.give_chunk.new.p) (core_of c.let_go.new.p) c.entry.result.class.0 c.let_go.ensures.stays c.let_go.ensures.step c.let_go.ensures.outside c.let_go.ensures.core
+dropped : (c : goal.After-let_go) → IsDropping c.used_entry.result.class.0 (core_of c.give_chunk.new.p) (core_of c.let_go.new.p)
+dropped c = let-dropped (core_of c.give_chunk.new.p) (core_of c.let_go.new.p) c.used_entry.result.class.0 c.let_go.ensures.stays c.let_go.ensures.step c.let_go.ensures.outside c.let_go.ensures.core
 
 entries-same : (c : goal.After-let_go) → (core_of c.give_chunk.new.p).entries ≡ (core_of c.close_body.new.p).entries
 unfolding core_of
@@ -78,9 +74,9 @@ entries-same c = ap (λ (n : Parts2). entry_at n.table) c.give_chunk.ensures.sam
 pub returns-clause-within : goal.returns-clause-within
 unfolding core_of
 returns-clause-within c = Within-trans c.args.s.0 (core_of c.args.p.now) (core_of c.unresolve_fields.new.p) (core_of c.let_go.new.p) c.unresolve_fields.ensures.within
-    (close-within (core_of c.unresolve_fields.new.p) (core_of c.close_body.new.p) (core_of c.give_chunk.new.p) (core_of c.let_go.new.p) c.args.s.0 c.place_of_body-at.result.place c.entry.result.class.0 c.field_total-count.result c.unresolve_fields.ensures.parts.core
+    (close-within (core_of c.unresolve_fields.new.p) (core_of c.close_body.new.p) (core_of c.give_chunk.new.p) (core_of c.let_go.new.p) c.args.s.0 c.place_of_body-at.result.place c.used_entry.result.class.0 c.field_total-count.result c.unresolve_fields.ensures.parts.core
     (ap (λ (e : Entry). place_of e.state) c.unresolve_fields.ensures.entry ∙ c.place_of_body-at.ensures)
-    (ap (λ (e : Entry). e.class.0) (sym c.entry.ensures))
+    (ap (λ (e : Entry). e.class.0) (sym c.used_entry.ensures))
     (ap (λ (e : Entry). pointers e.kind ((core_of c.unresolve_fields.new.p).chunks c.place_of_body-at.result.place).words) c.unresolve_fields.ensures.entry ∙ c.unresolve_fields.ensures.fields)
     c.close_body.ensures.core c.give_chunk.ensures.moves (entries-same c) (ap (λ (d : Core). d.chunks) c.give_chunk.ensures.core) (dropped c))
 

@@ -14,13 +14,9 @@ use Rattle.leaf_lambda.proofs.StepLaws.{core-is}
 use Rattle.leaf_lambda.proofs.LeavingLaws.{written-within}
 use Rattle.leaf_lambda.proofs.leaving.set_written.Goals as goal
 
-pub entry-e-requires-clause-short : goal.entry-e-requires-clause-short
+pub used_entry-e-requires : goal.used_entry-e-requires
 unfolding core_of
-entry-e-requires-clause-short c = c.requires.parts.core.short c.args.s.0 (placed-used ((core_of c.args.p.now).entries c.args.s.0).state c.requires.body.0 c.requires.body.1)
-
-pub entry-e-requires-clause-within : goal.entry-e-requires-clause-within
-unfolding core_of
-entry-e-requires-clause-within c = c.requires.parts.core.within c.args.s.0 (placed-used ((core_of c.args.p.now).entries c.args.s.0).state c.requires.body.0 c.requires.body.1)
+used_entry-e-requires c = placed-used ((core_of c.args.p.now).entries c.args.s.0).state c.requires.body.0 c.requires.body.1
 
 pub set-requires-clause-short : goal.set-requires-clause-short
 unfolding core_of
@@ -36,12 +32,12 @@ set-requires-clause-used c = (placed-used ((core_of c.args.p.now).entries c.args
 
 pub set-requires-clause-stays : goal.set-requires-clause-stays
 unfolding core_of
-set-requires-clause-stays c = ap (λ (e : Entry). is_used e.state) c.entry-e.ensures ∙ (placed-used ((core_of c.args.p.now).entries c.args.s.0).state c.requires.body.0 c.requires.body.1)
+set-requires-clause-stays c = ap (λ (e : Entry). is_used e.state) c.used_entry-e.ensures ∙ (placed-used ((core_of c.args.p.now).entries c.args.s.0).state c.requires.body.0 c.requires.body.1)
 
 pub returns-clause-core : goal.returns-clause-core
 unfolding core_of
 returns-clause-core c = core-is _ (with_entry (core_of c.args.p.now) c.args.s.0 (written ((core_of c.args.p.now).entries c.args.s.0)))
-    (c.set.ensures.entry ∙ ap (λ (e : Entry). put (entry_at c.args.p.now.names.table) c.args.s.0 (written e)) c.entry-e.ensures) refl refl (ap (λ (n : ℕ). 2 * n + 2) c.set.ensures.entries)
+    (c.set.ensures.entry ∙ ap (λ (e : Entry). put (entry_at c.args.p.now.names.table) c.args.s.0 (written e)) c.used_entry-e.ensures) refl refl (ap (λ (n : ℕ). 2 * n + 2) c.set.ensures.entries)
 
 pub returns-clause-parts : goal.returns-clause-parts
 returns-clause-parts c = record {

@@ -11,13 +11,9 @@ use Rattle.leaf_lambda.specs.Making.{made}
 use Rattle.leaf_lambda.proofs.StepLaws.{core-is}
 use Rattle.leaf_lambda.proofs.making.open_new.Goals as goal
 
-pub entry-e-requires-clause-short : goal.entry-e-requires-clause-short
+pub used_entry-e-requires : goal.used_entry-e-requires
 unfolding core_of
-entry-e-requires-clause-short c = c.requires.parts.core.short c.args.s.0 c.requires.opening.used
-
-pub entry-e-requires-clause-within : goal.entry-e-requires-clause-within
-unfolding core_of
-entry-e-requires-clause-within c = c.requires.parts.core.within c.args.s.0 c.requires.opening.used
+used_entry-e-requires c = c.requires.opening.used
 
 pub set-requires-clause-short : goal.set-requires-clause-short
 unfolding core_of
@@ -35,7 +31,7 @@ pub returns-clause-core : goal.returns-clause-core
 unfolding core_of
 returns-clause-core c =
     core-is _ (with_entry (core_of c.args.p.now) c.args.s.0 (made ((core_of c.args.p.now).entries c.args.s.0) c.args.at.place c.args.class.0 c.args.kind c.args.len))
-    (c.set.ensures.entry ∙ ap (λ (e : Entry). put (entry_at c.args.p.now.names.table) c.args.s.0 (made e c.args.at.place c.args.class.0 c.args.kind c.args.len)) c.entry-e.ensures) refl refl (ap (λ (n : ℕ). 2 * n + 2) c.set.ensures.entries)
+    (c.set.ensures.entry ∙ ap (λ (e : Entry). put (entry_at c.args.p.now.names.table) c.args.s.0 (made e c.args.at.place c.args.class.0 c.args.kind c.args.len)) c.used_entry-e.ensures) refl refl (ap (λ (n : ℕ). 2 * n + 2) c.set.ensures.entries)
 
 pub returns-clause-parts : goal.returns-clause-parts
 returns-clause-parts c = record {

@@ -12,17 +12,14 @@ use Rattle.leaf_lambda.proofs.merge.word_long.Goals as goal
 short : (w : ℕ) → w % 2 ≡ 0 → w ≢ 0 → is_short w ≡ true
 short w even some = let above : 0 < w = omega arith in grind (arith, common_steps)
 
-pub entry-name-requires-clause-short : goal.entry-name-requires-clause-short
-entry-name-requires-clause-short c = short c.args.w c.if-w-eq0.true c.requires.some
-
-pub entry-name-requires-clause-within : goal.entry-name-requires-clause-within
+pub used_entry-name-requires : goal.used_entry-name-requires
 unfolding core_of
-entry-name-requires-clause-within c = c.requires.parts.core.within c.args.w (c.requires.used (short c.args.w c.if-w-eq0.true c.requires.some))
+used_entry-name-requires c = c.requires.used (short c.args.w c.if-w-eq0.true c.requires.some)
 
 pub returns-then-w-eq0 : goal.returns-then-w-eq0
 unfolding core_of
 returns-then-w-eq0 c = λ old i.
-    ap value_in c.get.ensures.value ∙ value-name c.entry-name.result.name c.get.ensures.name ∙ ap (λ (e : Entry). Ref e.name) c.entry-name.ensures
+    ap value_in c.get.ensures.value ∙ value-name c.used_entry-name.result.name c.get.ensures.name ∙ ap (λ (e : Entry). Ref e.name) c.used_entry-name.ensures
     ∙ sym (meant-short (core_of c.args.p.now).entries old i c.args.w (short c.args.w c.if-w-eq0.true c.requires.some))
 
 pub returns-else-w-eq0 : goal.returns-else-w-eq0

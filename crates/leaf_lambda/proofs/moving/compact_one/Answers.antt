@@ -10,13 +10,9 @@ use Rattle.core_view.specs.Steps.{at_another}
 use Rattle.core_view.proofs.Compaction.{owner-place, move-step, move-tight}
 use Rattle.leaf_lambda.proofs.moving.compact_one.Goals as goal
 
-pub entry-e-requires-clause-short : goal.entry-e-requires-clause-short
+pub used_entry-e-requires : goal.used_entry-e-requires
 unfolding core_of
-entry-e-requires-clause-short c = c.requires.parts.core.short c.in-Some.moved.owner (placed-used ((core_of c.args.p.now).entries c.in-Some.moved.owner).state _ (owner-place (core_of c.args.p.now) _ c.in-Some.moved c.requires.tight c.in-Some.ensures.moved))
-
-pub entry-e-requires-clause-within : goal.entry-e-requires-clause-within
-unfolding core_of
-entry-e-requires-clause-within c = c.requires.parts.core.within c.in-Some.moved.owner (placed-used ((core_of c.args.p.now).entries c.in-Some.moved.owner).state _ (owner-place (core_of c.args.p.now) _ c.in-Some.moved c.requires.tight c.in-Some.ensures.moved))
+used_entry-e-requires c = placed-used ((core_of c.args.p.now).entries c.in-Some.moved.owner).state _ (owner-place (core_of c.args.p.now) _ c.in-Some.moved c.requires.tight c.in-Some.ensures.moved)
 
 pub set-requires-clause-short : goal.set-requires-clause-short
 unfolding core_of
@@ -43,7 +39,7 @@ unfolding core_of
 returns-in-None-clause-tight c = subst (λ f. IsTight (record (core_of c.args.p.now) { chunks = f })) (sym c.in-None.ensures.none.1) c.requires.tight
 
 entries-are : (c : goal.After-set) → entry_at c.set.new.self ≡ put (entry_at c.args.p.now.names.table) c.in-Some.moved.owner (at_another (entry_at c.args.p.now.names.table c.in-Some.moved.owner) c.in-Some.moved.to.place)
-entries-are c = c.set.ensures.entry ∙ ap (λ (e : Entry). put (entry_at c.args.p.now.names.table) c.in-Some.moved.owner (at_another e c.in-Some.moved.to.place)) c.entry-e.ensures
+entries-are c = c.set.ensures.entry ∙ ap (λ (e : Entry). put (entry_at c.args.p.now.names.table) c.in-Some.moved.owner (at_another e c.in-Some.moved.to.place)) c.used_entry-e.ensures
 
 pub returns-in-Some-clause-moves : goal.returns-in-Some-clause-moves
 unfolding core_of

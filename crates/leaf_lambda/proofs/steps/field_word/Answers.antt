@@ -9,20 +9,16 @@ use Rattle.leaf_lambda.specs.Parts.{core_of}
 use Rattle.leaf_lambda.proofs.WordLaws.{spot-get, get-spot, at-small}
 use Rattle.leaf_lambda.proofs.steps.field_word.Goals as goal
 
-pub entry-kind-requires-clause-short : goal.entry-kind-requires-clause-short
+pub used_entry-kind-requires : goal.used_entry-kind-requires
 unfolding core_of
-entry-kind-requires-clause-short c = c.requires.parts.core.short c.args.s.0 (placed-used ((core_of c.args.p.now).entries c.args.s.0).state c.args.at.place c.requires.there.1.place)
-
-pub entry-kind-requires-clause-within : goal.entry-kind-requires-clause-within
-unfolding core_of
-entry-kind-requires-clause-within c = c.requires.parts.core.within c.args.s.0 (placed-used ((core_of c.args.p.now).entries c.args.s.0).state c.args.at.place c.requires.there.1.place)
+used_entry-kind-requires c = placed-used ((core_of c.args.p.now).entries c.args.s.0).state c.args.at.place c.requires.there.1.place
 
 pub spot_of-requires : goal.spot_of-requires
 spot_of-requires c = let small = at-small (core_of c.args.p.now) c.args.s.0 c.args.at.place c.args.i c.requires.there.0 c.requires.parts.core c.requires.there.1 in omega arith
 
 spot-is : (c : goal.After-spot_of) → c.spot_of.result ≡ spot ((core_of c.args.p.now).entries c.args.s.0).kind c.args.i
 unfolding core_of
-spot-is c = c.spot_of.ensures ∙ ap (λ (e : Entry). spot e.kind c.args.i) c.entry-kind.ensures
+spot-is c = c.spot_of.ensures ∙ ap (λ (e : Entry). spot e.kind c.args.i) c.used_entry-kind.ensures
 
 pub word-requires : goal.word-requires
 unfolding core_of
@@ -34,5 +30,5 @@ unfolding core_of
 returns c = record {
   place = c.requires.there.1.place;
   word = get-spot ((core_of c.args.p.now).entries c.args.s.0).kind (chunk_at c.args.p.now.segment c.args.at.place).words c.args.i c.word.result c.requires.there.0 c.requires.there.1.word
-      (ap (λ (i : ℕ). slice_get (chunk_at c.args.p.now.segment c.args.at.place).words i) (sym (c.spot_of.ensures ∙ ap (λ (e : Entry). spot e.kind c.args.i) c.entry-kind.ensures)) ∙ c.word.ensures);
+      (ap (λ (i : ℕ). slice_get (chunk_at c.args.p.now.segment c.args.at.place).words i) (sym (c.spot_of.ensures ∙ ap (λ (e : Entry). spot e.kind c.args.i) c.used_entry-kind.ensures)) ∙ c.word.ensures);
 }

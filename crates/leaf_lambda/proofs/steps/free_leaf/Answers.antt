@@ -17,17 +17,13 @@ some-there : (o : Option ℕ) (s : ℕ) → o ≡ Some s → IsSome o
 some-there None s e = cc
 some-there (Some x) s e = refl
 
-pub entry-name-requires-clause-short : goal.entry-name-requires-clause-short
+pub used_entry-name-requires : goal.used_entry-name-requires
 unfolding core_of
-entry-name-requires-clause-short c = c.requires.parts.core.short c.args.s.0 c.requires.idle.used
-
-pub entry-name-requires-clause-within : goal.entry-name-requires-clause-within
-unfolding core_of
-entry-name-requires-clause-within c = c.requires.parts.core.within c.args.s.0 c.requires.idle.used
+used_entry-name-requires c = c.requires.idle.used
 
 pub remove-requires : goal.remove-requires
 unfolding core_of
-remove-requires c = record { there = some-there (short_of c.args.p.now.names.resident c.entry-name.result.name) c.args.s.0 (ap (λ (e : Entry). short_of c.args.p.now.names.resident e.name) c.entry-name.ensures ∙ c.requires.parts.core.found c.args.s.0 c.requires.idle.used) }
+remove-requires c = record { there = some-there (short_of c.args.p.now.names.resident c.used_entry-name.result.name) c.args.s.0 (ap (λ (e : Entry). short_of c.args.p.now.names.resident e.name) c.used_entry-name.ensures ∙ c.requires.parts.core.found c.args.s.0 c.requires.idle.used) }
 
 pub give-requires-clause-short : goal.give-requires-clause-short
 unfolding core_of
@@ -45,7 +41,7 @@ pub returns-clause-core : goal.returns-clause-core
 unfolding core_of
 returns-clause-core c =
     core-is _ (without_leaf (core_of c.args.p.now) c.args.s.0 ((core_of c.args.p.now).entries c.args.s.0).name) c.give.ensures.entry
-    (c.remove.ensures.find ∙ ap (λ (e : Entry). put (short_of c.args.p.now.names.resident) e.name None) c.entry-name.ensures) refl (ap (λ (n : ℕ). 2 * n + 2) c.give.ensures.entries)
+    (c.remove.ensures.find ∙ ap (λ (e : Entry). put (short_of c.args.p.now.names.resident) e.name None) c.used_entry-name.ensures) refl (ap (λ (n : ℕ). 2 * n + 2) c.give.ensures.entries)
 
 pub returns-clause-parts : goal.returns-clause-parts
 returns-clause-parts c = record {
