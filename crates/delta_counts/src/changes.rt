@@ -28,9 +28,7 @@ pub(crate) fn set_change(p: &mut Parts2, s: Short, change: i64)
     ensures core { (chunks : ℕ → Chunk) → core_with chunks p.new ≡ changed_at (core_with chunks p.old) s.0 change }
     ensures counting { IsCounting p.old p.new }
 {
-    let mut e = p.table.entry(s);
-    e.change = change;
-    p.table.set(s, e);
+    p.table.set_change(s, change);
 }
 
 /// A number more for the change of an entry's count, unless it would be no number of 64 bits.
@@ -44,7 +42,7 @@ pub fn add_change(p: &mut Parts2, s: Short, by: i64)
         → core_with chunks p.new ≡ changed_at (core_with chunks p.old) s.0 (entry_at p.old.table s.0).change }
     ensures counting { IsCounting p.old p.new }
 {
-    let change = p.table.entry(s).change;
+    let change = p.table.used_entry(s).change;
     let new = match change.checked_add(by) {
         Some(sum) => sum,
         None => change,

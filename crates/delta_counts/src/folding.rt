@@ -37,7 +37,7 @@ pub fn fold<H: Host>(
     ensures same_host { disk.new.host.ghost_name ≡ disk.old.host.ghost_name }
     ensures fault { IfErr result (IsFault (H.tells Role.Work) (H.faults disk.old.host.now Role.Work) (H.faults disk.new.host.now Role.Work) (IsSlotPlace disk.old.rest) (entry_at p.old.table s.0).name) }
 {
-    let e = p.table.entry(s);
+    let e = p.table.used_entry(s);
     let count = disk.add_count(e.name, e.change)?;
     set_change(p, s, 0);
     Ok(count)

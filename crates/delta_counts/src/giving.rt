@@ -60,7 +60,7 @@ pub fn give_up<H: Host>(
     ensures same_host { disk.new.host.ghost_name ≡ disk.old.host.ghost_name }
     ensures fault { IfErr result (IsFault (H.tells Role.Work) (H.faults disk.old.host.now Role.Work) (H.faults disk.new.host.now Role.Work) (IsSlotPlace disk.old.rest) (entry_at p.old.table s.0).name) }
 {
-    let name = p.table.entry(s).name;
+    let name = p.table.used_entry(s).name;
     let count = fold(p, disk, s)?;
     p.resident.remove(name);
     p.table.give(s);
