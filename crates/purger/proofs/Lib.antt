@@ -13,3 +13,4 @@ pub mod CloseLaws
 pub mod TouchLaws
 pub mod RoundLaws
 pub mod AloneLaws
+pub mod OnlyLaws

@@ -14,7 +14,7 @@ use Rattle.leaf_lambda.specs.declared.parts.Parts.{Parts}
 use Rattle.leaf_lambda.specs.Parts.{core_of, IsParts}
 use Rattle.purger.specs.Marks.{MindsMarks}
 use Rattle.purger.specs.Purge.{HasRoom, KeepsBodies}
-use Rattle.purger.specs.Rounds.{KeepsAllBut, LosesFew, LostInNeed, StopsInTime}
+use Rattle.purger.specs.Rounds.{HasOnlyOf, HasNoLess, KeepsAllBut, LosesFew, LostInNeed, StopsInTime}
 
 pub kept-all : (s : ℕ) (c d : Core) → KeepsBodies c d → KeepsAllBut s c d
 kept-all s c d keeps t p at = inr (keeps t p at)
@@ -53,15 +53,17 @@ round-none part words entries p = record { few = few-none (core_of p); stops = i
 pub round-stops : (part words entries i : ℕ) (p q : Parts) → IsRound part words entries i p q → StopsInTime part words entries p q
 round-stops part words entries i p q r = ⊎_elim (λ (low : i ≤ part). inl (few-part i part (core_of p) (core_of q) low r.few)) (λ need. inr need) r.stops
 
-pub round-more : (part words entries i s : ℕ) (p q r : Parts) → IsRound part words entries i p q → IsParts q → IsTight (core_of q) → size_of q.segment ≡ size_of p.segment → MindsMarks (core_of p) (core_of q)
+pub round-more : (part words entries i s : ℕ) (p q r : Parts) → IsRound part words entries i p q → IsParts q → IsTight (core_of q) → size_of q.segment ≡ size_of p.segment → HasOnlyOf (core_of p) (core_of q) → HasNoLess p q → MindsMarks (core_of p) (core_of q)
     → (i < part ⊎ (HasRoom q words entries → ⊥)) → KeepsAllBut s (core_of q) (core_of r) → IsRound part words entries (i + 1) p r
-round-more part words entries i s p q r x parts tight size minds goes one = record {
+round-more part words entries i s p q r x parts tight size only less minds goes one = record {
   few = few-more i s (core_of p) (core_of q) (core_of r) x.few one;
   stops = ⊎_elim (λ (low : i < part). inl (omega arith)) (λ (none : HasRoom q words entries → ⊥). inr record {
     before = q;
     parts = parts;
     tight = tight;
     size = size;
+    only = only;
+    less = less;
     out = minds.out;
     wanting = none;
     last = s;

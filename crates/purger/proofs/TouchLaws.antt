@@ -3,7 +3,7 @@ use Rattle.std.proofs.Common.{◌≡◌, ℕ, ◌+◌, Bool, true, refl, sym, �
 use Rattle.loom_host.specs.declared.outside.Host.{Ghosts}
 use Rattle.disk_objects.specs.declared.rest.DiskRest.{DiskRest}
 use Rattle.object_table.specs.declared.entry.Entry.{Entry}
-use Rattle.object_table.specs.Entries.{put, is_used, place_of, sum_below}
+use Rattle.object_table.specs.Entries.{put, is_used, place_of, sum_below, with_touched}
 use Rattle.core_segment.specs.Chunks.{Chunk}
 use Rattle.core_view.specs.Core.{Core, with_entry}
 use Rattle.core_view.specs.Counts.{names, holders_in, holders, outside, marked_by, marked_of, change_by}
@@ -16,39 +16,39 @@ use Rattle.leaf_lambda.specs.declared.parts.Parts.{Parts}
 use Rattle.leaf_lambda.specs.Parts.{core_of, IsParts}
 use Rattle.purger.specs.Counts.{KeepsCounts, KeepsSound}
 use Rattle.purger.specs.Marks.{AreHere, KeepsMarks, MindsMarks}
-use Rattle.purger.specs.Touches.{with_touch, IsTouching}
+use Rattle.purger.specs.Touches.{IsTouching}
 use Rattle.purger.proofs.MindLaws.{NoneCame, minds-kept}
 use Rattle.purger.proofs.NamingLaws.{counts-free}
 use Rattle.purger.proofs.SoundLaws.{core-sound}
 
 -- ---- one entry
 
-step-of : (c : Core) (s : ℕ) (b : Bool) → IsCore c → is_used (c.entries s).state ≡ true → IsStep c s (with_touch (c.entries s) b)
-step-of c s b core used = touch-step c s (c.entries s).refs (c.entries s).change (with_touch (c.entries s) b).flags core used (core.counted s)
+step-of : (c : Core) (s : ℕ) (b : Bool) → IsCore c → is_used (c.entries s).state ≡ true → IsStep c s (with_touched (c.entries s) b)
+step-of c s b core used = touch-step c s (c.entries s).refs (c.entries s).change (with_touched (c.entries s) b).flags core used (core.counted s)
 
-pub touch-core : (c : Core) (s : ℕ) (b : Bool) → IsCore c → is_used (c.entries s).state ≡ true → IsCore (with_entry c s (with_touch (c.entries s) b))
-touch-core c s b core used = step-core c s (with_touch (c.entries s) b) core (step-of c s b core used)
+pub touch-core : (c : Core) (s : ℕ) (b : Bool) → IsCore c → is_used (c.entries s).state ≡ true → IsCore (with_entry c s (with_touched (c.entries s) b))
+touch-core c s b core used = step-core c s (with_touched (c.entries s) b) core (step-of c s b core used)
 
-pub touch-stays : (c : Core) (s : ℕ) (b : Bool) → IsCore c → is_used (c.entries s).state ≡ true → Stays c (with_entry c s (with_touch (c.entries s) b))
+pub touch-stays : (c : Core) (s : ℕ) (b : Bool) → IsCore c → is_used (c.entries s).state ≡ true → Stays c (with_entry c s (with_touched (c.entries s) b))
 touch-stays c s b core used disk backed = record {
-  backed = touch-backed c disk s (c.entries s).refs (c.entries s).change (with_touch (c.entries s) b).flags core backed (step-of c s b core used) (λ e. e) refl;
-  held = touch-held c disk s (c.entries s).refs (c.entries s).change (with_touch (c.entries s) b).flags core (step-of c s b core used);
+  backed = touch-backed c disk s (c.entries s).refs (c.entries s).change (with_touched (c.entries s) b).flags core backed (step-of c s b core used) (λ e. e) refl;
+  held = touch-held c disk s (c.entries s).refs (c.entries s).change (with_touched (c.entries s) b).flags core (step-of c s b core used);
 }
 
-pub touch-outside : (c : Core) (s t : ℕ) (b : Bool) → IsCore c → is_used (c.entries s).state ≡ true → outside (with_entry c s (with_touch (c.entries s) b)) t ≡ outside c t
+pub touch-outside : (c : Core) (s t : ℕ) (b : Bool) → IsCore c → is_used (c.entries s).state ≡ true → outside (with_entry c s (with_touched (c.entries s) b)) t ≡ outside c t
 unfolding holders
 touch-outside c s t b core used =
-    let all : outside (with_entry c s (with_touch (c.entries s) b)) t + count_by (names t) (holders_in c.chunks (c.entries s) (place_of (c.entries s).state)) + (c.entries t).refs ≡ outside c t + count_by (names t) (holders_in c.chunks (c.entries s) (place_of (c.entries s).state)) + (put c.entries s (with_touch (c.entries s) b) t).refs =
-    step-outside c s (with_touch (c.entries s) b) t core (step-of c s b core used) in
-    let refs : (put c.entries s (with_touch (c.entries s) b) t).refs ≡ (c.entries t).refs = at-entry c.entries s (with_touch (c.entries s) b) (λ q e. e.refs ≡ (c.entries q).refs) refl (λ q away. refl) t in
+    let all : outside (with_entry c s (with_touched (c.entries s) b)) t + count_by (names t) (holders_in c.chunks (c.entries s) (place_of (c.entries s).state)) + (c.entries t).refs ≡ outside c t + count_by (names t) (holders_in c.chunks (c.entries s) (place_of (c.entries s).state)) + (put c.entries s (with_touched (c.entries s) b) t).refs =
+    step-outside c s (with_touched (c.entries s) b) t core (step-of c s b core used) in
+    let refs : (put c.entries s (with_touched (c.entries s) b) t).refs ≡ (c.entries t).refs = at-entry c.entries s (with_touched (c.entries s) b) (λ q e. e.refs ≡ (c.entries q).refs) refl (λ q away. refl) t in
     omega arith
 
-pub touch-one : (c : Core) (s : ℕ) (b : Bool) → IsTouching c (with_entry c s (with_touch (c.entries s) b))
+pub touch-one : (c : Core) (s : ℕ) (b : Bool) → IsTouching c (with_entry c s (with_touched (c.entries s) b))
 touch-one c s b = record {
   find = refl;
   bound = refl;
   chunks = refl;
-  entries = at-entry c.entries s (with_touch (c.entries s) b) (λ q e. e ≡ with_touch (c.entries q) e.flags.touched) refl (λ q away. refl);
+  entries = at-entry c.entries s (with_touched (c.entries s) b) (λ q e. e ≡ with_touched (c.entries q) e.flags.touched) refl (λ q away. refl);
 }
 
 -- ---- nothing but this flag differs
@@ -57,7 +57,7 @@ pub Touching-refl : (c : Core) → IsTouching c c
 Touching-refl c = record { find = refl; bound = refl; chunks = refl; entries = λ q. refl }
 
 -- what isn't the flag
-pub touch-same : {A : Type 0} (c d : Core) (q : ℕ) (f : Entry → A) → IsTouching c d → ((e : Entry) (b : Bool) → f (with_touch e b) ≡ f e) → f (d.entries q) ≡ f (c.entries q)
+pub touch-same : {A : Type 0} (c d : Core) (q : ℕ) (f : Entry → A) → IsTouching c d → ((e : Entry) (b : Bool) → f (with_touched e b) ≡ f e) → f (d.entries q) ≡ f (c.entries q)
 touch-same {A} c d q f step blind = ap f (step.entries q) ∙ blind (c.entries q) (d.entries q).flags.touched
 
 pub touch-state : (c d : Core) (q : ℕ) → IsTouching c d → (d.entries q).state ≡ (c.entries q).state

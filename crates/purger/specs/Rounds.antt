@@ -1,12 +1,12 @@
--- How far a round of the hand goes: over a part of the table, and on only while there is no room.
+-- How far a round of the hand goes, and a making of room: over a part of the table, and on only while there is no room.
 use Rattle.std.specs.Prelude.{◌≡◌, ◌⊎◌, ℕ, ◌≤◌, List, length, Some, slice_get}
 use Rattle.object_table.specs.Entries.{place_of}
-use Rattle.core_segment.specs.Segment.{size_of}
+use Rattle.core_segment.specs.Segment.{free_of, size_of}
 use Rattle.core_view.specs.Core.{Core}
 use Rattle.core_view.specs.Kept.{IsTight}
 use Rattle.core_view.specs.Purge.{IsSameBody}
 use Rattle.leaf_lambda.specs.declared.parts.Parts.{Parts}
-use Rattle.leaf_lambda.specs.Parts.{core_of, IsParts}
+use Rattle.leaf_lambda.specs.Parts.{core_of, spare_of, IsParts}
 use Rattle.purger.specs.Marks.{IsOut}
 use Rattle.purger.specs.Purge.{HasRoom}
 
@@ -20,6 +20,15 @@ pub record LosesFew (n : ℕ) (old new : Core) : Type 0 where
   pub few : length gone ≤ n
   pub stays : (t p : ℕ) → place_of (old.entries t).state ≡ Some p → ((k : ℕ) × (slice_get gone k ≡ Some t)) ⊎ IsSameBody old new t p
 
+-- what has a body had one before, the same
+abbrev pub HasOnlyOf : Core → Core → Type 0
+HasOnlyOf old new = (t p : ℕ) → place_of (new.entries t).state ≡ Some p → (q : ℕ) × (place_of (old.entries t).state ≡ Some q) × IsSameBody old new t q
+
+-- no fewer words and entries are free than before
+pub record HasNoLess (old new : Parts) : Type 0 where
+  pub words : free_of old.segment ≤ free_of new.segment
+  pub entries : spare_of old ≤ spare_of new
+
 -- Before the last object left, so many words or entries weren't free.
 pub record LostInNeed (words entries : ℕ) (old new : Parts) : Type 0 where
   pub before : Parts
@@ -27,6 +36,9 @@ pub record LostInNeed (words entries : ℕ) (old new : Parts) : Type 0 where
   pub parts : IsParts before
   pub tight : IsTight (core_of before)
   pub size : size_of before.segment ≡ size_of old.segment
+  -- each body in them was there, and no more of them was in use
+  pub only : HasOnlyOf (core_of old) (core_of before)
+  pub less : HasNoLess old before
   pub out : (n : ℕ) → IsOut (core_of old) n → IsOut (core_of before) n
   pub wanting : HasRoom before words entries → ⊥
   -- and at most one object left since

@@ -44,7 +44,7 @@ fn stays_named(p: &Parts, w: u16) -> bool
     if !is_name(w) {
         return true;
     }
-    let e = p.names.table.entry(Short(w));
+    let e = p.names.table.used_entry(Short(w));
     e.refs > 1
 }
 
@@ -105,7 +105,7 @@ pub(crate) fn free_alone<H: Host>(
     ensures same_host { disk.new.host.ghost_name ≡ disk.old.host.ghost_name }
     ensures fault { IfErr result (IsReadFault (H.tells Role.Work) (H.faults disk.old.host.now Role.Work) (H.faults disk.new.host.now Role.Work)) }
 {
-    let e = p.names.table.entry(s);
+    let e = p.names.table.used_entry(s);
     drop_record(disk, e.name, e.flags.fresh)?;
     forget(p, s);
     lower_short(&mut p.names, e.class.0);

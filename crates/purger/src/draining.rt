@@ -163,7 +163,7 @@ fn free_body<H: Host>(
     ensures fault { IfErr result (IsReadFault (H.tells Role.Work) (H.faults disk.old.host.now Role.Work) (H.faults disk.new.host.now Role.Work)) }
 {
     let at = place_of_body(p, s);
-    let e = p.names.table.entry(s);
+    let e = p.names.table.used_entry(s);
     read_copy(p, disk, buf, s, at)?;
     merge_out(p, s, buf);
     drop_record(disk, e.name, e.flags.fresh)?;

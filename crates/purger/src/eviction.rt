@@ -98,7 +98,7 @@ pub fn read_copy<H: Host>(
 {
     // a told record is like its object
     own_record_is_like();
-    let e = p.names.table.entry(s);
+    let e = p.names.table.used_entry(s);
     if e.flags.fresh {
         return Ok(());
     }
@@ -183,7 +183,7 @@ fn is_clean(p: &Parts, s: Short) -> bool
     requires used { is_used ((core_of p.now).entries s.0).state ≡ true }
     ensures clean { IsTrue result → (((core_of p.now).entries s.0).flags.fresh ≡ false) × (((core_of p.now).entries s.0).flags.changed ≡ false) }
 {
-    let e = p.names.table.entry(s);
+    let e = p.names.table.used_entry(s);
     if e.flags.fresh {
         return false;
     }
@@ -268,7 +268,7 @@ fn fold_change<H: Host>(
     ensures same_host { disk.new.host.ghost_name ≡ disk.old.host.ghost_name }
     ensures fault { IfErr result (IsReadFault (H.tells Role.Work) (H.faults disk.old.host.now Role.Work) (H.faults disk.new.host.now Role.Work)) }
 {
-    let e = p.names.table.entry(s);
+    let e = p.names.table.used_entry(s);
     if e.change == 0 {
         return Ok(());
     }
@@ -297,7 +297,7 @@ fn fold_leaf<H: Host>(
     ensures same_host { disk.new.host.ghost_name ≡ disk.old.host.ghost_name }
     ensures fault { IfErr result (IsReadFault (H.tells Role.Work) (H.faults disk.old.host.now Role.Work) (H.faults disk.new.host.now Role.Work)) }
 {
-    let e = p.names.table.entry(s);
+    let e = p.names.table.used_entry(s);
     if e.refs == 0 {
         return give_up(&mut p.names, disk, s);
     }

@@ -18,7 +18,7 @@ fn is_last(p: &Parts, w: u16) -> bool
     if !is_name(w) {
         return false;
     }
-    let e = p.names.table.entry(Short(w));
+    let e = p.names.table.used_entry(Short(w));
     if e.place().is_some() {
         return false;
     }
@@ -31,7 +31,7 @@ pub fn idle_behind(p: &Parts, s: Short) -> u32
     requires body { (at : ℕ) × (place_of ((core_of p.now).entries s.0).state ≡ Some at) }
 {
     let at = place_of_body(p, s);
-    let class = p.names.table.entry(s).class;
+    let class = p.names.table.used_entry(s).class;
     let mut idle = u32::from(is_last(p, class.0));
     for i in 0..field_total(p, s, at) {
         let w = field_word(p, s, at, i);

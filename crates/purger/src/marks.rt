@@ -40,7 +40,7 @@ pub fn unmark_for(p: &mut Parts, s: Short)
     ensures spare { spare_of p.new ≡ spare_of p.old }
     ensures segment { p.new.segment ≡ p.old.segment }
 {
-    let e = p.names.table.entry(s);
+    let e = p.names.table.used_entry(s);
     if e.flags.marked {
         unmark_all(p);
     }

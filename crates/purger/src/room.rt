@@ -15,7 +15,7 @@ ghost use Rattle.leaf_lambda.specs.Parts.{core_of, spare_of, IsParts};
 ghost use Rattle.purger.specs.Counts.{HasSound, KeepsCounts, KeepsSound};
 ghost use Rattle.purger.specs.Marks.{AreHere, KeepsMarks, LeavesMarks, MindsMarks};
 ghost use Rattle.purger.specs.Purge.{HasRoom, IsShort, KeepsBodies, OnShort, OnDisk, Undisturbed, IsPurgeFault};
-ghost use Rattle.purger.specs.Rounds.{KeepsAllBut, StopsInTime};
+ghost use Rattle.purger.specs.Rounds.{HasNoLess, HasOnlyOf, KeepsAllBut, LostInNeed, StopsInTime};
 ghost use Rattle.purger.specs.declared.room.TheConstants.{ROUND_PARTS};
 
 use crate::eviction::evict;
@@ -148,6 +148,7 @@ fn free_enough<H: Host>(
     ensures marks { KeepsMarks (core_of p.old) (core_of p.new) }
     ensures here { AreHere (core_of p.new) }
     ensures segment { p.new.segment ≡ p.old.segment }
+    ensures more { spare_of p.old ≤ spare_of p.new }
     ensures limit { disk_room disk.new.rest ≡ disk_room disk.old.rest }
     ensures work { IsWorkOnly H.Host disk.old.host.now disk.new.host.now }
     ensures same_host { disk.new.host.ghost_name ≡ disk.old.host.ghost_name }
@@ -229,6 +230,7 @@ fn leave<H: Host>(
     ensures tight { IsTight (core_of p.new) }
     ensures gone { OnOk result (place_of ((core_of p.new).entries s.0).state ≡ None) }
     ensures purged { (a b d : ℕ) → is_among a b d s.0 ≡ false → IsPurged a b d (core_of p.old) (core_of p.new) }
+    ensures less { OnOk result (HasNoLess p.old p.new) }
     ensures sound { IsTrue (H.tells Role.Work) → OnOk result (KeepsSound H.Host p.old disk.old.host.now disk.old.rest p.new disk.new.host.now disk.new.rest) }
     ensures marks { LeavesMarks (core_of p.old) (core_of p.new) }
     ensures minds { OnOk result (MindsMarks (core_of p.old) (core_of p.new)) }
@@ -262,6 +264,8 @@ fn evict_one<H: Host>(
     ensures parts { IsParts p.new }
     ensures tight { IsTight (core_of p.new) }
     ensures purged { (a b d : ℕ) → is_among a b d s.0 ≡ false → IsPurged a b d (core_of p.old) (core_of p.new) }
+    ensures only { OnOk result (HasOnlyOf (core_of p.old) (core_of p.new)) }
+    ensures less { OnOk result (HasNoLess p.old p.new) }
     ensures gone { OnOk result (place_of ((core_of p.new).entries s.0).state ≡ None) }
     ensures sound { IsTrue (H.tells Role.Work) → OnOk result (KeepsSound H.Host p.old disk.old.host.now disk.old.rest p.new disk.new.host.now disk.new.rest) }
     ensures marks { LeavesMarks (core_of p.old) (core_of p.new) }
@@ -299,6 +303,10 @@ fn evict_more<H: Host>(
     ensures parts { IsParts p.new }
     ensures tight { IsTight (core_of p.new) }
     ensures purged { IsPurged pinned.now.a pinned.now.b pinned.now.d (core_of p.old) (core_of p.new) }
+    ensures one { KeepsAllBut s.0 (core_of p.old) (core_of p.new) }
+    ensures only { OnOk result (HasOnlyOf (core_of p.old) (core_of p.new)) }
+    ensures less { OnOk result (HasNoLess p.old p.new) }
+    ensures stops { OnOk result (KeepsBodies (core_of p.old) (core_of p.new) ⊎ (HasRoom p.old words entries → ⊥)) }
     ensures gone { OnOk result (HasRoom p.new words entries
         ⊎ ((at : ℕ) → place_of ((core_of p.new).entries s.0).state ≡ Some at → is_among pinned.now.a pinned.now.b pinned.now.d s.0 ≡ true)) }
     ensures needless { HasRoom p.old words entries → (result ≡ Ok idle) × (p.new ≡ p.old)
@@ -360,6 +368,8 @@ fn pass<H: Host>(
     ensures tight { IsTight (core_of p.new) }
     ensures one { KeepsAllBut s.0 (core_of p.old) (core_of p.new) }
     ensures purged { IsPurged pinned.now.a pinned.now.b pinned.now.d (core_of p.old) (core_of p.new) }
+    ensures only { OnOk result (HasOnlyOf (core_of p.old) (core_of p.new)) }
+    ensures less { OnOk result (HasNoLess p.old p.new) }
     ensures sound { IsTrue (H.tells Role.Work) → OnOk result (KeepsSound H.Host p.old disk.old.host.now disk.old.rest p.new disk.new.host.now disk.new.rest) }
     ensures marks { LeavesMarks (core_of p.old) (core_of p.new) }
     ensures minds { OnOk result (MindsMarks (core_of p.old) (core_of p.new)) }
@@ -425,6 +435,8 @@ fn go_round<H: Host>(
     ensures tight { IsTight (core_of p.new) }
     ensures stops { OnOk result (StopsInTime (entries_of p.old.names.table / ROUND_PARTS) words entries p.old p.new) }
     ensures purged { IsPurged pinned.now.a pinned.now.b pinned.now.d (core_of p.old) (core_of p.new) }
+    ensures only { OnOk result (HasOnlyOf (core_of p.old) (core_of p.new)) }
+    ensures less { OnOk result (HasNoLess p.old p.new) }
     ensures sound { IsTrue (H.tells Role.Work) → OnOk result (KeepsSound H.Host p.old disk.old.host.now disk.old.rest p.new disk.new.host.now disk.new.rest) }
     ensures marks { LeavesMarks (core_of p.old) (core_of p.new) }
     ensures minds { OnOk result (MindsMarks (core_of p.old) (core_of p.new)) }
@@ -504,6 +516,7 @@ fn clear_out<H: Host>(
     requires counted { IsTrue (H.tells Role.Work) → disk_held disk.old.rest + fresh_of (core_of p.old) ≤ disk_room disk.old.rest }
     ensures parts { IsParts p.new }
     ensures tight { IsTight (core_of p.new) }
+    ensures stops { OnOk result (KeepsBodies (core_of p.old) (core_of p.new) ⊎ LostInNeed words entries p.old p.new) }
     ensures purged { IsPurged pinned.now.a pinned.now.b pinned.now.d (core_of p.old) (core_of p.new) }
     ensures room { OnOk result ((words ≤ largest_of p.new.segment) × (entries ≤ spare_of p.new)) }
     ensures short { IfErr result (λ f. OnShort f (IsShort p.new pinned.now.a pinned.now.b pinned.now.d words entries)) }
@@ -544,6 +557,7 @@ fn purge<H: Host>(
     requires counted { IsTrue (H.tells Role.Work) → disk_held disk.old.rest + fresh_of (core_of p.old) ≤ disk_room disk.old.rest }
     ensures parts { IsParts p.new }
     ensures tight { IsTight (core_of p.new) }
+    ensures stops { OnOk result (StopsInTime (entries_of p.old.names.table / ROUND_PARTS) words entries p.old p.new) }
     ensures purged { IsPurged pinned.now.a pinned.now.b pinned.now.d (core_of p.old) (core_of p.new) }
     ensures room { OnOk result ((words ≤ largest_of p.new.segment) × (entries ≤ spare_of p.new)) }
     ensures short { IfErr result (λ f. OnShort f (IsShort p.new pinned.now.a pinned.now.b pinned.now.d words entries)) }
@@ -569,7 +583,8 @@ fn purge<H: Host>(
 }
 
 /// Makes room: so many words and entries are free after it, the words as one chunk, and three objects stay in the core. Where that many
-/// were free before, it succeeds, no body goes and Work isn't touched. Short only where nothing more can go and that many aren't free.
+/// were free before, it succeeds, no body goes and Work isn't touched. Else a part of the table may go at once, and more only while that many
+/// aren't free (`stops`). Short only where nothing more can go and that many aren't free.
 /// `hand` is where in the table what goes is looked for first, and moves on; any number will do.
 pub fn make_room<H: Host>(
     p: &mut Parts,
@@ -587,6 +602,7 @@ pub fn make_room<H: Host>(
     requires counted { IsTrue (H.tells Role.Work) → disk_held disk.old.rest + fresh_of (core_of p.old) ≤ disk_room disk.old.rest }
     ensures parts { IsParts p.new }
     ensures tight { IsTight (core_of p.new) }
+    ensures stops { OnOk result (StopsInTime (entries_of p.old.names.table / ROUND_PARTS) words entries p.old p.new) }
     ensures purged { IsPurged pinned.now.a pinned.now.b pinned.now.d (core_of p.old) (core_of p.new) }
     ensures room { OnOk result ((words ≤ largest_of p.new.segment) × (entries ≤ spare_of p.new)) }
     ensures short { IfErr result (λ f. OnShort f (IsShort p.new pinned.now.a pinned.now.b pinned.now.d words entries)) }

@@ -23,9 +23,7 @@ fn set_touched(p: &mut Parts, s: Short, touched: bool)
     ensures spare { spare_of p.new ≡ spare_of p.old }
     ensures segment { p.new.segment ≡ p.old.segment }
 {
-    let mut e = p.names.table.entry(s);
-    e.flags.touched = touched;
-    p.names.table.set(s, e);
+    p.names.table.set_touched(s, touched);
 }
 
 /// The entry that a word names was used: the hand passes over it once. Written only where it doesn't say so already.
@@ -57,7 +55,7 @@ pub fn is_touched(p: &Parts, s: Short) -> bool
     requires used { is_used ((core_of p.now).entries s.0).state ≡ true }
     ensures { result ≡ ((core_of p.now).entries s.0).flags.touched }
 {
-    p.names.table.entry(s).flags.touched
+    p.names.table.used_entry(s).flags.touched
 }
 
 /// The hand passed over this entry.

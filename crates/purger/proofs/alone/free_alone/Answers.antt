@@ -21,12 +21,9 @@ use Rattle.purger.proofs.AloneLaws.{alone-reached, alone-words, class-hand, clas
 use Rattle.purger.proofs.alone.free_alone.Goals as goal
 use Rattle.purger.proofs.alone.free_alone.Given as given
 
-pub entry-e-requires-clause-short : goal.entry-e-requires-clause-short
-entry-e-requires-clause-short g c = c.requires.parts.core.short c.args.s.0 (Rattle.core_view.proofs.Core.placed-used ((core_of c.args.p.now).entries c.args.s.0).state c.requires.body.0 c.requires.body.1)
-
-pub entry-e-requires-clause-within : goal.entry-e-requires-clause-within
+pub used_entry-e-requires : goal.used_entry-e-requires
 unfolding core_of
-entry-e-requires-clause-within g c = c.requires.parts.core.within c.args.s.0 (Rattle.core_view.proofs.Core.placed-used ((core_of c.args.p.now).entries c.args.s.0).state c.requires.body.0 c.requires.body.1)
+used_entry-e-requires g c = Rattle.core_view.proofs.Core.placed-used ((core_of c.args.p.now).entries c.args.s.0).state c.requires.body.0 c.requires.body.1
 
 pub drop_record-requires : goal.drop_record-requires
 unfolding core_of
@@ -36,8 +33,8 @@ drop_record-requires g c = record {
         x.0.stored,
         x.0.pending,
         x.1.disk,
-        may-drop x.0 c.args.s.0 c.requires.body.0 c.entry-e.result.name c.entry-e.result.flags.fresh c.entry-e.result x.2 (entry-at c.args.p.now x.0 c.args.s.0 c.entry-e.result (core-at g.H.Host c.args.p.now c.args.disk.now.host.now c.args.disk.now.rest x.0 x.1) c.entry-e.ensures)
-            (ap (λ (e : Entry). place_of e.state) c.entry-e.ensures ∙ c.requires.body.1) refl refl,
+        may-drop x.0 c.args.s.0 c.requires.body.0 c.used_entry-e.result.name c.used_entry-e.result.flags.fresh c.used_entry-e.result x.2 (entry-at c.args.p.now x.0 c.args.s.0 c.used_entry-e.result (core-at g.H.Host c.args.p.now c.args.disk.now.host.now c.args.disk.now.rest x.0 x.1) c.used_entry-e.ensures)
+            (ap (λ (e : Entry). place_of e.state) c.used_entry-e.ensures ∙ c.requires.body.1) refl refl,
       );
 }
 
@@ -46,7 +43,7 @@ lower_short-requires-clause-names g c = parts-names c.forget.new.p c.forget.ensu
 
 pub lower_short-requires-clause-used : goal.lower_short-requires-clause-used
 unfolding core_of
-lower_short-requires-clause-used g c = subst (λ (e : Entry). Rattle.delta_counts.specs.Shorts.IsAtHand c.forget.new.p.names e.class.0) (sym c.entry-e.ensures)
+lower_short-requires-clause-used g c = subst (λ (e : Entry). Rattle.delta_counts.specs.Shorts.IsAtHand c.forget.new.p.names e.class.0) (sym c.used_entry-e.ensures)
     (class-hand (core_of c.args.p.now) c.forget.new.p c.args.s.0 c.requires.body.0 c.requires.parts.core c.requires.body.1 c.requires.none c.forget.ensures.forgotten)
 
 pub lower_shorts-requires-clause-names : goal.lower_shorts-requires-clause-names
@@ -69,19 +66,19 @@ returns-clause-freed g c = λ told t at x dead.
     let q : Parts = record { segment = m.segment; names = c.lower_shorts.new.p } in
     let is = core-at h p c.args.disk.now.host.now c.args.disk.now.rest t at in
     let o = object_at (core_of p) (records_of t) ((core_of p).entries s) a in
-    let name = ap (λ (e : Entry). e.name) c.entry-e.ensures in
-    let may = may-drop t s a c.entry-e.result.name c.entry-e.result.flags.fresh c.entry-e.result x (entry-at p t s c.entry-e.result is c.entry-e.ensures) (ap (λ (e : Entry). place_of e.state) c.entry-e.ensures ∙ c.requires.body.1) refl refl in
+    let name = ap (λ (e : Entry). e.name) c.used_entry-e.ensures in
+    let may = may-drop t s a c.used_entry-e.result.name c.used_entry-e.result.flags.fresh c.used_entry-e.result x (entry-at p t s c.used_entry-e.result is c.used_entry-e.ensures) (ap (λ (e : Entry). place_of e.state) c.used_entry-e.ensures ∙ c.requires.body.1) refl refl in
     let stored = c.in_ok-drop_record.ensures.dropped told t.stored t.pending at.disk may in
     let gone = c.forget.ensures.forgotten in
-    let w = forgotten-owed h m c.drop_record.new.disk.host.now c.drop_record.new.disk.rest t (core_of p) o c.entry-e.result.name s a is x c.requires.body.1 dead gone name refl stored in
+    let w = forgotten-owed h m c.drop_record.new.disk.host.now c.drop_record.new.disk.rest t (core_of p) o c.used_entry-e.result.name s a is x c.requires.body.1 dead gone name refl stored in
     let same = counting-of g c in
     let words = alone-words (core_of p) (records_of t) s a c.args.words.now c.requires.parts.core c.requires.body.1 c.requires.fields c.requires.whole in
-    let first = subst (λ (v : Value). Lowers m.names c.lower_short.new.p (v ∷ [])) (ap (λ (e : Entry). short_value (Rattle.object_table.specs.Table.entry_at m.names.table) e.class.0) c.entry-e.ensures ∙ class-same (core_of p) m s a c.requires.parts.core c.requires.body.1 c.requires.none gone) c.lower_short.ensures.lowered in
+    let first = subst (λ (v : Value). Lowers m.names c.lower_short.new.p (v ∷ [])) (ap (λ (e : Entry). short_value (Rattle.object_table.specs.Table.entry_at m.names.table) e.class.0) c.used_entry-e.ensures ∙ class-same (core_of p) m s a c.requires.parts.core c.requires.body.1 c.requires.none gone) c.lower_short.ensures.lowered in
     let last = subst (λ vs. Lowers c.lower_short.new.p c.lower_shorts.new.p vs) (words-same (core_of p) m c.lower_short.new.p s a c.args.words.now c.requires.parts.core c.requires.body.1 c.requires.none gone c.lower_short.ensures.counting c.requires.fields c.requires.whole) c.lower_shorts.ensures.lowered in
-    freed-thinned h p m q c.drop_record.new.disk.host.now c.drop_record.new.disk.host.now c.drop_record.new.disk.rest c.drop_record.new.disk.rest t o c.entry-e.result.name s is x dead name gone
+    freed-thinned h p m q c.drop_record.new.disk.host.now c.drop_record.new.disk.host.now c.drop_record.new.disk.rest c.drop_record.new.disk.rest t o c.used_entry-e.result.name s is x dead name gone
     (giving-bodies m q c.forget.ensures.parts refl (counting-giving m.names c.lower_shorts.new.p same))
     (forgotten-minds p m q s a c.requires.parts c.forget.ensures.parts c.requires.body.1 c.requires.unmarked c.requires.marks gone refl (counting-giving m.names c.lower_shorts.new.p same)) w
-    (alone-reached h m c.lower_short.new.p c.lower_shorts.new.p c.drop_record.new.disk.host.now c.drop_record.new.disk.rest t o c.entry-e.result.name _ _ words first last same w)
+    (alone-reached h m c.lower_short.new.p c.lower_shorts.new.p c.drop_record.new.disk.host.now c.drop_record.new.disk.rest t o c.used_entry-e.result.name _ _ words first last same w)
 
 pub returns-in_err-drop_record-clause-leaves : goal.returns-in_err-drop_record-clause-leaves
 returns-in_err-drop_record-clause-leaves g c = leaves-refl c.args.p.now c.requires.parts c.requires.tight c.requires.marks

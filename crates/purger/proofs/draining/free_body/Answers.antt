@@ -22,12 +22,9 @@ use Rattle.purger.proofs.ForgetLaws.{forgotten-leaves, forgotten-owed}
 use Rattle.purger.proofs.DrainLaws.{body-values, entry-at, forgotten-away, forgotten-minds, freed-thinned, may-drop, read-later, words-read-if}
 use Rattle.purger.proofs.draining.free_body.Goals as goal
 
-pub entry-e-requires-clause-short : goal.entry-e-requires-clause-short
-entry-e-requires-clause-short g c = c.requires.parts.core.short c.args.s.0 (Rattle.core_view.proofs.Core.placed-used ((core_of c.args.p.now).entries c.args.s.0).state c.requires.body.0 c.requires.body.1)
-
-pub entry-e-requires-clause-within : goal.entry-e-requires-clause-within
+pub used_entry-e-requires : goal.used_entry-e-requires
 unfolding core_of
-entry-e-requires-clause-within g c = c.requires.parts.core.within c.args.s.0 (Rattle.core_view.proofs.Core.placed-used ((core_of c.args.p.now).entries c.args.s.0).state c.requires.body.0 c.requires.body.1)
+used_entry-e-requires g c = Rattle.core_view.proofs.Core.placed-used ((core_of c.args.p.now).entries c.args.s.0).state c.requires.body.0 c.requires.body.1
 
 pub read_copy-requires-clause-stands : goal.read_copy-requires-clause-stands
 read_copy-requires-clause-stands g c = has-objects g.H.Host c.args.p.now c.args.disk.now.host.now c.args.disk.now.rest (λ told. let x = c.requires.dead told in (x.0, x.1, x.2))
@@ -43,8 +40,8 @@ drop_record-requires g c = record {
         x.0.stored,
         x.0.pending,
         stored-read g.H.Host c.args.disk.now.host.now c.read_copy.new.disk.host.now c.args.disk.now.rest c.read_copy.new.disk.rest x.0.stored x.0.pending c.read_copy.ensures.rest c.read_copy.ensures.read x.1.disk,
-        may-drop x.0 c.args.s.0 c.place_of_body-at.result.place c.entry-e.result.name c.entry-e.result.flags.fresh c.entry-e.result x.2 (entry-at c.args.p.now x.0 c.args.s.0 c.entry-e.result (core-at g.H.Host c.args.p.now c.args.disk.now.host.now c.args.disk.now.rest x.0 x.1) c.entry-e.ensures)
-            (ap (λ (e : Entry). place_of e.state) c.entry-e.ensures ∙ c.place_of_body-at.ensures) refl refl,
+        may-drop x.0 c.args.s.0 c.place_of_body-at.result.place c.used_entry-e.result.name c.used_entry-e.result.flags.fresh c.used_entry-e.result x.2 (entry-at c.args.p.now x.0 c.args.s.0 c.used_entry-e.result (core-at g.H.Host c.args.p.now c.args.disk.now.host.now c.args.disk.now.rest x.0 x.1) c.used_entry-e.ensures)
+            (ap (λ (e : Entry). place_of e.state) c.used_entry-e.ensures ∙ c.place_of_body-at.ensures) refl refl,
       );
 }
 
@@ -83,12 +80,12 @@ lower_words-requires-clause-sound g c = λ told.
     let is = core-at h p c.args.disk.now.host.now c.args.disk.now.rest x.0 x.1 in
     let object = c.merge_out.ensures.object disk a (sound-backed h p c.args.disk.now.host.now c.args.disk.now.rest x.0 x.1 x.2) c.place_of_body-at.ensures (c.in_ok-read_copy.ensures.there told)
     ∙ ap (λ (d : Disk). object_at (core_of c.args.p.now) d ((core_of c.args.p.now).entries c.args.s.0) c.place_of_body-at.result.place) (sym (disk-at h p c.args.disk.now.host.now c.args.disk.now.rest x.0 x.1)) in
-    let may = may-drop x.0 c.args.s.0 a c.entry-e.result.name c.entry-e.result.flags.fresh c.entry-e.result x.2 (entry-at p x.0 c.args.s.0 c.entry-e.result is c.entry-e.ensures)
-    (ap (λ (e : Entry). place_of e.state) c.entry-e.ensures ∙ c.place_of_body-at.ensures) refl refl in
+    let may = may-drop x.0 c.args.s.0 a c.used_entry-e.result.name c.used_entry-e.result.flags.fresh c.used_entry-e.result x.2 (entry-at p x.0 c.args.s.0 c.used_entry-e.result is c.used_entry-e.ensures)
+    (ap (λ (e : Entry). place_of e.state) c.used_entry-e.ensures ∙ c.place_of_body-at.ensures) refl refl in
     let stored = c.in_ok-drop_record.ensures.dropped told x.0.stored x.0.pending (stored-read h c.args.disk.now.host.now c.read_copy.new.disk.host.now c.args.disk.now.rest c.read_copy.new.disk.rest x.0.stored x.0.pending c.read_copy.ensures.rest c.read_copy.ensures.read x.1.disk) may in
     let gone = subst (λ (m : Parts). IsForgotten c.args.s.0 (core_of m) (core_of c.forget.new.p)) c.merge_out.ensures.same c.forget.ensures.forgotten in
-    let w = forgotten-owed h c.forget.new.p c.drop_record.new.disk.host.now c.drop_record.new.disk.rest x.0 (core_of p) (object_in (raw_of c.merge_out.new.buf)) c.entry-e.result.name c.args.s.0 a is x.2 c.place_of_body-at.ensures x.3 gone
-    (ap (λ (e : Entry). e.name) c.entry-e.ensures) object stored in
+    let w = forgotten-owed h c.forget.new.p c.drop_record.new.disk.host.now c.drop_record.new.disk.rest x.0 (core_of p) (object_in (raw_of c.merge_out.new.buf)) c.used_entry-e.result.name c.args.s.0 a is x.2 c.place_of_body-at.ensures x.3 gone
+    (ap (λ (e : Entry). e.name) c.used_entry-e.ensures) object stored in
     (chunk_at c.forget.new.p.segment, w.levels, w.at, w.sound)
 
 pub returns-clause-freed : goal.returns-clause-freed
@@ -102,13 +99,13 @@ returns-clause-freed g c = λ told t at x dead.
     let is = core-at h p c.args.disk.now.host.now c.args.disk.now.rest t at in
     let object = c.merge_out.ensures.object disk a (sound-backed h p c.args.disk.now.host.now c.args.disk.now.rest t at x) c.place_of_body-at.ensures (c.in_ok-read_copy.ensures.there told)
     ∙ ap (λ (d : Disk). object_at (core_of c.args.p.now) d ((core_of c.args.p.now).entries c.args.s.0) c.place_of_body-at.result.place) (sym (disk-at h p c.args.disk.now.host.now c.args.disk.now.rest t at)) in
-    let may = may-drop t c.args.s.0 a c.entry-e.result.name c.entry-e.result.flags.fresh c.entry-e.result x (entry-at p t c.args.s.0 c.entry-e.result is c.entry-e.ensures)
-    (ap (λ (e : Entry). place_of e.state) c.entry-e.ensures ∙ c.place_of_body-at.ensures) refl refl in
+    let may = may-drop t c.args.s.0 a c.used_entry-e.result.name c.used_entry-e.result.flags.fresh c.used_entry-e.result x (entry-at p t c.args.s.0 c.used_entry-e.result is c.used_entry-e.ensures)
+    (ap (λ (e : Entry). place_of e.state) c.used_entry-e.ensures ∙ c.place_of_body-at.ensures) refl refl in
     let stored = c.in_ok-drop_record.ensures.dropped told t.stored t.pending (stored-read h c.args.disk.now.host.now c.read_copy.new.disk.host.now c.args.disk.now.rest c.read_copy.new.disk.rest t.stored t.pending c.read_copy.ensures.rest c.read_copy.ensures.read at.disk) may in
     let gone = subst (λ (m : Parts). IsForgotten c.args.s.0 (core_of m) (core_of c.forget.new.p)) c.merge_out.ensures.same c.forget.ensures.forgotten in
-    let name = ap (λ (e : Entry). e.name) c.entry-e.ensures in
-    let w = forgotten-owed h c.forget.new.p c.drop_record.new.disk.host.now c.drop_record.new.disk.rest t (core_of p) (object_in (raw_of c.merge_out.new.buf)) c.entry-e.result.name c.args.s.0 a is x c.place_of_body-at.ensures dead gone name object stored in
-    ok-map c.lower_words.result (λ r. freed-thinned h p c.forget.new.p q c.drop_record.new.disk.host.now c.lower_words.new.disk.host.now c.drop_record.new.disk.rest c.lower_words.new.disk.rest t (object_in (raw_of c.merge_out.new.buf)) c.entry-e.result.name c.args.s.0 is x dead name gone
+    let name = ap (λ (e : Entry). e.name) c.used_entry-e.ensures in
+    let w = forgotten-owed h c.forget.new.p c.drop_record.new.disk.host.now c.drop_record.new.disk.rest t (core_of p) (object_in (raw_of c.merge_out.new.buf)) c.used_entry-e.result.name c.args.s.0 a is x c.place_of_body-at.ensures dead gone name object stored in
+    ok-map c.lower_words.result (λ r. freed-thinned h p c.forget.new.p q c.drop_record.new.disk.host.now c.lower_words.new.disk.host.now c.drop_record.new.disk.rest c.lower_words.new.disk.rest t (object_in (raw_of c.merge_out.new.buf)) c.used_entry-e.result.name c.args.s.0 is x dead name gone
     (giving-bodies c.forget.new.p q c.forget.ensures.parts refl (counting-giving c.forget.new.p.names c.lower_words.new.p c.lower_words.ensures.counting))
     (forgotten-minds p c.forget.new.p q c.args.s.0 c.requires.body.0 c.requires.parts c.forget.ensures.parts c.requires.body.1 c.requires.unmarked c.requires.marks gone refl (counting-giving c.forget.new.p.names c.lower_words.new.p c.lower_words.ensures.counting)) w r)
     (c.lower_words.ensures.lowered told (chunk_at c.forget.new.p.segment) w.levels w.at w.sound)

@@ -15,12 +15,9 @@ use Rattle.purger.proofs.SoundLaws.{parts-names, sound-refl, fold-can, folded-no
 use Rattle.purger.proofs.GivingLaws.{slot-read, used-entry}
 use Rattle.purger.proofs.eviction.fold_change.Goals as goal
 
-pub entry-e-requires-clause-short : goal.entry-e-requires-clause-short
-entry-e-requires-clause-short g c = c.requires.parts.core.short c.args.s.0 c.requires.used
-
-pub entry-e-requires-clause-within : goal.entry-e-requires-clause-within
+pub used_entry-e-requires : goal.used_entry-e-requires
 unfolding core_of
-entry-e-requires-clause-within g c = c.requires.parts.core.within c.args.s.0 c.requires.used
+used_entry-e-requires g c = c.requires.used
 
 pub fold-requires-clause-names : goal.fold-requires-clause-names
 fold-requires-clause-names g c = parts-names c.args.p.now c.requires.parts
@@ -66,9 +63,9 @@ returns-in_err-fold-clause-others g c = λ q away. c.fold.ensures.counting.entri
 pub returns-then-e-eq0-clause-folded : goal.returns-then-e-eq0-clause-folded
 unfolding core_of
 returns-then-e-eq0-clause-folded g c = λ told.
-    let fits : SFits w64 c.entry-e.result.change = search rules in
+    let fits : SFits w64 c.used_entry-e.result.change = search rules in
     let none = c.if-e-eq0.true in
-    ap (λ (e : Entry). e.change) (sym c.entry-e.ensures) ∙ sym (to_z-of_z w64 c.entry-e.result.change fits) ∙ ap (λ (n : ℕ). to_z w64 n) none
+    ap (λ (e : Entry). e.change) (sym c.used_entry-e.ensures) ∙ sym (to_z-of_z w64 c.used_entry-e.result.change fits) ∙ ap (λ (n : ℕ). to_z w64 n) none
 
 pub returns-clause-folded : goal.returns-clause-folded
 returns-clause-folded g c = λ told.

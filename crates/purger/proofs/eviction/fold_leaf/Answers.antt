@@ -11,18 +11,15 @@ use Rattle.purger.proofs.SoundLaws.{parts-names, names-ok}
 use Rattle.purger.proofs.GivingLaws.{slot-read-if, idle-entry, gone-change, gone-none, refs-still}
 use Rattle.purger.proofs.eviction.fold_leaf.Goals as goal
 
-pub entry-e-requires-clause-short : goal.entry-e-requires-clause-short
-entry-e-requires-clause-short g c = c.requires.parts.core.short c.args.s.0 c.requires.used
-
-pub entry-e-requires-clause-within : goal.entry-e-requires-clause-within
+pub used_entry-e-requires : goal.used_entry-e-requires
 unfolding core_of
-entry-e-requires-clause-within g c = c.requires.parts.core.within c.args.s.0 c.requires.used
+used_entry-e-requires g c = c.requires.used
 
 pub give_up-requires-clause-names : goal.give_up-requires-clause-names
 give_up-requires-clause-names g c = parts-names c.args.p.now c.requires.parts
 
 pub give_up-requires-clause-idle : goal.give_up-requires-clause-idle
-give_up-requires-clause-idle g c = idle-entry c.args.p.now c.args.s.0 c.requires.used c.requires.leaf (ap (λ (e : Entry). e.refs) (sym c.entry-e.ensures) ∙ c.if-e-eq0.true)
+give_up-requires-clause-idle g c = idle-entry c.args.p.now c.args.s.0 c.requires.used c.requires.leaf (ap (λ (e : Entry). e.refs) (sym c.used_entry-e.ensures) ∙ c.if-e-eq0.true)
 
 pub give_up-requires-clause-sound : goal.give_up-requires-clause-sound
 give_up-requires-clause-sound g c = λ told. let x = c.requires.sound told in (chunk_at c.args.p.now.segment, x.0, x.1, x.2)
@@ -45,7 +42,7 @@ returns-then-e-eq0-clause-fault g c = slot-read-if (g.H.Host.tells Work) (g.H.Ho
 
 pub returns-clause-none : goal.returns-clause-none
 returns-clause-none g c =
-    let some : 1 ≤ (entry_at c.args.p.now.names.table c.args.s.0).refs = (let same = ap (λ (e : Entry). e.refs) c.entry-e.ensures in let many = c.if-e-eq0.false in omega arith) in
+    let some : 1 ≤ (entry_at c.args.p.now.names.table c.args.s.0).refs = (let same = ap (λ (e : Entry). e.refs) c.used_entry-e.ensures in let many = c.if-e-eq0.false in omega arith) in
     ok-of c.fold_change.result (refs-still c.args.p.now c.fold_change.new.p c.args.s.0 c.fold_change.ensures.giving some)
 
 pub returns-then-e-eq0-clause-others : goal.returns-then-e-eq0-clause-others

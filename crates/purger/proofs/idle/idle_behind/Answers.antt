@@ -7,17 +7,13 @@ use Rattle.core_view.proofs.Core.{class-used, placed-used, used-live, word-used}
 use Rattle.leaf_lambda.specs.Parts.{core_of}
 use Rattle.purger.proofs.idle.idle_behind.Goals as goal
 
-pub entry-requires-clause-short : goal.entry-requires-clause-short
+pub used_entry-requires : goal.used_entry-requires
 unfolding core_of
-entry-requires-clause-short c = c.requires.parts.core.short c.args.s.0 (placed-used ((core_of c.args.p.now).entries c.args.s.0).state c.requires.body.0 c.requires.body.1)
-
-pub entry-requires-clause-within : goal.entry-requires-clause-within
-unfolding core_of
-entry-requires-clause-within c = c.requires.parts.core.within c.args.s.0 (placed-used ((core_of c.args.p.now).entries c.args.s.0).state c.requires.body.0 c.requires.body.1)
+used_entry-requires c = placed-used ((core_of c.args.p.now).entries c.args.s.0).state c.requires.body.0 c.requires.body.1
 
 pub is_last-requires-clause-used : goal.is_last-requires-clause-used
 unfolding core_of
-is_last-requires-clause-used c = λ is. subst (λ (e : Entry). is_used ((core_of c.args.p.now).entries e.class.0).state ≡ true) (sym c.entry.ensures)
+is_last-requires-clause-used c = λ is. subst (λ (e : Entry). is_used ((core_of c.args.p.now).entries e.class.0).state ≡ true) (sym c.used_entry.ensures)
     (used-live (core_of c.args.p.now) c.requires.parts.core ((core_of c.args.p.now).entries c.args.s.0).class.0 (class-used (core_of c.args.p.now) c.requires.parts.core c.args.s.0 c.requires.body.0 c.requires.body.1))
 
 pub field_word-w-requires-clause-there : goal.field_word-w-requires-clause-there

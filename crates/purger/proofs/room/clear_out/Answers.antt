@@ -1,4 +1,4 @@
-use Rattle.std.proofs.Common.{inl, inr, refl, sym, subst, ◌∙◌, arith, ⊎_elim}
+use Rattle.std.proofs.Common.{◌*◌, ◌+◌, inl, inr, refl, sym, subst, ◌∙◌, arith, ⊎_elim}
 use Rattle.core_view.proofs.Purge.{Purged-refl, Purged-trans, gone-first, gone-more}
 use Rattle.purger.proofs.RoomLaws.{placed-before}
 use Rattle.leaf_lambda.specs.declared.parts.Parts.{Parts}
@@ -6,7 +6,8 @@ use Rattle.leaf_lambda.specs.Parts.{core_of}
 use Rattle.purger.specs.Purge.{HasRoom}
 use Rattle.purger.proofs.MarkLaws.{Marks-trans, Marks-same, Kept-refl}
 use Rattle.purger.proofs.MindLaws.{minds-kept, minds-refl, minds-trans, purged-came}
-use Rattle.purger.proofs.RoomLaws.{bound-entries, disk-later, undisturbed-map, undisturbed-of, work-refl, work-trans}
+use Rattle.purger.proofs.OnlyLaws.{keeps-refl, less-refl, less-trans, ok-room, only-refl, only-trans, still-kept, stops-more}
+use Rattle.purger.proofs.RoomLaws.{all-pinned, bound-entries, disk-later, undisturbed-map, undisturbed-of, work-refl, work-trans}
 use Rattle.purger.proofs.SoundLaws.{has-after, has-number, sound-refl, sound-trans}
 use Rattle.purger.proofs.room.clear_out.Goals as goal
 
@@ -16,6 +17,9 @@ loop-i-init g c = record {
   tight = c.requires.tight;
   purged = Purged-refl c.args.pinned.now.a c.args.pinned.now.b c.args.pinned.now.d (core_of c.args.p.now);
   gone = inr (λ s at low place. gone-first (core_of c.args.p.now) c.args.pinned.now.a c.args.pinned.now.b c.args.pinned.now.d s at c.requires.parts.core (omega arith) place);
+  only = only-refl (core_of c.args.p.now);
+  less = less-refl c.args.p.now;
+  stops = inl (keeps-refl (core_of c.args.p.now));
   sound = λ told. sound-refl g.H.Host c.args.p.now c.args.disk.now.host.now c.args.disk.now.rest;
   marks = Marks-same (core_of c.args.p.now) (core_of c.args.p.now) (Kept-refl (core_of c.args.p.now));
   minds = minds-refl (core_of c.args.p.now);
@@ -55,6 +59,9 @@ loop-i-preserved g c =
       tight = e.tight;
       purged = Purged-trans c.args.pinned.now.a c.args.pinned.now.b c.args.pinned.now.d (core_of c.args.p.now) (core_of c.loop-i.p) (core_of c.evict_more.new.p) i.purged e.purged;
       gone = ⊎_elim (λ has. inl (subst (λ (p : Parts). HasRoom p c.args.words c.args.entries) (sym (e.needless has).1) has)) (λ before. ⊎_elim (λ has. inl has) (λ here. inr (λ s at low place. gone-more c.args.pinned.now.a c.args.pinned.now.b c.args.pinned.now.d c.loop-i.i s at (core_of c.loop-i.p) (core_of c.evict_more.new.p) e.parts.core e.purged before here low place)) r.gone) i.gone;
+      only = only-trans (core_of c.args.p.now) (core_of c.loop-i.p) (core_of c.evict_more.new.p) i.only r.only;
+      less = less-trans c.args.p.now c.loop-i.p c.evict_more.new.p i.less r.less;
+      stops = stops-more c.args.words c.args.entries (2 * c.loop-i.i + 2) c.args.p.now c.loop-i.p c.evict_more.new.p i.stops i.parts i.tight i.size i.only i.less i.minds r.stops e.one;
       sound = λ told. sound-trans g.H.Host c.args.p.now c.loop-i.p c.evict_more.new.p c.args.disk.now.host.now c.loop-i.disk.host.now c.evict_more.new.disk.host.now c.args.disk.now.rest c.loop-i.disk.rest c.evict_more.new.disk.rest (i.sound told) (r.sound told);
       marks = Marks-trans (core_of c.args.p.now) (core_of c.loop-i.p) (core_of c.evict_more.new.p) i.marks e.marks;
       minds = minds-trans (core_of c.args.p.now) (core_of c.loop-i.p) (core_of c.evict_more.new.p) i.minds r.minds;
@@ -104,3 +111,7 @@ returns-clause-fault g c = disk-later g.H.Host c.args.disk.now.host.now c.loop-i
 pub returns-clause-minds : goal.returns-clause-minds
 returns-clause-minds g c = undisturbed-of c.last_room.result (minds-trans (core_of c.args.p.now) (core_of c.loop-i.p) (core_of c.last_room.new.p) c.loop-i.invariant.minds
     (minds-kept (core_of c.loop-i.p) (core_of c.last_room.new.p) (purged-came (core_of c.loop-i.p) (core_of c.last_room.new.p) c.last_room.ensures.purged) c.last_room.ensures.marks))
+
+pub returns-clause-stops : goal.returns-clause-stops
+returns-clause-stops g c = ok-room c.last_room.result (still-kept c.args.words c.args.entries c.args.p.now c.loop-i.p c.last_room.new.p c.loop-i.invariant.stops
+    (all-pinned (core_of c.loop-i.p) (core_of c.last_room.new.p) c.last_room.ensures.purged))

@@ -1,11 +1,13 @@
 use Rattle.std.proofs.Common.{◌≡◌, None, Some, inl, inr, sym, ◌∙◌}
 use Rattle.core_view.proofs.Purge.{Purged-refl}
 use Rattle.leaf_lambda.specs.Parts.{core_of}
-use Rattle.delta_counts.proofs.LowerLaws.{ok-map}
+use Rattle.delta_counts.proofs.LowerLaws.{ok-map, ok-of}
 use Rattle.purger.proofs.MarkLaws.{Marks-same, Kept-refl}
 use Rattle.purger.proofs.MindLaws.{minds-refl}
 use Rattle.purger.proofs.RoomLaws.{work-refl}
 use Rattle.purger.proofs.SoundLaws.{sound-refl}
+use Rattle.purger.proofs.OnlyLaws.{keeps-refl, less-refl, only-refl}
+use Rattle.purger.proofs.RoundLaws.{kept-all, purged-all}
 use Rattle.purger.proofs.room.evict_more.Goals as goal
 
 pub returns-then-has_room-clause-purged : goal.returns-then-has_room-clause-purged
@@ -52,3 +54,33 @@ returns-then-has_room-clause-minds g c = minds-refl (core_of c.args.p.now)
 
 pub returns-then-not-may_leave-clause-minds : goal.returns-then-not-may_leave-clause-minds
 returns-then-not-may_leave-clause-minds g c = minds-refl (core_of c.args.p.now)
+
+pub returns-then-has_room-clause-one : goal.returns-then-has_room-clause-one
+returns-then-has_room-clause-one g c = kept-all c.args.s.0 (core_of c.args.p.now) (core_of c.args.p.now) (keeps-refl (core_of c.args.p.now))
+
+pub returns-then-not-may_leave-clause-one : goal.returns-then-not-may_leave-clause-one
+returns-then-not-may_leave-clause-one g c = kept-all c.args.s.0 (core_of c.args.p.now) (core_of c.args.p.now) (keeps-refl (core_of c.args.p.now))
+
+pub returns-clause-one : goal.returns-clause-one
+returns-clause-one g c = purged-all c.args.s.0 (core_of c.args.p.now) (core_of c.evict_one.new.p) c.evict_one.ensures.purged
+
+pub returns-then-has_room-clause-only : goal.returns-then-has_room-clause-only
+returns-then-has_room-clause-only g c = only-refl (core_of c.args.p.now)
+
+pub returns-then-not-may_leave-clause-only : goal.returns-then-not-may_leave-clause-only
+returns-then-not-may_leave-clause-only g c = only-refl (core_of c.args.p.now)
+
+pub returns-then-has_room-clause-less : goal.returns-then-has_room-clause-less
+returns-then-has_room-clause-less g c = less-refl c.args.p.now
+
+pub returns-then-not-may_leave-clause-less : goal.returns-then-not-may_leave-clause-less
+returns-then-not-may_leave-clause-less g c = less-refl c.args.p.now
+
+pub returns-then-has_room-clause-stops : goal.returns-then-has_room-clause-stops
+returns-then-has_room-clause-stops g c = inl (keeps-refl (core_of c.args.p.now))
+
+pub returns-then-not-may_leave-clause-stops : goal.returns-then-not-may_leave-clause-stops
+returns-then-not-may_leave-clause-stops g c = inl (keeps-refl (core_of c.args.p.now))
+
+pub returns-clause-stops : goal.returns-clause-stops
+returns-clause-stops g c = ok-of c.evict_one.result (inr (c.has_room.ensures.lacks c.if-has_room.false))

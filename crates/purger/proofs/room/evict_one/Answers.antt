@@ -10,6 +10,7 @@ use Rattle.purger.proofs.MindLaws.{minds-kept, minds-trans, purged-came}
 use Rattle.purger.proofs.RoomLaws.{work-trans}
 use Rattle.purger.proofs.SoundLaws.{has-after, sound-trans}
 use Rattle.purger.proofs.GivingLaws.{purge-later-if}
+use Rattle.purger.proofs.OnlyLaws.{less-same, less-trans, only-all, only-gone, only-trans}
 use Rattle.purger.proofs.room.evict_one.Goals as goal
 
 pub returns-in_err-leave-clause-fault : goal.returns-in_err-leave-clause-fault
@@ -49,3 +50,11 @@ returns-clause-fault g c = purge-later-if g.H.Host c.args.disk.now.host.now c.le
 pub returns-clause-minds : goal.returns-clause-minds
 returns-clause-minds g c = ok-of c.free_enough.result (minds-trans (core_of c.args.p.now) (core_of c.leave.new.p) (core_of c.free_enough.new.p) c.in_ok-leave.ensures.minds
     (minds-kept (core_of c.leave.new.p) (core_of c.free_enough.new.p) (purged-came (core_of c.leave.new.p) (core_of c.free_enough.new.p) c.free_enough.ensures.purged) c.free_enough.ensures.marks))
+
+pub returns-clause-less : goal.returns-clause-less
+returns-clause-less g c = ok-of c.free_enough.result (less-trans c.args.p.now c.leave.new.p c.free_enough.new.p c.in_ok-leave.ensures.less (less-same c.leave.new.p c.free_enough.new.p c.free_enough.ensures.segment c.free_enough.ensures.more))
+
+pub returns-clause-only : goal.returns-clause-only
+returns-clause-only g c = ok-of c.free_enough.result (only-trans (core_of c.args.p.now) (core_of c.leave.new.p) (core_of c.free_enough.new.p)
+    (only-gone c.args.s.0 (core_of c.args.p.now) (core_of c.leave.new.p) c.leave.ensures.purged c.in_ok-leave.ensures.gone)
+    (only-all (core_of c.leave.new.p) (core_of c.free_enough.new.p) c.free_enough.ensures.purged))

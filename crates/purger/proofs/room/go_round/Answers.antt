@@ -1,6 +1,7 @@
 use Rattle.std.proofs.Common.{ℕ, ◌/◌, refl, ◌∙◌, ap, arith}
 use Rattle.object_table.specs.Table.{entries_of}
 use Rattle.purger.specs.declared.room.TheConstants.{ROUND_PARTS}
+use Rattle.purger.proofs.OnlyLaws.{less-refl, less-trans, only-refl, only-trans}
 use Rattle.purger.proofs.RoundLaws.{goes-on, round-more, round-none, round-stops}
 use Rattle.loom_host.proofs.WorkLaws.{exits}
 use Rattle.core_view.proofs.Purge.{Purged-refl, Purged-trans}
@@ -19,6 +20,8 @@ loop-i-init g c = record {
   tight = c.requires.tight;
   purged = Purged-refl c.args.pinned.now.a c.args.pinned.now.b c.args.pinned.now.d (core_of c.args.p.now);
   sound = λ told. sound-refl g.H.Host c.args.p.now c.args.disk.now.host.now c.args.disk.now.rest;
+  only = only-refl (core_of c.args.p.now);
+  less = less-refl c.args.p.now;
   round = round-none (entries_of c.args.p.now.names.table / ROUND_PARTS) c.args.words c.args.entries c.args.p.now;
   marks = Marks-same (core_of c.args.p.now) (core_of c.args.p.now) (Kept-refl (core_of c.args.p.now));
   minds = minds-refl (core_of c.args.p.now);
@@ -71,7 +74,9 @@ loop-i-preserved g c =
       tight = e.tight;
       purged = Purged-trans c.args.pinned.now.a c.args.pinned.now.b c.args.pinned.now.d (core_of c.args.p.now) (core_of c.loop-i.p) (core_of c.pass.new.p) i.purged e.purged;
       sound = λ told. sound-trans g.H.Host c.args.p.now c.loop-i.p c.pass.new.p c.args.disk.now.host.now c.loop-i.disk.host.now c.pass.new.disk.host.now c.args.disk.now.rest c.loop-i.disk.rest c.pass.new.disk.rest (i.sound told) (r.sound told);
-      round = round-more (entries_of c.args.p.now.names.table / ROUND_PARTS) c.args.words c.args.entries c.loop-i.i c.next_entry-s.result.0 c.args.p.now c.loop-i.p c.pass.new.p i.round i.parts i.tight i.size i.minds
+      only = only-trans (core_of c.args.p.now) (core_of c.loop-i.p) (core_of c.pass.new.p) i.only r.only;
+      less = less-trans c.args.p.now c.loop-i.p c.pass.new.p i.less r.less;
+      round = round-more (entries_of c.args.p.now.names.table / ROUND_PARTS) c.args.words c.args.entries c.loop-i.i c.next_entry-s.result.0 c.args.p.now c.loop-i.p c.pass.new.p i.round i.parts i.tight i.size i.only i.less i.minds
           (goes-on c.loop-i.i _ _ c.loop-i.p c.args.words c.args.entries (let all = i.entries in let got = c.entries.ensures.entries in ap (λ (n : ℕ). n / ROUND_PARTS) (got ∙ all)) (c.has_turned.ensures.goes c.if-has_turned.false)) e.one;
       marks = Marks-trans (core_of c.args.p.now) (core_of c.loop-i.p) (core_of c.pass.new.p) i.marks e.marks;
       minds = minds-trans (core_of c.args.p.now) (core_of c.loop-i.p) (core_of c.pass.new.p) i.minds r.minds;

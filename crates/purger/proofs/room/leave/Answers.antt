@@ -1,5 +1,7 @@
 use Rattle.leaf_lambda.specs.Parts.{core_of}
 use Rattle.purger.proofs.RoomLaws.{purge-fault-if}
+use Rattle.std.proofs.Common.{arith}
+use Rattle.delta_counts.proofs.LowerLaws.{ok-map}
 use Rattle.purger.proofs.room.leave.Goals as goal
 
 pub returns-clause-fault : goal.returns-clause-fault
@@ -10,3 +12,6 @@ returns-clause-here g c = c.evict.ensures.here c.requires.marks
 
 pub returns-clause-tight : goal.returns-clause-tight
 returns-clause-tight g c = c.evict.ensures.tight c.requires.tight
+
+pub returns-clause-less : goal.returns-clause-less
+returns-clause-less g c = ok-map c.evict.result (λ wider. record { words = let more = wider in omega arith; entries = c.evict.ensures.spare }) c.evict.ensures.wider

@@ -6,6 +6,12 @@ use Rattle.purger.proofs.MarkLaws.{Marks-same, Marks-trans}
 use Rattle.purger.proofs.MindLaws.{minds-kept, minds-trans, purged-came}
 use Rattle.purger.proofs.RoomLaws.{all-pinned, work-refl, work-trans, undisturbed-map, stands-undisturbed, disk-later}
 use Rattle.purger.proofs.SoundLaws.{has-after, has-number, has-objects, has-over, quiet-keeps, sound-trans}
+use Rattle.std.proofs.Common.{ℕ, ◌/◌, subst}
+use Rattle.object_table.specs.Table.{entries_of}
+use Rattle.purger.specs.Rounds.{StopsInTime}
+use Rattle.purger.specs.declared.room.TheConstants.{ROUND_PARTS}
+use Rattle.purger.proofs.OnlyLaws.{less-same, only-all, room-map, stops-behind, stops-none}
+use Rattle.purger.proofs.RoomLaws.{bound-entries}
 use Rattle.purger.proofs.room.make_room.Goals as goal
 
 pub returns-then-has_room-clause-purged : goal.returns-then-has_room-clause-purged
@@ -119,3 +125,18 @@ returns-then-has_room-clause-minds g c = minds-kept (core_of c.args.p.now) (core
 pub returns-in-Ok-clause-minds : goal.returns-in-Ok-clause-minds
 returns-in-Ok-clause-minds g c = undisturbed-map c.purge.result (λ last. minds-trans (core_of c.args.p.now) (core_of c.free_idle.new.p) (core_of c.purge.new.p)
     (minds-kept (core_of c.args.p.now) (core_of c.free_idle.new.p) (purged-came (core_of c.args.p.now) (core_of c.free_idle.new.p) c.free_idle.ensures.purged) c.free_idle.ensures.marks) last) c.purge.ensures.minds
+
+pub returns-then-has_room-clause-stops : goal.returns-then-has_room-clause-stops
+returns-then-has_room-clause-stops g c = stops-none (entries_of c.args.p.now.names.table / ROUND_PARTS) c.args.words c.args.entries c.args.p.now c.gather.new.p (all-pinned (core_of c.args.p.now) (core_of c.gather.new.p) c.gather.ensures.purged)
+
+pub returns-in-Ok-clause-stops : goal.returns-in-Ok-clause-stops
+returns-in-Ok-clause-stops g c =
+    let p = c.args.p.now in
+    let q = c.free_idle.new.p in
+    let all = c.free_idle.ensures.purged in
+    let part = ap (λ (n : ℕ). n / ROUND_PARTS) (bound-entries p q (all 0 0 0).bound) in
+    room-map c.purge.result (λ (then : StopsInTime (entries_of q.names.table / ROUND_PARTS) c.args.words c.args.entries q c.purge.new.p).
+    stops-behind (entries_of p.names.table / ROUND_PARTS) c.args.words c.args.entries p q c.purge.new.p (all-pinned (core_of p) (core_of q) all) (only-all (core_of p) (core_of q) all)
+    (less-same p q c.free_idle.ensures.segment c.free_idle.ensures.more) (ap size_of c.free_idle.ensures.segment)
+    (minds-kept (core_of p) (core_of q) (purged-came (core_of p) (core_of q) all) c.free_idle.ensures.marks)
+    (subst (λ (n : ℕ). StopsInTime n c.args.words c.args.entries q c.purge.new.p) part then)) c.purge.ensures.stops

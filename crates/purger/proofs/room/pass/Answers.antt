@@ -6,6 +6,8 @@ use Rattle.purger.proofs.RoomLaws.{all-pinned, work-refl}
 use Rattle.purger.proofs.RoundLaws.{kept-all, purged-all}
 use Rattle.purger.proofs.SoundLaws.{sound-refl}
 use Rattle.purger.proofs.TouchLaws.{touch-purged, touch-sound, touch-marks, touch-minds, touch-here, touch-tight, touch-fresh}
+use Rattle.std.proofs.Common.{arith}
+use Rattle.purger.proofs.OnlyLaws.{less-refl, less-same, only-all, only-refl}
 use Rattle.purger.proofs.room.pass.Goals as goal
 
 pub returns-then-not-may_go-clause-purged : goal.returns-then-not-may_go-clause-purged
@@ -40,3 +42,15 @@ returns-then-is_touched-clause-one g c = kept-all c.args.s.0 (core_of c.args.p.n
 
 pub returns-clause-one : goal.returns-clause-one
 returns-clause-one g c = purged-all c.args.s.0 (core_of c.args.p.now) (core_of c.evict_one.new.p) c.evict_one.ensures.purged
+
+pub returns-then-not-may_go-clause-only : goal.returns-then-not-may_go-clause-only
+returns-then-not-may_go-clause-only g c = only-refl (core_of c.args.p.now)
+
+pub returns-then-not-may_go-clause-less : goal.returns-then-not-may_go-clause-less
+returns-then-not-may_go-clause-less g c = less-refl c.args.p.now
+
+pub returns-then-is_touched-clause-only : goal.returns-then-is_touched-clause-only
+returns-then-is_touched-clause-only g c = only-all (core_of c.args.p.now) (core_of c.untouch.new.p) (λ a b k. touch-purged a b k (core_of c.args.p.now) (core_of c.untouch.new.p) c.untouch.ensures.step c.untouch.ensures.outside)
+
+pub returns-then-is_touched-clause-less : goal.returns-then-is_touched-clause-less
+returns-then-is_touched-clause-less g c = less-same c.args.p.now c.untouch.new.p c.untouch.ensures.segment (let same = c.untouch.ensures.spare in omega arith)

@@ -5,6 +5,11 @@ use Rattle.purger.proofs.MarkLaws.{Marks-same, Marks-trans}
 use Rattle.purger.proofs.MindLaws.{minds-kept, minds-trans, purged-came}
 use Rattle.purger.proofs.RoomLaws.{work-trans, undisturbed-map, disk-later}
 use Rattle.purger.proofs.SoundLaws.{has-after, has-number, quiet-keeps, sound-trans}
+use Rattle.std.proofs.Common.{◌/◌}
+use Rattle.object_table.specs.Table.{entries_of}
+use Rattle.purger.specs.declared.room.TheConstants.{ROUND_PARTS}
+use Rattle.purger.proofs.OnlyLaws.{room-map, stops-kept, stops-then}
+use Rattle.purger.proofs.RoomLaws.{all-pinned}
 use Rattle.purger.proofs.room.purge.Goals as goal
 
 pub returns-in-Err-clause-fault : goal.returns-in-Err-clause-fault
@@ -59,3 +64,11 @@ returns-then-has_room-clause-minds g c = minds-trans (core_of c.args.p.now) (cor
 
 pub returns-clause-minds : goal.returns-clause-minds
 returns-clause-minds g c = undisturbed-map c.clear_out.result (λ last. minds-trans (core_of c.args.p.now) (core_of c.go_round.new.p) (core_of c.clear_out.new.p) c.in-Ok.ensures.minds last) c.clear_out.ensures.minds
+
+pub returns-then-has_room-clause-stops : goal.returns-then-has_room-clause-stops
+returns-then-has_room-clause-stops g c = stops-kept (entries_of c.args.p.now.names.table / ROUND_PARTS) c.args.words c.args.entries c.args.p.now c.go_round.new.p c.gather.new.p c.in-Ok.ensures.stops
+    (all-pinned (core_of c.go_round.new.p) (core_of c.gather.new.p) c.gather.ensures.purged)
+
+pub returns-clause-stops : goal.returns-clause-stops
+returns-clause-stops g c = room-map c.clear_out.result (λ then. stops-then (entries_of c.args.p.now.names.table / ROUND_PARTS) c.args.words c.args.entries c.args.p.now c.go_round.new.p c.clear_out.new.p
+    c.in-Ok.ensures.stops c.in-Ok.ensures.only c.in-Ok.ensures.less c.go_round.ensures.size c.in-Ok.ensures.minds then) c.clear_out.ensures.stops
